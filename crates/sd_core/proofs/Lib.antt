@@ -1,0 +1,4 @@
+pub mod Numbers
+pub mod SidLaws
+pub mod SinkLemmas
+pub mod Words

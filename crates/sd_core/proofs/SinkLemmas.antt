@@ -1,0 +1,36 @@
+-- Several calls of a sink, one after another.
+use Rattle.std.proofs.Common.{ℕ, List, [], ◌++◌, refl, sym, ◌∙◌, ap, arith, append_assoc, length-append}
+use Rattle.std.proofs.KnownBytes.{Appends-trans, Appends-nil}
+use Rattle.sd_core.specs.Sink.{SinkTold, PutAll, PutSome}
+
+-- nothing was put
+pub PutAll-nil : (a : SinkTold) → PutAll a a []
+PutAll-nil a = record { appended = Appends-nil a.contents; no_failure = refl; room = omega arith }
+
+-- a text and then another
+pub PutAll-trans : (a b c : SinkTold) (xs ys : List ℕ) → PutAll a b xs → PutAll b c ys → PutAll a c (xs ++ ys)
+PutAll-trans a b c xs ys p q = record {
+  appended = Appends-trans a.contents b.contents c.contents xs ys p.appended q.appended;
+  no_failure = q.no_failure ∙ p.no_failure;
+  room = let first = p.room in let second = q.room in omega (arith, length-append xs ys);
+}
+
+-- a text, and a part of another
+pub PutSome-after : (a b c : SinkTold) (xs ys : List ℕ) → PutAll a b xs → PutSome b c ys → PutSome a c (xs ++ ys)
+PutSome-after a b c xs ys p q = record {
+  part = xs ++ q.part;
+  is_prefix = (q.is_prefix.0, ap (λ l. xs ++ l) q.is_prefix.1 ∙ sym (append_assoc xs q.part q.is_prefix.0));
+  appended = Appends-trans a.contents b.contents c.contents xs q.part p.appended q.appended;
+  failed = let same = p.no_failure in let rose = q.failed in omega arith;
+  beyond = let first = p.room in let second = q.beyond in omega (arith, length-append xs ys);
+}
+
+-- a part of a text is a part of a longer one
+pub PutSome-more : (a b : SinkTold) (xs ys : List ℕ) → PutSome a b xs → PutSome a b (xs ++ ys)
+PutSome-more a b xs ys q = record {
+  part = q.part;
+  is_prefix = (q.is_prefix.0 ++ ys, ap (λ l. l ++ ys) q.is_prefix.1 ∙ append_assoc q.part q.is_prefix.0 ys);
+  appended = q.appended;
+  failed = q.failed;
+  beyond = let short = q.beyond in omega (arith, length-append xs ys);
+}

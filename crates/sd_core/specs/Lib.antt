@@ -1,0 +1,5 @@
+pub mod Counts
+pub mod Sid
+pub mod SidFields
+pub mod Sink
+pub mod Token

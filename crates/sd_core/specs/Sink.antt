@@ -1,0 +1,36 @@
+-- What a sink tells, and what a call does to it.
+use Rattle.std.specs.Prelude.{◌≡◌, ◌<◌, ℕ, ◌-◌, List, ◌++◌, length, Option, Result, Ok, Err}
+use Rattle.std.specs.Io.KnownBytes.{Appends}
+use Rattle.sd_core.specs.Counts.{Rose}
+use Rattle.sd_core.specs.declared.sink.SinkFault.{SinkFault}
+
+pub record SinkTold : Type 0 where
+  -- the bytes that were appended so far, where they are known
+  pub contents : Option (List ℕ)
+  -- how many calls failed
+  pub failures : ℕ
+  -- how many more bytes it takes for certain: none for a device, and what is left of a buffer
+  pub room : ℕ
+
+-- the list goes on from the part
+abbrev pub IsPrefix : List ℕ → List ℕ → Type 0
+IsPrefix part all = (rest : List ℕ) × (all ≡ part ++ rest)
+
+-- all of a text was appended
+pub record PutAll (old new : SinkTold) (text : List ℕ) : Type 0 where
+  pub appended : Appends old.contents new.contents text
+  pub no_failure : new.failures ≡ old.failures
+  pub room : new.room ≡ old.room - length text
+
+-- a prefix of a text was appended, and a call failed; the text has more bytes than there was room for
+pub record PutSome (old new : SinkTold) (text : List ℕ) : Type 0 where
+  pub part : List ℕ
+  pub is_prefix : IsPrefix part text
+  pub appended : Appends old.contents new.contents part
+  pub failed : Rose old.failures new.failures
+  pub beyond : old.room < length text
+
+-- what a call that puts a text did: all of it, or a prefix and a failure
+abbrev pub Puts : SinkTold → SinkTold → List ℕ → Result (Unit {0}) SinkFault → Type 0
+Puts old new text (Ok done) = PutAll old new text
+Puts old new text (Err fault) = PutSome old new text

@@ -1,0 +1,14 @@
+pub mod AnswersLemmas
+pub mod DrainLemmas
+pub mod EndsLemmas
+pub mod FaultLemmas
+pub mod HexTextLemmas
+pub mod HoldsLemmas
+pub mod MeaningLemmas
+pub mod ParseLemmas
+pub mod PartsLemmas
+pub mod PutLemmas
+mod Rows
+pub mod RunLemmas
+pub mod ShortLemmas
+pub mod SofarLemmas

@@ -1,0 +1,230 @@
+-- What each return of a run says.
+use Rattle.std.proofs.Common.{zero, suc, ◌≡◌, ℕ, ◌+◌, ◌<◌, List, [], ◌∷◌, ◌++◌, length, true, Option, None, Some, Result, Ok, Err, refl, sym, ◌∙◌, ap, arith, append-nil, append_assoc, inl, inr}
+use Rattle.std.specs.Io.KnownBytes.{Consumes, Appends, Keeps, IsAtEnd}
+use Rattle.std.proofs.KnownBytes.{Consumes-nil, Consumes-trans, Consumes-kept}
+use Rattle.sd_core.specs.Counts.{counted}
+use Rattle.sd_core.specs.Token.{TokenShown}
+use Rattle.sd_core.specs.Sink.{SinkTold, IsPrefix}
+use Rattle.sd_filter.specs.Told.{SourceTold, DrainTold, sink_of, reads_after, ends_after, failed_reads_after}
+use Rattle.sd_filter.specs.Lines.{ended, lines}
+use Rattle.sd_filter.specs.Answers.{answers}
+use Rattle.sd_filter.specs.Sofar.{Holds, Answered, Failed, Sofar, BeforeRead}
+use Rattle.sd_filter.specs.Outcome.{Finished, FaultSays}
+use Rattle.sd_filter.specs.declared.job.Job.{Job}
+use Rattle.sd_filter.specs.declared.engine.Desk.{Desk}
+use Rattle.sd_filter.specs.declared.engine.Report.{Report}
+use Rattle.sd_filter.specs.declared.engine.RunFault.TheVariants.{Read, Write, TooManyReads}
+use Rattle.sd_filter.proofs.AnswersLemmas.{answers-append}
+use Rattle.sd_filter.proofs.SofarLemmas.{Sofar-nil}
+
+Appends-kept : (a b c : Option (List ℕ)) (xs : List ℕ) → Appends a b xs → Keeps b c → Appends a c xs
+Appends-kept None b c xs p q = tt
+Appends-kept (Some x) None c xs p q = absurd p
+Appends-kept (Some x) (Some y) None xs p q = absurd q
+Appends-kept (Some x) (Some y) (Some z) xs p q = q ∙ p
+
+Consumes-none : (a b c : Option (List ℕ)) (xs : List ℕ) → Consumes a b xs → Consumes b c [] → Consumes a c xs
+Consumes-none a b c xs p q = rw append-nil at (Consumes-trans a b c xs [] p q)
+
+-- a flush after the last answer
+pub Answered-flush : (job : Job) (token0 token : TokenShown) (sink0 : SinkTold) (drain drain' : DrainTold) (all : List (List ℕ)) (report : Report)
+    → Answered job token0 sink0 all token (sink_of drain) report → Keeps drain.taken drain'.taken → drain'.failures ≡ drain.failures
+    → Answered job token0 sink0 all token (sink_of drain') report
+Answered-flush job token0 token sink0 drain drain' all report h keeps same = record {
+  put = record { appended = Appends-kept _ _ _ _ h.put.appended keeps; no_failure = same ∙ h.put.no_failure; room = h.put.room };
+  lines_counted = h.lines_counted;
+  faults_counted = h.faults_counted;
+  same_entries = h.same_entries;
+  compared = h.compared;
+}
+
+-- a flush that fails
+pub Failed-flush : (job : Job) (token0 token : TokenShown) (sink0 : SinkTold) (drain drain' : DrainTold) (all : List (List ℕ)) (report : Report)
+    → Answered job token0 sink0 all token (sink_of drain) report → Keeps drain.taken drain'.taken → drain'.failures ≡ counted drain.failures
+    → Failed job token0 sink0 all token (sink_of drain')
+Failed-flush job token0 token sink0 drain drain' all report h keeps failed = record {
+  whole = all;
+  broken = [];
+  more = [];
+  part = [];
+  split = sym (append-nil (all ++ []) ∙ append-nil all);
+  one = omega arith;
+  is_prefix = (answers job token0.entries [], refl);
+  appended = rw append-nil (Appends-kept _ _ _ _ h.put.appended keeps);
+  failed = let same = h.put.no_failure in omega arith;
+  same_entries = h.same_entries;
+  compared = rw append-nil h.compared;
+}
+
+-- before the first read
+pub BeforeRead-start : (token0 : TokenShown) (source0 : SourceTold) (drain0 : DrainTold) (desk : Desk) (report : Report)
+    → Holds desk.line [] → report.lines ≡ 0 → report.faults ≡ 0
+    → BeforeRead 0 token0 source0 drain0 desk token0 source0 drain0 report
+BeforeRead-start token0 source0 drain0 desk report h no_lines no_faults = record {
+  got = [];
+  read = Consumes-nil source0.left;
+  sofar = Sofar-nil token0 (sink_of drain0) desk report h no_lines no_faults;
+  reads = record { at_least = omega arith; at_most = omega arith };
+  ends = refl;
+  failures = refl;
+}
+
+-- the answers to some lines, and a part of the answer to one more, are a prefix of the answers to all
+written-prefix : (job : Job) (token0 token : TokenShown) (sink0 sink : SinkTold) (all : List (List ℕ)) (h : Failed job token0 sink0 all token sink)
+    → IsPrefix (answers job token0.entries h.whole ++ h.part) (answers job token0.entries all)
+written-prefix job token0 token sink0 sink all h =
+    let a = answers job token0.entries in (
+      h.is_prefix.0 ++ a h.more,
+      ap a h.split ∙ answers-append job token0.entries (h.whole ++ h.broken) h.more
+          ∙ ap (λ (t : List ℕ). t ++ a h.more) (answers-append job token0.entries h.whole h.broken ∙ ap (λ (t : List ℕ). a h.whole ++ t) h.is_prefix.1)
+          ∙ simp append_assoc,
+    )
+
+module _ (most turn : ℕ) (token0 token : TokenShown) (source0 source source' : SourceTold) (drain0 drain : DrainTold) (desk : Desk) (report : Report)
+    (r : BeforeRead turn token0 source0 drain0 desk token source drain report) (low : turn < most) where
+  -- a piece was read and its lines are answered
+  pub BeforeRead-more : (piece : List ℕ) (token' : TokenShown) (drain' : DrainTold) (desk' : Desk) (report' : Report)
+      → Consumes source.left source'.left piece → source'.reads ≡ counted source.reads → source'.ends ≡ source.ends → source'.failures ≡ source.failures
+      → Sofar token0 (sink_of drain0) (r.got ++ piece) desk' token' (sink_of drain') report'
+      → BeforeRead (turn + 1) token0 source0 drain0 desk' token' source' drain' report'
+  BeforeRead-more piece token' drain' desk' report' consumed reads ends failures sofar = record {
+    got = r.got ++ piece;
+    read = Consumes-trans _ _ _ _ _ r.read consumed;
+    sofar = sofar;
+    reads = record {
+      at_least = let before = r.reads.at_least in omega arith;
+      at_most = let before = r.reads.at_most in omega arith;
+    };
+    ends = ends ∙ r.ends;
+    failures = failures ∙ r.failures;
+  }
+
+  -- a read failed
+  pub broken-read : Keeps source.left source'.left → source'.reads ≡ counted source.reads → source'.ends ≡ source.ends → source'.failures ≡ counted source.failures
+      → FaultSays most desk.job token0 token source0 source' drain0 drain Read
+  broken-read keeps reads ends failed = (
+    record {
+      got = r.got;
+      read = Consumes-kept _ _ _ _ r.read keeps;
+      reads = let before = r.reads.at_most in omega arith;
+      no_end = ends ∙ r.ends;
+      written = r.sofar.answered.put.appended;
+      no_failed_write = r.sofar.answered.put.no_failure;
+      compared = r.sofar.answered.compared;
+    },
+    failed ∙ ap counted r.failures,
+  )
+
+  -- the end was read
+  pub finished : (token' : TokenShown) (drain' : DrainTold) (report' : Report)
+      → Consumes source.left source'.left [] → IsAtEnd source'.left
+      → source'.reads ≡ counted source.reads → source'.ends ≡ counted source.ends → source'.failures ≡ source.failures
+      → Answered desk.job token0 (sink_of drain0) (lines r.got) token' (sink_of drain') report' → drain'.flushed ≡ true
+      → Finished most desk.job token0 token' source0 source' drain0 drain' report'
+  finished token' drain' report' consumed none reads ends failures answered flushed = record {
+    got = r.got;
+    read = Consumes-none _ _ _ _ r.read consumed;
+    reads = let before = r.reads.at_most in omega arith;
+    end = ends ∙ ap counted r.ends;
+    at_end = none;
+    no_failed_read = failures ∙ r.failures;
+    written = answered.put.appended;
+    no_failed_write = answered.put.no_failure;
+    flushed = flushed;
+    lines_counted = answered.lines_counted;
+    faults_counted = answered.faults_counted;
+    compared = answered.compared;
+  }
+
+  -- a write or the flush failed after the end was read
+  pub broken-close : (token' : TokenShown) (drain' : DrainTold)
+      → Consumes source.left source'.left []
+      → source'.reads ≡ counted source.reads → source'.ends ≡ counted source.ends → source'.failures ≡ source.failures
+      → Failed desk.job token0 (sink_of drain0) (lines r.got) token' (sink_of drain')
+      → FaultSays most desk.job token0 token' source0 source' drain0 drain' Write
+  broken-close token' drain' consumed reads ends failures failed = record {
+    got = r.got;
+    read = Consumes-none _ _ _ _ r.read consumed;
+    reads = let before = r.reads.at_most in omega arith;
+    no_failed_read = failures ∙ r.failures;
+    all = lines r.got;
+    these = inl (ends ∙ ap counted r.ends, refl);
+    written = answers desk.job token0.entries failed.whole ++ failed.part;
+    wrote = failed.appended;
+    is_prefix = written-prefix _ _ _ _ _ _ failed;
+    failed = failed.failed;
+    whole = failed.whole;
+    broken = failed.broken;
+    more = failed.more;
+    split = failed.split;
+    one = failed.one;
+    part = failed.part;
+    is_part = failed.is_prefix;
+    joined = refl;
+    compared = failed.compared;
+  }
+
+  -- a write failed before
+  pub broken-write : (piece : List ℕ) (token' : TokenShown) (drain' : DrainTold)
+      → Consumes source.left source'.left piece
+      → source'.reads ≡ counted source.reads → source'.ends ≡ source.ends → source'.failures ≡ source.failures
+      → Failed desk.job token0 (sink_of drain0) (ended (r.got ++ piece)) token' (sink_of drain')
+      → FaultSays most desk.job token0 token' source0 source' drain0 drain' Write
+  broken-write piece token' drain' consumed reads ends failures failed = record {
+    got = r.got ++ piece;
+    read = Consumes-trans _ _ _ _ _ r.read consumed;
+    reads = let before = r.reads.at_most in omega arith;
+    no_failed_read = failures ∙ r.failures;
+    all = ended (r.got ++ piece);
+    these = inr (ends ∙ r.ends, refl);
+    written = answers desk.job token0.entries failed.whole ++ failed.part;
+    wrote = failed.appended;
+    is_prefix = written-prefix _ _ _ _ _ _ failed;
+    failed = failed.failed;
+    whole = failed.whole;
+    broken = failed.broken;
+    more = failed.more;
+    split = failed.split;
+    one = failed.one;
+    part = failed.part;
+    is_part = failed.is_prefix;
+    joined = refl;
+    compared = failed.compared;
+  }
+
+-- the reads are used up
+pub broken-most : (most : ℕ) (token0 token : TokenShown) (source0 source : SourceTold) (drain0 drain : DrainTold) (desk : Desk) (report : Report)
+    → BeforeRead most token0 source0 drain0 desk token source drain report
+    → FaultSays most desk.job token0 token source0 source drain0 drain TooManyReads
+broken-most most token0 token source0 source drain0 drain desk report r = (
+  record {
+    got = r.got;
+    read = r.read;
+    reads = r.reads.at_most;
+    no_end = r.ends;
+    written = r.sofar.answered.put.appended;
+    no_failed_write = r.sofar.answered.put.no_failure;
+    compared = r.sofar.answered.compared;
+  },
+  r.reads,
+  r.failures,
+)
+
+-- what a read into a buffer with room says of the counts: one that answered 0, or more, or that failed
+pub reads-some : (buf : List ℕ) (reads : ℕ) → 0 < length buf → reads_after buf reads ≡ counted reads
+reads-some [] reads room = absurd (omega arith)
+reads-some (b ∷ buf) reads room = refl
+
+pub ends-zero : {E : Type 0} (r : Result ℕ E) (buf : List ℕ) (n ends : ℕ) → r ≡ Ok n → n ≡ 0 → 0 < length buf → ends_after r buf ends ≡ counted ends
+ends-zero {E} r [] n ends e z room = absurd (omega arith)
+ends-zero {E} r (b ∷ buf) n ends e z room = rw (e, z)
+
+pub ends-some : {E : Type 0} (r : Result ℕ E) (buf : List ℕ) (n ends : ℕ) → r ≡ Ok n → (n ≡ 0 → ⊥) → ends_after r buf ends ≡ ends
+ends-some {E} r buf zero ends e z = absurd (z refl)
+ends-some {E} r buf (suc n) ends e z = rw e
+
+pub ends-failed : {E : Type 0} (r : Result ℕ E) (buf : List ℕ) (e : E) (ends : ℕ) → r ≡ Err e → ends_after r buf ends ≡ ends
+ends-failed {E} r buf e ends is = rw is
+
+pub failures-ok : {E : Type 0} (r : Result ℕ E) (n failures : ℕ) → r ≡ Ok n → failed_reads_after r failures ≡ failures
+failures-ok {E} r n failures e = rw e

@@ -1,0 +1,202 @@
+-- A run after one line more, and after more bytes.
+use Rattle.std.proofs.Common.{◌≡◌, ◌≢◌, ℕ, ◌+◌, ◌-◌, ◌<◌, ◌≤◌, List, [], ◌∷◌, ◌++◌, Bool, true, false, cond, length, refl, sym, ◌∙◌, ap, subst, arith, append_assoc, append-nil, take, drop, get_or, Result, Ok, Err}
+use Rattle.std.specs.Prelude.{MatchResult}
+use Rattle.std.proofs.lemmas.List.{length_push, take_more, take-append-drop, take_rest, length-drop, get_or-drop}
+use Rattle.std.proofs.Math.Seq.{take-add}
+use Rattle.std.proofs.KnownBytes.{Appends-trans}
+use Rattle.sd_core.specs.Token.{Entry, TokenShown}
+use Rattle.sd_core.specs.Sink.{SinkTold, PutAll, PutSome}
+use Rattle.sd_core.specs.declared.sink.SinkFault.{SinkFault}
+use Rattle.sd_core.proofs.SinkLemmas.{PutAll-nil, PutAll-trans}
+use Rattle.sd_filter.specs.Lines.{parts, ended, lines, last_line, without_cr}
+use Rattle.sd_filter.specs.Answers.{answer, answers, bounds, errors, is_error}
+use Rattle.sd_filter.specs.Outcome.{Compares}
+use Rattle.sd_filter.specs.Sofar.{Holds, Answered, Failed, Sofar}
+use Rattle.sd_filter.specs.declared.job.Job.{Job}
+use Rattle.sd_filter.specs.declared.engine.Desk.{Desk}
+use Rattle.sd_filter.specs.declared.engine.Report.{Report}
+use Rattle.sd_filter.proofs.PartsLemmas.{NoLf, ended-more, rest-more, ended-lf, rest-lf, ended-append}
+use Rattle.sd_filter.proofs.AnswersLemmas.{answers-one, answers-push, errors-push, bounds-push}
+
+-- no entry was compared
+Compares-same : (token0 token token' : TokenShown) (n more : ℕ) → Compares token0 token n → token' ≡ token → Compares token0 token' (n + more)
+Compares-same token0 token token' n more h same =
+    let low = h.goes_on in
+    let high = h.at_most in
+    let count : token'.compared ≡ token.compared = ap (λ (t : TokenShown). t.compared) same in
+    record { goes_on = omega arith; at_most = omega arith }
+
+-- one line more is answered
+pub Answered-push : (job : Job) (token0 token token' : TokenShown) (sink0 sink sink' : SinkTold) (all : List (List ℕ)) (text : List ℕ) (report report' : Report)
+    → Answered job token0 sink0 all token sink report
+    → PutAll sink sink' (answer job token.entries text)
+    → token' ≡ token
+    → report'.lines ≡ report.lines + 1
+    → report'.faults ≡ report.faults + cond (is_error job text) 1 0
+    → Answered job token0 sink0 (all ++ text ∷ []) token' sink' report'
+Answered-push job token0 token token' sink0 sink sink' all text report report' h put same more_lines more_faults =
+    let put0 : PutAll sink sink' (answer job token0.entries text) = subst (λ (e : List Entry). PutAll sink sink' (answer job e text)) h.same_entries put in
+    record {
+      put = rw (answers-push job token0.entries all text) (PutAll-trans _ _ _ _ _ h.put put0);
+      lines_counted = more_lines ∙ ap (λ n. n + 1) h.lines_counted ∙ sym (length_push all text);
+      faults_counted = more_faults ∙ ap (λ n. n + cond (is_error job text) 1 0) h.faults_counted ∙ sym (errors-push job all text);
+      same_entries = ap (λ (t : TokenShown). t.entries) same ∙ h.same_entries;
+      compared = rw (bounds-push job token0.entries all text) (Compares-same token0 token token' _ _ h.compared same);
+    }
+
+-- the answer to one line more breaks off
+pub Failed-push : (job : Job) (token0 token token' : TokenShown) (sink0 sink sink' : SinkTold) (all : List (List ℕ)) (text : List ℕ) (report : Report)
+    → Answered job token0 sink0 all token sink report
+    → PutSome sink sink' (answer job token.entries text)
+    → token' ≡ token
+    → Failed job token0 sink0 (all ++ text ∷ []) token' sink'
+Failed-push job token0 token token' sink0 sink sink' all text report h put same =
+    let put0 : PutSome sink sink' (answer job token0.entries text) = subst (λ (e : List Entry). PutSome sink sink' (answer job e text)) h.same_entries put in
+    record {
+      whole = all;
+      broken = text ∷ [];
+      more = [];
+      part = put0.part;
+      split = sym (append-nil (all ++ text ∷ []));
+      one = omega arith;
+      is_prefix = rw (answers-one job token0.entries text) put0.is_prefix;
+      appended = Appends-trans _ _ _ _ _ h.put.appended put0.appended;
+      failed = let none = h.put.no_failure in let rose = put0.failed in omega arith;
+      same_entries = ap (λ (t : TokenShown). t.entries) same ∙ h.same_entries;
+      compared = rw (bounds-push job token0.entries all text) (Compares-same token0 token token' _ _ h.compared same);
+    }
+
+-- further lines are not answered either
+Failed-more : (job : Job) (token0 token : TokenShown) (sink0 sink : SinkTold) (all more : List (List ℕ)) → Failed job token0 sink0 all token sink → Failed job token0 sink0 (all ++ more) token sink
+Failed-more job token0 token sink0 sink all more h = record {
+  whole = h.whole;
+  broken = h.broken;
+  more = h.more ++ more;
+  part = h.part;
+  split = ap (λ l. l ++ more) h.split ∙ append_assoc (h.whole ++ h.broken) h.more more;
+  one = h.one;
+  is_prefix = h.is_prefix;
+  appended = h.appended;
+  failed = h.failed;
+  same_entries = h.same_entries;
+  compared = h.compared;
+}
+
+-- nothing was read
+pub Sofar-nil : (token0 : TokenShown) (sink0 : SinkTold) (desk : Desk) (report : Report)
+    → Holds desk.line [] → report.lines ≡ 0 → report.faults ≡ 0 → Sofar token0 sink0 [] desk token0 sink0 report
+unfolding parts ended answers errors bounds
+Sofar-nil token0 sink0 desk report h no_lines no_faults = record {
+  holds = h;
+  answered = record {
+    put = PutAll-nil sink0;
+    lines_counted = no_lines;
+    faults_counted = no_faults;
+    same_entries = refl;
+    compared = record { goes_on = omega arith; at_most = omega arith };
+  };
+}
+
+-- bytes that are no LF
+pub Sofar-more : (token0 token : TokenShown) (sink0 sink : SinkTold) (got bytes : List ℕ) (desk desk' : Desk) (report : Report)
+    → NoLf bytes
+    → Sofar token0 sink0 got desk token sink report
+    → desk'.job ≡ desk.job
+    → Holds desk'.line ((parts got).rest ++ bytes)
+    → Sofar token0 sink0 (got ++ bytes) desk' token sink report
+Sofar-more token0 token sink0 sink got bytes desk desk' report none h same holds = record {
+  holds = rw (rest-more got bytes none) holds;
+  answered = rw (same, ended-more got bytes none) h.answered;
+}
+
+-- the rest of a line, and its LF
+pub Sofar-line : (token0 token : TokenShown) (sink0 sink : SinkTold) (got bytes : List ℕ) (desk : Desk) (report : Report)
+    → NoLf bytes
+    → Answered desk.job token0 sink0 (ended got ++ without_cr ((parts got).rest ++ bytes) ∷ []) token sink report
+    → Holds desk.line []
+    → Sofar token0 sink0 (got ++ bytes ++ 10 ∷ []) desk token sink report
+Sofar-line token0 token sink0 sink got bytes desk report none h holds = record {
+  holds = rw (rest-lf (got ++ bytes)) holds;
+  answered = rw (ended-lf (got ++ bytes), ended-more got bytes none, rest-more got bytes none) h;
+}
+
+pub Failed-line : (job : Job) (token0 token : TokenShown) (sink0 sink : SinkTold) (got bytes : List ℕ)
+    → NoLf bytes
+    → Failed job token0 sink0 (ended got ++ without_cr ((parts got).rest ++ bytes) ∷ []) token sink
+    → Failed job token0 sink0 (ended (got ++ bytes ++ 10 ∷ [])) token sink
+Failed-line job token0 token sink0 sink got bytes none h = rw (ended-lf (got ++ bytes), ended-more got bytes none, rest-more got bytes none) h
+
+-- a whole line and its LF, where nothing is held
+pub line-whole : (token0 token : TokenShown) (sink0 sink : SinkTold) (got bytes text : List ℕ) (desk : Desk) (report : Report) (r : Result (Unit {0}) SinkFault)
+    → NoLf bytes → (parts got).rest ≡ [] → text ≡ without_cr bytes → Holds desk.line []
+    → MatchResult r
+    (λ _. Answered desk.job token0 sink0 (ended got ++ text ∷ []) token sink report)
+    (λ _. Failed desk.job token0 sink0 (ended got ++ text ∷ []) token sink)
+    → MatchResult r
+    (λ _. Sofar token0 sink0 (got ++ bytes ++ 10 ∷ []) desk token sink report)
+    (λ _. Failed desk.job token0 sink0 (ended (got ++ bytes ++ 10 ∷ [])) token sink)
+line-whole token0 token sink0 sink got bytes text desk report (Ok done) none fresh is holds h =
+    Sofar-line token0 token sink0 sink got bytes desk report none (rw (fresh, ← is) h) holds
+line-whole token0 token sink0 sink got bytes text desk report (Err fault) none fresh is holds h =
+    Failed-line desk.job token0 token sink0 sink got bytes none (rw (fresh, ← is) h)
+
+-- more bytes after a failure
+Failed-bytes : (job : Job) (token0 token : TokenShown) (sink0 sink : SinkTold) (got more : List ℕ)
+    → Failed job token0 sink0 (ended got) token sink → Failed job token0 sink0 (ended (got ++ more)) token sink
+Failed-bytes job token0 token sink0 sink got more h =
+    let e = ended-append got more in
+    rw e.1 (Failed-more job token0 token sink0 sink (ended got) e.0 h)
+
+-- the end of the input
+pub lines-empty : (got : List ℕ) → (parts got).rest ≡ [] → lines got ≡ ended got
+unfolding lines
+lines-empty got e = ap (λ l. ended got ++ last_line l) e ∙ append-nil (ended got)
+
+last_line-some : (raw : List ℕ) → raw ≢ [] → last_line raw ≡ raw ∷ []
+last_line-some [] ne = absurd (ne refl)
+last_line-some (b ∷ raw) ne = refl
+
+pub lines-last : (got : List ℕ) → (parts got).rest ≢ [] → lines got ≡ ended got ++ (parts got).rest ∷ []
+unfolding lines
+lines-last got ne = ap (λ l. ended got ++ l) (last_line-some (parts got).rest ne)
+
+-- a fault is counted, or not
+pub counted_true : (b : Bool) (n : ℕ) → b ≡ true → n + 1 ≡ n + cond b 1 0
+counted_true b n e = rw e
+
+pub counted_false : (b : Bool) (n : ℕ) → b ≡ false → n ≡ n + cond b 1 0
+counted_false b n e = rw e (omega arith)
+
+-- a place in a piece: what was fed, then a line and its LF
+piece_line : (piece : List ℕ) (start n : ℕ) → start + n < length piece → get_or piece (start + n) 0 ≡ 10
+    → take (start + (n + 1)) piece ≡ take start piece ++ take n (drop start piece) ++ 10 ∷ []
+piece_line piece start n h e =
+    let same : start + (n + 1) ≡ start + n + 1 = omega arith in
+    ap (λ k. take k piece) same ∙ take_more piece (start + n) 0 h ∙ ap (λ x. take (start + n) piece ++ x ∷ []) e ∙ ap (λ l. l ++ 10 ∷ []) (take-add start n piece)
+
+pub Failed-in : (job : Job) (token0 token : TokenShown) (sink0 sink : SinkTold) (got piece : List ℕ) (start n : ℕ) → start + n < length piece → get_or piece (start + n) 0 ≡ 10
+    → Failed job token0 sink0 (ended (got ++ take start piece ++ take n (drop start piece) ++ 10 ∷ [])) token sink → Failed job token0 sink0 (ended (got ++ piece)) token sink
+Failed-in job token0 token sink0 sink got piece start n h e f =
+    let whole : got ++ piece ≡ got ++ take start piece ++ take n (drop start piece) ++ 10 ∷ [] ++ drop (start + (n + 1)) piece =
+    ap (λ l. got ++ l) (sym (take-append-drop (start + (n + 1)) piece) ∙ ap (λ l. l ++ drop (start + (n + 1)) piece) (piece_line piece start n h e))
+    ∙ (simp append_assoc) in
+    subst (λ (l : List ℕ). Failed job token0 sink0 (ended l) token sink) (sym whole) (Failed-bytes job token0 token sink0 sink _ (drop (start + (n + 1)) piece) f)
+
+pub fed_line : (got piece : List ℕ) (start n : ℕ) → start + n < length piece → get_or piece (start + n) 0 ≡ 10
+    → got ++ take start piece ++ take n (drop start piece) ++ 10 ∷ [] ≡ got ++ take (start + (n + 1)) piece
+fed_line got piece start n h e = rw (piece_line piece start n h e) (simp append_assoc)
+
+-- the LF that a search from a place in a piece found
+pub found_in : (piece : List ℕ) (start n : ℕ) → start ≤ length piece → n < length (take (length piece - start) (drop start piece)) → get_or (take (length piece - start) (drop start piece)) n 0 ≡ 10
+    → (start + n < length piece) × (get_or piece (start + n) 0 ≡ 10)
+found_in piece start n within low e =
+    let rest : take (length piece - start) (drop start piece) ≡ drop start piece = take_rest piece start in
+    let size : n < length piece - start = rw (rest, length-drop) at low in
+    let is : get_or (drop start piece) n 0 ≡ 10 = rw rest at e in
+    (omega arith, sym (get_or-drop start piece n 0) ∙ is)
+
+pub fed_rest : (got piece : List ℕ) (start : ℕ) → got ++ take start piece ++ take (length piece - start) (drop start piece) ≡ got ++ piece
+fed_rest got piece start = rw (take_rest piece start, append_assoc, take-append-drop) refl
+
+pub line_in : (piece : List ℕ) (start n : ℕ) → take (start + n - start) (drop start piece) ≡ take n (drop start piece)
+line_in piece start n = ap (λ k. take k (drop start piece)) (omega arith)

@@ -1,0 +1,6 @@
+use Rattle.std.proofs.Common.{refl}
+use Rattle.sd_filter.proofs.HoldsLemmas.{Holds-nil}
+use Rattle.sd_filter.proofs.line.Line.start.Goals as goal
+
+pub returns-clause-empty : goal.returns-clause-empty
+returns-clause-empty c = Holds-nil _ c.clear.ensures.items refl refl

@@ -1,0 +1,129 @@
+-- The answer to each line, which rests on that line alone.
+use Rattle.std.specs.Prelude.{◌≤◌, ℕ, ◌+◌, ◌*◌, List, [], ◌∷◌, ◌++◌, if◌then◌else◌, nat_lt, length, Bool, true, false, Option, Some, None, is_some, Result, Ok, Err, count_by, sum_by}
+use Rattle.std.specs.List.{flat_map}
+use Rattle.hex.specs.Hex.{encode_lower}
+use Rattle.sd_core.specs.Token.{Entry}
+use Rattle.sd_filter.specs.binary.Descriptor.{Descriptor}
+use Rattle.sd_filter.specs.binary.Layout.{layout, size}
+use Rattle.sd_filter.specs.binary.Reading.{reading}
+use Rattle.sd_filter.specs.binary.Text.{hex_spells}
+use Rattle.sd_filter.specs.declared.binary.buffer.TextFault.{TextFault}
+use Rattle.sd_filter.specs.declared.binary.fault.SdFault.{SdFault}
+use Rattle.sd_filter.specs.declared.fault.LineFault.{LineFault}
+use Rattle.sd_filter.specs.declared.fault.LineFault.TheVariants.{TooLong, Text, Sd}
+use Rattle.sd_filter.specs.declared.job.Act.{Act}
+use Rattle.sd_filter.specs.declared.job.Act.TheVariants.{Convert}
+use Rattle.sd_filter.specs.declared.job.Form.{Form}
+use Rattle.sd_filter.specs.declared.job.Form.TheVariants.{Hex}
+use Rattle.sd_filter.specs.declared.job.Job.{Job}
+use Rattle.sd_filter.specs.Faults.{fault_text}
+
+-- ---- what a line means
+
+-- the bytes that a line has at most, without its LF and a dropped CR
+abbrev pub line_limit : Form → ℕ
+line_limit Hex = 262452
+
+abbrev pub or_byte_fault : Result Descriptor SdFault → Result Descriptor LineFault
+or_byte_fault (Err fault) = Err (Sd fault)
+or_byte_fault (Ok d) = Ok d
+
+abbrev pub bytes_mean : Result (List ℕ) TextFault → Result Descriptor LineFault
+bytes_mean (Err fault) = Err (Text fault)
+bytes_mean (Ok bytes) = or_byte_fault (reading bytes)
+
+-- what a text means in a form: its text spells no bytes, its bytes do not read, or the descriptor that
+-- its bytes show
+abbrev pub text_means : Form → List ℕ → Result Descriptor LineFault
+text_means Hex text = bytes_mean (hex_spells text)
+
+-- a line over its limit is too long, whatever else is wrong with it
+unfoldable pub line_means : Form → List ℕ → Result Descriptor LineFault
+line_means form line = if nat_lt (line_limit form) (length line) then Err TooLong else text_means form line
+
+-- an empty line means nothing, in every job
+abbrev pub Meaning : Type 0
+Meaning = Option (Result Descriptor LineFault)
+
+abbrev pub meaning : Job → List ℕ → Meaning
+meaning job [] = None
+meaning job (b ∷ line) = Some (line_means job.source (b ∷ line))
+
+-- ---- what is answered to it
+
+abbrev pub form_text : Form → Descriptor → List ℕ
+form_text Hex d = encode_lower (layout d)
+
+-- what is answered to a descriptor, with its LF
+abbrev pub act_text : Act → List Entry → Descriptor → List ℕ
+act_text (Convert form) entries d = form_text form d ++ 10 ∷ []
+
+abbrev pub text_of_meaning : Act → List Entry → Meaning → List ℕ
+text_of_meaning act entries None = 10 ∷ []
+text_of_meaning act entries (Some (Err fault)) = fault_text fault ++ 10 ∷ []
+text_of_meaning act entries (Some (Ok d)) = act_text act entries d
+
+-- the answer, with its LF
+unfoldable pub answer : Job → List Entry → List ℕ → List ℕ
+answer job entries line = text_of_meaning job.act entries (meaning job line)
+
+-- the answers to these lines, one after the other
+unfoldable pub answers : Job → List Entry → List (List ℕ) → List ℕ
+answers job entries lines = flat_map (answer job entries) lines
+
+-- ---- what is counted
+
+-- the fault of an act at a descriptor: a conversion has none
+abbrev pub act_fault : Act → Descriptor → Option LineFault
+act_fault (Convert form) d = None
+
+abbrev pub is_error_of_meaning : Act → Meaning → Bool
+is_error_of_meaning act None = false
+is_error_of_meaning act (Some (Err fault)) = true
+is_error_of_meaning act (Some (Ok d)) = is_some (act_fault act d)
+
+-- the answer is an `error` line
+unfoldable pub is_error : Job → List ℕ → Bool
+is_error job line = is_error_of_meaning job.act (meaning job line)
+
+-- how many lines are answered by an `error` line
+unfoldable pub errors : Job → List (List ℕ) → ℕ
+errors job lines = count_by (is_error job) lines
+
+-- how often an entry of the token may be compared: a conversion compares none
+abbrev pub act_bound : Act → List Entry → Descriptor → ℕ
+act_bound (Convert form) entries d = 0
+
+abbrev pub bound_of_meaning : Act → List Entry → Meaning → ℕ
+bound_of_meaning act entries None = 0
+bound_of_meaning act entries (Some (Err fault)) = 0
+bound_of_meaning act entries (Some (Ok d)) = act_bound act entries d
+
+unfoldable pub bound : Job → List Entry → List ℕ → ℕ
+bound job entries line = bound_of_meaning job.act entries (meaning job line)
+
+unfoldable pub bounds : Job → List Entry → List (List ℕ) → ℕ
+bounds job entries lines = sum_by (bound job entries) lines
+
+-- ---- how much is printed
+
+-- the descriptor that is printed for one that was read: a conversion prints that one
+abbrev pub act_prints : Act → Descriptor → Option Descriptor
+act_prints (Convert form) d = Some d
+
+abbrev pub printed_of_meaning : Act → Meaning → Option Descriptor
+printed_of_meaning act None = None
+printed_of_meaning act (Some (Err fault)) = None
+printed_of_meaning act (Some (Ok d)) = act_prints act d
+
+-- the descriptor that the answer prints
+abbrev pub printed : Job → List ℕ → Option Descriptor
+printed job line = printed_of_meaning job.act (meaning job line)
+
+abbrev pub printed_size : Option Descriptor → ℕ
+printed_size None = 0
+printed_size (Some d) = size d
+
+-- each answer has at most eight characters a byte of the descriptor that it prints, and 64
+abbrev pub AnswersAreShort : Job → List Entry → Type 0
+AnswersAreShort job entries = (line : List ℕ) → length (answer job entries line) ≤ 8 * printed_size (printed job line) + 64

@@ -1,0 +1,119 @@
+-- How the program ends: its exit status, what it read, what it wrote, and what the fault stream got.
+use Rattle.std.specs.Prelude.{◌≡◌, ◌⊎◌, ◌++◌, ◌==◌, ℕ, ◌^◌, Bool, true, false, List, [], Result, Ok, Err, codes, if◌then◌else◌}
+use Rattle.std.specs.List.{list_any}
+use Rattle.clap.specs.Words.{Text, IsAmong, fault_of}
+use Rattle.clap.specs.declared.error.ErrorKind.{ErrorKind}
+use Rattle.clap.specs.declared.error.ErrorKind.TheVariants as kind
+use Rattle.sd_core.specs.Sink.{PutAll, PutSome}
+use Rattle.sd_core.specs.Token.{TokenShown}
+use Rattle.sd_filter.specs.Told.{SourceTold, DrainTold, sink_of}
+use Rattle.sd_filter.specs.Outcome.{Outcome}
+use Rattle.sd_filter.specs.CommandLine.{line}
+use Rattle.sd_filter.specs.Settings.{settings_of, option_text}
+use Rattle.sd_filter.specs.declared.job.Job.{Job}
+use Rattle.sd_filter.specs.declared.settings.UsageFault.{UsageFault}
+use Rattle.sd_filter.specs.declared.settings.UsageFault.TheVariants.{NoCommand, Value}
+use Rattle.sd_filter.specs.declared.engine.Report.{Report}
+use Rattle.sd_filter.specs.declared.engine.RunFault.{RunFault}
+use Rattle.sd_filter.specs.declared.engine.RunFault.TheVariants.{Read, Write, TooManyReads}
+
+-- ---- what the fault stream gets
+
+abbrev pub fault_line : Text → Text
+fault_line text = codes "sdtool: " ++ text ++ codes "\n"
+
+abbrev pub usage_line : UsageFault → Text
+usage_line NoCommand = fault_line (codes "usage")
+usage_line (Value option) = fault_line (codes "usage: --" ++ option_text option)
+
+abbrev pub run_text : RunFault → Text
+run_text Read = codes "60 read"
+run_text Write = codes "61 write"
+run_text TooManyReads = codes "62 too-many-reads"
+
+abbrev pub run_line : RunFault → Text
+run_line fault = fault_line (codes "error " ++ run_text fault)
+
+-- the text was put, or a prefix of it where the drain failed
+abbrev pub Says : Text → DrainTold → DrainTold → Type 0
+Says text drain drain' = PutAll (sink_of drain) (sink_of drain') text ⊎ PutSome (sink_of drain) (sink_of drain') text
+
+-- nothing was read, and nothing was written on the output
+abbrev pub IsIdle : SourceTold → SourceTold → DrainTold → DrainTold → Type 0
+IsIdle source source' output output' = (source' ≡ source) × (output' ≡ output)
+
+-- ---- a run
+
+-- the outcome of a run with an empty token
+pub record RunOf (job : Job) (source source' : SourceTold) (output output' : DrainTold) (result : Result Report RunFault) : Type 0 where
+  pub token : TokenShown
+  pub token' : TokenShown
+  pub no_entry : token.entries ≡ []
+  pub none_compared : token.compared ≡ 0
+  pub outcome : Outcome (2 ^ 40) job token token' source source' output output' result
+
+-- ---- the endings
+
+-- a kind of fault that stands for a mistake in the words: not want of memory, and not a request for help
+abbrev pub is_mistake : ErrorKind → Bool
+is_mistake kind.OutOfMemory = false
+is_mistake kind.DisplayHelp = false
+is_mistake _ = true
+
+-- what the three devices tell
+pub record Told : Type 0 where
+  pub source : SourceTold
+  pub output : DrainTold
+  pub faults : DrainTold
+
+-- the status, with a line on the fault stream and nothing else
+abbrev pub EndsIdle : ℕ → Text → Told → Told → ℕ → Type 0
+EndsIdle expected text told told' status =
+    (status ≡ expected) × (IsIdle told.source told'.source told.output told'.output) × (Says text told.faults told'.faults)
+
+abbrev pub EndsWithoutMemory : Told → Told → ℕ → Type 0
+EndsWithoutMemory = EndsIdle 4 (fault_line (codes "no memory"))
+
+abbrev pub EndsRefused : Told → Told → ℕ → Type 0
+EndsRefused = EndsIdle 2 (fault_line (codes "usage"))
+
+-- nothing was read and nothing was said; what help puts on the output is `clap`'s text
+abbrev pub EndsWithHelp : Told → Told → ℕ → Type 0
+EndsWithHelp told told' status =
+    (status ≡ 0) × (told'.source ≡ told.source) × (told'.faults ≡ told.faults)
+
+abbrev pub status_of : Result Report RunFault → ℕ
+status_of (Ok report) = if report.faults == 0 then 0 else 1
+status_of (Err fault) = 3
+
+abbrev pub SaysOf : Result Report RunFault → DrainTold → DrainTold → Type 0
+SaysOf (Ok report) drain drain' = drain' ≡ drain
+SaysOf (Err fault) drain drain' = Says (run_line fault) drain drain'
+
+pub record EndsRun (job : Job) (told told' : Told) (status : ℕ) : Type 0 where
+  -- what the run returned
+  pub result : Result Report RunFault
+  pub run : RunOf job told.source told'.source told.output told'.output result
+  pub says : SaysOf result told.faults told'.faults
+  pub is : status ≡ status_of result
+
+-- by what the words settle: a job is run, and an option that does not read is named
+abbrev pub EndsSettled : Result Job UsageFault → Told → Told → ℕ → Type 0
+EndsSettled (Ok job) = EndsRun job
+EndsSettled (Err fault) = EndsIdle 2 (usage_line fault)
+
+-- words that the command line takes: want of memory alone keeps them from what they settle
+abbrev pub EndsTaken : List Text → Told → Told → ℕ → Type 0
+EndsTaken words told told' status =
+    EndsWithoutMemory told told' status ⊎ EndsSettled (settings_of words) told told' status
+
+-- any words, by the kinds of fault that `clap` finds in them
+pub data EndsBy (words : List Text) (told told' : Told) (status : ℕ) : Type 0 where
+  without_memory : EndsWithoutMemory told told' status → EndsBy words told told' status
+  refused : list_any is_mistake (fault_of line words) ≡ true → EndsRefused told told' status → EndsBy words told told' status
+  helped : IsAmong kind.DisplayHelp (fault_of line words) → EndsWithHelp told told' status → EndsBy words told told' status
+  settled : fault_of line words ≡ [] → EndsSettled (settings_of words) told told' status → EndsBy words told told' status
+
+-- at 2 and 4 nothing was read, and nothing was written on the output
+abbrev pub IsIdleAt : ℕ → Told → Told → Type 0
+IsIdleAt status told told' = (status ≡ 2) ⊎ (status ≡ 4) → IsIdle told.source told'.source told.output told'.output

@@ -1,0 +1,11 @@
+pub mod binary
+pub mod Told
+pub mod Lines
+pub mod Faults
+pub mod Answers
+pub mod Outcome
+pub mod Sofar
+pub mod CommandLine
+pub mod Settings
+pub mod Endings
+pub mod Preparing

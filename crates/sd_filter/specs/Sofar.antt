@@ -1,0 +1,75 @@
+-- A run in the middle: the line in hand, and what stands of the lines before it. Private contracts alone
+-- cite these words; they promise nothing to a caller.
+use Rattle.std.specs.Prelude.{◌≡◌, ◌<◌, ◌≤◌, ℕ, List, [], ◌∷◌, ◌++◌, length, Bool, true, false, Result, Ok, Err}
+use Rattle.std.specs.Io.KnownBytes.{Consumes, Appends}
+use Rattle.sd_filter.specs.Told.{SourceTold, DrainTold, sink_of}
+use Rattle.sd_core.specs.Token.{TokenShown}
+use Rattle.sd_core.specs.Sink.{SinkTold, PutAll, IsPrefix}
+use Rattle.sd_core.specs.Counts.{Rose}
+use Rattle.sd_filter.specs.Lines.{parts, ended, without_cr}
+use Rattle.sd_filter.specs.Answers.{answers, errors, bounds, or_byte_fault}
+use Rattle.sd_filter.specs.Outcome.{Compares, RoseBy}
+use Rattle.sd_filter.specs.binary.Descriptor.{Descriptor}
+use Rattle.sd_filter.specs.declared.binary.fault.SdFault.{SdFault}
+use Rattle.sd_filter.specs.declared.fault.LineFault.{LineFault}
+use Rattle.sd_filter.specs.declared.job.Job.{Job}
+use Rattle.sd_filter.specs.declared.engine.Desk.{Desk}
+use Rattle.sd_filter.specs.declared.engine.Report.{Report}
+use Rattle.sd_filter.specs.declared.line.Line.{Line}
+
+-- what is held of a text: all of it, or only that it passes the limit
+pub record HoldsText (limit : ℕ) (held : List ℕ) (over : Bool) (text : List ℕ) : Type 0 where
+  pub whole : over ≡ false → held ≡ text
+  pub beyond : over ≡ true → limit < length text
+
+-- what a text means where this is left of it: a fault, or bytes that are still to be read
+abbrev pub left_of_text : Result (Unit {0}) LineFault → Result Descriptor SdFault → Result Descriptor LineFault
+left_of_text (Err fault) read = Err fault
+left_of_text (Ok done) read = or_byte_fault read
+
+-- a CR that waits for the next byte
+abbrev pub pending : Bool → List ℕ
+pending true = 13 ∷ []
+pending false = []
+
+-- what is held of the bytes since the last LF
+pub record Holds (line : Line) (raw : List ℕ) : Type 0 where
+  pub text : HoldsText line.limit line.held.items line.over (without_cr raw)
+  pub waits : raw ≡ without_cr raw ++ pending line.cr
+
+-- all of these lines are answered
+pub record Answered (job : Job) (token0 : TokenShown) (sink0 : SinkTold) (all : List (List ℕ)) (token : TokenShown) (sink : SinkTold) (report : Report) : Type 0 where
+  pub put : PutAll sink0 sink (answers job token0.entries all)
+  pub lines_counted : report.lines ≡ length all
+  pub faults_counted : report.faults ≡ errors job all
+  pub same_entries : token.entries ≡ token0.entries
+  pub compared : Compares token0 token (bounds job token0.entries all)
+
+-- after these bytes, the lines that an LF ended are answered, and what follows is held
+pub record Sofar (token0 : TokenShown) (sink0 : SinkTold) (got : List ℕ) (desk : Desk) (token : TokenShown) (sink : SinkTold) (report : Report) : Type 0 where
+  pub holds : Holds desk.line (parts got).rest
+  pub answered : Answered desk.job token0 sink0 (ended got) token sink report
+
+-- the sink failed: some of these lines are answered whole, and of the answer to one more, or to none, a part
+pub record Failed (job : Job) (token0 : TokenShown) (sink0 : SinkTold) (all : List (List ℕ)) (token : TokenShown) (sink : SinkTold) : Type 0 where
+  pub whole : List (List ℕ)
+  pub broken : List (List ℕ)
+  pub more : List (List ℕ)
+  pub part : List ℕ
+  pub split : all ≡ whole ++ broken ++ more
+  pub one : length broken ≤ 1
+  pub is_prefix : IsPrefix part (answers job token0.entries broken)
+  pub appended : Appends sink0.contents sink.contents (answers job token0.entries whole ++ part)
+  pub failed : Rose sink0.failures sink.failures
+  pub same_entries : token.entries ≡ token0.entries
+  pub compared : Compares token0 token (bounds job token0.entries (whole ++ broken))
+
+-- a run before its next read
+pub record BeforeRead (turn : ℕ) (token0 : TokenShown) (source0 : SourceTold) (drain0 : DrainTold) (desk : Desk) (token : TokenShown) (source : SourceTold) (drain : DrainTold) (report : Report) : Type 0 where
+  -- the bytes that left the source
+  pub got : List ℕ
+  pub read : Consumes source0.left source.left got
+  pub sofar : Sofar token0 (sink_of drain0) got desk token (sink_of drain) report
+  pub reads : RoseBy turn source0.reads source.reads
+  pub ends : source.ends ≡ source0.ends
+  pub failures : source.failures ≡ source0.failures

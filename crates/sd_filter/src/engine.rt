@@ -1,0 +1,91 @@
+// The engine, which has every buffer of a run.
+ghost use Rattle.std.specs.Prelude.{◌≡◌, IfOk};
+ghost use Rattle.sd_filter.specs.Answers.{line_limit};
+
+use crate::binary::SdBuf;
+use crate::hex_text::GATHERED;
+use crate::job::{Form, Job};
+use crate::line::Line;
+use sd_core::NoMemory;
+use std::alloc::Global;
+use std::marker::Model;
+use thiserror::Error;
+
+/// How many lines were answered, empty ones too, and how many of them by an `error` line.
+#[derive(Clone, Copy, Debug, PartialEq, Eq)]
+pub struct Report {
+    pub lines: u64,
+    pub faults: u64,
+}
+
+/// Why a run ended before the end of its input, or before its answers were handed on.
+#[derive(Clone, Copy, Debug, PartialEq, Eq, Error)]
+pub enum RunFault {
+    /// 60: a read failed.
+    #[error("60 read")]
+    Read,
+    /// 61: a write or the flush at the end failed.
+    #[error("61 write")]
+    Write,
+    /// 62: 2^40 reads brought no end.
+    #[error("62 too-many-reads")]
+    TooManyReads,
+}
+
+/// What a run works with: its job, and memory that was taken before the first read.
+#[derive(Drop)]
+pub struct Engine {
+    pub(crate) desk: Desk,
+}
+
+impl Model for Engine {
+    ghost use Rattle.sd_filter.specs.declared.job.Job.{Job};
+
+    ghost Value = { Job };
+
+    ghost view = { λ e. e.desk.job };
+}
+
+impl Engine {
+    /// All that a run needs is reserved here.
+    pub fn new(alloc: Global, job: Job) -> Result<Engine, NoMemory>
+        ensures { IfOk result (λ engine. engine ≡ job) }
+    {
+        let desk = Desk {
+            job,
+            line: Line::new(alloc, line_limit(job.source))?,
+            stores: Stores {
+                read: SdBuf::new(alloc)?,
+                written: SdBuf::new(alloc)?,
+                digits: [0; GATHERED],
+            },
+        };
+        Ok(Engine { desk })
+    }
+}
+
+// The job, the line in hand, and the buffers.
+#[derive(Drop)]
+pub struct Desk {
+    pub job: Job,
+    pub line: Line,
+    pub stores: Stores,
+    ghost limit: { line.limit ≡ line_limit job.source },
+}
+
+// The bytes of a line's descriptor, those of the one that is printed, and a piece of its digits.
+#[derive(Drop)]
+pub struct Stores {
+    pub read: SdBuf,
+    pub written: SdBuf,
+    pub digits: [u8; GATHERED],
+}
+
+// The bytes that a line may have.
+fn line_limit(form: Form) -> usize
+    ensures { result ≡ line_limit form }
+{
+    match form {
+        Form::Hex => 262_452,
+    }
+}

@@ -1,0 +1,76 @@
+// Why a line has no answer but an `error` line.
+ghost use Rattle.std.specs.Prelude.{◌≡◌, ◌<◌, length};
+ghost use Rattle.sd_core.specs.Sink.{Puts};
+ghost use Rattle.sd_filter.specs.Faults.{fault_text, number_and_name, part_text, parts_of, parts_text};
+
+use crate::binary::{Part, SdFault, TextFault};
+use sd_core::{Sink, SinkFault};
+
+/// Why a line has no answer but an `error` line: the first condition that holds.
+#[derive(Clone, Copy, Debug, PartialEq, Eq)]
+pub enum LineFault {
+    /// 1: the line is longer than its limit, whatever else is wrong with it.
+    TooLong,
+    /// 2, 3: its text spells no bytes.
+    Text(TextFault),
+    /// 5 to 9, 14, 15: its bytes show no descriptor.
+    Sd(SdFault),
+}
+
+/// Puts the text of an `error` line, without its LF: at most 63 bytes.
+#[tactic(auto, unfolding(crate::specs::Faults::fault_text))]
+pub fn put_fault<S: Sink>(fault: &LineFault, sink: &mut S) -> Result<(), SinkFault>
+    ensures put { Puts (S.told sink.old) (S.told sink.new) (fault_text fault.now) result }
+    ensures place { S.place sink.new ≡ S.place sink.old }
+    ensures short { length (fault_text fault.now) < 64 }
+{
+    sink.put(number_and_name(*fault).as_bytes())?;
+    put_parts(parts_of(*fault), sink)
+}
+
+fn number_and_name(fault: LineFault) -> &'static str
+    ensures { result.now ≡ number_and_name fault }
+{
+    match fault {
+        LineFault::TooLong => "error 1 too-long",
+        LineFault::Text(TextFault::HexDigit) => "error 2 hex-digit",
+        LineFault::Text(TextFault::HexOdd) => "error 3 hex-odd",
+        LineFault::Sd(SdFault::Short) => "error 5 short",
+        LineFault::Sd(SdFault::Revision) => "error 6 revision",
+        LineFault::Sd(SdFault::NotSelfRelative) => "error 7 not-self-relative",
+        LineFault::Sd(SdFault::Offset(_)) => "error 8 offset",
+        LineFault::Sd(SdFault::Sid(_)) => "error 9 sid",
+        LineFault::Sd(SdFault::Overlap(_, _)) => "error 14 overlap",
+        LineFault::Sd(SdFault::NotYet) => "error 15 not-yet",
+    }
+}
+
+fn parts_of(fault: LineFault) -> (Option<Part>, Option<Part>)
+    ensures { result ≡ parts_of fault }
+{
+    match fault {
+        LineFault::Sd(SdFault::Offset(part)) => (Some(part), None),
+        LineFault::Sd(SdFault::Sid(part)) => (Some(part), None),
+        LineFault::Sd(SdFault::Overlap(first, second)) => (Some(first), Some(second)),
+        _ => (None, None),
+    }
+}
+
+fn put_parts<S: Sink>(parts: (Option<Part>, Option<Part>), sink: &mut S) -> Result<(), SinkFault>
+    ensures put { Puts (S.told sink.old) (S.told sink.new) (parts_text parts) result }
+    ensures place { S.place sink.new ≡ S.place sink.old }
+{
+    sink.put(part_text(parts.0).as_bytes())?;
+    sink.put(part_text(parts.1).as_bytes())
+}
+
+// A part behind a blank.
+fn part_text(part: Option<Part>) -> &'static str
+    ensures { result.now ≡ part_text part }
+{
+    match part {
+        None => "",
+        Some(Part::Owner) => " owner",
+        Some(Part::Group) => " group",
+    }
+}

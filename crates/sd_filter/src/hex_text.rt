@@ -1,0 +1,40 @@
+// Bytes printed as hex.
+ghost use Rattle.std.specs.Prelude.{◌≡◌, ◌≤◌, ◌*◌, length, take};
+ghost use Rattle.hex.specs.Hex.{encode_lower};
+ghost use Rattle.sd_core.specs.Sink.{Puts};
+
+use sd_core::{Sink, SinkFault};
+
+/// The digits that are gathered before they go to the sink.
+pub const GATHERED: usize = 1024;
+
+/// Puts the bytes as lower-case hex, by way of the cells.
+pub fn put_hex<S: Sink>(
+    bytes: &[u8],
+    cells: &mut [u8; GATHERED],
+    sink: &mut S,
+) -> Result<(), SinkFault>
+    ensures put { Puts (S.told sink.old) (S.told sink.new) (encode_lower bytes.now) result }
+    ensures place { S.place sink.new ≡ S.place sink.old }
+{
+    let mut at = 0;
+    while at < bytes.len() {
+        let n = (bytes.len() - at).min(GATHERED / 2);
+        let digits = encode_hex(&bytes[at..at + n], cells);
+        sink.put(&cells[..digits])?;
+        at += n;
+    }
+    Ok(())
+}
+
+// Encodes to the front of the cells, and says how many digits there are.
+fn encode_hex(bytes: &[u8], cells: &mut [u8]) -> usize
+    requires { 2 * length bytes.now ≤ length cells.old }
+    ensures count { result ≡ 2 * length bytes.now }
+    ensures digits { take result cells.new ≡ encode_lower bytes.now }
+{
+    let count = 2 * bytes.len();
+    // The room is exactly that of the digits.
+    let _ = hex::encode_to_slice(bytes, &mut cells[..count]);
+    count
+}

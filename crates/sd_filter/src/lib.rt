@@ -1,0 +1,33 @@
+//! The line filter of `sdtool`: it reads a descriptor a line, writes an answer a line, and reads the
+//! command line that says which.
+#![tactic(auto)]
+
+mod answer;
+mod binary;
+mod command_line;
+mod device;
+mod engine;
+mod fault;
+mod feed;
+mod hex_text;
+mod job;
+mod line;
+#[cfg(test)]
+mod memory;
+mod parse;
+mod program;
+mod running;
+mod settings;
+mod sink;
+mod streams;
+#[cfg(test)]
+mod tests;
+
+pub use binary::{Full, Part, SdBuf, SdFault, SdView, TextFault, put_layout, read};
+pub use device::{DeviceFault, Drain, Source};
+pub use engine::{Engine, Report, RunFault};
+pub use fault::{LineFault, put_fault};
+pub use job::{Act, Form, Job};
+pub use program::command;
+pub use running::run;
+pub use streams::{FromRead, ToWrite};

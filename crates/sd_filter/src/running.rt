@@ -1,0 +1,147 @@
+// A run from the first read to the last flush.
+ghost use Rattle.std.specs.Prelude.{◌≡◌, ◌+◌, ◌<◌, ◌≤◌, ◌^◌, ℕ, List, ◌++◌, [], length, true, MatchResult};
+ghost use Rattle.sd_core.specs.Token.{TokenShown};
+ghost use Rattle.sd_core.specs.Sink.{SinkTold};
+ghost use Rattle.sd_filter.specs.Told.{sink_of};
+ghost use Rattle.sd_filter.specs.Answers.{AnswersAreShort};
+ghost use Rattle.sd_filter.specs.Lines.{ended, lines};
+ghost use Rattle.sd_filter.specs.Sofar.{Answered, Failed, Sofar};
+ghost use Rattle.sd_filter.specs.Outcome.{Outcome};
+
+use crate::device::{Drain, Source};
+use crate::engine::{Desk, Engine, Report, RunFault};
+use crate::feed::{feed_all, finish};
+use crate::sink::DrainSink;
+use sd_core::{SinkFault, Token};
+
+/// The reads of a run: a source that never ends is given up after so many.
+const MOST_READS: u64 = 1 << 40;
+
+/// The bytes that one read may give.
+const PIECE: usize = 8192;
+
+/// Reads lines to the end of the input, writes the answer to each, and flushes at the end.
+///
+/// A read that fails ends the run, and so do 2^40 reads without an end: the lines that an LF ended are
+/// answered by then, and the one in hand is not. A write or a flush that fails ends it too, and a prefix
+/// of the answers is written. After any return the engine may run again: it starts without a held line.
+pub fn run<R: Source, W: Drain>(
+    engine: &mut Engine,
+    token: &mut Token,
+    source: &mut R,
+    drain: &mut W,
+) -> Result<Report, RunFault>
+    ensures outcome { Outcome (2 ^ 40) engine.old token.old token.new (R.told source.old) (R.told source.new) (W.told drain.old) (W.told drain.new) result }
+    // At most eight characters a byte of the descriptor that a line prints, and 64.
+    ensures printed { AnswersAreShort engine.old token.old.entries }
+    ensures job { engine.new ≡ engine.old }
+    ensures entries { token.new.entries ≡ token.old.entries }
+{
+    run_at_most(&mut engine.desk, token, source, drain, MOST_READS)
+}
+
+// The same for any number of reads, so that a test can reach it.
+pub(crate) fn run_at_most<R: Source, W: Drain>(
+    desk: &mut Desk,
+    token: &mut Token,
+    source: &mut R,
+    drain: &mut W,
+    most: u64,
+) -> Result<Report, RunFault>
+    requires { most ≤ 2 ^ 40 }
+    ensures outcome { Outcome most desk.old.job token.old token.new (R.told source.old) (R.told source.new) (W.told drain.old) (W.told drain.new) result }
+    ensures job { desk.new.job ≡ desk.old.job }
+    ensures entries { token.new.entries ≡ token.old.entries }
+{
+    desk.line.start();
+    let mut report = Report {
+        lines: 0,
+        faults: 0,
+    };
+    let mut buf = [0u8; PIECE];
+    for turn in 0..most {
+        let n = match source.read(&mut buf) {
+            Ok(n) => n,
+            Err(_) => return Err(RunFault::Read),
+        };
+        if n == 0 {
+            return match close(desk, token, drain, &mut report) {
+                Ok(()) => Ok(report),
+                Err(_) => Err(RunFault::Write),
+            };
+        }
+        match feed_drain(desk, &buf[..n], token, drain, &mut report) {
+            Ok(()) => {}
+            Err(_) => return Err(RunFault::Write),
+        }
+    }
+    Err(RunFault::TooManyReads)
+}
+
+fn feed_drain<W: Drain>(
+    desk: &mut Desk,
+    piece: &[u8],
+    token: &mut Token,
+    drain: &mut W,
+    report: &mut Report,
+) -> Result<(), SinkFault>
+    requires lines_fit { report.old.lines + length piece.now < 2 ^ 64 }
+    requires faults_fit { report.old.faults + length piece.now < 2 ^ 64 }
+    ensures fed { (token0 : TokenShown) (sink0 : SinkTold) (got : List ℕ)
+        → Sofar token0 sink0 got desk.old token.old (sink_of (W.told drain.old)) report.old
+        → MatchResult result
+        (λ _. Sofar token0 sink0 (got ++ piece.now) desk.new token.new (sink_of (W.told drain.new)) report.new)
+        (λ _. Failed desk.new.job token0 sink0 (ended (got ++ piece.now)) token.new (sink_of (W.told drain.new))) }
+    ensures job { desk.new.job ≡ desk.old.job }
+    ensures lines_within { report.new.lines ≤ report.old.lines + length piece.now }
+    ensures faults_within { report.new.faults ≤ report.old.faults + length piece.now }
+{
+    let mut sink = DrainSink { drain };
+    feed_all(desk, piece, token, &mut sink, report)
+}
+
+fn finish_drain<W: Drain>(
+    desk: &mut Desk,
+    token: &mut Token,
+    drain: &mut W,
+    report: &mut Report,
+) -> Result<(), SinkFault>
+    requires lines_fit { report.old.lines + 1 < 2 ^ 64 }
+    requires faults_fit { report.old.faults + 1 < 2 ^ 64 }
+    ensures finished { (token0 : TokenShown) (sink0 : SinkTold) (got : List ℕ)
+        → Sofar token0 sink0 got desk.old token.old (sink_of (W.told drain.old)) report.old
+        → MatchResult result
+        (λ _. Answered desk.new.job token0 sink0 (lines got) token.new (sink_of (W.told drain.new)) report.new)
+        (λ _. Failed desk.new.job token0 sink0 (lines got) token.new (sink_of (W.told drain.new))) }
+    ensures job { desk.new.job ≡ desk.old.job }
+{
+    let mut sink = DrainSink { drain };
+    finish(desk, token, &mut sink, report)
+}
+
+// The end of the input.
+fn close<W: Drain>(
+    desk: &mut Desk,
+    token: &mut Token,
+    drain: &mut W,
+    report: &mut Report,
+) -> Result<(), SinkFault>
+    requires lines_fit { report.old.lines + 1 < 2 ^ 64 }
+    requires faults_fit { report.old.faults + 1 < 2 ^ 64 }
+    ensures closed { (token0 : TokenShown) (sink0 : SinkTold) (got : List ℕ)
+        → Sofar token0 sink0 got desk.old token.old (sink_of (W.told drain.old)) report.old
+        → MatchResult result
+        (λ _. Answered desk.new.job token0 sink0 (lines got) token.new (sink_of (W.told drain.new)) report.new
+        × ((W.told drain.new).flushed ≡ true))
+        (λ _. Failed desk.new.job token0 sink0 (lines got) token.new (sink_of (W.told drain.new))) }
+    ensures job { desk.new.job ≡ desk.old.job }
+{
+    match finish_drain(desk, token, drain, report) {
+        Ok(()) => {}
+        Err(sink_fault) => return Err(sink_fault),
+    }
+    match drain.flush() {
+        Ok(()) => Ok(()),
+        Err(_) => Err(SinkFault),
+    }
+}

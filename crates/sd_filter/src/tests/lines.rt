@@ -1,0 +1,160 @@
+// Lines and their answers.
+use super::{BARE, expect_answers, expect_pieces};
+use std::process::Abort;
+
+// A line and its answer, each without its LF.
+fn expect_line(rt: &(impl Abort + AllocGlobal), line: &str, status: u8, answer: &str) {
+    let input = format!(in rt.alloc(); "{line}\n").expect(rt, "memory for a line");
+    let answers = format!(in rt.alloc(); "{answer}\n").expect(rt, "memory for an answer");
+    expect_answers(rt, input.as_str(), status, answers.as_str());
+}
+
+#[test]
+fn prints_canonical_descriptors(rt: HostRuntime) {
+    for (line, answer) in [
+        (BARE, BARE),
+        // The group stands before the owner, with a byte between them.
+        (
+            "0100008021000000140000000000000000000000010100000000000100000000aa010100000000000512000000",
+            "0100008014000000200000000000000000000000010100000000000512000000010100000000000100000000",
+        ),
+        // The offsets of absent ACLs, and what follows the last part.
+        ("010000800000000000000000ffffffff14000000ffff", BARE),
+        // Upper case, and a SID without a sub-authority.
+        (
+            "01AB00801400000000000000000000000000000001000000000000FE",
+            "01ab00801400000000000000000000000000000001000000000000fe",
+        ),
+    ] {
+        expect_line(&rt, line, 0, answer);
+    }
+}
+
+#[test]
+fn names_the_first_fault(rt: HostRuntime) {
+    for (line, answer) in [
+        ("zz", "error 2 hex-digit"),
+        ("\0\0", "error 2 hex-digit"),
+        ("zzz", "error 3 hex-odd"),
+        ("\u{feff}00", "error 3 hex-odd"),
+        ("0100048014", "error 5 short"),
+        (
+            "0200008000000000000000000000000000000000",
+            "error 6 revision",
+        ),
+        (
+            "0100000000000000000000000000000000000000",
+            "error 7 not-self-relative",
+        ),
+        (
+            "01000080ffffffff000000000000000000000000",
+            "error 8 offset owner",
+        ),
+        (
+            "0100008013000000000000000000000000000000",
+            "error 8 offset owner",
+        ),
+        (
+            "01000080140000000000000000000000000000000110000000000005",
+            "error 9 sid owner",
+        ),
+        (
+            "0100008014000000140000000000000000000000010100000000000512000000",
+            "error 14 overlap owner group",
+        ),
+        (
+            "0100048000000000000000000000000000000000",
+            "error 15 not-yet",
+        ),
+    ] {
+        expect_line(&rt, line, 1, answer);
+    }
+}
+
+#[test]
+fn ends_lines(rt: HostRuntime) {
+    let none = "";
+    let two =
+        "0100008000000000000000000000000000000000\n0100008000000000000000000000000000000000\n";
+    for (input, status, answers) in [
+        (none, 0, none),
+        ("\n\n", 0, "\n\n"),
+        ("\r\n", 0, "\n"),
+        // One CR is dropped, and only before an LF.
+        ("\r\r\n", 1, "error 3 hex-odd\n"),
+        ("\r", 1, "error 3 hex-odd\n"),
+        ("0\r0\n", 1, "error 3 hex-odd\n"),
+        (
+            "zz\r\nzz\r\r\nzz\r",
+            1,
+            "error 2 hex-digit\nerror 3 hex-odd\nerror 3 hex-odd\n",
+        ),
+        // The last line needs no LF.
+        ("zz", 1, "error 2 hex-digit\n"),
+        ("\nzz\n\nz", 1, "\nerror 2 hex-digit\n\nerror 3 hex-odd\n"),
+        (
+            "0100008000000000000000000000000000000000\r\n0100008000000000000000000000000000000000",
+            0,
+            two,
+        ),
+    ] {
+        expect_answers(&rt, input, status, answers);
+    }
+}
+
+// The digits that a line may have.
+const MOST_DIGITS: usize = 262_452;
+
+// A line of zeros and what follows them.
+fn expect_zeros(
+    rt: &(impl Abort + AllocGlobal),
+    digits: usize,
+    end: &str,
+    most: usize,
+    answers: &str,
+) {
+    let mut input = vec![in rt.alloc(); b'0'; digits].expect(rt, "memory for the digits");
+    input
+        .extend_from_slice(end.as_bytes())
+        .expect(rt, "memory for the end");
+    expect_pieces(rt, input.as_slice(), most, 1, answers);
+}
+
+#[test]
+fn limits_lines(rt: HostRuntime) {
+    for (digits, end, answers) in [
+        (MOST_DIGITS, "\nzz", "error 6 revision\nerror 2 hex-digit\n"),
+        (
+            MOST_DIGITS,
+            "\r\nzz",
+            "error 6 revision\nerror 2 hex-digit\n",
+        ),
+        (MOST_DIGITS, "", "error 6 revision\n"),
+        (MOST_DIGITS, "\r\r\n", "error 1 too-long\n"),
+        (MOST_DIGITS, "\r", "error 1 too-long\n"),
+        (
+            MOST_DIGITS + 1,
+            "\nzz",
+            "error 1 too-long\nerror 2 hex-digit\n",
+        ),
+        (
+            MOST_DIGITS + 1,
+            "\r\nzz",
+            "error 1 too-long\nerror 2 hex-digit\n",
+        ),
+        (MOST_DIGITS + 1, "", "error 1 too-long\n"),
+        (2 * MOST_DIGITS, "zz\n\n", "error 1 too-long\n\n"),
+    ] {
+        expect_zeros(&rt, digits, end, usize::MAX, answers);
+    }
+}
+
+#[test]
+fn limits_lines_that_come_byte_by_byte(rt: HostRuntime) {
+    for (digits, answers) in [
+        (MOST_DIGITS, "error 6 revision\nerror 2 hex-digit\n"),
+        (MOST_DIGITS + 1, "error 1 too-long\nerror 2 hex-digit\n"),
+    ] {
+        expect_zeros(&rt, digits, "\r\nzz", 1, answers);
+    }
+}

@@ -1,0 +1,111 @@
+// Command lines.
+use super::{BARE, status_of};
+use crate::memory::{Input, Output};
+use std::process::Abort;
+
+// The front of a text, of at most so many bytes.
+fn front(text: &str, room: usize) -> &[u8] {
+    &text.as_bytes()[..text.len().min(room)]
+}
+
+// A command line that reads nothing: its status, and what the output and the fault stream get, each of
+// which takes all, or so many bytes and then fails.
+fn expect_idle(rt: &(impl Abort + AllocGlobal), line: &str, status: u8, answers: &str, text: &str) {
+    for room in [usize::MAX, 9, 0] {
+        let mut source = Input::new(BARE.as_bytes());
+        let mut output = Output {
+            room,
+            ..Output::new(rt.alloc())
+        };
+        let mut faults = Output {
+            room,
+            ..Output::new(rt.alloc())
+        };
+        let got = status_of(rt, line, &mut source, &mut output, &mut faults);
+        assert_eq!(rt; got, status, "{line}");
+        assert_eq!(rt; output.taken.as_slice(), front(answers, room), "{line}");
+        assert_eq!(rt; faults.taken.as_slice(), front(text, room), "{line}");
+        assert_eq!(rt; source.reads, 0, "{line}");
+    }
+}
+
+#[test]
+fn takes_words(rt: HostRuntime) {
+    for line in [
+        "sdtool convert",
+        "sdtool convert --to hex",
+        "sdtool convert --from hex",
+        "sdtool convert --to=hex --from=hex",
+    ] {
+        let mut source = Input::new(BARE.as_bytes());
+        let mut output = Output::new(rt.alloc());
+        let mut faults = Output::new(rt.alloc());
+        let got = status_of(&rt, line, &mut source, &mut output, &mut faults);
+        assert_eq!(rt; got, 0, "{line}");
+        assert_eq!(rt;
+            output.taken.as_slice(),
+            b"0100008000000000000000000000000000000000\n".as_slice(),
+            "{line}"
+        );
+        assert!(rt; faults.taken.is_empty(), "{line}");
+    }
+}
+
+#[test]
+fn refuses_words(rt: HostRuntime) {
+    for (line, text) in [
+        ("", "sdtool: usage\n"),
+        ("sdtool", "sdtool: usage\n"),
+        ("sdtool explain", "sdtool: usage\n"),
+        ("sdtool convert more", "sdtool: usage\n"),
+        ("sdtool convert --to", "sdtool: usage\n"),
+        ("sdtool convert --domain S-1-5", "sdtool: usage\n"),
+        ("sdtool convert --to hex --to hex", "sdtool: usage\n"),
+        ("sdtool --version", "sdtool: usage\n"),
+        ("sdtool convert --to xml", "sdtool: usage: --to\n"),
+        ("sdtool convert --to HEX", "sdtool: usage: --to\n"),
+        ("sdtool convert --to ", "sdtool: usage: --to\n"),
+        ("sdtool convert --to=", "sdtool: usage: --to\n"),
+        ("sdtool convert --from sddl", "sdtool: usage: --from\n"),
+        ("sdtool convert --to x --from y", "sdtool: usage: --from\n"),
+    ] {
+        expect_idle(&rt, line, 2, "", text);
+    }
+}
+
+// Help is laid out as `clap` prints it.
+const HELP: &str = "Work on Windows security descriptors, one a line
+
+Usage: sdtool <COMMAND>
+
+Commands:
+  convert  Print each descriptor in a canonical form
+  help     Print this message or the help of the given subcommand(s)
+
+Options:
+  -h, --help  Print help
+";
+
+const CONVERT_HELP: &str = "Print each descriptor in a canonical form
+
+Usage: sdtool convert [OPTIONS]
+
+Options:
+      --from <from>  The form of the lines: hex, the default
+      --to <to>      The form of the answers: hex, the default
+  -h, --help         Print help
+";
+
+#[test]
+fn shows_help(rt: HostRuntime) {
+    for (line, help) in [
+        ("sdtool help", HELP),
+        ("sdtool --help", HELP),
+        ("sdtool -h", HELP),
+        ("sdtool help convert", CONVERT_HELP),
+        ("sdtool convert --help", CONVERT_HELP),
+        ("sdtool convert --to x -h", CONVERT_HELP),
+    ] {
+        expect_idle(&rt, line, 0, help, "");
+    }
+}

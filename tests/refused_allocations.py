@@ -1,0 +1,136 @@
+#!/usr/bin/env python3
+"""refused_allocations.py PROGRAM
+
+Refuses the program's allocations, by a small library (refuse.c) that is preloaded under it.
+First each allocation of a few command lines in turn: the program says `sdtool: no memory`, ends with status 4, and has
+neither read nor written anything. One allocation of each may be dispensable: refused, it changes nothing.
+Then every allocation from the first read on: there is none, so nothing changes.
+The last line is 'N passed, M failed'.
+"""
+import argparse
+import os
+import pathlib
+import shutil
+import subprocess
+import sys
+import tempfile
+from typing import NamedTuple
+
+SECONDS = 60       # for one run
+ALLOCATIONS = 5000  # of one command line, at the very most
+EMPTY = b"0100008000000000000000000000000000000000"
+LIMIT = 262_452    # characters of the longest line that is read
+# The list of words is copied to a block that just fits; where there is no such block, it stays where it is.
+DISPENSABLE = 1
+COMMAND_LINES = [
+    ["convert"],
+    ["convert", "--from", "hex", "--to=hex"],
+    ["convert", "--to", "xml"],
+    ["convert", "--to", "hex", "--to", "hex"],
+    ["convert", "--help"],
+    ["--help"],
+    [],
+]
+
+
+class Ended(NamedTuple):
+    status: int
+    stdout: bytes
+    stderr: bytes
+    taken: int  # bytes of the input
+
+    def __str__(self):
+        return f"status {self.status}, stdout {self.stdout[:80]}, stderr {self.stderr[:80]}, {self.taken} bytes read"
+
+
+NO_MEMORY = Ended(4, b"", b"sdtool: no memory\n", 0)
+
+
+def compiler():
+    for name in (os.environ.get("CC"), "cc", "gcc", "clang"):
+        if name and shutil.which(name):
+            return [name]
+    # The toolchain brings a compiler, and a linker beside it.
+    kit = pathlib.Path(os.path.realpath(shutil.which("rt") or "rt")).parent.parent
+    return [str(kit / "toolchain/bin/clang"), "-fuse-ld=lld"]
+
+
+def build(folder):
+    library = os.path.join(folder, "refuse.so")
+    source = pathlib.Path(__file__).with_name("refuse.c")
+    subprocess.run([*compiler(), "-O2", "-shared", "-fPIC", "-nostdlib", "-fno-builtin", "-o", library, str(source)], check=True)
+    return library
+
+
+def run(command, data, library, **settings):
+    """How the command ended, and the letters that the library told."""
+    telling, told_to = os.pipe()
+    with tempfile.TemporaryFile() as given:
+        given.write(data)
+        given.seek(0)
+        environment = {**os.environ, "LD_PRELOAD": library, "REFUSE_TELL": str(told_to)}
+        environment.update({name: str(value) for name, value in settings.items()})
+        child = subprocess.run(command, stdin=given, capture_output=True, env=environment, pass_fds=[told_to], timeout=SECONDS)
+        os.close(told_to)
+        with open(telling, "rb") as events:
+            told = events.read()
+        taken = os.lseek(given.fileno(), 0, os.SEEK_CUR)
+    return Ended(child.returncode, child.stdout, child.stderr, taken), told
+
+
+class Count:
+    def __init__(self):
+        self.passed = self.failed = 0
+
+    def add(self, is_right, what):
+        self.passed, self.failed = self.passed + is_right, self.failed + (not is_right)
+        if not is_right:
+            print(f"FAIL {what}")
+
+
+def refuse_each(count, program, words, library):
+    """Each allocation in turn, until there is none any more to refuse."""
+    data = EMPTY + b"\n"
+    shown = " ".join(["sdtool", *words])
+    plain, _ = run([program, *words], data, library)
+    dispensable = []
+    for number in range(1, ALLOCATIONS):
+        ended, told = run([program, *words], data, library, REFUSE_AT=number)
+        if b"a" not in told:
+            break
+        if ended == plain:
+            dispensable.append(number)
+        else:
+            count.add(ended == NO_MEMORY, f"{shown}, allocation {number} refused: {ended}")
+    print(f"{shown}: {number - 1} allocations, each refused in turn; dispensable: {dispensable}")
+    count.add(number > 1, f"{shown}: no allocation was seen; is the program linked with the C library as a shared one?")
+    count.add(len(dispensable) <= DISPENSABLE, f"{shown}: more allocations are dispensable than {DISPENSABLE}")
+    count.add(ended == plain, f"{shown}, none refused: {ended}, not {plain}")
+
+
+def refuse_when_reading(count, program, library):
+    lines = [EMPTY, b"zz", b"", EMPTY + b"\r", EMPTY + b"f" * (LIMIT - len(EMPTY)), b"0" * (LIMIT + 1), b"0", EMPTY]
+    data = b"\n".join(lines * 20)
+    plain, _ = run([program, "convert"], data, library)
+    ended, told = run([program, "convert"], data, library, REFUSE_WHEN_READING=1)
+    count.add(plain.status == 1 and plain.taken == len(data), f"plain run: {plain}")
+    count.add(ended == plain, f"every allocation refused from the first read on: {ended}, not {plain}")
+    count.add(told == b"r", f"from the first read on the library told {told[:20]}, not only that read")
+
+
+def main():
+    parser = argparse.ArgumentParser(description="Refuses each allocation of the built program in turn.")
+    parser.add_argument("program", type=os.path.abspath)
+    program = parser.parse_args().program
+    count = Count()
+    with tempfile.TemporaryDirectory() as folder:
+        library = build(folder)
+        for words in COMMAND_LINES:
+            refuse_each(count, program, words, library)
+        refuse_when_reading(count, program, library)
+    print(f"{count.passed} passed, {count.failed} failed")
+    return 1 if count.failed else 0
+
+
+if __name__ == "__main__":
+    sys.exit(main())

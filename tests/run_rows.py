@@ -1,0 +1,242 @@
+#!/usr/bin/env python3
+"""run_rows.py PROGRAM [--one-byte]
+
+Runs the rows of rows.json on the built program, and compares what it writes and its exit status.
+With --one-byte the input comes one byte a read; rows that ask for a device of their own are left out.
+The last line is 'N passed, M failed'.
+
+A row has the program's words, its standard input, and what has to come of them: stdout (or stdout_has,
+texts that have to stand in it), stderr and status, which are empty and 0 where they are left out.
+A text is a string of characters below 256, each of which stands for one byte, or a list of texts, or
+{"repeat": TEXT, "times": N}. Where the standard streams are not to be files, a row has one of these:
+
+  talk     true: the input goes in line by line, each once the answer to the line before it has come
+  input    "closed", "directory", or "fails after each byte": for each front of the input a run of
+           its own, in which the read after it fails
+  output   "closed", "closed pipe", "full", or "fails after each byte": for each front of the output
+           but the whole a run of its own, in which the write of the byte after it fails
+  faults   "closed" or "full", for the standard error
+"""
+import argparse
+import json
+import os
+import pathlib
+import pty
+import resource
+import select
+import signal
+import stat
+import subprocess
+import sys
+import tempfile
+import threading
+import tty
+from typing import NamedTuple
+
+SECONDS = 60  # for one run: a program that hangs fails its row
+
+
+class Ended(NamedTuple):
+    stdout: bytes
+    stderr: bytes
+    status: object  # an exit status, minus a signal's number, or "too slow"
+    has_read: bool  # of a seekable input
+
+
+def text(value):
+    """The bytes of a text of rows.json."""
+    if isinstance(value, dict):
+        return text(value["repeat"]) * value["times"]
+    if isinstance(value, list):
+        return b"".join(map(text, value))
+    return value.encode("latin-1")
+
+
+def lines_of(data):
+    """The lines of the data, each with its LF (bytes.splitlines would cut at a CR as well)."""
+    return [line + b"\n" for line in data.split(b"\n")[:-1]]
+
+
+def file_of(data):
+    with tempfile.TemporaryFile() as file:
+        file.write(data)
+        file.seek(0)
+        return os.dup(file.fileno())
+
+
+def fed(data, pair, piece):
+    """The reading end of the pair, and the thread that feeds the other end and then closes it."""
+    reading, writing = pair
+
+    def feed():
+        try:
+            for at in range(0, len(data), piece):
+                os.write(writing, data[at:at + piece])
+        except OSError:  # the program has ended and reads no more
+            pass
+        os.close(writing)
+    return reading, threading.Thread(target=feed)
+
+
+def open_input(kind, data):
+    """A descriptor for the standard input, and the thread that feeds it, if it needs one."""
+    if kind == "bytes":  # a pipe in packet mode: one read never gets the bytes of two writes
+        return fed(data, os.pipe2(os.O_DIRECT | os.O_CLOEXEC), 1)
+    if kind == "fails":  # where a terminal hangs up, a read fails once it has given what was typed
+        ends = pty.openpty()
+        tty.setraw(ends[1])
+        return fed(data, ends, 256)
+    if kind == "directory":
+        return os.open("/", os.O_RDONLY), None
+    return file_of(data), None
+
+
+def open_output(kind):
+    if kind == "full":
+        return os.open("/dev/full", os.O_WRONLY)
+    if kind == "closed pipe":
+        reading, writing = os.pipe()
+        os.close(reading)
+        return writing
+    return file_of(b"")
+
+
+def bytes_of(fd):
+    """All that stands in a file; of a pipe or a device nothing."""
+    if not stat.S_ISREG(os.fstat(fd).st_mode):
+        return b""
+    os.lseek(fd, 0, os.SEEK_SET)
+    with open(fd, "rb", closefd=False) as file:
+        return file.read()
+
+
+def execute(command, data, given="file", output="file", faults="file", takes=None):
+    """Runs the command; with takes, an output that takes so many bytes and then fails."""
+    closed = [fd for fd, kind in enumerate((given, output, faults)) if kind == "closed"]
+
+    def in_child():
+        # A program that does not look after these signals must not be saved by what its parent ignores. Only
+        # the size limit stands for a failing disk here, and a failing disk raises no signal.
+        signal.signal(signal.SIGPIPE, signal.SIG_DFL)
+        signal.signal(signal.SIGXFSZ, signal.SIG_DFL if takes is None else signal.SIG_IGN)
+        if takes is not None:
+            resource.setrlimit(resource.RLIMIT_FSIZE, (takes, takes))
+        for fd in closed:
+            os.close(fd)
+    stdin, feeder = open_input(given, data)
+    stdout = open_output(output)
+    # (a pipe, which the size limit does not bind)
+    stderr = subprocess.PIPE if faults == "file" else open_output(faults)
+    child = subprocess.Popen(command, stdin=stdin, stdout=stdout, stderr=stderr, preexec_fn=in_child)
+    if feeder:
+        os.close(stdin)
+        feeder.start()
+    try:
+        _, told = child.communicate(timeout=SECONDS)
+        status = child.returncode
+    except subprocess.TimeoutExpired:
+        child.kill()
+        _, told = child.communicate()
+        status = "too slow"
+    has_read = False
+    if feeder:
+        feeder.join()
+    else:
+        has_read = given == "file" and os.lseek(stdin, 0, os.SEEK_CUR) > 0
+        os.close(stdin)
+    written = bytes_of(stdout)
+    os.close(stdout)
+    if stderr is not subprocess.PIPE:
+        os.close(stderr)
+    return Ended(written, told or b"", status, has_read)
+
+
+def next_line(fd):
+    """What comes up to an LF, the end, or a silence of SECONDS."""
+    line = b""
+    while not line.endswith(b"\n") and select.select([fd], [], [], SECONDS)[0]:
+        piece = os.read(fd, 65536)
+        if not piece:
+            break
+        line += piece
+    return line
+
+
+def converse(command, data, answers):
+    """Says one line at a time and waits for its answer; the answers that came before the wrong one, and it."""
+    child = subprocess.Popen(command, stdin=subprocess.PIPE, stdout=subprocess.PIPE, stderr=subprocess.PIPE)
+    heard = b""
+    for line, answer in zip(lines_of(data), lines_of(answers)):
+        try:
+            child.stdin.write(line)
+            child.stdin.flush()
+        except BrokenPipeError:  # the program has ended too soon
+            break
+        said = next_line(child.stdout.fileno())
+        heard += said
+        if said != answer:
+            child.kill()
+            break
+    rest, told = child.communicate()
+    return Ended(heard + rest, told, child.returncode, True)
+
+
+def short(data, most=100):
+    shown = repr(data)[1:] if isinstance(data, bytes) else str(data)
+    return shown if len(shown) <= most else f"{shown[:most]}.. ({len(data)} bytes)"
+
+
+def differences(row, ended, stdout):
+    """What is not as the row wants it, each in a few words."""
+    wanted = [("status", row.get("status", 0), ended.status),
+              ("stderr", text(row.get("stderr", "")), ended.stderr)]
+    if "stdout_has" not in row:
+        wanted.append(("stdout", stdout, ended.stdout))
+    if row.get("status") == 2:
+        wanted.append(("has read", False, ended.has_read))
+    found = [f"{what} {short(got)}, not {short(want)}" for what, want, got in wanted if got != want]
+    return found + [f"stdout has no {part!r}" for part in row.get("stdout_has", []) if text(part) not in ended.stdout]
+
+
+def runs(program, row, one_byte):
+    """For each run of the row its name, how it ended, and the output that it should have."""
+    command = [program] + [os.fsdecode(text(word)) for word in row["words"]]
+    name, data, stdout = row["id"], text(row["stdin"]), text(row.get("stdout", ""))
+    devices = {"given": row.get("input", "file"), "output": row.get("output", "file"), "faults": row.get("faults", "file")}
+    if one_byte:
+        yield name, execute(command, data, "bytes"), stdout
+    elif row.get("talk"):
+        yield name, converse(command, data, stdout), stdout
+    elif devices["given"] == "fails after each byte":
+        answers = lines_of(stdout)
+        for taken in range(len(data) + 1):
+            ended = data.count(b"\n", 0, taken)  # only these lines are answered
+            yield f"{name} {taken}", execute(command, data[:taken], "fails"), b"".join(answers[:ended])
+    elif devices["output"] == "fails after each byte":
+        for taken in range(len(stdout)):
+            yield f"{name} {taken}", execute(command, data, takes=taken), stdout[:taken]
+    else:
+        yield name, execute(command, data, **devices), stdout
+
+
+def main():
+    parser = argparse.ArgumentParser(description="Runs the rows of rows.json on the built program.")
+    parser.add_argument("program", type=os.path.abspath)
+    parser.add_argument("--one-byte", action="store_true", help="the input comes one byte a read")
+    given = parser.parse_args()
+    rows = json.loads(pathlib.Path(__file__).with_name("rows.json").read_text(encoding="utf-8"))
+    if given.one_byte:
+        rows = [row for row in rows if not {"talk", "input", "output", "faults"} & row.keys()]
+    passed = failed = 0
+    for row in rows:
+        for name, ended, stdout in runs(given.program, row, given.one_byte):
+            wrong = differences(row, ended, stdout)
+            passed, failed = passed + (not wrong), failed + bool(wrong)
+            if wrong:
+                print(f"FAIL {name}: {'; '.join(wrong)}")
+    print(f"{passed} passed, {failed} failed")
+    return 1 if failed else 0
+
+
+if __name__ == "__main__":
+    sys.exit(main())
