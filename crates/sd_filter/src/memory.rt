@@ -44,6 +44,8 @@ pub struct Output {
     /// What a write is answered where there is no room.
     pub full: Full,
     pub flush_fails: bool,
+    pub writes: u64,
+    pub flushes: u64,
 }
 
 #[derive(Clone, Copy)]
@@ -60,12 +62,15 @@ impl Output {
             room: usize::MAX,
             full: Full::Fails,
             flush_fails: false,
+            writes: 0,
+            flushes: 0,
         }
     }
 }
 
 impl Write for Output {
     fn write(&mut self, bytes: &[u8]) -> Result<usize> {
+        self.writes = self.writes.saturating_add(1);
         if self.room == 0 {
             return match self.full {
                 Full::Fails => Err(Error::from(ErrorKind::Other)),
@@ -79,6 +84,7 @@ impl Write for Output {
     }
 
     fn flush(&mut self) -> Result<()> {
+        self.flushes = self.flushes.saturating_add(1);
         if self.flush_fails {
             return Err(Error::from(ErrorKind::Other));
         }

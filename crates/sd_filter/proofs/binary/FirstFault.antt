@@ -1,5 +1,5 @@
 -- A chain of tests that answers the first fault.
-use Rattle.std.proofs.Common.{◌≡◌, ◌||◌, Bool, true, false, not, cond, Option, Some, None, refl}
+use Rattle.std.proofs.Common.{◌≡◌, Bool, true, false, cond, Option, Some, None, refl}
 use Rattle.sd_filter.specs.binary.Reading.{first}
 
 -- no first fault of two: neither is there
@@ -25,13 +25,3 @@ passed false f e = absurd (cc)
 pub otherwise : {F : Type 0} (b : Bool) (x y : Option F) → b ≡ false → cond b x y ≡ None → y ≡ None
 otherwise true x y h e = absurd (cc)
 otherwise false x y h e = e
-
--- what is not refused holds
-pub not_refused : (b : Bool) → not b ≡ false → b ≡ true
-not_refused true e = refl
-not_refused false e = absurd (cc)
-
--- neither of two holds
-pub neither : (a b : Bool) → (a || b) ≡ false → (a ≡ false) × (b ≡ false)
-neither true b e = absurd (cc)
-neither false b e = (refl, e)

@@ -2,7 +2,7 @@
 use Rattle.std.proofs.Common.{◌≡◌, ◌≤◌, ◌<◌, ◌⊎◌, inl, inr, ℕ, ◌+◌, ◌*◌, ◌^◌, ◌||◌, ◌&&◌, Bool, true, false, cond, eqb, ltb, List, length, drop, slice_index, Option, Some, None, Ok, Err, refl, sym, ap, subst, arith, length-drop}
 use Rattle.std.specs.Prelude.{is_some, IfSome}
 use Rattle.std.proofs.lemmas.Bool.Decides.{nat_tests}
-use Rattle.std.proofs.lemmas.Bool.{cases_eq, cases_lt, eqb-true, eq-eqb}
+use Rattle.std.proofs.lemmas.Bool.{cases_eq, cases_lt, eqb-true, eq-eqb, not-false, or_parts}
 use Rattle.byteorder.specs.Numbers.{little_from-lt}
 use Rattle.sd_core.specs.Sid.{SecurityId, IsSid, BeginsWithSid, sid_at, sid_of, sid_size, sid_stands}
 use Rattle.sd_core.proofs.Numbers.{AreBytes, AreBytes-drop}
@@ -12,8 +12,8 @@ use Rattle.sd_filter.specs.declared.binary.fault.Part.{Part}
 use Rattle.sd_filter.specs.declared.binary.fault.Part.TheVariants.{Owner, Group}
 use Rattle.sd_filter.specs.declared.binary.fault.SdFault.{SdFault}
 use Rattle.sd_filter.specs.binary.Descriptor.{Apart, AreApart, Descriptor, Extent, IsDescriptor, Shows, ShowsSid, control_at, dacl_present, extents_of, group_at, owner_at, sacl_present, self_relative}
-use Rattle.sd_filter.specs.binary.Reading.{IsSidAt, Readable, fault, header_fault, share_a_byte, overlap_fault, overlaps_fault, parts_fault, reading, shown, sid_fault, sid_shown}
-use Rattle.sd_filter.proofs.binary.FirstFault.{first_none, neither, none_first, not_refused, otherwise, passed, went_on}
+use Rattle.sd_filter.specs.binary.Reading.{IsSidAt, Readable, fault, header_fault, overlap_fault, overlaps_fault, parts_fault, reading, share_a_byte, shown, sid_fault, sid_shown}
+use Rattle.sd_filter.proofs.binary.FirstFault.{first_none, none_first, otherwise, passed, went_on}
 
 -- a header without a fault
 record Header (bytes : List ℕ) : Type 0 where
@@ -36,11 +36,11 @@ header_none bytes e =
     let revision = went_on _ _ _ room.1 in
     let relative = went_on _ _ _ revision.1 in
     let acls = went_on _ _ _ relative.1 in
-    let absent = neither _ _ acls.0 in
+    let absent = or_parts _ _ acls.0 in
     record {
       room = at_least (length bytes) 20 room.0;
-      revision = eqb-true (slice_index bytes 0) 1 (not_refused _ revision.0);
-      relative = not_refused _ relative.0;
+      revision = eqb-true (slice_index bytes 0) 1 (not-false _ revision.0);
+      relative = not-false _ relative.0;
       sacl = absent.0;
       dacl = absent.1;
     }
@@ -92,7 +92,7 @@ pub stands-sid : (bytes : List ℕ) → AreBytes bytes → sid_stands bytes ≡ 
 stands-sid bytes b e = sid_at-found bytes (sid_of bytes) (8 + 4 * slice_index bytes 1) b (stands-at bytes e)
 
 bounds : (offset len : ℕ) → (ltb offset 20 || ltb len (offset + 8)) ≡ false → (20 ≤ offset) × (offset + 8 ≤ len)
-bounds offset len e = let parts = neither _ _ e in (at_least offset 20 parts.0, at_least len (offset + 8) parts.1)
+bounds offset len e = let parts = or_parts _ _ e in (at_least offset 20 parts.0, at_least len (offset + 8) parts.1)
 
 -- an offset without a fault shows what is read
 sid-shows : (part : Part) (bytes : List ℕ) (offset : ℕ) → AreBytes bytes → sid_fault part bytes offset ≡ None

@@ -1,8 +1,8 @@
 -- Worked rows, computed: what hex texts spell, what their bytes are read as, and what is laid out.
-use Rattle.std.proofs.Common.{◌≡◌, ℕ, List, [], ◌∷◌, Some, None, Result, Ok, Err, codes, refl}
+use Rattle.std.proofs.Common.{◌≡◌, ℕ, List, [], ◌∷◌, Some, None, Result, Ok, Err, codes, refl, replicate}
 use Prim.Native.String.{String}
 use Rattle.hex.specs.Hex.{decode_pairs}
-use Rattle.sd_core.specs.Sid.{SecurityId, sid_at}
+use Rattle.sd_core.specs.Sid.{SecurityId, sid_at, sid_bytes}
 use Rattle.sd_filter.specs.declared.binary.buffer.TextFault.{TextFault}
 use Rattle.sd_filter.specs.declared.binary.buffer.TextFault.TheVariants.{HexDigit, HexOdd}
 use Rattle.sd_filter.specs.declared.binary.fault.Part.TheVariants.{Owner, Group}
@@ -31,6 +31,10 @@ system = record { authority = 5; subs = 18 ∷ [] }
 
 everyone : SecurityId
 everyone = record { authority = 1; subs = 0 ∷ [] }
+
+system_bytes : sid_bytes system ≡ hex "010100000000000512000000"
+unfolding computed system
+system_bytes = refl
 
 -- hex texts
 
@@ -83,6 +87,28 @@ moved_is_laid_out = refl
 moved_size : size moved ≡ 44
 unfolding moved system everyone
 moved_size = refl
+
+-- an owner alone, which has no sub-authority and an authority that needs its high bytes
+
+without_subs : Descriptor
+without_subs = record { control = 0x8000; rm = 0; owner = Some (record { authority = 0x1_0000_0000; subs = [] }); group = None }
+
+without_subs_is_read : reading (hex "01000080140000000000000000000000000000000100000100000000") ≡ Ok without_subs
+unfolding computed without_subs
+without_subs_is_read = refl
+
+without_subs_is_laid_out : layout without_subs ≡ hex "01000080140000000000000000000000000000000100000100000000"
+unfolding computed without_subs
+without_subs_is_laid_out = refl
+
+-- two SIDs of fifteen sub-authorities
+
+widest : SecurityId
+widest = record { authority = 0; subs = replicate 15 0 }
+
+largest_size : size (record { control = 0x8000; rm = 0; owner = Some widest; group = Some widest }) ≡ 156
+unfolding widest
+largest_size = refl
 
 -- a group alone, under a resource manager byte and every other control bit; what follows is dropped
 

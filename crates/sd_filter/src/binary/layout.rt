@@ -19,9 +19,24 @@ pub fn put_layout<S: Sink>(view: &SdView<'_>, sink: &mut S) -> Result<(), SinkFa
     ensures size { length (layout view.now) ≡ size view.now }
     ensures most { size view.now ≤ 131220 }
 {
-    let owner = view.owner_place();
-    let group = view.group_place();
-    sink.put(&header_of(view))?;
+    put_parts(
+        &header_of(view),
+        view.owner_place(),
+        view.group_place(),
+        sink,
+    )
+}
+
+fn put_parts<S: Sink>(
+    header: &[u8],
+    owner: &[u8],
+    group: &[u8],
+    sink: &mut S,
+) -> Result<(), SinkFault>
+    ensures put { Puts (S.told sink.old) (S.told sink.new) (header.now ++ (owner.now ++ group.now)) result }
+    ensures place { S.place sink.new ≡ S.place sink.old }
+{
+    sink.put(header)?;
     put_both(owner, group, sink)
 }
 

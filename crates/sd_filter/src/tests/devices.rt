@@ -2,7 +2,9 @@
 use super::{BARE, status_of};
 use crate::memory::{Full, Input, Output};
 use crate::running::run_at_most;
-use crate::{Act, Engine, Form, FromRead, Job, Report, RunFault, ToWrite, run};
+use crate::{
+    Act, DeviceFault, Drain, Engine, Form, FromRead, Job, Report, RunFault, Source, ToWrite, run,
+};
 use sd_core::Token;
 use std::process::Abort;
 
@@ -14,6 +16,48 @@ const JOB: Job = Job {
     source: Form::Hex,
     act: Act::Convert(Form::Hex),
 };
+
+// Each call is one call of the stream, and fails only where that fails.
+#[test]
+fn reads_the_stream(rt: HostRuntime) {
+    let mut input = Input {
+        most: 2,
+        fails: true,
+        ..Input::new(b"abc")
+    };
+    let mut source = FromRead::new(&mut input);
+    let mut buf = [0; 4];
+    assert_eq!(rt; source.read(&mut buf), Ok(2));
+    assert_eq!(rt; &buf[..2], b"ab".as_slice());
+    assert_eq!(rt; source.read(&mut buf), Ok(1));
+    assert_eq!(rt; source.read(&mut buf), Err(DeviceFault));
+    assert_eq!(rt; input.reads, 3);
+    let mut input = Input::new(b"");
+    assert_eq!(rt; FromRead::new(&mut input).read(&mut buf), Ok(0));
+    assert_eq!(rt; input.reads, 1);
+}
+
+#[test]
+fn writes_and_flushes_the_stream(rt: HostRuntime) {
+    let mut output = Output {
+        most: 2,
+        room: 3,
+        ..Output::new(rt.alloc())
+    };
+    let mut drain = ToWrite::new(&mut output);
+    assert_eq!(rt; drain.write(b"abc"), Ok(2));
+    assert_eq!(rt; drain.write(b"c"), Ok(1));
+    assert_eq!(rt; drain.write(b"d"), Err(DeviceFault));
+    assert_eq!(rt; drain.flush(), Ok(()));
+    assert_eq!(rt; (output.writes, output.flushes), (3, 1));
+    assert_eq!(rt; output.taken.as_slice(), b"abc".as_slice());
+    let mut output = Output {
+        flush_fails: true,
+        ..Output::new(rt.alloc())
+    };
+    assert_eq!(rt; ToWrite::new(&mut output).flush(), Err(DeviceFault));
+    assert_eq!(rt; output.flushes, 1);
+}
 
 // The status where the output is this one, what it got, and what the fault stream got.
 fn expect_output(
