@@ -6,17 +6,42 @@ use std::ops::Range;
 use std::process::ExitCode;
 
 const LINE_LIMIT: usize = 262_452;
+
 const HEADER_SIZE: usize = 20;
+const OFFSETS_AT: usize = 4;
+const SID_HEADER_SIZE: usize = 8;
+const ACL_HEADER_SIZE: usize = 8;
+const ACE_HEADER_SIZE: usize = 8;
+const MIN_ACE_SIZE: usize = ACE_HEADER_SIZE + SID_HEADER_SIZE;
+const GUID_SIZE: usize = 16;
 const MAX_SUB_AUTHORITIES: usize = 15;
 
 const SELF_RELATIVE: u16 = 0x8000;
 const DACL_PRESENT: u16 = 0x0004;
 const SACL_PRESENT: u16 = 0x0010;
+const UNKNOWN_FLAG: u8 = 0x20;
+const GUIDS_PRESENT: u32 = 0x3;
 
 #[derive(Clone, Copy)]
 enum Part {
     Owner,
     Group,
+    Sacl,
+    Dacl,
+}
+
+/// In the order of their offsets in the header, in which they are also read and written.
+const PARTS: [Part; 4] = [Part::Owner, Part::Group, Part::Sacl, Part::Dacl];
+
+impl Part {
+    fn stands(self, offset: usize, control: u16) -> bool {
+        offset != 0
+            && match self {
+                Part::Owner | Part::Group => true,
+                Part::Sacl => control & SACL_PRESENT != 0,
+                Part::Dacl => control & DACL_PRESENT != 0,
+            }
+    }
 }
 
 impl fmt::Display for Part {
@@ -24,6 +49,8 @@ impl fmt::Display for Part {
         f.write_str(match self {
             Part::Owner => "owner",
             Part::Group => "group",
+            Part::Sacl => "sacl",
+            Part::Dacl => "dacl",
         })
     }
 }
@@ -35,9 +62,12 @@ enum Fault {
     Short,
     Revision,
     NotSelfRelative,
-    NotYet,
     Offset(Part),
     Sid(Part),
+    Acl(Part),
+    AceSize(Part),
+    AceType(Part),
+    AceFlags(Part),
     Overlap(Part, Part),
 }
 
@@ -50,20 +80,15 @@ impl fmt::Display for Fault {
             Fault::Short => f.write_str("error 5 short"),
             Fault::Revision => f.write_str("error 6 revision"),
             Fault::NotSelfRelative => f.write_str("error 7 not-self-relative"),
-            Fault::NotYet => f.write_str("error 15 not-yet"),
             Fault::Offset(part) => write!(f, "error 8 offset {part}"),
             Fault::Sid(part) => write!(f, "error 9 sid {part}"),
+            Fault::Acl(part) => write!(f, "error 10 acl {part}"),
+            Fault::AceSize(part) => write!(f, "error 11 ace-size {part}"),
+            Fault::AceType(part) => write!(f, "error 12 ace-type {part}"),
+            Fault::AceFlags(part) => write!(f, "error 13 ace-flags {part}"),
             Fault::Overlap(one, other) => write!(f, "error 14 overlap {one} {other}"),
         }
     }
-}
-
-/// A descriptor, whose SIDs are slices of its bytes.
-struct Descriptor<'a> {
-    resource_manager: u8,
-    control: u16,
-    owner: Option<&'a [u8]>,
-    group: Option<&'a [u8]>,
 }
 
 fn digit(byte: u8) -> Result<u8, Fault> {
@@ -97,24 +122,88 @@ fn u32_at(bytes: &[u8], at: usize) -> u32 {
     u32::from_le_bytes([bytes[at], bytes[at + 1], bytes[at + 2], bytes[at + 3]])
 }
 
-/// The place of the SID that the offset names; None where the offset is 0.
-fn sid_place(bytes: &[u8], offset: u32, part: Part) -> Result<Option<Range<usize>>, Fault> {
-    let start = offset as usize;
-    if start == 0 {
-        return Ok(None);
-    }
-    if start < HEADER_SIZE || start + 8 > bytes.len() {
-        return Err(Fault::Offset(part));
-    }
-    let count = usize::from(bytes[start + 1]);
-    let end = start + 8 + 4 * count;
-    if bytes[start] != 1 || count > MAX_SUB_AUTHORITIES || end > bytes.len() {
-        return Err(Fault::Sid(part));
-    }
-    Ok(Some(start..end))
+fn set_u16(bytes: &mut [u8], at: usize, value: usize) {
+    bytes[at..at + 2].copy_from_slice(&(value as u16).to_le_bytes());
 }
 
-fn read(bytes: &[u8]) -> Result<Descriptor<'_>, Fault> {
+fn set_u32(bytes: &mut [u8], at: usize, value: u32) {
+    bytes[at..at + 4].copy_from_slice(&value.to_le_bytes());
+}
+
+/// The size of the SID at the front of the bytes, of which there are at least eight.
+fn sid_size(bytes: &[u8], part: Part) -> Result<usize, Fault> {
+    let count = usize::from(bytes[1]);
+    let size = SID_HEADER_SIZE + 4 * count;
+    if bytes[0] != 1 || count > MAX_SUB_AUTHORITIES || size > bytes.len() {
+        return Err(Fault::Sid(part));
+    }
+    Ok(size)
+}
+
+/// Takes the ACE at the front of what is left of an ACL, and appends it without its spare bytes. True where it is an
+/// object ACE.
+fn convert_ace(left: &mut &[u8], part: Part, layout: &mut Vec<u8>) -> Result<bool, Fault> {
+    if left.len() < MIN_ACE_SIZE {
+        return Err(Fault::AceSize(part));
+    }
+    let size = usize::from(u16_at(left, 2));
+    if size < MIN_ACE_SIZE || size % 4 != 0 || size > left.len() {
+        return Err(Fault::AceSize(part));
+    }
+    let (ace, rest) = left.split_at(size);
+    *left = rest;
+    let is_object = match ace[0] {
+        0x00 | 0x01 | 0x02 | 0x11 => false,
+        0x05 | 0x06 | 0x07 => true,
+        _ => return Err(Fault::AceType(part)),
+    };
+    if ace[1] & UNKNOWN_FLAG != 0 {
+        return Err(Fault::AceFlags(part));
+    }
+    let mut sid_at = ACE_HEADER_SIZE;
+    let mut guids = 0;
+    if is_object {
+        guids = u32_at(ace, ACE_HEADER_SIZE) & GUIDS_PRESENT;
+        sid_at += 4 + GUID_SIZE * guids.count_ones() as usize;
+        if sid_at + SID_HEADER_SIZE > size {
+            return Err(Fault::AceSize(part));
+        }
+    }
+    let written = sid_at + sid_size(&ace[sid_at..], part)?;
+    let start = layout.len();
+    layout.extend_from_slice(&ace[..written]);
+    set_u16(layout, start + 2, written);
+    if is_object {
+        set_u32(layout, start + ACE_HEADER_SIZE, guids);
+    }
+    Ok(is_object)
+}
+
+/// Appends the ACL at the front of the bytes, of which there are at least eight, without its spare bytes; the size
+/// that it says.
+fn convert_acl(bytes: &[u8], part: Part, layout: &mut Vec<u8>) -> Result<usize, Fault> {
+    let size = usize::from(u16_at(bytes, 2));
+    if !matches!(bytes[0], 2 | 4) || size < ACL_HEADER_SIZE || size > bytes.len() {
+        return Err(Fault::Acl(part));
+    }
+    let count = u16_at(bytes, 4);
+    let start = layout.len();
+    layout.extend_from_slice(&[2, 0, 0, 0, bytes[4], bytes[5], 0, 0]);
+    let mut left = &bytes[ACL_HEADER_SIZE..size];
+    for _ in 0..count {
+        if convert_ace(&mut left, part, layout)? {
+            layout[start] = 4;
+        }
+    }
+    let written = layout.len() - start;
+    set_u16(layout, start + 2, written);
+    Ok(size)
+}
+
+/// Makes the canonical layout: header, owner, group, SACL, DACL, without gaps. The parts are checked in the order in
+/// which they are written, so one pass does both; after a fault the layout is of no use.
+fn convert_descriptor(bytes: &[u8], layout: &mut Vec<u8>) -> Result<(), Fault> {
+    layout.clear();
     if bytes.len() < HEADER_SIZE {
         return Err(Fault::Short);
     }
@@ -125,36 +214,39 @@ fn read(bytes: &[u8]) -> Result<Descriptor<'_>, Fault> {
     if control & SELF_RELATIVE == 0 {
         return Err(Fault::NotSelfRelative);
     }
-    if control & (DACL_PRESENT | SACL_PRESENT) != 0 {
-        return Err(Fault::NotYet);
+    layout.extend_from_slice(&bytes[..HEADER_SIZE]);
+    let mut places: [Range<usize>; 4] = [0..0, 0..0, 0..0, 0..0];
+    for (index, part) in PARTS.into_iter().enumerate() {
+        let offset_at = OFFSETS_AT + 4 * index;
+        let offset = u32_at(bytes, offset_at) as usize;
+        if !part.stands(offset, control) {
+            set_u32(layout, offset_at, 0);
+            continue;
+        }
+        if offset < HEADER_SIZE || offset + SID_HEADER_SIZE > bytes.len() {
+            return Err(Fault::Offset(part));
+        }
+        let written_offset = layout.len() as u32;
+        set_u32(layout, offset_at, written_offset);
+        let front = &bytes[offset..];
+        let size = match part {
+            Part::Owner | Part::Group => {
+                let size = sid_size(front, part)?;
+                layout.extend_from_slice(&front[..size]);
+                size
+            }
+            Part::Sacl | Part::Dacl => convert_acl(front, part, layout)?,
+        };
+        places[index] = offset..offset + size;
     }
-    let owner = sid_place(bytes, u32_at(bytes, 4), Part::Owner)?;
-    let group = sid_place(bytes, u32_at(bytes, 8), Part::Group)?;
-    if let (Some(owner), Some(group)) = (&owner, &group) {
-        if owner.start < group.end && group.start < owner.end {
-            return Err(Fault::Overlap(Part::Owner, Part::Group));
+    for (index, place) in places.iter().enumerate() {
+        for (other_index, other) in places.iter().enumerate().skip(index + 1) {
+            if place.start < other.end && other.start < place.end {
+                return Err(Fault::Overlap(PARTS[index], PARTS[other_index]));
+            }
         }
     }
-    Ok(Descriptor {
-        resource_manager: bytes[1],
-        control,
-        owner: owner.map(|place| &bytes[place]),
-        group: group.map(|place| &bytes[place]),
-    })
-}
-
-/// Appends the canonical layout: header, owner, group, without gaps.
-fn put_layout(descriptor: &Descriptor, layout: &mut Vec<u8>) {
-    let owner_size = descriptor.owner.map_or(0, <[u8]>::len);
-    let owner_offset = descriptor.owner.map_or(0, |_| HEADER_SIZE as u32);
-    let group_offset = descriptor.group.map_or(0, |_| (HEADER_SIZE + owner_size) as u32);
-    layout.extend_from_slice(&[1, descriptor.resource_manager]);
-    layout.extend_from_slice(&descriptor.control.to_le_bytes());
-    layout.extend_from_slice(&owner_offset.to_le_bytes());
-    layout.extend_from_slice(&group_offset.to_le_bytes());
-    layout.extend_from_slice(&[0; 8]);
-    layout.extend_from_slice(descriptor.owner.unwrap_or_default());
-    layout.extend_from_slice(descriptor.group.unwrap_or_default());
+    Ok(())
 }
 
 fn put_hex(bytes: &[u8], text: &mut Vec<u8>) {
@@ -179,9 +271,7 @@ impl Converter {
             return Ok(());
         }
         decode(line, &mut self.bytes)?;
-        let descriptor = read(&self.bytes)?;
-        self.layout.clear();
-        put_layout(&descriptor, &mut self.layout);
+        convert_descriptor(&self.bytes, &mut self.layout)?;
         put_hex(&self.layout, text);
         Ok(())
     }

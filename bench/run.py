@@ -1,10 +1,13 @@
 #!/usr/bin/env python3
-"""run.py [PROGRAM] [--lines N] [--rounds N]
+"""run.py [PROGRAM] [--megabytes N] [--rounds N]
 
-Measures the program (crates/sdtool/out/sdtool where none is given) against baseline.rs and cat on one input, which is
-made by generate.py and kept in the folder sdtool-bench among the temporary files. It checks that program and baseline
-write the same, runs the three in turn, so that what else the machine does meets them alike, and prints the medians.
-Time is processor time, user and system; the input comes from a file and the output goes to /dev/null.
+Measures the program (crates/sdtool/out/sdtool where none is given) against baseline.rs and cat: on the mixture that
+generate.py makes, and on lines of 375, 750 and 1,500 ACEs, which show whether an ACE costs the same in a longer line.
+The inputs have the same size and are kept in the folder sdtool-bench among the temporary files.
+
+It checks that program and baseline write the same on each input, runs the three in turn, so that what else the machine
+does meets them alike, and prints the medians. Time is processor time, user and system; the input comes from a file and
+the output goes to /dev/null.
 """
 import argparse
 import filecmp
@@ -19,18 +22,19 @@ import tempfile
 
 HERE = pathlib.Path(__file__).resolve().parent
 PROGRAM = HERE.parent / "crates/sdtool/out/sdtool"
+INPUTS = {"the mixture": None, "375 ACEs a line": 375, "750 ACEs a line": 750, "1,500 ACEs a line": 1500}
 
 
-def input_file(folder, lines):
+def input_file(folder, settings):
     """The input, made anew where this generator has not made it yet."""
     generator = HERE / "generate.py"
     version = hashlib.sha256(generator.read_bytes()).hexdigest()[:12]
-    path = folder / f"{lines}-lines-{version}.hex"
+    path = folder / f"{'-'.join(word.strip('-') for word in settings)}-{version}.hex"
     if not path.exists():
         print(f"making {path}")
         unfinished = path.with_suffix(".unfinished")
         with open(unfinished, "wb") as file:
-            subprocess.run([sys.executable, generator, "--lines", str(lines)], stdout=file, check=True)
+            subprocess.run([sys.executable, generator, *settings], stdout=file, check=True)
         unfinished.rename(path)
     return path
 
@@ -59,14 +63,28 @@ def write_the_same(folder, given, commands):
         ours.unlink()
         theirs.unlink()
     else:
-        print(f"the outputs differ: {ours} (status {statuses[0]}) and {theirs} (status {statuses[1]})")
+        print(f"the outputs for {given} differ: {ours} (status {statuses[0]}) and {theirs} (status {statuses[1]})")
     return same
+
+
+def lines_in(path):
+    with open(path, "rb") as file:
+        return sum(piece.count(b"\n") for piece in iter(lambda: file.read(1 << 20), b""))
+
+
+def medians(commands, given, rounds):
+    """The median of each command's times."""
+    times = {name: [] for name in commands}
+    for _ in range(rounds):
+        for name, command in commands.items():
+            times[name].append(run(command, given, os.devnull)[0])
+    return {name: statistics.median(taken) for name, taken in times.items()}
 
 
 def main():
     parser = argparse.ArgumentParser(description="Measures the program against a plain one in Rust, and cat.")
     parser.add_argument("program", nargs="?", default=PROGRAM, type=os.path.abspath)
-    parser.add_argument("--lines", type=int, default=1_000_000, help="(%(default)s)")
+    parser.add_argument("--megabytes", type=int, default=150, help="of each input (%(default)s)")
     parser.add_argument("--rounds", type=int, default=9, help="(%(default)s)")
     wanted = parser.parse_args()
     if not os.access(wanted.program, os.X_OK):
@@ -75,26 +93,28 @@ def main():
         sys.exit("bench: the baseline is built by rustc, and there is none on the PATH")
     folder = pathlib.Path(tempfile.gettempdir()) / "sdtool-bench"
     folder.mkdir(exist_ok=True)
-    given = input_file(folder, wanted.lines)
     commands = {
         "sdtool": [wanted.program, "convert", "--from", "hex", "--to", "hex"],
         "baseline": [build_baseline(folder)],
         "cat": ["cat"],
     }
-    if not write_the_same(folder, given, [commands["sdtool"], commands["baseline"]]):
+    inputs = {}
+    for name, aces in INPUTS.items():
+        inputs[name] = input_file(folder, ["--megabytes", str(wanted.megabytes), *(["--aces", str(aces)] if aces else [])])
+    if not all([write_the_same(folder, given, [commands["sdtool"], commands["baseline"]]) for given in inputs.values()]):
         return 1
-    times = {name: [] for name in commands}
-    for _ in range(wanted.rounds):
-        for name, command in commands.items():
-            times[name].append(run(command, given, os.devnull)[0])
-    medians = {name: statistics.median(times[name]) for name in commands}
-    size = given.stat().st_size
-    print(f"{wanted.lines:,} lines, {size / 1e6:.1f} MB; medians of {wanted.rounds} rounds; the outputs are equal")
-    print(f"{'':10}{'processor time':>16}{'MB/s':>10}{'lines/s':>14}{'speed':>9}")
-    for name, time in medians.items():
-        speed = medians["baseline"] / time
-        print(f"{name:10}{time:14.3f} s{size / time / 1e6:10.0f}{wanted.lines / time:14,.0f}{speed:9.2f}")
-    print(f"sdtool has {medians['baseline'] / medians['sdtool']:.2f} of the baseline's speed")
+    print(f"processor time, medians of {wanted.rounds} rounds; the outputs are equal")
+    speeds = {}
+    for name, given in inputs.items():
+        size, lines = given.stat().st_size, lines_in(given)
+        print(f"{name}: {lines:,} lines, {size / 1e6:.1f} MB")
+        taken = medians(commands, given, wanted.rounds)
+        speeds[name] = taken["baseline"] / taken["sdtool"]
+        for command, time in taken.items():
+            an_ace = f"{time / lines / INPUTS[name] * 1e9:9.1f} ns an ACE" if INPUTS[name] else ""
+            print(f"  {command:10}{time:8.3f} s{size / time / 1e6:8.0f} MB/s{lines / time:13,.0f} lines/s{an_ace}")
+    for name, speed in speeds.items():
+        print(f"on {name} sdtool has {speed:.2f} of the baseline's speed")
     return 0
 
 

@@ -20,6 +20,14 @@ SECONDS = 60       # for one run
 ALLOCATIONS = 5000  # of one command line, at the very most
 EMPTY = b"0100008000000000000000000000000000000000"
 LIMIT = 262_452    # characters of the longest line that is read
+# A DACL with one ACE; a SACL of revision 2 that its object ACE makes one of revision 4; and as many ACEs as there can be.
+ACE = b"00001400ff011f00010100000000000100000000"
+WITH_DACL = b"010004800000000000000000000000001400000002001c0001000000" + ACE
+WITH_SACL = b"010010800000000000000000140000000000000002002000010000000700180001000000" b"fcffffff" b"010100000000000100000000"
+FULL = b"0100048000000000000000000000000014000000" b"0200f8ffff0f0000" + b"01001000ff010ff00100ffffffffffff" * 4095
+FAULTY_ACLS = [WITH_DACL[:-2], WITH_DACL[:-40] + b"09" + ACE[2:], WITH_DACL[:-40] + b"0020" + ACE[4:],
+               WITH_DACL[:-24] + b"02" + ACE[18:], FULL[:-16] + b"02" + FULL[-14:],
+               b"01001480000000000000000014000000140000000200080000000000"]
 # The list of words is copied to a block that just fits; where there is no such block, it stays where it is.
 DISPENSABLE = 1
 COMMAND_LINES = [
@@ -109,7 +117,8 @@ def refuse_each(count, program, words, library):
 
 
 def refuse_when_reading(count, program, library):
-    lines = [EMPTY, b"zz", b"", EMPTY + b"\r", EMPTY + b"f" * (LIMIT - len(EMPTY)), b"0" * (LIMIT + 1), b"0", EMPTY]
+    lines = [EMPTY, b"zz", b"", EMPTY + b"\r", EMPTY + b"f" * (LIMIT - len(EMPTY)), b"0" * (LIMIT + 1), b"0", EMPTY,
+             WITH_DACL, WITH_SACL, FULL, *FAULTY_ACLS, WITH_DACL]
     data = b"\n".join(lines * 20)
     plain, _ = run([program, "convert"], data, library)
     ended, told = run([program, "convert"], data, library, REFUSE_WHEN_READING=1)

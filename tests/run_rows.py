@@ -1,8 +1,11 @@
 #!/usr/bin/env python3
 """run_rows.py PROGRAM [--one-byte]
+run_rows.py --reference
 
 Runs the rows of rows.json on the built program, and compares what it writes and its exit status.
 With --one-byte the input comes one byte a read; rows that ask for a device of their own are left out.
+With --reference no program is run: the answers of reference.py are compared, in all rows that convert lines and ask
+for no device, so that the rows and what compare.py compares with are known to say the same.
 The last line is 'N passed, M failed'.
 
 A row has the program's words, its standard input, and what has to come of them: stdout (or stdout_has,
@@ -32,6 +35,9 @@ import tempfile
 import threading
 import tty
 from typing import NamedTuple
+
+sys.dont_write_bytecode = True
+import reference  # noqa: E402
 
 SECONDS = 60  # for one run: a program that hangs fails its row
 
@@ -219,17 +225,27 @@ def runs(program, row, one_byte):
         yield name, execute(command, data, **devices), stdout
 
 
+def asked_of_reference(row):
+    """The one run of the row, as runs gives it, with the answers of reference.py in place of a program's."""
+    answers, status = reference.answers(text(row["stdin"]))
+    yield row["id"], Ended(b"".join(answer + b"\n" for answer in answers), b"", status, True), text(row["stdout"])
+
+
 def main():
     parser = argparse.ArgumentParser(description="Runs the rows of rows.json on the built program.")
-    parser.add_argument("program", type=os.path.abspath)
+    judged = parser.add_mutually_exclusive_group(required=True)
+    judged.add_argument("program", nargs="?", type=os.path.abspath)
+    judged.add_argument("--reference", action="store_true", help="compares the answers of reference.py")
     parser.add_argument("--one-byte", action="store_true", help="the input comes one byte a read")
     given = parser.parse_args()
     rows = json.loads(pathlib.Path(__file__).with_name("rows.json").read_text(encoding="utf-8"))
-    if given.one_byte:
+    if given.one_byte or given.reference:
         rows = [row for row in rows if not {"talk", "input", "output", "faults"} & row.keys()]
+    if given.reference:
+        rows = [row for row in rows if row.get("status", 0) < 2 and "stdout_has" not in row]
     passed = failed = 0
     for row in rows:
-        for name, ended, stdout in runs(given.program, row, given.one_byte):
+        for name, ended, stdout in asked_of_reference(row) if given.reference else runs(given.program, row, given.one_byte):
             wrong = differences(row, ended, stdout)
             passed, failed = passed + (not wrong), failed + bool(wrong)
             if wrong:

@@ -1,3 +1,4 @@
+pub mod Ace
 pub mod Counts
 pub mod Sid
 pub mod SidFields

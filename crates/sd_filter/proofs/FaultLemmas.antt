@@ -1,10 +1,10 @@
 -- The text of an `error` line is short.
 use Rattle.std.proofs.Common.{◌≤◌, ◌<◌, length, Option, Some, None, arith, length-append, lit≤}
-use Rattle.sd_filter.specs.Faults.{fault_text, number_and_name, part_text, parts_of, parts_text, Parts}
-use Rattle.sd_filter.specs.declared.binary.buffer.TextFault.TheVariants as text
-use Rattle.sd_filter.specs.declared.binary.fault.Part.{Part}
-use Rattle.sd_filter.specs.declared.binary.fault.Part.TheVariants as part
-use Rattle.sd_filter.specs.declared.binary.fault.SdFault.TheVariants as sd
+use Rattle.sd_filter.specs.Faults.{fault_text, number_and_name, part_text, parts_of, parts_text, NamedParts}
+use Rattle.sd_binary.specs.declared.buffer.TextFault.TheVariants as text
+use Rattle.sd_binary.specs.declared.fault.Part.{Part}
+use Rattle.sd_binary.specs.declared.fault.Part.TheVariants as part
+use Rattle.sd_binary.specs.declared.fault.SdFault.TheVariants as sd
 use Rattle.sd_filter.specs.declared.fault.LineFault.{LineFault}
 use Rattle.sd_filter.specs.declared.fault.LineFault.TheVariants.{TooLong, Text, Sd}
 
@@ -17,15 +17,20 @@ name-short (Sd sd.Revision) = lit≤ tt
 name-short (Sd sd.NotSelfRelative) = lit≤ tt
 name-short (Sd (sd.Offset p)) = lit≤ tt
 name-short (Sd (sd.Sid p)) = lit≤ tt
+name-short (Sd (sd.Acl p)) = lit≤ tt
+name-short (Sd (sd.AceSize p)) = lit≤ tt
+name-short (Sd (sd.AceType p)) = lit≤ tt
+name-short (Sd (sd.AceFlags p)) = lit≤ tt
 name-short (Sd (sd.Overlap p q)) = lit≤ tt
-name-short (Sd sd.NotYet) = lit≤ tt
 
 part-short : (p : Option Part) → length (part_text p) ≤ 6
 part-short None = lit≤ tt
 part-short (Some part.Owner) = lit≤ tt
 part-short (Some part.Group) = lit≤ tt
+part-short (Some part.Sacl) = lit≤ tt
+part-short (Some part.Dacl) = lit≤ tt
 
-parts-short : (p : Parts) → length (parts_text p) ≤ 12
+parts-short : (p : NamedParts) → length (parts_text p) ≤ 12
 parts-short p = let first = part-short p.0 in let second = part-short p.1 in omega (arith, length-append (part_text p.0) (part_text p.1))
 
 pub fault_text-short : (fault : LineFault) → length (fault_text fault) < 64

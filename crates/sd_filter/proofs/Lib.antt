@@ -7,7 +7,6 @@ pub mod HoldsLemmas
 pub mod MeaningLemmas
 pub mod ParseLemmas
 pub mod PartsLemmas
-pub mod PutLemmas
 mod Rows
 pub mod RunLemmas
 pub mod ShortLemmas

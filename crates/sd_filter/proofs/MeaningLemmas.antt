@@ -5,14 +5,14 @@ use Rattle.std.proofs.lemmas.Bool.Decides.{nat_tests}
 use Rattle.sd_core.specs.Token.{Entry}
 use Rattle.sd_core.specs.Sink.{SinkTold, PutAll, PutSome}
 use Rattle.sd_core.specs.declared.sink.SinkFault.{SinkFault}
-use Rattle.sd_filter.specs.binary.Descriptor.{Descriptor}
-use Rattle.sd_filter.specs.binary.Reading.{reading}
+use Rattle.sd_binary.specs.Descriptor.{Descriptor}
+use Rattle.sd_binary.specs.Reading.{reading}
 use Rattle.sd_filter.specs.Answers.{Meaning, answer, bytes_mean, is_error, is_error_of_meaning, line_limit, line_means, meaning, or_byte_fault, text_means, text_of_meaning}
 use Rattle.sd_filter.specs.Sofar.{HoldsText}
-use Rattle.sd_filter.specs.declared.binary.buffer.TextFault.{TextFault}
+use Rattle.sd_binary.specs.declared.buffer.TextFault.{TextFault}
 use Rattle.sd_filter.specs.declared.fault.LineFault.{LineFault}
 use Rattle.sd_filter.specs.declared.fault.LineFault.TheVariants.{TooLong, Text}
-use Rattle.sd_filter.specs.binary.Text.{hex_spells}
+use Rattle.sd_binary.specs.Text.{hex_spells}
 use Rattle.sd_filter.specs.declared.job.Form.{Form}
 use Rattle.sd_filter.specs.declared.job.Form.TheVariants.{Hex}
 use Rattle.sd_filter.specs.declared.job.Job.{Job}

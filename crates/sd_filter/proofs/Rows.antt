@@ -4,19 +4,19 @@ use Rattle.clap.specs.Words.{Text, fault_of, takes}
 use Rattle.clap.proofs.OnLiterals.{clap_on_literals}
 use Rattle.hex.proofs.OnLiterals.{hex_on_literals}
 use Rattle.sd_core.specs.Sid.{sid_at}
-use Rattle.sd_filter.specs.binary.Bytes.{u16_at, u32_at}
-use Rattle.sd_filter.specs.binary.Layout.{header_bytes}
-use Rattle.sd_filter.specs.binary.Reading.{fault, header_fault, overlap_fault, overlaps_fault, parts_fault, reading, sid_fault, sid_shown}
-use Rattle.sd_filter.specs.binary.Text.{hex_spells}
-use Rattle.sd_filter.specs.declared.binary.fault.Part.TheVariants as part
-use Rattle.sd_filter.specs.declared.binary.fault.SdFault.TheVariants as sd
+use Rattle.sd_binary.specs.Bytes.{u16_at, u32_at}
+use Rattle.sd_binary.specs.Layout.{header_bytes}
+use Rattle.sd_binary.specs.Reading.{acl_part_fault, acl_shown, fault, header_fault, overlap_fault, overlaps_fault, parts_fault, reading, sid_fault, sid_shown}
+use Rattle.sd_binary.specs.Text.{hex_spells}
+use Rattle.sd_binary.specs.declared.fault.Part.TheVariants as part
+use Rattle.sd_binary.specs.declared.fault.SdFault.TheVariants as sd
 use Rattle.sd_filter.specs.declared.fault.LineFault.TheVariants.{Sd}
 use Rattle.sd_filter.specs.declared.job.Act.TheVariants.{Convert}
 use Rattle.sd_filter.specs.declared.job.Form.TheVariants.{Hex}
 use Rattle.sd_filter.specs.declared.job.Job.{Job}
 use Rattle.sd_filter.specs.declared.settings.OptionName.TheVariants as name
 use Rattle.sd_filter.specs.declared.settings.UsageFault.TheVariants.{Value}
-use Rattle.sd_filter.specs.Answers.{answer, line_means}
+use Rattle.sd_filter.specs.Answers.{answer, form_text, line_means}
 use Rattle.sd_filter.specs.CommandLine.{bare_line, convert_line, line}
 use Rattle.sd_filter.specs.Faults.{fault_text}
 use Rattle.sd_filter.specs.Lines.{ended, lines, parts, without_cr}
@@ -51,7 +51,7 @@ unfolding answer line_means hex_spells hex_on_literals reading fault header_faul
 sid_answer = refl
 
 pub header_answer : answer hex_to_hex [] (codes "01FF008000000000000000000000000000000000") ≡ codes "01ff008000000000000000000000000000000000" ++ 10 ∷ []
-unfolding answer line_means hex_spells hex_on_literals reading fault header_fault parts_fault sid_fault sid_shown overlaps_fault overlap_fault u16_at u32_at header_bytes
+unfolding answer line_means form_text hex_spells hex_on_literals reading fault header_fault parts_fault sid_fault sid_shown acl_part_fault acl_shown overlaps_fault overlap_fault u16_at u32_at header_bytes
 header_answer = refl
 
 abbrev to_hex : List Text

@@ -3,9 +3,9 @@ use Rattle.std.proofs.Common.{◌≤◌, ◌+◌, ◌*◌, List, [], ◌∷◌, 
 use Rattle.hex.specs.Hex.{encode_lower, lower_digits}
 use Rattle.hex.proofs.HexLemmas.{length-encode_with}
 use Rattle.sd_core.specs.Token.{Entry}
-use Rattle.sd_filter.specs.binary.Layout.{layout}
-use Rattle.sd_filter.proofs.binary.LayoutLaws.{length-layout}
-use Rattle.sd_filter.specs.Answers.{AnswersAreShort, Meaning, answer, meaning, printed_of_meaning, printed_size, text_of_meaning}
+use Rattle.sd_binary.specs.Layout.{layout}
+use Rattle.sd_binary.proofs.LayoutLaws.{length-layout}
+use Rattle.sd_filter.specs.Answers.{AnswersAreShort, Meaning, answer, form_text, meaning, printed_of_meaning, printed_size, text_of_meaning}
 use Rattle.sd_filter.specs.Faults.{fault_text}
 use Rattle.sd_filter.proofs.FaultLemmas.{fault_text-short}
 use Rattle.sd_filter.specs.declared.job.Act.{Act}
@@ -15,6 +15,7 @@ use Rattle.sd_filter.specs.declared.job.Job.{Job}
 
 -- two characters a byte, and the LF
 text-short : (act : Act) (entries : List Entry) (m : Meaning) → length (text_of_meaning act entries m) ≤ 8 * printed_size (printed_of_meaning act m) + 64
+unfolding form_text
 text-short act entries None = omega arith
 text-short act entries (Some (Err fault)) = let short = fault_text-short fault in omega (arith, length-append (fault_text fault) (10 ∷ []))
 text-short (Convert Hex) entries (Some (Ok d)) =

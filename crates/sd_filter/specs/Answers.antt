@@ -3,12 +3,12 @@ use Rattle.std.specs.Prelude.{◌≤◌, ℕ, ◌+◌, ◌*◌, List, [], ◌∷
 use Rattle.std.specs.List.{flat_map}
 use Rattle.hex.specs.Hex.{encode_lower}
 use Rattle.sd_core.specs.Token.{Entry}
-use Rattle.sd_filter.specs.binary.Descriptor.{Descriptor}
-use Rattle.sd_filter.specs.binary.Layout.{layout, size}
-use Rattle.sd_filter.specs.binary.Reading.{reading}
-use Rattle.sd_filter.specs.binary.Text.{hex_spells}
-use Rattle.sd_filter.specs.declared.binary.buffer.TextFault.{TextFault}
-use Rattle.sd_filter.specs.declared.binary.fault.SdFault.{SdFault}
+use Rattle.sd_binary.specs.Descriptor.{Descriptor}
+use Rattle.sd_binary.specs.Layout.{layout, size}
+use Rattle.sd_binary.specs.Reading.{reading}
+use Rattle.sd_binary.specs.Text.{hex_spells}
+use Rattle.sd_binary.specs.declared.buffer.TextFault.{TextFault}
+use Rattle.sd_binary.specs.declared.fault.SdFault.{SdFault}
 use Rattle.sd_filter.specs.declared.fault.LineFault.{LineFault}
 use Rattle.sd_filter.specs.declared.fault.LineFault.TheVariants.{TooLong, Text, Sd}
 use Rattle.sd_filter.specs.declared.job.Act.{Act}
@@ -51,7 +51,7 @@ meaning job (b ∷ line) = Some (line_means job.source (b ∷ line))
 
 -- ---- what is answered to it
 
-abbrev pub form_text : Form → Descriptor → List ℕ
+unfoldable pub form_text : Form → Descriptor → List ℕ
 form_text Hex d = encode_lower (layout d)
 
 -- what is answered to a descriptor, with its LF

@@ -1,4 +1,3 @@
-pub mod binary
 pub mod Told
 pub mod Lines
 pub mod Faults

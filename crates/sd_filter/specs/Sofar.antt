@@ -9,8 +9,8 @@ use Rattle.sd_core.specs.Counts.{Rose}
 use Rattle.sd_filter.specs.Lines.{parts, ended, without_cr}
 use Rattle.sd_filter.specs.Answers.{answers, errors, bounds, or_byte_fault}
 use Rattle.sd_filter.specs.Outcome.{Compares, RoseBy}
-use Rattle.sd_filter.specs.binary.Descriptor.{Descriptor}
-use Rattle.sd_filter.specs.declared.binary.fault.SdFault.{SdFault}
+use Rattle.sd_binary.specs.Descriptor.{Descriptor}
+use Rattle.sd_binary.specs.declared.fault.SdFault.{SdFault}
 use Rattle.sd_filter.specs.declared.fault.LineFault.{LineFault}
 use Rattle.sd_filter.specs.declared.job.Job.{Job}
 use Rattle.sd_filter.specs.declared.engine.Desk.{Desk}

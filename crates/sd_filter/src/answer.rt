@@ -5,13 +5,13 @@ ghost use Rattle.sd_core.specs.Token.{Entry};
 ghost use Rattle.sd_filter.specs.Answers.{act_fault, act_text, answer, form_text, is_error, line_limit, text_means};
 ghost use Rattle.sd_filter.specs.Faults.{fault_text};
 ghost use Rattle.sd_filter.specs.Sofar.{HoldsText, left_of_text};
-ghost use Rattle.sd_filter.specs.binary.Reading.{reading};
+ghost use Rattle.sd_binary.specs.Reading.{reading};
 
-use crate::binary::{SdBuf, SdView, read, write_layout};
 use crate::engine::Stores;
 use crate::fault::{LineFault, put_fault};
 use crate::hex_text::{GATHERED, put_hex};
 use crate::job::{Act, Form, Job};
+use sd_binary::{SdBuf, SdView, read, write_layout};
 use sd_core::{Sink, SinkFault, Token};
 
 /// Puts the answer to a line and its LF, and says whether it is an `error` line. Of a line over its
@@ -98,6 +98,7 @@ fn put_act<S: Sink>(
 }
 
 // Puts a descriptor in a form.
+#[tactic(auto, unfolding(crate::specs::Answers::form_text))]
 fn put_form<S: Sink>(
     form: Form,
     view: &SdView<'_>,

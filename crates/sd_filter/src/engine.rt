@@ -2,10 +2,10 @@
 ghost use Rattle.std.specs.Prelude.{◌≡◌, IfOk};
 ghost use Rattle.sd_filter.specs.Answers.{line_limit};
 
-use crate::binary::SdBuf;
 use crate::hex_text::GATHERED;
 use crate::job::{Form, Job};
 use crate::line::Line;
+use sd_binary::SdBuf;
 use sd_core::NoMemory;
 use std::alloc::Global;
 use std::marker::Model;

@@ -3,7 +3,7 @@ ghost use Rattle.std.specs.Prelude.{◌≡◌, ◌<◌, length};
 ghost use Rattle.sd_core.specs.Sink.{Puts};
 ghost use Rattle.sd_filter.specs.Faults.{fault_text, number_and_name, part_text, parts_of, parts_text};
 
-use crate::binary::{Part, SdFault, TextFault};
+use sd_binary::{Part, SdFault, TextFault};
 use sd_core::{Sink, SinkFault};
 
 /// Why a line has no answer but an `error` line: the first condition that holds.
@@ -13,7 +13,7 @@ pub enum LineFault {
     TooLong,
     /// 2, 3: its text spells no bytes.
     Text(TextFault),
-    /// 5 to 9, 14, 15: its bytes show no descriptor.
+    /// 5 to 14: its bytes show no descriptor.
     Sd(SdFault),
 }
 
@@ -40,8 +40,11 @@ fn number_and_name(fault: LineFault) -> &'static str
         LineFault::Sd(SdFault::NotSelfRelative) => "error 7 not-self-relative",
         LineFault::Sd(SdFault::Offset(_)) => "error 8 offset",
         LineFault::Sd(SdFault::Sid(_)) => "error 9 sid",
+        LineFault::Sd(SdFault::Acl(_)) => "error 10 acl",
+        LineFault::Sd(SdFault::AceSize(_)) => "error 11 ace-size",
+        LineFault::Sd(SdFault::AceType(_)) => "error 12 ace-type",
+        LineFault::Sd(SdFault::AceFlags(_)) => "error 13 ace-flags",
         LineFault::Sd(SdFault::Overlap(_, _)) => "error 14 overlap",
-        LineFault::Sd(SdFault::NotYet) => "error 15 not-yet",
     }
 }
 
@@ -51,6 +54,10 @@ fn parts_of(fault: LineFault) -> (Option<Part>, Option<Part>)
     match fault {
         LineFault::Sd(SdFault::Offset(part)) => (Some(part), None),
         LineFault::Sd(SdFault::Sid(part)) => (Some(part), None),
+        LineFault::Sd(SdFault::Acl(part)) => (Some(part), None),
+        LineFault::Sd(SdFault::AceSize(part)) => (Some(part), None),
+        LineFault::Sd(SdFault::AceType(part)) => (Some(part), None),
+        LineFault::Sd(SdFault::AceFlags(part)) => (Some(part), None),
         LineFault::Sd(SdFault::Overlap(first, second)) => (Some(first), Some(second)),
         _ => (None, None),
     }
@@ -72,5 +79,7 @@ fn part_text(part: Option<Part>) -> &'static str
         None => "",
         Some(Part::Owner) => " owner",
         Some(Part::Group) => " group",
+        Some(Part::Sacl) => " sacl",
+        Some(Part::Dacl) => " dacl",
     }
 }

@@ -3,7 +3,6 @@
 #![tactic(auto)]
 
 mod answer;
-mod binary;
 mod command_line;
 mod device;
 mod engine;
@@ -23,7 +22,6 @@ mod streams;
 #[cfg(test)]
 mod tests;
 
-pub use binary::{Full, Part, SdBuf, SdFault, SdView, TextFault, put_layout, read};
 pub use device::{DeviceFault, Drain, Source};
 pub use engine::{Engine, Report, RunFault};
 pub use fault::{LineFault, put_fault};

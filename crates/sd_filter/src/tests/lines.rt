@@ -9,6 +9,14 @@ fn expect_line(rt: &(impl Abort + AllocGlobal), line: &str, status: u8, answer: 
     expect_answers(rt, input.as_str(), status, answers.as_str());
 }
 
+// BUILTIN\Administrators own it, and everyone has full access to it.
+const EVERYONE: &str =
+    "01000480140000002400000000000000300000000102000000000005200000002002000001010000000000051200000002001c000100000000001400ff011f00010100000000000100000000";
+
+// Authenticated users may read one property of users in a container.
+const OBJECT: &str =
+    "01000480000000000000000000000000140000000400300001000000050228001000000001000000ba7a96bfe60dd011a28500aa003049e201010000000000050b000000";
+
 #[test]
 fn prints_canonical_descriptors(rt: HostRuntime) {
     for (line, answer) in [
@@ -24,6 +32,32 @@ fn prints_canonical_descriptors(rt: HostRuntime) {
         (
             "01AB00801400000000000000000000000000000001000000000000FE",
             "01ab00801400000000000000000000000000000001000000000000fe",
+        ),
+        // Null ACLs, and an offset of an absent one.
+        (
+            "0100148000000000000000000000000000000000",
+            "0100148000000000000000000000000000000000",
+        ),
+        (
+            "010010800000000000000000000000000000000d",
+            "0100108000000000000000000000000000000000",
+        ),
+        (EVERYONE, EVERYONE),
+        // The same parts in another order, with gaps, and spare bytes after the last ACE.
+        (
+            "0100048040000000500000000000000015000000aa020028000100000000001400ff011f00010100000000000100000000bbbbbbbbbbbbbbbbbbbbbbbbcccccc01020000000000052000000020020000010100000000000512000000",
+            EVERYONE,
+        ),
+        // An object ACE, once under the revision of ACLs that have none.
+        (OBJECT, OBJECT),
+        (
+            "01000480000000000000000000000000140000000200300001000000050228001000000001000000ba7a96bfe60dd011a28500aa003049e201010000000000050b000000",
+            OBJECT,
+        ),
+        // Spare bytes after a SID and after an ACE.
+        (
+            "0100048000000000000000000000000014000000020020000100000000001800ff011f00010100000000000100000000deadbeef",
+            "010004800000000000000000000000001400000002001c000100000000001400ff011f00010100000000000100000000",
         ),
     ] {
         expect_line(&rt, line, 0, answer);
@@ -63,8 +97,32 @@ fn names_the_first_fault(rt: HostRuntime) {
             "error 14 overlap owner group",
         ),
         (
-            "0100048000000000000000000000000000000000",
-            "error 15 not-yet",
+            "01000480140000002400000000000000300000000102000000000005200000002002000001010000000000051200000002001c000100000000001400ff011f000101000000000001000000",
+            "error 10 acl dacl",
+        ),
+        (
+            "010004800000000000000000000000001400000002000800ffff0000",
+            "error 11 ace-size dacl",
+        ),
+        (
+            "01000480140000002400000000000000300000000102000000000005200000002002000001010000000000051200000002001c000100000000001500ff011f00010100000000000100000000",
+            "error 11 ace-size dacl",
+        ),
+        (
+            "01000480140000002400000000000000300000000102000000000005200000002002000001010000000000051200000002001c000100000009001400ff011f00010100000000000100000000",
+            "error 12 ace-type dacl",
+        ),
+        (
+            "01000480140000002400000000000000300000000102000000000005200000002002000001010000000000051200000002001c000100000000201400ff011f00010100000000000100000000",
+            "error 13 ace-flags dacl",
+        ),
+        (
+            "010004801400000000000000000000001c00000001020000000000050200080000000000",
+            "error 14 overlap owner dacl",
+        ),
+        (
+            "01001480000000000000000014000000140000000200080000000000",
+            "error 14 overlap sacl dacl",
         ),
     ] {
         expect_line(&rt, line, 1, answer);
@@ -156,5 +214,41 @@ fn limits_lines_that_come_byte_by_byte(rt: HostRuntime) {
         (MOST_DIGITS + 1, "error 1 too-long\nerror 2 hex-digit\n"),
     ] {
         expect_zeros(&rt, digits, "\r\nzz", 1, answers);
+    }
+}
+
+// The line of the largest descriptor that is held: two SIDs of fifteen sub-authorities and two empty
+// ACLs of 65,535 bytes, and then more digits.
+fn largest(rt: &(impl Abort + AllocGlobal), more: &str) -> Vec<u8> {
+    let mut line = Vec::new(rt.alloc());
+    for (front, zeros) in [
+        ("0100148014000000580000009c0000009b000100", 0),
+        ("010f000000000005", 120),
+        ("010f000000000005", 120),
+        ("0200ffff00000000", 131_054),
+        ("0200ffff00000000", 131_054),
+        (more, 0),
+    ] {
+        let zeros = vec![in rt.alloc(); b'0'; zeros].expect(rt, "memory for zeros");
+        line.extend_from_slice(front.as_bytes())
+            .expect(rt, "memory for a front");
+        line.extend_from_slice(zeros.as_slice())
+            .expect(rt, "memory for zeros");
+    }
+    line
+}
+
+#[test]
+fn prints_the_largest_descriptor(rt: HostRuntime) {
+    let zeros =
+        "000000000000000000000000000000000000000000000000000000000000000000000000000000000000000000000000000000000000000000000000";
+    let answer = format!(in rt.alloc();
+        "0100148014000000580000009c000000a4000000010f000000000005{zeros}010f000000000005{zeros}02000800000000000200080000000000\n"
+    ).expect(&rt, "memory for an answer");
+    for most in [usize::MAX, 1] {
+        let line = largest(&rt, "\n");
+        expect_pieces(&rt, line.as_slice(), most, 0, answer.as_str());
+        let line = largest(&rt, "00\n");
+        expect_pieces(&rt, line.as_slice(), most, 1, "error 1 too-long\n");
     }
 }

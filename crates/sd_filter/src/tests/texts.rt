@@ -1,7 +1,8 @@
 // Texts that are printed, and buffers.
 use crate::memory::Output;
 use crate::sink::DrainSink;
-use crate::{LineFault, Part, RunFault, SdBuf, SdFault, TextFault, ToWrite, put_fault};
+use crate::{LineFault, RunFault, ToWrite, put_fault};
+use sd_binary::{Part, SdBuf, SdFault, TextFault};
 
 #[test]
 fn names_faults(rt: HostRuntime) {
@@ -35,7 +36,19 @@ fn names_faults(rt: HostRuntime) {
             LineFault::Sd(SdFault::Overlap(Part::Owner, Part::Group)),
             "error 14 overlap owner group",
         ),
-        (LineFault::Sd(SdFault::NotYet), "error 15 not-yet"),
+        (LineFault::Sd(SdFault::Acl(Part::Sacl)), "error 10 acl sacl"),
+        (
+            LineFault::Sd(SdFault::AceSize(Part::Dacl)),
+            "error 11 ace-size dacl",
+        ),
+        (
+            LineFault::Sd(SdFault::AceType(Part::Sacl)),
+            "error 12 ace-type sacl",
+        ),
+        (
+            LineFault::Sd(SdFault::AceFlags(Part::Dacl)),
+            "error 13 ace-flags dacl",
+        ),
     ] {
         let mut output = Output::new(rt.alloc());
         let mut drain = ToWrite::new(&mut output);

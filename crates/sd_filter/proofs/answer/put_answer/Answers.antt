@@ -1,7 +1,7 @@
 use Rattle.std.proofs.Common.{◌<◌, length, Some, None, Ok, Err, sym, ◌∙◌, ap, rules}
 use Rattle.sd_filter.specs.Answers.{or_byte_fault}
 use Rattle.sd_filter.specs.Sofar.{left_of_text}
-use Rattle.sd_filter.specs.binary.Reading.{reading}
+use Rattle.sd_binary.specs.Reading.{reading}
 use Rattle.sd_filter.specs.declared.fault.LineFault.TheVariants.{TooLong, Sd}
 use Rattle.sd_filter.proofs.MeaningLemmas.{answered, meaning-over, meaning-empty, meaning-text}
 use Rattle.sd_filter.proofs.answer.put_answer.Goals as goal

@@ -1,5 +1,5 @@
 use Rattle.sd_filter.specs.Faults.{fault_text, parts_text}
-use Rattle.sd_filter.proofs.PutLemmas.{Puts-after}
+use Rattle.sd_core.proofs.SinkLemmas.{Puts-after}
 use Rattle.sd_filter.proofs.fault.put_fault.Goals as goal
 
 pub returns-clause-put : goal.returns-clause-put

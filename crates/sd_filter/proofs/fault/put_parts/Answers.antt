@@ -1,4 +1,4 @@
-use Rattle.sd_filter.proofs.PutLemmas.{Puts-after}
+use Rattle.sd_core.proofs.SinkLemmas.{Puts-after}
 use Rattle.sd_filter.proofs.fault.put_parts.Goals as goal
 
 pub returns-clause-put : goal.returns-clause-put

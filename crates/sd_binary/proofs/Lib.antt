@@ -1,0 +1,11 @@
+-- Self-relative security descriptors as bytes.
+pub mod AclLaws
+pub mod AclLayoutLaws
+pub mod Decoded
+pub mod FirstFault
+pub mod LayoutLaws
+pub mod Parts
+pub mod PutLemmas
+pub mod ReadLaws
+mod Rows
+pub mod SizeLaws

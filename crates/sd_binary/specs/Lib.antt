@@ -1,0 +1,11 @@
+-- Self-relative security descriptors as bytes.
+pub mod Ace
+pub mod Acl
+pub mod AclLayout
+pub mod AclReading
+pub mod Bytes
+pub mod Descriptor
+pub mod Found
+pub mod Layout
+pub mod Reading
+pub mod Text

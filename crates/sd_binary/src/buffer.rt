@@ -1,0 +1,136 @@
+// The buffer that holds the bytes of a descriptor.
+ghost use Rattle.std.specs.Prelude.{◌≡◌, ◌≤◌, ◌<◌, ◌*◌, take, ◌++◌, ◌∷◌, ◌+◌, ◌-◌, ◌↔◌, [], length, Ok, Err, IfOk, OnOk, OnErr, IsErr, MatchResult};
+ghost use Rattle.sd_binary.specs.Text.{hex_spells};
+
+use sd_core::NoMemory;
+use std::alloc::Global;
+use std::marker::Model;
+
+/// The bytes of a descriptor that is held at most: the header, two SIDs of 68 bytes and two ACLs of
+/// 65,535.
+const CAPACITY: usize = 131_226;
+
+/// The buffer has no room.
+#[derive(Clone, Copy, Debug, PartialEq, Eq)]
+pub struct Full;
+
+/// Why a text spells no bytes.
+#[derive(Clone, Copy, Debug, PartialEq, Eq)]
+pub enum TextFault {
+    /// 2: a character is no hex digit.
+    HexDigit,
+    /// 3: the number of characters is odd.
+    HexOdd,
+}
+
+/// At most 131,226 bytes, in memory that is taken once.
+#[derive(Drop)]
+pub struct SdBuf {
+    cells: Vec<u8>,
+    held: usize,
+}
+
+impl Model for SdBuf {
+    ghost use Rattle.std.specs.Prelude.{◌≡◌, ◌≤◌, ℕ, List, length, take};
+
+    ghost Value = { List ℕ };
+
+    ghost view = { λ b. take b.held b.cells.items };
+
+    ghost invariant = { λ b. (length b.cells.items ≡ 131226) × (b.held ≤ 131226) };
+}
+
+impl SdBuf {
+    /// An empty buffer, with the memory for all that it may hold.
+    pub fn new(alloc: Global) -> Result<SdBuf, NoMemory>
+        ensures { IfOk result (λ b. b ≡ []) }
+    {
+        match vec![in alloc; 0; CAPACITY] {
+            Ok(cells) => Ok(SdBuf { cells, held: 0 }),
+            Err(_) => Err(NoMemory),
+        }
+    }
+
+    /// Appends a byte. Full exactly at 131,226 bytes, and then unchanged.
+    pub fn push(&mut self, byte: u8) -> Result<(), Full>
+        ensures full { IsErr result ↔ (length self.old ≡ 131226) }
+        ensures ok { OnOk result (self.new ≡ self.old ++ byte ∷ []) }
+        ensures same { OnErr result (self.new ≡ self.old) }
+    {
+        if self.held == CAPACITY {
+            return Err(Full);
+        }
+        self.cells[self.held] = byte;
+        self.held += 1;
+        Ok(())
+    }
+
+    // Appends all of the bytes, or none where there is no room for them.
+    pub(crate) fn extend(&mut self, bytes: &[u8]) -> Result<(), Full>
+        ensures full { IsErr result ↔ (131226 - length self.old < length bytes.now) }
+        ensures ok { OnOk result (self.new ≡ self.old ++ bytes.now) }
+        ensures same { OnErr result (self.new ≡ self.old) }
+    {
+        if bytes.len() > CAPACITY - self.held {
+            return Err(Full);
+        }
+        place(&mut self.cells, self.held, bytes);
+        self.held += bytes.len();
+        Ok(())
+    }
+
+    /// Drops the contents.
+    pub fn clear(&mut self)
+        ensures { self.new ≡ [] }
+    {
+        self.held = 0;
+    }
+
+    /// The contents, at most 131,226 bytes.
+    pub fn bytes(&self) -> &[u8]
+        ensures value { result.now ≡ self.now }
+        ensures bound { length self.now ≤ 131226 }
+    {
+        &self.cells[..self.held]
+    }
+
+    /// Replaces the contents by the bytes that a hex text of at most 262,452 characters spells. After a
+    /// fault the buffer is empty.
+    pub fn from_hex(&mut self, text: &[u8]) -> Result<(), TextFault>
+        requires { length text.now ≤ 262452 }
+        ensures { MatchResult (hex_spells text.now)
+            (λ bytes. (result ≡ Ok tt) × (self.new ≡ bytes))
+            (λ fault. (result ≡ Err fault) × (self.new ≡ [])) }
+    {
+        self.clear();
+        let held = decode_hex(text, &mut self.cells)?;
+        self.held = held;
+        Ok(())
+    }
+}
+
+// Copies the bytes into the cells from a place on.
+fn place(cells: &mut [u8], at: usize, bytes: &[u8])
+    requires { at + length bytes.now ≤ length cells.old }
+    ensures { take (at + length bytes.now) cells.new ≡ take at cells.old ++ bytes.now }
+{
+    cells[at..at + bytes.len()].copy_from_slice(bytes);
+}
+
+// Decodes to the front of the cells, and says how many bytes there are.
+fn decode_hex(text: &[u8], cells: &mut [u8]) -> Result<usize, TextFault>
+    requires { length text.now ≤ 2 * length cells.old }
+    ensures value { MatchResult (hex_spells text.now)
+        (λ bytes. (result ≡ Ok (length bytes)) × (take (length bytes) cells.new ≡ bytes))
+        (λ fault. result ≡ Err fault) }
+    ensures within { IfOk result (λ n. n ≤ length cells.old) }
+{
+    if text.len() % 2 == 1 {
+        return Err(TextFault::HexOdd);
+    }
+    let count = text.len() / 2;
+    match hex::decode_to_slice(text, &mut cells[..count]) {
+        Ok(()) => Ok(count),
+        Err(_) => Err(TextFault::HexDigit),
+    }
+}

@@ -1,0 +1,149 @@
+// The written form of a descriptor.
+ghost use Rattle.std.specs.Prelude.{◌≡◌, ◌≤◌, ◌<◌, ◌+◌, ◌^◌, ◌++◌, ℕ, List, length};
+ghost use Rattle.sd_core.specs.Sink.{Puts};
+ghost use Rattle.sd_binary.specs.Descriptor.{IsDescriptor, Shows};
+ghost use Rattle.sd_binary.specs.Layout.{acl_part, descriptor_header, header_bytes, layout, offset_if, parts, size};
+
+use crate::acl::AclPart;
+use crate::acl_layout::put_acl;
+use crate::buffer::SdBuf;
+use crate::view::SdView;
+use sd_core::{Sink, SinkFault};
+
+/// Puts the one layout of a descriptor (MS-DTYP 2.4.6): header, owner, group, SACL, DACL, those that
+/// stand, without gaps, and 0 for each offset without a part.
+pub fn put_layout<S: Sink>(view: &SdView<'_>, sink: &mut S) -> Result<(), SinkFault>
+    ensures put { Puts (S.told sink.old) (S.told sink.new) (layout view.now) result }
+    ensures place { S.place sink.new ≡ S.place sink.old }
+    // What is put shows the descriptor.
+    ensures shows { Shows (layout view.now) view.now }
+    ensures size { length (layout view.now) ≡ size view.now }
+    ensures most { size view.now ≤ 131220 }
+    // No bytes that show the descriptor are fewer.
+    ensures least { (bytes : List ℕ) → Shows bytes view.now → size view.now ≤ length bytes }
+{
+    put_after_header(&header_of(view), view, sink)
+}
+
+fn put_after_header<S: Sink>(
+    header: &[u8],
+    view: &SdView<'_>,
+    sink: &mut S,
+) -> Result<(), SinkFault>
+    ensures put { Puts (S.told sink.old) (S.told sink.new) (header.now ++ parts view.now) result }
+    ensures place { S.place sink.new ≡ S.place sink.old }
+{
+    sink.put(header)?;
+    put_parts(view, sink)
+}
+
+// The parts that stand.
+fn put_parts<S: Sink>(view: &SdView<'_>, sink: &mut S) -> Result<(), SinkFault>
+    ensures put { Puts (S.told sink.old) (S.told sink.new) (parts view.now) result }
+    ensures place { S.place sink.new ≡ S.place sink.old }
+{
+    put_sids(view.owner_place(), view.group_place(), sink)?;
+    put_acls(view, sink)
+}
+
+fn put_sids<S: Sink>(owner: &[u8], group: &[u8], sink: &mut S) -> Result<(), SinkFault>
+    ensures put { Puts (S.told sink.old) (S.told sink.new) (owner.now ++ group.now) result }
+    ensures place { S.place sink.new ≡ S.place sink.old }
+{
+    sink.put(owner)?;
+    sink.put(group)
+}
+
+fn put_acls<S: Sink>(view: &SdView<'_>, sink: &mut S) -> Result<(), SinkFault>
+    ensures put { Puts (S.told sink.old) (S.told sink.new) (acl_part view.now.sacl ++ acl_part view.now.dacl) result }
+    ensures place { S.place sink.new ≡ S.place sink.old }
+{
+    put_acl_part(&view.sacl(), sink)?;
+    put_acl_part(&view.dacl(), sink)
+}
+
+fn put_acl_part<S: Sink>(part: &AclPart<'_>, sink: &mut S) -> Result<(), SinkFault>
+    ensures put { Puts (S.told sink.old) (S.told sink.new) (acl_part part.now) result }
+    ensures place { S.place sink.new ≡ S.place sink.old }
+{
+    match part {
+        AclPart::Absent | AclPart::Null => Ok(()),
+        AclPart::List(acl) => put_acl(acl, sink),
+    }
+}
+
+fn header_of(view: &SdView<'_>) -> [u8; 20]
+    ensures value { result ≡ descriptor_header view.now }
+    ensures limits { IsDescriptor view.now }
+{
+    let owner = view.owner_place().len() as u32;
+    let group = view.group_place().len() as u32;
+    let acls = view.acls();
+    let sacl = acls.sacl.size as u32;
+    let dacl = acls.dacl.size as u32;
+    header(
+        view.rm(),
+        view.control(),
+        offset_if(20, owner),
+        offset_if(20 + owner, group),
+        offset_if(20 + owner + group, sacl),
+        offset_if(20 + owner + group + sacl, dacl),
+    )
+}
+
+// The offset of a part of this size that stands at this place.
+fn offset_if(place: u32, size: u32) -> u32
+    ensures { result ≡ offset_if place size }
+{
+    if size == 0 { 0 } else { place }
+}
+
+#[tactic(auto, unfolding(crate::specs::Layout::header_bytes))]
+fn header(rm: u8, control: u16, owner: u32, group: u32, sacl: u32, dacl: u32) -> [u8; 20]
+    ensures { result ≡ header_bytes rm control owner group sacl dacl }
+{
+    let c = control.to_le_bytes();
+    let o = owner.to_le_bytes();
+    let g = group.to_le_bytes();
+    let s = sacl.to_le_bytes();
+    let d = dacl.to_le_bytes();
+    [
+        1, rm, c[0], c[1], o[0], o[1], o[2], o[3], g[0], g[1], g[2], g[3], s[0], s[1], s[2], s[3],
+        d[0], d[1], d[2], d[3],
+    ]
+}
+
+/// Replaces the contents of the buffer by the layout of a descriptor.
+pub fn write_layout(view: &SdView<'_>, buf: &mut SdBuf)
+    ensures { buf.new ≡ layout view.now }
+{
+    buf.clear();
+    let mut sink = BufSink { buf, failures: 0 };
+    // There is room for every layout.
+    let _ = put_layout(view, &mut sink);
+}
+
+// A buffer as a sink.
+#[derive(Drop)]
+struct BufSink<'a> {
+    buf: &'a mut SdBuf,
+    failures: u64,
+}
+
+impl<'a> Sink for BufSink<'a> {
+    ghost use Rattle.std.specs.Prelude.{Some, ◌-◌, length};
+
+    ghost told = { λ s. record { contents = Some s.buf.now; failures = s.failures; room = 131226 - length s.buf.now } };
+
+    ghost place = { λ s. s.buf.ghost_name };
+
+    fn put(&mut self, bytes: &[u8]) -> Result<(), SinkFault> {
+        match self.buf.extend(bytes) {
+            Ok(()) => Ok(()),
+            Err(_) => {
+                self.failures = self.failures.saturating_add(1);
+                Err(SinkFault)
+            }
+        }
+    }
+}

@@ -1,0 +1,18 @@
+//! Self-relative security descriptors as bytes (MS-DTYP 2.4.6): read in place, and written in one layout.
+#![tactic(auto)]
+
+mod ace;
+mod acl;
+mod acl_layout;
+mod buffer;
+mod bytes;
+mod fault;
+mod layout;
+mod view;
+
+pub use ace::AceView;
+pub use acl::{Aces, AclPart, AclView};
+pub use buffer::{Full, SdBuf, TextFault};
+pub use fault::{Part, SdFault};
+pub use layout::{put_layout, write_layout};
+pub use view::{SdView, read};

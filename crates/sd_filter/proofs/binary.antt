@@ -1,7 +1,0 @@
--- Self-relative security descriptors as bytes.
-pub mod Decoded
-pub mod FirstFault
-pub mod LayoutLaws
-pub mod Parts
-pub mod ReadLaws
-mod Rows
