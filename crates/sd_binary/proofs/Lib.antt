@@ -5,7 +5,6 @@ pub mod Decoded
 pub mod FirstFault
 pub mod LayoutLaws
 pub mod Parts
-pub mod PutLemmas
 pub mod ReadLaws
 mod Rows
 pub mod SizeLaws

@@ -1,4 +1,20 @@
+pub mod AliasLaws
+pub mod AliasLemmas
+pub mod Bits
+pub mod Cutting
+pub mod FlagLaws
+pub mod FormLemmas
+pub mod GuidTexts
+pub mod HexDigits
+pub mod NameLaws
+mod NameRows
+pub mod NumberLemmas
 pub mod Numbers
+pub mod PutLoops
+pub mod RightsLaws
 pub mod SidLaws
+mod SidRows
 pub mod SinkLemmas
+pub mod TextLaws
+pub mod TextLemmas
 pub mod Words

@@ -1,6 +1,11 @@
 pub mod Ace
 pub mod Counts
+pub mod Flags
+pub mod GuidText
+pub mod Names
+pub mod Rights
 pub mod Sid
 pub mod SidFields
+pub mod SidText
 pub mod Sink
 pub mod Token

@@ -1,7 +1,13 @@
-ghost use Rattle.std.specs.Prelude.{◌≡◌};
+ghost use Rattle.std.specs.Prelude.{◌≡◌, length, Some};
 ghost use Rattle.uuid.specs.Parts.{swap_fields};
+ghost use Rattle.sd_core.specs.GuidText.{guid_reads, guid_text};
+ghost use Rattle.sd_core.specs.Sink.{Puts};
 
+use crate::sink::{Sink, SinkFault};
 use uuid::Uuid;
+
+/// The characters of a GUID's text: 32 digits and four hyphens.
+const TEXT_SIZE: usize = 36;
 
 /// The GUID of these bytes (MS-DTYP 2.3.4.2): its first three fields stand low byte first.
 pub fn guid_read(bytes: &[u8; 16]) -> Uuid
@@ -23,9 +29,23 @@ pub fn guid_bytes(guid: &Uuid) -> [u8; 16]
     guid.to_bytes_le()
 }
 
+/// Puts the text of a GUID: 36 characters, in lower case.
+pub fn put_guid<S: Sink>(guid: &Uuid, sink: &mut S) -> Result<(), SinkFault>
+    ensures put { Puts (S.told sink.old) (S.told sink.new) (guid_text guid.now) result }
+    ensures place { S.place sink.new ≡ S.place sink.old }
+    // The text reads as the GUID.
+    ensures back { guid_reads (guid_text guid.now) ≡ Some guid.now }
+    ensures short { length (guid_text guid.now) ≡ 36 }
+{
+    let mut buffer = [0; TEXT_SIZE];
+    let text = guid.hyphenated().encode_lower(&mut buffer);
+    sink.put(text.as_bytes())
+}
+
 #[cfg(test)]
 mod tests {
     use super::*;
+    use crate::text_sink::TextSink;
 
     // The object class User of Active Directory, bf967aba-0de6-11d0-a285-00aa003049e2.
     #[test]
@@ -37,5 +57,16 @@ mod tests {
         ];
         assert_eq!(rt; guid_read(&bytes), guid);
         assert_eq!(rt; guid_bytes(&guid), bytes);
+    }
+
+    #[test]
+    fn puts_a_well_known_guid(rt: HostRuntime) {
+        let text = "bf967aba-0de6-11d0-a285-00aa003049e2";
+        for spelled in [text, "BF967ABA-0DE6-11D0-A285-00AA003049E2"] {
+            let guid = Uuid::parse_str(spelled).expect(&rt, "a GUID");
+            let mut sink = TextSink::new(rt.alloc());
+            assert_eq!(rt; put_guid(&guid, &mut sink), Ok(()));
+            assert_eq!(rt; sink.text.as_slice(), text.as_bytes());
+        }
     }
 }

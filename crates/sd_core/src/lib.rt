@@ -3,15 +3,26 @@
 #![tactic(auto)]
 
 mod ace;
+mod alias;
+mod flags;
 mod guid;
 mod memory;
+mod names;
+mod rights;
+mod rights_table;
 mod sid;
+mod sid_text;
 mod sink;
+#[cfg(test)]
+mod text_sink;
 mod token;
 
 pub use ace::{Ace, AceKind};
-pub use guid::{guid_bytes, guid_read};
+pub use flags::put_flags;
+pub use guid::{guid_bytes, guid_read, put_guid};
 pub use memory::NoMemory;
+pub use rights::put_rights;
 pub use sid::Sid;
+pub use sid_text::SidFault;
 pub use sink::{Sink, SinkFault};
 pub use token::{EntryKind, Token};

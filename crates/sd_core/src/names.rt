@@ -1,0 +1,59 @@
+//! Names of two letters that stand for bits.
+
+ghost use Rattle.std.specs.Prelude.{◌≡◌, ◌≤◌, length, take};
+ghost use Rattle.sd_core.specs.Names.{named_bits, names_of};
+ghost use Rattle.sd_core.specs.Sink.{Puts};
+
+use crate::sink::{Sink, SinkFault};
+
+/// A name of two capital letters, and the bits that it stands for.
+#[derive(Clone, Copy)]
+pub struct NamedBits {
+    pub first: u8,
+    pub second: u8,
+    pub bits: u32,
+}
+
+/// The names of the largest table.
+const MOST_NAMES: usize = 17;
+
+/// Puts the names of the bits of a mask, in the table's order.
+pub fn put_names<S: Sink>(table: &[NamedBits], mask: u32, sink: &mut S) -> Result<(), SinkFault>
+    requires fits { length table.now ≤ 17 }
+    ensures put { Puts (S.told sink.old) (S.told sink.new) (names_of table.now mask) result }
+    ensures place { S.place sink.new ≡ S.place sink.old }
+{
+    let mut buffer = [0; 2 * MOST_NAMES];
+    let end = write_names(table, mask, &mut buffer);
+    sink.put(&buffer[..end])
+}
+
+// Writes the names to the front of the buffer, and answers where they end.
+fn write_names(table: &[NamedBits], mask: u32, buffer: &mut [u8; 2 * MOST_NAMES]) -> usize
+    requires fits { length table.now ≤ 17 }
+    ensures end { result ≤ 34 }
+    ensures names { take result buffer.new ≡ names_of table.now mask }
+{
+    let mut end = 0;
+    for name in table {
+        if mask & name.bits != 0 {
+            buffer[end] = name.first;
+            buffer[end + 1] = name.second;
+            end += 2;
+        }
+    }
+    end
+}
+
+/// The bits of a mask that have names in a table.
+pub fn named_bits(table: &[NamedBits], mask: u32) -> u32
+    ensures { result ≡ named_bits table.now mask }
+{
+    let mut named = 0;
+    for name in table {
+        if mask & name.bits != 0 {
+            named |= name.bits;
+        }
+    }
+    named
+}

@@ -1,0 +1,204 @@
+ghost use Rattle.std.specs.Prelude.{◌≡◌, ◌≤◌, ◌<◌, ◌==◌, drop, false, length, Some};
+ghost use Rattle.std.specs.Fmt.{digit_glyph, digits};
+ghost use Rattle.std.specs.List.{find};
+ghost use Rattle.sd_core.specs.Rights.{hex_text, is_label, names_or_hex, rights_reads, rights_text};
+ghost use Rattle.sd_core.specs.Sink.{Puts};
+ghost use Rattle.sd_core.specs.declared.rights_table.TheConstants.{COMPOUNDS};
+
+use crate::ace::AceKind;
+use crate::names::{NamedBits, named_bits, put_names};
+use crate::rights_table::{COMPOUNDS, LABELS, SINGLES};
+use crate::sink::{Sink, SinkFault};
+
+/// `0x` and the eight digits of the largest mask.
+const HEX_SIZE: usize = 10;
+
+/// Puts the text of an access mask (MS-DTYP 2.5.1.1): names where the mask is made of bits that have
+/// names in an ACE of this kind, and hex digits elsewhere.
+pub fn put_rights<S: Sink>(kind: AceKind, mask: u32, sink: &mut S) -> Result<(), SinkFault>
+    ensures put { Puts (S.told sink.old) (S.told sink.new) (rights_text kind mask) result }
+    ensures place { S.place sink.new ≡ S.place sink.old }
+    // The text reads as the mask.
+    ensures back { rights_reads (rights_text kind mask) ≡ Some mask }
+    ensures short { length (rights_text kind mask) ≤ 34 }
+{
+    put_text(kind, mask, sink)
+}
+
+#[tactic(auto, unfolding(crate::specs::Rights::rights_text))]
+fn put_text<S: Sink>(kind: AceKind, mask: u32, sink: &mut S) -> Result<(), SinkFault>
+    ensures put { Puts (S.told sink.old) (S.told sink.new) (rights_text kind mask) result }
+    ensures place { S.place sink.new ≡ S.place sink.old }
+{
+    if mask == 0 {
+        return put_hex(mask, sink);
+    }
+    if is_label(kind) {
+        return put_names_or_hex(&LABELS, mask, sink);
+    }
+    match whole_name(mask) {
+        Some(name) => sink.put(&[name.first, name.second]),
+        None => put_names_or_hex(&SINGLES, mask, sink),
+    }
+}
+
+fn is_label(kind: AceKind) -> bool
+    ensures { result ≡ is_label kind }
+{
+    matches!(kind, AceKind::Label)
+}
+
+// The name of exactly these bits. KR and KX name the same, and KR comes first.
+fn whole_name(mask: u32) -> Option<NamedBits>
+    ensures { result ≡ find (λ e. e.bits == mask) COMPOUNDS }
+{
+    COMPOUNDS.iter().copied().find(|name| name.bits == mask)
+}
+
+fn put_names_or_hex<S: Sink>(table: &[NamedBits], mask: u32, sink: &mut S) -> Result<(), SinkFault>
+    requires fits { length table.now ≤ 17 }
+    ensures put { Puts (S.told sink.old) (S.told sink.new) (names_or_hex table.now mask) result }
+    ensures place { S.place sink.new ≡ S.place sink.old }
+{
+    if named_bits(table, mask) == mask {
+        put_names(table, mask, sink)
+    } else {
+        put_hex(mask, sink)
+    }
+}
+
+fn put_hex<S: Sink>(mask: u32, sink: &mut S) -> Result<(), SinkFault>
+    ensures put { Puts (S.told sink.old) (S.told sink.new) (hex_text mask) result }
+    ensures place { S.place sink.new ≡ S.place sink.old }
+{
+    let mut buffer = [0; HEX_SIZE];
+    let start = write_digits(mask, &mut buffer);
+    buffer[start - 1] = b'x';
+    buffer[start - 2] = b'0';
+    sink.put(&buffer[start - 2..])
+}
+
+// Writes the hex digits to the end of the buffer, and answers where they start.
+fn write_digits(mask: u32, buffer: &mut [u8; HEX_SIZE]) -> usize
+    ensures low { 2 ≤ result }
+    ensures high { result ≤ 10 }
+    ensures digits { drop result buffer.new ≡ digits 16 false mask }
+{
+    let mut start = HEX_SIZE;
+    let mut rest = mask;
+    while rest >= 16 {
+        start -= 1;
+        buffer[start] = hex_digit((rest % 16) as u8);
+        rest /= 16;
+    }
+    start -= 1;
+    buffer[start] = hex_digit(rest as u8);
+    start
+}
+
+fn hex_digit(digit: u8) -> u8
+    requires { digit < 16 }
+    ensures { result ≡ digit_glyph false digit }
+{
+    if digit < 10 {
+        b'0' + digit
+    } else {
+        b'a' + (digit - 10)
+    }
+}
+
+#[cfg(test)]
+mod tests {
+    use super::*;
+    use crate::text_sink::TextSink;
+    use std::process::Abort;
+
+    fn check(rt: &(impl Abort + AllocGlobal), kind: AceKind, mask: u32, text: &str) {
+        let mut sink = TextSink::new(rt.alloc());
+        assert_eq!(rt; put_rights(kind, mask, &mut sink), Ok(()));
+        assert_eq!(rt; sink.text.as_slice(), text.as_bytes());
+    }
+
+    // The names and bits of MS-DTYP 2.4.3 and 2.5.1.1.
+    #[test]
+    fn puts_each_right_of_one_bit(rt: HostRuntime) {
+        let rows: [(u32, &str); 17] = [
+            (0x1, "CC"),
+            (0x2, "DC"),
+            (0x4, "LC"),
+            (0x8, "SW"),
+            (0x10, "RP"),
+            (0x20, "WP"),
+            (0x40, "DT"),
+            (0x80, "LO"),
+            (0x100, "CR"),
+            (0x10000, "SD"),
+            (0x20000, "RC"),
+            (0x40000, "WD"),
+            (0x80000, "WO"),
+            (0x10000000, "GA"),
+            (0x20000000, "GX"),
+            (0x40000000, "GW"),
+            (0x80000000, "GR"),
+        ];
+        for (mask, text) in rows {
+            check(&rt, AceKind::Allow, mask, text);
+        }
+    }
+
+    #[test]
+    fn puts_each_right_of_several_bits(rt: HostRuntime) {
+        let rows: [(u32, &str); 10] = [
+            (0x1f01ff, "FA"),
+            (0x120089, "FR"),
+            (0x120116, "FW"),
+            (0x1200a0, "FX"),
+            (0xf003f, "KA"),
+            (0x20019, "KR"),
+            (0x20006, "KW"),
+            (0x3, "CCDC"),
+            (0xf01ff, "CCDCLCSWRPWPDTLOCRSDRCWDWO"),
+            (0xf00f01ff, "CCDCLCSWRPWPDTLOCRSDRCWDWOGAGXGWGR"),
+        ];
+        for (mask, text) in rows {
+            check(&rt, AceKind::ObjectDeny, mask, text);
+        }
+    }
+
+    // SYNCHRONIZE, ACCESS_SYSTEM_SECURITY and MAXIMUM_ALLOWED have no names.
+    #[test]
+    fn puts_other_masks_as_hex(rt: HostRuntime) {
+        let rows: [(u32, &str); 7] = [
+            (0x0, "0x0"),
+            (0x200, "0x200"),
+            (0x100000, "0x100000"),
+            (0x1000000, "0x1000000"),
+            (0x2000000, "0x2000000"),
+            (0x1f01fe, "0x1f01fe"),
+            (0xffffffff, "0xffffffff"),
+        ];
+        for (mask, text) in rows {
+            check(&rt, AceKind::Audit, mask, text);
+        }
+    }
+
+    #[test]
+    fn puts_the_rights_of_a_label(rt: HostRuntime) {
+        let rows: [(u32, &str); 11] = [
+            (0x0, "0x0"),
+            (0x1, "NW"),
+            (0x2, "NR"),
+            (0x3, "NWNR"),
+            (0x4, "NX"),
+            (0x5, "NWNX"),
+            (0x6, "NRNX"),
+            (0x7, "NWNRNX"),
+            (0x8, "0x8"),
+            (0x10001, "0x10001"),
+            (0x1f01ff, "0x1f01ff"),
+        ];
+        for (mask, text) in rows {
+            check(&rt, AceKind::Label, mask, text);
+        }
+    }
+}

@@ -1,0 +1,535 @@
+//! The texts of SIDs (MS-DTYP 2.4.2.1).
+ghost use Rattle.std.specs.Prelude.{◌≡◌, false, true, [], ◌+◌, ◌*◌, ◌<◌, ◌≤◌, ◌^◌, ◌++◌, length, take, drop, IfSome, MatchOption, Option, None, Ok};
+ghost use Rattle.std.specs.Char.{is_digit};
+ghost use Rattle.std.specs.Fmt.{decimal, digit_glyph};
+ghost use Rattle.std.specs.List.{flat_map, list_all};
+ghost use Rattle.std.specs.Option.{option_copied, option_map};
+ghost use Rattle.sd_core.specs.Sid.{IsSid, SecurityId};
+ghost use Rattle.sd_core.specs.Sink.{Puts};
+ghost use Rattle.sd_core.specs.SidText.{all_pieces, all_read, are_letters, are_numbers, are_subs, authority_reads, authority_text, begins_with_s1, decimal_reads, has_form, hex_digits, is_decimal, is_hex, number, numbers_read, pieces, sid_reads, sid_text, sub_text};
+
+use crate::alias::read_letters;
+use crate::sid::Sid;
+use crate::sink::{Sink, SinkFault};
+
+/// Why a text is no SID.
+#[derive(Clone, Copy, Debug, PartialEq, Eq)]
+pub enum SidFault {
+    /// 22: two letters that name no SID.
+    Alias,
+    /// 23: the name of a SID in a domain, and no domain with room for one more sub-authority.
+    NeedsDomain,
+    /// 24: a decimal number of more than 10 digits, or of 2^32 or more.
+    Number,
+    /// 25: neither two letters nor of the form `S-1-`, authority and sub-authorities.
+    SidForm,
+}
+
+/// The bytes of the longest text: `S-1-`, an authority in hex, and 15 numbers of ten digits with a dash.
+const LONGEST: usize = 183;
+
+/// The sub-authorities that a SID has at most.
+const MOST_SUBS: usize = 15;
+
+/// The digits of an authority in hex.
+const HEX_DIGITS: usize = 12;
+
+impl Sid {
+    /// Puts the text: `S-1-`, the authority, and a dash and a number for each sub-authority. Numbers are
+    /// decimal; an authority of 2^32 or more is `0x` and twelve hex digits.
+    pub fn put_text<S: Sink>(&self, sink: &mut S) -> Result<(), SinkFault>
+        ensures put { Puts (S.told sink.old) (S.told sink.new) (sid_text self.now) result }
+        ensures place { S.place sink.new ≡ S.place sink.old }
+        // The text reads back.
+        ensures back { (domain : Option SecurityId) → sid_reads (sid_text self.now) domain ≡ Ok self.now }
+    {
+        let mut text = [0; LONGEST];
+        let start = write_sid(self, &mut text);
+        sink.put(&text[start..])
+    }
+}
+
+impl Sid {
+    /// The SID of a text. Two letters are an alias, in either case, some of them under the domain, which
+    /// counts as none where it has 15 sub-authorities. Any other text is `S-1-`, the authority in decimal or
+    /// as `0x` and twelve hex digits, and at most 15 times a dash and a decimal number: at most 183 bytes,
+    /// letters in either case, and numbers of at most ten digits below 2^32. The form is looked at before
+    /// the numbers.
+    #[tactic(auto, unfolding(crate::specs::SidText::sid_reads))]
+    pub fn from_text(text: &[u8], domain: Option<&Sid>) -> Result<Sid, SidFault>
+        ensures exact { result ≡ sid_reads text.now (option_copied domain.entry) }
+    {
+        if are_letters(text) {
+            return read_letters(text[0], text[1], domain);
+        }
+        if !has_form(text) {
+            return Err(SidFault::SidForm);
+        }
+        read_numbers(&text[4..]).ok_or(SidFault::Number)
+    }
+}
+
+fn are_letters(text: &[u8]) -> bool
+    ensures { result ≡ are_letters text.now }
+{
+    text.len() == 2 && text[0].is_ascii_alphabetic() && text[1].is_ascii_alphabetic()
+}
+
+#[tactic(auto, unfolding(crate::specs::SidText::has_form))]
+fn has_form(text: &[u8]) -> bool
+    ensures value { result ≡ has_form text.now }
+    ensures long { result ≡ true → 4 ≤ length text.now }
+{
+    if text.len() > LONGEST || !begins_with_s1(text) {
+        return false;
+    }
+    are_numbers(&text[4..])
+}
+
+fn begins_with_s1(text: &[u8]) -> bool
+    ensures value { result ≡ begins_with_s1 text.now }
+    ensures long { result ≡ true → 4 ≤ length text.now }
+{
+    if text.len() < 4 {
+        return false;
+    }
+    text[0].to_ascii_uppercase() == b'S' && text[1] == b'-' && text[2] == b'1' && text[3] == b'-'
+}
+
+// Whether an authority and then at most 15 numbers stand between the dashes.
+fn are_numbers(text: &[u8]) -> bool
+    ensures { result ≡ are_numbers (pieces text.now) }
+{
+    let (first, rest) = cut(text);
+    if !is_hex(first) && !is_decimal(first) {
+        return false;
+    }
+    match rest {
+        None => true,
+        Some(rest) => are_subs(rest),
+    }
+}
+
+fn are_subs(text: &[u8]) -> bool
+    ensures { result ≡ are_subs 0 (all_pieces (pieces text.now)) }
+{
+    let mut rest = text;
+    let mut count = 0;
+    loop {
+        let (piece, after) = cut(rest);
+        if count == MOST_SUBS || !is_decimal(piece) {
+            return false;
+        }
+        count += 1;
+        match after {
+            None => return true,
+            Some(after) => rest = after,
+        }
+    }
+}
+
+// What stands before the first dash, and what follows it.
+fn cut(text: &[u8]) -> (&[u8], Option<&[u8]>)
+    ensures cut { MatchOption result.1 (pieces text.now ≡ record { first = result.0.now; others = [] })
+        (λ rest. pieces text.now ≡ record { first = result.0.now; others = all_pieces (pieces rest.now) }) }
+    ensures shorter { MatchOption result.1 (0 ≤ 0) (λ rest. length rest.now < length text.now) }
+{
+    for (i, byte) in text.iter().enumerate() {
+        if *byte == b'-' {
+            return (&text[..i], Some(&text[i + 1..]));
+        }
+    }
+    (text, None)
+}
+
+fn is_decimal(text: &[u8]) -> bool
+    ensures { result ≡ is_decimal text.now }
+{
+    !text.is_empty() && are_digits(10, text)
+}
+
+fn is_hex(text: &[u8]) -> bool
+    ensures { result ≡ is_hex text.now }
+{
+    if text.len() != 2 + HEX_DIGITS {
+        return false;
+    }
+    text[0] == b'0' && text[1].to_ascii_lowercase() == b'x' && are_digits(16, &text[2..])
+}
+
+fn are_digits(base: u32, text: &[u8]) -> bool
+    requires low { 2 ≤ base }
+    requires high { base ≤ 16 }
+    ensures { result ≡ list_all (λ b. is_digit b base) text.now }
+{
+    for byte in text {
+        if !char::from(*byte).is_digit(base) {
+            return false;
+        }
+    }
+    true
+}
+
+#[tactic(auto, unfolding(crate::specs::SidText::numbers_read))]
+fn read_numbers(text: &[u8]) -> Option<Sid>
+    requires { length (pieces text.now).others ≤ 15 }
+    ensures { result ≡ numbers_read (pieces text.now) }
+{
+    let (first, rest) = cut(text);
+    let authority = read_authority(first)?;
+    let mut subs = [0; MOST_SUBS];
+    let count = match rest {
+        None => 0,
+        Some(rest) => read_subs(rest, &mut subs)?,
+    };
+    Sid::new(authority, &subs[..count])
+}
+
+fn read_authority(text: &[u8]) -> Option<u64>
+    ensures value { result ≡ authority_reads text.now }
+    ensures limit { IfSome result (λ n. n < 2 ^ 48) }
+{
+    if is_hex(text) {
+        return read_number(16, 1 << 48, &text[2..]);
+    }
+    read_decimal(text)
+}
+
+// Writes the numbers to the front of the array, and says how many there are.
+fn read_subs(text: &[u8], subs: &mut [u32; MOST_SUBS]) -> Option<usize>
+    requires { length (all_pieces (pieces text.now)) ≤ 15 }
+    ensures count { IfSome result (λ n. n ≤ 15) }
+    ensures numbers { option_map (λ n. take n subs.new) result ≡ all_read (all_pieces (pieces text.now)) }
+{
+    let mut rest = text;
+    let mut count = 0;
+    loop {
+        let (piece, after) = cut(rest);
+        subs[count] = read_decimal(piece)? as u32;
+        count += 1;
+        match after {
+            None => return Some(count),
+            Some(after) => rest = after,
+        }
+    }
+}
+
+fn read_decimal(text: &[u8]) -> Option<u64>
+    ensures value { result ≡ decimal_reads text.now }
+    ensures limit { IfSome result (λ n. n < 2 ^ 32) }
+{
+    if text.len() > 10 {
+        return None;
+    }
+    read_number(10, 1 << 32, text)
+}
+
+// The number that the digits write, where each is a digit and it is below the limit.
+fn read_number(base: u32, limit: u64, text: &[u8]) -> Option<u64>
+    requires low { 2 ≤ base }
+    requires high { base ≤ 16 }
+    requires small { limit ≤ 2 ^ 48 }
+    requires some { 0 < limit }
+    ensures value { result ≡ number base limit text.now }
+    ensures limit { IfSome result (λ n. n < limit) }
+{
+    let mut number: u64 = 0;
+    for byte in text {
+        let digit = char::from(*byte).to_digit(base)?;
+        number = number * u64::from(base) + u64::from(digit);
+        if number >= limit {
+            return None;
+        }
+    }
+    Some(number)
+}
+
+// Writes the text to the end of the array, and says where it begins; so does each function below.
+fn write_sid(sid: &Sid, text: &mut [u8; LONGEST]) -> usize
+    ensures within { result ≤ 183 }
+    ensures written { drop result text.new ≡ sid_text sid.now }
+    ensures limits { IsSid sid.now }
+{
+    let subs = write_subs(sid.subs(), text);
+    let authority = write_authority(sid.authority(), text, subs);
+    let start = authority - 4;
+    text[start..authority].copy_from_slice(b"S-1-");
+    start
+}
+
+fn write_subs(subs: &[u32], text: &mut [u8; LONGEST]) -> usize
+    requires { length subs.now ≤ 15 }
+    ensures room { 183 ≤ result + 11 * length subs.now }
+    ensures within { result ≤ 183 }
+    ensures written { drop result text.new ≡ flat_map sub_text subs.now }
+{
+    let mut at = LONGEST;
+    let mut left = subs.len();
+    while left > 0 {
+        left -= 1;
+        at = write_decimal(subs[left], text, at) - 1;
+        text[at] = b'-';
+    }
+    at
+}
+
+fn write_authority(authority: u64, text: &mut [u8; LONGEST], end: usize) -> usize
+    requires room { 14 ≤ end }
+    requires within { end ≤ 183 }
+    ensures room { end ≤ result + 14 }
+    ensures before { result ≤ end }
+    ensures written { drop result text.new ≡ authority_text authority ++ drop end text.old }
+{
+    if authority < 1 << 32 {
+        return write_decimal(authority as u32, text, end);
+    }
+    let at = write_hex(authority, text, end);
+    text[at - 1] = b'x';
+    text[at - 2] = b'0';
+    at - 2
+}
+
+fn write_hex(number: u64, text: &mut [u8; LONGEST], end: usize) -> usize
+    requires room { 12 ≤ end }
+    requires within { end ≤ 183 }
+    ensures start { result + 12 ≡ end }
+    ensures written { drop result text.new ≡ hex_digits 12 number ++ drop end text.old }
+{
+    let mut left = number;
+    let mut at = end;
+    for _ in 0..HEX_DIGITS {
+        at -= 1;
+        text[at] = hex_digit((left % 16) as u8);
+        left /= 16;
+    }
+    at
+}
+
+fn hex_digit(value: u8) -> u8
+    requires { value < 16 }
+    ensures { result ≡ digit_glyph false value }
+{
+    if value < 10 {
+        b'0' + value
+    } else {
+        b'a' - 10 + value
+    }
+}
+
+fn write_decimal(number: u32, text: &mut [u8; LONGEST], end: usize) -> usize
+    requires room { 10 ≤ end }
+    requires within { end ≤ 183 }
+    ensures room { end ≤ result + 10 }
+    ensures before { result < end }
+    ensures written { drop result text.new ≡ decimal number ++ drop end text.old }
+{
+    let mut left = number;
+    let mut at = end;
+    while left >= 10 {
+        at -= 1;
+        text[at] = b'0' + (left % 10) as u8;
+        left /= 10;
+    }
+    at -= 1;
+    text[at] = b'0' + left as u8;
+    at
+}
+
+#[cfg(test)]
+mod tests {
+    use super::*;
+    use std::process::Abort;
+
+    // A sink that keeps the first 200 bytes.
+    #[derive(Drop)]
+    struct Line {
+        bytes: [u8; 200],
+        len: usize,
+    }
+
+    impl Sink for Line {
+        ghost told = { λ _. record { contents = None; failures = 0; room = 0 } };
+
+        fn put(&mut self, bytes: &[u8]) -> Result<(), SinkFault> {
+            for byte in bytes {
+                if self.len < 200 {
+                    self.bytes[self.len] = *byte;
+                    self.len += 1;
+                }
+            }
+            Ok(())
+        }
+    }
+
+    fn check_text(rt: &impl Abort, sid: Sid, text: &str) {
+        let mut line = Line {
+            bytes: [0; 200],
+            len: 0,
+        };
+        assert_eq!(rt; sid.put_text(&mut line), Ok(()));
+        assert_eq!(rt;
+            line.bytes.get(..line.len),
+            Some(text.as_bytes()),
+            "at {text}"
+        );
+        assert_eq!(rt; Sid::from_text(text.as_bytes(), None), Ok(sid), "at {text}");
+    }
+
+    fn check_alias(rt: &impl Abort, name: &str, text: &str, domain: Option<&Sid>) {
+        let sid = Sid::from_text(text.as_bytes(), None).expect(rt, "a SID");
+        check_text(rt, sid, text);
+        assert_eq!(rt;
+            Sid::from_text(name.as_bytes(), domain),
+            Ok(sid),
+            "at {name}"
+        );
+        assert!(rt;
+            sid.alias(domain)
+                .is_some_and(|letters| letters.as_slice() == name.as_bytes()),
+            "at {name}"
+        );
+    }
+
+    // The SIDs of MS-DTYP 2.4.2.4 by their names in 2.5.1.1.
+    #[test]
+    fn knows_every_alias(rt: HostRuntime) {
+        for (name, text) in [
+            ("WD", "S-1-1-0"),
+            ("CO", "S-1-3-0"),
+            ("CG", "S-1-3-1"),
+            ("OW", "S-1-3-4"),
+            ("NU", "S-1-5-2"),
+            ("IU", "S-1-5-4"),
+            ("SU", "S-1-5-6"),
+            ("AN", "S-1-5-7"),
+            ("ED", "S-1-5-9"),
+            ("PS", "S-1-5-10"),
+            ("AU", "S-1-5-11"),
+            ("RC", "S-1-5-12"),
+            ("SY", "S-1-5-18"),
+            ("LS", "S-1-5-19"),
+            ("NS", "S-1-5-20"),
+            ("WR", "S-1-5-33"),
+            ("UD", "S-1-5-84-0-0-0-0-0"),
+            ("BA", "S-1-5-32-544"),
+            ("BU", "S-1-5-32-545"),
+            ("BG", "S-1-5-32-546"),
+            ("PU", "S-1-5-32-547"),
+            ("AO", "S-1-5-32-548"),
+            ("SO", "S-1-5-32-549"),
+            ("PO", "S-1-5-32-550"),
+            ("BO", "S-1-5-32-551"),
+            ("RE", "S-1-5-32-552"),
+            ("RU", "S-1-5-32-554"),
+            ("RD", "S-1-5-32-555"),
+            ("NO", "S-1-5-32-556"),
+            ("MU", "S-1-5-32-558"),
+            ("LU", "S-1-5-32-559"),
+            ("IS", "S-1-5-32-568"),
+            ("CY", "S-1-5-32-569"),
+            ("ER", "S-1-5-32-573"),
+            ("CD", "S-1-5-32-574"),
+            ("RA", "S-1-5-32-575"),
+            ("ES", "S-1-5-32-576"),
+            ("MS", "S-1-5-32-577"),
+            ("HA", "S-1-5-32-578"),
+            ("AA", "S-1-5-32-579"),
+            ("RM", "S-1-5-32-580"),
+            ("AC", "S-1-15-2-1"),
+            ("LW", "S-1-16-4096"),
+            ("ME", "S-1-16-8192"),
+            ("MP", "S-1-16-8448"),
+            ("HI", "S-1-16-12288"),
+            ("SI", "S-1-16-16384"),
+            ("AS", "S-1-18-1"),
+            ("SS", "S-1-18-2"),
+        ] {
+            check_alias(&rt, name, text, None);
+        }
+    }
+
+    #[test]
+    fn knows_every_alias_in_a_domain(rt: HostRuntime) {
+        let domain = Sid::new(5, &[21, 1, 2, 3]).expect(&rt, "a SID");
+        for (name, text) in [
+            ("RO", "S-1-5-21-1-2-3-498"),
+            ("LA", "S-1-5-21-1-2-3-500"),
+            ("LG", "S-1-5-21-1-2-3-501"),
+            ("DA", "S-1-5-21-1-2-3-512"),
+            ("DU", "S-1-5-21-1-2-3-513"),
+            ("DG", "S-1-5-21-1-2-3-514"),
+            ("DC", "S-1-5-21-1-2-3-515"),
+            ("DD", "S-1-5-21-1-2-3-516"),
+            ("CA", "S-1-5-21-1-2-3-517"),
+            ("SA", "S-1-5-21-1-2-3-518"),
+            ("EA", "S-1-5-21-1-2-3-519"),
+            ("PA", "S-1-5-21-1-2-3-520"),
+            ("CN", "S-1-5-21-1-2-3-522"),
+            ("AP", "S-1-5-21-1-2-3-525"),
+            ("KA", "S-1-5-21-1-2-3-526"),
+            ("EK", "S-1-5-21-1-2-3-527"),
+            ("RS", "S-1-5-21-1-2-3-553"),
+        ] {
+            check_alias(&rt, name, text, Some(&domain));
+            assert_eq!(rt;
+                Sid::from_text(name.as_bytes(), None),
+                Err(SidFault::NeedsDomain)
+            );
+        }
+    }
+
+    #[test]
+    fn reads_and_prints(rt: HostRuntime) {
+        check_text(
+            &rt,
+            Sid::new(5, &[21, 1, 2, 3, 1001]).expect(&rt, "a SID"),
+            "S-1-5-21-1-2-3-1001",
+        );
+        check_text(
+            &rt,
+            Sid::new(0x1_0000_0000, &[]).expect(&rt, "a SID"),
+            "S-1-0x000100000000",
+        );
+        check_text(
+            &rt,
+            Sid::new(u64::from(u32::MAX), &[]).expect(&rt, "a SID"),
+            "S-1-4294967295",
+        );
+        let longest = Sid::new(0xabcd_ef01_2345, &[u32::MAX; 15]).expect(&rt, "a SID");
+        check_text(
+            &rt,
+            longest,
+            "S-1-0xabcdef012345-4294967295-4294967295-4294967295-4294967295-4294967295-4294967295-4294967295-4294967295-4294967295-4294967295-4294967295-4294967295-4294967295-4294967295-4294967295",
+        );
+        assert_eq!(rt;
+            Sid::from_text(b"s-1-0X000000000005-032-544", None),
+            Sid::from_text(b"ba", None)
+        );
+    }
+
+    #[test]
+    fn refuses(rt: HostRuntime) {
+        for (text, fault) in [
+            ("ZZ", SidFault::Alias),
+            ("DA", SidFault::NeedsDomain),
+            ("S-1-4294967296", SidFault::Number),
+            ("S-1-5-00000000001", SidFault::Number),
+            ("S-1-5-4294967296-", SidFault::SidForm),
+            ("S-1-0x00000000005", SidFault::SidForm),
+            (
+                "S-1-5-1-2-3-4-5-6-7-8-9-10-11-12-13-14-15-16",
+                SidFault::SidForm,
+            ),
+            ("S-1", SidFault::SidForm),
+            ("B1", SidFault::SidForm),
+            ("BAD", SidFault::SidForm),
+            ("", SidFault::SidForm),
+        ] {
+            assert_eq!(rt;
+                Sid::from_text(text.as_bytes(), None),
+                Err(fault),
+                "at {text}"
+            );
+        }
+    }
+}

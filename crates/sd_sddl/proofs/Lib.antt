@@ -1,0 +1,3 @@
+-- Descriptors as SDDL.
+mod Rows
+pub mod SizeLaws

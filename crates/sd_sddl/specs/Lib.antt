@@ -1,0 +1,2 @@
+-- Descriptors as SDDL.
+pub mod Printed
