@@ -2,9 +2,9 @@
 """generate.py [--aces N] [--megabytes N] [--seed S] > FILE
 
 Writes lines of hex such as an export of a file server and a directory has them. Each descriptor has an owner, a group
-and a DACL of 3 to 10 ACEs, mostly for accounts of a few domains and well-known SIDs; one in four is a directory's, with
-object ACEs among the others, and one in three has a SACL too. One in eight is not laid out canonically, one in ten is in
-upper case, and one in twenty is faulty, with each kind of fault among them.
+and a DACL of 3 to 10 ACEs, mostly for accounts of a few domains, for groups that each domain has, and for well-known
+SIDs; one in four is a directory's, with object ACEs among the others, and one in three has a SACL too. One in eight is
+not laid out canonically, one in ten is in upper case, and one in twenty is faulty, with each kind of fault among them.
 
 With --aces all lines have a DACL of so many ACEs (at most 1,500), of the same mixture, and none is faulty or unusual.
 
@@ -22,6 +22,8 @@ DISTINCT_ACES = 60_000  # in the pool, where each line has very many
 
 WELL_KNOWN = [(1, 0), (3, 0), (3, 1), (3, 4), (5, 9), (5, 11), (5, 18), (5, 19), (5, 20), (5, 32, 544), (5, 32, 545),
               (5, 32, 551)]
+HOME = (5, 21, 1004336348, 1177238915, 682003330)  # one of the domains, under which run.py asks for SDDL
+DOMAIN_GROUPS = [500, 512, 512, 513, 513, 515, 519]
 LABELS = [(16, 4096), (16, 8192), (16, 12288)]
 # Full control, change, read and execute, read, write; generic all, generic read and execute.
 FILE_MASKS = [0x1f01ff, 0x1f01ff, 0x1301bf, 0x1200a9, 0x1200a9, 0x120089, 0x120116, 0x10000000, 0xa0000000]
@@ -49,7 +51,8 @@ class Generator:
         bits = self.chance.getrandbits
         self.well_known = [sid(*names) for names in WELL_KNOWN]
         self.labels = [sid(*names) for names in LABELS]
-        self.domains = [sid(5, 21, bits(32), bits(32), bits(32), 0)[:-4] for _ in range(12)]
+        domains = [HOME, *((5, 21, bits(32), bits(32), bits(32)) for _ in range(11))]
+        self.domains = [sid(*names, 0)[:-4] for names in domains]
         # Services, application packages, and the longest that there can be.
         self.long = [sid(5, 80, *(bits(32) for _ in range(5))) for _ in range(20)]
         self.long += [sid(15, 2, *(bits(32) for _ in range(7))) for _ in range(20)]
@@ -62,7 +65,9 @@ class Generator:
     def some_sid(self):
         kind = self.chance.random()
         if kind < 0.55:
-            return self.chance.choice(self.domains) + struct.pack("<I", int(1000 + 60_000 * self.chance.random() ** 2))
+            is_group = self.chance.random() < 0.1
+            last = self.chance.choice(DOMAIN_GROUPS) if is_group else int(1000 + 60_000 * self.chance.random() ** 2)
+            return self.chance.choice(self.domains) + struct.pack("<I", last)
         return self.chance.choice(self.well_known if kind < 0.96 else self.long)
 
     def file_ace(self):

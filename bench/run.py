@@ -2,12 +2,13 @@
 """run.py [PROGRAM] [--megabytes N] [--rounds N]
 
 Measures the program (crates/sdtool/out/sdtool where none is given) against baseline.rs and cat: on the mixture that
-generate.py makes, and on lines of 375, 750 and 1,500 ACEs, which show whether an ACE costs the same in a longer line.
+generate.py makes, to hex and to SDDL under one of its domains, and to hex on lines of 375, 750 and 1,500 ACEs, which
+show whether an ACE costs the same in a longer line.
 The inputs have the same size and are kept in the folder sdtool-bench among the temporary files.
 
-It checks that program and baseline write the same on each input, runs the three in turn, so that what else the machine
-does meets them alike, and prints the medians. Time is processor time, user and system; the input comes from a file and
-the output goes to /dev/null.
+It checks that program and baseline write the same each time, runs the three in turn, so that what else the machine
+does meets them alike, and prints the medians. Time is processor time, user and system; megabytes are those of the
+input, which comes from a file; the output goes to /dev/null.
 """
 import argparse
 import filecmp
@@ -20,9 +21,21 @@ import subprocess
 import sys
 import tempfile
 
+sys.dont_write_bytecode = True
+import generate  # noqa: E402
+
 HERE = pathlib.Path(__file__).resolve().parent
 PROGRAM = HERE.parent / "crates/sdtool/out/sdtool"
-INPUTS = {"the mixture": None, "375 ACEs a line": 375, "750 ACEs a line": 750, "1,500 ACEs a line": 1500}
+HEX = ["convert", "--from", "hex", "--to", "hex"]
+SDDL = ["convert", "--from", "hex", "--to", "sddl", "--domain", "-".join(["S-1", *map(str, generate.HOME)])]
+# What is measured: the number of ACEs of each line, or None for the mixture, and the words.
+MEASURED = {
+    "the mixture to hex": (None, HEX),
+    "the mixture to SDDL": (None, SDDL),
+    "375 ACEs a line to hex": (375, HEX),
+    "750 ACEs a line to hex": (750, HEX),
+    "1,500 ACEs a line to hex": (1500, HEX),
+}
 
 
 def input_file(folder, settings):
@@ -93,25 +106,24 @@ def main():
         sys.exit("bench: the baseline is built by rustc, and there is none on the PATH")
     folder = pathlib.Path(tempfile.gettempdir()) / "sdtool-bench"
     folder.mkdir(exist_ok=True)
-    commands = {
-        "sdtool": [wanted.program, "convert", "--from", "hex", "--to", "hex"],
-        "baseline": [build_baseline(folder)],
-        "cat": ["cat"],
-    }
-    inputs = {}
-    for name, aces in INPUTS.items():
+    baseline = build_baseline(folder)
+    inputs, commands = {}, {}
+    for name, (aces, words) in MEASURED.items():
         inputs[name] = input_file(folder, ["--megabytes", str(wanted.megabytes), *(["--aces", str(aces)] if aces else [])])
-    if not all([write_the_same(folder, given, [commands["sdtool"], commands["baseline"]]) for given in inputs.values()]):
+        commands[name] = {"sdtool": [wanted.program, *words], "baseline": [baseline, *words], "cat": ["cat"]}
+    judged = [(given, [commands[name]["sdtool"], commands[name]["baseline"]]) for name, given in inputs.items()]
+    if not all([write_the_same(folder, given, both) for given, both in judged]):
         return 1
     print(f"processor time, medians of {wanted.rounds} rounds; the outputs are equal")
     speeds = {}
     for name, given in inputs.items():
         size, lines = given.stat().st_size, lines_in(given)
         print(f"{name}: {lines:,} lines, {size / 1e6:.1f} MB")
-        taken = medians(commands, given, wanted.rounds)
+        taken = medians(commands[name], given, wanted.rounds)
+        aces, _ = MEASURED[name]
         speeds[name] = taken["baseline"] / taken["sdtool"]
         for command, time in taken.items():
-            an_ace = f"{time / lines / INPUTS[name] * 1e9:9.1f} ns an ACE" if INPUTS[name] else ""
+            an_ace = f"{time / lines / aces * 1e9:9.1f} ns an ACE" if aces else ""
             print(f"  {command:10}{time:8.3f} s{size / time / 1e6:8.0f} MB/s{lines / time:13,.0f} lines/s{an_ace}")
     for name, speed in speeds.items():
         print(f"on {name} sdtool has {speed:.2f} of the baseline's speed")

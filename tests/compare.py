@@ -2,11 +2,14 @@
 """compare.py PROGRAM [--lines N] [--seed S]
 
 Feeds the program thousands of lines, among them broken and hostile ones, and compares each answer with the one of
-reference.py: from a file, in random pieces through a pipe, and in many short inputs with all kinds of ends.
+reference.py: from a file, in random pieces through a pipe, and in many short inputs with all kinds of ends; as hex, and
+as SDDL without a domain, under several domains, and with numbers alone.
 The same seed gives the same lines. The last line is 'N passed, M failed'.
 """
 import argparse
+import functools
 import itertools
+import operator
 import os
 import random
 import subprocess
@@ -27,6 +30,13 @@ PARTS = range(4)   # owner, group, SACL, DACL, in the order of their offsets
 ACLS = (2, 3)
 SACL_PRESENT, DACL_PRESENT = 0x10, 0x4
 PLAIN_TYPES, OBJECT_TYPES, UNKNOWN_FLAG = [0, 1, 2, 0x11], [5, 6, 7], 0x20
+HEX, SDDL, NUMERIC = ["--to", "hex"], [], ["--to", "sddl", "--numeric"]
+# A usual domain, one that is a well-known SID, the shortest one, and the longest one.
+DOMAINS = ["S-1-5-21-1004336348-1177238915-682003330", "BA", "S-1-5", "S-1-0xfedcba987654" + "-4294967295" * 14]
+UNDER = [["--domain", domain] for domain in DOMAINS]
+EVERY_WORDS = [HEX, SDDL, NUMERIC, *UNDER, [*UNDER[0], "--numeric"]]
+DOMAIN_SIDS = [reference.sid_of_text(domain.encode()) for domain in DOMAINS]
+SOME_MASKS = [*reference.RIGHTS.values(), *reference.COMPOUND_RIGHTS.values(), *reference.LABEL_RIGHTS.values()]
 
 
 class Piece(NamedTuple):
@@ -147,6 +157,38 @@ def acl_lines():
         yield from one_acl(acl(*[ace(0, 0, 1, b"", sid_bytes(1))] * aces, count=count, spare=bytes(spare)).data)
 
 
+def named_sids():
+    """Every SID that has an alias, those beside it, and those that are one sub-authority shorter or longer."""
+    sids = [reference.Sid(names[0], names[1:]) for names in reference.WELL_KNOWN.values()]
+    for (authority, subs), last in itertools.product(DOMAIN_SIDS, range(495, 557)):
+        sids.append(reference.Sid(authority, (*subs, last)))
+    for authority, subs in sids:
+        for others in (subs, subs[:-1], (*subs[:-1], subs[-1] ^ 1 << 9), (0, *subs), (*subs, 0)):
+            if len(others) <= 15:
+                yield reference.Sid(authority, others)
+        yield from (reference.Sid(other, subs) for other in (0, authority + 1, authority ^ 1 << 32))
+
+
+def sddl_lines():
+    """What has a text of its own: SIDs, authorities, rights, flags, GUIDs, and the flags of ACLs."""
+    yield from (header(20) + one.to_bytes() for one in named_sids())
+    for power, step in itertools.product(range(49), (-1, 0, 1)):
+        authority = (1 << power) + step
+        if authority < 1 << 48:
+            yield header(20) + reference.Sid(authority, (authority % (1 << 32),)).to_bytes()
+    one_bit = [1 << bit for bit in range(32)]
+    masks = {mask ^ change for mask in (*SOME_MASKS, *one_bit, 7, 0) for change in (0, *one_bit)} | set(range(17))
+    for mask, kind in itertools.product(sorted(masks), (0, 5, 0x11)):
+        body = bytes(4) if kind == 5 else b""
+        yield header(0, 0, 0, 20, 0x8004) + acl(ace(kind, 0, mask, body, sid_bytes(0))).data
+    # The bits of the control word that speak of ACLs, all together, and some of the others beside them; the ACLs absent
+    # or null, and absent or empty.
+    of_acls = [control for control in range(0x8000, 0x10000, 4) if not control & 0x40e8]
+    for control in (*of_acls, 0x8008, 0x8020, 0x8040, 0x8080, 0xc000, 0xffff, 0xbfff, 0xffeb, 0xfffb, 0xffef):
+        yield header(0, 0, 0, 0, control)
+        yield header(0, 0, 20, 28, control) + acl().data * 2
+
+
 def double_fault_lines():
     """Several faults at once, of which the first in order is answered: in one ACE, and in several parts."""
     for size, ace_type, flags, bits, revision, count in itertools.product(
@@ -193,7 +235,7 @@ def overlap_lines():
 
 def fixed_lines():
     """Lines that leave no value of a small field, and no place of a part, to chance."""
-    for data in itertools.chain(sid_lines(), acl_lines(), double_fault_lines(), overlap_lines()):
+    for data in itertools.chain(sid_lines(), acl_lines(), sddl_lines(), double_fault_lines(), overlap_lines()):
         yield data.hex().encode()
     for byte, at in itertools.product(NO_DIGITS, (0, 1, 39)):
         line = bytearray(header().hex().encode())
@@ -236,10 +278,21 @@ class Lines:
 
     def __init__(self, chance):
         self.chance = chance
+        self.named = list(named_sids())
         self.kinds = [self.descriptor, self.descriptor, self.canonical, self.overlap, self.ends, self.ends, self.mutated,
                       self.truncated, self.junk]
 
     def sid(self):
+        kind = self.chance.random()
+        if kind < 0.2:
+            return self.chance.choice(self.named).to_bytes()
+        if kind < 0.3:
+            authority, subs = self.chance.choice(DOMAIN_SIDS)
+            last = self.chance.choice([*reference.OF_THE_DOMAIN.values(), 499, 554, 1001, self.chance.getrandbits(32)])
+            return reference.Sid(authority, (*subs, last)).to_bytes()
+        if kind < 0.4:  # (an authority of few bits, so that it is often a decimal number)
+            subs = [self.chance.getrandbits(self.chance.randint(1, 32)) for _ in range(self.chance.randrange(16))]
+            return reference.Sid(self.chance.getrandbits(self.chance.randint(1, 48)), tuple(subs)).to_bytes()
         count = self.chance.choice([0, 1, 2, 5, 15, self.chance.randrange(16)])
         return bytes([1, count]) + self.chance.randbytes(6 + 4 * count)
 
@@ -250,7 +303,8 @@ class Lines:
         """Of any kind, with any bits that announce nothing, and bytes after its SID."""
         ace_type = self.chance.choice(PLAIN_TYPES + OBJECT_TYPES)
         flags = self.chance.choice([0, 0xff, self.chance.getrandbits(8)]) & ~UNKNOWN_FLAG
-        mask = self.chance.choice([0, 0xffff_ffff, 1 << self.chance.randrange(32), self.chance.getrandbits(32)])
+        mask = self.chance.choice([0, 0xffff_ffff, 1 << self.chance.randrange(32), self.chance.getrandbits(32),
+                                   self.chance.choice(SOME_MASKS), self.chance.randrange(9), self.rights()])
         body = b""
         if ace_type in OBJECT_TYPES:
             bits = self.chance.randrange(4)
@@ -258,6 +312,11 @@ class Lines:
             body = (bits | others).to_bytes(4, "little") + self.chance.randbytes(16 * (bits % 2 + bits // 2))
         spare = self.chance.choice([0, 0, 0, 4, 8, 4 * self.chance.randrange(30)])
         return ace(ace_type, flags, mask, body, self.sid(), self.chance.randbytes(spare))
+
+    def rights(self):
+        """A few rights that have names."""
+        some = self.chance.choices(list(reference.RIGHTS.values()), k=self.chance.randint(1, 9))
+        return functools.reduce(operator.or_, some)
 
     def acl(self):
         aces = [self.ace() for _ in range(self.chance.choice([0, 1, 1, 2, 3, self.chance.randrange(9)]))]
@@ -368,7 +427,7 @@ def feed(fd, data, sizes):
     os.close(fd)
 
 
-def answers_of(program, data, sizes):
+def answers_of(program, words, data, sizes):
     """The program's answers, and its status; the input is cut into pieces of these sizes, or comes as a file."""
     with tempfile.TemporaryFile() as given, tempfile.TemporaryFile() as written:
         reading, feeder = given.fileno(), None
@@ -378,7 +437,7 @@ def answers_of(program, data, sizes):
         else:
             given.write(data)
             given.seek(0)
-        child = subprocess.Popen([program, "convert"], stdin=reading, stdout=written)
+        child = subprocess.Popen([program, "convert", *words], stdin=reading, stdout=written)
         if feeder:
             os.close(reading)
             feeder.start()
@@ -399,30 +458,48 @@ def short(line):
     return shown if len(line) <= 400 else f"{shown}.. ({len(line)} bytes)"
 
 
+class Input:
+    """An input, and what its lines show, which is found out once for all ways in which they are converted."""
+
+    def __init__(self, data):
+        self.data, self.lines, self.shown, self.answered = data, reference.lines(data), reference.all_shown(data), {}
+
+    def answers(self, words):
+        """The answers that reference.py gives under these words, and the status."""
+        settings = reference.settings_of([word.encode() for word in words])
+        if settings not in self.answered:
+            self.answered[settings] = reference.answers(self.shown, settings)
+        return self.answered[settings]
+
+
 class Count:
     """What was compared, and what differed."""
 
     def __init__(self):
         self.passed = self.failed = 0
 
-    def add(self, is_right, *shown):
-        if is_right:
-            self.passed += 1
-            return
+    def fail(self, *shown):
         self.failed += 1
         if self.failed <= SHOWN:
             print("FAIL", "\n  ".join(shown))
 
-    def run(self, program, what, data, wanted_answers, sizes=None):
+    def run(self, program, what, words, given, sizes=None):
         """One run of the program: each answer is compared, and then that there is nothing more, and the status."""
-        wanted, wanted_status = wanted_answers
-        written, status = answers_of(program, data, sizes)
+        wanted, wanted_status = given.answers(words)
+        written, status = answers_of(program, words, given.data, sizes)
         *got, rest = written.split(b"\n")
-        for line, answer, want in itertools.zip_longest(reference.lines(data), got[:len(wanted)], wanted, fillvalue=b""):
-            self.add(answer == want, f"{what}: {short(line)}", f"gave {short(answer)}", f"not  {short(want)}")
+        what = " ".join([what, *words])
+        for line, answer, want in itertools.zip_longest(given.lines, got[:len(wanted)], wanted, fillvalue=b""):
+            if answer == want:
+                self.passed += 1
+            else:
+                self.fail(f"{what}: {short(line)}", f"gave {short(answer)}", f"not  {short(want)}")
         rest = b"\n".join([*got[len(wanted):], rest])
-        self.add(not rest and status == wanted_status and len(got) == len(wanted), f"{what}, at the end",
-                 f"{len(got)} answers, not {len(wanted)}; status {status}, not {wanted_status}; more output: {short(rest)}")
+        if not rest and status == wanted_status and len(got) == len(wanted):
+            self.passed += 1
+        else:
+            self.fail(f"{what}, at the end", f"{len(got)} answers, not {len(wanted)}; status {status}, not {wanted_status}; "
+                      f"more output: {short(rest)}")
 
 
 def main():
@@ -435,20 +512,20 @@ def main():
     maker = Lines(chance)
     pieces = [*fixed_lines(), *(maker.line() for _ in range(given.lines))]
     chance.shuffle(pieces)
-    data = b"".join(line + maker.end() for line in pieces)
+    all_lines = Input(b"".join(line + maker.end() for line in pieces))
     # (apart, since their bytes are as many as those of all others)
-    long = b"".join(line + maker.end() + maker.line() + b"\n" for line in long_lines())
+    long = Input(b"".join(line + maker.end() + maker.line() + b"\n" for line in long_lines()))
     count = Count()
-    wanted = reference.answers(data)
-    count.run(given.program, "from a file", data, wanted)
-    count.run(given.program, "cut", data, wanted, (maker.piece() for _ in itertools.count()))
-    wanted = reference.answers(long)
-    count.run(given.program, "long lines from a file", long, wanted)
-    count.run(given.program, "long lines cut", long, wanted, (chance.randint(1, PACKET) for _ in itertools.count()))
+    for words in EVERY_WORDS:
+        count.run(given.program, "from a file", words, all_lines)
+    for words in (HEX, UNDER[0]):
+        count.run(given.program, "cut", words, all_lines, (maker.piece() for _ in itertools.count()))
+        count.run(given.program, "long lines from a file", words, long)
+        count.run(given.program, "long lines cut", words, long, (chance.randint(1, PACKET) for _ in itertools.count()))
     for _ in range(given.lines // 50):
         data = b"".join(maker.line() + maker.end() for _ in range(chance.randrange(4))) + maker.line() + maker.last_end()
         sizes = chance.choice([None, itertools.repeat(1), itertools.repeat(7)])
-        count.run(given.program, "short input", data, reference.answers(data), sizes)
+        count.run(given.program, "short input", chance.choice(EVERY_WORDS), Input(data), sizes)
     print(f"{count.passed} passed, {count.failed} failed")
     return 1 if count.failed else 0
 

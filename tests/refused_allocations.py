@@ -20,10 +20,17 @@ SECONDS = 60       # for one run
 ALLOCATIONS = 5000  # of one command line, at the very most
 EMPTY = b"0100008000000000000000000000000000000000"
 LIMIT = 262_452    # characters of the longest line that is read
+DOMAIN = "S-1-5-21-1-2-3"
+LONGEST_DOMAIN = "S-1-0xffffffffffff" + "-1" * 14
+OF_DOMAIN = b"0100008014000000000000000000000000000000" b"010500000000000515000000" b"01000000020000000300000000020000"
 # A DACL with one ACE; a SACL of revision 2 that its object ACE makes one of revision 4; and as many ACEs as there can be.
 ACE = b"00001400ff011f00010100000000000100000000"
 WITH_DACL = b"010004800000000000000000000000001400000002001c0001000000" + ACE
 WITH_SACL = b"010010800000000000000000140000000000000002002000010000000700180001000000" b"fcffffff" b"010100000000000100000000"
+NULL_ACLS = b"010014bf00000000000000000000000000000000"
+LABEL = b"0100108000000000000000001400000000000000" b"02001c0001000000" b"1100140003000000" b"010100000000001000300000"
+GUIDS = b"0100048000000000000000000000000014000000" b"0400400001000000" b"0603380000000110" b"03000000" \
+        b"ba7a96bfe60dd011a28500aa003049e2" b"9c7a96bfe60dd011a28500aa003049e2" b"010100000000000512000000"
 FULL = b"0100048000000000000000000000000014000000" b"0200f8ffff0f0000" + b"01001000ff010ff00100ffffffffffff" * 4095
 FAULTY_ACLS = [WITH_DACL[:-2], WITH_DACL[:-40] + b"09" + ACE[2:], WITH_DACL[:-40] + b"0020" + ACE[4:],
                WITH_DACL[:-24] + b"02" + ACE[18:], FULL[:-16] + b"02" + FULL[-14:],
@@ -33,12 +40,20 @@ DISPENSABLE = 1
 COMMAND_LINES = [
     ["convert"],
     ["convert", "--from", "hex", "--to=hex"],
+    ["convert", "--from", "hex", "--to", "sddl", "--numeric"],
+    ["convert", "--numeric", "--domain", DOMAIN],
+    ["convert", "--to", "hex", "--domain=BA"],
+    ["convert", "--domain", LONGEST_DOMAIN],
+    ["convert", "--domain", "DA"],
+    ["convert", "--domain", "BA", "--from", "sddl"],
     ["convert", "--to", "xml"],
+    ["convert", "--numeric", "--numeric"],
     ["convert", "--to", "hex", "--to", "hex"],
     ["convert", "--help"],
     ["--help"],
     [],
 ]
+READING = [["--to", "hex"], ["--domain", DOMAIN], ["--domain", LONGEST_DOMAIN, "--to", "sddl", "--numeric"]]
 
 
 class Ended(NamedTuple):
@@ -116,15 +131,16 @@ def refuse_each(count, program, words, library):
     count.add(ended == plain, f"{shown}, none refused: {ended}, not {plain}")
 
 
-def refuse_when_reading(count, program, library):
+def refuse_when_reading(count, program, words, library):
     lines = [EMPTY, b"zz", b"", EMPTY + b"\r", EMPTY + b"f" * (LIMIT - len(EMPTY)), b"0" * (LIMIT + 1), b"0", EMPTY,
-             WITH_DACL, WITH_SACL, FULL, *FAULTY_ACLS, WITH_DACL]
+             WITH_DACL, WITH_SACL, OF_DOMAIN, NULL_ACLS, LABEL, GUIDS, FULL, *FAULTY_ACLS, WITH_DACL]
     data = b"\n".join(lines * 20)
-    plain, _ = run([program, "convert"], data, library)
-    ended, told = run([program, "convert"], data, library, REFUSE_WHEN_READING=1)
-    count.add(plain.status == 1 and plain.taken == len(data), f"plain run: {plain}")
-    count.add(ended == plain, f"every allocation refused from the first read on: {ended}, not {plain}")
-    count.add(told == b"r", f"from the first read on the library told {told[:20]}, not only that read")
+    command, shown = [program, "convert", *words], " ".join(["sdtool convert", *words])
+    plain, _ = run(command, data, library)
+    ended, told = run(command, data, library, REFUSE_WHEN_READING=1)
+    count.add(plain.status == 1 and plain.taken == len(data), f"{shown}, plain run: {plain}")
+    count.add(ended == plain, f"{shown}, every allocation refused from the first read on: {ended}, not {plain}")
+    count.add(told == b"r", f"{shown}, from the first read on the library told {told[:20]}, not only that read")
 
 
 def main():
@@ -136,7 +152,8 @@ def main():
         library = build(folder)
         for words in COMMAND_LINES:
             refuse_each(count, program, words, library)
-        refuse_when_reading(count, program, library)
+        for words in READING:
+            refuse_when_reading(count, program, words, library)
     print(f"{count.passed} passed, {count.failed} failed")
     return 1 if count.failed else 0
 

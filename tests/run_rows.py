@@ -4,8 +4,9 @@ run_rows.py --reference
 
 Runs the rows of rows.json on the built program, and compares what it writes and its exit status.
 With --one-byte the input comes one byte a read; rows that ask for a device of their own are left out.
-With --reference no program is run: the answers of reference.py are compared, in all rows that convert lines and ask
-for no device, so that the rows and what compare.py compares with are known to say the same.
+With --reference no program is run: the answers of reference.py are compared, in all rows that convert lines or name an
+option whose value does not read, and ask for no device, so that the rows and what compare.py compares with are known
+to say the same.
 The last line is 'N passed, M failed'.
 
 A row has the program's words, its standard input, and what has to come of them: stdout (or stdout_has,
@@ -225,10 +226,21 @@ def runs(program, row, one_byte):
         yield name, execute(command, data, **devices), stdout
 
 
+def is_for_reference(row):
+    """Whether reference.py says what has to come of the row: it knows neither help nor which words are no options."""
+    return "stdout_has" not in row and (row.get("status", 0) < 2 or row.get("stderr", "").startswith("sdtool: usage: "))
+
+
 def asked_of_reference(row):
     """The one run of the row, as runs gives it, with the answers of reference.py in place of a program's."""
-    answers, status = reference.answers(text(row["stdin"]))
-    yield row["id"], Ended(b"".join(answer + b"\n" for answer in answers), b"", status, True), text(row["stdout"])
+    _, *words = map(text, row["words"])
+    stdout = text(row["stdout"])
+    try:
+        answers, status = reference.answers(reference.all_shown(text(row["stdin"])), reference.settings_of(words))
+    except reference.Usage as fault:
+        yield row["id"], Ended(b"", f"{fault}\n".encode(), 2, False), stdout
+    else:
+        yield row["id"], Ended(b"".join(answer + b"\n" for answer in answers), b"", status, True), stdout
 
 
 def main():
@@ -242,7 +254,7 @@ def main():
     if given.one_byte or given.reference:
         rows = [row for row in rows if not {"talk", "input", "output", "faults"} & row.keys()]
     if given.reference:
-        rows = [row for row in rows if row.get("status", 0) < 2 and "stdout_has" not in row]
+        rows = [row for row in rows if is_for_reference(row)]
     passed = failed = 0
     for row in rows:
         for name, ended, stdout in asked_of_reference(row) if given.reference else runs(given.program, row, given.one_byte):

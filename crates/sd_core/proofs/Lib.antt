@@ -1,6 +1,7 @@
 pub mod AliasLaws
 pub mod AliasLemmas
 pub mod Bits
+pub mod Bools
 pub mod Cutting
 pub mod FlagLaws
 pub mod FormLemmas

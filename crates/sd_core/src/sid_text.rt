@@ -6,7 +6,7 @@ ghost use Rattle.std.specs.List.{flat_map, list_all};
 ghost use Rattle.std.specs.Option.{option_copied, option_map};
 ghost use Rattle.sd_core.specs.Sid.{IsSid, SecurityId};
 ghost use Rattle.sd_core.specs.Sink.{Puts};
-ghost use Rattle.sd_core.specs.SidText.{all_pieces, all_read, are_letters, are_numbers, are_subs, authority_reads, authority_text, begins_with_s1, decimal_reads, has_form, hex_digits, is_decimal, is_hex, number, numbers_read, pieces, sid_reads, sid_text, sub_text};
+ghost use Rattle.sd_core.specs.SidText.{all_pieces, all_read, are_letters, are_numbers, are_subs, authority_reads, authority_text, begins_with_s1, decimal_reads, has_form, hex_digits, is_decimal, is_hex, is_sid_byte, number, numbers_read, pieces, sid_reads, sid_text, sub_text};
 
 use crate::alias::read_letters;
 use crate::sid::Sid;
@@ -29,7 +29,7 @@ pub enum SidFault {
 const LONGEST: usize = 183;
 
 /// The sub-authorities that a SID has at most.
-const MOST_SUBS: usize = 15;
+pub(crate) const MOST_SUBS: usize = 15;
 
 /// The digits of an authority in hex.
 const HEX_DIGITS: usize = 12;
@@ -40,16 +40,16 @@ impl Sid {
     pub fn put_text<S: Sink>(&self, sink: &mut S) -> Result<(), SinkFault>
         ensures put { Puts (S.told sink.old) (S.told sink.new) (sid_text self.now) result }
         ensures place { S.place sink.new ≡ S.place sink.old }
-        // The text reads back.
+        // The text reads back, and has letters, digits and dashes alone.
         ensures back { (domain : Option SecurityId) → sid_reads (sid_text self.now) domain ≡ Ok self.now }
+        ensures plain { list_all is_sid_byte (sid_text self.now) ≡ true }
+        ensures short { length (sid_text self.now) ≤ 18 + 11 * length self.now.subs }
     {
         let mut text = [0; LONGEST];
         let start = write_sid(self, &mut text);
         sink.put(&text[start..])
     }
-}
 
-impl Sid {
     /// The SID of a text. Two letters are an alias, in either case, some of them under the domain, which
     /// counts as none where it has 15 sub-authorities. Any other text is `S-1-`, the authority in decimal or
     /// as `0x` and twelve hex digits, and at most 15 times a dash and a decimal number: at most 183 bytes,
@@ -67,6 +67,97 @@ impl Sid {
         }
         read_numbers(&text[4..]).ok_or(SidFault::Number)
     }
+}
+
+// Writes the text to the end of the array, and says where it begins; so does each function below.
+fn write_sid(sid: &Sid, text: &mut [u8; LONGEST]) -> usize
+    ensures within { result ≤ 183 }
+    ensures written { drop result text.new ≡ sid_text sid.now }
+    ensures limits { IsSid sid.now }
+{
+    let subs = write_subs(sid.subs(), text);
+    let authority = write_authority(sid.authority(), text, subs);
+    let start = authority - 4;
+    text[start..authority].copy_from_slice(b"S-1-");
+    start
+}
+
+fn write_subs(subs: &[u32], text: &mut [u8; LONGEST]) -> usize
+    requires { length subs.now ≤ 15 }
+    ensures room { 183 ≤ result + 11 * length subs.now }
+    ensures within { result ≤ 183 }
+    ensures written { drop result text.new ≡ flat_map sub_text subs.now }
+{
+    let mut at = LONGEST;
+    let mut left = subs.len();
+    while left > 0 {
+        left -= 1;
+        at = write_decimal(subs[left], text, at) - 1;
+        text[at] = b'-';
+    }
+    at
+}
+
+fn write_authority(authority: u64, text: &mut [u8; LONGEST], end: usize) -> usize
+    requires room { 14 ≤ end }
+    requires within { end ≤ 183 }
+    ensures room { end ≤ result + 14 }
+    ensures before { result ≤ end }
+    ensures written { drop result text.new ≡ authority_text authority ++ drop end text.old }
+{
+    if authority < 1 << 32 {
+        return write_decimal(authority as u32, text, end);
+    }
+    let at = write_hex(authority, text, end);
+    text[at - 1] = b'x';
+    text[at - 2] = b'0';
+    at - 2
+}
+
+fn write_hex(number: u64, text: &mut [u8; LONGEST], end: usize) -> usize
+    requires room { 12 ≤ end }
+    requires within { end ≤ 183 }
+    ensures start { result + 12 ≡ end }
+    ensures written { drop result text.new ≡ hex_digits 12 number ++ drop end text.old }
+{
+    let mut left = number;
+    let mut at = end;
+    for _ in 0..HEX_DIGITS {
+        at -= 1;
+        text[at] = hex_digit((left % 16) as u8);
+        left /= 16;
+    }
+    at
+}
+
+fn hex_digit(value: u8) -> u8
+    requires { value < 16 }
+    ensures { result ≡ digit_glyph false value }
+{
+    if value < 10 {
+        b'0' + value
+    } else {
+        b'a' - 10 + value
+    }
+}
+
+fn write_decimal(number: u32, text: &mut [u8; LONGEST], end: usize) -> usize
+    requires room { 10 ≤ end }
+    requires within { end ≤ 183 }
+    ensures room { end ≤ result + 10 }
+    ensures before { result < end }
+    ensures written { drop result text.new ≡ decimal number ++ drop end text.old }
+{
+    let mut left = number;
+    let mut at = end;
+    while left >= 10 {
+        at -= 1;
+        text[at] = b'0' + (left % 10) as u8;
+        left /= 10;
+    }
+    at -= 1;
+    text[at] = b'0' + left as u8;
+    at
 }
 
 fn are_letters(text: &[u8]) -> bool
@@ -242,97 +333,6 @@ fn read_number(base: u32, limit: u64, text: &[u8]) -> Option<u64>
         }
     }
     Some(number)
-}
-
-// Writes the text to the end of the array, and says where it begins; so does each function below.
-fn write_sid(sid: &Sid, text: &mut [u8; LONGEST]) -> usize
-    ensures within { result ≤ 183 }
-    ensures written { drop result text.new ≡ sid_text sid.now }
-    ensures limits { IsSid sid.now }
-{
-    let subs = write_subs(sid.subs(), text);
-    let authority = write_authority(sid.authority(), text, subs);
-    let start = authority - 4;
-    text[start..authority].copy_from_slice(b"S-1-");
-    start
-}
-
-fn write_subs(subs: &[u32], text: &mut [u8; LONGEST]) -> usize
-    requires { length subs.now ≤ 15 }
-    ensures room { 183 ≤ result + 11 * length subs.now }
-    ensures within { result ≤ 183 }
-    ensures written { drop result text.new ≡ flat_map sub_text subs.now }
-{
-    let mut at = LONGEST;
-    let mut left = subs.len();
-    while left > 0 {
-        left -= 1;
-        at = write_decimal(subs[left], text, at) - 1;
-        text[at] = b'-';
-    }
-    at
-}
-
-fn write_authority(authority: u64, text: &mut [u8; LONGEST], end: usize) -> usize
-    requires room { 14 ≤ end }
-    requires within { end ≤ 183 }
-    ensures room { end ≤ result + 14 }
-    ensures before { result ≤ end }
-    ensures written { drop result text.new ≡ authority_text authority ++ drop end text.old }
-{
-    if authority < 1 << 32 {
-        return write_decimal(authority as u32, text, end);
-    }
-    let at = write_hex(authority, text, end);
-    text[at - 1] = b'x';
-    text[at - 2] = b'0';
-    at - 2
-}
-
-fn write_hex(number: u64, text: &mut [u8; LONGEST], end: usize) -> usize
-    requires room { 12 ≤ end }
-    requires within { end ≤ 183 }
-    ensures start { result + 12 ≡ end }
-    ensures written { drop result text.new ≡ hex_digits 12 number ++ drop end text.old }
-{
-    let mut left = number;
-    let mut at = end;
-    for _ in 0..HEX_DIGITS {
-        at -= 1;
-        text[at] = hex_digit((left % 16) as u8);
-        left /= 16;
-    }
-    at
-}
-
-fn hex_digit(value: u8) -> u8
-    requires { value < 16 }
-    ensures { result ≡ digit_glyph false value }
-{
-    if value < 10 {
-        b'0' + value
-    } else {
-        b'a' - 10 + value
-    }
-}
-
-fn write_decimal(number: u32, text: &mut [u8; LONGEST], end: usize) -> usize
-    requires room { 10 ≤ end }
-    requires within { end ≤ 183 }
-    ensures room { end ≤ result + 10 }
-    ensures before { result < end }
-    ensures written { drop result text.new ≡ decimal number ++ drop end text.old }
-{
-    let mut left = number;
-    let mut at = end;
-    while left >= 10 {
-        at -= 1;
-        text[at] = b'0' + (left % 10) as u8;
-        left /= 10;
-    }
-    at -= 1;
-    text[at] = b'0' + left as u8;
-    at
 }
 
 #[cfg(test)]

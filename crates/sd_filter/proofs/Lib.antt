@@ -4,6 +4,7 @@ pub mod EndsLemmas
 pub mod FaultLemmas
 pub mod HexTextLemmas
 pub mod HoldsLemmas
+pub mod LimitLemmas
 pub mod MeaningLemmas
 pub mod ParseLemmas
 pub mod PartsLemmas

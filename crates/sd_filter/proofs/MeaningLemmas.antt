@@ -14,7 +14,7 @@ use Rattle.sd_filter.specs.declared.fault.LineFault.{LineFault}
 use Rattle.sd_filter.specs.declared.fault.LineFault.TheVariants.{TooLong, Text}
 use Rattle.sd_binary.specs.Text.{hex_spells}
 use Rattle.sd_filter.specs.declared.job.Form.{Form}
-use Rattle.sd_filter.specs.declared.job.Form.TheVariants.{Hex}
+use Rattle.sd_filter.specs.declared.job.Form.TheVariants.{Hex, Sddl}
 use Rattle.sd_filter.specs.declared.job.Job.{Job}
 
 -- the answer and its LF were put, with whether it is an error; or a part of it was
@@ -23,7 +23,7 @@ PutsAnswer old new text error r = MatchResult r (λ faulty. PutAll old new text 
 
 -- what is put for what a line means is its answer
 pub answered : (job : Job) (entries : List Entry) (line : List ℕ) (old new : SinkTold) (m : Meaning) (r : Result Bool SinkFault) → meaning job line ≡ m
-    → PutsAnswer old new (text_of_meaning job.act entries m) (is_error_of_meaning job.act m) r → PutsAnswer old new (answer job entries line) (is_error job line) r
+    → PutsAnswer old new (text_of_meaning job entries m) (is_error_of_meaning job.act m) r → PutsAnswer old new (answer job entries line) (is_error job line) r
 unfolding answer is_error
 answered job entries line old new m r e h = rw e h
 
@@ -60,6 +60,7 @@ meaning-text job text line over m is some within h e =
 -- hex is the one form
 pub text_means-hex : (form : Form) (text : List ℕ) → text_means form text ≡ bytes_mean (hex_spells text)
 text_means-hex Hex text = refl
+text_means-hex Sddl text = refl
 
 abbrev Spelled : List ℕ → Result (Unit {0}) TextFault → Result (List ℕ) TextFault → Type 0
 Spelled held r s = MatchResult s (λ bytes. (r ≡ Ok tt) × (held ≡ bytes)) (λ fault. (r ≡ Err fault) × (held ≡ []))

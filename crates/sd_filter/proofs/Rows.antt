@@ -1,5 +1,5 @@
 -- Worked rows of lines, answers and command lines, computed.
-use Rattle.std.proofs.Common.{◌≡◌, List, [], ◌∷◌, ◌++◌, Ok, Err, true, codes, refl}
+use Rattle.std.proofs.Common.{◌≡◌, List, [], ◌∷◌, ◌++◌, None, Ok, Err, true, false, codes, refl}
 use Rattle.clap.specs.Words.{Text, fault_of, takes}
 use Rattle.clap.proofs.OnLiterals.{clap_on_literals}
 use Rattle.hex.proofs.OnLiterals.{hex_on_literals}
@@ -20,7 +20,7 @@ use Rattle.sd_filter.specs.Answers.{answer, form_text, line_means}
 use Rattle.sd_filter.specs.CommandLine.{bare_line, convert_line, line}
 use Rattle.sd_filter.specs.Faults.{fault_text}
 use Rattle.sd_filter.specs.Lines.{ended, lines, parts, without_cr}
-use Rattle.sd_filter.specs.Settings.{convert_settings, given_form, settings_of}
+use Rattle.sd_filter.specs.Settings.{convert_settings, given_domain, given_source, given_target, is_set, settings_of}
 
 -- "a" CR LF, LF, "b" CR CR LF, "c" CR: the CR at the very end stays
 pub four_lines : lines (97 ∷ 13 ∷ 10 ∷ 10 ∷ 98 ∷ 13 ∷ 13 ∷ 10 ∷ 99 ∷ 13 ∷ []) ≡ (97 ∷ []) ∷ [] ∷ (98 ∷ 13 ∷ []) ∷ (99 ∷ 13 ∷ []) ∷ []
@@ -36,7 +36,7 @@ unfolding fault_text
 overlap_text = refl
 
 abbrev hex_to_hex : Job
-hex_to_hex = record { source = Hex; act = Convert Hex }
+hex_to_hex = record { source = Hex; act = Convert Hex; domain = None; numeric = false }
 
 pub empty_answer : answer hex_to_hex [] [] ≡ 10 ∷ []
 unfolding answer
@@ -69,9 +69,9 @@ unfolding line bare_line convert_line clap_on_literals
 no_fault = refl
 
 pub settled : settings_of to_hex ≡ Ok hex_to_hex
-unfolding settings_of convert_settings given_form line bare_line convert_line clap_on_literals
+unfolding settings_of convert_settings given_domain given_source given_target is_set line bare_line convert_line clap_on_literals
 settled = refl
 
 pub not_settled : settings_of to_xml ≡ Err (Value name.To)
-unfolding settings_of convert_settings given_form line bare_line convert_line clap_on_literals
+unfolding settings_of convert_settings given_domain given_source given_target is_set line bare_line convert_line clap_on_literals
 not_settled = refl

@@ -3,24 +3,34 @@ use Rattle.std.proofs.Common.{◌≤◌, ◌+◌, ◌*◌, List, [], ◌∷◌, 
 use Rattle.hex.specs.Hex.{encode_lower, lower_digits}
 use Rattle.hex.proofs.HexLemmas.{length-encode_with}
 use Rattle.sd_core.specs.Token.{Entry}
-use Rattle.sd_binary.specs.Layout.{layout}
+use Rattle.sd_binary.specs.Descriptor.{Descriptor, IsDescriptor}
+use Rattle.sd_binary.specs.Layout.{layout, size}
 use Rattle.sd_binary.proofs.LayoutLaws.{length-layout}
-use Rattle.sd_filter.specs.Answers.{AnswersAreShort, Meaning, answer, form_text, meaning, printed_of_meaning, printed_size, text_of_meaning}
+use Rattle.sd_sddl.proofs.SizeLaws.{sddl-length}
+use Rattle.sd_filter.specs.Answers.{AnswersAreShort, Meaning, act_prints, act_text, answer, form_text, meaning, naming_of, printed_of_meaning, printed_size, text_of_meaning}
 use Rattle.sd_filter.specs.Faults.{fault_text}
 use Rattle.sd_filter.proofs.FaultLemmas.{fault_text-short}
+use Rattle.sd_filter.proofs.LimitLemmas.{MeansLimits, meaning-limits}
 use Rattle.sd_filter.specs.declared.job.Act.{Act}
 use Rattle.sd_filter.specs.declared.job.Act.TheVariants.{Convert}
-use Rattle.sd_filter.specs.declared.job.Form.TheVariants.{Hex}
+use Rattle.sd_filter.specs.declared.job.Form.{Form}
+use Rattle.sd_filter.specs.declared.job.Form.TheVariants.{Hex, Sddl}
 use Rattle.sd_filter.specs.declared.job.Job.{Job}
 
--- two characters a byte, and the LF
-text-short : (act : Act) (entries : List Entry) (m : Meaning) → length (text_of_meaning act entries m) ≤ 8 * printed_size (printed_of_meaning act m) + 64
+-- two characters a byte, or those of the SDDL; and the LF
+form-short : (job : Job) (form : Form) (d : Descriptor) → IsDescriptor d → length (form_text job form d) ≤ 8 * size d + 63
 unfolding form_text
-text-short act entries None = omega arith
-text-short act entries (Some (Err fault)) = let short = fault_text-short fault in omega (arith, length-append (fault_text fault) (10 ∷ []))
-text-short (Convert Hex) entries (Some (Ok d)) =
-    omega (arith, length-append (encode_lower (layout d)) (10 ∷ []), length-encode_with lower_digits (layout d), length-layout d)
+form-short job Hex d h = omega (arith, length-encode_with lower_digits (layout d), length-layout d)
+form-short job Sddl d h = sddl-length (naming_of job) d h
+
+act-short : (job : Job) (act : Act) (entries : List Entry) (d : Descriptor) → IsDescriptor d → length (act_text job act entries d) ≤ 8 * printed_size (act_prints act d) + 64
+act-short job (Convert form) entries d h = omega (arith, length-append (form_text job form d) (10 ∷ []), form-short job form d h)
+
+text-short : (job : Job) (entries : List Entry) (m : Meaning) → MeansLimits m → length (text_of_meaning job entries m) ≤ 8 * printed_size (printed_of_meaning job.act m) + 64
+text-short job entries None h = omega arith
+text-short job entries (Some (Err fault)) h = let short = fault_text-short fault in omega (arith, length-append (fault_text fault) (10 ∷ []))
+text-short job entries (Some (Ok d)) h = act-short job job.act entries d h
 
 pub answers-short : (job : Job) (entries : List Entry) → AnswersAreShort job entries
 unfolding answer
-answers-short job entries line = text-short job.act entries (meaning job line)
+answers-short job entries line = text-short job entries (meaning job line) (meaning-limits job line)

@@ -14,15 +14,19 @@ use Rattle.sd_filter.specs.declared.fault.LineFault.TheVariants.{TooLong, Text, 
 use Rattle.sd_filter.specs.declared.job.Act.{Act}
 use Rattle.sd_filter.specs.declared.job.Act.TheVariants.{Convert}
 use Rattle.sd_filter.specs.declared.job.Form.{Form}
-use Rattle.sd_filter.specs.declared.job.Form.TheVariants.{Hex}
+use Rattle.sd_filter.specs.declared.job.Form.TheVariants.{Hex, Sddl}
 use Rattle.sd_filter.specs.declared.job.Job.{Job}
+use Rattle.sd_sddl.specs.declared.naming.Naming.{Naming}
+use Rattle.sd_sddl.specs.Printed.{sddl}
 use Rattle.sd_filter.specs.Faults.{fault_text}
 
 -- ---- what a line means
 
--- the bytes that a line has at most, without its LF and a dropped CR
+-- The bytes that a line has at most, without its LF and a dropped CR. No engine reads SDDL yet: those
+-- clauses stand for what no job asks for.
 abbrev pub line_limit : Form → ℕ
 line_limit Hex = 262452
+line_limit Sddl = 262452
 
 abbrev pub or_byte_fault : Result Descriptor SdFault → Result Descriptor LineFault
 or_byte_fault (Err fault) = Err (Sd fault)
@@ -36,6 +40,7 @@ bytes_mean (Ok bytes) = or_byte_fault (reading bytes)
 -- its bytes show
 abbrev pub text_means : Form → List ℕ → Result Descriptor LineFault
 text_means Hex text = bytes_mean (hex_spells text)
+text_means Sddl text = bytes_mean (hex_spells text)
 
 -- a line over its limit is too long, whatever else is wrong with it
 unfoldable pub line_means : Form → List ℕ → Result Descriptor LineFault
@@ -51,21 +56,26 @@ meaning job (b ∷ line) = Some (line_means job.source (b ∷ line))
 
 -- ---- what is answered to it
 
-unfoldable pub form_text : Form → Descriptor → List ℕ
-form_text Hex d = encode_lower (layout d)
+-- how the SIDs of a job's answers are printed
+abbrev pub naming_of : Job → Naming
+naming_of job = record { domain = job.domain; numeric = job.numeric }
+
+unfoldable pub form_text : Job → Form → Descriptor → List ℕ
+form_text job Hex d = encode_lower (layout d)
+form_text job Sddl d = sddl (naming_of job) d
 
 -- what is answered to a descriptor, with its LF
-abbrev pub act_text : Act → List Entry → Descriptor → List ℕ
-act_text (Convert form) entries d = form_text form d ++ 10 ∷ []
+abbrev pub act_text : Job → Act → List Entry → Descriptor → List ℕ
+act_text job (Convert form) entries d = form_text job form d ++ 10 ∷ []
 
-abbrev pub text_of_meaning : Act → List Entry → Meaning → List ℕ
-text_of_meaning act entries None = 10 ∷ []
-text_of_meaning act entries (Some (Err fault)) = fault_text fault ++ 10 ∷ []
-text_of_meaning act entries (Some (Ok d)) = act_text act entries d
+abbrev pub text_of_meaning : Job → List Entry → Meaning → List ℕ
+text_of_meaning job entries None = 10 ∷ []
+text_of_meaning job entries (Some (Err fault)) = fault_text fault ++ 10 ∷ []
+text_of_meaning job entries (Some (Ok d)) = act_text job job.act entries d
 
 -- the answer, with its LF
 unfoldable pub answer : Job → List Entry → List ℕ → List ℕ
-answer job entries line = text_of_meaning job.act entries (meaning job line)
+answer job entries line = text_of_meaning job entries (meaning job line)
 
 -- the answers to these lines, one after the other
 unfoldable pub answers : Job → List Entry → List (List ℕ) → List ℕ

@@ -13,6 +13,7 @@ use crate::hex_text::{GATHERED, put_hex};
 use crate::job::{Act, Form, Job};
 use sd_binary::{SdBuf, SdView, read, write_layout};
 use sd_core::{Sink, SinkFault, Token};
+use sd_sddl::put_sddl;
 
 /// Puts the answer to a line and its LF, and says whether it is an `error` line. Of a line over its
 /// limit nothing but that is known.
@@ -43,13 +44,7 @@ pub fn put_answer<S: Sink>(
         Err(fault) => return put_error(&fault, sink),
     }
     match read(stores.read.bytes()) {
-        Ok(view) => put_act(
-            job.act,
-            &view,
-            &mut stores.written,
-            &mut stores.digits,
-            sink,
-        ),
+        Ok(view) => put_act(job, &view, &mut stores.written, &mut stores.digits, sink),
         Err(fault) => put_error(&LineFault::Sd(fault), sink),
     }
 }
@@ -60,7 +55,7 @@ fn spell(form: Form, text: &[u8], buf: &mut SdBuf) -> Result<(), LineFault>
     ensures { text_means form text.now ≡ left_of_text result (reading buf.new) }
 {
     match form {
-        Form::Hex => match buf.from_hex(text) {
+        Form::Hex | Form::Sddl => match buf.from_hex(text) {
             Ok(()) => Ok(()),
             Err(fault) => Err(LineFault::Text(fault)),
         },
@@ -80,19 +75,19 @@ fn put_error<S: Sink>(fault: &LineFault, sink: &mut S) -> Result<bool, SinkFault
 
 // Puts what is answered to a descriptor.
 fn put_act<S: Sink>(
-    act: Act,
+    job: &Job,
     view: &SdView<'_>,
     written: &mut SdBuf,
     digits: &mut [u8; GATHERED],
     sink: &mut S,
 ) -> Result<bool, SinkFault>
     ensures put { (entries : List Entry) → MatchResult result
-        (λ faulty. PutAll (S.told sink.old) (S.told sink.new) (act_text act entries view.now) × (faulty ≡ is_some (act_fault act view.now)))
-        (λ _. PutSome (S.told sink.old) (S.told sink.new) (act_text act entries view.now)) }
+        (λ faulty. PutAll (S.told sink.old) (S.told sink.new) (act_text job.now job.now.act entries view.now) × (faulty ≡ is_some (act_fault job.now.act view.now)))
+        (λ _. PutSome (S.told sink.old) (S.told sink.new) (act_text job.now job.now.act entries view.now)) }
     ensures place { S.place sink.new ≡ S.place sink.old }
 {
-    match act {
-        Act::Convert(form) => put_form(form, view, written, digits, sink)?,
+    match job.act {
+        Act::Convert(form) => put_form(job, form, view, written, digits, sink)?,
     }
     put_end(false, sink)
 }
@@ -100,13 +95,14 @@ fn put_act<S: Sink>(
 // Puts a descriptor in a form.
 #[tactic(auto, unfolding(crate::specs::Answers::form_text))]
 fn put_form<S: Sink>(
+    job: &Job,
     form: Form,
     view: &SdView<'_>,
     written: &mut SdBuf,
     digits: &mut [u8; GATHERED],
     sink: &mut S,
 ) -> Result<(), SinkFault>
-    ensures put { Puts (S.told sink.old) (S.told sink.new) (form_text form view.now) result }
+    ensures put { Puts (S.told sink.old) (S.told sink.new) (form_text job.now form view.now) result }
     ensures place { S.place sink.new ≡ S.place sink.old }
 {
     match form {
@@ -114,6 +110,7 @@ fn put_form<S: Sink>(
             write_layout(view, written);
             put_hex(written.bytes(), digits, sink)
         }
+        Form::Sddl => put_sddl(view, job.domain.as_ref(), job.numeric, sink),
     }
 }
 

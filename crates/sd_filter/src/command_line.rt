@@ -2,7 +2,7 @@
 ghost use Rattle.std.specs.Prelude.{◌≡◌, IfOk, false};
 ghost use Rattle.clap.specs.Words.{app_of, rule_of, with_rule};
 ghost use Rattle.clap.specs.declared.Command.TheViews.{out-Command};
-ghost use Rattle.sd_filter.specs.CommandLine.{bare_line, convert_line, line, option_rule};
+ghost use Rattle.sd_filter.specs.CommandLine.{bare_line, convert_line, flag_rule, line, option_rule};
 
 use clap::{Arg, ArgAction, Command};
 use std::alloc::{AllocError, Global};
@@ -32,9 +32,25 @@ fn convert_command<'a>(alloc: Global) -> Result<Command<'a>, AllocError>
         command,
         option(alloc, "from", "The form of the lines: hex, the default"),
     )?;
+    let command = with_arg(
+        command,
+        option(
+            alloc,
+            "to",
+            "The form of the answers: sddl, the default, or hex",
+        ),
+    )?;
+    let command = with_arg(
+        command,
+        option(
+            alloc,
+            "domain",
+            "The SID of the domain whose aliases are printed",
+        ),
+    )?;
     with_arg(
         command,
-        option(alloc, "to", "The form of the answers: hex, the default"),
+        flag(alloc, "numeric", "Print SIDs without aliases"),
     )
 }
 
@@ -53,5 +69,15 @@ fn option<'a>(alloc: Global, name: &'a str, help: &'a str) -> Arg<'a>
     Arg::new(alloc, name)
         .long(name)
         .action(ArgAction::Set)
+        .help(help)
+}
+
+fn flag<'a>(alloc: Global, name: &'a str, help: &'a str) -> Arg<'a>
+    ensures rule { rule_of result ≡ flag_rule name.entry.now }
+    ensures local { result.global ≡ false }
+{
+    Arg::new(alloc, name)
+        .long(name)
+        .action(ArgAction::SetTrue)
         .help(help)
 }

@@ -1,6 +1,7 @@
 // The engine, which has every buffer of a run.
 ghost use Rattle.std.specs.Prelude.{◌≡◌, IfOk};
 ghost use Rattle.sd_filter.specs.Answers.{line_limit};
+ghost use Rattle.sd_filter.specs.declared.job.Form.TheVariants.{Hex};
 
 use crate::hex_text::GATHERED;
 use crate::job::{Form, Job};
@@ -47,8 +48,9 @@ impl Model for Engine {
 }
 
 impl Engine {
-    /// All that a run needs is reserved here.
+    /// All that a run needs is reserved here. The lines are not read as SDDL yet.
     pub fn new(alloc: Global, job: Job) -> Result<Engine, NoMemory>
+        requires { job.source ≡ Hex }
         ensures { IfOk result (λ engine. engine ≡ job) }
     {
         let desk = Desk {
@@ -86,6 +88,6 @@ fn line_limit(form: Form) -> usize
     ensures { result ≡ line_limit form }
 {
     match form {
-        Form::Hex => 262_452,
+        Form::Hex | Form::Sddl => 262_452,
     }
 }

@@ -1,10 +1,14 @@
 // What is to be done with each line.
 
+use sd_core::Sid;
+
 /// How a line spells a descriptor.
 #[derive(Clone, Copy, Debug, PartialEq, Eq)]
 pub enum Form {
     /// Hex digits, two a byte.
     Hex,
+    /// SDDL (MS-DTYP 2.5.1), which is printed and not read yet.
+    Sddl,
 }
 
 /// What is done with the descriptor of a line.
@@ -19,4 +23,8 @@ pub enum Act {
 pub struct Job {
     pub source: Form,
     pub act: Act,
+    /// The domain whose aliases are printed, if there is one.
+    pub domain: Option<Sid>,
+    /// Whether SIDs are printed without aliases.
+    pub numeric: bool,
 }

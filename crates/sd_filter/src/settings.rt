@@ -1,28 +1,20 @@
 // What the matches of a command line settle.
-ghost use Rattle.std.specs.Prelude.{◌≡◌, option_map};
+ghost use Rattle.std.specs.Prelude.{◌≡◌, IfOk, option_map};
 ghost use Rattle.clap.specs.Words.{first_of, found_of, rows_of, subcommand_rows_of};
 ghost use Rattle.sd_filter.specs.Endings.{usage_line};
 ghost use Rattle.sd_filter.specs.Settings as specs;
+ghost use Rattle.sd_filter.specs.declared.job.Form.TheVariants.{Hex};
 
 use crate::job::{Act, Form, Job};
 use clap::ArgMatches;
+use sd_core::Sid;
 
 /// The options whose values are read.
 #[derive(Clone, Copy, Debug, PartialEq, Eq)]
 pub enum OptionName {
+    Domain,
     From,
     To,
-}
-
-impl OptionName {
-    fn as_str(self) -> &'static str
-        ensures { result.now ≡ specs.option_text self }
-    {
-        match self {
-            OptionName::From => "from",
-            OptionName::To => "to",
-        }
-    }
 }
 
 /// Words that the command line takes and that settle no job.
@@ -41,15 +33,17 @@ impl UsageFault {
     {
         match self {
             UsageFault::NoCommand => "sdtool: usage\n",
+            UsageFault::Value(OptionName::Domain) => "sdtool: usage: --domain\n",
             UsageFault::Value(OptionName::From) => "sdtool: usage: --from\n",
             UsageFault::Value(OptionName::To) => "sdtool: usage: --to\n",
         }
     }
 }
 
-/// The first option that does not read, or the job.
+/// The first option that does not read, or the job, whose lines are hex.
 pub fn settings(matches: &ArgMatches<'_>) -> Result<Job, UsageFault>
-    ensures { result ≡ specs.settings (subcommand_rows_of matches.now) }
+    ensures value { result ≡ specs.settings (subcommand_rows_of matches.now) }
+    ensures source { IfOk result (λ job. job.source ≡ Hex) }
 {
     match matches.subcommand() {
         Some((_, convert)) => convert_settings(convert),
@@ -57,33 +51,103 @@ pub fn settings(matches: &ArgMatches<'_>) -> Result<Job, UsageFault>
     }
 }
 
-#[tactic(auto, unfolding(crate::specs::Settings::convert_settings))]
 fn convert_settings(matches: &ArgMatches<'_>) -> Result<Job, UsageFault>
-    ensures { result ≡ specs.convert_settings (rows_of (found_of matches.now)) }
+    ensures value { result ≡ specs.convert_settings (rows_of (found_of matches.now)) }
+    ensures source { IfOk result (λ job. job.source ≡ Hex) }
 {
-    let source = given_form(matches, OptionName::From)?;
-    let target = given_form(matches, OptionName::To)?;
+    let domain = given_domain(matches)?;
+    let source = given_source(matches)?;
+    let target = given_target(matches)?;
+    let numeric = is_set(matches, "numeric");
     Ok(Job {
         source,
         act: Act::Convert(target),
+        domain,
+        numeric,
     })
 }
 
-// Hex where the option is left out.
-#[tactic(auto, unfolding(crate::specs::Settings::given_form))]
-fn given_form(matches: &ArgMatches<'_>, option: OptionName) -> Result<Form, UsageFault>
-    ensures { result ≡ specs.given_form option (rows_of (found_of matches.now)) }
+// None where the option is left out.
+#[tactic(auto, unfolding(crate::specs::Settings::given_domain))]
+fn given_domain(matches: &ArgMatches<'_>) -> Result<Option<Sid>, UsageFault>
+    ensures { result ≡ specs.given_domain (rows_of (found_of matches.now)) }
 {
-    match text_of(matches, option.as_str()) {
-        Some(text) => form_from_text(text).ok_or(UsageFault::Value(option)),
+    let Some(text) = text_of(matches, "domain") else {
+        return Ok(None);
+    };
+    match domain_from_text(text) {
+        Some(domain) => Ok(Some(domain)),
+        None => Err(UsageFault::Value(OptionName::Domain)),
+    }
+}
+
+// A SID with room for one more sub-authority, read without a domain.
+#[tactic(auto, unfolding(crate::specs::Settings::domain_reads))]
+fn domain_from_text(text: &str) -> Option<Sid>
+    ensures { result ≡ specs.domain_reads text.now }
+{
+    match Sid::from_text(text.as_bytes(), None) {
+        Ok(domain) => {
+            if domain.subs().len() < 15 {
+                Some(domain)
+            } else {
+                None
+            }
+        }
+        Err(_) => None,
+    }
+}
+
+// Hex where the option is left out.
+#[tactic(auto, unfolding(crate::specs::Settings::given_source))]
+fn given_source(matches: &ArgMatches<'_>) -> Result<Form, UsageFault>
+    ensures value { result ≡ specs.given_source (rows_of (found_of matches.now)) }
+    ensures source { IfOk result (λ form. form ≡ Hex) }
+{
+    match text_of(matches, "from") {
+        Some(text) => {
+            if text == "hex" {
+                Ok(Form::Hex)
+            } else {
+                Err(UsageFault::Value(OptionName::From))
+            }
+        }
         None => Ok(Form::Hex),
+    }
+}
+
+// SDDL where the option is left out.
+#[tactic(auto, unfolding(crate::specs::Settings::given_target))]
+fn given_target(matches: &ArgMatches<'_>) -> Result<Form, UsageFault>
+    ensures { result ≡ specs.given_target (rows_of (found_of matches.now)) }
+{
+    match text_of(matches, "to") {
+        Some(text) => form_from_text(text).ok_or(UsageFault::Value(OptionName::To)),
+        None => Ok(Form::Sddl),
     }
 }
 
 fn form_from_text(text: &str) -> Option<Form>
     ensures { result ≡ specs.form_reads text.now }
 {
-    if text == "hex" { Some(Form::Hex) } else { None }
+    if text == "hex" {
+        return Some(Form::Hex);
+    }
+    if text == "sddl" {
+        return Some(Form::Sddl);
+    }
+    None
+}
+
+// A flag's text is `true` where it is given, and else `false`.
+#[tactic(auto, unfolding(crate::specs::Settings::is_set))]
+fn is_set(matches: &ArgMatches<'_>, id: &str) -> bool
+    ensures { result ≡ specs.is_set id.now (rows_of (found_of matches.now)) }
+{
+    match text_of(matches, id) {
+        Some(text) => text == "true",
+        None => false,
+    }
 }
 
 // The text of an option.

@@ -42,13 +42,31 @@ fn expect_pieces(
     status: u8,
     answers: &str,
 ) {
+    expect_job(
+        rt,
+        "sdtool convert --from hex --to hex",
+        input,
+        most,
+        status,
+        answers,
+    );
+}
+
+// The same of a command line.
+fn expect_job(
+    rt: &(impl Abort + AllocGlobal),
+    line: &str,
+    input: &[u8],
+    most: usize,
+    status: u8,
+    answers: &str,
+) {
     let mut source = Input {
         most,
         ..Input::new(input)
     };
     let mut output = Output::new(rt.alloc());
     let mut faults = Output::new(rt.alloc());
-    let line = "sdtool convert --from hex --to hex";
     let got = status_of(rt, line, &mut source, &mut output, &mut faults);
     assert_eq!(rt; output.taken.as_slice(), answers.as_bytes());
     assert_eq!(rt; got, status, "where the answers are {answers:?}");

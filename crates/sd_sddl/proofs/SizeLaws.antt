@@ -14,7 +14,7 @@ use Rattle.sd_core.specs.declared.ace.AceKind.TheVariants as kinds
 use Rattle.sd_core.proofs.FlagLaws.{flags_text-length}
 use Rattle.sd_core.proofs.GuidTexts.{guid_text-length}
 use Rattle.sd_core.proofs.RightsLaws.{rights_text-length}
-use Rattle.sd_core.proofs.TextLaws.{sid_text-length}
+use Rattle.sd_core.proofs.TextLaws.{length-sid_text}
 use Rattle.sd_binary.specs.Acl.{IsAcl, aces_size}
 use Rattle.sd_binary.specs.Descriptor.{Descriptor, IsAclPart, IsDescriptor, dacl_present, sacl_present}
 use Rattle.sd_binary.specs.Layout.{acl_part_size, sid_part_size, size}
@@ -55,7 +55,7 @@ chosen-length false a b n h k = k
 trustee-length : (naming : Naming) (s : SecurityId) → IsSid s → length (trustee_text naming s) ≤ 18 + 11 * length s.subs
 unfolding trustee_text
 trustee-length naming s h =
-    let text = sid_text-length s h in
+    let text = length-sid_text s h in
     chosen-length naming.numeric _ _ (18 + 11 * length s.subs) text (name_or-length (alias_of s naming.domain) (sid_text s) (18 + 11 * length s.subs) (alias-name s naming.domain) (omega arith) text)
 
 -- an ACE takes at most eight characters a byte

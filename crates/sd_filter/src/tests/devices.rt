@@ -15,6 +15,8 @@ const ANSWERS: &str = "\nerror 2 hex-digit\n010000800000000000000000000000000000
 const JOB: Job = Job {
     source: Form::Hex,
     act: Act::Convert(Form::Hex),
+    domain: None,
+    numeric: false,
 };
 
 // Each call is one call of the stream, and fails only where that fails.
@@ -69,7 +71,13 @@ fn expect_output(
 ) {
     let mut source = Input::new(TEXT.as_bytes());
     let mut faults = Output::new(rt.alloc());
-    let got = status_of(rt, "sdtool convert", &mut source, &mut output, &mut faults);
+    let got = status_of(
+        rt,
+        "sdtool convert --to hex",
+        &mut source,
+        &mut output,
+        &mut faults,
+    );
     assert_eq!(rt; output.taken.as_slice(), answers);
     assert_eq!(rt; faults.taken.as_slice(), text.as_bytes());
     assert_eq!(rt; got, status);
@@ -135,7 +143,13 @@ fn answers_no_line_that_was_cut(rt: HostRuntime) {
             };
             let mut output = Output::new(rt.alloc());
             let mut faults = Output::new(rt.alloc());
-            let got = status_of(&rt, "sdtool convert", &mut source, &mut output, &mut faults);
+            let got = status_of(
+                &rt,
+                "sdtool convert --to hex",
+                &mut source,
+                &mut output,
+                &mut faults,
+            );
             assert_eq!(rt; output.taken.as_slice(), answers.as_bytes(), "{text:?}");
             assert_eq!(rt;
                 faults.taken.as_slice(),

@@ -1,5 +1,5 @@
 // Lines and their answers.
-use super::{BARE, expect_answers, expect_pieces};
+use super::{BARE, expect_answers, expect_job, expect_pieces};
 use std::process::Abort;
 
 // A line and its answer, each without its LF.
@@ -250,5 +250,57 @@ fn prints_the_largest_descriptor(rt: HostRuntime) {
         expect_pieces(&rt, line.as_slice(), most, 0, answer.as_str());
         let line = largest(&rt, "00\n");
         expect_pieces(&rt, line.as_slice(), most, 1, "error 1 too-long\n");
+    }
+}
+
+#[test]
+fn prints_sddl(rt: HostRuntime) {
+    for (line, input, answers) in [
+        ("sdtool convert", EVERYONE, "O:BAG:SYD:(A;;FA;;;WD)\n"),
+        ("sdtool convert --to sddl", BARE, "\n"),
+        (
+            "sdtool convert --numeric",
+            EVERYONE,
+            "O:S-1-5-32-544G:S-1-5-18D:(A;;FA;;;S-1-1-0)\n",
+        ),
+        (
+            "sdtool convert",
+            "0100049500000000000000000000000000000000",
+            "D:PARAINO_ACCESS_CONTROL\n",
+        ),
+        (
+            "sdtool convert",
+            OBJECT,
+            "D:(OA;CI;RP;bf967aba-0de6-11d0-a285-00aa003049e2;;AU)\n",
+        ),
+        (
+            "sdtool convert",
+            "01000080140000000000000000000000000000000100000100000000",
+            "O:S-1-0x000100000000\n",
+        ),
+        (
+            "sdtool convert",
+            "010000801400000000000000000000000000000001000000ffffffff",
+            "O:S-1-4294967295\n",
+        ),
+        (
+            "sdtool convert",
+            "010000801400000000000000000000000000000001050000000000051500000001000000020000000300000000020000",
+            "O:S-1-5-21-1-2-3-512\n",
+        ),
+        (
+            "sdtool convert --domain S-1-5-21-1-2-3",
+            "010000801400000000000000000000000000000001050000000000051500000001000000020000000300000000020000",
+            "O:DA\n",
+        ),
+        (
+            "sdtool convert --domain S-1-5-21-1-2-3 --numeric",
+            "010000801400000000000000000000000000000001050000000000051500000001000000020000000300000000020000",
+            "O:S-1-5-21-1-2-3-512\n",
+        ),
+    ] {
+        for most in [usize::MAX, 1] {
+            expect_job(&rt, line, input.as_bytes(), most, 0, answers);
+        }
     }
 }

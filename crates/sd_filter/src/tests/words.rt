@@ -32,10 +32,10 @@ fn expect_idle(rt: &(impl Abort + AllocGlobal), line: &str, status: u8, answers:
 #[test]
 fn takes_words(rt: HostRuntime) {
     for line in [
-        "sdtool convert",
         "sdtool convert --to hex",
-        "sdtool convert --from hex",
+        "sdtool convert --from hex --to hex",
         "sdtool convert --to=hex --from=hex",
+        "sdtool convert --numeric --to hex --domain BA",
     ] {
         let mut source = Input::new(BARE.as_bytes());
         let mut output = Output::new(rt.alloc());
@@ -59,7 +59,8 @@ fn refuses_words(rt: HostRuntime) {
         ("sdtool explain", "sdtool: usage\n"),
         ("sdtool convert more", "sdtool: usage\n"),
         ("sdtool convert --to", "sdtool: usage\n"),
-        ("sdtool convert --domain S-1-5", "sdtool: usage\n"),
+        ("sdtool convert --numeric yes", "sdtool: usage\n"),
+        ("sdtool convert --numeric --numeric", "sdtool: usage\n"),
         ("sdtool convert --to hex --to hex", "sdtool: usage\n"),
         ("sdtool --version", "sdtool: usage\n"),
         ("sdtool convert --to xml", "sdtool: usage: --to\n"),
@@ -68,6 +69,12 @@ fn refuses_words(rt: HostRuntime) {
         ("sdtool convert --to=", "sdtool: usage: --to\n"),
         ("sdtool convert --from sddl", "sdtool: usage: --from\n"),
         ("sdtool convert --to x --from y", "sdtool: usage: --from\n"),
+        ("sdtool convert --domain DA", "sdtool: usage: --domain\n"),
+        ("sdtool convert --domain ", "sdtool: usage: --domain\n"),
+        (
+            "sdtool convert --from x --domain S-1-5-1-2-3-4-5-6-7-8-9-10-11-12-13-14-15",
+            "sdtool: usage: --domain\n",
+        ),
     ] {
         expect_idle(&rt, line, 2, "", text);
     }
@@ -91,9 +98,11 @@ const CONVERT_HELP: &str = "Print each descriptor in a canonical form
 Usage: sdtool convert [OPTIONS]
 
 Options:
-      --from <from>  The form of the lines: hex, the default
-      --to <to>      The form of the answers: hex, the default
-  -h, --help         Print help
+      --from <from>      The form of the lines: hex, the default
+      --to <to>          The form of the answers: sddl, the default, or hex
+      --domain <domain>  The SID of the domain whose aliases are printed
+      --numeric          Print SIDs without aliases
+  -h, --help             Print help
 ";
 
 #[test]

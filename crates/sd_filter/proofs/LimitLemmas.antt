@@ -1,0 +1,76 @@
+-- What a line means has the limits of a descriptor.
+use Rattle.std.proofs.Common.{◌≡◌, ℕ, Bool, true, false, cond, eqb, List, [], ◌∷◌, length, ◌%◌, Option, Some, None, Result, Ok, Err, refl, ap, subst, sym, ◌∙◌}
+use Rattle.std.specs.Prelude.{nat_lt}
+use Rattle.hex.specs.Hex.{decode_of, decode_pairs}
+use Rattle.hex.specs.declared.error.FromHexError.{FromHexError}
+use Rattle.hex.specs.declared.error.FromHexError.TheVariants.{OddLength}
+use Rattle.hex.proofs.HexLemmas.{decode_pairs-ok}
+use Rattle.sd_core.proofs.Numbers.{AreBytes}
+use Rattle.sd_binary.specs.Descriptor.{Descriptor, IsDescriptor}
+use Rattle.sd_binary.specs.Reading.{fault, reading, shown, unless}
+use Rattle.sd_binary.specs.Text.{hex_spells, or_digit_fault}
+use Rattle.sd_binary.specs.declared.buffer.TextFault.{TextFault}
+use Rattle.sd_binary.specs.declared.fault.SdFault.{SdFault}
+use Rattle.sd_binary.proofs.ReadLaws.{fault-shows}
+use Rattle.sd_filter.specs.Answers.{Meaning, bytes_mean, line_limit, line_means, meaning, or_byte_fault, text_means}
+use Rattle.sd_filter.specs.declared.fault.LineFault.{LineFault}
+use Rattle.sd_filter.specs.declared.fault.LineFault.TheVariants.{TooLong}
+use Rattle.sd_filter.specs.declared.job.Form.{Form}
+use Rattle.sd_filter.specs.declared.job.Form.TheVariants.{Hex, Sddl}
+use Rattle.sd_filter.specs.declared.job.Job.{Job}
+
+not_chosen : {A F : Type 0} (b : Bool) (f : F) (r : Result A F) (x : A) → cond b (Err f) r ≡ Ok x → r ≡ Ok x
+not_chosen true f r x e = absurd (cc)
+not_chosen false f r x e = e
+
+decoded : (d : Result (List ℕ) FromHexError) (bytes : List ℕ) → or_digit_fault d ≡ Ok bytes → d ≡ Ok bytes
+decoded (Ok xs) bytes e = let same : xs ≡ bytes = cc in ap (λ (b : List ℕ). Ok b) same
+decoded (Err f) bytes e = absurd (cc)
+
+-- what a text spells is bytes
+spelled-bytes : (text bytes : List ℕ) → hex_spells text ≡ Ok bytes → AreBytes bytes
+unfolding hex_spells
+spelled-bytes text bytes e =
+    let pairs = decoded (decode_of text) bytes (not_chosen _ _ _ bytes e) in
+    (decode_pairs-ok 0 text bytes (not_chosen (eqb (length text % 2) 1) OddLength (decode_pairs 0 text) bytes pairs)).2
+
+read_by : (f : Option SdFault) (bytes : List ℕ) (d : Descriptor) → AreBytes bytes → fault bytes ≡ f → unless f (shown bytes) ≡ Ok d → IsDescriptor d
+read_by None bytes d b e h = let same : shown bytes ≡ d = cc in subst IsDescriptor same (fault-shows bytes b e).1.limits
+read_by (Some f) bytes d b e h = absurd (cc)
+
+read-limits : (bytes : List ℕ) (d : Descriptor) → AreBytes bytes → reading bytes ≡ Ok d → IsDescriptor d
+unfolding reading
+read-limits bytes d b e = read_by (fault bytes) bytes d b refl e
+
+-- the limits of what is meant, where something is
+abbrev pub Limits : Result Descriptor LineFault → Type 0
+Limits (Err fault) = Unit {0}
+Limits (Ok d) = IsDescriptor d
+
+read_limits : (r : Result Descriptor SdFault) → ((d : Descriptor) → r ≡ Ok d → IsDescriptor d) → Limits (or_byte_fault r)
+read_limits (Err fault) h = tt
+read_limits (Ok d) h = h d refl
+
+bytes_limits : (r : Result (List ℕ) TextFault) → ((bytes : List ℕ) → r ≡ Ok bytes → AreBytes bytes) → Limits (bytes_mean r)
+bytes_limits (Err fault) h = tt
+bytes_limits (Ok bytes) h = read_limits (reading bytes) (λ d e. read-limits bytes d (h bytes refl) e)
+
+text_limits : (form : Form) (text : List ℕ) → Limits (text_means form text)
+text_limits Hex text = bytes_limits (hex_spells text) (spelled-bytes text)
+text_limits Sddl text = bytes_limits (hex_spells text) (spelled-bytes text)
+
+chosen_limits : (b : Bool) (r : Result Descriptor LineFault) → Limits r → Limits (cond b (Err TooLong) r)
+chosen_limits true r h = tt
+chosen_limits false r h = h
+
+abbrev pub MeansLimits : Meaning → Type 0
+MeansLimits None = Unit {0}
+MeansLimits (Some r) = Limits r
+
+line_limits : (form : Form) (line : List ℕ) → Limits (line_means form line)
+unfolding line_means
+line_limits form line = chosen_limits (nat_lt (line_limit form) (length line)) (text_means form line) (text_limits form line)
+
+pub meaning-limits : (job : Job) (line : List ℕ) → MeansLimits (meaning job line)
+meaning-limits job [] = tt
+meaning-limits job (b ∷ line) = line_limits job.source (b ∷ line)
