@@ -1,12 +1,14 @@
 -- A place shows an ACL exactly where it has no fault, and then it is the one that reading gives.
-use Rattle.std.proofs.Common.{◌≡◌, ◌≤◌, ◌<◌, ◌⊎◌, inl, inr, ℕ, zero, suc, ◌+◌, ◌/◌, ◌%◌, ◌^◌, ◌||◌, ◌&&◌, Bool, true, false, not, cond, eqb, ltb, List, [], ◌∷◌, ◌++◌, length, take, drop, slice_index, Option, Some, None, IfSome, refl, sym, ap, ◌∙◌, subst, arith, length-append, length-drop}
+use Rattle.std.proofs.Common.{◌≡◌, ◌≤◌, ◌<◌, ◌⊎◌, inl, inr, ℕ, zero, suc, ◌+◌, ◌/◌, ◌%◌, ◌^◌, ◌||◌, ◌&&◌, Bool, true, false, not, cond, eqb, ltb, List, [], ◌∷◌, ◌++◌, length, take, drop, slice_index, Option, Some, None, IfSome, refl, sym, ap, ◌∙◌, subst, rules, arith, length-append, length-drop}
 use Rattle.std.specs.Prelude.{is_some, unwrap_or}
-use Rattle.std.specs.List.{AllByRecursion}
+use Rattle.std.specs.List.{All, AllByRecursion}
 use Rattle.std.proofs.lemmas.Bool.Decides.{nat_tests}
 use Rattle.std.proofs.lemmas.Bool.{cases_eq, eqb-true}
+use Rattle.std.proofs.lemmas.List.Elements.{All-from_recursion}
 use Rattle.std.proofs.lemmas.List.{take-append-drop, take_at, drop_at, drop-append-le, get_or-take, get_or_append_left, length-take-le}
 use Rattle.byteorder.specs.Endian.{little_number}
 use Rattle.byteorder.specs.Numbers.{little_from-append, little_from-lt}
+use Rattle.uuid.specs.Parts.{swap_fields}
 use Rattle.sd_core.specs.Ace.{AccessControlEntry, GuidsFit, IsAce, IsGuid, ace_size, guid_size, is_object, sid_offset}
 use Rattle.sd_core.specs.Sid.{SecurityId, BeginsWithSid, sid_at, sid_bytes, sid_of, sid_size}
 use Rattle.sd_core.specs.declared.ace.AceKind.{AceKind}
@@ -435,11 +437,15 @@ u32_at-small : (i : ℕ) (bytes : List ℕ) → AreBytes bytes → u32_at i byte
 unfolding u32_at
 u32_at-small i bytes b = omega (arith, little_from-lt 0 4 (drop i bytes) (AreBytes-drop i bytes b))
 
-guid_fits : (b : Bool) (bytes : List ℕ) (o : Option (List ℕ)) → ShowsGuid b bytes o → IfSome o IsGuid
-guid_fits true bytes None h = tt
-guid_fits true bytes (Some g) h = ap (length {A = ℕ}) h
-guid_fits false bytes None h = tt
-guid_fits false bytes (Some g) h = absurd h
+-- bytes are bytes in either order
+swap_fields-bytes : (xs : List ℕ) → AreBytes xs → All (λ b. b < 256) (swap_fields xs)
+swap_fields-bytes xs h = All-from_recursion (λ b. b < 256) (swap_fields xs) (search (rules, h))
+
+guid_fits : (b : Bool) (bytes : List ℕ) (o : Option (List ℕ)) → AreBytes bytes → ShowsGuid b bytes o → IfSome o IsGuid
+guid_fits true bytes None small h = tt
+guid_fits true bytes (Some g) small h = rw h (record { size = refl; bytes = swap_fields-bytes (take 16 bytes) (AreBytes-take 16 bytes small) })
+guid_fits false bytes None small h = tt
+guid_fits false bytes (Some g) small h = absurd h
 
 guids_fit : (b t u : Bool) (xs ys : List ℕ) (o i : Option (List ℕ)) → ShowsGuid (b && t) xs o → ShowsGuid (b && u) ys i → GuidsFit b o i
 guids_fit true t u xs ys o i h k = tt
@@ -454,8 +460,9 @@ shows-ace-limits place a b h = record {
   clear = h.clear;
   mask = omega (arith, u32_at-small 4 place b, h.mask);
   fit = guids_fit (is_object a.kind) (eqb (u32_at 8 place % 2) 1) (eqb (u32_at 8 place / 2 % 2) 1) _ _ a.object a.inherited h.object h.inherited;
-  object = guid_fits (announces_object a.kind place) (drop 12 place) a.object h.object;
-  inherited = guid_fits (announces_inherited a.kind place) (drop (12 + guid_size a.object) place) a.inherited h.inherited;
+  object = guid_fits (announces_object a.kind place) (drop 12 place) a.object (AreBytes-drop 12 place b) h.object;
+  inherited = guid_fits (announces_inherited a.kind place) (drop (12 + guid_size a.object) place) a.inherited
+      (AreBytes-drop (12 + guid_size a.object) place b) h.inherited;
   sid = h.sid.limits;
 }
 

@@ -50,7 +50,7 @@ ace_size-fourth a =
     let place = place-fourth (is_object a.kind) a.object a.inherited in
     (omega (arith, place.0), omega (arith, place.1))
 
-ace_size-small : (a : AccessControlEntry) → IsAce a → ace_size a < 2 ^ 16
+pub ace_size-small : (a : AccessControlEntry) → IsAce a → ace_size a < 2 ^ 16
 ace_size-small a h =
     let place = place-fourth (is_object a.kind) a.object a.inherited in
     omega (arith, place.2, h.sid.count)
@@ -68,9 +68,9 @@ stand kind flags n mask false None None s fit g h sid = (tt, tt, begins s sid)
 stand kind flags n mask false (Some x) i s fit g h sid = absurd fit
 stand kind flags n mask false None (Some x) s fit g h sid = absurd fit
 stand kind flags n mask true None None s fit g h sid = (tt, tt, begins s sid)
-stand kind flags n mask true None (Some x) s fit g h sid = (tt, sym (swap_twice x h), begins s sid)
-stand kind flags n mask true (Some x) None s fit g h sid = (sym (swap_twice x g), tt, begins s sid)
-stand kind flags n mask true (Some x) (Some y) s fit g h sid = (sym (swap_twice x g), sym (swap_twice y h), begins s sid)
+stand kind flags n mask true None (Some x) s fit g h sid = (tt, sym (swap_twice x h.size), begins s sid)
+stand kind flags n mask true (Some x) None s fit g h sid = (sym (swap_twice x g.size), tt, begins s sid)
+stand kind flags n mask true (Some x) (Some y) s fit g h sid = (sym (swap_twice x g.size), sym (swap_twice y h.size), begins s sid)
 
 -- the bytes of an ACE show it
 pub ace_bytes-shows : (a : AccessControlEntry) → IsAce a → ShowsAce (ace_bytes a) a
@@ -94,11 +94,11 @@ ace_bytes-shows a h =
     }
 
 -- the same of ACEs one after the other
-length-aces : (aces : List AccessControlEntry) → length (flat_map ace_bytes aces) ≡ aces_size aces
+pub length-aces : (aces : List AccessControlEntry) → length (flat_map ace_bytes aces) ≡ aces_size aces
 length-aces [] = refl
 length-aces (a ∷ others) = length-append (ace_bytes a) (flat_map ace_bytes others) ∙ omega (arith, length-ace_bytes a, length-aces others)
 
-aces-many : (aces : List AccessControlEntry) → (aces_size aces % 4 ≡ 0) × (16 * length aces ≤ aces_size aces)
+pub aces-many : (aces : List AccessControlEntry) → (aces_size aces % 4 ≡ 0) × (16 * length aces ≤ aces_size aces)
 aces-many [] = (refl, omega arith)
 aces-many (a ∷ others) =
     let one = ace_size-fourth a in

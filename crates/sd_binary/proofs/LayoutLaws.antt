@@ -6,8 +6,9 @@ use Rattle.std.proofs.lemmas.List.{append-nil, drop_at, drop-drop}
 use Rattle.std.specs.List.{flat_map}
 use Rattle.byteorder.specs.Endian.{little_bytes}
 use Rattle.byteorder.specs.Numbers.{little_number-reads_back}
+use Rattle.sd_core.specs.Ace.{AccessControlEntry}
 use Rattle.sd_core.specs.Sid.{SecurityId, IsSid, sid_size}
-use Rattle.sd_binary.specs.Acl.{acl_size}
+use Rattle.sd_binary.specs.Acl.{IsAcl, acl_size}
 use Rattle.sd_binary.specs.AclLayout.{acl_bytes, ace_bytes}
 use Rattle.sd_binary.specs.Bytes.{u16_at, u32_at}
 use Rattle.sd_binary.specs.Descriptor.{Apart, AreApart, Descriptor, Extent, IsAclPart, IsDescriptor, Shows, ShowsAclPart, ShowsSid, acl_extent, control_at, dacl_at, group_at, owner_at, sacl_at, sid_extent}
@@ -37,34 +38,34 @@ acl_part_size-most present acl.Null h = omega arith
 acl_part_size-most present (acl.List aces) h = acl_size-most aces h.1
 
 -- the fields of a header
-header-control : (rm control owner group sacl dacl : ℕ) (rest : List ℕ) → control < 2 ^ 16 → u16_at 2 (header_bytes rm control owner group sacl dacl ++ rest) ≡ control
+pub header-control : (rm control owner group sacl dacl : ℕ) (rest : List ℕ) → control < 2 ^ 16 → u16_at 2 (header_bytes rm control owner group sacl dacl ++ rest) ≡ control
 unfolding u16_at header_bytes
 header-control rm control owner group sacl dacl rest h =
     little_number-reads_back 2 control (little_bytes 4 owner ++ (little_bytes 4 group ++ (little_bytes 4 sacl ++ (little_bytes 4 dacl ++ rest)))) h
 
-header-owner : (rm control owner group sacl dacl : ℕ) (rest : List ℕ) → owner < 2 ^ 32 → u32_at 4 (header_bytes rm control owner group sacl dacl ++ rest) ≡ owner
+pub header-owner : (rm control owner group sacl dacl : ℕ) (rest : List ℕ) → owner < 2 ^ 32 → u32_at 4 (header_bytes rm control owner group sacl dacl ++ rest) ≡ owner
 unfolding u32_at header_bytes
 header-owner rm control owner group sacl dacl rest h =
     little_number-reads_back 4 owner (little_bytes 4 group ++ (little_bytes 4 sacl ++ (little_bytes 4 dacl ++ rest))) h
 
-header-group : (rm control owner group sacl dacl : ℕ) (rest : List ℕ) → group < 2 ^ 32 → u32_at 8 (header_bytes rm control owner group sacl dacl ++ rest) ≡ group
+pub header-group : (rm control owner group sacl dacl : ℕ) (rest : List ℕ) → group < 2 ^ 32 → u32_at 8 (header_bytes rm control owner group sacl dacl ++ rest) ≡ group
 unfolding u32_at header_bytes
 header-group rm control owner group sacl dacl rest h =
     little_number-reads_back 4 group (little_bytes 4 sacl ++ (little_bytes 4 dacl ++ rest)) h
 
-header-sacl : (rm control owner group sacl dacl : ℕ) (rest : List ℕ) → sacl < 2 ^ 32 → u32_at 12 (header_bytes rm control owner group sacl dacl ++ rest) ≡ sacl
+pub header-sacl : (rm control owner group sacl dacl : ℕ) (rest : List ℕ) → sacl < 2 ^ 32 → u32_at 12 (header_bytes rm control owner group sacl dacl ++ rest) ≡ sacl
 unfolding u32_at header_bytes
 header-sacl rm control owner group sacl dacl rest h = little_number-reads_back 4 sacl (little_bytes 4 dacl ++ rest) h
 
-header-dacl : (rm control owner group sacl dacl : ℕ) (rest : List ℕ) → dacl < 2 ^ 32 → u32_at 16 (header_bytes rm control owner group sacl dacl ++ rest) ≡ dacl
+pub header-dacl : (rm control owner group sacl dacl : ℕ) (rest : List ℕ) → dacl < 2 ^ 32 → u32_at 16 (header_bytes rm control owner group sacl dacl ++ rest) ≡ dacl
 unfolding u32_at header_bytes
 header-dacl rm control owner group sacl dacl rest h = little_number-reads_back 4 dacl rest h
 
-header-revision : (rm control owner group sacl dacl : ℕ) (rest : List ℕ) → slice_index (header_bytes rm control owner group sacl dacl ++ rest) 0 ≡ 1
+pub header-revision : (rm control owner group sacl dacl : ℕ) (rest : List ℕ) → slice_index (header_bytes rm control owner group sacl dacl ++ rest) 0 ≡ 1
 unfolding header_bytes
 header-revision rm control owner group sacl dacl rest = refl
 
-header-rm : (rm control owner group sacl dacl : ℕ) (rest : List ℕ) → slice_index (header_bytes rm control owner group sacl dacl ++ rest) 1 ≡ rm
+pub header-rm : (rm control owner group sacl dacl : ℕ) (rest : List ℕ) → slice_index (header_bytes rm control owner group sacl dacl ++ rest) 1 ≡ rm
 unfolding header_bytes
 header-rm rm control owner group sacl dacl rest = refl
 
@@ -130,20 +131,24 @@ sid-stands bytes rest offset place (Some s) at shape low h =
       ap (λ (n : ℕ). sid_extent n (Some s)) same ∙ sym extent,
     )
 
+-- an ACL's size field tells its written size
+pub acl_size-read : (bytes rest : List ℕ) (aces : List AccessControlEntry) → IsAcl aces → bytes ≡ acl_bytes aces ++ rest → u16_at 2 bytes ≡ acl_size aces
+unfolding u16_at
+acl_size-read bytes rest aces h found =
+    ap (u16_at 2) found
+    ∙ little_number-reads_back 2 (acl_size aces) (little_bytes 2 (length aces) ++ (0 ∷ 0 ∷ (flat_map ace_bytes aces ++ rest))) h.fits
+
 -- so is an ACL
 acl-stands : (bytes rest : List ℕ) (offset place : ℕ) (present : Bool) (p : AclPart) → offset ≡ offset_if place (acl_part_size p)
     → drop place bytes ≡ acl_part p ++ rest → 20 ≤ place → IsAclPart present p
     → ShowsAclPart bytes present offset p × (acl_extent bytes offset p ≡ extent_if place (acl_part_size p))
-unfolding u16_at
 acl-stands bytes rest offset place present acl.Absent at shape low h = (h, refl)
 acl-stands bytes rest offset place present acl.Null at shape low h = ((h, at), refl)
 acl-stands bytes rest offset place present (acl.List aces) at shape low h =
     let same : offset ≡ place = at ∙ offset-stands place (acl_size aces) (omega arith) in
     let extent = extent-stands place (acl_size aces) (omega arith) in
     let found : drop offset bytes ≡ acl_bytes aces ++ rest = ap (λ (n : ℕ). drop n bytes) same ∙ shape in
-    let long : u16_at 2 (drop offset bytes) ≡ acl_size aces =
-    ap (u16_at 2) found
-    ∙ little_number-reads_back 2 (acl_size aces) (little_bytes 2 (length aces) ++ (0 ∷ 0 ∷ (flat_map ace_bytes aces ++ rest))) h.1.fits in (
+    let long = acl_size-read (drop offset bytes) rest aces h.1 found in (
       (h.0, omega (arith, same, low), (acl_bytes aces, rest, found, acl_bytes-shows aces h.1)),
       ap (λ (n : ℕ). Some (offset, offset + n)) long ∙ ap (λ (n : ℕ). Some (n, n + acl_size aces)) same ∙ sym extent,
     )

@@ -3,8 +3,10 @@ pub mod Ace
 pub mod Acl
 pub mod AclLayout
 pub mod AclReading
+pub mod Builds
 pub mod Bytes
 pub mod Descriptor
+pub mod Draft
 pub mod Found
 pub mod Layout
 pub mod Reading

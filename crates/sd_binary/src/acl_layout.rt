@@ -1,9 +1,10 @@
 // The written form of an ACL.
-ghost use Rattle.std.specs.Prelude.{◌≡◌, take};
+ghost use Rattle.std.specs.Prelude.{◌≡◌, ◌++◌, ◌∷◌, [], take};
 ghost use Rattle.std.specs.List.{flat_map};
+ghost use Rattle.byteorder.specs.Endian.{little_bytes};
 ghost use Rattle.sd_core.specs.Sink.{Puts};
 ghost use Rattle.sd_binary.specs.Ace.{kind_code};
-ghost use Rattle.sd_binary.specs.AclLayout.{ace_bytes, ace_front, acl_bytes, acl_header, front_size};
+ghost use Rattle.sd_binary.specs.AclLayout.{ace_bytes, ace_front, acl_bytes, acl_header as header_bytes, front_size, revision_if};
 
 use crate::ace::AceView;
 use crate::acl::AclView;
@@ -24,16 +25,19 @@ pub(crate) fn put_acl<S: Sink>(acl: &AclView<'_>, sink: &mut S) -> Result<(), Si
 }
 
 fn header_of(acl: &AclView<'_>) -> [u8; 8]
-    ensures { result ≡ acl_header acl.now }
+    ensures { result ≡ header_bytes acl.now }
 {
     let written = acl.written();
-    let revision = if written.object {
-        REVISION_DS
-    } else {
-        REVISION
-    };
-    let s = (written.size as u16).to_le_bytes();
-    let c = acl.count().to_le_bytes();
+    acl_header(written.object, written.size as u16, acl.count())
+}
+
+// The header of an ACL, by whether an object ACE stands in it, its size and the number of its ACEs.
+pub(crate) fn acl_header(object: bool, size: u16, count: u16) -> [u8; 8]
+    ensures { result ≡ revision_if object ∷ 0 ∷ little_bytes 2 size ++ (little_bytes 2 count ++ (0 ∷ 0 ∷ [])) }
+{
+    let revision = if object { REVISION_DS } else { REVISION };
+    let s = size.to_le_bytes();
+    let c = count.to_le_bytes();
     [revision, 0, s[0], s[1], c[0], c[1], 0, 0]
 }
 
@@ -86,7 +90,7 @@ fn ace_front(ace: &AceView<'_>) -> [u8; 12]
 }
 
 // The type byte of a kind (MS-DTYP 2.4.4.1).
-fn kind_code(kind: AceKind) -> u8
+pub(crate) fn kind_code(kind: AceKind) -> u8
     ensures { result ≡ kind_code kind }
 {
     match kind {

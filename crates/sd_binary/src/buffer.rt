@@ -1,5 +1,5 @@
 // The buffer that holds the bytes of a descriptor.
-ghost use Rattle.std.specs.Prelude.{◌≡◌, ◌≤◌, ◌<◌, ◌*◌, take, ◌++◌, ◌∷◌, ◌+◌, ◌-◌, ◌↔◌, [], length, Ok, Err, IfOk, OnOk, OnErr, IsErr, MatchResult};
+ghost use Rattle.std.specs.Prelude.{◌≡◌, ◌≤◌, ◌<◌, ◌*◌, take, drop, ◌++◌, ◌∷◌, ◌+◌, ◌-◌, ◌↔◌, [], length, Ok, Err, IfOk, OnOk, OnErr, IsErr, MatchResult};
 ghost use Rattle.sd_binary.specs.Text.{hex_spells};
 
 use sd_core::NoMemory;
@@ -74,9 +74,25 @@ impl SdBuf {
         if bytes.len() > CAPACITY - self.held {
             return Err(Full);
         }
+        self.append(bytes);
+        Ok(())
+    }
+
+    // Appends bytes that there is room for.
+    pub(crate) fn append(&mut self, bytes: &[u8])
+        requires { length self.old + length bytes.now ≤ 131226 }
+        ensures { self.new ≡ self.old ++ bytes.now }
+    {
         place(&mut self.cells, self.held, bytes);
         self.held += bytes.len();
-        Ok(())
+    }
+
+    // Writes bytes over those that stand from a place on.
+    pub(crate) fn patch(&mut self, at: usize, bytes: &[u8])
+        requires { at + length bytes.now ≤ length self.old }
+        ensures { self.new ≡ take at self.old ++ (bytes.now ++ drop (at + length bytes.now) self.old) }
+    {
+        place(&mut self.cells, at, bytes);
     }
 
     /// Drops the contents.
@@ -112,7 +128,8 @@ impl SdBuf {
 // Copies the bytes into the cells from a place on.
 fn place(cells: &mut [u8], at: usize, bytes: &[u8])
     requires { at + length bytes.now ≤ length cells.old }
-    ensures { take (at + length bytes.now) cells.new ≡ take at cells.old ++ bytes.now }
+    ensures front { take (at + length bytes.now) cells.new ≡ take at cells.old ++ bytes.now }
+    ensures rest { drop (at + length bytes.now) cells.new ≡ drop (at + length bytes.now) cells.old }
 {
     cells[at..at + bytes.len()].copy_from_slice(bytes);
 }

@@ -5,14 +5,17 @@ mod ace;
 mod acl;
 mod acl_layout;
 mod buffer;
+mod builder;
 mod bytes;
 mod fault;
 mod layout;
+mod pieces;
 mod view;
 
 pub use ace::AceView;
 pub use acl::{Aces, AclPart, AclView};
 pub use buffer::{Full, SdBuf, TextFault};
+pub use builder::{AclTooLarge, Builder, Which};
 pub use fault::{Part, SdFault};
 pub use layout::{put_layout, write_layout};
 pub use view::{SdView, read};

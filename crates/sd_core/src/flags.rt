@@ -1,8 +1,8 @@
-ghost use Rattle.std.specs.Prelude.{◌≡◌, ◌≤◌, ◌/◌, ◌%◌, length, Some};
+ghost use Rattle.std.specs.Prelude.{◌≡◌, ◌≤◌, ◌/◌, ◌%◌, length, IfSome, Some};
 ghost use Rattle.sd_core.specs.Flags.{flags_reads, flags_text};
 ghost use Rattle.sd_core.specs.Sink.{Puts};
 
-use crate::names::{NamedBits, put_names};
+use crate::names::{LONGEST, NamedBits, put_names, read_names};
 use crate::sink::{Sink, SinkFault};
 
 /// The flags of an ACE (MS-DTYP 2.4.4.1 and 2.5.1.1), in the order in which they are printed.
@@ -55,6 +55,21 @@ pub fn put_flags<S: Sink>(flags: u8, sink: &mut S) -> Result<(), SinkFault>
     put_names(&FLAGS, u32::from(flags), sink)
 }
 
+/// The flags of a text of at most 183 bytes (MS-DTYP 2.5.1.1): names of two letters, in either case and any
+/// order, also repeated. None for any other text.
+#[tactic(auto, unfolding(crate::specs::Flags::flags_reads))]
+pub fn flags_from_text(text: &[u8]) -> Option<u8>
+    ensures exact { result ≡ flags_reads text.now }
+    // No name has bit 0x20, which no ACE has.
+    ensures clear { IfSome result (λ flags. flags / 0x20 % 2 ≡ 0) }
+{
+    if text.len() > LONGEST {
+        return None;
+    }
+    let flags = read_names(&[&FLAGS], text)?;
+    Some(flags as u8)
+}
+
 #[cfg(test)]
 mod tests {
     use super::*;
@@ -83,5 +98,46 @@ mod tests {
             assert_eq!(rt; put_flags(flags, &mut sink), Ok(()));
             assert_eq!(rt; sink.text.as_slice(), text.as_bytes());
         }
+    }
+
+    #[test]
+    fn reads_each_flag(rt: HostRuntime) {
+        let rows: [(&str, Option<u8>); 21] = [
+            ("OI", Some(0x01)),
+            ("oi", Some(0x01)),
+            ("CI", Some(0x02)),
+            ("ci", Some(0x02)),
+            ("NP", Some(0x04)),
+            ("np", Some(0x04)),
+            ("IO", Some(0x08)),
+            ("io", Some(0x08)),
+            ("ID", Some(0x10)),
+            ("id", Some(0x10)),
+            ("SA", Some(0x40)),
+            ("sa", Some(0x40)),
+            ("FA", Some(0x80)),
+            ("fa", Some(0x80)),
+            ("", Some(0x00)),
+            ("OIOI", Some(0x01)),
+            ("FAOI", Some(0x81)),
+            ("XX", None),
+            ("O", None),
+            ("OIC", None),
+            ("OI ", None),
+        ];
+        for (text, flags) in rows {
+            assert_eq!(rt; flags_from_text(text.as_bytes()), flags, "at {text}");
+        }
+    }
+
+    #[test]
+    fn reads_183_bytes_at_most(rt: HostRuntime) {
+        let mut text = Vec::new(rt.alloc());
+        for _ in 0..91 {
+            text.extend_from_slice(b"OI").expect(&rt, "memory");
+        }
+        assert_eq!(rt; flags_from_text(&text), Some(0x01));
+        text.extend_from_slice(b"OI").expect(&rt, "memory");
+        assert_eq!(rt; flags_from_text(&text), None);
     }
 }

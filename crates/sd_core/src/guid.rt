@@ -42,6 +42,18 @@ pub fn put_guid<S: Sink>(guid: &Uuid, sink: &mut S) -> Result<(), SinkFault>
     sink.put(text.as_bytes())
 }
 
+/// The GUID of a text (MS-DTYP 2.3.4.3, without its braces): 36 characters, with letters in either case.
+/// None for any other text, also for another form of a GUID.
+#[tactic(auto, using(crate::proofs::GuidTexts::other_length))]
+pub fn guid_from_text(text: &[u8]) -> Option<Uuid>
+    ensures { result ≡ guid_reads text.now }
+{
+    if text.len() != TEXT_SIZE {
+        return None;
+    }
+    Uuid::try_parse_ascii(text).ok()
+}
+
 #[cfg(test)]
 mod tests {
     use super::*;
@@ -67,6 +79,29 @@ mod tests {
             let mut sink = TextSink::new(rt.alloc());
             assert_eq!(rt; put_guid(&guid, &mut sink), Ok(()));
             assert_eq!(rt; sink.text.as_slice(), text.as_bytes());
+        }
+    }
+
+    #[test]
+    fn reads_36_characters(rt: HostRuntime) {
+        for text in [
+            "bf967aba-0de6-11d0-a285-00aa003049e2",
+            "BF967ABA-0DE6-11D0-A285-00AA003049E2",
+        ] {
+            let guid = Uuid::parse_str(text).expect(&rt, "a GUID");
+            assert_eq!(rt; guid_from_text(text.as_bytes()), Some(guid));
+        }
+        for text in [
+            "",
+            "{bf967aba-0de6-11d0-a285-00aa003049e2}",
+            "urn:uuid:bf967aba-0de6-11d0-a285-00aa003049e2",
+            "bf967aba0de611d0a28500aa003049e2",
+            "bf967aba-0de6-11d0-a285-00aa003049e",
+            "bf967aba-0de6-11d0-a285-00aa003049e20",
+            "bf967aba-0de6-11d0-a285-00aa003049eg",
+            "bf967ab-a0de6-11d0-a285-00aa003049e2",
+        ] {
+            assert_eq!(rt; guid_from_text(text.as_bytes()), None, "at {text}");
         }
     }
 }

@@ -1,7 +1,8 @@
 //! Names of two letters that stand for bits.
 
 ghost use Rattle.std.specs.Prelude.{◌≡◌, ◌≤◌, length, take};
-ghost use Rattle.sd_core.specs.Names.{named_bits, names_of};
+ghost use Rattle.std.specs.List.{flat_map};
+ghost use Rattle.sd_core.specs.Names.{bits_named, named_bits, names_of, run_of};
 ghost use Rattle.sd_core.specs.Sink.{Puts};
 
 use crate::sink::{Sink, SinkFault};
@@ -13,6 +14,9 @@ pub struct NamedBits {
     pub second: u8,
     pub bits: u32,
 }
+
+/// The bytes of the longest text that is read as rights or as flags.
+pub const LONGEST: usize = 183;
 
 /// The names of the largest table.
 const MOST_NAMES: usize = 17;
@@ -56,4 +60,43 @@ pub fn named_bits(table: &[NamedBits], mask: u32) -> u32
         }
     }
     named
+}
+
+/// The bits of a run of names of the tables, each in either case and as often as it likes. None where
+/// two letters are no name, or one is left.
+#[tactic(auto, unfolding(crate::specs::Names::run_of))]
+pub fn read_names(tables: &[&[NamedBits]], text: &[u8]) -> Option<u32>
+    ensures { result ≡ run_of (flat_map (λ table. table.now) tables.now) text.now }
+{
+    let mut bits = 0;
+    let mut rest = text;
+    while let Some((first, tail)) = rest.split_first() {
+        let (second, tail) = tail.split_first()?;
+        bits |= find_bits(tables, *first, *second)?;
+        rest = tail;
+    }
+    Some(bits)
+}
+
+fn find_bits(tables: &[&[NamedBits]], first: u8, second: u8) -> Option<u32>
+    ensures { result ≡ bits_named (flat_map (λ table. table.now) tables.now) first second }
+{
+    for table in tables {
+        if let Some(bits) = bits_named(table, first, second) {
+            return Some(bits);
+        }
+    }
+    None
+}
+
+fn bits_named(table: &[NamedBits], first: u8, second: u8) -> Option<u32>
+    ensures { result ≡ bits_named table.now first second }
+{
+    let (first, second) = (first.to_ascii_uppercase(), second.to_ascii_uppercase());
+    for name in table {
+        if name.first == first && name.second == second {
+            return Some(name.bits);
+        }
+    }
+    None
 }

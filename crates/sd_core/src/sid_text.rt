@@ -315,8 +315,8 @@ fn read_decimal(text: &[u8]) -> Option<u64>
     read_number(10, 1 << 32, text)
 }
 
-// The number that the digits write, where each is a digit and it is below the limit.
-fn read_number(base: u32, limit: u64, text: &[u8]) -> Option<u64>
+/// The number that the digits write, where each is a digit and it is below the limit. No digits write 0.
+pub(crate) fn read_number(base: u32, limit: u64, text: &[u8]) -> Option<u64>
     requires low { 2 ≤ base }
     requires high { base ≤ 16 }
     requires small { limit ≤ 2 ^ 48 }

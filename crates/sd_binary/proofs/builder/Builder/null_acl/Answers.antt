@@ -1,0 +1,5 @@
+use Rattle.sd_binary.proofs.Building.{null-builds}
+use Rattle.sd_binary.proofs.builder.Builder.null_acl.Goals as goal
+
+pub returns : goal.returns
+returns c = λ t h. rw c.keep.ensures (null-builds _ _ c.args.which c.requires.0 t c.requires.1 c.requires.2 h)

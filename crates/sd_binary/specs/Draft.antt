@@ -1,0 +1,118 @@
+-- What a builder was given so far, and the descriptor that it ends with (MS-DTYP 2.4.6).
+use Rattle.std.specs.Prelude.{◌≡◌, ℕ, ◌+◌, ◌-◌, ◌*◌, ◌/◌, ◌%◌, if◌then◌else◌, Bool, true, false, List, [], ◌∷◌, ◌++◌, length, drop, Option, Some, None}
+use Rattle.sd_core.specs.Ace.{AccessControlEntry}
+use Rattle.sd_core.specs.Sid.{SecurityId}
+use Rattle.sd_binary.specs.Acl.{acl_size}
+use Rattle.sd_binary.specs.AclLayout.{acl_bytes}
+use Rattle.sd_binary.specs.Descriptor.{Descriptor, dacl_at, sacl_at}
+use Rattle.sd_binary.specs.Layout.{size}
+use Rattle.sd_binary.specs.declared.acl.AclPart.{AclPart}
+use Rattle.sd_binary.specs.declared.acl.AclPart.TheVariants as acl
+use Rattle.sd_binary.specs.declared.builder.Which.{Which}
+use Rattle.sd_binary.specs.declared.builder.Which.TheVariants as which
+
+-- the parts that are given, and the ACL that is open, with its ACEs so far
+pub record Draft : Type 0 where
+  pub owner : Option SecurityId
+  pub group : Option SecurityId
+  pub sacl : AclPart
+  pub dacl : AclPart
+  pub «open» : Option (Which × List AccessControlEntry)
+
+abbrev pub no_parts : Draft
+no_parts = record { owner = None; group = None; sacl = acl.Absent; dacl = acl.Absent; «open» = None }
+
+abbrev pub acl_of : Which → Draft → AclPart
+acl_of which.Sacl t = t.sacl
+acl_of which.Dacl t = t.dacl
+
+abbrev pub with_acl : Which → AclPart → Draft → Draft
+with_acl which.Sacl part t = record t { sacl = part }
+with_acl which.Dacl part t = record t { dacl = part }
+
+-- no ACL is open, and the part is not given yet
+abbrev pub CanBegin : Which → Draft → Type 0
+CanBegin w t = (t.«open» ≡ None) × (acl_of w t ≡ acl.Absent)
+
+-- an ACL is opened, without ACEs
+abbrev pub begun : Which → Draft → Draft
+begun w t = record t { «open» = Some (w, []) }
+
+abbrev pub IsOpenIn : Option (Which × List AccessControlEntry) → Type 0
+IsOpenIn None = ⊥
+IsOpenIn (Some o) = Unit {0}
+
+abbrev pub IsOpen : Draft → Type 0
+IsOpen t = IsOpenIn t.«open»
+
+-- the size of the ACL that is open
+abbrev pub open_size_in : Option (Which × List AccessControlEntry) → ℕ
+open_size_in None = 0
+open_size_in (Some o) = acl_size o.1
+
+abbrev pub open_size : Draft → ℕ
+open_size t = open_size_in t.«open»
+
+abbrev pub more_in : AccessControlEntry → Option (Which × List AccessControlEntry) → Option (Which × List AccessControlEntry)
+more_in a None = None
+more_in a (Some o) = Some (o.0, o.1 ++ a ∷ [])
+
+-- one ACE more at the end of the open ACL
+abbrev pub with_ace : AccessControlEntry → Draft → Draft
+with_ace a t = record t { «open» = more_in a t.«open» }
+
+abbrev pub closed_in : Option (Which × List AccessControlEntry) → Draft → Draft
+closed_in None t = t
+closed_in (Some o) t = with_acl o.0 (acl.List o.1) (record t { «open» = None })
+
+-- the open ACL is closed
+abbrev pub closed : Draft → Draft
+closed t = closed_in t.«open» t
+
+-- The descriptor that is finished.
+
+-- a bit of a word, at its place
+abbrev pub bit_of : ℕ → ℕ → ℕ
+bit_of bit word = word / bit % 2 * bit
+
+-- the flags without SR, SP and DP (0x8014), which tell of the form and of the ACLs that stand
+abbrev pub other_flags : ℕ → ℕ
+other_flags flags = flags - bit_of 0x8000 flags - bit_of 0x10 flags - bit_of 0x4 flags
+
+-- an ACL is present, null or not
+abbrev pub is_present : AclPart → Bool
+is_present acl.Absent = false
+is_present acl.Null = true
+is_present (acl.List aces) = true
+
+abbrev pub bit_if : Bool → ℕ → ℕ
+bit_if stands bit = if stands then bit else 0
+
+-- the control word: those flags, SR, and SP and DP where the ACLs are present
+abbrev pub control_of : ℕ → Bool → Bool → ℕ
+control_of flags sacl dacl = other_flags flags + 0x8000 + bit_if sacl 0x10 + bit_if dacl 0x4
+
+-- the parts under a control word and a resource manager byte
+abbrev pub built : ℕ → ℕ → Draft → Descriptor
+built flags rm t = record {
+  control = control_of flags (is_present t.sacl) (is_present t.dacl);
+  rm = rm;
+  owner = t.owner;
+  group = t.group;
+  sacl = t.sacl;
+  dacl = t.dacl;
+}
+
+-- Its bytes have the one written form of each part.
+
+-- an ACL stands in its written form (MS-DTYP 2.4.5)
+abbrev pub AclIsWritten : List ℕ → ℕ → AclPart → Type 0
+AclIsWritten bytes offset acl.Absent = Unit {0}
+AclIsWritten bytes offset acl.Null = Unit {0}
+AclIsWritten bytes offset (acl.List aces) = (rest : List ℕ) × (drop offset bytes ≡ acl_bytes aces ++ rest)
+
+-- as many bytes as the layout has, and so no gap; in each ACL revision 4 exactly where an object ACE stands
+pub record IsWritten (bytes : List ℕ) (d : Descriptor) : Type 0 where
+  pub size : length bytes ≡ size d
+  pub sacl : AclIsWritten bytes (sacl_at bytes) d.sacl
+  pub dacl : AclIsWritten bytes (dacl_at bytes) d.dacl

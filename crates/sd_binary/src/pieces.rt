@@ -1,0 +1,116 @@
+// SIDs and ACEs appended to a buffer.
+ghost use Rattle.std.specs.Prelude.{◌≡◌, ◌≤◌, ◌+◌, ◌++◌, length, take};
+ghost use Rattle.sd_core.specs.Ace.{IsAce, ace_size};
+ghost use Rattle.sd_core.specs.Sid.{IsSid, sid_bytes, sid_size};
+ghost use Rattle.sd_binary.specs.AclLayout.{ace_bytes, ace_front as front_bytes, flag_if, front_size, guid_part};
+
+use crate::ace::{FRONT_SIZE, OBJECT_FRONT_SIZE};
+use crate::acl_layout::kind_code;
+use crate::buffer::SdBuf;
+use byteorder::{BigEndian, ByteOrder, LittleEndian};
+use sd_core::{Ace, Sid, guid_bytes};
+use uuid::Uuid;
+
+/// The bytes of a SID without sub-authorities: revision, count and identifier authority.
+const SID_HEADER_SIZE: usize = 8;
+
+/// The bytes of the largest SID, which has 15 sub-authorities.
+const MOST_SID_SIZE: usize = 68;
+
+// Appends a SID (MS-DTYP 2.4.2.2).
+pub(crate) fn append_sid(buf: &mut SdBuf, sid: &Sid)
+    requires { length buf.old + sid_size sid.now ≤ 131226 }
+    ensures { buf.new ≡ buf.old ++ sid_bytes sid.now }
+{
+    let bytes = sid_front(sid);
+    buf.append(&bytes[..sid.size()]);
+}
+
+// Appends a SID, and tells where it stands.
+pub(crate) fn place_sid(buf: &mut SdBuf, sid: &Sid) -> u32
+    requires { length buf.old + 68 ≤ 131226 }
+    ensures place { result ≡ length buf.old }
+    ensures value { buf.new ≡ buf.old ++ sid_bytes sid.now }
+    ensures limits { IsSid sid.now }
+{
+    let place = buf.bytes().len() as u32;
+    // Its size tells that it has at most 15 sub-authorities.
+    let _ = sid.size();
+    append_sid(buf, sid);
+    place
+}
+
+// The bytes of a SID, and what is left of the largest one.
+fn sid_front(sid: &Sid) -> [u8; 68]
+    ensures { take (sid_size sid.now) result ≡ sid_bytes sid.now }
+{
+    let subs = sid.subs();
+    let mut bytes = [0; MOST_SID_SIZE];
+    bytes[0] = 1;
+    bytes[1] = subs.len() as u8;
+    BigEndian::write_u48(&mut bytes[2..], sid.authority());
+    LittleEndian::write_u32_into(
+        subs,
+        &mut bytes[SID_HEADER_SIZE..SID_HEADER_SIZE + 4 * subs.len()],
+    );
+    bytes
+}
+
+// Appends an ACE (MS-DTYP 2.4.4).
+pub(crate) fn append_ace(buf: &mut SdBuf, ace: &Ace)
+    requires { length buf.old + ace_size ace.now ≤ 131226 }
+    ensures { buf.new ≡ buf.old ++ ace_bytes ace.now }
+{
+    append_front(buf, ace);
+    append_guid(buf, &ace.object());
+    append_guid(buf, &ace.inherited());
+    append_sid(buf, &ace.sid());
+}
+
+// Appends what stands before the GUIDs.
+fn append_front(buf: &mut SdBuf, ace: &Ace)
+    requires { length buf.old + front_size ace.now.kind ≤ 131226 }
+    ensures value { buf.new ≡ buf.old ++ front_bytes ace.now }
+    ensures limits { IsAce ace.now }
+{
+    let front = ace_front(ace);
+    let size = if ace.kind().is_object() {
+        OBJECT_FRONT_SIZE
+    } else {
+        FRONT_SIZE
+    };
+    buf.append(&front[..size]);
+}
+
+// The bytes before the GUIDs; the object flags among them count in object kinds alone.
+fn ace_front(ace: &Ace) -> [u8; 12]
+    ensures value { take (front_size ace.now.kind) result ≡ front_bytes ace.now }
+    ensures limits { IsAce ace.now }
+{
+    let mut front = [0; OBJECT_FRONT_SIZE];
+    front[0] = kind_code(ace.kind());
+    front[1] = ace.flags();
+    LittleEndian::write_u16(&mut front[2..], ace.size());
+    LittleEndian::write_u32(&mut front[4..], ace.mask());
+    LittleEndian::write_u32(&mut front[8..], object_flags(ace));
+    front
+}
+
+// Which GUIDs stand in the ACE (MS-DTYP 2.4.4.3).
+fn object_flags(ace: &Ace) -> u32
+    ensures { result ≡ flag_if ace.now.object 1 + flag_if ace.now.inherited 2 }
+{
+    let object = if ace.object().is_some() { 1 } else { 0 };
+    let inherited = if ace.inherited().is_some() { 2 } else { 0 };
+    object + inherited
+}
+
+// Appends a GUID that may be there (MS-DTYP 2.3.4.2).
+fn append_guid(buf: &mut SdBuf, guid: &Option<Uuid>)
+    requires { length buf.old + length (guid_part guid.now) ≤ 131226 }
+    ensures { buf.new ≡ buf.old ++ guid_part guid.now }
+{
+    if let Some(guid) = guid {
+        buf.append(&guid_bytes(guid));
+    }
+}
