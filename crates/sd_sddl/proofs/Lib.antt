@@ -1,3 +1,17 @@
 -- Descriptors as SDDL.
+pub mod AceTexts
+pub mod BackLaws
+pub mod FieldLaws
+pub mod FieldTexts
+pub mod FieldsBack
+pub mod FitLaws
+pub mod FlagRuns
+mod LineRows
+pub mod LineCuts
+pub mod LineFields
+pub mod PartsBack
+pub mod PlainTexts
 mod Rows
 pub mod SizeLaws
+pub mod Steps
+pub mod TrusteeLaws

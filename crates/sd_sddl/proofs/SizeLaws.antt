@@ -3,11 +3,10 @@ use Rattle.std.proofs.Common.{◌≡◌, ◌≤◌, ◌<◌, ℕ, ◌+◌, ◌*�
 use Rattle.std.specs.Prelude.{IfSome, codes, option_map}
 use Rattle.std.specs.List.{flat_map, AllByRecursion}
 use Rattle.std.specs.Option.{option_and_then}
-use Rattle.sd_core.specs.Ace.{AccessControlEntry, GuidsFit, IsAce, ace_size, guid_size, is_object, sid_offset}
+use Rattle.sd_core.specs.Ace.{AccessControlEntry, GuidsFit, IsAce, ace_size, guid_size, is_object}
 use Rattle.sd_core.specs.Flags.{flags_text}
-use Rattle.sd_core.specs.GuidText.{guid_text}
 use Rattle.sd_core.specs.Rights.{rights_text}
-use Rattle.sd_core.specs.Sid.{SecurityId, IsSid, sid_size}
+use Rattle.sd_core.specs.Sid.{SecurityId, IsSid}
 use Rattle.sd_core.specs.SidText.{alias_of, known_alias, or_else, relative_alias, sid_text, usable}
 use Rattle.sd_core.specs.declared.ace.AceKind.{AceKind}
 use Rattle.sd_core.specs.declared.ace.AceKind.TheVariants as kinds
@@ -15,7 +14,7 @@ use Rattle.sd_core.proofs.FlagLaws.{flags_text-length}
 use Rattle.sd_core.proofs.GuidTexts.{guid_text-length}
 use Rattle.sd_core.proofs.RightsLaws.{rights_text-length}
 use Rattle.sd_core.proofs.TextLaws.{length-sid_text}
-use Rattle.sd_binary.specs.Acl.{IsAcl, aces_size}
+use Rattle.sd_binary.specs.Acl.{aces_size}
 use Rattle.sd_binary.specs.Descriptor.{Descriptor, IsAclPart, IsDescriptor, dacl_present, sacl_present}
 use Rattle.sd_binary.specs.Layout.{acl_part_size, sid_part_size, size}
 use Rattle.sd_binary.specs.declared.acl.AclPart.{AclPart}
@@ -52,14 +51,14 @@ chosen-length : (numeric : Bool) (a b : List ℕ) (n : ℕ) → length a ≤ n �
 chosen-length true a b n h k = h
 chosen-length false a b n h k = k
 
-trustee-length : (naming : Naming) (s : SecurityId) → IsSid s → length (trustee_text naming s) ≤ 18 + 11 * length s.subs
+pub trustee-length : (naming : Naming) (s : SecurityId) → IsSid s → length (trustee_text naming s) ≤ 18 + 11 * length s.subs
 unfolding trustee_text
 trustee-length naming s h =
     let text = length-sid_text s h in
     chosen-length naming.numeric _ _ (18 + 11 * length s.subs) text (name_or-length (alias_of s naming.domain) (sid_text s) (18 + 11 * length s.subs) (alias-name s naming.domain) (omega arith) text)
 
 -- an ACE takes at most eight characters a byte
-kind-length : (kind : AceKind) → length (kind_text kind) ≤ 2
+pub kind-length : (kind : AceKind) → length (kind_text kind) ≤ 2
 kind-length kinds.Allow = omega arith
 kind-length kinds.Deny = omega arith
 kind-length kinds.Audit = omega arith
@@ -141,7 +140,7 @@ text_if-length : (b : Bool) (text : List ℕ) → length (text_if b text) ≤ le
 text_if-length true text = omega arith
 text_if-length false text = omega arith
 
-flags-length : (protected required inherited : Bool) → length (acl_flags protected required inherited) ≤ 5
+pub flags-length : (protected required inherited : Bool) → length (acl_flags protected required inherited) ≤ 5
 unfolding acl_flags
 flags-length p r i =
     let back = length-append (text_if r (codes "AR")) (text_if i (codes "AI")) in

@@ -1,2 +1,7 @@
 -- Descriptors as SDDL.
+pub mod Held
+pub mod Line
+pub mod Meaning
 pub mod Printed
+pub mod Progress
+pub mod Reads

@@ -3,7 +3,15 @@
 
 mod ace;
 mod acl;
+mod fault;
+mod field_text;
+mod field_texts;
+mod line;
 mod naming;
 mod printed;
+mod reader;
+mod reading;
 
+pub use fault::SddlFault;
 pub use printed::put_sddl;
+pub use reader::read_sddl;

@@ -1,0 +1,283 @@
+-- A printed descriptor reads back, but for what SDDL has no letters for.
+use Rattle.std.proofs.Common.{◌≡◌, ◌≤◌, ◌<◌, ℕ, ◌+◌, ◌*◌, Bool, true, false, List, [], ◌∷◌, ◌++◌, map, Option, Some, None, Result, Ok, refl, ap, sym, ◌∙◌, arith, append-nil}
+use Rattle.std.specs.Prelude.{codes}
+use Rattle.std.specs.List.{AllByRecursion, flat_map}
+use Rattle.std.proofs.lemmas.Grind.{flat_map-append}
+use Rattle.sd_core.specs.Ace.{AccessControlEntry}
+use Rattle.sd_core.specs.Sid.{SecurityId}
+use Rattle.sd_binary.specs.Descriptor.{Descriptor, IsDescriptor, dacl_present, sacl_present}
+use Rattle.sd_binary.specs.declared.acl.AclPart.{AclPart}
+use Rattle.sd_binary.specs.declared.acl.AclPart.TheVariants as acl
+use Rattle.sd_sddl.specs.declared.acl.AclFlags.{AclFlags}
+use Rattle.sd_sddl.specs.declared.fault.SddlFault.{SddlFault}
+use Rattle.sd_sddl.specs.declared.line.Head.TheVariants as head
+use Rattle.sd_sddl.specs.declared.line.SidPart.{SidPart}
+use Rattle.sd_sddl.specs.declared.line.SidPart.TheVariants as sid_part
+use Rattle.sd_sddl.specs.declared.naming.Naming.{Naming}
+use Rattle.sd_binary.specs.declared.builder.Which.{Which}
+use Rattle.sd_binary.specs.declared.builder.Which.TheVariants as which
+use Rattle.sd_binary.specs.Draft.{bit_if as present_bit}
+use Rattle.sd_binary.specs.Draft.{control_of, is_present, no_parts, other_flags}
+use Rattle.sd_sddl.specs.Line.{Field, Sections, fields_of, has_twice, is_shaped, parts_of}
+use Rattle.sd_sddl.specs.Meaning.{Reading, control_flags, described, finished, means, no_flags, nothing_read, read_fields, reads_as, verdict}
+use Rattle.sd_sddl.specs.Printed.{ace_text, acl_text, bit_if, dacl_text, group_text, has_bit, kept_of_dacl, kept_of_sacl, owner_text, plain, sacl_text, sddl, sid_text_of, trustee_text}
+use Rattle.sd_sddl.proofs.AceTexts.{ace_text-inner, inner_text}
+use Rattle.sd_sddl.proofs.FieldsBack.{front_text}
+use Rattle.sd_sddl.proofs.LineCuts.{IsPart, Part, in_parentheses, letter_of, line-parts, part_text}
+use Rattle.sd_sddl.proofs.LineFields.{line-fields, line-shaped, listed, never_twice, part_fields}
+use Rattle.sd_sddl.proofs.PartsBack.{acl-back, acl-is_part, acl_body, read-on, sid-back, sid-is_part, sid_body, with_acl_part, with_sid_part}
+
+-- 1. The parts that are printed.
+
+-- the flags of the DACL and of the SACL in the control word
+abbrev dacl_of : ℕ → AclFlags
+dacl_of c = record { protected = has_bit 0x1000 c; required = has_bit 0x100 c; inherited = has_bit 0x400 c }
+
+abbrev sacl_of : ℕ → AclFlags
+sacl_of c = record { protected = has_bit 0x2000 c; required = has_bit 0x200 c; inherited = has_bit 0x800 c }
+
+-- the parts, those that stand
+abbrev owner_part : Naming → Descriptor → List Part
+owner_part naming d = listed (head.Sid sid_part.Owner) (sid_body naming d.owner)
+
+abbrev group_part : Naming → Descriptor → List Part
+group_part naming d = listed (head.Sid sid_part.Group) (sid_body naming d.group)
+
+abbrev dacl_part : Naming → Descriptor → List Part
+dacl_part naming d = listed (head.Acl which.Dacl) (acl_body naming (dacl_of d.control) d.dacl)
+
+abbrev sacl_part : Naming → Descriptor → List Part
+sacl_part naming d = listed (head.Acl which.Sacl) (acl_body naming (sacl_of d.control) d.sacl)
+
+printed_parts : Naming → Descriptor → List Part
+printed_parts naming d = (owner_part naming d ++ group_part naming d) ++ (dacl_part naming d ++ sacl_part naming d)
+
+all-append : {X : Type 0} (P : X → Type 0) (xs ys : List X) → AllByRecursion P xs → AllByRecursion P ys → AllByRecursion P (xs ++ ys)
+all-append P [] ys h k = k
+all-append P (x ∷ xs) ys h k = (h.0, all-append P xs ys h.1 k)
+
+printed_parts-are : (naming : Naming) (d : Descriptor) → IsDescriptor d → AllByRecursion IsPart (printed_parts naming d)
+unfolding printed_parts
+printed_parts-are naming d h =
+    let owner = sid-is_part naming sid_part.Owner d.owner h.owner in
+    let group = sid-is_part naming sid_part.Group d.group h.group in
+    let dacl = acl-is_part naming which.Dacl (dacl_of d.control) (dacl_present d.control) d.dacl h.dacl in
+    let sacl = acl-is_part naming which.Sacl (sacl_of d.control) (sacl_present d.control) d.sacl h.sacl in
+    all-append IsPart _ _ (all-append IsPart _ _ owner group) (all-append IsPart _ _ dacl sacl)
+
+sid-text : (naming : Naming) (p : SidPart) (o : Option SecurityId)
+    → sid_text_of naming (letter_of (head.Sid p) ∷ 58 ∷ []) o ≡ flat_map part_text (listed (head.Sid p) (sid_body naming o))
+sid-text naming p None = refl
+sid-text naming p (Some s) =
+    ap (λ (x : List ℕ). letter_of (head.Sid p) ∷ 58 ∷ x)
+    (sym (append-nil (trustee_text naming s)) ∙ sym (append-nil (trustee_text naming s ++ [])))
+
+aces-text : (naming : Naming) (aces : List AccessControlEntry) → flat_map (ace_text naming) aces ≡ flat_map in_parentheses (map (inner_text naming) aces)
+aces-text naming [] = refl
+aces-text naming (a ∷ others) = rw (ace_text-inner naming a, aces-text naming others) refl
+
+acl-text : (naming : Naming) (w : Which) (f : AclFlags) (part : AclPart)
+    → acl_text naming (letter_of (head.Acl w) ∷ 58 ∷ []) (front_text f) part ≡ flat_map part_text (listed (head.Acl w) (acl_body naming f part))
+acl-text naming w f acl.Absent = refl
+acl-text naming w f acl.Null =
+    let text = front_text f ++ codes "NO_ACCESS_CONTROL" in
+    ap (λ (x : List ℕ). letter_of (head.Acl w) ∷ 58 ∷ x) (sym (append-nil text) ∙ sym (append-nil (text ++ [])))
+acl-text naming w f (acl.List aces) =
+    ap (λ (x : List ℕ). letter_of (head.Acl w) ∷ 58 ∷ front_text f ++ x) (aces-text naming aces)
+    ∙ ap (λ (x : List ℕ). letter_of (head.Acl w) ∷ 58 ∷ x) (sym (append-nil (front_text f ++ flat_map in_parentheses (map (inner_text naming) aces))))
+
+parts-text : (o g d s : List Part)
+    → flat_map part_text ((o ++ g) ++ (d ++ s)) ≡ (flat_map part_text o ++ flat_map part_text g) ++ (flat_map part_text d ++ flat_map part_text s)
+parts-text o g d s = rw (flat_map-append part_text (o ++ g) (d ++ s), flat_map-append part_text o g, flat_map-append part_text d s) refl
+
+same-texts : (o g d s o' g' d' s' : List ℕ) → o ≡ o' → g ≡ g' → d ≡ d' → s ≡ s' → (o ++ g) ++ (d ++ s) ≡ (o' ++ g') ++ (d' ++ s')
+same-texts o g d s o' g' d' s' e f h k = cc
+
+sddl-printed : (naming : Naming) (d : Descriptor) → sddl naming d ≡ flat_map part_text (printed_parts naming d)
+unfolding printed_parts sddl owner_text group_text dacl_text sacl_text
+sddl-printed naming d =
+    let owner = sid-text naming sid_part.Owner d.owner in
+    let group = sid-text naming sid_part.Group d.group in
+    let dacl = acl-text naming which.Dacl (dacl_of d.control) d.dacl in
+    let sacl = acl-text naming which.Sacl (sacl_of d.control) d.sacl in
+    same-texts _ _ _ _ _ _ _ _ owner group dacl sacl
+    ∙ sym (parts-text (owner_part naming d) (group_part naming d) (dacl_part naming d) (sacl_part naming d))
+
+-- 2. What is read of them.
+
+two-back : (domain : Option SecurityId) (ps qs : List Part) (r r1 r2 : Reading)
+    → read_fields domain (flat_map part_fields ps) r ≡ Ok r1 → read_fields domain (flat_map part_fields qs) r1 ≡ Ok r2
+    → read_fields domain (flat_map part_fields (ps ++ qs)) r ≡ Ok r2
+two-back domain ps qs r r1 r2 h k =
+    ap (λ (fs : List Field). read_fields domain fs r) (flat_map-append part_fields ps qs)
+    ∙ read-on domain (flat_map part_fields ps) (flat_map part_fields qs) r r1 h ∙ k
+
+-- owner and group; then the ACLs
+abbrev with_sids : Option SecurityId → Option SecurityId → Reading
+with_sids owner group = record nothing_read { parts = record no_parts { owner = owner; group = group } }
+
+sids-read : (o g : Option SecurityId) → with_sid_part sid_part.Group g (with_sid_part sid_part.Owner o nothing_read) ≡ with_sids o g
+sids-read None None = refl
+sids-read None (Some g) = refl
+sids-read (Some o) None = refl
+sids-read (Some o) (Some g) = refl
+
+abbrev whole : Option SecurityId → Option SecurityId → AclFlags → AclPart → AclFlags → AclPart → Reading
+whole o g df dacl sf sacl = with_acl_part which.Sacl sf sacl (with_acl_part which.Dacl df dacl (with_sids o g))
+
+abbrev whole_of : Descriptor → Reading
+whole_of d = whole d.owner d.group (dacl_of d.control) d.dacl (sacl_of d.control) d.sacl
+
+sids-back : (naming : Naming) (d : Descriptor) → IsDescriptor d
+    → read_fields naming.domain (flat_map part_fields (owner_part naming d ++ group_part naming d)) nothing_read ≡ Ok (with_sids d.owner d.group)
+sids-back naming d h =
+    let with_owner = with_sid_part sid_part.Owner d.owner nothing_read in
+    let owner = sid-back naming sid_part.Owner d.owner nothing_read h.owner in
+    let group = sid-back naming sid_part.Group d.group with_owner h.group ∙ ap (λ (x : Reading). Ok x) (sids-read d.owner d.group) in
+    two-back naming.domain (owner_part naming d) (group_part naming d) nothing_read with_owner (with_sids d.owner d.group) owner group
+
+acls-back : (naming : Naming) (d : Descriptor) → IsDescriptor d
+    → read_fields naming.domain (flat_map part_fields (dacl_part naming d ++ sacl_part naming d)) (with_sids d.owner d.group) ≡ Ok (whole_of d)
+acls-back naming d h =
+    let sids = with_sids d.owner d.group in
+    let with_dacl = with_acl_part which.Dacl (dacl_of d.control) d.dacl sids in
+    let dacl = acl-back naming which.Dacl (dacl_of d.control) (dacl_present d.control) d.dacl sids h.dacl in
+    let sacl = acl-back naming which.Sacl (sacl_of d.control) (sacl_present d.control) d.sacl with_dacl h.sacl in
+    two-back naming.domain (dacl_part naming d) (sacl_part naming d) sids with_dacl (whole_of d) dacl sacl
+
+printed-back : (naming : Naming) (d : Descriptor) → IsDescriptor d
+    → read_fields naming.domain (flat_map part_fields (printed_parts naming d)) nothing_read ≡ Ok (whole_of d)
+unfolding printed_parts
+printed-back naming d h =
+    let sids = owner_part naming d ++ group_part naming d in
+    let acls = dacl_part naming d ++ sacl_part naming d in
+    two-back naming.domain sids acls nothing_read (with_sids d.owner d.group) (whole_of d) (sids-back naming d h) (acls-back naming d h)
+
+same-large : (w : Which) (f : AclFlags) (part : AclPart) (r : Reading) → (with_acl_part w f part r).large ≡ r.large
+same-large w f acl.Absent r = refl
+same-large which.Sacl f acl.Null r = refl
+same-large which.Dacl f acl.Null r = refl
+same-large which.Sacl f (acl.List aces) r = refl
+same-large which.Dacl f (acl.List aces) r = refl
+
+never-large : (d : Descriptor) → (whole_of d).large ≡ None
+never-large d =
+    let sids = with_sids d.owner d.group in
+    let with_dacl = with_acl_part which.Dacl (dacl_of d.control) d.dacl sids in
+    same-large which.Sacl (sacl_of d.control) d.sacl with_dacl ∙ same-large which.Dacl (dacl_of d.control) d.dacl sids
+
+-- 3. The descriptor.
+
+-- the flags of an ACL, if it stands
+abbrev flags_of : AclPart → AclFlags → AclFlags
+flags_of acl.Absent f = no_flags
+flags_of acl.Null f = f
+flags_of (acl.List aces) f = f
+
+abbrev made : Option SecurityId → Option SecurityId → AclFlags → AclPart → AclFlags → AclPart → Descriptor
+made o g df dacl sf sacl = record {
+  control = control_of (control_flags (flags_of sacl sf) (flags_of dacl df)) (is_present sacl) (is_present dacl);
+  rm = 0;
+  owner = o;
+  group = g;
+  sacl = sacl;
+  dacl = dacl;
+}
+
+whole-described : (o g : Option SecurityId) (df : AclFlags) (dacl : AclPart) (sf : AclFlags) (sacl : AclPart)
+    → described (whole o g df dacl sf sacl) ≡ made o g df dacl sf sacl
+whole-described o g df acl.Absent sf acl.Absent = refl
+whole-described o g df acl.Absent sf acl.Null = refl
+whole-described o g df acl.Absent sf (acl.List ys) = refl
+whole-described o g df acl.Null sf acl.Absent = refl
+whole-described o g df acl.Null sf acl.Null = refl
+whole-described o g df acl.Null sf (acl.List ys) = refl
+whole-described o g df (acl.List xs) sf acl.Absent = refl
+whole-described o g df (acl.List xs) sf acl.Null = refl
+whole-described o g df (acl.List xs) sf (acl.List ys) = refl
+
+-- the flags stand in the upper byte, without its highest bit
+upper-byte : (k : ℕ) → k < 128 → other_flags (256 * k) ≡ 256 * k
+upper-byte k small = omega arith
+
+scaled : (b : Bool) (n : ℕ) → bit_if b (256 * n) ≡ 256 * bit_if b n
+scaled true n = refl
+scaled false n = refl
+
+at-most : (b : Bool) (n : ℕ) → bit_if b n ≤ n
+at-most true n = omega arith
+at-most false n = omega arith
+
+-- the six flags over 256
+abbrev six_bits : AclFlags → AclFlags → ℕ
+six_bits sacl dacl =
+    bit_if sacl.protected 0x20 + bit_if sacl.required 0x2 + bit_if sacl.inherited 0x8
+    + bit_if dacl.protected 0x10 + bit_if dacl.required 0x1 + bit_if dacl.inherited 0x4
+
+bits-low : (sacl dacl : AclFlags) → six_bits sacl dacl < 128
+bits-low s d = omega (arith, at-most s.protected 0x20, at-most s.required 0x2, at-most s.inherited 0x8, at-most d.protected 0x10, at-most d.required 0x1, at-most d.inherited 0x4)
+
+flags-upper : (sacl dacl : AclFlags) → control_flags sacl dacl ≡ 256 * six_bits sacl dacl
+flags-upper s d = omega (arith, scaled s.protected 0x20, scaled s.required 0x2, scaled s.inherited 0x8, scaled d.protected 0x10, scaled d.required 0x1, scaled d.inherited 0x4)
+
+flags-stay : (sacl dacl : AclFlags) → other_flags (control_flags sacl dacl) ≡ control_flags sacl dacl
+flags-stay s d = ap other_flags (flags-upper s d) ∙ upper-byte (six_bits s d) (bits-low s d) ∙ sym (flags-upper s d)
+
+-- the flags of an ACL, and the bit that says that it stands
+dacl-bits : (c : ℕ) (part : AclPart) (f : AclFlags) → f ≡ flags_of part (dacl_of c)
+    → bit_if f.protected 0x1000 + bit_if f.required 0x100 + bit_if f.inherited 0x400 + present_bit (is_present part) 0x4 ≡ kept_of_dacl c part
+dacl-bits c acl.Absent f e = rw e refl
+dacl-bits c acl.Null f e = rw e (omega arith)
+dacl-bits c (acl.List aces) f e = rw e (omega arith)
+
+sacl-bits : (c : ℕ) (part : AclPart) (f : AclFlags) → f ≡ flags_of part (sacl_of c)
+    → bit_if f.protected 0x2000 + bit_if f.required 0x200 + bit_if f.inherited 0x800 + present_bit (is_present part) 0x10 ≡ kept_of_sacl c part
+sacl-bits c acl.Absent f e = rw e refl
+sacl-bits c acl.Null f e = rw e (omega arith)
+sacl-bits c (acl.List aces) f e = rw e (omega arith)
+
+abbrev made_control : ℕ → AclPart → AclPart → ℕ
+made_control c dacl sacl = control_of (control_flags (flags_of sacl (sacl_of c)) (flags_of dacl (dacl_of c))) (is_present sacl) (is_present dacl)
+
+control-made : (c : ℕ) (dacl sacl : AclPart) → made_control c dacl sacl ≡ 0x8000 + kept_of_dacl c dacl + kept_of_sacl c sacl
+control-made c dacl sacl =
+    let df = flags_of dacl (dacl_of c) in
+    let sf = flags_of sacl (sacl_of c) in
+    let low = dacl-bits c dacl df refl in
+    let high = sacl-bits c sacl sf refl in
+    ap (λ (n : ℕ). n + 0x8000 + present_bit (is_present sacl) 0x10 + present_bit (is_present dacl) 0x4) (flags-stay sf df) ∙ omega (arith, low, high)
+
+whole-plain : (d : Descriptor) → described (whole_of d) ≡ plain d
+whole-plain d =
+    whole-described d.owner d.group (dacl_of d.control) d.dacl (sacl_of d.control) d.sacl
+    ∙ ap (λ (n : ℕ). record { control = n; rm = 0; owner = d.owner; group = d.group; sacl = d.sacl; dacl = d.dacl }) (control-made d.control d.dacl d.sacl)
+
+-- 4. The whole line.
+
+judged : (shaped twice : Bool) (read : Result Reading SddlFault) (r : Reading) → shaped ≡ true → twice ≡ false → read ≡ Ok r → r.large ≡ None
+    → finished (verdict shaped twice read) ≡ Ok (described r)
+unfolding finished verdict
+judged shaped twice read r s t e l = rw (s, t, e, l) refl
+
+line-means : (domain : Option SecurityId) (text : List ℕ) (r : Reading) → is_shaped text ≡ true → has_twice (parts_of text).parts ≡ false
+    → read_fields domain (fields_of (parts_of text).parts) nothing_read ≡ Ok r → r.large ≡ None → means text domain ≡ Ok (described r)
+unfolding means reads_as
+line-means domain text r s t e l = judged (is_shaped text) (has_twice (parts_of text).parts) _ r s t e l
+
+once : (naming : Naming) (d : Descriptor) → IsDescriptor d → has_twice (parts_of (flat_map part_text (printed_parts naming d))).parts ≡ false
+unfolding printed_parts
+once naming d h =
+    let dacl = acl_body naming (dacl_of d.control) d.dacl in
+    let sacl = acl_body naming (sacl_of d.control) d.sacl in
+    ap (λ (s : Sections). has_twice s.parts) (line-parts (printed_parts naming d) (printed_parts-are naming d h))
+    ∙ never_twice (sid_body naming d.owner) (sid_body naming d.group) dacl sacl
+
+-- what is printed of a descriptor means it, without what is dropped
+pub means-sddl : (naming : Naming) (d : Descriptor) → IsDescriptor d → means (sddl naming d) naming.domain ≡ Ok (plain d)
+means-sddl naming d h =
+    let ps = printed_parts naming d in
+    let are = printed_parts-are naming d h in
+    let fields = ap (λ (fs : List Field). read_fields naming.domain fs nothing_read) (line-fields ps are) ∙ printed-back naming d h in
+    ap (λ (text : List ℕ). means text naming.domain) (sddl-printed naming d)
+    ∙ line-means naming.domain (flat_map part_text ps) (whole_of d) (line-shaped ps are) (once naming d h) fields (never-large d)
+    ∙ ap (λ (x : Descriptor). Ok x) (whole-plain d)

@@ -1,0 +1,7 @@
+use Rattle.std.proofs.Common.{refl}
+use Rattle.sd_sddl.specs.Meaning.{take_field}
+use Rattle.sd_sddl.proofs.reader.take_held.Goals as goal
+
+pub returns-then-is_broken-clause-read : goal.returns-then-is_broken-clause-read
+unfolding take_field
+returns-then-is_broken-clause-read c = λ t h. rw (← c.is_broken.ensures, c.if-is_broken.true, c.fault_of.ensures) refl

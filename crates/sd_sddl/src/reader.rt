@@ -1,0 +1,522 @@
+// A line, read a byte at a time.
+ghost use Rattle.std.specs.Prelude.{◌≡◌, ◌≤◌, ◌==◌, ℕ, List, [], ◌∷◌, ◌++◌, length, ◌||◌, if◌then◌else◌, true, false, Some, None, Ok, Err, MatchResult};
+ghost use Rattle.std.specs.Option.{option_copied};
+ghost use Rattle.sd_binary.specs.Descriptor.{Shows};
+ghost use Rattle.sd_sddl.specs.Held.{no_text, held_text};
+ghost use Rattle.sd_sddl.specs.Line.{byte, head_at, head_of as head_named, pieces_from};
+ghost use Rattle.sd_sddl.specs.Meaning.{Reading, and_then, finished, means, reads_as, take_field};
+ghost use Rattle.sd_sddl.specs.Reads.{CanTake, Holds, Takes};
+ghost use Rattle.sd_sddl.specs.Progress.{ended_with, is_inside, is_seen, place_of, result_or, with_head};
+
+use crate::fault::SddlFault;
+use crate::field_text::FieldText;
+use crate::line::{AceField, Head, Place, Seen, Slot, head_of, is_blank, next_field, place_of};
+use crate::reading::{FieldReader, fault_of};
+use sd_binary::SdBuf;
+use sd_core::Sid;
+
+/// A reader of one line, a byte at a time, beside the buffer in which the descriptor is built.
+#[derive(Drop)]
+pub struct SddlReader {
+    place: Place,
+    // A letter that is a head if a colon comes next.
+    pending: Option<u8>,
+    sound: bool,
+    twice: bool,
+    seen: Seen,
+    // The text of the field at hand.
+    field: FieldText,
+    // The first field that did not read.
+    fault: Option<SddlFault>,
+    fields: FieldReader,
+}
+
+impl SddlReader {
+    ghost use Rattle.sd_sddl.specs.Reads.{Ends, Holds, Keeps, IsCalm, IsReader, IsText, Reads, Steps, StepsOn, StepsText, answer_at, waiting};
+
+    /// A reader that was fed nothing.
+    pub fn new(domain: Option<Sid>, buf: &mut SdBuf) -> Self
+        ensures reader { IsReader result buf.new }
+        ensures read { Reads result buf.new [] }
+        ensures domain { result.fields.domain ≡ domain }
+    {
+        SddlReader {
+            place: Place::Before,
+            pending: None,
+            sound: true,
+            twice: false,
+            seen: Seen {
+                owner: false,
+                group: false,
+                sacl: false,
+                dacl: false,
+            },
+            field: FieldText::new(),
+            fault: None,
+            fields: FieldReader::new(domain, buf),
+        }
+    }
+
+    // A byte inside parentheses.
+    fn put_inside(&mut self, buf: &mut SdBuf, field: AceField, byte: u8)
+        requires here { self.old.place ≡ Place.Ace field }
+        requires calm { IsCalm self.old }
+        requires held { (t : Reading) × Keeps self.old buf.old t }
+        ensures answers { Steps self.old buf.old (byte ∷ []) self.new buf.new }
+        ensures calm { IsCalm self.new }
+        ensures pending { self.new.pending ≡ self.old.pending }
+        ensures domain { self.new.fields.domain ≡ self.old.fields.domain }
+    {
+        match byte {
+            b'(' => self.sound = false,
+            b')' => self.end_ace(buf, field),
+            b';' => self.end_ace_field(buf, field),
+            _ => self.field.push_within(byte),
+        }
+    }
+
+    // The parenthesis that ends an ACE.
+    fn end_ace(&mut self, buf: &mut SdBuf, field: AceField)
+        requires here { self.old.place ≡ Place.Ace field }
+        requires calm { IsCalm self.old }
+        requires held { (t : Reading) × Keeps self.old buf.old t }
+        ensures answers { Steps self.old buf.old (41 ∷ []) self.new buf.new }
+        ensures calm { IsCalm self.new }
+        ensures pending { self.new.pending ≡ self.old.pending }
+        ensures domain { self.new.fields.domain ≡ self.old.fields.domain }
+    {
+        if let AceField::Sid = field {
+            end_field(
+                &mut self.fault,
+                &mut self.field,
+                &mut self.fields,
+                buf,
+                Slot::Ace(field),
+            );
+            self.place = Place::AfterAce;
+        } else {
+            self.sound = false;
+        }
+    }
+
+    // The semicolon that ends a field of an ACE.
+    fn end_ace_field(&mut self, buf: &mut SdBuf, field: AceField)
+        requires here { self.old.place ≡ Place.Ace field }
+        requires calm { IsCalm self.old }
+        requires held { (t : Reading) × Keeps self.old buf.old t }
+        ensures answers { Steps self.old buf.old (59 ∷ []) self.new buf.new }
+        ensures calm { IsCalm self.new }
+        ensures pending { self.new.pending ≡ self.old.pending }
+        ensures domain { self.new.fields.domain ≡ self.old.fields.domain }
+    {
+        if let AceField::Sid = field {
+            self.sound = false;
+        } else {
+            end_field(
+                &mut self.fault,
+                &mut self.field,
+                &mut self.fields,
+                buf,
+                Slot::Ace(field),
+            );
+            self.place = Place::Ace(next_field(field));
+        }
+    }
+
+    // A byte outside parentheses that begins no head.
+    fn put_outside(&mut self, buf: &mut SdBuf, byte: u8)
+        requires here { is_inside self.old.place ≡ false }
+        requires calm { IsCalm self.old }
+        requires held { (t : Reading) × Keeps self.old buf.old t }
+        ensures answers { StepsText self.old buf.old byte self.new buf.new }
+        ensures calm { IsCalm self.new }
+        ensures pending { self.new.pending ≡ self.old.pending }
+        ensures domain { self.new.fields.domain ≡ self.old.fields.domain }
+    {
+        match byte {
+            b'(' => self.begin_ace(buf),
+            b')' | b':' => self.sound = false,
+            _ => self.put_text(byte),
+        }
+    }
+
+    // The parenthesis that begins an ACE.
+    fn begin_ace(&mut self, buf: &mut SdBuf)
+        requires here { is_inside self.old.place ≡ false }
+        requires calm { IsCalm self.old }
+        requires held { (t : Reading) × Keeps self.old buf.old t }
+        ensures answers { Steps self.old buf.old (40 ∷ []) self.new buf.new }
+        ensures calm { IsCalm self.new }
+        ensures pending { self.new.pending ≡ self.old.pending }
+        ensures domain { self.new.fields.domain ≡ self.old.fields.domain }
+    {
+        match self.place {
+            Place::AclFlags(which) => {
+                end_field(
+                    &mut self.fault,
+                    &mut self.field,
+                    &mut self.fields,
+                    buf,
+                    Slot::AclFlags(which, true),
+                );
+                self.place = Place::Ace(AceField::Kind);
+            }
+            Place::AfterAce => {
+                self.field.clear();
+                self.place = Place::Ace(AceField::Kind);
+            }
+            _ => self.sound = false,
+        }
+    }
+
+    // A byte of a text outside parentheses.
+    fn put_text(&mut self, b: u8)
+        requires here { is_inside self.old.place ≡ false }
+        requires calm { IsCalm self.old }
+        requires open { (b == 40) ≡ false }
+        requires close { (b == 41) ≡ false }
+        requires colon { (b == 58) ≡ false }
+        ensures answers { (t : Reading) (rest : List ℕ) → head_at (byte b) (pieces_from false rest).after ≡ None → answer_at self.new t rest ≡ answer_at self.old t (b ∷ rest) }
+        ensures calm { IsCalm self.new }
+        ensures same { self.new ≡ record self.old { sound = self.new.sound; field = self.new.field } }
+    {
+        match self.place {
+            Place::Sid(_) | Place::AclFlags(_) => self.field.push_outer(b),
+            _ => {
+                if !is_blank(b) {
+                    self.sound = false;
+                }
+            }
+        }
+    }
+
+    // A head, of a letter that waited and its colon.
+    fn begin_part(&mut self, buf: &mut SdBuf, letter: u8, head: Head)
+        requires here { is_inside self.old.place ≡ false }
+        requires calm { IsCalm self.old }
+        requires letter { head_named letter ≡ Some head }
+        requires held { (t : Reading) × Keeps self.old buf.old t }
+        ensures answers { Steps self.old buf.old (letter ∷ 58 ∷ []) self.new buf.new }
+        ensures calm { IsCalm self.new }
+        ensures pending { self.new.pending ≡ self.old.pending }
+        ensures domain { self.new.fields.domain ≡ self.old.fields.domain }
+    {
+        self.end_part(buf);
+        self.note_head(head);
+    }
+
+    // Notes a head. After a second one of its letter nothing counts but the shape, and nothing more is built.
+    fn note_head(&mut self, head: Head)
+        ensures place { self.new.place ≡ place_of head }
+        ensures twice { self.new.twice ≡ (self.old.twice || is_seen self.old.seen head) }
+        ensures seen { self.new.seen ≡ with_head self.old.seen head }
+        ensures fault { self.new.fault ≡ (if is_seen self.old.seen head then Some SddlFault.PartTwice else self.old.fault) }
+        ensures same { self.new ≡ record self.old { place = self.new.place; twice = self.new.twice; seen = self.new.seen; fault = self.new.fault } }
+    {
+        if self.seen.has(head) {
+            self.twice = true;
+            self.fault = Some(SddlFault::PartTwice);
+        }
+        self.seen.add(head);
+        self.place = place_of(head);
+    }
+
+    // The end of the part at hand, with no ACE since its head or none open.
+    fn end_part(&mut self, buf: &mut SdBuf)
+        requires here { is_inside self.old.place ≡ false }
+        requires held { (t : Reading) × Keeps self.old buf.old t }
+        ensures read { (t : Reading) → Keeps self.old buf.old t → (u : Reading) × (self.new.fault ≡ None → Holds self.new.fields buf.new u)
+            × (result_or u self.new.fault ≡ ended_with self.old.fields.domain self.old.place self.old.field (result_or t self.old.fault)) }
+        ensures cleared { self.new.field ≡ no_text }
+        ensures domain { self.new.fields.domain ≡ self.old.fields.domain }
+        ensures same { self.new ≡ record self.old { field = self.new.field; fault = self.new.fault; fields = self.new.fields } }
+    {
+        match self.place {
+            Place::Sid(part) => end_field(
+                &mut self.fault,
+                &mut self.field,
+                &mut self.fields,
+                buf,
+                Slot::Sid(part),
+            ),
+            Place::AclFlags(which) => end_field(
+                &mut self.fault,
+                &mut self.field,
+                &mut self.fields,
+                buf,
+                Slot::AclFlags(which, false),
+            ),
+            _ => self.field.clear(),
+        }
+    }
+
+    // A byte outside parentheses with none that waits before it.
+    fn feed_alone(&mut self, buf: &mut SdBuf, byte: u8)
+        requires here { is_inside self.old.place ≡ false }
+        requires calm { IsCalm self.old }
+        requires pending { self.old.pending ≡ None }
+        requires held { (t : Reading) × Keeps self.old buf.old t }
+        ensures answers { StepsOn self.old buf.old (byte ∷ []) self.new buf.new }
+        ensures reader { IsReader self.new buf.new }
+        ensures domain { self.new.fields.domain ≡ self.old.fields.domain }
+    {
+        if head_of(byte).is_some() {
+            self.pending = Some(byte);
+        } else {
+            self.put_outside(buf, byte);
+        }
+    }
+
+    // A byte outside parentheses after a letter that waits.
+    fn feed_after(&mut self, buf: &mut SdBuf, letter: u8, byte: u8)
+        requires here { is_inside self.old.place ≡ false }
+        requires calm { IsCalm self.old }
+        requires pending { self.old.pending ≡ Some letter }
+        requires letter { IsText letter }
+        requires held { (t : Reading) × Keeps self.old buf.old t }
+        ensures answers { StepsOn self.old buf.old (letter ∷ byte ∷ []) self.new buf.new }
+        ensures reader { IsReader self.new buf.new }
+        ensures domain { self.new.fields.domain ≡ self.old.fields.domain }
+    {
+        self.pending = None;
+        match head_of(letter) {
+            Some(head) if byte == b':' => self.begin_part(buf, letter, head),
+            _ => {
+                self.put_text(letter);
+                self.feed_alone(buf, byte);
+            }
+        }
+    }
+
+    /// Takes one byte more of the line.
+    pub fn feed(&mut self, buf: &mut SdBuf, byte: u8)
+        requires { IsReader self.old buf.old }
+        ensures reader { IsReader self.new buf.new }
+        ensures read { (text : List ℕ) → Reads self.old buf.old text → Reads self.new buf.new (text ++ byte ∷ []) }
+        ensures domain { self.new.fields.domain ≡ self.old.fields.domain }
+    {
+        if !self.sound {
+            return;
+        }
+        if let Place::Ace(field) = self.place {
+            self.put_inside(buf, field, byte);
+        } else if let Some(letter) = self.pending {
+            self.feed_after(buf, letter, byte);
+        } else {
+            self.feed_alone(buf, byte);
+        }
+    }
+
+    /// The end of the line: the buffer holds what it means, or nothing where it has a fault.
+    pub fn finish(mut self, buf: &mut SdBuf) -> Result<(), SddlFault>
+        requires { IsReader self buf.old }
+        ensures { (text : List ℕ) → Reads self buf.old text → MatchResult (means text self.fields.domain)
+            (λ d. (result ≡ Ok tt) × Shows buf.new d)
+            (λ e. (result ≡ Err e) × (buf.new ≡ [])) }
+    {
+        if let Some(letter) = self.pending {
+            self.put_text(letter);
+        }
+        self.finish_alone(buf)
+    }
+
+    // The end of a line with no byte that waits.
+    fn finish_alone(mut self, buf: &mut SdBuf) -> Result<(), SddlFault>
+        requires calm { IsCalm self }
+        requires held { (t : Reading) × Keeps self buf.old t }
+        ensures { (t : Reading) → Keeps self buf.old t → MatchResult (finished (answer_at self t []))
+            (λ d. (result ≡ Ok tt) × Shows buf.new d)
+            (λ e. (result ≡ Err e) × (buf.new ≡ [])) }
+    {
+        match self.end_line(buf) {
+            Ok(()) => Ok(()),
+            Err(fault) => {
+                buf.clear();
+                Err(fault)
+            }
+        }
+    }
+
+    // What a line gives that ends here, with no byte that waits.
+    fn end_line(mut self, buf: &mut SdBuf) -> Result<(), SddlFault>
+        requires calm { IsCalm self }
+        requires held { (t : Reading) × Keeps self buf.old t }
+        ensures { (t : Reading) → Keeps self buf.old t → Ends (finished (answer_at self t [])) result buf.new }
+    {
+        if !self.sound {
+            return Err(SddlFault::Shape);
+        }
+        if let Place::Ace(_) = self.place {
+            return Err(SddlFault::Shape);
+        }
+        self.end_part(buf);
+        if self.twice {
+            return Err(SddlFault::PartTwice);
+        }
+        match self.fault {
+            Some(fault) => Err(fault),
+            None => self.fields.finish(buf),
+        }
+    }
+}
+
+// Reads the field at hand, where each one before it read, and makes room for the next.
+fn end_field(
+    fault: &mut Option<SddlFault>,
+    field: &mut FieldText,
+    fields: &mut FieldReader,
+    buf: &mut SdBuf,
+    slot: Slot,
+)
+    requires held { (t : Reading) × (fault.old ≡ None → Holds fields.old buf.old t × CanTake slot t) }
+    ensures read { (t : Reading) → (fault.old ≡ None → Holds fields.old buf.old t) → (u : Reading) × (fault.new ≡ None → Holds fields.new buf.new u)
+        × (result_or u fault.new ≡ and_then (result_or t fault.old) (λ r. take_field fields.old.domain r slot (held_text field.old))) }
+    ensures cleared { field.new ≡ no_text }
+    ensures domain { fields.new.domain ≡ fields.old.domain }
+{
+    read_held(fault, field, fields, buf, slot);
+    field.clear();
+}
+
+// Reads the field at hand, where each one before it read.
+fn read_held(
+    fault: &mut Option<SddlFault>,
+    field: &FieldText,
+    fields: &mut FieldReader,
+    buf: &mut SdBuf,
+    slot: Slot,
+)
+    requires held { (t : Reading) × (fault.old ≡ None → Holds fields.old buf.old t × CanTake slot t) }
+    ensures read { (t : Reading) → (fault.old ≡ None → Holds fields.old buf.old t) → (u : Reading) × (fault.new ≡ None → Holds fields.new buf.new u)
+        × (result_or u fault.new ≡ and_then (result_or t fault.old) (λ r. take_field fields.old.domain r slot (held_text field.now))) }
+    ensures domain { fields.new.domain ≡ fields.old.domain }
+{
+    if fault.is_some() {
+        return;
+    }
+    if let Err(found) = take_held(fields, buf, slot, field) {
+        *fault = Some(found);
+    }
+}
+
+fn take_held(
+    fields: &mut FieldReader,
+    buf: &mut SdBuf,
+    slot: Slot,
+    field: &FieldText,
+) -> Result<(), SddlFault>
+    requires held { (t : Reading) × Holds fields.old buf.old t × CanTake slot t }
+    ensures read { (t : Reading) → Holds fields.old buf.old t → Takes (take_field fields.old.domain t slot (held_text field.now)) result fields.new buf.new }
+    ensures domain { fields.new.domain ≡ fields.old.domain }
+{
+    if field.is_broken() {
+        Err(fault_of(slot))
+    } else {
+        fields.take_field(buf, slot, field.text())
+    }
+}
+
+/// Reads a line of SDDL (MS-DTYP 2.5.1), with the aliases of a domain. The buffer holds bytes that show the descriptor that
+/// the line means. After a refusal, by the first fault, it is empty.
+pub fn read_sddl(text: &[u8], domain: Option<&Sid>, buf: &mut SdBuf) -> Result<(), SddlFault>
+    ensures { MatchResult (means text.now (option_copied domain.entry))
+        (λ d. (result ≡ Ok tt) × Shows buf.new d)
+        (λ e. (result ≡ Err e) × (buf.new ≡ [])) }
+{
+    let mut reader = SddlReader::new(domain.copied(), buf);
+    for byte in text {
+        reader.feed(buf, *byte);
+    }
+    reader.finish(buf)
+}
+
+#[cfg(test)]
+mod tests {
+    use super::*;
+    use sd_binary::Which;
+    use sd_core::SidFault;
+    use std::process::Abort;
+
+    fn check_bytes(rt: &(impl Abort + AllocGlobal), line: &str, hex: &str)
+        requires { length hex.now ≤ 262452 }
+    {
+        let mut buf = SdBuf::new(rt.alloc()).expect(rt, "memory");
+        assert_eq!(rt; read_sddl(line.as_bytes(), None, &mut buf), Ok(()));
+        let mut bytes = SdBuf::new(rt.alloc()).expect(rt, "memory");
+        assert_eq!(rt; bytes.from_hex(hex.as_bytes()), Ok(()));
+        assert_eq!(rt; buf.bytes(), bytes.bytes());
+    }
+
+    // Bytes put together from MS-DTYP 2.4.2.2, 2.4.4.2, 2.4.4.3, 2.4.5 and 2.4.6.
+    #[test]
+    fn reads_lines(rt: HostRuntime) {
+        check_bytes(&rt, " ", "0100008000000000000000000000000000000000");
+        check_bytes(
+            &rt,
+            "D:",
+            "01000480000000000000000000000000140000000200080000000000",
+        );
+        check_bytes(
+            &rt,
+            "D:NO_ACCESS_CONTROL",
+            "0100048000000000000000000000000000000000",
+        );
+        check_bytes(
+            &rt,
+            "O:BAG:SYD:(A;;FA;;;WD)",
+            "01000480140000002400000000000000300000000102000000000005200000002002000001010000000000051200000002001c000100000000001400ff011f00010100000000000100000000",
+        );
+        check_bytes(
+            &rt,
+            " o:ba  d:pai (a;;fa;;;wd) ",
+            "01000494140000000000000000000000240000000102000000000005200000002002000002001c000100000000001400ff011f00010100000000000100000000",
+        );
+        check_bytes(
+            &rt,
+            "D:(OA;CI;RP;bf967aba-0de6-11d0-a285-00aa003049e2;;AU)",
+            "01000480000000000000000000000000140000000400300001000000050228001000000001000000ba7a96bfe60dd011a28500aa003049e201010000000000050b000000",
+        );
+    }
+    // The order of the faults: the shape, a part that stands twice, then field by field.
+    #[test]
+    fn refuses_lines(rt: HostRuntime) {
+        let rows = [
+            ("D:(A;;FA;;WD)", SddlFault::Shape),
+            ("O:ZZD:(A;;FA;;WD)", SddlFault::Shape),
+            ("O:BAO:ZZ", SddlFault::PartTwice),
+            ("O:ZZ", SddlFault::Sid(SidFault::Alias)),
+            ("O:DA", SddlFault::Sid(SidFault::NeedsDomain)),
+            ("O:S-1-4294967296", SddlFault::Sid(SidFault::Number)),
+            ("O:", SddlFault::Sid(SidFault::SidForm)),
+            ("D:PA", SddlFault::Flags),
+            ("D:(A;XX;FA;;;WD)", SddlFault::Flags),
+            ("D:(A;;GA1;;;WD)", SddlFault::Rights),
+            ("D:(A;;FA;x;;WD)", SddlFault::Guid),
+            ("D:(XA;;FA;;;WD)", SddlFault::Kind),
+        ];
+        let mut buf = SdBuf::new(rt.alloc()).expect(&rt, "memory");
+        for (line, fault) in rows {
+            assert_eq!(rt; read_sddl(line.as_bytes(), None, &mut buf), Err(fault));
+            assert_eq!(rt; buf.bytes().len(), 0);
+        }
+    }
+
+    // An ACE for one trustee takes 20 bytes: 3,276 of them and the ACL's header take 65,528.
+    #[test]
+    fn refuses_an_acl_that_is_too_large(rt: HostRuntime) {
+        let mut line = Vec::new(rt.alloc());
+        line.extend_from_slice(b"D:").expect(&rt, "memory");
+        for _ in 0..3276 {
+            line.extend_from_slice(b"(A;OICI;FA;;;CO)")
+                .expect(&rt, "memory");
+        }
+        let mut buf = SdBuf::new(rt.alloc()).expect(&rt, "memory");
+        assert_eq!(rt; read_sddl(&line, None, &mut buf), Ok(()));
+        assert_eq!(rt; buf.bytes().len(), 20 + 65_528);
+        line.extend_from_slice(b"(A;OICI;FA;;;CO)")
+            .expect(&rt, "memory");
+        let large = SddlFault::AclTooLarge(Which::Dacl);
+        assert_eq!(rt; read_sddl(&line, None, &mut buf), Err(large));
+        assert_eq!(rt; buf.bytes().len(), 0);
+    }
+}
