@@ -6,7 +6,9 @@ use std::io::{self, BufRead, BufWriter, Write};
 use std::ops::Range;
 use std::process::ExitCode;
 
-const LINE_LIMIT: usize = 262_452;
+const HEX_LINE_LIMIT: usize = 262_452;
+const SDDL_LINE_LIMIT: usize = 1_049_872;
+const TEXT_LIMIT: usize = 183;
 
 const HEADER_SIZE: usize = 20;
 const OFFSETS_AT: usize = 4;
@@ -16,6 +18,7 @@ const ACE_HEADER_SIZE: usize = 8;
 const MIN_ACE_SIZE: usize = ACE_HEADER_SIZE + SID_HEADER_SIZE;
 const GUID_SIZE: usize = 16;
 const MAX_SUB_AUTHORITIES: usize = 15;
+const MAX_ACL_SIZE: usize = 0xffff;
 
 const SELF_RELATIVE: u16 = 0x8000;
 const DACL_PRESENT: u16 = 0x0004;
@@ -72,6 +75,17 @@ enum Fault {
     AceType(Part),
     AceFlags(Part),
     Overlap(Part, Part),
+    Shape,
+    PartTwice,
+    Alias,
+    NeedsDomain,
+    Number,
+    SidForm,
+    Flags,
+    Rights,
+    Guid,
+    Kind,
+    AclTooLarge(Part),
 }
 
 impl fmt::Display for Fault {
@@ -90,6 +104,17 @@ impl fmt::Display for Fault {
             Fault::AceType(part) => write!(f, "error 12 ace-type {part}"),
             Fault::AceFlags(part) => write!(f, "error 13 ace-flags {part}"),
             Fault::Overlap(one, other) => write!(f, "error 14 overlap {one} {other}"),
+            Fault::Shape => f.write_str("error 20 shape"),
+            Fault::PartTwice => f.write_str("error 21 part-twice"),
+            Fault::Alias => f.write_str("error 22 alias"),
+            Fault::NeedsDomain => f.write_str("error 23 needs-domain"),
+            Fault::Number => f.write_str("error 24 number"),
+            Fault::SidForm => f.write_str("error 25 sid-form"),
+            Fault::Flags => f.write_str("error 26 flags"),
+            Fault::Rights => f.write_str("error 27 rights"),
+            Fault::Guid => f.write_str("error 28 guid"),
+            Fault::Kind => f.write_str("error 29 kind"),
+            Fault::AclTooLarge(part) => write!(f, "error 30 acl-too-large {part}"),
         }
     }
 }
@@ -105,7 +130,7 @@ fn digit(byte: u8) -> Result<u8, Fault> {
 
 fn decode(line: &[u8], bytes: &mut Vec<u8>) -> Result<(), Fault> {
     bytes.clear();
-    if line.len() > LINE_LIMIT {
+    if line.len() > HEX_LINE_LIMIT {
         return Err(Fault::TooLong);
     }
     if line.len() % 2 != 0 {
@@ -267,6 +292,16 @@ struct Sid {
 }
 
 impl Sid {
+    fn new(authority: u64, subs: &[u32]) -> Sid {
+        let mut sid = Sid {
+            authority,
+            count: subs.len(),
+            subs: [0; MAX_SUB_AUTHORITIES],
+        };
+        sid.subs[..subs.len()].copy_from_slice(subs);
+        sid
+    }
+
     /// The SID at the front of the bytes, where one is known to be.
     fn at(bytes: &[u8]) -> Sid {
         let mut sid = Sid {
@@ -285,6 +320,14 @@ impl Sid {
 
     fn subs(&self) -> &[u32] {
         &self.subs[..self.count]
+    }
+
+    fn put_bytes(&self, bytes: &mut Vec<u8>) {
+        bytes.extend_from_slice(&[1, self.count as u8]);
+        bytes.extend_from_slice(&self.authority.to_be_bytes()[2..]);
+        for sub in self.subs() {
+            bytes.extend_from_slice(&sub.to_le_bytes());
+        }
     }
 }
 
@@ -577,19 +620,428 @@ fn put_sddl(layout: &[u8], naming: &Naming, text: &mut Vec<u8>) {
     }
 }
 
-#[derive(Clone, Copy, Default)]
+/// A run of names of two letters, in either case.
+fn bits_of_text(text: &[u8], bits_of_name: fn(&[u8; 2]) -> Option<u32>) -> Option<u32> {
+    if text.len() > TEXT_LIMIT || text.len() % 2 != 0 {
+        return None;
+    }
+    let mut bits = 0;
+    for pair in text.chunks_exact(2) {
+        bits |= bits_of_name(&[pair[0].to_ascii_uppercase(), pair[1].to_ascii_uppercase()])?;
+    }
+    Some(bits)
+}
+
+fn bits_of_name(name: &[u8; 2], names: &Names) -> Option<u32> {
+    let (_, bits) = names.iter().find(|(one, _)| one.as_bytes() == name)?;
+    Some(*bits)
+}
+
+fn flag(name: &[u8; 2]) -> Option<u32> {
+    bits_of_name(name, FLAGS)
+}
+
+fn right(name: &[u8; 2]) -> Option<u32> {
+    Some(match name {
+        b"FA" => 0x1f_01ff,
+        b"FR" => 0x12_0089,
+        b"FW" => 0x12_0116,
+        b"FX" => 0x12_00a0,
+        b"KA" => 0xf_003f,
+        b"KR" | b"KX" => 0x2_0019,
+        b"KW" => 0x2_0006,
+        b"NW" => 1,
+        b"NR" => 2,
+        b"NX" => 4,
+        _ => return bits_of_name(name, RIGHTS),
+    })
+}
+
+fn number(digits: &[u8], radix: u32) -> Option<u32> {
+    let mut number: u32 = 0;
+    for digit in digits {
+        let digit = char::from(*digit).to_digit(radix)?;
+        number = number.checked_mul(radix)?.checked_add(digit)?;
+    }
+    Some(number)
+}
+
+/// A number in hex, octal or decimal digits, or names.
+fn rights_of_text(text: &[u8]) -> Option<u32> {
+    if text.len() > TEXT_LIMIT {
+        return None;
+    }
+    match text {
+        [b'0', b'x' | b'X', digits @ ..] if !digits.is_empty() => number(digits, 16),
+        [b'0', digits @ ..] => number(digits, 8),
+        [b'1'..=b'9', ..] => number(text, 10),
+        _ => bits_of_text(text, right),
+    }
+}
+
+fn well_known_sid(alias: &[u8; 2]) -> Option<Sid> {
+    let (authority, subs): (u64, &[u32]) = match alias {
+        b"WD" => (1, &[0]),
+        b"CO" => (3, &[0]),
+        b"CG" => (3, &[1]),
+        b"OW" => (3, &[4]),
+        b"NU" => (5, &[2]),
+        b"IU" => (5, &[4]),
+        b"SU" => (5, &[6]),
+        b"AN" => (5, &[7]),
+        b"ED" => (5, &[9]),
+        b"PS" => (5, &[10]),
+        b"AU" => (5, &[11]),
+        b"RC" => (5, &[12]),
+        b"SY" => (5, &[18]),
+        b"LS" => (5, &[19]),
+        b"NS" => (5, &[20]),
+        b"WR" => (5, &[33]),
+        b"UD" => (5, &[84, 0, 0, 0, 0, 0]),
+        b"BA" => (5, &[32, 544]),
+        b"BU" => (5, &[32, 545]),
+        b"BG" => (5, &[32, 546]),
+        b"PU" => (5, &[32, 547]),
+        b"AO" => (5, &[32, 548]),
+        b"SO" => (5, &[32, 549]),
+        b"PO" => (5, &[32, 550]),
+        b"BO" => (5, &[32, 551]),
+        b"RE" => (5, &[32, 552]),
+        b"RU" => (5, &[32, 554]),
+        b"RD" => (5, &[32, 555]),
+        b"NO" => (5, &[32, 556]),
+        b"MU" => (5, &[32, 558]),
+        b"LU" => (5, &[32, 559]),
+        b"IS" => (5, &[32, 568]),
+        b"CY" => (5, &[32, 569]),
+        b"ER" => (5, &[32, 573]),
+        b"CD" => (5, &[32, 574]),
+        b"RA" => (5, &[32, 575]),
+        b"ES" => (5, &[32, 576]),
+        b"MS" => (5, &[32, 577]),
+        b"HA" => (5, &[32, 578]),
+        b"AA" => (5, &[32, 579]),
+        b"RM" => (5, &[32, 580]),
+        b"AC" => (15, &[2, 1]),
+        b"LW" => (16, &[4096]),
+        b"ME" => (16, &[8192]),
+        b"MP" => (16, &[8448]),
+        b"HI" => (16, &[12288]),
+        b"SI" => (16, &[16384]),
+        b"AS" => (18, &[1]),
+        b"SS" => (18, &[2]),
+        _ => return None,
+    };
+    Some(Sid::new(authority, subs))
+}
+
+fn last_in_the_domain(alias: &[u8; 2]) -> Option<u32> {
+    Some(match alias {
+        b"RO" => 498,
+        b"LA" => 500,
+        b"LG" => 501,
+        b"DA" => 512,
+        b"DU" => 513,
+        b"DG" => 514,
+        b"DC" => 515,
+        b"DD" => 516,
+        b"CA" => 517,
+        b"SA" => 518,
+        b"EA" => 519,
+        b"PA" => 520,
+        b"CN" => 522,
+        b"AP" => 525,
+        b"KA" => 526,
+        b"EK" => 527,
+        b"RS" => 553,
+        _ => return None,
+    })
+}
+
+fn sid_of_alias(alias: &[u8; 2], domain: Option<&Sid>) -> Result<Sid, Fault> {
+    if let Some(sid) = well_known_sid(alias) {
+        return Ok(sid);
+    }
+    let last = last_in_the_domain(alias).ok_or(Fault::Alias)?;
+    let domain = domain.filter(|domain| domain.count < MAX_SUB_AUTHORITIES);
+    let domain = domain.ok_or(Fault::NeedsDomain)?;
+    let mut sid = Sid::new(domain.authority, domain.subs());
+    sid.subs[sid.count] = last;
+    sid.count += 1;
+    Ok(sid)
+}
+
+/// A decimal number below 2^32, in at most ten digits. The shape of a SID's whole text comes before the size of its
+/// numbers, so a number that is too large is only marked.
+fn decimal(text: &[u8], too_large: &mut bool) -> Result<u32, Fault> {
+    if text.is_empty() || !text.iter().all(u8::is_ascii_digit) {
+        return Err(Fault::SidForm);
+    }
+    let number = if text.len() > 10 { None } else { number(text, 10) };
+    *too_large |= number.is_none();
+    Ok(number.unwrap_or_default())
+}
+
+fn sid_of_text(text: &[u8], domain: Option<&Sid>) -> Result<Sid, Fault> {
+    if let [first, second] = text {
+        if first.is_ascii_alphabetic() && second.is_ascii_alphabetic() {
+            return sid_of_alias(&[first.to_ascii_uppercase(), second.to_ascii_uppercase()], domain);
+        }
+    }
+    let [b'S' | b's', b'-', b'1', b'-', numbers @ ..] = text else {
+        return Err(Fault::SidForm);
+    };
+    if text.len() > TEXT_LIMIT {
+        return Err(Fault::SidForm);
+    }
+    let mut numbers = numbers.split(|byte| *byte == b'-');
+    let mut sid = Sid::new(0, &[]);
+    let mut too_large = false;
+    match numbers.next().unwrap_or_default() {
+        [b'0', b'x' | b'X', digits @ ..] => {
+            if digits.len() != 12 {
+                return Err(Fault::SidForm);
+            }
+            for byte in digits {
+                sid.authority = sid.authority << 4 | u64::from(digit(*byte).map_err(|_| Fault::SidForm)?);
+            }
+        }
+        authority => sid.authority = u64::from(decimal(authority, &mut too_large)?),
+    }
+    for text in numbers {
+        *sid.subs.get_mut(sid.count).ok_or(Fault::SidForm)? = decimal(text, &mut too_large)?;
+        sid.count += 1;
+    }
+    if too_large {
+        return Err(Fault::Number);
+    }
+    Ok(sid)
+}
+
+/// Where the two digits of each byte stand: of three little-endian numbers, and then in order.
+const GUID_PLACES: [usize; GUID_SIZE] = [6, 4, 2, 0, 11, 9, 16, 14, 19, 21, 24, 26, 28, 30, 32, 34];
+
+fn guid_of_text(text: &[u8]) -> Option<[u8; GUID_SIZE]> {
+    if text.len() != 36 || [8, 13, 18, 23].iter().any(|at| text[*at] != b'-') {
+        return None;
+    }
+    let mut guid = [0; GUID_SIZE];
+    for (byte, at) in guid.iter_mut().zip(GUID_PLACES) {
+        *byte = digit(text[at]).ok()? << 4 | digit(text[at + 1]).ok()?;
+    }
+    Some(guid)
+}
+
+fn is_blank(byte: u8) -> bool {
+    matches!(byte, b' ' | b'\t')
+}
+
+fn without_blanks_before(text: &[u8]) -> &[u8] {
+    let start = text.iter().position(|byte| !is_blank(*byte));
+    &text[start.unwrap_or(text.len())..]
+}
+
+fn without_blanks(text: &[u8]) -> &[u8] {
+    let text = without_blanks_before(text);
+    let end = text.iter().rposition(|byte| !is_blank(*byte));
+    &text[..end.map_or(0, |last| last + 1)]
+}
+
+/// A part of an SDDL line: its letter, its text, and its ACEs with their parentheses and the blanks between them.
+struct TextPart<'a> {
+    letter: u8,
+    text: &'a [u8],
+    aces: &'a [u8],
+}
+
+/// Splits off the ACEs at the front of a text, of which there may be none.
+fn split_aces(text: &[u8]) -> Result<(&[u8], &[u8]), Fault> {
+    let mut left = text;
+    while let [b'(', inside @ ..] = left {
+        let length = inside.iter().position(|byte| matches!(byte, b'(' | b')'));
+        let (ace, rest) = inside.split_at(length.ok_or(Fault::Shape)?);
+        let semicolons = ace.iter().filter(|byte| **byte == b';').count();
+        if rest[0] != b')' || semicolons != 5 {
+            return Err(Fault::Shape);
+        }
+        left = without_blanks_before(&rest[1..]);
+    }
+    Ok(text.split_at(text.len() - left.len()))
+}
+
+/// The parts of a line, where it has the shape of SDDL.
+fn text_parts(line: &[u8]) -> Result<Vec<TextPart<'_>>, Fault> {
+    let mut parts = Vec::new();
+    let mut left = without_blanks_before(line);
+    while !left.is_empty() {
+        let [letter, b':', body @ ..] = left else {
+            return Err(Fault::Shape);
+        };
+        // The byte before a colon has to be the next part's letter.
+        let end = match body.iter().position(|byte| matches!(byte, b'(' | b')' | b':')) {
+            Some(at) if body[at] == b':' => at.checked_sub(1).ok_or(Fault::Shape)?,
+            Some(at) => at,
+            None => body.len(),
+        };
+        let (text, rest) = body.split_at(end);
+        let (aces, rest) = split_aces(rest)?;
+        let part = TextPart {
+            letter: letter.to_ascii_uppercase(),
+            text: without_blanks(text),
+            aces,
+        };
+        match part.letter {
+            b'D' | b'S' => (),
+            b'O' | b'G' if aces.is_empty() => (),
+            _ => return Err(Fault::Shape),
+        }
+        parts.push(part);
+        left = rest;
+    }
+    Ok(parts)
+}
+
+/// Appends the ACE of the text between two parentheses. True where it is an object ACE.
+fn read_ace(text: &[u8], domain: Option<&Sid>, bytes: &mut Vec<u8>) -> Result<bool, Fault> {
+    let mut fields = text.split(|byte| *byte == b';');
+    let mut next_field = || fields.next().unwrap_or_default();
+    let (ace_type, is_object) = match next_field() {
+        [b'A' | b'a'] => (0x00, false),
+        [b'D' | b'd'] => (0x01, false),
+        [b'A' | b'a', b'U' | b'u'] => (0x02, false),
+        [b'O' | b'o', b'A' | b'a'] => (0x05, true),
+        [b'O' | b'o', b'D' | b'd'] => (0x06, true),
+        [b'O' | b'o', b'U' | b'u'] => (0x07, true),
+        [b'M' | b'm', b'L' | b'l'] => (0x11, false),
+        _ => return Err(Fault::Kind),
+    };
+    let start = bytes.len();
+    let flags = bits_of_text(next_field(), flag).ok_or(Fault::Flags)?;
+    let mask = rights_of_text(next_field()).ok_or(Fault::Rights)?;
+    bytes.extend_from_slice(&[ace_type, flags as u8, 0, 0]);
+    bytes.extend_from_slice(&mask.to_le_bytes());
+    if is_object {
+        bytes.extend_from_slice(&[0; 4]);
+    }
+    for present in [OBJECT_TYPE_PRESENT, INHERITED_OBJECT_TYPE_PRESENT] {
+        let field = next_field();
+        if field.is_empty() {
+            continue;
+        }
+        if !is_object {
+            return Err(Fault::Guid);
+        }
+        bytes.extend_from_slice(&guid_of_text(field).ok_or(Fault::Guid)?);
+        bytes[start + ACE_HEADER_SIZE] |= present as u8;
+    }
+    sid_of_text(next_field(), domain)?.put_bytes(bytes);
+    let size = bytes.len() - start;
+    set_u16(bytes, start + 2, size);
+    Ok(is_object)
+}
+
+/// Appends the ACL of a part, unless it is null, and gives the flags that stand before it. Its size and its number of
+/// ACEs are those of an ACL that is not too large.
+fn read_acl(part: &TextPart, domain: Option<&Sid>, bytes: &mut Vec<u8>) -> Result<u32, Fault> {
+    if part.text.len() > TEXT_LIMIT {
+        return Err(Fault::Flags);
+    }
+    let names = if part.letter == b'D' { DACL_FLAGS } else { SACL_FLAGS };
+    let text = part.text.to_ascii_uppercase();
+    let mut left = &text[..];
+    let mut flags = 0;
+    while let Some((name, bit)) = names.iter().find(|(name, _)| left.starts_with(name.as_bytes())) {
+        flags |= bit;
+        left = &left[name.len()..];
+    }
+    if left == b"NO_ACCESS_CONTROL" && part.aces.is_empty() {
+        return Ok(flags);
+    }
+    if !left.is_empty() {
+        return Err(Fault::Flags);
+    }
+    bytes.extend_from_slice(&[2, 0, 0, 0, 0, 0, 0, 0]);
+    let mut count = 0;
+    // Each piece begins with what follows a parenthesis: an ACE, or the blanks after one.
+    for piece in part.aces.split(|byte| matches!(byte, b'(' | b')')).skip(1).step_by(2) {
+        if read_ace(piece, domain, bytes)? {
+            bytes[0] = 4;
+        }
+        count += 1;
+    }
+    let size = bytes.len();
+    set_u16(bytes, 2, size);
+    set_u16(bytes, 4, count);
+    Ok(flags)
+}
+
+/// Makes the canonical layout of what an SDDL line says, of the bytes of its parts; after a fault it is of no use.
+fn read_sddl(
+    line: &[u8],
+    domain: Option<&Sid>,
+    bytes: &mut [Vec<u8>; PARTS.len()],
+    layout: &mut Vec<u8>,
+) -> Result<(), Fault> {
+    if line.len() > SDDL_LINE_LIMIT {
+        return Err(Fault::TooLong);
+    }
+    let parts = text_parts(line)?;
+    for (index, part) in parts.iter().enumerate() {
+        if parts[..index].iter().any(|other| other.letter == part.letter) {
+            return Err(Fault::PartTwice);
+        }
+    }
+    let mut control = SELF_RELATIVE;
+    bytes.iter_mut().for_each(Vec::clear);
+    for part in &parts {
+        match part.letter {
+            b'O' => sid_of_text(part.text, domain)?.put_bytes(&mut bytes[Part::Owner as usize]),
+            b'G' => sid_of_text(part.text, domain)?.put_bytes(&mut bytes[Part::Group as usize]),
+            b'D' => control |= DACL_PRESENT | read_acl(part, domain, &mut bytes[Part::Dacl as usize])? as u16,
+            _ => control |= SACL_PRESENT | read_acl(part, domain, &mut bytes[Part::Sacl as usize])? as u16,
+        }
+    }
+    for part in &parts {
+        let acl = if part.letter == b'D' { Part::Dacl } else { Part::Sacl };
+        if bytes[acl as usize].len() > MAX_ACL_SIZE && matches!(part.letter, b'D' | b'S') {
+            return Err(Fault::AclTooLarge(acl));
+        }
+    }
+    layout.clear();
+    layout.extend_from_slice(&[1, 0]);
+    layout.extend_from_slice(&control.to_le_bytes());
+    layout.resize(HEADER_SIZE, 0);
+    for (index, part) in bytes.iter().enumerate().filter(|(_, part)| !part.is_empty()) {
+        let offset = layout.len() as u32;
+        set_u32(layout, OFFSETS_AT + 4 * index, offset);
+        layout.extend_from_slice(part);
+    }
+    Ok(())
+}
+
+#[derive(Clone, Copy)]
 enum Form {
     Hex,
-    #[default]
     Sddl,
 }
 
+impl Form {
+    fn of_word(word: &str) -> Option<Form> {
+        match word {
+            "hex" => Some(Form::Hex),
+            "sddl" => Some(Form::Sddl),
+            _ => None,
+        }
+    }
+}
+
 /// What is asked for, and the buffers that are used again for each line.
-#[derive(Default)]
 struct Converter {
+    from: Form,
     to: Form,
     naming: Naming,
     bytes: Vec<u8>,
+    parts: [Vec<u8>; PARTS.len()],
     layout: Vec<u8>,
 }
 
@@ -599,8 +1051,13 @@ impl Converter {
         if line.is_empty() {
             return Ok(());
         }
-        decode(line, &mut self.bytes)?;
-        convert_descriptor(&self.bytes, &mut self.layout)?;
+        match self.from {
+            Form::Hex => {
+                decode(line, &mut self.bytes)?;
+                convert_descriptor(&self.bytes, &mut self.layout)?;
+            }
+            Form::Sddl => read_sddl(line, self.naming.domain.as_ref(), &mut self.parts, &mut self.layout)?,
+        }
         match self.to {
             Form::Hex => put_hex(&self.layout, text),
             Form::Sddl => put_sddl(&self.layout, &self.naming, text),
@@ -635,43 +1092,24 @@ fn convert(mut converter: Converter, mut input: impl BufRead, mut output: impl W
     Ok(all_good)
 }
 
-/// The SID that a text shows in decimal numbers, or in hex the authority.
-fn sid_of_text(text: &str) -> Option<Sid> {
-    let mut numbers = text.strip_prefix("S-1-")?.split('-');
-    let authority = numbers.next()?;
-    let authority = match authority.strip_prefix("0x") {
-        Some(digits) => u64::from_str_radix(digits, 16).ok()?,
-        None => authority.parse().ok()?,
-    };
-    let mut sid = Sid {
-        authority,
-        count: 0,
-        subs: [0; MAX_SUB_AUTHORITIES],
-    };
-    for number in numbers {
-        *sid.subs.get_mut(sid.count)? = number.parse().ok()?;
-        sid.count += 1;
-    }
-    Some(sid)
-}
-
 /// What the words after `convert` ask for; None where they are not understood.
 fn converter_of(mut words: impl Iterator<Item = String>) -> Option<Converter> {
-    let mut converter = Converter::default();
+    let mut converter = Converter {
+        from: Form::Hex,
+        to: Form::Sddl,
+        naming: Naming::default(),
+        bytes: Vec::new(),
+        parts: Default::default(),
+        layout: Vec::new(),
+    };
     if words.next()? != "convert" {
         return None;
     }
     while let Some(word) = words.next() {
         match word.as_str() {
-            "--from" if words.next()? == "hex" => (),
-            "--to" => {
-                converter.to = match words.next()?.as_str() {
-                    "hex" => Form::Hex,
-                    "sddl" => Form::Sddl,
-                    _ => return None,
-                }
-            }
-            "--domain" => converter.naming.domain = Some(sid_of_text(&words.next()?)?),
+            "--from" => converter.from = Form::of_word(&words.next()?)?,
+            "--to" => converter.to = Form::of_word(&words.next()?)?,
+            "--domain" => converter.naming.domain = Some(sid_of_text(words.next()?.as_bytes(), None).ok()?),
             "--numeric" => converter.naming.numeric = true,
             _ => return None,
         }
@@ -681,7 +1119,7 @@ fn converter_of(mut words: impl Iterator<Item = String>) -> Option<Converter> {
 
 fn main() -> ExitCode {
     let Some(converter) = converter_of(env::args().skip(1)) else {
-        eprintln!("baseline: convert [--from hex] [--to hex|sddl] [--domain S-1-..] [--numeric]");
+        eprintln!("baseline: convert [--from hex|sddl] [--to hex|sddl] [--domain SID] [--numeric]");
         return ExitCode::from(2);
     };
     match convert(converter, io::stdin().lock(), BufWriter::new(io::stdout().lock())) {

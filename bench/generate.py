@@ -1,10 +1,12 @@
 #!/usr/bin/env python3
-"""generate.py [--aces N] [--megabytes N] [--seed S] > FILE
+"""generate.py [--form FORM] [--aces N] [--megabytes N] [--seed S] > FILE
 
-Writes lines of hex such as an export of a file server and a directory has them. Each descriptor has an owner, a group
+Writes lines of hex, or of SDDL, such as an export of a file server and a directory has them. Each descriptor has an owner, a group
 and a DACL of 3 to 10 ACEs, mostly for accounts of a few domains, for groups that each domain has, and for well-known
 SIDs; one in four is a directory's, with object ACEs among the others, and one in three has a SACL too. One in eight is
 not laid out canonically, one in ten is in upper case, and one in twenty is faulty, with each kind of fault among them.
+In SDDL they are spelled as they are printed under one of the domains, but for one in eight, which has its parts in
+another order and blanks between them, one in ten in lower case, and one in twenty that is faulty.
 
 With --aces all lines have a DACL of so many ACEs (at most 1,500), of the same mixture, and none is faulty or unusual.
 
@@ -12,11 +14,19 @@ Distinct lines are made for a pool, and lines of the pool are written in random 
 The same seed gives the same lines.
 """
 import argparse
+import pathlib
 import random
+import re
 import struct
 import sys
 
-TOO_LONG = "0" * 262_454  # such lines are rare here, since each has the size of hundreds of others
+sys.dont_write_bytecode = True
+sys.path.append(str(pathlib.Path(__file__).resolve().parent.parent / "tests"))
+import reference  # noqa: E402  (what SDDL a descriptor has)
+
+# A line that is too long, and its chance: it is rare here, since it has the size of hundreds of others.
+TOO_LONG = {"hex": ("0" * 262_454, 0.00004), "sddl": ("D:" + "(A;;FA;;;WD)" * 90_000, 0.00001)}
+TOO_LARGE = "D:" + "(A;;FA;;;WD)" * 3_277  # for an ACL
 DISTINCT_LINES = 20_000
 DISTINCT_ACES = 60_000  # in the pool, where each line has very many
 
@@ -43,6 +53,12 @@ def sid(authority, *subs):
 
 def ace(ace_type, flags, mask, body):
     return struct.pack("<BBHI", ace_type, flags, 8 + len(body), mask) + body
+
+
+# In an ACE of SDDL: the place of a field, and a text that does not read in it.
+FAULTY_FIELDS = [(0, "XA"), (0, "RA"), (1, "CIX"), (1, "TP"), (2, "0x"), (2, "GA1"), (2, "4294967296"), (3, "{}"), (4, "x"),
+                 (5, ""), (5, "ZZ"), (5, "S-1-5-21-"), (5, "S-1-5-21-4294967296")]
+PRINTING = reference.Settings(domain=reference.Sid(HOME[0], HOME[1:]))
 
 
 class Generator:
@@ -196,27 +212,64 @@ class Generator:
         line = (self.chance.choice(self.faults)() if kind < 0.05 else self.descriptor()).hex()
         return line.upper() if 0.10 < kind < 0.20 else line
 
-    def long_line(self, count):
+    def faulty_sddl(self, parts):
+        """A field that does not read, a part that stands twice, or a line that has not the shape of SDDL."""
+        line = "".join(parts)
+        kind = self.chance.random()
+        if kind < 0.1:
+            return line + self.chance.choice(parts)
+        if kind < 0.2:
+            return line.replace("D:", "D:PX", 1)
+        aces = re.findall(r"\([^()]*\)", line)
+        ace_text = self.chance.choice(aces)
+        if kind < 0.3:
+            return line.replace(ace_text, self.chance.choice([ace_text[:-1], ace_text.replace(";", "", 1), f"x{ace_text}", "()"]), 1)
+        place, text = self.chance.choice(FAULTY_FIELDS)
+        fields = ace_text[1:-1].split(";")
+        fields[place] = text
+        return line.replace(ace_text, f"({';'.join(fields)})", 1)
+
+    def sddl_line(self):
+        parts = re.split(r"(?=[OGDS]:)", sddl(self.descriptor()))[1:]
+        kind = self.chance.random()
+        if kind < 0.05:
+            return self.faulty_sddl(parts)
+        if kind < 0.175:
+            self.chance.shuffle(parts)
+            return " ".join(parts).replace(")(", ") (")
+        return "".join(parts).lower() if kind < 0.275 else "".join(parts)
+
+    def long_descriptor(self, count):
         """A DACL of so many ACEs, the object ACEs rarer, so that 1,500 of them fit into an ACL."""
         aces = [self.directory_ace() if self.chance.random() < 0.08 else self.file_ace() for _ in range(count)]
-        return self.laid_out(self.some_sid(), self.some_sid(), b"", self.acl(aces)).hex()
+        return self.laid_out(self.some_sid(), self.some_sid(), b"", self.acl(aces))
+
+
+def sddl(data):
+    """The descriptor as it is printed under one of the domains."""
+    return reference.sddl(reference.read(data), PRINTING)
 
 
 def main():
     parser = argparse.ArgumentParser(description="Writes the benchmark's input.")
+    parser.add_argument("--form", choices=["hex", "sddl"], default="hex", help="(%(default)s)")
     parser.add_argument("--aces", type=int, help="the number of ACEs of each line")
     parser.add_argument("--megabytes", type=int, default=150, help="(%(default)s)")
     parser.add_argument("--seed", type=int, default=1, help="(%(default)s)")
     given = parser.parse_args()
     generator = Generator(given.seed)
     if given.aces:
-        pool = [generator.long_line(given.aces) for _ in range(max(1, DISTINCT_ACES // given.aces))]
+        spelled = {"hex": bytes.hex, "sddl": sddl}[given.form]
+        pool = [spelled(generator.long_descriptor(given.aces)) for _ in range(max(1, DISTINCT_ACES // given.aces))]
     else:
-        pool = [generator.line() for _ in range(DISTINCT_LINES)]
+        maker = {"hex": generator.line, "sddl": generator.sddl_line}[given.form]
+        pool = [maker() for _ in range(DISTINCT_LINES)]
+        pool += [TOO_LARGE] if given.form == "sddl" else []
+    too_long, chance_of_it = TOO_LONG[given.form]
     size = 0
     while size < given.megabytes * 1_000_000:
-        is_too_long = not given.aces and generator.chance.random() < 0.00004
-        line = (TOO_LONG if is_too_long else generator.chance.choice(pool)) + "\n"
+        is_too_long = not given.aces and generator.chance.random() < chance_of_it
+        line = (too_long if is_too_long else generator.chance.choice(pool)) + "\n"
         size += len(line)
         sys.stdout.write(line)
 

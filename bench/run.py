@@ -2,8 +2,8 @@
 """run.py [PROGRAM] [--megabytes N] [--rounds N]
 
 Measures the program (crates/sdtool/out/sdtool where none is given) against baseline.rs and cat: on the mixture that
-generate.py makes, to hex and to SDDL under one of its domains, and to hex on lines of 375, 750 and 1,500 ACEs, which
-show whether an ACE costs the same in a longer line.
+generate.py makes in hex and in SDDL, to hex and to SDDL under one of its domains, and to hex on lines of 375 to 1,500
+ACEs, which show whether an ACE costs the same in a longer line.
 The inputs have the same size and are kept in the folder sdtool-bench among the temporary files.
 
 It checks that program and baseline write the same each time, runs the three in turn, so that what else the machine
@@ -26,23 +26,33 @@ import generate  # noqa: E402
 
 HERE = pathlib.Path(__file__).resolve().parent
 PROGRAM = HERE.parent / "crates/sdtool/out/sdtool"
-HEX = ["convert", "--from", "hex", "--to", "hex"]
-SDDL = ["convert", "--from", "hex", "--to", "sddl", "--domain", "-".join(["S-1", *map(str, generate.HOME)])]
-# What is measured: the number of ACEs of each line, or None for the mixture, and the words.
+DOMAIN = ["--domain", "-".join(["S-1", *map(str, generate.HOME)])]
+# What is measured: the form of the lines, the number of ACEs of each, or None for the mixture, and the form of the
+# answers.
 MEASURED = {
-    "the mixture to hex": (None, HEX),
-    "the mixture to SDDL": (None, SDDL),
-    "375 ACEs a line to hex": (375, HEX),
-    "750 ACEs a line to hex": (750, HEX),
-    "1,500 ACEs a line to hex": (1500, HEX),
+    "the mixture to hex": ("hex", None, "hex"),
+    "the mixture to SDDL": ("hex", None, "sddl"),
+    "the mixture from SDDL to hex": ("sddl", None, "hex"),
+    "the mixture from SDDL to SDDL": ("sddl", None, "sddl"),
+    "375 ACEs a line to hex": ("hex", 375, "hex"),
+    "750 ACEs a line to hex": ("hex", 750, "hex"),
+    "1,500 ACEs a line to hex": ("hex", 1500, "hex"),
+    "375 ACEs a line from SDDL to hex": ("sddl", 375, "hex"),
+    "1,500 ACEs a line from SDDL to hex": ("sddl", 1500, "hex"),
 }
+
+
+def words_of(source, target):
+    """Under the domain, where a SID may be spelled by its alias."""
+    return ["convert", "--from", source, "--to", target, *(DOMAIN if "sddl" in (source, target) else [])]
 
 
 def input_file(folder, settings):
     """The input, made anew where this generator has not made it yet."""
     generator = HERE / "generate.py"
-    version = hashlib.sha256(generator.read_bytes()).hexdigest()[:12]
-    path = folder / f"{'-'.join(word.strip('-') for word in settings)}-{version}.hex"
+    made_by = generator.read_bytes() + pathlib.Path(generate.reference.__file__).read_bytes()
+    version = hashlib.sha256(made_by).hexdigest()[:12]
+    path = folder / f"{'-'.join(word.strip('-') for word in settings)}-{version}.lines"
     if not path.exists():
         print(f"making {path}")
         unfinished = path.with_suffix(".unfinished")
@@ -108,8 +118,9 @@ def main():
     folder.mkdir(exist_ok=True)
     baseline = build_baseline(folder)
     inputs, commands = {}, {}
-    for name, (aces, words) in MEASURED.items():
-        inputs[name] = input_file(folder, ["--megabytes", str(wanted.megabytes), *(["--aces", str(aces)] if aces else [])])
+    for name, (source, aces, target) in MEASURED.items():
+        settings = ["--form", source, "--megabytes", str(wanted.megabytes), *(["--aces", str(aces)] if aces else [])]
+        inputs[name], words = input_file(folder, settings), words_of(source, target)
         commands[name] = {"sdtool": [wanted.program, *words], "baseline": [baseline, *words], "cat": ["cat"]}
     judged = [(given, [commands[name]["sdtool"], commands[name]["baseline"]]) for name, given in inputs.items()]
     if not all([write_the_same(folder, given, both) for given, both in judged]):
@@ -120,7 +131,7 @@ def main():
         size, lines = given.stat().st_size, lines_in(given)
         print(f"{name}: {lines:,} lines, {size / 1e6:.1f} MB")
         taken = medians(commands[name], given, wanted.rounds)
-        aces, _ = MEASURED[name]
+        _, aces, _ = MEASURED[name]
         speeds[name] = taken["baseline"] / taken["sdtool"]
         for command, time in taken.items():
             an_ace = f"{time / lines / aces * 1e9:9.1f} ns an ACE" if aces else ""

@@ -2,8 +2,9 @@
 """compare.py PROGRAM [--lines N] [--seed S]
 
 Feeds the program thousands of lines, among them broken and hostile ones, and compares each answer with the one of
-reference.py: from a file, in random pieces through a pipe, and in many short inputs with all kinds of ends; as hex, and
-as SDDL without a domain, under several domains, and with numbers alone.
+reference.py: from a file, in random pieces through a pipe, and in many short inputs with all kinds of ends; from hex and
+from SDDL; as hex, and as SDDL without a domain, under several domains, and with numbers alone. What is printed as SDDL,
+and what is spelled otherwise than it would be printed, is compared with the descriptor that it was made from.
 The same seed gives the same lines. The last line is 'N passed, M failed'.
 """
 import argparse
@@ -35,8 +36,18 @@ HEX, SDDL, NUMERIC = ["--to", "hex"], [], ["--to", "sddl", "--numeric"]
 DOMAINS = ["S-1-5-21-1004336348-1177238915-682003330", "BA", "S-1-5", "S-1-0xfedcba987654" + "-4294967295" * 14]
 UNDER = [["--domain", domain] for domain in DOMAINS]
 EVERY_WORDS = [HEX, SDDL, NUMERIC, *UNDER, [*UNDER[0], "--numeric"]]
+FROM_SDDL = ["--from", "sddl"]
+EVERY_WORDS_FROM_SDDL = [[*FROM_SDDL, *words] for words in (HEX, SDDL, UNDER[0], [*HEX, *UNDER[0]])]
 DOMAIN_SIDS = [reference.sid_of_text(domain.encode()) for domain in DOMAINS]
 SOME_MASKS = [*reference.RIGHTS.values(), *reference.COMPOUND_RIGHTS.values(), *reference.LABEL_RIGHTS.values()]
+# Bytes that mean something in SDDL, their neighbours, and bytes that stand nowhere in it.
+TELLING_BYTES = b";():-ODGSPARIUWXodx019fF_ \t\r.,@[{\0\x0b\xa0\xff"
+GUID_TEXT = b"bf967aba-0de6-11d0-a285-00aa003049e2"
+WHOLE_SDDL = [
+    b"O:BAG:S-1-5-21-1-2-3-512D:PAI(OA;CIIO;RPWP;" + GUID_TEXT + b";;DA)(A;;0x1f;;;WD)S:AR(ML;;NW;;;HI)",
+    b" o:ba\td:no_access_control s:(au;safa;017;;;s-1-0x0000000000ff-1) (AU;;15;;;SY)\t",
+    b"S:PARAI(OU;;KX;;" + GUID_TEXT.upper() + b";AU)G:S-1-4294967295-0000000000D:(D;;;;;BG)O:LA",
+]
 
 
 class Piece(NamedTuple):
@@ -243,6 +254,106 @@ def fixed_lines():
         yield bytes(line)
 
 
+def texts(letters, most):
+    """Every text of at most so many of these bytes."""
+    for length in range(most + 1):
+        yield from (bytes(text) for text in itertools.product(letters, repeat=length))
+
+
+def in_an_ace(kind=b"A", flags=b"", rights=b"", object_type=b"", inherited=b"", sid_text=b"WD"):
+    return b"D:(" + b";".join([kind, flags, rights, object_type, inherited, sid_text]) + b")"
+
+
+def mutations(line):
+    """Each byte dropped, doubled, and each telling byte in its place and before it."""
+    for at in range(len(line)):
+        front, rest = line[:at], line[at + 1:]
+        yield front + rest
+        yield front + line[at:at + 1] * 2 + rest
+        for byte in TELLING_BYTES:
+            yield front + bytes([byte]) + rest
+            yield front + bytes([byte]) + line[at:]
+
+
+def shape_lines():
+    """Few bytes, of those that make the shape of a line: alone, and beside what is in order."""
+    yield from texts(b"ODs:();P \t", 4)
+    yield from (b"D:" + text for text in texts(b"O:();P A", 4))
+    yield from (b"D:P(A;;;;;WD)" + text for text in texts(b"OS:(); P", 4))
+    yield from (in_an_ace(sid_text=text) for text in texts(b";() :OW", 4))
+    # Parts in any order, some of them twice, some of them with a text that does not read.
+    for count in range(1, 5):
+        for letters in itertools.product(b"OGDs", repeat=count):
+            for faults in itertools.product((False, True), repeat=count):
+                read = [b"BA" if letter in b"OG" else b"P" for letter in letters]
+                yield b"".join(b"%c:%b" % (letter, b"?" if fault else text)
+                               for letter, text, fault in zip(letters, read, faults))
+
+
+def field_lines():
+    """Short texts in each field, those round the limits of numbers and lengths, and several faults in one ACE."""
+    letters = b"abcdefghijklmnopqrstuvwxyzABCDEFGHIJKLMNOPQRSTUVWXYZ1"
+    pairs = [bytes(pair) for pair in itertools.product(letters, repeat=2)]
+    yield from (b"O:" + pair for pair in pairs)
+    for name in ("kind", "flags", "rights"):
+        yield from (in_an_ace(**{name: pair}) for pair in pairs)
+    yield from (in_an_ace(kind=b"ML", rights=pair) for pair in pairs)
+    yield from (b"S:" + text for text in texts(b"PARI ", 5))
+    yield from (in_an_ace(kind=text) for text in texts(b"ADUOMLX", 3))
+    yield from (in_an_ace(flags=text) for text in texts(b"OIC1x", 4))
+    yield from (in_an_ace(rights=text) for text in texts(b"0xX179GAa", 4))
+    yield from (b"G:S-1-" + text for text in texts(b"0-5x", 5))
+    for near in (0, 1 << 31, 1 << 32, 10 ** 10, 1 << 64):
+        for number in range(max(0, near - 2), near + 3):
+            for zeros in (0, 1, 2, 5, 9, 10, 160, *range(165, 184)):
+                for form in ("%d", "%o", "0%o", "0x%x", "0X%X"):
+                    front, digits = ("0x", (form % number)[2:]) if form[1] in "xX" else ("", form % number)
+                    yield in_an_ace(rights=(front + "0" * zeros + digits).encode())
+                padded = b"0" * zeros + b"%d" % number
+                yield from (b"O:S-1-" + padded, b"O:S-1-5-" + padded, b"O:S-1-5-1-" + padded + b"-2")
+                yield in_an_ace(sid_text=b"S-1-0x%012x-%b" % (number % (1 << 48), padded))
+    for length in range(178, 190):
+        yield from (b"D: " + (b"PAI" * 64)[:length] + b" ", b"S:" + b"P" * (length - 17) + b"NO_ACCESS_CONTROL")
+        for text in (b"OI" * 100, b"GA" * 100, b"A" * 200, b"S-1-5" + b"-4294967295" * 15 + b"-1" * 20, b"0x" + b"0" * 200):
+            yield b"O:" + text[:length]
+            yield from (in_an_ace(**{name: text[:length]}) for name in ("kind", "flags", "rights", "object_type", "sid_text"))
+            yield in_an_ace(b"OA", b"", b"", b"", text[:length])
+    for count in range(13, 18):
+        yield from (b"O:S-1-5" + b"-%d" % sub * count for sub in (0, 4_294_967_295, 4_294_967_296))
+    guids = (b"", GUID_TEXT, b"?")
+    sids = (b"WD", b"DA", b"ZZ", b"", b"S-1-4294967296")
+    for fields in itertools.product((b"a", b"oa", b"?"), (b"", b"IO", b"?"), (b"", b"7", b"8?"), guids, guids, sids):
+        yield in_an_ace(*fields)
+
+
+def fixed_sddl_lines():
+    """Lines that leave no text of few bytes, and no place in some whole lines, to chance."""
+    yield from itertools.chain(shape_lines(), field_lines(), *map(mutations, WHOLE_SDDL))
+
+
+def aces_of_size(size):
+    """ACEs of so many bytes together, each of 16 but the last one."""
+    whole, rest = divmod(size, 16)
+    return b"(A;;;;;S-1-5)" * (whole - 1) + b"(A;;;;;S-1-5" + b"-1" * (rest // 4) + b")"
+
+
+def long_sddl_lines():
+    """Lines round the limit of a line, and lists round the limit of an ACL."""
+    limit = reference.LINE_LIMITS["sddl"]
+    for more, filler in itertools.product((0, 1), (b" ", b"x", b"(;;;;;)")):
+        yield b"O:BAD:" + (filler * limit)[:limit + more - 6]
+    yield b"\t" * (limit - 4) + b"O:BA\r"
+    yield b" " * limit + b"\r"
+    yield b"O:G:" * 10_000
+    for size in range(0xffe0, 0x10020, 4):
+        yield b"D:" + aces_of_size(size - 8)
+        yield b"S:P(OU;;;;" + GUID_TEXT + b";WD)" + aces_of_size(size - 8 - 40) + b"D:"
+    large, small = b"(A;;;;;S-1-5)" * 4096, b"(A;;;;;S-1-5)" * 4095
+    for first, second in itertools.product((large, small, small + b"(?;;;;;)", large + b"(A;;;;;ZZ)"), repeat=2):
+        yield b"D:" + first + b"S:" + second
+        yield b"S:" + first + b"O:BAD:" + second
+
+
 def large_descriptors():
     small = ace(1, 0xdf, 0xffff_ffff, b"", sid_bytes(0)).data
     large = ace(6, 0, 1, b"\xff" * 4 + bytes(32), sid_bytes(15)).data
@@ -264,7 +375,7 @@ def large_descriptors():
 def long_lines():
     """Lines round the limit: what they hold, and how far they go."""
     yield from (data.hex().encode() for data in large_descriptors())
-    limit = reference.LINE_LIMIT
+    limit = reference.LINE_LIMITS["hex"]
     last = (header(limit // 2 - 8) + bytes(limit // 2 - 28) + sid_bytes(0)).hex().encode()
     yield from (last, last + b"\r", last + b"0", last[:-1], last[:-2])
     for front, more in itertools.product((b"", header().hex().encode(), b"z"), (-1, 0, 1, 2)):
@@ -404,6 +515,89 @@ class Lines:
             return b""
         return bytes(line)
 
+    def plain(self):
+        """A descriptor without what SDDL has no letters for."""
+        descriptor = reference.read(self.descriptor().data)
+        control = reference.SELF_RELATIVE
+        for present, flags in reference.ACL_FLAGS.values():
+            if descriptor.control & present:
+                control |= descriptor.control & (present | sum(flags.values()))
+        return descriptor._replace(control=control, resource_manager=0)
+
+    def in_any_case(self, text):
+        upper = self.chance.choice([0, -1, self.chance.getrandbits(len(text) + 1)])
+        return "".join(letter.upper() if upper >> at & 1 else letter.lower() for at, letter in enumerate(text))
+
+    def blanks(self):
+        return self.chance.choice(["", "", "", " ", "\t", " \t  "])
+
+    def padded(self, digits, most):
+        """With zeros before them, or without."""
+        return digits.zfill(self.chance.choice([0, 0, self.chance.randint(0, most)]))
+
+    def sid_text(self, sid, domain):
+        alias = reference.aliases_under(domain).get(sid)
+        if alias and self.chance.random() < 0.7:
+            return alias
+        authority = f"0x{sid.authority:012x}"
+        if sid.authority < 1 << 32 and self.chance.random() < 0.7:
+            authority = self.padded(str(sid.authority), 10)
+        return "-".join(["S-1", authority, *(self.padded(str(sub), 10) for sub in sid.sub_authorities)])
+
+    def names_text(self, bits, names):
+        """Names of these bits in any order, some of them again; None where they do not have all of the bits."""
+        some = [name for name, named in names.items() if named & ~bits == 0]
+        if functools.reduce(operator.or_, map(names.get, some), 0) != bits:
+            return None
+        some += self.chance.choices(some, k=self.chance.choice([0, 0, 1, 9])) if some else []
+        self.chance.shuffle(some)
+        return "".join(some)
+
+    def rights_text(self, mask):
+        numbers = ["0x" + self.padded(f"{mask:x}", 181), "0" + self.padded(f"{mask:o}", 182), str(mask)]
+        names = self.names_text(mask, reference.EVERY_RIGHT)
+        return self.chance.choice(numbers if names is None else [*numbers, names, names, names])
+
+    def ace_text(self, ace, domain):
+        fields = [reference.KINDS[ace.type], self.names_text(ace.flags, reference.ACE_FLAGS), self.rights_text(ace.mask),
+                  reference.guid_sddl(ace.object_type), reference.guid_sddl(ace.inherited_object_type),
+                  self.sid_text(ace.sid, domain)]
+        return f"({';'.join(fields)})"
+
+    def spelled_as_sddl(self, descriptor, domain):
+        """The descriptor in SDDL, in any of the ways in which it is read."""
+        parts = [f"{letter}:{self.blanks()}{self.sid_text(sid, domain)}"
+                 for letter, sid in (("O", descriptor.owner), ("G", descriptor.group)) if sid]
+        for letter, acl in (("D", descriptor.dacl), ("S", descriptor.sacl)):
+            present, flags = reference.ACL_FLAGS[letter]
+            if descriptor.control & present:
+                pieces = [self.names_text(descriptor.control & sum(flags.values()), flags) + "NO_ACCESS_CONTROL" * (acl is None)]
+                pieces += [self.ace_text(ace, domain) for ace in acl.aces] if acl else []
+                parts.append(f"{letter}:{self.blanks()}" + "".join(piece + self.blanks() for piece in pieces))
+        self.chance.shuffle(parts)
+        text = self.blanks() + "".join(part + self.blanks() for part in parts)
+        return (text if self.chance.random() < 0.3 else self.in_any_case(text)).encode()
+
+    def mutated_sddl(self, line):
+        """With a change or a few."""
+        line = bytearray(line)
+        for _ in range(self.chance.choice([1, 1, 1, 2, 4])):
+            at = self.chance.randrange(len(line) + 1)
+            end = at + self.chance.choice([0, 1, 1, self.chance.randrange(9)])
+            line[at:end] = self.chance.choice([b"", line[at:end] * 2, self.chance.choices(TELLING_BYTES), self.sddl_piece()])
+        return bytes(line)
+
+    def sddl_piece(self):
+        return self.chance.choice([b"O:", b"G:BA", b"D:", b"S:P", b"(", b")", b";", b"(A;;;;;WD)", b"AI", b"NO_ACCESS_CONTROL",
+                                   b"OI", b"0x", b"S-1-", b"-0", b"4294967296", GUID_TEXT, b"DA", b"ZZ", b" \t"])
+
+    def sddl_line(self):
+        """Nearly right, or of a few pieces."""
+        if self.chance.random() < 0.2:
+            return b"".join(self.sddl_piece() for _ in range(self.chance.randrange(9)))
+        line = self.spelled_as_sddl(self.plain(), self.chance.choice([None, DOMAIN_SIDS[0]]))
+        return line if self.chance.random() < 0.3 else self.mutated_sddl(line)
+
     def end(self):
         return self.chance.choice([b"\n"] * 8 + [b"\r\n"] * 4 + [b"\r\r\n"])
 
@@ -461,14 +655,18 @@ def short(line):
 class Input:
     """An input, and what its lines show, which is found out once for all ways in which they are converted."""
 
-    def __init__(self, data):
-        self.data, self.lines, self.shown, self.answered = data, reference.lines(data), reference.all_shown(data), {}
+    def __init__(self, data, known=None):
+        """Where it is known what the lines show, reference.py does not read them."""
+        self.data, self.lines, self.known, self.shown, self.answered = data, reference.lines(data), known, {}, {}
 
     def answers(self, words):
         """The answers that reference.py gives under these words, and the status."""
         settings = reference.settings_of([word.encode() for word in words])
         if settings not in self.answered:
-            self.answered[settings] = reference.answers(self.shown, settings)
+            reading = settings.source, settings.domain if settings.source == "sddl" else None
+            if not self.known and reading not in self.shown:
+                self.shown[reading] = reference.all_shown(self.data, settings)
+            self.answered[settings] = reference.answers(self.known or self.shown[reading], settings)
         return self.answered[settings]
 
 
@@ -502,30 +700,76 @@ class Count:
                       f"more output: {short(rest)}")
 
 
+def compare_hex(count, program, maker, number):
+    """From hex, random lines of this number among the others."""
+    pieces = [*fixed_lines(), *(maker.line() for _ in range(number))]
+    maker.chance.shuffle(pieces)
+    all_lines = Input(b"".join(line + maker.end() for line in pieces))
+    # (apart, since their bytes are as many as those of all others)
+    long = Input(b"".join(line + maker.end() + maker.line() + b"\n" for line in long_lines()))
+    for words in EVERY_WORDS:
+        count.run(program, "from a file", words, all_lines)
+    for words in (HEX, UNDER[0]):
+        count.run(program, "cut", words, all_lines, (maker.piece() for _ in itertools.count()))
+        count.run(program, "long lines from a file", words, long)
+        count.run(program, "long lines cut", words, long, (maker.chance.randint(1, PACKET) for _ in itertools.count()))
+
+
+def compare_spelled(count, program, maker, descriptors):
+    """From SDDL that is printed, and from SDDL that is spelled otherwise; such lines for later changes."""
+    lines = []
+    for words in (SDDL, UNDER[0], NUMERIC):
+        settings = reference.settings_of([word.encode() for word in words])
+        printed = [reference.sddl(descriptor, settings).encode() for descriptor in descriptors]
+        spelled = [maker.spelled_as_sddl(descriptor, settings.domain) for descriptor in descriptors]
+        for what, texts_of_all in (("printed", printed), ("spelled otherwise", spelled)):
+            known = [descriptor if text else None for descriptor, text in zip(descriptors, texts_of_all)]
+            given = Input(b"".join(text + b"\n" for text in texts_of_all), known)
+            count.run(program, what, [*FROM_SDDL, *words], given)
+            # No option is given twice.
+            others = [word for word in words if word not in ("--to", "sddl")]
+            count.run(program, what, [*FROM_SDDL, *others, *HEX], given)
+        lines += spelled
+    return lines
+
+
+def compare_sddl(count, program, maker, number):
+    """From SDDL, random lines of this number, and changed ones of ten times this number, among the others."""
+    spelled = compare_spelled(count, program, maker, [maker.plain() for _ in range(number // 4)])
+    pieces = [*fixed_sddl_lines(), *(maker.sddl_line() for _ in range(number))]
+    short_ones = [line for line in spelled if 0 < len(line) < 300]
+    pieces += [maker.mutated_sddl(line) for line in maker.chance.choices(short_ones, k=10 * number)]
+    maker.chance.shuffle(pieces)
+    all_lines = Input(b"".join(line + maker.end() for line in pieces))
+    long = Input(b"".join(line + maker.end() + maker.sddl_line() + b"\n" for line in long_sddl_lines()))
+    for words in EVERY_WORDS_FROM_SDDL:
+        count.run(program, "from a file", words, all_lines)
+    count.run(program, "long lines from a file", EVERY_WORDS_FROM_SDDL[0], long)
+    words = EVERY_WORDS_FROM_SDDL[1]
+    count.run(program, "cut", words, all_lines, (maker.piece() for _ in itertools.count()))
+    count.run(program, "long lines cut", words, long, (maker.chance.randint(1, PACKET) for _ in itertools.count()))
+
+
+def compare_short(count, program, maker, number):
+    """Inputs of few lines, with all kinds of ends."""
+    for _ in range(number):
+        kind, every_words = maker.chance.choice([(maker.line, EVERY_WORDS), (maker.sddl_line, EVERY_WORDS_FROM_SDDL)])
+        data = b"".join(kind() + maker.end() for _ in range(maker.chance.randrange(4))) + kind() + maker.last_end()
+        sizes = maker.chance.choice([None, itertools.repeat(1), itertools.repeat(7)])
+        count.run(program, "short input", maker.chance.choice(every_words), Input(data), sizes)
+
+
 def main():
     parser = argparse.ArgumentParser(description="Compares the program's answers with those of reference.py.")
     parser.add_argument("program", type=os.path.abspath)
     parser.add_argument("--lines", type=int, default=10_000, help="random lines (%(default)s)")
     parser.add_argument("--seed", type=int, default=1, help="(%(default)s)")
     given = parser.parse_args()
-    chance = random.Random(given.seed)
-    maker = Lines(chance)
-    pieces = [*fixed_lines(), *(maker.line() for _ in range(given.lines))]
-    chance.shuffle(pieces)
-    all_lines = Input(b"".join(line + maker.end() for line in pieces))
-    # (apart, since their bytes are as many as those of all others)
-    long = Input(b"".join(line + maker.end() + maker.line() + b"\n" for line in long_lines()))
+    maker = Lines(random.Random(given.seed))
     count = Count()
-    for words in EVERY_WORDS:
-        count.run(given.program, "from a file", words, all_lines)
-    for words in (HEX, UNDER[0]):
-        count.run(given.program, "cut", words, all_lines, (maker.piece() for _ in itertools.count()))
-        count.run(given.program, "long lines from a file", words, long)
-        count.run(given.program, "long lines cut", words, long, (chance.randint(1, PACKET) for _ in itertools.count()))
-    for _ in range(given.lines // 50):
-        data = b"".join(maker.line() + maker.end() for _ in range(chance.randrange(4))) + maker.line() + maker.last_end()
-        sizes = chance.choice([None, itertools.repeat(1), itertools.repeat(7)])
-        count.run(given.program, "short input", chance.choice(EVERY_WORDS), Input(data), sizes)
+    compare_hex(count, given.program, maker, given.lines)
+    compare_sddl(count, given.program, maker, given.lines)
+    compare_short(count, given.program, maker, given.lines // 25)
     print(f"{count.passed} passed, {count.failed} failed")
     return 1 if count.failed else 0
 

@@ -7,11 +7,13 @@ numbers are little-endian but a SID's authority. The texts follow 2.4.2.1 (SID),
 import argparse
 import functools
 import itertools
+import operator
 import re
 import struct
+import uuid
 from typing import NamedTuple, Optional, Tuple
 
-LINE_LIMIT = 262_452  # characters of a line, without its LF and the CR before it
+LINE_LIMITS = {"hex": 262_452, "sddl": 1_049_872}  # bytes of a line, without its LF and the CR before it
 HEX_DIGITS = b"0123456789abcdefABCDEF"
 
 HEADER = struct.Struct("<BBHIIII")  # revision, resource manager byte, control, offsets: owner, group, SACL, DACL
@@ -24,8 +26,8 @@ PLAIN_TYPES, OBJECT_TYPES, LABEL_TYPE = (0x00, 0x01, 0x02), (0x05, 0x06, 0x07), 
 OBJECT_TYPE_PRESENT, INHERITED_OBJECT_TYPE_PRESENT = 0x1, 0x2
 UNKNOWN_FLAG = 0x20  # the one bit of an ACE's flags that is refused
 
-FORMS = {"from": ["hex"], "to": ["hex", "sddl"]}
-TEXT_LIMIT = 183  # characters of the longest SID text
+FORMS = {"from": ["hex", "sddl"], "to": ["hex", "sddl"]}
+TEXT_LIMIT = 183  # bytes of a field, and of the longest SID text
 SID_TEXT = re.compile(rb"S-1-(0x[0-9a-f]{12}|[0-9]+)((?:-[0-9]+){0,15})", re.IGNORECASE)
 MOST_OF_A_DOMAIN = 14  # sub-authorities; one more comes after them
 
@@ -60,11 +62,23 @@ COMPOUND_RIGHTS = {
     "FA": 0x1f_01ff, "FR": 0x12_0089, "FW": 0x12_0116, "FX": 0x12_00a0, "KA": 0xf_003f, "KR": 0x2_0019, "KW": 0x2_0006,
 }
 LABEL_RIGHTS = {"NW": 1, "NR": 2, "NX": 4}
+# All that is read; the last one is never printed, since KR has the same bits.
+EVERY_RIGHT = {**RIGHTS, **COMPOUND_RIGHTS, **LABEL_RIGHTS, "KX": 0x2_0019}
+NUMBER_TEXT = re.compile(rb"0x([0-9a-f]+)|0([0-7]*)|([1-9][0-9]*)", re.IGNORECASE)  # hex, octal, decimal
+GUID_TEXT = re.compile(rb"[0-9a-f]{8}(?:-[0-9a-f]{4}){3}-[0-9a-f]{12}", re.IGNORECASE)
 # In the control word: the present bit of each ACL, and the flags that SDDL has for it.
 ACL_FLAGS = {
     "D": (DACL_PRESENT, {"P": 0x1000, "AR": 0x0100, "AI": 0x0400}),
     "S": (SACL_PRESENT, {"P": 0x2000, "AR": 0x0200, "AI": 0x0800}),
 }
+ACL_NAMES = {"D": "dacl", "S": "sacl"}
+LARGEST_ACL = 0xffff
+
+# A part of an SDDL line: its letter and a colon, a text, and ACEs of six fields with blanks after them. No other colon
+# stands outside parentheses, so the text ends before the next part's letter, before a parenthesis, or with the line.
+BLANKS = b" \t"
+PART_TEXT = re.compile(rb"([OGDS]):([^:()]*)((?:\([^();]*(?:;[^();]*){5}\)[ \t]*)*)(?=[OGDS]:|\Z)", re.IGNORECASE)
+ACL_TEXT = re.compile(rb"((?:P|AR|AI)*)(NO_ACCESS_CONTROL)?", re.IGNORECASE)
 
 
 class Fault(Exception):
@@ -230,25 +244,119 @@ def from_hex(line):
 
 class Settings(NamedTuple):
     """What the words after the command ask for."""
+    source: str = "hex"
     to: str = "sddl"
     domain: Optional[Sid] = None
     numeric: bool = False
 
 
-def sid_of_text(text):
-    """The SID that the text spells without a domain, or None."""
+def sid_of_text(text, domain=None):
+    """The SID that the text spells under a domain or None."""
     if re.fullmatch(rb"[A-Za-z]{2}", text):
-        names = WELL_KNOWN.get(text.decode().upper())
-        return names and Sid(names[0], names[1:])
+        alias = text.decode().upper()
+        if alias in WELL_KNOWN:
+            authority, *subs = WELL_KNOWN[alias]
+            return Sid(authority, tuple(subs))
+        if alias not in OF_THE_DOMAIN:
+            raise Fault(22, "alias")
+        if domain is None or len(domain.sub_authorities) > MOST_OF_A_DOMAIN:
+            raise Fault(23, "needs-domain")
+        return Sid(domain.authority, (*domain.sub_authorities, OF_THE_DOMAIN[alias]))
     found = SID_TEXT.fullmatch(text)
     if len(text) > TEXT_LIMIT or not found:
-        return None
+        raise Fault(25, "sid-form")
     authority, *subs = found[1], *found[2].split(b"-")[1:]
     is_hex = authority[1:2] in (b"x", b"X")
     decimal = subs if is_hex else [authority, *subs]
     if any(len(number) > 10 or int(number) >= 1 << 32 for number in decimal):
-        return None
+        raise Fault(24, "number")
     return Sid(int(authority, 16 if is_hex else 10), tuple(map(int, subs)))
+
+
+def bits_of_text(text, names, fault):
+    """The bits of a run of names, of which each has two letters."""
+    pairs = [text[at:at + 2].upper().decode("latin-1") for at in range(0, len(text), 2)]
+    if len(text) > TEXT_LIMIT or not names.keys() >= set(pairs):
+        raise fault
+    return functools.reduce(operator.or_, map(names.get, pairs), 0)
+
+
+def rights_of_text(text):
+    """The mask of a number or of a run of names."""
+    fault = Fault(27, "rights")
+    if not text[:1].isdigit():
+        return bits_of_text(text, EVERY_RIGHT, fault)
+    found = NUMBER_TEXT.fullmatch(text)
+    if len(text) > TEXT_LIMIT or not found:
+        raise fault
+    digits, base = next((digits, base) for digits, base in zip(found.groups(), (16, 8, 10)) if digits is not None)
+    mask = int(digits or b"0", base)
+    if mask >= 1 << 32:
+        raise fault
+    return mask
+
+
+def guid_of_text(text, is_object):
+    """The bytes of a GUID, which stands in an object ACE alone, or None where the text is empty."""
+    if not text:
+        return None
+    if not is_object or not GUID_TEXT.fullmatch(text):
+        raise Fault(28, "guid")
+    return uuid.UUID(text.decode("ascii")).bytes_le
+
+
+@functools.lru_cache(maxsize=100_000)
+def ace_of_text(text, domain):
+    """The ACE of the six fields in a pair of parentheses, or the fault of the first of them that does not read."""
+    kind, flags, rights, object_type, inherited_object_type, sid = text.split(b";")
+    ace_type = next((number for number, name in KINDS.items() if name.encode() == kind.upper()), None)
+    if ace_type is None:
+        raise Fault(29, "kind")
+    is_object = ace_type in OBJECT_TYPES
+    return Ace(ace_type, bits_of_text(flags, ACE_FLAGS, Fault(26, "flags")), rights_of_text(rights),
+               guid_of_text(object_type, is_object), guid_of_text(inherited_object_type, is_object), sid_of_text(sid, domain))
+
+
+def acl_of_text(letter, text, ace_texts, domain):
+    """The bits that the ACL sets in the control word, and the ACL, which is None where it is null."""
+    found = len(text) <= TEXT_LIMIT and ACL_TEXT.fullmatch(text)
+    if not found or (found[2] and ace_texts):
+        raise Fault(26, "flags")
+    present, flags = ACL_FLAGS[letter]
+    control = present | sum(flags[name.decode()] for name in set(re.findall(rb"P|AR|AI", found[1].upper())))
+    return control, None if found[2] else Acl(tuple(ace_of_text(ace, domain) for ace in ace_texts))
+
+
+def parts_of_sddl(line):
+    """The letter of each part from the left, its text without blanks at its ends, and the texts of its ACEs."""
+    at, parts = len(line) - len(line.lstrip(BLANKS)), []
+    while at < len(line):
+        found = PART_TEXT.match(line, at)
+        if not found or (found[1] in b"OGog" and found[3]):
+            raise Fault(20, "shape")
+        parts.append((found[1].decode().upper(), found[2].strip(BLANKS), re.findall(rb"\(([^()]*)\)", found[3])))
+        at = found.end()
+    return parts
+
+
+def from_sddl(line, domain):
+    """The descriptor that the line spells, or the first fault in order."""
+    parts = parts_of_sddl(line)
+    letters = [letter for letter, _, _ in parts]
+    if len(set(letters)) < len(letters):
+        raise Fault(21, "part-twice")
+    control, read_parts = SELF_RELATIVE, dict.fromkeys("OGSD")
+    for letter, text, ace_texts in parts:
+        if letter in ACL_FLAGS:
+            bits, read_parts[letter] = acl_of_text(letter, text, ace_texts, domain)
+            control |= bits
+        else:
+            read_parts[letter] = sid_of_text(text, domain)
+    for letter in letters:
+        acl = read_parts[letter] if letter in ACL_FLAGS else None
+        if acl and ACL_HEADER.size + sum(len(ace.to_bytes()) for ace in acl.aces) > LARGEST_ACL:
+            raise Fault(30, "acl-too-large", ACL_NAMES[letter])
+    return Descriptor(control, 0, *read_parts.values())
 
 
 def settings_of(words):
@@ -262,13 +370,16 @@ def settings_of(words):
     given = vars(parser.parse_args([word.decode("latin-1") for word in words]))
     domain = None
     if given["domain"] is not None:
-        domain = sid_of_text(given["domain"].encode("latin-1"))
-        if domain is None or len(domain.sub_authorities) > MOST_OF_A_DOMAIN:
+        try:
+            domain = sid_of_text(given["domain"].encode("latin-1"))
+        except Fault:
+            raise Usage("domain") from None
+        if len(domain.sub_authorities) > MOST_OF_A_DOMAIN:
             raise Usage("domain")
     for name, forms in FORMS.items():
         if given[name] not in forms:
             raise Usage(name)
-    return Settings(given["to"], domain, given["numeric"])
+    return Settings(given["from"], given["to"], domain, given["numeric"])
 
 
 @functools.lru_cache
@@ -327,16 +438,16 @@ def sddl(descriptor, settings):
     return text
 
 
-def shown(line):
+def shown(line, settings):
     """What a line shows: a descriptor, or the fault that it has, or None where it is empty."""
     if not line:
         return None
     try:
-        if len(line) > LINE_LIMIT:
+        if len(line) > LINE_LIMITS[settings.source]:
             raise Fault(1, "too-long")
-        return read(from_hex(line))
+        return from_sddl(line, settings.domain) if settings.source == "sddl" else read(from_hex(line))
     except Fault as fault:
-        return fault
+        return fault.with_traceback(None)  # (which would keep all that stood in the frames)
 
 
 def answer(found, settings):
@@ -355,9 +466,9 @@ def lines(data):
     return [line[:-1] if line.endswith(b"\r") else line for line in ended] + ([last] if last else [])
 
 
-def all_shown(data):
+def all_shown(data, settings):
     """What each line of an input shows."""
-    return [shown(line) for line in lines(data)]
+    return [shown(line, settings) for line in lines(data)]
 
 
 def answers(found, settings):

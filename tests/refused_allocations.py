@@ -19,7 +19,7 @@ from typing import NamedTuple
 SECONDS = 60       # for one run
 ALLOCATIONS = 5000  # of one command line, at the very most
 EMPTY = b"0100008000000000000000000000000000000000"
-LIMIT = 262_452    # characters of the longest line that is read
+LIMIT, SDDL_LIMIT = 262_452, 1_049_872  # bytes of the longest line that is read
 DOMAIN = "S-1-5-21-1-2-3"
 LONGEST_DOMAIN = "S-1-0xffffffffffff" + "-1" * 14
 OF_DOMAIN = b"0100008014000000000000000000000000000000" b"010500000000000515000000" b"01000000020000000300000000020000"
@@ -46,6 +46,8 @@ COMMAND_LINES = [
     ["convert", "--domain", LONGEST_DOMAIN],
     ["convert", "--domain", "DA"],
     ["convert", "--domain", "BA", "--from", "sddl"],
+    ["convert", "--from=sddl", "--to=hex"],
+    ["convert", "--domain", "BA", "--from", "xml"],
     ["convert", "--to", "xml"],
     ["convert", "--numeric", "--numeric"],
     ["convert", "--to", "hex", "--to", "hex"],
@@ -53,7 +55,24 @@ COMMAND_LINES = [
     ["--help"],
     [],
 ]
-READING = [["--to", "hex"], ["--domain", DOMAIN], ["--domain", LONGEST_DOMAIN, "--to", "sddl", "--numeric"]]
+HEX_LINES = [EMPTY, b"zz", b"", EMPTY + b"\r", EMPTY + b"f" * (LIMIT - len(EMPTY)), b"0" * (LIMIT + 1), b"0", EMPTY,
+             WITH_DACL, WITH_SACL, OF_DOMAIN, NULL_ACLS, LABEL, GUIDS, FULL, *FAULTY_ACLS, WITH_DACL]
+SDDL_ACE = b"(OA;CIIO;0x1f;bf967aba-0de6-11d0-a285-00aa003049e2;bf967a9c-0de6-11d0-a285-00aa003049e2;S-1-5-21-1-2-3-512)"
+FULL_SDDL = b"D:" + b"(AU;OICINPIOIDSAFA;CCDCLCSWRPWPDTLOCRSDRCWDWOGAGXGWGR;;;S-1-0xffffffffffff)" * 4095
+# A fault of each kind, and lines at the limit and past it.
+FAULTY_SDDL = [b"x", b"D:(A;;FA;;WD)", b"O:BAO:SY", b"O:ZZ", b"O:S-1-4294967296", b"O:", b"D:PX", b"D:(A;;0x;;;WD)",
+               b"D:(OA;;FA;x;;WD)", b"S:(XA;;FA;;;WD)", b"D:" + b"(A;;FA;;;WD)" * 3277, b"O:" + b"x" * (SDDL_LIMIT - 2),
+               b" " * (SDDL_LIMIT + 1)]
+SDDL_LINES = [b"O:BAG:SYD:PAI" + SDDL_ACE + b"S:AR(ML;;NW;;;HI)", b"", b" o:ba ", b"D:NO_ACCESS_CONTROL\r", FULL_SDDL,
+              b" " * SDDL_LIMIT, *FAULTY_SDDL, b"G:S-1-5" + b"-4294967295" * 15, b"O:DA", b"D:" + SDDL_ACE]
+# The words, and the lines that are read under them.
+READING = [
+    (["--to", "hex"], HEX_LINES * 20),
+    (["--domain", DOMAIN], HEX_LINES * 20),
+    (["--domain", LONGEST_DOMAIN, "--to", "sddl", "--numeric"], HEX_LINES * 20),
+    (["--from", "sddl", "--to", "hex"], SDDL_LINES * 5),
+    (["--from", "sddl", "--domain", LONGEST_DOMAIN], SDDL_LINES * 5),
+]
 
 
 class Ended(NamedTuple):
@@ -131,10 +150,8 @@ def refuse_each(count, program, words, library):
     count.add(ended == plain, f"{shown}, none refused: {ended}, not {plain}")
 
 
-def refuse_when_reading(count, program, words, library):
-    lines = [EMPTY, b"zz", b"", EMPTY + b"\r", EMPTY + b"f" * (LIMIT - len(EMPTY)), b"0" * (LIMIT + 1), b"0", EMPTY,
-             WITH_DACL, WITH_SACL, OF_DOMAIN, NULL_ACLS, LABEL, GUIDS, FULL, *FAULTY_ACLS, WITH_DACL]
-    data = b"\n".join(lines * 20)
+def refuse_when_reading(count, program, words, lines, library):
+    data = b"\n".join(lines)
     command, shown = [program, "convert", *words], " ".join(["sdtool convert", *words])
     plain, _ = run(command, data, library)
     ended, told = run(command, data, library, REFUSE_WHEN_READING=1)
@@ -152,8 +169,8 @@ def main():
         library = build(folder)
         for words in COMMAND_LINES:
             refuse_each(count, program, words, library)
-        for words in READING:
-            refuse_when_reading(count, program, words, library)
+        for words, lines in READING:
+            refuse_when_reading(count, program, words, lines, library)
     print(f"{count.passed} passed, {count.failed} failed")
     return 1 if count.failed else 0
 

@@ -236,7 +236,8 @@ def asked_of_reference(row):
     _, *words = map(text, row["words"])
     stdout = text(row["stdout"])
     try:
-        answers, status = reference.answers(reference.all_shown(text(row["stdin"])), reference.settings_of(words))
+        settings = reference.settings_of(words)
+        answers, status = reference.answers(reference.all_shown(text(row["stdin"]), settings), settings)
     except reference.Usage as fault:
         yield row["id"], Ended(b"", f"{fault}\n".encode(), 2, False), stdout
     else:

@@ -6,7 +6,9 @@ use Rattle.sd_binary.specs.declared.fault.Part.{Part}
 use Rattle.sd_binary.specs.declared.fault.Part.TheVariants as part
 use Rattle.sd_binary.specs.declared.fault.SdFault.TheVariants as sd
 use Rattle.sd_filter.specs.declared.fault.LineFault.{LineFault}
-use Rattle.sd_filter.specs.declared.fault.LineFault.TheVariants.{TooLong, Text, Sd}
+use Rattle.sd_filter.specs.declared.fault.LineFault.TheVariants.{TooLong, Text, Sd, Sddl}
+use Rattle.sd_core.specs.declared.sid_text.SidFault.TheVariants as sid
+use Rattle.sd_sddl.specs.declared.fault.SddlFault.TheVariants as sddl
 
 name-short : (fault : LineFault) → length (number_and_name fault) ≤ 30
 name-short TooLong = lit≤ tt
@@ -22,6 +24,17 @@ name-short (Sd (sd.AceSize p)) = lit≤ tt
 name-short (Sd (sd.AceType p)) = lit≤ tt
 name-short (Sd (sd.AceFlags p)) = lit≤ tt
 name-short (Sd (sd.Overlap p q)) = lit≤ tt
+name-short (Sddl sddl.Shape) = lit≤ tt
+name-short (Sddl sddl.PartTwice) = lit≤ tt
+name-short (Sddl (sddl.Sid sid.Alias)) = lit≤ tt
+name-short (Sddl (sddl.Sid sid.NeedsDomain)) = lit≤ tt
+name-short (Sddl (sddl.Sid sid.Number)) = lit≤ tt
+name-short (Sddl (sddl.Sid sid.SidForm)) = lit≤ tt
+name-short (Sddl sddl.Flags) = lit≤ tt
+name-short (Sddl sddl.Rights) = lit≤ tt
+name-short (Sddl sddl.Guid) = lit≤ tt
+name-short (Sddl sddl.Kind) = lit≤ tt
+name-short (Sddl (sddl.AclTooLarge w)) = lit≤ tt
 
 part-short : (p : Option Part) → length (part_text p) ≤ 6
 part-short None = lit≤ tt

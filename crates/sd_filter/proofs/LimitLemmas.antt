@@ -1,22 +1,26 @@
 -- What a line means has the limits of a descriptor.
 use Rattle.std.proofs.Common.{◌≡◌, ℕ, Bool, true, false, cond, eqb, List, [], ◌∷◌, length, ◌%◌, Option, Some, None, Result, Ok, Err, refl, ap, subst, sym, ◌∙◌}
-use Rattle.std.specs.Prelude.{nat_lt}
+use Rattle.std.specs.Prelude.{IfSome, nat_lt}
 use Rattle.hex.specs.Hex.{decode_of, decode_pairs}
 use Rattle.hex.specs.declared.error.FromHexError.{FromHexError}
 use Rattle.hex.specs.declared.error.FromHexError.TheVariants.{OddLength}
 use Rattle.hex.proofs.HexLemmas.{decode_pairs-ok}
 use Rattle.sd_core.proofs.Numbers.{AreBytes}
+use Rattle.sd_core.specs.Sid.{IsSid, SecurityId}
+use Rattle.sd_sddl.specs.Meaning.{means}
+use Rattle.sd_sddl.specs.declared.fault.SddlFault.{SddlFault}
+use Rattle.sd_sddl.proofs.MeansLimits.{means-limits}
 use Rattle.sd_binary.specs.Descriptor.{Descriptor, IsDescriptor}
 use Rattle.sd_binary.specs.Reading.{fault, reading, shown, unless}
 use Rattle.sd_binary.specs.Text.{hex_spells, or_digit_fault}
 use Rattle.sd_binary.specs.declared.buffer.TextFault.{TextFault}
 use Rattle.sd_binary.specs.declared.fault.SdFault.{SdFault}
 use Rattle.sd_binary.proofs.ReadLaws.{fault-shows}
-use Rattle.sd_filter.specs.Answers.{Meaning, bytes_mean, line_limit, line_means, meaning, or_byte_fault, text_means}
+use Rattle.sd_filter.specs.Answers.{Meaning, bytes_mean, line_limit, line_means, meaning, or_byte_fault, or_sddl_fault, text_means}
 use Rattle.sd_filter.specs.declared.fault.LineFault.{LineFault}
 use Rattle.sd_filter.specs.declared.fault.LineFault.TheVariants.{TooLong}
 use Rattle.sd_filter.specs.declared.job.Form.{Form}
-use Rattle.sd_filter.specs.declared.job.Form.TheVariants.{Hex, Sddl}
+use Rattle.sd_filter.specs.declared.job.Form.TheVariants as form
 use Rattle.sd_filter.specs.declared.job.Job.{Job}
 
 not_chosen : {A F : Type 0} (b : Bool) (f : F) (r : Result A F) (x : A) → cond b (Err f) r ≡ Ok x → r ≡ Ok x
@@ -55,9 +59,13 @@ bytes_limits : (r : Result (List ℕ) TextFault) → ((bytes : List ℕ) → r �
 bytes_limits (Err fault) h = tt
 bytes_limits (Ok bytes) h = read_limits (reading bytes) (λ d e. read-limits bytes d (h bytes refl) e)
 
-text_limits : (form : Form) (text : List ℕ) → Limits (text_means form text)
-text_limits Hex text = bytes_limits (hex_spells text) (spelled-bytes text)
-text_limits Sddl text = bytes_limits (hex_spells text) (spelled-bytes text)
+sddl_limits : (r : Result Descriptor SddlFault) → ((d : Descriptor) → r ≡ Ok d → IsDescriptor d) → Limits (or_sddl_fault r)
+sddl_limits (Err fault) h = tt
+sddl_limits (Ok d) h = h d refl
+
+text_limits : (form : Form) (domain : Option SecurityId) (text : List ℕ) → IfSome domain IsSid → Limits (text_means form domain text)
+text_limits form.Hex domain text k = bytes_limits (hex_spells text) (spelled-bytes text)
+text_limits form.Sddl domain text k = sddl_limits (means text domain) (λ d e. means-limits text domain d k e)
 
 chosen_limits : (b : Bool) (r : Result Descriptor LineFault) → Limits r → Limits (cond b (Err TooLong) r)
 chosen_limits true r h = tt
@@ -67,10 +75,10 @@ abbrev pub MeansLimits : Meaning → Type 0
 MeansLimits None = Unit {0}
 MeansLimits (Some r) = Limits r
 
-line_limits : (form : Form) (line : List ℕ) → Limits (line_means form line)
+line_limits : (form : Form) (domain : Option SecurityId) (line : List ℕ) → IfSome domain IsSid → Limits (line_means form domain line)
 unfolding line_means
-line_limits form line = chosen_limits (nat_lt (line_limit form) (length line)) (text_means form line) (text_limits form line)
+line_limits form domain line k = chosen_limits (nat_lt (line_limit form) (length line)) (text_means form domain line) (text_limits form domain line k)
 
-pub meaning-limits : (job : Job) (line : List ℕ) → MeansLimits (meaning job line)
-meaning-limits job [] = tt
-meaning-limits job (b ∷ line) = line_limits job.source (b ∷ line)
+pub meaning-limits : (job : Job) (line : List ℕ) → IfSome job.domain IsSid → MeansLimits (meaning job line)
+meaning-limits job [] k = tt
+meaning-limits job (b ∷ line) k = line_limits job.source job.domain (b ∷ line) k

@@ -1,20 +1,19 @@
 -- What a line means, case by case, and what is answered to it.
-use Rattle.std.proofs.Common.{◌≡◌, ◌≤◌, ◌<◌, ℕ, List, [], ◌∷◌, Bool, true, false, length, Some, None, Result, Ok, Err, refl, sym, ◌∙◌, ap, arith}
+use Rattle.std.proofs.Common.{◌≡◌, ◌≤◌, ◌<◌, ℕ, List, [], ◌∷◌, Bool, true, false, length, Option, Some, None, Result, Ok, Err, refl, sym, ◌∙◌, ap, arith}
 use Rattle.std.specs.Prelude.{MatchResult}
 use Rattle.std.proofs.lemmas.Bool.Decides.{nat_tests}
+use Rattle.sd_core.specs.Sid.{SecurityId}
 use Rattle.sd_core.specs.Token.{Entry}
 use Rattle.sd_core.specs.Sink.{SinkTold, PutAll, PutSome}
 use Rattle.sd_core.specs.declared.sink.SinkFault.{SinkFault}
-use Rattle.sd_binary.specs.Descriptor.{Descriptor}
-use Rattle.sd_binary.specs.Reading.{reading}
-use Rattle.sd_filter.specs.Answers.{Meaning, answer, bytes_mean, is_error, is_error_of_meaning, line_limit, line_means, meaning, or_byte_fault, text_means, text_of_meaning}
+use Rattle.sd_binary.specs.Descriptor.{Descriptor, Shows}
+use Rattle.sd_binary.specs.declared.fault.SdFault.{SdFault}
+use Rattle.sd_sddl.specs.declared.fault.SddlFault.{SddlFault}
+use Rattle.sd_filter.specs.Answers.{Meaning, answer, is_error, is_error_of_meaning, line_limit, line_means, meaning, or_sddl_fault, text_means, text_of_meaning}
 use Rattle.sd_filter.specs.Sofar.{HoldsText}
-use Rattle.sd_binary.specs.declared.buffer.TextFault.{TextFault}
 use Rattle.sd_filter.specs.declared.fault.LineFault.{LineFault}
-use Rattle.sd_filter.specs.declared.fault.LineFault.TheVariants.{TooLong, Text}
-use Rattle.sd_binary.specs.Text.{hex_spells}
+use Rattle.sd_filter.specs.declared.fault.LineFault.TheVariants.{TooLong}
 use Rattle.sd_filter.specs.declared.job.Form.{Form}
-use Rattle.sd_filter.specs.declared.job.Form.TheVariants.{Hex, Sddl}
 use Rattle.sd_filter.specs.declared.job.Job.{Job}
 
 -- the answer and its LF were put, with whether it is an error; or a part of it was
@@ -27,15 +26,15 @@ pub answered : (job : Job) (entries : List Entry) (line : List ℕ) (old new : S
 unfolding answer is_error
 answered job entries line old new m r e h = rw e h
 
-line_means-over : (form : Form) (line : List ℕ) → line_limit form < length line → line_means form line ≡ Err TooLong
+line_means-over : (form : Form) (domain : Option SecurityId) (line : List ℕ) → line_limit form < length line → line_means form domain line ≡ Err TooLong
 unfolding line_means
-line_means-over form line h = grind (arith, nat_tests)
+line_means-over form domain line h = grind (arith, nat_tests)
 
-line_means-within : (form : Form) (line : List ℕ) → length line ≤ line_limit form → line_means form line ≡ text_means form line
+line_means-within : (form : Form) (domain : Option SecurityId) (line : List ℕ) → length line ≤ line_limit form → line_means form domain line ≡ text_means form domain line
 unfolding line_means
-line_means-within form line h = grind (arith, nat_tests)
+line_means-within form domain line h = grind (arith, nat_tests)
 
-meaning-some : (job : Job) (line : List ℕ) → 0 < length line → meaning job line ≡ Some (line_means job.source line)
+meaning-some : (job : Job) (line : List ℕ) → 0 < length line → meaning job line ≡ Some (line_means job.source job.domain line)
 meaning-some job [] h = absurd (omega arith)
 meaning-some job (b ∷ line) h = refl
 
@@ -43,7 +42,7 @@ meaning-some job (b ∷ line) h = refl
 pub meaning-over : (job : Job) (text line : List ℕ) (over : Bool) → over ≡ true → HoldsText (line_limit job.source) text over line → meaning job line ≡ Some (Err TooLong)
 meaning-over job text line over is h =
     let beyond : line_limit job.source < length line = h.beyond is in
-    meaning-some job line (omega arith) ∙ ap (λ (m : Result Descriptor LineFault). Some m) (line_means-over job.source line beyond)
+    meaning-some job line (omega arith) ∙ ap (λ (m : Result Descriptor LineFault). Some m) (line_means-over job.source job.domain line beyond)
 
 -- an empty line
 pub meaning-empty : (job : Job) (text line : List ℕ) (over : Bool) → over ≡ false → length text ≡ 0 → HoldsText (line_limit job.source) text over line → meaning job line ≡ None
@@ -52,24 +51,24 @@ meaning-empty job (b ∷ text) line over is none h = absurd (omega arith)
 
 -- any other line
 pub meaning-text : (job : Job) (text line : List ℕ) (over : Bool) (m : Result Descriptor LineFault) → over ≡ false → 0 < length text → length text ≤ line_limit job.source
-    → HoldsText (line_limit job.source) text over line → text_means job.source text ≡ m → meaning job line ≡ Some m
+    → HoldsText (line_limit job.source) text over line → text_means job.source job.domain text ≡ m → meaning job line ≡ Some m
 meaning-text job text line over m is some within h e =
     ap (meaning job) (sym (h.whole is)) ∙ meaning-some job text some
-    ∙ ap (λ (m : Result Descriptor LineFault). Some m) (line_means-within job.source text within ∙ e)
+    ∙ ap (λ (m : Result Descriptor LineFault). Some m) (line_means-within job.source job.domain text within ∙ e)
 
--- hex is the one form
-pub text_means-hex : (form : Form) (text : List ℕ) → text_means form text ≡ bytes_mean (hex_spells text)
-text_means-hex Hex text = refl
-text_means-hex Sddl text = refl
+-- what a line of SDDL leaves in a buffer, and what is read there
+module _ (m : Result Descriptor SddlFault) (r : Result (Unit {0}) SddlFault) (held : List ℕ) (v : Result Descriptor SdFault)
+    (left : MatchResult m (λ d. (r ≡ Ok tt) × Shows held d) (λ e. (r ≡ Err e) × (held ≡ []))) (done : r ≡ Ok tt) (reads : (d : Descriptor) → Shows held d → v ≡ Ok d) where
+  pub sddl-read : (d : Descriptor) → v ≡ Ok d → Ok d ≡ or_sddl_fault m
+  sddl-read d is = by_meaning m left
+    where
+      by_meaning : (m : Result Descriptor SddlFault) → MatchResult m (λ d. (r ≡ Ok tt) × Shows held d) (λ e. (r ≡ Err e) × (held ≡ [])) → Ok d ≡ or_sddl_fault m
+      by_meaning (Ok x) h = let same : v ≡ Ok x = reads x h.1 in let one : d ≡ x = cc in ap (λ (y : Descriptor). Ok y) one
+      by_meaning (Err e) h = absurd (let no : Err e ≡ Ok tt = sym h.0 ∙ done in cc)
 
-abbrev Spelled : List ℕ → Result (Unit {0}) TextFault → Result (List ℕ) TextFault → Type 0
-Spelled held r s = MatchResult s (λ bytes. (r ≡ Ok tt) × (held ≡ bytes)) (λ fault. (r ≡ Err fault) × (held ≡ []))
-
--- what a reader of a text left in the buffer, or why it refused
-pub spelled : (held : List ℕ) (r : Result (Unit {0}) TextFault) (s : Result (List ℕ) TextFault) → Spelled held r s → r ≡ Ok tt → bytes_mean s ≡ or_byte_fault (reading held)
-spelled held r (Ok bytes) h e = ap (λ (b : List ℕ). or_byte_fault (reading b)) (sym h.1)
-spelled held r (Err fault) h e = let bad : Ok tt ≡ Err fault = sym e ∙ h.0 in absurd (cc)
-
-pub refused : (held : List ℕ) (r : Result (Unit {0}) TextFault) (s : Result (List ℕ) TextFault) (fault : TextFault) → Spelled held r s → r ≡ Err fault → bytes_mean s ≡ Err (Text fault)
-refused held r (Ok bytes) fault h e = let bad : Err fault ≡ Ok tt = sym e ∙ h.0 in absurd (cc)
-refused held r (Err other) fault h e = let same : Err other ≡ Err fault = sym h.0 ∙ e in let one : other ≡ fault = cc in ap (λ (f : TextFault). Err (Text f)) one
+  pub sddl-refused : (f : SdFault) (x : Result Descriptor LineFault) → v ≡ Err f → x ≡ or_sddl_fault m
+  sddl-refused f x is = by_meaning m left
+    where
+      by_meaning : (m : Result Descriptor SddlFault) → MatchResult m (λ d. (r ≡ Ok tt) × Shows held d) (λ e. (r ≡ Err e) × (held ≡ [])) → x ≡ or_sddl_fault m
+      by_meaning (Ok d) h = absurd (let no : Err f ≡ Ok d = sym is ∙ reads d h.1 in cc)
+      by_meaning (Err e) h = absurd (let no : Err e ≡ Ok tt = sym h.0 ∙ done in cc)

@@ -1,7 +1,8 @@
 -- Each answer is short.
-use Rattle.std.proofs.Common.{◌≤◌, ◌+◌, ◌*◌, List, [], ◌∷◌, length, Some, None, Ok, Err, arith, length-append}
+use Rattle.std.proofs.Common.{IfSome, ◌≤◌, ◌+◌, ◌*◌, List, [], ◌∷◌, length, Some, None, Ok, Err, arith, length-append}
 use Rattle.hex.specs.Hex.{encode_lower, lower_digits}
 use Rattle.hex.proofs.HexLemmas.{length-encode_with}
+use Rattle.sd_core.specs.Sid.{IsSid}
 use Rattle.sd_core.specs.Token.{Entry}
 use Rattle.sd_binary.specs.Descriptor.{Descriptor, IsDescriptor}
 use Rattle.sd_binary.specs.Layout.{layout, size}
@@ -14,14 +15,14 @@ use Rattle.sd_filter.proofs.LimitLemmas.{MeansLimits, meaning-limits}
 use Rattle.sd_filter.specs.declared.job.Act.{Act}
 use Rattle.sd_filter.specs.declared.job.Act.TheVariants.{Convert}
 use Rattle.sd_filter.specs.declared.job.Form.{Form}
-use Rattle.sd_filter.specs.declared.job.Form.TheVariants.{Hex, Sddl}
+use Rattle.sd_filter.specs.declared.job.Form.TheVariants as form
 use Rattle.sd_filter.specs.declared.job.Job.{Job}
 
 -- two characters a byte, or those of the SDDL; and the LF
 form-short : (job : Job) (form : Form) (d : Descriptor) → IsDescriptor d → length (form_text job form d) ≤ 8 * size d + 63
 unfolding form_text
-form-short job Hex d h = omega (arith, length-encode_with lower_digits (layout d), length-layout d)
-form-short job Sddl d h = sddl-length (naming_of job) d h
+form-short job form.Hex d h = omega (arith, length-encode_with lower_digits (layout d), length-layout d)
+form-short job form.Sddl d h = sddl-length (naming_of job) d h
 
 act-short : (job : Job) (act : Act) (entries : List Entry) (d : Descriptor) → IsDescriptor d → length (act_text job act entries d) ≤ 8 * printed_size (act_prints act d) + 64
 act-short job (Convert form) entries d h = omega (arith, length-append (form_text job form d) (10 ∷ []), form-short job form d h)
@@ -31,6 +32,6 @@ text-short job entries None h = omega arith
 text-short job entries (Some (Err fault)) h = let short = fault_text-short fault in omega (arith, length-append (fault_text fault) (10 ∷ []))
 text-short job entries (Some (Ok d)) h = act-short job job.act entries d h
 
-pub answers-short : (job : Job) (entries : List Entry) → AnswersAreShort job entries
+pub answers-short : (job : Job) (entries : List Entry) → IfSome job.domain IsSid → AnswersAreShort job entries
 unfolding answer
-answers-short job entries line = text-short job entries (meaning job line) (meaning-limits job line)
+answers-short job entries k line = text-short job entries (meaning job line) (meaning-limits job line k)

@@ -2,6 +2,7 @@
 use Rattle.std.specs.Prelude.{◌≤◌, ℕ, ◌+◌, ◌*◌, List, [], ◌∷◌, ◌++◌, if◌then◌else◌, nat_lt, length, Bool, true, false, Option, Some, None, is_some, Result, Ok, Err, count_by, sum_by}
 use Rattle.std.specs.List.{flat_map}
 use Rattle.hex.specs.Hex.{encode_lower}
+use Rattle.sd_core.specs.Sid.{SecurityId}
 use Rattle.sd_core.specs.Token.{Entry}
 use Rattle.sd_binary.specs.Descriptor.{Descriptor}
 use Rattle.sd_binary.specs.Layout.{layout, size}
@@ -10,23 +11,24 @@ use Rattle.sd_binary.specs.Text.{hex_spells}
 use Rattle.sd_binary.specs.declared.buffer.TextFault.{TextFault}
 use Rattle.sd_binary.specs.declared.fault.SdFault.{SdFault}
 use Rattle.sd_filter.specs.declared.fault.LineFault.{LineFault}
-use Rattle.sd_filter.specs.declared.fault.LineFault.TheVariants.{TooLong, Text, Sd}
+use Rattle.sd_filter.specs.declared.fault.LineFault.TheVariants.{TooLong, Text, Sd, Sddl}
 use Rattle.sd_filter.specs.declared.job.Act.{Act}
 use Rattle.sd_filter.specs.declared.job.Act.TheVariants.{Convert}
 use Rattle.sd_filter.specs.declared.job.Form.{Form}
-use Rattle.sd_filter.specs.declared.job.Form.TheVariants.{Hex, Sddl}
+use Rattle.sd_filter.specs.declared.job.Form.TheVariants as form
 use Rattle.sd_filter.specs.declared.job.Job.{Job}
 use Rattle.sd_sddl.specs.declared.naming.Naming.{Naming}
+use Rattle.sd_sddl.specs.Meaning.{means}
 use Rattle.sd_sddl.specs.Printed.{sddl}
+use Rattle.sd_sddl.specs.declared.fault.SddlFault.{SddlFault}
 use Rattle.sd_filter.specs.Faults.{fault_text}
 
 -- ---- what a line means
 
--- The bytes that a line has at most, without its LF and a dropped CR. No engine reads SDDL yet: those
--- clauses stand for what no job asks for.
+-- the bytes that a line has at most, without its LF and a dropped CR
 abbrev pub line_limit : Form → ℕ
-line_limit Hex = 262452
-line_limit Sddl = 262452
+line_limit form.Hex = 262452
+line_limit form.Sddl = 1049872
 
 abbrev pub or_byte_fault : Result Descriptor SdFault → Result Descriptor LineFault
 or_byte_fault (Err fault) = Err (Sd fault)
@@ -36,15 +38,19 @@ abbrev pub bytes_mean : Result (List ℕ) TextFault → Result Descriptor LineFa
 bytes_mean (Err fault) = Err (Text fault)
 bytes_mean (Ok bytes) = or_byte_fault (reading bytes)
 
--- what a text means in a form: its text spells no bytes, its bytes do not read, or the descriptor that
--- its bytes show
-abbrev pub text_means : Form → List ℕ → Result Descriptor LineFault
-text_means Hex text = bytes_mean (hex_spells text)
-text_means Sddl text = bytes_mean (hex_spells text)
+abbrev pub or_sddl_fault : Result Descriptor SddlFault → Result Descriptor LineFault
+or_sddl_fault (Err fault) = Err (Sddl fault)
+or_sddl_fault (Ok d) = Ok d
+
+-- What a text means in a form, under a domain. Hex: its text spells no bytes, its bytes do not read, or the descriptor
+-- that its bytes show. SDDL: its first fault, or the descriptor that it means.
+abbrev pub text_means : Form → Option SecurityId → List ℕ → Result Descriptor LineFault
+text_means form.Hex domain text = bytes_mean (hex_spells text)
+text_means form.Sddl domain text = or_sddl_fault (means text domain)
 
 -- a line over its limit is too long, whatever else is wrong with it
-unfoldable pub line_means : Form → List ℕ → Result Descriptor LineFault
-line_means form line = if nat_lt (line_limit form) (length line) then Err TooLong else text_means form line
+unfoldable pub line_means : Form → Option SecurityId → List ℕ → Result Descriptor LineFault
+line_means form domain line = if nat_lt (line_limit form) (length line) then Err TooLong else text_means form domain line
 
 -- an empty line means nothing, in every job
 abbrev pub Meaning : Type 0
@@ -52,7 +58,7 @@ Meaning = Option (Result Descriptor LineFault)
 
 abbrev pub meaning : Job → List ℕ → Meaning
 meaning job [] = None
-meaning job (b ∷ line) = Some (line_means job.source (b ∷ line))
+meaning job (b ∷ line) = Some (line_means job.source job.domain (b ∷ line))
 
 -- ---- what is answered to it
 
@@ -61,8 +67,8 @@ abbrev pub naming_of : Job → Naming
 naming_of job = record { domain = job.domain; numeric = job.numeric }
 
 unfoldable pub form_text : Job → Form → Descriptor → List ℕ
-form_text job Hex d = encode_lower (layout d)
-form_text job Sddl d = sddl (naming_of job) d
+form_text job form.Hex d = encode_lower (layout d)
+form_text job form.Sddl d = sddl (naming_of job) d
 
 -- what is answered to a descriptor, with its LF
 abbrev pub act_text : Job → Act → List Entry → Descriptor → List ℕ

@@ -4,8 +4,12 @@ use Rattle.sd_binary.specs.declared.buffer.TextFault.TheVariants as text
 use Rattle.sd_binary.specs.declared.fault.Part.{Part}
 use Rattle.sd_binary.specs.declared.fault.Part.TheVariants as part
 use Rattle.sd_binary.specs.declared.fault.SdFault.TheVariants as sd
+use Rattle.sd_binary.specs.declared.builder.Which.{Which}
+use Rattle.sd_binary.specs.declared.builder.Which.TheVariants as which
+use Rattle.sd_core.specs.declared.sid_text.SidFault.TheVariants as sid
+use Rattle.sd_sddl.specs.declared.fault.SddlFault.TheVariants as sddl
 use Rattle.sd_filter.specs.declared.fault.LineFault.{LineFault}
-use Rattle.sd_filter.specs.declared.fault.LineFault.TheVariants.{TooLong, Text, Sd}
+use Rattle.sd_filter.specs.declared.fault.LineFault.TheVariants.{TooLong, Text, Sd, Sddl}
 
 abbrev pub number_and_name : LineFault → List ℕ
 number_and_name TooLong = codes "error 1 too-long"
@@ -21,9 +25,24 @@ number_and_name (Sd (sd.AceSize p)) = codes "error 11 ace-size"
 number_and_name (Sd (sd.AceType p)) = codes "error 12 ace-type"
 number_and_name (Sd (sd.AceFlags p)) = codes "error 13 ace-flags"
 number_and_name (Sd (sd.Overlap p q)) = codes "error 14 overlap"
+number_and_name (Sddl sddl.Shape) = codes "error 20 shape"
+number_and_name (Sddl sddl.PartTwice) = codes "error 21 part-twice"
+number_and_name (Sddl (sddl.Sid sid.Alias)) = codes "error 22 alias"
+number_and_name (Sddl (sddl.Sid sid.NeedsDomain)) = codes "error 23 needs-domain"
+number_and_name (Sddl (sddl.Sid sid.Number)) = codes "error 24 number"
+number_and_name (Sddl (sddl.Sid sid.SidForm)) = codes "error 25 sid-form"
+number_and_name (Sddl sddl.Flags) = codes "error 26 flags"
+number_and_name (Sddl sddl.Rights) = codes "error 27 rights"
+number_and_name (Sddl sddl.Guid) = codes "error 28 guid"
+number_and_name (Sddl sddl.Kind) = codes "error 29 kind"
+number_and_name (Sddl (sddl.AclTooLarge w)) = codes "error 30 acl-too-large"
 
 abbrev pub NamedParts : Type 0
 NamedParts = Option Part × Option Part
+
+abbrev pub part_of : Which → Part
+part_of which.Sacl = part.Sacl
+part_of which.Dacl = part.Dacl
 
 abbrev pub parts_of : LineFault → NamedParts
 parts_of TooLong = (None, None)
@@ -38,6 +57,14 @@ parts_of (Sd (sd.AceSize p)) = (Some p, None)
 parts_of (Sd (sd.AceType p)) = (Some p, None)
 parts_of (Sd (sd.AceFlags p)) = (Some p, None)
 parts_of (Sd (sd.Overlap p q)) = (Some p, Some q)
+parts_of (Sddl sddl.Shape) = (None, None)
+parts_of (Sddl sddl.PartTwice) = (None, None)
+parts_of (Sddl (sddl.Sid fault)) = (None, None)
+parts_of (Sddl sddl.Flags) = (None, None)
+parts_of (Sddl sddl.Rights) = (None, None)
+parts_of (Sddl sddl.Guid) = (None, None)
+parts_of (Sddl sddl.Kind) = (None, None)
+parts_of (Sddl (sddl.AclTooLarge w)) = (Some (part_of w), None)
 
 -- a part behind a blank
 abbrev pub part_text : Option Part → List ℕ

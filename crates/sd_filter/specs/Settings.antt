@@ -26,10 +26,6 @@ form_reads text =
     else if bytes_eq text (codes "sddl") then Some Sddl
     else None
 
--- no line is read as SDDL yet
-abbrev pub source_reads : Text → Option Form
-source_reads text = if bytes_eq text (codes "hex") then Some Hex else None
-
 abbrev pub with_room : Result SecurityId SidFault → Option SecurityId
 with_room (Err fault) = None
 with_room (Ok domain) = if nat_lt (length domain.subs) 15 then Some domain else None
@@ -58,7 +54,7 @@ given_domain rows = given name.Domain (value_if domain_reads (first_of (codes "d
 
 -- hex where the option is left out
 unfoldable pub given_source : List Row → Result Form UsageFault
-given_source rows = given name.From (value_or Hex source_reads (first_of (codes "from") rows))
+given_source rows = given name.From (value_or Hex form_reads (first_of (codes "from") rows))
 
 -- SDDL where the option is left out
 unfoldable pub given_target : List Row → Result Form UsageFault

@@ -7,11 +7,8 @@ use Rattle.sd_core.specs.Token.{TokenShown}
 use Rattle.sd_core.specs.Sink.{SinkTold, PutAll, IsPrefix}
 use Rattle.sd_core.specs.Counts.{Rose}
 use Rattle.sd_filter.specs.Lines.{parts, ended, without_cr}
-use Rattle.sd_filter.specs.Answers.{answers, errors, bounds, or_byte_fault}
+use Rattle.sd_filter.specs.Answers.{answers, errors, bounds}
 use Rattle.sd_filter.specs.Outcome.{Compares, RoseBy}
-use Rattle.sd_binary.specs.Descriptor.{Descriptor}
-use Rattle.sd_binary.specs.declared.fault.SdFault.{SdFault}
-use Rattle.sd_filter.specs.declared.fault.LineFault.{LineFault}
 use Rattle.sd_filter.specs.declared.job.Job.{Job}
 use Rattle.sd_filter.specs.declared.engine.Desk.{Desk}
 use Rattle.sd_filter.specs.declared.engine.Report.{Report}
@@ -21,11 +18,6 @@ use Rattle.sd_filter.specs.declared.line.Line.{Line}
 pub record HoldsText (limit : ℕ) (held : List ℕ) (over : Bool) (text : List ℕ) : Type 0 where
   pub whole : over ≡ false → held ≡ text
   pub beyond : over ≡ true → limit < length text
-
--- what a text means where this is left of it: a fault, or bytes that are still to be read
-abbrev pub left_of_text : Result (Unit {0}) LineFault → Result Descriptor SdFault → Result Descriptor LineFault
-left_of_text (Err fault) read = Err fault
-left_of_text (Ok done) read = or_byte_fault read
 
 -- a CR that waits for the next byte
 abbrev pub pending : Bool → List ℕ

@@ -2,18 +2,20 @@
 ghost use Rattle.std.specs.Prelude.{◌≡◌, ◌≤◌, ℕ, List, ◌++◌, [], ◌∷◌, length, true, is_some, MatchResult, Ok, Err};
 ghost use Rattle.sd_core.specs.Sink.{Puts, PutAll, PutSome};
 ghost use Rattle.sd_core.specs.Token.{Entry};
-ghost use Rattle.sd_filter.specs.Answers.{act_fault, act_text, answer, form_text, is_error, line_limit, text_means};
+ghost use Rattle.sd_filter.specs.Answers.{act_fault, act_text, answer, bytes_mean, form_text, is_error, line_limit, or_sddl_fault, text_means};
 ghost use Rattle.sd_filter.specs.Faults.{fault_text};
-ghost use Rattle.sd_filter.specs.Sofar.{HoldsText, left_of_text};
-ghost use Rattle.sd_binary.specs.Reading.{reading};
+ghost use Rattle.sd_filter.specs.Sofar.{HoldsText};
+ghost use Rattle.std.specs.Option.{option_copied};
+ghost use Rattle.sd_binary.specs.Text.{hex_spells};
+ghost use Rattle.sd_sddl.specs.Meaning.{means};
 
 use crate::engine::Stores;
 use crate::fault::{LineFault, put_fault};
 use crate::hex_text::{GATHERED, put_hex};
 use crate::job::{Act, Form, Job};
 use sd_binary::{SdBuf, SdView, read, write_layout};
-use sd_core::{Sink, SinkFault, Token};
-use sd_sddl::put_sddl;
+use sd_core::{Sid, Sink, SinkFault, Token};
+use sd_sddl::{put_sddl, read_sddl};
 
 /// Puts the answer to a line and its LF, and says whether it is an `error` line. Of a line over its
 /// limit nothing but that is known.
@@ -39,26 +41,47 @@ pub fn put_answer<S: Sink>(
     if text.is_empty() {
         return put_end(false, sink);
     }
-    match spell(job.source, text, &mut stores.read) {
-        Ok(()) => {}
-        Err(fault) => return put_error(&fault, sink),
-    }
-    match read(stores.read.bytes()) {
+    match view_of(job, text, &mut stores.read) {
         Ok(view) => put_act(job, &view, &mut stores.written, &mut stores.digits, sink),
-        Err(fault) => put_error(&LineFault::Sd(fault), sink),
+        Err(fault) => put_error(&fault, sink),
     }
 }
 
-// Leaves the bytes of a text in the buffer.
-fn spell(form: Form, text: &[u8], buf: &mut SdBuf) -> Result<(), LineFault>
-    requires { length text.now ≤ line_limit form }
-    ensures { text_means form text.now ≡ left_of_text result (reading buf.new) }
+// What a text means, over its bytes in the buffer.
+fn view_of<'a>(job: &Job, text: &[u8], buf: &'a mut SdBuf) -> Result<SdView<'a>, LineFault>
+    requires { length text.now ≤ line_limit job.now.source }
+    ensures { result ≡ text_means job.now.source job.now.domain text.now }
 {
-    match form {
-        Form::Hex | Form::Sddl => match buf.from_hex(text) {
-            Ok(()) => Ok(()),
-            Err(fault) => Err(LineFault::Text(fault)),
+    match job.source {
+        Form::Hex => view_of_hex(text, buf),
+        Form::Sddl => view_of_sddl(text, job.domain.as_ref(), buf),
+    }
+}
+
+fn view_of_hex<'a>(text: &[u8], buf: &'a mut SdBuf) -> Result<SdView<'a>, LineFault>
+    requires { length text.now ≤ 262452 }
+    ensures { result ≡ bytes_mean (hex_spells text.now) }
+{
+    match buf.from_hex(text) {
+        Ok(()) => read(buf.bytes()).map_err(LineFault::Sd),
+        Err(fault) => Err(LineFault::Text(fault)),
+    }
+}
+
+fn view_of_sddl<'a>(
+    text: &[u8],
+    domain: Option<&Sid>,
+    buf: &'a mut SdBuf,
+) -> Result<SdView<'a>, LineFault>
+    ensures { result ≡ or_sddl_fault (means text.now (option_copied domain.entry)) }
+{
+    match read_sddl(text, domain, buf) {
+        // Its bytes show a descriptor, so they are read.
+        Ok(()) => match read(buf.bytes()) {
+            Ok(view) => Ok(view),
+            Err(fault) => Err(LineFault::Sd(fault)),
         },
+        Err(fault) => Err(LineFault::Sddl(fault)),
     }
 }
 

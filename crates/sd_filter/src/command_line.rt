@@ -30,7 +30,11 @@ fn convert_command<'a>(alloc: Global) -> Result<Command<'a>, AllocError>
     let command = Command::new(alloc, "convert").about("Print each descriptor in a canonical form");
     let command = with_arg(
         command,
-        option(alloc, "from", "The form of the lines: hex, the default"),
+        option(
+            alloc,
+            "from",
+            "The form of the lines: hex, the default, or sddl",
+        ),
     )?;
     let command = with_arg(
         command,
@@ -45,7 +49,7 @@ fn convert_command<'a>(alloc: Global) -> Result<Command<'a>, AllocError>
         option(
             alloc,
             "domain",
-            "The SID of the domain whose aliases are printed",
+            "The SID of the domain whose aliases are read and printed",
         ),
     )?;
     with_arg(

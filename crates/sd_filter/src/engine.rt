@@ -1,7 +1,7 @@
 // The engine, which has every buffer of a run.
-ghost use Rattle.std.specs.Prelude.{◌≡◌, IfOk};
+ghost use Rattle.std.specs.Prelude.{◌≡◌, IfOk, IfSome};
+ghost use Rattle.sd_core.specs.Sid.{IsSid};
 ghost use Rattle.sd_filter.specs.Answers.{line_limit};
-ghost use Rattle.sd_filter.specs.declared.job.Form.TheVariants.{Hex};
 
 use crate::hex_text::GATHERED;
 use crate::job::{Form, Job};
@@ -48,9 +48,8 @@ impl Model for Engine {
 }
 
 impl Engine {
-    /// All that a run needs is reserved here. The lines are not read as SDDL yet.
+    /// All that a run needs is reserved here.
     pub fn new(alloc: Global, job: Job) -> Result<Engine, NoMemory>
-        requires { job.source ≡ Hex }
         ensures { IfOk result (λ engine. engine ≡ job) }
     {
         let desk = Desk {
@@ -63,6 +62,15 @@ impl Engine {
             },
         };
         Ok(Engine { desk })
+    }
+
+    // The limits of the job's domain: its size tells that it keeps them.
+    pub(crate) fn note_limits(&self)
+        ensures { IfSome self.now.domain IsSid }
+    {
+        if let Some(domain) = &self.desk.job.domain {
+            let _ = domain.size();
+        }
     }
 }
 
@@ -88,6 +96,7 @@ fn line_limit(form: Form) -> usize
     ensures { result ≡ line_limit form }
 {
     match form {
-        Form::Hex | Form::Sddl => 262_452,
+        Form::Hex => 262_452,
+        Form::Sddl => 1_049_872,
     }
 }

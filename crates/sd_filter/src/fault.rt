@@ -3,8 +3,9 @@ ghost use Rattle.std.specs.Prelude.{◌≡◌, ◌<◌, length};
 ghost use Rattle.sd_core.specs.Sink.{Puts};
 ghost use Rattle.sd_filter.specs.Faults.{fault_text, number_and_name, part_text, parts_of, parts_text};
 
-use sd_binary::{Part, SdFault, TextFault};
-use sd_core::{Sink, SinkFault};
+use sd_binary::{Part, SdFault, TextFault, Which};
+use sd_core::{SidFault, Sink, SinkFault};
+use sd_sddl::SddlFault;
 
 /// Why a line has no answer but an `error` line: the first condition that holds.
 #[derive(Clone, Copy, Debug, PartialEq, Eq)]
@@ -15,6 +16,8 @@ pub enum LineFault {
     Text(TextFault),
     /// 5 to 14: its bytes show no descriptor.
     Sd(SdFault),
+    /// 20 to 30: it is no SDDL.
+    Sddl(SddlFault),
 }
 
 /// Puts the text of an `error` line, without its LF: at most 63 bytes.
@@ -45,6 +48,17 @@ fn number_and_name(fault: LineFault) -> &'static str
         LineFault::Sd(SdFault::AceType(_)) => "error 12 ace-type",
         LineFault::Sd(SdFault::AceFlags(_)) => "error 13 ace-flags",
         LineFault::Sd(SdFault::Overlap(_, _)) => "error 14 overlap",
+        LineFault::Sddl(SddlFault::Shape) => "error 20 shape",
+        LineFault::Sddl(SddlFault::PartTwice) => "error 21 part-twice",
+        LineFault::Sddl(SddlFault::Sid(SidFault::Alias)) => "error 22 alias",
+        LineFault::Sddl(SddlFault::Sid(SidFault::NeedsDomain)) => "error 23 needs-domain",
+        LineFault::Sddl(SddlFault::Sid(SidFault::Number)) => "error 24 number",
+        LineFault::Sddl(SddlFault::Sid(SidFault::SidForm)) => "error 25 sid-form",
+        LineFault::Sddl(SddlFault::Flags) => "error 26 flags",
+        LineFault::Sddl(SddlFault::Rights) => "error 27 rights",
+        LineFault::Sddl(SddlFault::Guid) => "error 28 guid",
+        LineFault::Sddl(SddlFault::Kind) => "error 29 kind",
+        LineFault::Sddl(SddlFault::AclTooLarge(_)) => "error 30 acl-too-large",
     }
 }
 
@@ -59,6 +73,8 @@ fn parts_of(fault: LineFault) -> (Option<Part>, Option<Part>)
         LineFault::Sd(SdFault::AceType(part)) => (Some(part), None),
         LineFault::Sd(SdFault::AceFlags(part)) => (Some(part), None),
         LineFault::Sd(SdFault::Overlap(first, second)) => (Some(first), Some(second)),
+        LineFault::Sddl(SddlFault::AclTooLarge(Which::Sacl)) => (Some(Part::Sacl), None),
+        LineFault::Sddl(SddlFault::AclTooLarge(Which::Dacl)) => (Some(Part::Dacl), None),
         _ => (None, None),
     }
 }

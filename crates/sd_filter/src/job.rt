@@ -7,7 +7,7 @@ use sd_core::Sid;
 pub enum Form {
     /// Hex digits, two a byte.
     Hex,
-    /// SDDL (MS-DTYP 2.5.1), which is printed and not read yet.
+    /// SDDL (MS-DTYP 2.5.1).
     Sddl,
 }
 
@@ -23,7 +23,7 @@ pub enum Act {
 pub struct Job {
     pub source: Form,
     pub act: Act,
-    /// The domain whose aliases are printed, if there is one.
+    /// The domain whose aliases are read and printed, if there is one.
     pub domain: Option<Sid>,
     /// Whether SIDs are printed without aliases.
     pub numeric: bool,

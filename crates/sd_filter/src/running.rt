@@ -37,6 +37,7 @@ pub fn run<R: Source, W: Drain>(
     ensures job { engine.new ≡ engine.old }
     ensures entries { token.new.entries ≡ token.old.entries }
 {
+    engine.note_limits();
     run_at_most(&mut engine.desk, token, source, drain, MOST_READS)
 }
 

@@ -3,7 +3,6 @@ ghost use Rattle.std.specs.Prelude.{◌≡◌, IfOk, option_map};
 ghost use Rattle.clap.specs.Words.{first_of, found_of, rows_of, subcommand_rows_of};
 ghost use Rattle.sd_filter.specs.Endings.{usage_line};
 ghost use Rattle.sd_filter.specs.Settings as specs;
-ghost use Rattle.sd_filter.specs.declared.job.Form.TheVariants.{Hex};
 
 use crate::job::{Act, Form, Job};
 use clap::ArgMatches;
@@ -40,10 +39,9 @@ impl UsageFault {
     }
 }
 
-/// The first option that does not read, or the job, whose lines are hex.
+/// The first option that does not read, or the job.
 pub fn settings(matches: &ArgMatches<'_>) -> Result<Job, UsageFault>
-    ensures value { result ≡ specs.settings (subcommand_rows_of matches.now) }
-    ensures source { IfOk result (λ job. job.source ≡ Hex) }
+    ensures { result ≡ specs.settings (subcommand_rows_of matches.now) }
 {
     match matches.subcommand() {
         Some((_, convert)) => convert_settings(convert),
@@ -52,8 +50,7 @@ pub fn settings(matches: &ArgMatches<'_>) -> Result<Job, UsageFault>
 }
 
 fn convert_settings(matches: &ArgMatches<'_>) -> Result<Job, UsageFault>
-    ensures value { result ≡ specs.convert_settings (rows_of (found_of matches.now)) }
-    ensures source { IfOk result (λ job. job.source ≡ Hex) }
+    ensures { result ≡ specs.convert_settings (rows_of (found_of matches.now)) }
 {
     let domain = given_domain(matches)?;
     let source = given_source(matches)?;
@@ -101,17 +98,10 @@ fn domain_from_text(text: &str) -> Option<Sid>
 // Hex where the option is left out.
 #[tactic(auto, unfolding(crate::specs::Settings::given_source))]
 fn given_source(matches: &ArgMatches<'_>) -> Result<Form, UsageFault>
-    ensures value { result ≡ specs.given_source (rows_of (found_of matches.now)) }
-    ensures source { IfOk result (λ form. form ≡ Hex) }
+    ensures { result ≡ specs.given_source (rows_of (found_of matches.now)) }
 {
     match text_of(matches, "from") {
-        Some(text) => {
-            if text == "hex" {
-                Ok(Form::Hex)
-            } else {
-                Err(UsageFault::Value(OptionName::From))
-            }
-        }
+        Some(text) => form_from_text(text).ok_or(UsageFault::Value(OptionName::From)),
         None => Ok(Form::Hex),
     }
 }

@@ -223,6 +223,10 @@ flags-upper s d = omega (arith, scaled s.protected 0x20, scaled s.required 0x2, 
 flags-stay : (sacl dacl : AclFlags) → other_flags (control_flags sacl dacl) ≡ control_flags sacl dacl
 flags-stay s d = ap other_flags (flags-upper s d) ∙ upper-byte (six_bits s d) (bits-low s d) ∙ sym (flags-upper s d)
 
+-- without the other bits they are seven bits of the upper byte
+pub control-upper : (sacl dacl : AclFlags) → (k : ℕ) × (k < 128) × (other_flags (control_flags sacl dacl) ≡ 256 * k)
+control-upper s d = (six_bits s d, bits-low s d, flags-stay s d ∙ flags-upper s d)
+
 -- the flags of an ACL, and the bit that says that it stands
 dacl-bits : (c : ℕ) (part : AclPart) (f : AclFlags) → f ≡ flags_of part (dacl_of c)
     → bit_if f.protected 0x1000 + bit_if f.required 0x100 + bit_if f.inherited 0x400 + present_bit (is_present part) 0x4 ≡ kept_of_dacl c part

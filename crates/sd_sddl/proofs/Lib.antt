@@ -9,6 +9,7 @@ pub mod FlagRuns
 mod LineRows
 pub mod LineCuts
 pub mod LineFields
+pub mod MeansLimits
 pub mod PartsBack
 pub mod PlainTexts
 mod Rows

@@ -1,7 +1,8 @@
 // A line, read a byte at a time.
-ghost use Rattle.std.specs.Prelude.{◌≡◌, ◌≤◌, ◌==◌, ℕ, List, [], ◌∷◌, ◌++◌, length, ◌||◌, if◌then◌else◌, true, false, Some, None, Ok, Err, MatchResult};
+ghost use Rattle.std.specs.Prelude.{◌≡◌, ◌≤◌, ◌==◌, ℕ, List, [], ◌∷◌, ◌++◌, length, ◌||◌, if◌then◌else◌, true, false, Some, None, Ok, Err, IfOk, IfSome, MatchResult};
 ghost use Rattle.std.specs.Option.{option_copied};
-ghost use Rattle.sd_binary.specs.Descriptor.{Shows};
+ghost use Rattle.sd_core.specs.Sid.{IsSid};
+ghost use Rattle.sd_binary.specs.Descriptor.{IsDescriptor, Shows};
 ghost use Rattle.sd_sddl.specs.Held.{no_text, held_text};
 ghost use Rattle.sd_sddl.specs.Line.{byte, head_at, head_of as head_named, pieces_from};
 ghost use Rattle.sd_sddl.specs.Meaning.{Reading, and_then, finished, means, reads_as, take_field};
@@ -416,13 +417,25 @@ fn take_held(
     }
 }
 
+// The limits of the domain: its size tells that it keeps them.
+fn note_limits(domain: Option<&Sid>)
+    ensures { IfSome (option_copied domain.entry) IsSid }
+{
+    if let Some(sid) = domain {
+        let _ = sid.size();
+    }
+}
+
 /// Reads a line of SDDL (MS-DTYP 2.5.1), with the aliases of a domain. The buffer holds bytes that show the descriptor that
 /// the line means. After a refusal, by the first fault, it is empty.
 pub fn read_sddl(text: &[u8], domain: Option<&Sid>, buf: &mut SdBuf) -> Result<(), SddlFault>
-    ensures { MatchResult (means text.now (option_copied domain.entry))
+    ensures exact { MatchResult (means text.now (option_copied domain.entry))
         (λ d. (result ≡ Ok tt) × Shows buf.new d)
         (λ e. (result ≡ Err e) × (buf.new ≡ [])) }
+    // What it means keeps the limits of a descriptor.
+    ensures limits { IfOk (means text.now (option_copied domain.entry)) IsDescriptor }
 {
+    note_limits(domain);
     let mut reader = SddlReader::new(domain.copied(), buf);
     for byte in text {
         reader.feed(buf, *byte);

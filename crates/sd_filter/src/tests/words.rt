@@ -67,7 +67,7 @@ fn refuses_words(rt: HostRuntime) {
         ("sdtool convert --to HEX", "sdtool: usage: --to\n"),
         ("sdtool convert --to ", "sdtool: usage: --to\n"),
         ("sdtool convert --to=", "sdtool: usage: --to\n"),
-        ("sdtool convert --from sddl", "sdtool: usage: --from\n"),
+        ("sdtool convert --from SDDL", "sdtool: usage: --from\n"),
         ("sdtool convert --to x --from y", "sdtool: usage: --from\n"),
         ("sdtool convert --domain DA", "sdtool: usage: --domain\n"),
         ("sdtool convert --domain ", "sdtool: usage: --domain\n"),
@@ -98,9 +98,9 @@ const CONVERT_HELP: &str = "Print each descriptor in a canonical form
 Usage: sdtool convert [OPTIONS]
 
 Options:
-      --from <from>      The form of the lines: hex, the default
+      --from <from>      The form of the lines: hex, the default, or sddl
       --to <to>          The form of the answers: sddl, the default, or hex
-      --domain <domain>  The SID of the domain whose aliases are printed
+      --domain <domain>  The SID of the domain whose aliases are read and printed
       --numeric          Print SIDs without aliases
   -h, --help             Print help
 ";

@@ -1,5 +1,6 @@
 use Rattle.std.proofs.Common.{◌∙◌, ◌<◌, length, arith}
 use Rattle.std.proofs.lemmas.List.{take_more}
+use Rattle.sd_sddl.proofs.MeansLimits.{line-limits}
 use Rattle.sd_sddl.proofs.reader.read_sddl.Goals as goal
 
 pub loop-byte-preserved : goal.loop-byte-preserved
@@ -10,3 +11,6 @@ loop-byte-preserved c =
       read = rw (take_more c.args.text.now c.loop-byte.byte-index 0 h) (c.feed.ensures.read _ c.loop-byte.invariant.read);
       domain = c.feed.ensures.domain ∙ c.loop-byte.invariant.domain;
     }
+
+pub returns-clause-limits : goal.returns-clause-limits
+returns-clause-limits c = line-limits c.args.text.now _ c.note_limits.ensures

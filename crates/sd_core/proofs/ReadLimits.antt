@@ -1,0 +1,308 @@
+-- What a text reads as keeps the limits of SIDs, access rights, flags and GUIDs.
+use Rattle.std.proofs.Common.{◌≡◌, ◌≤◌, ◌<◌, ℕ, zero, suc, ◌+◌, ◌*◌, ◌/◌, ◌%◌, ◌^◌, Bool, true, false, ◌&&◌, ◌||◌, List, [], ◌∷◌, ◌++◌, length, take, drop, slice_index, Option, Some, None, IfSome, Result, Ok, Err, IfOk, refl, sym, ap, subst, arith, eqb-true, length-append}
+use Rattle.std.specs.Prelude.{◌==◌, nat_lt, nat_le, if◌then◌else◌}
+use Rattle.std.specs.Char.{is_digit, to_ascii_uppercase}
+use Rattle.std.specs.List.{find, list_all}
+use Rattle.std.specs.Option.{option_and_then}
+use Rattle.std.specs.Str.Parse.{digits_value}
+use Rattle.std.proofs.lemmas.Bool.Decides.{nat_tests}
+use Rattle.std.proofs.lemmas.List.Elements.{All-from_get_or}
+use Rattle.std.proofs.lemmas.Nat.{le_or_l}
+use Rattle.uuid.specs.Text.{by_index, byte_of_digits, digits_of, has_hyphens, is_hex_digit, parsed_simple, value_of}
+use Rattle.uuid.proofs.TextLemmas.{by_index_at, by_index_length}
+use Rattle.sd_core.specs.Ace.{IsGuid}
+use Rattle.sd_core.specs.Flags.{flags_reads}
+use Rattle.sd_core.specs.GuidText.{guid_reads}
+use Rattle.sd_core.specs.Names.{run_of}
+use Rattle.sd_core.specs.Rights.{after_zero, all_rights, number, rights_reads, short_rights_reads}
+use Rattle.sd_core.specs.Sid.{AreWords, IsSid, SecurityId}
+use Rattle.sd_core.specs.SidText.{all_read, also, are_letters, are_numbers, are_subs, authority_reads, begins_with_s1, decimal_reads, has_form, is_decimal, is_hex, known_named, known_sid, letters_read, name_reads, number_after, numbers_read, or_number_fault, pieces, relative_named, sid_in, sid_of_numbers, sid_reads, usable}
+use Rattle.sd_core.specs.SidText.{Pieces, number as number_below}
+use Rattle.sd_core.specs.declared.alias.WellKnown.{WellKnown}
+use Rattle.sd_core.specs.declared.alias.DomainRelative.{DomainRelative}
+use Rattle.sd_core.specs.declared.alias.TheConstants.{WELL_KNOWN, DOMAIN_RELATIVE}
+use Rattle.sd_core.specs.declared.sid_text.SidFault.{SidFault}
+use Rattle.sd_core.specs.declared.sid_text.SidFault.TheVariants as faults
+use Rattle.sd_core.specs.declared.flags.TheConstants.{FLAGS}
+use Rattle.sd_core.proofs.Bools.{both}
+use Rattle.sd_core.proofs.FlagLaws.{flags-clear}
+use Rattle.sd_core.proofs.NameLaws.{among, run-among}
+
+-- what holds of each value holds of the one that is read
+some-is : {A : Type 0} (P : A → Type 0) (o : Option A) (x : A) → IfSome o P → o ≡ Some x → P x
+some-is P o x h e = subst (λ (y : Option _). IfSome y P) e h
+
+-- what holds of each entry of a table holds of the one that is found
+found : {X : Type 0} (p q : X → Bool) (xs : List X) → list_all q xs ≡ true → IfSome (find p xs) (λ x. q x ≡ true)
+found p q [] all = tt
+found p q (y ∷ ys) all =
+    let parts = both (q y) _ all in
+    by_test (p y) parts.0 (found p q ys parts.1)
+  where
+    by_test : (b : Bool) → q y ≡ true → IfSome (find p ys) (λ x. q x ≡ true) → IfSome (if b then Some y else find p ys) (λ x. q x ≡ true)
+    by_test true h more = h
+    by_test false h more = more
+
+-- 1. Numbers.
+
+below : (limit : ℕ) (o : Option ℕ) → IfSome (option_and_then (λ n. if nat_lt n limit then Some n else None) o) (λ n. n < limit)
+below limit None = tt
+below limit (Some n) = by_test (nat_lt n limit) refl
+  where
+    by_test : (b : Bool) → nat_lt n limit ≡ b → IfSome (if b then Some n else None) (λ m. m < limit)
+    by_test true e = grind (arith, nat_tests)
+    by_test false e = tt
+
+number-limit : (base limit : ℕ) (text : List ℕ) → IfSome (number_below base limit text) (λ n. n < limit)
+number-limit base limit text = below limit (number_after base 0 text)
+
+decimal-limit : (text : List ℕ) → IfSome (decimal_reads text) (λ n. n < 2 ^ 32)
+decimal-limit text = by_test (nat_le (length text) 10)
+  where
+    by_test : (b : Bool) → IfSome (if b then number_below 10 (2 ^ 32) text else None) (λ n. n < 2 ^ 32)
+    by_test true = number-limit 10 (2 ^ 32) text
+    by_test false = tt
+
+larger : (o : Option ℕ) → IfSome o (λ n. n < 2 ^ 32) → IfSome o (λ n. n < 2 ^ 48)
+larger None h = tt
+larger (Some n) h = omega arith
+
+authority-limit : (text : List ℕ) → IfSome (authority_reads text) (λ n. n < 2 ^ 48)
+authority-limit text = by_test (is_hex text)
+  where
+    by_test : (b : Bool) → IfSome (if b then number_below 16 (2 ^ 48) (drop 2 text) else decimal_reads text) (λ n. n < 2 ^ 48)
+    by_test true = number-limit 16 (2 ^ 48) (drop 2 text)
+    by_test false = larger (decimal_reads text) (decimal-limit text)
+
+-- 2. SIDs.
+
+no_words : AreWords []
+no_words i = omega arith
+
+words-more : (n : ℕ) (ns : List ℕ) → n < 2 ^ 32 → AreWords ns → AreWords (n ∷ ns)
+words-more n ns small h zero = small
+words-more n ns small h (suc i) = h i
+
+words-rest : (n : ℕ) (ns : List ℕ) → AreWords (n ∷ ns) → AreWords ns
+words-rest n ns h i = h (suc i)
+
+words-push : (ns : List ℕ) (n : ℕ) → AreWords ns → n < 2 ^ 32 → AreWords (ns ++ n ∷ [])
+words-push [] n h small = words-more n [] small no_words
+words-push (m ∷ ns) n h small = words-more m (ns ++ n ∷ []) (h 0) (words-push ns n (words-rest m ns h) small)
+
+tested-words : (ns : List ℕ) → list_all (λ n. nat_lt n (2 ^ 32)) ns ≡ true → AreWords ns
+tested-words [] e = no_words
+tested-words (n ∷ ns) e =
+    let parts = both (nat_lt n (2 ^ 32)) _ e in
+    let small : n < 2 ^ 32 = let t = parts.0 in grind (arith, nat_tests) in
+    words-more n ns small (tested-words ns parts.1)
+
+-- as many numbers as texts
+AreRead : ℕ → List ℕ → Type 0
+AreRead count ns = (length ns ≡ count) × AreWords ns
+
+all-limits : (texts : List (List ℕ)) → IfSome (all_read texts) (AreRead (length texts))
+unfolding AreRead
+all-limits [] = (refl, no_words)
+all-limits (t ∷ ts) = joined (decimal_reads t) (all_read ts) (decimal-limit t) (all-limits ts)
+  where
+    joined : (o : Option ℕ) (p : Option (List ℕ)) → IfSome o (λ n. n < 2 ^ 32) → IfSome p (AreRead (length ts)) → IfSome (also o p) (AreRead (length (t ∷ ts)))
+    joined None p h k = tt
+    joined (Some n) None h k = tt
+    joined (Some n) (Some ns) h k = (ap suc k.0, words-more n ns h k.1)
+
+numbers-limits : (p : Pieces) → length p.others ≤ 15 → IfSome (numbers_read p) IsSid
+unfolding numbers_read AreRead
+numbers-limits p few = joined (authority_reads p.first) (all_read p.others) (authority-limit p.first) (all-limits p.others)
+  where
+    joined : (o : Option ℕ) (q : Option (List ℕ)) → IfSome o (λ n. n < 2 ^ 48) → IfSome q (AreRead (length p.others)) → IfSome (sid_of_numbers o q) IsSid
+    joined None q h k = tt
+    joined (Some a) None h k = tt
+    joined (Some a) (Some ns) h k = let count = k.0 in record { authority = h; count = omega arith; subs = k.1 }
+
+-- the limits of an entry
+known_fits : WellKnown → Bool
+known_fits e = nat_lt e.authority (2 ^ 48) && (nat_le (length (take e.count e.subs)) 15 && list_all (λ n. nat_lt n (2 ^ 32)) (take e.count e.subs))
+
+known_all : list_all known_fits WELL_KNOWN ≡ true
+unfolding known_fits
+known_all = refl
+
+relative_all : list_all (λ e. nat_lt e.last (2 ^ 32)) DOMAIN_RELATIVE ≡ true
+relative_all = refl
+
+known-limits : (e : WellKnown) → known_fits e ≡ true → IsSid (known_sid e)
+unfolding known_fits
+known-limits e h =
+    let first = both (nat_lt e.authority (2 ^ 48)) _ h in
+    let second = both (nat_le (length (take e.count e.subs)) 15) _ first.1 in
+    let small : e.authority < 2 ^ 48 = let t = first.0 in grind (arith, nat_tests) in
+    let few : length (take e.count e.subs) ≤ 15 = let t = second.0 in grind (arith, nat_tests) in
+    record { authority = small; count = few; subs = tested-words (take e.count e.subs) second.1 }
+
+-- a domain with room for one sub-authority more
+HasRoom : SecurityId → Type 0
+HasRoom d = IsSid d × (length d.subs < 15)
+
+usable-limits : (domain : Option SecurityId) → IfSome domain IsSid → IfSome (usable domain) HasRoom
+unfolding HasRoom
+usable-limits None h = tt
+usable-limits (Some d) h = by_test (nat_lt (length d.subs) 15) refl
+  where
+    by_test : (b : Bool) → nat_lt (length d.subs) 15 ≡ b → IfSome (if b then Some d else None) HasRoom
+    by_test true e = (h, grind (arith, nat_tests))
+    by_test false e = tt
+
+relative-limits : (d : SecurityId) (e : DomainRelative) → HasRoom d → nat_lt e.last (2 ^ 32) ≡ true → IsSid (sid_in d e)
+unfolding HasRoom
+relative-limits d e h t =
+    let small : e.last < 2 ^ 32 = grind (arith, nat_tests) in
+    let room = h.1 in
+    record { authority = h.0.authority; count = omega (arith, length-append d.subs (e.last ∷ []), room); subs = words-push d.subs e.last h.0.subs small }
+
+letters-limits : (a b : ℕ) (domain : Option SecurityId) → IfSome domain IsSid → IfOk (letters_read a b domain) IsSid
+unfolding letters_read
+letters-limits a b domain h =
+    by_known (known_named a b) (relative_named a b) (usable domain)
+    (found (λ e. e.first == to_ascii_uppercase a && e.second == to_ascii_uppercase b) known_fits WELL_KNOWN known_all)
+    (found (λ e. e.first == to_ascii_uppercase a && e.second == to_ascii_uppercase b) (λ e. nat_lt e.last (2 ^ 32)) DOMAIN_RELATIVE relative_all)
+    (usable-limits domain h)
+  where
+    by_known : (o : Option WellKnown) (r : Option DomainRelative) (u : Option SecurityId)
+        → IfSome o (λ e. known_fits e ≡ true) → IfSome r (λ e. nat_lt e.last (2 ^ 32) ≡ true) → IfSome u HasRoom → IfOk (name_reads o r u) IsSid
+    by_known (Some e) r u k l m = known-limits e k
+    by_known None (Some e) None k l m = tt
+    by_known None (Some e) (Some d) k l m = relative-limits d e m l
+    by_known None None u k l m = tt
+
+form-few : (text : List ℕ) → has_form text ≡ true → length (pieces (drop 4 text)).others ≤ 15
+unfolding has_form
+form-few text e =
+    let p = pieces (drop 4 text) in
+    let numbers = (both (nat_le (length text) 183 && begins_with_s1 text) (are_numbers p) e).1 in
+    let subs = (both (is_hex p.first || is_decimal p.first) (are_subs 0 p.others) numbers).1 in
+    let few = (both (nat_le (0 + length p.others) 15) _ subs).0 in
+    grind (arith, nat_tests)
+
+text-limits : (text : List ℕ) (domain : Option SecurityId) → IfSome domain IsSid → IfOk (sid_reads text domain) IsSid
+unfolding sid_reads
+text-limits text domain h =
+    by_letters (are_letters text) (has_form text) (letters-limits (slice_index text 0) (slice_index text 1) domain h)
+    (λ e. numbers (numbers_read (pieces (drop 4 text))) (numbers-limits (pieces (drop 4 text)) (form-few text e)))
+  where
+    numbers : (o : Option SecurityId) → IfSome o IsSid → IfOk (or_number_fault o) IsSid
+    numbers None k = tt
+    numbers (Some s) k = k
+
+    by_letters : (t f : Bool) → IfOk (letters_read (slice_index text 0) (slice_index text 1) domain) IsSid
+        → (f ≡ true → IfOk (or_number_fault (numbers_read (pieces (drop 4 text)))) IsSid)
+        → IfOk (if t then letters_read (slice_index text 0) (slice_index text 1) domain else (if f then or_number_fault (numbers_read (pieces (drop 4 text))) else Err faults.SidForm)) IsSid
+    by_letters true f k l = k
+    by_letters false true k l = l refl
+    by_letters false false k l = tt
+
+-- under a SID of a domain, or none
+pub sid-limits : (text : List ℕ) (domain : Option SecurityId) (s : SecurityId) → IfSome domain IsSid → sid_reads text domain ≡ Ok s → IsSid s
+sid-limits text domain s h e = subst (λ (x : Result SecurityId SidFault). IfOk x IsSid) e (text-limits text domain h)
+
+-- 3. Access rights.
+
+all_words : list_all (λ e. among 0xffffffff e.bits) all_rights ≡ true
+all_words = refl
+
+among-word : (n : ℕ) → among 0xffffffff n ≡ true → n < 2 ^ 32
+among-word n h = omega (arith, le_or_l n 0xffffffff, eqb-true _ 0xffffffff h)
+
+run-limit : (text : List ℕ) → IfSome (run_of all_rights text) (λ n. n < 2 ^ 32)
+run-limit text = cases (run_of all_rights text) (run-among 0xffffffff all_rights text all_words)
+  where
+    cases : (o : Option ℕ) → IfSome o (λ n. among 0xffffffff n ≡ true) → IfSome o (λ n. n < 2 ^ 32)
+    cases None h = tt
+    cases (Some n) h = among-word n h
+
+numeral-limit : (base : ℕ) (text : List ℕ) → IfSome (number base text) (λ n. n < 2 ^ 32)
+numeral-limit base text = by_test (list_all (λ c. is_digit c base) text) (nat_lt 0 (length text)) (nat_lt (digits_value base text) (2 ^ 32)) refl
+  where
+    by_test : (d s b : Bool) → nat_lt (digits_value base text) (2 ^ 32) ≡ b → IfSome (if (s && d) && b then Some (digits_value base text) else None) (λ n. n < 2 ^ 32)
+    by_test true true true e = grind (arith, nat_tests)
+    by_test true true false e = tt
+    by_test true false b e = tt
+    by_test false true b e = tt
+    by_test false false b e = tt
+
+zero-limit : (text : List ℕ) → IfSome (after_zero text) (λ n. n < 2 ^ 32)
+zero-limit [] = omega arith
+zero-limit (c ∷ cs) = by_test (c == 120 || c == 88)
+  where
+    by_test : (b : Bool) → IfSome (if b then number 16 cs else number 8 (c ∷ cs)) (λ n. n < 2 ^ 32)
+    by_test true = numeral-limit 16 cs
+    by_test false = numeral-limit 8 (c ∷ cs)
+
+short-limit : (text : List ℕ) → IfSome (short_rights_reads text) (λ n. n < 2 ^ 32)
+short-limit [] = omega arith
+short-limit (c ∷ cs) = by_test (is_digit c 10) (c == 48)
+  where
+    by_test : (d z : Bool) → IfSome (if d then (if z then after_zero cs else number 10 (c ∷ cs)) else run_of all_rights (c ∷ cs)) (λ n. n < 2 ^ 32)
+    by_test true true = zero-limit cs
+    by_test true false = numeral-limit 10 (c ∷ cs)
+    by_test false z = run-limit (c ∷ cs)
+
+pub rights-limit : (text : List ℕ) (mask : ℕ) → rights_reads text ≡ Some mask → mask < 2 ^ 32
+unfolding rights_reads
+rights-limit text mask e = some-is (λ n. n < 2 ^ 32) _ mask (by_test (nat_lt 183 (length text))) e
+  where
+    by_test : (b : Bool) → IfSome (if b then None else short_rights_reads text) (λ n. n < 2 ^ 32)
+    by_test true = tt
+    by_test false = short-limit text
+
+-- 4. Flags.
+
+pub flags-limits : (text : List ℕ) (flags : ℕ) → flags_reads text ≡ Some flags → (flags < 256) × (flags / 0x20 % 2 ≡ 0)
+unfolding flags_reads
+flags-limits text flags e = by_test (nat_lt 183 (length text)) e
+  where
+    by_test : (b : Bool) → (if b then None else run_of FLAGS text) ≡ Some flags → (flags < 256) × (flags / 0x20 % 2 ≡ 0)
+    by_test true f = absurd cc
+    by_test false f = flags-clear text flags (sym f)
+
+-- 5. GUIDs.
+
+hex-value : (c : ℕ) → is_hex_digit c ≡ true → value_of c < 16
+hex-value c h = grind (arith, nat_tests)
+
+digit-at : (hex : List ℕ) (k : ℕ) → k < length hex → list_all is_hex_digit hex ≡ true → is_hex_digit (slice_index hex k) ≡ true
+digit-at [] k within e = absurd (omega arith)
+digit-at (c ∷ cs) zero within e = (both (is_hex_digit c) _ e).0
+digit-at (c ∷ cs) (suc k) within e = digit-at cs k (omega arith) (both (is_hex_digit c) _ e).1
+
+byte-limit : (hex : List ℕ) (j : ℕ) → length hex ≡ 32 → list_all is_hex_digit hex ≡ true → j < 16 → byte_of_digits hex j < 256
+byte-limit hex j size e within =
+    let high = hex-value (slice_index hex (2 * j)) (digit-at hex (2 * j) (omega arith) e) in
+    let low = hex-value (slice_index hex (2 * j + 1)) (digit-at hex (2 * j + 1) (omega arith) e) in
+    omega arith
+
+simple-limits : (hex : List ℕ) → IfSome (parsed_simple hex) IsGuid
+simple-limits hex = by_test (length hex == 32) refl (list_all is_hex_digit hex) refl
+  where
+    guid : length hex ≡ 32 → list_all is_hex_digit hex ≡ true → IsGuid (by_index 16 (byte_of_digits hex))
+    guid size e =
+        let long = by_index_length 16 (byte_of_digits hex) in
+        record {
+          size = long;
+          bytes = All-from_get_or (λ b. b < 256) (by_index 16 (byte_of_digits hex)) 0
+              (λ i within. rw (by_index_at 16 (byte_of_digits hex) i 0 (omega arith)) (byte-limit hex i size e (omega arith)));
+        }
+
+    by_test : (s : Bool) → (length hex == 32) ≡ s → (d : Bool) → list_all is_hex_digit hex ≡ d → IfSome (if s && d then Some (by_index 16 (byte_of_digits hex)) else None) IsGuid
+    by_test true f true e = guid (eqb-true _ 32 f) e
+    by_test true f false e = tt
+    by_test false f d e = tt
+
+pub guid-limits : (text guid : List ℕ) → guid_reads text ≡ Some guid → IsGuid guid
+unfolding guid_reads
+guid-limits text guid e = some-is IsGuid _ guid (by_test (length text == 36) (has_hyphens text)) e
+  where
+    by_test : (s h : Bool) → IfSome (if s && h then parsed_simple (digits_of text) else None) IsGuid
+    by_test true true = simple-limits (digits_of text)
+    by_test true false = tt
+    by_test false h = tt
