@@ -1,5 +1,6 @@
 # make run      builds the program and converts the examples
 # make test     the gate and all tests of the built program; the last line is 'N passed, M failed'
+# make edits    tries every edit that the check has to refuse, also those that the gate leaves out; CRATE=NAME for one crate
 # make bench    measures the program against a plain one in Rust, and cat
 # make install  puts the program and its man page below PREFIX
 # make clean    removes what was built
@@ -12,7 +13,7 @@ SOURCES := crates.txt $(shell find crates -path '*/out' -prune -o -path '*/must-
 
 need_toolchain = $(if $(shell command -v rt 2>&1),,$(error the Rattle toolchain is missing: there is no command 'rt' on the PATH))
 
-.PHONY: program run test bench install clean
+.PHONY: program run test edits bench install clean
 
 program: $(PROGRAM)
 
@@ -31,6 +32,10 @@ run: program
 test:
 	$(need_toolchain)
 	@MAKE='$(MAKE)' tests/all.sh
+
+edits:
+	$(need_toolchain)
+	tests/edits.sh $(CRATE)
 
 bench: program
 	bench/run.py $(PROGRAM)
