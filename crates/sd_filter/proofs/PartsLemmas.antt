@@ -2,11 +2,28 @@
 use Rattle.std.proofs.Common.{◌≡◌, ℕ, List, [], ◌∷◌, ◌++◌, Bool, true, false, ◌==◌, cond, map, refl, sym, ◌∙◌, ap, rules, append-nil, append_assoc, suc, length, get_or, take, drop, ◌<◌, ◌≤◌, ◌+◌, ◌-◌, inl, inr, arith}
 use Rattle.std.proofs.lemmas.List.{map_push, get_or-take, get_or-drop, length-take-le, length-drop}
 use Rattle.std.proofs.lemmas.Bool.{cases_lt}
-use Rattle.sd_filter.specs.Lines.{Parts, parts, onto_first, without_cr, ended}
+use Rattle.sd_filter.specs.Lines.{IsCut, LinesAreCut, Parts, parts, onto_first, without_cr, ended}
 
 -- one byte in front of these parts
 abbrev front : Bool → ℕ → Parts → Parts
 front c b p = cond c (record { ended = [] ∷ p.ended; rest = p.rest }) (onto_first b p.ended p.rest)
+
+-- one byte in front of a cut
+front-cut : (c : Bool) (b : ℕ) (ended : List (List ℕ)) (rest bytes : List ℕ) → (b == 10) ≡ c
+    → IsCut bytes (record { ended = ended; rest = rest }) → IsCut (b ∷ bytes) (front c b (record { ended = ended; rest = rest }))
+front-cut true b ended rest bytes is h =
+    let lf : b ≡ 10 = search rules in
+    record { joined = rw lf (ap (λ l. 10 ∷ l) h.joined); ended_without = h.ended_without; rest_without = h.rest_without }
+front-cut false b [] rest bytes is h =
+    record { joined = ap (λ l. b ∷ l) h.joined; ended_without = refl; rest_without = rw is h.rest_without }
+front-cut false b (p ∷ ps) rest bytes is h =
+    record { joined = ap (λ l. b ∷ l) h.joined; ended_without = rw is h.ended_without; rest_without = h.rest_without }
+
+-- the parts are the one cut at the LFs
+pub parts-cut : LinesAreCut
+unfolding parts
+parts-cut [] = record { joined = refl; ended_without = refl; rest_without = refl }
+parts-cut (b ∷ bytes) = front-cut (b == 10) b (parts bytes).ended (parts bytes).rest bytes refl (parts-cut bytes)
 
 -- these parts, and then an LF
 abbrev closed : Parts → Parts

@@ -9,7 +9,7 @@ use Rattle.sd_filter.specs.Told.{SourceTold, DrainTold, sink_of, reads_after, en
 use Rattle.sd_filter.specs.Lines.{ended, lines}
 use Rattle.sd_filter.specs.Answers.{answers}
 use Rattle.sd_filter.specs.Sofar.{Holds, Answered, Failed, Sofar, BeforeRead}
-use Rattle.sd_filter.specs.Outcome.{Finished, FaultSays}
+use Rattle.sd_filter.specs.Outcome.{Finished, FaultSays, HandedOn}
 use Rattle.sd_filter.specs.declared.job.Job.{Job}
 use Rattle.sd_filter.specs.declared.engine.Desk.{Desk}
 use Rattle.sd_filter.specs.declared.engine.Report.{Report}
@@ -38,6 +38,21 @@ Answered-flush job token0 token sink0 drain drain' all report h keeps same = rec
   compared = h.compared;
 }
 
+-- the same in the middle of a run
+pub Sofar-flush : (token0 token : TokenShown) (sink0 : SinkTold) (drain drain' : DrainTold) (got : List ℕ) (desk : Desk) (report : Report)
+    → Sofar token0 sink0 got desk token (sink_of drain) report → Keeps drain.taken drain'.taken → drain'.failures ≡ drain.failures
+    → Sofar token0 sink0 got desk token (sink_of drain') report
+Sofar-flush token0 token sink0 drain drain' got desk report h keeps same = record {
+  holds = h.holds;
+  answered = Answered-flush _ token0 token sink0 drain drain' _ report h.answered keeps same;
+}
+
+-- nothing was put since, or the last call was a flush
+HandedOn-trans : (a b c : DrainTold) → HandedOn a b → HandedOn b c → HandedOn a c
+HandedOn-trans a b c p (inr flushed) = inr flushed
+HandedOn-trans a b c (inl same) (inl still) = inl (still ∙ same)
+HandedOn-trans a b c (inr flushed) (inl still) = inr (ap (λ (d : DrainTold). d.flushed) still ∙ flushed)
+
 -- a flush that fails
 pub Failed-flush : (job : Job) (token0 token : TokenShown) (sink0 : SinkTold) (drain drain' : DrainTold) (all : List (List ℕ)) (report : Report)
     → Answered job token0 sink0 all token (sink_of drain) report → Keeps drain.taken drain'.taken → drain'.failures ≡ counted drain.failures
@@ -64,6 +79,7 @@ BeforeRead-start token0 source0 drain0 desk report h no_lines no_faults = record
   got = [];
   read = Consumes-nil source0.left;
   sofar = Sofar-nil token0 (sink_of drain0) desk report h no_lines no_faults;
+  handed_on = inl refl;
   reads = record { at_least = omega arith; at_most = omega arith };
   ends = refl;
   failures = refl;
@@ -85,12 +101,13 @@ module _ (most turn : ℕ) (token0 token : TokenShown) (source0 source source' :
   -- a piece was read and its lines are answered
   pub BeforeRead-more : (piece : List ℕ) (token' : TokenShown) (drain' : DrainTold) (desk' : Desk) (report' : Report)
       → Consumes source.left source'.left piece → source'.reads ≡ counted source.reads → source'.ends ≡ source.ends → source'.failures ≡ source.failures
-      → Sofar token0 (sink_of drain0) (r.got ++ piece) desk' token' (sink_of drain') report'
+      → Sofar token0 (sink_of drain0) (r.got ++ piece) desk' token' (sink_of drain') report' → HandedOn drain drain'
       → BeforeRead (turn + 1) token0 source0 drain0 desk' token' source' drain' report'
-  BeforeRead-more piece token' drain' desk' report' consumed reads ends failures sofar = record {
+  BeforeRead-more piece token' drain' desk' report' consumed reads ends failures sofar handed = record {
     got = r.got ++ piece;
     read = Consumes-trans _ _ _ _ _ r.read consumed;
     sofar = sofar;
+    handed_on = HandedOn-trans _ _ _ r.handed_on handed;
     reads = record {
       at_least = let before = r.reads.at_least in omega arith;
       at_most = let before = r.reads.at_most in omega arith;
@@ -109,6 +126,7 @@ module _ (most turn : ℕ) (token0 token : TokenShown) (source0 source source' :
       reads = let before = r.reads.at_most in omega arith;
       no_end = ends ∙ r.ends;
       written = r.sofar.answered.put.appended;
+      handed_on = r.handed_on;
       no_failed_write = r.sofar.answered.put.no_failure;
       compared = r.sofar.answered.compared;
     },
@@ -203,6 +221,7 @@ broken-most most token0 token source0 source drain0 drain desk report r = (
     reads = r.reads.at_most;
     no_end = r.ends;
     written = r.sofar.answered.put.appended;
+    handed_on = r.handed_on;
     no_failed_write = r.sofar.answered.put.no_failure;
     compared = r.sofar.answered.compared;
   },

@@ -1,5 +1,6 @@
 -- The lines of some bytes.
-use Rattle.std.specs.Prelude.{ℕ, List, [], ◌∷◌, ◌++◌, ◌==◌, if◌then◌else◌, map}
+use Rattle.std.specs.Prelude.{◌≡◌, ℕ, Bool, false, List, [], ◌∷◌, ◌++◌, ◌==◌, if◌then◌else◌, map}
+use Rattle.std.specs.List.{flat_map, list_any}
 
 -- the parts that an LF ends, in order, and what follows the last LF
 pub record Parts : Type 0 where
@@ -35,3 +36,17 @@ last_line (b ∷ bytes) = (b ∷ bytes) ∷ []
 
 unfoldable pub lines : List ℕ → List (List ℕ)
 lines bytes = ended bytes ++ last_line (parts bytes).rest
+
+-- What fixes the cut by itself: the bytes are the ended parts, each with its LF, and then the rest, and no LF stands in any
+-- of these.
+
+abbrev pub has_lf : List ℕ → Bool
+has_lf bytes = list_any (λ b. b == 10) bytes
+
+pub record IsCut (bytes : List ℕ) (p : Parts) : Type 0 where
+  pub joined : flat_map (λ part. part ++ 10 ∷ []) p.ended ++ p.rest ≡ bytes
+  pub ended_without : list_any has_lf p.ended ≡ false
+  pub rest_without : has_lf p.rest ≡ false
+
+abbrev pub LinesAreCut : Type 0
+LinesAreCut = (bytes : List ℕ) → IsCut bytes (parts bytes)

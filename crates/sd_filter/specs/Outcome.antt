@@ -39,18 +39,23 @@ pub record Finished (most : ℕ) (job : Job) (token token' : TokenShown) (source
   pub faults_counted : report.faults ≡ errors job (lines got)
   pub compared : Compares token token' (bounds job token.entries (lines got))
 
--- no read answered 0: the lines that an LF ended were answered, whole
+-- The output is as it was, or its last call was a flush that succeeded: whoever waits for the answers has them.
+abbrev pub HandedOn : DrainTold → DrainTold → Type 0
+HandedOn drain drain' = (drain' ≡ drain) ⊎ (drain'.flushed ≡ true)
+
+-- no read answered 0: the lines that an LF ended were answered, whole, and the answers handed on
 pub record Stopped (most : ℕ) (job : Job) (token token' : TokenShown) (source source' : SourceTold) (drain drain' : DrainTold) : Type 0 where
   pub got : List ℕ
   pub read : Consumes source.left source'.left got
   pub reads : source'.reads ≤ source.reads + most
   pub no_end : source'.ends ≡ source.ends
   pub written : Appends drain.taken drain'.taken (answers job token.entries (ended got))
+  pub handed_on : HandedOn drain drain'
   pub no_failed_write : drain'.failures ≡ drain.failures
   pub compared : Compares token token' (bounds job token.entries (ended got))
 
--- a write or the flush failed, and a prefix of the answers was written: those of some lines whole, and
--- a part of the answer to one more, or to none where the flush failed
+-- a write or a flush failed, and a prefix of the answers was written: those of some lines whole, and
+-- a part of the answer to one more, or to none where a flush failed
 pub record WriteFailed (most : ℕ) (job : Job) (token token' : TokenShown) (source source' : SourceTold) (drain drain' : DrainTold) : Type 0 where
   pub got : List ℕ
   pub read : Consumes source.left source'.left got

@@ -8,7 +8,7 @@ use Rattle.sd_core.specs.Sink.{SinkTold, PutAll, IsPrefix}
 use Rattle.sd_core.specs.Counts.{Rose}
 use Rattle.sd_filter.specs.Lines.{parts, ended, without_cr}
 use Rattle.sd_filter.specs.Answers.{answers, errors, bounds}
-use Rattle.sd_filter.specs.Outcome.{Compares, RoseBy}
+use Rattle.sd_filter.specs.Outcome.{Compares, HandedOn, RoseBy}
 use Rattle.sd_filter.specs.declared.job.Job.{Job}
 use Rattle.sd_filter.specs.declared.engine.Desk.{Desk}
 use Rattle.sd_filter.specs.declared.engine.Report.{Report}
@@ -62,6 +62,7 @@ pub record BeforeRead (turn : ℕ) (token0 : TokenShown) (source0 : SourceTold) 
   pub got : List ℕ
   pub read : Consumes source0.left source.left got
   pub sofar : Sofar token0 (sink_of drain0) got desk token (sink_of drain) report
+  pub handed_on : HandedOn drain0 drain
   pub reads : RoseBy turn source0.reads source.reads
   pub ends : source.ends ≡ source0.ends
   pub failures : source.failures ≡ source0.failures

@@ -1,5 +1,5 @@
 // The bytes go one after another into the line in hand, and each LF answers it.
-ghost use Rattle.std.specs.Prelude.{◌≡◌, ◌+◌, ◌<◌, ◌≤◌, ◌^◌, ℕ, List, ◌++◌, [], ◌∷◌, length, ◌≢◌, slice_index, MatchResult, false, unwrap_or, IfSome};
+ghost use Rattle.std.specs.Prelude.{◌≡◌, ◌+◌, ◌<◌, ◌≤◌, ◌^◌, ℕ, List, ◌++◌, [], ◌∷◌, length, ◌≢◌, slice_index, MatchResult, Ok, false, unwrap_or, IfSome};
 ghost use Rattle.sd_core.specs.Sink.{SinkTold};
 ghost use Rattle.sd_core.specs.Token.{TokenShown};
 ghost use Rattle.sd_filter.specs.Answers.{line_limit};
@@ -126,14 +126,14 @@ fn without_cr(bytes: &[u8]) -> &[u8]
     if *last == b'\r' { front } else { bytes }
 }
 
-/// A piece more, however the input is cut.
+/// A piece more, however the input is cut. The result says whether a line ended in it; where none did, nothing was put.
 pub fn feed_all<S: Sink>(
     desk: &mut Desk,
     piece: &[u8],
     token: &mut Token,
     sink: &mut S,
     report: &mut Report,
-) -> Result<(), SinkFault>
+) -> Result<bool, SinkFault>
     requires lines_fit { report.old.lines + length piece.now < 2 ^ 64 }
     requires faults_fit { report.old.faults + length piece.now < 2 ^ 64 }
     ensures fed { (token0 : TokenShown) (sink0 : SinkTold) (got : List ℕ)
@@ -141,6 +141,7 @@ pub fn feed_all<S: Sink>(
         → MatchResult result
         (λ _. Sofar token0 sink0 (got ++ piece.now) desk.new token.new (S.told sink.new) report.new)
         (λ _. Failed desk.new.job token0 sink0 (ended (got ++ piece.now)) token.new (S.told sink.new)) }
+    ensures quiet { result ≡ Ok false → sink.new ≡ sink.old }
     ensures job { desk.new.job ≡ desk.old.job }
     ensures place { S.place sink.new ≡ S.place sink.old }
     ensures lines_within { report.new.lines ≤ report.old.lines + length piece.now }
@@ -152,7 +153,7 @@ pub fn feed_all<S: Sink>(
         start += n + 1;
     }
     desk.line.hold_all(&piece[start..]);
-    Ok(())
+    Ok(start > 0)
 }
 
 // The place of the first LF. Whole blocks without one are passed over, each in a few instructions.

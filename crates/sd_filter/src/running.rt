@@ -1,12 +1,12 @@
 // A run from the first read to the last flush.
-ghost use Rattle.std.specs.Prelude.{◌≡◌, ◌+◌, ◌<◌, ◌≤◌, ◌^◌, ℕ, List, ◌++◌, [], length, true, MatchResult};
+ghost use Rattle.std.specs.Prelude.{◌≡◌, ◌+◌, ◌<◌, ◌≤◌, ◌^◌, ℕ, List, ◌++◌, [], length, true, false, IsOk, Ok, MatchResult};
 ghost use Rattle.sd_core.specs.Token.{TokenShown};
 ghost use Rattle.sd_core.specs.Sink.{SinkTold};
 ghost use Rattle.sd_filter.specs.Told.{sink_of};
 ghost use Rattle.sd_filter.specs.Answers.{AnswersAreShort};
-ghost use Rattle.sd_filter.specs.Lines.{ended, lines};
+ghost use Rattle.sd_filter.specs.Lines.{LinesAreCut, ended, lines};
 ghost use Rattle.sd_filter.specs.Sofar.{Answered, Failed, Sofar};
-ghost use Rattle.sd_filter.specs.Outcome.{Outcome};
+ghost use Rattle.sd_filter.specs.Outcome.{HandedOn, Outcome};
 
 use crate::device::{Drain, Source};
 use crate::engine::{Desk, Engine, Report, RunFault};
@@ -20,10 +20,11 @@ const MOST_READS: u64 = 1 << 40;
 /// The bytes that one read may give.
 const PIECE: usize = 8192;
 
-/// Reads lines to the end of the input, writes the answer to each, and flushes at the end.
+/// Reads lines to the end of the input, writes the answer to each, and flushes at the end, and before it reads again
+/// wherever a line ended: so whoever waits for the answers has them.
 ///
 /// A read that fails ends the run, and so do 2^40 reads without an end: the lines that an LF ended are
-/// answered by then, and the one in hand is not. A write or a flush that fails ends it too, and a prefix
+/// answered by then, and the one in hand is not. A write or a flush that fails ends it at once, and a prefix
 /// of the answers is written. After any return the engine may run again: it starts without a held line.
 pub fn run<R: Source, W: Drain>(
     engine: &mut Engine,
@@ -33,7 +34,9 @@ pub fn run<R: Source, W: Drain>(
 ) -> Result<Report, RunFault>
     ensures outcome { Outcome (2 ^ 40) engine.old token.old token.new (R.told source.old) (R.told source.new) (W.told drain.old) (W.told drain.new) result }
     // At most eight characters a byte of the descriptor that a line prints, and 64.
-    ensures printed { AnswersAreShort engine.old token.old.entries }
+    ensures answers_are_short { AnswersAreShort engine.old token.old.entries }
+    // The lines are cut at each LF and nowhere else.
+    ensures lines_are_cut { LinesAreCut }
     ensures job { engine.new ≡ engine.old }
     ensures entries { token.new.entries ≡ token.old.entries }
 {
@@ -71,7 +74,7 @@ pub(crate) fn run_at_most<R: Source, W: Drain>(
                 Err(_) => Err(RunFault::Write),
             };
         }
-        match feed_drain(desk, &buf[..n], token, drain, &mut report) {
+        match answer_piece(desk, &buf[..n], token, drain, &mut report) {
             Ok(()) => {}
             Err(_) => return Err(RunFault::Write),
         }
@@ -79,7 +82,8 @@ pub(crate) fn run_at_most<R: Source, W: Drain>(
     Err(RunFault::TooManyReads)
 }
 
-fn feed_drain<W: Drain>(
+// Answers the lines that end in a piece, and hands their answers on, so that they are out before more is read.
+fn answer_piece<W: Drain>(
     desk: &mut Desk,
     piece: &[u8],
     token: &mut Token,
@@ -93,6 +97,39 @@ fn feed_drain<W: Drain>(
         → MatchResult result
         (λ _. Sofar token0 sink0 (got ++ piece.now) desk.new token.new (sink_of (W.told drain.new)) report.new)
         (λ _. Failed desk.new.job token0 sink0 (ended (got ++ piece.now)) token.new (sink_of (W.told drain.new))) }
+    ensures handed_on { IsOk result → HandedOn (W.told drain.old) (W.told drain.new) }
+    ensures job { desk.new.job ≡ desk.old.job }
+    ensures lines_within { report.new.lines ≤ report.old.lines + length piece.now }
+    ensures faults_within { report.new.faults ≤ report.old.faults + length piece.now }
+{
+    let a_line_ended = match feed_drain(desk, piece, token, drain, report) {
+        Ok(a_line_ended) => a_line_ended,
+        Err(sink_fault) => return Err(sink_fault),
+    };
+    if !a_line_ended {
+        return Ok(());
+    }
+    if let Err(_) = drain.flush() {
+        return Err(SinkFault);
+    }
+    Ok(())
+}
+
+fn feed_drain<W: Drain>(
+    desk: &mut Desk,
+    piece: &[u8],
+    token: &mut Token,
+    drain: &mut W,
+    report: &mut Report,
+) -> Result<bool, SinkFault>
+    requires lines_fit { report.old.lines + length piece.now < 2 ^ 64 }
+    requires faults_fit { report.old.faults + length piece.now < 2 ^ 64 }
+    ensures fed { (token0 : TokenShown) (sink0 : SinkTold) (got : List ℕ)
+        → Sofar token0 sink0 got desk.old token.old (sink_of (W.told drain.old)) report.old
+        → MatchResult result
+        (λ _. Sofar token0 sink0 (got ++ piece.now) desk.new token.new (sink_of (W.told drain.new)) report.new)
+        (λ _. Failed desk.new.job token0 sink0 (ended (got ++ piece.now)) token.new (sink_of (W.told drain.new))) }
+    ensures quiet { result ≡ Ok false → W.told drain.new ≡ W.told drain.old }
     ensures job { desk.new.job ≡ desk.old.job }
     ensures lines_within { report.new.lines ≤ report.old.lines + length piece.now }
     ensures faults_within { report.new.faults ≤ report.old.faults + length piece.now }

@@ -1,11 +1,7 @@
 // `sdtool` over the standard streams.
 #![tactic(auto)]
 
-mod tied;
-
-use crate::tied::{TiedReader, TiedWriter};
 use sd_filter::{FromRead, ToWrite, command};
-use std::cell::RefCell;
 use std::env::{self, Env};
 use std::io::{BufWriter, ErrorKind};
 use std::process::ExitCode;
@@ -13,6 +9,9 @@ use std::process::ExitCode;
 const USAGE: u8 = 2;
 
 const NO_MEMORY: u8 = 4;
+
+/// The bytes of answers that are gathered before they are written: a run flushes them before it reads again.
+const GATHERED: usize = 1 << 16;
 
 fn main(rt: HostRuntime) -> ExitCode {
     let status = match run(&rt) {
@@ -28,15 +27,18 @@ fn main(rt: HostRuntime) -> ExitCode {
 // The status of the command, or of what is wrong before it.
 fn run(rt: &HostRuntime) -> Result<u8, u8> {
     let words = words(rt)?;
-    let output = BufWriter::new(rt.alloc(), rt.stdout()).map_err(|_| NO_MEMORY)?;
-    let output = RefCell::new(output);
-    let mut source = FromRead::new(TiedReader {
-        reader: rt.stdin(),
-        output: &output,
-    });
-    let mut drain = ToWrite::new(TiedWriter { output: &output });
-    let mut faults = ToWrite::new(rt.stderr());
-    Ok(command(rt.alloc(), words, &mut source, &mut drain, &mut faults))
+    let output = BufWriter::with_capacity(rt.alloc(), GATHERED, rt.stdout());
+    let mut output = output.map_err(|_| NO_MEMORY)?;
+    let status = command(
+        rt.alloc(),
+        words,
+        &mut FromRead::new(rt.stdin()),
+        &mut ToWrite::new(&mut output),
+        &mut ToWrite::new(rt.stderr()),
+    );
+    // What a failed output did not take is let go: nothing is written after the verdict.
+    let _ = output.into_parts();
+    Ok(status)
 }
 
 // The words of the command line, the program's name first.

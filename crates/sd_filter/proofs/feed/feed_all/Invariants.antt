@@ -10,6 +10,7 @@ invariant-loop-n g l = record {
   sofar : (token0 : TokenShown) (sink0 : SinkTold) (got : List ℕ)
       → Sofar token0 sink0 got l.fn.desk l.fn.token (g.S.Sink.told l.fn.sink) l.fn.report
       → Sofar token0 sink0 (got ++ take l.start l.piece) l.desk l.token (g.S.Sink.told l.sink) l.report;
+  quiet : l.start ≡ 0 → l.sink ≡ l.fn.sink;
   place : g.S.Sink.place l.sink ≡ g.S.Sink.place l.fn.sink;
   job : l.desk.job ≡ l.fn.desk.job;
   lines_within : l.report.lines ≤ l.fn.report.lines + l.start;

@@ -17,18 +17,18 @@ pub loop-turn-preserved : goal.loop-turn-preserved
 loop-turn-preserved g c =
     let r = c.loop-turn.invariant.before in
     let room : 0 < length c.read.new.buf = omega (arith, c.loop-turn.invariant.size, c.read.auto.buf) in
-    let fed = c.in-Ok-feed_drain.ensures.fed c.args.token.now (sink_of (g.W.Drain.told c.args.drain.now)) r.got r.sofar in
+    let fed = c.in-Ok-answer_piece.ensures.fed c.args.token.now (sink_of (g.W.Drain.told c.args.drain.now)) r.got r.sofar in
     let piece : length (take c.in-Ok.n c.read.new.buf) ≤ 8192 = simp length-take (omega (arith, c.loop-turn.invariant.size, c.read.auto.buf)) in
     record {
       before = BeforeRead-more c.args.most c.loop-turn.turn _ _ _ _ _ _ _ _ _ r (omega arith) (take c.in-Ok.n c.read.new.buf) _ _ _ _
           c.in-Ok.ensures.bytes.0 (c.read.ensures.reads ∙ reads-some _ _ room)
           (c.read.ensures.ends ∙ ends-some c.read.result _ c.in-Ok.n _ c.in-Ok.is (search rules))
           (c.read.ensures.failures ∙ failures-ok c.read.result c.in-Ok.n _ c.in-Ok.is)
-          fed;
-      job = c.feed_drain.ensures.job ∙ c.loop-turn.invariant.job;
+          fed (c.in-Ok-answer_piece.ensures.handed_on (search rules));
+      job = c.answer_piece.ensures.job ∙ c.loop-turn.invariant.job;
       size = c.read.auto.buf ∙ c.loop-turn.invariant.size;
-      lines_within = omega (arith, c.feed_drain.ensures.lines_within);
-      faults_within = omega (arith, c.feed_drain.ensures.faults_within);
+      lines_within = omega (arith, c.answer_piece.ensures.lines_within);
+      faults_within = omega (arith, c.answer_piece.ensures.faults_within);
     }
 
 pub returns-in-Err-clause-outcome : goal.returns-in-Err-clause-outcome
@@ -64,17 +64,17 @@ returns-in-Err-close-clause-outcome g c =
     (c.read.ensures.failures ∙ failures-ok c.read.result c.in-Ok.n _ c.in-Ok.is)
     (rw c.close.ensures.job at closed))
 
-pub returns-in-Err-feed_drain-clause-outcome : goal.returns-in-Err-feed_drain-clause-outcome
-returns-in-Err-feed_drain-clause-outcome g c =
+pub returns-in-Err-answer_piece-clause-outcome : goal.returns-in-Err-answer_piece-clause-outcome
+returns-in-Err-answer_piece-clause-outcome g c =
     let r = c.loop-turn.invariant.before in
     let room : 0 < length c.read.new.buf = omega (arith, c.loop-turn.invariant.size, c.read.auto.buf) in
-    let fed = c.in-Err-feed_drain.ensures.fed c.args.token.now (sink_of (g.W.Drain.told c.args.drain.now)) r.got r.sofar in
+    let fed = c.in-Err-answer_piece.ensures.fed c.args.token.now (sink_of (g.W.Drain.told c.args.drain.now)) r.got r.sofar in
     rw (← c.loop-turn.invariant.job)
     (broken-write c.args.most c.loop-turn.turn _ _ _ _ _ _ _ _ _ r (omega arith) (take c.in-Ok.n c.read.new.buf) _ _
     c.in-Ok.ensures.bytes.0 (c.read.ensures.reads ∙ reads-some _ _ room)
     (c.read.ensures.ends ∙ ends-some c.read.result _ c.in-Ok.n _ c.in-Ok.is (search rules))
     (c.read.ensures.failures ∙ failures-ok c.read.result c.in-Ok.n _ c.in-Ok.is)
-    (rw c.feed_drain.ensures.job at fed))
+    (rw c.answer_piece.ensures.job at fed))
 
 pub returns-clause-outcome : goal.returns-clause-outcome
 returns-clause-outcome g c =
@@ -91,7 +91,7 @@ returns-in-Err-close-clause-entries g c =
     let r = c.loop-turn.invariant.before in
     (c.in-Err-close.ensures.closed c.args.token.now (sink_of (g.W.Drain.told c.args.drain.now)) r.got r.sofar).same_entries
 
-pub returns-in-Err-feed_drain-clause-entries : goal.returns-in-Err-feed_drain-clause-entries
-returns-in-Err-feed_drain-clause-entries g c =
+pub returns-in-Err-answer_piece-clause-entries : goal.returns-in-Err-answer_piece-clause-entries
+returns-in-Err-answer_piece-clause-entries g c =
     let r = c.loop-turn.invariant.before in
-    (c.in-Err-feed_drain.ensures.fed c.args.token.now (sink_of (g.W.Drain.told c.args.drain.now)) r.got r.sofar).same_entries
+    (c.in-Err-answer_piece.ensures.fed c.args.token.now (sink_of (g.W.Drain.told c.args.drain.now)) r.got r.sofar).same_entries
