@@ -1,7 +1,7 @@
 -- What a sink tells, and what a call does to it.
 use Rattle.std.specs.Prelude.{◌≡◌, ◌<◌, ℕ, ◌-◌, List, ◌++◌, length, Option, Result, Ok, Err}
 use Rattle.std.specs.Io.KnownBytes.{Appends}
-use Rattle.sd_core.specs.Counts.{Rose}
+use Rattle.sd_core.specs.Counts.{counted}
 use Rattle.sd_core.specs.declared.sink.SinkFault.{SinkFault}
 
 pub record SinkTold : Type 0 where
@@ -22,12 +22,13 @@ pub record PutAll (old new : SinkTold) (text : List ℕ) : Type 0 where
   pub no_failure : new.failures ≡ old.failures
   pub room : new.room ≡ old.room - length text
 
--- a prefix of a text was appended, and a call failed; the text has more bytes than there was room for
+-- a prefix of a text was appended, and one call failed; the text has more bytes than there was room for
 pub record PutSome (old new : SinkTold) (text : List ℕ) : Type 0 where
   pub part : List ℕ
   pub is_prefix : IsPrefix part text
   pub appended : Appends old.contents new.contents part
-  pub failed : Rose old.failures new.failures
+  -- the failed call was the last one: a further one may fail, and then there were two
+  pub failed : new.failures ≡ counted old.failures
   pub beyond : old.room < length text
 
 -- what a call that puts a text did: all of it, or a prefix and a failure

@@ -13,8 +13,8 @@ pub trait Sink {
     /// Which reference it writes through, for a sink that holds one: no call replaces it.
     ghost place: { Self → ℕ } = { λ _. 0 };
 
-    /// Appends all of the bytes. An `Err` has appended a prefix of them, and its failures rose:
-    /// a fault is never answered otherwise.
+    /// Appends all of the bytes. An `Err` has appended a prefix of them, and its failures rose by one:
+    /// a fault is never answered otherwise, and no call follows one that failed.
     fn put(&mut self, bytes: &[u8]) -> Result<(), SinkFault>
         ensures put { Puts (told self.old) (told self.new) bytes.now result }
         ensures place { place self.new ≡ place self.old };

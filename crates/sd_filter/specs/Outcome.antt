@@ -1,7 +1,7 @@
 -- What each return of a run says of what was read and written.
 use Rattle.std.specs.Prelude.{◌≡◌, ◌≤◌, ◌⊎◌, ℕ, ◌+◌, ◌-◌, ◌^◌, min, List, length, true, ◌++◌, Result, Ok, Err}
 use Rattle.std.specs.Io.KnownBytes.{Consumes, Appends, IsAtEnd}
-use Rattle.sd_core.specs.Counts.{counted, Rose}
+use Rattle.sd_core.specs.Counts.{counted}
 use Rattle.sd_core.specs.Token.{TokenShown}
 use Rattle.sd_core.specs.Sink.{IsPrefix}
 use Rattle.sd_filter.specs.Told.{SourceTold, DrainTold}
@@ -67,7 +67,7 @@ pub record WriteFailed (most : ℕ) (job : Job) (token token' : TokenShown) (sou
   pub written : List ℕ
   pub wrote : Appends drain.taken drain'.taken written
   pub is_prefix : IsPrefix written (answers job token.entries all)
-  pub failed : Rose drain.failures drain'.failures
+  pub failed : drain'.failures ≡ counted drain.failures
   -- the same line by line, with the comparisons of the line whose answer failed
   pub whole : List (List ℕ)
   pub broken : List (List ℕ)

@@ -5,7 +5,7 @@ use Rattle.std.specs.Io.KnownBytes.{Consumes, Appends}
 use Rattle.sd_filter.specs.Told.{SourceTold, DrainTold, sink_of}
 use Rattle.sd_core.specs.Token.{TokenShown}
 use Rattle.sd_core.specs.Sink.{SinkTold, PutAll, IsPrefix}
-use Rattle.sd_core.specs.Counts.{Rose}
+use Rattle.sd_core.specs.Counts.{counted}
 use Rattle.sd_filter.specs.Lines.{parts, ended, without_cr}
 use Rattle.sd_filter.specs.Answers.{answers, errors, bounds}
 use Rattle.sd_filter.specs.Outcome.{Compares, HandedOn, RoseBy}
@@ -52,7 +52,7 @@ pub record Failed (job : Job) (token0 : TokenShown) (sink0 : SinkTold) (all : Li
   pub one : length broken ≤ 1
   pub is_prefix : IsPrefix part (answers job token0.entries broken)
   pub appended : Appends sink0.contents sink.contents (answers job token0.entries whole ++ part)
-  pub failed : Rose sink0.failures sink.failures
+  pub failed : sink.failures ≡ counted sink0.failures
   pub same_entries : token.entries ≡ token0.entries
   pub compared : Compares token0 token (bounds job token0.entries (whole ++ broken))
 
