@@ -11,6 +11,7 @@ pub mod NameLaws
 mod NameRows
 pub mod NumberLemmas
 pub mod Numbers
+pub mod PrintLemmas
 pub mod PutLoops
 pub mod ReadLimits
 pub mod RightsLaws

@@ -3,6 +3,7 @@ pub mod Counts
 pub mod Flags
 pub mod GuidText
 pub mod Names
+pub mod Print
 pub mod Rights
 pub mod Sid
 pub mod SidFields

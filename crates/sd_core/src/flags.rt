@@ -1,8 +1,11 @@
 ghost use Rattle.std.specs.Prelude.{◌≡◌, ◌≤◌, ◌/◌, ◌%◌, length, IfSome, Some};
 ghost use Rattle.sd_core.specs.Flags.{flags_reads, flags_text};
+ghost use Rattle.sd_core.specs.Print.{Prints};
 ghost use Rattle.sd_core.specs.Sink.{Puts};
 
-use crate::names::{LONGEST, NamedBits, put_names, read_names};
+use crate::names::{LONGEST, NamedBits, print_names, read_names};
+use crate::print::Print;
+use crate::printer::Printer;
 use crate::sink::{Sink, SinkFault};
 
 /// The flags of an ACE (MS-DTYP 2.4.4.1 and 2.5.1.1), in the order in which they are printed.
@@ -47,12 +50,20 @@ pub const FLAGS: [NamedBits; 7] = [
 /// Puts the names of an ACE's flags. Bit 0x20 has no name.
 pub fn put_flags<S: Sink>(flags: u8, sink: &mut S) -> Result<(), SinkFault>
     ensures put { Puts (S.told sink.old) (S.told sink.new) (flags_text flags) result }
-    ensures place { S.place sink.new ≡ S.place sink.old }
     // The text reads as the flags.
     ensures back { flags / 0x20 % 2 ≡ 0 → flags_reads (flags_text flags) ≡ Some flags }
     ensures short { length (flags_text flags) ≤ 14 }
 {
-    put_names(&FLAGS, u32::from(flags), sink)
+    let mut out = Printer::new(sink);
+    print_flags(flags, &mut out);
+    out.finish()
+}
+
+/// Prints the names of an ACE's flags. Bit 0x20 has no name.
+pub fn print_flags<P: Print>(flags: u8, out: &mut P)
+    ensures { Prints (P.told out.old) (P.told out.new) (flags_text flags) }
+{
+    print_names(&FLAGS, u32::from(flags), out);
 }
 
 /// The flags of a text of at most 183 bytes (MS-DTYP 2.5.1.1): names of two letters, in either case and any

@@ -1,8 +1,11 @@
 ghost use Rattle.std.specs.Prelude.{◌≡◌, length, Some};
 ghost use Rattle.uuid.specs.Parts.{swap_fields};
 ghost use Rattle.sd_core.specs.GuidText.{guid_reads, guid_text};
+ghost use Rattle.sd_core.specs.Print.{Prints};
 ghost use Rattle.sd_core.specs.Sink.{Puts};
 
+use crate::print::Print;
+use crate::printer::Printer;
 use crate::sink::{Sink, SinkFault};
 use uuid::Uuid;
 
@@ -32,14 +35,24 @@ pub fn guid_bytes(guid: &Uuid) -> [u8; 16]
 /// Puts the text of a GUID: 36 characters, in lower case.
 pub fn put_guid<S: Sink>(guid: &Uuid, sink: &mut S) -> Result<(), SinkFault>
     ensures put { Puts (S.told sink.old) (S.told sink.new) (guid_text guid.now) result }
-    ensures place { S.place sink.new ≡ S.place sink.old }
     // The text reads as the GUID.
+    ensures back { guid_reads (guid_text guid.now) ≡ Some guid.now }
+    ensures short { length (guid_text guid.now) ≡ 36 }
+{
+    let mut out = Printer::new(sink);
+    print_guid(guid, &mut out);
+    out.finish()
+}
+
+/// Prints the text of a GUID: 36 characters, in lower case.
+pub fn print_guid<P: Print>(guid: &Uuid, out: &mut P)
+    ensures put { Prints (P.told out.old) (P.told out.new) (guid_text guid.now) }
     ensures back { guid_reads (guid_text guid.now) ≡ Some guid.now }
     ensures short { length (guid_text guid.now) ≡ 36 }
 {
     let mut buffer = [0; TEXT_SIZE];
     let text = guid.hyphenated().encode_lower(&mut buffer);
-    sink.put(text.as_bytes())
+    out.put(text.as_bytes());
 }
 
 /// The GUID of a text (MS-DTYP 2.3.4.3, without its braces): 36 characters, with letters in either case.

@@ -3,9 +3,9 @@
 ghost use Rattle.std.specs.Prelude.{◌≡◌, ◌≤◌, length, take};
 ghost use Rattle.std.specs.List.{flat_map};
 ghost use Rattle.sd_core.specs.Names.{bits_named, named_bits, names_of, run_of};
-ghost use Rattle.sd_core.specs.Sink.{Puts};
+ghost use Rattle.sd_core.specs.Print.{Prints};
 
-use crate::sink::{Sink, SinkFault};
+use crate::print::Print;
 
 /// A name of two capital letters, and the bits that it stands for.
 #[derive(Clone, Copy)]
@@ -21,15 +21,14 @@ pub const LONGEST: usize = 183;
 /// The names of the largest table.
 const MOST_NAMES: usize = 17;
 
-/// Puts the names of the bits of a mask, in the table's order.
-pub fn put_names<S: Sink>(table: &[NamedBits], mask: u32, sink: &mut S) -> Result<(), SinkFault>
+/// Prints the names of the bits of a mask, in the table's order.
+pub fn print_names<P: Print>(table: &[NamedBits], mask: u32, out: &mut P)
     requires fits { length table.now ≤ 17 }
-    ensures put { Puts (S.told sink.old) (S.told sink.new) (names_of table.now mask) result }
-    ensures place { S.place sink.new ≡ S.place sink.old }
+    ensures { Prints (P.told out.old) (P.told out.new) (names_of table.now mask) }
 {
     let mut buffer = [0; 2 * MOST_NAMES];
     let end = write_names(table, mask, &mut buffer);
-    sink.put(&buffer[..end])
+    out.put(&buffer[..end]);
 }
 
 // Writes the names to the front of the buffer, and answers where they end.

@@ -1,12 +1,15 @@
 ghost use Rattle.std.specs.Prelude.{◌≡◌, ◌≤◌, ◌<◌, ◌==◌, drop, false, length, Some};
 ghost use Rattle.std.specs.Fmt.{digit_glyph, digits};
 ghost use Rattle.std.specs.List.{find};
+ghost use Rattle.sd_core.specs.Print.{Prints};
 ghost use Rattle.sd_core.specs.Rights.{hex_text, is_label, names_or_hex, rights_reads, rights_text};
 ghost use Rattle.sd_core.specs.Sink.{Puts};
 ghost use Rattle.sd_core.specs.declared.rights_table.TheConstants.{COMPOUNDS};
 
 use crate::ace::AceKind;
-use crate::names::{NamedBits, named_bits, put_names};
+use crate::names::{NamedBits, named_bits, print_names};
+use crate::print::Print;
+use crate::printer::Printer;
 use crate::rights_table::{COMPOUNDS, LABELS, SINGLES};
 use crate::sink::{Sink, SinkFault};
 
@@ -17,28 +20,29 @@ const HEX_SIZE: usize = 10;
 /// names in an ACE of this kind, and hex digits elsewhere.
 pub fn put_rights<S: Sink>(kind: AceKind, mask: u32, sink: &mut S) -> Result<(), SinkFault>
     ensures put { Puts (S.told sink.old) (S.told sink.new) (rights_text kind mask) result }
-    ensures place { S.place sink.new ≡ S.place sink.old }
     // The text reads as the mask.
     ensures back { rights_reads (rights_text kind mask) ≡ Some mask }
     ensures short { length (rights_text kind mask) ≤ 34 }
 {
-    put_text(kind, mask, sink)
+    let mut out = Printer::new(sink);
+    print_rights(kind, mask, &mut out);
+    out.finish()
 }
 
+/// Prints the text of an access mask, as `put_rights` puts it.
 #[tactic(auto, unfolding(crate::specs::Rights::rights_text))]
-fn put_text<S: Sink>(kind: AceKind, mask: u32, sink: &mut S) -> Result<(), SinkFault>
-    ensures put { Puts (S.told sink.old) (S.told sink.new) (rights_text kind mask) result }
-    ensures place { S.place sink.new ≡ S.place sink.old }
+pub fn print_rights<P: Print>(kind: AceKind, mask: u32, out: &mut P)
+    ensures { Prints (P.told out.old) (P.told out.new) (rights_text kind mask) }
 {
     if mask == 0 {
-        return put_hex(mask, sink);
+        return print_hex(mask, out);
     }
     if is_label(kind) {
-        return put_names_or_hex(&LABELS, mask, sink);
+        return print_names_or_hex(&LABELS, mask, out);
     }
     match whole_name(mask) {
-        Some(name) => sink.put(&[name.first, name.second]),
-        None => put_names_or_hex(&SINGLES, mask, sink),
+        Some(name) => out.put(&[name.first, name.second]),
+        None => print_names_or_hex(&SINGLES, mask, out),
     }
 }
 
@@ -55,27 +59,25 @@ fn whole_name(mask: u32) -> Option<NamedBits>
     COMPOUNDS.iter().copied().find(|name| name.bits == mask)
 }
 
-fn put_names_or_hex<S: Sink>(table: &[NamedBits], mask: u32, sink: &mut S) -> Result<(), SinkFault>
+fn print_names_or_hex<P: Print>(table: &[NamedBits], mask: u32, out: &mut P)
     requires fits { length table.now ≤ 17 }
-    ensures put { Puts (S.told sink.old) (S.told sink.new) (names_or_hex table.now mask) result }
-    ensures place { S.place sink.new ≡ S.place sink.old }
+    ensures put { Prints (P.told out.old) (P.told out.new) (names_or_hex table.now mask) }
 {
     if named_bits(table, mask) == mask {
-        put_names(table, mask, sink)
+        print_names(table, mask, out);
     } else {
-        put_hex(mask, sink)
+        print_hex(mask, out);
     }
 }
 
-fn put_hex<S: Sink>(mask: u32, sink: &mut S) -> Result<(), SinkFault>
-    ensures put { Puts (S.told sink.old) (S.told sink.new) (hex_text mask) result }
-    ensures place { S.place sink.new ≡ S.place sink.old }
+fn print_hex<P: Print>(mask: u32, out: &mut P)
+    ensures { Prints (P.told out.old) (P.told out.new) (hex_text mask) }
 {
     let mut buffer = [0; HEX_SIZE];
     let start = write_digits(mask, &mut buffer);
     buffer[start - 1] = b'x';
     buffer[start - 2] = b'0';
-    sink.put(&buffer[start - 2..])
+    out.put(&buffer[start - 2..]);
 }
 
 // Writes the hex digits to the end of the buffer, and answers where they start.

@@ -5,10 +5,13 @@ ghost use Rattle.std.specs.Fmt.{decimal, digit_glyph};
 ghost use Rattle.std.specs.List.{flat_map, list_all};
 ghost use Rattle.std.specs.Option.{option_copied, option_map};
 ghost use Rattle.sd_core.specs.Sid.{IsSid, SecurityId};
+ghost use Rattle.sd_core.specs.Print.{Prints};
 ghost use Rattle.sd_core.specs.Sink.{Puts};
 ghost use Rattle.sd_core.specs.SidText.{all_pieces, all_read, are_letters, are_numbers, are_subs, authority_reads, authority_text, begins_with_s1, decimal_reads, has_form, hex_digits, is_decimal, is_hex, is_sid_byte, number, numbers_read, pieces, sid_reads, sid_text, sub_text};
 
 use crate::alias::read_letters;
+use crate::print::Print;
+use crate::printer::Printer;
 use crate::sid::Sid;
 use crate::sink::{Sink, SinkFault};
 
@@ -39,15 +42,24 @@ impl Sid {
     /// decimal; an authority of 2^32 or more is `0x` and twelve hex digits.
     pub fn put_text<S: Sink>(&self, sink: &mut S) -> Result<(), SinkFault>
         ensures put { Puts (S.told sink.old) (S.told sink.new) (sid_text self.now) result }
-        ensures place { S.place sink.new ≡ S.place sink.old }
         // The text reads back, and has letters, digits and dashes alone.
         ensures back { (domain : Option SecurityId) → sid_reads (sid_text self.now) domain ≡ Ok self.now }
         ensures plain { list_all is_sid_byte (sid_text self.now) ≡ true }
         ensures short { length (sid_text self.now) ≤ 18 + 11 * length self.now.subs }
     {
+        let mut out = Printer::new(sink);
+        self.print_text(&mut out);
+        out.finish()
+    }
+
+    /// Prints the text, as `put_text` puts it.
+    pub fn print_text<P: Print>(&self, out: &mut P)
+        ensures put { Prints (P.told out.old) (P.told out.new) (sid_text self.now) }
+        ensures limits { IsSid self.now }
+    {
         let mut text = [0; LONGEST];
         let start = write_sid(self, &mut text);
-        sink.put(&text[start..])
+        out.put(&text[start..]);
     }
 
     /// The SID of a text. Two letters are an alias, in either case, some of them under the domain, which

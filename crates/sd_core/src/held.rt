@@ -1,0 +1,64 @@
+// Bytes that are held back.
+ghost use Rattle.std.specs.Prelude.{◌≡◌, ◌+◌, ◌-◌, ◌≤◌, ◌++◌, [], length};
+
+use std::marker::Model;
+
+/// The bytes that are held at most.
+const CAPACITY: usize = 512;
+
+/// At most 512 bytes.
+#[derive(Drop)]
+pub struct Held {
+    bytes: [u8; CAPACITY],
+    len: usize,
+}
+
+impl Model for Held {
+    ghost use Rattle.std.specs.Prelude.{◌≤◌, ℕ, List, take};
+
+    ghost Value = { List ℕ };
+
+    ghost view = { λ h. take h.len h.bytes };
+
+    ghost invariant = { λ h. h.len ≤ 512 };
+}
+
+impl Held {
+    pub fn new() -> Held
+        ensures { result ≡ [] }
+    {
+        Held {
+            bytes: [0; CAPACITY],
+            len: 0,
+        }
+    }
+
+    /// How many more bytes there is room for.
+    pub fn room(&self) -> usize
+        ensures { result + length self.now ≡ 512 }
+    {
+        CAPACITY - self.len
+    }
+
+    /// Appends bytes that there is room for.
+    pub fn append(&mut self, text: &[u8])
+        requires { length self.old + length text.now ≤ 512 }
+        ensures { self.new ≡ self.old ++ text.now }
+    {
+        let end = self.len + text.len();
+        self.bytes[self.len..end].copy_from_slice(text);
+        self.len = end;
+    }
+
+    pub fn clear(&mut self)
+        ensures { self.new ≡ [] }
+    {
+        self.len = 0;
+    }
+
+    pub fn as_slice(&self) -> &[u8]
+        ensures { result.now ≡ self.now }
+    {
+        &self.bytes[..self.len]
+    }
+}
