@@ -2,26 +2,25 @@
 ghost use Rattle.std.specs.Prelude.{◌≡◌, ◌++◌, ◌∷◌, [], take};
 ghost use Rattle.std.specs.List.{flat_map};
 ghost use Rattle.byteorder.specs.Endian.{little_bytes};
-ghost use Rattle.sd_core.specs.Sink.{Puts};
+ghost use Rattle.sd_core.specs.Print.{Prints};
 ghost use Rattle.sd_binary.specs.Ace.{kind_code};
 ghost use Rattle.sd_binary.specs.AclLayout.{ace_bytes, ace_front, acl_bytes, acl_header as header_bytes, front_size, revision_if};
 
 use crate::ace::AceView;
 use crate::acl::AclView;
-use sd_core::{AceKind, Sink, SinkFault};
+use sd_core::{AceKind, Print};
 
 /// Revisions (MS-DTYP 2.4.5): the second one may have object ACEs.
 const REVISION: u8 = 2;
 
 const REVISION_DS: u8 = 4;
 
-/// Puts an ACL: its header, and its ACEs one after the other.
-pub(crate) fn put_acl<S: Sink>(acl: &AclView<'_>, sink: &mut S) -> Result<(), SinkFault>
-    ensures put { Puts (S.told sink.old) (S.told sink.new) (acl_bytes acl.now) result }
-    ensures place { S.place sink.new ≡ S.place sink.old }
+/// Prints an ACL: its header, and its ACEs one after the other.
+pub(crate) fn print_acl<P: Print>(acl: &AclView<'_>, out: &mut P)
+    ensures { Prints (P.told out.old) (P.told out.new) (acl_bytes acl.now) }
 {
-    sink.put(&header_of(acl))?;
-    put_aces(acl, sink)
+    out.put(&header_of(acl));
+    print_aces(acl, out);
 }
 
 fn header_of(acl: &AclView<'_>) -> [u8; 8]
@@ -41,30 +40,20 @@ pub(crate) fn acl_header(object: bool, size: u16, count: u16) -> [u8; 8]
     [revision, 0, s[0], s[1], c[0], c[1], 0, 0]
 }
 
-fn put_aces<S: Sink>(acl: &AclView<'_>, sink: &mut S) -> Result<(), SinkFault>
-    ensures put { Puts (S.told sink.old) (S.told sink.new) (flat_map ace_bytes acl.now) result }
-    ensures place { S.place sink.new ≡ S.place sink.old }
+fn print_aces<P: Print>(acl: &AclView<'_>, out: &mut P)
+    ensures { Prints (P.told out.old) (P.told out.new) (flat_map ace_bytes acl.now) }
 {
     for ace in acl.aces() {
-        put_ace(&ace, sink)?;
+        print_ace(&ace, out);
     }
-    Ok(())
 }
 
-fn put_ace<S: Sink>(ace: &AceView<'_>, sink: &mut S) -> Result<(), SinkFault>
-    ensures put { Puts (S.told sink.old) (S.told sink.new) (ace_bytes ace.now) result }
-    ensures place { S.place sink.new ≡ S.place sink.old }
-{
-    put_ace_front(ace, sink)?;
-    sink.put(ace.body())
-}
-
-fn put_ace_front<S: Sink>(ace: &AceView<'_>, sink: &mut S) -> Result<(), SinkFault>
-    ensures put { Puts (S.told sink.old) (S.told sink.new) (ace_front ace.now) result }
-    ensures place { S.place sink.new ≡ S.place sink.old }
+fn print_ace<P: Print>(ace: &AceView<'_>, out: &mut P)
+    ensures { Prints (P.told out.old) (P.told out.new) (ace_bytes ace.now) }
 {
     let front = ace_front(ace);
-    sink.put(&front[..ace.front_size()])
+    out.put(&front[..ace.front_size()]);
+    out.put(ace.body());
 }
 
 // The bytes before the GUIDs and the SID; the object flags among them count in object kinds alone.

@@ -1,20 +1,20 @@
 // The written form of a descriptor.
 ghost use Rattle.std.specs.Prelude.{◌≡◌, ◌≤◌, ◌<◌, ◌+◌, ◌^◌, ◌++◌, ℕ, List, length};
+ghost use Rattle.sd_core.specs.Print.{Prints};
 ghost use Rattle.sd_core.specs.Sink.{Puts};
 ghost use Rattle.sd_binary.specs.Descriptor.{IsDescriptor, Shows};
 ghost use Rattle.sd_binary.specs.Layout.{acl_part, descriptor_header, header_bytes, layout, offset_if, parts, size};
 
 use crate::acl::AclPart;
-use crate::acl_layout::put_acl;
+use crate::acl_layout::print_acl;
 use crate::buffer::SdBuf;
 use crate::view::SdView;
-use sd_core::{Sink, SinkFault};
+use sd_core::{Print, Printer, Sink, SinkFault};
 
 /// Puts the one layout of a descriptor (MS-DTYP 2.4.6): header, owner, group, SACL, DACL, those that
 /// stand, without gaps, and 0 for each offset without a part.
 pub fn put_layout<S: Sink>(view: &SdView<'_>, sink: &mut S) -> Result<(), SinkFault>
     ensures put { Puts (S.told sink.old) (S.told sink.new) (layout view.now) result }
-    ensures place { S.place sink.new ≡ S.place sink.old }
     // What is put shows the descriptor.
     ensures shows { Shows (layout view.now) view.now }
     ensures size { length (layout view.now) ≡ size view.now }
@@ -22,53 +22,28 @@ pub fn put_layout<S: Sink>(view: &SdView<'_>, sink: &mut S) -> Result<(), SinkFa
     // No bytes that show the descriptor are fewer.
     ensures least { (bytes : List ℕ) → Shows bytes view.now → size view.now ≤ length bytes }
 {
-    put_after_header(&header_of(view), view, sink)
+    let mut out = Printer::new(sink);
+    print_layout(view, &mut out);
+    out.finish()
 }
 
-fn put_after_header<S: Sink>(
-    header: &[u8],
-    view: &SdView<'_>,
-    sink: &mut S,
-) -> Result<(), SinkFault>
-    ensures put { Puts (S.told sink.old) (S.told sink.new) (header.now ++ parts view.now) result }
-    ensures place { S.place sink.new ≡ S.place sink.old }
+/// Prints the layout of a descriptor, as `put_layout` puts it.
+pub fn print_layout<P: Print>(view: &SdView<'_>, out: &mut P)
+    ensures printed { Prints (P.told out.old) (P.told out.new) (layout view.now) }
+    ensures limits { IsDescriptor view.now }
 {
-    sink.put(header)?;
-    put_parts(view, sink)
+    out.put(&header_of(view));
+    out.put(view.owner_place());
+    out.put(view.group_place());
+    print_acl_part(&view.sacl(), out);
+    print_acl_part(&view.dacl(), out);
 }
 
-// The parts that stand.
-fn put_parts<S: Sink>(view: &SdView<'_>, sink: &mut S) -> Result<(), SinkFault>
-    ensures put { Puts (S.told sink.old) (S.told sink.new) (parts view.now) result }
-    ensures place { S.place sink.new ≡ S.place sink.old }
+fn print_acl_part<P: Print>(part: &AclPart<'_>, out: &mut P)
+    ensures { Prints (P.told out.old) (P.told out.new) (acl_part part.now) }
 {
-    put_sids(view.owner_place(), view.group_place(), sink)?;
-    put_acls(view, sink)
-}
-
-fn put_sids<S: Sink>(owner: &[u8], group: &[u8], sink: &mut S) -> Result<(), SinkFault>
-    ensures put { Puts (S.told sink.old) (S.told sink.new) (owner.now ++ group.now) result }
-    ensures place { S.place sink.new ≡ S.place sink.old }
-{
-    sink.put(owner)?;
-    sink.put(group)
-}
-
-fn put_acls<S: Sink>(view: &SdView<'_>, sink: &mut S) -> Result<(), SinkFault>
-    ensures put { Puts (S.told sink.old) (S.told sink.new) (acl_part view.now.sacl ++ acl_part view.now.dacl) result }
-    ensures place { S.place sink.new ≡ S.place sink.old }
-{
-    put_acl_part(&view.sacl(), sink)?;
-    put_acl_part(&view.dacl(), sink)
-}
-
-fn put_acl_part<S: Sink>(part: &AclPart<'_>, sink: &mut S) -> Result<(), SinkFault>
-    ensures put { Puts (S.told sink.old) (S.told sink.new) (acl_part part.now) result }
-    ensures place { S.place sink.new ≡ S.place sink.old }
-{
-    match part {
-        AclPart::Absent | AclPart::Null => Ok(()),
-        AclPart::List(acl) => put_acl(acl, sink),
+    if let AclPart::List(acl) = part {
+        print_acl(acl, out);
     }
 }
 
@@ -133,9 +108,7 @@ struct BufSink<'a> {
 impl<'a> Sink for BufSink<'a> {
     ghost use Rattle.std.specs.Prelude.{Some, ◌-◌, length};
 
-    ghost told = { λ s. record { contents = Some s.buf.now; failures = s.failures; room = 131226 - length s.buf.now } };
-
-    ghost place = { λ s. s.buf.ghost_name };
+    ghost told = { λ s. record { place = s.buf.ghost_name; contents = Some s.buf.now; failures = s.failures; room = 131226 - length s.buf.now } };
 
     fn put(&mut self, bytes: &[u8]) -> Result<(), SinkFault> {
         match self.buf.extend(bytes) {

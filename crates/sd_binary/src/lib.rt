@@ -17,5 +17,5 @@ pub use acl::{Aces, AclPart, AclView};
 pub use buffer::{Full, SdBuf, TextFault};
 pub use builder::{AclTooLarge, Builder, Which};
 pub use fault::{Part, SdFault};
-pub use layout::{put_layout, write_layout};
+pub use layout::{print_layout, put_layout, write_layout};
 pub use view::{SdView, read};

@@ -12,6 +12,7 @@ mod NameRows
 pub mod NumberLemmas
 pub mod Numbers
 pub mod PrintLemmas
+pub mod PrintLoops
 pub mod PutLoops
 pub mod ReadLimits
 pub mod RightsLaws

@@ -68,6 +68,10 @@ printed {old} {new} {a} {b} {c} {text} {result} x last q p =
     subst (λ (w : SinkTold). Puts w new text result) x.below
     (subst (λ (w : SinkTold). Puts a.below w text result) last (finished x.unfailed x.nothing_held p q))
 
+-- the same text in other words
+pub prints_as : {a b : PrintTold} {xs ys : List ℕ} → xs ≡ ys → Prints a b xs → Prints a b ys
+prints_as {a} {b} e p = subst (λ (t : List ℕ). Prints a b t) e p
+
 -- nothing is printed
 pub prints_nothing : (a : PrintTold) → Prints a a []
 prints_nothing a = record {

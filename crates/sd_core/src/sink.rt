@@ -13,5 +13,5 @@ pub trait Sink {
     /// Appends all of the bytes. An `Err` has appended a prefix of them, and its failures rose by one:
     /// a fault is never answered otherwise, and no call follows one that failed.
     fn put(&mut self, bytes: &[u8]) -> Result<(), SinkFault>
-        ensures put { Puts (told self.old) (told self.new) bytes.now result };
+        ensures { Puts (told self.old) (told self.new) bytes.now result };
 }

@@ -2,9 +2,10 @@ use Rattle.std.proofs.Common.{[], Some, arith, refl}
 use Rattle.std.proofs.KnownBytes.{Appends-nil}
 use Rattle.sd_binary.proofs.layout.BufSinkSink.put.Goals as goal
 
-pub returns-in-Err-clause-put : goal.returns-in-Err-clause-put
-returns-in-Err-clause-put c =
+pub returns-in-Err : goal.returns-in-Err
+returns-in-Err c =
     record {
+      place = refl;
       part = [];
       is_prefix = (c.args.bytes.now, refl);
       appended = rw c.in-Err.ensures.same (Appends-nil (Some c.args.self.now.buf.now));
