@@ -1,13 +1,13 @@
 // ACLs as SDDL (MS-DTYP 2.5.1.1).
-ghost use Rattle.std.specs.Prelude.{◌≡◌, ◌++◌, codes};
+ghost use Rattle.std.specs.Prelude.{◌≡◌};
 ghost use Rattle.std.specs.List.{flat_map};
-ghost use Rattle.sd_core.specs.Sink.{Puts};
+ghost use Rattle.sd_core.specs.Print.{Prints};
 ghost use Rattle.sd_sddl.specs.Printed.{ace_text, acl_flags, acl_text, text_if};
 
-use crate::ace::put_ace;
+use crate::ace::print_ace;
 use crate::naming::Naming;
 use sd_binary::{AclPart, AclView};
-use sd_core::{Sink, SinkFault};
+use sd_core::Print;
 
 /// The flags of an ACL, which stand in the control word: protected, auto-inherit required and
 /// auto-inherited.
@@ -18,80 +18,47 @@ pub struct AclFlags {
     pub inherited: bool,
 }
 
-/// Puts an ACL behind its head, `D:` or `S:`; nothing for one that is absent.
-pub fn put_acl<S: Sink>(
+/// Prints an ACL behind its head, `D:` or `S:`; nothing for one that is absent.
+pub fn print_acl<P: Print>(
     naming: &Naming,
     head: &[u8],
     flags: AclFlags,
     part: &AclPart<'_>,
-    sink: &mut S,
-) -> Result<(), SinkFault>
-    ensures put { Puts (S.told sink.old) (S.told sink.new) (acl_text naming.now head.now (acl_flags flags.protected flags.required flags.inherited) part.now) result }
-    ensures place { S.place sink.new ≡ S.place sink.old }
+    out: &mut P,
+)
+    ensures { Prints (P.told out.old) (P.told out.new)
+        (acl_text naming.now head.now (acl_flags flags.protected flags.required flags.inherited) part.now) }
 {
     match part {
-        AclPart::Absent => Ok(()),
+        AclPart::Absent => {}
         AclPart::Null => {
-            sink.put(head)?;
-            put_null(flags, sink)
+            out.put(head);
+            print_acl_flags(flags, out);
+            out.put(b"NO_ACCESS_CONTROL");
         }
         AclPart::List(acl) => {
-            sink.put(head)?;
-            put_list(naming, flags, acl, sink)
+            out.put(head);
+            print_acl_flags(flags, out);
+            print_aces(naming, acl, out);
         }
     }
 }
 
-fn put_null<S: Sink>(flags: AclFlags, sink: &mut S) -> Result<(), SinkFault>
-    ensures put { Puts (S.told sink.old) (S.told sink.new) (acl_flags flags.protected flags.required flags.inherited ++ codes "NO_ACCESS_CONTROL") result }
-    ensures place { S.place sink.new ≡ S.place sink.old }
-{
-    put_flags(flags, sink)?;
-    sink.put(b"NO_ACCESS_CONTROL")
-}
-
-fn put_list<S: Sink>(
-    naming: &Naming,
-    flags: AclFlags,
-    acl: &AclView<'_>,
-    sink: &mut S,
-) -> Result<(), SinkFault>
-    ensures put { Puts (S.told sink.old) (S.told sink.new) (acl_flags flags.protected flags.required flags.inherited ++ flat_map (ace_text naming.now) acl.now) result }
-    ensures place { S.place sink.new ≡ S.place sink.old }
-{
-    put_flags(flags, sink)?;
-    put_aces(naming, acl, sink)
-}
-
-fn put_aces<S: Sink>(naming: &Naming, acl: &AclView<'_>, sink: &mut S) -> Result<(), SinkFault>
-    ensures put { Puts (S.told sink.old) (S.told sink.new) (flat_map (ace_text naming.now) acl.now) result }
-    ensures place { S.place sink.new ≡ S.place sink.old }
+fn print_aces<P: Print>(naming: &Naming, acl: &AclView<'_>, out: &mut P)
+    ensures { Prints (P.told out.old) (P.told out.new) (flat_map (ace_text naming.now) acl.now) }
 {
     for ace in acl.aces() {
-        put_ace(naming, &ace, sink)?;
+        print_ace(naming, &ace, out);
     }
-    Ok(())
 }
 
 #[tactic(auto, unfolding(crate::specs::Printed::acl_flags))]
-fn put_flags<S: Sink>(flags: AclFlags, sink: &mut S) -> Result<(), SinkFault>
-    ensures put { Puts (S.told sink.old) (S.told sink.new) (acl_flags flags.protected flags.required flags.inherited) result }
-    ensures place { S.place sink.new ≡ S.place sink.old }
+fn print_acl_flags<P: Print>(flags: AclFlags, out: &mut P)
+    ensures { Prints (P.told out.old) (P.told out.new) (acl_flags flags.protected flags.required flags.inherited) }
 {
-    sink.put(text_if(flags.protected, b"P"))?;
-    put_both(
-        text_if(flags.required, b"AR"),
-        text_if(flags.inherited, b"AI"),
-        sink,
-    )
-}
-
-fn put_both<S: Sink>(first: &[u8], second: &[u8], sink: &mut S) -> Result<(), SinkFault>
-    ensures put { Puts (S.told sink.old) (S.told sink.new) (first.now ++ second.now) result }
-    ensures place { S.place sink.new ≡ S.place sink.old }
-{
-    sink.put(first)?;
-    sink.put(second)
+    out.put(text_if(flags.protected, b"P"));
+    out.put(text_if(flags.required, b"AR"));
+    out.put(text_if(flags.inherited, b"AI"));
 }
 
 fn text_if(stands: bool, text: &[u8]) -> &[u8]

@@ -13,5 +13,5 @@ mod reader;
 mod reading;
 
 pub use fault::SddlFault;
-pub use printed::put_sddl;
+pub use printed::{print_sddl, put_sddl};
 pub use reader::read_sddl;

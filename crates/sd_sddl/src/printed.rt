@@ -1,16 +1,18 @@
 // Descriptors as SDDL (MS-DTYP 2.5.1).
 ghost use Rattle.std.specs.Prelude.{◌≡◌, ◌≤◌, ◌<◌, ◌+◌, ◌*◌, ◌/◌, ◌%◌, ◌==◌, ◌++◌, length, Ok, Option};
+ghost use Rattle.sd_core.specs.Print.{Prints};
 ghost use Rattle.sd_core.specs.Sink.{Puts};
 ghost use Rattle.std.specs.Option.{option_copied};
+ghost use Rattle.sd_binary.specs.Descriptor.{IsDescriptor};
 ghost use Rattle.sd_binary.specs.Layout.{size};
 ghost use Rattle.sd_sddl.specs.declared.naming.Naming.{Naming as NamingOf};
 ghost use Rattle.sd_sddl.specs.Meaning.{means};
-ghost use Rattle.sd_sddl.specs.Printed.{dacl_text, group_text, has_bit, owner_text, plain, sacl_text, sddl, sid_text_of};
+ghost use Rattle.sd_sddl.specs.Printed.{dacl_text, has_bit, plain, sacl_text, sddl, sid_text_of};
 
-use crate::acl::{AclFlags, put_acl};
-use crate::naming::{Naming, put_trustee};
+use crate::acl::{AclFlags, print_acl};
+use crate::naming::{Naming, print_trustee};
 use sd_binary::SdView;
-use sd_core::{Sid, Sink, SinkFault};
+use sd_core::{Gather, Print, Sid, Sink, SinkFault};
 
 /// Puts a descriptor as SDDL: owner, group, DACL and SACL, those that stand, without blanks, in at most
 /// eight characters for each byte of its written layout, and 63. SIDs have their aliases, those of the
@@ -24,127 +26,67 @@ pub fn put_sddl<S: Sink>(
     sink: &mut S,
 ) -> Result<(), SinkFault>
     ensures put { Puts (S.told sink.old) (S.told sink.new) (sddl (record { domain = option_copied domain.entry; numeric = numeric }) view.now) result }
-    ensures place { S.place sink.new ≡ S.place sink.old }
     ensures short { (naming : NamingOf) → length (sddl naming view.now) ≤ 8 * size view.now + 63 }
     // The text means the descriptor, but for what is dropped.
     ensures back { means (sddl (record { domain = option_copied domain.entry; numeric = numeric }) view.now) (option_copied domain.entry) ≡ Ok (plain view.now) }
+{
+    let mut out = Gather::new(sink);
+    print_sddl(view, domain, numeric, &mut out);
+    out.finish()
+}
+
+/// Prints a descriptor as SDDL, as `put_sddl` puts it.
+pub fn print_sddl<P: Print>(view: &SdView<'_>, domain: Option<&Sid>, numeric: bool, out: &mut P)
+    ensures printed { Prints (P.told out.old) (P.told out.new) (sddl (record { domain = option_copied domain.entry; numeric = numeric }) view.now) }
+    ensures limits { IsDescriptor view.now }
 {
     let naming = Naming {
         domain: domain.copied(),
         numeric,
     };
+    print_parts(&naming, view, out);
+}
+
+#[tactic(auto, unfolding(crate::specs::Printed::sddl, crate::specs::Printed::owner_text, crate::specs::Printed::group_text, crate::specs::Printed::dacl_text, crate::specs::Printed::sacl_text))]
+fn print_parts<P: Print>(naming: &Naming, view: &SdView<'_>, out: &mut P)
+    ensures printed { Prints (P.told out.old) (P.told out.new) (sddl naming.now view.now) }
+    ensures limits { IsDescriptor view.now }
+{
     let control = view.control();
-    put_parts(&naming, view, control, sink)
+    print_sid(naming, b"O:", view.owner(), out);
+    print_sid(naming, b"G:", view.group(), out);
+    print_acl(naming, b"D:", dacl_flags(control), &view.dacl(), out);
+    print_acl(naming, b"S:", sacl_flags(control), &view.sacl(), out);
 }
 
-#[tactic(auto, unfolding(crate::specs::Printed::sddl))]
-fn put_parts<S: Sink>(
-    naming: &Naming,
-    view: &SdView<'_>,
-    control: u16,
-    sink: &mut S,
-) -> Result<(), SinkFault>
-    requires { control ≡ view.now.control }
-    ensures put { Puts (S.told sink.old) (S.told sink.new) (sddl naming.now view.now) result }
-    ensures place { S.place sink.new ≡ S.place sink.old }
+// Prints a SID behind its head; nothing where there is none.
+fn print_sid<P: Print>(naming: &Naming, head: &[u8], sid: Option<Sid>, out: &mut P)
+    ensures { Prints (P.told out.old) (P.told out.new) (sid_text_of naming.now head.now sid) }
 {
-    put_sids(naming, view, sink)?;
-    put_acls(naming, view, control, sink)
-}
-
-fn put_sids<S: Sink>(naming: &Naming, view: &SdView<'_>, sink: &mut S) -> Result<(), SinkFault>
-    ensures put { Puts (S.told sink.old) (S.told sink.new) (owner_text naming.now view.now ++ group_text naming.now view.now) result }
-    ensures place { S.place sink.new ≡ S.place sink.old }
-{
-    put_owner(naming, view, sink)?;
-    put_group(naming, view, sink)
-}
-
-#[tactic(auto, unfolding(crate::specs::Printed::owner_text))]
-fn put_owner<S: Sink>(naming: &Naming, view: &SdView<'_>, sink: &mut S) -> Result<(), SinkFault>
-    ensures put { Puts (S.told sink.old) (S.told sink.new) (owner_text naming.now view.now) result }
-    ensures place { S.place sink.new ≡ S.place sink.old }
-{
-    put_sid(naming, b"O:", view.owner(), sink)
-}
-
-#[tactic(auto, unfolding(crate::specs::Printed::group_text))]
-fn put_group<S: Sink>(naming: &Naming, view: &SdView<'_>, sink: &mut S) -> Result<(), SinkFault>
-    ensures put { Puts (S.told sink.old) (S.told sink.new) (group_text naming.now view.now) result }
-    ensures place { S.place sink.new ≡ S.place sink.old }
-{
-    put_sid(naming, b"G:", view.group(), sink)
-}
-
-// Puts a SID behind its head; nothing where there is none.
-fn put_sid<S: Sink>(
-    naming: &Naming,
-    head: &[u8],
-    sid: Option<Sid>,
-    sink: &mut S,
-) -> Result<(), SinkFault>
-    ensures put { Puts (S.told sink.old) (S.told sink.new) (sid_text_of naming.now head.now sid) result }
-    ensures place { S.place sink.new ≡ S.place sink.old }
-{
-    match sid {
-        None => Ok(()),
-        Some(sid) => {
-            sink.put(head)?;
-            put_trustee(naming, &sid, sink)
-        }
+    if let Some(sid) = sid {
+        out.put(head);
+        print_trustee(naming, &sid, out);
     }
 }
 
-fn put_acls<S: Sink>(
-    naming: &Naming,
-    view: &SdView<'_>,
-    control: u16,
-    sink: &mut S,
-) -> Result<(), SinkFault>
-    requires { control ≡ view.now.control }
-    ensures put { Puts (S.told sink.old) (S.told sink.new) (dacl_text naming.now view.now ++ sacl_text naming.now view.now) result }
-    ensures place { S.place sink.new ≡ S.place sink.old }
+fn dacl_flags(control: u16) -> AclFlags
+    ensures { result ≡ record { protected = has_bit 0x1000 control; required = has_bit 0x100 control; inherited = has_bit 0x400 control } }
 {
-    put_dacl(naming, view, control, sink)?;
-    put_sacl(naming, view, control, sink)
-}
-
-#[tactic(auto, unfolding(crate::specs::Printed::dacl_text))]
-fn put_dacl<S: Sink>(
-    naming: &Naming,
-    view: &SdView<'_>,
-    control: u16,
-    sink: &mut S,
-) -> Result<(), SinkFault>
-    requires { control ≡ view.now.control }
-    ensures put { Puts (S.told sink.old) (S.told sink.new) (dacl_text naming.now view.now) result }
-    ensures place { S.place sink.new ≡ S.place sink.old }
-{
-    let flags = AclFlags {
+    AclFlags {
         protected: has_bit(0x1000, control),
         required: has_bit(0x100, control),
         inherited: has_bit(0x400, control),
-    };
-    put_acl(naming, b"D:", flags, &view.dacl(), sink)
+    }
 }
 
-#[tactic(auto, unfolding(crate::specs::Printed::sacl_text))]
-fn put_sacl<S: Sink>(
-    naming: &Naming,
-    view: &SdView<'_>,
-    control: u16,
-    sink: &mut S,
-) -> Result<(), SinkFault>
-    requires { control ≡ view.now.control }
-    ensures put { Puts (S.told sink.old) (S.told sink.new) (sacl_text naming.now view.now) result }
-    ensures place { S.place sink.new ≡ S.place sink.old }
+fn sacl_flags(control: u16) -> AclFlags
+    ensures { result ≡ record { protected = has_bit 0x2000 control; required = has_bit 0x200 control; inherited = has_bit 0x800 control } }
 {
-    let flags = AclFlags {
+    AclFlags {
         protected: has_bit(0x2000, control),
         required: has_bit(0x200, control),
         inherited: has_bit(0x800, control),
-    };
-    put_acl(naming, b"S:", flags, &view.sacl(), sink)
+    }
 }
 
 // A bit of the control word.
