@@ -1,5 +1,5 @@
 -- Several writes, one after another.
-use Rattle.std.proofs.Common.{zero, suc, ◌≡◌, ℕ, ◌+◌, ◌<◌, ◌≤◌, List, [], ◌∷◌, ◌++◌, length, take, drop, Option, None, Some, Result, Ok, sym, ◌∙◌, ap, subst, arith, append-nil}
+use Rattle.std.proofs.Common.{zero, suc, ◌≡◌, ℕ, ◌+◌, ◌<◌, ◌≤◌, List, [], ◌∷◌, ◌++◌, length, take, drop, Option, None, Some, Result, Ok, refl, sym, ◌∙◌, ap, subst, arith, append-nil}
 use Rattle.std.proofs.lemmas.List.{take-append-drop, take-take, drop-take}
 use Rattle.std.specs.Io.KnownBytes.{Appends, Keeps}
 use Rattle.std.proofs.KnownBytes.{Appends-trans}
@@ -29,6 +29,7 @@ pub PutSome-stopped : (old mid new : DrainTold) (bytes : List ℕ) (at : ℕ)
     → Appends mid.taken new.taken [] → new.failures ≡ counted mid.failures → 0 < length bytes
     → PutSome (sink_of old) (sink_of new) bytes
 PutSome-stopped old mid new bytes at so_far same none failed beyond = record {
+  place = refl;
   part = take at bytes ++ [];
   is_prefix = (drop at bytes, sym (ap (λ l. l ++ drop at bytes) (append-nil (take at bytes)) ∙ take-append-drop at bytes));
   appended = Appends-trans old.taken mid.taken new.taken _ _ so_far none;

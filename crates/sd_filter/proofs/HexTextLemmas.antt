@@ -3,8 +3,8 @@ use Rattle.std.proofs.Common.{◌≡◌, ℕ, ◌+◌, ◌-◌, ◌/◌, ◌%◌
 use Rattle.std.proofs.Math.Seq.{take-add}
 use Rattle.std.proofs.lemmas.List.{take-append-drop}
 use Rattle.hex.specs.Hex.{encode_with, encode_lower, lower_digits}
-use Rattle.sd_core.specs.Sink.{SinkTold, PutAll, PutSome}
-use Rattle.sd_core.proofs.SinkLemmas.{PutAll-trans, PutSome-after, PutSome-more}
+use Rattle.sd_core.specs.Print.{PrintTold, Prints}
+use Rattle.sd_core.proofs.PrintLemmas.{prints_then}
 
 encode_with-append : (t xs ys : List ℕ) → encode_with t (xs ++ ys) ≡ encode_with t xs ++ encode_with t ys
 unfolding encode_with
@@ -18,19 +18,8 @@ encode-piece bytes at n = ap encode_lower (take-add at n bytes) ∙ encode_with-
 piece-is : (bytes : List ℕ) (at n : ℕ) → take (at + n - at) (drop at bytes) ≡ take n (drop at bytes)
 piece-is bytes at n = ap (λ (k : ℕ). take k (drop at bytes)) (omega arith)
 
-pub PutAll-piece : (a b c : SinkTold) (bytes digits : List ℕ) (at n : ℕ) → digits ≡ encode_lower (take (at + n - at) (drop at bytes))
-    → PutAll a b (encode_lower (take at bytes)) → PutAll b c digits → PutAll a c (encode_lower (take (at + n) bytes))
-PutAll-piece a b c bytes digits at n is p q =
+pub Prints-piece : (a b c : PrintTold) (bytes digits : List ℕ) (at n : ℕ) → digits ≡ encode_lower (take (at + n - at) (drop at bytes))
+    → Prints a b (encode_lower (take at bytes)) → Prints b c digits → Prints a c (encode_lower (take (at + n) bytes))
+Prints-piece a b c bytes digits at n is p q =
     let same : digits ≡ encode_lower (take n (drop at bytes)) = is ∙ ap encode_lower (piece-is bytes at n) in
-    rw (encode-piece bytes at n, ← same) (PutAll-trans a b c _ _ p q)
-
-pub PutSome-piece : (a b c : SinkTold) (bytes digits : List ℕ) (at n : ℕ) → digits ≡ encode_lower (take (at + n - at) (drop at bytes))
-    → PutAll a b (encode_lower (take at bytes)) → PutSome b c digits → PutSome a c (encode_lower bytes)
-PutSome-piece a b c bytes digits at n is p q =
-    let same : digits ≡ encode_lower (take n (drop at bytes)) = is ∙ ap encode_lower (piece-is bytes at n) in
-    let front : encode_lower (take at bytes) ++ digits ≡ encode_lower (take (at + n) bytes) =
-    ap (λ (l : List ℕ). encode_lower (take at bytes) ++ l) same ∙ sym (encode-piece bytes at n) in
-    let whole : encode_lower (take (at + n) bytes) ++ encode_lower (drop (at + n) bytes) ≡ encode_lower bytes =
-    sym (encode_with-append lower_digits (take (at + n) bytes) (drop (at + n) bytes)) ∙ ap encode_lower (take-append-drop (at + n) bytes) in
-    let some : PutSome a c (encode_lower (take (at + n) bytes)) = subst (PutSome a c) front (PutSome-after a b c _ _ p q) in
-    subst (PutSome a c) whole (PutSome-more a c _ (encode_lower (drop (at + n) bytes)) some)
+    rw (encode-piece bytes at n, ← same) (prints_then p q)

@@ -4,27 +4,42 @@ use Rattle.std.specs.Prelude.{MatchResult}
 use Rattle.std.proofs.lemmas.Bool.Decides.{nat_tests}
 use Rattle.sd_core.specs.Sid.{SecurityId}
 use Rattle.sd_core.specs.Token.{Entry}
-use Rattle.sd_core.specs.Sink.{SinkTold, PutAll, PutSome}
+use Rattle.sd_core.specs.Print.{Begins, Finishes, PrintTold}
+use Rattle.sd_core.specs.Sink.{SinkTold, PutSome}
 use Rattle.sd_core.specs.declared.sink.SinkFault.{SinkFault}
 use Rattle.sd_binary.specs.Descriptor.{Descriptor, Shows}
 use Rattle.sd_binary.specs.declared.fault.SdFault.{SdFault}
 use Rattle.sd_sddl.specs.declared.fault.SddlFault.{SddlFault}
 use Rattle.sd_filter.specs.Answers.{Meaning, answer, is_error, is_error_of_meaning, line_limit, line_means, meaning, or_sddl_fault, text_means, text_of_meaning}
-use Rattle.sd_filter.specs.Sofar.{HoldsText}
+use Rattle.sd_filter.specs.Sofar.{HoldsText, PrintsAnswer, PutsAnswer}
+use Rattle.sd_core.proofs.PrintLemmas.{printed}
 use Rattle.sd_filter.specs.declared.fault.LineFault.{LineFault}
 use Rattle.sd_filter.specs.declared.fault.LineFault.TheVariants.{TooLong}
 use Rattle.sd_filter.specs.declared.job.Form.{Form}
 use Rattle.sd_filter.specs.declared.job.Job.{Job}
 
--- the answer and its LF were put, with whether it is an error; or a part of it was
-abbrev pub PutsAnswer : SinkTold → SinkTold → List ℕ → Bool → Result Bool SinkFault → Type 0
-PutsAnswer old new text error r = MatchResult r (λ faulty. PutAll old new text × (faulty ≡ error)) (λ _. PutSome old new text)
-
--- what is put for what a line means is its answer
-pub answered : (job : Job) (entries : List Entry) (line : List ℕ) (old new : SinkTold) (m : Meaning) (r : Result Bool SinkFault) → meaning job line ≡ m
-    → PutsAnswer old new (text_of_meaning job entries m) (is_error_of_meaning job.act m) r → PutsAnswer old new (answer job entries line) (is_error job line) r
+-- what is printed for what a line means is its answer
+pub answered : (job : Job) (entries : List Entry) (line : List ℕ) (old new : PrintTold) (m : Meaning) (faulty : Bool) → meaning job line ≡ m
+    → PrintsAnswer old new (text_of_meaning job entries m) (is_error_of_meaning job.act m) faulty → PrintsAnswer old new (answer job entries line) (is_error job line) faulty
 unfolding answer is_error
-answered job entries line old new m r e h = rw e h
+answered job entries line old new m faulty e h = rw e h
+
+-- an answer that was printed from the start, and finished
+pub gathered : {old new : SinkTold} {a b c : PrintTold} {text : List ℕ} {error faulty : Bool} → Begins old a → c.below ≡ new
+    → (Finishes b c (Ok tt) → PrintsAnswer a b text error faulty → PutsAnswer old new text error (Ok faulty))
+gathered x last q p = (printed x last q p.0, p.1)
+
+pub broken : {old new : SinkTold} {a b c : PrintTold} {text : List ℕ} {error faulty : Bool} (fault : SinkFault) → Begins old a → c.below ≡ new
+    → (Finishes b c (Err fault) → PrintsAnswer a b text error faulty → PutSome old new text)
+broken fault x last q p = printed x last q p.0
+
+-- the same of a sink that holds a reference to the drain
+pub unplaced : (m n : ℕ) (a b : SinkTold) (text : List ℕ) (error : Bool) (r : Result Bool SinkFault) → b.place ≡ a.place
+    → PutsAnswer (record a { place = m }) (record b { place = n }) text error r → PutsAnswer a b text error r
+unplaced m n a b text error (Ok faulty) e p =
+    (record { place = e; appended = p.0.appended; no_failure = p.0.no_failure; room = p.0.room }, p.1)
+unplaced m n a b text error (Err fault) e p =
+    record { place = e; part = p.part; is_prefix = p.is_prefix; appended = p.appended; failed = p.failed; beyond = p.beyond }
 
 line_means-over : (form : Form) (domain : Option SecurityId) (line : List ℕ) → line_limit form < length line → line_means form domain line ≡ Err TooLong
 unfolding line_means

@@ -31,7 +31,7 @@ pub Answered-flush : (job : Job) (token0 token : TokenShown) (sink0 : SinkTold) 
     → Answered job token0 sink0 all token (sink_of drain) report → Keeps drain.taken drain'.taken → drain'.failures ≡ drain.failures
     → Answered job token0 sink0 all token (sink_of drain') report
 Answered-flush job token0 token sink0 drain drain' all report h keeps same = record {
-  put = record { appended = Appends-kept _ _ _ _ h.put.appended keeps; no_failure = same ∙ h.put.no_failure; room = h.put.room };
+  put = record { place = h.put.place; appended = Appends-kept _ _ _ _ h.put.appended keeps; no_failure = same ∙ h.put.no_failure; room = h.put.room };
   lines_counted = h.lines_counted;
   faults_counted = h.faults_counted;
   same_entries = h.same_entries;

@@ -4,7 +4,9 @@ use Rattle.std.specs.Prelude.{◌≡◌, ◌<◌, ◌≤◌, ℕ, List, [], ◌�
 use Rattle.std.specs.Io.KnownBytes.{Consumes, Appends}
 use Rattle.sd_filter.specs.Told.{SourceTold, DrainTold, sink_of}
 use Rattle.sd_core.specs.Token.{TokenShown}
-use Rattle.sd_core.specs.Sink.{SinkTold, PutAll, IsPrefix}
+use Rattle.sd_core.specs.Print.{PrintTold, Prints}
+use Rattle.sd_core.specs.Sink.{SinkTold, PutAll, PutSome, IsPrefix}
+use Rattle.sd_core.specs.declared.sink.SinkFault.{SinkFault}
 use Rattle.sd_core.specs.Counts.{counted}
 use Rattle.sd_filter.specs.Lines.{parts, ended, without_cr}
 use Rattle.sd_filter.specs.Answers.{answers, errors, bounds}
@@ -28,6 +30,15 @@ pending false = []
 pub record Holds (line : Line) (raw : List ℕ) : Type 0 where
   pub text : HoldsText line.limit line.held.items line.over (without_cr raw)
   pub waits : raw ≡ without_cr raw ++ pending line.cr
+
+-- the answer and its LF were put, with whether it is an error; or a part of it was
+abbrev pub PutsAnswer : SinkTold → SinkTold → List ℕ → Bool → Result Bool SinkFault → Type 0
+PutsAnswer old new text error (Ok faulty) = PutAll old new text × (faulty ≡ error)
+PutsAnswer old new text error (Err fault) = PutSome old new text
+
+-- the answer and its LF were printed, with whether it is an error
+abbrev pub PrintsAnswer : PrintTold → PrintTold → List ℕ → Bool → Bool → Type 0
+PrintsAnswer old new text error faulty = Prints old new text × (faulty ≡ error)
 
 -- all of these lines are answered
 pub record Answered (job : Job) (token0 : TokenShown) (sink0 : SinkTold) (all : List (List ℕ)) (token : TokenShown) (sink : SinkTold) (report : Report) : Type 0 where

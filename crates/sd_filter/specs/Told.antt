@@ -49,6 +49,6 @@ abbrev pub is_flush : {T E : Type 0} → Result T E → Bool
 is_flush (Ok x) = true
 is_flush (Err e) = false
 
--- a drain as a sink: it takes no byte for certain
+-- a drain as a sink, apart from the reference that leads to it: it takes no byte for certain
 abbrev pub sink_of : DrainTold → SinkTold
-sink_of drain = record { contents = drain.taken; failures = drain.failures; room = 0 }
+sink_of drain = record { place = 0; contents = drain.taken; failures = drain.failures; room = 0 }

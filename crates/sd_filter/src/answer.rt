@@ -1,25 +1,46 @@
 // The answer to one line.
-ghost use Rattle.std.specs.Prelude.{◌≡◌, ◌≤◌, ℕ, List, ◌++◌, [], ◌∷◌, length, true, is_some, MatchResult, Ok, Err};
-ghost use Rattle.sd_core.specs.Sink.{Puts, PutAll, PutSome};
+ghost use Rattle.std.specs.Prelude.{◌≡◌, ◌≤◌, ℕ, List, ◌++◌, [], ◌∷◌, length, true, is_some, Ok, Err};
+ghost use Rattle.sd_core.specs.Print.{Prints};
 ghost use Rattle.sd_core.specs.Token.{Entry};
 ghost use Rattle.sd_filter.specs.Answers.{act_fault, act_text, answer, bytes_mean, form_text, is_error, line_limit, or_sddl_fault, text_means};
 ghost use Rattle.sd_filter.specs.Faults.{fault_text};
-ghost use Rattle.sd_filter.specs.Sofar.{HoldsText};
+ghost use Rattle.sd_filter.specs.Sofar.{HoldsText, PrintsAnswer, PutsAnswer};
+ghost use Rattle.sd_filter.specs.Told.{sink_of};
 ghost use Rattle.std.specs.Option.{option_copied};
 ghost use Rattle.sd_binary.specs.Text.{hex_spells};
 ghost use Rattle.sd_sddl.specs.Meaning.{means};
 
+use crate::device::Drain;
 use crate::engine::Stores;
-use crate::fault::{LineFault, put_fault};
-use crate::hex_text::{GATHERED, put_hex};
+use crate::fault::{LineFault, print_fault};
+use crate::hex_text::{GATHERED, print_hex};
 use crate::job::{Act, Form, Job};
+use crate::sink::DrainSink;
 use sd_binary::{SdBuf, SdView, read, write_layout};
-use sd_core::{Sid, Sink, SinkFault, Token};
-use sd_sddl::{put_sddl, read_sddl};
+use sd_core::{Gather, Print, Sid, Sink, SinkFault, Token};
+use sd_sddl::{print_sddl, read_sddl};
 
 /// Puts the answer to a line and its LF, and says whether it is an `error` line. Of a line over its
 /// limit nothing but that is known.
-pub fn put_answer<S: Sink>(
+pub fn put_answer<W: Drain>(
+    job: &Job,
+    text: &[u8],
+    over: bool,
+    stores: &mut Stores,
+    token: &mut Token,
+    drain: &mut W,
+) -> Result<bool, SinkFault>
+    requires { length text.now ≤ line_limit job.now.source }
+    ensures put { (line : List ℕ) → HoldsText (line_limit job.now.source) text.now over line
+        → PutsAnswer (sink_of (W.told drain.old)) (sink_of (W.told drain.new)) (answer job.now token.old.entries line) (is_error job.now line) result }
+    ensures token { token.new ≡ token.old }
+{
+    let mut sink = DrainSink { drain };
+    put_gathered(job, text, over, stores, token, &mut sink)
+}
+
+// The small texts of an answer are gathered.
+fn put_gathered<S: Sink>(
     job: &Job,
     text: &[u8],
     over: bool,
@@ -29,21 +50,39 @@ pub fn put_answer<S: Sink>(
 ) -> Result<bool, SinkFault>
     requires { length text.now ≤ line_limit job.now.source }
     ensures put { (line : List ℕ) → HoldsText (line_limit job.now.source) text.now over line
-        → MatchResult result
-        (λ faulty. PutAll (S.told sink.old) (S.told sink.new) (answer job.now token.old.entries line) × (faulty ≡ is_error job.now line))
-        (λ _. PutSome (S.told sink.old) (S.told sink.new) (answer job.now token.old.entries line)) }
-    ensures place { S.place sink.new ≡ S.place sink.old }
+        → PutsAnswer (S.told sink.old) (S.told sink.new) (answer job.now token.old.entries line) (is_error job.now line) result }
+    ensures token { token.new ≡ token.old }
+{
+    let mut out = Gather::new(sink);
+    let faulty = print_answer(job, text, over, stores, token, &mut out);
+    match out.finish() {
+        Ok(()) => Ok(faulty),
+        Err(sink_fault) => Err(sink_fault),
+    }
+}
+
+fn print_answer<P: Print>(
+    job: &Job,
+    text: &[u8],
+    over: bool,
+    stores: &mut Stores,
+    token: &mut Token,
+    out: &mut P,
+) -> bool
+    requires { length text.now ≤ line_limit job.now.source }
+    ensures printed { (line : List ℕ) → HoldsText (line_limit job.now.source) text.now over line
+        → PrintsAnswer (P.told out.old) (P.told out.new) (answer job.now token.old.entries line) (is_error job.now line) result }
     ensures token { token.new ≡ token.old }
 {
     if over {
-        return put_error(&LineFault::TooLong, sink);
+        return print_error(&LineFault::TooLong, out);
     }
     if text.is_empty() {
-        return put_end(false, sink);
+        return print_end(false, out);
     }
     match view_of(job, text, &mut stores.read) {
-        Ok(view) => put_act(job, &view, &mut stores.written, &mut stores.digits, sink),
-        Err(fault) => put_error(&fault, sink),
+        Ok(view) => print_act(job, &view, &mut stores.written, &mut stores.digits, out),
+        Err(fault) => print_error(&fault, out),
     }
 }
 
@@ -85,65 +124,58 @@ fn view_of_sddl<'a>(
     }
 }
 
-// Puts an `error` line.
-fn put_error<S: Sink>(fault: &LineFault, sink: &mut S) -> Result<bool, SinkFault>
-    ensures put { MatchResult result
-        (λ faulty. PutAll (S.told sink.old) (S.told sink.new) (fault_text fault.now ++ 10 ∷ []) × (faulty ≡ true))
-        (λ _. PutSome (S.told sink.old) (S.told sink.new) (fault_text fault.now ++ 10 ∷ [])) }
-    ensures place { S.place sink.new ≡ S.place sink.old }
+// Prints an `error` line.
+fn print_error<P: Print>(fault: &LineFault, out: &mut P) -> bool
+    ensures { PrintsAnswer (P.told out.old) (P.told out.new) (fault_text fault.now ++ 10 ∷ []) true result }
 {
-    put_fault(fault, sink)?;
-    put_end(true, sink)
+    print_fault(fault, out);
+    print_end(true, out)
 }
 
-// Puts what is answered to a descriptor.
-fn put_act<S: Sink>(
+// Prints what is answered to a descriptor.
+fn print_act<P: Print>(
     job: &Job,
     view: &SdView<'_>,
     written: &mut SdBuf,
     digits: &mut [u8; GATHERED],
-    sink: &mut S,
-) -> Result<bool, SinkFault>
-    ensures put { (entries : List Entry) → MatchResult result
-        (λ faulty. PutAll (S.told sink.old) (S.told sink.new) (act_text job.now job.now.act entries view.now) × (faulty ≡ is_some (act_fault job.now.act view.now)))
-        (λ _. PutSome (S.told sink.old) (S.told sink.new) (act_text job.now job.now.act entries view.now)) }
-    ensures place { S.place sink.new ≡ S.place sink.old }
+    out: &mut P,
+) -> bool
+    ensures { (entries : List Entry) → PrintsAnswer (P.told out.old) (P.told out.new)
+        (act_text job.now job.now.act entries view.now) (is_some (act_fault job.now.act view.now)) result }
 {
     match job.act {
-        Act::Convert(form) => put_form(job, form, view, written, digits, sink)?,
+        Act::Convert(form) => {
+            print_form(job, form, view, written, digits, out);
+            print_end(false, out)
+        }
     }
-    put_end(false, sink)
 }
 
-// Puts a descriptor in a form.
+// Prints a descriptor in a form.
 #[tactic(auto, unfolding(crate::specs::Answers::form_text))]
-fn put_form<S: Sink>(
+fn print_form<P: Print>(
     job: &Job,
     form: Form,
     view: &SdView<'_>,
     written: &mut SdBuf,
     digits: &mut [u8; GATHERED],
-    sink: &mut S,
-) -> Result<(), SinkFault>
-    ensures put { Puts (S.told sink.old) (S.told sink.new) (form_text job.now form view.now) result }
-    ensures place { S.place sink.new ≡ S.place sink.old }
+    out: &mut P,
+)
+    ensures { Prints (P.told out.old) (P.told out.new) (form_text job.now form view.now) }
 {
     match form {
         Form::Hex => {
             write_layout(view, written);
-            put_hex(written.bytes(), digits, sink)
+            print_hex(written.bytes(), digits, out);
         }
-        Form::Sddl => put_sddl(view, job.domain.as_ref(), job.numeric, sink),
+        Form::Sddl => print_sddl(view, job.domain.as_ref(), job.numeric, out),
     }
 }
 
 // Ends a line.
-fn put_end<S: Sink>(faulty: bool, sink: &mut S) -> Result<bool, SinkFault>
-    ensures put { MatchResult result
-        (λ r. PutAll (S.told sink.old) (S.told sink.new) (10 ∷ []) × (r ≡ faulty))
-        (λ _. PutSome (S.told sink.old) (S.told sink.new) (10 ∷ [])) }
-    ensures place { S.place sink.new ≡ S.place sink.old }
+fn print_end<P: Print>(faulty: bool, out: &mut P) -> bool
+    ensures { PrintsAnswer (P.told out.old) (P.told out.new) (10 ∷ []) faulty result }
 {
-    sink.put(b"\n")?;
-    Ok(faulty)
+    out.put(b"\n");
+    faulty
 }

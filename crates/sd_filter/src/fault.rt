@@ -1,10 +1,11 @@
 // Why a line has no answer but an `error` line.
 ghost use Rattle.std.specs.Prelude.{◌≡◌, ◌<◌, length};
+ghost use Rattle.sd_core.specs.Print.{Prints};
 ghost use Rattle.sd_core.specs.Sink.{Puts};
-ghost use Rattle.sd_filter.specs.Faults.{fault_text, number_and_name, part_text, parts_of, parts_text};
+ghost use Rattle.sd_filter.specs.Faults.{fault_text, number_and_name, part_text, parts_of};
 
 use sd_binary::{Part, SdFault, TextFault, Which};
-use sd_core::{SidFault, Sink, SinkFault};
+use sd_core::{Print, Printer, SidFault, Sink, SinkFault};
 use sd_sddl::SddlFault;
 
 /// Why a line has no answer but an `error` line: the first condition that holds.
@@ -21,14 +22,24 @@ pub enum LineFault {
 }
 
 /// Puts the text of an `error` line, without its LF: at most 63 bytes.
-#[tactic(auto, unfolding(crate::specs::Faults::fault_text))]
 pub fn put_fault<S: Sink>(fault: &LineFault, sink: &mut S) -> Result<(), SinkFault>
     ensures put { Puts (S.told sink.old) (S.told sink.new) (fault_text fault.now) result }
-    ensures place { S.place sink.new ≡ S.place sink.old }
     ensures short { length (fault_text fault.now) < 64 }
 {
-    sink.put(number_and_name(*fault).as_bytes())?;
-    put_parts(parts_of(*fault), sink)
+    let mut out = Printer::new(sink);
+    print_fault(fault, &mut out);
+    out.finish()
+}
+
+/// Prints the text of an `error` line, as `put_fault` puts it.
+#[tactic(auto, unfolding(crate::specs::Faults::fault_text))]
+pub fn print_fault<P: Print>(fault: &LineFault, out: &mut P)
+    ensures { Prints (P.told out.old) (P.told out.new) (fault_text fault.now) }
+{
+    let parts = parts_of(*fault);
+    out.put(number_and_name(*fault).as_bytes());
+    out.put(part_text(parts.0).as_bytes());
+    out.put(part_text(parts.1).as_bytes());
 }
 
 fn number_and_name(fault: LineFault) -> &'static str
@@ -77,14 +88,6 @@ fn parts_of(fault: LineFault) -> (Option<Part>, Option<Part>)
         LineFault::Sddl(SddlFault::AclTooLarge(Which::Dacl)) => (Some(Part::Dacl), None),
         _ => (None, None),
     }
-}
-
-fn put_parts<S: Sink>(parts: (Option<Part>, Option<Part>), sink: &mut S) -> Result<(), SinkFault>
-    ensures put { Puts (S.told sink.old) (S.told sink.new) (parts_text parts) result }
-    ensures place { S.place sink.new ≡ S.place sink.old }
-{
-    sink.put(part_text(parts.0).as_bytes())?;
-    sink.put(part_text(parts.1).as_bytes())
 }
 
 // A part behind a blank.

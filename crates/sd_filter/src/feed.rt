@@ -5,23 +5,25 @@ ghost use Rattle.sd_core.specs.Token.{TokenShown};
 ghost use Rattle.sd_filter.specs.Answers.{line_limit};
 ghost use Rattle.sd_filter.specs.Lines.{ended, lines, without_cr};
 ghost use Rattle.sd_filter.specs.Sofar.{HoldsText, Answered, Failed, Sofar};
+ghost use Rattle.sd_filter.specs.Told.{sink_of};
 
 use crate::answer::put_answer;
+use crate::device::Drain;
 use crate::engine::{Desk, Report, Stores};
 use crate::job::Job;
-use sd_core::{Sink, SinkFault, Token};
+use sd_core::{SinkFault, Token};
 
 /// The bytes that are searched for an LF at once.
 const BLOCK: usize = 32;
 
 // Answers a line, and counts it.
-fn answer_line<S: Sink>(
+fn answer_line<W: Drain>(
     job: &Job,
     text: &[u8],
     over: bool,
     stores: &mut Stores,
     token: &mut Token,
-    sink: &mut S,
+    drain: &mut W,
     report: &mut Report,
 ) -> Result<(), SinkFault>
     requires within { length text.now ≤ line_limit job.now.source }
@@ -29,15 +31,14 @@ fn answer_line<S: Sink>(
     requires faults_fit { report.old.faults + 1 < 2 ^ 64 }
     ensures answered { (token0 : TokenShown) (sink0 : SinkTold) (all : List (List ℕ)) (line : List ℕ)
         → HoldsText (line_limit job.now.source) text.now over line
-        → Answered job.now token0 sink0 all token.old (S.told sink.old) report.old
+        → Answered job.now token0 sink0 all token.old (sink_of (W.told drain.old)) report.old
         → MatchResult result
-        (λ _. Answered job.now token0 sink0 (all ++ line ∷ []) token.new (S.told sink.new) report.new)
-        (λ _. Failed job.now token0 sink0 (all ++ line ∷ []) token.new (S.told sink.new)) }
-    ensures place { S.place sink.new ≡ S.place sink.old }
+        (λ _. Answered job.now token0 sink0 (all ++ line ∷ []) token.new (sink_of (W.told drain.new)) report.new)
+        (λ _. Failed job.now token0 sink0 (all ++ line ∷ []) token.new (sink_of (W.told drain.new))) }
     ensures lines_within { report.new.lines ≤ report.old.lines + 1 }
     ensures faults_within { report.new.faults ≤ report.old.faults + 1 }
 {
-    let faulty = put_answer(job, text, over, stores, token, sink)?;
+    let faulty = put_answer(job, text, over, stores, token, drain)?;
     report.lines += 1;
     if faulty {
         report.faults += 1;
@@ -46,21 +47,20 @@ fn answer_line<S: Sink>(
 }
 
 // Answers the line that is held.
-fn answer_held<S: Sink>(
+fn answer_held<W: Drain>(
     desk: &mut Desk,
     token: &mut Token,
-    sink: &mut S,
+    drain: &mut W,
     report: &mut Report,
 ) -> Result<(), SinkFault>
     requires lines_fit { report.old.lines + 1 < 2 ^ 64 }
     requires faults_fit { report.old.faults + 1 < 2 ^ 64 }
     ensures answered { (token0 : TokenShown) (sink0 : SinkTold) (all : List (List ℕ)) (line : List ℕ)
         → HoldsText desk.old.line.limit desk.old.line.held.items desk.old.line.over line
-        → Answered desk.old.job token0 sink0 all token.old (S.told sink.old) report.old
+        → Answered desk.old.job token0 sink0 all token.old (sink_of (W.told drain.old)) report.old
         → MatchResult result
-        (λ _. Answered desk.old.job token0 sink0 (all ++ line ∷ []) token.new (S.told sink.new) report.new)
-        (λ _. Failed desk.old.job token0 sink0 (all ++ line ∷ []) token.new (S.told sink.new)) }
-    ensures place { S.place sink.new ≡ S.place sink.old }
+        (λ _. Answered desk.old.job token0 sink0 (all ++ line ∷ []) token.new (sink_of (W.told drain.new)) report.new)
+        (λ _. Failed desk.old.job token0 sink0 (all ++ line ∷ []) token.new (sink_of (W.told drain.new))) }
     ensures job { desk.new.job ≡ desk.old.job }
     ensures lines_within { report.new.lines ≤ report.old.lines + 1 }
     ensures faults_within { report.new.faults ≤ report.old.faults + 1 }
@@ -71,29 +71,28 @@ fn answer_held<S: Sink>(
         desk.line.over,
         &mut desk.stores,
         token,
-        sink,
+        drain,
         report,
     )
 }
 
 // The rest of a line, and its LF.
-fn feed_line<S: Sink>(
+fn feed_line<W: Drain>(
     desk: &mut Desk,
     bytes: &[u8],
     token: &mut Token,
-    sink: &mut S,
+    drain: &mut W,
     report: &mut Report,
 ) -> Result<(), SinkFault>
     requires no_lf { (k : ℕ) → k < length bytes.now → slice_index bytes.now k ≢ 10 }
     requires lines_fit { report.old.lines + 1 < 2 ^ 64 }
     requires faults_fit { report.old.faults + 1 < 2 ^ 64 }
     ensures fed { (token0 : TokenShown) (sink0 : SinkTold) (got : List ℕ)
-        → Sofar token0 sink0 got desk.old token.old (S.told sink.old) report.old
+        → Sofar token0 sink0 got desk.old token.old (sink_of (W.told drain.old)) report.old
         → MatchResult result
-        (λ _. Sofar token0 sink0 (got ++ bytes.now ++ 10 ∷ []) desk.new token.new (S.told sink.new) report.new)
-        (λ _. Failed desk.new.job token0 sink0 (ended (got ++ bytes.now ++ 10 ∷ [])) token.new (S.told sink.new)) }
+        (λ _. Sofar token0 sink0 (got ++ bytes.now ++ 10 ∷ []) desk.new token.new (sink_of (W.told drain.new)) report.new)
+        (λ _. Failed desk.new.job token0 sink0 (ended (got ++ bytes.now ++ 10 ∷ [])) token.new (sink_of (W.told drain.new))) }
     ensures job { desk.new.job ≡ desk.old.job }
-    ensures place { S.place sink.new ≡ S.place sink.old }
     ensures lines_within { report.new.lines ≤ report.old.lines + 1 }
     ensures faults_within { report.new.faults ≤ report.old.faults + 1 }
 {
@@ -105,12 +104,12 @@ fn feed_line<S: Sink>(
             false,
             &mut desk.stores,
             token,
-            sink,
+            drain,
             report,
         );
     }
     desk.line.hold_all(bytes);
-    answer_held(desk, token, sink, report)?;
+    answer_held(desk, token, drain, report)?;
     desk.line.start();
     Ok(())
 }
@@ -127,29 +126,28 @@ fn without_cr(bytes: &[u8]) -> &[u8]
 }
 
 /// A piece more, however the input is cut. The result says whether a line ended in it; where none did, nothing was put.
-pub fn feed_all<S: Sink>(
+pub fn feed_all<W: Drain>(
     desk: &mut Desk,
     piece: &[u8],
     token: &mut Token,
-    sink: &mut S,
+    drain: &mut W,
     report: &mut Report,
 ) -> Result<bool, SinkFault>
     requires lines_fit { report.old.lines + length piece.now < 2 ^ 64 }
     requires faults_fit { report.old.faults + length piece.now < 2 ^ 64 }
     ensures fed { (token0 : TokenShown) (sink0 : SinkTold) (got : List ℕ)
-        → Sofar token0 sink0 got desk.old token.old (S.told sink.old) report.old
+        → Sofar token0 sink0 got desk.old token.old (sink_of (W.told drain.old)) report.old
         → MatchResult result
-        (λ _. Sofar token0 sink0 (got ++ piece.now) desk.new token.new (S.told sink.new) report.new)
-        (λ _. Failed desk.new.job token0 sink0 (ended (got ++ piece.now)) token.new (S.told sink.new)) }
-    ensures quiet { result ≡ Ok false → sink.new ≡ sink.old }
+        (λ _. Sofar token0 sink0 (got ++ piece.now) desk.new token.new (sink_of (W.told drain.new)) report.new)
+        (λ _. Failed desk.new.job token0 sink0 (ended (got ++ piece.now)) token.new (sink_of (W.told drain.new))) }
+    ensures quiet { result ≡ Ok false → W.told drain.new ≡ W.told drain.old }
     ensures job { desk.new.job ≡ desk.old.job }
-    ensures place { S.place sink.new ≡ S.place sink.old }
     ensures lines_within { report.new.lines ≤ report.old.lines + length piece.now }
     ensures faults_within { report.new.faults ≤ report.old.faults + length piece.now }
 {
     let mut start = 0;
     while let Some(n) = line_end(&piece[start..]) {
-        feed_line(desk, &piece[start..start + n], token, sink, report)?;
+        feed_line(desk, &piece[start..start + n], token, drain, report)?;
         start += n + 1;
     }
     desk.line.hold_all(&piece[start..]);
@@ -190,25 +188,24 @@ fn has_lf(bytes: &[u8]) -> bool
 }
 
 /// The end of the input: what follows the last LF is a line where it is not empty.
-pub fn finish<S: Sink>(
+pub fn finish<W: Drain>(
     desk: &mut Desk,
     token: &mut Token,
-    sink: &mut S,
+    drain: &mut W,
     report: &mut Report,
 ) -> Result<(), SinkFault>
     requires lines_fit { report.old.lines + 1 < 2 ^ 64 }
     requires faults_fit { report.old.faults + 1 < 2 ^ 64 }
     ensures finished { (token0 : TokenShown) (sink0 : SinkTold) (got : List ℕ)
-        → Sofar token0 sink0 got desk.old token.old (S.told sink.old) report.old
+        → Sofar token0 sink0 got desk.old token.old (sink_of (W.told drain.old)) report.old
         → MatchResult result
-        (λ _. Answered desk.new.job token0 sink0 (lines got) token.new (S.told sink.new) report.new)
-        (λ _. Failed desk.new.job token0 sink0 (lines got) token.new (S.told sink.new)) }
+        (λ _. Answered desk.new.job token0 sink0 (lines got) token.new (sink_of (W.told drain.new)) report.new)
+        (λ _. Failed desk.new.job token0 sink0 (lines got) token.new (sink_of (W.told drain.new))) }
     ensures job { desk.new.job ≡ desk.old.job }
-    ensures place { S.place sink.new ≡ S.place sink.old }
 {
     if desk.line.is_empty() {
         return Ok(());
     }
     desk.line.settle();
-    answer_held(desk, token, sink, report)
+    answer_held(desk, token, drain, report)
 }

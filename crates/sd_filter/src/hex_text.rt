@@ -1,30 +1,24 @@
 // Bytes printed as hex.
 ghost use Rattle.std.specs.Prelude.{◌≡◌, ◌≤◌, ◌*◌, length, take};
 ghost use Rattle.hex.specs.Hex.{encode_lower};
-ghost use Rattle.sd_core.specs.Sink.{Puts};
+ghost use Rattle.sd_core.specs.Print.{Prints};
 
-use sd_core::{Sink, SinkFault};
+use sd_core::Print;
 
-/// The digits that are gathered before they go to the sink.
+/// The digits that are gathered before they are printed.
 pub const GATHERED: usize = 1024;
 
-/// Puts the bytes as lower-case hex, by way of the cells.
-pub fn put_hex<S: Sink>(
-    bytes: &[u8],
-    cells: &mut [u8; GATHERED],
-    sink: &mut S,
-) -> Result<(), SinkFault>
-    ensures put { Puts (S.told sink.old) (S.told sink.new) (encode_lower bytes.now) result }
-    ensures place { S.place sink.new ≡ S.place sink.old }
+/// Prints the bytes as lower-case hex, by way of the cells.
+pub fn print_hex<P: Print>(bytes: &[u8], cells: &mut [u8; GATHERED], out: &mut P)
+    ensures { Prints (P.told out.old) (P.told out.new) (encode_lower bytes.now) }
 {
     let mut at = 0;
     while at < bytes.len() {
         let n = (bytes.len() - at).min(GATHERED / 2);
         let digits = encode_hex(&bytes[at..at + n], cells);
-        sink.put(&cells[..digits])?;
+        out.put(&cells[..digits]);
         at += n;
     }
-    Ok(())
 }
 
 // Encodes to the front of the cells, and says how many digits there are.

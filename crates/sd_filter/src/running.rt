@@ -1,5 +1,5 @@
 // A run from the first read to the last flush.
-ghost use Rattle.std.specs.Prelude.{◌≡◌, ◌+◌, ◌<◌, ◌≤◌, ◌^◌, ℕ, List, ◌++◌, [], length, true, false, IsOk, Ok, MatchResult};
+ghost use Rattle.std.specs.Prelude.{◌≡◌, ◌+◌, ◌<◌, ◌≤◌, ◌^◌, ℕ, List, ◌++◌, [], length, true, IsOk, MatchResult};
 ghost use Rattle.sd_core.specs.Token.{TokenShown};
 ghost use Rattle.sd_core.specs.Sink.{SinkTold};
 ghost use Rattle.sd_filter.specs.Told.{sink_of};
@@ -11,7 +11,6 @@ ghost use Rattle.sd_filter.specs.Outcome.{HandedOn, Outcome};
 use crate::device::{Drain, Source};
 use crate::engine::{Desk, Engine, Report, RunFault};
 use crate::feed::{feed_all, finish};
-use crate::sink::DrainSink;
 use sd_core::{SinkFault, Token};
 
 /// The reads of a run: a source that never ends is given up after so many.
@@ -102,7 +101,7 @@ fn answer_piece<W: Drain>(
     ensures lines_within { report.new.lines ≤ report.old.lines + length piece.now }
     ensures faults_within { report.new.faults ≤ report.old.faults + length piece.now }
 {
-    let a_line_ended = match feed_drain(desk, piece, token, drain, report) {
+    let a_line_ended = match feed_all(desk, piece, token, drain, report) {
         Ok(a_line_ended) => a_line_ended,
         Err(sink_fault) => return Err(sink_fault),
     };
@@ -113,48 +112,6 @@ fn answer_piece<W: Drain>(
         return Err(SinkFault);
     }
     Ok(())
-}
-
-fn feed_drain<W: Drain>(
-    desk: &mut Desk,
-    piece: &[u8],
-    token: &mut Token,
-    drain: &mut W,
-    report: &mut Report,
-) -> Result<bool, SinkFault>
-    requires lines_fit { report.old.lines + length piece.now < 2 ^ 64 }
-    requires faults_fit { report.old.faults + length piece.now < 2 ^ 64 }
-    ensures fed { (token0 : TokenShown) (sink0 : SinkTold) (got : List ℕ)
-        → Sofar token0 sink0 got desk.old token.old (sink_of (W.told drain.old)) report.old
-        → MatchResult result
-        (λ _. Sofar token0 sink0 (got ++ piece.now) desk.new token.new (sink_of (W.told drain.new)) report.new)
-        (λ _. Failed desk.new.job token0 sink0 (ended (got ++ piece.now)) token.new (sink_of (W.told drain.new))) }
-    ensures quiet { result ≡ Ok false → W.told drain.new ≡ W.told drain.old }
-    ensures job { desk.new.job ≡ desk.old.job }
-    ensures lines_within { report.new.lines ≤ report.old.lines + length piece.now }
-    ensures faults_within { report.new.faults ≤ report.old.faults + length piece.now }
-{
-    let mut sink = DrainSink { drain };
-    feed_all(desk, piece, token, &mut sink, report)
-}
-
-fn finish_drain<W: Drain>(
-    desk: &mut Desk,
-    token: &mut Token,
-    drain: &mut W,
-    report: &mut Report,
-) -> Result<(), SinkFault>
-    requires lines_fit { report.old.lines + 1 < 2 ^ 64 }
-    requires faults_fit { report.old.faults + 1 < 2 ^ 64 }
-    ensures finished { (token0 : TokenShown) (sink0 : SinkTold) (got : List ℕ)
-        → Sofar token0 sink0 got desk.old token.old (sink_of (W.told drain.old)) report.old
-        → MatchResult result
-        (λ _. Answered desk.new.job token0 sink0 (lines got) token.new (sink_of (W.told drain.new)) report.new)
-        (λ _. Failed desk.new.job token0 sink0 (lines got) token.new (sink_of (W.told drain.new))) }
-    ensures job { desk.new.job ≡ desk.old.job }
-{
-    let mut sink = DrainSink { drain };
-    finish(desk, token, &mut sink, report)
 }
 
 // The end of the input.
@@ -174,7 +131,7 @@ fn close<W: Drain>(
         (λ _. Failed desk.new.job token0 sink0 (lines got) token.new (sink_of (W.told drain.new))) }
     ensures job { desk.new.job ≡ desk.old.job }
 {
-    match finish_drain(desk, token, drain, report) {
+    match finish(desk, token, drain, report) {
         Ok(()) => {}
         Err(sink_fault) => return Err(sink_fault),
     }

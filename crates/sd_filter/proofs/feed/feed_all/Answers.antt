@@ -12,7 +12,6 @@ loop-n-preserved g c =
           rw (sym (fed_line got c.args.piece.now c.loop-n.start c.in-Some.n found.0 found.1), sym (line_in c.args.piece.now c.loop-n.start c.in-Some.n))
           (c.in_ok-feed_line.ensures.fed token0 sink0 _ (c.loop-n.invariant.sofar token0 sink0 got h));
       quiet = λ none. absurd (omega arith);
-      place = c.feed_line.ensures.place ∙ c.loop-n.invariant.place;
       job = c.feed_line.ensures.job ∙ c.loop-n.invariant.job;
       lines_within = omega (arith, c.feed_line.ensures.lines_within);
       faults_within = omega (arith, c.feed_line.ensures.faults_within);

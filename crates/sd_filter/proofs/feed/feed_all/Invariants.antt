@@ -2,16 +2,16 @@ use Rattle.std.proofs.Common.{◌≡◌, ◌≤◌, ◌+◌, ◌-◌, ℕ, List,
 use Rattle.sd_core.specs.Token.{TokenShown}
 use Rattle.sd_core.specs.Sink.{SinkTold}
 use Rattle.sd_filter.specs.Sofar.{Sofar}
+use Rattle.sd_filter.specs.Told.{sink_of}
 use Rattle.sd_filter.proofs.feed.feed_all.Given as goal
 
 abbrev pub invariant-loop-n : goal.invariant-loop-n
 invariant-loop-n g l = record {
   within : l.start ≤ length l.piece;
   sofar : (token0 : TokenShown) (sink0 : SinkTold) (got : List ℕ)
-      → Sofar token0 sink0 got l.fn.desk l.fn.token (g.S.Sink.told l.fn.sink) l.fn.report
-      → Sofar token0 sink0 (got ++ take l.start l.piece) l.desk l.token (g.S.Sink.told l.sink) l.report;
-  quiet : l.start ≡ 0 → l.sink ≡ l.fn.sink;
-  place : g.S.Sink.place l.sink ≡ g.S.Sink.place l.fn.sink;
+      → Sofar token0 sink0 got l.fn.desk l.fn.token (sink_of (g.W.Drain.told l.fn.drain)) l.fn.report
+      → Sofar token0 sink0 (got ++ take l.start l.piece) l.desk l.token (sink_of (g.W.Drain.told l.drain)) l.report;
+  quiet : l.start ≡ 0 → g.W.Drain.told l.drain ≡ g.W.Drain.told l.fn.drain;
   job : l.desk.job ≡ l.fn.desk.job;
   lines_within : l.report.lines ≤ l.fn.report.lines + l.start;
   faults_within : l.report.faults ≤ l.fn.report.faults + l.start;

@@ -1,14 +1,13 @@
 use Rattle.std.proofs.Common.{◌≡◌, ◌≤◌, ◌-◌, length, take}
 use Rattle.hex.specs.Hex.{encode_lower}
-use Rattle.sd_core.specs.Sink.{PutAll}
-use Rattle.sd_filter.proofs.hex_text.put_hex.Given as goal
+use Rattle.sd_core.specs.Print.{Prints}
+use Rattle.sd_filter.proofs.hex_text.print_hex.Given as goal
 
 abbrev pub invariant-loop-at : goal.invariant-loop-at
 invariant-loop-at g l = record {
   within : l.at ≤ length l.bytes;
   cells : length l.cells ≡ 1024;
-  put : PutAll (g.S.Sink.told l.fn.sink) (g.S.Sink.told l.sink) (encode_lower (take l.at l.bytes));
-  place : g.S.Sink.place l.sink ≡ g.S.Sink.place l.fn.sink;
+  printed : Prints (g.P.Print.told l.fn.out) (g.P.Print.told l.out) (encode_lower (take l.at l.bytes));
 }
 
 abbrev pub decreases-loop-at : goal.decreases-loop-at

@@ -1,0 +1,5 @@
+use Rattle.sd_core.proofs.PrintLemmas.{prints_then}
+use Rattle.sd_filter.proofs.answer.print_error.Goals as goal
+
+pub returns : goal.returns
+returns g c = (prints_then c.print_fault.ensures c.print_end.ensures.0, c.print_end.ensures.1)
