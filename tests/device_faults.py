@@ -31,6 +31,7 @@ import reference  # noqa: E402
 
 SECONDS = 60  # for one run
 MANY = 1_000_000
+FIRST_CALLS, LAST_CALLS = 300, 20
 PIECE = 8192  # bytes that the program asks for in a read
 ENDS_WITHOUT_A_FAULT = (0, 1)
 READ_FAULTS = [errno.EIO, errno.EAGAIN, errno.EINTR, errno.EBADF, errno.ETIMEDOUT, errno.ENOMEM]
@@ -191,17 +192,22 @@ def is_interrupted(ended, answers):
     return ended[:3] == (answers.status, answers.all, b"") and set(again) == set("rw")
 
 
+def some_of(calls):
+    """All of them, or the first and the last where they are more than any of the jobs wants."""
+    return [at for at in range(1, calls + 1) if at <= FIRST_CALLS or at > calls - LAST_CALLS]
+
+
 def faults_of(job, plain, errors, rare_errors):
     """The faults that a job is run under: what is judged, and the library's settings."""
     reads, writes = (sum(letter == one for letter, _ in plain.events) for one in "rw")
     for fd, count, judge, kinds in ((0, reads, is_read_fault, READ_FAULTS), (1, writes, is_write_fault, WRITE_FAULTS)):
-        for at in range(1, count + 1):
+        for at in some_of(count):
             # The last calls fail in every way, the others in those that tell.
             some = kinds if at >= count - 1 or at <= 2 else [one for one in kinds if one in errors]
             for error in some:
                 for times in (ONCE, FOR_GOOD) if error not in rare_errors else (ONCE,):
                     yield judge, {"fd": fd, "at": at, "times": times, "error": error}
-    for at in range(1, writes + 1):
+    for at in some_of(writes):
         for times in (ONCE, 3):
             yield is_interrupted, {"fd": 1, "at": at, "times": times, "error": errno.EINTR}
 

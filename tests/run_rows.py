@@ -316,7 +316,7 @@ def main():
     judged.add_argument("program", nargs="?", type=os.path.abspath)
     judged.add_argument("--reference", action="store_true", help="compares the answers of reference.py")
     parser.add_argument("--one-byte", action="store_true", help="the input comes one byte a read")
-    parser.add_argument("--only", nargs="+", metavar="ID", default=[""], help="rows whose id has one of these texts in it")
+    parser.add_argument("--only", nargs="+", metavar="ID", default=[""], help="rows whose id has one of these in it")
     given = parser.parse_args()
     rows = json.loads(pathlib.Path(__file__).with_name("rows.json").read_text(encoding="utf-8"))
     rows = [row for row in rows if any(word in row["id"] for word in given.only)]
@@ -324,9 +324,12 @@ def main():
         rows = [row for row in rows if not {"talk", "input", "output", "faults"} & row.keys()]
     if given.reference:
         rows = [row for row in rows if is_for_reference(row)]
+    if not rows:
+        parser.error("there is no such row")
     passed = failed = 0
     for row in rows:
-        for name, ended, stdout in asked_of_reference(row) if given.reference else runs(given.program, row, given.one_byte):
+        ran = asked_of_reference(row) if given.reference else runs(given.program, row, given.one_byte)
+        for name, ended, stdout in ran:
             wrong = differences(row, ended, stdout)
             passed, failed = passed + (not wrong), failed + bool(wrong)
             if wrong:
