@@ -76,17 +76,11 @@ CUT_JOBS = [*(Job(HEX, SHORT_HEX, piece) for piece in (7, 50, 0)),
 HELP = [["--help"], ["help"], ["convert", "--help"], ["help", "convert"]]
 
 
-class Event(NamedTuple):
-    """A call that the library told of."""
-    letter: str  # 'r' a read of the input, 'w' a write of the output, 'v' of the faults; in upper case where it failed
-    moved: int   # bytes
-
-
 class Ended(NamedTuple):
     status: object  # or "too slow"
     stdout: bytes
     stderr: bytes
-    events: list
+    events: list  # of preload.Event
 
     def __str__(self):
         told = " ".join(f"{letter}{moved}" for letter, moved in self.events[-12:])
@@ -124,9 +118,7 @@ class Runner:
                 _, stderr = child.communicate()
                 status = "too slow"
             written.seek(0)
-            told.seek(0)
-            events = [Event(line[0], int(line[1:])) for line in told.read().decode().splitlines()]
-            return Ended(status, b"" if output else written.read(), stderr, events)
+            return Ended(status, b"" if output else written.read(), stderr, preload.events_in(told))
 
     def convert(self, job, output=None, **settings):
         return self.run(["convert", *job.words], job.data, output, piece=job.piece, takes=job.takes, **settings)

@@ -3,6 +3,7 @@ import os
 import pathlib
 import shutil
 import subprocess
+from typing import NamedTuple
 
 
 def compiler():
@@ -21,6 +22,17 @@ def build(source, folder):
     options = ["-O2", "-shared", "-fPIC", "-nostdlib", "-fno-builtin"]
     subprocess.run([*compiler(), *options, "-o", library, str(path)], check=True)
     return library
+
+
+class Event(NamedTuple):
+    """A call that faults.c told of."""
+    letter: str  # 'r' a read of the input, 'w' a write of the output, 'v' of the faults; in upper case where it failed
+    moved: int   # bytes
+
+
+def events_in(file):
+    file.seek(0)
+    return [Event(line[0], int(line[1:])) for line in file.read().decode().splitlines()]
 
 
 class Count:
