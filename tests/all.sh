@@ -31,6 +31,7 @@ if "${MAKE:-make}" --no-print-directory program; then
     count tests/compare.py "$program"
     count tests/refused_allocations.py "$program"
     count tests/tables.py "$program"
+    count tests/run_examples.py "$program"
     count tests/system_calls.py "$program"
     count tests/device_faults.py "$program"
 else
