@@ -18,6 +18,7 @@ The last line is 'N passed, M failed'.
 import argparse
 import concurrent.futures
 import errno
+import itertools
 import os
 import re
 import subprocess
@@ -31,12 +32,12 @@ import reference  # noqa: E402
 
 SECONDS = 60  # for one run
 MANY = 1_000_000
-FIRST_CALLS, LAST_CALLS = 300, 20
+FIRST_CALLS, LAST_CALLS = 300, 20  # that fail in turn; a program that is as it should be makes no more
 PIECE = 8192  # bytes that the program asks for in a read
-ENDS_WITHOUT_A_FAULT = (0, 1)
 READ_FAULTS = [errno.EIO, errno.EAGAIN, errno.EINTR, errno.EBADF, errno.ETIMEDOUT, errno.ENOMEM]
 # (0: the write takes nothing.)
 WRITE_FAULTS = [0, errno.EIO, errno.EAGAIN, errno.ENOSPC, errno.EPIPE, errno.ETIMEDOUT, errno.ENOMEM]
+IN_SHORT_JOBS, IN_OTHERS = {0, errno.EIO, errno.EAGAIN, errno.EINTR}, {0, errno.EIO}  # where a call is none of the ends
 ONCE, FOR_GOOD = 1, 0
 SAYS_READ, SAYS_WRITE = b"sdtool: error 60 read\n", b"sdtool: error 61 write\n"
 
@@ -170,12 +171,15 @@ def is_write_fault(ended, answers):
     """Whether the run ended as one in which a write failed has to."""
     done, _, rest = ended.letters().partition("W")
     wanted = answers.all[:moved(ended.events, "w")]
-    # (of a line of which a write failed, the end of the input is known)
-    return ended[:3] == (3, wanted, SAYS_WRITE) and set(done) <= set("rw") and rest == "v"
+    return ended[:3] == (3, wanted, SAYS_WRITE) and set(done) <= set("rw") and rest == "v" \
+        and is_prompt(ended.events, answers)
 
 
 def is_plain(ended, answers):
-    return ended[:3] == (answers.status, answers.all, b"") and set(ended.letters()) == set("rw")
+    """Whether the run ended as one without a fault has to; its end is read once."""
+    *reads, last = (event.moved for event in ended.events if event.letter == "r")
+    return ended[:3] == (answers.status, answers.all, b"") and set(ended.letters()) == set("rw") \
+        and last == 0 and all(reads) and is_prompt(ended.events, answers)
 
 
 def is_interrupted(ended, answers):
@@ -184,28 +188,28 @@ def is_interrupted(ended, answers):
     return ended[:3] == (answers.status, answers.all, b"") and set(again) == set("rw")
 
 
-def some_of(calls):
-    """All of them, or the first and the last where they are more than any of the jobs wants."""
+def places(calls):
+    """The calls that fail in turn."""
     return [at for at in range(1, calls + 1) if at <= FIRST_CALLS or at > calls - LAST_CALLS]
 
 
-def faults_of(job, plain, errors, rare_errors):
-    """The faults that a job is run under: what is judged, and the library's settings."""
-    reads, writes = (sum(letter == one for letter, _ in plain.events) for one in "rw")
-    for fd, count, judge, kinds in ((0, reads, is_read_fault, READ_FAULTS), (1, writes, is_write_fault, WRITE_FAULTS)):
-        for at in some_of(count):
-            # The last calls fail in every way, the others in those that tell.
-            some = kinds if at >= count - 1 or at <= 2 else [one for one in kinds if one in errors]
-            for error in some:
-                for times in (ONCE, FOR_GOOD) if error not in rare_errors else (ONCE,):
-                    yield judge, {"fd": fd, "at": at, "times": times, "error": error}
-    for at in some_of(writes):
-        for times in (ONCE, 3):
-            yield is_interrupted, {"fd": 1, "at": at, "times": times, "error": errno.EINTR}
+def faults_of(plain, errors):
+    """The faults that a job is run under: what judges it, and the library's settings. The first and the last calls fail
+    in every way, the others by these errors."""
+    reads, writes = (plain.letters().count(letter) for letter in "rw")
+    for fd, calls, judge, kinds in ((0, reads, is_read_fault, READ_FAULTS), (1, writes, is_write_fault, WRITE_FAULTS)):
+        for at, error in itertools.product(places(calls), kinds):
+            is_an_end = at <= 2 or at >= calls - 1
+            if is_an_end or error in errors:
+                yield judge, {"fd": fd, "at": at, "times": ONCE, "error": error}
+            if is_an_end or error == errno.EIO:
+                yield judge, {"fd": fd, "at": at, "times": FOR_GOOD, "error": error}
+    for at, times in itertools.product(places(writes), (ONCE, 3)):
+        yield is_interrupted, {"fd": 1, "at": at, "times": times, "error": errno.EINTR}
 
 
 def shown(job, settings):
-    stream = {0: "read", 1: "write", 2: "write of a fault"}[settings["fd"]]
+    stream = {0: "read", 1: "write"}[settings["fd"]]
     times = {ONCE: "once", FOR_GOOD: "for good"}.get(settings["times"], f"{settings['times']} times")
     error = errno.errorcode.get(settings["error"], "nothing taken")
     return f"sdtool convert {' '.join(job.words)}, pieces of {job.piece}, writes of {job.takes}, " \
@@ -214,18 +218,16 @@ def shown(job, settings):
 
 def judge_jobs(count, runner, pool):
     """Each read and each write of each job in turn."""
-    for jobs, errors, rare in ((SHORT_JOBS, [0, errno.EIO, errno.EAGAIN, errno.EINTR], [errno.EAGAIN, errno.EINTR]),
-                               ([*CUT_JOBS, *LARGE_JOBS], [0, errno.EIO], [])):
-        for job in jobs:
-            answers, plain = Answers(job), runner.convert(job)
-            words = " ".join(["sdtool convert", *job.words])
-            count.add(is_plain(plain, answers) and is_prompt(plain.events, answers), f"{words}, no fault: {plain}")
-            tried = list(faults_of(job, plain, errors, rare))
-            for (judge, settings), ended in zip(tried, pool.map(lambda one: runner.convert(job, **one[1]), tried)):
-                count.add(judge(ended, answers), f"{shown(job, settings)}: {ended}")
-            reads, writes = (plain.letters().count(letter) for letter in "rw")
-            print(f"{words}, {len(job.data)} bytes in pieces of {job.piece or PIECE}: {reads} reads, {writes} writes, "
-                  f"{len(tried)} faults")
+    for job in (*SHORT_JOBS, *CUT_JOBS, *LARGE_JOBS):
+        answers, plain = Answers(job), runner.convert(job)
+        words = " ".join(["sdtool convert", *job.words])
+        count.add(is_plain(plain, answers), f"{words}, no fault: {plain}")
+        tried = list(faults_of(plain, IN_SHORT_JOBS if job in SHORT_JOBS else IN_OTHERS))
+        for (judge, settings), ended in zip(tried, pool.map(lambda one: runner.convert(job, **one[1]), tried)):
+            count.add(judge(ended, answers), f"{shown(job, settings)}: {ended}")
+        reads, writes = (plain.letters().count(letter) for letter in "rw")
+        print(f"{words}, {len(job.data)} bytes in pieces of {job.piece or PIECE}: {reads} reads, {writes} writes, "
+              f"{len(tried)} faults")
 
 
 def judge_both(count, runner):
@@ -259,13 +261,10 @@ def judge_help(count, runner):
 
 def judge_faults(count, runner):
     """A fault stream that fails changes no status, and nothing is read or written instead."""
-    for words, status in (([], 2), (["convert", "--to", "xml"], 2), (["x"], 2), (["convert"], 3)):
+    for words, output, status, calls in (([], None, 2, "V"), (["convert", "--to", "xml"], None, 2, "V"),
+                                         (["convert"], "/dev/full", 3, "rwV")):
         for error in WRITE_FAULTS:
-            data = SHORT_HEX if status == 2 else b""
-            stop = {} if status == 2 else {"output": "/dev/full"}
-            data = data or NO_PARTS + b"\n"
-            ended = runner.run(words, data, fd=2, at=1, times=FOR_GOOD, error=error, **stop)
-            calls = "V" if status == 2 else "rwV"
+            ended = runner.run(words, SHORT_HEX, output, fd=2, at=1, times=FOR_GOOD, error=error)
             count.add(ended[:3] == (status, b"", b"") and ended.letters() == calls,
                       f"sdtool {' '.join(words)}, the write of the fault fails: {ended}")
 
