@@ -8,7 +8,8 @@ The inputs have the same size and are kept in the folder sdtool-bench among the 
 
 It checks that program and baseline write the same each time, runs the three in turn, so that what else the machine
 does meets them alike, and prints the medians. Time is processor time, user and system; megabytes are those of the
-input, which comes from a file; the output goes to /dev/null.
+input, which comes from a file; the output goes to /dev/null. In one run more of program and baseline it counts their
+reads and writes.
 """
 import argparse
 import filecmp
@@ -22,7 +23,8 @@ import sys
 import tempfile
 
 sys.dont_write_bytecode = True
-import generate  # noqa: E402
+import generate  # noqa: E402  (which finds the folder of the tests)
+import preload  # noqa: E402
 
 HERE = pathlib.Path(__file__).resolve().parent
 PROGRAM = HERE.parent / "crates/sdtool/out/sdtool"
@@ -90,6 +92,14 @@ def write_the_same(folder, given, commands):
     return same
 
 
+def calls(command, given, library):
+    """The number of reads and writes of a run, which the preloaded library tells of."""
+    with tempfile.TemporaryFile() as told, open(given, "rb") as stdin:
+        environment = {**os.environ, "LD_PRELOAD": library, "FAULT_TELL": str(told.fileno())}
+        subprocess.run(command, stdin=stdin, stdout=subprocess.DEVNULL, env=environment, pass_fds=[told.fileno()])
+        return len(preload.events_in(told))
+
+
 def lines_in(path):
     with open(path, "rb") as file:
         return sum(piece.count(b"\n") for piece in iter(lambda: file.read(1 << 20), b""))
@@ -116,7 +126,7 @@ def main():
         sys.exit("bench: the baseline is built by rustc, and there is none on the PATH")
     folder = pathlib.Path(tempfile.gettempdir()) / "sdtool-bench"
     folder.mkdir(exist_ok=True)
-    baseline = build_baseline(folder)
+    baseline, library = build_baseline(folder), preload.build("faults.c", folder)
     inputs, commands = {}, {}
     for name, (source, aces, target) in MEASURED.items():
         settings = ["--form", source, "--megabytes", str(wanted.megabytes), *(["--aces", str(aces)] if aces else [])]
@@ -134,8 +144,10 @@ def main():
         _, aces, _ = MEASURED[name]
         speeds[name] = taken["baseline"] / taken["sdtool"]
         for command, time in taken.items():
-            an_ace = f"{time / lines / aces * 1e9:9.1f} ns an ACE" if aces else ""
-            print(f"  {command:10}{time:8.3f} s{size / time / 1e6:8.0f} MB/s{lines / time:13,.0f} lines/s{an_ace}")
+            shown = f"  {command:10}{time:8.3f} s{size / time / 1e6:8.0f} MB/s{lines / time:13,.0f} lines/s"
+            if command != "cat":
+                shown += f"{calls(commands[name][command], given, library) / size * 1e6:8.0f} calls a MB"
+            print(shown + (f"{time / lines / aces * 1e9:9.1f} ns an ACE" if aces else ""))
     for name, speed in speeds.items():
         print(f"on {name} sdtool has {speed:.2f} of the baseline's speed")
     return 0

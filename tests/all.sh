@@ -30,6 +30,10 @@ if "${MAKE:-make}" --no-print-directory program; then
     count tests/run_rows.py "$program" --one-byte
     count tests/compare.py "$program"
     count tests/refused_allocations.py "$program"
+    count tests/tables.py "$program"
+    count tests/run_examples.py "$program"
+    count tests/system_calls.py "$program"
+    count tests/device_faults.py "$program"
 else
     echo "the program is not built, so its tests have not run"
     ((failed += 1))

@@ -40,6 +40,10 @@ FROM_SDDL = ["--from", "sddl"]
 EVERY_WORDS_FROM_SDDL = [[*FROM_SDDL, *words] for words in (HEX, SDDL, UNDER[0], [*HEX, *UNDER[0]])]
 DOMAIN_SIDS = [reference.sid_of_text(domain.encode()) for domain in DOMAINS]
 SOME_MASKS = [*reference.RIGHTS.values(), *reference.COMPOUND_RIGHTS.values(), *reference.LABEL_RIGHTS.values()]
+ALIASES, KIND_NAMES, FLAG_NAMES, RIGHT_NAMES = (
+    [name.encode() for name in names] for names in ([*reference.WELL_KNOWN, *reference.OF_THE_DOMAIN],
+                                                    reference.KINDS.values(), reference.ACE_FLAGS, reference.EVERY_RIGHT))
+LETTERS = b"abcdefghijklmnopqrstuvwxyzABCDEFGHIJKLMNOPQRSTUVWXYZ"
 # Bytes that mean something in SDDL, their neighbours, and bytes that stand nowhere in it.
 TELLING_BYTES = b";():-ODGSPARIUWXodx019fF_ \t\r.,@[{\0\x0b\xa0\xff"
 GUID_TEXT = b"bf967aba-0de6-11d0-a285-00aa003049e2"
@@ -292,8 +296,7 @@ def shape_lines():
 
 def field_lines():
     """Short texts in each field, those round the limits of numbers and lengths, and several faults in one ACE."""
-    letters = b"abcdefghijklmnopqrstuvwxyzABCDEFGHIJKLMNOPQRSTUVWXYZ1"
-    pairs = [bytes(pair) for pair in itertools.product(letters, repeat=2)]
+    pairs = [bytes(pair) for pair in itertools.product(LETTERS + b"1", repeat=2)]
     yield from (b"O:" + pair for pair in pairs)
     for name in ("kind", "flags", "rights"):
         yield from (in_an_ace(**{name: pair}) for pair in pairs)
@@ -399,7 +402,8 @@ class Lines:
             return self.chance.choice(self.named).to_bytes()
         if kind < 0.3:
             authority, subs = self.chance.choice(DOMAIN_SIDS)
-            last = self.chance.choice([*reference.OF_THE_DOMAIN.values(), 499, 554, 1001, self.chance.getrandbits(32)])
+            last = self.chance.choice([self.chance.choice(list(reference.OF_THE_DOMAIN.values())),
+                                       self.chance.randrange(1201), self.chance.getrandbits(32)])
             return reference.Sid(authority, (*subs, last)).to_bytes()
         if kind < 0.4:  # (an authority of few bits, so that it is often a decimal number)
             subs = [self.chance.getrandbits(self.chance.randint(1, 32)) for _ in range(self.chance.randrange(16))]
@@ -414,7 +418,8 @@ class Lines:
         """Of any kind, with any bits that announce nothing, and bytes after its SID."""
         ace_type = self.chance.choice(PLAIN_TYPES + OBJECT_TYPES)
         flags = self.chance.choice([0, 0xff, self.chance.getrandbits(8)]) & ~UNKNOWN_FLAG
-        mask = self.chance.choice([0, 0xffff_ffff, 1 << self.chance.randrange(32), self.chance.getrandbits(32),
+        one, other = (1 << self.chance.randrange(32) for _ in range(2))
+        mask = self.chance.choice([0, 0xffff_ffff, one, one | other, self.chance.getrandbits(32),
                                    self.chance.choice(SOME_MASKS), self.chance.randrange(9), self.rights()])
         body = b""
         if ace_type in OBJECT_TYPES:
@@ -587,14 +592,33 @@ class Lines:
             line[at:end] = self.chance.choice([b"", line[at:end] * 2, self.chance.choices(TELLING_BYTES), self.sddl_piece()])
         return bytes(line)
 
+    def pair(self):
+        """Any two letters."""
+        return bytes(self.chance.choices(LETTERS, k=2))
+
+    def names(self, listed):
+        """A run of names of a table, and now and then of a pair that stands in another table or in none."""
+        names = self.chance.choices(listed, k=self.chance.choice([0, 1, 1, 2, 5]))
+        return b"".join(self.pair() if self.chance.random() < 0.1 else name for name in names)
+
+    def named_ace(self):
+        """An ACE all of whose fields are names, in either case."""
+        sid = self.chance.choice([*ALIASES, self.pair(), self.pair()])
+        kind = self.chance.choice([*KIND_NAMES, *KIND_NAMES, self.pair()])
+        line = in_an_ace(kind, self.names(FLAG_NAMES), self.names(RIGHT_NAMES), b"", b"", sid)
+        return self.in_any_case(line.decode()).encode()
+
     def sddl_piece(self):
-        return self.chance.choice([b"O:", b"G:BA", b"D:", b"S:P", b"(", b")", b";", b"(A;;;;;WD)", b"AI", b"NO_ACCESS_CONTROL",
-                                   b"OI", b"0x", b"S-1-", b"-0", b"4294967296", GUID_TEXT, b"DA", b"ZZ", b" \t"])
+        return self.chance.choice([b"O:", b"G:BA", b"D:", b"S:P", b"(", b")", b";", b"(A;;;;;WD)", b"AI", b"OI", b"0x", b"S-1-",
+                                   b"NO_ACCESS_CONTROL", b"-0", b"4294967296", GUID_TEXT, b"DA", b"ZZ", b" \t", self.pair()])
 
     def sddl_line(self):
-        """Nearly right, or of a few pieces."""
-        if self.chance.random() < 0.2:
+        """Nearly right, of names alone, or of a few pieces."""
+        kind = self.chance.random()
+        if kind < 0.2:
             return b"".join(self.sddl_piece() for _ in range(self.chance.randrange(9)))
+        if kind < 0.3:
+            return self.named_ace()
         line = self.spelled_as_sddl(self.plain(), self.chance.choice([None, DOMAIN_SIDS[0]]))
         return line if self.chance.random() < 0.3 else self.mutated_sddl(line)
 

@@ -9,12 +9,13 @@ The last line is 'N passed, M failed'.
 """
 import argparse
 import os
-import pathlib
-import shutil
 import subprocess
 import sys
 import tempfile
 from typing import NamedTuple
+
+sys.dont_write_bytecode = True
+import preload  # noqa: E402
 
 SECONDS = 60       # for one run
 ALLOCATIONS = 5000  # of one command line, at the very most
@@ -88,22 +89,6 @@ class Ended(NamedTuple):
 NO_MEMORY = Ended(4, b"", b"sdtool: no memory\n", 0)
 
 
-def compiler():
-    for name in (os.environ.get("CC"), "cc", "gcc", "clang"):
-        if name and shutil.which(name):
-            return [name]
-    # The toolchain brings a compiler, and a linker beside it.
-    kit = pathlib.Path(os.path.realpath(shutil.which("rt") or "rt")).parent.parent
-    return [str(kit / "toolchain/bin/clang"), "-fuse-ld=lld"]
-
-
-def build(folder):
-    library = os.path.join(folder, "refuse.so")
-    source = pathlib.Path(__file__).with_name("refuse.c")
-    subprocess.run([*compiler(), "-O2", "-shared", "-fPIC", "-nostdlib", "-fno-builtin", "-o", library, str(source)], check=True)
-    return library
-
-
 def run(command, data, library, **settings):
     """How the command ended, and the letters that the library told."""
     telling, told_to = os.pipe()
@@ -118,16 +103,6 @@ def run(command, data, library, **settings):
             told = events.read()
         taken = os.lseek(given.fileno(), 0, os.SEEK_CUR)
     return Ended(child.returncode, child.stdout, child.stderr, taken), told
-
-
-class Count:
-    def __init__(self):
-        self.passed = self.failed = 0
-
-    def add(self, is_right, what):
-        self.passed, self.failed = self.passed + is_right, self.failed + (not is_right)
-        if not is_right:
-            print(f"FAIL {what}")
 
 
 def refuse_each(count, program, words, library):
@@ -164,15 +139,14 @@ def main():
     parser = argparse.ArgumentParser(description="Refuses each allocation of the built program in turn.")
     parser.add_argument("program", type=os.path.abspath)
     program = parser.parse_args().program
-    count = Count()
+    count = preload.Count()
     with tempfile.TemporaryDirectory() as folder:
-        library = build(folder)
+        library = preload.build("refuse.c", folder)
         for words in COMMAND_LINES:
             refuse_each(count, program, words, library)
         for words, lines in READING:
             refuse_when_reading(count, program, words, lines, library)
-    print(f"{count.passed} passed, {count.failed} failed")
-    return 1 if count.failed else 0
+    return count.end()
 
 
 if __name__ == "__main__":

@@ -1,12 +1,13 @@
 #!/usr/bin/env python3
-"""run_rows.py PROGRAM [--one-byte]
-run_rows.py --reference
+"""run_rows.py PROGRAM [--one-byte] [--only ID..]
+run_rows.py --reference [--only ID..]
 
 Runs the rows of rows.json on the built program, and compares what it writes and its exit status.
 With --one-byte the input comes one byte a read; rows that ask for a device of their own are left out.
 With --reference no program is run: the answers of reference.py are compared, in all rows that convert lines or name an
 option whose value does not read, and ask for no device, so that the rows and what compare.py compares with are known
 to say the same.
+With --only it takes the rows whose id has one of the texts in it.
 The last line is 'N passed, M failed'.
 
 A row has the program's words, its standard input, and what has to come of them: stdout (or stdout_has,
@@ -14,9 +15,12 @@ texts that have to stand in it), stderr and status, which are empty and 0 where 
 A text is a string of characters below 256, each of which stands for one byte, or a list of texts, or
 {"repeat": TEXT, "times": N}. Where the standard streams are not to be files, a row has one of these:
 
-  talk     true: the input goes in line by line, each once the answer to the line before it has come
-  input    "closed", "directory", or "fails after each byte": for each front of the input a run of
-           its own, in which the read after it fails
+  talk     true: the input goes in line by line, each once the answer to the line before it has come. With an
+           output "full", "closed pipe" or "not ready" that begins once the answers of stdout have come: then one
+           line more goes in, and the program has to end by itself, while its input is open
+  input    "closed", "directory", "not ready" (a pipe that does not block: where nothing has come yet a read
+           fails), or "fails after each byte": for each front of the input a run of its own, in which the read
+           after it fails
   output   "closed", "closed pipe", "full", or "fails after each byte": for each front of the output
            but the whole a run of its own, in which the write of the byte after it fails
   faults   "closed" or "full", for the standard error
@@ -41,12 +45,13 @@ sys.dont_write_bytecode = True
 import reference  # noqa: E402
 
 SECONDS = 60  # for one run: a program that hangs fails its row
+SECONDS_TO_END = 10  # once its output takes nothing more
 
 
 class Ended(NamedTuple):
     stdout: bytes
     stderr: bytes
-    status: object  # an exit status, minus a signal's number, or "too slow"
+    status: object  # an exit status, minus a signal's number, "too slow", or "waits for more"
     has_read: bool  # of a seekable input
 
 
@@ -86,16 +91,22 @@ def fed(data, pair, piece):
 
 
 def open_input(kind, data):
-    """A descriptor for the standard input, and the thread that feeds it, if it needs one."""
+    """A descriptor for the standard input; the thread that feeds it, if it needs one; and another descriptor, if one
+    has to stay open."""
     if kind == "bytes":  # a pipe in packet mode: one read never gets the bytes of two writes
-        return fed(data, os.pipe2(os.O_DIRECT | os.O_CLOEXEC), 1)
+        return *fed(data, os.pipe2(os.O_DIRECT | os.O_CLOEXEC), 1), None
     if kind == "fails":  # where a terminal hangs up, a read fails once it has given what was typed
         ends = pty.openpty()
         tty.setraw(ends[1])
-        return fed(data, ends, 256)
+        return *fed(data, ends, 256), None
+    if kind == "not ready":
+        reading, writing = os.pipe()
+        os.set_blocking(reading, False)
+        os.write(writing, data)
+        return reading, None, writing
     if kind == "directory":
-        return os.open("/", os.O_RDONLY), None
-    return file_of(data), None
+        return os.open("/", os.O_RDONLY), None, None
+    return file_of(data), None, None
 
 
 def open_output(kind):
@@ -130,7 +141,7 @@ def execute(command, data, given="file", output="file", faults="file", takes=Non
             resource.setrlimit(resource.RLIMIT_FSIZE, (takes, takes))
         for fd in closed:
             os.close(fd)
-    stdin, feeder = open_input(given, data)
+    stdin, feeder, other_end = open_input(given, data)
     stdout = open_output(output)
     # (a pipe, which the size limit does not bind)
     stderr = subprocess.PIPE if faults == "file" else open_output(faults)
@@ -151,6 +162,8 @@ def execute(command, data, given="file", output="file", faults="file", takes=Non
     else:
         has_read = given == "file" and os.lseek(stdin, 0, os.SEEK_CUR) > 0
         os.close(stdin)
+    if other_end:
+        os.close(other_end)
     written = bytes_of(stdout)
     os.close(stdout)
     if stderr is not subprocess.PIPE:
@@ -188,6 +201,57 @@ def converse(command, data, answers):
     return Ended(heard + rest, told, child.returncode, True)
 
 
+def fill(fd):
+    """Fills a pipe, which does not block from then on, and gives the number of bytes."""
+    os.set_blocking(fd, False)
+    size = 0
+    for piece in (b"." * 4096, b"."):
+        try:
+            while True:
+                size += os.write(fd, piece)
+        except BlockingIOError:
+            pass
+    return size
+
+
+def read_all(fd):
+    with open(fd, "rb") as file:
+        return file.read()
+
+
+def outlast(command, data, answers, output):
+    """Says a line for each of the answers, and one more once the output takes nothing more; the input stays open."""
+    reading, writing = os.pipe()
+    stdout = open_output("full") if output == "full" else writing
+    child = subprocess.Popen(command, stdin=subprocess.PIPE, stdout=stdout, stderr=subprocess.PIPE)
+    heard, filled, lines = b"", 0, iter(lines_of(data))
+    for _ in lines_of(answers):
+        child.stdin.write(next(lines))
+        child.stdin.flush()
+        heard += next_line(reading)
+    if output == "closed pipe":
+        os.close(reading)
+    elif output == "not ready":
+        filled = fill(writing)
+    child.stdin.write(next(lines))
+    child.stdin.flush()
+    try:
+        status = child.wait(SECONDS_TO_END)
+    except subprocess.TimeoutExpired:
+        child.kill()
+        status = "waits for more"
+    child.stdin.close()
+    with child.stderr as file:
+        told = file.read()
+    child.wait()
+    os.close(writing)
+    if stdout != writing:
+        os.close(stdout)
+    if output != "closed pipe":
+        heard += read_all(reading)[filled:]
+    return Ended(heard, told, status, True)
+
+
 def short(data, most=100):
     shown = repr(data)[1:] if isinstance(data, bytes) else str(data)
     return shown if len(shown) <= most else f"{shown[:most]}.. ({len(data)} bytes)"
@@ -212,6 +276,8 @@ def runs(program, row, one_byte):
     devices = {"given": row.get("input", "file"), "output": row.get("output", "file"), "faults": row.get("faults", "file")}
     if one_byte:
         yield name, execute(command, data, "bytes"), stdout
+    elif row.get("talk") and "output" in row:
+        yield name, outlast(command, data, stdout, row["output"]), stdout
     elif row.get("talk"):
         yield name, converse(command, data, stdout), stdout
     elif devices["given"] == "fails after each byte":
@@ -250,15 +316,20 @@ def main():
     judged.add_argument("program", nargs="?", type=os.path.abspath)
     judged.add_argument("--reference", action="store_true", help="compares the answers of reference.py")
     parser.add_argument("--one-byte", action="store_true", help="the input comes one byte a read")
+    parser.add_argument("--only", nargs="+", metavar="ID", default=[""], help="rows whose id has one of these in it")
     given = parser.parse_args()
     rows = json.loads(pathlib.Path(__file__).with_name("rows.json").read_text(encoding="utf-8"))
+    rows = [row for row in rows if any(word in row["id"] for word in given.only)]
     if given.one_byte or given.reference:
         rows = [row for row in rows if not {"talk", "input", "output", "faults"} & row.keys()]
     if given.reference:
         rows = [row for row in rows if is_for_reference(row)]
+    if not rows:
+        parser.error("there is no such row")
     passed = failed = 0
     for row in rows:
-        for name, ended, stdout in asked_of_reference(row) if given.reference else runs(given.program, row, given.one_byte):
+        ran = asked_of_reference(row) if given.reference else runs(given.program, row, given.one_byte)
+        for name, ended, stdout in ran:
             wrong = differences(row, ended, stdout)
             passed, failed = passed + (not wrong), failed + bool(wrong)
             if wrong:

@@ -1,0 +1,82 @@
+#!/usr/bin/env python3
+"""run_examples.py PROGRAM
+
+Runs the examples of the documents: each command that stands after '$ ' in a fenced block, or in the man page's
+section EXAMPLES, with the program on the PATH as sdtool. What it prints, on both streams, has to be what the document
+shows below it. A document without an example fails, and so does an example that stands in no such block.
+The last line is 'N passed, M failed'.
+"""
+import argparse
+import os
+import pathlib
+import re
+import subprocess
+import sys
+import tempfile
+from typing import NamedTuple
+
+sys.dont_write_bytecode = True
+import preload  # noqa: E402
+
+SECONDS = 60  # for one command
+TOP = pathlib.Path(__file__).resolve().parent.parent
+# The documents, and the folder in which the commands of each are run.
+DOCUMENTS = {"README.md": ".", "docs/FORMAT.md": ".", "docs/sdtool.1": "examples"}
+COMMAND = re.compile(r"\s*\$ .*\bsdtool\b")
+ESCAPES = {r"\-": "-", r"\(aq": "'", r"\(dq": '"', r"\(ha": "^", r"\(ti": "~", r"\(bs": "\\", r"\e": "\\", r"\&": ""}
+
+
+class Example(NamedTuple):
+    command: str
+    printed: str
+
+
+def plain(line):
+    """A line of the man page without its escapes."""
+    return re.sub(r"\\(\(..|.)", lambda found: ESCAPES[found[0]], line)
+
+
+def blocks_of(text, is_man_page):
+    """The lines of each block."""
+    if is_man_page:
+        section = text.partition(".SH EXAMPLES\n")[2].partition("\n.SH ")[0]
+        return [list(map(plain, block.splitlines())) for block in re.findall(r"^\.nf\n(.*?)^\.fi$", section, re.S | re.M)]
+    return [block.splitlines() for block in re.findall(r"^```[^\n]*\n(.*?)^```$", text, re.S | re.M)]
+
+
+def examples_in(blocks):
+    """Each command, with the lines below it up to the next one."""
+    for lines in blocks:
+        starts = [at for at, line in enumerate(lines) if line.startswith("$ ")]
+        for start, end in zip(starts, [*starts[1:], len(lines)]):
+            yield Example(lines[start][2:], "".join(line + "\n" for line in lines[start + 1:end]))
+
+
+def printed_by(command, folder, path):
+    ended = subprocess.run(["sh", "-c", command], cwd=TOP / folder, env={**os.environ, "PATH": path}, text=True,
+                           stdin=subprocess.DEVNULL, stdout=subprocess.PIPE, stderr=subprocess.STDOUT, timeout=SECONDS)
+    return ended.stdout
+
+
+def main():
+    parser = argparse.ArgumentParser(description="Runs the documents' examples on the built program.")
+    parser.add_argument("program", type=os.path.abspath)
+    program = parser.parse_args().program
+    count = preload.Count()
+    with tempfile.TemporaryDirectory() as bin_folder:
+        os.symlink(program, os.path.join(bin_folder, "sdtool"))
+        path = os.pathsep.join([bin_folder, os.environ["PATH"]])
+        for document, folder in DOCUMENTS.items():
+            text = (TOP / document).read_text(encoding="utf-8")
+            examples = list(examples_in(blocks_of(text, document.endswith(".1"))))
+            stand = sum(bool(COMMAND.match(line)) for line in text.splitlines())
+            count.add(0 < stand == len(examples), f"{document}: {stand} examples stand there, {len(examples)} are run")
+            for example in examples:
+                printed = printed_by(example.command, folder, path)
+                count.add(printed == example.printed,
+                          f"{document}: {example.command}\n  printed {printed!r}\n  not     {example.printed!r}")
+    return count.end()
+
+
+if __name__ == "__main__":
+    sys.exit(main())

@@ -1,0 +1,66 @@
+#!/usr/bin/env python3
+"""system_calls.py PROGRAM
+
+Counts the program's reads and writes, by the library faults.c that is preloaded under it, and holds them to a limit:
+a read for each 8 KiB of the input, and a write for each read and for each 16 KiB of the output. So an answer of many
+bytes goes out in few writes, and so do the answers to many lines that were read at once.
+What else the program asks of the system is not counted.
+The last line is 'N passed, M failed'.
+"""
+import argparse
+import os
+import pathlib
+import sys
+import tempfile
+
+sys.dont_write_bytecode = True
+import device_faults as faults  # noqa: E402
+import preload  # noqa: E402
+
+READ, WRITE = 8192, 16_384
+MEGABYTE = 1_000_000
+EXAMPLES = pathlib.Path(__file__).resolve().parent.parent / "examples/descriptors.hex"
+LONGEST_SDDL = faults.LONG_SDDL + b"S" + faults.LONG_SDDL[1:]
+# What is converted, and from and to which form.
+CONVERTED = {
+    "the longest SDDL that is printed": (["--from", "hex", "--to", "sddl"], faults.BOTH_LONG + b"\n"),
+    "the same without an LF": (["--from", "hex", "--to", "sddl"], faults.BOTH_LONG),
+    "the longest descriptor": (["--from", "hex", "--to", "hex"], faults.BOTH_LONG + b"\n"),
+    "a line of SDDL that is as long": (["--from", "sddl", "--to", "sddl"], LONGEST_SDDL + b"\n"),
+    "the same to hex": (["--from", "sddl", "--to", "hex"], LONGEST_SDDL + b"\n"),
+    "faulty lines of a few bytes": (["--from", "hex", "--to", "hex"], b"z\n" * 200_000),
+    "empty lines": (["--from", "sddl", "--to", "sddl"], b"\n" * 400_000),
+}
+
+
+def of_examples():
+    """The examples again and again, in hex and in SDDL."""
+    data = EXAMPLES.read_bytes()
+    sddl = faults.Answers(faults.Job([], data)).all
+    for name, lines, words in (("hex", data, ["--from", "hex"]), ("SDDL", sddl, ["--from", "sddl"])):
+        for form in ("hex", "sddl"):
+            yield f"examples in {name} to {form}", ([*words, "--to", form], lines * (MEGABYTE // len(lines)))
+
+
+def main():
+    parser = argparse.ArgumentParser(description="Holds the built program's reads and writes to a limit.")
+    parser.add_argument("program", type=os.path.abspath)
+    program = parser.parse_args().program
+    count = preload.Count()
+    with tempfile.TemporaryDirectory() as folder:
+        runner = faults.Runner(program, preload.build("faults.c", folder))
+        for name, (words, data) in {**CONVERTED, **dict(of_examples())}.items():
+            ended = runner.run(["convert", *words], data)
+            reads, writes = (ended.letters().count(letter) for letter in "rw")
+            print(f"{name}: {len(data):,} bytes to {len(ended.stdout):,} in {reads} reads and {writes} writes, "
+                  f"{(reads + writes) * MEGABYTE / len(data):.0f} calls a megabyte")
+            is_whole = ended.status in (0, 1) and ended.stdout.count(b"\n") == data.count(b"\n") + (data[-1:] != b"\n")
+            count.add(is_whole, f"{name}: {ended}")
+            # (one read more at the end, and one for a rest)
+            count.add(0 < reads <= len(data) // READ + 2, f"{name}: {reads} reads")
+            count.add(0 < writes <= reads + len(ended.stdout) // WRITE, f"{name}: {writes} writes")
+    return count.end()
+
+
+if __name__ == "__main__":
+    sys.exit(main())
