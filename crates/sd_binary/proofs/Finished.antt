@@ -115,8 +115,10 @@ shows b bytes t flags rm small h =
 
 -- each ACL stands in its written form, and nothing else stands
 acl-written : (bytes : List ℕ) (place : Option ℕ) (field : ℕ) (p : AclPart) → field ≡ unwrap_or place 0 → AclStands bytes place p → AclIsWritten bytes field p
-acl-written bytes place field acl.Absent e h = tt
-acl-written bytes place field acl.Null e h = tt
+acl-written bytes None field acl.Absent e h = e
+acl-written bytes (Some offset) field acl.Absent e h = absurd h
+acl-written bytes None field acl.Null e h = absurd h
+acl-written bytes (Some offset) field acl.Null e h = e ∙ h
 acl-written bytes None field (acl.List aces) e h = absurd h
 acl-written bytes (Some offset) field (acl.List aces) e h = (h.1.rest, ap (λ (n : ℕ). drop n bytes) e ∙ h.1.shape)
 

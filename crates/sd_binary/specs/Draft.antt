@@ -105,10 +105,10 @@ built flags rm t = record {
 
 -- Its bytes have the one written form of each part.
 
--- an ACL stands in its written form (MS-DTYP 2.4.5)
+-- an ACL stands in its written form (MS-DTYP 2.4.5); the offset is 0 where none stands
 abbrev pub AclIsWritten : List ℕ → ℕ → AclPart → Type 0
-AclIsWritten bytes offset acl.Absent = Unit {0}
-AclIsWritten bytes offset acl.Null = Unit {0}
+AclIsWritten bytes offset acl.Absent = offset ≡ 0
+AclIsWritten bytes offset acl.Null = offset ≡ 0
 AclIsWritten bytes offset (acl.List aces) = (rest : List ℕ) × (drop offset bytes ≡ acl_bytes aces ++ rest)
 
 -- as many bytes as the layout has, and so no gap; in each ACL revision 4 exactly where an object ACE stands
