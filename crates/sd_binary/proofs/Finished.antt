@@ -73,7 +73,7 @@ acl-read : (bytes : List ℕ) (present bit : Bool) (offset field : ℕ) (p : Acl
 acl-read bytes present bit offset field p e f h = rw (e, f) h
 
 -- the bytes of the header that is written, and of what follows it
-abbrev header_for : ℕ → ℕ → Builder → List ℕ
+abbrev pub header_for : ℕ → ℕ → Builder → List ℕ
 header_for rm control b = header_bytes rm control b.owner b.group (unwrap_or b.sacl 0) (unwrap_or b.dacl 0)
 
 pub length-header_for : (rm control : ℕ) (b : Builder) → length (header_for rm control b) ≡ 20

@@ -5,6 +5,7 @@ pub mod Building
 pub mod Decoded
 pub mod Finished
 pub mod FirstFault
+pub mod InOrder
 pub mod LayoutLaws
 pub mod Parts
 pub mod ReadLaws

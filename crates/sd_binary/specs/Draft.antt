@@ -5,9 +5,11 @@ use Rattle.sd_core.specs.Sid.{SecurityId}
 use Rattle.sd_binary.specs.Acl.{acl_size}
 use Rattle.sd_binary.specs.AclLayout.{acl_bytes}
 use Rattle.sd_binary.specs.Descriptor.{Descriptor, dacl_at, sacl_at}
-use Rattle.sd_binary.specs.Layout.{size}
+use Rattle.sd_binary.specs.Layout.{acl_part, sid_part, size}
 use Rattle.sd_binary.specs.declared.acl.AclPart.{AclPart}
 use Rattle.sd_binary.specs.declared.acl.AclPart.TheVariants as acl
+use Rattle.sd_binary.specs.declared.fault.Part.{Part}
+use Rattle.sd_binary.specs.declared.fault.Part.TheVariants as part
 use Rattle.sd_binary.specs.declared.builder.Which.{Which}
 use Rattle.sd_binary.specs.declared.builder.Which.TheVariants as which
 
@@ -29,6 +31,21 @@ acl_of which.Dacl t = t.dacl
 abbrev pub with_acl : Which → AclPart → Draft → Draft
 with_acl which.Sacl part t = record t { sacl = part }
 with_acl which.Dacl part t = record t { dacl = part }
+
+-- The bytes of the parts that are given, in the order of the layout, and of those of them that come after a part in it.
+
+abbrev pub part_of : Which → Part
+part_of which.Sacl = part.Sacl
+part_of which.Dacl = part.Dacl
+
+abbrev pub bytes_after : Part → Draft → List ℕ
+bytes_after part.Owner t = sid_part t.group ++ (acl_part t.sacl ++ acl_part t.dacl)
+bytes_after part.Group t = acl_part t.sacl ++ acl_part t.dacl
+bytes_after part.Sacl t = acl_part t.dacl
+bytes_after part.Dacl t = []
+
+abbrev pub parts_given : Draft → List ℕ
+parts_given t = sid_part t.owner ++ bytes_after part.Owner t
 
 -- no ACL is open, and the part is not given yet
 abbrev pub CanBegin : Which → Draft → Type 0

@@ -1,10 +1,12 @@
 // Descriptors built part by part in a buffer.
-ghost use Rattle.std.specs.Prelude.{◌≡◌, ◌≤◌, ◌<◌, ◌+◌, ◌^◌, ◌↔◌, Some, None, IsErr, OnOk, OnErr};
+ghost use Rattle.std.specs.Prelude.{◌≡◌, ◌≤◌, ◌<◌, ◌+◌, ◌^◌, ◌↔◌, [], Some, None, IsErr, OnOk, OnErr};
 ghost use Rattle.sd_core.specs.Ace.{ace_size};
-ghost use Rattle.sd_binary.specs.Builds.{Builds, placed};
+ghost use Rattle.sd_binary.specs.Builds.{Builds, BuildsInOrder, placed};
 ghost use Rattle.sd_binary.specs.Descriptor.{Shows};
-ghost use Rattle.sd_binary.specs.Draft.{CanBegin, Draft, IsOpen, IsWritten, begun, bit_of, built, closed, control_of, no_parts, open_size, with_ace, with_acl};
+ghost use Rattle.sd_binary.specs.Draft.{CanBegin, Draft, IsOpen, IsWritten, begun, bit_of, built, bytes_after, closed, control_of, no_parts, open_size, part_of, with_ace, with_acl};
+ghost use Rattle.sd_binary.specs.Layout.{layout};
 ghost use Rattle.sd_binary.specs.declared.acl.AclPart.TheVariants as acl;
+ghost use Rattle.sd_binary.specs.declared.fault.Part.TheVariants as part;
 
 use crate::acl_layout::acl_header;
 use crate::buffer::SdBuf;
@@ -66,7 +68,8 @@ pub struct OpenAcl {
 impl Builder {
     /// Clears the buffer, and begins a descriptor in it.
     pub fn new(buf: &mut SdBuf) -> Builder
-        ensures { Builds result buf.new no_parts }
+        ensures value { Builds result buf.new no_parts }
+        ensures in_order { BuildsInOrder result buf.new no_parts }
     {
         buf.clear();
         // Room for the header, which `finish` writes.
@@ -83,7 +86,8 @@ impl Builder {
     /// Appends the SID of the owner (MS-DTYP 2.4.2).
     pub fn owner(&mut self, buf: &mut SdBuf, sid: &Sid)
         requires { (t : Draft) × Builds self.old buf.old t × (t.owner ≡ None) × (t.«open» ≡ None) }
-        ensures { (t : Draft) → Builds self.old buf.old t → Builds self.new buf.new (record t { owner = Some sid.now }) }
+        ensures value { (t : Draft) → Builds self.old buf.old t → Builds self.new buf.new (record t { owner = Some sid.now }) }
+        ensures in_order { (t : Draft) → BuildsInOrder self.old buf.old t → bytes_after part.Owner t ≡ [] → BuildsInOrder self.new buf.new (record t { owner = Some sid.now }) }
     {
         self.owner = place_sid(buf, sid);
     }
@@ -91,7 +95,8 @@ impl Builder {
     /// Appends the SID of the primary group (MS-DTYP 2.4.2).
     pub fn group(&mut self, buf: &mut SdBuf, sid: &Sid)
         requires { (t : Draft) × Builds self.old buf.old t × (t.group ≡ None) × (t.«open» ≡ None) }
-        ensures { (t : Draft) → Builds self.old buf.old t → Builds self.new buf.new (record t { group = Some sid.now }) }
+        ensures value { (t : Draft) → Builds self.old buf.old t → Builds self.new buf.new (record t { group = Some sid.now }) }
+        ensures in_order { (t : Draft) → BuildsInOrder self.old buf.old t → bytes_after part.Group t ≡ [] → BuildsInOrder self.new buf.new (record t { group = Some sid.now }) }
     {
         self.group = place_sid(buf, sid);
     }
@@ -99,7 +104,8 @@ impl Builder {
     /// Begins an ACL (MS-DTYP 2.4.5), to which `ace` appends, until `end_acl`.
     pub fn begin_acl(&mut self, buf: &mut SdBuf, which: Which)
         requires { (t : Draft) × Builds self.old buf.old t × CanBegin which t }
-        ensures { (t : Draft) → Builds self.old buf.old t → Builds self.new buf.new (begun which t) }
+        ensures value { (t : Draft) → Builds self.old buf.old t → Builds self.new buf.new (begun which t) }
+        ensures in_order { (t : Draft) → BuildsInOrder self.old buf.old t → bytes_after (part_of which) t ≡ [] → BuildsInOrder self.new buf.new (begun which t) }
     {
         self.open = Some(OpenAcl {
             which,
@@ -117,6 +123,7 @@ impl Builder {
         requires { (t : Draft) × Builds self.old buf.old t × IsOpen t }
         ensures full { (t : Draft) → Builds self.old buf.old t → (IsErr result ↔ (2 ^ 16 ≤ open_size t + ace_size ace.now)) }
         ensures ok { (t : Draft) → Builds self.old buf.old t → OnOk result (Builds self.new buf.new (with_ace ace.now t)) }
+        ensures in_order { (t : Draft) → BuildsInOrder self.old buf.old t → OnOk result (BuildsInOrder self.new buf.new (with_ace ace.now t)) }
         ensures same { OnErr result ((self.new ≡ self.old) × (buf.new ≡ buf.old)) }
     {
         let open = self.open.unwrap();
@@ -138,7 +145,8 @@ impl Builder {
     /// it, and else 2.
     pub fn end_acl(&mut self, buf: &mut SdBuf)
         requires { (t : Draft) × Builds self.old buf.old t × IsOpen t }
-        ensures { (t : Draft) → Builds self.old buf.old t → Builds self.new buf.new (closed t) }
+        ensures value { (t : Draft) → Builds self.old buf.old t → Builds self.new buf.new (closed t) }
+        ensures in_order { (t : Draft) → BuildsInOrder self.old buf.old t → BuildsInOrder self.new buf.new (closed t) }
     {
         let open = self.open.unwrap();
         let start = open.start as usize;
@@ -151,7 +159,8 @@ impl Builder {
     /// An ACL that is present and null (MS-DTYP 2.4.6): its offset is 0.
     pub fn null_acl(&mut self, buf: &mut SdBuf, which: Which)
         requires { (t : Draft) × Builds self.old buf.old t × CanBegin which t }
-        ensures { (t : Draft) → Builds self.old buf.old t → Builds self.new buf.new (with_acl which acl.Null t) }
+        ensures value { (t : Draft) → Builds self.old buf.old t → Builds self.new buf.new (with_acl which acl.Null t) }
+        ensures in_order { (t : Draft) → BuildsInOrder self.old buf.old t → BuildsInOrder self.new buf.new (with_acl which acl.Null t) }
     {
         self.keep(which, 0);
     }
@@ -173,6 +182,8 @@ impl Builder {
         ensures shows { (t : Draft) → Builds self buf.old t → Shows buf.new (built flags rm t) }
         // Without gaps, and each part in its one written form.
         ensures written { (t : Draft) → Builds self buf.old t → IsWritten buf.new (built flags rm t) }
+        // In the one layout, where the parts came in its order.
+        ensures laid_out { (t : Draft) → BuildsInOrder self buf.old t → buf.new ≡ layout (built flags rm t) }
     {
         let control = control(flags, self.sacl.is_some(), self.dacl.is_some());
         let bytes = header(
