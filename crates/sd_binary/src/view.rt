@@ -1,7 +1,7 @@
 // Descriptors read in place.
 ghost use Rattle.std.specs.Prelude.{◌≡◌, ◌≤◌, ◌<◌, ◌+◌, ◌*◌, ◌/◌, ◌%◌, ◌==◌, ℕ, List, length, Ok, IfOk, OnOk, MatchResult};
 ghost use Rattle.sd_binary.specs.Descriptor.{Descriptor, Shows, IsDescriptor, acl_extent, extents_of, sid_extent};
-ghost use Rattle.sd_binary.specs.Layout.{sid_part, size};
+ghost use Rattle.sd_binary.specs.Layout.{layout, sid_part, size};
 ghost use Rattle.sd_binary.specs.Found.{extents_seen, shown_written, written_of};
 ghost use Rattle.sd_binary.specs.Reading.{IsAclAt, IsSidAt, acl_part_fault, acl_shown, fault, fault_in, header_fault, share_a_byte as share_of, overlap_fault, overlaps_fault, parts_fault, reading, shown, sid_fault, sid_shown};
 
@@ -305,6 +305,8 @@ impl<'a> SdView<'a> {
     pub fn size(&self) -> u32
         ensures value { result ≡ size self.now }
         ensures most { size self.now ≤ 131220 }
+        // As many bytes as the layout has.
+        ensures written { length (layout self.now) ≡ size self.now }
         // No bytes that show the descriptor are fewer.
         ensures least { (bytes : List ℕ) → Shows bytes self.now → size self.now ≤ length bytes }
     {
