@@ -4,8 +4,9 @@ use Rattle.std.specs.Prelude.{is_some, unwrap_or}
 use Rattle.sd_core.specs.Sid.{SecurityId}
 use Rattle.sd_binary.specs.AclLayout.{acl_bytes}
 use Rattle.sd_binary.specs.Builds.{AclStands, Builds, PartsStand, SidStands, acl_extent_of}
+use Rattle.sd_binary.specs.Control.{bit_if}
 use Rattle.sd_binary.specs.Descriptor.{Shows, ShowsAclPart, ShowsSid, acl_extent, dacl_at, group_at, owner_at, sacl_at}
-use Rattle.sd_binary.specs.Draft.{AclIsWritten, Draft, IsWritten, bit_if, built, control_of, is_present}
+use Rattle.sd_binary.specs.Draft.{AclIsWritten, Draft, IsWritten, built, control_of, is_present}
 use Rattle.sd_binary.specs.Layout.{header_bytes}
 use Rattle.sd_binary.specs.declared.acl.AclPart.{AclPart}
 use Rattle.sd_binary.specs.declared.acl.AclPart.TheVariants as acl

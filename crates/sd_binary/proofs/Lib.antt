@@ -2,6 +2,7 @@
 pub mod AclLaws
 pub mod AclLayoutLaws
 pub mod Building
+pub mod ControlLaws
 pub mod Decoded
 pub mod Finished
 pub mod FirstFault

@@ -1,13 +1,15 @@
 -- What a builder was given so far, and the descriptor that it ends with (MS-DTYP 2.4.6).
-use Rattle.std.specs.Prelude.{◌≡◌, ℕ, ◌+◌, ◌-◌, ◌*◌, ◌/◌, ◌%◌, if◌then◌else◌, Bool, true, false, List, [], ◌∷◌, ◌++◌, length, drop, Option, Some, None}
+use Rattle.std.specs.Prelude.{◌≡◌, ℕ, ◌+◌, ◌-◌, Bool, true, false, List, [], ◌∷◌, ◌++◌, length, drop, Option, Some, None}
 use Rattle.sd_core.specs.Ace.{AccessControlEntry}
 use Rattle.sd_core.specs.Sid.{SecurityId}
 use Rattle.sd_binary.specs.Acl.{acl_size}
 use Rattle.sd_binary.specs.AclLayout.{acl_bytes}
+use Rattle.sd_binary.specs.Control.{bit_if, bit_of}
 use Rattle.sd_binary.specs.Descriptor.{Descriptor, dacl_at, sacl_at}
 use Rattle.sd_binary.specs.Layout.{acl_part, sid_part, size}
 use Rattle.sd_binary.specs.declared.acl.AclPart.{AclPart}
 use Rattle.sd_binary.specs.declared.acl.AclPart.TheVariants as acl
+use Rattle.sd_binary.specs.declared.control.TheConstants.{DACL_PRESENT, SACL_PRESENT, SELF_RELATIVE}
 use Rattle.sd_binary.specs.declared.fault.Part.{Part}
 use Rattle.sd_binary.specs.declared.fault.Part.TheVariants as part
 use Rattle.sd_binary.specs.declared.builder.Which.{Which}
@@ -88,13 +90,9 @@ closed t = closed_in t.«open» t
 
 -- The descriptor that is finished.
 
--- a bit of a word, at its place
-abbrev pub bit_of : ℕ → ℕ → ℕ
-bit_of bit word = word / bit % 2 * bit
-
--- the flags without SR, SP and DP (0x8014), which tell of the form and of the ACLs that stand
+-- the flags without SR, SP and DP, which tell of the form and of the ACLs that stand
 abbrev pub other_flags : ℕ → ℕ
-other_flags flags = flags - bit_of 0x8000 flags - bit_of 0x10 flags - bit_of 0x4 flags
+other_flags flags = flags - bit_of SELF_RELATIVE flags - bit_of SACL_PRESENT flags - bit_of DACL_PRESENT flags
 
 -- an ACL is present, null or not
 abbrev pub is_present : AclPart → Bool
@@ -102,12 +100,9 @@ is_present acl.Absent = false
 is_present acl.Null = true
 is_present (acl.List aces) = true
 
-abbrev pub bit_if : Bool → ℕ → ℕ
-bit_if stands bit = if stands then bit else 0
-
 -- the control word: those flags, SR, and SP and DP where the ACLs are present
 abbrev pub control_of : ℕ → Bool → Bool → ℕ
-control_of flags sacl dacl = other_flags flags + 0x8000 + bit_if sacl 0x10 + bit_if dacl 0x4
+control_of flags sacl dacl = other_flags flags + SELF_RELATIVE + bit_if sacl SACL_PRESENT + bit_if dacl DACL_PRESENT
 
 -- the parts under a control word and a resource manager byte
 abbrev pub built : ℕ → ℕ → Draft → Descriptor

@@ -3,13 +3,14 @@ ghost use Rattle.std.specs.Prelude.{◌≡◌, ◌≤◌, ◌<◌, ◌+◌, ◌^
 ghost use Rattle.sd_core.specs.Ace.{ace_size};
 ghost use Rattle.sd_binary.specs.Builds.{Builds, BuildsInOrder, placed};
 ghost use Rattle.sd_binary.specs.Descriptor.{Shows};
-ghost use Rattle.sd_binary.specs.Draft.{CanBegin, Draft, IsOpen, IsWritten, begun, bit_of, built, bytes_after, closed, control_of, no_parts, open_size, part_of, with_ace, with_acl};
+ghost use Rattle.sd_binary.specs.Draft.{CanBegin, Draft, IsOpen, IsWritten, begun, built, bytes_after, closed, no_parts, open_size, part_of, with_ace, with_acl};
 ghost use Rattle.sd_binary.specs.Layout.{layout};
 ghost use Rattle.sd_binary.specs.declared.acl.AclPart.TheVariants as acl;
 ghost use Rattle.sd_binary.specs.declared.fault.Part.TheVariants as part;
 
 use crate::acl_layout::acl_header;
 use crate::buffer::SdBuf;
+use crate::control::control_of;
 use crate::layout::header;
 use crate::pieces::{append_ace, place_sid};
 use sd_core::{Ace, Sid};
@@ -22,13 +23,6 @@ const ACL_HEADER_SIZE: usize = 8;
 
 /// The bytes that an ACL takes at most.
 const MOST_ACL_SIZE: usize = 65_535;
-
-/// Bits of the control word: DP, SP and SR in MS-DTYP 2.4.6.
-const DACL_PRESENT: u16 = 0x4;
-
-const SACL_PRESENT: u16 = 0x10;
-
-const SELF_RELATIVE: u16 = 0x8000;
 
 /// The ACL would pass 65,535 bytes.
 #[derive(Clone, Copy, Debug, PartialEq, Eq)]
@@ -185,7 +179,7 @@ impl Builder {
         // In the one layout, where the parts came in its order.
         ensures laid_out { (t : Draft) → BuildsInOrder self buf.old t → buf.new ≡ layout (built flags rm t) }
     {
-        let control = control(flags, self.sacl.is_some(), self.dacl.is_some());
+        let control = control_of(flags, self.sacl.is_some(), self.dacl.is_some());
         let bytes = header(
             rm,
             control,
@@ -196,28 +190,6 @@ impl Builder {
         );
         buf.patch(0, &bytes);
     }
-}
-
-// The control word: the flags without SR, SP and DP, and then SR and the present bits of the ACLs that stand.
-fn control(flags: u16, sacl: bool, dacl: bool) -> u16
-    ensures { result ≡ control_of flags sacl dacl }
-{
-    let other = flags
-        - bit_of(SELF_RELATIVE, flags)
-        - bit_of(SACL_PRESENT, flags)
-        - bit_of(DACL_PRESENT, flags);
-    let sacl = if sacl { SACL_PRESENT } else { 0 };
-    let dacl = if dacl { DACL_PRESENT } else { 0 };
-    other + SELF_RELATIVE + sacl + dacl
-}
-
-// A bit of a word, at its place.
-#[inline(always)]
-fn bit_of(bit: u16, word: u16) -> u16
-    requires { 0 < bit }
-    ensures { result ≡ bit_of bit word }
-{
-    word / bit % 2 * bit
 }
 
 #[cfg(test)]

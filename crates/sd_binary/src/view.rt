@@ -1,5 +1,5 @@
 // Descriptors read in place.
-ghost use Rattle.std.specs.Prelude.{◌≡◌, ◌≤◌, ◌<◌, ◌+◌, ◌*◌, ◌/◌, ◌%◌, ◌==◌, ℕ, List, length, Ok, IfOk, OnOk, MatchResult};
+ghost use Rattle.std.specs.Prelude.{◌≡◌, ◌≤◌, ◌<◌, ◌+◌, ◌*◌, ℕ, List, length, Ok, IfOk, OnOk, MatchResult};
 ghost use Rattle.sd_binary.specs.Descriptor.{Descriptor, Shows, IsDescriptor, acl_extent, extents_of, sid_extent};
 ghost use Rattle.sd_binary.specs.Layout.{layout, sid_part, size};
 ghost use Rattle.sd_binary.specs.Found.{extents_seen, shown_written, written_of};
@@ -7,19 +7,13 @@ ghost use Rattle.sd_binary.specs.Reading.{IsAclAt, IsSidAt, acl_part_fault, acl_
 
 use crate::acl::{AclPart, Written, acl_view, check_acl};
 use crate::bytes::{u16_at, u32_at};
+use crate::control::{DACL_PRESENT, SACL_PRESENT, SELF_RELATIVE, has_bit};
 use crate::fault::{AclFault, Part, SdFault};
 use sd_core::Sid;
 use std::marker::Model;
 
 /// The bytes of the header: revision, resource manager byte, control word and four offsets.
 const HEADER_SIZE: usize = 20;
-
-/// Bits of the control word: DP, SP and SR in MS-DTYP.
-const DACL_PRESENT: u16 = 0x4;
-
-const SACL_PRESENT: u16 = 0x10;
-
-const SELF_RELATIVE: u16 = 0x8000;
 
 /// What is kept of an ACL that does not stand.
 const NOTHING: Written = Written {
@@ -104,18 +98,10 @@ fn check_header(bytes: &[u8]) -> Result<(), SdFault>
     if bytes[0] != 1 {
         return Err(SdFault::Revision);
     }
-    if !is_set(u16_at(bytes, 2), SELF_RELATIVE) {
+    if !has_bit(SELF_RELATIVE, u16_at(bytes, 2)) {
         return Err(SdFault::NotSelfRelative);
     }
     Ok(())
-}
-
-#[inline(always)]
-fn is_set(control: u16, bit: u16) -> bool
-    requires { 0 < bit }
-    ensures { result ≡ (control / bit % 2 == 1) }
-{
-    control / bit % 2 == 1
 }
 
 // The first fault of the parts, or where they stand and what the written form of the ACLs needs.
@@ -129,14 +115,14 @@ fn check_parts(bytes: &[u8]) -> Result<(Places, Acls), SdFault>
     let control = u16_at(bytes, 2);
     let owner = check_sid(Part::Owner, bytes, u32_at(bytes, 4))?;
     let group = check_sid(Part::Group, bytes, u32_at(bytes, 8))?;
-    let sacl_is_present = is_set(control, SACL_PRESENT);
+    let sacl_is_present = has_bit(SACL_PRESENT, control);
     let (sacl, sacl_written) = check_acl_part(
         Part::Sacl,
         bytes,
         sacl_is_present,
         u32_at(bytes, 12),
     )?;
-    let dacl_is_present = is_set(control, DACL_PRESENT);
+    let dacl_is_present = has_bit(DACL_PRESENT, control);
     let (dacl, dacl_written) = check_acl_part(
         Part::Dacl,
         bytes,
@@ -289,7 +275,7 @@ impl<'a> SdView<'a> {
     pub fn sacl(&self) -> AclPart<'a>
         ensures { result ≡ self.now.sacl }
     {
-        let present = is_set(self.control(), SACL_PRESENT);
+        let present = has_bit(SACL_PRESENT, self.control());
         acl_in(self.bytes, present, u32_at(self.bytes, 12), self.acls.sacl)
     }
 
@@ -297,7 +283,7 @@ impl<'a> SdView<'a> {
     pub fn dacl(&self) -> AclPart<'a>
         ensures { result ≡ self.now.dacl }
     {
-        let present = is_set(self.control(), DACL_PRESENT);
+        let present = has_bit(DACL_PRESENT, self.control());
         acl_in(self.bytes, present, u32_at(self.bytes, 16), self.acls.dacl)
     }
 

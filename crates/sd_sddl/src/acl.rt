@@ -2,21 +2,12 @@
 ghost use Rattle.std.specs.Prelude.{◌≡◌, ◌++◌, codes};
 ghost use Rattle.std.specs.List.{flat_map};
 ghost use Rattle.sd_core.specs.Sink.{Puts};
-ghost use Rattle.sd_sddl.specs.Printed.{ace_text, acl_flags, acl_text, text_if};
+ghost use Rattle.sd_sddl.specs.Printed.{ace_text, acl_flags_text, acl_text, text_if};
 
 use crate::ace::put_ace;
 use crate::naming::Naming;
-use sd_binary::{AclPart, AclView};
+use sd_binary::{AclFlags, AclPart, AclView};
 use sd_core::{Sink, SinkFault};
-
-/// The flags of an ACL, which stand in the control word: protected, auto-inherit required and
-/// auto-inherited.
-#[derive(Clone, Copy)]
-pub struct AclFlags {
-    pub protected: bool,
-    pub required: bool,
-    pub inherited: bool,
-}
 
 /// Puts an ACL behind its head, `D:` or `S:`; nothing for one that is absent.
 pub fn put_acl<S: Sink>(
@@ -26,7 +17,7 @@ pub fn put_acl<S: Sink>(
     part: &AclPart<'_>,
     sink: &mut S,
 ) -> Result<(), SinkFault>
-    ensures put { Puts (S.told sink.old) (S.told sink.new) (acl_text naming.now head.now (acl_flags flags.protected flags.required flags.inherited) part.now) result }
+    ensures put { Puts (S.told sink.old) (S.told sink.new) (acl_text naming.now head.now (acl_flags_text flags) part.now) result }
     ensures place { S.place sink.new ≡ S.place sink.old }
 {
     match part {
@@ -43,7 +34,7 @@ pub fn put_acl<S: Sink>(
 }
 
 fn put_null<S: Sink>(flags: AclFlags, sink: &mut S) -> Result<(), SinkFault>
-    ensures put { Puts (S.told sink.old) (S.told sink.new) (acl_flags flags.protected flags.required flags.inherited ++ codes "NO_ACCESS_CONTROL") result }
+    ensures put { Puts (S.told sink.old) (S.told sink.new) (acl_flags_text flags ++ codes "NO_ACCESS_CONTROL") result }
     ensures place { S.place sink.new ≡ S.place sink.old }
 {
     put_flags(flags, sink)?;
@@ -56,7 +47,7 @@ fn put_list<S: Sink>(
     acl: &AclView<'_>,
     sink: &mut S,
 ) -> Result<(), SinkFault>
-    ensures put { Puts (S.told sink.old) (S.told sink.new) (acl_flags flags.protected flags.required flags.inherited ++ flat_map (ace_text naming.now) acl.now) result }
+    ensures put { Puts (S.told sink.old) (S.told sink.new) (acl_flags_text flags ++ flat_map (ace_text naming.now) acl.now) result }
     ensures place { S.place sink.new ≡ S.place sink.old }
 {
     put_flags(flags, sink)?;
@@ -73,15 +64,15 @@ fn put_aces<S: Sink>(naming: &Naming, acl: &AclView<'_>, sink: &mut S) -> Result
     Ok(())
 }
 
-#[tactic(auto, unfolding(crate::specs::Printed::acl_flags))]
+#[tactic(auto, unfolding(crate::specs::Printed::acl_flags_text))]
 fn put_flags<S: Sink>(flags: AclFlags, sink: &mut S) -> Result<(), SinkFault>
-    ensures put { Puts (S.told sink.old) (S.told sink.new) (acl_flags flags.protected flags.required flags.inherited) result }
+    ensures put { Puts (S.told sink.old) (S.told sink.new) (acl_flags_text flags) result }
     ensures place { S.place sink.new ≡ S.place sink.old }
 {
     sink.put(text_if(flags.protected, b"P"))?;
     put_both(
-        text_if(flags.required, b"AR"),
-        text_if(flags.inherited, b"AI"),
+        text_if(flags.auto_inherit_required, b"AR"),
+        text_if(flags.auto_inherited, b"AI"),
         sink,
     )
 }

@@ -1,15 +1,15 @@
 // Descriptors as SDDL (MS-DTYP 2.5.1).
-ghost use Rattle.std.specs.Prelude.{◌≡◌, ◌≤◌, ◌<◌, ◌+◌, ◌*◌, ◌/◌, ◌%◌, ◌==◌, ◌++◌, length, Ok, Option};
+ghost use Rattle.std.specs.Prelude.{◌≡◌, ◌≤◌, ◌+◌, ◌*◌, ◌++◌, length, Ok, Option};
 ghost use Rattle.sd_core.specs.Sink.{Puts};
 ghost use Rattle.std.specs.Option.{option_copied};
 ghost use Rattle.sd_binary.specs.Layout.{size};
 ghost use Rattle.sd_sddl.specs.declared.naming.Naming.{Naming as NamingOf};
 ghost use Rattle.sd_sddl.specs.Meaning.{means};
-ghost use Rattle.sd_sddl.specs.Printed.{dacl_text, group_text, has_bit, owner_text, plain, sacl_text, sddl, sid_text_of};
+ghost use Rattle.sd_sddl.specs.Printed.{dacl_text, group_text, owner_text, plain, sacl_text, sddl, sid_text_of};
 
-use crate::acl::{AclFlags, put_acl};
+use crate::acl::put_acl;
 use crate::naming::{Naming, put_trustee};
-use sd_binary::SdView;
+use sd_binary::{AclFlags, SdView, Which};
 use sd_core::{Sid, Sink, SinkFault};
 
 /// Puts a descriptor as SDDL: owner, group, DACL and SACL, those that stand, without blanks, in at most
@@ -120,11 +120,7 @@ fn put_dacl<S: Sink>(
     ensures put { Puts (S.told sink.old) (S.told sink.new) (dacl_text naming.now view.now) result }
     ensures place { S.place sink.new ≡ S.place sink.old }
 {
-    let flags = AclFlags {
-        protected: has_bit(0x1000, control),
-        required: has_bit(0x100, control),
-        inherited: has_bit(0x400, control),
-    };
+    let flags = AclFlags::of(Which::Dacl, control);
     put_acl(naming, b"D:", flags, &view.dacl(), sink)
 }
 
@@ -139,18 +135,6 @@ fn put_sacl<S: Sink>(
     ensures put { Puts (S.told sink.old) (S.told sink.new) (sacl_text naming.now view.now) result }
     ensures place { S.place sink.new ≡ S.place sink.old }
 {
-    let flags = AclFlags {
-        protected: has_bit(0x2000, control),
-        required: has_bit(0x200, control),
-        inherited: has_bit(0x800, control),
-    };
+    let flags = AclFlags::of(Which::Sacl, control);
     put_acl(naming, b"S:", flags, &view.sacl(), sink)
-}
-
-// A bit of the control word.
-fn has_bit(bit: u16, control: u16) -> bool
-    requires { 0 < bit }
-    ensures { result ≡ has_bit bit control }
-{
-    control / bit % 2 == 1
 }

@@ -23,7 +23,7 @@ pub returns-clause-written : goal.returns-clause-written
 returns-clause-written c =
     λ t h.
     let b = c.args.self in
-    let word = c.control-control.result in
+    let word = c.control_of-control.result in
     let head : c.header-bytes.result ≡ header_bytes c.args.rm word b.owner b.group (unwrap_or b.sacl 0) (unwrap_or b.dacl 0) = cc in
     let long : 0 + length c.header-bytes.result ≡ 20 = omega (arith, ap length head, length-header_for c.args.rm word b) in
     rw (c.patch.ensures, long, head) (finish-written b c.args.buf.now c.requires.0 t c.args.flags c.args.rm word c.requires.1 c.requires.2 h)
