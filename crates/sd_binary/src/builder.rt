@@ -12,17 +12,9 @@ use crate::acl_layout::acl_header;
 use crate::buffer::SdBuf;
 use crate::control::control_of;
 use crate::layout::header;
+use crate::limits::{ACL_HEADER_SIZE, HEADER_SIZE, MOST_ACL_SIZE};
 use crate::pieces::{append_ace, place_sid};
 use sd_core::{Ace, Sid};
-
-/// The bytes of a descriptor's header: revision, resource manager byte, control word and four offsets.
-const HEADER_SIZE: usize = 20;
-
-/// The bytes of an ACL without ACEs: revision, size and count.
-const ACL_HEADER_SIZE: usize = 8;
-
-/// The bytes that an ACL takes at most.
-const MOST_ACL_SIZE: usize = 65_535;
 
 /// The ACL would pass 65,535 bytes.
 #[derive(Clone, Copy, Debug, PartialEq, Eq)]

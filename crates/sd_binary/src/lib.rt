@@ -10,6 +10,7 @@ mod bytes;
 mod control;
 mod fault;
 mod layout;
+mod limits;
 mod pieces;
 mod view;
 
