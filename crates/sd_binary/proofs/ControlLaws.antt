@@ -23,7 +23,8 @@ put-other true n k i e other = add-other n k i e other
 put-other false n k i e other = ap (λ (m : ℕ). bit_at m i) (omega arith)
 
 -- three bits, each where it is clear
-put-three : (a b c : Bool) (n k l m i : ℕ) → bit_at n k ≡ 0 → bit_at n l ≡ 0 → bit_at n m ≡ 0 → (l ≡ k → ⊥) → (m ≡ k → ⊥)
+put-three : (a b c : Bool) (n k l m i : ℕ) → bit_at n k ≡ 0 → bit_at n l ≡ 0 → bit_at n m ≡ 0 → (l ≡ k → ⊥)
+    → (m ≡ k → ⊥)
     → (m ≡ l → ⊥) → (i ≡ k → ⊥) → (i ≡ l → ⊥) → (i ≡ m → ⊥)
     → bit_at (n + (bit_if a (2 ^ k) + bit_if b (2 ^ l) + bit_if c (2 ^ m))) i ≡ bit_at n i
 put-three a b c n k l m i e f g lk mk ml ik il im =
@@ -31,7 +32,8 @@ put-three a b c n k l m i e f g lk mk ml ik il im =
     let two = one + bit_if b (2 ^ l) in
     let clear_l : bit_at one l ≡ 0 = put-other a n k l e lk ∙ f in
     let clear_m : bit_at two m ≡ 0 = put-other b one l m clear_l ml ∙ put-other a n k m e mk ∙ g in
-    ap (λ (w : ℕ). bit_at w i) (omega arith) ∙ put-other c two m i clear_m im ∙ put-other b one l i clear_l il ∙ put-other a n k i e ik
+    ap (λ (w : ℕ). bit_at w i) (omega arith) ∙ put-other c two m i clear_m im ∙ put-other b one l i clear_l il
+    ∙ put-other a n k i e ik
 
 -- a bit that is not set
 clear-bit : (n : ℕ) → n < 2 → eqb n 1 ≡ false → n ≡ 0
@@ -66,7 +68,8 @@ elsewhere word place k e none at =
 
 -- the other bits are as they were
 pub bits-same : (w : Which) (f : AclFlags) (others place : ℕ) → acl_flags w others ≡ no_flags
-    → has_bit (2 ^ place) (flag_bits w all_flags) ≡ false → has_bit (2 ^ place) (others + flag_bits w f) ≡ has_bit (2 ^ place) others
+    → has_bit (2 ^ place) (flag_bits w all_flags) ≡ false
+    → has_bit (2 ^ place) (others + flag_bits w f) ≡ has_bit (2 ^ place) others
 bits-same lists.Sacl f others place e none =
     let clear = sacl-clear others e in
     let mask = flag_bits lists.Sacl all_flags in

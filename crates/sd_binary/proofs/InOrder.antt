@@ -34,13 +34,16 @@ take-whole xs ys e = take_all (length xs) ys (omega (arith, ap length e)) ∙ e
 front-kept : (bytes more front : List ℕ) → 20 ≤ length bytes → take (length front) (drop 20 bytes) ≡ front
     → take (length front) (drop 20 (bytes ++ more)) ≡ front
 front-kept bytes more front low e =
-    let fits : length front ≤ length (drop 20 bytes) = omega (arith, ap length e, length-take (length front) (drop 20 bytes)) in
-    ap (take (length front)) (drop-append-le 20 bytes more low) ∙ take-append-le (length front) (drop 20 bytes) more fits ∙ e
+    let fits : length front ≤ length (drop 20 bytes) =
+    omega (arith, ap length e, length-take (length front) (drop 20 bytes)) in
+    ap (take (length front)) (drop-append-le 20 bytes more low)
+    ∙ take-append-le (length front) (drop 20 bytes) more fits ∙ e
 
 -- the parts that are given, without gaps
 length-parts : (t : Draft) → 20 + length (parts_given t) ≡ closed_size t
 length-parts t =
-    let whole : length (parts_given t) ≡ length (sid_part t.owner) + (length (sid_part t.group) + (length (acl_part t.sacl) + length (acl_part t.dacl))) =
+    let whole : length (parts_given t)
+    ≡ length (sid_part t.owner) + (length (sid_part t.group) + (length (acl_part t.sacl) + length (acl_part t.dacl))) =
     simp length-append in
     omega (arith, whole, length-sid_part t.owner, length-sid_part t.group, length-acl_part t.sacl, length-acl_part t.dacl)
 
@@ -54,16 +57,19 @@ closed-parts bytes front tail b t h shape e =
     sym (take_at (drop 20 front) tail n long) ∙ ap (take n) (sym (drop-append-le 20 front tail low))
     ∙ ap (λ (r : List ℕ). take n (drop 20 r)) (sym shape) ∙ e
 
-all-parts : (bytes : List ℕ) (b : Builder) (t : Draft) → PartsStand bytes b t → take (length (parts_given t)) (drop 20 bytes) ≡ parts_given t
+all-parts : (bytes : List ℕ) (b : Builder) (t : Draft) → PartsStand bytes b t
+    → take (length (parts_given t)) (drop 20 bytes) ≡ parts_given t
     → drop 20 bytes ≡ parts_given t
 all-parts bytes b t h e = closed-parts bytes bytes [] b t h (sym (append-nil bytes)) e
 
-appended-part : (bytes more front : List ℕ) → 20 ≤ length bytes → drop 20 bytes ≡ front → drop 20 (bytes ++ more) ≡ front ++ more
+appended-part : (bytes more front : List ℕ) → 20 ≤ length bytes → drop 20 bytes ≡ front
+    → drop 20 (bytes ++ more) ≡ front ++ more
 appended-part bytes more front low e = drop-append-le 20 bytes more low ∙ ap (λ (r : List ℕ). r ++ more) e
 
 -- a part that is put where it and those after it have no bytes yet
 put-second : (p q r new : List ℕ) → q ≡ [] → r ≡ [] → (p ++ (q ++ r)) ++ new ≡ p ++ (new ++ r)
-put-second p q r new e f = rw (e, f) (ap (λ (x : List ℕ). x ++ new) (append-nil p) ∙ ap (λ (x : List ℕ). p ++ x) (sym (append-nil new)))
+put-second p q r new e f =
+    rw (e, f) (ap (λ (x : List ℕ). x ++ new) (append-nil p) ∙ ap (λ (x : List ℕ). p ++ x) (sym (append-nil new)))
 
 put-first : (q r new : List ℕ) → q ≡ [] → r ≡ [] → (q ++ r) ++ new ≡ new ++ r
 put-first q r new e f = put-second [] q r new e f
@@ -93,7 +99,8 @@ same-place offset p q n e h = h ∙ rw e refl
 put-at : (offset place n : ℕ) → 0 < n → offset ≡ place → offset ≡ offset_if place n
 put-at offset place n h e = e ∙ sym (offset-stands place n h)
 
-owner-offsets : (n : ℕ) (b : Builder) (t : Draft) (s : SecurityId) → t.owner ≡ None → bytes_after part.Owner t ≡ [] → n ≡ closed_size t → HasLayoutOffsets b t
+owner-offsets : (n : ℕ) (b : Builder) (t : Draft) (s : SecurityId) → t.owner ≡ None → bytes_after part.Owner t ≡ []
+    → n ≡ closed_size t → HasLayoutOffsets b t
     → HasLayoutOffsets (record b { owner = n }) (record t { owner = Some s })
 owner-offsets n b t s free none long h =
     let left = none-both (sid_part t.group) (acl_part t.sacl ++ acl_part t.dacl) none in
@@ -109,7 +116,8 @@ owner-offsets n b t s free none long h =
       dacl = moved (unwrap_or b.dacl 0) _ _ (acl_part_size t.dacl) dacl h.dacl;
     }
 
-group-offsets : (n : ℕ) (b : Builder) (t : Draft) (s : SecurityId) → t.group ≡ None → bytes_after part.Group t ≡ [] → n ≡ closed_size t → HasLayoutOffsets b t
+group-offsets : (n : ℕ) (b : Builder) (t : Draft) (s : SecurityId) → t.group ≡ None → bytes_after part.Group t ≡ []
+    → n ≡ closed_size t → HasLayoutOffsets b t
     → HasLayoutOffsets (record b { group = n }) (record t { group = Some s })
 group-offsets n b t s free none long h =
     let acls = none-both (acl_part t.sacl) (acl_part t.dacl) none in
@@ -123,15 +131,19 @@ group-offsets n b t s free none long h =
       dacl = moved (unwrap_or b.dacl 0) _ _ (acl_part_size t.dacl) dacl h.dacl;
     }
 
-list-offsets : (n : ℕ) (b : Builder) (t : Draft) (w : Which) (aces : List AccessControlEntry) → acl_of w t ≡ acl.Absent → bytes_after (part_of w) t ≡ []
-    → n ≡ closed_size t → HasLayoutOffsets b t → HasLayoutOffsets (record (placed w n b) { «open» = None }) (record (with_acl w (acl.List aces) t) { «open» = None })
+list-offsets : (n : ℕ) (b : Builder) (t : Draft) (w : Which) (aces : List AccessControlEntry)
+    → acl_of w t ≡ acl.Absent → bytes_after (part_of w) t ≡ []
+    → n ≡ closed_size t → HasLayoutOffsets b t
+    → HasLayoutOffsets (record (placed w n b) { «open» = None })
+    (record (with_acl w (acl.List aces) t) { «open» = None })
 list-offsets n b t lists.Sacl aces free none long h =
     let sacl : acl_part_size t.sacl ≡ 0 = ap acl_part_size free in
     let dacl = no-acl t.dacl none in
     record {
       owner = h.owner;
       group = h.group;
-      sacl = put-at n (20 + sid_part_size t.owner + sid_part_size t.group) (acl_size aces) (omega arith) (omega (arith, long, sacl, dacl));
+      sacl = put-at n (20 + sid_part_size t.owner + sid_part_size t.group) (acl_size aces) (omega arith)
+          (omega (arith, long, sacl, dacl));
       dacl = moved (unwrap_or b.dacl 0) _ _ (acl_part_size t.dacl) dacl h.dacl;
     }
 list-offsets n b t lists.Dacl aces free none long h =
@@ -140,10 +152,12 @@ list-offsets n b t lists.Dacl aces free none long h =
       owner = h.owner;
       group = h.group;
       sacl = h.sacl;
-      dacl = put-at n (20 + sid_part_size t.owner + sid_part_size t.group + acl_part_size t.sacl) (acl_size aces) (omega arith) (omega (arith, long, dacl));
+      dacl = put-at n (20 + sid_part_size t.owner + sid_part_size t.group + acl_part_size t.sacl) (acl_size aces)
+          (omega arith) (omega (arith, long, dacl));
     }
 
-null-offsets : (b : Builder) (t : Draft) (w : Which) → acl_of w t ≡ acl.Absent → HasLayoutOffsets b t → HasLayoutOffsets (placed w 0 b) (with_acl w acl.Null t)
+null-offsets : (b : Builder) (t : Draft) (w : Which) → acl_of w t ≡ acl.Absent → HasLayoutOffsets b t
+    → HasLayoutOffsets (placed w 0 b) (with_acl w acl.Null t)
 null-offsets b t lists.Sacl free h =
     let sacl : acl_part_size t.sacl ≡ 0 = ap acl_part_size free in
     record {
@@ -156,18 +170,25 @@ null-offsets b t lists.Dacl free h = record { owner = h.owner; group = h.group; 
 
 -- ---- the parts that are given, with one more
 
-owner-parts : (t : Draft) (s : SecurityId) → t.owner ≡ None → bytes_after part.Owner t ≡ [] → parts_given t ++ sid_bytes s ≡ parts_given (record t { owner = Some s })
-owner-parts t s free none = put-first (sid_part t.owner) (bytes_after part.Owner t) (sid_bytes s) (ap sid_part free) none
+owner-parts : (t : Draft) (s : SecurityId) → t.owner ≡ None → bytes_after part.Owner t ≡ []
+    → parts_given t ++ sid_bytes s ≡ parts_given (record t { owner = Some s })
+owner-parts t s free none =
+    put-first (sid_part t.owner) (bytes_after part.Owner t) (sid_bytes s) (ap sid_part free) none
 
-group-parts : (t : Draft) (s : SecurityId) → t.group ≡ None → bytes_after part.Group t ≡ [] → parts_given t ++ sid_bytes s ≡ parts_given (record t { group = Some s })
-group-parts t s free none = put-second (sid_part t.owner) (sid_part t.group) (bytes_after part.Group t) (sid_bytes s) (ap sid_part free) none
+group-parts : (t : Draft) (s : SecurityId) → t.group ≡ None → bytes_after part.Group t ≡ []
+    → parts_given t ++ sid_bytes s ≡ parts_given (record t { group = Some s })
+group-parts t s free none =
+    put-second (sid_part t.owner) (sid_part t.group) (bytes_after part.Group t) (sid_bytes s) (ap sid_part free) none
 
-list-parts : (t : Draft) (w : Which) (aces : List AccessControlEntry) → acl_of w t ≡ acl.Absent → bytes_after (part_of w) t ≡ []
+list-parts : (t : Draft) (w : Which) (aces : List AccessControlEntry) → acl_of w t ≡ acl.Absent
+    → bytes_after (part_of w) t ≡ []
     → parts_given t ++ acl_bytes aces ≡ parts_given (record (with_acl w (acl.List aces) t) { «open» = None })
 list-parts t lists.Sacl aces free none =
-    put-third (sid_part t.owner) (sid_part t.group) (acl_part t.sacl) (acl_part t.dacl) (acl_bytes aces) (ap acl_part free) none
+    put-third (sid_part t.owner) (sid_part t.group) (acl_part t.sacl) (acl_part t.dacl) (acl_bytes aces)
+    (ap acl_part free) none
 list-parts t lists.Dacl aces free none =
-    put-last (sid_part t.owner) (sid_part t.group) (acl_part t.sacl) (acl_part t.dacl) (acl_bytes aces) (ap acl_part free)
+    put-last (sid_part t.owner) (sid_part t.group) (acl_part t.sacl) (acl_part t.dacl) (acl_bytes aces)
+    (ap acl_part free)
 
 null-parts : (t : Draft) (w : Which) → acl_of w t ≡ acl.Absent → parts_given (with_acl w acl.Null t) ≡ parts_given t
 null-parts t lists.Sacl free =
@@ -181,7 +202,8 @@ no-last : (u : Option (Which × List AccessControlEntry)) (t : Draft) → u ≡ 
 no-last None t e = tt
 no-last (Some u) t e = absurd (cc)
 
-after-open : (w : Which) (t : Draft) (u : Option (Which × List AccessControlEntry)) → bytes_after (part_of w) (record t { «open» = u }) ≡ bytes_after (part_of w) t
+after-open : (w : Which) (t : Draft) (u : Option (Which × List AccessControlEntry))
+    → bytes_after (part_of w) (record t { «open» = u }) ≡ bytes_after (part_of w) t
 after-open lists.Sacl t u = refl
 after-open lists.Dacl t u = refl
 
@@ -190,11 +212,13 @@ last-more : (a : AccessControlEntry) (u : Option (Which × List AccessControlEnt
 last-more a None t h = tt
 last-more a (Some u) t h = after-open u.0 t _ ∙ h
 
-open-offsets : (b : Builder) (t : Draft) (o : Option OpenAcl) (u : Option (Which × List AccessControlEntry)) → HasLayoutOffsets b t
+open-offsets : (b : Builder) (t : Draft) (o : Option OpenAcl) (u : Option (Which × List AccessControlEntry))
+    → HasLayoutOffsets b t
     → HasLayoutOffsets (record b { «open» = o }) (record t { «open» = u })
 open-offsets b t o u h = record { owner = h.owner; group = h.group; sacl = h.sacl; dacl = h.dacl }
 
-null-last : (w : Which) (t : Draft) → t.«open» ≡ None → OpenIsLast (with_acl w acl.Null t).«open» (with_acl w acl.Null t)
+null-last : (w : Which) (t : Draft) → t.«open» ≡ None
+    → OpenIsLast (with_acl w acl.Null t).«open» (with_acl w acl.Null t)
 null-last lists.Sacl t e = no-last t.«open» _ e
 null-last lists.Dacl t e = no-last t.«open» _ e
 
@@ -213,7 +237,8 @@ new-in-order bytes long = record {
   last = tt;
 }
 
-pub owner-in-order : (b : Builder) (bytes : List ℕ) (t0 t : Draft) (s : SecurityId) → Builds b bytes t0 → t0.owner ≡ None → t0.«open» ≡ None → IsSid s
+pub owner-in-order : (b : Builder) (bytes : List ℕ) (t0 t : Draft) (s : SecurityId) → Builds b bytes t0
+    → t0.owner ≡ None → t0.«open» ≡ None → IsSid s
     → BuildsInOrder b bytes t → bytes_after part.Owner t ≡ []
     → BuildsInOrder (record b { owner = length bytes }) (bytes ++ sid_bytes s) (record t { owner = Some s })
 unfolding Builds BuildsInOrder
@@ -221,7 +246,8 @@ owner-in-order b bytes t0 t s h0 free e limits h none =
     let was = closed-from b bytes t0 t0 h0 e h0 in
     let now = closed-from b bytes t0 t h0 e h.building in
     let owner = owner-free b bytes t0 t was free now in
-    let parts = appended-part bytes (sid_bytes s) _ (room bytes b t now.parts).low (all-parts bytes b t now.parts h.parts) in
+    let parts = appended-part bytes (sid_bytes s) _ (room bytes b t now.parts).low
+    (all-parts bytes b t now.parts h.parts) in
     record {
       building = owner-builds b bytes t0 t s h0 free e limits h.building;
       offsets = owner-offsets (length bytes) b t s owner none now.parts.size h.offsets;
@@ -229,7 +255,8 @@ owner-in-order b bytes t0 t s h0 free e limits h none =
       last = no-last t.«open» _ now.given;
     }
 
-pub group-in-order : (b : Builder) (bytes : List ℕ) (t0 t : Draft) (s : SecurityId) → Builds b bytes t0 → t0.group ≡ None → t0.«open» ≡ None → IsSid s
+pub group-in-order : (b : Builder) (bytes : List ℕ) (t0 t : Draft) (s : SecurityId) → Builds b bytes t0
+    → t0.group ≡ None → t0.«open» ≡ None → IsSid s
     → BuildsInOrder b bytes t → bytes_after part.Group t ≡ []
     → BuildsInOrder (record b { group = length bytes }) (bytes ++ sid_bytes s) (record t { group = Some s })
 unfolding Builds BuildsInOrder
@@ -237,7 +264,8 @@ group-in-order b bytes t0 t s h0 free e limits h none =
     let was = closed-from b bytes t0 t0 h0 e h0 in
     let now = closed-from b bytes t0 t h0 e h.building in
     let group = group-free b bytes t0 t was free now in
-    let parts = appended-part bytes (sid_bytes s) _ (room bytes b t now.parts).low (all-parts bytes b t now.parts h.parts) in
+    let parts = appended-part bytes (sid_bytes s) _ (room bytes b t now.parts).low
+    (all-parts bytes b t now.parts h.parts) in
     record {
       building = group-builds b bytes t0 t s h0 free e limits h.building;
       offsets = group-offsets (length bytes) b t s group none now.parts.size h.offsets;
@@ -245,9 +273,11 @@ group-in-order b bytes t0 t s h0 free e limits h none =
       last = no-last t.«open» _ now.given;
     }
 
-pub begin-in-order : (b : Builder) (bytes front : List ℕ) (w : Which) (t0 t : Draft) → Builds b bytes t0 → CanBegin w t0 → length front ≡ 8
+pub begin-in-order : (b : Builder) (bytes front : List ℕ) (w : Which) (t0 t : Draft) → Builds b bytes t0
+    → CanBegin w t0 → length front ≡ 8
     → BuildsInOrder b bytes t → bytes_after (part_of w) t ≡ []
-    → BuildsInOrder (record b { «open» = Some (record { «which» = w; start = length bytes; count = 0; object = false }) }) (bytes ++ front) (begun w t)
+    → BuildsInOrder (record b { «open» = Some (record { «which» = w; start = length bytes; count = 0; object = false }) })
+    (bytes ++ front) (begun w t)
 unfolding Builds BuildsInOrder
 begin-in-order b bytes front w t0 t h0 can eight h none =
     let now = closed-from b bytes t0 t h0 can.0 h.building in
@@ -258,7 +288,8 @@ begin-in-order b bytes front w t0 t h0 can eight h none =
       last = after-open w t _ ∙ none;
     }
 
-pub null-in-order : (b : Builder) (bytes : List ℕ) (w : Which) (t0 t : Draft) → Builds b bytes t0 → CanBegin w t0 → BuildsInOrder b bytes t
+pub null-in-order : (b : Builder) (bytes : List ℕ) (w : Which) (t0 t : Draft) → Builds b bytes t0 → CanBegin w t0
+    → BuildsInOrder b bytes t
     → BuildsInOrder (placed w 0 b) bytes (with_acl w acl.Null t)
 unfolding Builds BuildsInOrder
 null-in-order b bytes w t0 t h0 can h =
@@ -272,7 +303,8 @@ null-in-order b bytes w t0 t h0 can h =
       last = null-last w t now.given;
     }
 
-pub ace-in-order : (b : Builder) (bytes : List ℕ) (t : Draft) (o : OpenAcl) (a : AccessControlEntry) → b.open ≡ Some o → IsAce a
+pub ace-in-order : (b : Builder) (bytes : List ℕ) (t : Draft) (o : OpenAcl) (a : AccessControlEntry)
+    → b.open ≡ Some o → IsAce a
     → open_size t + ace_size a < 2 ^ 16 → BuildsInOrder b bytes t
     → BuildsInOrder (record b { «open» = Some (with_more o a) }) (bytes ++ ace_bytes a) (with_ace a t)
 unfolding Builds BuildsInOrder
@@ -283,9 +315,11 @@ ace-in-order b bytes t o a e limits fits h = record {
   last = last-more a t.«open» t h.last;
 }
 
-pub end-in-order : (b : Builder) (bytes : List ℕ) (t : Draft) (o : OpenAcl) (size : ℕ) (header : List ℕ) → b.open ≡ Some o → o.start + size ≡ length bytes
+pub end-in-order : (b : Builder) (bytes : List ℕ) (t : Draft) (o : OpenAcl) (size : ℕ) (header : List ℕ)
+    → b.open ≡ Some o → o.start + size ≡ length bytes
     → header ≡ header_by o.object size o.count → BuildsInOrder b bytes t
-    → BuildsInOrder (placed o.which o.start (record b { «open» = None })) (take o.start bytes ++ (header ++ drop (o.start + length header) bytes)) (closed t)
+    → BuildsInOrder (placed o.which o.start (record b { «open» = None }))
+    (take o.start bytes ++ (header ++ drop (o.start + length header) bytes)) (closed t)
 unfolding Builds BuildsInOrder
 end-in-order b bytes t o size header e total front h =
     let found = is_begun b bytes t o h.building e in
@@ -294,12 +328,15 @@ end-in-order b bytes t o size header e total front h =
     let kept = kept-is b o w (length found.closed) found.at.list found.at.start in
     let given = given-closed w found.aces t found.given in
     let there = end-bytes b bytes t o size header found total front in
-    let none : bytes_after (part_of w) t ≡ [] = subst (λ (u : Option (Which × List AccessControlEntry)). OpenIsLast u t) found.given h.last in
+    let none : bytes_after (part_of w) t ≡ [] =
+    subst (λ (u : Option (Which × List AccessControlEntry)). OpenIsLast u t) found.given h.last in
     let before = closed-parts bytes found.closed found.tail b t found.parts found.shape h.parts in
-    let parts = appended-part found.closed (acl_bytes found.aces) _ (room found.closed b t found.parts).low before ∙ list-parts t w found.aces found.free none in
+    let parts = appended-part found.closed (acl_bytes found.aces) _ (room found.closed b t found.parts).low before
+    ∙ list-parts t w found.aces found.free none in
     record {
       building = end-builds b bytes t o size header e total front h.building;
-      offsets = rw (kept, given) (list-offsets (length found.closed) b t w found.aces found.free none found.parts.size h.offsets);
+      offsets = rw (kept, given)
+          (list-offsets (length found.closed) b t w found.aces found.free none found.parts.size h.offsets);
       parts = rw (there, given) (take-whole _ _ parts);
       last = rw given tt;
     }
@@ -309,17 +346,21 @@ unfolding Builds BuildsInOrder
 in-order-builds b bytes t h = h.building
 
 -- finish: the header's fields are the layout's
-same-header : (rm c k o p g h s u d v : ℕ) → c ≡ k → o ≡ p → g ≡ h → s ≡ u → d ≡ v → header_bytes rm c o g s d ≡ header_bytes rm k p h u v
+same-header : (rm c k o p g h s u d v : ℕ) → c ≡ k → o ≡ p → g ≡ h → s ≡ u → d ≡ v
+    → header_bytes rm c o g s d ≡ header_bytes rm k p h u v
 same-header rm c k o p g h s u d v e f i j l = rw (e, f, i, j, l) refl
 
-pub finish-laid_out : (b : Builder) (bytes : List ℕ) (t0 t : Draft) (flags rm : ℕ) → Builds b bytes t0 → t0.«open» ≡ None → BuildsInOrder b bytes t
+pub finish-laid_out : (b : Builder) (bytes : List ℕ) (t0 t : Draft) (flags rm : ℕ) → Builds b bytes t0
+    → t0.«open» ≡ None → BuildsInOrder b bytes t
     → header_for rm (control_of flags (is_some b.sacl) (is_some b.dacl)) b ++ drop 20 bytes ≡ layout (built flags rm t)
 unfolding Builds BuildsInOrder
 finish-laid_out b bytes t0 t flags rm h0 e h =
     let parts = (closed-from b bytes t0 t h0 e h.building).parts in
     let sacl = acl-present bytes b.sacl t.sacl parts.sacl in
     let dacl = acl-present bytes b.dacl t.dacl parts.dacl in
-    let word : control_of flags (is_some b.sacl) (is_some b.dacl) ≡ control_of flags (is_present t.sacl) (is_present t.dacl) = rw (sacl, dacl) refl in
+    let word : control_of flags (is_some b.sacl) (is_some b.dacl)
+    ≡ control_of flags (is_present t.sacl) (is_present t.dacl) = rw (sacl, dacl) refl in
     let o = h.offsets in
     let head = same-header rm _ _ _ _ _ _ _ _ _ _ word o.owner o.group o.sacl o.dacl in
-    ap (λ (x : List ℕ). x ++ drop 20 bytes) head ∙ ap (λ (x : List ℕ). descriptor_header (built flags rm t) ++ x) (all-parts bytes b t parts h.parts)
+    ap (λ (x : List ℕ). x ++ drop 20 bytes) head
+    ∙ ap (λ (x : List ℕ). descriptor_header (built flags rm t) ++ x) (all-parts bytes b t parts h.parts)

@@ -272,7 +272,8 @@ lettered : List ControlBit → List (List ℕ × ℕ)
 lettered bits = map (λ b. (b.first ∷ b.second ∷ [], b.bit)) bits
 
 named_bits : lettered CONTROL_BITS ≡
-    (codes "OD", 0x1) ∷ (codes "GD", 0x2) ∷ (codes "DP", 0x4) ∷ (codes "DD", 0x8) ∷ (codes "SP", 0x10) ∷ (codes "SD", 0x20)
+    (codes "OD", 0x1) ∷ (codes "GD", 0x2) ∷ (codes "DP", 0x4) ∷ (codes "DD", 0x8) ∷ (codes "SP", 0x10)
+    ∷ (codes "SD", 0x20)
     ∷ (codes "DC", 0x100) ∷ (codes "SC", 0x200) ∷ (codes "DI", 0x400) ∷ (codes "SI", 0x800) ∷ (codes "PD", 0x1000)
     ∷ (codes "PS", 0x2000) ∷ (codes "RM", 0x4000) ∷ (codes "SR", 0x8000) ∷ []
 unfolding lettered

@@ -109,7 +109,8 @@ pub record HasLayoutOffsets (b : Builder) (t : Draft) : Type 0 where
   pub owner : b.owner ≡ offset_if 20 (sid_part_size t.owner)
   pub group : b.group ≡ offset_if (20 + sid_part_size t.owner) (sid_part_size t.group)
   pub sacl : unwrap_or b.sacl 0 ≡ offset_if (20 + sid_part_size t.owner + sid_part_size t.group) (acl_part_size t.sacl)
-  pub dacl : unwrap_or b.dacl 0 ≡ offset_if (20 + sid_part_size t.owner + sid_part_size t.group + acl_part_size t.sacl) (acl_part_size t.dacl)
+  pub dacl : unwrap_or b.dacl 0
+      ≡ offset_if (20 + sid_part_size t.owner + sid_part_size t.group + acl_part_size t.sacl) (acl_part_size t.dacl)
 
 -- no part that comes after the open ACL was given
 abbrev pub OpenIsLast : Option (Which × List AccessControlEntry) → Draft → Type 0

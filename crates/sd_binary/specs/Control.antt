@@ -1,5 +1,5 @@
--- The control word of a descriptor (MS-DTYP 2.4.6): its bits, and among them the flags of either ACL. The bits that have
--- names are the constants of src/control.rt, and `CONTROL_BITS` lists them.
+-- The control word of a descriptor (MS-DTYP 2.4.6): its bits, and among them the flags of either ACL. The bits that
+-- have names are the constants of src/control.rt, and `CONTROL_BITS` lists them.
 use Rattle.std.specs.Prelude.{ℕ, ◌+◌, ◌*◌, ◌/◌, ◌%◌, ◌==◌, Bool, true, false}
 use Rattle.sd_binary.specs.declared.builder.Which.{Which}
 use Rattle.sd_binary.specs.declared.builder.Which.TheVariants as which

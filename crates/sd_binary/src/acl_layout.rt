@@ -31,7 +31,11 @@ fn header_of(acl: &AclView<'_>) -> [u8; 8]
 pub(crate) fn acl_header(object: bool, size: u16, count: u16) -> [u8; 8]
     ensures { result ≡ revision_if object ∷ 0 ∷ little_bytes 2 size ++ (little_bytes 2 count ++ (0 ∷ 0 ∷ [])) }
 {
-    let revision = if object { ACL_REVISION_DS } else { ACL_REVISION };
+    let revision = if object {
+        ACL_REVISION_DS
+    } else {
+        ACL_REVISION
+    };
     let s = size.to_le_bytes();
     let c = count.to_le_bytes();
     [revision, 0, s[0], s[1], c[0], c[1], 0, 0]

@@ -73,7 +73,8 @@ impl Builder {
     pub fn owner(&mut self, buf: &mut SdBuf, sid: &Sid)
         requires { (t : Draft) × Builds self.old buf.old t × (t.owner ≡ None) × (t.«open» ≡ None) }
         ensures value { (t : Draft) → Builds self.old buf.old t → Builds self.new buf.new (record t { owner = Some sid.now }) }
-        ensures in_order { (t : Draft) → BuildsInOrder self.old buf.old t → bytes_after part.Owner t ≡ [] → BuildsInOrder self.new buf.new (record t { owner = Some sid.now }) }
+        ensures in_order { (t : Draft) → BuildsInOrder self.old buf.old t → bytes_after part.Owner t ≡ []
+            → BuildsInOrder self.new buf.new (record t { owner = Some sid.now }) }
     {
         self.owner = place_sid(buf, sid);
     }
@@ -82,7 +83,8 @@ impl Builder {
     pub fn group(&mut self, buf: &mut SdBuf, sid: &Sid)
         requires { (t : Draft) × Builds self.old buf.old t × (t.group ≡ None) × (t.«open» ≡ None) }
         ensures value { (t : Draft) → Builds self.old buf.old t → Builds self.new buf.new (record t { group = Some sid.now }) }
-        ensures in_order { (t : Draft) → BuildsInOrder self.old buf.old t → bytes_after part.Group t ≡ [] → BuildsInOrder self.new buf.new (record t { group = Some sid.now }) }
+        ensures in_order { (t : Draft) → BuildsInOrder self.old buf.old t → bytes_after part.Group t ≡ []
+            → BuildsInOrder self.new buf.new (record t { group = Some sid.now }) }
     {
         self.group = place_sid(buf, sid);
     }
@@ -91,7 +93,8 @@ impl Builder {
     pub fn begin_acl(&mut self, buf: &mut SdBuf, which: Which)
         requires { (t : Draft) × Builds self.old buf.old t × CanBegin which t }
         ensures value { (t : Draft) → Builds self.old buf.old t → Builds self.new buf.new (begun which t) }
-        ensures in_order { (t : Draft) → BuildsInOrder self.old buf.old t → bytes_after (part_of which) t ≡ [] → BuildsInOrder self.new buf.new (begun which t) }
+        ensures in_order { (t : Draft) → BuildsInOrder self.old buf.old t → bytes_after (part_of which) t ≡ []
+            → BuildsInOrder self.new buf.new (begun which t) }
     {
         self.open = Some(OpenAcl {
             which,
@@ -109,7 +112,8 @@ impl Builder {
         requires { (t : Draft) × Builds self.old buf.old t × IsOpen t }
         ensures full { (t : Draft) → Builds self.old buf.old t → (IsErr result ↔ (2 ^ 16 ≤ open_size t + ace_size ace.now)) }
         ensures ok { (t : Draft) → Builds self.old buf.old t → OnOk result (Builds self.new buf.new (with_ace ace.now t)) }
-        ensures in_order { (t : Draft) → BuildsInOrder self.old buf.old t → OnOk result (BuildsInOrder self.new buf.new (with_ace ace.now t)) }
+        ensures in_order { (t : Draft) → BuildsInOrder self.old buf.old t
+            → OnOk result (BuildsInOrder self.new buf.new (with_ace ace.now t)) }
         ensures same { OnErr result ((self.new ≡ self.old) × (buf.new ≡ buf.old)) }
     {
         let open = self.open.unwrap();
@@ -146,7 +150,8 @@ impl Builder {
     pub fn null_acl(&mut self, buf: &mut SdBuf, which: Which)
         requires { (t : Draft) × Builds self.old buf.old t × CanBegin which t }
         ensures value { (t : Draft) → Builds self.old buf.old t → Builds self.new buf.new (with_acl which acl.Null t) }
-        ensures in_order { (t : Draft) → BuildsInOrder self.old buf.old t → BuildsInOrder self.new buf.new (with_acl which acl.Null t) }
+        ensures in_order { (t : Draft) → BuildsInOrder self.old buf.old t
+            → BuildsInOrder self.new buf.new (with_acl which acl.Null t) }
     {
         self.keep(which, 0);
     }

@@ -102,7 +102,14 @@ fn offset_if(place: u32, size: u32) -> u32
 }
 
 #[tactic(auto, unfolding(crate::specs::Layout::header_bytes))]
-pub(crate) fn header(rm: u8, control: u16, owner: u32, group: u32, sacl: u32, dacl: u32) -> [u8; HEADER_SIZE]
+pub(crate) fn header(
+    rm: u8,
+    control: u16,
+    owner: u32,
+    group: u32,
+    sacl: u32,
+    dacl: u32,
+) -> [u8; HEADER_SIZE]
     ensures { result ≡ header_bytes rm control owner group sacl dacl }
 {
     let c = control.to_le_bytes();

@@ -257,13 +257,15 @@ sacl-bits c (acl.List aces) f e = rw e (omega arith)
 abbrev made_control : ℕ → AclPart → AclPart → ℕ
 made_control c dacl sacl = control_of (control_flags (flags_of sacl (sacl_of c)) (flags_of dacl (dacl_of c))) (is_present sacl) (is_present dacl)
 
-control-made : (c : ℕ) (dacl sacl : AclPart) → made_control c dacl sacl ≡ 0x8000 + kept_bits which.Dacl c dacl + kept_bits which.Sacl c sacl
+control-made : (c : ℕ) (dacl sacl : AclPart)
+    → made_control c dacl sacl ≡ 0x8000 + kept_bits which.Dacl c dacl + kept_bits which.Sacl c sacl
 control-made c dacl sacl =
     let df = flags_of dacl (dacl_of c) in
     let sf = flags_of sacl (sacl_of c) in
     let low = dacl-bits c dacl df refl in
     let high = sacl-bits c sacl sf refl in
-    ap (λ (n : ℕ). n + 0x8000 + bit_if (is_present sacl) 0x10 + bit_if (is_present dacl) 0x4) (flags-stay sf df) ∙ omega (arith, low, high)
+    ap (λ (n : ℕ). n + 0x8000 + bit_if (is_present sacl) 0x10 + bit_if (is_present dacl) 0x4) (flags-stay sf df)
+    ∙ omega (arith, low, high)
 
 whole-plain : (d : Descriptor) → described (whole_of d) ≡ plain d
 whole-plain d =

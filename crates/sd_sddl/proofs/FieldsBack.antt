@@ -154,7 +154,8 @@ front_back : (f : AclFlags) → front_reads (front_text f) ≡ Some (record { fl
 unfolding front_reads acl_flags_text
 front_back f = by_flags f.protected f.auto_inherit_required f.auto_inherited
   where
-    by_flags : (p r i : Bool) → front_reads (acl_flags_text (flags_of p r i)) ≡ Some (record { flags = flags_of p r i; null = false })
+    by_flags : (p r i : Bool)
+        → front_reads (acl_flags_text (flags_of p r i)) ≡ Some (record { flags = flags_of p r i; null = false })
     by_flags true true true = refl
     by_flags true true false = refl
     by_flags true false true = refl
@@ -169,7 +170,8 @@ unfolding front_reads acl_flags_text
 null_front_back f = by_flags f.protected f.auto_inherit_required f.auto_inherited
   where
     by_flags : (p r i : Bool)
-        → front_reads (acl_flags_text (flags_of p r i) ++ codes "NO_ACCESS_CONTROL") ≡ Some (record { flags = flags_of p r i; null = true })
+        → front_reads (acl_flags_text (flags_of p r i) ++ codes "NO_ACCESS_CONTROL")
+        ≡ Some (record { flags = flags_of p r i; null = true })
     by_flags true true true = refl
     by_flags true true false = refl
     by_flags true false true = refl

@@ -281,7 +281,8 @@ record IsControl (control : ℕ) (sacl dacl : Bool) : Type 0 where
   with_sacl : sacl_present control ≡ sacl
   with_dacl : dacl_present control ≡ dacl
 
-word : (n k : ℕ) (sacl dacl : Bool) → k < 128 → n ≡ 256 * k → IsControl (n + 0x8000 + bit_if sacl 0x10 + bit_if dacl 0x4) sacl dacl
+word : (n k : ℕ) (sacl dacl : Bool) → k < 128 → n ≡ 256 * k
+    → IsControl (n + 0x8000 + bit_if sacl 0x10 + bit_if dacl 0x4) sacl dacl
 word n k true true small e = record { small = omega arith; relative = grind (arith, nat_tests); with_sacl = grind (arith, nat_tests); with_dacl = grind (arith, nat_tests) }
 word n k true false small e = record { small = omega arith; relative = grind (arith, nat_tests); with_sacl = grind (arith, nat_tests); with_dacl = grind (arith, nat_tests) }
 word n k false true small e = record { small = omega arith; relative = grind (arith, nat_tests); with_sacl = grind (arith, nat_tests); with_dacl = grind (arith, nat_tests) }

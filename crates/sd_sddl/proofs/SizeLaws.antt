@@ -179,8 +179,10 @@ sddl-length naming d h =
     let sf = acl_flags which.Sacl c in
     let owner = sid-length naming (codes "O:") d.owner refl h.owner in
     let group = sid-length naming (codes "G:") d.group refl h.group in
-    let dacl = acl-length naming (codes "D:") (acl_flags_text df) (dacl_present c) d.dacl refl (flags-length df) h.dacl in
-    let sacl = acl-length naming (codes "S:") (acl_flags_text sf) (sacl_present c) d.sacl refl (flags-length sf) h.sacl in
+    let dacl = acl-length naming (codes "D:") (acl_flags_text df) (dacl_present c) d.dacl refl
+    (flags-length df) h.dacl in
+    let sacl = acl-length naming (codes "S:") (acl_flags_text sf) (sacl_present c) d.sacl refl
+    (flags-length sf) h.sacl in
     let sids = length-append (owner_text naming d) (group_text naming d) in
     let acls = length-append (dacl_text naming d) (sacl_text naming d) in
     let whole = length-append (owner_text naming d ++ group_text naming d) (dacl_text naming d ++ sacl_text naming d) in

@@ -71,7 +71,8 @@ text_if false text = []
 
 -- protected, auto-inherit required and auto-inherited
 unfoldable pub acl_flags_text : AclFlags → List ℕ
-acl_flags_text f = text_if f.protected (codes "P") ++ (text_if f.auto_inherit_required (codes "AR") ++ text_if f.auto_inherited (codes "AI"))
+acl_flags_text f = text_if f.protected (codes "P") ++
+    (text_if f.auto_inherit_required (codes "AR") ++ text_if f.auto_inherited (codes "AI"))
 
 -- nothing for an ACL that is absent; else its head and flags, and then NO_ACCESS_CONTROL for a null one, or its ACEs
 abbrev pub acl_text : Naming → List ℕ → List ℕ → AclPart → List ℕ

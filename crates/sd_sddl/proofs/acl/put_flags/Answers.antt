@@ -21,6 +21,7 @@ unfolding acl_flags_text
 returns-clause-put g c =
     let f = c.args.flags in
     let whole : c.text_if.result.now ++ (c.text_if-2.result.now ++ c.text_if-3.result.now)
-    ≡ text_if f.protected (codes "P") ++ (text_if f.auto_inherit_required (codes "AR") ++ text_if f.auto_inherited (codes "AI")) =
+    ≡ text_if f.protected (codes "P") ++
+    (text_if f.auto_inherit_required (codes "AR") ++ text_if f.auto_inherited (codes "AI")) =
     rw (c.text_if.ensures, c.text_if-2.ensures, c.text_if-3.ensures) refl in
     Puts-after _ _ _ c.text_if.result.now (c.text_if-2.result.now ++ c.text_if-3.result.now) _ _ whole c.in_ok-put.ensures.put c.put_both.ensures.put

@@ -56,6 +56,7 @@ returns-clause-in_order c =
     let object : c.if-open.self ≡ (o.object || is_object a.kind) =
     elim c.if-open.branch [
       | then-open w ↦ w.self-is ∙ w.if-open.true ∙ ap (λ (x : Bool). x || is_object a.kind) (sym w.if-open.true)
-      | else-open w ↦ w.self-is ∙ w.is_object.ensures ∙ ap is_object w.kind.ensures ∙ ap (λ (x : Bool). x || is_object a.kind) (sym w.if-open.false)
+      | else-open w ↦ w.self-is ∙ w.is_object.ensures ∙ ap is_object w.kind.ensures
+          ∙ ap (λ (x : Bool). x || is_object a.kind) (sym w.if-open.false)
     ] in
     rw (c.append_ace.ensures, object) (ace-in-order _ _ t o a c.unwrap-open.ensures c.size.ensures.limits fits h)

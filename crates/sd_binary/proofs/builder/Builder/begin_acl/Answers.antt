@@ -14,4 +14,5 @@ returns-clause-value c =
 pub returns-clause-in_order : goal.returns-clause-in_order
 returns-clause-in_order c =
     λ t h none.
-    rw (c.append.ensures, c.bytes.ensures.value) (begin-in-order _ _ _ c.args.which c.requires.0 t c.requires.1 c.requires.2 refl h none)
+    rw (c.append.ensures, c.bytes.ensures.value)
+    (begin-in-order _ _ _ c.args.which c.requires.0 t c.requires.1 c.requires.2 refl h none)

@@ -33,6 +33,9 @@ returns-clause-laid_out c =
     λ t h.
     let b = c.args.self in
     let word = control_of c.args.flags (is_some b.sacl) (is_some b.dacl) in
-    let head : c.header-bytes.result ≡ header_bytes c.args.rm word b.owner b.group (unwrap_or b.sacl 0) (unwrap_or b.dacl 0) = cc in
-    let long : 0 + length c.header-bytes.result ≡ 20 = omega (arith, ap length head, length-header_for c.args.rm word b) in
-    rw (c.patch.ensures, long, head) (finish-laid_out b c.args.buf.now c.requires.0 t c.args.flags c.args.rm c.requires.1 c.requires.2 h)
+    let head : c.header-bytes.result
+    ≡ header_bytes c.args.rm word b.owner b.group (unwrap_or b.sacl 0) (unwrap_or b.dacl 0) = cc in
+    let long : 0 + length c.header-bytes.result ≡ 20 =
+    omega (arith, ap length head, length-header_for c.args.rm word b) in
+    rw (c.patch.ensures, long, head)
+    (finish-laid_out b c.args.buf.now c.requires.0 t c.args.flags c.args.rm c.requires.1 c.requires.2 h)
