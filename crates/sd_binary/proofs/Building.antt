@@ -58,8 +58,8 @@ given-open front tail (Some o) u h e = absurd (cc)
 -- no ACL is open: all that the buffer holds is closed
 pub record IsClosed (b : Builder) (bytes : List ℕ) (t : Draft) : Type 0 where
   pub parts : PartsStand bytes b t
-  kept : b.open ≡ None
-  given : t.«open» ≡ None
+  pub kept : b.open ≡ None
+  pub given : t.«open» ≡ None
 
 is_closed : (b : Builder) (bytes : List ℕ) (t : Draft) → Building b bytes t → b.open ≡ None → IsClosed b bytes t
 is_closed b bytes t h e =
@@ -94,7 +94,8 @@ reopened : (bytes : List ℕ) (b : Builder) (t : Draft) (o : Option OpenAcl) (u 
     → PartsStand bytes (record b { «open» = o }) (record t { «open» = u })
 reopened bytes b t o u h = record { owner = h.owner; group = h.group; sacl = h.sacl; dacl = h.dacl; apart = h.apart; size = h.size }
 
-acl_of-open : (w : Which) (t : Draft) (u : Option (Which × List AccessControlEntry)) → acl_of w (record t { «open» = u }) ≡ acl_of w t
+pub acl_of-open : (w : Which) (t : Draft) (u : Option (Which × List AccessControlEntry))
+    → acl_of w (record t { «open» = u }) ≡ acl_of w t
 acl_of-open lists.Sacl t u = refl
 acl_of-open lists.Dacl t u = refl
 
@@ -114,7 +115,8 @@ new-builds bytes long =
     refl refl
 
 -- owner
-owner-free : (b : Builder) (bytes : List ℕ) (t0 t : Draft) → IsClosed b bytes t0 → t0.owner ≡ None → IsClosed b bytes t → t.owner ≡ None
+pub owner-free : (b : Builder) (bytes : List ℕ) (t0 t : Draft) → IsClosed b bytes t0 → t0.owner ≡ None
+    → IsClosed b bytes t → t.owner ≡ None
 owner-free b bytes t0 t h0 e h = given-sid bytes b.owner t.owner h.parts.owner (sid-given bytes b.owner t0.owner h0.parts.owner e)
 
 pub owner-room : (b : Builder) (bytes : List ℕ) (t : Draft) → Builds b bytes t → t.owner ≡ None → t.«open» ≡ None → length bytes + 68 ≤ 131226
@@ -130,7 +132,8 @@ owner-builds b bytes t0 t s h0 free e limits h =
     building _ _ _ (owner-stands bytes b t s (owner-free b bytes t0 t was free now) limits now.parts) now.kept now.given
 
 -- group
-group-free : (b : Builder) (bytes : List ℕ) (t0 t : Draft) → IsClosed b bytes t0 → t0.group ≡ None → IsClosed b bytes t → t.group ≡ None
+pub group-free : (b : Builder) (bytes : List ℕ) (t0 t : Draft) → IsClosed b bytes t0 → t0.group ≡ None
+    → IsClosed b bytes t → t.group ≡ None
 group-free b bytes t0 t h0 e h = given-sid bytes b.group t.group h.parts.group (sid-given bytes b.group t0.group h0.parts.group e)
 
 pub group-room : (b : Builder) (bytes : List ℕ) (t : Draft) → Builds b bytes t → t.group ≡ None → t.«open» ≡ None → length bytes + 68 ≤ 131226
@@ -146,7 +149,8 @@ group-builds b bytes t0 t s h0 free e limits h =
     building _ _ _ (group-stands bytes b t s (group-free b bytes t0 t was free now) limits now.parts) now.kept now.given
 
 -- an ACL that is not given yet
-acl-free : (b : Builder) (bytes : List ℕ) (w : Which) (t0 t : Draft) → IsClosed b bytes t0 → acl_of w t0 ≡ acl.Absent → IsClosed b bytes t → acl_of w t ≡ acl.Absent
+pub acl-free : (b : Builder) (bytes : List ℕ) (w : Which) (t0 t : Draft) → IsClosed b bytes t0
+    → acl_of w t0 ≡ acl.Absent → IsClosed b bytes t → acl_of w t ≡ acl.Absent
 acl-free b bytes lists.Sacl t0 t h0 e h = given-acl bytes b.sacl t.sacl h.parts.sacl (acl-given bytes b.sacl t0.sacl h0.parts.sacl e)
 acl-free b bytes lists.Dacl t0 t h0 e h = given-acl bytes b.dacl t.dacl h.parts.dacl (acl-given bytes b.dacl t0.dacl h0.parts.dacl e)
 
@@ -211,7 +215,8 @@ begun-at : (t : Draft) (front tail : List ℕ) (o : OpenAcl) (u : Option (Which 
 begun-at t front tail o None h free = absurd h
 begun-at t front tail o (Some u) h free = (u.0, (u.1, (refl, h, free)))
 
-is_begun : (b : Builder) (bytes : List ℕ) (t : Draft) (o : OpenAcl) → Building b bytes t → b.open ≡ Some o → IsBegun b bytes t o
+pub is_begun : (b : Builder) (bytes : List ℕ) (t : Draft) (o : OpenAcl) → Building b bytes t → b.open ≡ Some o
+    → IsBegun b bytes t o
 is_begun b bytes t o h e =
     let found = begun-at t h.closed h.tail o t.«open» (subst (λ (x : Option OpenAcl). OpenStands h.closed h.tail x t.«open») e h.«open») h.free in
     record {
@@ -297,7 +302,7 @@ object-more : (aces : List AccessControlEntry) (a : AccessControlEntry) → has_
 object-more aces a = list_any-append (λ x. is_object x.kind) aces (a ∷ []) ∙ ap (λ (x : Bool). has_object aces || x) (any-one (is_object a.kind))
 
 -- the ACL with one ACE more
-abbrev with_more : OpenAcl → AccessControlEntry → OpenAcl
+abbrev pub with_more : OpenAcl → AccessControlEntry → OpenAcl
 with_more o a = record { «which» = o.which; start = o.start; count = o.count + 1; object = o.object || is_object a.kind }
 
 open-more : (front tail : List ℕ) (o : OpenAcl) (w : Which) (aces : List AccessControlEntry) (a : AccessControlEntry) → OpenAt front tail o w aces
@@ -314,7 +319,8 @@ open-more front tail o w aces a h limits fits = record {
       ∙ ap (λ (r : List ℕ). h.front ++ r) (ap (λ (r : List ℕ). flat_map ace_bytes aces ++ r) (sym (append-nil (ace_bytes a))) ∙ sym (flat_map-append ace_bytes aces (a ∷ [])));
 }
 
-given-more : (a : AccessControlEntry) (w : Which) (aces : List AccessControlEntry) (t : Draft) → t.«open» ≡ Some (w, aces)
+pub given-more : (a : AccessControlEntry) (w : Which) (aces : List AccessControlEntry) (t : Draft)
+    → t.«open» ≡ Some (w, aces)
     → with_ace a t ≡ record t { «open» = Some (w, aces ++ a ∷ []) }
 given-more a w aces t e = rw e refl
 
@@ -349,7 +355,7 @@ placed-open : (b : Builder) (w : Which) (n : ℕ) → placed w n (record b { «o
 placed-open b lists.Sacl n = refl
 placed-open b lists.Dacl n = refl
 
-kept-is : (b : Builder) (o : OpenAcl) (w : Which) (n : ℕ) → o.which ≡ w → o.start ≡ n
+pub kept-is : (b : Builder) (o : OpenAcl) (w : Which) (n : ℕ) → o.which ≡ w → o.start ≡ n
     → placed o.which o.start (record b { «open» = None }) ≡ record (placed w n b) { «open» = None }
 kept-is b o w n e f = rw (e, f) (placed-open b w n)
 
@@ -357,19 +363,20 @@ closed-open : (t : Draft) (w : Which) (p : AclPart) → with_acl w p (record t {
 closed-open t lists.Sacl p = refl
 closed-open t lists.Dacl p = refl
 
-given-closed : (w : Which) (aces : List AccessControlEntry) (t : Draft) → t.«open» ≡ Some (w, aces)
+pub given-closed : (w : Which) (aces : List AccessControlEntry) (t : Draft) → t.«open» ≡ Some (w, aces)
     → closed t ≡ record (with_acl w (acl.List aces) t) { «open» = None }
 given-closed w aces t e = ap (λ (u : Option (Which × List AccessControlEntry)). closed_in u t) e ∙ closed-open t w (acl.List aces)
 
 -- the header of an ACL, by what is kept of it
-abbrev header_by : Bool → ℕ → ℕ → List ℕ
+abbrev pub header_by : Bool → ℕ → ℕ → List ℕ
 header_by object size count = revision_if object ∷ 0 ∷ little_bytes 2 size ++ (little_bytes 2 count ++ (0 ∷ 0 ∷ []))
 
 header-is : (object : Bool) (size count : ℕ) (aces : List AccessControlEntry) → object ≡ has_object aces → size ≡ acl_size aces → count ≡ length aces
     → header_by object size count ≡ acl_header aces
 header-is object size count aces e f g = rw (e, f, g) refl
 
-end-bytes : (b : Builder) (bytes : List ℕ) (t : Draft) (o : OpenAcl) (size : ℕ) (header : List ℕ) (found : IsBegun b bytes t o) → o.start + size ≡ length bytes
+pub end-bytes : (b : Builder) (bytes : List ℕ) (t : Draft) (o : OpenAcl) (size : ℕ) (header : List ℕ)
+    (found : IsBegun b bytes t o) → o.start + size ≡ length bytes
     → header ≡ header_by o.object size o.count
     → take o.start bytes ++ (header ++ drop (o.start + length header) bytes) ≡ found.closed ++ acl_bytes found.aces
 end-bytes b bytes t o size header found total e =

@@ -4,8 +4,9 @@ use Rattle.std.specs.Prelude.{is_some, unwrap_or}
 use Rattle.sd_core.specs.Sid.{SecurityId}
 use Rattle.sd_binary.specs.AclLayout.{acl_bytes}
 use Rattle.sd_binary.specs.Builds.{AclStands, Builds, PartsStand, SidStands, acl_extent_of}
+use Rattle.sd_binary.specs.Control.{bit_if}
 use Rattle.sd_binary.specs.Descriptor.{Shows, ShowsAclPart, ShowsSid, acl_extent, dacl_at, group_at, owner_at, sacl_at}
-use Rattle.sd_binary.specs.Draft.{AclIsWritten, Draft, IsWritten, bit_if, built, control_of, is_present}
+use Rattle.sd_binary.specs.Draft.{AclIsWritten, Draft, IsWritten, built, control_of, is_present}
 use Rattle.sd_binary.specs.Layout.{header_bytes}
 use Rattle.sd_binary.specs.declared.acl.AclPart.{AclPart}
 use Rattle.sd_binary.specs.declared.acl.AclPart.TheVariants as acl
@@ -73,7 +74,7 @@ acl-read : (bytes : List ℕ) (present bit : Bool) (offset field : ℕ) (p : Acl
 acl-read bytes present bit offset field p e f h = rw (e, f) h
 
 -- the bytes of the header that is written, and of what follows it
-abbrev header_for : ℕ → ℕ → Builder → List ℕ
+abbrev pub header_for : ℕ → ℕ → Builder → List ℕ
 header_for rm control b = header_bytes rm control b.owner b.group (unwrap_or b.sacl 0) (unwrap_or b.dacl 0)
 
 pub length-header_for : (rm control : ℕ) (b : Builder) → length (header_for rm control b) ≡ 20
@@ -115,8 +116,10 @@ shows b bytes t flags rm small h =
 
 -- each ACL stands in its written form, and nothing else stands
 acl-written : (bytes : List ℕ) (place : Option ℕ) (field : ℕ) (p : AclPart) → field ≡ unwrap_or place 0 → AclStands bytes place p → AclIsWritten bytes field p
-acl-written bytes place field acl.Absent e h = tt
-acl-written bytes place field acl.Null e h = tt
+acl-written bytes None field acl.Absent e h = e
+acl-written bytes (Some offset) field acl.Absent e h = absurd h
+acl-written bytes None field acl.Null e h = absurd h
+acl-written bytes (Some offset) field acl.Null e h = e ∙ h
 acl-written bytes None field (acl.List aces) e h = absurd h
 acl-written bytes (Some offset) field (acl.List aces) e h = (h.1.rest, ap (λ (n : ℕ). drop n bytes) e ∙ h.1.shape)
 

@@ -27,7 +27,7 @@ sid_part_size-most : (o : Option SecurityId) → IfSome o IsSid → sid_part_siz
 sid_part_size-most None h = omega arith
 sid_part_size-most (Some s) h = omega (arith, h.count)
 
-length-acl_part : (p : AclPart) → length (acl_part p) ≡ acl_part_size p
+pub length-acl_part : (p : AclPart) → length (acl_part p) ≡ acl_part_size p
 length-acl_part acl.Absent = refl
 length-acl_part acl.Null = refl
 length-acl_part (acl.List aces) = length-acl_bytes aces
@@ -89,7 +89,7 @@ extent_if place n = if n == 0 then None else Some (place, place + n)
 offset-most : (place n : ℕ) → offset_if place n ≤ place
 offset-most place n = cond-most (n == 0) place
 
-offset-stands : (place n : ℕ) → 0 < n → offset_if place n ≡ place
+pub offset-stands : (place n : ℕ) → 0 < n → offset_if place n ≡ place
 offset-stands place n h = rw (not-zero n h) refl
 
 extent-stands : (place n : ℕ) → 0 < n → extent_if place n ≡ Some (place, place + n)

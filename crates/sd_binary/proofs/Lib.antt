@@ -2,9 +2,11 @@
 pub mod AclLaws
 pub mod AclLayoutLaws
 pub mod Building
+pub mod ControlLaws
 pub mod Decoded
 pub mod Finished
 pub mod FirstFault
+pub mod InOrder
 pub mod LayoutLaws
 pub mod Parts
 pub mod ReadLaws

@@ -1,5 +1,5 @@
 -- Worked rows, computed: what hex texts spell, what their bytes are read as, and what is laid out.
-use Rattle.std.proofs.Common.{◌≡◌, ℕ, List, [], ◌∷◌, Some, None, Result, Ok, Err, codes, refl, replicate}
+use Rattle.std.proofs.Common.{◌≡◌, ℕ, Bool, true, false, List, [], ◌∷◌, map, Some, None, Result, Ok, Err, codes, refl, replicate}
 use Prim.Native.String.{String}
 use Rattle.hex.specs.Hex.{decode_pairs}
 use Rattle.sd_core.specs.Sid.{SecurityId, sid_at, sid_bytes}
@@ -8,6 +8,11 @@ use Rattle.sd_binary.specs.declared.buffer.TextFault.TheVariants.{HexDigit, HexO
 use Rattle.sd_binary.specs.declared.fault.Part.TheVariants.{Owner, Group, Sacl, Dacl}
 use Rattle.sd_binary.specs.declared.fault.SdFault.TheVariants as faults
 use Rattle.sd_binary.specs.Bytes.{u16_at, u32_at}
+use Rattle.sd_binary.specs.Control.{acl_flags, flag_bits}
+use Rattle.sd_binary.specs.declared.builder.Which.TheVariants as which
+use Rattle.sd_binary.specs.declared.control.AclFlags.{AclFlags}
+use Rattle.sd_binary.specs.declared.control.ControlBit.{ControlBit}
+use Rattle.sd_binary.specs.declared.control.TheConstants.{CONTROL_BITS}
 use Rattle.sd_binary.specs.Descriptor.{Descriptor}
 use Rattle.sd_binary.specs.Layout.{header_bytes, layout, size}
 use Rattle.sd_binary.specs.Ace.{announces_inherited, announces_object}
@@ -260,3 +265,37 @@ shared_acls = refl
 shared_owner_and_acl : reading (hex "010004801400000000000000000000001c00000001020000000000050200080000000000") ≡ Err (faults.Overlap Owner Dacl)
 unfolding computed
 shared_owner_and_acl = refl
+
+-- the control word: the names and the bits of MS-DTYP 2.4.6
+
+lettered : List ControlBit → List (List ℕ × ℕ)
+lettered bits = map (λ b. (b.first ∷ b.second ∷ [], b.bit)) bits
+
+named_bits : lettered CONTROL_BITS ≡
+    (codes "OD", 0x1) ∷ (codes "GD", 0x2) ∷ (codes "DP", 0x4) ∷ (codes "DD", 0x8) ∷ (codes "SP", 0x10)
+    ∷ (codes "SD", 0x20)
+    ∷ (codes "DC", 0x100) ∷ (codes "SC", 0x200) ∷ (codes "DI", 0x400) ∷ (codes "SI", 0x800) ∷ (codes "PD", 0x1000)
+    ∷ (codes "PS", 0x2000) ∷ (codes "RM", 0x4000) ∷ (codes "SR", 0x8000) ∷ []
+unfolding lettered
+named_bits = refl
+
+flags : Bool → Bool → Bool → AclFlags
+flags p r i = record { protected = p; auto_inherit_required = r; auto_inherited = i }
+
+-- SR, PD, DI and DP
+flags_of_a_protected_dacl : acl_flags which.Dacl 0x9404 ≡ flags true false true
+unfolding flags
+flags_of_a_protected_dacl = refl
+
+no_flags_of_its_sacl : acl_flags which.Sacl 0x9404 ≡ flags false false false
+unfolding flags
+no_flags_of_its_sacl = refl
+
+-- PS, SC and SI; PD, DC and DI
+bits_of_the_flags_of_a_sacl : flag_bits which.Sacl (flags true true true) ≡ 0x2a00
+unfolding flags
+bits_of_the_flags_of_a_sacl = refl
+
+bits_of_the_flags_of_a_dacl : flag_bits which.Dacl (flags true true true) ≡ 0x1500
+unfolding flags
+bits_of_the_flags_of_a_dacl = refl

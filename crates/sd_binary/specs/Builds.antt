@@ -1,14 +1,14 @@
 -- What a builder's buffer holds between its calls: the parts that are closed, at the places that the builder keeps, and
 -- after them the ACL that is open. Callers of a builder never look inside `Builds`.
-use Rattle.std.specs.Prelude.{◌≡◌, ◌≤◌, ℕ, ◌+◌, List, [], length, drop, ◌++◌, Option, Some, None}
+use Rattle.std.specs.Prelude.{◌≡◌, ◌≤◌, ℕ, ◌+◌, List, [], length, drop, take, ◌++◌, Option, Some, None, unwrap_or}
 use Rattle.std.specs.List.{flat_map}
 use Rattle.sd_core.specs.Ace.{AccessControlEntry}
 use Rattle.sd_core.specs.Sid.{SecurityId, IsSid, sid_bytes}
 use Rattle.sd_binary.specs.Acl.{IsAcl, acl_size, has_object}
 use Rattle.sd_binary.specs.AclLayout.{ace_bytes, acl_bytes}
 use Rattle.sd_binary.specs.Descriptor.{AreApart, Extent, Extents, sid_extent}
-use Rattle.sd_binary.specs.Draft.{Draft, acl_of}
-use Rattle.sd_binary.specs.Layout.{acl_part_size, sid_part_size}
+use Rattle.sd_binary.specs.Draft.{Draft, acl_of, bytes_after, part_of, parts_given}
+use Rattle.sd_binary.specs.Layout.{acl_part_size, offset_if, sid_part_size}
 use Rattle.sd_binary.specs.declared.acl.AclPart.{AclPart}
 use Rattle.sd_binary.specs.declared.acl.AclPart.TheVariants as acl
 use Rattle.sd_binary.specs.declared.builder.Builder.{Builder}
@@ -103,3 +103,27 @@ pub record Building (b : Builder) (bytes : List ℕ) (t : Draft) : Type 0 where
 -- the buffer is as the builder's last call left it, and the builder was given these parts
 unfoldable pub Builds : Builder → List ℕ → Draft → Type 0
 Builds b bytes t = Building b bytes t
+
+-- the offsets that are kept are the layout's
+pub record HasLayoutOffsets (b : Builder) (t : Draft) : Type 0 where
+  pub owner : b.owner ≡ offset_if 20 (sid_part_size t.owner)
+  pub group : b.group ≡ offset_if (20 + sid_part_size t.owner) (sid_part_size t.group)
+  pub sacl : unwrap_or b.sacl 0 ≡ offset_if (20 + sid_part_size t.owner + sid_part_size t.group) (acl_part_size t.sacl)
+  pub dacl : unwrap_or b.dacl 0
+      ≡ offset_if (20 + sid_part_size t.owner + sid_part_size t.group + acl_part_size t.sacl) (acl_part_size t.dacl)
+
+-- no part that comes after the open ACL was given
+abbrev pub OpenIsLast : Option (Which × List AccessControlEntry) → Draft → Type 0
+OpenIsLast None t = Unit {0}
+OpenIsLast (Some u) t = bytes_after (part_of u.0) t ≡ []
+
+-- the parts that are closed follow the header in the order of the layout
+pub record BuildingInOrder (b : Builder) (bytes : List ℕ) (t : Draft) : Type 0 where
+  pub building : Building b bytes t
+  pub offsets : HasLayoutOffsets b t
+  pub parts : take (length (parts_given t)) (drop 20 bytes) ≡ parts_given t
+  pub last : OpenIsLast t.«open» t
+
+-- the same as `Builds`, and the parts were given in the order owner, group, SACL and DACL
+unfoldable pub BuildsInOrder : Builder → List ℕ → Draft → Type 0
+BuildsInOrder b bytes t = BuildingInOrder b bytes t

@@ -1,10 +1,12 @@
 -- Self-relative security descriptors (MS-DTYP 2.4.6): what one is, and which bytes show which.
-use Rattle.std.specs.Prelude.{◌≡◌, ◌≤◌, ◌<◌, ℕ, ◌+◌, ◌/◌, ◌%◌, ◌^◌, ◌⊎◌, ◌==◌, Bool, true, false, List, length, drop, slice_index, Option, Some, None, IfSome}
+use Rattle.std.specs.Prelude.{◌≡◌, ◌≤◌, ◌<◌, ℕ, ◌+◌, ◌^◌, ◌⊎◌, Bool, true, false, List, length, drop, slice_index, Option, Some, None, IfSome}
 use Rattle.sd_core.specs.Sid.{SecurityId, IsSid, BeginsWithSid, sid_size}
 use Rattle.sd_binary.specs.Acl.{BeginsWithAcl, IsAcl}
 use Rattle.sd_binary.specs.Bytes.{u16_at, u32_at}
+use Rattle.sd_binary.specs.Control.{has_bit}
 use Rattle.sd_binary.specs.declared.acl.AclPart.{AclPart}
 use Rattle.sd_binary.specs.declared.acl.AclPart.TheVariants as acl
+use Rattle.sd_binary.specs.declared.control.TheConstants.{DACL_PRESENT, SACL_PRESENT, SELF_RELATIVE}
 
 pub record Descriptor : Type 0 where
   -- the control word
@@ -18,13 +20,13 @@ pub record Descriptor : Type 0 where
 
 -- bits of the control word: SR, SP and DP
 abbrev pub self_relative : ℕ → Bool
-self_relative control = control / 0x8000 % 2 == 1
+self_relative control = has_bit SELF_RELATIVE control
 
 abbrev pub sacl_present : ℕ → Bool
-sacl_present control = control / 0x10 % 2 == 1
+sacl_present control = has_bit SACL_PRESENT control
 
 abbrev pub dacl_present : ℕ → Bool
-dacl_present control = control / 0x4 % 2 == 1
+dacl_present control = has_bit DACL_PRESENT control
 
 -- the fields of the header: the control word and the offsets of the parts
 abbrev pub control_at : List ℕ → ℕ

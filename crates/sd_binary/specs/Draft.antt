@@ -1,13 +1,17 @@
 -- What a builder was given so far, and the descriptor that it ends with (MS-DTYP 2.4.6).
-use Rattle.std.specs.Prelude.{◌≡◌, ℕ, ◌+◌, ◌-◌, ◌*◌, ◌/◌, ◌%◌, if◌then◌else◌, Bool, true, false, List, [], ◌∷◌, ◌++◌, length, drop, Option, Some, None}
+use Rattle.std.specs.Prelude.{◌≡◌, ℕ, ◌+◌, ◌-◌, Bool, true, false, List, [], ◌∷◌, ◌++◌, length, drop, Option, Some, None}
 use Rattle.sd_core.specs.Ace.{AccessControlEntry}
 use Rattle.sd_core.specs.Sid.{SecurityId}
 use Rattle.sd_binary.specs.Acl.{acl_size}
 use Rattle.sd_binary.specs.AclLayout.{acl_bytes}
+use Rattle.sd_binary.specs.Control.{bit_if, bit_of}
 use Rattle.sd_binary.specs.Descriptor.{Descriptor, dacl_at, sacl_at}
-use Rattle.sd_binary.specs.Layout.{size}
+use Rattle.sd_binary.specs.Layout.{acl_part, sid_part, size}
 use Rattle.sd_binary.specs.declared.acl.AclPart.{AclPart}
 use Rattle.sd_binary.specs.declared.acl.AclPart.TheVariants as acl
+use Rattle.sd_binary.specs.declared.control.TheConstants.{DACL_PRESENT, SACL_PRESENT, SELF_RELATIVE}
+use Rattle.sd_binary.specs.declared.fault.Part.{Part}
+use Rattle.sd_binary.specs.declared.fault.Part.TheVariants as part
 use Rattle.sd_binary.specs.declared.builder.Which.{Which}
 use Rattle.sd_binary.specs.declared.builder.Which.TheVariants as which
 
@@ -29,6 +33,21 @@ acl_of which.Dacl t = t.dacl
 abbrev pub with_acl : Which → AclPart → Draft → Draft
 with_acl which.Sacl part t = record t { sacl = part }
 with_acl which.Dacl part t = record t { dacl = part }
+
+-- The bytes of the parts that are given, in the order of the layout, and of those of them that come after a part in it.
+
+abbrev pub part_of : Which → Part
+part_of which.Sacl = part.Sacl
+part_of which.Dacl = part.Dacl
+
+abbrev pub bytes_after : Part → Draft → List ℕ
+bytes_after part.Owner t = sid_part t.group ++ (acl_part t.sacl ++ acl_part t.dacl)
+bytes_after part.Group t = acl_part t.sacl ++ acl_part t.dacl
+bytes_after part.Sacl t = acl_part t.dacl
+bytes_after part.Dacl t = []
+
+abbrev pub parts_given : Draft → List ℕ
+parts_given t = sid_part t.owner ++ bytes_after part.Owner t
 
 -- no ACL is open, and the part is not given yet
 abbrev pub CanBegin : Which → Draft → Type 0
@@ -71,13 +90,9 @@ closed t = closed_in t.«open» t
 
 -- The descriptor that is finished.
 
--- a bit of a word, at its place
-abbrev pub bit_of : ℕ → ℕ → ℕ
-bit_of bit word = word / bit % 2 * bit
-
--- the flags without SR, SP and DP (0x8014), which tell of the form and of the ACLs that stand
+-- the flags without SR, SP and DP, which tell of the form and of the ACLs that stand
 abbrev pub other_flags : ℕ → ℕ
-other_flags flags = flags - bit_of 0x8000 flags - bit_of 0x10 flags - bit_of 0x4 flags
+other_flags flags = flags - bit_of SELF_RELATIVE flags - bit_of SACL_PRESENT flags - bit_of DACL_PRESENT flags
 
 -- an ACL is present, null or not
 abbrev pub is_present : AclPart → Bool
@@ -85,12 +100,9 @@ is_present acl.Absent = false
 is_present acl.Null = true
 is_present (acl.List aces) = true
 
-abbrev pub bit_if : Bool → ℕ → ℕ
-bit_if stands bit = if stands then bit else 0
-
 -- the control word: those flags, SR, and SP and DP where the ACLs are present
 abbrev pub control_of : ℕ → Bool → Bool → ℕ
-control_of flags sacl dacl = other_flags flags + 0x8000 + bit_if sacl 0x10 + bit_if dacl 0x4
+control_of flags sacl dacl = other_flags flags + SELF_RELATIVE + bit_if sacl SACL_PRESENT + bit_if dacl DACL_PRESENT
 
 -- the parts under a control word and a resource manager byte
 abbrev pub built : ℕ → ℕ → Draft → Descriptor
@@ -105,10 +117,10 @@ built flags rm t = record {
 
 -- Its bytes have the one written form of each part.
 
--- an ACL stands in its written form (MS-DTYP 2.4.5)
+-- an ACL stands in its written form (MS-DTYP 2.4.5); the offset is 0 where none stands
 abbrev pub AclIsWritten : List ℕ → ℕ → AclPart → Type 0
-AclIsWritten bytes offset acl.Absent = Unit {0}
-AclIsWritten bytes offset acl.Null = Unit {0}
+AclIsWritten bytes offset acl.Absent = offset ≡ 0
+AclIsWritten bytes offset acl.Null = offset ≡ 0
 AclIsWritten bytes offset (acl.List aces) = (rest : List ℕ) × (drop offset bytes ≡ acl_bytes aces ++ rest)
 
 -- as many bytes as the layout has, and so no gap; in each ACL revision 4 exactly where an object ACE stands

@@ -5,6 +5,7 @@ pub mod AclLayout
 pub mod AclReading
 pub mod Builds
 pub mod Bytes
+pub mod Control
 pub mod Descriptor
 pub mod Draft
 pub mod Found

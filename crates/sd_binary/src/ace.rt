@@ -3,7 +3,7 @@ ghost use Rattle.std.specs.Prelude.{◌≡◌, ◌≤◌, ◌<◌, ◌+◌, ◌%
 ghost use Rattle.uuid.specs.Parts.{swap_fields};
 ghost use Rattle.sd_core.specs.Ace.{IsAce, ace_size, is_object};
 ghost use Rattle.sd_binary.specs.Ace.{announces_inherited, announces_object};
-ghost use Rattle.sd_binary.specs.AclLayout.{ace_body, flag_if, front_size};
+ghost use Rattle.sd_binary.specs.AclLayout.{ace_body, ace_bytes, flag_if, front_size};
 ghost use Rattle.sd_binary.specs.AclReading.{IsAcePlace, ace_fault, ace_of, kind_in, kind_of as kind_read, place_fault, sid_offset_in};
 ghost use Rattle.sd_binary.specs.Bytes.{u16_at as u16_of};
 
@@ -221,7 +221,10 @@ impl<'a> AceView<'a> {
 
     /// The written size in bytes, without what stands after the SID: at most 112.
     pub fn size(&self) -> u16
-        ensures { result ≡ ace_size self.now }
+        ensures value { result ≡ ace_size self.now }
+        ensures most { ace_size self.now ≤ 112 }
+        // As many bytes as its written form has.
+        ensures written { length (ace_bytes self.now) ≡ ace_size self.now }
     {
         (self.front_size() + self.body().len()) as u16
     }

@@ -8,15 +8,8 @@ ghost use Rattle.sd_binary.specs.Bytes.{u16_at as u16_of};
 use crate::ace::{AceView, ace_view, check_ace};
 use crate::bytes::u16_at;
 use crate::fault::AclFault;
+use crate::limits::{ACL_HEADER_SIZE, ACL_REVISION, ACL_REVISION_DS};
 use std::marker::Model;
-
-/// The bytes of an ACL without ACEs: revision, size and count.
-const HEADER_SIZE: usize = 8;
-
-/// Revisions (MS-DTYP 2.4.5): the second one may have object ACEs.
-const REVISION: u8 = 2;
-
-const REVISION_DS: u8 = 4;
 
 /// What the front of a written ACL is made from, besides the count: its size, and whether an object ACE
 /// stands in it.
@@ -33,7 +26,7 @@ fn check_aces(count: u16, bytes: &[u8]) -> Result<Written, AclFault>
     ensures object { IfOk result (λ w. w.object ≡ has_object (aces_of count bytes.now)) }
 {
     let mut left = bytes;
-    let mut size = HEADER_SIZE;
+    let mut size = ACL_HEADER_SIZE;
     let mut object = false;
     for _ in 0..count {
         let ace = check_ace(left)?;
@@ -53,14 +46,14 @@ pub(crate) fn check_acl(bytes: &[u8]) -> Result<(usize, Written), AclFault>
     ensures size { IfOk result (λ r. (r.1.size ≡ acl_size (acl_of (acl_place bytes.now))) × (r.1.size ≤ r.0)) }
     ensures object { IfOk result (λ r. r.1.object ≡ has_object (acl_of (acl_place bytes.now))) }
 {
-    if bytes[0] != REVISION && bytes[0] != REVISION_DS {
+    if bytes[0] != ACL_REVISION && bytes[0] != ACL_REVISION_DS {
         return Err(AclFault::Acl);
     }
     let n = usize::from(u16_at(bytes, 2));
-    if n < HEADER_SIZE || bytes.len() < n {
+    if n < ACL_HEADER_SIZE || bytes.len() < n {
         return Err(AclFault::Acl);
     }
-    let written = check_aces(u16_at(bytes, 4), &bytes[..n][HEADER_SIZE..])?;
+    let written = check_aces(u16_at(bytes, 4), &bytes[..n][ACL_HEADER_SIZE..])?;
     Ok((n, written))
 }
 
@@ -119,7 +112,7 @@ impl<'a> AclView<'a> {
         ensures count { length self.now < 2 ^ 16 }
     {
         Aces {
-            left: &self.place[HEADER_SIZE..],
+            left: &self.place[ACL_HEADER_SIZE..],
             count: self.count(),
         }
     }

@@ -8,12 +8,8 @@ ghost use Rattle.sd_binary.specs.AclLayout.{ace_bytes, ace_front, acl_bytes, acl
 
 use crate::ace::AceView;
 use crate::acl::AclView;
+use crate::limits::{ACL_REVISION, ACL_REVISION_DS};
 use sd_core::{AceKind, Print};
-
-/// Revisions (MS-DTYP 2.4.5): the second one may have object ACEs.
-const REVISION: u8 = 2;
-
-const REVISION_DS: u8 = 4;
 
 /// Prints an ACL: its header, and its ACEs one after the other.
 pub(crate) fn print_acl<P: Print>(acl: &AclView<'_>, out: &mut P)
@@ -34,7 +30,11 @@ fn header_of(acl: &AclView<'_>) -> [u8; 8]
 pub(crate) fn acl_header(object: bool, size: u16, count: u16) -> [u8; 8]
     ensures { result ≡ revision_if object ∷ 0 ∷ little_bytes 2 size ++ (little_bytes 2 count ++ (0 ∷ 0 ∷ [])) }
 {
-    let revision = if object { REVISION_DS } else { REVISION };
+    let revision = if object {
+        ACL_REVISION_DS
+    } else {
+        ACL_REVISION
+    };
     let s = size.to_le_bytes();
     let c = count.to_le_bytes();
     [revision, 0, s[0], s[1], c[0], c[1], 0, 0]

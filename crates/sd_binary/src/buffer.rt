@@ -1,14 +1,12 @@
 // The buffer that holds the bytes of a descriptor.
 ghost use Rattle.std.specs.Prelude.{◌≡◌, ◌≤◌, ◌<◌, ◌*◌, take, drop, ◌++◌, ◌∷◌, ◌+◌, ◌-◌, ◌↔◌, [], length, Ok, Err, IfOk, OnOk, OnErr, IsErr, MatchResult};
 ghost use Rattle.sd_binary.specs.Text.{hex_spells};
+ghost use Rattle.sd_binary.specs.declared.limits.TheConstants.{CAPACITY};
 
+use crate::limits::CAPACITY;
 use sd_core::NoMemory;
 use std::alloc::Global;
 use std::marker::Model;
-
-/// The bytes of a descriptor that is held at most: the header, two SIDs of 68 bytes and two ACLs of
-/// 65,535.
-const CAPACITY: usize = 131_226;
 
 /// The buffer has no room.
 #[derive(Clone, Copy, Debug, PartialEq, Eq)]
@@ -32,12 +30,13 @@ pub struct SdBuf {
 
 impl Model for SdBuf {
     ghost use Rattle.std.specs.Prelude.{◌≡◌, ◌≤◌, ℕ, List, length, take};
+    ghost use Rattle.sd_binary.specs.declared.limits.TheConstants.{CAPACITY};
 
     ghost Value = { List ℕ };
 
     ghost view = { λ b. take b.held b.cells.items };
 
-    ghost invariant = { λ b. (length b.cells.items ≡ 131226) × (b.held ≤ 131226) };
+    ghost invariant = { λ b. (length b.cells.items ≡ CAPACITY) × (b.held ≤ CAPACITY) };
 }
 
 impl SdBuf {
@@ -53,7 +52,7 @@ impl SdBuf {
 
     /// Appends a byte. Full exactly at 131,226 bytes, and then unchanged.
     pub fn push(&mut self, byte: u8) -> Result<(), Full>
-        ensures full { IsErr result ↔ (length self.old ≡ 131226) }
+        ensures full { IsErr result ↔ (length self.old ≡ CAPACITY) }
         ensures ok { OnOk result (self.new ≡ self.old ++ byte ∷ []) }
         ensures same { OnErr result (self.new ≡ self.old) }
     {
@@ -67,7 +66,7 @@ impl SdBuf {
 
     // Appends all of the bytes, or none where there is no room for them.
     pub(crate) fn extend(&mut self, bytes: &[u8]) -> Result<(), Full>
-        ensures full { IsErr result ↔ (131226 - length self.old < length bytes.now) }
+        ensures full { IsErr result ↔ (CAPACITY - length self.old < length bytes.now) }
         ensures ok { OnOk result (self.new ≡ self.old ++ bytes.now) }
         ensures same { OnErr result (self.new ≡ self.old) }
     {
@@ -80,7 +79,7 @@ impl SdBuf {
 
     // Appends bytes that there is room for.
     pub(crate) fn append(&mut self, bytes: &[u8])
-        requires { length self.old + length bytes.now ≤ 131226 }
+        requires { length self.old + length bytes.now ≤ CAPACITY }
         ensures { self.new ≡ self.old ++ bytes.now }
     {
         place(&mut self.cells, self.held, bytes);
@@ -105,7 +104,7 @@ impl SdBuf {
     /// The contents, at most 131,226 bytes.
     pub fn bytes(&self) -> &[u8]
         ensures value { result.now ≡ self.now }
-        ensures bound { length self.now ≤ 131226 }
+        ensures bound { length self.now ≤ CAPACITY }
     {
         &self.cells[..self.held]
     }

@@ -1,32 +1,20 @@
 // Descriptors built part by part in a buffer.
-ghost use Rattle.std.specs.Prelude.{◌≡◌, ◌≤◌, ◌<◌, ◌+◌, ◌^◌, ◌↔◌, Some, None, IsErr, OnOk, OnErr};
+ghost use Rattle.std.specs.Prelude.{◌≡◌, ◌≤◌, ◌<◌, ◌+◌, ◌^◌, ◌↔◌, [], Some, None, IsErr, OnOk, OnErr};
 ghost use Rattle.sd_core.specs.Ace.{ace_size};
-ghost use Rattle.sd_binary.specs.Builds.{Builds, placed};
+ghost use Rattle.sd_binary.specs.Builds.{Builds, BuildsInOrder, placed};
 ghost use Rattle.sd_binary.specs.Descriptor.{Shows};
-ghost use Rattle.sd_binary.specs.Draft.{CanBegin, Draft, IsOpen, IsWritten, begun, bit_of, built, closed, control_of, no_parts, open_size, with_ace, with_acl};
+ghost use Rattle.sd_binary.specs.Draft.{CanBegin, Draft, IsOpen, IsWritten, begun, built, bytes_after, closed, no_parts, open_size, part_of, with_ace, with_acl};
+ghost use Rattle.sd_binary.specs.Layout.{layout};
 ghost use Rattle.sd_binary.specs.declared.acl.AclPart.TheVariants as acl;
+ghost use Rattle.sd_binary.specs.declared.fault.Part.TheVariants as part;
 
 use crate::acl_layout::acl_header;
 use crate::buffer::SdBuf;
+use crate::control::control_of;
 use crate::layout::header;
+use crate::limits::{ACL_HEADER_SIZE, HEADER_SIZE, MOST_ACL_SIZE};
 use crate::pieces::{append_ace, place_sid};
 use sd_core::{Ace, Sid};
-
-/// The bytes of a descriptor's header: revision, resource manager byte, control word and four offsets.
-const HEADER_SIZE: usize = 20;
-
-/// The bytes of an ACL without ACEs: revision, size and count.
-const ACL_HEADER_SIZE: usize = 8;
-
-/// The bytes that an ACL takes at most.
-const MOST_ACL_SIZE: usize = 65_535;
-
-/// Bits of the control word: DP, SP and SR in MS-DTYP 2.4.6.
-const DACL_PRESENT: u16 = 0x4;
-
-const SACL_PRESENT: u16 = 0x10;
-
-const SELF_RELATIVE: u16 = 0x8000;
 
 /// The ACL would pass 65,535 bytes.
 #[derive(Clone, Copy, Debug, PartialEq, Eq)]
@@ -66,7 +54,8 @@ pub struct OpenAcl {
 impl Builder {
     /// Clears the buffer, and begins a descriptor in it.
     pub fn new(buf: &mut SdBuf) -> Builder
-        ensures { Builds result buf.new no_parts }
+        ensures value { Builds result buf.new no_parts }
+        ensures in_order { BuildsInOrder result buf.new no_parts }
     {
         buf.clear();
         // Room for the header, which `finish` writes.
@@ -83,7 +72,9 @@ impl Builder {
     /// Appends the SID of the owner (MS-DTYP 2.4.2).
     pub fn owner(&mut self, buf: &mut SdBuf, sid: &Sid)
         requires { (t : Draft) × Builds self.old buf.old t × (t.owner ≡ None) × (t.«open» ≡ None) }
-        ensures { (t : Draft) → Builds self.old buf.old t → Builds self.new buf.new (record t { owner = Some sid.now }) }
+        ensures value { (t : Draft) → Builds self.old buf.old t → Builds self.new buf.new (record t { owner = Some sid.now }) }
+        ensures in_order { (t : Draft) → BuildsInOrder self.old buf.old t → bytes_after part.Owner t ≡ []
+            → BuildsInOrder self.new buf.new (record t { owner = Some sid.now }) }
     {
         self.owner = place_sid(buf, sid);
     }
@@ -91,7 +82,9 @@ impl Builder {
     /// Appends the SID of the primary group (MS-DTYP 2.4.2).
     pub fn group(&mut self, buf: &mut SdBuf, sid: &Sid)
         requires { (t : Draft) × Builds self.old buf.old t × (t.group ≡ None) × (t.«open» ≡ None) }
-        ensures { (t : Draft) → Builds self.old buf.old t → Builds self.new buf.new (record t { group = Some sid.now }) }
+        ensures value { (t : Draft) → Builds self.old buf.old t → Builds self.new buf.new (record t { group = Some sid.now }) }
+        ensures in_order { (t : Draft) → BuildsInOrder self.old buf.old t → bytes_after part.Group t ≡ []
+            → BuildsInOrder self.new buf.new (record t { group = Some sid.now }) }
     {
         self.group = place_sid(buf, sid);
     }
@@ -99,7 +92,9 @@ impl Builder {
     /// Begins an ACL (MS-DTYP 2.4.5), to which `ace` appends, until `end_acl`.
     pub fn begin_acl(&mut self, buf: &mut SdBuf, which: Which)
         requires { (t : Draft) × Builds self.old buf.old t × CanBegin which t }
-        ensures { (t : Draft) → Builds self.old buf.old t → Builds self.new buf.new (begun which t) }
+        ensures value { (t : Draft) → Builds self.old buf.old t → Builds self.new buf.new (begun which t) }
+        ensures in_order { (t : Draft) → BuildsInOrder self.old buf.old t → bytes_after (part_of which) t ≡ []
+            → BuildsInOrder self.new buf.new (begun which t) }
     {
         self.open = Some(OpenAcl {
             which,
@@ -117,6 +112,8 @@ impl Builder {
         requires { (t : Draft) × Builds self.old buf.old t × IsOpen t }
         ensures full { (t : Draft) → Builds self.old buf.old t → (IsErr result ↔ (2 ^ 16 ≤ open_size t + ace_size ace.now)) }
         ensures ok { (t : Draft) → Builds self.old buf.old t → OnOk result (Builds self.new buf.new (with_ace ace.now t)) }
+        ensures in_order { (t : Draft) → BuildsInOrder self.old buf.old t
+            → OnOk result (BuildsInOrder self.new buf.new (with_ace ace.now t)) }
         ensures same { OnErr result ((self.new ≡ self.old) × (buf.new ≡ buf.old)) }
     {
         let open = self.open.unwrap();
@@ -138,7 +135,8 @@ impl Builder {
     /// it, and else 2.
     pub fn end_acl(&mut self, buf: &mut SdBuf)
         requires { (t : Draft) × Builds self.old buf.old t × IsOpen t }
-        ensures { (t : Draft) → Builds self.old buf.old t → Builds self.new buf.new (closed t) }
+        ensures value { (t : Draft) → Builds self.old buf.old t → Builds self.new buf.new (closed t) }
+        ensures in_order { (t : Draft) → BuildsInOrder self.old buf.old t → BuildsInOrder self.new buf.new (closed t) }
     {
         let open = self.open.unwrap();
         let start = open.start as usize;
@@ -151,7 +149,9 @@ impl Builder {
     /// An ACL that is present and null (MS-DTYP 2.4.6): its offset is 0.
     pub fn null_acl(&mut self, buf: &mut SdBuf, which: Which)
         requires { (t : Draft) × Builds self.old buf.old t × CanBegin which t }
-        ensures { (t : Draft) → Builds self.old buf.old t → Builds self.new buf.new (with_acl which acl.Null t) }
+        ensures value { (t : Draft) → Builds self.old buf.old t → Builds self.new buf.new (with_acl which acl.Null t) }
+        ensures in_order { (t : Draft) → BuildsInOrder self.old buf.old t
+            → BuildsInOrder self.new buf.new (with_acl which acl.Null t) }
     {
         self.keep(which, 0);
     }
@@ -173,8 +173,10 @@ impl Builder {
         ensures shows { (t : Draft) → Builds self buf.old t → Shows buf.new (built flags rm t) }
         // Without gaps, and each part in its one written form.
         ensures written { (t : Draft) → Builds self buf.old t → IsWritten buf.new (built flags rm t) }
+        // In the one layout, where the parts came in its order.
+        ensures laid_out { (t : Draft) → BuildsInOrder self buf.old t → buf.new ≡ layout (built flags rm t) }
     {
-        let control = control(flags, self.sacl.is_some(), self.dacl.is_some());
+        let control = control_of(flags, self.sacl.is_some(), self.dacl.is_some());
         let bytes = header(
             rm,
             control,
@@ -185,28 +187,6 @@ impl Builder {
         );
         buf.patch(0, &bytes);
     }
-}
-
-// The control word: the flags without SR, SP and DP, and then SR and the present bits of the ACLs that stand.
-fn control(flags: u16, sacl: bool, dacl: bool) -> u16
-    ensures { result ≡ control_of flags sacl dacl }
-{
-    let other = flags
-        - bit_of(SELF_RELATIVE, flags)
-        - bit_of(SACL_PRESENT, flags)
-        - bit_of(DACL_PRESENT, flags);
-    let sacl = if sacl { SACL_PRESENT } else { 0 };
-    let dacl = if dacl { DACL_PRESENT } else { 0 };
-    other + SELF_RELATIVE + sacl + dacl
-}
-
-// A bit of a word, at its place.
-#[inline(always)]
-fn bit_of(bit: u16, word: u16) -> u16
-    requires { 0 < bit }
-    ensures { result ≡ bit_of bit word }
-{
-    word / bit % 2 * bit
 }
 
 #[cfg(test)]

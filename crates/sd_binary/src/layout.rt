@@ -4,10 +4,12 @@ ghost use Rattle.sd_core.specs.Print.{Prints};
 ghost use Rattle.sd_core.specs.Sink.{Puts};
 ghost use Rattle.sd_binary.specs.Descriptor.{IsDescriptor, Shows};
 ghost use Rattle.sd_binary.specs.Layout.{acl_part, descriptor_header, header_bytes, layout, offset_if, parts, size};
+ghost use Rattle.sd_binary.specs.declared.limits.TheConstants.{MOST_LAYOUT_SIZE};
 
 use crate::acl::AclPart;
 use crate::acl_layout::print_acl;
 use crate::buffer::SdBuf;
+use crate::limits::HEADER_SIZE;
 use crate::view::SdView;
 use sd_core::{Print, Printer, Sink, SinkFault};
 
@@ -18,7 +20,7 @@ pub fn put_layout<S: Sink>(view: &SdView<'_>, sink: &mut S) -> Result<(), SinkFa
     // What is put shows the descriptor.
     ensures shows { Shows (layout view.now) view.now }
     ensures size { length (layout view.now) ≡ size view.now }
-    ensures most { size view.now ≤ 131220 }
+    ensures most { size view.now ≤ MOST_LAYOUT_SIZE }
     // No bytes that show the descriptor are fewer.
     ensures least { (bytes : List ℕ) → Shows bytes view.now → size view.now ≤ length bytes }
 {
@@ -47,10 +49,11 @@ fn print_acl_part<P: Print>(part: &AclPart<'_>, out: &mut P)
     }
 }
 
-fn header_of(view: &SdView<'_>) -> [u8; 20]
+fn header_of(view: &SdView<'_>) -> [u8; HEADER_SIZE]
     ensures value { result ≡ descriptor_header view.now }
     ensures limits { IsDescriptor view.now }
 {
+    let first = HEADER_SIZE as u32;
     let owner = view.owner_place().len() as u32;
     let group = view.group_place().len() as u32;
     let acls = view.acls();
@@ -59,10 +62,10 @@ fn header_of(view: &SdView<'_>) -> [u8; 20]
     header(
         view.rm(),
         view.control(),
-        offset_if(20, owner),
-        offset_if(20 + owner, group),
-        offset_if(20 + owner + group, sacl),
-        offset_if(20 + owner + group + sacl, dacl),
+        offset_if(first, owner),
+        offset_if(first + owner, group),
+        offset_if(first + owner + group, sacl),
+        offset_if(first + owner + group + sacl, dacl),
     )
 }
 
@@ -74,7 +77,14 @@ fn offset_if(place: u32, size: u32) -> u32
 }
 
 #[tactic(auto, unfolding(crate::specs::Layout::header_bytes))]
-pub(crate) fn header(rm: u8, control: u16, owner: u32, group: u32, sacl: u32, dacl: u32) -> [u8; 20]
+pub(crate) fn header(
+    rm: u8,
+    control: u16,
+    owner: u32,
+    group: u32,
+    sacl: u32,
+    dacl: u32,
+) -> [u8; HEADER_SIZE]
     ensures { result ≡ header_bytes rm control owner group sacl dacl }
 {
     let c = control.to_le_bytes();
@@ -107,8 +117,9 @@ struct BufSink<'a> {
 
 impl<'a> Sink for BufSink<'a> {
     ghost use Rattle.std.specs.Prelude.{Some, ◌-◌, length};
+    ghost use Rattle.sd_binary.specs.declared.limits.TheConstants.{CAPACITY};
 
-    ghost told = { λ s. record { place = s.buf.ghost_name; contents = Some s.buf.now; failures = s.failures; room = 131226 - length s.buf.now } };
+    ghost told = { λ s. record { place = s.buf.ghost_name; contents = Some s.buf.now; failures = s.failures; room = CAPACITY - length s.buf.now } };
 
     fn put(&mut self, bytes: &[u8]) -> Result<(), SinkFault> {
         match self.buf.extend(bytes) {

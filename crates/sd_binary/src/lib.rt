@@ -7,8 +7,10 @@ mod acl_layout;
 mod buffer;
 mod builder;
 mod bytes;
+mod control;
 mod fault;
 mod layout;
+mod limits;
 mod pieces;
 mod view;
 
@@ -16,6 +18,7 @@ pub use ace::AceView;
 pub use acl::{Aces, AclPart, AclView};
 pub use buffer::{Full, SdBuf, TextFault};
 pub use builder::{AclTooLarge, Builder, Which};
+pub use control::{AclFlags, CONTROL_BITS, ControlBit};
 pub use fault::{Part, SdFault};
 pub use layout::{print_layout, put_layout, write_layout};
 pub use view::{SdView, read};

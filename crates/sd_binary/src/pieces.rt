@@ -3,23 +3,19 @@ ghost use Rattle.std.specs.Prelude.{◌≡◌, ◌≤◌, ◌+◌, ◌++◌, len
 ghost use Rattle.sd_core.specs.Ace.{IsAce, ace_size};
 ghost use Rattle.sd_core.specs.Sid.{IsSid, sid_bytes, sid_size};
 ghost use Rattle.sd_binary.specs.AclLayout.{ace_bytes, ace_front as front_bytes, flag_if, front_size, guid_part};
+ghost use Rattle.sd_binary.specs.declared.limits.TheConstants.{CAPACITY, MOST_SID_SIZE};
 
 use crate::ace::{FRONT_SIZE, OBJECT_FRONT_SIZE};
 use crate::acl_layout::kind_code;
 use crate::buffer::SdBuf;
+use crate::limits::{MOST_SID_SIZE, SID_HEADER_SIZE};
 use byteorder::{BigEndian, ByteOrder, LittleEndian};
 use sd_core::{Ace, Sid, guid_bytes};
 use uuid::Uuid;
 
-/// The bytes of a SID without sub-authorities: revision, count and identifier authority.
-const SID_HEADER_SIZE: usize = 8;
-
-/// The bytes of the largest SID, which has 15 sub-authorities.
-const MOST_SID_SIZE: usize = 68;
-
 // Appends a SID (MS-DTYP 2.4.2.2).
 pub(crate) fn append_sid(buf: &mut SdBuf, sid: &Sid)
-    requires { length buf.old + sid_size sid.now ≤ 131226 }
+    requires { length buf.old + sid_size sid.now ≤ CAPACITY }
     ensures { buf.new ≡ buf.old ++ sid_bytes sid.now }
 {
     let bytes = sid_front(sid);
@@ -28,7 +24,7 @@ pub(crate) fn append_sid(buf: &mut SdBuf, sid: &Sid)
 
 // Appends a SID, and tells where it stands.
 pub(crate) fn place_sid(buf: &mut SdBuf, sid: &Sid) -> u32
-    requires { length buf.old + 68 ≤ 131226 }
+    requires { length buf.old + MOST_SID_SIZE ≤ CAPACITY }
     ensures place { result ≡ length buf.old }
     ensures value { buf.new ≡ buf.old ++ sid_bytes sid.now }
     ensures limits { IsSid sid.now }
@@ -58,7 +54,7 @@ fn sid_front(sid: &Sid) -> [u8; 68]
 
 // Appends an ACE (MS-DTYP 2.4.4).
 pub(crate) fn append_ace(buf: &mut SdBuf, ace: &Ace)
-    requires { length buf.old + ace_size ace.now ≤ 131226 }
+    requires { length buf.old + ace_size ace.now ≤ CAPACITY }
     ensures { buf.new ≡ buf.old ++ ace_bytes ace.now }
 {
     append_front(buf, ace);
@@ -69,7 +65,7 @@ pub(crate) fn append_ace(buf: &mut SdBuf, ace: &Ace)
 
 // Appends what stands before the GUIDs.
 fn append_front(buf: &mut SdBuf, ace: &Ace)
-    requires { length buf.old + front_size ace.now.kind ≤ 131226 }
+    requires { length buf.old + front_size ace.now.kind ≤ CAPACITY }
     ensures value { buf.new ≡ buf.old ++ front_bytes ace.now }
     ensures limits { IsAce ace.now }
 {
@@ -107,7 +103,7 @@ fn object_flags(ace: &Ace) -> u32
 
 // Appends a GUID that may be there (MS-DTYP 2.3.4.2).
 fn append_guid(buf: &mut SdBuf, guid: &Option<Uuid>)
-    requires { length buf.old + length (guid_part guid.now) ≤ 131226 }
+    requires { length buf.old + length (guid_part guid.now) ≤ CAPACITY }
     ensures { buf.new ≡ buf.old ++ guid_part guid.now }
 {
     if let Some(guid) = guid {

@@ -1,25 +1,18 @@
 // Descriptors read in place.
-ghost use Rattle.std.specs.Prelude.{◌≡◌, ◌≤◌, ◌<◌, ◌+◌, ◌*◌, ◌/◌, ◌%◌, ◌==◌, ℕ, List, length, Ok, IfOk, OnOk, MatchResult};
+ghost use Rattle.std.specs.Prelude.{◌≡◌, ◌≤◌, ◌<◌, ◌+◌, ◌*◌, ℕ, List, length, Ok, IfOk, OnOk, MatchResult};
 ghost use Rattle.sd_binary.specs.Descriptor.{Descriptor, Shows, IsDescriptor, acl_extent, extents_of, sid_extent};
-ghost use Rattle.sd_binary.specs.Layout.{sid_part, size};
+ghost use Rattle.sd_binary.specs.Layout.{layout, sid_part, size};
 ghost use Rattle.sd_binary.specs.Found.{extents_seen, shown_written, written_of};
 ghost use Rattle.sd_binary.specs.Reading.{IsAclAt, IsSidAt, acl_part_fault, acl_shown, fault, fault_in, header_fault, share_a_byte as share_of, overlap_fault, overlaps_fault, parts_fault, reading, shown, sid_fault, sid_shown};
+ghost use Rattle.sd_binary.specs.declared.limits.TheConstants.{HEADER_SIZE, MOST_LAYOUT_SIZE, MOST_SID_SIZE};
 
 use crate::acl::{AclPart, Written, acl_view, check_acl};
 use crate::bytes::{u16_at, u32_at};
+use crate::control::{DACL_PRESENT, SACL_PRESENT, SELF_RELATIVE, has_bit};
 use crate::fault::{AclFault, Part, SdFault};
+use crate::limits::HEADER_SIZE;
 use sd_core::Sid;
 use std::marker::Model;
-
-/// The bytes of the header: revision, resource manager byte, control word and four offsets.
-const HEADER_SIZE: usize = 20;
-
-/// Bits of the control word: DP, SP and SR in MS-DTYP.
-const DACL_PRESENT: u16 = 0x4;
-
-const SACL_PRESENT: u16 = 0x10;
-
-const SELF_RELATIVE: u16 = 0x8000;
 
 /// What is kept of an ACL that does not stand.
 const NOTHING: Written = Written {
@@ -96,7 +89,7 @@ fn check(bytes: &[u8]) -> Result<Acls, SdFault>
 #[tactic(auto, unfolding(crate::specs::Reading::header_fault))]
 fn check_header(bytes: &[u8]) -> Result<(), SdFault>
     ensures fault { MatchResult result (λ _. header_fault bytes.now ≡ None) (λ f. header_fault bytes.now ≡ Some f) }
-    ensures room { OnOk result (20 ≤ length bytes.now) }
+    ensures room { OnOk result (HEADER_SIZE ≤ length bytes.now) }
 {
     if bytes.len() < HEADER_SIZE {
         return Err(SdFault::Short);
@@ -104,24 +97,16 @@ fn check_header(bytes: &[u8]) -> Result<(), SdFault>
     if bytes[0] != 1 {
         return Err(SdFault::Revision);
     }
-    if !is_set(u16_at(bytes, 2), SELF_RELATIVE) {
+    if !has_bit(SELF_RELATIVE, u16_at(bytes, 2)) {
         return Err(SdFault::NotSelfRelative);
     }
     Ok(())
 }
 
-#[inline(always)]
-fn is_set(control: u16, bit: u16) -> bool
-    requires { 0 < bit }
-    ensures { result ≡ (control / bit % 2 == 1) }
-{
-    control / bit % 2 == 1
-}
-
 // The first fault of the parts, or where they stand and what the written form of the ACLs needs.
 #[tactic(auto, unfolding(crate::specs::Reading::parts_fault))]
 fn check_parts(bytes: &[u8]) -> Result<(Places, Acls), SdFault>
-    requires { 20 ≤ length bytes.now }
+    requires { HEADER_SIZE ≤ length bytes.now }
     ensures fault { MatchResult result (λ _. parts_fault bytes.now ≡ None) (λ f. parts_fault bytes.now ≡ Some f) }
     ensures places { IfOk result (λ r. extents_seen r.0 ≡ extents_of bytes.now (shown bytes.now)) }
     ensures acls { IfOk result (λ r. r.1 ≡ shown_written (shown bytes.now)) }
@@ -129,14 +114,14 @@ fn check_parts(bytes: &[u8]) -> Result<(Places, Acls), SdFault>
     let control = u16_at(bytes, 2);
     let owner = check_sid(Part::Owner, bytes, u32_at(bytes, 4))?;
     let group = check_sid(Part::Group, bytes, u32_at(bytes, 8))?;
-    let sacl_is_present = is_set(control, SACL_PRESENT);
+    let sacl_is_present = has_bit(SACL_PRESENT, control);
     let (sacl, sacl_written) = check_acl_part(
         Part::Sacl,
         bytes,
         sacl_is_present,
         u32_at(bytes, 12),
     )?;
-    let dacl_is_present = is_set(control, DACL_PRESENT);
+    let dacl_is_present = has_bit(DACL_PRESENT, control);
     let (dacl, dacl_written) = check_acl_part(
         Part::Dacl,
         bytes,
@@ -289,7 +274,7 @@ impl<'a> SdView<'a> {
     pub fn sacl(&self) -> AclPart<'a>
         ensures { result ≡ self.now.sacl }
     {
-        let present = is_set(self.control(), SACL_PRESENT);
+        let present = has_bit(SACL_PRESENT, self.control());
         acl_in(self.bytes, present, u32_at(self.bytes, 12), self.acls.sacl)
     }
 
@@ -297,14 +282,16 @@ impl<'a> SdView<'a> {
     pub fn dacl(&self) -> AclPart<'a>
         ensures { result ≡ self.now.dacl }
     {
-        let present = is_set(self.control(), DACL_PRESENT);
+        let present = has_bit(DACL_PRESENT, self.control());
         acl_in(self.bytes, present, u32_at(self.bytes, 16), self.acls.dacl)
     }
 
     /// The size of the written layout in bytes, at most 131,220.
     pub fn size(&self) -> u32
         ensures value { result ≡ size self.now }
-        ensures most { size self.now ≤ 131220 }
+        ensures most { size self.now ≤ MOST_LAYOUT_SIZE }
+        // As many bytes as the layout has.
+        ensures written { length (layout self.now) ≡ size self.now }
         // No bytes that show the descriptor are fewer.
         ensures least { (bytes : List ℕ) → Shows bytes self.now → size self.now ≤ length bytes }
     {
@@ -322,7 +309,7 @@ impl<'a> SdView<'a> {
     // The owner's bytes, and none where there is no owner.
     pub(crate) fn owner_place(&self) -> &'a [u8]
         ensures value { result.now ≡ sid_part self.now.owner }
-        ensures short { length result.now ≤ 68 }
+        ensures short { length result.now ≤ MOST_SID_SIZE }
         ensures limits { IsDescriptor self.now }
     {
         sid_place(self.bytes, u32_at(self.bytes, 4))
@@ -331,7 +318,7 @@ impl<'a> SdView<'a> {
     // The group's bytes, and none where there is no group.
     pub(crate) fn group_place(&self) -> &'a [u8]
         ensures value { result.now ≡ sid_part self.now.group }
-        ensures short { length result.now ≤ 68 }
+        ensures short { length result.now ≤ MOST_SID_SIZE }
     {
         sid_place(self.bytes, u32_at(self.bytes, 8))
     }
@@ -353,7 +340,7 @@ fn sid_in(bytes: &[u8], offset: u32) -> Option<Sid>
 fn sid_place(bytes: &[u8], offset: u32) -> &[u8]
     requires { IsSidAt bytes.now offset }
     ensures value { result.now ≡ sid_part (sid_shown bytes.now offset) }
-    ensures short { length result.now ≤ 68 }
+    ensures short { length result.now ≤ MOST_SID_SIZE }
 {
     if offset == 0 {
         return &[];

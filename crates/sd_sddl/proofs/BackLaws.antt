@@ -8,7 +8,7 @@ use Rattle.sd_core.specs.Sid.{SecurityId}
 use Rattle.sd_binary.specs.Descriptor.{Descriptor, IsDescriptor, dacl_present, sacl_present}
 use Rattle.sd_binary.specs.declared.acl.AclPart.{AclPart}
 use Rattle.sd_binary.specs.declared.acl.AclPart.TheVariants as acl
-use Rattle.sd_sddl.specs.declared.acl.AclFlags.{AclFlags}
+use Rattle.sd_binary.specs.declared.control.AclFlags.{AclFlags}
 use Rattle.sd_sddl.specs.declared.fault.SddlFault.{SddlFault}
 use Rattle.sd_sddl.specs.declared.line.Head.TheVariants as head
 use Rattle.sd_sddl.specs.declared.line.SidPart.{SidPart}
@@ -16,11 +16,11 @@ use Rattle.sd_sddl.specs.declared.line.SidPart.TheVariants as sid_part
 use Rattle.sd_sddl.specs.declared.naming.Naming.{Naming}
 use Rattle.sd_binary.specs.declared.builder.Which.{Which}
 use Rattle.sd_binary.specs.declared.builder.Which.TheVariants as which
-use Rattle.sd_binary.specs.Draft.{bit_if as present_bit}
+use Rattle.sd_binary.specs.Control.{acl_flags, bit_if, flag_bits, no_flags}
 use Rattle.sd_binary.specs.Draft.{control_of, is_present, no_parts, other_flags}
 use Rattle.sd_sddl.specs.Line.{Field, Sections, fields_of, has_twice, is_shaped, parts_of}
-use Rattle.sd_sddl.specs.Meaning.{Reading, control_flags, described, finished, means, no_flags, nothing_read, read_fields, reads_as, verdict}
-use Rattle.sd_sddl.specs.Printed.{ace_text, acl_text, bit_if, dacl_text, group_text, has_bit, kept_of_dacl, kept_of_sacl, owner_text, plain, sacl_text, sddl, sid_text_of, trustee_text}
+use Rattle.sd_sddl.specs.Meaning.{Reading, control_flags, described, finished, means, nothing_read, read_fields, reads_as, verdict}
+use Rattle.sd_sddl.specs.Printed.{ace_text, acl_text, dacl_text, group_text, kept_bits, owner_text, plain, sacl_text, sddl, sid_text_of, trustee_text}
 use Rattle.sd_sddl.proofs.AceTexts.{ace_text-inner, inner_text}
 use Rattle.sd_sddl.proofs.FieldsBack.{front_text}
 use Rattle.sd_sddl.proofs.LineCuts.{IsPart, Part, in_parentheses, letter_of, line-parts, part_text}
@@ -31,10 +31,10 @@ use Rattle.sd_sddl.proofs.PartsBack.{acl-back, acl-is_part, acl_body, read-on, s
 
 -- the flags of the DACL and of the SACL in the control word
 abbrev dacl_of : ℕ → AclFlags
-dacl_of c = record { protected = has_bit 0x1000 c; required = has_bit 0x100 c; inherited = has_bit 0x400 c }
+dacl_of c = acl_flags which.Dacl c
 
 abbrev sacl_of : ℕ → AclFlags
-sacl_of c = record { protected = has_bit 0x2000 c; required = has_bit 0x200 c; inherited = has_bit 0x800 c }
+sacl_of c = acl_flags which.Sacl c
 
 -- the parts, those that stand
 abbrev owner_part : Naming → Descriptor → List Part
@@ -211,14 +211,28 @@ at-most false n = omega arith
 -- the six flags over 256
 abbrev six_bits : AclFlags → AclFlags → ℕ
 six_bits sacl dacl =
-    bit_if sacl.protected 0x20 + bit_if sacl.required 0x2 + bit_if sacl.inherited 0x8
-    + bit_if dacl.protected 0x10 + bit_if dacl.required 0x1 + bit_if dacl.inherited 0x4
+    bit_if sacl.protected 0x20 + bit_if sacl.auto_inherit_required 0x2 + bit_if sacl.auto_inherited 0x8
+    + (bit_if dacl.protected 0x10 + bit_if dacl.auto_inherit_required 0x1 + bit_if dacl.auto_inherited 0x4)
 
 bits-low : (sacl dacl : AclFlags) → six_bits sacl dacl < 128
-bits-low s d = omega (arith, at-most s.protected 0x20, at-most s.required 0x2, at-most s.inherited 0x8, at-most d.protected 0x10, at-most d.required 0x1, at-most d.inherited 0x4)
+bits-low s d =
+    let sp = at-most s.protected 0x20 in
+    let sr = at-most s.auto_inherit_required 0x2 in
+    let si = at-most s.auto_inherited 0x8 in
+    let dp = at-most d.protected 0x10 in
+    let dr = at-most d.auto_inherit_required 0x1 in
+    let di = at-most d.auto_inherited 0x4 in
+    omega arith
 
 flags-upper : (sacl dacl : AclFlags) → control_flags sacl dacl ≡ 256 * six_bits sacl dacl
-flags-upper s d = omega (arith, scaled s.protected 0x20, scaled s.required 0x2, scaled s.inherited 0x8, scaled d.protected 0x10, scaled d.required 0x1, scaled d.inherited 0x4)
+flags-upper s d =
+    let sp = scaled s.protected 0x20 in
+    let sr = scaled s.auto_inherit_required 0x2 in
+    let si = scaled s.auto_inherited 0x8 in
+    let dp = scaled d.protected 0x10 in
+    let dr = scaled d.auto_inherit_required 0x1 in
+    let di = scaled d.auto_inherited 0x4 in
+    omega arith
 
 flags-stay : (sacl dacl : AclFlags) → other_flags (control_flags sacl dacl) ≡ control_flags sacl dacl
 flags-stay s d = ap other_flags (flags-upper s d) ∙ upper-byte (six_bits s d) (bits-low s d) ∙ sym (flags-upper s d)
@@ -229,13 +243,13 @@ control-upper s d = (six_bits s d, bits-low s d, flags-stay s d ∙ flags-upper 
 
 -- the flags of an ACL, and the bit that says that it stands
 dacl-bits : (c : ℕ) (part : AclPart) (f : AclFlags) → f ≡ flags_of part (dacl_of c)
-    → bit_if f.protected 0x1000 + bit_if f.required 0x100 + bit_if f.inherited 0x400 + present_bit (is_present part) 0x4 ≡ kept_of_dacl c part
+    → flag_bits which.Dacl f + bit_if (is_present part) 0x4 ≡ kept_bits which.Dacl c part
 dacl-bits c acl.Absent f e = rw e refl
 dacl-bits c acl.Null f e = rw e (omega arith)
 dacl-bits c (acl.List aces) f e = rw e (omega arith)
 
 sacl-bits : (c : ℕ) (part : AclPart) (f : AclFlags) → f ≡ flags_of part (sacl_of c)
-    → bit_if f.protected 0x2000 + bit_if f.required 0x200 + bit_if f.inherited 0x800 + present_bit (is_present part) 0x10 ≡ kept_of_sacl c part
+    → flag_bits which.Sacl f + bit_if (is_present part) 0x10 ≡ kept_bits which.Sacl c part
 sacl-bits c acl.Absent f e = rw e refl
 sacl-bits c acl.Null f e = rw e (omega arith)
 sacl-bits c (acl.List aces) f e = rw e (omega arith)
@@ -243,13 +257,15 @@ sacl-bits c (acl.List aces) f e = rw e (omega arith)
 abbrev made_control : ℕ → AclPart → AclPart → ℕ
 made_control c dacl sacl = control_of (control_flags (flags_of sacl (sacl_of c)) (flags_of dacl (dacl_of c))) (is_present sacl) (is_present dacl)
 
-control-made : (c : ℕ) (dacl sacl : AclPart) → made_control c dacl sacl ≡ 0x8000 + kept_of_dacl c dacl + kept_of_sacl c sacl
+control-made : (c : ℕ) (dacl sacl : AclPart)
+    → made_control c dacl sacl ≡ 0x8000 + kept_bits which.Dacl c dacl + kept_bits which.Sacl c sacl
 control-made c dacl sacl =
     let df = flags_of dacl (dacl_of c) in
     let sf = flags_of sacl (sacl_of c) in
     let low = dacl-bits c dacl df refl in
     let high = sacl-bits c sacl sf refl in
-    ap (λ (n : ℕ). n + 0x8000 + present_bit (is_present sacl) 0x10 + present_bit (is_present dacl) 0x4) (flags-stay sf df) ∙ omega (arith, low, high)
+    ap (λ (n : ℕ). n + 0x8000 + bit_if (is_present sacl) 0x10 + bit_if (is_present dacl) 0x4) (flags-stay sf df)
+    ∙ omega (arith, low, high)
 
 whole-plain : (d : Descriptor) → described (whole_of d) ≡ plain d
 whole-plain d =

@@ -6,7 +6,7 @@ use Rattle.sd_core.specs.declared.ace.AceKind.{AceKind}
 use Rattle.sd_binary.specs.Draft.{closed}
 use Rattle.sd_sddl.specs.Meaning.{Reading, begun_or_null, no_fields, object_reads, take_front, with_flags}
 use Rattle.sd_sddl.specs.Reads.{AreAceFields, Holds}
-use Rattle.sd_sddl.specs.declared.acl.AclFlags.{AclFlags}
+use Rattle.sd_binary.specs.declared.control.AclFlags.{AclFlags}
 use Rattle.sd_sddl.specs.declared.reading.AceFields.{AceFields}
 use Rattle.sd_sddl.specs.declared.reading.AclFront.{AclFront}
 use Rattle.sd_binary.specs.declared.builder.Which.{Which}

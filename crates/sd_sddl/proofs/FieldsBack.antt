@@ -20,12 +20,12 @@ use Rattle.sd_sddl.specs.declared.line.AceField.TheVariants as field
 use Rattle.sd_sddl.specs.declared.line.SidPart.{SidPart}
 use Rattle.sd_sddl.specs.declared.line.Slot.{Slot}
 use Rattle.sd_sddl.specs.declared.line.Slot.TheVariants as slot
-use Rattle.sd_sddl.specs.declared.acl.AclFlags.{AclFlags}
+use Rattle.sd_binary.specs.declared.control.AclFlags.{AclFlags}
 use Rattle.sd_binary.specs.declared.builder.Which.{Which}
 use Rattle.sd_sddl.specs.Meaning.{Reading, begun_or_null, front_reads, kind_reads, no_fields, object_reads, take_ace_field, take_field, take_front, take_readable, with_flags, with_owner_or_group, with_sid, with_trustee, with_value}
 use Rattle.sd_binary.specs.Draft.{closed}
-use Rattle.sd_sddl.specs.Printed.{acl_flags, kind_text, name_or, object_text, trustee_text}
-use Rattle.sd_sddl.proofs.PlainTexts.{IsPlain, acl_flags-plain, flags-plain, kind-plain, object-plain, plain-append, plain-readable, rights-plain, trustee-plain}
+use Rattle.sd_sddl.specs.Printed.{acl_flags_text, kind_text, name_or, object_text, trustee_text}
+use Rattle.sd_sddl.proofs.PlainTexts.{IsPlain, acl_flags_text-plain, flags-plain, kind-plain, object-plain, plain-append, plain-readable, rights-plain, trustee-plain}
 use Rattle.sd_sddl.proofs.SizeLaws.{flags-length, kind-length, trustee-length}
 
 readable : (domain : Option SecurityId) (r : Reading) (s : Slot) (text : List ℕ) → IsPlain text → length text ≤ 183
@@ -135,23 +135,27 @@ take-sid naming r p s i =
 
 -- 4. What stands in an ACL before its ACEs.
 
+abbrev flags_of : Bool → Bool → Bool → AclFlags
+flags_of p r i = record { protected = p; auto_inherit_required = r; auto_inherited = i }
+
 abbrev pub front_text : AclFlags → List ℕ
-front_text f = acl_flags f.protected f.required f.inherited
+front_text f = acl_flags_text f
 
 abbrev pub null_front_text : AclFlags → List ℕ
 null_front_text f = front_text f ++ codes "NO_ACCESS_CONTROL"
 
 pub front_text-plain : (f : AclFlags) → IsPlain (front_text f)
-front_text-plain f = acl_flags-plain f.protected f.required f.inherited
+front_text-plain f = acl_flags_text-plain f
 
 pub null_front_text-plain : (f : AclFlags) → IsPlain (null_front_text f)
 null_front_text-plain f = plain-append (front_text f) (codes "NO_ACCESS_CONTROL") (front_text-plain f) refl
 
 front_back : (f : AclFlags) → front_reads (front_text f) ≡ Some (record { flags = f; null = false })
-unfolding front_reads acl_flags
-front_back f = by_flags f.protected f.required f.inherited
+unfolding front_reads acl_flags_text
+front_back f = by_flags f.protected f.auto_inherit_required f.auto_inherited
   where
-    by_flags : (p r i : Bool) → front_reads (acl_flags p r i) ≡ Some (record { flags = record { protected = p; required = r; inherited = i }; null = false })
+    by_flags : (p r i : Bool)
+        → front_reads (acl_flags_text (flags_of p r i)) ≡ Some (record { flags = flags_of p r i; null = false })
     by_flags true true true = refl
     by_flags true true false = refl
     by_flags true false true = refl
@@ -162,11 +166,12 @@ front_back f = by_flags f.protected f.required f.inherited
     by_flags false false false = refl
 
 null_front_back : (f : AclFlags) → front_reads (null_front_text f) ≡ Some (record { flags = f; null = true })
-unfolding front_reads acl_flags
-null_front_back f = by_flags f.protected f.required f.inherited
+unfolding front_reads acl_flags_text
+null_front_back f = by_flags f.protected f.auto_inherit_required f.auto_inherited
   where
     by_flags : (p r i : Bool)
-        → front_reads (acl_flags p r i ++ codes "NO_ACCESS_CONTROL") ≡ Some (record { flags = record { protected = p; required = r; inherited = i }; null = true })
+        → front_reads (acl_flags_text (flags_of p r i) ++ codes "NO_ACCESS_CONTROL")
+        ≡ Some (record { flags = flags_of p r i; null = true })
     by_flags true true true = refl
     by_flags true true false = refl
     by_flags true false true = refl
@@ -180,7 +185,7 @@ pub take-list : (domain : Option SecurityId) (r : Reading) (w : Which) (has_aces
     → take_field domain r (slot.AclFlags w has_aces) (front_text f) ≡ Ok (with_flags w f (record r { parts = begun_or_null w false (closed r.parts) }))
 unfolding take_front
 take-list domain r w has_aces f =
-    let short = flags-length f.protected f.required f.inherited in
+    let short = flags-length f in
     readable domain r (slot.AclFlags w has_aces) (front_text f) (front_text-plain f) (omega (arith, short))
     ∙ ap (take_front w has_aces r) (front_back f)
 
@@ -188,7 +193,7 @@ pub take-null : (domain : Option SecurityId) (r : Reading) (w : Which) (has_aces
     → take_field domain r (slot.AclFlags w has_aces) (null_front_text f) ≡ Ok (with_flags w f (record r { parts = begun_or_null w true (closed r.parts) }))
 unfolding take_front
 take-null domain r w has_aces f none =
-    let short = flags-length f.protected f.required f.inherited in
+    let short = flags-length f in
     let long = length-append (front_text f) (codes "NO_ACCESS_CONTROL") in
     readable domain r (slot.AclFlags w has_aces) (null_front_text f) (null_front_text-plain f) (omega (arith, long, short))
     ∙ ap (take_front w has_aces r) (null_front_back f) ∙ rw none refl

@@ -15,7 +15,7 @@ use Rattle.sd_sddl.specs.Held.{Held, held_text}
 use Rattle.sd_sddl.specs.Progress.{ended_with, is_seen, place_of, result_or, with_head}
 use Rattle.sd_sddl.proofs.Steps.{seen_with}
 use Rattle.sd_sddl.specs.Reads.{Fits, Keeps, Lacks, is_at_front, is_in_acl}
-use Rattle.sd_sddl.specs.declared.acl.AclFlags.{AclFlags}
+use Rattle.sd_binary.specs.declared.control.AclFlags.{AclFlags}
 use Rattle.sd_sddl.specs.declared.fault.SddlFault.{SddlFault}
 use Rattle.sd_sddl.specs.declared.fault.SddlFault.TheVariants as fault
 use Rattle.sd_sddl.specs.declared.line.AceField.{AceField}

@@ -16,7 +16,7 @@ use Rattle.sd_core.proofs.ReadLimits.{flags-limits, guid-limits, rights-limit, s
 use Rattle.sd_binary.specs.Acl.{IsAcl, acl_size}
 use Rattle.sd_binary.specs.Descriptor.{Descriptor, IsAclPart, IsDescriptor, dacl_present, sacl_present, self_relative}
 use Rattle.sd_binary.specs.Draft.{Draft, closed, closed_in, control_of, is_present, more_in, with_acl}
-use Rattle.sd_binary.specs.Draft.{bit_if as present_bit}
+use Rattle.sd_binary.specs.Control.{bit_if}
 use Rattle.sd_binary.specs.declared.acl.AclPart.{AclPart}
 use Rattle.sd_binary.specs.declared.acl.AclPart.TheVariants as acl
 use Rattle.sd_binary.specs.declared.builder.Which.{Which}
@@ -24,7 +24,7 @@ use Rattle.sd_binary.specs.declared.builder.Which.TheVariants as which
 use Rattle.sd_sddl.specs.Line.{Field, fields_of, has_twice, is_shaped, parts_of}
 use Rattle.sd_sddl.specs.Meaning.{Reading, ace_of, and_then, begun_or_null, control_flags, described, fault_of, finished, front_reads, is_unreadable, kind_reads, large_in, means, no_fields, nothing_read, object_reads, or_else, read_fields, reads_as, take_ace_field, take_field, take_front, take_readable, unless_large, verdict, with_flags, with_owner_or_group, with_sid, with_trustee, with_value}
 use Rattle.sd_sddl.specs.Reads.{AreAceFields}
-use Rattle.sd_sddl.specs.declared.acl.AclFlags.{AclFlags}
+use Rattle.sd_binary.specs.declared.control.AclFlags.{AclFlags}
 use Rattle.sd_sddl.specs.declared.fault.SddlFault.{SddlFault}
 use Rattle.sd_sddl.specs.declared.fault.SddlFault.TheVariants as fault
 use Rattle.sd_sddl.specs.declared.line.AceField.{AceField}
@@ -281,7 +281,8 @@ record IsControl (control : ℕ) (sacl dacl : Bool) : Type 0 where
   with_sacl : sacl_present control ≡ sacl
   with_dacl : dacl_present control ≡ dacl
 
-word : (n k : ℕ) (sacl dacl : Bool) → k < 128 → n ≡ 256 * k → IsControl (n + 0x8000 + present_bit sacl 0x10 + present_bit dacl 0x4) sacl dacl
+word : (n k : ℕ) (sacl dacl : Bool) → k < 128 → n ≡ 256 * k
+    → IsControl (n + 0x8000 + bit_if sacl 0x10 + bit_if dacl 0x4) sacl dacl
 word n k true true small e = record { small = omega arith; relative = grind (arith, nat_tests); with_sacl = grind (arith, nat_tests); with_dacl = grind (arith, nat_tests) }
 word n k true false small e = record { small = omega arith; relative = grind (arith, nat_tests); with_sacl = grind (arith, nat_tests); with_dacl = grind (arith, nat_tests) }
 word n k false true small e = record { small = omega arith; relative = grind (arith, nat_tests); with_sacl = grind (arith, nat_tests); with_dacl = grind (arith, nat_tests) }

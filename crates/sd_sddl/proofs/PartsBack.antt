@@ -9,7 +9,7 @@ use Rattle.sd_binary.specs.Acl.{acl_size, aces_size}
 use Rattle.sd_binary.specs.Descriptor.{IsAclPart}
 use Rattle.sd_binary.specs.declared.acl.AclPart.{AclPart}
 use Rattle.sd_binary.specs.declared.acl.AclPart.TheVariants as acl
-use Rattle.sd_sddl.specs.declared.acl.AclFlags.{AclFlags}
+use Rattle.sd_binary.specs.declared.control.AclFlags.{AclFlags}
 use Rattle.sd_sddl.specs.declared.fault.SddlFault.{SddlFault}
 use Rattle.sd_sddl.specs.declared.line.AceField.TheVariants as field
 use Rattle.sd_sddl.specs.declared.line.Head.TheVariants as head

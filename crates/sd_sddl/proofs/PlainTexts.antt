@@ -27,7 +27,9 @@ use Rattle.sd_core.proofs.TextLaws.{sid_text-bytes}
 use Rattle.sd_sddl.specs.declared.naming.Naming.{Naming}
 use Rattle.sd_sddl.specs.Line.{is_blank}
 use Rattle.sd_sddl.specs.Meaning.{is_unreadable}
-use Rattle.sd_sddl.specs.Printed.{acl_flags, kind_text, object_text, text_if, trustee_text}
+use Rattle.sd_binary.specs.declared.control.AclFlags.{AclFlags}
+use Rattle.sd_sddl.specs.Printed.{acl_flags_text, kind_text, object_text, text_if, trustee_text}
+use Rattle.sd_binary.specs.declared.control.AclFlags.{AclFlags}
 use Rattle.sd_sddl.specs.Printed.{name_or as alias_or}
 
 -- 1. Plain bytes.
@@ -227,8 +229,11 @@ text_if-plain : (b : Bool) (text : List ℕ) → IsPlain text → IsPlain (text_
 text_if-plain true text h = h
 text_if-plain false text h = refl
 
-pub acl_flags-plain : (p r i : Bool) → IsPlain (acl_flags p r i)
-unfolding acl_flags
-acl_flags-plain p r i =
+pub acl_flags_text-plain : (f : AclFlags) → IsPlain (acl_flags_text f)
+unfolding acl_flags_text
+acl_flags_text-plain f =
+    let p = f.protected in
+    let r = f.auto_inherit_required in
+    let i = f.auto_inherited in
     plain-append (text_if p (codes "P")) (text_if r (codes "AR") ++ text_if i (codes "AI")) (text_if-plain p (codes "P") refl)
     (plain-append (text_if r (codes "AR")) (text_if i (codes "AI")) (text_if-plain r (codes "AR") refl) (text_if-plain i (codes "AI") refl))

@@ -11,11 +11,11 @@ use Rattle.sd_core.specs.declared.ace.AceKind.TheVariants as kinds
 use Rattle.sd_binary.specs.Descriptor.{Descriptor}
 use Rattle.sd_binary.specs.declared.acl.AclPart.TheVariants as acl
 use Rattle.sd_sddl.specs.declared.naming.Naming.{Naming}
-use Rattle.sd_sddl.specs.Printed.{ace_text, acl_flags, dacl_text, flags_field, group_text, kind_field, object_field, owner_text, rights_field, sacl_text, sddl, trustee_field, trustee_text}
+use Rattle.sd_sddl.specs.Printed.{ace_text, acl_flags_text, dacl_text, flags_field, group_text, kind_field, object_field, owner_text, rights_field, sacl_text, sddl, trustee_field, trustee_text}
 
 -- `unfolding printed` lets `refl` compute a row
 printed : Unit {0}
-unfolding sddl owner_text group_text dacl_text sacl_text acl_flags ace_text kind_field flags_field rights_field object_field trustee_field trustee_text alias_of flags_text rights_text guid_text digits
+unfolding sddl owner_text group_text dacl_text sacl_text acl_flags_text ace_text kind_field flags_field rights_field object_field trustee_field trustee_text alias_of flags_text rights_text guid_text digits
 printed = tt
 
 named : Naming

@@ -15,12 +15,15 @@ use Rattle.sd_core.proofs.GuidTexts.{guid_text-length}
 use Rattle.sd_core.proofs.RightsLaws.{rights_text-length}
 use Rattle.sd_core.proofs.TextLaws.{length-sid_text}
 use Rattle.sd_binary.specs.Acl.{aces_size}
+use Rattle.sd_binary.specs.Control.{acl_flags}
 use Rattle.sd_binary.specs.Descriptor.{Descriptor, IsAclPart, IsDescriptor, dacl_present, sacl_present}
 use Rattle.sd_binary.specs.Layout.{acl_part_size, sid_part_size, size}
 use Rattle.sd_binary.specs.declared.acl.AclPart.{AclPart}
 use Rattle.sd_binary.specs.declared.acl.AclPart.TheVariants as acl
 use Rattle.sd_sddl.specs.declared.naming.Naming.{Naming}
-use Rattle.sd_sddl.specs.Printed.{ace_text, acl_flags, acl_text, dacl_flags, dacl_text, flags_field, group_text, has_bit, kind_field, kind_text, name_or, object_field, object_text, owner_text, rights_field, sacl_flags, sacl_text, sddl, sid_text_of, text_if, trustee_field, trustee_text}
+use Rattle.sd_binary.specs.declared.builder.Which.TheVariants as which
+use Rattle.sd_binary.specs.declared.control.AclFlags.{AclFlags}
+use Rattle.sd_sddl.specs.Printed.{ace_text, acl_flags_text, acl_text, dacl_text, flags_field, group_text, kind_field, kind_text, name_or, object_field, object_text, owner_text, rights_field, sacl_text, sddl, sid_text_of, text_if, trustee_field, trustee_text}
 
 -- a name of two letters, where there is one
 abbrev IsName : Option (List ℕ) → Type 0
@@ -140,9 +143,12 @@ text_if-length : (b : Bool) (text : List ℕ) → length (text_if b text) ≤ le
 text_if-length true text = omega arith
 text_if-length false text = omega arith
 
-pub flags-length : (protected required inherited : Bool) → length (acl_flags protected required inherited) ≤ 5
-unfolding acl_flags
-flags-length p r i =
+pub flags-length : (f : AclFlags) → length (acl_flags_text f) ≤ 5
+unfolding acl_flags_text
+flags-length f =
+    let p = f.protected in
+    let r = f.auto_inherit_required in
+    let i = f.auto_inherited in
     let back = length-append (text_if r (codes "AR")) (text_if i (codes "AI")) in
     let whole = length-append (text_if p (codes "P")) (text_if r (codes "AR") ++ text_if i (codes "AI")) in
     omega (arith, back, whole, text_if-length p (codes "P"), text_if-length r (codes "AR"), text_if-length i (codes "AI"))
@@ -169,10 +175,14 @@ pub sddl-length : (naming : Naming) (d : Descriptor) → IsDescriptor d → leng
 unfolding sddl owner_text group_text dacl_text sacl_text
 sddl-length naming d h =
     let c = d.control in
+    let df = acl_flags which.Dacl c in
+    let sf = acl_flags which.Sacl c in
     let owner = sid-length naming (codes "O:") d.owner refl h.owner in
     let group = sid-length naming (codes "G:") d.group refl h.group in
-    let dacl = acl-length naming (codes "D:") (dacl_flags c) (dacl_present c) d.dacl refl (flags-length (has_bit 0x1000 c) (has_bit 0x100 c) (has_bit 0x400 c)) h.dacl in
-    let sacl = acl-length naming (codes "S:") (sacl_flags c) (sacl_present c) d.sacl refl (flags-length (has_bit 0x2000 c) (has_bit 0x200 c) (has_bit 0x800 c)) h.sacl in
+    let dacl = acl-length naming (codes "D:") (acl_flags_text df) (dacl_present c) d.dacl refl
+    (flags-length df) h.dacl in
+    let sacl = acl-length naming (codes "S:") (acl_flags_text sf) (sacl_present c) d.sacl refl
+    (flags-length sf) h.sacl in
     let sids = length-append (owner_text naming d) (group_text naming d) in
     let acls = length-append (dacl_text naming d) (sacl_text naming d) in
     let whole = length-append (owner_text naming d ++ group_text naming d) (dacl_text naming d ++ sacl_text naming d) in

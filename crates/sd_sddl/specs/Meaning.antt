@@ -16,14 +16,15 @@ use Rattle.sd_core.specs.declared.ace.AceKind.TheVariants as kinds
 use Rattle.sd_core.specs.declared.sid_text.SidFault.{SidFault}
 use Rattle.sd_core.specs.declared.sid_text.SidFault.TheVariants.{SidForm}
 use Rattle.sd_binary.specs.Acl.{acl_size}
+use Rattle.sd_binary.specs.Control.{flag_bits, no_flags}
 use Rattle.sd_binary.specs.Descriptor.{Descriptor}
 use Rattle.sd_binary.specs.Draft.{Draft, begun, built, closed, no_parts, with_ace, with_acl}
 use Rattle.sd_binary.specs.declared.acl.AclPart.TheVariants as acl
 use Rattle.sd_binary.specs.declared.builder.Which.{Which}
 use Rattle.sd_binary.specs.declared.builder.Which.TheVariants as which
 use Rattle.sd_sddl.specs.Line.{Field, fields_of, has_twice, is_blank, is_shaped, parts_of}
-use Rattle.sd_sddl.specs.Printed.{bit_if, kind_text}
-use Rattle.sd_sddl.specs.declared.acl.AclFlags.{AclFlags}
+use Rattle.sd_sddl.specs.Printed.{kind_text}
+use Rattle.sd_binary.specs.declared.control.AclFlags.{AclFlags}
 use Rattle.sd_sddl.specs.declared.field_texts.TheConstants.{KINDS}
 use Rattle.sd_sddl.specs.declared.fault.SddlFault.{SddlFault}
 use Rattle.sd_sddl.specs.declared.fault.SddlFault.TheVariants as fault
@@ -42,9 +43,6 @@ use Rattle.sd_sddl.specs.declared.reading.AclFront.{AclFront}
 unfoldable pub kind_reads : List ℕ → Option AceKind
 kind_reads text = find (λ kind. str_eq_ignore_ascii_case (kind_text kind) text) KINDS
 
-abbrev pub no_flags : AclFlags
-no_flags = record { protected = false; required = false; inherited = false }
-
 -- P, beside the flags so far
 abbrev pub one_letter : AclFlags → ℕ → Option AclFlags
 one_letter f a = if to_ascii_uppercase a == 80 then Some (record f { protected = true }) else None
@@ -52,8 +50,8 @@ one_letter f a = if to_ascii_uppercase a == 80 then Some (record f { protected =
 -- AR or AI
 abbrev pub after_a : AclFlags → ℕ → Option AclFlags
 after_a f b =
-    if to_ascii_uppercase b == 82 then Some (record f { required = true })
-    else (if to_ascii_uppercase b == 73 then Some (record f { inherited = true }) else None)
+    if to_ascii_uppercase b == 82 then Some (record f { auto_inherit_required = true })
+    else (if to_ascii_uppercase b == 73 then Some (record f { auto_inherited = true }) else None)
 
 abbrev pub two_letters : AclFlags → ℕ → ℕ → Option AclFlags
 two_letters f a b = if to_ascii_uppercase a == 65 then after_a f b else None
@@ -204,11 +202,9 @@ verdict shaped twice read = if shaped then (if twice then Err fault.PartTwice el
 unfoldable pub reads_as : Option SecurityId → List ℕ → Result Reading SddlFault
 reads_as domain text = verdict (is_shaped text) (has_twice (parts_of text).parts) (read_fields domain (fields_of (parts_of text).parts) nothing_read)
 
--- bits PS, SC and SI, PD, DC and DI of the control word
+-- the flags of both ACLs in the control word
 abbrev pub control_flags : AclFlags → AclFlags → ℕ
-control_flags sacl dacl =
-    bit_if sacl.protected 0x2000 + bit_if sacl.required 0x200 + bit_if sacl.inherited 0x800
-    + bit_if dacl.protected 0x1000 + bit_if dacl.required 0x100 + bit_if dacl.inherited 0x400
+control_flags sacl dacl = flag_bits which.Sacl sacl + flag_bits which.Dacl dacl
 
 abbrev pub described : Reading → Descriptor
 described r = built (control_flags r.sacl r.dacl) 0 (closed r.parts)

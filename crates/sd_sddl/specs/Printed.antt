@@ -1,5 +1,5 @@
 -- A descriptor as SDDL (MS-DTYP 2.5.1.1).
-use Rattle.std.specs.Prelude.{ℕ, ◌+◌, ◌/◌, ◌%◌, ◌==◌, Bool, true, false, if◌then◌else◌, List, [], ◌++◌, Option, Some, None, codes}
+use Rattle.std.specs.Prelude.{ℕ, ◌+◌, Bool, true, false, if◌then◌else◌, List, [], ◌++◌, Option, Some, None, codes}
 use Rattle.std.specs.List.{flat_map}
 use Rattle.sd_core.specs.Ace.{AccessControlEntry}
 use Rattle.sd_core.specs.Flags.{flags_text}
@@ -9,10 +9,15 @@ use Rattle.sd_core.specs.Sid.{SecurityId}
 use Rattle.sd_core.specs.SidText.{alias_of, sid_text}
 use Rattle.sd_core.specs.declared.ace.AceKind.{AceKind}
 use Rattle.sd_core.specs.declared.ace.AceKind.TheVariants as kinds
+use Rattle.sd_binary.specs.Control.{acl_flags, flag_bits, present_bit}
 use Rattle.sd_binary.specs.Descriptor.{Descriptor}
 use Rattle.sd_sddl.specs.declared.naming.Naming.{Naming}
 use Rattle.sd_binary.specs.declared.acl.AclPart.{AclPart}
 use Rattle.sd_binary.specs.declared.acl.AclPart.TheVariants as acl
+use Rattle.sd_binary.specs.declared.builder.Which.{Which}
+use Rattle.sd_binary.specs.declared.builder.Which.TheVariants as which
+use Rattle.sd_binary.specs.declared.control.AclFlags.{AclFlags}
+use Rattle.sd_binary.specs.declared.control.TheConstants.{SELF_RELATIVE}
 
 abbrev pub name_or : Option (List ℕ) → List ℕ → List ℕ
 name_or None text = text
@@ -64,21 +69,10 @@ abbrev pub text_if : Bool → List ℕ → List ℕ
 text_if true text = text
 text_if false text = []
 
--- a bit of the control word
-abbrev pub has_bit : ℕ → ℕ → Bool
-has_bit bit control = control / bit % 2 == 1
-
 -- protected, auto-inherit required and auto-inherited
-unfoldable pub acl_flags : Bool → Bool → Bool → List ℕ
-acl_flags protected required inherited = text_if protected (codes "P") ++ (text_if required (codes "AR") ++ text_if inherited (codes "AI"))
-
--- bits PD, DC and DI of the control word
-abbrev pub dacl_flags : ℕ → List ℕ
-dacl_flags control = acl_flags (has_bit 0x1000 control) (has_bit 0x100 control) (has_bit 0x400 control)
-
--- bits PS, SC and SI
-abbrev pub sacl_flags : ℕ → List ℕ
-sacl_flags control = acl_flags (has_bit 0x2000 control) (has_bit 0x200 control) (has_bit 0x800 control)
+unfoldable pub acl_flags_text : AclFlags → List ℕ
+acl_flags_text f = text_if f.protected (codes "P") ++
+    (text_if f.auto_inherit_required (codes "AR") ++ text_if f.auto_inherited (codes "AI"))
 
 -- nothing for an ACL that is absent; else its head and flags, and then NO_ACCESS_CONTROL for a null one, or its ACEs
 abbrev pub acl_text : Naming → List ℕ → List ℕ → AclPart → List ℕ
@@ -87,10 +81,10 @@ acl_text naming head flags acl.Null = head ++ (flags ++ codes "NO_ACCESS_CONTROL
 acl_text naming head flags (acl.List aces) = head ++ (flags ++ flat_map (ace_text naming) aces)
 
 unfoldable pub dacl_text : Naming → Descriptor → List ℕ
-dacl_text naming d = acl_text naming (codes "D:") (dacl_flags d.control) d.dacl
+dacl_text naming d = acl_text naming (codes "D:") (acl_flags_text (acl_flags which.Dacl d.control)) d.dacl
 
 unfoldable pub sacl_text : Naming → Descriptor → List ℕ
-sacl_text naming d = acl_text naming (codes "S:") (sacl_flags d.control) d.sacl
+sacl_text naming d = acl_text naming (codes "S:") (acl_flags_text (acl_flags which.Sacl d.control)) d.sacl
 
 -- ---- descriptors
 
@@ -108,26 +102,15 @@ group_text naming d = sid_text_of naming (codes "G:") d.group
 unfoldable pub sddl : Naming → Descriptor → List ℕ
 sddl naming d = (owner_text naming d ++ group_text naming d) ++ (dacl_text naming d ++ sacl_text naming d)
 
--- What SDDL keeps of a descriptor: not the resource manager byte, and of the control word the bits SR, DP and SP, and
+-- What SDDL keeps of a descriptor: not the resource manager byte, and of the control word the bits SR, SP and DP, and
 -- for each ACL that is not absent its three flags.
-abbrev pub bit_if : Bool → ℕ → ℕ
-bit_if true bit = bit
-bit_if false bit = 0
-
-abbrev pub kept_bit : ℕ → ℕ → ℕ
-kept_bit bit control = bit_if (has_bit bit control) bit
-
-abbrev pub kept_of_dacl : ℕ → AclPart → ℕ
-kept_of_dacl control acl.Absent = 0
-kept_of_dacl control part = 0x4 + kept_bit 0x1000 control + kept_bit 0x100 control + kept_bit 0x400 control
-
-abbrev pub kept_of_sacl : ℕ → AclPart → ℕ
-kept_of_sacl control acl.Absent = 0
-kept_of_sacl control part = 0x10 + kept_bit 0x2000 control + kept_bit 0x200 control + kept_bit 0x800 control
+abbrev pub kept_bits : Which → ℕ → AclPart → ℕ
+kept_bits w control acl.Absent = 0
+kept_bits w control part = present_bit w + flag_bits w (acl_flags w control)
 
 abbrev pub plain : Descriptor → Descriptor
 plain d = record {
-  control = 0x8000 + kept_of_dacl d.control d.dacl + kept_of_sacl d.control d.sacl;
+  control = SELF_RELATIVE + kept_bits which.Dacl d.control d.dacl + kept_bits which.Sacl d.control d.sacl;
   rm = 0;
   owner = d.owner;
   group = d.group;

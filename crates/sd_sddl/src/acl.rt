@@ -2,21 +2,12 @@
 ghost use Rattle.std.specs.Prelude.{◌≡◌};
 ghost use Rattle.std.specs.List.{flat_map};
 ghost use Rattle.sd_core.specs.Print.{Prints};
-ghost use Rattle.sd_sddl.specs.Printed.{ace_text, acl_flags, acl_text, text_if};
+ghost use Rattle.sd_sddl.specs.Printed.{ace_text, acl_flags_text, acl_text, text_if};
 
 use crate::ace::print_ace;
 use crate::naming::Naming;
-use sd_binary::{AclPart, AclView};
+use sd_binary::{AclFlags, AclPart, AclView};
 use sd_core::Print;
-
-/// The flags of an ACL, which stand in the control word: protected, auto-inherit required and
-/// auto-inherited.
-#[derive(Clone, Copy)]
-pub struct AclFlags {
-    pub protected: bool,
-    pub required: bool,
-    pub inherited: bool,
-}
 
 /// Prints an ACL behind its head, `D:` or `S:`; nothing for one that is absent.
 pub fn print_acl<P: Print>(
@@ -27,7 +18,7 @@ pub fn print_acl<P: Print>(
     out: &mut P,
 )
     ensures { Prints (P.told out.old) (P.told out.new)
-        (acl_text naming.now head.now (acl_flags flags.protected flags.required flags.inherited) part.now) }
+        (acl_text naming.now head.now (acl_flags_text flags) part.now) }
 {
     match part {
         AclPart::Absent => {}
@@ -52,13 +43,13 @@ fn print_aces<P: Print>(naming: &Naming, acl: &AclView<'_>, out: &mut P)
     }
 }
 
-#[tactic(auto, unfolding(crate::specs::Printed::acl_flags))]
+#[tactic(auto, unfolding(crate::specs::Printed::acl_flags_text))]
 fn print_acl_flags<P: Print>(flags: AclFlags, out: &mut P)
-    ensures { Prints (P.told out.old) (P.told out.new) (acl_flags flags.protected flags.required flags.inherited) }
+    ensures { Prints (P.told out.old) (P.told out.new) (acl_flags_text flags) }
 {
     out.put(text_if(flags.protected, b"P"));
-    out.put(text_if(flags.required, b"AR"));
-    out.put(text_if(flags.inherited, b"AI"));
+    out.put(text_if(flags.auto_inherit_required, b"AR"));
+    out.put(text_if(flags.auto_inherited, b"AI"));
 }
 
 fn text_if(stands: bool, text: &[u8]) -> &[u8]

@@ -2,11 +2,12 @@
 ghost use Rattle.std.specs.Prelude.{◌≡◌, ◌≤◌, length, List, ℕ, Some, None, IfSome};
 ghost use Rattle.std.specs.Str.{str_eq_ignore_ascii_case};
 ghost use Rattle.sd_core.specs.Ace.{is_object};
-ghost use Rattle.sd_sddl.specs.Meaning.{after_a, ends_with_null, flags_after, front_reads, kind_reads, no_flags, object_reads, one_letter, two_letters};
+ghost use Rattle.sd_binary.specs.Control.{no_flags};
+ghost use Rattle.sd_sddl.specs.Meaning.{after_a, ends_with_null, flags_after, front_reads, kind_reads, object_reads, one_letter, two_letters};
 ghost use Rattle.sd_sddl.specs.Printed.{kind_text};
 
-use crate::acl::AclFlags;
 use crate::reading::AclFront;
+use sd_binary::AclFlags;
 use sd_core::{AceKind, guid_from_text};
 use uuid::Uuid;
 
@@ -101,8 +102,8 @@ fn flags_from_run(text: &[u8]) -> Option<AclFlags>
 {
     let mut flags = AclFlags {
         protected: false,
-        required: false,
-        inherited: false,
+        auto_inherit_required: false,
+        auto_inherited: false,
     };
     let mut rest = text;
     while let Some((first, tail)) = rest.split_first() {
@@ -127,11 +128,11 @@ fn two_letters(flags: AclFlags, first: u8, second: u8) -> Option<AclFlags>
     }
     match second.to_ascii_uppercase() {
         b'R' => Some(AclFlags {
-            required: true,
+            auto_inherit_required: true,
             ..flags
         }),
         b'I' => Some(AclFlags {
-            inherited: true,
+            auto_inherited: true,
             ..flags
         }),
         _ => None,

@@ -1,5 +1,5 @@
 // Descriptors as SDDL (MS-DTYP 2.5.1).
-ghost use Rattle.std.specs.Prelude.{◌≡◌, ◌≤◌, ◌<◌, ◌+◌, ◌*◌, ◌/◌, ◌%◌, ◌==◌, ◌++◌, length, Ok, Option};
+ghost use Rattle.std.specs.Prelude.{◌≡◌, ◌≤◌, ◌+◌, ◌*◌, ◌++◌, length, Ok, Option};
 ghost use Rattle.sd_core.specs.Print.{Prints};
 ghost use Rattle.sd_core.specs.Sink.{Puts};
 ghost use Rattle.std.specs.Option.{option_copied};
@@ -7,11 +7,11 @@ ghost use Rattle.sd_binary.specs.Descriptor.{IsDescriptor};
 ghost use Rattle.sd_binary.specs.Layout.{size};
 ghost use Rattle.sd_sddl.specs.declared.naming.Naming.{Naming as NamingOf};
 ghost use Rattle.sd_sddl.specs.Meaning.{means};
-ghost use Rattle.sd_sddl.specs.Printed.{dacl_text, has_bit, plain, sacl_text, sddl, sid_text_of};
+ghost use Rattle.sd_sddl.specs.Printed.{plain, sddl, sid_text_of};
 
-use crate::acl::{AclFlags, print_acl};
+use crate::acl::print_acl;
 use crate::naming::{Naming, print_trustee};
-use sd_binary::SdView;
+use sd_binary::{AclFlags, SdView, Which};
 use sd_core::{Gather, Print, Sid, Sink, SinkFault};
 
 /// Puts a descriptor as SDDL: owner, group, DACL and SACL, those that stand, without blanks, in at most
@@ -55,8 +55,10 @@ fn print_parts<P: Print>(naming: &Naming, view: &SdView<'_>, out: &mut P)
     let control = view.control();
     print_sid(naming, b"O:", view.owner(), out);
     print_sid(naming, b"G:", view.group(), out);
-    print_acl(naming, b"D:", dacl_flags(control), &view.dacl(), out);
-    print_acl(naming, b"S:", sacl_flags(control), &view.sacl(), out);
+    let dacl_flags = AclFlags::of(Which::Dacl, control);
+    let sacl_flags = AclFlags::of(Which::Sacl, control);
+    print_acl(naming, b"D:", dacl_flags, &view.dacl(), out);
+    print_acl(naming, b"S:", sacl_flags, &view.sacl(), out);
 }
 
 // Prints a SID behind its head; nothing where there is none.
@@ -67,32 +69,4 @@ fn print_sid<P: Print>(naming: &Naming, head: &[u8], sid: Option<Sid>, out: &mut
         out.put(head);
         print_trustee(naming, &sid, out);
     }
-}
-
-fn dacl_flags(control: u16) -> AclFlags
-    ensures { result ≡ record { protected = has_bit 0x1000 control; required = has_bit 0x100 control; inherited = has_bit 0x400 control } }
-{
-    AclFlags {
-        protected: has_bit(0x1000, control),
-        required: has_bit(0x100, control),
-        inherited: has_bit(0x400, control),
-    }
-}
-
-fn sacl_flags(control: u16) -> AclFlags
-    ensures { result ≡ record { protected = has_bit 0x2000 control; required = has_bit 0x200 control; inherited = has_bit 0x800 control } }
-{
-    AclFlags {
-        protected: has_bit(0x2000, control),
-        required: has_bit(0x200, control),
-        inherited: has_bit(0x800, control),
-    }
-}
-
-// A bit of the control word.
-fn has_bit(bit: u16, control: u16) -> bool
-    requires { 0 < bit }
-    ensures { result ≡ has_bit bit control }
-{
-    control / bit % 2 == 1
 }

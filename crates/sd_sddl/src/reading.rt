@@ -5,13 +5,11 @@ ghost use Rattle.sd_core.specs.Sid.{SecurityId};
 ghost use Rattle.sd_core.specs.SidText.{sid_reads};
 ghost use Rattle.sd_sddl.specs.Line.{is_blank};
 ghost use Rattle.sd_sddl.specs.Meaning.{Reading, ace_fault_of, control_flags, fault_of, front_reads, is_unreadable, no_fields, take_ace_field, take_field, take_front, take_readable, with_sid, with_trustee};
-ghost use Rattle.sd_sddl.specs.Printed.{bit_if};
 
-use crate::acl::AclFlags;
 use crate::fault::SddlFault;
 use crate::field_texts::{front_from_text, kind_from_text, object_from_text};
 use crate::line::{AceField, SidPart, Slot, is_blank};
-use sd_binary::{Builder, SdBuf, Which};
+use sd_binary::{AclFlags, Builder, SdBuf, Which};
 use sd_core::{Ace, AceKind, Sid, SidFault, flags_from_text, rights_from_text};
 use uuid::Uuid;
 
@@ -275,8 +273,8 @@ impl FieldReader {
 
 const NO_FLAGS: AclFlags = AclFlags {
     protected: false,
-    required: false,
-    inherited: false,
+    auto_inherit_required: false,
+    auto_inherited: false,
 };
 
 // The fields of an ACE of which the kind was read.
@@ -292,22 +290,11 @@ fn no_fields(kind: AceKind) -> AceFields
     }
 }
 
-// Bits PS, SC and SI, PD, DC and DI of the control word.
+// The flags of both ACLs in the control word.
 fn control_flags(sacl: AclFlags, dacl: AclFlags) -> u16
     ensures { result ≡ control_flags sacl dacl }
 {
-    bit_if(sacl.protected, 0x2000)
-        + bit_if(sacl.required, 0x200)
-        + bit_if(sacl.inherited, 0x800)
-        + bit_if(dacl.protected, 0x1000)
-        + bit_if(dacl.required, 0x100)
-        + bit_if(dacl.inherited, 0x400)
-}
-
-fn bit_if(set: bool, bit: u16) -> u16
-    ensures { result ≡ bit_if set bit }
-{
-    if set { bit } else { 0 }
+    sacl.bits(Which::Sacl) + dacl.bits(Which::Dacl)
 }
 
 fn is_unreadable(text: &[u8]) -> bool

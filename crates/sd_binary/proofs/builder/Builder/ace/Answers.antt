@@ -2,6 +2,7 @@ use Rattle.std.proofs.Common.{◌≡◌, ◌<◌, ◌+◌, ◌||◌, Bool, lengt
 use Rattle.sd_core.specs.Ace.{ace_size, is_object}
 use Rattle.sd_binary.specs.Draft.{open_size}
 use Rattle.sd_binary.proofs.Building.{ace-builds, is-open, open-roomy, open-size}
+use Rattle.sd_binary.proofs.InOrder.{ace-in-order, in-order-builds}
 use Rattle.sd_binary.proofs.builder.Builder.ace.Goals as goal
 use Rattle.sd_binary.proofs.builder.Builder.ace.Goals.{then-open, else-open}
 
@@ -44,3 +45,18 @@ returns-clause-ok c =
       | else-open w ↦ w.self-is ∙ w.is_object.ensures ∙ ap is_object w.kind.ensures ∙ ap (λ (x : Bool). x || is_object a.kind) (sym w.if-open.false)
     ] in
     rw (c.append_ace.ensures, object) (ace-builds _ _ t o a c.unwrap-open.ensures c.size.ensures.limits fits h)
+
+pub returns-clause-in_order : goal.returns-clause-in_order
+returns-clause-in_order c =
+    λ t h.
+    let o = c.unwrap-open.result in
+    let a = c.args.ace.now in
+    let size = open-size _ _ t _ (in-order-builds _ _ t h) c.unwrap-open.ensures in
+    let fits : open_size t + ace_size a < 65536 = omega (arith, size, ap length c.bytes.ensures.value) in
+    let object : c.if-open.self ≡ (o.object || is_object a.kind) =
+    elim c.if-open.branch [
+      | then-open w ↦ w.self-is ∙ w.if-open.true ∙ ap (λ (x : Bool). x || is_object a.kind) (sym w.if-open.true)
+      | else-open w ↦ w.self-is ∙ w.is_object.ensures ∙ ap is_object w.kind.ensures
+          ∙ ap (λ (x : Bool). x || is_object a.kind) (sym w.if-open.false)
+    ] in
+    rw (c.append_ace.ensures, object) (ace-in-order _ _ t o a c.unwrap-open.ensures c.size.ensures.limits fits h)

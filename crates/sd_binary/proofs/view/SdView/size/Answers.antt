@@ -2,7 +2,7 @@ use Rattle.std.proofs.Common.{arith, ap, length, subst, ◌∙◌}
 use Rattle.sd_binary.specs.Descriptor.{Descriptor, IsDescriptor}
 use Rattle.sd_binary.specs.Found.{shown_written}
 use Rattle.sd_binary.specs.declared.view.Acls.{Acls}
-use Rattle.sd_binary.proofs.LayoutLaws.{length-sid_part, size-most}
+use Rattle.sd_binary.proofs.LayoutLaws.{length-layout, length-sid_part, size-most}
 use Rattle.sd_binary.proofs.Parts.{written-size}
 use Rattle.sd_binary.proofs.SizeLaws.{size-least}
 use Rattle.sd_binary.proofs.view.SdView.size.Goals as goal
@@ -23,3 +23,6 @@ returns-clause-most c = size-most c.args.self.now (subst IsDescriptor c.self.vie
 
 pub returns-clause-least : goal.returns-clause-least
 returns-clause-least c = λ bytes h. size-least bytes c.args.self.now h
+
+pub returns-clause-written : goal.returns-clause-written
+returns-clause-written c = length-layout c.args.self.now
