@@ -10,12 +10,13 @@ use Rattle.sd_core.specs.SidText.{has_form, letters_read, numbers_read, sid_read
 use Rattle.sd_core.specs.declared.ace.AceKind.TheVariants as kinds
 use Rattle.sd_core.specs.declared.sid_text.SidFault.TheVariants as sid_fault
 use Rattle.sd_binary.specs.declared.acl.AclPart.TheVariants as acl
-use Rattle.sd_sddl.specs.Meaning.{finished, front_reads, kind_reads, means, object_reads, reads_as, take_ace_field, take_field, take_front, verdict}
+use Rattle.sd_sddl.specs.FieldTexts.{front_reads, kind_reads, object_reads}
+use Rattle.sd_sddl.specs.Meaning.{ace_reads, body_reads, entries_read, means}
 use Rattle.sd_sddl.specs.declared.fault.SddlFault.TheVariants as fault
 
 -- `unfolding read` lets `refl` compute a row
 read : Unit {0}
-unfolding means finished reads_as verdict take_field take_front take_ace_field front_reads kind_reads object_reads flags_reads guid_reads rights_reads run_of sid_reads has_form letters_read numbers_read
+unfolding means body_reads entries_read ace_reads front_reads kind_reads object_reads flags_reads guid_reads rights_reads run_of sid_reads has_form letters_read numbers_read
 read = tt
 
 everyone : SecurityId

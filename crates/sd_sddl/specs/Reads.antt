@@ -8,7 +8,7 @@ use Rattle.sd_binary.specs.Builds.{Builds}
 use Rattle.sd_binary.specs.Draft.{IsOpen, acl_of, closed}
 use Rattle.sd_sddl.specs.Held.{IsHeld}
 use Rattle.sd_sddl.specs.Line.{byte, head_at, pieces_from, same_head}
-use Rattle.sd_sddl.specs.Meaning.{Reading, reads_as}
+use Rattle.sd_sddl.specs.FoldedReading.{Reading, reads_as}
 use Rattle.sd_sddl.specs.Progress.{answer, is_inside, is_seen, result_or}
 use Rattle.sd_sddl.specs.declared.fault.SddlFault.{SddlFault}
 use Rattle.sd_sddl.specs.declared.line.Head.{Head}

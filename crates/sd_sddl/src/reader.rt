@@ -5,7 +5,8 @@ ghost use Rattle.sd_core.specs.Sid.{IsSid};
 ghost use Rattle.sd_binary.specs.Descriptor.{IsDescriptor, Shows};
 ghost use Rattle.sd_sddl.specs.Held.{no_text, held_text};
 ghost use Rattle.sd_sddl.specs.Line.{byte, head_at, head_of as head_named, pieces_from};
-ghost use Rattle.sd_sddl.specs.Meaning.{Reading, and_then, finished, means, reads_as, take_field};
+ghost use Rattle.sd_sddl.specs.FoldedReading.{Reading, finished, reads_as, take_field};
+ghost use Rattle.sd_sddl.specs.Meaning.{and_then, means};
 ghost use Rattle.sd_sddl.specs.Reads.{CanTake, Holds, Takes};
 ghost use Rattle.sd_sddl.specs.Progress.{ended_with, is_inside, is_seen, place_of, result_or, with_head};
 

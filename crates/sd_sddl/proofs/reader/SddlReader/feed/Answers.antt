@@ -2,7 +2,7 @@ use Rattle.std.proofs.Common.{◌≡◌, ℕ, true, List, [], ◌∷◌, refl, a
 use Rattle.std.specs.Prelude.{Option}
 use Rattle.sd_core.specs.Sid.{SecurityId}
 use Rattle.sd_sddl.specs.declared.fault.SddlFault.TheVariants as fault
-use Rattle.sd_sddl.specs.Meaning.{reads_as}
+use Rattle.sd_sddl.specs.FoldedReading.{reads_as}
 use Rattle.sd_sddl.specs.Progress.{result_or}
 use Rattle.sd_sddl.specs.Reads.{answer_at, waiting}
 use Rattle.sd_sddl.proofs.Steps.{unsound}

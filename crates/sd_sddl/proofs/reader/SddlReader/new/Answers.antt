@@ -1,5 +1,5 @@
 use Rattle.std.proofs.Common.{refl, arith}
-use Rattle.sd_sddl.specs.Meaning.{nothing_read}
+use Rattle.sd_sddl.specs.FoldedReading.{nothing_read}
 use Rattle.sd_sddl.proofs.Steps.{started}
 use Rattle.sd_sddl.proofs.FitLaws.{fits-start}
 use Rattle.sd_sddl.proofs.reader.SddlReader.new.Goals as goal
