@@ -1,5 +1,5 @@
 -- The machine's reading of a line, folded over its fields, is what the line means.
-use Rattle.std.proofs.Common.{◌≡◌, ◌<◌, ◌≤◌, ℕ, suc, ◌+◌, Bool, true, false, ◌&&◌, ◌||◌, List, [], ◌∷◌, ◌++◌, length, Option, Some, None, Result, Ok, Err, refl, ap, sym, ◌∙◌, arith, append-nil, append_assoc}
+use Rattle.std.proofs.Common.{◌≡◌, ◌≤◌, ℕ, ◌+◌, Bool, true, false, ◌||◌, List, [], ◌∷◌, ◌++◌, length, Option, Some, None, Result, Ok, Err, refl, ap, sym, ◌∙◌, arith, append-nil, append_assoc}
 use Rattle.std.specs.Prelude.{◌==◌, nat_lt, if◌then◌else◌}
 use Rattle.std.specs.List.{AllByRecursion, flat_map, list_all}
 use Rattle.std.specs.Option.{ok_or}
@@ -34,7 +34,6 @@ use Rattle.sd_sddl.specs.declared.line.AceField.{AceField}
 use Rattle.sd_sddl.specs.declared.line.AceField.TheVariants as field
 use Rattle.sd_sddl.specs.declared.line.Head.{Head}
 use Rattle.sd_sddl.specs.declared.line.Head.TheVariants as head
-use Rattle.sd_sddl.specs.declared.line.SidPart.{SidPart}
 use Rattle.sd_sddl.specs.declared.line.SidPart.TheVariants as sid_part
 use Rattle.sd_sddl.specs.declared.line.Slot.TheVariants as slot
 use Rattle.sd_sddl.specs.declared.reading.AceFields.{AceFields}

@@ -27,7 +27,6 @@ use Rattle.sd_sddl.specs.declared.line.Head.{Head}
 use Rattle.sd_sddl.specs.declared.line.Head.TheVariants as head
 use Rattle.sd_sddl.specs.declared.line.SidPart.{SidPart}
 use Rattle.sd_sddl.specs.declared.line.SidPart.TheVariants as sid_part
-use Rattle.sd_sddl.specs.declared.reading.AclFront.{AclFront}
 
 -- One after the other: the first fault is the answer. `x ← read` goes on with what was read.
 abbrev pub and_then : {A B : Type 0} → Result A SddlFault → (A → Result B SddlFault) → Result B SddlFault
@@ -165,5 +164,5 @@ sections_mean domain sections = do
 unfoldable pub means : List ℕ → Option SecurityId → Result Descriptor SddlFault
 means text domain =
     if is_shaped text then
-        (if has_twice (parts_of text).parts then Err fault.PartTwice else sections_mean domain (parts_of text).parts)
+    (if has_twice (parts_of text).parts then Err fault.PartTwice else sections_mean domain (parts_of text).parts)
     else Err fault.Shape

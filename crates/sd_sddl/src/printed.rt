@@ -1,11 +1,11 @@
 // Descriptors as SDDL (MS-DTYP 2.5.1).
-ghost use Rattle.std.specs.Prelude.{◌≡◌, ◌≤◌, ◌<◌, ◌+◌, ◌*◌, ◌/◌, ◌%◌, ◌==◌, ◌++◌, length, Ok, Option};
+ghost use Rattle.std.specs.Prelude.{◌≡◌, ◌≤◌, ◌<◌, ◌+◌, ◌*◌, ◌/◌, ◌%◌, ◌==◌, ◌++◌, Bool, length, Ok, Option};
+ghost use Rattle.sd_core.specs.Sid.{SecurityId};
 ghost use Rattle.sd_core.specs.Sink.{Puts};
 ghost use Rattle.std.specs.Option.{option_copied};
 ghost use Rattle.sd_binary.specs.Layout.{size};
-ghost use Rattle.sd_sddl.specs.declared.naming.Naming.{Naming as NamingOf};
 ghost use Rattle.sd_sddl.specs.Meaning.{means};
-ghost use Rattle.sd_sddl.specs.Printed.{dacl_text, group_text, has_bit, owner_text, plain, sacl_text, sddl, sid_text_of};
+ghost use Rattle.sd_sddl.specs.Printed.{dacl_text, group_text, has_bit, naming_by, owner_text, plain, sacl_text, sddl, sid_text_of};
 
 use crate::acl::{AclFlags, put_acl};
 use crate::naming::{Naming, put_trustee};
@@ -23,11 +23,12 @@ pub fn put_sddl<S: Sink>(
     numeric: bool,
     sink: &mut S,
 ) -> Result<(), SinkFault>
-    ensures put { Puts (S.told sink.old) (S.told sink.new) (sddl (record { domain = option_copied domain.entry; numeric = numeric }) view.now) result }
+    ensures put { Puts (S.told sink.old) (S.told sink.new) (sddl (naming_by (option_copied domain.entry) numeric) view.now) result }
     ensures place { S.place sink.new ≡ S.place sink.old }
-    ensures short { (naming : NamingOf) → length (sddl naming view.now) ≤ 8 * size view.now + 63 }
+    // Under any domain, and with numbers alone too.
+    ensures short { (any : Option SecurityId) (numbers : Bool) → length (sddl (naming_by any numbers) view.now) ≤ 8 * size view.now + 63 }
     // The text means the descriptor, but for what is dropped.
-    ensures back { means (sddl (record { domain = option_copied domain.entry; numeric = numeric }) view.now) (option_copied domain.entry) ≡ Ok (plain view.now) }
+    ensures back { means (sddl (naming_by (option_copied domain.entry) numeric) view.now) (option_copied domain.entry) ≡ Ok (plain view.now) }
 {
     let naming = Naming {
         domain: domain.copied(),
