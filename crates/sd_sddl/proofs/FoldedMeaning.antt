@@ -1,6 +1,6 @@
 -- The machine's reading of a line, folded over its fields, is what the line means.
 use Rattle.std.proofs.Common.{◌≡◌, ◌≤◌, ℕ, ◌+◌, Bool, true, false, ◌||◌, List, [], ◌∷◌, ◌++◌, length, Option, Some, None, Result, Ok, Err, refl, ap, sym, ◌∙◌, arith, append-nil, append_assoc}
-use Rattle.std.specs.Prelude.{◌==◌, nat_lt, if◌then◌else◌}
+use Rattle.std.specs.Prelude.{◌==◌, nat_lt, not, if◌then◌else◌}
 use Rattle.std.specs.List.{AllByRecursion, flat_map, list_all}
 use Rattle.std.specs.Option.{ok_or}
 use Rattle.std.proofs.lemmas.Bool.Decides.{nat_tests}
@@ -581,6 +581,6 @@ folded-means text domain = by_shape (is_shaped text) refl
 
     by_shape : (shaped : Bool) → is_shaped text ≡ shaped
         → finished (verdict shaped (has_twice ss) (read_fields domain (fields_of ss) nothing_read))
-        ≡ (if shaped then (if has_twice ss then Err fault.PartTwice else sections_mean domain ss) else Err fault.Shape)
+        ≡ (if not shaped then Err fault.Shape else (if has_twice ss then Err fault.PartTwice else sections_mean domain ss))
     by_shape true e = by_twice (has_twice ss) (line-shaped text e) refl
     by_shape false e = refl

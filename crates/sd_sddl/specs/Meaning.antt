@@ -1,5 +1,5 @@
 -- What a line of SDDL means (MS-DTYP 2.5.1): the descriptor that its parts give, or the first fault.
-use Rattle.std.specs.Prelude.{ℕ, ◌+◌, ◌||◌, Bool, true, false, nat_lt, if◌then◌else◌, List, [], ◌∷◌, length, Option, Some, None, Result, Ok, Err}
+use Rattle.std.specs.Prelude.{ℕ, ◌+◌, ◌||◌, not, Bool, true, false, nat_lt, if◌then◌else◌, List, [], ◌∷◌, length, Option, Some, None, Result, Ok, Err}
 use Rattle.std.specs.List.{list_any}
 use Rattle.std.specs.Option.{ok_or}
 use Rattle.sd_core.specs.Ace.{AccessControlEntry}
@@ -163,6 +163,6 @@ sections_mean domain sections = do
 -- field from the left that does not read, then an ACL that is too large.
 unfoldable pub means : List ℕ → Option SecurityId → Result Descriptor SddlFault
 means text domain =
-    if is_shaped text then
-    (if has_twice (parts_of text).parts then Err fault.PartTwice else sections_mean domain (parts_of text).parts)
-    else Err fault.Shape
+    if not (is_shaped text) then Err fault.Shape
+    else (if has_twice (parts_of text).parts then Err fault.PartTwice
+    else sections_mean domain (parts_of text).parts)
