@@ -18,8 +18,9 @@ use Rattle.sd_binary.specs.declared.builder.Which.{Which}
 use Rattle.sd_binary.specs.declared.builder.Which.TheVariants as which
 use Rattle.sd_binary.specs.Control.{acl_flags, bit_if, flag_bits, no_flags}
 use Rattle.sd_binary.specs.Draft.{control_of, is_present, no_parts, other_flags}
-use Rattle.sd_sddl.specs.Line.{Field, Sections, fields_of, has_twice, is_shaped, parts_of}
-use Rattle.sd_sddl.specs.Meaning.{Reading, control_flags, described, finished, means, nothing_read, read_fields, reads_as, verdict}
+use Rattle.sd_sddl.specs.FoldedReading.{Field, Reading, described, fields_of, finished, folded, nothing_read, read_fields, reads_as, verdict}
+use Rattle.sd_sddl.specs.Line.{Sections, has_twice, is_shaped, parts_of}
+use Rattle.sd_sddl.specs.Meaning.{control_flags}
 use Rattle.sd_sddl.specs.Printed.{ace_text, acl_text, dacl_text, group_text, kept_bits, owner_text, plain, sacl_text, sddl, sid_text_of, trustee_text}
 use Rattle.sd_sddl.proofs.AceTexts.{ace_text-inner, inner_text}
 use Rattle.sd_sddl.proofs.FieldsBack.{front_text}
@@ -234,7 +235,7 @@ flags-upper s d =
     let di = scaled d.auto_inherited 0x4 in
     omega arith
 
-flags-stay : (sacl dacl : AclFlags) → other_flags (control_flags sacl dacl) ≡ control_flags sacl dacl
+pub flags-stay : (sacl dacl : AclFlags) → other_flags (control_flags sacl dacl) ≡ control_flags sacl dacl
 flags-stay s d = ap other_flags (flags-upper s d) ∙ upper-byte (six_bits s d) (bits-low s d) ∙ sym (flags-upper s d)
 
 -- without the other bits they are seven bits of the upper byte
@@ -280,8 +281,8 @@ unfolding finished verdict
 judged shaped twice read r s t e l = rw (s, t, e, l) refl
 
 line-means : (domain : Option SecurityId) (text : List ℕ) (r : Reading) → is_shaped text ≡ true → has_twice (parts_of text).parts ≡ false
-    → read_fields domain (fields_of (parts_of text).parts) nothing_read ≡ Ok r → r.large ≡ None → means text domain ≡ Ok (described r)
-unfolding means reads_as
+    → read_fields domain (fields_of (parts_of text).parts) nothing_read ≡ Ok r → r.large ≡ None → folded text domain ≡ Ok (described r)
+unfolding folded reads_as
 line-means domain text r s t e l = judged (is_shaped text) (has_twice (parts_of text).parts) _ r s t e l
 
 once : (naming : Naming) (d : Descriptor) → IsDescriptor d → has_twice (parts_of (flat_map part_text (printed_parts naming d))).parts ≡ false
@@ -292,12 +293,12 @@ once naming d h =
     ap (λ (s : Sections). has_twice s.parts) (line-parts (printed_parts naming d) (printed_parts-are naming d h))
     ∙ never_twice (sid_body naming d.owner) (sid_body naming d.group) dacl sacl
 
--- what is printed of a descriptor means it, without what is dropped
-pub means-sddl : (naming : Naming) (d : Descriptor) → IsDescriptor d → means (sddl naming d) naming.domain ≡ Ok (plain d)
-means-sddl naming d h =
+-- what is printed of a descriptor reads as it, without what is dropped
+pub folded-sddl : (naming : Naming) (d : Descriptor) → IsDescriptor d → folded (sddl naming d) naming.domain ≡ Ok (plain d)
+folded-sddl naming d h =
     let ps = printed_parts naming d in
     let are = printed_parts-are naming d h in
     let fields = ap (λ (fs : List Field). read_fields naming.domain fs nothing_read) (line-fields ps are) ∙ printed-back naming d h in
-    ap (λ (text : List ℕ). means text naming.domain) (sddl-printed naming d)
+    ap (λ (text : List ℕ). folded text naming.domain) (sddl-printed naming d)
     ∙ line-means naming.domain (flat_map part_text ps) (whole_of d) (line-shaped ps are) (once naming d h) fields (never-large d)
     ∙ ap (λ (x : Descriptor). Ok x) (whole-plain d)

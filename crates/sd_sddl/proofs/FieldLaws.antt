@@ -4,7 +4,8 @@ use Rattle.std.specs.Prelude.{◌&&◌, Ok}
 use Rattle.sd_core.specs.Ace.{GuidsFit, is_object}
 use Rattle.sd_core.specs.declared.ace.AceKind.{AceKind}
 use Rattle.sd_binary.specs.Draft.{closed}
-use Rattle.sd_sddl.specs.Meaning.{Reading, begun_or_null, no_fields, object_reads, take_front, with_flags}
+use Rattle.sd_sddl.specs.FoldedReading.{Reading, begun_or_null, no_fields, take_front, with_flags}
+use Rattle.sd_sddl.specs.FieldTexts.{object_reads}
 use Rattle.sd_sddl.specs.Reads.{AreAceFields, Holds}
 use Rattle.sd_binary.specs.declared.control.AclFlags.{AclFlags}
 use Rattle.sd_sddl.specs.declared.reading.AceFields.{AceFields}

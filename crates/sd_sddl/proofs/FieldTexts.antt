@@ -7,7 +7,8 @@ use Rattle.std.proofs.Math.Dec.{eqb-suc-zero}
 use Rattle.sd_sddl.specs.declared.line.Slot.{Slot}
 use Rattle.sd_core.specs.Sid.{SecurityId}
 use Rattle.sd_sddl.specs.Line.{is_blank, trim, trim_end}
-use Rattle.sd_sddl.specs.Meaning.{Reading, is_unreadable, take_field}
+use Rattle.sd_sddl.specs.FoldedReading.{Reading, take_field}
+use Rattle.sd_sddl.specs.Meaning.{is_unreadable}
 use Rattle.sd_sddl.specs.Held.{Held, IsHeld, broken_text, held_with, held_blank, outer_with, within_with, held_text}
 use Rattle.sd_sddl.specs.Progress.{unreadable, text_with, inner_with}
 

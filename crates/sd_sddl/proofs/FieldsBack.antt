@@ -22,7 +22,8 @@ use Rattle.sd_sddl.specs.declared.line.Slot.{Slot}
 use Rattle.sd_sddl.specs.declared.line.Slot.TheVariants as slot
 use Rattle.sd_binary.specs.declared.control.AclFlags.{AclFlags}
 use Rattle.sd_binary.specs.declared.builder.Which.{Which}
-use Rattle.sd_sddl.specs.Meaning.{Reading, begun_or_null, front_reads, kind_reads, no_fields, object_reads, take_ace_field, take_field, take_front, take_readable, with_flags, with_owner_or_group, with_sid, with_trustee, with_value}
+use Rattle.sd_sddl.specs.FoldedReading.{Reading, begun_or_null, no_fields, take_ace_field, take_field, take_front, take_readable, with_flags, with_owner_or_group, with_sid, with_trustee, with_value}
+use Rattle.sd_sddl.specs.FieldTexts.{front_reads, kind_reads, object_reads}
 use Rattle.sd_binary.specs.Draft.{closed}
 use Rattle.sd_sddl.specs.Printed.{acl_flags_text, kind_text, name_or, object_text, trustee_text}
 use Rattle.sd_sddl.proofs.PlainTexts.{IsPlain, acl_flags_text-plain, flags-plain, kind-plain, object-plain, plain-append, plain-readable, rights-plain, trustee-plain}

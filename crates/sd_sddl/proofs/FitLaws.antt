@@ -10,7 +10,9 @@ use Rattle.sd_core.specs.declared.sid_text.SidFault.{SidFault}
 use Rattle.sd_binary.specs.declared.acl.AclPart.TheVariants as acl
 use Rattle.sd_binary.specs.Draft.{Draft, IsOpen, IsOpenIn, acl_of, closed, more_in, with_ace}
 use Rattle.sd_sddl.specs.Line.{same_head}
-use Rattle.sd_sddl.specs.Meaning.{Reading, ace_of, and_then, begun_or_null, fault_of, front_reads, is_unreadable, kind_reads, nothing_read, object_reads, take_ace_field, take_field, take_front, take_readable, with_flags, with_owner_or_group, with_sid, with_trustee, with_value}
+use Rattle.sd_sddl.specs.FoldedReading.{Reading, ace_of, begun_or_null, fault_of, nothing_read, take_ace_field, take_field, take_front, take_readable, with_flags, with_owner_or_group, with_sid, with_trustee, with_value}
+use Rattle.sd_sddl.specs.Meaning.{and_then, is_unreadable}
+use Rattle.sd_sddl.specs.FieldTexts.{front_reads, kind_reads, object_reads}
 use Rattle.sd_sddl.specs.Held.{Held, held_text}
 use Rattle.sd_sddl.specs.Progress.{ended_with, is_seen, place_of, result_or, with_head}
 use Rattle.sd_sddl.proofs.Steps.{seen_with}

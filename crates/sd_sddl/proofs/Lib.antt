@@ -6,6 +6,7 @@ pub mod FieldTexts
 pub mod FieldsBack
 pub mod FitLaws
 pub mod FlagRuns
+pub mod FoldedMeaning
 mod LineRows
 pub mod LineCuts
 pub mod LineFields

@@ -21,8 +21,10 @@ use Rattle.sd_binary.specs.declared.acl.AclPart.{AclPart}
 use Rattle.sd_binary.specs.declared.acl.AclPart.TheVariants as acl
 use Rattle.sd_binary.specs.declared.builder.Which.{Which}
 use Rattle.sd_binary.specs.declared.builder.Which.TheVariants as which
-use Rattle.sd_sddl.specs.Line.{Field, fields_of, has_twice, is_shaped, parts_of}
-use Rattle.sd_sddl.specs.Meaning.{Reading, ace_of, and_then, begun_or_null, control_flags, described, fault_of, finished, front_reads, is_unreadable, kind_reads, large_in, means, no_fields, nothing_read, object_reads, or_else, read_fields, reads_as, take_ace_field, take_field, take_front, take_readable, unless_large, verdict, with_flags, with_owner_or_group, with_sid, with_trustee, with_value}
+use Rattle.sd_sddl.specs.FoldedReading.{Field, Reading, ace_of, begun_or_null, described, fault_of, fields_of, finished, folded, large_in, no_fields, nothing_read, read_fields, reads_as, take_ace_field, take_field, take_front, take_readable, verdict, with_flags, with_owner_or_group, with_sid, with_trustee, with_value}
+use Rattle.sd_sddl.specs.Line.{has_twice, is_shaped, parts_of}
+use Rattle.sd_sddl.specs.Meaning.{and_then, control_flags, is_unreadable, means, unless_large}
+use Rattle.sd_sddl.specs.FieldTexts.{front_reads, kind_reads, object_reads, or_else}
 use Rattle.sd_sddl.specs.Reads.{AreAceFields}
 use Rattle.sd_binary.specs.declared.control.AclFlags.{AclFlags}
 use Rattle.sd_sddl.specs.declared.fault.SddlFault.{SddlFault}
@@ -36,6 +38,7 @@ use Rattle.sd_sddl.specs.declared.line.Slot.TheVariants as slot
 use Rattle.sd_sddl.specs.declared.reading.AceFields.{AceFields}
 use Rattle.sd_sddl.specs.declared.reading.AclFront.{AclFront}
 use Rattle.sd_sddl.proofs.BackLaws.{control-upper}
+use Rattle.sd_sddl.proofs.FoldedMeaning.{folded-means}
 use Rattle.sd_sddl.proofs.FieldLaws.{sound-flags, sound-inherited, sound-kind, sound-mask, sound-object}
 
 -- 1. What the fields so far keep.
@@ -327,11 +330,15 @@ verdict-keeps true true read h = tt
 verdict-keeps true false read h = h
 verdict-keeps false twice read h = tt
 
+folded-limits : (text : List ℕ) (domain : Option SecurityId) → IfSome domain IsSid → IfOk (folded text domain) IsDescriptor
+unfolding folded reads_as
+folded-limits text domain is =
+    finished-limits _ (verdict-keeps (is_shaped text) (has_twice (parts_of text).parts) _ (fields-keep domain is (fields_of (parts_of text).parts) nothing_read nothing-is))
+
 -- what a line means under a SID of a domain, or none
 pub line-limits : (text : List ℕ) (domain : Option SecurityId) → IfSome domain IsSid → IfOk (means text domain) IsDescriptor
-unfolding means reads_as
 line-limits text domain is =
-    finished-limits _ (verdict-keeps (is_shaped text) (has_twice (parts_of text).parts) _ (fields-keep domain is (fields_of (parts_of text).parts) nothing_read nothing-is))
+    subst (λ (x : Result Descriptor SddlFault). IfOk x IsDescriptor) (folded-means text domain) (folded-limits text domain is)
 
 pub means-limits : (text : List ℕ) (domain : Option SecurityId) (d : Descriptor) → IfSome domain IsSid → means text domain ≡ Ok d → IsDescriptor d
 means-limits text domain d is e = subst (λ (x : Result Descriptor SddlFault). IfOk x IsDescriptor) e (line-limits text domain is)

@@ -20,8 +20,10 @@ use Rattle.sd_sddl.specs.declared.reading.AceFields.{AceFields}
 use Rattle.sd_binary.specs.declared.builder.Which.{Which}
 use Rattle.sd_binary.specs.declared.builder.Which.TheVariants as which
 use Rattle.sd_binary.specs.Draft.{Draft, begun, closed, with_ace, with_acl}
-use Rattle.sd_sddl.specs.Line.{Field, ace, ace_fields, byte, has_aces}
-use Rattle.sd_sddl.specs.Meaning.{Reading, and_then, grown, large_in, no_fields, or_else, read_fields, take_field, with_flags, with_owner_or_group, with_trustee}
+use Rattle.sd_sddl.specs.FoldedReading.{Field, Reading, ace_fields, grown, large_in, no_fields, read_fields, take_field, with_flags, with_owner_or_group, with_trustee}
+use Rattle.sd_sddl.specs.Line.{ace, byte, has_aces}
+use Rattle.sd_sddl.specs.Meaning.{and_then}
+use Rattle.sd_sddl.specs.FieldTexts.{or_else}
 use Rattle.sd_sddl.specs.Printed.{trustee_text}
 use Rattle.sd_sddl.proofs.AceTexts.{field_at, inner-fields, inner_text, inner_text-is}
 use Rattle.sd_sddl.proofs.FieldsBack.{front_text, front_text-plain, null_front_text, null_front_text-plain, take-flags, take-inherited, take-kind, take-list, take-null, take-object, take-rights, take-sid, take-trustee}
@@ -31,7 +33,7 @@ use Rattle.sd_sddl.proofs.PlainTexts.{trustee-plain}
 
 -- 1. Fields one after the other.
 
-read-append : (domain : Option SecurityId) (fs gs : List Field) (r : Reading)
+pub read-append : (domain : Option SecurityId) (fs gs : List Field) (r : Reading)
     → read_fields domain (fs ++ gs) r ≡ and_then (read_fields domain fs r) (read_fields domain gs)
 read-append domain [] gs r = refl
 read-append domain (f ∷ fs) gs r = by_first (take_field domain r f.slot f.text) (λ x. read-append domain fs gs x)

@@ -8,7 +8,7 @@ use Rattle.sd_core.specs.Sid.{SecurityId}
 use Rattle.sd_binary.specs.Acl.{acl_size, aces_size}
 use Rattle.sd_binary.specs.Builds.{Builds}
 use Rattle.sd_binary.specs.Draft.{IsOpen, IsOpenIn, more_in, open_size, open_size_in, with_ace}
-use Rattle.sd_sddl.specs.Meaning.{Reading, ace_of, large_in, with_trustee}
+use Rattle.sd_sddl.specs.FoldedReading.{Reading, ace_of, large_in, with_trustee}
 use Rattle.sd_sddl.specs.Reads.{Holds}
 use Rattle.sd_sddl.specs.declared.reading.FieldReader.{FieldReader}
 use Rattle.sd_binary.specs.declared.builder.Builder.{Builder}

@@ -1,4 +1,6 @@
 -- Descriptors as SDDL.
+pub mod FieldTexts
+pub mod FoldedReading
 pub mod Held
 pub mod Line
 pub mod Meaning

@@ -1,15 +1,11 @@
 -- A line of SDDL as a whole (MS-DTYP 2.5.1): its parentheses, its heads, and the texts of its fields. The
 -- parts may stand in any order, with blanks around them.
-use Rattle.std.specs.Prelude.{ℕ, Bool, true, false, ◌&&◌, ◌||◌, not, ◌==◌, if◌then◌else◌, List, [], ◌∷◌, ◌++◌, length, drop, Option, Some, None}
-use Rattle.std.specs.List.{list_all, flat_map}
+use Rattle.std.specs.Prelude.{ℕ, Bool, true, false, ◌&&◌, ◌||◌, not, ◌==◌, if◌then◌else◌, List, [], ◌∷◌, length, drop, Option, Some, None}
+use Rattle.std.specs.List.{list_all}
 use Rattle.sd_binary.specs.declared.builder.Which.TheVariants as which
 use Rattle.sd_sddl.specs.declared.line.SidPart.TheVariants as sid_part
 use Rattle.sd_sddl.specs.declared.line.Head.{Head}
 use Rattle.sd_sddl.specs.declared.line.Head.TheVariants as head
-use Rattle.sd_sddl.specs.declared.line.AceField.{AceField}
-use Rattle.sd_sddl.specs.declared.line.AceField.TheVariants as field
-use Rattle.sd_sddl.specs.declared.line.Slot.{Slot}
-use Rattle.sd_sddl.specs.declared.line.Slot.TheVariants as slot
 
 -- a space or a tab
 abbrev pub is_blank : ℕ → Bool
@@ -135,38 +131,9 @@ abbrev pub trim : List ℕ → List ℕ
 trim [] = []
 trim (b ∷ bs) = if is_blank b then trim bs else trim_end (b ∷ bs)
 
--- a field of the line, with its text
-pub record Field : Type 0 where
-  pub slot : Slot
-  pub text : List ℕ
-
--- the last one has none after it: a further cut is no shape
-abbrev pub next_field : AceField → AceField
-next_field field.Kind = field.Flags
-next_field field.Flags = field.Rights
-next_field field.Rights = field.Object
-next_field field.Object = field.Inherited
-next_field field.Inherited = field.Sid
-next_field field.Sid = field.Sid
-
--- the cuts of an ACE, from a field on
-abbrev pub ace_fields_from : AceField → List ℕ → List (List ℕ) → List Field
-ace_fields_from f text [] = record { slot = slot.Ace f; text = text } ∷ []
-ace_fields_from f text (t ∷ ts) = record { slot = slot.Ace f; text = text } ∷ ace_fields_from (next_field f) t ts
-
-abbrev pub ace_fields : List ℕ → List Field
-ace_fields a = ace_fields_from field.Kind (cuts a).first (cuts a).others
-
--- the SID; or what stands before the first parenthesis, and the fields of the ACEs; blanks at the ends of both first ones do
--- not count
-abbrev pub fields_in : Head → List Piece → List Field
-fields_in (head.Sid p) body = record { slot = slot.Sid p; text = trim (front body) } ∷ []
-fields_in (head.Acl w) body = record { slot = slot.AclFlags w (has_aces body); text = trim (front body) } ∷ flat_map ace_fields (aces body)
-
--- all fields, from the left
-abbrev pub fields_of : List Section → List Field
-fields_of [] = []
-fields_of (s ∷ ss) = fields_in s.head s.body ++ fields_of ss
+-- the text of an ACE cut at its semicolons
+abbrev pub ace_cuts : List ℕ → List (List ℕ)
+ace_cuts a = (cuts a).first ∷ (cuts a).others
 
 -- 4. Shape. A colon outside parentheses that makes no head stays in a body or before the first head, and no shape takes it.
 

@@ -1,223 +1,166 @@
--- What a line of SDDL means (MS-DTYP 2.5.1): its fields read from the left, and the descriptor that they make. Names are read
--- in either case.
-use Rattle.std.specs.Prelude.{ℕ, ◌+◌, ◌-◌, ◌&&◌, ◌||◌, Bool, true, false, ◌==◌, nat_le, nat_lt, if◌then◌else◌, List, [], ◌∷◌, length, take, drop, codes, Option, Some, None, Result, Ok, Err}
-use Rattle.std.specs.Char.{to_ascii_uppercase}
-use Rattle.std.specs.List.{find, list_any}
-use Rattle.std.specs.Option.{option_and_then, option_map}
-use Rattle.std.specs.Str.{str_eq_ignore_ascii_case}
-use Rattle.sd_core.specs.Ace.{AccessControlEntry, is_object}
+-- What a line of SDDL means (MS-DTYP 2.5.1): the descriptor that its parts give, or the first fault.
+use Rattle.std.specs.Prelude.{ℕ, ◌+◌, ◌||◌, not, Bool, true, false, nat_lt, if◌then◌else◌, List, [], ◌∷◌, length, Option, Some, None, Result, Ok, Err}
+use Rattle.std.specs.List.{list_any}
+use Rattle.std.specs.Option.{ok_or}
+use Rattle.sd_core.specs.Ace.{AccessControlEntry}
 use Rattle.sd_core.specs.Flags.{flags_reads}
-use Rattle.sd_core.specs.GuidText.{guid_reads}
 use Rattle.sd_core.specs.Rights.{rights_reads}
 use Rattle.sd_core.specs.Sid.{SecurityId}
 use Rattle.sd_core.specs.SidText.{sid_reads}
-use Rattle.sd_core.specs.declared.ace.AceKind.{AceKind}
-use Rattle.sd_core.specs.declared.ace.AceKind.TheVariants as kinds
 use Rattle.sd_core.specs.declared.sid_text.SidFault.{SidFault}
 use Rattle.sd_core.specs.declared.sid_text.SidFault.TheVariants.{SidForm}
-use Rattle.sd_binary.specs.Acl.{acl_size}
-use Rattle.sd_binary.specs.Control.{flag_bits, no_flags}
 use Rattle.sd_binary.specs.Descriptor.{Descriptor}
-use Rattle.sd_binary.specs.Draft.{Draft, begun, built, closed, no_parts, with_ace, with_acl}
+use Rattle.sd_binary.specs.Control.{bit_if, flag_bits, no_flags}
+use Rattle.sd_binary.specs.Draft.{is_present}
+use Rattle.sd_binary.specs.Layout.{acl_part_size}
+use Rattle.sd_binary.specs.declared.acl.AclPart.{AclPart}
 use Rattle.sd_binary.specs.declared.acl.AclPart.TheVariants as acl
 use Rattle.sd_binary.specs.declared.builder.Which.{Which}
 use Rattle.sd_binary.specs.declared.builder.Which.TheVariants as which
-use Rattle.sd_sddl.specs.Line.{Field, fields_of, has_twice, is_blank, is_shaped, parts_of}
-use Rattle.sd_sddl.specs.Printed.{kind_text}
 use Rattle.sd_binary.specs.declared.control.AclFlags.{AclFlags}
-use Rattle.sd_sddl.specs.declared.field_texts.TheConstants.{KINDS}
+use Rattle.sd_binary.specs.declared.control.TheConstants.{DACL_PRESENT, SACL_PRESENT, SELF_RELATIVE}
+use Rattle.sd_sddl.specs.FieldTexts.{front_reads, kind_reads, object_reads}
+use Rattle.sd_sddl.specs.Line.{Piece, Section, ace_cuts, aces, front, has_aces, has_twice, is_blank, is_shaped, parts_of, same_head, trim}
 use Rattle.sd_sddl.specs.declared.fault.SddlFault.{SddlFault}
 use Rattle.sd_sddl.specs.declared.fault.SddlFault.TheVariants as fault
-use Rattle.sd_sddl.specs.declared.line.AceField.{AceField}
-use Rattle.sd_sddl.specs.declared.line.AceField.TheVariants as field
+use Rattle.sd_sddl.specs.declared.line.Head.{Head}
+use Rattle.sd_sddl.specs.declared.line.Head.TheVariants as head
 use Rattle.sd_sddl.specs.declared.line.SidPart.{SidPart}
 use Rattle.sd_sddl.specs.declared.line.SidPart.TheVariants as sid_part
-use Rattle.sd_sddl.specs.declared.line.Slot.{Slot}
-use Rattle.sd_sddl.specs.declared.line.Slot.TheVariants as slot
-use Rattle.sd_sddl.specs.declared.reading.AceFields.{AceFields}
-use Rattle.sd_sddl.specs.declared.reading.AclFront.{AclFront}
 
--- 1. The texts that stand in SDDL alone.
-
--- the kind that has this text, in either case
-unfoldable pub kind_reads : List ℕ → Option AceKind
-kind_reads text = find (λ kind. str_eq_ignore_ascii_case (kind_text kind) text) KINDS
-
--- P, beside the flags so far
-abbrev pub one_letter : AclFlags → ℕ → Option AclFlags
-one_letter f a = if to_ascii_uppercase a == 80 then Some (record f { protected = true }) else None
-
--- AR or AI
-abbrev pub after_a : AclFlags → ℕ → Option AclFlags
-after_a f b =
-    if to_ascii_uppercase b == 82 then Some (record f { auto_inherit_required = true })
-    else (if to_ascii_uppercase b == 73 then Some (record f { auto_inherited = true }) else None)
-
-abbrev pub two_letters : AclFlags → ℕ → ℕ → Option AclFlags
-two_letters f a b = if to_ascii_uppercase a == 65 then after_a f b else None
-
-abbrev pub or_else : {A : Type 0} → Option A → Option A → Option A
-or_else None other = other
-or_else (Some x) other = Some x
-
--- a run of P, AR and AI in any order and in either case, beside the flags so far
-abbrev pub flags_after : AclFlags → List ℕ → Option AclFlags
-flags_after f [] = Some f
-flags_after f (a ∷ []) = one_letter f a
-flags_after f (a ∷ b ∷ rest) =
-    or_else (option_and_then (λ g. flags_after g (b ∷ rest)) (one_letter f a)) (option_and_then (λ g. flags_after g rest) (two_letters f a b))
-
-abbrev pub ends_with_null : List ℕ → Bool
-ends_with_null text = nat_le 17 (length text) && str_eq_ignore_ascii_case (drop (length text - 17) text) (codes "NO_ACCESS_CONTROL")
-
-abbrev pub with_null : Bool → Option AclFlags → Option AclFront
-with_null null flags = option_map (λ f. record { flags = f; null = null }) flags
-
--- what stands in an ACL before its ACEs: a run of flags, and NO_ACCESS_CONTROL for a null ACL
-unfoldable pub front_reads : List ℕ → Option AclFront
-front_reads text =
-    if ends_with_null text then with_null true (flags_after no_flags (take (length text - 17) text))
-    else with_null false (flags_after no_flags text)
-
--- nothing, or a GUID, which stands in object kinds alone
-unfoldable pub object_reads : AceKind → List ℕ → Option (Option (List ℕ))
-object_reads kind [] = Some None
-object_reads kind (b ∷ bs) = if is_object kind then option_map (λ guid. Some guid) (guid_reads (b ∷ bs)) else None
-
--- 2. The fields, one after the other.
-
--- What the fields so far say. The fields are read one after the other, from the left, so that the first one that does not
--- read is the fault: an ACE's SID, its last field, puts it into the ACL at hand, and a part closes the ACL before it.
-pub record Reading : Type 0 where
-  -- the parts, and the ACL at hand with its ACEs
-  pub parts : Draft
-  -- the flags of the ACLs that stand
-  pub sacl : AclFlags
-  pub dacl : AclFlags
-  -- the fields of the ACE at hand
-  pub ace : AceFields
-  -- the first ACL from the left whose size passes 65,535
-  pub large : Option Which
-
-abbrev pub no_fields : AceFields
-no_fields = record { kind = kinds.Allow; flags = 0; mask = 0; object = None; inherited = None }
-
-abbrev pub nothing_read : Reading
-nothing_read = record { parts = no_parts; sacl = no_flags; dacl = no_flags; ace = no_fields; large = None }
-
+-- One after the other: the first fault is the answer. `x ← read` goes on with what was read.
 abbrev pub and_then : {A B : Type 0} → Result A SddlFault → (A → Result B SddlFault) → Result B SddlFault
 and_then (Ok x) next = next x
 and_then (Err e) next = Err e
 
--- a reading with a value, or the fault where there is none
-abbrev pub with_value : {A : Type 0} → SddlFault → (A → Reading) → Option A → Result Reading SddlFault
-with_value e with None = Err e
-with_value e with (Some x) = Ok (with x)
+abbrev pub ◌>>=◌ : {A B : Type 0} → Result A SddlFault → (A → Result B SddlFault) → Result B SddlFault
+◌>>=◌ read next = and_then read next
 
-abbrev pub with_sid : (SecurityId → Reading) → Result SecurityId SidFault → Result Reading SddlFault
-with_sid with (Ok s) = Ok (with s)
-with_sid with (Err e) = Err (fault.Sid e)
+-- each one of a list, from the left
+abbrev pub each : {A B : Type 0} → (A → Result B SddlFault) → List A → Result (List B) SddlFault
+each reads [] = Ok []
+each reads (x ∷ others) = do
+  y ← reads x
+  ys ← each reads others
+  Ok (y ∷ ys)
 
--- an owner or a group; the ACL before it is closed
-abbrev pub with_owner_or_group : SidPart → Reading → SecurityId → Reading
-with_owner_or_group sid_part.Owner r s = record r { parts = record (closed r.parts) { owner = Some s } }
-with_owner_or_group sid_part.Group r s = record r { parts = record (closed r.parts) { group = Some s } }
-
-abbrev pub with_flags : Which → AclFlags → Reading → Reading
-with_flags which.Sacl f r = record r { sacl = f }
-with_flags which.Dacl f r = record r { dacl = f }
-
-abbrev pub begun_or_null : Which → Bool → Draft → Draft
-begun_or_null w true t = with_acl w acl.Null t
-begun_or_null w false t = begun w t
-
--- an ACL begins, and the one before it is closed; no ACE stands in a null ACL
-unfoldable pub take_front : Which → Bool → Reading → Option AclFront → Result Reading SddlFault
-take_front w has_aces r None = Err fault.Flags
-take_front w has_aces r (Some f) =
-    if f.null && has_aces then Err fault.Flags
-    else Ok (with_flags w f.flags (record r { parts = begun_or_null w f.null (closed r.parts) }))
-
-abbrev pub ace_of : AceFields → SecurityId → AccessControlEntry
-ace_of f s = record { kind = f.kind; flags = f.flags; mask = f.mask; object = f.object; inherited = f.inherited; sid = s }
-
-abbrev pub large_in : Option (Which × List AccessControlEntry) → Option Which
-large_in None = None
-large_in (Some o) = if nat_lt 65535 (acl_size o.1) then Some o.0 else None
-
-abbrev pub grown : Reading → Draft → Reading
-grown r parts = record r { parts = parts; large = or_else r.large (large_in parts.«open») }
-
--- the ACE at hand ends with its SID
-abbrev pub with_trustee : Reading → SecurityId → Reading
-with_trustee r s = grown r (with_ace (ace_of r.ace s) r.parts)
-
--- a field of the ACE at hand
-unfoldable pub take_ace_field : Option SecurityId → Reading → AceField → List ℕ → Result Reading SddlFault
-take_ace_field domain r field.Kind text = with_value fault.Kind (λ kind. record r { ace = record no_fields { kind = kind } }) (kind_reads text)
-take_ace_field domain r field.Flags text = with_value fault.Flags (λ flags. record r { ace = record r.ace { flags = flags } }) (flags_reads text)
-take_ace_field domain r field.Rights text = with_value fault.Rights (λ mask. record r { ace = record r.ace { mask = mask } }) (rights_reads text)
-take_ace_field domain r field.Object text = with_value fault.Guid (λ guid. record r { ace = record r.ace { object = guid } }) (object_reads r.ace.kind text)
-take_ace_field domain r field.Inherited text = with_value fault.Guid (λ guid. record r { ace = record r.ace { inherited = guid } }) (object_reads r.ace.kind text)
-take_ace_field domain r field.Sid text = with_sid (with_trustee r) (sid_reads text domain)
-
-abbrev pub take_readable : Option SecurityId → Reading → Slot → List ℕ → Result Reading SddlFault
-take_readable domain r (slot.Sid p) text = with_sid (with_owner_or_group p r) (sid_reads text domain)
-take_readable domain r (slot.AclFlags w has_aces) text = take_front w has_aces r (front_reads text)
-take_readable domain r (slot.Ace f) text = take_ace_field domain r f text
-
--- what a field that does not read is called, as above
-abbrev pub ace_fault_of : AceField → SddlFault
-ace_fault_of field.Kind = fault.Kind
-ace_fault_of field.Flags = fault.Flags
-ace_fault_of field.Rights = fault.Rights
-ace_fault_of field.Object = fault.Guid
-ace_fault_of field.Inherited = fault.Guid
-ace_fault_of field.Sid = fault.Sid SidForm
-
-abbrev pub fault_of : Slot → SddlFault
-fault_of (slot.Sid p) = fault.Sid SidForm
-fault_of (slot.AclFlags w has_aces) = fault.Flags
-fault_of (slot.Ace f) = ace_fault_of f
+-- 1. Fields.
 
 -- no field with a blank in it reads, which the readers of each field say too, and none of more than 183 bytes
 abbrev pub is_unreadable : List ℕ → Bool
 is_unreadable text = list_any is_blank text || nat_lt 183 (length text)
 
--- one field more
-unfoldable pub take_field : Option SecurityId → Reading → Slot → List ℕ → Result Reading SddlFault
-take_field domain r s text = if is_unreadable text then Err (fault_of s) else take_readable domain r s text
+-- what a field reads as, or the fault of one that does not read
+abbrev pub field_reads : {A : Type 0} → SddlFault → (List ℕ → Option A) → List ℕ → Result A SddlFault
+field_reads unread reads text = if is_unreadable text then Err unread else ok_or (reads text) unread
 
--- the first field that does not read is the fault
-abbrev pub read_fields : Option SecurityId → List Field → Reading → Result Reading SddlFault
-read_fields domain [] r = Ok r
-read_fields domain (f ∷ fs) r = and_then (take_field domain r f.slot f.text) (read_fields domain fs)
+abbrev pub sid_or_fault : Result SecurityId SidFault → Result SecurityId SddlFault
+sid_or_fault (Ok s) = Ok s
+sid_or_fault (Err e) = Err (fault.Sid e)
 
--- 3. The line.
+abbrev pub sid_field_reads : Option SecurityId → List ℕ → Result SecurityId SddlFault
+sid_field_reads domain text = if is_unreadable text then Err (fault.Sid SidForm) else sid_or_fault (sid_reads text domain)
 
--- shape first, then a part that stands twice, then the fields
-unfoldable pub verdict : Bool → Bool → Result Reading SddlFault → Result Reading SddlFault
-verdict shaped twice read = if shaped then (if twice then Err fault.PartTwice else read) else Err fault.Shape
+-- 2. An ACE (MS-DTYP 2.5.1.1): six fields, read from the left. Any other number of them is no shape.
 
-unfoldable pub reads_as : Option SecurityId → List ℕ → Result Reading SddlFault
-reads_as domain text = verdict (is_shaped text) (has_twice (parts_of text).parts) (read_fields domain (fields_of (parts_of text).parts) nothing_read)
+unfoldable pub ace_reads : Option SecurityId → List (List ℕ) → Result AccessControlEntry SddlFault
+ace_reads domain (kind ∷ flags ∷ rights ∷ object ∷ inherited ∷ sid ∷ []) = do
+  k ← field_reads fault.Kind kind_reads kind
+  f ← field_reads fault.Flags flags_reads flags
+  m ← field_reads fault.Rights rights_reads rights
+  o ← field_reads fault.Guid (object_reads k) object
+  i ← field_reads fault.Guid (object_reads k) inherited
+  s ← sid_field_reads domain sid
+  Ok (record { kind = k; flags = f; mask = m; object = o; inherited = i; sid = s })
+ace_reads domain others = Err fault.Shape
+
+-- 3. A section: a SID, or the flags of an ACL, and then null or its ACEs.
+
+pub data Said : Type 0 where
+  sid_said : SidPart → SecurityId → Said
+  acl_said : Which → AclFlags → AclPart → Said
+
+-- no ACE stands in a null ACL
+unfoldable pub entries_read : Option SecurityId → Bool → List Piece → Result AclPart SddlFault
+entries_read domain true body = if has_aces body then Err fault.Flags else Ok acl.Null
+entries_read domain false body = do
+  entries ← each (λ a. ace_reads domain (ace_cuts a)) (aces body)
+  Ok (acl.List entries)
+
+-- blanks at the ends of the SID, and of what stands before the first ACE, do not count
+unfoldable pub body_reads : Option SecurityId → Head → List Piece → Result Said SddlFault
+body_reads domain (head.Sid p) body = do
+  s ← sid_field_reads domain (trim (front body))
+  Ok (sid_said p s)
+body_reads domain (head.Acl w) body = do
+  f ← field_reads fault.Flags front_reads (trim (front body))
+  entries ← entries_read domain f.null body
+  Ok (acl_said w f.flags entries)
+
+abbrev pub section_reads : Option SecurityId → Section → Result Said SddlFault
+section_reads domain s = body_reads domain s.head s.body
+
+-- 4. The descriptor that sections give, of which no two have one head.
+
+-- the owner or the group, if a section gives it
+abbrev pub sid_of : SidPart → List Said → Option SecurityId
+sid_of p [] = None
+sid_of p (sid_said q s ∷ others) = if same_head (head.Sid p) (head.Sid q) then Some s else sid_of p others
+sid_of p (acl_said w f a ∷ others) = sid_of p others
+
+-- an ACL, which is absent where no section gives it
+abbrev pub acl_of : Which → List Said → AclPart
+acl_of w [] = acl.Absent
+acl_of w (sid_said p s ∷ others) = acl_of w others
+acl_of w (acl_said v f a ∷ others) = if same_head (head.Acl w) (head.Acl v) then a else acl_of w others
+
+-- its flags
+abbrev pub flags_of : Which → List Said → AclFlags
+flags_of w [] = no_flags
+flags_of w (sid_said p s ∷ others) = flags_of w others
+flags_of w (acl_said v f a ∷ others) = if same_head (head.Acl w) (head.Acl v) then f else flags_of w others
 
 -- the flags of both ACLs in the control word
 abbrev pub control_flags : AclFlags → AclFlags → ℕ
 control_flags sacl dacl = flag_bits which.Sacl sacl + flag_bits which.Dacl dacl
 
-abbrev pub described : Reading → Descriptor
-described r = built (control_flags r.sacl r.dacl) 0 (closed r.parts)
+-- the flags that are written, SR, and SP and DP of the ACLs that stand
+abbrev pub control_of : List Said → ℕ
+control_of said =
+    control_flags (flags_of which.Sacl said) (flags_of which.Dacl said) + SELF_RELATIVE
+    + bit_if (is_present (acl_of which.Sacl said)) SACL_PRESENT + bit_if (is_present (acl_of which.Dacl said)) DACL_PRESENT
+
+abbrev pub descriptor_of : List Said → Descriptor
+descriptor_of said = record {
+  control = control_of said;
+  rm = 0;
+  owner = sid_of sid_part.Owner said;
+  group = sid_of sid_part.Group said;
+  sacl = acl_of which.Sacl said;
+  dacl = acl_of which.Dacl said;
+}
+
+-- 5. The line.
+
+-- the first ACL from the left whose size passes 65,535
+abbrev pub first_large : List Said → Option Which
+first_large [] = None
+first_large (sid_said p s ∷ others) = first_large others
+first_large (acl_said w f a ∷ others) = if nat_lt 65535 (acl_part_size a) then Some w else first_large others
 
 abbrev pub unless_large : Option Which → Descriptor → Result Descriptor SddlFault
 unless_large None d = Ok d
 unless_large (Some w) d = Err (fault.AclTooLarge w)
 
--- the last fault is an ACL that is too large
-unfoldable pub finished : Result Reading SddlFault → Result Descriptor SddlFault
-finished (Err e) = Err e
-finished (Ok r) = unless_large r.large (described r)
+abbrev pub sections_mean : Option SecurityId → List Section → Result Descriptor SddlFault
+sections_mean domain sections = do
+  said ← each (section_reads domain) sections
+  unless_large (first_large said) (descriptor_of said)
 
--- the descriptor that a line means under a domain, or the first fault
+-- The descriptor that a line means under a domain, or its fault: its shape, then two sections with one letter, then the first
+-- field from the left that does not read, then an ACL that is too large.
 unfoldable pub means : List ℕ → Option SecurityId → Result Descriptor SddlFault
-means text domain = finished (reads_as domain text)
+means text domain =
+    if not (is_shaped text) then Err fault.Shape
+    else (if has_twice (parts_of text).parts then Err fault.PartTwice
+    else sections_mean domain (parts_of text).parts)

@@ -19,6 +19,10 @@ use Rattle.sd_binary.specs.declared.builder.Which.TheVariants as which
 use Rattle.sd_binary.specs.declared.control.AclFlags.{AclFlags}
 use Rattle.sd_binary.specs.declared.control.TheConstants.{SELF_RELATIVE}
 
+-- how SIDs are printed: by their aliases, those of a domain too where there is one, or by numbers alone
+abbrev pub naming_by : Option SecurityId → Bool → Naming
+naming_by domain numeric = record { domain = domain; numeric = numeric }
+
 abbrev pub name_or : Option (List ℕ) → List ℕ → List ℕ
 name_or None text = text
 name_or (Some name) text = name

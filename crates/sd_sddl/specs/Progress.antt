@@ -4,8 +4,9 @@ use Rattle.std.specs.List.{list_all, flat_map}
 use Rattle.sd_core.specs.Sid.{SecurityId}
 use Rattle.sd_binary.specs.declared.builder.Which.TheVariants as which
 use Rattle.sd_sddl.specs.Held.{Held, held_text}
-use Rattle.sd_sddl.specs.Line.{Field, Piece, Section, Sections, ace_fields, ace_fields_from, aces, are_aces, are_shaped, cuts, fields_of, front, has_aces, has_twice, is_acl_body, is_blank, is_blank_piece, is_paired, is_sid_body, pieces_from, sections, trim}
-use Rattle.sd_sddl.specs.Meaning.{Reading, and_then, read_fields, take_field, verdict}
+use Rattle.sd_sddl.specs.FoldedReading.{Field, Reading, ace_fields, ace_fields_from, fields_of, read_fields, take_field, verdict}
+use Rattle.sd_sddl.specs.Line.{Piece, Section, Sections, aces, are_aces, are_shaped, cuts, front, has_aces, has_twice, is_acl_body, is_blank, is_blank_piece, is_paired, is_sid_body, pieces_from, sections, trim}
+use Rattle.sd_sddl.specs.Meaning.{and_then}
 use Rattle.sd_sddl.specs.declared.fault.SddlFault.{SddlFault}
 use Rattle.sd_sddl.specs.declared.line.AceField.{AceField}
 use Rattle.sd_sddl.specs.declared.line.AceField.TheVariants as field

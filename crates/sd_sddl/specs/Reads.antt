@@ -2,13 +2,14 @@
 use Rattle.std.specs.Prelude.{◌≡◌, ℕ, ◌/◌, ◌%◌, Bool, true, false, ◌||◌, not, ◌==◌, List, [], ◌∷◌, ◌++◌, Option, Some, None, Result, Ok, Err}
 use Rattle.std.specs.Option.{option_map}
 use Rattle.sd_core.specs.Ace.{GuidsFit, is_object}
+use Rattle.sd_core.specs.Sid.{SecurityId}
 use Rattle.sd_binary.specs.Descriptor.{Descriptor, Shows}
 use Rattle.sd_binary.specs.declared.acl.AclPart.TheVariants as acl
 use Rattle.sd_binary.specs.Builds.{Builds}
-use Rattle.sd_binary.specs.Draft.{IsOpen, acl_of, closed}
+use Rattle.sd_binary.specs.Draft.{IsOpen, IsWritten, acl_of, closed}
 use Rattle.sd_sddl.specs.Held.{IsHeld}
 use Rattle.sd_sddl.specs.Line.{byte, head_at, pieces_from, same_head}
-use Rattle.sd_sddl.specs.Meaning.{Reading, reads_as}
+use Rattle.sd_sddl.specs.FoldedReading.{Reading, reads_as}
 use Rattle.sd_sddl.specs.Progress.{answer, is_inside, is_seen, result_or}
 use Rattle.sd_sddl.specs.declared.fault.SddlFault.{SddlFault}
 use Rattle.sd_sddl.specs.declared.line.Head.{Head}
@@ -57,9 +58,9 @@ abbrev pub Takes : {X : Type 0} → Result Reading SddlFault → Result X SddlFa
 Takes wanted (Ok x) r buf = (u : Reading) × Holds r buf u × (wanted ≡ Ok u)
 Takes wanted (Err e) r buf = wanted ≡ Err e
 
--- the buffer shows the descriptor, or is a refusal's
+-- the buffer shows the descriptor in its written form, or is a refusal's
 abbrev pub Ends : Result Descriptor SddlFault → Result (Unit {0}) SddlFault → List ℕ → Type 0
-Ends wanted (Ok x) buf = (d : Descriptor) × Shows buf d × (wanted ≡ Ok d)
+Ends wanted (Ok x) buf = (d : Descriptor) × Shows buf d × IsWritten buf d × (wanted ≡ Ok d)
 Ends wanted (Err e) buf = wanted ≡ Err e
 
 -- 2. The reader of a line.
@@ -135,7 +136,8 @@ pub record IsReader (s : SddlReader) (buf : List ℕ) : Type 0 where
   pub read : Reading
   pub held : Keeps s buf read
 
--- The reader and the buffer beside it have read this text: whatever follows, the answer is that to the whole line.
-abbrev pub Reads : SddlReader → List ℕ → List ℕ → Type 0
-Reads s buf text =
-    (t : Reading) × Keeps s buf t × ((rest : List ℕ) → answer_at s t (waiting s.pending ++ rest) ≡ reads_as s.fields.domain (text ++ rest))
+-- The reader and the buffer beside it have read this text under this domain: whatever follows, the answer is that to the whole
+-- line.
+abbrev pub Reads : SddlReader → List ℕ → Option SecurityId → List ℕ → Type 0
+Reads s buf domain text =
+    (t : Reading) × Keeps s buf t × ((rest : List ℕ) → answer_at s t (waiting s.pending ++ rest) ≡ reads_as domain (text ++ rest))

@@ -3,7 +3,7 @@ ghost use Rattle.std.specs.Prelude.{◌≡◌, ◌≤◌, length, List, ℕ, Som
 ghost use Rattle.std.specs.Str.{str_eq_ignore_ascii_case};
 ghost use Rattle.sd_core.specs.Ace.{is_object};
 ghost use Rattle.sd_binary.specs.Control.{no_flags};
-ghost use Rattle.sd_sddl.specs.Meaning.{after_a, ends_with_null, flags_after, front_reads, kind_reads, object_reads, one_letter, two_letters};
+ghost use Rattle.sd_sddl.specs.FieldTexts.{after_a, ends_with_null, flags_after, front_reads, kind_reads, object_reads, one_letter, two_letters};
 ghost use Rattle.sd_sddl.specs.Printed.{kind_text};
 
 use crate::reading::AclFront;
@@ -26,7 +26,7 @@ pub const KINDS: [AceKind; 7] = [
 ];
 
 /// The kind of this text, in either case.
-#[tactic(auto, unfolding(crate::specs::Meaning::kind_reads))]
+#[tactic(auto, unfolding(crate::specs::FieldTexts::kind_reads))]
 pub fn kind_from_text(text: &[u8]) -> Option<AceKind>
     ensures { result ≡ kind_reads text.now }
 {
@@ -59,7 +59,7 @@ fn kind_text(kind: AceKind) -> &'static str
 
 /// The object type, or the inherited object type, of an ACE of this kind: nothing for an empty text, and else a GUID,
 /// which stands in object kinds alone.
-#[tactic(auto, unfolding(crate::specs::Meaning::object_reads))]
+#[tactic(auto, unfolding(crate::specs::FieldTexts::object_reads))]
 pub fn object_from_text(kind: AceKind, text: &[u8]) -> Option<Option<Uuid>>
     ensures { result ≡ object_reads kind text.now }
 {
@@ -73,7 +73,7 @@ pub fn object_from_text(kind: AceKind, text: &[u8]) -> Option<Option<Uuid>>
 }
 
 /// What stands in an ACL before its ACEs: flags, and `NO_ACCESS_CONTROL` where the ACL is null.
-#[tactic(auto, unfolding(crate::specs::Meaning::front_reads))]
+#[tactic(auto, unfolding(crate::specs::FieldTexts::front_reads))]
 pub fn front_from_text(text: &[u8]) -> Option<AclFront>
     ensures { result ≡ front_reads text.now }
 {

@@ -1,6 +1,7 @@
 // The parts of an SDDL line, and the places in it.
 ghost use Rattle.std.specs.Prelude.{◌≡◌};
-ghost use Rattle.sd_sddl.specs.Line.{head_of, is_blank, next_field};
+ghost use Rattle.sd_sddl.specs.Line.{head_of, is_blank};
+ghost use Rattle.sd_sddl.specs.FoldedReading.{next_field};
 ghost use Rattle.sd_sddl.specs.Progress.{place_of};
 
 use sd_binary::Which;

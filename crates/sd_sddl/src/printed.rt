@@ -1,13 +1,13 @@
 // Descriptors as SDDL (MS-DTYP 2.5.1).
-ghost use Rattle.std.specs.Prelude.{◌≡◌, ◌≤◌, ◌+◌, ◌*◌, ◌++◌, length, Ok, Option};
+ghost use Rattle.std.specs.Prelude.{◌≡◌, ◌≤◌, ◌+◌, ◌*◌, ◌++◌, Bool, length, Ok, Option};
 ghost use Rattle.sd_core.specs.Print.{Prints};
+ghost use Rattle.sd_core.specs.Sid.{SecurityId};
 ghost use Rattle.sd_core.specs.Sink.{Puts};
 ghost use Rattle.std.specs.Option.{option_copied};
 ghost use Rattle.sd_binary.specs.Descriptor.{IsDescriptor};
 ghost use Rattle.sd_binary.specs.Layout.{size};
-ghost use Rattle.sd_sddl.specs.declared.naming.Naming.{Naming as NamingOf};
 ghost use Rattle.sd_sddl.specs.Meaning.{means};
-ghost use Rattle.sd_sddl.specs.Printed.{plain, sddl, sid_text_of};
+ghost use Rattle.sd_sddl.specs.Printed.{naming_by, plain, sddl, sid_text_of};
 
 use crate::acl::print_acl;
 use crate::naming::{Naming, print_trustee};
@@ -25,10 +25,11 @@ pub fn put_sddl<S: Sink>(
     numeric: bool,
     sink: &mut S,
 ) -> Result<(), SinkFault>
-    ensures put { Puts (S.told sink.old) (S.told sink.new) (sddl (record { domain = option_copied domain.entry; numeric = numeric }) view.now) result }
-    ensures short { (naming : NamingOf) → length (sddl naming view.now) ≤ 8 * size view.now + 63 }
+    ensures put { Puts (S.told sink.old) (S.told sink.new) (sddl (naming_by (option_copied domain.entry) numeric) view.now) result }
+    // Under any domain, and with numbers alone too.
+    ensures short { (any : Option SecurityId) (numbers : Bool) → length (sddl (naming_by any numbers) view.now) ≤ 8 * size view.now + 63 }
     // The text means the descriptor, but for what is dropped.
-    ensures back { means (sddl (record { domain = option_copied domain.entry; numeric = numeric }) view.now) (option_copied domain.entry) ≡ Ok (plain view.now) }
+    ensures back { means (sddl (naming_by (option_copied domain.entry) numeric) view.now) (option_copied domain.entry) ≡ Ok (plain view.now) }
 {
     let mut out = Gather::new(sink);
     print_sddl(view, domain, numeric, &mut out);
@@ -37,7 +38,7 @@ pub fn put_sddl<S: Sink>(
 
 /// Prints a descriptor as SDDL, as `put_sddl` puts it.
 pub fn print_sddl<P: Print>(view: &SdView<'_>, domain: Option<&Sid>, numeric: bool, out: &mut P)
-    ensures printed { Prints (P.told out.old) (P.told out.new) (sddl (record { domain = option_copied domain.entry; numeric = numeric }) view.now) }
+    ensures printed { Prints (P.told out.old) (P.told out.new) (sddl (naming_by (option_copied domain.entry) numeric) view.now) }
     ensures limits { IsDescriptor view.now }
 {
     let naming = Naming {

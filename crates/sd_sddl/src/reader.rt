@@ -1,11 +1,13 @@
 // A line, read a byte at a time.
-ghost use Rattle.std.specs.Prelude.{◌≡◌, ◌≤◌, ◌==◌, ℕ, List, [], ◌∷◌, ◌++◌, length, ◌||◌, if◌then◌else◌, true, false, Some, None, Ok, Err, IfOk, IfSome, MatchResult};
+ghost use Rattle.std.specs.Prelude.{◌≡◌, ◌≤◌, ◌==◌, ℕ, List, [], ◌∷◌, ◌++◌, length, ◌||◌, if◌then◌else◌, true, false, Option, Some, None, Ok, Err, IfOk, IfSome, MatchResult};
 ghost use Rattle.std.specs.Option.{option_copied};
-ghost use Rattle.sd_core.specs.Sid.{IsSid};
+ghost use Rattle.sd_core.specs.Sid.{IsSid, SecurityId};
 ghost use Rattle.sd_binary.specs.Descriptor.{IsDescriptor, Shows};
+ghost use Rattle.sd_binary.specs.Draft.{IsWritten};
 ghost use Rattle.sd_sddl.specs.Held.{no_text, held_text};
 ghost use Rattle.sd_sddl.specs.Line.{byte, head_at, head_of as head_named, pieces_from};
-ghost use Rattle.sd_sddl.specs.Meaning.{Reading, and_then, finished, means, reads_as, take_field};
+ghost use Rattle.sd_sddl.specs.FoldedReading.{Reading, finished, reads_as, take_field};
+ghost use Rattle.sd_sddl.specs.Meaning.{and_then, means};
 ghost use Rattle.sd_sddl.specs.Reads.{CanTake, Holds, Takes};
 ghost use Rattle.sd_sddl.specs.Progress.{ended_with, is_inside, is_seen, place_of, result_or, with_head};
 
@@ -38,8 +40,7 @@ impl SddlReader {
     /// A reader that was fed nothing.
     pub fn new(domain: Option<Sid>, buf: &mut SdBuf) -> Self
         ensures reader { IsReader result buf.new }
-        ensures read { Reads result buf.new [] }
-        ensures domain { result.fields.domain ≡ domain }
+        ensures read { Reads result buf.new domain [] }
     {
         SddlReader {
             place: Place::Before,
@@ -66,7 +67,6 @@ impl SddlReader {
         ensures answers { Steps self.old buf.old (byte ∷ []) self.new buf.new }
         ensures calm { IsCalm self.new }
         ensures pending { self.new.pending ≡ self.old.pending }
-        ensures domain { self.new.fields.domain ≡ self.old.fields.domain }
     {
         match byte {
             b'(' => self.sound = false,
@@ -84,7 +84,6 @@ impl SddlReader {
         ensures answers { Steps self.old buf.old (41 ∷ []) self.new buf.new }
         ensures calm { IsCalm self.new }
         ensures pending { self.new.pending ≡ self.old.pending }
-        ensures domain { self.new.fields.domain ≡ self.old.fields.domain }
     {
         if let AceField::Sid = field {
             end_field(
@@ -108,7 +107,6 @@ impl SddlReader {
         ensures answers { Steps self.old buf.old (59 ∷ []) self.new buf.new }
         ensures calm { IsCalm self.new }
         ensures pending { self.new.pending ≡ self.old.pending }
-        ensures domain { self.new.fields.domain ≡ self.old.fields.domain }
     {
         if let AceField::Sid = field {
             self.sound = false;
@@ -132,7 +130,6 @@ impl SddlReader {
         ensures answers { StepsText self.old buf.old byte self.new buf.new }
         ensures calm { IsCalm self.new }
         ensures pending { self.new.pending ≡ self.old.pending }
-        ensures domain { self.new.fields.domain ≡ self.old.fields.domain }
     {
         match byte {
             b'(' => self.begin_ace(buf),
@@ -149,7 +146,6 @@ impl SddlReader {
         ensures answers { Steps self.old buf.old (40 ∷ []) self.new buf.new }
         ensures calm { IsCalm self.new }
         ensures pending { self.new.pending ≡ self.old.pending }
-        ensures domain { self.new.fields.domain ≡ self.old.fields.domain }
     {
         match self.place {
             Place::AclFlags(which) => {
@@ -200,7 +196,6 @@ impl SddlReader {
         ensures answers { Steps self.old buf.old (letter ∷ 58 ∷ []) self.new buf.new }
         ensures calm { IsCalm self.new }
         ensures pending { self.new.pending ≡ self.old.pending }
-        ensures domain { self.new.fields.domain ≡ self.old.fields.domain }
     {
         self.end_part(buf);
         self.note_head(head);
@@ -259,7 +254,6 @@ impl SddlReader {
         requires held { (t : Reading) × Keeps self.old buf.old t }
         ensures answers { StepsOn self.old buf.old (byte ∷ []) self.new buf.new }
         ensures reader { IsReader self.new buf.new }
-        ensures domain { self.new.fields.domain ≡ self.old.fields.domain }
     {
         if head_of(byte).is_some() {
             self.pending = Some(byte);
@@ -277,7 +271,6 @@ impl SddlReader {
         requires held { (t : Reading) × Keeps self.old buf.old t }
         ensures answers { StepsOn self.old buf.old (letter ∷ byte ∷ []) self.new buf.new }
         ensures reader { IsReader self.new buf.new }
-        ensures domain { self.new.fields.domain ≡ self.old.fields.domain }
     {
         self.pending = None;
         match head_of(letter) {
@@ -293,8 +286,7 @@ impl SddlReader {
     pub fn feed(&mut self, buf: &mut SdBuf, byte: u8)
         requires { IsReader self.old buf.old }
         ensures reader { IsReader self.new buf.new }
-        ensures read { (text : List ℕ) → Reads self.old buf.old text → Reads self.new buf.new (text ++ byte ∷ []) }
-        ensures domain { self.new.fields.domain ≡ self.old.fields.domain }
+        ensures read { (domain : Option SecurityId) (text : List ℕ) → Reads self.old buf.old domain text → Reads self.new buf.new domain (text ++ byte ∷ []) }
     {
         if !self.sound {
             return;
@@ -311,9 +303,11 @@ impl SddlReader {
     /// The end of the line: the buffer holds what it means, or nothing where it has a fault.
     pub fn finish(mut self, buf: &mut SdBuf) -> Result<(), SddlFault>
         requires { IsReader self buf.old }
-        ensures { (text : List ℕ) → Reads self buf.old text → MatchResult (means text self.fields.domain)
+        ensures exact { (domain : Option SecurityId) (text : List ℕ) → Reads self buf.old domain text → MatchResult (means text domain)
             (λ d. (result ≡ Ok tt) × Shows buf.new d)
             (λ e. (result ≡ Err e) × (buf.new ≡ [])) }
+        // Without gaps, and each part in its one written form.
+        ensures written { (domain : Option SecurityId) (text : List ℕ) → Reads self buf.old domain text → IfOk (means text domain) (IsWritten buf.new) }
     {
         if let Some(letter) = self.pending {
             self.put_text(letter);
@@ -325,9 +319,10 @@ impl SddlReader {
     fn finish_alone(mut self, buf: &mut SdBuf) -> Result<(), SddlFault>
         requires calm { IsCalm self }
         requires held { (t : Reading) × Keeps self buf.old t }
-        ensures { (t : Reading) → Keeps self buf.old t → MatchResult (finished (answer_at self t []))
+        ensures exact { (t : Reading) → Keeps self buf.old t → MatchResult (finished (answer_at self t []))
             (λ d. (result ≡ Ok tt) × Shows buf.new d)
             (λ e. (result ≡ Err e) × (buf.new ≡ [])) }
+        ensures written { (t : Reading) → Keeps self buf.old t → IfOk (finished (answer_at self t [])) (IsWritten buf.new) }
     {
         match self.end_line(buf) {
             Ok(()) => Ok(()),
@@ -432,6 +427,8 @@ pub fn read_sddl(text: &[u8], domain: Option<&Sid>, buf: &mut SdBuf) -> Result<(
     ensures exact { MatchResult (means text.now (option_copied domain.entry))
         (λ d. (result ≡ Ok tt) × Shows buf.new d)
         (λ e. (result ≡ Err e) × (buf.new ≡ [])) }
+    // Without gaps, and each part in its one written form.
+    ensures written { IfOk (means text.now (option_copied domain.entry)) (IsWritten buf.new) }
     // What it means keeps the limits of a descriptor.
     ensures limits { IfOk (means text.now (option_copied domain.entry)) IsDescriptor }
 {

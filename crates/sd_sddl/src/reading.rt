@@ -4,7 +4,9 @@ ghost use Rattle.std.specs.List.{list_any};
 ghost use Rattle.sd_core.specs.Sid.{SecurityId};
 ghost use Rattle.sd_core.specs.SidText.{sid_reads};
 ghost use Rattle.sd_sddl.specs.Line.{is_blank};
-ghost use Rattle.sd_sddl.specs.Meaning.{Reading, ace_fault_of, control_flags, fault_of, front_reads, is_unreadable, no_fields, take_ace_field, take_field, take_front, take_readable, with_sid, with_trustee};
+ghost use Rattle.sd_sddl.specs.FoldedReading.{Reading, ace_fault_of, fault_of, no_fields, take_ace_field, take_field, take_front, take_readable, with_sid, with_trustee};
+ghost use Rattle.sd_sddl.specs.Meaning.{control_flags, is_unreadable};
+ghost use Rattle.sd_sddl.specs.FieldTexts.{front_reads};
 
 use crate::fault::SddlFault;
 use crate::field_texts::{front_from_text, kind_from_text, object_from_text};
@@ -47,7 +49,7 @@ impl FieldReader {
     ghost use Rattle.sd_core.specs.Ace.{AccessControlEntry, GuidsFit, is_object};
     ghost use Rattle.sd_binary.specs.Draft.{IsOpen, closed};
     ghost use Rattle.sd_sddl.specs.declared.line.Head.TheVariants as head;
-    ghost use Rattle.sd_sddl.specs.Meaning.{Reading, begun_or_null, finished, nothing_read, with_flags, with_owner_or_group};
+    ghost use Rattle.sd_sddl.specs.FoldedReading.{Reading, begun_or_null, finished, nothing_read, with_flags, with_owner_or_group};
     ghost use Rattle.sd_sddl.specs.Reads.{CanTake, Ends, Holds, Lacks, Takes};
 
     /// A reader that has read nothing.
@@ -67,7 +69,7 @@ impl FieldReader {
     }
 
     /// Reads a field.
-    #[tactic(auto, unfolding(crate::specs::Meaning::take_field))]
+    #[tactic(auto, unfolding(crate::specs::FoldedReading::take_field))]
     pub fn take_field(&mut self, buf: &mut SdBuf, slot: Slot, text: &[u8]) -> Result<(), SddlFault>
         requires { (t : Reading) × Holds self.old buf.old t × CanTake slot t }
         ensures read { (t : Reading) → Holds self.old buf.old t → Takes (take_field self.old.domain t slot text.now) result self.new buf.new }
@@ -125,7 +127,7 @@ impl FieldReader {
     }
 
     // What stands in an ACL before its ACEs.
-    #[tactic(auto, unfolding(crate::specs::Meaning::take_front))]
+    #[tactic(auto, unfolding(crate::specs::FoldedReading::take_front))]
     fn take_front(
         &mut self,
         buf: &mut SdBuf,
@@ -169,7 +171,7 @@ impl FieldReader {
     }
 
     // A field of the ACE at hand.
-    #[tactic(auto, unfolding(crate::specs::Meaning::take_ace_field))]
+    #[tactic(auto, unfolding(crate::specs::FoldedReading::take_ace_field))]
     fn take_ace_field(
         &mut self,
         buf: &mut SdBuf,
@@ -256,7 +258,7 @@ impl FieldReader {
     }
 
     /// Ends the descriptor.
-    #[tactic(auto, unfolding(crate::specs::Meaning::finished))]
+    #[tactic(auto, unfolding(crate::specs::FoldedReading::finished))]
     pub fn finish(mut self, buf: &mut SdBuf) -> Result<(), SddlFault>
         requires { (t : Reading) × Holds self buf.old t }
         ensures { (t : Reading) → Holds self buf.old t → Ends (finished (Ok t)) result buf.new }

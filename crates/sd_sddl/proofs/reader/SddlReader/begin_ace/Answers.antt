@@ -41,5 +41,4 @@ returns-in_default c =
       );
       calm = record { held = c.requires.calm.held; gap = c.requires.calm.gap };
       pending = refl;
-      domain = refl;
     }

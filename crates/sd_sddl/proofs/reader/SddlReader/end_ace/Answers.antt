@@ -27,5 +27,4 @@ returns-in_default c =
       );
       calm = record { held = c.requires.calm.held; gap = c.requires.calm.gap };
       pending = refl;
-      domain = refl;
     }

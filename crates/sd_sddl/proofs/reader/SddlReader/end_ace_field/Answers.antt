@@ -27,5 +27,4 @@ returns-in_default c =
       ));
       calm = record { held = rw (c.end_field.ensures.cleared) (record { clean = refl; fits = omega arith }); gap = λ _. rw (c.end_field.ensures.cleared) refl };
       pending = refl;
-      domain = c.end_field.ensures.domain;
     }

@@ -3,7 +3,7 @@ use Rattle.std.specs.Prelude.{Result}
 use Rattle.sd_sddl.specs.declared.fault.SddlFault.{SddlFault}
 use Rattle.sd_sddl.specs.declared.fault.SddlFault.TheVariants as fault
 use Rattle.sd_sddl.specs.declared.reader.SddlReader.{SddlReader}
-use Rattle.sd_sddl.specs.Meaning.{Reading, finished}
+use Rattle.sd_sddl.specs.FoldedReading.{Reading, finished}
 use Rattle.sd_sddl.specs.Progress.{result_or}
 use Rattle.sd_sddl.specs.Reads.{answer_at}
 use Rattle.sd_sddl.proofs.Steps.{finished_once, finished_twice, outside_of, unfinished, unsound}

@@ -1,12 +1,14 @@
-use Rattle.std.proofs.Common.{refl, arith}
-use Rattle.sd_sddl.specs.Meaning.{nothing_read}
+use Rattle.std.proofs.Common.{refl, ap, ◌∙◌, arith}
+use Rattle.std.specs.Prelude.{Option}
+use Rattle.sd_core.specs.Sid.{SecurityId}
+use Rattle.sd_sddl.specs.FoldedReading.{nothing_read, reads_as}
 use Rattle.sd_sddl.proofs.Steps.{started}
 use Rattle.sd_sddl.proofs.FitLaws.{fits-start}
 use Rattle.sd_sddl.proofs.reader.SddlReader.new.Goals as goal
 
 pub returns-clause-read : goal.returns-clause-read
 returns-clause-read c =
-    (nothing_read, record { fields = λ _. c.new-2.ensures.held; fits = λ _. fits-start }, λ rest. started _ _ rest)
+    (nothing_read, record { fields = λ _. c.new-2.ensures.held; fits = λ _. fits-start }, λ rest. started _ _ rest ∙ ap (λ (d : Option SecurityId). reads_as d rest) c.new-2.ensures.domain)
 
 pub returns-clause-reader : goal.returns-clause-reader
 returns-clause-reader c = record {
