@@ -6,6 +6,7 @@ mod ace;
 mod alias;
 mod flags;
 mod guid;
+mod kinds;
 mod memory;
 mod names;
 mod rights;

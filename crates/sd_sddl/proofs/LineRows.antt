@@ -1,5 +1,6 @@
 -- Worked lines, read.
 use Rattle.std.proofs.Common.{◌≡◌, [], ◌∷◌, Some, None, codes, refl, Ok, Err}
+use Rattle.sd_core.specs.Kinds.{kind_entry, kind_letters, kind_named}
 use Rattle.sd_core.specs.Ace.{AccessControlEntry}
 use Rattle.sd_core.specs.Flags.{flags_reads}
 use Rattle.sd_core.specs.GuidText.{guid_reads}
@@ -15,7 +16,7 @@ use Rattle.sd_sddl.specs.declared.fault.SddlFault.TheVariants as fault
 
 -- `unfolding read` lets `refl` compute a row
 read : Unit {0}
-unfolding means finished reads_as verdict take_field take_front take_ace_field front_reads kind_reads object_reads flags_reads guid_reads rights_reads run_of sid_reads has_form letters_read numbers_read
+unfolding kind_entry kind_letters kind_named means finished reads_as verdict take_field take_front take_ace_field front_reads kind_reads object_reads flags_reads guid_reads rights_reads run_of sid_reads has_form letters_read numbers_read
 read = tt
 
 everyone : SecurityId

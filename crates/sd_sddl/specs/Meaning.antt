@@ -2,12 +2,13 @@
 -- in either case.
 use Rattle.std.specs.Prelude.{ℕ, ◌+◌, ◌-◌, ◌&&◌, ◌||◌, Bool, true, false, ◌==◌, nat_le, nat_lt, if◌then◌else◌, List, [], ◌∷◌, length, take, drop, codes, Option, Some, None, Result, Ok, Err}
 use Rattle.std.specs.Char.{to_ascii_uppercase}
-use Rattle.std.specs.List.{find, list_any}
+use Rattle.std.specs.List.{list_any}
 use Rattle.std.specs.Option.{option_and_then, option_map}
 use Rattle.std.specs.Str.{str_eq_ignore_ascii_case}
 use Rattle.sd_core.specs.Ace.{AccessControlEntry, is_object}
 use Rattle.sd_core.specs.Flags.{flags_reads}
 use Rattle.sd_core.specs.GuidText.{guid_reads}
+use Rattle.sd_core.specs.Kinds.{kind_named}
 use Rattle.sd_core.specs.Rights.{rights_reads}
 use Rattle.sd_core.specs.Sid.{SecurityId}
 use Rattle.sd_core.specs.SidText.{sid_reads}
@@ -22,9 +23,8 @@ use Rattle.sd_binary.specs.declared.acl.AclPart.TheVariants as acl
 use Rattle.sd_binary.specs.declared.builder.Which.{Which}
 use Rattle.sd_binary.specs.declared.builder.Which.TheVariants as which
 use Rattle.sd_sddl.specs.Line.{Field, fields_of, has_twice, is_blank, is_shaped, parts_of}
-use Rattle.sd_sddl.specs.Printed.{bit_if, kind_text}
+use Rattle.sd_sddl.specs.Printed.{bit_if}
 use Rattle.sd_sddl.specs.declared.acl.AclFlags.{AclFlags}
-use Rattle.sd_sddl.specs.declared.field_texts.TheConstants.{KINDS}
 use Rattle.sd_sddl.specs.declared.fault.SddlFault.{SddlFault}
 use Rattle.sd_sddl.specs.declared.fault.SddlFault.TheVariants as fault
 use Rattle.sd_sddl.specs.declared.line.AceField.{AceField}
@@ -40,7 +40,7 @@ use Rattle.sd_sddl.specs.declared.reading.AclFront.{AclFront}
 
 -- the kind that has this text, in either case
 unfoldable pub kind_reads : List ℕ → Option AceKind
-kind_reads text = find (λ kind. str_eq_ignore_ascii_case (kind_text kind) text) KINDS
+kind_reads text = kind_named text
 
 abbrev pub no_flags : AclFlags
 no_flags = record { protected = false; required = false; inherited = false }

@@ -22,7 +22,7 @@ fn put_kind_and_flags<S: Sink>(ace: &AceView<'_>, sink: &mut S) -> Result<(), Si
     ensures put { Puts (S.told sink.old) (S.told sink.new) (kind_field ace.now.kind ++ flags_field ace.now.flags) result }
     ensures place { S.place sink.new ≡ S.place sink.old }
 {
-    sink.put(kind_field(ace.kind()).as_bytes())?;
+    put_kind_field(ace.kind(), sink)?;
     put_flags_field(ace.flags(), sink)
 }
 
@@ -55,19 +55,15 @@ fn put_inherited_and_trustee<S: Sink>(
 }
 
 // The opening parenthesis and the kind.
-#[tactic(auto, unfolding(crate::specs::Printed::kind_field))]
-fn kind_field(kind: AceKind) -> &'static str
-    ensures { result.now ≡ kind_field kind }
+fn put_kind_field<S: Sink>(kind: AceKind, sink: &mut S) -> Result<(), SinkFault>
+    ensures put { Puts (S.told sink.old) (S.told sink.new) (kind_field kind) result }
+    ensures place { S.place sink.new ≡ S.place sink.old }
 {
-    match kind {
-        AceKind::Allow => "(A;",
-        AceKind::Deny => "(D;",
-        AceKind::Audit => "(AU;",
-        AceKind::ObjectAllow => "(OA;",
-        AceKind::ObjectDeny => "(OD;",
-        AceKind::ObjectAudit => "(OU;",
-        AceKind::Label => "(ML;",
+    let letters = kind.letters();
+    if letters.len() == 1 {
+        return sink.put(&[b'(', letters[0], b';']);
     }
+    sink.put(&[b'(', letters[0], letters[1], b';'])
 }
 
 #[tactic(auto, unfolding(crate::specs::Printed::flags_field))]
