@@ -10,17 +10,19 @@ use Rattle.byteorder.specs.Endian.{little_number}
 use Rattle.byteorder.specs.Numbers.{little_from-append, little_from-lt}
 use Rattle.uuid.specs.Parts.{swap_fields}
 use Rattle.sd_core.specs.Ace.{AccessControlEntry, GuidsFit, IsAce, IsGuid, ace_size, guid_size, is_object, sid_offset}
+use Rattle.sd_core.specs.Kinds.{kind_code, kind_of}
 use Rattle.sd_core.specs.Sid.{SecurityId, BeginsWithSid, sid_at, sid_bytes, sid_of, sid_size}
 use Rattle.sd_core.specs.declared.ace.AceKind.{AceKind}
 use Rattle.sd_core.specs.declared.ace.AceKind.TheVariants as kinds
+use Rattle.sd_core.proofs.KindLaws.{kind_of-code, kind_of-some}
 use Rattle.sd_core.proofs.Numbers.{AreBytes, AreBytes-drop, AreBytes-take}
 use Rattle.sd_core.proofs.SidLaws.{length-sid_bytes, sid_at-bytes, sid_at-found, sid_of-at}
 use Rattle.sd_binary.specs.Bytes.{u16_at, u32_at}
 use Rattle.sd_binary.specs.declared.fault.AclFault.{AclFault}
 use Rattle.sd_binary.specs.declared.fault.AclFault.TheVariants as faults
-use Rattle.sd_binary.specs.Ace.{ShowsAce, ShowsGuid, announces_inherited, announces_object, kind_code}
+use Rattle.sd_binary.specs.Ace.{ShowsAce, ShowsGuid, announces_inherited, announces_object}
 use Rattle.sd_binary.specs.Acl.{BeginsWithAcl, IsAcl, ShowsAces, ShowsAcl, acl_size, aces_size}
-use Rattle.sd_binary.specs.AclReading.{IsAcePlace, IsAclPlace, ace_fault, ace_of, aces_fault, aces_of, acl_fault, acl_of, acl_place, first, guid_if, inherited_in, kind_in, kind_of, object_in, place_fault, sid_offset_in}
+use Rattle.sd_binary.specs.AclReading.{IsAcePlace, IsAclPlace, ace_fault, ace_of, aces_fault, aces_of, acl_fault, acl_of, acl_place, first, guid_if, inherited_in, kind_in, object_in, place_fault, sid_offset_in}
 use Rattle.sd_binary.proofs.FirstFault.{first_none, went_on, passed}
 
 -- one ACE of the count read
@@ -46,44 +48,9 @@ u16_at-front i xs ys room =
     ap (little_number 2) (drop-append-le i xs ys (omega arith)) ∙ little_from-append 2 (drop i xs) ys (omega (arith, length-drop i xs))
 
 -- kinds
-kind_of-code : (k : AceKind) → kind_of (kind_code k) ≡ Some k
-unfolding kind_of
-kind_of-code kinds.Allow = refl
-kind_of-code kinds.Deny = refl
-kind_of-code kinds.Audit = refl
-kind_of-code kinds.ObjectAllow = refl
-kind_of-code kinds.ObjectDeny = refl
-kind_of-code kinds.ObjectAudit = refl
-kind_of-code kinds.Label = refl
-
-chosen : {X : Type 0} (b : Bool) (x y z : X) → cond b x y ≡ z → ((b ≡ true) × (x ≡ z)) ⊎ ((b ≡ false) × (y ≡ z))
-chosen true x y z e = inl (refl, e)
-chosen false x y z e = inr (refl, e)
-
-code_by : (code n : ℕ) (k j : AceKind) (other : Option AceKind) → (Some j ≡ Some k → n ≡ kind_code k) → (other ≡ Some k → code ≡ kind_code k)
-    → cond (eqb code n) (Some j) other ≡ Some k → code ≡ kind_code k
-code_by code n k j other here there e = elim (chosen (eqb code n) (Some j) other (Some k) e) [
-  | inl h ↦ eqb-true code n h.0 ∙ here h.1
-  | inr h ↦ there h.1
-]
-
-at_kind : (j k : AceKind) → Some j ≡ Some k → kind_code j ≡ kind_code k
-at_kind j k e = let same : j ≡ k = cc in ap kind_code same
-
-kind_of-some : (code : ℕ) (k : AceKind) → kind_of code ≡ Some k → code ≡ kind_code k
-unfolding kind_of
-kind_of-some code k e =
-    code_by code 0 k kinds.Allow _ (at_kind kinds.Allow k)
-    (code_by code 1 k kinds.Deny _ (at_kind kinds.Deny k)
-    (code_by code 2 k kinds.Audit _ (at_kind kinds.Audit k)
-    (code_by code 5 k kinds.ObjectAllow _ (at_kind kinds.ObjectAllow k)
-    (code_by code 6 k kinds.ObjectDeny _ (at_kind kinds.ObjectDeny k)
-    (code_by code 7 k kinds.ObjectAudit _ (at_kind kinds.ObjectAudit k)
-    (code_by code 17 k kinds.Label None (at_kind kinds.Label k) (λ h. absurd (cc)))))))) e
-
 known : (code : ℕ) (o : Option AceKind) → kind_of code ≡ o → is_some o ≡ true → code ≡ kind_code (unwrap_or o kinds.Allow)
 known code None e h = absurd (cc)
-known code (Some k) e h = kind_of-some code k e
+known code (Some k) e h = sym (subst (λ (o : Option AceKind). IfSome o (λ k. kind_code k ≡ code)) e (kind_of-some code))
 
 sid_found : (bytes : List ℕ) (o : Option (SecurityId × ℕ)) → AreBytes bytes → sid_at bytes ≡ o → is_some o ≡ true → BeginsWithSid bytes (sid_of bytes)
 sid_found bytes None b e h = absurd (cc)

@@ -7,9 +7,10 @@ use Rattle.byteorder.specs.Endian.{little_bytes}
 use Rattle.byteorder.specs.Numbers.{little_number-reads_back}
 use Rattle.uuid.proofs.RoundTrips.{swap_twice}
 use Rattle.sd_core.specs.Ace.{AccessControlEntry, GuidsFit, IsAce, IsGuid, ace_size, guid_size, is_object}
+use Rattle.sd_core.specs.Kinds.{kind_code}
 use Rattle.sd_core.specs.Sid.{SecurityId, IsSid, BeginsWithSid, sid_bytes, sid_size}
 use Rattle.sd_core.proofs.SidLaws.{length-sid_bytes}
-use Rattle.sd_binary.specs.Ace.{ShowsAce, ShowsGuid, announces_inherited, announces_object, kind_code}
+use Rattle.sd_binary.specs.Ace.{ShowsAce, ShowsGuid, announces_inherited, announces_object}
 use Rattle.sd_binary.specs.Acl.{IsAcl, ShowsAces, ShowsAcl, acl_size, aces_size, has_object}
 use Rattle.sd_binary.specs.AclLayout.{ace_bytes, acl_bytes, guids, object_flags, revision_if}
 use Rattle.sd_binary.specs.Bytes.{u16_at, u32_at}

@@ -2,6 +2,7 @@
 use Rattle.std.proofs.Common.{◌≡◌, ℕ, Bool, true, false, List, [], ◌∷◌, map, Some, None, Result, Ok, Err, codes, refl, replicate}
 use Prim.Native.String.{String}
 use Rattle.hex.specs.Hex.{decode_pairs}
+use Rattle.sd_core.specs.Kinds.{kind_code, kind_entry, kind_of}
 use Rattle.sd_core.specs.Sid.{SecurityId, sid_at, sid_bytes}
 use Rattle.sd_binary.specs.declared.buffer.TextFault.{TextFault}
 use Rattle.sd_binary.specs.declared.buffer.TextFault.TheVariants.{HexDigit, HexOdd}
@@ -16,7 +17,7 @@ use Rattle.sd_binary.specs.declared.control.TheConstants.{CONTROL_BITS}
 use Rattle.sd_binary.specs.Descriptor.{Descriptor}
 use Rattle.sd_binary.specs.Layout.{header_bytes, layout, size}
 use Rattle.sd_binary.specs.Ace.{announces_inherited, announces_object}
-use Rattle.sd_binary.specs.AclReading.{ace_fault, aces_fault, aces_of, acl_fault, guid_if, inherited_in, kind_in, kind_of, object_in, place_fault, sid_offset_in}
+use Rattle.sd_binary.specs.AclReading.{ace_fault, aces_fault, aces_of, acl_fault, guid_if, inherited_in, kind_in, object_in, place_fault, sid_offset_in}
 use Rattle.sd_binary.specs.declared.acl.AclPart.TheVariants as acl
 use Rattle.sd_core.specs.Ace.{AccessControlEntry}
 use Rattle.sd_core.specs.declared.ace.AceKind.TheVariants as kinds
@@ -33,7 +34,7 @@ hex text = spelled (hex_spells (codes text))
 
 -- `unfolding computed` lets `refl` compute a row
 computed : Unit {0}
-unfolding spelled hex hex_spells decode_pairs u16_at u32_at sid_at sid_shown header_fault sid_fault parts_fault overlap_fault overlaps_fault fault reading header_bytes acl_part_fault acl_shown acl_fault aces_fault aces_of ace_fault place_fault kind_of kind_in object_in inherited_in sid_offset_in guid_if announces_object announces_inherited
+unfolding spelled hex hex_spells decode_pairs u16_at u32_at sid_at sid_shown header_fault sid_fault parts_fault overlap_fault overlaps_fault fault reading header_bytes acl_part_fault acl_shown acl_fault aces_fault aces_of ace_fault place_fault kind_code kind_entry kind_of kind_in object_in inherited_in sid_offset_in guid_if announces_object announces_inherited
 computed = tt
 
 system : SecurityId

@@ -2,20 +2,10 @@
 use Rattle.std.specs.Prelude.{◌≡◌, ℕ, ◌+◌, ◌/◌, ◌%◌, ◌==◌, ◌&&◌, Bool, true, false, List, length, drop, take, slice_index, Option, Some, None}
 use Rattle.uuid.specs.Parts.{swap_fields}
 use Rattle.sd_core.specs.Ace.{AccessControlEntry, guid_size, is_object, sid_offset}
+use Rattle.sd_core.specs.Kinds.{kind_code}
 use Rattle.sd_core.specs.declared.ace.AceKind.{AceKind}
-use Rattle.sd_core.specs.declared.ace.AceKind.TheVariants as kinds
 use Rattle.sd_core.specs.Sid.{BeginsWithSid}
 use Rattle.sd_binary.specs.Bytes.{u16_at, u32_at}
-
--- 2.4.4.1: AceType
-abbrev pub kind_code : AceKind → ℕ
-kind_code kinds.Allow = 0
-kind_code kinds.Deny = 1
-kind_code kinds.Audit = 2
-kind_code kinds.ObjectAllow = 5
-kind_code kinds.ObjectDeny = 6
-kind_code kinds.ObjectAudit = 7
-kind_code kinds.Label = 0x11
 
 -- 2.4.4.3: whether the object flags of a place announce an object type, and an inherited object type
 unfoldable pub announces_object : AceKind → List ℕ → Bool

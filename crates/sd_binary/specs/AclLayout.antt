@@ -6,7 +6,7 @@ use Rattle.uuid.specs.Parts.{swap_fields}
 use Rattle.sd_core.specs.Ace.{AccessControlEntry, ace_size, is_object}
 use Rattle.sd_core.specs.declared.ace.AceKind.{AceKind}
 use Rattle.sd_core.specs.Sid.{sid_bytes}
-use Rattle.sd_binary.specs.Ace.{kind_code}
+use Rattle.sd_core.specs.Kinds.{kind_code}
 use Rattle.sd_binary.specs.Acl.{acl_size, has_object}
 
 -- 2.3.4.2

@@ -3,6 +3,7 @@
 use Rattle.std.specs.Prelude.{◌≡◌, ◌≤◌, ℕ, zero, suc, ◌+◌, ◌/◌, ◌%◌, ◌==◌, ◌||◌, not, nat_lt, Bool, if◌then◌else◌, List, [], ◌∷◌, length, drop, take, slice_index, Option, Some, None, is_some, unwrap_or}
 use Rattle.uuid.specs.Parts.{swap_fields}
 use Rattle.sd_core.specs.Ace.{AccessControlEntry, IsAce, guid_size, sid_offset}
+use Rattle.sd_core.specs.Kinds.{kind_of}
 use Rattle.sd_core.specs.Sid.{BeginsWithSid, sid_at, sid_of}
 use Rattle.sd_core.specs.declared.ace.AceKind.{AceKind}
 use Rattle.sd_core.specs.declared.ace.AceKind.TheVariants as kinds
@@ -16,18 +17,6 @@ use Rattle.sd_binary.specs.Bytes.{u16_at, u32_at}
 abbrev pub first : {F : Type 0} → Option F → Option F → Option F
 first (Some f) later = Some f
 first None later = later
-
--- the kind of a type byte
-unfoldable pub kind_of : ℕ → Option AceKind
-kind_of code =
-    if code == 0 then Some kinds.Allow
-    else if code == 1 then Some kinds.Deny
-    else if code == 2 then Some kinds.Audit
-    else if code == 5 then Some kinds.ObjectAllow
-    else if code == 6 then Some kinds.ObjectDeny
-    else if code == 7 then Some kinds.ObjectAudit
-    else if code == 0x11 then Some kinds.Label
-    else None
 
 -- the fields of an ACE's place, which count only where the place has no fault
 unfoldable pub kind_in : List ℕ → AceKind

@@ -4,7 +4,7 @@ ghost use Rattle.uuid.specs.Parts.{swap_fields};
 ghost use Rattle.sd_core.specs.Ace.{IsAce, ace_size, is_object};
 ghost use Rattle.sd_binary.specs.Ace.{announces_inherited, announces_object};
 ghost use Rattle.sd_binary.specs.AclLayout.{ace_body, ace_bytes, flag_if, front_size};
-ghost use Rattle.sd_binary.specs.AclReading.{IsAcePlace, ace_fault, ace_of, kind_in, kind_of as kind_read, place_fault, sid_offset_in};
+ghost use Rattle.sd_binary.specs.AclReading.{IsAcePlace, ace_fault, ace_of, kind_in, place_fault, sid_offset_in};
 ghost use Rattle.sd_binary.specs.Bytes.{u16_at as u16_of};
 
 use crate::bytes::{u16_at, u32_at};
@@ -36,29 +36,12 @@ pub struct Checked {
     pub object: bool,
 }
 
-// The kind of a type byte.
-#[tactic(auto, unfolding(crate::specs::AclReading::kind_of))]
-fn kind_of(code: u8) -> Option<AceKind>
-    ensures { result ≡ kind_read code }
-{
-    match code {
-        0 => Some(AceKind::Allow),
-        1 => Some(AceKind::Deny),
-        2 => Some(AceKind::Audit),
-        5 => Some(AceKind::ObjectAllow),
-        6 => Some(AceKind::ObjectDeny),
-        7 => Some(AceKind::ObjectAudit),
-        0x11 => Some(AceKind::Label),
-        _ => None,
-    }
-}
-
 #[tactic(auto, unfolding(crate::specs::AclReading::kind_in))]
 fn kind_at(place: &[u8]) -> AceKind
     requires { 16 ≤ length place.now }
     ensures { result ≡ kind_in place.now }
 {
-    kind_of(place[0]).unwrap_or(AceKind::Allow)
+    AceKind::from_code(place[0]).unwrap_or(AceKind::Allow)
 }
 
 // Whether the object type's GUID stands in the place.
@@ -101,7 +84,7 @@ fn check_place(place: &[u8]) -> Result<usize, AclFault>
     ensures fault { MatchResult result (λ _. place_fault place.now ≡ None) (λ f. place_fault place.now ≡ Some f) }
     ensures size { IfOk result (λ n. (n ≡ ace_size (ace_of place.now)) × (n ≤ length place.now)) }
 {
-    if kind_of(place[0]).is_none() {
+    if AceKind::from_code(place[0]).is_none() {
         return Err(AclFault::AceType);
     }
     if place[1] / UNUSED_FLAG % 2 == 1 {

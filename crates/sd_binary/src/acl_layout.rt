@@ -3,13 +3,12 @@ ghost use Rattle.std.specs.Prelude.{◌≡◌, ◌++◌, ◌∷◌, [], take};
 ghost use Rattle.std.specs.List.{flat_map};
 ghost use Rattle.byteorder.specs.Endian.{little_bytes};
 ghost use Rattle.sd_core.specs.Print.{Prints};
-ghost use Rattle.sd_binary.specs.Ace.{kind_code};
 ghost use Rattle.sd_binary.specs.AclLayout.{ace_bytes, ace_front, acl_bytes, acl_header as header_bytes, front_size, revision_if};
 
 use crate::ace::AceView;
 use crate::acl::AclView;
 use crate::limits::{ACL_REVISION, ACL_REVISION_DS};
-use sd_core::{AceKind, Print};
+use sd_core::Print;
 
 /// Prints an ACL: its header, and its ACEs one after the other.
 pub(crate) fn print_acl<P: Print>(acl: &AclView<'_>, out: &mut P)
@@ -63,7 +62,7 @@ fn ace_front(ace: &AceView<'_>) -> [u8; 12]
     let s = ace.size().to_le_bytes();
     let m = ace.mask().to_le_bytes();
     [
-        kind_code(ace.kind()),
+        ace.kind().code(),
         ace.flags(),
         s[0],
         s[1],
@@ -76,19 +75,4 @@ fn ace_front(ace: &AceView<'_>) -> [u8; 12]
         0,
         0,
     ]
-}
-
-// The type byte of a kind (MS-DTYP 2.4.4.1).
-pub(crate) fn kind_code(kind: AceKind) -> u8
-    ensures { result ≡ kind_code kind }
-{
-    match kind {
-        AceKind::Allow => 0,
-        AceKind::Deny => 1,
-        AceKind::Audit => 2,
-        AceKind::ObjectAllow => 5,
-        AceKind::ObjectDeny => 6,
-        AceKind::ObjectAudit => 7,
-        AceKind::Label => 0x11,
-    }
 }

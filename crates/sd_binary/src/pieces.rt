@@ -6,7 +6,6 @@ ghost use Rattle.sd_binary.specs.AclLayout.{ace_bytes, ace_front as front_bytes,
 ghost use Rattle.sd_binary.specs.declared.limits.TheConstants.{CAPACITY, MOST_SID_SIZE};
 
 use crate::ace::{FRONT_SIZE, OBJECT_FRONT_SIZE};
-use crate::acl_layout::kind_code;
 use crate::buffer::SdBuf;
 use crate::limits::{MOST_SID_SIZE, SID_HEADER_SIZE};
 use byteorder::{BigEndian, ByteOrder, LittleEndian};
@@ -84,7 +83,7 @@ fn ace_front(ace: &Ace) -> [u8; 12]
     ensures limits { IsAce ace.now }
 {
     let mut front = [0; OBJECT_FRONT_SIZE];
-    front[0] = kind_code(ace.kind());
+    front[0] = ace.kind().code();
     front[1] = ace.flags();
     LittleEndian::write_u16(&mut front[2..], ace.size());
     LittleEndian::write_u32(&mut front[4..], ace.mask());

@@ -7,6 +7,7 @@ pub mod FlagLaws
 pub mod FormLemmas
 pub mod GuidTexts
 pub mod HexDigits
+pub mod KindLaws
 pub mod NameLaws
 mod NameRows
 pub mod NumberLemmas

@@ -2,6 +2,7 @@ pub mod Ace
 pub mod Counts
 pub mod Flags
 pub mod GuidText
+pub mod Kinds
 pub mod Names
 pub mod Print
 pub mod Rights

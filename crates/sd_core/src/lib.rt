@@ -8,6 +8,7 @@ mod flags;
 mod gather;
 mod guid;
 mod held;
+mod kinds;
 mod memory;
 mod names;
 mod print;

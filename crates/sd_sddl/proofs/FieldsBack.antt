@@ -8,7 +8,7 @@ use Rattle.sd_core.specs.Rights.{rights_text}
 use Rattle.sd_core.specs.Sid.{IsSid, SecurityId}
 use Rattle.sd_core.specs.SidText.{alias_of, sid_reads, sid_text}
 use Rattle.sd_core.specs.declared.ace.AceKind.{AceKind}
-use Rattle.sd_core.specs.declared.ace.AceKind.TheVariants as kinds
+use Rattle.sd_core.proofs.KindLaws.{kind_named-letters}
 use Rattle.sd_core.proofs.AliasLaws.{alias-back}
 use Rattle.sd_core.proofs.FlagLaws.{flags_read_back, flags_text-length}
 use Rattle.sd_core.proofs.GuidTexts.{guid_text-length, guid_text-reads}
@@ -38,13 +38,7 @@ readable domain r s text h short = rw (plain-readable text h short) refl
 
 kind_back : (kind : AceKind) → kind_reads (kind_text kind) ≡ Some kind
 unfolding kind_reads
-kind_back kinds.Allow = refl
-kind_back kinds.Deny = refl
-kind_back kinds.Audit = refl
-kind_back kinds.ObjectAllow = refl
-kind_back kinds.ObjectDeny = refl
-kind_back kinds.ObjectAudit = refl
-kind_back kinds.Label = refl
+kind_back kind = kind_named-letters kind
 
 pub take-kind : (domain : Option SecurityId) (r : Reading) (kind : AceKind)
     → take_field domain r (slot.Ace field.Kind) (kind_text kind) ≡ Ok (record r { ace = record no_fields { kind = kind } })

@@ -1,5 +1,6 @@
 -- Worked lines, read.
 use Rattle.std.proofs.Common.{◌≡◌, ℕ, zero, suc, List, [], ◌∷◌, ◌++◌, Option, Some, None, codes, refl, Result, Ok, Err}
+use Rattle.sd_core.specs.Kinds.{kind_entry, kind_letters, kind_named}
 use Rattle.sd_core.specs.Ace.{AccessControlEntry}
 use Rattle.sd_core.specs.Flags.{flags_reads}
 use Rattle.sd_core.specs.GuidText.{guid_reads}
@@ -21,7 +22,7 @@ use Rattle.sd_sddl.specs.declared.fault.SddlFault.TheVariants as fault
 
 -- `unfolding read` lets `refl` compute a row
 read : Unit {0}
-unfolding means body_reads entries_read ace_reads front_reads kind_reads object_reads flags_reads guid_reads rights_reads run_of sid_reads has_form letters_read numbers_read
+unfolding kind_entry kind_letters kind_named means body_reads entries_read ace_reads front_reads kind_reads object_reads flags_reads guid_reads rights_reads run_of sid_reads has_form letters_read numbers_read
 read = tt
 
 everyone : SecurityId

@@ -12,6 +12,7 @@ use Rattle.uuid.specs.Text.{by_index, digit_place, hex_digit, is_hyphen_place, n
 use Rattle.uuid.proofs.TextLemmas.{nibble_small}
 use Rattle.sd_core.specs.Flags.{flags_text}
 use Rattle.sd_core.specs.GuidText.{guid_text}
+use Rattle.sd_core.specs.Kinds.{kind_entry, kind_letters}
 use Rattle.sd_core.specs.Names.{named_bits, names_of}
 use Rattle.sd_core.specs.Rights.{hex_text, is_label, name_or, names_or_hex, rights_text}
 use Rattle.sd_core.specs.Sid.{IsSid, SecurityId}
@@ -96,6 +97,7 @@ plain-readable text h short =
 -- 3. Kinds.
 
 pub kind-plain : (kind : AceKind) → IsPlain (kind_text kind)
+unfolding kind_letters kind_entry
 kind-plain kinds.Allow = refl
 kind-plain kinds.Deny = refl
 kind-plain kinds.Audit = refl

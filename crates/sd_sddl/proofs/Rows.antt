@@ -1,6 +1,7 @@
 -- Worked descriptors, printed.
 use Rattle.std.proofs.Common.{◌≡◌, [], ◌∷◌, Option, Some, None, true, false, codes, refl}
 use Rattle.std.specs.Fmt.{digits}
+use Rattle.sd_core.specs.Kinds.{kind_entry, kind_letters}
 use Rattle.sd_core.specs.Ace.{AccessControlEntry}
 use Rattle.sd_core.specs.Flags.{flags_text}
 use Rattle.sd_core.specs.GuidText.{guid_text}
@@ -15,7 +16,7 @@ use Rattle.sd_sddl.specs.Printed.{ace_text, acl_flags_text, dacl_text, flags_fie
 
 -- `unfolding printed` lets `refl` compute a row
 printed : Unit {0}
-unfolding sddl owner_text group_text dacl_text sacl_text acl_flags_text ace_text kind_field flags_field rights_field object_field trustee_field trustee_text alias_of flags_text rights_text guid_text digits
+unfolding kind_entry kind_letters sddl owner_text group_text dacl_text sacl_text acl_flags_text ace_text kind_field flags_field rights_field object_field trustee_field trustee_text alias_of flags_text rights_text guid_text digits
 printed = tt
 
 named : Naming

@@ -9,7 +9,7 @@ use Rattle.sd_core.specs.Rights.{rights_text}
 use Rattle.sd_core.specs.Sid.{SecurityId, IsSid}
 use Rattle.sd_core.specs.SidText.{alias_of, known_alias, or_else, relative_alias, sid_text, usable}
 use Rattle.sd_core.specs.declared.ace.AceKind.{AceKind}
-use Rattle.sd_core.specs.declared.ace.AceKind.TheVariants as kinds
+use Rattle.sd_core.proofs.KindLaws.{letters-few}
 use Rattle.sd_core.proofs.FlagLaws.{flags_text-length}
 use Rattle.sd_core.proofs.GuidTexts.{guid_text-length}
 use Rattle.sd_core.proofs.RightsLaws.{rights_text-length}
@@ -62,13 +62,7 @@ trustee-length naming s h =
 
 -- an ACE takes at most eight characters a byte
 pub kind-length : (kind : AceKind) → length (kind_text kind) ≤ 2
-kind-length kinds.Allow = omega arith
-kind-length kinds.Deny = omega arith
-kind-length kinds.Audit = omega arith
-kind-length kinds.ObjectAllow = omega arith
-kind-length kinds.ObjectDeny = omega arith
-kind-length kinds.ObjectAudit = omega arith
-kind-length kinds.Label = omega arith
+kind-length kind = (letters-few kind).1
 
 object-length : (o : Option (List ℕ)) → length (object_text o) ≤ 3 * guid_size o
 object-length None = omega arith

@@ -2,21 +2,19 @@
 -- object types. Names are read in either case. The texts of SIDs, rights, flags of ACEs and GUIDs are those of sd_core.
 use Rattle.std.specs.Prelude.{ℕ, ◌-◌, ◌&&◌, Bool, true, false, ◌==◌, nat_le, if◌then◌else◌, List, [], ◌∷◌, length, take, drop, codes, Option, Some, None}
 use Rattle.std.specs.Char.{to_ascii_uppercase}
-use Rattle.std.specs.List.{find}
 use Rattle.std.specs.Option.{option_and_then, option_map}
 use Rattle.std.specs.Str.{str_eq_ignore_ascii_case}
 use Rattle.sd_core.specs.Ace.{is_object}
 use Rattle.sd_core.specs.GuidText.{guid_reads}
+use Rattle.sd_core.specs.Kinds.{kind_named}
 use Rattle.sd_core.specs.declared.ace.AceKind.{AceKind}
 use Rattle.sd_binary.specs.Control.{no_flags}
 use Rattle.sd_binary.specs.declared.control.AclFlags.{AclFlags}
-use Rattle.sd_sddl.specs.Printed.{kind_text}
-use Rattle.sd_sddl.specs.declared.field_texts.TheConstants.{KINDS}
 use Rattle.sd_sddl.specs.declared.reading.AclFront.{AclFront}
 
 -- the kind that has this text, in either case
 unfoldable pub kind_reads : List ℕ → Option AceKind
-kind_reads text = find (λ kind. str_eq_ignore_ascii_case (kind_text kind) text) KINDS
+kind_reads text = kind_named text
 
 -- P, beside the flags so far
 abbrev pub one_letter : AclFlags → ℕ → Option AclFlags

@@ -4,11 +4,11 @@ use Rattle.std.specs.List.{flat_map}
 use Rattle.sd_core.specs.Ace.{AccessControlEntry}
 use Rattle.sd_core.specs.Flags.{flags_text}
 use Rattle.sd_core.specs.GuidText.{guid_text}
+use Rattle.sd_core.specs.Kinds.{kind_letters}
 use Rattle.sd_core.specs.Rights.{rights_text}
 use Rattle.sd_core.specs.Sid.{SecurityId}
 use Rattle.sd_core.specs.SidText.{alias_of, sid_text}
 use Rattle.sd_core.specs.declared.ace.AceKind.{AceKind}
-use Rattle.sd_core.specs.declared.ace.AceKind.TheVariants as kinds
 use Rattle.sd_binary.specs.Control.{acl_flags, flag_bits, present_bit}
 use Rattle.sd_binary.specs.Descriptor.{Descriptor}
 use Rattle.sd_sddl.specs.declared.naming.Naming.{Naming}
@@ -34,13 +34,7 @@ trustee_text naming s = if naming.numeric then sid_text s else name_or (alias_of
 -- ---- ACEs: six fields in parentheses
 
 abbrev pub kind_text : AceKind → List ℕ
-kind_text kinds.Allow = codes "A"
-kind_text kinds.Deny = codes "D"
-kind_text kinds.Audit = codes "AU"
-kind_text kinds.ObjectAllow = codes "OA"
-kind_text kinds.ObjectDeny = codes "OD"
-kind_text kinds.ObjectAudit = codes "OU"
-kind_text kinds.Label = codes "ML"
+kind_text kind = kind_letters kind
 
 unfoldable pub kind_field : AceKind → List ℕ
 kind_field kind = codes "(" ++ kind_text kind ++ codes ";"

@@ -37,7 +37,7 @@ fn print_fields<P: Print>(
     ensures { Prints (P.told out.old) (P.told out.new)
         (ace_text naming.now (record { kind = kind; flags = flags; mask = mask; object = object; inherited = inherited; sid = sid.now })) }
 {
-    out.put(kind_field(kind).as_bytes());
+    print_kind(kind, out);
     print_flags(flags, out);
     out.put(b";");
     print_rights(kind, mask, out);
@@ -51,19 +51,14 @@ fn print_fields<P: Print>(
 }
 
 // The opening parenthesis and the kind.
-#[tactic(auto, unfolding(crate::specs::Printed::kind_field))]
-fn kind_field(kind: AceKind) -> &'static str
-    ensures { result.now ≡ kind_field kind }
+fn print_kind<P: Print>(kind: AceKind, out: &mut P)
+    ensures { Prints (P.told out.old) (P.told out.new) (kind_field kind) }
 {
-    match kind {
-        AceKind::Allow => "(A;",
-        AceKind::Deny => "(D;",
-        AceKind::Audit => "(AU;",
-        AceKind::ObjectAllow => "(OA;",
-        AceKind::ObjectDeny => "(OD;",
-        AceKind::ObjectAudit => "(OU;",
-        AceKind::Label => "(ML;",
+    let letters = kind.letters();
+    if letters.len() == 1 {
+        return out.put(&[b'(', letters[0], b';']);
     }
+    out.put(&[b'(', letters[0], letters[1], b';']);
 }
 
 fn print_object<P: Print>(object: Option<Uuid>, out: &mut P)

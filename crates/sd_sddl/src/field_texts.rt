@@ -4,7 +4,6 @@ ghost use Rattle.std.specs.Str.{str_eq_ignore_ascii_case};
 ghost use Rattle.sd_core.specs.Ace.{is_object};
 ghost use Rattle.sd_binary.specs.Control.{no_flags};
 ghost use Rattle.sd_sddl.specs.FieldTexts.{after_a, ends_with_null, flags_after, front_reads, kind_reads, object_reads, one_letter, two_letters};
-ghost use Rattle.sd_sddl.specs.Printed.{kind_text};
 
 use crate::reading::AclFront;
 use sd_binary::AclFlags;
@@ -14,26 +13,12 @@ use uuid::Uuid;
 /// What stands in an ACL that is null.
 const NULL_NAME: &str = "NO_ACCESS_CONTROL";
 
-/// The kinds of ACEs.
-pub const KINDS: [AceKind; 7] = [
-    AceKind::Allow,
-    AceKind::Deny,
-    AceKind::Audit,
-    AceKind::ObjectAllow,
-    AceKind::ObjectDeny,
-    AceKind::ObjectAudit,
-    AceKind::Label,
-];
-
 /// The kind of this text, in either case.
 #[tactic(auto, unfolding(crate::specs::FieldTexts::kind_reads))]
 pub fn kind_from_text(text: &[u8]) -> Option<AceKind>
     ensures { result ≡ kind_reads text.now }
 {
-    KINDS
-        .iter()
-        .copied()
-        .find(|kind| is_same(kind_text(*kind).as_bytes(), text))
+    AceKind::from_text(text)
 }
 
 // Two texts that differ in the case of letters at most.
@@ -41,20 +26,6 @@ fn is_same(first: &[u8], second: &[u8]) -> bool
     ensures { result ≡ str_eq_ignore_ascii_case first.now second.now }
 {
     first.eq_ignore_ascii_case(second)
-}
-
-fn kind_text(kind: AceKind) -> &'static str
-    ensures { result.now ≡ kind_text kind }
-{
-    match kind {
-        AceKind::Allow => "A",
-        AceKind::Deny => "D",
-        AceKind::Audit => "AU",
-        AceKind::ObjectAllow => "OA",
-        AceKind::ObjectDeny => "OD",
-        AceKind::ObjectAudit => "OU",
-        AceKind::Label => "ML",
-    }
 }
 
 /// The object type, or the inherited object type, of an ACE of this kind: nothing for an empty text, and else a GUID,
