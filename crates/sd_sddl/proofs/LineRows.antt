@@ -85,12 +85,12 @@ users object inherited = record { kind = kinds.ObjectAllow; flags = 2; mask = 0x
 object_ace : (g : List ℕ) → guid_reads object_type ≡ Some g
     → means (codes "D:(OA;CI;RP;bf967aba-0de6-11d0-a285-00aa003049e2;;AU)") None
     ≡ Ok (record { control = 0x8004; rm = 0; owner = None; group = None; sacl = acl.Absent; dacl = acl.List (users (Some g) None ∷ []) })
-unfolding means body_reads entries_read ace_reads front_reads kind_reads object_reads flags_reads rights_reads run_of sid_reads has_form letters_read numbers_read object_type users
+unfolding kind_entry kind_letters kind_named means body_reads entries_read ace_reads front_reads kind_reads object_reads flags_reads rights_reads run_of sid_reads has_form letters_read numbers_read object_type users
 object_ace g h = rw h refl
 
 inherited_object : (g : List ℕ) → guid_reads object_type ≡ Some g
     → ace_reads None (codes "OA" ∷ codes "CI" ∷ codes "RP" ∷ [] ∷ object_type ∷ codes "AU" ∷ []) ≡ Ok (users None (Some g))
-unfolding ace_reads kind_reads object_reads flags_reads rights_reads run_of sid_reads has_form letters_read numbers_read object_type users
+unfolding kind_entry kind_letters kind_named ace_reads kind_reads object_reads flags_reads rights_reads run_of sid_reads has_form letters_read numbers_read object_type users
 inherited_object g h = rw h refl
 
 -- SIDs
