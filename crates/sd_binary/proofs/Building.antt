@@ -94,7 +94,7 @@ reopened : (bytes : List ℕ) (b : Builder) (t : Draft) (o : Option OpenAcl) (u 
     → PartsStand bytes (record b { «open» = o }) (record t { «open» = u })
 reopened bytes b t o u h = record { owner = h.owner; group = h.group; sacl = h.sacl; dacl = h.dacl; apart = h.apart; size = h.size }
 
-pub acl_of-open : (w : Which) (t : Draft) (u : Option (Which × List AccessControlEntry))
+acl_of-open : (w : Which) (t : Draft) (u : Option (Which × List AccessControlEntry))
     → acl_of w (record t { «open» = u }) ≡ acl_of w t
 acl_of-open lists.Sacl t u = refl
 acl_of-open lists.Dacl t u = refl
@@ -319,7 +319,7 @@ open-more front tail o w aces a h limits fits = record {
       ∙ ap (λ (r : List ℕ). h.front ++ r) (ap (λ (r : List ℕ). flat_map ace_bytes aces ++ r) (sym (append-nil (ace_bytes a))) ∙ sym (flat_map-append ace_bytes aces (a ∷ [])));
 }
 
-pub given-more : (a : AccessControlEntry) (w : Which) (aces : List AccessControlEntry) (t : Draft)
+given-more : (a : AccessControlEntry) (w : Which) (aces : List AccessControlEntry) (t : Draft)
     → t.«open» ≡ Some (w, aces)
     → with_ace a t ≡ record t { «open» = Some (w, aces ++ a ∷ []) }
 given-more a w aces t e = rw e refl
