@@ -7,8 +7,10 @@ use Rattle.sd_sddl.specs.Printed.{naming_by}
 use Rattle.sd_sddl.proofs.printed.put_sddl.Goals as goal
 
 pub returns-clause-short : goal.returns-clause-short
-returns-clause-short g c = λ any numbers. sddl-length (naming_by any numbers) c.args.view.now c.control-control.ensures.limits
+returns-clause-short g c = λ any numbers.
+    sddl-length (naming_by any numbers) c.args.view.now c.control-control.ensures.limits
 
 pub returns-clause-back : goal.returns-clause-back
 returns-clause-back g c =
-    sym (folded-means _ _) ∙ folded-sddl (naming_by (option_copied c.args.domain) c.args.numeric) c.args.view.now c.control-control.ensures.limits
+    let naming = naming_by (option_copied c.args.domain) c.args.numeric in
+    sym (folded-means _ _) ∙ folded-sddl naming c.args.view.now c.control-control.ensures.limits
