@@ -7,6 +7,7 @@ pub mod FieldsBack
 pub mod FitLaws
 pub mod FlagRuns
 pub mod FoldedMeaning
+pub mod FoldedSections
 mod LineRows
 pub mod LineCuts
 pub mod LineFields

@@ -11,18 +11,28 @@ use Rattle.sd_core.specs.SidText.{has_form, letters_read, numbers_read, sid_read
 use Rattle.sd_core.specs.declared.ace.AceKind.TheVariants as kinds
 use Rattle.sd_core.specs.declared.sid_text.SidFault.TheVariants as sid_fault
 use Rattle.sd_binary.specs.Descriptor.{Descriptor}
+use Rattle.sd_binary.specs.declared.acl.AclPart.{AclPart}
 use Rattle.sd_binary.specs.declared.acl.AclPart.TheVariants as acl
+use Rattle.sd_binary.specs.declared.builder.Which.{Which}
 use Rattle.sd_binary.specs.declared.builder.Which.TheVariants as which
 use Rattle.sd_sddl.specs.declared.fault.SddlFault.{SddlFault}
 use Rattle.sd_binary.specs.Control.{no_flags}
 use Rattle.sd_sddl.specs.FieldTexts.{front_reads, kind_reads, object_reads}
-use Rattle.sd_sddl.specs.Meaning.{acl_said, ace_reads, body_reads, each, entries_read, first_large, means, section_reads, sections_mean}
+use Rattle.sd_sddl.specs.Meaning.{Said, acl_said, ace_reads, body_reads, each, entries_read, first_large, means, section_reads, sections_mean}
 use Rattle.sd_sddl.specs.Line.{Section}
 use Rattle.sd_sddl.specs.declared.fault.SddlFault.TheVariants as fault
 
 -- `unfolding read` lets `refl` compute a row
+read_but_guids : Unit {0}
+unfolding kind_entry kind_letters kind_named means body_reads entries_read ace_reads front_reads kind_reads object_reads flags_reads rights_reads run_of
+read_but_guids = tt
+
+read_sids : Unit {0}
+unfolding sid_reads has_form letters_read numbers_read
+read_sids = tt
+
 read : Unit {0}
-unfolding kind_entry kind_letters kind_named means body_reads entries_read ace_reads front_reads kind_reads object_reads flags_reads guid_reads rights_reads run_of sid_reads has_form letters_read numbers_read
+unfolding read_but_guids read_sids guid_reads
 read = tt
 
 everyone : SecurityId
@@ -35,32 +45,40 @@ administrators : SecurityId
 administrators = record { authority = 5; subs = 32 ∷ 544 ∷ [] }
 
 -- no part at all
-pub blank_line : means (codes " ") None ≡ Ok (record { control = 0x8000; rm = 0; owner = None; group = None; sacl = acl.Absent; dacl = acl.Absent })
-unfolding read
+pub bare : Descriptor
+bare = record { control = 0x8000; rm = 0; owner = None; group = None; sacl = acl.Absent; dacl = acl.Absent }
+
+-- a DACL alone
+with_dacl : ℕ → AclPart → Descriptor
+with_dacl control dacl =
+    record { control = control; rm = 0; owner = None; group = None; sacl = acl.Absent; dacl = dacl }
+
+pub blank_line : means (codes " ") None ≡ Ok bare
+unfolding read bare
 blank_line = refl
 
-null_dacl : means (codes "D:NO_ACCESS_CONTROL") None ≡ Ok (record { control = 0x8004; rm = 0; owner = None; group = None; sacl = acl.Absent; dacl = acl.Null })
-unfolding read
+null_dacl : means (codes "D:NO_ACCESS_CONTROL") None ≡ Ok (with_dacl 0x8004 acl.Null)
+unfolding read with_dacl
 null_dacl = refl
 
 -- blanks, and letters in either case
 whole_line : means (codes " o:ba  d:pai (a;;fa;;;wd) ") None
-    ≡ Ok (record { control = 0x9404; rm = 0; owner = Some administrators; group = None; sacl = acl.Absent; dacl = acl.List (full_access ∷ []) })
-unfolding read everyone full_access administrators
+    ≡ Ok (record (with_dacl 0x9404 (acl.List (full_access ∷ []))) { owner = Some administrators })
+unfolding read with_dacl everyone full_access administrators
 whole_line = refl
 
 -- no ACE at all
-empty_dacl : means (codes "D:") None ≡ Ok (record { control = 0x8004; rm = 0; owner = None; group = None; sacl = acl.Absent; dacl = acl.List [] })
-unfolding read
+empty_dacl : means (codes "D:") None ≡ Ok (with_dacl 0x8004 (acl.List []))
+unfolding read with_dacl
 empty_dacl = refl
 
 -- the flags of either ACL: PD, DC and DI, and PS, SC and SI
-dacl_flags : means (codes "D:PARAI") None ≡ Ok (record { control = 0x9504; rm = 0; owner = None; group = None; sacl = acl.Absent; dacl = acl.List [] })
-unfolding read
+dacl_flags : means (codes "D:PARAI") None ≡ Ok (with_dacl 0x9504 (acl.List []))
+unfolding read with_dacl
 dacl_flags = refl
 
-sacl_flags : means (codes "S:arpai") None ≡ Ok (record { control = 0xaa10; rm = 0; owner = None; group = None; sacl = acl.List []; dacl = acl.Absent })
-unfolding read
+sacl_flags : means (codes "S:arpai") None ≡ Ok (record bare { control = 0xaa10; sacl = acl.List [] })
+unfolding read bare
 sacl_flags = refl
 
 system : SecurityId
@@ -71,7 +89,14 @@ audit = record { kind = kinds.Audit; flags = 0xc0; mask = 0x10000000; object = N
 
 -- all four parts, in an order that none prints
 four_parts : means (codes "S:AR(AU;SAFA;GA;;;SY)(A;;FA;;;WD)G:SYD:PNO_ACCESS_CONTROLO:BA") None
-    ≡ Ok (record { control = 0x9214; rm = 0; owner = Some administrators; group = Some system; sacl = acl.List (audit ∷ full_access ∷ []); dacl = acl.Null })
+    ≡ Ok (record {
+      control = 0x9214;
+      rm = 0;
+      owner = Some administrators;
+      group = Some system;
+      sacl = acl.List (audit ∷ full_access ∷ []);
+      dacl = acl.Null;
+    })
 unfolding read everyone full_access administrators system audit
 four_parts = refl
 
@@ -80,53 +105,68 @@ object_type : List ℕ
 object_type = codes "bf967aba-0de6-11d0-a285-00aa003049e2"
 
 users : Option (List ℕ) → Option (List ℕ) → AccessControlEntry
-users object inherited = record { kind = kinds.ObjectAllow; flags = 2; mask = 0x10; object = object; inherited = inherited; sid = record { authority = 5; subs = 11 ∷ [] } }
+users object inherited = record {
+  kind = kinds.ObjectAllow;
+  flags = 2;
+  mask = 0x10;
+  object = object;
+  inherited = inherited;
+  sid = record { authority = 5; subs = 11 ∷ [] };
+}
 
 object_ace : (g : List ℕ) → guid_reads object_type ≡ Some g
     → means (codes "D:(OA;CI;RP;bf967aba-0de6-11d0-a285-00aa003049e2;;AU)") None
-    ≡ Ok (record { control = 0x8004; rm = 0; owner = None; group = None; sacl = acl.Absent; dacl = acl.List (users (Some g) None ∷ []) })
-unfolding kind_entry kind_letters kind_named means body_reads entries_read ace_reads front_reads kind_reads object_reads flags_reads rights_reads run_of sid_reads has_form letters_read numbers_read object_type users
+    ≡ Ok (with_dacl 0x8004 (acl.List (users (Some g) None ∷ [])))
+unfolding read_but_guids read_sids object_type users with_dacl
 object_ace g h = rw h refl
 
 inherited_object : (g : List ℕ) → guid_reads object_type ≡ Some g
-    → ace_reads None (codes "OA" ∷ codes "CI" ∷ codes "RP" ∷ [] ∷ object_type ∷ codes "AU" ∷ []) ≡ Ok (users None (Some g))
-unfolding kind_entry kind_letters kind_named ace_reads kind_reads object_reads flags_reads rights_reads run_of sid_reads has_form letters_read numbers_read object_type users
+    → ace_reads None (codes "OA" ∷ codes "CI" ∷ codes "RP" ∷ [] ∷ object_type ∷ codes "AU" ∷ [])
+    ≡ Ok (users None (Some g))
+unfolding read_but_guids read_sids object_type users
 inherited_object g h = rw h refl
 
 -- SIDs
 one_sid : SecurityId → Descriptor
 one_sid s = record { control = 0x8000; rm = 0; owner = Some s; group = None; sacl = acl.Absent; dacl = acl.Absent }
 
+a_domain : SecurityId
+a_domain = record { authority = 5; subs = 21 ∷ 1 ∷ 2 ∷ 3 ∷ [] }
+
+its_administrators : SecurityId
+its_administrators = record { authority = 5; subs = 21 ∷ 1 ∷ 2 ∷ 3 ∷ 512 ∷ [] }
+
 hex_authority : means (codes "O:S-1-0x000000000005-32-544") None ≡ Ok (one_sid administrators)
 unfolding read one_sid administrators
 hex_authority = refl
 
-large_authority : means (codes "O:S-1-0x000100000000") None ≡ Ok (one_sid (record { authority = 0x100000000; subs = [] }))
+large_authority : means (codes "O:S-1-0x000100000000") None
+    ≡ Ok (one_sid (record { authority = 0x100000000; subs = [] }))
 unfolding read one_sid
 large_authority = refl
 
-in_domain : means (codes "O:DA") (Some (record { authority = 5; subs = 21 ∷ 1 ∷ 2 ∷ 3 ∷ [] })) ≡ Ok (one_sid (record { authority = 5; subs = 21 ∷ 1 ∷ 2 ∷ 3 ∷ 512 ∷ [] }))
-unfolding read one_sid
+in_domain : means (codes "O:DA") (Some a_domain) ≡ Ok (one_sid its_administrators)
+unfolding read one_sid a_domain its_administrators
 in_domain = refl
 
 -- access masks
 one_mask : ℕ → Result Descriptor SddlFault
-one_mask mask = Ok (record { control = 0x8004; rm = 0; owner = None; group = None; sacl = acl.Absent; dacl = acl.List (record full_access { mask = mask } ∷ []) })
+one_mask mask = Ok (with_dacl 0x8004 (acl.List (record full_access { mask = mask } ∷ [])))
 
 no_mask : means (codes "D:(A;;;;;WD)") None ≡ one_mask 0
-unfolding read one_mask full_access everyone
+unfolding read one_mask with_dacl full_access everyone
 no_mask = refl
 
 octal : means (codes "D:(A;;017;;;WD)") None ≡ one_mask 15
-unfolding read one_mask full_access everyone
+unfolding read one_mask with_dacl full_access everyone
 octal = refl
 
 decimal : means (codes "D:(A;;15;;;WD)") None ≡ one_mask 15
-unfolding read one_mask full_access everyone
+unfolding read one_mask with_dacl full_access everyone
 decimal = refl
 
 hex : means (codes "D:(A;;0xf;;;WD)") None ≡ one_mask 15
-unfolding read one_mask full_access everyone
+unfolding read one_mask with_dacl full_access everyone
 hex = refl
 
 no_octal : means (codes "D:(A;;08;;;WD)") None ≡ Err fault.Rights
@@ -139,7 +179,7 @@ zeros zero = []
 zeros (suc n) = 48 ∷ zeros n
 
 long_field : means (codes "D:(A;;0x" ++ zeros 181 ++ codes ";;;WD)") None ≡ one_mask 0
-unfolding read one_mask full_access everyone zeros
+unfolding read one_mask with_dacl full_access everyone zeros
 long_field = refl
 
 longer_field : means (codes "D:(A;;0x" ++ zeros 182 ++ codes ";;;WD)") None ≡ Err fault.Rights
@@ -250,18 +290,22 @@ many : ℕ → List AccessControlEntry
 many zero = []
 many (suc n) = full_access ∷ many n
 
-full : first_large (acl_said which.Dacl no_flags (acl.List (many 3276)) ∷ []) ≡ None
-unfolding many full_access everyone
+acl_with : Which → ℕ → Said
+acl_with w count = acl_said w no_flags (acl.List (many count))
+
+full : first_large (acl_with which.Dacl 3276 ∷ []) ≡ None
+unfolding acl_with many full_access everyone
 full = refl
 
-large_dacl : first_large (acl_said which.Dacl no_flags (acl.List (many 3277)) ∷ acl_said which.Sacl no_flags (acl.List (many 3277)) ∷ []) ≡ Some which.Dacl
-unfolding many full_access everyone
+large_dacl : first_large (acl_with which.Dacl 3277 ∷ acl_with which.Sacl 3277 ∷ []) ≡ Some which.Dacl
+unfolding acl_with many full_access everyone
 large_dacl = refl
 
-large_sacl : first_large (acl_said which.Dacl no_flags (acl.List (many 3276)) ∷ acl_said which.Sacl no_flags (acl.List (many 3277)) ∷ []) ≡ Some which.Sacl
-unfolding many full_access everyone
+large_sacl : first_large (acl_with which.Dacl 3276 ∷ acl_with which.Sacl 3277 ∷ []) ≡ Some which.Sacl
+unfolding acl_with many full_access everyone
 large_sacl = refl
 
 -- a field that does not read comes before an ACL that is too large
-field_before_large : (domain : Option SecurityId) (ss : List Section) (e : SddlFault) → each (section_reads domain) ss ≡ Err e → sections_mean domain ss ≡ Err e
+field_before_large : (domain : Option SecurityId) (ss : List Section) (e : SddlFault)
+    → each (section_reads domain) ss ≡ Err e → sections_mean domain ss ≡ Err e
 field_before_large domain ss e h = rw h refl

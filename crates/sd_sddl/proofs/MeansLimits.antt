@@ -330,15 +330,18 @@ verdict-keeps true true read h = tt
 verdict-keeps true false read h = h
 verdict-keeps false twice read h = tt
 
-folded-limits : (text : List ℕ) (domain : Option SecurityId) → IfSome domain IsSid → IfOk (folded text domain) IsDescriptor
+folded-limits : (text : List ℕ) (domain : Option SecurityId) → IfSome domain IsSid
+    → IfOk (folded text domain) IsDescriptor
 unfolding folded reads_as
 folded-limits text domain is =
     finished-limits _ (verdict-keeps (is_shaped text) (has_twice (parts_of text).parts) _ (fields-keep domain is (fields_of (parts_of text).parts) nothing_read nothing-is))
 
 -- what a line means under a SID of a domain, or none
-pub line-limits : (text : List ℕ) (domain : Option SecurityId) → IfSome domain IsSid → IfOk (means text domain) IsDescriptor
+pub line-limits : (text : List ℕ) (domain : Option SecurityId) → IfSome domain IsSid
+    → IfOk (means text domain) IsDescriptor
 line-limits text domain is =
-    subst (λ (x : Result Descriptor SddlFault). IfOk x IsDescriptor) (folded-means text domain) (folded-limits text domain is)
+    subst (λ (x : Result Descriptor SddlFault). IfOk x IsDescriptor) (folded-means text domain)
+    (folded-limits text domain is)
 
 pub means-limits : (text : List ℕ) (domain : Option SecurityId) (d : Descriptor) → IfSome domain IsSid → means text domain ≡ Ok d → IsDescriptor d
 means-limits text domain d is e = subst (λ (x : Result Descriptor SddlFault). IfOk x IsDescriptor) e (line-limits text domain is)

@@ -59,7 +59,8 @@ sid_or_fault (Ok s) = Ok s
 sid_or_fault (Err e) = Err (fault.Sid e)
 
 abbrev pub sid_field_reads : Option SecurityId → List ℕ → Result SecurityId SddlFault
-sid_field_reads domain text = if is_unreadable text then Err (fault.Sid SidForm) else sid_or_fault (sid_reads text domain)
+sid_field_reads domain text =
+    if is_unreadable text then Err (fault.Sid SidForm) else sid_or_fault (sid_reads text domain)
 
 -- 2. An ACE (MS-DTYP 2.5.1.1): six fields, read from the left. Any other number of them is no shape.
 
@@ -157,8 +158,8 @@ sections_mean domain sections = do
   said ← each (section_reads domain) sections
   unless_large (first_large said) (descriptor_of said)
 
--- The descriptor that a line means under a domain, or its fault: its shape, then two sections with one letter, then the first
--- field from the left that does not read, then an ACL that is too large.
+-- The descriptor that a line means under a domain, or its fault: its shape, then two sections with one letter, then the
+-- first field from the left that does not read, then an ACL that is too large.
 unfoldable pub means : List ℕ → Option SecurityId → Result Descriptor SddlFault
 means text domain =
     if not (is_shaped text) then Err fault.Shape

@@ -136,8 +136,9 @@ pub record IsReader (s : SddlReader) (buf : List ℕ) : Type 0 where
   pub read : Reading
   pub held : Keeps s buf read
 
--- The reader and the buffer beside it have read this text under this domain: whatever follows, the answer is that to the whole
--- line.
+-- The reader and the buffer beside it have read this text under this domain: whatever follows, the answer is that to
+-- the whole line.
 abbrev pub Reads : SddlReader → List ℕ → Option SecurityId → List ℕ → Type 0
 Reads s buf domain text =
-    (t : Reading) × Keeps s buf t × ((rest : List ℕ) → answer_at s t (waiting s.pending ++ rest) ≡ reads_as domain (text ++ rest))
+    (t : Reading) × Keeps s buf t
+    × ((rest : List ℕ) → answer_at s t (waiting s.pending ++ rest) ≡ reads_as domain (text ++ rest))

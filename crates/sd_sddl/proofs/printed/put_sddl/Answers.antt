@@ -11,8 +11,10 @@ pub returns-clause-put : goal.returns-clause-put
 returns-clause-put g c = printed c.new-out.ensures.begins (search rules) c.finish.ensures c.print_sddl.ensures.printed
 
 pub returns-clause-short : goal.returns-clause-short
-returns-clause-short g c = λ any numbers. sddl-length (naming_by any numbers) c.args.view.now c.print_sddl.ensures.limits
+returns-clause-short g c = λ any numbers.
+    sddl-length (naming_by any numbers) c.args.view.now c.print_sddl.ensures.limits
 
 pub returns-clause-back : goal.returns-clause-back
 returns-clause-back g c =
-    sym (folded-means _ _) ∙ folded-sddl (naming_by (option_copied c.args.domain) c.args.numeric) c.args.view.now c.print_sddl.ensures.limits
+    let naming = naming_by (option_copied c.args.domain) c.args.numeric in
+    sym (folded-means _ _) ∙ folded-sddl naming c.args.view.now c.print_sddl.ensures.limits

@@ -8,7 +8,11 @@ use Rattle.sd_sddl.proofs.reader.SddlReader.new.Goals as goal
 
 pub returns-clause-read : goal.returns-clause-read
 returns-clause-read c =
-    (nothing_read, record { fields = λ _. c.new-2.ensures.held; fits = λ _. fits-start }, λ rest. started _ _ rest ∙ ap (λ (d : Option SecurityId). reads_as d rest) c.new-2.ensures.domain)
+    let domain = c.new-2.ensures.domain in (
+      nothing_read,
+      record { fields = λ _. c.new-2.ensures.held; fits = λ _. fits-start },
+      λ rest. started _ _ rest ∙ ap (λ (d : Option SecurityId). reads_as d rest) domain,
+    )
 
 pub returns-clause-reader : goal.returns-clause-reader
 returns-clause-reader c = record {
