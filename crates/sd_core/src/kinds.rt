@@ -1,6 +1,6 @@
 //! The kinds of ACEs: their type bytes and their letters (MS-DTYP 2.4.4.1 and 2.5.1.1).
 
-ghost use Rattle.std.specs.Prelude.{◌≡◌, ◌≤◌, ◌==◌, length, Some, IfSome, true};
+ghost use Rattle.std.specs.Prelude.{◌≡◌, ◌≤◌, length, Some, IfSome, true};
 ghost use Rattle.std.specs.List.{find};
 ghost use Rattle.std.specs.Str.{str_eq_ignore_ascii_case};
 ghost use Rattle.sd_core.specs.Kinds.{kind_code, kind_entry, kind_letters, kind_named, kind_of, letters_of};
@@ -45,6 +45,7 @@ pub static KINDS: [KindEntry; 7] = [
 impl AceKind {
     /// The type byte (MS-DTYP 2.4.4.1).
     #[tactic(auto, unfolding(crate::specs::Kinds::kind_code))]
+    #[inline(always)]
     pub fn code(self) -> u8
         ensures value { result ≡ kind_code self }
         // It is the byte of no other kind.
@@ -54,13 +55,12 @@ impl AceKind {
     }
 
     /// The kind of a type byte. None where no kind has it.
-    #[tactic(auto, unfolding(crate::specs::Kinds::kind_of))]
+    #[inline(always)]
     pub fn from_code(code: u8) -> Option<AceKind>
         ensures exact { result ≡ kind_of code }
         ensures back { IfSome result (λ kind. kind_code kind ≡ code) }
     {
-        let entry = with_code(&KINDS, code)?;
-        Some(entry.kind)
+        with_code(code)
     }
 
     /// The letters that name it in SDDL (MS-DTYP 2.5.1.1): one or two, in upper case.
@@ -86,6 +86,7 @@ impl AceKind {
     }
 }
 
+#[inline(always)]
 fn entry_of(kind: AceKind) -> &'static KindEntry
     ensures { result.now ≡ kind_entry kind }
 {
@@ -98,13 +99,32 @@ fn letters_of(entry: &KindEntry) -> &[u8]
     &entry.letters[..entry.count.min(MOST_LETTERS)]
 }
 
-fn with_code(table: &[KindEntry], code: u8) -> Option<KindEntry>
-    ensures { result ≡ find (λ e. e.code == code) table.now }
+// The entries one by one, and no loop over them: so it is compiled as a match on the numbers.
+#[inline(always)]
+#[tactic(auto, unfolding(crate::specs::Kinds::kind_of))]
+fn with_code(code: u8) -> Option<AceKind>
+    ensures { result ≡ kind_of code }
 {
-    for entry in table {
-        if entry.code == code {
-            return Some(*entry);
-        }
+    if KINDS[0].code == code {
+        return Some(KINDS[0].kind);
+    }
+    if KINDS[1].code == code {
+        return Some(KINDS[1].kind);
+    }
+    if KINDS[2].code == code {
+        return Some(KINDS[2].kind);
+    }
+    if KINDS[3].code == code {
+        return Some(KINDS[3].kind);
+    }
+    if KINDS[4].code == code {
+        return Some(KINDS[4].kind);
+    }
+    if KINDS[5].code == code {
+        return Some(KINDS[5].kind);
+    }
+    if KINDS[6].code == code {
+        return Some(KINDS[6].kind);
     }
     None
 }
