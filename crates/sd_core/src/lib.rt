@@ -22,6 +22,7 @@ mod sink;
 #[cfg(test)]
 mod text_sink;
 mod token;
+mod usual_sid;
 
 pub use ace::{Ace, AceKind};
 pub use flags::{flags_from_text, print_flags, put_flags};
