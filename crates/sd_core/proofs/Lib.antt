@@ -22,4 +22,5 @@ mod SidRows
 pub mod SinkLemmas
 pub mod TextLaws
 pub mod TextLemmas
+pub mod UsualNumbers
 pub mod Words

@@ -20,6 +20,7 @@ mod sid;
 mod sid_text;
 mod sink;
 mod token;
+mod usual_sid;
 
 pub use ace::{Ace, AceKind};
 pub use flags::{flags_from_text, print_flags, put_flags};

@@ -14,6 +14,7 @@ use crate::print::Print;
 use crate::printer::Printer;
 use crate::sid::Sid;
 use crate::sink::{Sink, SinkFault};
+use crate::usual_sid::read_usual;
 
 /// Why a text is no SID.
 #[derive(Clone, Copy, Debug, PartialEq, Eq)]
@@ -29,7 +30,7 @@ pub enum SidFault {
 }
 
 /// The bytes of the longest text: `S-1-`, an authority in hex, and 15 numbers of ten digits with a dash.
-const LONGEST: usize = 183;
+pub(crate) const LONGEST: usize = 183;
 
 /// The sub-authorities that a SID has at most.
 pub(crate) const MOST_SUBS: usize = 15;
@@ -73,6 +74,9 @@ impl Sid {
     {
         if are_letters(text) {
             return read_letters(text[0], text[1], domain);
+        }
+        if let Some(sid) = read_usual(text) {
+            return Ok(sid);
         }
         if !has_form(text) {
             return Err(SidFault::SidForm);
@@ -189,7 +193,7 @@ fn has_form(text: &[u8]) -> bool
     are_numbers(&text[4..])
 }
 
-fn begins_with_s1(text: &[u8]) -> bool
+pub(crate) fn begins_with_s1(text: &[u8]) -> bool
     ensures value { result ≡ begins_with_s1 text.now }
     ensures long { result ≡ true → 4 ≤ length text.now }
 {

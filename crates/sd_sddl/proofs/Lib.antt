@@ -15,6 +15,7 @@ pub mod MeansLimits
 pub mod PartsBack
 pub mod PlainTexts
 mod Rows
+pub mod Runs
 pub mod SizeLaws
 pub mod Steps
 pub mod TrusteeLaws

@@ -1,7 +1,8 @@
 -- What a reader keeps of the text of one field.
-use Rattle.std.specs.Prelude.{◌≡◌, ℕ, ◌≤◌, Bool, true, false, ◌||◌, ◌==◌, if◌then◌else◌, List, [], ◌∷◌, ◌++◌, length}
+use Rattle.std.specs.Prelude.{◌≡◌, ℕ, ◌≤◌, Bool, true, false, ◌||◌, ◌&&◌, not, ◌==◌, if◌then◌else◌, List, [], ◌∷◌, ◌++◌, length}
+use Rattle.std.specs.Option.{is_none}
 use Rattle.std.specs.List.{list_any}
-use Rattle.sd_sddl.specs.Line.{is_blank}
+use Rattle.sd_sddl.specs.Line.{head_of, is_blank}
 
 -- the bytes so far, whether blanks stood after them, and whether the text can no longer read
 pub record Held : Type 0 where
@@ -36,6 +37,19 @@ outer_with h b = if is_blank b then held_blank h else held_with h b
 -- one byte more of a text inside parentheses
 abbrev pub within_with : Held → ℕ → Held
 within_with h b = if is_blank b then broken_text else held_with h b
+
+-- bytes more, none of them a blank
+abbrev pub held_run : Held → List ℕ → Held
+held_run h [] = h
+held_run h (b ∷ bs) = held_run (held_with h b) bs
+
+-- a byte that only goes onto the text of a field inside parentheses
+abbrev pub is_plain_inside : ℕ → Bool
+is_plain_inside b = not (b == 40 || (b == 41 || (b == 59 || is_blank b)))
+
+-- and outside, where a letter may begin a head
+abbrev pub is_plain_outside : ℕ → Bool
+is_plain_outside b = is_plain_inside b && (not (b == 58) && is_none (head_of b))
 
 -- the text of a field that ends here: one that is not kept has a blank, and does not read
 abbrev pub held_text : Held → List ℕ

@@ -1,6 +1,6 @@
 // The text of the field at hand, of at most 183 bytes.
-ghost use Rattle.std.specs.Prelude.{◌≡◌, ◌≤◌, ◌↔◌, ℕ, length, take, IsTrue, true};
-ghost use Rattle.sd_sddl.specs.Held.{Held, no_text, broken_text, held_with, held_blank, outer_with, within_with, held_text};
+ghost use Rattle.std.specs.Prelude.{◌≡◌, ◌≤◌, ◌↔◌, ℕ, ◌+◌, ◌++◌, length, take, IsTrue, true};
+ghost use Rattle.sd_sddl.specs.Held.{Held, no_text, broken_text, held_with, held_run, held_blank, outer_with, within_with, held_text};
 
 use std::marker::Model;
 
@@ -60,6 +60,32 @@ impl FieldText {
             self.bytes[self.len] = byte;
             self.len += 1;
         }
+    }
+
+    /// Bytes more, none of them a blank.
+    pub fn push_run(&mut self, run: &[u8])
+        ensures { self.new ≡ held_run self.old run.now }
+    {
+        if run.is_empty() {
+            return;
+        }
+        if self.broken || self.gap {
+            self.spoil();
+        } else if LIMIT - self.len < run.len() {
+            self.spoil();
+        } else {
+            self.append(run);
+        }
+    }
+
+    // Bytes for which there is room.
+    fn append(&mut self, run: &[u8])
+        requires room { length self.old.text + length run.now ≤ 183 }
+        ensures { self.new ≡ record self.old { text = self.old.text ++ run.now } }
+    {
+        let end = self.len + run.len();
+        self.bytes[self.len..end].copy_from_slice(run);
+        self.len = end;
     }
 
     fn blank(&mut self)

@@ -1,5 +1,7 @@
 // The parts of an SDDL line, and the places in it.
-ghost use Rattle.std.specs.Prelude.{◌≡◌};
+ghost use Rattle.std.specs.Prelude.{◌≡◌, ◌≤◌, length, take, true};
+ghost use Rattle.std.specs.List.{list_all};
+ghost use Rattle.sd_sddl.specs.Held.{is_plain_inside, is_plain_outside};
 ghost use Rattle.sd_sddl.specs.Line.{head_of, is_blank};
 ghost use Rattle.sd_sddl.specs.FoldedReading.{next_field};
 ghost use Rattle.sd_sddl.specs.Progress.{place_of};
@@ -136,4 +138,44 @@ pub fn is_blank(byte: u8) -> bool
     ensures { result ≡ is_blank byte }
 {
     byte == b' ' || byte == b'\t'
+}
+
+/// A byte that only goes onto the text of a field inside parentheses.
+fn is_plain_inside(byte: u8) -> bool
+    ensures { result ≡ is_plain_inside byte }
+{
+    !(byte == b'(' || byte == b')' || byte == b';' || is_blank(byte))
+}
+
+/// A byte that only goes onto the text of a field outside parentheses.
+fn is_plain_outside(byte: u8) -> bool
+    ensures { result ≡ is_plain_outside byte }
+{
+    is_plain_inside(byte) && byte != b':' && head_of(byte).is_none()
+}
+
+/// How many bytes at the front only go onto the text of a field inside parentheses.
+pub fn plain_inside(text: &[u8]) -> usize
+    ensures within { result ≤ length text.now }
+    ensures plain { list_all is_plain_inside (take result text.now) ≡ true }
+{
+    for (i, byte) in text.iter().enumerate() {
+        if !is_plain_inside(*byte) {
+            return i;
+        }
+    }
+    text.len()
+}
+
+/// How many bytes at the front only go onto the text of a field outside parentheses.
+pub fn plain_outside(text: &[u8]) -> usize
+    ensures within { result ≤ length text.now }
+    ensures plain { list_all is_plain_outside (take result text.now) ≡ true }
+{
+    for (i, byte) in text.iter().enumerate() {
+        if !is_plain_outside(*byte) {
+            return i;
+        }
+    }
+    text.len()
 }

@@ -1,5 +1,5 @@
 // A line, read a byte at a time.
-ghost use Rattle.std.specs.Prelude.{◌≡◌, ◌≤◌, ◌==◌, ℕ, List, [], ◌∷◌, ◌++◌, length, ◌||◌, if◌then◌else◌, true, false, Option, Some, None, Ok, Err, IfOk, IfSome, MatchResult};
+ghost use Rattle.std.specs.Prelude.{◌≡◌, ◌≤◌, ◌==◌, ℕ, List, [], ◌∷◌, ◌++◌, length, take, ◌||◌, if◌then◌else◌, true, false, Option, Some, None, Ok, Err, IfOk, IfSome, MatchResult};
 ghost use Rattle.std.specs.Option.{option_copied};
 ghost use Rattle.sd_core.specs.Sid.{IsSid, SecurityId};
 ghost use Rattle.sd_binary.specs.Descriptor.{IsDescriptor, Shows};
@@ -13,7 +13,10 @@ ghost use Rattle.sd_sddl.specs.Progress.{ended_with, is_inside, is_seen, place_o
 
 use crate::fault::SddlFault;
 use crate::field_text::FieldText;
-use crate::line::{AceField, Head, Place, Seen, Slot, head_of, is_blank, next_field, place_of};
+use crate::line::{
+    AceField, Head, Place, Seen, Slot, head_of, is_blank, next_field, place_of, plain_inside,
+    plain_outside,
+};
 use crate::reading::{FieldReader, fault_of};
 use sd_binary::SdBuf;
 use sd_core::Sid;
@@ -300,6 +303,42 @@ impl SddlReader {
         }
     }
 
+    /// Takes bytes more of the line.
+    pub fn feed_all(&mut self, buf: &mut SdBuf, bytes: &[u8])
+        requires { IsReader self.old buf.old }
+        ensures reader { IsReader self.new buf.new }
+        ensures read { (domain : Option SecurityId) (text : List ℕ) → Reads self.old buf.old domain text → Reads self.new buf.new domain (text ++ bytes.now) }
+    {
+        let mut rest = bytes;
+        while let Some((byte, after)) = rest.split_first() {
+            self.feed(buf, *byte);
+            let count = self.feed_run(after);
+            rest = &after[count..];
+        }
+    }
+
+    // Takes the bytes at the front that only go onto the field at hand, all at once, and says how many they are.
+    fn feed_run(&mut self, text: &[u8]) -> usize
+        ensures within { result ≤ length text.now }
+        ensures reader { (buf : List ℕ) → IsReader self.old buf → IsReader self.new buf }
+        ensures read { (buf : List ℕ) (domain : Option SecurityId) (before : List ℕ) → IsReader self.old buf → Reads self.old buf domain before
+            → Reads self.new buf domain (before ++ take result text.now) }
+    {
+        match self.place {
+            Place::Ace(_) => {
+                let count = plain_inside(text);
+                self.field.push_run(&text[..count]);
+                count
+            }
+            Place::Sid(_) if self.pending.is_none() => {
+                let count = plain_outside(text);
+                self.field.push_run(&text[..count]);
+                count
+            }
+            _ => 0,
+        }
+    }
+
     /// The end of the line: the buffer holds what it means, or nothing where it has a fault.
     pub fn finish(mut self, buf: &mut SdBuf) -> Result<(), SddlFault>
         requires { IsReader self buf.old }
@@ -434,8 +473,6 @@ pub fn read_sddl(text: &[u8], domain: Option<&Sid>, buf: &mut SdBuf) -> Result<(
 {
     note_limits(domain);
     let mut reader = SddlReader::new(domain.copied(), buf);
-    for byte in text {
-        reader.feed(buf, *byte);
-    }
+    reader.feed_all(buf, text);
     reader.finish(buf)
 }

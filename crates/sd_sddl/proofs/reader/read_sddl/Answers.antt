@@ -1,15 +1,12 @@
-use Rattle.std.proofs.Common.{◌<◌, length, arith}
-use Rattle.std.proofs.lemmas.List.{take_more}
+use Rattle.std.proofs.Common.{[]}
 use Rattle.sd_sddl.proofs.MeansLimits.{line-limits}
 use Rattle.sd_sddl.proofs.reader.read_sddl.Goals as goal
 
-pub loop-byte-preserved : goal.loop-byte-preserved
-loop-byte-preserved c =
-    let h : c.loop-byte.byte-index < length c.args.text.now = omega arith in
-    record {
-      reader = c.feed.ensures.reader;
-      read = rw (take_more c.args.text.now c.loop-byte.byte-index 0 h) (c.feed.ensures.read _ _ c.loop-byte.invariant.read);
-    }
+pub returns-clause-exact : goal.returns-clause-exact
+returns-clause-exact c = c.finish.ensures.exact _ _ (c.feed_all.ensures.read _ [] (rw (c.copied.ensures) at c.new-reader.ensures.read))
+
+pub returns-clause-written : goal.returns-clause-written
+returns-clause-written c = c.finish.ensures.written _ _ (c.feed_all.ensures.read _ [] (rw (c.copied.ensures) at c.new-reader.ensures.read))
 
 pub returns-clause-limits : goal.returns-clause-limits
 returns-clause-limits c = line-limits c.args.text.now _ c.note_limits.ensures

@@ -1,0 +1,66 @@
+-- A decimal number, digit by digit from the left.
+use Rattle.std.proofs.Common.{◌-◌, drop, lt-ltb, ◌≡◌, ℕ, ◌+◌, ◌*◌, ◌^◌, ◌<◌, ◌≤◌, length, take, get_or, Bool, true, false, ◌&&◌, List, [], ◌∷◌, ◌++◌, Option, Some, None, refl, ap, sym, ◌∙◌, arith}
+use Rattle.std.specs.Prelude.{nat_lt, nat_le, if◌then◌else◌}
+use Rattle.std.specs.Option.{option_and_then}
+use Rattle.std.specs.Char.{digit_value, is_digit}
+use Rattle.std.specs.List.{list_all}
+use Rattle.std.proofs.lemmas.Bool.Decides.{nat_tests}
+use Rattle.std.proofs.lemmas.Grind.{common_steps}
+use Rattle.std.proofs.lemmas.List.{take_more, take_rest}
+use Rattle.std.specs.Prelude.{IfSome}
+use Rattle.sd_core.specs.Sid.{SecurityId}
+use Rattle.sd_core.proofs.FormLemmas.{form_is}
+use Rattle.sd_core.specs.SidText.{begins_with_s1, has_form, are_numbers, numbers_read, are_numbers, decimal_reads, is_decimal, number_after, numbers_read, pieces}
+
+one_more : (base n b : ℕ) (xs : List ℕ) → number_after base n (xs ++ b ∷ []) ≡ option_and_then (λ m. if is_digit b base then Some (m * base + digit_value b) else None) (number_after base n xs)
+one_more base n b [] = refl
+one_more base n b (x ∷ xs) = by_digit (is_digit x base) (one_more base (n * base + digit_value x) b xs)
+  where
+    by_digit : (d : Bool) → number_after base (n * base + digit_value x) (xs ++ b ∷ []) ≡ option_and_then (λ m. if is_digit b base then Some (m * base + digit_value b) else None) (number_after base (n * base + digit_value x) xs)
+        → (if d then number_after base (n * base + digit_value x) (xs ++ b ∷ []) else None) ≡ option_and_then (λ m. if is_digit b base then Some (m * base + digit_value b) else None) (if d then number_after base (n * base + digit_value x) xs else None)
+    by_digit true e = e
+    by_digit false e = refl
+
+-- the number so far and one digit more
+pub digit_more : (text : List ℕ) (i n d : ℕ) → i < length text → number_after 10 0 (take i text) ≡ Some n → is_digit (get_or text i 0) 10 ≡ true → d ≡ digit_value (get_or text i 0)
+    → number_after 10 0 (take (i + 1) text) ≡ Some (n * 10 + d)
+digit_more text i n d h e digit is = rw (take_more text i 0 h, one_more 10 0 (get_or text i 0) (take i text), e, digit, is) refl
+
+digits : (n m : ℕ) (text : List ℕ) → number_after 10 n text ≡ Some m → list_all (λ b. is_digit b 10) text ≡ true
+digits n m [] e = refl
+digits n m (c ∷ cs) e = by_digit (is_digit c 10) (digits (n * 10 + digit_value c) m cs) e
+  where
+    by_digit : (d : Bool) → (number_after 10 (n * 10 + digit_value c) cs ≡ Some m → list_all (λ b. is_digit b 10) cs ≡ true)
+        → (if d then number_after 10 (n * 10 + digit_value c) cs else None) ≡ Some m → (d && list_all (λ b. is_digit b 10) cs) ≡ true
+    by_digit true f e = f e
+    by_digit false f e = absurd cc
+
+pub decimal_is : (m : ℕ) (text : List ℕ) → 0 < length text → number_after 10 0 text ≡ Some m → is_decimal text ≡ true
+decimal_is m text some e =
+    let l : nat_lt 0 (length text) ≡ true = grind (arith, nat_tests) in
+    rw (l, digits 0 m text e) refl
+
+pub reads_is : (m : ℕ) (text : List ℕ) → length text ≤ 10 → m < 2 ^ 32 → number_after 10 0 text ≡ Some m → decimal_reads text ≡ Some m
+reads_is m text short small e =
+    let l : nat_le (length text) 10 ≡ true = grind (arith, nat_tests) in
+    let s : nat_lt m (2 ^ 32) ≡ true = grind (arith, nat_tests) in
+    rw (l, e, s) refl
+
+pub taken : (n : ℕ) (xs : List ℕ) → n ≤ length xs → length (take n xs) ≡ n
+taken n xs h = grind (arith, common_steps)
+
+pub all_taken : (n : ℕ) (xs : List ℕ) → length xs ≤ n → take n xs ≡ xs
+all_taken n xs h = grind (arith, common_steps)
+
+pub digit_is : (b c : ℕ) → b ≡ c → digit_value b < 10 → is_digit c 10 ≡ true
+digit_is b c e h = rw (← e) (lt-ltb (digit_value b) 10 h)
+
+-- a text that begins as a SID's, with what is read of the rest of it
+pub usual-is : (text : List ℕ) (r : Option SecurityId) → length text ≤ 183 → begins_with_s1 text ≡ true
+    → IfSome r (λ s. (are_numbers (pieces (take (length text - 4) (drop 4 text))) ≡ true) × (numbers_read (pieces (take (length text - 4) (drop 4 text))) ≡ Some s))
+    → IfSome r (λ s. (has_form text ≡ true) × (numbers_read (pieces (drop 4 text)) ≡ Some s))
+usual-is text None short front h = h
+usual-is text (Some s) short front h = (
+  sym (form_is text true short front (sym h.0)),
+  ap (λ (t : List ℕ). numbers_read (pieces t)) (sym (take_rest text 4)) ∙ h.1,
+)

@@ -1,0 +1,79 @@
+// The usual text of a SID, with decimal numbers alone, read in one pass.
+ghost use Rattle.std.specs.Prelude.{◌≡◌, ◌≤◌, ◌<◌, ◌^◌, [], List, ℕ, length, take, drop, true, IfSome, MatchOption, Some};
+ghost use Rattle.sd_core.specs.SidText.{all_pieces, all_read, are_numbers, are_subs, decimal_reads, has_form, is_decimal, numbers_read, pieces};
+
+use crate::sid::Sid;
+use crate::sid_text::{LONGEST, MOST_SUBS, begins_with_s1};
+
+/// The SID of a text, where its authority and its sub-authorities are decimal and below 2^32. None says nothing of
+/// the text.
+pub(crate) fn read_usual(text: &[u8]) -> Option<Sid>
+    ensures { IfSome result (λ s. (has_form text.now ≡ true) × (numbers_read (pieces (drop 4 text.now)) ≡ Some s)) }
+{
+    if LONGEST < text.len() || !begins_with_s1(text) {
+        return None;
+    }
+    usual_numbers(&text[4..])
+}
+
+// The same for what follows `S-1-`.
+#[tactic(auto, unfolding(crate::specs::SidText::numbers_read))]
+fn usual_numbers(text: &[u8]) -> Option<Sid>
+    ensures { IfSome result (λ s. (are_numbers (pieces text.now) ≡ true) × (numbers_read (pieces text.now) ≡ Some s)) }
+{
+    let (authority, rest) = front_number(text)?;
+    let mut subs = [0; MOST_SUBS];
+    let count = match rest {
+        None => 0,
+        Some(rest) => usual_subs(rest, &mut subs)?,
+    };
+    Sid::new(u64::from(authority), &subs[..count])
+}
+
+// Writes the numbers to the front of the array, and says how many there are.
+fn usual_subs(text: &[u8], subs: &mut [u32; MOST_SUBS]) -> Option<usize>
+    ensures count { IfSome result (λ n. n ≤ 15) }
+    ensures numbers { IfSome result (λ n. (are_subs 0 (all_pieces (pieces text.now)) ≡ true) × (all_read (all_pieces (pieces text.now)) ≡ Some (take n subs.new))) }
+{
+    let mut rest = text;
+    let mut count = 0;
+    loop {
+        if count == MOST_SUBS {
+            return None;
+        }
+        let (number, after) = front_number(rest)?;
+        subs[count] = number;
+        count += 1;
+        match after {
+            None => return Some(count),
+            Some(after) => rest = after,
+        }
+    }
+}
+
+// The number before the first dash, and what follows that.
+fn front_number(text: &[u8]) -> Option<(u32, Option<&[u8]>)>
+    ensures number { IfSome result (λ r. (first : List ℕ) × (is_decimal first ≡ true) × (decimal_reads first ≡ Some r.0)
+        × MatchOption r.1 (pieces text.now ≡ record { first = first; others = [] })
+        (λ rest. pieces text.now ≡ record { first = first; others = all_pieces (pieces rest.now) })) }
+    ensures shorter { IfSome result (λ r. MatchOption r.1 (0 ≤ 0) (λ rest. length rest.now < length text.now)) }
+{
+    let mut number: u64 = 0;
+    for (i, byte) in text.iter().enumerate() {
+        if *byte == b'-' {
+            if i == 0 || i > 10 {
+                return None;
+            }
+            return Some((number as u32, Some(&text[i + 1..])));
+        }
+        let digit = char::from(*byte).to_digit(10)?;
+        number = number * 10 + u64::from(digit);
+        if number >= 1 << 32 {
+            return None;
+        }
+    }
+    if text.is_empty() || text.len() > 10 {
+        return None;
+    }
+    Some((number as u32, None))
+}
