@@ -2,7 +2,8 @@
 use crate::running::run_at_most;
 use crate::{Act, Engine, Form, FromRead, Job, Report, RunFault, ToWrite};
 use sd_core::Token;
-use std::io::{Read, Result};
+use std::alloc::Global;
+use std::io::{Read, Result, Write};
 
 // Gives a byte a read.
 #[derive(Drop)]
@@ -12,6 +13,34 @@ impl<'a> Read for ByteByByte<'a> {
     fn read(&mut self, buf: &mut [u8]) -> Result<usize> {
         let n = buf.len().min(1);
         self.0.read(&mut buf[..n])
+    }
+}
+
+// Keeps what it is given, and how much of it was handed on by a flush.
+#[derive(Drop)]
+struct Kept {
+    taken: Vec<u8>,
+    handed_on: usize,
+}
+
+impl Kept {
+    fn new(alloc: Global) -> Self {
+        Kept {
+            taken: Vec::new(alloc),
+            handed_on: 0,
+        }
+    }
+}
+
+impl Write for Kept {
+    fn write(&mut self, bytes: &[u8]) -> Result<usize> {
+        self.taken.extend_from_slice(bytes)?;
+        Ok(bytes.len())
+    }
+
+    fn flush(&mut self) -> Result<()> {
+        self.handed_on = self.taken.len();
+        Ok(())
     }
 }
 
@@ -43,7 +72,7 @@ fn gives_up_a_source_without_an_end(rt: HostRuntime) {
             "\nerror 3 hex-odd\nerror 3 hex-odd\n",
         ),
     ] {
-        let mut output = Vec::new(rt.alloc());
+        let mut output = Kept::new(rt.alloc());
         let got = run_at_most(
             &mut engine.desk,
             &mut token,
@@ -52,6 +81,7 @@ fn gives_up_a_source_without_an_end(rt: HostRuntime) {
             5,
         );
         assert!(rt; got == want);
-        assert!(rt; output.as_slice() == answers.as_bytes());
+        assert!(rt; output.taken.as_slice() == answers.as_bytes());
+        assert!(rt; output.handed_on == answers.len());
     }
 }

@@ -15,6 +15,8 @@ mod faults;
 #[cfg(test)]
 mod flags;
 #[cfg(test)]
+mod flushes;
+#[cfg(test)]
 mod guid;
 #[cfg(test)]
 mod lines;
