@@ -204,8 +204,9 @@ fn writes_and_flushes_the_stream(rt: HostRuntime) {
     assert!(rt; drain.write(b"c") == Ok(1));
     assert!(rt; drain.write(b"d") == Err(DeviceFault));
     assert!(rt; drain.flush() == Ok(()));
+    assert!(rt; drain.flush() == Ok(()));
     assert!(rt; output.writes == 3);
-    assert!(rt; output.flushes == 1);
+    assert!(rt; output.flushes == 2);
     assert!(rt; output.taken.as_slice() == b"abc".as_slice());
     let mut output = Output {
         room: 0,
@@ -217,6 +218,10 @@ fn writes_and_flushes_the_stream(rt: HostRuntime) {
     assert!(rt; drain.write(b"a") == Ok(0));
     assert!(rt; drain.flush() == Err(DeviceFault));
     assert!(rt; output.writes == 1);
+    assert!(rt; output.flushes == 1);
+    // Where nothing was written.
+    let mut output = Output::new(rt.alloc());
+    assert!(rt; ToWrite::new(&mut output).flush() == Ok(()));
     assert!(rt; output.flushes == 1);
 }
 
