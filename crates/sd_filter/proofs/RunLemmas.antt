@@ -1,12 +1,12 @@
 -- What each return of a run says.
-use Rattle.std.proofs.Common.{zero, suc, ◌≡◌, ℕ, ◌+◌, ◌<◌, List, [], ◌∷◌, ◌++◌, length, true, Option, None, Some, Result, Ok, Err, refl, sym, ◌∙◌, ap, arith, append-nil, append_assoc, inl, inr}
+use Rattle.std.proofs.Common.{zero, suc, ◌≡◌, ℕ, ◌+◌, ◌<◌, List, [], ◌∷◌, ◌++◌, length, true, Option, None, Some, Result, Ok, Err, refl, sym, ◌∙◌, ap, arith, append-nil, append_assoc, inl, inr, ◌⊎◌}
 use Rattle.std.specs.Io.KnownBytes.{Consumes, Appends, Keeps, IsAtEnd}
 use Rattle.std.proofs.KnownBytes.{Consumes-nil, Consumes-trans, Consumes-kept}
 use Rattle.sd_core.specs.Counts.{counted}
 use Rattle.sd_core.specs.Token.{TokenShown}
 use Rattle.sd_core.specs.Sink.{SinkTold, IsPrefix}
 use Rattle.sd_filter.specs.Told.{SourceTold, DrainTold, sink_of, reads_after, ends_after, failed_reads_after}
-use Rattle.sd_filter.specs.Lines.{ended, lines}
+use Rattle.sd_filter.specs.Lines.{ended, lines, parts}
 use Rattle.sd_filter.specs.Answers.{answers}
 use Rattle.sd_filter.specs.Sofar.{Holds, Answered, Failed, Sofar, BeforeRead}
 use Rattle.sd_filter.specs.Outcome.{Finished, FaultSays, HandedOn}
@@ -47,11 +47,18 @@ Sofar-flush token0 token sink0 drain drain' got desk report h keeps same = recor
   answered = Answered-flush _ token0 token sink0 drain drain' _ report h.answered keeps same;
 }
 
--- nothing was put since, or the last call was a flush
-HandedOn-trans : (a b c : DrainTold) → HandedOn a b → HandedOn b c → HandedOn a c
-HandedOn-trans a b c p (inr flushed) = inr flushed
-HandedOn-trans a b c (inl same) (inl still) = inl (still ∙ same)
-HandedOn-trans a b c (inr flushed) (inl still) = inr (ap (λ (d : DrainTold). d.flushed) still ∙ flushed)
+none_ended : (xs : List (List ℕ)) → length xs ≡ 0 → xs ≡ []
+none_ended [] none = refl
+none_ended (x ∷ xs) none = absurd (omega arith)
+
+-- a piece more: no line ended in it and nothing was put, or the last call was a flush
+HandedOn-more : (got got' : List ℕ) (a b c : DrainTold) (lines lines' : ℕ) → HandedOn got a b → lines ≡ length (ended got) → lines' ≡ length (ended got')
+    → ((c ≡ b) × (lines' ≡ lines)) ⊎ (c.flushed ≡ true) → HandedOn got' a c
+HandedOn-more got got' a b c lines lines' p counted counted' (inr flushed) = inr flushed
+HandedOn-more got got' a b c lines lines' (inl quiet) counted counted' (inl (still, same)) =
+    let before = ap length quiet.0 in inl (none_ended (ended got') (omega arith), still ∙ quiet.1)
+HandedOn-more got got' a b c lines lines' (inr flushed) counted counted' (inl (still, same)) =
+    inr (ap (λ (d : DrainTold). d.flushed) still ∙ flushed)
 
 -- a flush that fails
 pub Failed-flush : (job : Job) (token0 token : TokenShown) (sink0 : SinkTold) (drain drain' : DrainTold) (all : List (List ℕ)) (report : Report)
@@ -71,6 +78,10 @@ Failed-flush job token0 token sink0 drain drain' all report h keeps failed = rec
   compared = rw append-nil h.compared;
 }
 
+ended-nil : ended [] ≡ []
+unfolding ended parts
+ended-nil = refl
+
 -- before the first read
 pub BeforeRead-start : (token0 : TokenShown) (source0 : SourceTold) (drain0 : DrainTold) (desk : Desk) (report : Report)
     → Holds desk.line [] → report.lines ≡ 0 → report.faults ≡ 0
@@ -79,7 +90,7 @@ BeforeRead-start token0 source0 drain0 desk report h no_lines no_faults = record
   got = [];
   read = Consumes-nil source0.left;
   sofar = Sofar-nil token0 (sink_of drain0) desk report h no_lines no_faults;
-  handed_on = inl refl;
+  handed_on = inl (ended-nil, refl);
   reads = record { at_least = omega arith; at_most = omega arith };
   ends = refl;
   failures = refl;
@@ -101,13 +112,14 @@ module _ (most turn : ℕ) (token0 token : TokenShown) (source0 source source' :
   -- a piece was read and its lines are answered
   pub BeforeRead-more : (piece : List ℕ) (token' : TokenShown) (drain' : DrainTold) (desk' : Desk) (report' : Report)
       → Consumes source.left source'.left piece → source'.reads ≡ counted source.reads → source'.ends ≡ source.ends → source'.failures ≡ source.failures
-      → Sofar token0 (sink_of drain0) (r.got ++ piece) desk' token' (sink_of drain') report' → HandedOn drain drain'
+      → Sofar token0 (sink_of drain0) (r.got ++ piece) desk' token' (sink_of drain') report'
+      → ((drain' ≡ drain) × (report'.lines ≡ report.lines)) ⊎ (drain'.flushed ≡ true)
       → BeforeRead (turn + 1) token0 source0 drain0 desk' token' source' drain' report'
   BeforeRead-more piece token' drain' desk' report' consumed reads ends failures sofar handed = record {
     got = r.got ++ piece;
     read = Consumes-trans _ _ _ _ _ r.read consumed;
     sofar = sofar;
-    handed_on = HandedOn-trans _ _ _ r.handed_on handed;
+    handed_on = HandedOn-more r.got (r.got ++ piece) drain0 drain drain' _ _ r.handed_on r.sofar.answered.lines_counted sofar.answered.lines_counted handed;
     reads = record {
       at_least = let before = r.reads.at_least in omega arith;
       at_most = let before = r.reads.at_most in omega arith;

@@ -1,5 +1,5 @@
 -- What each return of a run says of what was read and written.
-use Rattle.std.specs.Prelude.{◌≡◌, ◌≤◌, ◌⊎◌, ℕ, ◌+◌, ◌-◌, ◌^◌, min, List, length, true, ◌++◌, Result, Ok, Err}
+use Rattle.std.specs.Prelude.{◌≡◌, ◌≤◌, ◌⊎◌, ℕ, ◌+◌, ◌-◌, ◌^◌, min, List, [], length, true, ◌++◌, Result, Ok, Err}
 use Rattle.std.specs.Io.KnownBytes.{Consumes, Appends, IsAtEnd}
 use Rattle.sd_core.specs.Counts.{counted}
 use Rattle.sd_core.specs.Token.{TokenShown}
@@ -39,9 +39,10 @@ pub record Finished (most : ℕ) (job : Job) (token token' : TokenShown) (source
   pub faults_counted : report.faults ≡ errors job (lines got)
   pub compared : Compares token token' (bounds job token.entries (lines got))
 
--- The output is as it was, or its last call was a flush that succeeded: whoever waits for the answers has them.
-abbrev pub HandedOn : DrainTold → DrainTold → Type 0
-HandedOn drain drain' = (drain' ≡ drain) ⊎ (drain'.flushed ≡ true)
+-- No line had ended and the output is as it was, or its last call was a flush that succeeded: whoever waits for the answers
+-- to the lines that had ended has them.
+abbrev pub HandedOn : List ℕ → DrainTold → DrainTold → Type 0
+HandedOn got drain drain' = ((ended got ≡ []) × (drain' ≡ drain)) ⊎ (drain'.flushed ≡ true)
 
 -- no read answered 0: the lines that an LF ended were answered, whole, and the answers handed on
 pub record Stopped (most : ℕ) (job : Job) (token token' : TokenShown) (source source' : SourceTold) (drain drain' : DrainTold) : Type 0 where
@@ -50,7 +51,7 @@ pub record Stopped (most : ℕ) (job : Job) (token token' : TokenShown) (source 
   pub reads : source'.reads ≤ source.reads + most
   pub no_end : source'.ends ≡ source.ends
   pub written : Appends drain.taken drain'.taken (answers job token.entries (ended got))
-  pub handed_on : HandedOn drain drain'
+  pub handed_on : HandedOn got drain drain'
   pub no_failed_write : drain'.failures ≡ drain.failures
   pub compared : Compares token token' (bounds job token.entries (ended got))
 

@@ -73,7 +73,7 @@ pub record BeforeRead (turn : ℕ) (token0 : TokenShown) (source0 : SourceTold) 
   pub got : List ℕ
   pub read : Consumes source0.left source.left got
   pub sofar : Sofar token0 (sink_of drain0) got desk token (sink_of drain) report
-  pub handed_on : HandedOn drain0 drain
+  pub handed_on : HandedOn got drain0 drain
   pub reads : RoseBy turn source0.reads source.reads
   pub ends : source.ends ≡ source0.ends
   pub failures : source.failures ≡ source0.failures

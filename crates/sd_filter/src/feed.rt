@@ -140,7 +140,7 @@ pub fn feed_all<W: Drain>(
         → MatchResult result
         (λ _. Sofar token0 sink0 (got ++ piece.now) desk.new token.new (sink_of (W.told drain.new)) report.new)
         (λ _. Failed desk.new.job token0 sink0 (ended (got ++ piece.now)) token.new (sink_of (W.told drain.new))) }
-    ensures quiet { result ≡ Ok false → W.told drain.new ≡ W.told drain.old }
+    ensures quiet { result ≡ Ok false → (W.told drain.new ≡ W.told drain.old) × (report.new.lines ≡ report.old.lines) }
     ensures job { desk.new.job ≡ desk.old.job }
     ensures lines_within { report.new.lines ≤ report.old.lines + length piece.now }
     ensures faults_within { report.new.faults ≤ report.old.faults + length piece.now }

@@ -1,12 +1,12 @@
 // A run from the first read to the last flush.
-ghost use Rattle.std.specs.Prelude.{◌≡◌, ◌+◌, ◌<◌, ◌≤◌, ◌^◌, ℕ, List, ◌++◌, [], length, true, IsOk, MatchResult};
+ghost use Rattle.std.specs.Prelude.{◌≡◌, ◌⊎◌, ◌+◌, ◌<◌, ◌≤◌, ◌^◌, ℕ, List, ◌++◌, [], length, true, IsOk, MatchResult};
 ghost use Rattle.sd_core.specs.Token.{TokenShown};
 ghost use Rattle.sd_core.specs.Sink.{SinkTold};
 ghost use Rattle.sd_filter.specs.Told.{sink_of};
 ghost use Rattle.sd_filter.specs.Answers.{AnswersAreShort};
 ghost use Rattle.sd_filter.specs.Lines.{LinesAreCut, ended, lines};
 ghost use Rattle.sd_filter.specs.Sofar.{Answered, Failed, Sofar};
-ghost use Rattle.sd_filter.specs.Outcome.{HandedOn, Outcome};
+ghost use Rattle.sd_filter.specs.Outcome.{Outcome};
 
 use crate::device::{Drain, Source};
 use crate::engine::{Desk, Engine, Report, RunFault};
@@ -96,7 +96,7 @@ fn answer_piece<W: Drain>(
         → MatchResult result
         (λ _. Sofar token0 sink0 (got ++ piece.now) desk.new token.new (sink_of (W.told drain.new)) report.new)
         (λ _. Failed desk.new.job token0 sink0 (ended (got ++ piece.now)) token.new (sink_of (W.told drain.new))) }
-    ensures handed_on { IsOk result → HandedOn (W.told drain.old) (W.told drain.new) }
+    ensures handed_on { IsOk result → ((W.told drain.new ≡ W.told drain.old) × (report.new.lines ≡ report.old.lines)) ⊎ ((W.told drain.new).flushed ≡ true) }
     ensures job { desk.new.job ≡ desk.old.job }
     ensures lines_within { report.new.lines ≤ report.old.lines + length piece.now }
     ensures faults_within { report.new.faults ≤ report.old.faults + length piece.now }
