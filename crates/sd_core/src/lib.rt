@@ -19,8 +19,6 @@ mod rights_table;
 mod sid;
 mod sid_text;
 mod sink;
-#[cfg(test)]
-mod text_sink;
 mod token;
 mod usual_sid;
 

@@ -11,8 +11,6 @@ mod feed;
 mod hex_text;
 mod job;
 mod line;
-#[cfg(test)]
-mod memory;
 mod parse;
 mod program;
 mod running;

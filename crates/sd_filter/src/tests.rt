@@ -1,81 +1,87 @@
-// The program over memory. Its texts are those that users were promised, and not copies of what the
-// code answers.
-mod devices;
-mod lines;
-mod texts;
-mod words;
+// What a public call does not reach: its 2^40 reads.
+use crate::running::run_at_most;
+use crate::{Act, Engine, Form, FromRead, Job, Report, RunFault, ToWrite};
+use sd_core::Token;
+use std::alloc::Global;
+use std::io::{Read, Result, Write};
 
-use crate::memory::{Input, Output};
-use crate::{FromRead, ToWrite, command};
-use std::process::Abort;
+// Gives a byte a read.
+#[derive(Drop)]
+struct ByteByByte<'a>(&'a [u8]);
 
-// A descriptor without parts.
-const BARE: &str = "0100008000000000000000000000000000000000";
-
-// The status of a command line, whose words stand between blanks.
-fn status_of(
-    rt: &(impl Abort + AllocGlobal),
-    line: &str,
-    input: &mut Input<'_>,
-    output: &mut Output,
-    faults: &mut Output,
-) -> u8 {
-    let mut words = Vec::new(rt.alloc());
-    for word in line.split(' ') {
-        let word = String::from_str(rt.alloc(), word).expect(rt, "memory for a word");
-        words.push(word).expect(rt, "memory for the words");
+impl<'a> Read for ByteByByte<'a> {
+    fn read(&mut self, buf: &mut [u8]) -> Result<usize> {
+        let n = buf.len().min(1);
+        self.0.read(&mut buf[..n])
     }
-    command(
-        rt.alloc(),
-        words,
-        &mut FromRead::new(input),
-        &mut ToWrite::new(output),
-        &mut ToWrite::new(faults),
-    )
 }
 
-// What becomes of an input that comes in pieces of at most so many bytes.
-fn expect_pieces(
-    rt: &(impl Abort + AllocGlobal),
-    input: &[u8],
-    most: usize,
-    status: u8,
-    answers: &str,
-) {
-    expect_job(
-        rt,
-        "sdtool convert --from hex --to hex",
-        input,
-        most,
-        status,
-        answers,
-    );
+// Keeps what it is given, and how much of it was handed on by a flush.
+#[derive(Drop)]
+struct Kept {
+    taken: Vec<u8>,
+    handed_on: usize,
 }
 
-// The same of a command line.
-fn expect_job(
-    rt: &(impl Abort + AllocGlobal),
-    line: &str,
-    input: &[u8],
-    most: usize,
-    status: u8,
-    answers: &str,
-) {
-    let mut source = Input {
-        most,
-        ..Input::new(input)
+impl Kept {
+    fn new(alloc: Global) -> Self {
+        Kept {
+            taken: Vec::new(alloc),
+            handed_on: 0,
+        }
+    }
+}
+
+impl Write for Kept {
+    fn write(&mut self, bytes: &[u8]) -> Result<usize> {
+        self.taken.extend_from_slice(bytes)?;
+        Ok(bytes.len())
+    }
+
+    fn flush(&mut self) -> Result<()> {
+        self.handed_on = self.taken.len();
+        Ok(())
+    }
+}
+
+#[test]
+fn gives_up_a_source_without_an_end(rt: HostRuntime) {
+    let job = Job {
+        source: Form::Hex,
+        act: Act::Convert(Form::Hex),
+        domain: None,
+        numeric: false,
     };
-    let mut output = Output::new(rt.alloc());
-    let mut faults = Output::new(rt.alloc());
-    let got = status_of(rt, line, &mut source, &mut output, &mut faults);
-    assert_eq!(rt; output.taken.as_slice(), answers.as_bytes());
-    assert_eq!(rt; got, status, "where the answers are {answers:?}");
-    assert!(rt; faults.taken.is_empty());
-}
-
-// What becomes of an input, as a whole and byte by byte.
-fn expect_answers(rt: &(impl Abort + AllocGlobal), input: &str, status: u8, answers: &str) {
-    for most in [usize::MAX, 1] {
-        expect_pieces(rt, input.as_bytes(), most, status, answers);
+    let mut engine = Engine::new(rt.alloc(), job).expect(&rt, "memory for an engine");
+    let mut token = Token::new(rt.alloc()).expect(&rt, "memory for a token");
+    for (text, want, answers) in [
+        // The fifth read is the last, and no end was read by then.
+        (
+            "\nz\n0z",
+            Err(RunFault::TooManyReads),
+            "\nerror 3 hex-odd\n",
+        ),
+        ("\n\n\n\n\n\n\n", Err(RunFault::TooManyReads), "\n\n\n\n\n"),
+        // The fifth read is the end.
+        (
+            "\nz\nz",
+            Ok(Report {
+                lines: 3,
+                faults: 2,
+            }),
+            "\nerror 3 hex-odd\nerror 3 hex-odd\n",
+        ),
+    ] {
+        let mut output = Kept::new(rt.alloc());
+        let got = run_at_most(
+            &mut engine.desk,
+            &mut token,
+            &mut FromRead::new(ByteByByte(text.as_bytes())),
+            &mut ToWrite::new(&mut output),
+            5,
+        );
+        assert!(rt; got == want);
+        assert!(rt; output.taken.as_slice() == answers.as_bytes());
+        assert!(rt; output.handed_on == answers.len());
     }
 }

@@ -1,8 +1,10 @@
-// Texts that are printed, and buffers.
-use crate::memory::Output;
-use crate::sink::DrainSink;
-use crate::{LineFault, RunFault, ToWrite, put_fault};
-use sd_binary::{Part, SdBuf, SdFault, TextFault};
+//! The texts of faults.
+
+use crate::text_sink::TextSink;
+use sd_binary::{Part, SdFault, TextFault, Which};
+use sd_core::SidFault;
+use sd_filter::{LineFault, RunFault, put_fault};
+use sd_sddl::SddlFault;
 
 #[test]
 fn names_faults(rt: HostRuntime) {
@@ -49,12 +51,40 @@ fn names_faults(rt: HostRuntime) {
             LineFault::Sd(SdFault::AceFlags(Part::Dacl)),
             "error 13 ace-flags dacl",
         ),
+        (LineFault::Sddl(SddlFault::Shape), "error 20 shape"),
+        (LineFault::Sddl(SddlFault::PartTwice), "error 21 part-twice"),
+        (
+            LineFault::Sddl(SddlFault::Sid(SidFault::Alias)),
+            "error 22 alias",
+        ),
+        (
+            LineFault::Sddl(SddlFault::Sid(SidFault::NeedsDomain)),
+            "error 23 needs-domain",
+        ),
+        (
+            LineFault::Sddl(SddlFault::Sid(SidFault::Number)),
+            "error 24 number",
+        ),
+        (
+            LineFault::Sddl(SddlFault::Sid(SidFault::SidForm)),
+            "error 25 sid-form",
+        ),
+        (LineFault::Sddl(SddlFault::Flags), "error 26 flags"),
+        (LineFault::Sddl(SddlFault::Rights), "error 27 rights"),
+        (LineFault::Sddl(SddlFault::Guid), "error 28 guid"),
+        (LineFault::Sddl(SddlFault::Kind), "error 29 kind"),
+        (
+            LineFault::Sddl(SddlFault::AclTooLarge(Which::Dacl)),
+            "error 30 acl-too-large dacl",
+        ),
+        (
+            LineFault::Sddl(SddlFault::AclTooLarge(Which::Sacl)),
+            "error 30 acl-too-large sacl",
+        ),
     ] {
-        let mut output = Output::new(rt.alloc());
-        let mut drain = ToWrite::new(&mut output);
-        let mut sink = DrainSink { drain: &mut drain };
-        assert_eq!(rt; put_fault(&fault, &mut sink), Ok(()));
-        assert_eq!(rt; output.taken.as_slice(), text.as_bytes());
+        let mut sink = TextSink::new(rt.alloc());
+        assert!(rt; put_fault(&fault, &mut sink) == Ok(()));
+        assert!(rt; sink.text.as_slice() == text.as_bytes());
     }
 }
 
@@ -66,14 +96,6 @@ fn names_run_faults(rt: HostRuntime) {
         (RunFault::TooManyReads, "62 too-many-reads"),
     ] {
         let got = format!(in rt.alloc(); "{fault}").expect(&rt, "memory for a text");
-        assert_eq!(rt; got.as_str(), text);
+        assert!(rt; got.as_str() == text);
     }
-}
-
-#[test]
-fn makes_an_empty_buffer(rt: HostRuntime) {
-    let mut buf = SdBuf::new(rt.alloc()).expect(&rt, "memory for a buffer");
-    assert!(rt; buf.bytes().is_empty());
-    assert_eq!(rt; buf.push(1), Ok(()));
-    assert_eq!(rt; buf.bytes(), [1].as_slice());
 }

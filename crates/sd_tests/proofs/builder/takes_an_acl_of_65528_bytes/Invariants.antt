@@ -3,7 +3,7 @@ use Rattle.sd_core.specs.Ace.{AccessControlEntry}
 use Rattle.sd_binary.specs.Builds.{Builds}
 use Rattle.sd_binary.specs.Draft.{no_parts}
 use Rattle.sd_binary.specs.declared.builder.Which.TheVariants.{Sacl}
-use Rattle.sd_binary.proofs.builder.tests.takes_an_acl_of_65528_bytes.Given as goal
+use Rattle.sd_tests.proofs.builder.takes_an_acl_of_65528_bytes.Given as goal
 
 abbrev pub invariant-loop : goal.invariant-loop
 invariant-loop g l = (aces : List AccessControlEntry) × Builds l.builder l.buf (record no_parts { «open» = Some (Sacl, aces) })

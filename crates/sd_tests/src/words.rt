@@ -1,6 +1,7 @@
-// Command lines.
-use super::{BARE, status_of};
-use crate::memory::{Input, Output};
+//! Command lines.
+
+use crate::memory::{Calls, Failing, Input, Noted, Output};
+use crate::program::{BARE, status_of};
 use std::process::Abort;
 
 // The front of a text, of at most so many bytes.
@@ -8,8 +9,8 @@ fn front(text: &str, room: usize) -> &[u8] {
     &text.as_bytes()[..text.len().min(room)]
 }
 
-// A command line that reads nothing: its status, and what the output and the fault stream get, each of
-// which takes all, or so many bytes and then fails.
+// A command line that reads nothing: its status, and what the output and the fault stream get, each of which takes
+// all, or so many bytes and then fails. No call that failed is made again, and only help flushes the output.
 fn expect_idle(rt: &(impl Abort + AllocGlobal), line: &str, status: u8, answers: &str, text: &str) {
     for room in [usize::MAX, 9, 0] {
         let mut source = Input::new(BARE.as_bytes());
@@ -22,10 +23,16 @@ fn expect_idle(rt: &(impl Abort + AllocGlobal), line: &str, status: u8, answers:
             ..Output::new(rt.alloc())
         };
         let got = status_of(rt, line, &mut source, &mut output, &mut faults);
-        assert_eq!(rt; got, status, "{line}");
-        assert_eq!(rt; output.taken.as_slice(), front(answers, room), "{line}");
-        assert_eq!(rt; faults.taken.as_slice(), front(text, room), "{line}");
-        assert_eq!(rt; source.reads, 0, "{line}");
+        assert!(rt; got == status, "{line}");
+        assert!(rt; output.taken.as_slice() == front(answers, room), "{line}");
+        assert!(rt; faults.taken.as_slice() == front(text, room), "{line}");
+        assert!(rt; source.reads == 0, "{line}");
+        assert!(rt;
+            output.failures == u64::from(answers.len() > room),
+            "{line}"
+        );
+        assert!(rt; faults.failures == u64::from(text.len() > room), "{line}");
+        assert!(rt; output.flushes == u64::from(!answers.is_empty()), "{line}");
     }
 }
 
@@ -41,10 +48,9 @@ fn takes_words(rt: HostRuntime) {
         let mut output = Output::new(rt.alloc());
         let mut faults = Output::new(rt.alloc());
         let got = status_of(&rt, line, &mut source, &mut output, &mut faults);
-        assert_eq!(rt; got, 0, "{line}");
-        assert_eq!(rt;
-            output.taken.as_slice(),
-            b"0100008000000000000000000000000000000000\n".as_slice(),
+        assert!(rt; got == 0, "{line}");
+        assert!(rt;
+            output.taken.as_slice() == b"0100008000000000000000000000000000000000\n".as_slice(),
             "{line}"
         );
         assert!(rt; faults.taken.is_empty(), "{line}");
@@ -105,16 +111,48 @@ Options:
   -h, --help             Print help
 ";
 
+const HELPS: [(&str, &str); 6] = [
+    ("sdtool help", HELP),
+    ("sdtool --help", HELP),
+    ("sdtool -h", HELP),
+    ("sdtool help convert", CONVERT_HELP),
+    ("sdtool convert --help", CONVERT_HELP),
+    ("sdtool convert --to x -h", CONVERT_HELP),
+];
+
 #[test]
 fn shows_help(rt: HostRuntime) {
-    for (line, help) in [
-        ("sdtool help", HELP),
-        ("sdtool --help", HELP),
-        ("sdtool -h", HELP),
-        ("sdtool help convert", CONVERT_HELP),
-        ("sdtool convert --help", CONVERT_HELP),
-        ("sdtool convert --to x -h", CONVERT_HELP),
-    ] {
+    for (line, help) in HELPS {
         expect_idle(&rt, line, 0, help, "");
+    }
+}
+
+// Help is handed on by one flush, its last call, also where the writes are short or the flush fails.
+#[test]
+fn flushes_help(rt: HostRuntime) {
+    for (line, help) in HELPS {
+        for most in [usize::MAX, 100, 1] {
+            for failing_flushes in [Failing::never(), Failing::from(1)] {
+                let calls = Calls::new(rt.alloc());
+                let mut output = Noted {
+                    stream: Output {
+                        most,
+                        failing_flushes,
+                        ..Output::new(rt.alloc())
+                    },
+                    calls: &calls,
+                };
+                let mut source = Input::new(BARE.as_bytes());
+                let mut faults = Output::new(rt.alloc());
+                let got = status_of(&rt, line, &mut source, &mut output, &mut faults);
+                assert!(rt; got == 0, "{line}");
+                assert!(rt; output.stream.taken.as_slice() == help.as_bytes(), "{line}");
+                assert!(rt; most < help.len() || output.stream.writes == 1, "{line}");
+                assert!(rt; output.stream.flushes == 1, "{line}");
+                assert!(rt; source.reads == 0, "{line}");
+                assert!(rt; faults.writes == 0, "{line}");
+                assert!(rt; calls.end_with("wf"), "{line}");
+            }
+        }
     }
 }
