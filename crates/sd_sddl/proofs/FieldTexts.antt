@@ -186,6 +186,10 @@ with_held h b k e = by_test (h.broken || (h.gap || length h.text == 183)) refl
         let ne : (length h.text == 183) ≡ false = (or_parts h.gap _ (or_parts h.broken _ f).1).1 in
         record { clean = clean_both h.text b k.clean e; fits = fits_more h.text b k.fits ne }
 
+-- what is held reads, unless it is broken
+pub held-readable : (h : Held) → IsHeld h → is_unreadable h.text ≡ false
+held-readable h k = rw (k.clean) (let l = k.fits in grind (arith, nat_tests))
+
 pub blank_held : (h : Held) → IsHeld h → IsHeld (held_blank h)
 blank_held h k = by_test (h.broken || length h.text == 0)
   where

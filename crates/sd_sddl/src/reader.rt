@@ -4,7 +4,7 @@ ghost use Rattle.std.specs.Option.{option_copied};
 ghost use Rattle.sd_core.specs.Sid.{IsSid, SecurityId};
 ghost use Rattle.sd_binary.specs.Descriptor.{IsDescriptor, Shows};
 ghost use Rattle.sd_binary.specs.Draft.{IsWritten};
-ghost use Rattle.sd_sddl.specs.Held.{no_text, held_text};
+ghost use Rattle.sd_sddl.specs.Held.{IsHeld, no_text, held_text};
 ghost use Rattle.sd_sddl.specs.Line.{byte, head_at, head_of as head_named, pieces_from};
 ghost use Rattle.sd_sddl.specs.FoldedReading.{Reading, finished, reads_as, take_field};
 ghost use Rattle.sd_sddl.specs.Meaning.{and_then, means};
@@ -223,6 +223,7 @@ impl SddlReader {
     // The end of the part at hand, with no ACE since its head or none open.
     fn end_part(&mut self, buf: &mut SdBuf)
         requires here { is_inside self.old.place ≡ false }
+        requires calm { IsCalm self.old }
         requires held { (t : Reading) × Keeps self.old buf.old t }
         ensures read { (t : Reading) → Keeps self.old buf.old t → (u : Reading) × (self.new.fault ≡ None → Holds self.new.fields buf.new u)
             × (result_or u self.new.fault ≡ ended_with self.old.fields.domain self.old.place self.old.field (result_or t self.old.fault)) }
@@ -403,6 +404,7 @@ fn end_field(
     buf: &mut SdBuf,
     slot: Slot,
 )
+    requires clean { IsHeld field.old }
     requires held { (t : Reading) × (fault.old ≡ None → Holds fields.old buf.old t × CanTake slot t) }
     ensures read { (t : Reading) → (fault.old ≡ None → Holds fields.old buf.old t) → (u : Reading) × (fault.new ≡ None → Holds fields.new buf.new u)
         × (result_or u fault.new ≡ and_then (result_or t fault.old) (λ r. take_field fields.old.domain r slot (held_text field.old))) }
@@ -421,6 +423,7 @@ fn read_held(
     buf: &mut SdBuf,
     slot: Slot,
 )
+    requires clean { IsHeld field.now }
     requires held { (t : Reading) × (fault.old ≡ None → Holds fields.old buf.old t × CanTake slot t) }
     ensures read { (t : Reading) → (fault.old ≡ None → Holds fields.old buf.old t) → (u : Reading) × (fault.new ≡ None → Holds fields.new buf.new u)
         × (result_or u fault.new ≡ and_then (result_or t fault.old) (λ r. take_field fields.old.domain r slot (held_text field.now))) }
@@ -440,6 +443,7 @@ fn take_held(
     slot: Slot,
     field: &FieldText,
 ) -> Result<(), SddlFault>
+    requires clean { IsHeld field.now }
     requires held { (t : Reading) × Holds fields.old buf.old t × CanTake slot t }
     ensures read { (t : Reading) → Holds fields.old buf.old t → Takes (take_field fields.old.domain t slot (held_text field.now)) result fields.new buf.new }
     ensures domain { fields.new.domain ≡ fields.old.domain }
@@ -447,7 +451,7 @@ fn take_held(
     if field.is_broken() {
         Err(fault_of(slot))
     } else {
-        fields.take_field(buf, slot, field.text())
+        fields.take_readable(buf, slot, field.text())
     }
 }
 

@@ -1,16 +1,14 @@
 // The fields of a line, read one after the other.
 ghost use Rattle.std.specs.Prelude.{◌≡◌, Option};
-ghost use Rattle.std.specs.List.{list_any};
 ghost use Rattle.sd_core.specs.Sid.{SecurityId};
 ghost use Rattle.sd_core.specs.SidText.{sid_reads};
-ghost use Rattle.sd_sddl.specs.Line.{is_blank};
-ghost use Rattle.sd_sddl.specs.FoldedReading.{Reading, ace_fault_of, fault_of, no_fields, take_ace_field, take_field, take_front, take_readable, with_sid, with_trustee};
-ghost use Rattle.sd_sddl.specs.Meaning.{control_flags, is_unreadable};
+ghost use Rattle.sd_sddl.specs.FoldedReading.{Reading, ace_fault_of, fault_of, no_fields, take_ace_field, take_front, take_readable, with_sid, with_trustee};
+ghost use Rattle.sd_sddl.specs.Meaning.{control_flags};
 ghost use Rattle.sd_sddl.specs.FieldTexts.{front_reads};
 
 use crate::fault::SddlFault;
 use crate::field_texts::{front_from_text, kind_from_text, object_from_text};
-use crate::line::{AceField, SidPart, Slot, is_blank};
+use crate::line::{AceField, SidPart, Slot};
 use sd_binary::{AclFlags, Builder, SdBuf, Which};
 use sd_core::{Ace, AceKind, Sid, SidFault, flags_from_text, rights_from_text};
 use uuid::Uuid;
@@ -68,16 +66,17 @@ impl FieldReader {
         }
     }
 
-    /// Reads a field.
-    #[tactic(auto, unfolding(crate::specs::FoldedReading::take_field))]
-    pub fn take_field(&mut self, buf: &mut SdBuf, slot: Slot, text: &[u8]) -> Result<(), SddlFault>
+    /// Reads a field whose text has no blank and at most 183 bytes.
+    pub fn take_readable(
+        &mut self,
+        buf: &mut SdBuf,
+        slot: Slot,
+        text: &[u8],
+    ) -> Result<(), SddlFault>
         requires { (t : Reading) × Holds self.old buf.old t × CanTake slot t }
-        ensures read { (t : Reading) → Holds self.old buf.old t → Takes (take_field self.old.domain t slot text.now) result self.new buf.new }
+        ensures read { (t : Reading) → Holds self.old buf.old t → Takes (take_readable self.old.domain t slot text.now) result self.new buf.new }
         ensures domain { self.new.domain ≡ self.old.domain }
     {
-        if is_unreadable(text) {
-            return Err(fault_of(slot));
-        }
         match slot {
             Slot::Sid(part) => self.take_sid(buf, part, text),
             Slot::AclFlags(which, has_aces) => self.take_front(buf, which, has_aces, text),
@@ -297,21 +296,6 @@ fn control_flags(sacl: AclFlags, dacl: AclFlags) -> u16
     ensures { result ≡ control_flags sacl dacl }
 {
     sacl.bits(Which::Sacl) + dacl.bits(Which::Dacl)
-}
-
-fn is_unreadable(text: &[u8]) -> bool
-    ensures { result ≡ is_unreadable text.now }
-{
-    if has_blank(text) {
-        return true;
-    }
-    183 < text.len()
-}
-
-fn has_blank(text: &[u8]) -> bool
-    ensures { result ≡ list_any is_blank text.now }
-{
-    text.iter().any(|b| is_blank(*b))
 }
 
 // What a field that does not read is called.

@@ -8,7 +8,7 @@ use Rattle.sd_sddl.proofs.reader.SddlReader.begin_ace.Goals as goal
 pub end_field-requires : goal.end_field-requires
 end_field-requires c =
     let k = c.requires.held.1 in
-    record { held = (c.requires.held.0, λ none. (k.fields none, (rw (c.in-AclFlags.is) at (k.fits none)).lacks (head.Acl c.in-AclFlags.which) (itself-or _ (head.Acl c.in-AclFlags.which)))) }
+    record { clean = c.requires.calm.held; held = (c.requires.held.0, λ none. (k.fields none, (rw (c.in-AclFlags.is) at (k.fits none)).lacks (head.Acl c.in-AclFlags.which) (itself-or _ (head.Acl c.in-AclFlags.which)))) }
 
 pub returns-in-AclFlags-clause-answers : goal.returns-in-AclFlags-clause-answers
 returns-in-AclFlags-clause-answers c = λ t k.
