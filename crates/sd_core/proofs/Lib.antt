@@ -14,7 +14,6 @@ pub mod NumberLemmas
 pub mod Numbers
 pub mod PrintLemmas
 pub mod PrintLoops
-pub mod PutLoops
 pub mod ReadLimits
 pub mod RightsLaws
 pub mod SidLaws

@@ -1,9 +1,9 @@
 -- Several calls of a printer, one after another.
-use Rattle.std.proofs.Common.{◌≡◌, ℕ, List, [], ◌++◌, Bool, true, false, Result, Ok, Err, subst, refl, sym, ◌∙◌, ap, append_assoc, append-nil}
-use Rattle.sd_core.specs.Sink.{SinkTold, PutAll, PutSome, Puts}
+use Rattle.std.proofs.Common.{◌≡◌, ℕ, List, [], ◌++◌, Bool, true, false, Result, subst, refl, sym, ◌∙◌, ap, append_assoc, append-nil}
+use Rattle.sd_core.specs.Sink.{SinkTold, PutSome, Puts}
 use Rattle.sd_core.specs.declared.sink.SinkFault.{SinkFault}
 use Rattle.sd_core.proofs.SinkLemmas.{PutAll-nil, PutAll-trans, PutSome-after, PutSome-more, Puts-after}
-use Rattle.sd_core.specs.Print.{PrintTold, Passes, Prints, Finishes, Begins, failed_of}
+use Rattle.sd_core.specs.Print.{PrintTold, Passes, Prints, Finishes, Begins}
 
 Passes-trans : (a b c : PrintTold) (xs ys : List ℕ) → Passes a b xs → Passes b c ys → Passes a c (xs ++ ys)
 Passes-trans a b c xs ys p q = record {
@@ -82,59 +82,3 @@ prints_nothing a = record {
   stays = λ x. x;
   none = λ x. refl;
 }
-
--- a text is held, and nothing goes down
-pub prints_kept : {a b : PrintTold} {text : List ℕ} → b.place ≡ a.place → b.failed ≡ a.failed → b.below ≡ a.below
-    → b.held ≡ a.held ++ text → Prints a b text
-prints_kept {a} {b} {text} x f e h = record {
-  place = x;
-  below_place = ap (λ (w : SinkTold). w.place) e;
-  whole = λ u v. record { part = []; put = subst (λ (w : SinkTold). PutAll a.below w []) (sym e) (PutAll-nil a.below); rest = h };
-  some = λ u v. absurd (cc (u, v, f));
-  stays = λ u. f ∙ u;
-  none = λ u. e;
-}
-
-handed-whole : (a b c : PrintTold) (text : List ℕ) → Passes a b text → PutAll b.below c.below b.held → c.held ≡ [] → Passes a c text
-handed-whole a b c text p q e = record {
-  part = p.part ++ b.held;
-  put = PutAll-trans a.below b.below c.below p.part b.held p.put q;
-  rest = ap (λ l. (p.part ++ b.held) ++ l) e ∙ append-nil (p.part ++ b.held) ∙ p.rest;
-}
-
-handed-some : (a b c : PrintTold) (text : List ℕ) → Passes a b text → PutSome b.below c.below b.held → PutSome a.below c.below (a.held ++ text)
-handed-some a b c text p q =
-    subst (λ (t : List ℕ). PutSome a.below c.below t) p.rest (PutSome-after a.below b.below c.below p.part b.held p.put q)
-
-still-failed : (b c : PrintTold) (result : Result (Unit {0}) SinkFault) → b.failed ≡ true → Finishes b c result → c.failed ≡ true
-still-failed b c result x q = q.tells ∙ ap failed_of (q.fault x)
-
-finished-on : (m : Bool) (a b c : PrintTold) (text : List ℕ) (result : Result (Unit {0}) SinkFault) → b.failed ≡ m → Prints a b text → Finishes b c result → Prints a c text
-finished-on true a b c text result m p q = record {
-  place = q.place ∙ p.place;
-  below_place = q.below_place ∙ p.below_place;
-  whole = λ x y. absurd (cc (still-failed b c result m q, y));
-  some = λ x y. subst (λ (w : SinkTold). PutSome a.below w (a.held ++ text)) (sym (q.none m)) (p.some x m);
-  stays = λ x. still-failed b c result m q;
-  none = λ x. q.none m ∙ p.none x;
-}
-finished-on false a b c text (Ok done) m p q = record {
-  place = q.place ∙ p.place;
-  below_place = q.below_place ∙ p.below_place;
-  whole = λ x y. handed-whole a b c text (p.whole x m) (q.puts m) (q.empty y);
-  some = λ x y. absurd (cc (q.tells, y));
-  stays = λ x. absurd (cc (p.stays x, m));
-  none = λ x. absurd (cc (p.stays x, m));
-}
-finished-on false a b c text (Err fault) m p q = record {
-  place = q.place ∙ p.place;
-  below_place = q.below_place ∙ p.below_place;
-  whole = λ x y. absurd (cc (q.tells, y));
-  some = λ x y. handed-some a b c text (p.whole x m) (q.puts m);
-  stays = λ x. absurd (cc (p.stays x, m));
-  none = λ x. absurd (cc (p.stays x, m));
-}
-
--- what was held went down in between: as if nothing more was printed
-pub prints_finished : {a b c : PrintTold} {text : List ℕ} {result : Result (Unit {0}) SinkFault} → Prints a b text → Finishes b c result → Prints a c text
-prints_finished {a} {b} {c} {text} {result} p q = finished-on b.failed a b c text result refl p q
