@@ -4,6 +4,7 @@ pub mod Flags
 pub mod GuidText
 pub mod Kinds
 pub mod Names
+pub mod Naming
 pub mod Print
 pub mod Rights
 pub mod Sid

@@ -4,6 +4,7 @@
 
 mod ace;
 mod alias;
+mod digits;
 mod flags;
 mod gather;
 mod guid;
@@ -11,6 +12,7 @@ mod held;
 mod kinds;
 mod memory;
 mod names;
+mod naming;
 mod print;
 mod printer;
 mod rights;
@@ -23,10 +25,12 @@ mod token;
 mod usual_sid;
 
 pub use ace::{Ace, AceKind};
+pub use digits::{print_decimal, print_hex};
 pub use flags::{flags_from_text, print_flags, put_flags};
 pub use gather::Gather;
 pub use guid::{guid_bytes, guid_from_text, guid_read, print_guid, put_guid};
 pub use memory::NoMemory;
+pub use naming::Naming;
 pub use print::Print;
 pub use printer::Printer;
 pub use rights::{print_rights, put_rights};
