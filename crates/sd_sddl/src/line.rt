@@ -1,10 +1,10 @@
 // The parts of an SDDL line, and the places in it.
-ghost use Rattle.std.specs.Prelude.{◌≡◌, ◌≤◌, length, take, true};
+ghost use Rattle.std.specs.Prelude.{◌≡◌, ◌≤◌, [], ◌∷◌, length, take, true};
 ghost use Rattle.std.specs.List.{list_all};
 ghost use Rattle.sd_sddl.specs.Held.{is_plain_inside, is_plain_outside};
 ghost use Rattle.sd_sddl.specs.Line.{head_of, is_blank};
 ghost use Rattle.sd_sddl.specs.FoldedReading.{next_field};
-ghost use Rattle.sd_sddl.specs.Progress.{place_of};
+ghost use Rattle.sd_sddl.specs.Progress.{end_of, place_after, place_of};
 
 use sd_binary::Which;
 
@@ -130,6 +130,29 @@ pub fn next_field(field: AceField) -> AceField
         AceField::Rights => AceField::Object,
         AceField::Object => AceField::Inherited,
         AceField::Inherited | AceField::Sid => AceField::Sid,
+    }
+}
+
+/// Where a line goes on after this field of an ACE.
+pub fn place_after(field: AceField) -> Place
+    ensures { result ≡ place_after field }
+{
+    match field {
+        AceField::Sid => Place::AfterAce,
+        _ => Place::Ace(next_field(field)),
+    }
+}
+
+/// Whether the byte at the front ends this field of an ACE.
+pub fn ends_field(field: AceField, text: &[u8]) -> bool
+    ensures { result ≡ true → take 1 text.now ≡ end_of field ∷ [] }
+{
+    let Some(byte) = text.first() else {
+        return false;
+    };
+    match field {
+        AceField::Sid => *byte == b')',
+        _ => *byte == b';',
     }
 }
 
