@@ -2,6 +2,7 @@
 use Rattle.std.proofs.Common.{◌≡◌, ℕ, ◌+◌, ◌-◌, ◌≤◌, Bool, true, false, List, [], ◌∷◌, ◌++◌, length, take, drop, refl, ap, sym, ◌∙◌, subst, arith, append_assoc}
 use Rattle.std.specs.Prelude.{Result, Option}
 use Rattle.std.proofs.lemmas.List.{take-append-drop, take-take, drop-take}
+use Rattle.std.proofs.lemmas.List.Folds.{list_all-append}
 use Rattle.std.specs.List.{list_all}
 use Rattle.sd_core.specs.Sid.{SecurityId}
 use Rattle.sd_sddl.specs.declared.fault.SddlFault.{SddlFault}
@@ -60,7 +61,7 @@ module _ (dm : Option SecurityId) (so tw : Bool) (se : Seen) (r : Result Reading
 
 -- 3. Where it stands.
 
-take-more : (n m : ℕ) (xs : List ℕ) → take (n + m) xs ≡ take n xs ++ take m (drop n xs)
+pub take-more : (n m : ℕ) (xs : List ℕ) → take (n + m) xs ≡ take n xs ++ take m (drop n xs)
 take-more n m xs =
     sym (ap (λ (t : List ℕ). take n xs ++ t) (sym (drop-take n m xs))
     ∙ (ap (λ (t : List ℕ). t ++ drop n (take (n + m) xs)) (sym (take-take n (n + m) xs (omega arith)))
@@ -92,3 +93,11 @@ pub reads-no-more : (s : SddlReader) (buf : List ℕ) (dm : Option SecurityId) (
     → Reads s buf dm (before ++ take n text)
 reads-no-more s buf dm before text n m none h =
     subst (λ (k : ℕ). Reads s buf dm (before ++ take k text)) (omega arith) (reads-more s buf dm before text n m h)
+
+-- 4. Bytes that only go onto a text, counted in two steps.
+
+pub plain-more : (text : List ℕ) (n m : ℕ) → list_all is_plain_inside (take n text) ≡ true
+    → list_all is_plain_inside (take m (drop n text)) ≡ true → list_all is_plain_inside (take (n + m) text) ≡ true
+plain-more text n m first next =
+    ap (list_all is_plain_inside) (take-more n m text)
+    ∙ (list_all-append is_plain_inside (take n text) (take m (drop n text)) ∙ rw (first, next) refl)

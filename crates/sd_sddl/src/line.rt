@@ -8,6 +8,9 @@ ghost use Rattle.sd_sddl.specs.Progress.{end_of, place_after, place_of};
 
 use sd_binary::Which;
 
+/// The bytes of a text that are looked at at once.
+const BLOCK: usize = 16;
+
 /// A part that is a SID.
 #[derive(Clone, Copy)]
 pub enum SidPart {
@@ -188,6 +191,29 @@ pub fn plain_inside(text: &[u8]) -> usize
         }
     }
     text.len()
+}
+
+/// The same for a text that may be long, as that of a SID. Whole blocks are passed over, each in a few instructions.
+pub fn plain_inside_long(text: &[u8]) -> usize
+    ensures within { result ≤ length text.now }
+    ensures plain { list_all is_plain_inside (take result text.now) ≡ true }
+{
+    let mut start = 0;
+    while text.len() - start >= BLOCK && are_plain_inside(&text[start..start + BLOCK]) {
+        start += BLOCK;
+    }
+    start + plain_inside(&text[start..])
+}
+
+// Whether all bytes are such. It looks at all of them, and so at several at a time.
+fn are_plain_inside(text: &[u8]) -> bool
+    ensures { result ≡ list_all is_plain_inside text.now }
+{
+    let mut plain = true;
+    for byte in text {
+        plain &= is_plain_inside(*byte);
+    }
+    plain
 }
 
 /// How many bytes at the front only go onto the text of a field outside parentheses.
