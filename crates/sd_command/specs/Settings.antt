@@ -5,15 +5,15 @@ use Rattle.clap.specs.Words.{Row, Text, first_of, subcommand_of}
 use Rattle.sd_core.specs.Sid.{SecurityId}
 use Rattle.sd_core.specs.SidText.{sid_reads}
 use Rattle.sd_core.specs.declared.sid_text.SidFault.{SidFault}
-use Rattle.sd_filter.specs.CommandLine.{line}
-use Rattle.sd_filter.specs.declared.job.Form.{Form}
-use Rattle.sd_filter.specs.declared.job.Form.TheVariants.{Hex, Sddl}
-use Rattle.sd_filter.specs.declared.job.Act.TheVariants.{Convert}
-use Rattle.sd_filter.specs.declared.job.Job.{Job}
-use Rattle.sd_filter.specs.declared.settings.OptionName.{OptionName}
-use Rattle.sd_filter.specs.declared.settings.OptionName.TheVariants as name
-use Rattle.sd_filter.specs.declared.settings.UsageFault.{UsageFault}
-use Rattle.sd_filter.specs.declared.settings.UsageFault.TheVariants.{NoCommand, Value}
+use Rattle.sd_command.specs.CommandLine.{line}
+use Rattle.sd_command.specs.declared.job.Form.{Form}
+use Rattle.sd_command.specs.declared.job.Form.TheVariants.{Hex, Sddl}
+use Rattle.sd_command.specs.declared.job.Act.TheVariants.{Convert}
+use Rattle.sd_command.specs.declared.job.Job.{Job}
+use Rattle.sd_command.specs.declared.settings.OptionName.{OptionName}
+use Rattle.sd_command.specs.declared.settings.OptionName.TheVariants as name
+use Rattle.sd_command.specs.declared.settings.UsageFault.{UsageFault}
+use Rattle.sd_command.specs.declared.settings.UsageFault.TheVariants.{NoCommand, Value}
 
 abbrev pub option_text : OptionName → Text
 option_text name.Domain = codes "domain"

@@ -1,8 +1,8 @@
 // What the matches of a command line settle.
 ghost use Rattle.std.specs.Prelude.{◌≡◌, IfOk, option_map};
 ghost use Rattle.clap.specs.Words.{first_of, found_of, rows_of, subcommand_rows_of};
-ghost use Rattle.sd_filter.specs.Endings.{usage_line};
-ghost use Rattle.sd_filter.specs.Settings as specs;
+ghost use Rattle.sd_command.specs.Usage.{usage_line};
+ghost use Rattle.sd_command.specs.Settings as specs;
 
 use crate::job::{Act, Form, Job};
 use clap::ArgMatches;
@@ -40,7 +40,7 @@ impl UsageFault {
 }
 
 /// The first option that does not read, or the job.
-pub fn settings(matches: &ArgMatches<'_>) -> Result<Job, UsageFault>
+pub fn settle(matches: &ArgMatches<'_>) -> Result<Job, UsageFault>
     ensures { result ≡ specs.settings (subcommand_rows_of matches.now) }
 {
     match matches.subcommand() {
