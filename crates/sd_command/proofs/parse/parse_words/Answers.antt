@@ -1,8 +1,8 @@
 use Rattle.std.proofs.Common.{ap, ◌∙◌, sym, subst, map}
 use Rattle.std.specs.String.{string_bytes}
 use Rattle.clap.specs.Words.{App, is_simple, is_simple_and_free, subcommand_of, fault_of, HasKind}
-use Rattle.sd_filter.proofs.ParseLemmas.{line-simple, line-free, refused-by}
-use Rattle.sd_filter.proofs.parse.parse.Goals as goal
+use Rattle.sd_command.proofs.ParseLemmas.{line-simple, line-free, refused-by}
+use Rattle.sd_command.proofs.parse.parse_words.Goals as goal
 
 pub returns-in-Ok-clause-ok : goal.returns-in-Ok-clause-ok
 returns-in-Ok-clause-ok c =

@@ -2,7 +2,7 @@
 ghost use Rattle.std.specs.Prelude.{◌≡◌, IfOk, false};
 ghost use Rattle.clap.specs.Words.{app_of, rule_of, with_rule};
 ghost use Rattle.clap.specs.declared.Command.TheViews.{out-Command};
-ghost use Rattle.sd_filter.specs.CommandLine.{bare_line, convert_line, flag_rule, line, option_rule};
+ghost use Rattle.sd_command.specs.CommandLine.{bare_line, convert_line, flag_rule, line, option_rule};
 
 use clap::{Arg, ArgAction, Command};
 use std::alloc::{AllocError, Global};

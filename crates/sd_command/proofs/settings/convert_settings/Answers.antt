@@ -1,6 +1,6 @@
 use Rattle.std.proofs.Common.{rules, ◌≡◌, Err}
-use Rattle.sd_filter.specs.Settings as specs
-use Rattle.sd_filter.proofs.settings.convert_settings.Goals as goal
+use Rattle.sd_command.specs.Settings as specs
+use Rattle.sd_command.proofs.settings.convert_settings.Goals as goal
 
 pub returns-in_err-domain : goal.returns-in_err-domain
 unfolding specs.convert_settings

@@ -1,7 +1,7 @@
 use Rattle.std.proofs.Common.{true, ap, ◌∙◌}
-use Rattle.sd_filter.specs.CommandLine.{bare_line}
+use Rattle.sd_command.specs.CommandLine.{bare_line}
 use Rattle.clap.specs.Simple.{on_top, app_of_fields}
-use Rattle.sd_filter.proofs.command_line.bare_line.Goals as goal
+use Rattle.sd_command.proofs.command_line.bare_line.Goals as goal
 
 pub returns-clause-app : goal.returns-clause-app
 unfolding bare_line

@@ -6,11 +6,10 @@ use Rattle.clap.proofs.OnLiterals.{clap_on_literals}
 use Rattle.clap.specs.declared.error.Error.{Error}
 use Rattle.clap.specs.declared.error.ErrorKind.{ErrorKind}
 use Rattle.clap.specs.declared.error.ErrorKind.TheVariants as kind
-use Rattle.sd_filter.specs.CommandLine.{line, bare_line, convert_line}
-use Rattle.sd_filter.specs.Endings.{is_mistake}
-use Rattle.sd_filter.specs.Preparing.{RefusedBy, RefusedFor}
-use Rattle.sd_filter.specs.declared.parse.Refusal.{Refusal}
-use Rattle.sd_filter.specs.declared.parse.Refusal.TheVariants.{NoMemory, Usage, Help}
+use Rattle.sd_command.specs.CommandLine.{line, bare_line, convert_line}
+use Rattle.sd_command.specs.Refusing.{RefusedBy, RefusedFor, is_mistake}
+use Rattle.sd_command.specs.declared.parse.Refusal.{Refusal}
+use Rattle.sd_command.specs.declared.parse.Refusal.TheVariants.{NoMemory, Usage, Help}
 
 -- its matches are known from the words
 pub line-simple : is_simple line ≡ true

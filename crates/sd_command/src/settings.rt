@@ -1,8 +1,10 @@
 // What the matches of a command line settle.
 ghost use Rattle.std.specs.Prelude.{◌≡◌, IfOk, option_map};
 ghost use Rattle.clap.specs.Words.{first_of, found_of, rows_of, subcommand_rows_of};
-ghost use Rattle.sd_filter.specs.Endings.{usage_line};
-ghost use Rattle.sd_filter.specs.Settings as specs;
+ghost use Rattle.sd_command.specs.Usage.{usage_line};
+ghost use Rattle.std.specs.Fn.{FnOnceReturnsAt};
+ghost use Rattle.sd_command.specs.Settings as specs;
+ghost use Rattle.sd_command.specs.Settings.{option_text};
 
 use crate::job::{Act, Form, Job};
 use clap::ArgMatches;
@@ -14,6 +16,19 @@ pub enum OptionName {
     Domain,
     From,
     To,
+}
+
+impl OptionName {
+    // The word that names it, behind two dashes.
+    fn text(self) -> &'static str
+        ensures { result.now ≡ option_text self }
+    {
+        match self {
+            OptionName::Domain => "domain",
+            OptionName::From => "from",
+            OptionName::To => "to",
+        }
+    }
 }
 
 /// Words that the command line takes and that settle no job.
@@ -40,7 +55,7 @@ impl UsageFault {
 }
 
 /// The first option that does not read, or the job.
-pub fn settings(matches: &ArgMatches<'_>) -> Result<Job, UsageFault>
+pub fn settle(matches: &ArgMatches<'_>) -> Result<Job, UsageFault>
     ensures { result ≡ specs.settings (subcommand_rows_of matches.now) }
 {
     match matches.subcommand() {
@@ -64,18 +79,29 @@ fn convert_settings(matches: &ArgMatches<'_>) -> Result<Job, UsageFault>
     })
 }
 
-// None where the option is left out.
-#[tactic(auto, unfolding(crate::specs::Settings::given_domain))]
+// What an option's text reads as. None where the option is left out.
+fn value_of<T, R: FnOnce(&str) -> Option<T>>(
+    matches: &ArgMatches<'_>,
+    option: OptionName,
+    read: R,
+) -> Result<Option<T>, UsageFault>
+    requires { R.IsAlwaysCallable read }
+    ensures { specs.GivenBy (λ text value. FnOnceReturnsAt R.FnOnce read text value) option
+        (first_of (option_text option) (rows_of (found_of matches.now))) result }
+{
+    match text_of(matches, option.text()) {
+        Some(text) => match read(text) {
+            Some(value) => Ok(Some(value)),
+            None => Err(UsageFault::Value(option)),
+        },
+        None => Ok(None),
+    }
+}
+
 fn given_domain(matches: &ArgMatches<'_>) -> Result<Option<Sid>, UsageFault>
     ensures { result ≡ specs.given_domain (rows_of (found_of matches.now)) }
 {
-    let Some(text) = text_of(matches, "domain") else {
-        return Ok(None);
-    };
-    match domain_from_text(text) {
-        Some(domain) => Ok(Some(domain)),
-        None => Err(UsageFault::Value(OptionName::Domain)),
-    }
+    value_of(matches, OptionName::Domain, domain_from_text)
 }
 
 // A SID with room for one more sub-authority, read without a domain.
@@ -96,25 +122,19 @@ fn domain_from_text(text: &str) -> Option<Sid>
 }
 
 // Hex where the option is left out.
-#[tactic(auto, unfolding(crate::specs::Settings::given_source))]
 fn given_source(matches: &ArgMatches<'_>) -> Result<Form, UsageFault>
     ensures { result ≡ specs.given_source (rows_of (found_of matches.now)) }
 {
-    match text_of(matches, "from") {
-        Some(text) => form_from_text(text).ok_or(UsageFault::Value(OptionName::From)),
-        None => Ok(Form::Hex),
-    }
+    let form = value_of(matches, OptionName::From, form_from_text)?;
+    Ok(form.unwrap_or(Form::Hex))
 }
 
 // SDDL where the option is left out.
-#[tactic(auto, unfolding(crate::specs::Settings::given_target))]
 fn given_target(matches: &ArgMatches<'_>) -> Result<Form, UsageFault>
     ensures { result ≡ specs.given_target (rows_of (found_of matches.now)) }
 {
-    match text_of(matches, "to") {
-        Some(text) => form_from_text(text).ok_or(UsageFault::Value(OptionName::To)),
-        None => Ok(Form::Sddl),
-    }
+    let form = value_of(matches, OptionName::To, form_from_text)?;
+    Ok(form.unwrap_or(Form::Sddl))
 }
 
 fn form_from_text(text: &str) -> Option<Form>

@@ -1,19 +1,19 @@
 -- What the matches of a command line settle.
-use Rattle.std.specs.Prelude.{Bool, false, nat_lt, length, List, Option, Some, None, Result, Ok, Err, codes, if◌then◌else◌, option_map}
+use Rattle.std.specs.Prelude.{◌≡◌, Bool, false, nat_lt, length, List, Option, Some, None, Result, Ok, Err, codes, if◌then◌else◌, option_map}
 use Rattle.std.specs.Str.{bytes_eq}
 use Rattle.clap.specs.Words.{Row, Text, first_of, subcommand_of}
 use Rattle.sd_core.specs.Sid.{SecurityId}
 use Rattle.sd_core.specs.SidText.{sid_reads}
 use Rattle.sd_core.specs.declared.sid_text.SidFault.{SidFault}
-use Rattle.sd_filter.specs.CommandLine.{line}
-use Rattle.sd_filter.specs.declared.job.Form.{Form}
-use Rattle.sd_filter.specs.declared.job.Form.TheVariants.{Hex, Sddl}
-use Rattle.sd_filter.specs.declared.job.Act.TheVariants.{Convert}
-use Rattle.sd_filter.specs.declared.job.Job.{Job}
-use Rattle.sd_filter.specs.declared.settings.OptionName.{OptionName}
-use Rattle.sd_filter.specs.declared.settings.OptionName.TheVariants as name
-use Rattle.sd_filter.specs.declared.settings.UsageFault.{UsageFault}
-use Rattle.sd_filter.specs.declared.settings.UsageFault.TheVariants.{NoCommand, Value}
+use Rattle.sd_command.specs.CommandLine.{line}
+use Rattle.sd_command.specs.declared.job.Form.{Form}
+use Rattle.sd_command.specs.declared.job.Form.TheVariants.{Hex, Sddl}
+use Rattle.sd_command.specs.declared.job.Act.TheVariants.{Convert}
+use Rattle.sd_command.specs.declared.job.Job.{Job}
+use Rattle.sd_command.specs.declared.settings.OptionName.{OptionName}
+use Rattle.sd_command.specs.declared.settings.OptionName.TheVariants as name
+use Rattle.sd_command.specs.declared.settings.UsageFault.{UsageFault}
+use Rattle.sd_command.specs.declared.settings.UsageFault.TheVariants.{NoCommand, Value}
 
 abbrev pub option_text : OptionName → Text
 option_text name.Domain = codes "domain"
@@ -48,6 +48,12 @@ value_if reads (Some text) = option_map (λ value. Some value) (reads text)
 abbrev pub given : {A : Type 0} → OptionName → Option A → Result A UsageFault
 given option None = Err (Value option)
 given option (Some value) = Ok value
+
+-- the same for a reader that is known by what it may answer to a text: private contracts alone cite it
+abbrev pub GivenBy :
+    {A : Type 0} → (Text → Option A → Type 0) → OptionName → Option Text → Result (Option A) UsageFault → Type 0
+GivenBy reads option None result = result ≡ Ok None
+GivenBy reads option (Some text) result = (value : _) × (reads text value) × (result ≡ given option (option_map (λ v. Some v) value))
 
 unfoldable pub given_domain : List Row → Result (Option SecurityId) UsageFault
 given_domain rows = given name.Domain (value_if domain_reads (first_of (codes "domain") rows))

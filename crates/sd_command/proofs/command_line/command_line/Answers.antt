@@ -1,8 +1,8 @@
 use Rattle.std.proofs.Common.{ap, ap₂, ◌∙◌}
 use Rattle.std.proofs.lemmas.Result.{IfOk-weaker}
 use Rattle.clap.specs.Words.{App, with_subcommand}
-use Rattle.sd_filter.specs.CommandLine.{line}
-use Rattle.sd_filter.proofs.command_line.command_line.Goals as goal
+use Rattle.sd_command.specs.CommandLine.{line}
+use Rattle.sd_command.proofs.command_line.command_line.Goals as goal
 
 pub returns : goal.returns
 unfolding line

@@ -2,8 +2,8 @@ use Rattle.std.proofs.Common.{ap, ap₂, ◌∙◌}
 use Rattle.std.proofs.lemmas.Result.{IfOk-weaker}
 use Rattle.clap.specs.Words.{with_rule}
 use Rattle.clap.specs.Simple.{app_of_fields}
-use Rattle.sd_filter.specs.CommandLine.{convert_line}
-use Rattle.sd_filter.proofs.command_line.convert_command.Goals as goal
+use Rattle.sd_command.specs.CommandLine.{convert_line}
+use Rattle.sd_command.proofs.command_line.convert_command.Goals as goal
 
 pub returns-clause-line : goal.returns-clause-line
 unfolding convert_line

@@ -2,9 +2,9 @@
 ghost use Rattle.std.specs.Prelude.{◌≡◌, IfOk, IfErr, MatchResult, true, map, []};
 ghost use Rattle.std.specs.String.{string_bytes};
 ghost use Rattle.clap.specs.Words.{subcommand_of, subcommand_rows_of, takes, fault_of};
-ghost use Rattle.sd_filter.specs.CommandLine.{line};
-ghost use Rattle.sd_filter.specs.declared.parse.Refusal.TheVariants.{NoMemory};
-ghost use Rattle.sd_filter.specs.Preparing.{RefusedBy, RefusedFor};
+ghost use Rattle.sd_command.specs.CommandLine.{line};
+ghost use Rattle.sd_command.specs.declared.parse.Refusal.TheVariants.{NoMemory};
+ghost use Rattle.sd_command.specs.Refusing.{RefusedBy, RefusedFor};
 
 use crate::command_line::command_line;
 use clap::error::ErrorKind;
@@ -43,7 +43,7 @@ fn reason(alloc: Global, error: &Error) -> Refusal
 }
 
 /// The matches of the words, which live as long as the command's own texts.
-pub fn parse<'a>(alloc: Global, words: &'a [String]) -> Result<ArgMatches<'a>, Refusal>
+pub fn parse_words<'a>(alloc: Global, words: &'a [String]) -> Result<ArgMatches<'a>, Refusal>
     ensures ok { IfOk result (λ m. subcommand_rows_of m ≡ subcommand_of line (map string_bytes words.entry.now)) }
     ensures takes { IfErr result (λ r. takes line (map string_bytes words.entry.now) ≡ true → r ≡ Refusal.NoMemory) }
     ensures kinds { MatchResult result
