@@ -180,8 +180,8 @@ passed_step d t ask a ys rest all q parts here old k below =
     (ap (take k) parts ∙ ap (λ (n : ℕ). take n (ys ++ a ∷ rest)) at ∙ take_front ys (a ∷ rest)) ∙ here)
     (cases_lt k (length ys))
 
-pub scan_bound : (d : Descriptor) (t : List Entry) (ask : Asked) (ys rest all : List AccessControlEntry) (q n old new : ℕ)
-    → all ≡ ys ++ rest → ((k : ℕ) → k < length ys → are_decided q d t ask (take k all) ≡ false)
+pub scan_bound : (d : Descriptor) (t : List Entry) (ask : Asked) (ys rest all : List AccessControlEntry)
+    (q n old new : ℕ) → all ≡ ys ++ rest → ((k : ℕ) → k < length ys → are_decided q d t ask (take k all) ≡ false)
     → new ≤ old + length ys * n → new ≤ old + scan_need q d t ask all * n
 unfolding scan_need
 scan_bound d t ask ys rest all q n old new parts passed h =

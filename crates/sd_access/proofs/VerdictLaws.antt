@@ -63,7 +63,8 @@ unfolding given_mask
 given_mask-lt d t ask =
     or_lt 25 _ _
     (or_lt 25 _ _
-    (or_lt 25 _ _ (mask_if-lt ask.security 0x100_0000 25 (lit< tt)) (mask_if-lt ask.take_ownership 0x8_0000 25 (lit< tt)))
+    (or_lt 25 _ _ (mask_if-lt ask.security 0x100_0000 25 (lit< tt))
+    (mask_if-lt ask.take_ownership 0x8_0000 25 (lit< tt)))
     (mask_if-lt (is_owned d t) 0x6_0000 25 (lit< tt)))
     (mask_if-lt (is_open d.dacl) 0xff_ffff 25 (lit< tt))
 
@@ -111,7 +112,8 @@ final true false security false allowed h = refl
 
 -- what the scan gives
 abbrev pub IsScanned : Descriptor → List Entry → Asked → ℕ → Type 0
-IsScanned d t ask m = (right : ℕ) → carries m right ≡ (carries (undecided_of d t ask) right && is_allowed right d t ask)
+IsScanned d t ask m =
+    (right : ℕ) → carries m right ≡ (carries (undecided_of d t ask) right && is_allowed right d t ask)
 
 pub granted_bit : (d : Descriptor) (t : List Entry) (ask : Asked) (m : ℕ) → AreRights ask → IsScanned d t ask m
     → HasGranted d t ask (bit_or (given_mask d t ask) m)
@@ -119,7 +121,8 @@ unfolding granted
 granted_bit d t ask m narrow scanned right below asked =
     carries-or (given_mask d t ask) m right
     ∙ rw (scanned right, carries-given d t ask right below, carries-undecided d t ask narrow right below)
-    (final (in_question right ask) (eqb right 24) ask.security (needs_no_ace right d t ask) (is_allowed right d t ask) asked)
+    (final (in_question right ask) (eqb right 24) ask.security (needs_no_ace right d t ask) (is_allowed right d t ask)
+    asked)
 
 -- 4. The verdict.
 
@@ -225,4 +228,8 @@ pub bound_from_need : (d : Descriptor) (t : List Entry) (ask : Asked) (old new :
 unfolding need
 bound_from_need d t ask old new h =
     let most : need d t ask ≤ length (aces_of d.dacl) = least_le (length (aces_of d.dacl)) _ in
-    omega (arith, mul-le (need d t ask + 1) (length t) (length (aces_of d.dacl) + 1) (length t) (omega arith) (omega arith))
+    omega (
+      arith,
+      mul-le (need d t ask + 1) (length t) (length (aces_of d.dacl) + 1) (length t) (omega arith)
+          (omega arith),
+    )

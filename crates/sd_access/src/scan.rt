@@ -1,8 +1,8 @@
 //! The one walk through the DACL.
 
-ghost use Rattle.std.specs.Prelude.{◌≡◌, ◌<◌, ◌≤◌, ◌+◌, ◌*◌, ◌^◌, ◌&&◌, ℕ, length};
+ghost use Rattle.std.specs.Prelude.{◌≡◌, ◌<◌, ◌≤◌, ◌+◌, ◌*◌, ◌^◌, ◌&&◌, ℕ, bit_and, length};
 ghost use Rattle.std.specs.List.{find};
-ghost use Rattle.sd_core.specs.Mapping.{carries};
+ghost use Rattle.sd_core.specs.Mapping.{carries, mapped};
 ghost use Rattle.sd_access.specs.Granted.{aces_of, allows, decides, is_allowed};
 ghost use Rattle.sd_access.specs.Scan.{scan_need};
 
@@ -51,6 +51,7 @@ fn decided(ace: &AceView, view: &SdView, token: &mut Token, ask: &Ask, undecided
     ensures rights { (right : ℕ) → carries result right ≡ (carries undecided right && decides right view.now token.old.entries ask.now ace.now) }
     ensures entries { token.new.entries ≡ token.old.entries }
     ensures count { token.new.compared ≤ token.old.compared + length token.old.entries }
+    ensures spared { bit_and undecided (mapped ask.now.mapping ace.now.mask) ≡ 0 → token.new.compared ≡ token.old.compared }
 {
     let rights = undecided & ask.mapping().map(ace.mask());
     if rights == 0 {

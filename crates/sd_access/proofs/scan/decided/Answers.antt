@@ -13,4 +13,5 @@ returns-then-rights-eq0-clause-rights c =
 
 pub returns-then-applies-clause-rights : goal.returns-then-applies-clause-rights
 returns-then-applies-clause-rights c =
-    decided-applies _ _ _ _ _ _ (sym c.applies.ensures.value ∙ c.if-applies.true) (mask (goal.at.returns-then-applies-clause-rights c).After-map)
+    decided-applies _ _ _ _ _ _ (sym c.applies.ensures.value ∙ c.if-applies.true)
+    (mask (goal.at.returns-then-applies-clause-rights c).After-map)

@@ -29,12 +29,14 @@ loop-ace-preserved c =
     let decides_these : IsDecided d t ask a u m = λ (right : ℕ). c.decided-decided.ensures.rights right
     ∙ ap (λ (x : List Entry). carries u right && decides right d x ask a) same in
     let parts = parts_step a ys c.loop-ace.ace-iterator rest c.args.acl.now c.loop-ace.invariant.parts steps in
-    let open_rights = not_decided d t ask ys c.args.question u c.requires c.if-undecided-eq0.false c.loop-ace.invariant.undecided in
+    let open_rights = not_decided d t ask ys c.args.question u c.requires c.if-undecided-eq0.false
+    c.loop-ace.invariant.undecided in
     record {
       parts = parts;
       entries = c.decided-decided.ensures.entries ∙ same;
-      count = count_step a ys c.args.token.now.compared c.loop-ace.token.compared c.decided-decided.new.token.compared (length t)
-          c.loop-ace.invariant.count (rw (← same) c.decided-decided.ensures.count);
+      count = count_step a ys c.args.token.now.compared c.loop-ace.token.compared
+          c.decided-decided.new.token.compared (length t) c.loop-ace.invariant.count
+          (rw (← same) c.decided-decided.ensures.count);
       rights = λ right. elim c.if-is_allow.branch [
         | then-is_allow w ↦ rw w.granted-is
             (rights_allow d t ask a rest c.loop-ace.granted u m right (omega arith) (omega arith) decides_these
@@ -45,8 +47,8 @@ loop-ace-preserved c =
             (search (rules, c.is_allow.ensures, w.if-is_allow.false))
             ∙ (rw steps at (c.loop-ace.invariant.rights right)))
       ];
-      undecided = λ right. undecided_step d t ask a ys c.args.question u m right (omega arith) (omega arith) decides_these
-          (c.loop-ace.invariant.undecided right);
+      undecided = λ right. undecided_step d t ask a ys c.args.question u m right (omega arith) (omega arith)
+          decides_these (c.loop-ace.invariant.undecided right);
       passed = passed_step d t ask a ys rest c.args.acl.now c.args.question
           (c.loop-ace.invariant.parts ∙ ap (λ (zs : _). ys ++ zs) steps) open_rights c.loop-ace.invariant.passed;
     }
