@@ -1,5 +1,6 @@
 pub mod AliasLaws
 pub mod AliasLemmas
+pub mod AliasNames
 pub mod Bits
 pub mod Bools
 pub mod Cutting

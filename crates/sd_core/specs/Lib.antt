@@ -5,6 +5,7 @@ pub mod GuidText
 pub mod Kinds
 pub mod Mapping
 pub mod Names
+pub mod Naming
 pub mod Print
 pub mod Rights
 pub mod Sid

@@ -4,6 +4,7 @@
 
 mod ace;
 mod alias;
+mod digits;
 mod flags;
 mod gather;
 mod guid;
@@ -12,6 +13,7 @@ mod kinds;
 mod mapping;
 mod memory;
 mod names;
+mod naming;
 mod print;
 mod printer;
 mod rights;
@@ -24,11 +26,13 @@ mod token;
 mod usual_sid;
 
 pub use ace::{Ace, AceKind};
+pub use digits::{print_decimal, print_hex};
 pub use flags::{flags_from_text, print_flags, put_flags};
 pub use gather::Gather;
 pub use guid::{guid_bytes, guid_from_text, guid_read, print_guid, put_guid};
 pub use mapping::{Mapping, carries};
 pub use memory::NoMemory;
+pub use naming::Naming;
 pub use print::Print;
 pub use printer::Printer;
 pub use rights::{print_rights, put_rights};
