@@ -3,6 +3,7 @@ pub mod Counts
 pub mod Flags
 pub mod GuidText
 pub mod Kinds
+pub mod Mapping
 pub mod Names
 pub mod Naming
 pub mod Print

@@ -15,8 +15,8 @@ use Rattle.sd_filter.specs.Sofar.{HoldsText, PrintsAnswer, PutsAnswer}
 use Rattle.sd_core.proofs.PrintLemmas.{printed}
 use Rattle.sd_filter.specs.declared.fault.LineFault.{LineFault}
 use Rattle.sd_filter.specs.declared.fault.LineFault.TheVariants.{TooLong}
-use Rattle.sd_filter.specs.declared.job.Form.{Form}
-use Rattle.sd_filter.specs.declared.job.Job.{Job}
+use Rattle.sd_command.specs.declared.job.Form.{Form}
+use Rattle.sd_command.specs.declared.job.Job.{Job}
 
 -- what is printed for what a line means is its answer
 pub answered : (job : Job) (entries : List Entry) (line : List ℕ) (old new : PrintTold) (m : Meaning) (faulty : Bool) → meaning job line ≡ m

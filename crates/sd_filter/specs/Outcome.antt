@@ -7,7 +7,7 @@ use Rattle.sd_core.specs.Sink.{IsPrefix}
 use Rattle.sd_filter.specs.Told.{SourceTold, DrainTold}
 use Rattle.sd_filter.specs.Lines.{lines, ended}
 use Rattle.sd_filter.specs.Answers.{answers, errors, bounds}
-use Rattle.sd_filter.specs.declared.job.Job.{Job}
+use Rattle.sd_command.specs.declared.job.Job.{Job}
 use Rattle.sd_filter.specs.declared.engine.Report.{Report}
 use Rattle.sd_filter.specs.declared.engine.RunFault.{RunFault}
 use Rattle.sd_filter.specs.declared.engine.RunFault.TheVariants.{Read, Write, TooManyReads}

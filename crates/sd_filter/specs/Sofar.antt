@@ -11,7 +11,7 @@ use Rattle.sd_core.specs.Counts.{counted}
 use Rattle.sd_filter.specs.Lines.{parts, ended, without_cr}
 use Rattle.sd_filter.specs.Answers.{answers, errors, bounds}
 use Rattle.sd_filter.specs.Outcome.{Compares, HandedOn, RoseBy}
-use Rattle.sd_filter.specs.declared.job.Job.{Job}
+use Rattle.sd_command.specs.declared.job.Job.{Job}
 use Rattle.sd_filter.specs.declared.engine.Desk.{Desk}
 use Rattle.sd_filter.specs.declared.engine.Report.{Report}
 use Rattle.sd_filter.specs.declared.line.Line.{Line}

@@ -14,9 +14,9 @@ use crate::device::Drain;
 use crate::engine::Stores;
 use crate::fault::{LineFault, print_fault};
 use crate::hex_text::{GATHERED, print_hex};
-use crate::job::{Act, Form, Job};
 use crate::sink::DrainSink;
 use sd_binary::{SdBuf, SdView, read, write_layout};
+use sd_command::{Act, Form, Job};
 use sd_core::{Gather, Print, Sid, Sink, SinkFault, Token};
 use sd_sddl::{print_sddl, read_sddl};
 

@@ -10,7 +10,7 @@ ghost use Rattle.sd_filter.specs.Told.{sink_of};
 use crate::answer::put_answer;
 use crate::device::Drain;
 use crate::engine::{Desk, Report, Stores};
-use crate::job::Job;
+use sd_command::Job;
 use sd_core::{SinkFault, Token};
 
 /// The bytes that are searched for an LF at once.
