@@ -18,7 +18,7 @@ use crate::sink::DrainSink;
 use sd_binary::{SdBuf, SdView, read, write_layout};
 use sd_command::{Act, Form, Job};
 use sd_core::{Gather, Print, Sid, Sink, SinkFault, Token};
-use sd_sddl::{print_sddl, read_sddl};
+use sd_sddl::{print_explain, print_sddl, read_sddl};
 
 /// Puts the answer to a line and its LF, and says whether it is an `error` line. Of a line over its
 /// limit nothing but that is known.
@@ -147,6 +147,10 @@ fn print_act<P: Print>(
         Act::Convert(form) => {
             print_form(job, form, view, written, digits, out);
             print_end(false, out)
+        }
+        Act::Explain => {
+            print_explain(view, job.domain.as_ref(), job.numeric, out);
+            false
         }
     }
 }
