@@ -1,13 +1,6 @@
 pub mod Ace
-pub mod Counts
-pub mod Flags
 pub mod GuidText
-pub mod Kinds
-pub mod Names
-pub mod Print
-pub mod Rights
 pub mod Sid
 pub mod SidFields
 pub mod SidText
-pub mod Sink
 pub mod Token

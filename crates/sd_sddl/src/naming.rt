@@ -1,5 +1,5 @@
 // How SIDs are printed.
-ghost use Rattle.sd_core.specs.Print.{Prints};
+ghost use Rattle.sd_sink.specs.Print.{Prints};
 ghost use Rattle.sd_sddl.specs.Printed.{trustee_text};
 
 use sd_core::{Print, Sid};

@@ -1,0 +1,13 @@
+-- The numbers that digits write.
+use Rattle.std.specs.Prelude.{ℕ, ◌+◌, ◌*◌, nat_lt, if◌then◌else◌, List, [], ◌∷◌, Option, Some, None}
+use Rattle.std.specs.Char.{digit_value, is_digit}
+use Rattle.std.specs.Option.{option_and_then}
+
+-- the number that digits in a base write after another, where each is a digit
+abbrev pub number_after : ℕ → ℕ → List ℕ → Option ℕ
+number_after base n [] = Some n
+number_after base n (c ∷ cs) = if is_digit c base then number_after base (n * base + digit_value c) cs else None
+
+-- the same from the first digit on, where it is below the limit
+abbrev pub number : ℕ → ℕ → List ℕ → Option ℕ
+number base limit text = option_and_then (λ n. if nat_lt n limit then Some n else None) (number_after base 0 text)
