@@ -1,5 +1,6 @@
 pub mod Ace
 pub mod GuidText
+pub mod Mapping
 pub mod Sid
 pub mod SidFields
 pub mod SidText

@@ -1,0 +1,94 @@
+-- Masks by their rights.
+use Rattle.std.proofs.Common.{◌≡◌, ◌<◌, ◌≤◌, ℕ, zero, suc, ◌+◌, ◌-◌, ◌*◌, ◌^◌, min, max, Bool, true, false, not, ◌&&◌, ◌||◌, cond, eqb, refl, sym, ap, ◌∙◌, arith, ⊎_elim, lit<, rules, bit_and, bit_or}
+use Rattle.std.specs.Int.{bit_at, bit_not, w32}
+use Rattle.std.proofs.lemmas.Bool.{cases_lt}
+use Rattle.std.proofs.lemmas.Bool.Decides.{nat_tests}
+use Rattle.std.proofs.lemmas.Nat.Bits.{bit_at_and, bit_at_or, bit_at_not, bit_at-lt, bit_at-zero, bit_at_above, same_from_bits, bit_at_cat_low, bit_at_cat_high}
+use Rattle.sd_core.specs.Mapping.{carries, mask_if}
+use Rattle.sd_access.specs.Verdict.{rights_below}
+
+min_one : (x y : ℕ) → x < 2 → y < 2 → eqb (min x y) 1 ≡ (eqb x 1 && eqb y 1)
+min_one x y p q = grind (arith, nat_tests)
+
+max_one : (x y : ℕ) → x < 2 → y < 2 → eqb (max x y) 1 ≡ (eqb x 1 || eqb y 1)
+max_one x y p q = grind (arith, nat_tests)
+
+not_one : (x : ℕ) → x < 2 → eqb (1 - x) 1 ≡ not (eqb x 1)
+not_one x p = grind (arith, nat_tests)
+
+pub carries-and : (a b i : ℕ) → carries (bit_and a b) i ≡ (carries a i && carries b i)
+carries-and a b i =
+    ap (λ (n : ℕ). eqb n 1) (bit_at_and a b i) ∙ min_one (bit_at a i) (bit_at b i) (bit_at-lt a i) (bit_at-lt b i)
+
+pub carries-or : (a b i : ℕ) → carries (bit_or a b) i ≡ (carries a i || carries b i)
+carries-or a b i =
+    ap (λ (n : ℕ). eqb n 1) (bit_at_or a b i) ∙ max_one (bit_at a i) (bit_at b i) (bit_at-lt a i) (bit_at-lt b i)
+
+carries-not : (a i : ℕ) → a < 2 ^ 32 → i < 32 → carries (bit_not w32 a) i ≡ not (carries a i)
+carries-not a i p q = ap (λ (n : ℕ). eqb n 1) (bit_at_not w32 a i p q) ∙ not_one (bit_at a i) (bit_at-lt a i)
+
+pub carries-zero : (i : ℕ) → carries 0 i ≡ false
+carries-zero i = ap (λ (n : ℕ). eqb n 1) (bit_at-zero i)
+
+pub carries_above : (a k i : ℕ) → a < 2 ^ k → k ≤ i → carries a i ≡ false
+carries_above a k i p q = ap (λ (n : ℕ). eqb n 1) (bit_at_above a k i p q)
+
+same_bit : (x y : ℕ) → x < 2 → y < 2 → eqb x 1 ≡ eqb y 1 → x ≡ y
+same_bit x y p q h = grind (arith, nat_tests)
+
+-- masks that carry the same rights are equal
+pub same_masks : (a b : ℕ) → ((i : ℕ) → carries a i ≡ carries b i) → a ≡ b
+same_masks a b h =
+    same_from_bits a b (λ i. same_bit (bit_at a i) (bit_at b i) (bit_at-lt a i) (bit_at-lt b i) (h i))
+
+-- `a & !b`
+pub carries-and_not : (a b i : ℕ) → a < 2 ^ 32 → b < 2 ^ 32
+    → carries (bit_and a (2 ^ 32 - 1 - b)) i ≡ (carries a i && not (carries b i))
+carries-and_not a b i p q =
+    carries-and a (2 ^ 32 - 1 - b) i
+    ∙ ⊎_elim (λ (below : i < 32). ap (λ (x : Bool). carries a i && x) (carries-not b i q below))
+    (λ (above : 32 ≤ i). rw (carries_above a 32 i p above) refl) (cases_lt i 32)
+
+rights_below-lt : (n : ℕ) (test : ℕ → Bool) → rights_below n test < 2 ^ n
+unfolding rights_below
+rights_below-lt zero test = lit< tt
+rights_below-lt (suc n) test =
+    let rest = rights_below-lt n test in
+    let double : 2 ^ (suc n) ≡ 2 * 2 ^ n = search rules in
+    elim (test n) as (λ (b : Bool). (cond b 1 0) * 2 ^ n + rights_below n test < 2 ^ (suc n)) [
+      | true ↦ omega arith
+      | false ↦ omega arith
+    ]
+
+-- the masks of a test
+carries-rights_below : (n : ℕ) (test : ℕ → Bool) (i : ℕ) → i < n → carries (rights_below n test) i ≡ test i
+unfolding rights_below
+carries-rights_below zero test i h = absurd (omega arith)
+carries-rights_below (suc n) test i h =
+    ⊎_elim (λ (below : i < n).
+    ap (λ (k : ℕ). eqb k 1) (bit_at_cat_low (cond (test n) 1 0) n (rights_below n test) i below)
+    ∙ carries-rights_below n test i below)
+    (λ (above : n ≤ i).
+    let here : i ≡ n = omega arith in
+    let none : i - n ≡ 0 = omega arith in
+    let high = bit_at_cat_high (cond (test n) 1 0) n (rights_below n test) i (rights_below-lt n test) above in
+    ap (λ (k : ℕ). eqb k 1) (high ∙ ap (bit_at (cond (test n) 1 0)) none)
+    ∙ last (test n) ∙ ap test (sym here))
+    (cases_lt i n)
+  where
+    last : (b : Bool) → eqb (bit_at (cond b 1 0) 0) 1 ≡ b
+    last true = refl
+    last false = refl
+
+-- a mask is that of a test where it carries the rights that pass
+pub is_rights_below : (n m : ℕ) (test : ℕ → Bool) → m < 2 ^ n → ((i : ℕ) → i < n → carries m i ≡ test i)
+    → m ≡ rights_below n test
+is_rights_below n m test p h = same_masks m (rights_below n test) (λ i.
+    ⊎_elim (λ (below : i < n). h i below ∙ sym (carries-rights_below n test i below))
+    (λ (above : n ≤ i).
+    carries_above m n i p above ∙ sym (carries_above (rights_below n test) n i (rights_below-lt n test) above))
+    (cases_lt i n))
+
+pub carries-mask_if : (b : Bool) (m i : ℕ) → carries (mask_if b m) i ≡ (b && carries m i)
+carries-mask_if true m i = refl
+carries-mask_if false m i = carries-zero i

@@ -1,0 +1,41 @@
+-- How many comparisons a check may need.
+use Rattle.std.specs.Prelude.{ℕ, zero, suc, ◌+◌, ◌*◌, ◌==◌, Bool, true, not, ◌&&◌, ◌||◌, if◌then◌else◌, List, length, take}
+use Rattle.std.specs.List.{list_any}
+use Rattle.sd_core.specs.Ace.{AccessControlEntry}
+use Rattle.sd_core.specs.Mapping.{carries}
+use Rattle.sd_core.specs.Token.{Entry}
+use Rattle.sd_binary.specs.Descriptor.{Descriptor}
+use Rattle.sd_access.specs.Ask.{Asked}
+use Rattle.sd_access.specs.Granted.{aces_of, decides, needs_no_ace, system_security}
+
+-- each ACE of the DACL, and the owner, against each entry of the token
+abbrev pub bound : Descriptor → ℕ → ℕ
+bound d entries = (length (aces_of d.dacl) + 1) * entries
+
+-- the right is wanted or, with maximum, one of the mapping's
+abbrev pub in_question : ℕ → Asked → Bool
+in_question right ask = carries ask.wanted right || (ask.maximum && carries ask.mapping.all right)
+
+-- the right needs no ACE beside these: it is right 24, or is granted without one, or one of these decides it
+abbrev pub is_settled : ℕ → Descriptor → List Entry → Asked → List AccessControlEntry → Bool
+is_settled right d token ask aces =
+    right == system_security || needs_no_ace right d token ask || list_any (decides right d token ask) aces
+
+-- every number below n passes
+unfoldable pub all_below : ℕ → (ℕ → Bool) → Bool
+all_below zero test = true
+all_below (suc n) test = test n && all_below n test
+
+-- each right in question is settled
+abbrev pub are_settled : Descriptor → List Entry → Asked → List AccessControlEntry → Bool
+are_settled d token ask aces =
+    all_below 25 (λ right. not (in_question right ask) || is_settled right d token ask aces)
+
+-- the least number below n that passes, or else n
+unfoldable pub least : (ℕ → Bool) → ℕ → ℕ
+least test zero = zero
+least test (suc n) = if test zero then zero else suc (least (λ k. test (suc k)) n)
+
+-- the least number of the DACL's first ACEs that settle each right in question, or else all of them
+unfoldable pub need : Descriptor → List Entry → Asked → ℕ
+need d token ask = least (λ n. are_settled d token ask (take n (aces_of d.dacl))) (length (aces_of d.dacl))

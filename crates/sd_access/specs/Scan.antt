@@ -1,0 +1,39 @@
+-- The masks of the code that scans a DACL. No definition of what is granted rests on them.
+use Rattle.std.specs.Prelude.{◌≡◌, ◌<◌, ℕ, ◌-◌, ◌^◌, Bool, true, not, ◌||◌, List, length, take, bit_and, bit_or}
+use Rattle.std.specs.List.{list_any}
+use Rattle.sd_core.specs.Ace.{AccessControlEntry}
+use Rattle.sd_core.specs.Mapping.{carries, mask_if}
+use Rattle.sd_core.specs.Token.{Entry}
+use Rattle.sd_binary.specs.Descriptor.{Descriptor}
+use Rattle.sd_access.specs.Ask.{Asked}
+use Rattle.sd_access.specs.Granted.{decides, granted, is_open, is_owned}
+use Rattle.sd_access.specs.Need.{all_below, in_question, least}
+
+-- the rights that are granted without an ACE, right 24 among them
+unfoldable pub given_mask : Descriptor → List Entry → Asked → ℕ
+given_mask d token ask =
+    bit_or (bit_or (bit_or (mask_if ask.security 0x100_0000) (mask_if ask.take_ownership 0x8_0000))
+    (mask_if (is_owned d token) 0x6_0000))
+    (mask_if (is_open d.dacl) 0xff_ffff)
+
+-- the rights in question
+abbrev pub question_of : Asked → ℕ
+question_of ask = bit_or ask.wanted (mask_if ask.maximum ask.mapping.all)
+
+-- those that the ACEs alone can decide
+abbrev pub undecided_of : Descriptor → List Entry → Asked → ℕ
+undecided_of d token ask = bit_and (question_of ask) (2 ^ 32 - 1 - bit_or (given_mask d token ask) 0x100_0000)
+
+-- these ACEs decide each right of a mask
+abbrev pub are_decided : ℕ → Descriptor → List Entry → Asked → List AccessControlEntry → Bool
+are_decided mask d token ask aces =
+    all_below 25 (λ right. not (carries mask right) || list_any (decides right d token ask) aces)
+
+-- the least number of first ACEs that decide each right of a mask, or else all of them
+unfoldable pub scan_need : ℕ → Descriptor → List Entry → Asked → List AccessControlEntry → ℕ
+scan_need mask d token ask aces = least (λ n. are_decided mask d token ask (take n aces)) (length aces)
+
+-- of the rights in question, the mask has those that are granted
+abbrev pub HasGranted : Descriptor → List Entry → Asked → ℕ → Type 0
+HasGranted d token ask mask =
+    (right : ℕ) → right < 25 → in_question right ask ≡ true → carries mask right ≡ granted right d token ask

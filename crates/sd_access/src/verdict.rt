@@ -1,0 +1,71 @@
+//! The verdict of a check.
+
+ghost use Rattle.std.specs.Prelude.{◌≡◌, ◌≤◌, ◌+◌, ◌*◌, ◌^◌, ◌-◌, bit_and, bit_or, length};
+ghost use Rattle.sd_core.specs.Mapping.{mask_if as mask_if_of};
+ghost use Rattle.sd_access.specs.Ask.{AreRights};
+ghost use Rattle.sd_access.specs.Need.{bound, need};
+ghost use Rattle.sd_access.specs.Scan.{HasGranted, question_of};
+ghost use Rattle.sd_access.specs.Verdict.{verdict};
+
+use crate::ask::Ask;
+use crate::grants::{ACCESS_SYSTEM_SECURITY, given, mask_if};
+use crate::scan::scan;
+use sd_binary::SdView;
+use sd_core::Token;
+
+/// What a check answers.
+#[derive(Clone, Copy, Debug, PartialEq, Eq)]
+pub enum Verdict {
+    /// Each wanted right is granted. The mask has the wanted rights and, with maximum, each right of the
+    /// mapping that is granted; it is not 0.
+    Granted(u32),
+    /// The wanted rights that are not granted; or 0, where none was wanted and the maximum is no right.
+    Denied(u32),
+}
+
+/// Whether the descriptor grants what is asked to the token (MS-DTYP 2.5.3). The ACEs are walked once, and only
+/// until each right in question is decided.
+pub fn check(view: &SdView, token: &mut Token, ask: &Ask) -> Verdict
+    ensures verdict { result ≡ verdict view.now token.old.entries ask.now }
+    ensures entries { token.new.entries ≡ token.old.entries }
+    // Each entry is looked at once for the owner, and once for each ACE that is needed.
+    ensures needed { token.new.compared ≤ token.old.compared + (need view.now token.old.entries ask.now + 1) * length token.old.entries }
+    ensures bound { token.new.compared ≤ token.old.compared + bound view.now (length token.old.entries) }
+{
+    let granted = granted(view, token, ask);
+    let missing = ask.wanted() & !granted;
+    if missing != 0 {
+        return Verdict::Denied(missing);
+    }
+    let won = ask.wanted() | (pool(ask) & granted);
+    if won == 0 {
+        return Verdict::Denied(0);
+    }
+    Verdict::Granted(won)
+}
+
+// A mask that has those rights in question that are granted.
+fn granted(view: &SdView, token: &mut Token, ask: &Ask) -> u32
+    ensures rights { HasGranted view.now token.old.entries ask.now result }
+    ensures entries { token.new.entries ≡ token.old.entries }
+    ensures count { token.new.compared ≤ token.old.compared + (need view.now token.old.entries ask.now + 1) * length token.old.entries }
+{
+    let given = given(view, token, ask);
+    let undecided = undecided(ask, given);
+    given | scan(view, token, ask, undecided)
+}
+
+// The rights in question that the ACEs alone can decide.
+fn undecided(ask: &Ask, given: u32) -> u32
+    ensures value { result ≡ bit_and (question_of ask.now) (2 ^ 32 - 1 - bit_or given 0x100_0000) }
+    ensures limits { AreRights ask.now }
+{
+    (ask.wanted() | pool(ask)) & !(given | ACCESS_SYSTEM_SECURITY)
+}
+
+// The rights that the maximum is made from.
+fn pool(ask: &Ask) -> u32
+    ensures { result ≡ mask_if_of ask.now.maximum ask.now.mapping.all }
+{
+    mask_if(ask.maximum(), ask.mapping().all())
+}

@@ -1,0 +1,32 @@
+-- Access masks (MS-DTYP 2.4.3), right by right, and what their generic rights mean.
+use Rattle.std.specs.Prelude.{◌<◌, ℕ, ◌/◌, ◌%◌, ◌^◌, ◌==◌, Bool, if◌then◌else◌, bit_or}
+
+-- the mask has the right, a bit by its place
+abbrev pub carries : ℕ → ℕ → Bool
+carries mask right = mask / 2 ^ right % 2 == 1
+
+-- the four masks that stand for the generic rights of one kind of object
+pub record GenericMapping : Type 0 where
+  pub read : ℕ
+  pub write : ℕ
+  pub execute : ℕ
+  pub all : ℕ
+
+-- they have rights of the places 0 to 24 alone
+pub record IsMapping (m : GenericMapping) : Type 0 where
+  pub read : m.read < 2 ^ 25
+  pub write : m.write < 2 ^ 25
+  pub execute : m.execute < 2 ^ 25
+  pub all : m.all < 2 ^ 25
+
+abbrev pub mask_if : Bool → ℕ → ℕ
+mask_if carried mask = if carried then mask else 0
+
+-- the mask without the generic rights 28 to 31, and for each of them that it had the mapping's mask
+unfoldable pub mapped : GenericMapping → ℕ → ℕ
+mapped m mask =
+    bit_or (bit_or (bit_or (bit_or (mask % 2 ^ 28)
+    (mask_if (carries mask 28) m.all))
+    (mask_if (carries mask 29) m.execute))
+    (mask_if (carries mask 30) m.write))
+    (mask_if (carries mask 31) m.read)

@@ -1,0 +1,123 @@
+//! What the generic rights of a mask mean (MS-DTYP 2.4.3).
+
+ghost use Rattle.std.specs.Prelude.{◌≡◌, ◌≤◌, ◌<◌, ◌^◌};
+ghost use Rattle.sd_core.specs.Mapping.{IsMapping, carries, mapped, mask_if};
+
+use std::marker::Model;
+
+/// The places of the generic rights.
+const GENERIC_ALL: u32 = 28;
+
+const GENERIC_EXECUTE: u32 = 29;
+
+const GENERIC_WRITE: u32 = 30;
+
+const GENERIC_READ: u32 = 31;
+
+/// The rights that the four generic rights stand for, on one kind of object. There are these three, and no
+/// other can be made.
+#[derive(Clone, Copy, Debug, PartialEq, Eq)]
+pub struct Mapping {
+    read: u32,
+    write: u32,
+    execute: u32,
+    all: u32,
+}
+
+impl Model for Mapping {
+    ghost use Rattle.sd_core.specs.Mapping.{GenericMapping, IsMapping};
+
+    ghost Value = { GenericMapping };
+
+    ghost view = { λ m. record { read = m.read; write = m.write; execute = m.execute; all = m.all } };
+
+    ghost invariant = { λ m. IsMapping (record { read = m.read; write = m.write; execute = m.execute; all = m.all }) };
+
+    ghost inverse = { λ m. record { read = m.read; write = m.write; execute = m.execute; all = m.all } };
+}
+
+impl Mapping {
+    /// Files and folders.
+    pub const FILE: Mapping = Mapping {
+        read: 0x12_0089,
+        write: 0x12_0116,
+        execute: 0x12_00a0,
+        all: 0x1f_01ff,
+    };
+
+    /// Registry keys.
+    pub const KEY: Mapping = Mapping {
+        read: 0x2_0019,
+        write: 0x2_0006,
+        execute: 0x2_0019,
+        all: 0xf_003f,
+    };
+
+    /// Objects of a directory service.
+    pub const DS: Mapping = Mapping {
+        read: 0x2_0094,
+        write: 0x2_0028,
+        execute: 0x2_0004,
+        all: 0xf_01ff,
+    };
+
+    /// The rights of GENERIC_READ.
+    pub fn read(&self) -> u32
+        ensures value { result ≡ self.now.read }
+        ensures limits { IsMapping self.now }
+    {
+        self.read
+    }
+
+    /// The rights of GENERIC_WRITE.
+    pub fn write(&self) -> u32
+        ensures value { result ≡ self.now.write }
+        ensures limits { IsMapping self.now }
+    {
+        self.write
+    }
+
+    /// The rights of GENERIC_EXECUTE.
+    pub fn execute(&self) -> u32
+        ensures value { result ≡ self.now.execute }
+        ensures limits { IsMapping self.now }
+    {
+        self.execute
+    }
+
+    /// The rights of GENERIC_ALL.
+    pub fn all(&self) -> u32
+        ensures value { result ≡ self.now.all }
+        ensures limits { IsMapping self.now }
+    {
+        self.all
+    }
+
+    /// The mask with each generic right replaced by the rights that it stands for.
+    #[tactic(auto, unfolding(crate::specs::Mapping::mapped))]
+    pub fn map(&self, mask: u32) -> u32
+        ensures value { result ≡ mapped self.now mask }
+        ensures specific { result < 2 ^ 28 }
+    {
+        let all = mask_if(carries(mask, GENERIC_ALL), self.all);
+        let execute = mask_if(carries(mask, GENERIC_EXECUTE), self.execute);
+        let write = mask_if(carries(mask, GENERIC_WRITE), self.write);
+        let read = mask_if(carries(mask, GENERIC_READ), self.read);
+        mask % (1 << 28) | all | execute | write | read
+    }
+}
+
+/// Whether a mask has the right at a place.
+pub fn carries(mask: u32, right: u32) -> bool
+    requires { right < 32 }
+    ensures { result ≡ carries mask right }
+{
+    (mask >> right) % 2 == 1
+}
+
+fn mask_if(carried: bool, mask: u32) -> u32
+    ensures value { result ≡ mask_if carried mask }
+    ensures most { result ≤ mask }
+{
+    if carried { mask } else { 0 }
+}
