@@ -1,5 +1,6 @@
 pub mod AliasLaws
 pub mod AliasLemmas
+pub mod AliasNames
 pub mod Cutting
 pub mod FormLemmas
 mod GuidRows

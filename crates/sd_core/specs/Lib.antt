@@ -1,6 +1,7 @@
 pub mod Ace
 pub mod GuidText
 pub mod Mapping
+pub mod Naming
 pub mod Sid
 pub mod SidFields
 pub mod SidText

@@ -6,6 +6,7 @@ mod ace;
 mod alias;
 mod guid;
 mod mapping;
+mod naming;
 mod sid;
 mod sid_text;
 mod token;
@@ -14,8 +15,10 @@ mod usual_sid;
 pub use ace::Ace;
 pub use guid::{guid_bytes, guid_from_text, guid_read, print_guid, put_guid};
 pub use mapping::{Mapping, carries};
+pub use naming::Naming;
 pub use sd_rights::{
-    AceKind, flags_from_text, print_flags, print_rights, put_flags, put_rights, rights_from_text,
+    AceKind, flags_from_text, print_decimal, print_flags, print_hex, print_rights, put_flags,
+    put_rights, rights_from_text,
 };
 pub use sd_sink::{Gather, NoMemory, Print, Printer, Sink, SinkFault};
 pub use sid::Sid;

@@ -1,5 +1,6 @@
 pub mod Bits
 pub mod Bools
+pub mod DigitLemmas
 pub mod FlagLaws
 pub mod HexDigits
 pub mod KindLaws

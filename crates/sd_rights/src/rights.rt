@@ -1,11 +1,12 @@
 ghost use Rattle.std.specs.Prelude.{◌≡◌, ◌≤◌, ◌<◌, ◌==◌, drop, false, length, Some};
-ghost use Rattle.std.specs.Fmt.{digit_glyph, digits};
+ghost use Rattle.std.specs.Fmt.{digits};
 ghost use Rattle.std.specs.List.{find};
 ghost use Rattle.sd_sink.specs.Print.{Prints};
 ghost use Rattle.sd_rights.specs.Rights.{hex_text, is_label, names_or_hex, rights_reads, rights_text};
 ghost use Rattle.sd_sink.specs.Sink.{Puts};
 ghost use Rattle.sd_rights.specs.declared.rights_table.TheConstants.{COMPOUNDS};
 
+use crate::digits::hex_digit;
 use crate::kinds::AceKind;
 use crate::names::{NamedBits, named_bits, print_names};
 use crate::rights_table::{COMPOUNDS, LABELS, SINGLES};
@@ -94,15 +95,4 @@ fn write_digits(mask: u32, buffer: &mut [u8; HEX_SIZE]) -> usize
     start -= 1;
     buffer[start] = hex_digit(rest as u8);
     start
-}
-
-fn hex_digit(digit: u8) -> u8
-    requires { digit < 16 }
-    ensures { result ≡ digit_glyph false digit }
-{
-    if digit < 10 {
-        b'0' + digit
-    } else {
-        b'a' + (digit - 10)
-    }
 }

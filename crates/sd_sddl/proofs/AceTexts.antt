@@ -7,7 +7,7 @@ use Rattle.sd_core.specs.Ace.{AccessControlEntry, IsAce}
 use Rattle.sd_rights.specs.Flags.{flags_text}
 use Rattle.sd_rights.specs.Rights.{rights_text}
 use Rattle.sd_rights.proofs.Bools.{both}
-use Rattle.sd_sddl.specs.declared.naming.Naming.{Naming}
+use Rattle.sd_core.specs.declared.naming.Naming.{Naming}
 use Rattle.sd_sddl.specs.declared.line.AceField.{AceField}
 use Rattle.sd_sddl.specs.declared.line.AceField.TheVariants as field
 use Rattle.sd_sddl.specs.declared.line.Slot.TheVariants as slot

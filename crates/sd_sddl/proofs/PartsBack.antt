@@ -16,7 +16,7 @@ use Rattle.sd_sddl.specs.declared.line.AceField.TheVariants as field
 use Rattle.sd_sddl.specs.declared.line.Head.TheVariants as head
 use Rattle.sd_sddl.specs.declared.line.SidPart.{SidPart}
 use Rattle.sd_sddl.specs.declared.line.Slot.TheVariants as slot
-use Rattle.sd_sddl.specs.declared.naming.Naming.{Naming}
+use Rattle.sd_core.specs.declared.naming.Naming.{Naming}
 use Rattle.sd_sddl.specs.declared.reading.AceFields.{AceFields}
 use Rattle.sd_binary.specs.declared.builder.Which.{Which}
 use Rattle.sd_binary.specs.declared.builder.Which.TheVariants as which

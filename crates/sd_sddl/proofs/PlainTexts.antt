@@ -25,7 +25,7 @@ use Rattle.sd_rights.specs.declared.rights_table.TheConstants.{COMPOUNDS, LABELS
 use Rattle.sd_core.proofs.AliasLaws.{alias-letters}
 use Rattle.sd_rights.proofs.Bools.{both}
 use Rattle.sd_core.proofs.TextLaws.{sid_text-bytes}
-use Rattle.sd_sddl.specs.declared.naming.Naming.{Naming}
+use Rattle.sd_core.specs.declared.naming.Naming.{Naming}
 use Rattle.sd_sddl.specs.Line.{is_blank}
 use Rattle.sd_sddl.specs.Meaning.{is_unreadable}
 use Rattle.sd_binary.specs.declared.control.AclFlags.{AclFlags}
@@ -221,7 +221,7 @@ pub trustee-plain : (naming : Naming) (s : SecurityId) → IsSid s → IsPlain (
 unfolding trustee_text
 trustee-plain naming s i = by_naming naming.numeric
   where
-    by_naming : (b : Bool) → IsPlain (if b then sid_text s else alias_or (alias_of s naming.domain) (sid_text s))
+    by_naming : (b : Bool) → IsPlain (alias_or (if b then None else alias_of s naming.domain) (sid_text s))
     by_naming true = sid-plain s i
     by_naming false = name-plain (alias_of s naming.domain) (sid_text s) (alias-letters s naming.domain _ refl) (sid-plain s i)
 

@@ -3,9 +3,9 @@ ghost use Rattle.std.specs.Prelude.{◌≡◌, ◌++◌, codes};
 ghost use Rattle.sd_sink.specs.Print.{Prints};
 ghost use Rattle.sd_sddl.specs.Printed.{ace_text, kind_field, object_field, object_text};
 
-use crate::naming::{Naming, print_trustee};
+use crate::trustee::print_trustee;
 use sd_binary::AceView;
-use sd_core::{AceKind, Print, Sid, print_flags, print_guid, print_rights};
+use sd_core::{AceKind, Naming, Print, Sid, print_flags, print_guid, print_rights};
 use uuid::Uuid;
 
 /// Prints an ACE.
