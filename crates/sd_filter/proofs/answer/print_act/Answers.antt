@@ -1,4 +1,5 @@
-use Rattle.sd_core.proofs.PrintLemmas.{prints_then}
+use Rattle.std.proofs.Common.{refl}
+use Rattle.sd_sink.proofs.PrintLemmas.{prints_then}
 use Rattle.sd_filter.proofs.answer.print_act.Goals as goal
 
 pub returns-in-Convert : goal.returns-in-Convert
