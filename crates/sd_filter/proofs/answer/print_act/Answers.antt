@@ -7,4 +7,4 @@ returns-in-Convert g c = λ entries.
     rw c.in-Convert.is (prints_then c.print_form.ensures c.print_end.ensures.0, c.print_end.ensures.1)
 
 pub returns-in-Explain : goal.returns-in-Explain
-returns-in-Explain g c = λ entries. rw c.in-Explain.is (c.print_explain.ensures.printed, refl)
+returns-in-Explain g c = λ entries. rw c.in-Explain.is (c.print_explanation.ensures, refl)
