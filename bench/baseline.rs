@@ -1,4 +1,4 @@
-//! What the benchmark measures `sdtool convert` against: the same answers, by a plain program that stands on std alone.
+//! What the benchmark measures `sdtool convert` and `sdtool explain` against: the same answers, by a plain program that stands on std alone.
 //! It takes the same words, reads the standard input and writes the standard output.
 use std::env;
 use std::fmt;
@@ -445,10 +445,13 @@ fn put_decimal(mut number: u32, text: &mut Vec<u8>) {
 }
 
 fn put_sid(sid: &Sid, naming: &Naming, text: &mut Vec<u8>) {
-    if let Some(alias) = alias(sid, naming) {
-        text.extend_from_slice(alias.as_bytes());
-        return;
+    match alias(sid, naming) {
+        Some(alias) => text.extend_from_slice(alias.as_bytes()),
+        None => put_sid_text(sid, text),
     }
+}
+
+fn put_sid_text(sid: &Sid, text: &mut Vec<u8>) {
     text.extend_from_slice(b"S-1-");
     match u32::try_from(sid.authority) {
         Ok(authority) => put_decimal(authority, text),
@@ -618,6 +621,119 @@ fn put_sddl(layout: &[u8], naming: &Naming, text: &mut Vec<u8>) {
             left = rest;
         }
     }
+}
+
+const CONTROL_CODES: &Names = &[
+    (" OD", 0x0001),
+    (" GD", 0x0002),
+    (" DP", 0x0004),
+    (" DD", 0x0008),
+    (" SP", 0x0010),
+    (" SD", 0x0020),
+    (" DC", 0x0100),
+    (" SC", 0x0200),
+    (" DI", 0x0400),
+    (" SI", 0x0800),
+    (" PD", 0x1000),
+    (" PS", 0x2000),
+    (" RM", 0x4000),
+    (" SR", 0x8000),
+];
+
+/// Appends the text of the SID at the front of the bytes, its alias where it has one, and the end of the line.
+fn explain_sid(bytes: &[u8], naming: &Naming, text: &mut Vec<u8>) {
+    let sid = Sid::at(bytes);
+    put_sid_text(&sid, text);
+    if let Some(alias) = alias(&sid, naming) {
+        text.push(b' ');
+        text.extend_from_slice(alias.as_bytes());
+    }
+    text.push(b'\n');
+}
+
+/// Appends the line of an ACE behind its number.
+fn explain_ace(ace: &[u8], naming: &Naming, text: &mut Vec<u8>) {
+    let (kind, is_object): (&[u8], bool) = match ace[0] {
+        0x00 => (b" A flags ", false),
+        0x01 => (b" D flags ", false),
+        0x02 => (b" AU flags ", false),
+        0x05 => (b" OA flags ", true),
+        0x06 => (b" OD flags ", true),
+        0x07 => (b" OU flags ", true),
+        _ => (b" ML flags ", false),
+    };
+    text.extend_from_slice(kind);
+    if ace[1] == 0 {
+        text.extend_from_slice(b"none");
+    }
+    put_names(u32::from(ace[1]), FLAGS, text);
+    let mask = u32_at(ace, 4);
+    text.extend_from_slice(b" mask 0x");
+    put_hex(&mask.to_be_bytes(), text);
+    text.extend_from_slice(b" rights ");
+    put_rights(mask, ace[0] == 0x11, text);
+    let mut left = &ace[ACE_HEADER_SIZE..];
+    let mut guids = 0;
+    if is_object {
+        guids = u32_at(left, 0);
+        left = &left[4..];
+    }
+    for (present, name) in [
+        (OBJECT_TYPE_PRESENT, " object "),
+        (INHERITED_OBJECT_TYPE_PRESENT, " inherited "),
+    ] {
+        if guids & present != 0 {
+            text.extend_from_slice(name.as_bytes());
+            put_guid(left, text);
+            left = &left[GUID_SIZE..];
+        }
+    }
+    text.extend_from_slice(b" sid ");
+    explain_sid(left, naming, text);
+}
+
+/// Appends the explanation of a canonical layout, without its last LF.
+fn explain(layout: &[u8], naming: &Naming, text: &mut Vec<u8>) {
+    let offset = |part: Part| u32_at(layout, OFFSETS_AT + 4 * part as usize) as usize;
+    let control = u16_at(layout, 2);
+    text.extend_from_slice(b"control 0x");
+    put_hex(&control.to_be_bytes(), text);
+    put_names(u32::from(control), CONTROL_CODES, text);
+    text.extend_from_slice(b"\nrm 0x");
+    put_hex(&layout[1..2], text);
+    text.push(b'\n');
+    for (name, part) in [("owner ", Part::Owner), ("group ", Part::Group)] {
+        text.extend_from_slice(name.as_bytes());
+        match offset(part) {
+            0 => text.extend_from_slice(b"none\n"),
+            at => explain_sid(&layout[at..], naming, text),
+        }
+    }
+    for (name, part, present) in [("dacl ", Part::Dacl, DACL_PRESENT), ("sacl ", Part::Sacl, SACL_PRESENT)] {
+        text.extend_from_slice(name.as_bytes());
+        if control & present == 0 {
+            text.extend_from_slice(b"absent\n");
+            continue;
+        }
+        if offset(part) == 0 {
+            text.extend_from_slice(b"null\n");
+            continue;
+        }
+        let acl = &layout[offset(part)..];
+        let count = u32::from(u16_at(acl, 4));
+        text.extend_from_slice(b"list ");
+        put_decimal(count, text);
+        text.push(b'\n');
+        let mut left = &acl[ACL_HEADER_SIZE..];
+        for number in 1..=count {
+            let (ace, rest) = left.split_at(usize::from(u16_at(left, 2)));
+            text.extend_from_slice(name.as_bytes());
+            put_decimal(number, text);
+            explain_ace(ace, naming, text);
+            left = rest;
+        }
+    }
+    text.extend_from_slice(b"end");
 }
 
 /// A run of names of two letters, in either case.
@@ -1038,7 +1154,8 @@ impl Form {
 /// What is asked for, and the buffers that are used again for each line.
 struct Converter {
     from: Form,
-    to: Form,
+    /// None for an explanation.
+    to: Option<Form>,
     naming: Naming,
     bytes: Vec<u8>,
     parts: [Vec<u8>; PARTS.len()],
@@ -1059,8 +1176,9 @@ impl Converter {
             Form::Sddl => read_sddl(line, self.naming.domain.as_ref(), &mut self.parts, &mut self.layout)?,
         }
         match self.to {
-            Form::Hex => put_hex(&self.layout, text),
-            Form::Sddl => put_sddl(&self.layout, &self.naming, text),
+            Some(Form::Hex) => put_hex(&self.layout, text),
+            Some(Form::Sddl) => put_sddl(&self.layout, &self.naming, text),
+            None => explain(&self.layout, &self.naming, text),
         }
         Ok(())
     }
@@ -1092,23 +1210,25 @@ fn convert(mut converter: Converter, mut input: impl BufRead, mut output: impl W
     Ok(all_good)
 }
 
-/// What the words after `convert` ask for; None where they are not understood.
+/// What the words ask for; None where they are not understood.
 fn converter_of(mut words: impl Iterator<Item = String>) -> Option<Converter> {
     let mut converter = Converter {
         from: Form::Hex,
-        to: Form::Sddl,
+        to: Some(Form::Sddl),
         naming: Naming::default(),
         bytes: Vec::new(),
         parts: Default::default(),
         layout: Vec::new(),
     };
-    if words.next()? != "convert" {
-        return None;
+    match words.next()?.as_str() {
+        "convert" => {}
+        "explain" => converter.to = None,
+        _ => return None,
     }
     while let Some(word) = words.next() {
         match word.as_str() {
             "--from" => converter.from = Form::of_word(&words.next()?)?,
-            "--to" => converter.to = Form::of_word(&words.next()?)?,
+            "--to" if converter.to.is_some() => converter.to = Some(Form::of_word(&words.next()?)?),
             "--domain" => converter.naming.domain = Some(sid_of_text(words.next()?.as_bytes(), None).ok()?),
             "--numeric" => converter.naming.numeric = true,
             _ => return None,
@@ -1119,7 +1239,7 @@ fn converter_of(mut words: impl Iterator<Item = String>) -> Option<Converter> {
 
 fn main() -> ExitCode {
     let Some(converter) = converter_of(env::args().skip(1)) else {
-        eprintln!("baseline: convert [--from hex|sddl] [--to hex|sddl] [--domain SID] [--numeric]");
+        eprintln!("baseline: convert|explain [--from hex|sddl] [--to hex|sddl] [--domain SID] [--numeric]");
         return ExitCode::from(2);
     };
     match convert(converter, io::stdin().lock(), BufWriter::new(io::stdout().lock())) {

@@ -2,8 +2,8 @@
 """run.py [PROGRAM] [--megabytes N] [--rounds N]
 
 Measures the program (crates/sdtool/out/sdtool where none is given) against baseline.rs and cat: on the mixture that
-generate.py makes in hex and in SDDL, to hex and to SDDL under one of its domains, and to hex on lines of 375 to 1,500
-ACEs, which show whether an ACE costs the same in a longer line.
+generate.py makes in hex and in SDDL, to hex, to SDDL and explained under one of its domains, and to hex on lines of 375
+to 1,500 ACEs, which show whether an ACE costs the same in a longer line.
 The inputs have the same size and are kept in the folder sdtool-bench among the temporary files.
 
 It checks that program and baseline write the same each time, runs the three in turn, so that what else the machine
@@ -30,15 +30,17 @@ HERE = pathlib.Path(__file__).resolve().parent
 PROGRAM = HERE.parent / "crates/sdtool/out/sdtool"
 DOMAIN = ["--domain", "-".join(["S-1", *map(str, generate.HOME)])]
 # What is measured: the form of the lines, the number of ACEs of each, or None for the mixture, and the form of the
-# answers.
+# answers, or None where they are explained.
 MEASURED = {
     "the mixture to hex": ("hex", None, "hex"),
     "the mixture to SDDL": ("hex", None, "sddl"),
+    "the mixture explained": ("hex", None, None),
     "the mixture from SDDL to hex": ("sddl", None, "hex"),
     "the mixture from SDDL to SDDL": ("sddl", None, "sddl"),
     "375 ACEs a line to hex": ("hex", 375, "hex"),
     "750 ACEs a line to hex": ("hex", 750, "hex"),
     "1,500 ACEs a line to hex": ("hex", 1500, "hex"),
+    "1,500 ACEs a line explained": ("hex", 1500, None),
     "375 ACEs a line from SDDL to hex": ("sddl", 375, "hex"),
     "1,500 ACEs a line from SDDL to hex": ("sddl", 1500, "hex"),
 }
@@ -46,6 +48,8 @@ MEASURED = {
 
 def words_of(source, target):
     """Under the domain, where a SID may be spelled by its alias."""
+    if target is None:
+        return ["explain", "--from", source, *DOMAIN]
     return ["convert", "--from", source, "--to", target, *(DOMAIN if "sddl" in (source, target) else [])]
 
 

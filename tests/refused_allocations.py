@@ -53,6 +53,9 @@ COMMAND_LINES = [
     ["convert", "--numeric", "--numeric"],
     ["convert", "--to", "hex", "--to", "hex"],
     ["convert", "--help"],
+    ["explain"],
+    ["explain", "--from", "sddl", "--numeric", "--domain", LONGEST_DOMAIN],
+    ["explain", "--domain", DOMAIN, "--from", "xml"],
     ["--help"],
     [],
 ]
@@ -68,11 +71,13 @@ SDDL_LINES = [b"O:BAG:SYD:PAI" + SDDL_ACE + b"S:AR(ML;;NW;;;HI)", b"", b" o:ba "
               b" " * SDDL_LIMIT, *FAULTY_SDDL, b"G:S-1-5" + b"-4294967295" * 15, b"O:DA", b"D:" + SDDL_ACE]
 # The words, and the lines that are read under them.
 READING = [
-    (["--to", "hex"], HEX_LINES * 20),
-    (["--domain", DOMAIN], HEX_LINES * 20),
-    (["--domain", LONGEST_DOMAIN, "--to", "sddl", "--numeric"], HEX_LINES * 20),
-    (["--from", "sddl", "--to", "hex"], SDDL_LINES * 5),
-    (["--from", "sddl", "--domain", LONGEST_DOMAIN], SDDL_LINES * 5),
+    (["convert", "--to", "hex"], HEX_LINES * 20),
+    (["convert", "--domain", DOMAIN], HEX_LINES * 20),
+    (["convert", "--domain", LONGEST_DOMAIN, "--to", "sddl", "--numeric"], HEX_LINES * 20),
+    (["convert", "--from", "sddl", "--to", "hex"], SDDL_LINES * 5),
+    (["convert", "--from", "sddl", "--domain", LONGEST_DOMAIN], SDDL_LINES * 5),
+    (["explain", "--domain", DOMAIN], HEX_LINES * 5),
+    (["explain", "--from", "sddl", "--numeric"], SDDL_LINES * 5),
 ]
 
 
@@ -127,7 +132,7 @@ def refuse_each(count, program, words, library):
 
 def refuse_when_reading(count, program, words, lines, library):
     data = b"\n".join(lines)
-    command, shown = [program, "convert", *words], " ".join(["sdtool convert", *words])
+    command, shown = [program, *words], " ".join(["sdtool", *words])
     plain, _ = run(command, data, library)
     ended, told = run(command, data, library, REFUSE_WHEN_READING=1)
     count.add(plain.status == 1 and plain.taken == len(data), f"{shown}, plain run: {plain}")

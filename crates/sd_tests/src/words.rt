@@ -62,7 +62,8 @@ fn refuses_words(rt: HostRuntime) {
     for (line, text) in [
         ("", "sdtool: usage\n"),
         ("sdtool", "sdtool: usage\n"),
-        ("sdtool explain", "sdtool: usage\n"),
+        ("sdtool print", "sdtool: usage\n"),
+        ("sdtool explain --to hex", "sdtool: usage\n"),
         ("sdtool convert more", "sdtool: usage\n"),
         ("sdtool convert --to", "sdtool: usage\n"),
         ("sdtool convert --numeric yes", "sdtool: usage\n"),
@@ -75,6 +76,7 @@ fn refuses_words(rt: HostRuntime) {
         ("sdtool convert --to=", "sdtool: usage: --to\n"),
         ("sdtool convert --from SDDL", "sdtool: usage: --from\n"),
         ("sdtool convert --to x --from y", "sdtool: usage: --from\n"),
+        ("sdtool explain --from xml", "sdtool: usage: --from\n"),
         ("sdtool convert --domain DA", "sdtool: usage: --domain\n"),
         ("sdtool convert --domain ", "sdtool: usage: --domain\n"),
         (
@@ -93,6 +95,7 @@ Usage: sdtool <COMMAND>
 
 Commands:
   convert  Print each descriptor in a canonical form
+  explain  Say what each descriptor has, on a block of lines
   help     Print this message or the help of the given subcommand(s)
 
 Options:
@@ -111,13 +114,25 @@ Options:
   -h, --help             Print help
 ";
 
-const HELPS: [(&str, &str); 6] = [
+const EXPLAIN_HELP: &str = "Say what each descriptor has, on a block of lines
+
+Usage: sdtool explain [OPTIONS]
+
+Options:
+      --from <from>      The form of the lines: hex, the default, or sddl
+      --domain <domain>  The SID of the domain whose aliases are read and printed
+      --numeric          Print SIDs without aliases
+  -h, --help             Print help
+";
+
+const HELPS: [(&str, &str); 7] = [
     ("sdtool help", HELP),
     ("sdtool --help", HELP),
     ("sdtool -h", HELP),
     ("sdtool help convert", CONVERT_HELP),
     ("sdtool convert --help", CONVERT_HELP),
     ("sdtool convert --to x -h", CONVERT_HELP),
+    ("sdtool help explain", EXPLAIN_HELP),
 ];
 
 #[test]
