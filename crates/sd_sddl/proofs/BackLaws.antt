@@ -5,19 +5,19 @@ use Rattle.std.specs.List.{AllByRecursion, flat_map}
 use Rattle.std.proofs.lemmas.Grind.{flat_map-append}
 use Rattle.sd_core.specs.Ace.{AccessControlEntry}
 use Rattle.sd_core.specs.Sid.{SecurityId}
-use Rattle.sd_binary.specs.Descriptor.{Descriptor, IsDescriptor, dacl_present, sacl_present}
-use Rattle.sd_binary.specs.declared.acl.AclPart.{AclPart}
-use Rattle.sd_binary.specs.declared.acl.AclPart.TheVariants as acl
-use Rattle.sd_binary.specs.declared.control.AclFlags.{AclFlags}
+use Rattle.sd_view.specs.Descriptor.{Descriptor, IsDescriptor, dacl_present, sacl_present}
+use Rattle.sd_view.specs.declared.acl.AclPart.{AclPart}
+use Rattle.sd_view.specs.declared.acl.AclPart.TheVariants as acl
+use Rattle.sd_view.specs.declared.control.AclFlags.{AclFlags}
 use Rattle.sd_sddl.specs.declared.fault.SddlFault.{SddlFault}
 use Rattle.sd_sddl.specs.declared.line.Head.TheVariants as head
 use Rattle.sd_sddl.specs.declared.line.SidPart.{SidPart}
 use Rattle.sd_sddl.specs.declared.line.SidPart.TheVariants as sid_part
 use Rattle.sd_core.specs.declared.naming.Naming.{Naming}
-use Rattle.sd_binary.specs.declared.builder.Which.{Which}
-use Rattle.sd_binary.specs.declared.builder.Which.TheVariants as which
-use Rattle.sd_binary.specs.Control.{acl_flags, bit_if, flag_bits, no_flags}
-use Rattle.sd_binary.specs.Draft.{control_of, is_present, no_parts, other_flags}
+use Rattle.sd_view.specs.declared.control.Which.{Which}
+use Rattle.sd_view.specs.declared.control.Which.TheVariants as which
+use Rattle.sd_view.specs.Control.{acl_flags, bit_if, flag_bits, no_flags, control_of, other_flags}
+use Rattle.sd_binary.specs.Draft.{is_present, no_parts}
 use Rattle.sd_sddl.specs.FoldedReading.{Field, Reading, described, fields_of, finished, folded, nothing_read, read_fields, reads_as, verdict}
 use Rattle.sd_sddl.specs.Line.{Sections, has_twice, is_shaped, parts_of}
 use Rattle.sd_sddl.specs.Meaning.{control_flags}

@@ -8,11 +8,11 @@ use Rattle.sd_binary.specs.Draft.{closed}
 use Rattle.sd_sddl.specs.FoldedReading.{Reading, begun_or_null, no_fields, take_front, with_flags}
 use Rattle.sd_sddl.specs.FieldTexts.{object_reads}
 use Rattle.sd_sddl.specs.Reads.{AreAceFields, Holds}
-use Rattle.sd_binary.specs.declared.control.AclFlags.{AclFlags}
+use Rattle.sd_view.specs.declared.control.AclFlags.{AclFlags}
 use Rattle.sd_sddl.specs.declared.reading.AceFields.{AceFields}
 use Rattle.sd_sddl.specs.declared.reading.AclFront.{AclFront}
-use Rattle.sd_binary.specs.declared.builder.Which.{Which}
-use Rattle.sd_binary.specs.declared.builder.Which.TheVariants as which
+use Rattle.sd_view.specs.declared.control.Which.{Which}
+use Rattle.sd_view.specs.declared.control.Which.TheVariants as which
 use Rattle.sd_sddl.specs.declared.reading.FieldReader.{FieldReader}
 
 module _ (r : FieldReader) (buf : List ℕ) (t : Reading) (h : Holds r buf t) where

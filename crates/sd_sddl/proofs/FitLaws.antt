@@ -7,7 +7,7 @@ use Rattle.sd_rights.specs.Flags.{flags_reads}
 use Rattle.sd_rights.specs.Rights.{rights_reads}
 use Rattle.sd_core.specs.SidText.{sid_reads}
 use Rattle.sd_core.specs.declared.sid_text.SidFault.{SidFault}
-use Rattle.sd_binary.specs.declared.acl.AclPart.TheVariants as acl
+use Rattle.sd_view.specs.declared.acl.AclPart.TheVariants as acl
 use Rattle.sd_binary.specs.Draft.{Draft, IsOpen, IsOpenIn, acl_of, closed, more_in, with_ace}
 use Rattle.sd_sddl.specs.Line.{same_head}
 use Rattle.sd_sddl.specs.FoldedReading.{Reading, ace_of, begun_or_null, fault_of, nothing_read, take_ace_field, take_field, take_front, take_readable, with_flags, with_owner_or_group, with_sid, with_trustee, with_value}
@@ -17,7 +17,7 @@ use Rattle.sd_sddl.specs.Held.{Held, held_text}
 use Rattle.sd_sddl.specs.Progress.{ended_with, is_seen, place_of, result_or, with_head}
 use Rattle.sd_sddl.proofs.Steps.{seen_with}
 use Rattle.sd_sddl.specs.Reads.{Fits, Keeps, Lacks, is_at_front, is_in_acl}
-use Rattle.sd_binary.specs.declared.control.AclFlags.{AclFlags}
+use Rattle.sd_view.specs.declared.control.AclFlags.{AclFlags}
 use Rattle.sd_sddl.specs.declared.fault.SddlFault.{SddlFault}
 use Rattle.sd_sddl.specs.declared.fault.SddlFault.TheVariants as fault
 use Rattle.sd_sddl.specs.declared.line.AceField.{AceField}
@@ -34,8 +34,8 @@ use Rattle.sd_sddl.specs.declared.line.Slot.TheVariants as slot
 use Rattle.sd_sddl.specs.declared.reader.SddlReader.{SddlReader}
 use Rattle.sd_sddl.specs.declared.reading.AceFields.{AceFields}
 use Rattle.sd_sddl.specs.declared.reading.AclFront.{AclFront}
-use Rattle.sd_binary.specs.declared.builder.Which.{Which}
-use Rattle.sd_binary.specs.declared.builder.Which.TheVariants as which
+use Rattle.sd_view.specs.declared.control.Which.{Which}
+use Rattle.sd_view.specs.declared.control.Which.TheVariants as which
 
 -- 1. Where no fault is found, none was there, and the field was read.
 pub taken : (fault : Option SddlFault) (t u : Reading) (next : Reading → Result Reading SddlFault) → Ok u ≡ and_then (result_or t fault) next

@@ -6,14 +6,14 @@ use Rattle.std.proofs.lemmas.Bool.Decides.{nat_tests}
 use Rattle.sd_rights.proofs.Bools.{both}
 use Rattle.sd_core.specs.Ace.{AccessControlEntry}
 use Rattle.sd_core.specs.Sid.{SecurityId}
-use Rattle.sd_binary.specs.Acl.{acl_size, aces_size}
-use Rattle.sd_binary.specs.Descriptor.{Descriptor}
+use Rattle.sd_view.specs.Acl.{acl_size, aces_size}
+use Rattle.sd_view.specs.Descriptor.{Descriptor}
 use Rattle.sd_binary.specs.Draft.{Draft, built, closed, closed_in, is_present, with_acl}
-use Rattle.sd_binary.specs.Layout.{acl_part_size}
-use Rattle.sd_binary.specs.declared.acl.AclPart.{AclPart}
-use Rattle.sd_binary.specs.declared.acl.AclPart.TheVariants as acl
-use Rattle.sd_binary.specs.declared.builder.Which.{Which}
-use Rattle.sd_binary.specs.declared.builder.Which.TheVariants as which
+use Rattle.sd_view.specs.Layout.{acl_part_size}
+use Rattle.sd_view.specs.declared.acl.AclPart.{AclPart}
+use Rattle.sd_view.specs.declared.acl.AclPart.TheVariants as acl
+use Rattle.sd_view.specs.declared.control.Which.{Which}
+use Rattle.sd_view.specs.declared.control.Which.TheVariants as which
 use Rattle.sd_sddl.specs.FieldTexts.{front_reads, or_else}
 use Rattle.sd_sddl.specs.FoldedReading.{Reading, described, fields_of, finished, folded, large_in, nothing_read}
 use Rattle.sd_sddl.specs.FoldedReading.{read_fields, reads_as, verdict}
@@ -25,8 +25,8 @@ use Rattle.sd_sddl.specs.Meaning.{unless_large}
 use Rattle.sd_sddl.specs.Meaning.{acl_of as acl_picked}
 use Rattle.sd_sddl.specs.Meaning.{flags_of as flags_picked}
 use Rattle.sd_sddl.specs.Meaning.{sid_of as sid_picked}
-use Rattle.sd_binary.specs.Control.{bit_if}
-use Rattle.sd_binary.specs.declared.control.AclFlags.{AclFlags}
+use Rattle.sd_view.specs.Control.{bit_if}
+use Rattle.sd_view.specs.declared.control.AclFlags.{AclFlags}
 use Rattle.sd_sddl.specs.declared.fault.SddlFault.TheVariants as fault
 use Rattle.sd_sddl.specs.declared.line.Head.{Head}
 use Rattle.sd_sddl.specs.declared.line.Head.TheVariants as head

@@ -13,9 +13,9 @@ use Rattle.sd_core.specs.SidText.{sid_reads}
 use Rattle.sd_core.specs.declared.sid_text.SidFault.{SidFault}
 use Rattle.sd_core.specs.declared.sid_text.SidFault.TheVariants.{SidForm}
 use Rattle.sd_binary.specs.Draft.{begun, closed, with_ace, with_acl}
-use Rattle.sd_binary.specs.declared.acl.AclPart.{AclPart}
-use Rattle.sd_binary.specs.declared.acl.AclPart.TheVariants as acl
-use Rattle.sd_binary.specs.declared.builder.Which.{Which}
+use Rattle.sd_view.specs.declared.acl.AclPart.{AclPart}
+use Rattle.sd_view.specs.declared.acl.AclPart.TheVariants as acl
+use Rattle.sd_view.specs.declared.control.Which.{Which}
 use Rattle.sd_sddl.specs.FieldTexts.{front_reads, kind_reads, object_reads}
 use Rattle.sd_sddl.specs.FoldedReading.{Field, Reading, ace_fields, ace_fields_from, ace_of, fields_in, fields_of}
 use Rattle.sd_sddl.specs.FoldedReading.{grown, no_fields, read_fields, take_ace_field, take_field, take_front}
@@ -24,7 +24,7 @@ use Rattle.sd_sddl.specs.Line.{Piece, Section, ace, ace_cuts, aces, are_aces, ar
 use Rattle.sd_sddl.specs.Line.{has_six_fields, is_acl_body, is_blank, is_body, trim}
 use Rattle.sd_sddl.specs.Meaning.{Said, acl_said, ace_reads, and_then, body_reads, each, entries_read, field_reads}
 use Rattle.sd_sddl.specs.Meaning.{is_unreadable, section_reads, sid_field_reads, sid_or_fault, sid_said}
-use Rattle.sd_binary.specs.declared.control.AclFlags.{AclFlags}
+use Rattle.sd_view.specs.declared.control.AclFlags.{AclFlags}
 use Rattle.sd_sddl.specs.declared.fault.SddlFault.{SddlFault}
 use Rattle.sd_sddl.specs.declared.fault.SddlFault.TheVariants as fault
 use Rattle.sd_sddl.specs.declared.line.AceField.{AceField}

@@ -10,13 +10,13 @@ use Rattle.sd_core.specs.Sid.{SecurityId}
 use Rattle.sd_core.specs.SidText.{has_form, letters_read, numbers_read, sid_reads}
 use Rattle.sd_rights.specs.declared.kinds.AceKind.TheVariants as kinds
 use Rattle.sd_core.specs.declared.sid_text.SidFault.TheVariants as sid_fault
-use Rattle.sd_binary.specs.Descriptor.{Descriptor}
-use Rattle.sd_binary.specs.declared.acl.AclPart.{AclPart}
-use Rattle.sd_binary.specs.declared.acl.AclPart.TheVariants as acl
-use Rattle.sd_binary.specs.declared.builder.Which.{Which}
-use Rattle.sd_binary.specs.declared.builder.Which.TheVariants as which
+use Rattle.sd_view.specs.Descriptor.{Descriptor}
+use Rattle.sd_view.specs.declared.acl.AclPart.{AclPart}
+use Rattle.sd_view.specs.declared.acl.AclPart.TheVariants as acl
+use Rattle.sd_view.specs.declared.control.Which.{Which}
+use Rattle.sd_view.specs.declared.control.Which.TheVariants as which
 use Rattle.sd_sddl.specs.declared.fault.SddlFault.{SddlFault}
-use Rattle.sd_binary.specs.Control.{no_flags}
+use Rattle.sd_view.specs.Control.{no_flags}
 use Rattle.sd_sddl.specs.FieldTexts.{front_reads, kind_reads, object_reads}
 use Rattle.sd_sddl.specs.Meaning.{Said, acl_said, ace_reads, body_reads, each, entries_read, first_large, means, section_reads, sections_mean}
 use Rattle.sd_sddl.specs.Line.{Section}

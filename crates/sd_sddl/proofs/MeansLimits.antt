@@ -15,20 +15,20 @@ use Rattle.sd_rights.specs.declared.kinds.AceKind.{AceKind}
 use Rattle.sd_core.specs.declared.sid_text.SidFault.{SidFault}
 use Rattle.sd_rights.proofs.ReadLimits.{flags-limits, rights-limit}
 use Rattle.sd_core.proofs.ReadLimits.{guid-limits, sid-limits}
-use Rattle.sd_binary.specs.Acl.{IsAcl, acl_size}
-use Rattle.sd_binary.specs.Descriptor.{Descriptor, IsAclPart, IsDescriptor, dacl_present, sacl_present, self_relative}
-use Rattle.sd_binary.specs.Draft.{Draft, closed, closed_in, control_of, is_present, more_in, with_acl}
-use Rattle.sd_binary.specs.Control.{bit_if}
-use Rattle.sd_binary.specs.declared.acl.AclPart.{AclPart}
-use Rattle.sd_binary.specs.declared.acl.AclPart.TheVariants as acl
-use Rattle.sd_binary.specs.declared.builder.Which.{Which}
-use Rattle.sd_binary.specs.declared.builder.Which.TheVariants as which
+use Rattle.sd_view.specs.Acl.{IsAcl, acl_size}
+use Rattle.sd_view.specs.Descriptor.{Descriptor, IsAclPart, IsDescriptor, dacl_present, sacl_present, self_relative}
+use Rattle.sd_binary.specs.Draft.{Draft, closed, closed_in, is_present, more_in, with_acl}
+use Rattle.sd_view.specs.Control.{control_of, bit_if}
+use Rattle.sd_view.specs.declared.acl.AclPart.{AclPart}
+use Rattle.sd_view.specs.declared.acl.AclPart.TheVariants as acl
+use Rattle.sd_view.specs.declared.control.Which.{Which}
+use Rattle.sd_view.specs.declared.control.Which.TheVariants as which
 use Rattle.sd_sddl.specs.FoldedReading.{Field, Reading, ace_of, begun_or_null, described, fault_of, fields_of, finished, folded, large_in, no_fields, nothing_read, read_fields, reads_as, take_ace_field, take_field, take_front, take_readable, verdict, with_flags, with_owner_or_group, with_sid, with_trustee, with_value}
 use Rattle.sd_sddl.specs.Line.{has_twice, is_shaped, parts_of}
 use Rattle.sd_sddl.specs.Meaning.{and_then, control_flags, is_unreadable, means, unless_large}
 use Rattle.sd_sddl.specs.FieldTexts.{front_reads, kind_reads, object_reads, or_else}
 use Rattle.sd_sddl.specs.Reads.{AreAceFields}
-use Rattle.sd_binary.specs.declared.control.AclFlags.{AclFlags}
+use Rattle.sd_view.specs.declared.control.AclFlags.{AclFlags}
 use Rattle.sd_sddl.specs.declared.fault.SddlFault.{SddlFault}
 use Rattle.sd_sddl.specs.declared.fault.SddlFault.TheVariants as fault
 use Rattle.sd_sddl.specs.declared.line.AceField.{AceField}

@@ -6,11 +6,11 @@ use Rattle.std.proofs.lemmas.Bool.Decides.{nat_tests}
 use Rattle.sd_core.specs.Ace.{AccessControlEntry, GuidsFit, IsAce, IsGuid}
 use Rattle.sd_rights.specs.Kinds.{is_object}
 use Rattle.sd_core.specs.Sid.{IsSid, SecurityId}
-use Rattle.sd_binary.specs.Acl.{acl_size, aces_size}
-use Rattle.sd_binary.specs.Descriptor.{IsAclPart}
-use Rattle.sd_binary.specs.declared.acl.AclPart.{AclPart}
-use Rattle.sd_binary.specs.declared.acl.AclPart.TheVariants as acl
-use Rattle.sd_binary.specs.declared.control.AclFlags.{AclFlags}
+use Rattle.sd_view.specs.Acl.{acl_size, aces_size}
+use Rattle.sd_view.specs.Descriptor.{IsAclPart}
+use Rattle.sd_view.specs.declared.acl.AclPart.{AclPart}
+use Rattle.sd_view.specs.declared.acl.AclPart.TheVariants as acl
+use Rattle.sd_view.specs.declared.control.AclFlags.{AclFlags}
 use Rattle.sd_sddl.specs.declared.fault.SddlFault.{SddlFault}
 use Rattle.sd_sddl.specs.declared.line.AceField.TheVariants as field
 use Rattle.sd_sddl.specs.declared.line.Head.TheVariants as head
@@ -18,8 +18,8 @@ use Rattle.sd_sddl.specs.declared.line.SidPart.{SidPart}
 use Rattle.sd_sddl.specs.declared.line.Slot.TheVariants as slot
 use Rattle.sd_core.specs.declared.naming.Naming.{Naming}
 use Rattle.sd_sddl.specs.declared.reading.AceFields.{AceFields}
-use Rattle.sd_binary.specs.declared.builder.Which.{Which}
-use Rattle.sd_binary.specs.declared.builder.Which.TheVariants as which
+use Rattle.sd_view.specs.declared.control.Which.{Which}
+use Rattle.sd_view.specs.declared.control.Which.TheVariants as which
 use Rattle.sd_binary.specs.Draft.{Draft, begun, closed, with_ace, with_acl}
 use Rattle.sd_sddl.specs.FoldedReading.{Field, Reading, ace_fields, grown, large_in, no_fields, read_fields, take_field, with_flags, with_owner_or_group, with_trustee}
 use Rattle.sd_sddl.specs.Line.{ace, byte, has_aces}

@@ -5,14 +5,14 @@ use Rattle.std.specs.Option.{option_map}
 use Rattle.std.proofs.lemmas.Bool.Decides.{nat_tests}
 use Rattle.sd_core.specs.Ace.{AccessControlEntry, ace_size}
 use Rattle.sd_core.specs.Sid.{SecurityId}
-use Rattle.sd_binary.specs.Acl.{acl_size, aces_size}
+use Rattle.sd_view.specs.Acl.{acl_size, aces_size}
 use Rattle.sd_binary.specs.Builds.{Builds}
 use Rattle.sd_binary.specs.Draft.{IsOpen, IsOpenIn, more_in, open_size, open_size_in, with_ace}
 use Rattle.sd_sddl.specs.FoldedReading.{Reading, ace_of, large_in, with_trustee}
 use Rattle.sd_sddl.specs.Reads.{Holds}
 use Rattle.sd_sddl.specs.declared.reading.FieldReader.{FieldReader}
 use Rattle.sd_binary.specs.declared.builder.Builder.{Builder}
-use Rattle.sd_binary.specs.declared.builder.Which.{Which}
+use Rattle.sd_view.specs.declared.control.Which.{Which}
 
 aces_size-more : (aces : List AccessControlEntry) (a : AccessControlEntry) → aces_size (aces ++ a ∷ []) ≡ aces_size aces + ace_size a
 aces_size-more [] a = omega arith

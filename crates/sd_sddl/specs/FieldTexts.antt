@@ -8,8 +8,8 @@ use Rattle.std.specs.Str.{str_eq_ignore_ascii_case}
 use Rattle.sd_rights.specs.Kinds.{is_object, kind_named}
 use Rattle.sd_core.specs.GuidText.{guid_reads}
 use Rattle.sd_rights.specs.declared.kinds.AceKind.{AceKind}
-use Rattle.sd_binary.specs.Control.{no_flags}
-use Rattle.sd_binary.specs.declared.control.AclFlags.{AclFlags}
+use Rattle.sd_view.specs.Control.{no_flags}
+use Rattle.sd_view.specs.declared.control.AclFlags.{AclFlags}
 use Rattle.sd_sddl.specs.declared.reading.AclFront.{AclFront}
 
 -- the kind that has this text, in either case

@@ -11,14 +11,14 @@ use Rattle.sd_core.specs.SidText.{sid_reads}
 use Rattle.sd_rights.specs.declared.kinds.AceKind.TheVariants as kinds
 use Rattle.sd_core.specs.declared.sid_text.SidFault.{SidFault}
 use Rattle.sd_core.specs.declared.sid_text.SidFault.TheVariants.{SidForm}
-use Rattle.sd_binary.specs.Acl.{acl_size}
-use Rattle.sd_binary.specs.Descriptor.{Descriptor}
+use Rattle.sd_view.specs.Acl.{acl_size}
+use Rattle.sd_view.specs.Descriptor.{Descriptor}
 use Rattle.sd_binary.specs.Draft.{Draft, begun, built, closed, no_parts, with_ace, with_acl}
-use Rattle.sd_binary.specs.declared.acl.AclPart.TheVariants as acl
-use Rattle.sd_binary.specs.declared.builder.Which.{Which}
-use Rattle.sd_binary.specs.declared.builder.Which.TheVariants as which
-use Rattle.sd_binary.specs.Control.{no_flags}
-use Rattle.sd_binary.specs.declared.control.AclFlags.{AclFlags}
+use Rattle.sd_view.specs.declared.acl.AclPart.TheVariants as acl
+use Rattle.sd_view.specs.declared.control.Which.{Which}
+use Rattle.sd_view.specs.declared.control.Which.TheVariants as which
+use Rattle.sd_view.specs.Control.{no_flags}
+use Rattle.sd_view.specs.declared.control.AclFlags.{AclFlags}
 use Rattle.sd_sddl.specs.FieldTexts.{front_reads, kind_reads, object_reads, or_else}
 use Rattle.sd_sddl.specs.Line.{Piece, Section, aces, cuts, front, has_aces, has_twice, is_shaped, parts_of, trim}
 use Rattle.sd_sddl.specs.Meaning.{and_then, control_flags, is_unreadable, unless_large}

@@ -9,16 +9,16 @@ use Rattle.sd_core.specs.Sid.{SecurityId}
 use Rattle.sd_core.specs.SidText.{sid_reads}
 use Rattle.sd_core.specs.declared.sid_text.SidFault.{SidFault}
 use Rattle.sd_core.specs.declared.sid_text.SidFault.TheVariants.{SidForm}
-use Rattle.sd_binary.specs.Descriptor.{Descriptor}
-use Rattle.sd_binary.specs.Control.{bit_if, flag_bits, no_flags}
+use Rattle.sd_view.specs.Descriptor.{Descriptor}
+use Rattle.sd_view.specs.Control.{bit_if, flag_bits, no_flags}
 use Rattle.sd_binary.specs.Draft.{is_present}
-use Rattle.sd_binary.specs.Layout.{acl_part_size}
-use Rattle.sd_binary.specs.declared.acl.AclPart.{AclPart}
-use Rattle.sd_binary.specs.declared.acl.AclPart.TheVariants as acl
-use Rattle.sd_binary.specs.declared.builder.Which.{Which}
-use Rattle.sd_binary.specs.declared.builder.Which.TheVariants as which
-use Rattle.sd_binary.specs.declared.control.AclFlags.{AclFlags}
-use Rattle.sd_binary.specs.declared.control.TheConstants.{DACL_PRESENT, SACL_PRESENT, SELF_RELATIVE}
+use Rattle.sd_view.specs.Layout.{acl_part_size}
+use Rattle.sd_view.specs.declared.acl.AclPart.{AclPart}
+use Rattle.sd_view.specs.declared.acl.AclPart.TheVariants as acl
+use Rattle.sd_view.specs.declared.control.Which.{Which}
+use Rattle.sd_view.specs.declared.control.Which.TheVariants as which
+use Rattle.sd_view.specs.declared.control.AclFlags.{AclFlags}
+use Rattle.sd_view.specs.declared.control.TheConstants.{DACL_PRESENT, SACL_PRESENT, SELF_RELATIVE}
 use Rattle.sd_sddl.specs.FieldTexts.{front_reads, kind_reads, object_reads}
 use Rattle.sd_sddl.specs.Line.{Piece, Section, ace_cuts, aces, front, has_aces, has_twice, is_blank, is_shaped, parts_of, same_head, trim}
 use Rattle.sd_sddl.specs.declared.fault.SddlFault.{SddlFault}

@@ -4,8 +4,8 @@ use Rattle.std.specs.Option.{option_map}
 use Rattle.sd_core.specs.Ace.{GuidsFit}
 use Rattle.sd_rights.specs.Kinds.{is_object}
 use Rattle.sd_core.specs.Sid.{SecurityId}
-use Rattle.sd_binary.specs.Descriptor.{Descriptor, Shows}
-use Rattle.sd_binary.specs.declared.acl.AclPart.TheVariants as acl
+use Rattle.sd_view.specs.Descriptor.{Descriptor, Shows}
+use Rattle.sd_view.specs.declared.acl.AclPart.TheVariants as acl
 use Rattle.sd_binary.specs.Builds.{Builds}
 use Rattle.sd_binary.specs.Draft.{IsOpen, IsWritten, acl_of, closed}
 use Rattle.sd_sddl.specs.Held.{IsHeld}

@@ -2,7 +2,7 @@
 ghost use Rattle.std.specs.Prelude.{◌≡◌, ◌≤◌, length, List, ℕ, Some, None, IfSome};
 ghost use Rattle.std.specs.Str.{str_eq_ignore_ascii_case};
 ghost use Rattle.sd_rights.specs.Kinds.{is_object};
-ghost use Rattle.sd_binary.specs.Control.{no_flags};
+ghost use Rattle.sd_view.specs.Control.{no_flags};
 ghost use Rattle.sd_sddl.specs.FieldTexts.{after_a, ends_with_null, flags_after, front_reads, kind_reads, object_reads, one_letter, two_letters};
 
 use crate::reading::AclFront;

@@ -3,7 +3,7 @@ ghost use Rattle.std.specs.Prelude.{◌≡◌, ◌≤◌, ◌==◌, ℕ, List, [
 ghost use Rattle.std.specs.List.{list_all};
 ghost use Rattle.std.specs.Option.{option_copied};
 ghost use Rattle.sd_core.specs.Sid.{IsSid, SecurityId};
-ghost use Rattle.sd_binary.specs.Descriptor.{IsDescriptor, Shows};
+ghost use Rattle.sd_view.specs.Descriptor.{IsDescriptor, Shows};
 ghost use Rattle.sd_binary.specs.Draft.{IsWritten};
 ghost use Rattle.sd_sddl.specs.Held.{IsHeld, is_plain_inside, no_text, held_text};
 ghost use Rattle.sd_sddl.specs.Line.{byte, head_at, head_of as head_named, pieces_from};

@@ -1,5 +1,5 @@
 use Rattle.std.proofs.Common.{◌≡◌, length}
-use Rattle.sd_binary.specs.Control.{no_flags}
+use Rattle.sd_view.specs.Control.{no_flags}
 use Rattle.sd_sddl.specs.FieldTexts.{flags_after}
 use Rattle.sd_sddl.proofs.field_texts.flags_from_run.Given as goal
 
