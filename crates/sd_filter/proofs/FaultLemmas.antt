@@ -8,7 +8,7 @@ use Rattle.sd_view.specs.declared.fault.SdFault.TheVariants as sd
 use Rattle.sd_filter.specs.declared.fault.LineFault.{LineFault}
 use Rattle.sd_filter.specs.declared.fault.LineFault.TheVariants.{TooLong, Text, Sd, Sddl}
 use Rattle.sd_core.specs.declared.sid_text.SidFault.TheVariants as sid
-use Rattle.sd_sddl.specs.declared.fault.SddlFault.TheVariants as sddl
+use Rattle.sd_reader.specs.declared.fault.SddlFault.TheVariants as sddl
 
 name-short : (fault : LineFault) → length (number_and_name fault) ≤ 30
 name-short TooLong = lit≤ tt

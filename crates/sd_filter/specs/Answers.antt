@@ -18,9 +18,9 @@ use Rattle.sd_command.specs.declared.job.Form.{Form}
 use Rattle.sd_command.specs.declared.job.Form.TheVariants as form
 use Rattle.sd_command.specs.declared.job.Job.{Job}
 use Rattle.sd_core.specs.declared.naming.Naming.{Naming}
-use Rattle.sd_sddl.specs.Meaning.{means}
+use Rattle.sd_reader.specs.Meaning.{means}
 use Rattle.sd_sddl.specs.Printed.{sddl}
-use Rattle.sd_sddl.specs.declared.fault.SddlFault.{SddlFault}
+use Rattle.sd_reader.specs.declared.fault.SddlFault.{SddlFault}
 use Rattle.sd_filter.specs.Faults.{fault_text}
 
 -- ---- what a line means

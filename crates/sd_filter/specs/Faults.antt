@@ -7,7 +7,7 @@ use Rattle.sd_view.specs.declared.fault.SdFault.TheVariants as sd
 use Rattle.sd_view.specs.declared.control.Which.{Which}
 use Rattle.sd_view.specs.declared.control.Which.TheVariants as which
 use Rattle.sd_core.specs.declared.sid_text.SidFault.TheVariants as sid
-use Rattle.sd_sddl.specs.declared.fault.SddlFault.TheVariants as sddl
+use Rattle.sd_reader.specs.declared.fault.SddlFault.TheVariants as sddl
 use Rattle.sd_filter.specs.declared.fault.LineFault.{LineFault}
 use Rattle.sd_filter.specs.declared.fault.LineFault.TheVariants.{TooLong, Text, Sd, Sddl}
 
