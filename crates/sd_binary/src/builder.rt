@@ -11,9 +11,7 @@ ghost use Rattle.sd_view.specs.declared.fault.Part.TheVariants as part;
 use crate::buffer::SdBuf;
 use crate::pieces::{append_ace, place_sid};
 use sd_core::{Ace, Sid};
-use sd_view::{
-    ACL_HEADER_SIZE, HEADER_SIZE, MOST_ACL_SIZE, Which, acl_header, control_of, header,
-};
+use sd_view::{ACL_HEADER_SIZE, HEADER_SIZE, MOST_ACL_SIZE, Which, acl_header, control_of, header};
 
 /// The ACL would pass 65,535 bytes.
 #[derive(Clone, Copy, Debug, PartialEq, Eq)]

@@ -10,7 +10,7 @@ mod written;
 pub use buffer::{Full, SdBuf, TextFault};
 pub use builder::{AclTooLarge, Builder};
 pub use sd_view::{
-    AceView, Aces, AclFlags, AclPart, AclView, CONTROL_BITS, ControlBit, Part, SdFault, SdView, Which,
-    print_layout, put_layout, read,
+    AceView, Aces, AclFlags, AclPart, AclView, CONTROL_BITS, ControlBit, Part, SdFault, SdView,
+    Which, print_layout, put_layout, read,
 };
 pub use written::write_layout;

@@ -1,6 +1,6 @@
 -- Each answer is short.
 use Rattle.std.proofs.Common.{IfSome, ◌≤◌, ◌+◌, ◌*◌, List, [], ◌∷◌, length, Some, None, Ok, Err, arith, length-append}
-use Rattle.hex.specs.Hex.{encode_lower, lower_digits}
+use Rattle.hex.specs.Hex.{lower_digits}
 use Rattle.hex.proofs.HexLemmas.{length-encode_with}
 use Rattle.sd_core.specs.Sid.{IsSid}
 use Rattle.sd_core.specs.Token.{Entry}

@@ -1,4 +1,4 @@
-use Rattle.std.proofs.Common.{◌≡◌, ◌+◌, ◌-◌, ◌∙◌, length, take, drop, true, arith, ap, sym, subst}
+use Rattle.std.proofs.Common.{◌≡◌, ◌+◌, ◌-◌, ◌∙◌, take, drop, true, arith, ap, sym, subst}
 use Rattle.std.specs.List.{list_all}
 use Rattle.sd_reader.specs.Held.{is_plain_inside}
 use Rattle.sd_reader.proofs.Runs.{rest-from}

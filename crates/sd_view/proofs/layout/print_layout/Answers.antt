@@ -1,4 +1,3 @@
-use Rattle.std.proofs.Common.{sym}
 use Rattle.sd_sink.proofs.PrintLemmas.{prints_then}
 use Rattle.sd_view.proofs.layout.print_layout.Goals as goal
 
