@@ -38,7 +38,8 @@ module _ (d : Descriptor) (plan : Plan) where
   unfolding derive_fault
   fault-dacl sacl dacl = rw (fits (inherited plan d.sacl) sacl, too_large (inherited plan d.dacl) dacl) refl
 
-  pub fault-none : RefusedFor false (inherited plan d.sacl) → RefusedFor false (inherited plan d.dacl) → derive_fault d plan ≡ None
+  pub fault-none : RefusedFor false (inherited plan d.sacl) → RefusedFor false (inherited plan d.dacl)
+      → derive_fault d plan ≡ None
   unfolding derive_fault
   fault-none sacl dacl = rw (fits (inherited plan d.sacl) sacl, fits (inherited plan d.dacl) dacl) refl
 
@@ -57,7 +58,8 @@ parts_of d plan = record {
   «open» = None;
 }
 
-pub built-derived : (d : Descriptor) (plan : Plan) (has_sacl : Bool) → has_sacl ≡ is_present (sacl_of (inherited plan d.sacl))
+pub built-derived : (d : Descriptor) (plan : Plan) (has_sacl : Bool)
+    → has_sacl ≡ is_present (sacl_of (inherited plan d.sacl))
     → built (inherited_bits has_sacl) 0 (parts_of d plan) ≡ derived d plan
 unfolding derived
 built-derived d plan has_sacl is =

@@ -28,7 +28,8 @@ pub record HasOpen (t : Draft) : Type 0 where
   pub «open» : IsOpen t
   pub fits : open_size t < 2 ^ 16
 
-abbrev pub more_aces : List AccessControlEntry → Option (Which × List AccessControlEntry) → Option (Which × List AccessControlEntry)
+abbrev pub more_aces : List AccessControlEntry → Option (Which × List AccessControlEntry)
+    → Option (Which × List AccessControlEntry)
 more_aces aces None = None
 more_aces aces (Some o) = Some (o.0, o.1 ++ aces)
 

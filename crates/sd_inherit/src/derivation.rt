@@ -18,11 +18,12 @@ pub enum DeriveFault {
     DerivedTooLarge(Which),
 }
 
-/// Replaces the contents of the buffer by the descriptor of a new object that is made in a container with this descriptor
-/// (MS-DTYP 2.5.3.4): owner and group of the plan, and the copies of the container's ACEs. The SACL is looked at before the
-/// DACL; after a fault the buffer is empty.
+/// Replaces the contents of the buffer by the descriptor of a new object (MS-DTYP 2.5.3.4) whose container has the
+/// parent's: owner and group of the plan, and the copies of the parent's ACEs. The SACL is looked at before the DACL;
+/// after a fault the buffer is empty.
 pub fn derive(parent: &SdView, plan: &Plan, buf: &mut SdBuf) -> Result<(), DeriveFault>
-    ensures fault { MatchResult result (λ _. derive_fault parent.now plan.now ≡ None) (λ f. derive_fault parent.now plan.now ≡ Some f) }
+    ensures fault { MatchResult result (λ _. derive_fault parent.now plan.now ≡ None)
+        (λ f. derive_fault parent.now plan.now ≡ Some f) }
     ensures shows { OnOk result (Shows buf.new (derived parent.now plan.now)) }
     // In its one written form, and not only some bytes that show it.
     ensures laid_out { OnOk result (buf.new ≡ layout (derived parent.now plan.now)) }
@@ -37,7 +38,8 @@ pub fn derive(parent: &SdView, plan: &Plan, buf: &mut SdBuf) -> Result<(), Deriv
 
 // The same, but for what the buffer holds after a fault.
 fn build(parent: &SdView, plan: &Plan, buf: &mut SdBuf) -> Result<(), DeriveFault>
-    ensures fault { MatchResult result (λ _. derive_fault parent.now plan.now ≡ None) (λ f. derive_fault parent.now plan.now ≡ Some f) }
+    ensures fault { MatchResult result (λ _. derive_fault parent.now plan.now ≡ None)
+        (λ f. derive_fault parent.now plan.now ≡ Some f) }
     ensures shows { OnOk result (Shows buf.new (derived parent.now plan.now)) }
     ensures laid_out { OnOk result (buf.new ≡ layout (derived parent.now plan.now)) }
 {

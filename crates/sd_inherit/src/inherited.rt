@@ -22,8 +22,10 @@ pub fn put_sacl(
     plan: &Plan,
     sacl: &AclPart,
 ) -> Result<bool, AclTooLarge>
-    requires { (t : Draft) × Writes builder.old buf.old t × CanBegin which.Sacl t × (bytes_after (part_of which.Sacl) t ≡ []) }
-    ensures ok { (t : Draft) → Writes builder.old buf.old t → CanBegin which.Sacl t → bytes_after (part_of which.Sacl) t ≡ []
+    requires { (t : Draft) × Writes builder.old buf.old t × CanBegin which.Sacl t
+        × (bytes_after (part_of which.Sacl) t ≡ []) }
+    ensures ok { (t : Draft) → Writes builder.old buf.old t → CanBegin which.Sacl t
+        → bytes_after (part_of which.Sacl) t ≡ []
         → OnOk result (Writes builder.new buf.new (with_acl which.Sacl (sacl_of (inherited plan.now sacl.now)) t)) }
     ensures stands { IfOk result (λ stands. stands ≡ is_present (sacl_of (inherited plan.now sacl.now))) }
     ensures full { IsErr result ↔ (2 ^ 16 ≤ acl_size (inherited plan.now sacl.now)) }
@@ -77,7 +79,8 @@ fn put_inherited(
 
 fn put_copies(builder: &mut Builder, buf: &mut SdBuf, copies: &Copies) -> Result<(), AclTooLarge>
     requires { (t : Draft) × Writes builder.old buf.old t × HasOpen t }
-    ensures ok { (t : Draft) → Writes builder.old buf.old t → OnOk result (Writes builder.new buf.new (with_aces (listed copies.now) t)) }
+    ensures ok { (t : Draft) → Writes builder.old buf.old t
+        → OnOk result (Writes builder.new buf.new (with_aces (listed copies.now) t)) }
     ensures full { (t : Draft) → Writes builder.old buf.old t → HasOpen t
         → (IsErr result ↔ (2 ^ 16 ≤ open_size t + aces_size (listed copies.now))) }
 {
@@ -87,7 +90,8 @@ fn put_copies(builder: &mut Builder, buf: &mut SdBuf, copies: &Copies) -> Result
 
 fn put_copy(builder: &mut Builder, buf: &mut SdBuf, copy: Option<Ace>) -> Result<(), AclTooLarge>
     requires { (t : Draft) × Writes builder.old buf.old t × HasOpen t }
-    ensures ok { (t : Draft) → Writes builder.old buf.old t → OnOk result (Writes builder.new buf.new (with_aces (one_or_none copy) t)) }
+    ensures ok { (t : Draft) → Writes builder.old buf.old t
+        → OnOk result (Writes builder.new buf.new (with_aces (one_or_none copy) t)) }
     ensures full { (t : Draft) → Writes builder.old buf.old t → HasOpen t
         → (IsErr result ↔ (2 ^ 16 ≤ open_size t + aces_size (one_or_none copy))) }
 {

@@ -1,4 +1,4 @@
-//! What a new object gets from its container: inheritance (MS-DTYP 2.5.3.4), in the profile that docs/DEFINITIONS.md tells.
+//! What a new object inherits from its container (MS-DTYP 2.5.3.4), in the profile that docs/DEFINITIONS.md tells.
 #![tactic(auto)]
 
 mod copies;

@@ -18,18 +18,21 @@ returns-clause-fault c =
     fault-none _ _ (rw c.sacl.ensures at c.in-Ok.ensures.full) (rw c.dacl.ensures at c.in_default-put_acl.ensures.full)
 
 -- the parts that the builder has at the end
-written : (c : After-finish) → Writes c.put_acl.new.builder c.put_acl.new.buf (parts_of c.args.parent.now c.args.plan.now)
+written : (c : After-finish)
+    → Writes c.put_acl.new.builder c.put_acl.new.buf (parts_of c.args.parent.now c.args.plan.now)
 written c =
     let plan = c.args.plan.now in
     let one : Draft = record no_parts { owner = Some plan.owner } in
     let two : Draft = record one { group = Some plan.group } in
     let begun : Writes c.group.new.self c.group.new.buf two = record {
       builds = c.group.ensures.value one (c.owner.ensures.value no_parts c.new-builder.ensures.value);
-      in_order = c.group.ensures.in_order one (c.owner.ensures.in_order no_parts c.new-builder.ensures.in_order refl) refl;
+      in_order = c.group.ensures.in_order one
+          (c.owner.ensures.in_order no_parts c.new-builder.ensures.in_order refl) refl;
     } in
     let three : Draft = record two { sacl = sacl_of (inherited plan c.args.parent.now.sacl) } in
     rw c.dacl.ensures at
-    (c.in_default-put_acl.ensures.ok three (rw c.sacl.ensures at (c.in-Ok.ensures.ok two begun (refl, refl) refl)) (refl, refl) refl)
+    (c.in_default-put_acl.ensures.ok three
+    (rw c.sacl.ensures at (c.in-Ok.ensures.ok two begun (refl, refl) refl)) (refl, refl) refl)
 
 -- and what they make
 derives : (c : After-finish) → built c.inherited_bits.result 0 (parts_of c.args.parent.now c.args.plan.now)

@@ -24,11 +24,13 @@ loop-ace-preserved c =
     let is = these (goal.at.loop-ace-preserved c).After-copies_of in
     record {
       parts = parts_one f ys a _ _ _ c.loop-ace.invariant.parts c.in-Some.ensures.steps;
-      writes = λ t h. rw (← with_one f ys a t) (rw is at (c.in_ok-put_copies.ensures.ok (with_aces (flat_map f ys) t) (c.loop-ace.invariant.writes t h)));
+      writes = λ t h. rw (← with_one f ys a t)
+          (rw is at (c.in_ok-put_copies.ensures.ok (with_aces (flat_map f ys) t) (c.loop-ace.invariant.writes t h)));
       room = λ t h o. rw (← with_one f ys a t)
           (let before = with_aces (flat_map f ys) t in
           let room = c.loop-ace.invariant.room t h o in
-          stays_open before (f a) room (rw is at (c.in_ok-put_copies.ensures.full before (c.loop-ace.invariant.writes t h) room)));
+          stays_open before (f a) room
+          (rw is at (c.in_ok-put_copies.ensures.full before (c.loop-ace.invariant.writes t h) room)));
     }
 
 pub returns-in_err-put_copies-clause-full : goal.returns-in_err-put_copies-clause-full
@@ -38,9 +40,11 @@ returns-in_err-put_copies-clause-full c = λ t h o.
     let is = these (goal.at.returns-in_err-put_copies-clause-full c).After-copies_of in
     let before = with_aces (flat_map f ys) t in
     let full = full_one f ys c.in-Some.ace _ _ _ c.loop-ace.invariant.parts c.in-Some.ensures.steps t o
-    (rw is at (c.in_err-put_copies.ensures.full before (c.loop-ace.invariant.writes t h) (c.loop-ace.invariant.room t h o))) in
+    (rw is at (c.in_err-put_copies.ensures.full before (c.loop-ace.invariant.writes t h)
+    (c.loop-ace.invariant.room t h o))) in
     (λ _. full.0 refl, λ _. c.from_residual.ensures.0)
 
 pub returns-clause-full : goal.returns-clause-full
 returns-clause-full c = λ t h o.
-    full_all (copies c.args.plan.now) c.loop-ace.yielded _ _ t o (c.loop-ace.invariant.room t h o) c.loop-ace.invariant.parts c.in-None.ensures.steps.0
+    full_all (copies c.args.plan.now) c.loop-ace.yielded _ _ t o (c.loop-ace.invariant.room t h o)
+    c.loop-ace.invariant.parts c.in-None.ensures.steps.0
