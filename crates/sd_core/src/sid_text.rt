@@ -4,17 +4,16 @@ ghost use Rattle.std.specs.Char.{is_digit};
 ghost use Rattle.std.specs.List.{flat_map, list_all};
 ghost use Rattle.std.specs.Option.{option_copied, option_map};
 ghost use Rattle.sd_core.specs.Sid.{IsSid, SecurityId};
-ghost use Rattle.sd_core.specs.Print.{Prints};
-ghost use Rattle.sd_core.specs.Sink.{Puts};
-ghost use Rattle.sd_core.specs.SidText.{all_pieces, all_read, are_letters, are_numbers, are_subs, authority_reads, authority_text, begins_with_s1, decimal_reads, has_form, is_decimal, is_hex, is_sid_byte, number, numbers_read, pieces, sid_reads, sid_text, sub_text};
+ghost use Rattle.sd_sink.specs.Print.{Prints};
+ghost use Rattle.sd_sink.specs.Sink.{Puts};
+ghost use Rattle.sd_rights.specs.Numbers.{number};
+ghost use Rattle.sd_core.specs.SidText.{all_pieces, all_read, are_letters, are_numbers, are_subs, authority_reads, authority_text, begins_with_s1, decimal_reads, has_form, is_decimal, is_hex, is_sid_byte, numbers_read, pieces, sid_reads, sid_text, sub_text};
 
 use crate::alias::read_letters;
-use crate::digits::{write_decimal, write_hex};
-use crate::print::Print;
-use crate::printer::Printer;
 use crate::sid::Sid;
-use crate::sink::{Sink, SinkFault};
 use crate::usual_sid::read_usual;
+use sd_rights::{read_number, write_decimal, write_hex};
+use sd_sink::{Print, Printer, Sink, SinkFault};
 
 /// Why a text is no SID.
 #[derive(Clone, Copy, Debug, PartialEq, Eq)]
@@ -283,24 +282,4 @@ fn read_decimal(text: &[u8]) -> Option<u64>
         return None;
     }
     read_number(10, 1 << 32, text)
-}
-
-/// The number that the digits write, where each is a digit and it is below the limit. No digits write 0.
-pub(crate) fn read_number(base: u32, limit: u64, text: &[u8]) -> Option<u64>
-    requires low { 2 ≤ base }
-    requires high { base ≤ 16 }
-    requires small { limit ≤ 2 ^ 48 }
-    requires some { 0 < limit }
-    ensures value { result ≡ number base limit text.now }
-    ensures limit { IfSome result (λ n. n < limit) }
-{
-    let mut number: u64 = 0;
-    for byte in text {
-        let digit = char::from(*byte).to_digit(base)?;
-        number = number * u64::from(base) + u64::from(digit);
-        if number >= limit {
-            return None;
-        }
-    }
-    Some(number)
 }

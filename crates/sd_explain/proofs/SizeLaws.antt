@@ -4,21 +4,22 @@ use Rattle.std.specs.Prelude.{IfSome, codes}
 use Rattle.std.specs.Fmt.{decimal, digit_glyph}
 use Rattle.std.specs.List.{flat_map, enumerate_from, AllByRecursion}
 use Rattle.std.proofs.lemmas.Fmt.{length-decimal-le}
-use Rattle.sd_core.specs.Ace.{AccessControlEntry, GuidsFit, IsAce, ace_size, guid_size, is_object}
-use Rattle.sd_core.specs.Flags.{flags_text}
+use Rattle.sd_core.specs.Ace.{AccessControlEntry, GuidsFit, IsAce, ace_size, guid_size}
+use Rattle.sd_rights.specs.Kinds.{is_object, kind_letters}
+use Rattle.sd_rights.specs.Flags.{flags_text}
 use Rattle.sd_core.specs.GuidText.{guid_text}
-use Rattle.sd_core.specs.Kinds.{kind_letters}
 use Rattle.sd_core.specs.Naming.{alias_by}
-use Rattle.sd_core.specs.Rights.{rights_text}
+use Rattle.sd_rights.specs.Rights.{rights_text}
 use Rattle.sd_core.specs.Sid.{SecurityId, IsSid}
-use Rattle.sd_core.specs.SidText.{alias_of, hex_digits, sid_text}
-use Rattle.sd_core.specs.declared.ace.AceKind.{AceKind}
+use Rattle.sd_core.specs.SidText.{alias_of, sid_text}
+use Rattle.sd_rights.specs.Numbers.{hex_digits}
+use Rattle.sd_rights.specs.declared.kinds.AceKind.{AceKind}
 use Rattle.sd_core.specs.declared.naming.Naming.{Naming}
 use Rattle.sd_core.proofs.AliasNames.{IsName, alias_of-IsName}
-use Rattle.sd_core.proofs.FlagLaws.{flags_text-length}
+use Rattle.sd_rights.proofs.FlagLaws.{flags_text-length}
 use Rattle.sd_core.proofs.GuidTexts.{guid_text-length}
-use Rattle.sd_core.proofs.KindLaws.{letters-few}
-use Rattle.sd_core.proofs.RightsLaws.{rights_text-length}
+use Rattle.sd_rights.proofs.KindLaws.{letters-few}
+use Rattle.sd_rights.proofs.RightsLaws.{rights_text-length}
 use Rattle.sd_core.proofs.TextLaws.{length-sid_text}
 use Rattle.sd_binary.specs.Acl.{aces_size}
 use Rattle.sd_binary.specs.Control.{has_bit}

@@ -4,14 +4,15 @@ use Rattle.std.specs.Prelude.{ℕ, if◌then◌else◌, List, [], ◌∷◌, ◌
 use Rattle.std.specs.Fmt.{decimal}
 use Rattle.std.specs.List.{enumerate_from, flat_map}
 use Rattle.sd_core.specs.Ace.{AccessControlEntry}
-use Rattle.sd_core.specs.Flags.{flags_text}
+use Rattle.sd_rights.specs.Flags.{flags_text}
 use Rattle.sd_core.specs.GuidText.{guid_text}
-use Rattle.sd_core.specs.Kinds.{kind_letters}
+use Rattle.sd_rights.specs.Kinds.{kind_letters}
 use Rattle.sd_core.specs.Naming.{alias_by}
-use Rattle.sd_core.specs.Rights.{rights_text}
+use Rattle.sd_rights.specs.Rights.{rights_text}
 use Rattle.sd_core.specs.Sid.{SecurityId}
-use Rattle.sd_core.specs.SidText.{hex_digits, sid_text}
-use Rattle.sd_core.specs.declared.ace.AceKind.{AceKind}
+use Rattle.sd_rights.specs.Numbers.{hex_digits}
+use Rattle.sd_core.specs.SidText.{sid_text}
+use Rattle.sd_rights.specs.declared.kinds.AceKind.{AceKind}
 use Rattle.sd_core.specs.declared.naming.Naming.{Naming}
 use Rattle.sd_binary.specs.Control.{has_bit}
 use Rattle.sd_binary.specs.Descriptor.{Descriptor}

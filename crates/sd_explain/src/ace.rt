@@ -1,7 +1,7 @@
 // The line of an ACE (MS-DTYP 2.4.4).
 ghost use Rattle.std.specs.Prelude.{◌≡◌, ◌/◌, ◌%◌};
-ghost use Rattle.sd_core.specs.Print.{Prints};
-ghost use Rattle.sd_core.specs.Flags.{flags_text};
+ghost use Rattle.sd_sink.specs.Print.{Prints};
+ghost use Rattle.sd_rights.specs.Flags.{flags_text};
 ghost use Rattle.sd_explain.specs.Explain.{ace_head, ace_line, ace_rights, ace_trustee, guid_words, or_none};
 
 use crate::sid::print_sid;

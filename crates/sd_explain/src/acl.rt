@@ -1,7 +1,7 @@
 // The lines of an ACL (MS-DTYP 2.4.5).
 ghost use Rattle.std.specs.Prelude.{◌<◌, ◌^◌, length};
 ghost use Rattle.std.specs.List.{flat_map, enumerate_from};
-ghost use Rattle.sd_core.specs.Print.{Prints};
+ghost use Rattle.sd_sink.specs.Print.{Prints};
 ghost use Rattle.sd_explain.specs.Explain.{ace_lines, acl_lines, count_line};
 
 use crate::ace::print_ace;

@@ -1,7 +1,7 @@
 // The lines of the control word and of the resource manager byte (MS-DTYP 2.4.6).
 ghost use Rattle.std.specs.Prelude.{◌<◌};
 ghost use Rattle.std.specs.List.{flat_map};
-ghost use Rattle.sd_core.specs.Print.{Prints};
+ghost use Rattle.sd_sink.specs.Print.{Prints};
 ghost use Rattle.sd_binary.specs.declared.control.TheConstants.{CONTROL_BITS};
 ghost use Rattle.sd_explain.specs.Explain.{code_if, control_line, rm_line};
 

@@ -1,5 +1,5 @@
 // SIDs with their aliases, and the lines of owner and group (MS-DTYP 2.4.2).
-ghost use Rattle.sd_core.specs.Print.{Prints};
+ghost use Rattle.sd_sink.specs.Print.{Prints};
 ghost use Rattle.sd_explain.specs.Explain.{name_after, sid_line, sid_or_none, sid_words};
 
 use sd_core::{Naming, Print, Sid};

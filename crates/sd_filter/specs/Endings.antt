@@ -3,7 +3,7 @@ use Rattle.std.specs.Prelude.{◌≡◌, ◌⊎◌, ◌++◌, ◌==◌, ℕ, ◌
 use Rattle.std.specs.List.{list_any}
 use Rattle.clap.specs.Words.{Text, IsAmong, fault_of}
 use Rattle.clap.specs.declared.error.ErrorKind.TheVariants as kind
-use Rattle.sd_core.specs.Sink.{PutAll, PutSome}
+use Rattle.sd_sink.specs.Sink.{PutAll, PutSome}
 use Rattle.sd_core.specs.Token.{TokenShown}
 use Rattle.sd_filter.specs.Told.{SourceTold, DrainTold, sink_of}
 use Rattle.sd_filter.specs.Outcome.{Outcome}

@@ -2,7 +2,7 @@
 use Rattle.std.specs.Prelude.{ℕ, ◌+◌, Bool, not, ◌&&◌, ◌||◌, if◌then◌else◌, List, [], ◌∷◌}
 use Rattle.sd_core.specs.Ace.{AccessControlEntry}
 use Rattle.sd_core.specs.Mapping.{carries, mapped}
-use Rattle.sd_core.specs.Rights.{is_label}
+use Rattle.sd_rights.specs.Rights.{is_label}
 use Rattle.sd_core.specs.Sid.{SecurityId}
 use Rattle.sd_core.specs.SidText.{same_sid}
 use Rattle.sd_binary.specs.Control.{bit_of}

@@ -2,14 +2,14 @@
 use Rattle.std.specs.Prelude.{ℕ, ◌+◌, Bool, true, false, List, [], ◌++◌, Option, Some, None, codes}
 use Rattle.std.specs.List.{flat_map}
 use Rattle.sd_core.specs.Ace.{AccessControlEntry}
-use Rattle.sd_core.specs.Flags.{flags_text}
+use Rattle.sd_rights.specs.Flags.{flags_text}
 use Rattle.sd_core.specs.GuidText.{guid_text}
-use Rattle.sd_core.specs.Kinds.{kind_letters}
+use Rattle.sd_rights.specs.Kinds.{kind_letters}
 use Rattle.sd_core.specs.Naming.{alias_by}
-use Rattle.sd_core.specs.Rights.{rights_text}
+use Rattle.sd_rights.specs.Rights.{rights_text}
 use Rattle.sd_core.specs.Sid.{SecurityId}
 use Rattle.sd_core.specs.SidText.{sid_text}
-use Rattle.sd_core.specs.declared.ace.AceKind.{AceKind}
+use Rattle.sd_rights.specs.declared.kinds.AceKind.{AceKind}
 use Rattle.sd_binary.specs.Control.{acl_flags, flag_bits, present_bit}
 use Rattle.sd_binary.specs.Descriptor.{Descriptor}
 use Rattle.sd_core.specs.declared.naming.Naming.{Naming}

@@ -193,8 +193,19 @@ pub fn plain_inside(text: &[u8]) -> usize
     text.len()
 }
 
-/// The same for a text that may be long, as that of a SID. Whole blocks are passed over, each in a few instructions.
-pub fn plain_inside_long(text: &[u8]) -> usize
+/// The same at the front of a field of an ACE.
+pub fn plain_in_field(field: AceField, text: &[u8]) -> usize
+    ensures within { result ≤ length text.now }
+    ensures plain { list_all is_plain_inside (take result text.now) ≡ true }
+{
+    match field {
+        AceField::Sid => plain_inside_long(text),
+        _ => plain_inside(text),
+    }
+}
+
+// The same for a text that is long as a rule. Whole blocks are passed over, each in a few instructions.
+fn plain_inside_long(text: &[u8]) -> usize
     ensures within { result ≤ length text.now }
     ensures plain { list_all is_plain_inside (take result text.now) ≡ true }
 {
@@ -205,15 +216,19 @@ pub fn plain_inside_long(text: &[u8]) -> usize
     start + plain_inside(&text[start..])
 }
 
-// Whether all bytes are such. It looks at all of them, and so at several at a time.
+// Whether all bytes are such. It looks at all of them and at each in the same way, and so at several at a time.
 fn are_plain_inside(text: &[u8]) -> bool
     ensures { result ≡ list_all is_plain_inside text.now }
 {
-    let mut plain = true;
+    let mut other = false;
     for byte in text {
-        plain &= is_plain_inside(*byte);
+        other |= (*byte == b'(')
+            | (*byte == b')')
+            | (*byte == b';')
+            | (*byte == b' ')
+            | (*byte == b'\t');
     }
-    plain
+    !other
 }
 
 /// How many bytes at the front only go onto the text of a field outside parentheses.

@@ -1,8 +1,8 @@
 // Descriptors as SDDL (MS-DTYP 2.5.1).
 ghost use Rattle.std.specs.Prelude.{◌≡◌, ◌≤◌, ◌+◌, ◌*◌, ◌++◌, Bool, length, Ok, Option};
-ghost use Rattle.sd_core.specs.Print.{Prints};
+ghost use Rattle.sd_sink.specs.Print.{Prints};
 ghost use Rattle.sd_core.specs.Sid.{SecurityId};
-ghost use Rattle.sd_core.specs.Sink.{Puts};
+ghost use Rattle.sd_sink.specs.Sink.{Puts};
 ghost use Rattle.std.specs.Option.{option_copied};
 ghost use Rattle.sd_binary.specs.Descriptor.{IsDescriptor};
 ghost use Rattle.sd_binary.specs.Layout.{size};

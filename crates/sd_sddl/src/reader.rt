@@ -16,7 +16,7 @@ use crate::fault::SddlFault;
 use crate::field_text::{FieldText, MOST_FIELD_SIZE};
 use crate::line::{
     AceField, Head, Place, Seen, Slot, ends_field, head_of, is_blank, next_field, place_after,
-    place_of, plain_inside, plain_inside_long, plain_outside,
+    place_of, plain_in_field, plain_inside, plain_outside,
 };
 use crate::reading::{FieldReader, fault_of};
 use sd_binary::SdBuf;
@@ -353,10 +353,7 @@ impl SddlReader {
         if !self.sound || !self.field.is_empty() {
             return 0;
         }
-        let count = match field {
-            AceField::Sid => plain_inside_long(text),
-            _ => plain_inside(text),
-        };
+        let count = plain_in_field(field, text);
         if count > MOST_FIELD_SIZE || !ends_field(field, &text[count..]) {
             return 0;
         }

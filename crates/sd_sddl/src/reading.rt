@@ -44,7 +44,8 @@ pub struct FieldReader {
 
 impl FieldReader {
     ghost use Rattle.std.specs.Prelude.{◌≡◌, ◌/◌, ◌%◌, Ok, Err, Some, None, Option};
-    ghost use Rattle.sd_core.specs.Ace.{AccessControlEntry, GuidsFit, is_object};
+    ghost use Rattle.sd_core.specs.Ace.{AccessControlEntry, GuidsFit};
+    ghost use Rattle.sd_rights.specs.Kinds.{is_object};
     ghost use Rattle.sd_binary.specs.Draft.{IsOpen, closed};
     ghost use Rattle.sd_sddl.specs.declared.line.Head.TheVariants as head;
     ghost use Rattle.sd_sddl.specs.FoldedReading.{Reading, begun_or_null, finished, nothing_read, with_flags, with_owner_or_group};

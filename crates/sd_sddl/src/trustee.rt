@@ -1,5 +1,5 @@
 // Trustees, owners and groups in SDDL.
-ghost use Rattle.sd_core.specs.Print.{Prints};
+ghost use Rattle.sd_sink.specs.Print.{Prints};
 ghost use Rattle.sd_sddl.specs.Printed.{trustee_text};
 
 use sd_core::{Naming, Print, Sid};

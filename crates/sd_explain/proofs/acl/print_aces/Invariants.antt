@@ -1,5 +1,5 @@
 use Rattle.std.proofs.Common.{◌≡◌, ◌++◌, length}
-use Rattle.sd_core.specs.Print.{Prints}
+use Rattle.sd_sink.specs.Print.{Prints}
 use Rattle.sd_explain.specs.Explain.{ace_lines}
 use Rattle.sd_explain.proofs.acl.print_aces.Given as goal
 

@@ -3,8 +3,8 @@ use Rattle.std.proofs.Math.Seq.{take-suc}
 use Rattle.std.specs.List.{flat_map}
 use Rattle.sd_binary.specs.declared.control.ControlBit.{ControlBit}
 use Rattle.sd_binary.specs.declared.control.TheConstants.{CONTROL_BITS}
-use Rattle.sd_core.proofs.PrintLemmas.{prints_as}
-use Rattle.sd_core.proofs.PrintLoops.{Prints-item}
+use Rattle.sd_sink.proofs.PrintLemmas.{prints_as}
+use Rattle.sd_sink.proofs.PrintLoops.{Prints-item}
 use Rattle.sd_explain.specs.Explain.{code_if}
 use Rattle.sd_explain.proofs.control.print_codes.Goals as goal
 

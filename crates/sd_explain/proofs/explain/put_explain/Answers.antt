@@ -1,5 +1,5 @@
 use Rattle.std.proofs.Common.{rules}
-use Rattle.sd_core.proofs.PrintLemmas.{printed}
+use Rattle.sd_sink.proofs.PrintLemmas.{printed}
 use Rattle.sd_core.specs.Naming.{naming_by}
 use Rattle.sd_explain.proofs.SizeLaws.{explain-length}
 use Rattle.sd_explain.proofs.explain.put_explain.Goals as goal

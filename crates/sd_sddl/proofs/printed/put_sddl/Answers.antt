@@ -1,6 +1,6 @@
 use Rattle.std.proofs.Common.{sym, rules, ◌∙◌}
 use Rattle.std.specs.Option.{option_copied}
-use Rattle.sd_core.proofs.PrintLemmas.{printed}
+use Rattle.sd_sink.proofs.PrintLemmas.{printed}
 use Rattle.sd_sddl.proofs.BackLaws.{folded-sddl}
 use Rattle.sd_sddl.proofs.FoldedMeaning.{folded-means}
 use Rattle.sd_sddl.proofs.SizeLaws.{sddl-length}

@@ -12,7 +12,7 @@ returns-clause-read c = λ domain before h.
     let e = c.take_field.ensures.answers h.0 h.1 in
     let still : c.take_field.new.self.pending ≡ None = c.take_field.ensures.pending ∙ none in
     let text = c.args.text.now in
-    let n = c.plain_inside-count.result in
+    let n = c.plain_in_field-count.result in
     let b = end_of c.in-Ace.field in
     let whole = with-end text n b (c.ends_field.ensures c.if-not-ends_field.false) in (
       e.0,
