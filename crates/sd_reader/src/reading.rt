@@ -68,6 +68,7 @@ impl FieldReader {
     }
 
     /// Reads a field whose text has no blank and at most 183 bytes.
+    #[inline(always)]
     #[tactic(auto, unfolding(crate::specs::FoldedReading::take_field))]
     pub fn take_readable(
         &mut self,

@@ -10,7 +10,7 @@ ghost use Rattle.sd_view.specs.Bytes.{u16_at as u16_of};
 
 use crate::bytes::{u16_at, u32_at};
 use crate::fault::AclFault;
-use sd_core::{AceKind, Sid, guid_read};
+use sd_core::{Ace, AceKind, Sid, guid_read};
 use std::marker::Model;
 use uuid::Uuid;
 
@@ -211,6 +211,22 @@ impl<'a> AceView<'a> {
         ensures written { length (ace_bytes self.now) ≡ ace_size self.now }
     {
         (self.front_size() + self.body().len()) as u16
+    }
+
+    /// The ACE by value.
+    pub fn ace(&self) -> Ace
+        ensures { result ≡ self.now }
+    {
+        // What is shown is an ACE, so its parts make one.
+        Ace::new(
+            self.kind(),
+            self.flags(),
+            self.mask(),
+            self.object(),
+            self.inherited(),
+            self.sid(),
+        )
+        .unwrap()
     }
 
     // The bytes before the GUIDs.
