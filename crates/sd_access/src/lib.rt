@@ -1,4 +1,5 @@
-//! What a user may do: the access check (MS-DTYP 2.5.3), in the profile that docs/DEFINITIONS.md tells.
+//! What a user may do: the access check (MS-DTYP 2.5.3), in the profile that docs/DEFINITIONS.md tells. What a new object
+//! inherits stands in `sd_inherit`, and is brought out here.
 #![tactic(auto)]
 
 mod applies;
@@ -9,4 +10,5 @@ mod trustee;
 mod verdict;
 
 pub use ask::{Ask, AskFault, Privileges};
+pub use sd_inherit::{DeriveFault, Plan, Target, derive};
 pub use verdict::{Verdict, check};

@@ -53,7 +53,8 @@ given option (Some value) = Ok value
 abbrev pub GivenBy :
     {A : Type 0} → (Text → Option A → Type 0) → OptionName → Option Text → Result (Option A) UsageFault → Type 0
 GivenBy reads option None result = result ≡ Ok None
-GivenBy reads option (Some text) result = (value : _) × (reads text value) × (result ≡ given option (option_map (λ v. Some v) value))
+GivenBy reads option (Some text) result =
+    (value : _) × (reads text value) × (result ≡ given option (option_map (λ v. Some v) value))
 
 unfoldable pub given_domain : List Row → Result (Option SecurityId) UsageFault
 given_domain rows = given name.Domain (value_if domain_reads (first_of (codes "domain") rows))

@@ -14,7 +14,7 @@ use Rattle.sd_rights.specs.declared.rights_table.TheConstants.{SINGLES, COMPOUND
 
 -- every name is read in every kind of ACE
 abbrev pub all_rights : List NamedBits
-all_rights = SINGLES ++ (COMPOUNDS ++ LABELS)
+all_rights = COMPOUNDS ++ (SINGLES ++ LABELS)
 
 -- one digit of a base or more, and nothing else
 abbrev pub is_numeral : ℕ → List ℕ → Bool

@@ -29,7 +29,7 @@ fn read_rights(text: &[u8]) -> Option<u32>
         return Some(0);
     };
     if !char::from(*first).is_digit(10) {
-        return read_names(&[&SINGLES, &COMPOUNDS, &LABELS], text);
+        return read_names(&[&COMPOUNDS, &SINGLES, &LABELS], text);
     }
     if *first == b'0' {
         read_after_zero(rest)

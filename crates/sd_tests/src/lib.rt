@@ -19,6 +19,8 @@ mod flushes;
 #[cfg(test)]
 mod guid;
 #[cfg(test)]
+mod inheritance;
+#[cfg(test)]
 mod lines;
 #[cfg(test)]
 mod memory;

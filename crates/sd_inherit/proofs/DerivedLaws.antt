@@ -1,0 +1,74 @@
+-- What is derived, from the parts that the builder was given, and why it may not be.
+use Rattle.std.proofs.Common.{◌≡◌, ◌≤◌, ℕ, ◌+◌, ◌^◌, ◌↔◌, Bool, true, false, List, Some, None, refl, sym, ap, arith}
+use Rattle.std.proofs.lemmas.Bool.Decides.{nat_tests}
+use Rattle.sd_core.specs.Ace.{AccessControlEntry}
+use Rattle.sd_view.specs.Acl.{acl_size}
+use Rattle.sd_view.specs.Control.{bit_if, control_of}
+use Rattle.sd_view.specs.Descriptor.{Descriptor}
+use Rattle.sd_binary.specs.Draft.{Draft, built, is_present}
+use Rattle.sd_view.specs.declared.acl.AclPart.TheVariants as acl
+use Rattle.sd_view.specs.declared.control.Which.TheVariants.{Sacl, Dacl}
+use Rattle.sd_view.specs.declared.control.TheConstants.{DACL_AUTO_INHERITED, DACL_PRESENT, SACL_AUTO_INHERITED, SACL_PRESENT, SELF_RELATIVE}
+use Rattle.sd_inherit.specs.Building.{inherited_bits}
+use Rattle.sd_inherit.specs.Derived.{derive_fault, derived, inherited, is_too_large, sacl_of}
+use Rattle.sd_inherit.specs.declared.derivation.DeriveFault.TheVariants.{DerivedTooLarge}
+use Rattle.sd_inherit.specs.declared.plan.Plan.{Plan}
+
+-- an ACL was refused exactly where it is too large
+abbrev RefusedFor : Bool → List AccessControlEntry → Type 0
+RefusedFor refused aces = (refused ≡ true) ↔ (2 ^ 16 ≤ acl_size aces)
+
+too_large : (aces : List AccessControlEntry) → RefusedFor true aces → is_too_large aces ≡ true
+too_large aces refused = let large = refused.0 refl in grind (arith, nat_tests)
+
+fits : (aces : List AccessControlEntry) → RefusedFor false aces → is_too_large aces ≡ false
+fits aces refused = by_test (is_too_large aces) refl
+  where
+    by_test : (x : Bool) → is_too_large aces ≡ x → x ≡ false
+    by_test true e = sym (refused.1 (grind (arith, nat_tests)))
+    by_test false e = refl
+
+module _ (d : Descriptor) (plan : Plan) where
+  pub fault-sacl : RefusedFor true (inherited plan d.sacl) → derive_fault d plan ≡ Some (DerivedTooLarge Sacl)
+  unfolding derive_fault
+  fault-sacl sacl = rw (too_large (inherited plan d.sacl) sacl) refl
+
+  pub fault-dacl : RefusedFor false (inherited plan d.sacl) → RefusedFor true (inherited plan d.dacl)
+      → derive_fault d plan ≡ Some (DerivedTooLarge Dacl)
+  unfolding derive_fault
+  fault-dacl sacl dacl = rw (fits (inherited plan d.sacl) sacl, too_large (inherited plan d.dacl) dacl) refl
+
+  pub fault-none : RefusedFor false (inherited plan d.sacl) → RefusedFor false (inherited plan d.dacl)
+      → derive_fault d plan ≡ None
+  unfolding derive_fault
+  fault-none sacl dacl = rw (fits (inherited plan d.sacl) sacl, fits (inherited plan d.dacl) dacl) refl
+
+control-is : (has_sacl : Bool) → control_of (inherited_bits has_sacl) has_sacl true
+    ≡ SELF_RELATIVE + DACL_PRESENT + DACL_AUTO_INHERITED + bit_if has_sacl (SACL_PRESENT + SACL_AUTO_INHERITED)
+control-is true = refl
+control-is false = refl
+
+-- the parts of what is derived
+abbrev pub parts_of : Descriptor → Plan → Draft
+parts_of d plan = record {
+  owner = Some plan.owner;
+  group = Some plan.group;
+  sacl = sacl_of (inherited plan d.sacl);
+  dacl = acl.List (inherited plan d.dacl);
+  «open» = None;
+}
+
+pub built-derived : (d : Descriptor) (plan : Plan) (has_sacl : Bool)
+    → has_sacl ≡ is_present (sacl_of (inherited plan d.sacl))
+    → built (inherited_bits has_sacl) 0 (parts_of d plan) ≡ derived d plan
+unfolding derived
+built-derived d plan has_sacl is =
+    rw is
+    (ap (λ (n : ℕ). let e : Descriptor = record {
+      control = n;
+      rm = 0;
+      owner = Some plan.owner;
+      group = Some plan.group;
+      sacl = sacl_of (inherited plan d.sacl);
+      dacl = acl.List (inherited plan d.dacl);
+    } in e) (control-is (is_present (sacl_of (inherited plan d.sacl)))))

@@ -1,0 +1,121 @@
+//! The copies of one ACE.
+
+ghost use Rattle.std.specs.Prelude.{◌≡◌, ◌<◌, ◌/◌, ◌%◌, not, None, Some};
+ghost use Rattle.sd_binary.specs.Draft.{is_present};
+ghost use Rattle.sd_inherit.specs.Building.{listed};
+ghost use Rattle.sd_inherit.specs.Copies.{copies, copies_for, copied_flags, effective_copy, heir, inherit_only_copy};
+ghost use Rattle.sd_inherit.specs.Derived.{sacl_of};
+
+use crate::flags::{
+    CONTAINER_INHERIT, INHERIT_ONLY, NO_PROPAGATE, OBJECT_INHERIT, copied_flags, onward_flags,
+};
+use crate::heirs::{differs, heir, heir_mask};
+use crate::plan::{Plan, Target};
+use sd_core::{Ace, Sid, carries};
+
+/// What a new object gets from one ACE: at most one copy for itself, and then at most one to hand on.
+#[derive(Clone, Copy)]
+pub struct Copies {
+    pub effective: Option<Ace>,
+    pub inherit_only: Option<Ace>,
+}
+
+impl Copies {
+    /// Whether there is none.
+    pub fn is_empty(&self) -> bool
+        ensures { result ≡ not (is_present (sacl_of (listed self.now))) }
+    {
+        self.effective.is_none() && self.inherit_only.is_none()
+    }
+}
+
+/// The copies of an ACE.
+#[tactic(auto, unfolding(crate::specs::Copies::copies))]
+pub fn copies_of(plan: &Plan, ace: &Ace) -> Copies
+    ensures { listed result ≡ copies plan.now ace.now }
+{
+    match plan.target {
+        Target::File => file_copies(plan, ace),
+        Target::Container => container_copies(plan, ace),
+    }
+}
+
+fn file_copies(plan: &Plan, ace: &Ace) -> Copies
+    ensures { listed result ≡ copies_for Target.File plan.now ace.now }
+{
+    if carries(u32::from(ace.flags()), OBJECT_INHERIT) {
+        return one_copy(effective_copy(plan, ace, 0));
+    }
+    Copies {
+        effective: None,
+        inherit_only: None,
+    }
+}
+
+fn container_copies(plan: &Plan, ace: &Ace) -> Copies
+    ensures { listed result ≡ copies_for Target.Container plan.now ace.now }
+{
+    let flags = u32::from(ace.flags());
+    let one_level = carries(flags, NO_PROPAGATE);
+    if carries(flags, CONTAINER_INHERIT) {
+        if one_level {
+            return one_copy(effective_copy(plan, ace, 0));
+        }
+        if !differs(ace) {
+            return one_copy(effective_copy(plan, ace, onward_flags(ace.flags())));
+        }
+        return Copies {
+            effective: Some(effective_copy(plan, ace, 0)),
+            inherit_only: Some(inherit_only_copy(ace)),
+        };
+    }
+    Copies {
+        effective: None,
+        inherit_only: if carries(flags, OBJECT_INHERIT) && !one_level {
+            Some(inherit_only_copy(ace))
+        } else {
+            None
+        },
+    }
+}
+
+// For the new object alone, or with flags for what is made in it.
+fn one_copy(ace: Ace) -> Copies
+    ensures value { result ≡ record { effective = Some ace; inherit_only = None } }
+{
+    Copies {
+        effective: Some(ace),
+        inherit_only: None,
+    }
+}
+
+// The copy for the new object itself, with the flags that go on.
+fn effective_copy(plan: &Plan, ace: &Ace, onward: u8) -> Ace
+    requires { onward < 4 }
+    ensures { result ≡ effective_copy plan.now ace.now onward }
+{
+    changed(
+        ace,
+        copied_flags(ace.flags(), onward),
+        heir_mask(plan, ace),
+        heir(plan, ace.sid()),
+    )
+}
+
+// The copy to hand on.
+fn inherit_only_copy(ace: &Ace) -> Ace
+    ensures { result ≡ inherit_only_copy ace.now }
+{
+    let added = INHERIT_ONLY + onward_flags(ace.flags());
+    changed(ace, copied_flags(ace.flags(), added), ace.mask(), ace.sid())
+}
+
+// The same ACE with other flags, another mask and another SID.
+fn changed(ace: &Ace, flags: u8, mask: u32, sid: Sid) -> Ace
+    requires { flags / 0x20 % 2 ≡ 0 }
+    ensures { result ≡ record ace.now { flags = flags; mask = mask; sid = sid } }
+{
+    // Kind and GUIDs are those of an ACE.
+    let _ = ace.size();
+    Ace::new(ace.kind(), flags, mask, ace.object(), ace.inherited(), sid).unwrap()
+}

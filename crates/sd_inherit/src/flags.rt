@@ -1,0 +1,39 @@
+//! The flags of inheritance (MS-DTYP 2.4.4.1).
+
+ghost use Rattle.std.specs.Prelude.{◌≡◌, ◌<◌, ◌≤◌, ◌+◌};
+ghost use Rattle.sd_inherit.specs.Copies.{audit_flags, copied_flags, onward_flags};
+
+/// The places of OBJECT_INHERIT_ACE, CONTAINER_INHERIT_ACE and NO_PROPAGATE_INHERIT_ACE.
+pub const OBJECT_INHERIT: u32 = 0;
+
+pub const CONTAINER_INHERIT: u32 = 1;
+
+pub const NO_PROPAGATE: u32 = 2;
+
+/// INHERIT_ONLY_ACE.
+pub const INHERIT_ONLY: u8 = 0x8;
+
+/// INHERITED_ACE.
+const INHERITED: u8 = 0x10;
+
+/// OBJECT_INHERIT_ACE and CONTAINER_INHERIT_ACE.
+const ONWARD: u8 = 0x3;
+
+/// SUCCESSFUL_ACCESS_ACE_FLAG and FAILED_ACCESS_ACE_FLAG.
+const AUDIT: u8 = 0xc0;
+
+/// The flags with which an ACE goes on from a container.
+pub fn onward_flags(flags: u8) -> u8
+    ensures value { result ≡ onward_flags flags }
+    ensures most { result ≤ 3 }
+{
+    flags & ONWARD
+}
+
+/// The flags of a copy: the audit flags as they were, that it is inherited, and those that are added.
+pub fn copied_flags(flags: u8, added: u8) -> u8
+    requires { added < 16 }
+    ensures { result ≡ copied_flags flags added }
+{
+    (flags & AUDIT) + INHERITED + added
+}

@@ -1,0 +1,123 @@
+//! ACLs of copies, built.
+
+ghost use Rattle.std.specs.Prelude.{◌≡◌, ◌<◌, ◌≤◌, ◌+◌, ◌^◌, ◌↔◌, [], IsErr, IfOk, OnOk, not};
+ghost use Rattle.std.specs.List.{flat_map};
+ghost use Rattle.sd_view.specs.Acl.{aces_size, acl_size};
+ghost use Rattle.sd_binary.specs.Draft.{CanBegin, Draft, bytes_after, is_present, open_size, part_of, with_acl};
+ghost use Rattle.sd_view.specs.declared.acl.AclPart.TheVariants as acl;
+ghost use Rattle.sd_view.specs.declared.control.Which.TheVariants as which;
+ghost use Rattle.sd_inherit.specs.Building.{HasOpen, Writes, listed, one_or_none, with_aces};
+ghost use Rattle.sd_inherit.specs.Copies.{copies};
+ghost use Rattle.sd_inherit.specs.Derived.{inherited, sacl_of};
+
+use crate::copies::{Copies, copies_of};
+use crate::plan::Plan;
+use sd_binary::{AclPart, AclTooLarge, AclView, Builder, SdBuf, Which};
+use sd_core::Ace;
+
+/// Appends the SACL, if a copy stands in it, and tells whether it does.
+pub fn put_sacl(
+    builder: &mut Builder,
+    buf: &mut SdBuf,
+    plan: &Plan,
+    sacl: &AclPart,
+) -> Result<bool, AclTooLarge>
+    requires { (t : Draft) × Writes builder.old buf.old t × CanBegin which.Sacl t
+        × (bytes_after (part_of which.Sacl) t ≡ []) }
+    ensures ok { (t : Draft) → Writes builder.old buf.old t → CanBegin which.Sacl t
+        → bytes_after (part_of which.Sacl) t ≡ []
+        → OnOk result (Writes builder.new buf.new (with_acl which.Sacl (sacl_of (inherited plan.now sacl.now)) t)) }
+    ensures stands { IfOk result (λ stands. stands ≡ is_present (sacl_of (inherited plan.now sacl.now))) }
+    ensures full { IsErr result ↔ (2 ^ 16 ≤ acl_size (inherited plan.now sacl.now)) }
+{
+    if !has_copy(plan, sacl) {
+        return Ok(false);
+    }
+    put_acl(builder, buf, plan, Which::Sacl, sacl)?;
+    Ok(true)
+}
+
+/// Appends an ACL of the copies.
+pub fn put_acl(
+    builder: &mut Builder,
+    buf: &mut SdBuf,
+    plan: &Plan,
+    which: Which,
+    part: &AclPart,
+) -> Result<(), AclTooLarge>
+    requires { (t : Draft) × Writes builder.old buf.old t × CanBegin which t × (bytes_after (part_of which) t ≡ []) }
+    ensures ok { (t : Draft) → Writes builder.old buf.old t → CanBegin which t → bytes_after (part_of which) t ≡ []
+        → OnOk result (Writes builder.new buf.new (with_acl which (acl.List (inherited plan.now part.now)) t)) }
+    ensures full { IsErr result ↔ (2 ^ 16 ≤ acl_size (inherited plan.now part.now)) }
+{
+    builder.begin_acl(buf, which);
+    if let AclPart::List(acl) = part {
+        put_inherited(builder, buf, plan, acl)?;
+    }
+    builder.end_acl(buf);
+    Ok(())
+}
+
+// Appends the copies of each ACE.
+fn put_inherited(
+    builder: &mut Builder,
+    buf: &mut SdBuf,
+    plan: &Plan,
+    acl: &AclView,
+) -> Result<(), AclTooLarge>
+    requires { (t : Draft) × Writes builder.old buf.old t × HasOpen t }
+    ensures ok { (t : Draft) → Writes builder.old buf.old t
+        → OnOk result (Writes builder.new buf.new (with_aces (flat_map (copies plan.now) acl.now) t)) }
+    ensures full { (t : Draft) → Writes builder.old buf.old t → HasOpen t
+        → (IsErr result ↔ (2 ^ 16 ≤ open_size t + aces_size (flat_map (copies plan.now) acl.now))) }
+{
+    for ace in acl.aces() {
+        put_copies(builder, buf, &copies_of(plan, &ace.ace()))?;
+    }
+    Ok(())
+}
+
+fn put_copies(builder: &mut Builder, buf: &mut SdBuf, copies: &Copies) -> Result<(), AclTooLarge>
+    requires { (t : Draft) × Writes builder.old buf.old t × HasOpen t }
+    ensures ok { (t : Draft) → Writes builder.old buf.old t
+        → OnOk result (Writes builder.new buf.new (with_aces (listed copies.now) t)) }
+    ensures full { (t : Draft) → Writes builder.old buf.old t → HasOpen t
+        → (IsErr result ↔ (2 ^ 16 ≤ open_size t + aces_size (listed copies.now))) }
+{
+    put_copy(builder, buf, copies.effective)?;
+    put_copy(builder, buf, copies.inherit_only)
+}
+
+fn put_copy(builder: &mut Builder, buf: &mut SdBuf, copy: Option<Ace>) -> Result<(), AclTooLarge>
+    requires { (t : Draft) × Writes builder.old buf.old t × HasOpen t }
+    ensures ok { (t : Draft) → Writes builder.old buf.old t
+        → OnOk result (Writes builder.new buf.new (with_aces (one_or_none copy) t)) }
+    ensures full { (t : Draft) → Writes builder.old buf.old t → HasOpen t
+        → (IsErr result ↔ (2 ^ 16 ≤ open_size t + aces_size (one_or_none copy))) }
+{
+    match copy {
+        None => Ok(()),
+        Some(ace) => builder.ace(buf, &ace),
+    }
+}
+
+// Whether a copy stands in the ACL that is inherited.
+fn has_copy(plan: &Plan, part: &AclPart) -> bool
+    ensures { result ≡ is_present (sacl_of (inherited plan.now part.now)) }
+{
+    match part {
+        AclPart::List(acl) => gives_copy(plan, acl),
+        AclPart::Absent | AclPart::Null => false,
+    }
+}
+
+fn gives_copy(plan: &Plan, acl: &AclView) -> bool
+    ensures { result ≡ is_present (sacl_of (flat_map (copies plan.now) acl.now)) }
+{
+    for ace in acl.aces() {
+        if !copies_of(plan, &ace.ace()).is_empty() {
+            return true;
+        }
+    }
+    false
+}
