@@ -1,9 +1,4 @@
-# make run      builds the program and converts the examples
-# make test     the gate and all tests of the built program; the last line is 'N passed, M failed'
-# make edits    tries every edit that the check has to refuse, also those that the gate leaves out; CRATE=NAME for one crate
-# make bench    measures the program against a plain one in Rust, and cat
-# make install  puts the program and its man page below PREFIX
-# make clean    removes what was built
+# `make help` says what there is. Times are of four processors with nothing else to do.
 PREFIX ?= /usr/local
 DESTDIR ?=
 
@@ -13,7 +8,19 @@ SOURCES := crates.txt $(shell find crates -path '*/out' -prune -o -path '*/must-
 
 need_toolchain = $(if $(shell command -v rt 2>&1),,$(error the Rattle toolchain is missing: there is no command 'rt' on the PATH))
 
-.PHONY: program run test edits bench install clean
+.PHONY: help program run check rows test edits bench install clean
+
+# The first target, so that `make` alone says what there is.
+help:
+	@echo 'make run               builds the program and shows the examples, each with its answer (6 minutes, then seconds)'
+	@echo 'make program           builds the program alone: crates/sdtool/out/sdtool'
+	@echo 'make check CRATE=NAME  proves a crate, over the work that earlier checks kept (seconds to 2 minutes)'
+	@echo 'make rows ID=WORD      the rows whose names have the word, on the built program (seconds; ID= for all)'
+	@echo 'make test              the gate and all tests of the built program (an hour); ends with N passed, M failed'
+	@echo 'make edits CRATE=NAME  tries every edit that the check has to refuse, also those that the gate leaves out'
+	@echo 'make bench             measures the program against a plain one in Rust, and cat (5 minutes)'
+	@echo 'make install           puts the program and its man page below PREFIX ($(PREFIX))'
+	@echo 'make clean             removes what was built'
 
 program: $(PROGRAM)
 
@@ -26,8 +33,15 @@ $(PROGRAM): $(SOURCES)
 
 # Where a line is faulty the status is 1, which here is an answer and no failure.
 run: program
-	cat $(EXAMPLES)
-	$(PROGRAM) convert --from hex --to hex < $(EXAMPLES) || test $$? -eq 1
+	@$(PROGRAM) convert < $(EXAMPLES) | paste -d '\n' $(EXAMPLES) - | sed -e 'n;s/^/    /'
+
+check:
+	$(need_toolchain)
+	$(if $(CRATE),,$(error say which crate: make check CRATE=sd_core))
+	cd crates/$(CRATE) && rt check
+
+rows: program
+	tests/run_rows.py $(PROGRAM) $(if $(ID),--only $(ID))
 
 test:
 	$(need_toolchain)

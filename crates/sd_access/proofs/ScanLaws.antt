@@ -7,7 +7,7 @@ use Rattle.std.proofs.lemmas.Nat.{mul-le}
 use Rattle.sd_core.specs.Ace.{AccessControlEntry}
 use Rattle.sd_core.specs.Mapping.{carries, mapped}
 use Rattle.sd_core.specs.Token.{Entry}
-use Rattle.sd_binary.specs.Descriptor.{Descriptor}
+use Rattle.sd_view.specs.Descriptor.{Descriptor}
 use Rattle.sd_access.specs.Applies.{applies, is_allow}
 use Rattle.sd_access.specs.Ask.{Asked}
 use Rattle.sd_access.specs.Granted.{allows, decides}

@@ -5,7 +5,7 @@ use Rattle.std.proofs.lemmas.Bool.{agree_below, agree_below_at, eq-eqb, ne_eqb}
 use Rattle.std.proofs.lemmas.Nat.{and_le_l, mul-le, or_lt, pow_pos}
 use Rattle.sd_core.specs.Mapping.{carries, mask_if}
 use Rattle.sd_core.specs.Token.{Entry}
-use Rattle.sd_binary.specs.Descriptor.{Descriptor}
+use Rattle.sd_view.specs.Descriptor.{Descriptor}
 use Rattle.sd_access.specs.Ask.{AreRights, Asked}
 use Rattle.sd_access.specs.Granted.{aces_of, decides, granted, is_allowed, is_open, is_owned, needs_no_ace}
 use Rattle.sd_access.specs.Need.{bound, in_question, least, need}

@@ -8,7 +8,7 @@ use Rattle.sd_core.specs.SidText.{same_sid}
 use Rattle.sd_core.specs.Token.{Entry, meets}
 use Rattle.sd_rights.specs.declared.kinds.AceKind.{AceKind}
 use Rattle.sd_rights.specs.declared.kinds.AceKind.TheVariants as kinds
-use Rattle.sd_binary.specs.Descriptor.{Descriptor}
+use Rattle.sd_view.specs.Descriptor.{Descriptor}
 use Rattle.sd_access.specs.Ask.{Asked}
 
 -- 1. The kinds that grant and deny: A, D, OA and OD.

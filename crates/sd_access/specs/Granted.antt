@@ -5,9 +5,9 @@ use Rattle.sd_core.specs.Ace.{AccessControlEntry}
 use Rattle.sd_core.specs.Mapping.{carries, mapped}
 use Rattle.sd_core.specs.SidText.{same_sid}
 use Rattle.sd_core.specs.Token.{Entry}
-use Rattle.sd_binary.specs.Descriptor.{Descriptor}
-use Rattle.sd_binary.specs.declared.acl.AclPart.{AclPart}
-use Rattle.sd_binary.specs.declared.acl.AclPart.TheVariants as acl
+use Rattle.sd_view.specs.Descriptor.{Descriptor}
+use Rattle.sd_view.specs.declared.acl.AclPart.{AclPart}
+use Rattle.sd_view.specs.declared.acl.AclPart.TheVariants as acl
 use Rattle.sd_access.specs.Ask.{Asked}
 use Rattle.sd_access.specs.Applies.{applies, is_allow, is_effective, owner_rights, some_meets}
 

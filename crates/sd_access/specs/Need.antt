@@ -4,7 +4,7 @@ use Rattle.std.specs.List.{list_any}
 use Rattle.sd_core.specs.Ace.{AccessControlEntry}
 use Rattle.sd_core.specs.Mapping.{carries}
 use Rattle.sd_core.specs.Token.{Entry}
-use Rattle.sd_binary.specs.Descriptor.{Descriptor}
+use Rattle.sd_view.specs.Descriptor.{Descriptor}
 use Rattle.sd_access.specs.Ask.{Asked}
 use Rattle.sd_access.specs.Granted.{aces_of, decides, needs_no_ace, system_security}
 

@@ -4,7 +4,7 @@ use Rattle.std.specs.List.{list_any}
 use Rattle.sd_core.specs.Ace.{AccessControlEntry}
 use Rattle.sd_core.specs.Mapping.{carries, mask_if}
 use Rattle.sd_core.specs.Token.{Entry}
-use Rattle.sd_binary.specs.Descriptor.{Descriptor}
+use Rattle.sd_view.specs.Descriptor.{Descriptor}
 use Rattle.sd_access.specs.Ask.{Asked}
 use Rattle.sd_access.specs.Granted.{decides, granted, is_open, is_owned}
 use Rattle.sd_access.specs.Need.{all_below, in_question, least}

@@ -11,17 +11,17 @@ use Rattle.byteorder.specs.Endian.{little_bytes}
 use Rattle.sd_core.specs.Ace.{AccessControlEntry, IsAce, ace_size}
 use Rattle.sd_rights.specs.Kinds.{is_object}
 use Rattle.sd_core.specs.Sid.{SecurityId, IsSid, sid_bytes}
-use Rattle.sd_binary.specs.Acl.{aces_size, acl_size, has_object}
-use Rattle.sd_binary.specs.AclLayout.{ace_bytes, acl_bytes, acl_header, revision_if}
+use Rattle.sd_view.specs.Acl.{aces_size, acl_size, has_object}
+use Rattle.sd_view.specs.AclLayout.{ace_bytes, acl_bytes, acl_header, revision_if}
 use Rattle.sd_binary.specs.Builds.{AclStands, Building, Builds, OpenAt, OpenIsFree, OpenStands, PartsStand, SidStands, placed}
 use Rattle.sd_binary.specs.Draft.{CanBegin, Draft, IsOpen, IsOpenIn, acl_of, begun, closed, closed_in, no_parts, open_size, open_size_in, with_ace, with_acl}
-use Rattle.sd_binary.specs.declared.acl.AclPart.{AclPart}
-use Rattle.sd_binary.specs.declared.acl.AclPart.TheVariants as acl
+use Rattle.sd_view.specs.declared.acl.AclPart.{AclPart}
+use Rattle.sd_view.specs.declared.acl.AclPart.TheVariants as acl
 use Rattle.sd_binary.specs.declared.builder.Builder.{Builder}
 use Rattle.sd_binary.specs.declared.builder.OpenAcl.{OpenAcl}
-use Rattle.sd_binary.specs.declared.builder.Which.{Which}
-use Rattle.sd_binary.specs.declared.builder.Which.TheVariants as lists
-use Rattle.sd_binary.proofs.AclLayoutLaws.{aces-many, length-aces}
+use Rattle.sd_view.specs.declared.control.Which.{Which}
+use Rattle.sd_view.specs.declared.control.Which.TheVariants as lists
+use Rattle.sd_view.proofs.AclLayoutLaws.{aces-many, length-aces}
 use Rattle.sd_binary.proofs.Standing.{group-stands, list-stands, null-stands, owner-stands, room}
 
 -- what the builder keeps and what it was given agree on which parts there are

@@ -2,18 +2,18 @@
 use Rattle.std.proofs.Common.{◌≡◌, ◌≤◌, ◌<◌, ℕ, ◌+◌, ◌/◌, ◌%◌, ◌^◌, eqb, Bool, true, false, List, ◌++◌, length, drop, Option, Some, None, refl, sym, ap, subst, ◌∙◌, arith, length-append, length-drop}
 use Rattle.std.specs.Prelude.{is_some, unwrap_or}
 use Rattle.sd_core.specs.Sid.{SecurityId}
-use Rattle.sd_binary.specs.AclLayout.{acl_bytes}
+use Rattle.sd_view.specs.AclLayout.{acl_bytes}
 use Rattle.sd_binary.specs.Builds.{AclStands, Builds, PartsStand, SidStands, acl_extent_of}
-use Rattle.sd_binary.specs.Control.{bit_if}
-use Rattle.sd_binary.specs.Descriptor.{Shows, ShowsAclPart, ShowsSid, acl_extent, dacl_at, group_at, owner_at, sacl_at}
-use Rattle.sd_binary.specs.Draft.{AclIsWritten, Draft, IsWritten, built, control_of, is_present}
-use Rattle.sd_binary.specs.Layout.{header_bytes}
-use Rattle.sd_binary.specs.declared.acl.AclPart.{AclPart}
-use Rattle.sd_binary.specs.declared.acl.AclPart.TheVariants as acl
+use Rattle.sd_view.specs.Control.{bit_if, control_of}
+use Rattle.sd_view.specs.Descriptor.{Shows, ShowsAclPart, ShowsSid, acl_extent, dacl_at, group_at, owner_at, sacl_at}
+use Rattle.sd_binary.specs.Draft.{AclIsWritten, Draft, IsWritten, built, is_present}
+use Rattle.sd_view.specs.Layout.{header_bytes}
+use Rattle.sd_view.specs.declared.acl.AclPart.{AclPart}
+use Rattle.sd_view.specs.declared.acl.AclPart.TheVariants as acl
 use Rattle.sd_binary.specs.declared.builder.Builder.{Builder}
-use Rattle.sd_binary.proofs.AclLayoutLaws.{acl_bytes-shows}
+use Rattle.sd_view.proofs.AclLayoutLaws.{acl_bytes-shows}
 use Rattle.sd_binary.proofs.Building.{closed-from}
-use Rattle.sd_binary.proofs.LayoutLaws.{acl_size-read, header-control, header-dacl, header-group, header-owner, header-revision, header-rm, header-sacl}
+use Rattle.sd_view.proofs.LayoutLaws.{acl_size-read, header-control, header-dacl, header-group, header-owner, header-revision, header-rm, header-sacl}
 use Rattle.sd_binary.proofs.Standing.{acl-kept, headed, room, sid-kept, sid-small}
 
 -- the bits of the control word

@@ -4,21 +4,22 @@ use Rattle.std.specs.Prelude.{is_some, unwrap_or}
 use Rattle.std.proofs.lemmas.List.{append-nil, length-take, drop-append-le, take-append-le, take_all, take_at}
 use Rattle.sd_core.specs.Ace.{AccessControlEntry, IsAce, ace_size}
 use Rattle.sd_core.specs.Sid.{SecurityId, IsSid, sid_bytes, sid_size}
-use Rattle.sd_binary.specs.Acl.{acl_size}
-use Rattle.sd_binary.specs.AclLayout.{ace_bytes, acl_bytes}
+use Rattle.sd_view.specs.Acl.{acl_size}
+use Rattle.sd_view.specs.AclLayout.{ace_bytes, acl_bytes}
 use Rattle.sd_binary.specs.Builds.{Builds, BuildsInOrder, HasLayoutOffsets, Building, OpenIsLast, PartsStand, closed_size, placed}
-use Rattle.sd_binary.specs.Draft.{CanBegin, Draft, acl_of, begun, built, bytes_after, closed, control_of, is_present, more_in, no_parts, open_size, part_of, parts_given, with_ace, with_acl}
-use Rattle.sd_binary.specs.Layout.{acl_part, acl_part_size, descriptor_header, header_bytes, layout, offset_if, sid_part, sid_part_size}
-use Rattle.sd_binary.specs.declared.acl.AclPart.{AclPart}
-use Rattle.sd_binary.specs.declared.acl.AclPart.TheVariants as acl
+use Rattle.sd_binary.specs.Draft.{CanBegin, Draft, acl_of, begun, built, bytes_after, closed, is_present, more_in, no_parts, open_size, part_of, parts_given, with_ace, with_acl}
+use Rattle.sd_view.specs.Control.{control_of}
+use Rattle.sd_view.specs.Layout.{acl_part, acl_part_size, descriptor_header, header_bytes, layout, offset_if, sid_part, sid_part_size}
+use Rattle.sd_view.specs.declared.acl.AclPart.{AclPart}
+use Rattle.sd_view.specs.declared.acl.AclPart.TheVariants as acl
 use Rattle.sd_binary.specs.declared.builder.Builder.{Builder}
 use Rattle.sd_binary.specs.declared.builder.OpenAcl.{OpenAcl}
-use Rattle.sd_binary.specs.declared.builder.Which.{Which}
-use Rattle.sd_binary.specs.declared.builder.Which.TheVariants as lists
-use Rattle.sd_binary.specs.declared.fault.Part.TheVariants as part
+use Rattle.sd_view.specs.declared.control.Which.{Which}
+use Rattle.sd_view.specs.declared.control.Which.TheVariants as lists
+use Rattle.sd_view.specs.declared.fault.Part.TheVariants as part
 use Rattle.sd_binary.proofs.Building.{ace-builds, acl-free, begin-builds, closed-from, end-builds, end-bytes, given-closed, group-builds, group-free, header_by, is_begun, kept-is, new-builds, null-builds, owner-builds, owner-free, with_more}
 use Rattle.sd_binary.proofs.Finished.{acl-present, header_for}
-use Rattle.sd_binary.proofs.LayoutLaws.{length-acl_part, length-sid_part, offset-stands}
+use Rattle.sd_view.proofs.LayoutLaws.{length-acl_part, length-sid_part, offset-stands}
 use Rattle.sd_binary.proofs.Standing.{room}
 
 -- ---- bytes

@@ -6,22 +6,22 @@ use Rattle.sd_rights.specs.Kinds.{kind_code, kind_entry, kind_of}
 use Rattle.sd_core.specs.Sid.{SecurityId, sid_at, sid_bytes}
 use Rattle.sd_binary.specs.declared.buffer.TextFault.{TextFault}
 use Rattle.sd_binary.specs.declared.buffer.TextFault.TheVariants.{HexDigit, HexOdd}
-use Rattle.sd_binary.specs.declared.fault.Part.TheVariants.{Owner, Group, Sacl, Dacl}
-use Rattle.sd_binary.specs.declared.fault.SdFault.TheVariants as faults
-use Rattle.sd_binary.specs.Bytes.{u16_at, u32_at}
-use Rattle.sd_binary.specs.Control.{acl_flags, flag_bits}
-use Rattle.sd_binary.specs.declared.builder.Which.TheVariants as which
-use Rattle.sd_binary.specs.declared.control.AclFlags.{AclFlags}
-use Rattle.sd_binary.specs.declared.control.ControlBit.{ControlBit}
-use Rattle.sd_binary.specs.declared.control.TheConstants.{CONTROL_BITS}
-use Rattle.sd_binary.specs.Descriptor.{Descriptor}
-use Rattle.sd_binary.specs.Layout.{header_bytes, layout, size}
-use Rattle.sd_binary.specs.Ace.{announces_inherited, announces_object}
-use Rattle.sd_binary.specs.AclReading.{ace_fault, aces_fault, aces_of, acl_fault, guid_if, inherited_in, kind_in, object_in, place_fault, sid_offset_in}
-use Rattle.sd_binary.specs.declared.acl.AclPart.TheVariants as acl
+use Rattle.sd_view.specs.declared.fault.Part.TheVariants.{Owner, Group, Sacl, Dacl}
+use Rattle.sd_view.specs.declared.fault.SdFault.TheVariants as faults
+use Rattle.sd_view.specs.Bytes.{u16_at, u32_at}
+use Rattle.sd_view.specs.Control.{acl_flags, flag_bits}
+use Rattle.sd_view.specs.declared.control.Which.TheVariants as which
+use Rattle.sd_view.specs.declared.control.AclFlags.{AclFlags}
+use Rattle.sd_view.specs.declared.control.ControlBit.{ControlBit}
+use Rattle.sd_view.specs.declared.control.TheConstants.{CONTROL_BITS}
+use Rattle.sd_view.specs.Descriptor.{Descriptor}
+use Rattle.sd_view.specs.Layout.{header_bytes, layout, size}
+use Rattle.sd_view.specs.Ace.{announces_inherited, announces_object}
+use Rattle.sd_view.specs.AclReading.{ace_fault, aces_fault, aces_of, acl_fault, guid_if, inherited_in, kind_in, object_in, place_fault, sid_offset_in}
+use Rattle.sd_view.specs.declared.acl.AclPart.TheVariants as acl
 use Rattle.sd_core.specs.Ace.{AccessControlEntry}
 use Rattle.sd_rights.specs.declared.kinds.AceKind.TheVariants as kinds
-use Rattle.sd_binary.specs.Reading.{acl_part_fault, acl_shown, fault, header_fault, overlap_fault, overlaps_fault, parts_fault, reading, sid_fault, sid_shown}
+use Rattle.sd_view.specs.Reading.{acl_part_fault, acl_shown, fault, header_fault, overlap_fault, overlaps_fault, parts_fault, reading, sid_fault, sid_shown}
 use Rattle.sd_binary.specs.Text.{hex_spells}
 
 spelled : Result (List ℕ) TextFault → List ℕ

@@ -6,18 +6,18 @@ use Rattle.std.proofs.Math.Seq.{drop-append_seam}
 use Rattle.sd_core.specs.Ace.{AccessControlEntry}
 use Rattle.sd_core.specs.Sid.{SecurityId, IsSid, sid_bytes, sid_size}
 use Rattle.sd_core.proofs.SidLaws.{length-sid_bytes}
-use Rattle.sd_binary.specs.Acl.{IsAcl, acl_size}
-use Rattle.sd_binary.specs.AclLayout.{acl_bytes}
+use Rattle.sd_view.specs.Acl.{IsAcl, acl_size}
+use Rattle.sd_view.specs.AclLayout.{acl_bytes}
 use Rattle.sd_binary.specs.Builds.{AclStands, PartsStand, SidStands, Stands, acl_extent_of, placed}
-use Rattle.sd_binary.specs.Descriptor.{Apart, Extent, sid_extent}
+use Rattle.sd_view.specs.Descriptor.{Apart, Extent, sid_extent}
 use Rattle.sd_binary.specs.Draft.{Draft, acl_of, with_acl}
-use Rattle.sd_binary.specs.Layout.{acl_part_size, sid_part_size}
-use Rattle.sd_binary.specs.declared.acl.AclPart.{AclPart}
-use Rattle.sd_binary.specs.declared.acl.AclPart.TheVariants as acl
+use Rattle.sd_view.specs.Layout.{acl_part_size, sid_part_size}
+use Rattle.sd_view.specs.declared.acl.AclPart.{AclPart}
+use Rattle.sd_view.specs.declared.acl.AclPart.TheVariants as acl
 use Rattle.sd_binary.specs.declared.builder.Builder.{Builder}
-use Rattle.sd_binary.specs.declared.builder.Which.{Which}
-use Rattle.sd_binary.specs.declared.builder.Which.TheVariants as lists
-use Rattle.sd_binary.proofs.AclLayoutLaws.{length-acl_bytes}
+use Rattle.sd_view.specs.declared.control.Which.{Which}
+use Rattle.sd_view.specs.declared.control.Which.TheVariants as lists
+use Rattle.sd_view.proofs.AclLayoutLaws.{length-acl_bytes}
 
 -- what stands in some bytes stands in others
 abbrev pub Kept : List ℕ → List ℕ → Type 0

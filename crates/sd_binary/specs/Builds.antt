@@ -4,17 +4,17 @@ use Rattle.std.specs.Prelude.{◌≡◌, ◌≤◌, ℕ, ◌+◌, List, [], leng
 use Rattle.std.specs.List.{flat_map}
 use Rattle.sd_core.specs.Ace.{AccessControlEntry}
 use Rattle.sd_core.specs.Sid.{SecurityId, IsSid, sid_bytes}
-use Rattle.sd_binary.specs.Acl.{IsAcl, acl_size, has_object}
-use Rattle.sd_binary.specs.AclLayout.{ace_bytes, acl_bytes}
-use Rattle.sd_binary.specs.Descriptor.{AreApart, Extent, Extents, sid_extent}
+use Rattle.sd_view.specs.Acl.{IsAcl, acl_size, has_object}
+use Rattle.sd_view.specs.AclLayout.{ace_bytes, acl_bytes}
+use Rattle.sd_view.specs.Descriptor.{AreApart, Extent, Extents, sid_extent}
 use Rattle.sd_binary.specs.Draft.{Draft, acl_of, bytes_after, part_of, parts_given}
-use Rattle.sd_binary.specs.Layout.{acl_part_size, offset_if, sid_part_size}
-use Rattle.sd_binary.specs.declared.acl.AclPart.{AclPart}
-use Rattle.sd_binary.specs.declared.acl.AclPart.TheVariants as acl
+use Rattle.sd_view.specs.Layout.{acl_part_size, offset_if, sid_part_size}
+use Rattle.sd_view.specs.declared.acl.AclPart.{AclPart}
+use Rattle.sd_view.specs.declared.acl.AclPart.TheVariants as acl
 use Rattle.sd_binary.specs.declared.builder.Builder.{Builder}
 use Rattle.sd_binary.specs.declared.builder.OpenAcl.{OpenAcl}
-use Rattle.sd_binary.specs.declared.builder.Which.{Which}
-use Rattle.sd_binary.specs.declared.builder.Which.TheVariants as which
+use Rattle.sd_view.specs.declared.control.Which.{Which}
+use Rattle.sd_view.specs.declared.control.Which.TheVariants as which
 
 -- a part's bytes at its offset, past the header
 pub record Stands (bytes : List ℕ) (offset : ℕ) (part : List ℕ) : Type 0 where

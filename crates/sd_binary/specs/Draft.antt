@@ -1,19 +1,18 @@
 -- What a builder was given so far, and the descriptor that it ends with (MS-DTYP 2.4.6).
-use Rattle.std.specs.Prelude.{◌≡◌, ℕ, ◌+◌, ◌-◌, Bool, true, false, List, [], ◌∷◌, ◌++◌, length, drop, Option, Some, None}
+use Rattle.std.specs.Prelude.{◌≡◌, ℕ, Bool, true, false, List, [], ◌∷◌, ◌++◌, length, drop, Option, Some, None}
 use Rattle.sd_core.specs.Ace.{AccessControlEntry}
 use Rattle.sd_core.specs.Sid.{SecurityId}
-use Rattle.sd_binary.specs.Acl.{acl_size}
-use Rattle.sd_binary.specs.AclLayout.{acl_bytes}
-use Rattle.sd_binary.specs.Control.{bit_if, bit_of}
-use Rattle.sd_binary.specs.Descriptor.{Descriptor, dacl_at, sacl_at}
-use Rattle.sd_binary.specs.Layout.{acl_part, sid_part, size}
-use Rattle.sd_binary.specs.declared.acl.AclPart.{AclPart}
-use Rattle.sd_binary.specs.declared.acl.AclPart.TheVariants as acl
-use Rattle.sd_binary.specs.declared.control.TheConstants.{DACL_PRESENT, SACL_PRESENT, SELF_RELATIVE}
-use Rattle.sd_binary.specs.declared.fault.Part.{Part}
-use Rattle.sd_binary.specs.declared.fault.Part.TheVariants as part
-use Rattle.sd_binary.specs.declared.builder.Which.{Which}
-use Rattle.sd_binary.specs.declared.builder.Which.TheVariants as which
+use Rattle.sd_view.specs.Acl.{acl_size}
+use Rattle.sd_view.specs.AclLayout.{acl_bytes}
+use Rattle.sd_view.specs.Control.{control_of}
+use Rattle.sd_view.specs.Descriptor.{Descriptor, dacl_at, sacl_at}
+use Rattle.sd_view.specs.Layout.{acl_part, sid_part, size}
+use Rattle.sd_view.specs.declared.acl.AclPart.{AclPart}
+use Rattle.sd_view.specs.declared.acl.AclPart.TheVariants as acl
+use Rattle.sd_view.specs.declared.fault.Part.{Part}
+use Rattle.sd_view.specs.declared.fault.Part.TheVariants as part
+use Rattle.sd_view.specs.declared.control.Which.{Which}
+use Rattle.sd_view.specs.declared.control.Which.TheVariants as which
 
 -- the parts that are given, and the ACL that is open, with its ACEs so far
 pub record Draft : Type 0 where
@@ -90,19 +89,11 @@ closed t = closed_in t.«open» t
 
 -- The descriptor that is finished.
 
--- the flags without SR, SP and DP, which tell of the form and of the ACLs that stand
-abbrev pub other_flags : ℕ → ℕ
-other_flags flags = flags - bit_of SELF_RELATIVE flags - bit_of SACL_PRESENT flags - bit_of DACL_PRESENT flags
-
 -- an ACL is present, null or not
 abbrev pub is_present : AclPart → Bool
 is_present acl.Absent = false
 is_present acl.Null = true
 is_present (acl.List aces) = true
-
--- the control word: those flags, SR, and SP and DP where the ACLs are present
-abbrev pub control_of : ℕ → Bool → Bool → ℕ
-control_of flags sacl dacl = other_flags flags + SELF_RELATIVE + bit_if sacl SACL_PRESENT + bit_if dacl DACL_PRESENT
 
 -- the parts under a control word and a resource manager byte
 abbrev pub built : ℕ → ℕ → Draft → Descriptor

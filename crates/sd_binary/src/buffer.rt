@@ -1,10 +1,10 @@
 // The buffer that holds the bytes of a descriptor.
 ghost use Rattle.std.specs.Prelude.{◌≡◌, ◌≤◌, ◌<◌, ◌*◌, take, drop, ◌++◌, ◌∷◌, ◌+◌, ◌-◌, ◌↔◌, [], length, Ok, Err, IfOk, OnOk, OnErr, IsErr, MatchResult};
 ghost use Rattle.sd_binary.specs.Text.{hex_spells};
-ghost use Rattle.sd_binary.specs.declared.limits.TheConstants.{CAPACITY};
+ghost use Rattle.sd_view.specs.declared.limits.TheConstants.{CAPACITY};
 
-use crate::limits::CAPACITY;
 use sd_core::NoMemory;
+use sd_view::CAPACITY;
 use std::alloc::Global;
 use std::marker::Model;
 
@@ -30,7 +30,7 @@ pub struct SdBuf {
 
 impl Model for SdBuf {
     ghost use Rattle.std.specs.Prelude.{◌≡◌, ◌≤◌, ℕ, List, length, take};
-    ghost use Rattle.sd_binary.specs.declared.limits.TheConstants.{CAPACITY};
+    ghost use Rattle.sd_view.specs.declared.limits.TheConstants.{CAPACITY};
 
     ghost Value = { List ℕ };
 

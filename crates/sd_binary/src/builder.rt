@@ -2,30 +2,20 @@
 ghost use Rattle.std.specs.Prelude.{◌≡◌, ◌≤◌, ◌<◌, ◌+◌, ◌^◌, ◌↔◌, [], Some, None, IsErr, OnOk, OnErr};
 ghost use Rattle.sd_core.specs.Ace.{ace_size};
 ghost use Rattle.sd_binary.specs.Builds.{Builds, BuildsInOrder, placed};
-ghost use Rattle.sd_binary.specs.Descriptor.{Shows};
+ghost use Rattle.sd_view.specs.Descriptor.{Shows};
 ghost use Rattle.sd_binary.specs.Draft.{CanBegin, Draft, IsOpen, IsWritten, begun, built, bytes_after, closed, no_parts, open_size, part_of, with_ace, with_acl};
-ghost use Rattle.sd_binary.specs.Layout.{layout};
-ghost use Rattle.sd_binary.specs.declared.acl.AclPart.TheVariants as acl;
-ghost use Rattle.sd_binary.specs.declared.fault.Part.TheVariants as part;
+ghost use Rattle.sd_view.specs.Layout.{layout};
+ghost use Rattle.sd_view.specs.declared.acl.AclPart.TheVariants as acl;
+ghost use Rattle.sd_view.specs.declared.fault.Part.TheVariants as part;
 
-use crate::acl_layout::acl_header;
 use crate::buffer::SdBuf;
-use crate::control::control_of;
-use crate::layout::header;
-use crate::limits::{ACL_HEADER_SIZE, HEADER_SIZE, MOST_ACL_SIZE};
 use crate::pieces::{append_ace, place_sid};
 use sd_core::{Ace, Sid};
+use sd_view::{ACL_HEADER_SIZE, HEADER_SIZE, MOST_ACL_SIZE, Which, acl_header, control_of, header};
 
 /// The ACL would pass 65,535 bytes.
 #[derive(Clone, Copy, Debug, PartialEq, Eq)]
 pub struct AclTooLarge;
-
-/// One of the two ACLs of a descriptor (MS-DTYP 2.4.6).
-#[derive(Clone, Copy, Debug, PartialEq, Eq)]
-pub enum Which {
-    Sacl,
-    Dacl,
-}
 
 /// A descriptor that is built in a buffer beside it (MS-DTYP 2.4.6): owner, group and the two ACLs, each at most once and
 /// in any order, and then `finish`. Each call takes the buffer as the builder's last call left it. The parts stand in the

@@ -2,14 +2,13 @@
 ghost use Rattle.std.specs.Prelude.{◌≡◌, ◌≤◌, ◌+◌, ◌++◌, length, take};
 ghost use Rattle.sd_core.specs.Ace.{IsAce, ace_size};
 ghost use Rattle.sd_core.specs.Sid.{IsSid, sid_bytes, sid_size};
-ghost use Rattle.sd_binary.specs.AclLayout.{ace_bytes, ace_front as front_bytes, flag_if, front_size, guid_part};
-ghost use Rattle.sd_binary.specs.declared.limits.TheConstants.{CAPACITY, MOST_SID_SIZE};
+ghost use Rattle.sd_view.specs.AclLayout.{ace_bytes, ace_front as front_bytes, flag_if, front_size, guid_part};
+ghost use Rattle.sd_view.specs.declared.limits.TheConstants.{CAPACITY, MOST_SID_SIZE};
 
-use crate::ace::{FRONT_SIZE, OBJECT_FRONT_SIZE};
 use crate::buffer::SdBuf;
-use crate::limits::{MOST_SID_SIZE, SID_HEADER_SIZE};
 use byteorder::{BigEndian, ByteOrder, LittleEndian};
 use sd_core::{Ace, Sid, guid_bytes};
+use sd_view::{FRONT_SIZE, MOST_SID_SIZE, OBJECT_FRONT_SIZE, SID_HEADER_SIZE};
 use uuid::Uuid;
 
 // Appends a SID (MS-DTYP 2.4.2.2).

@@ -21,14 +21,14 @@ use Rattle.sd_core.proofs.GuidTexts.{guid_text-length}
 use Rattle.sd_rights.proofs.KindLaws.{letters-few}
 use Rattle.sd_rights.proofs.RightsLaws.{rights_text-length}
 use Rattle.sd_core.proofs.TextLaws.{length-sid_text}
-use Rattle.sd_binary.specs.Acl.{aces_size}
-use Rattle.sd_binary.specs.Control.{has_bit}
-use Rattle.sd_binary.specs.Descriptor.{Descriptor, IsAclPart, IsDescriptor, dacl_present, sacl_present}
-use Rattle.sd_binary.specs.Layout.{acl_part_size, sid_part_size, size}
-use Rattle.sd_binary.specs.declared.acl.AclPart.{AclPart}
-use Rattle.sd_binary.specs.declared.acl.AclPart.TheVariants as acl
-use Rattle.sd_binary.specs.declared.control.ControlBit.{ControlBit}
-use Rattle.sd_binary.specs.declared.control.TheConstants.{CONTROL_BITS}
+use Rattle.sd_view.specs.Acl.{aces_size}
+use Rattle.sd_view.specs.Control.{has_bit}
+use Rattle.sd_view.specs.Descriptor.{Descriptor, IsAclPart, IsDescriptor, dacl_present, sacl_present}
+use Rattle.sd_view.specs.Layout.{acl_part_size, sid_part_size, size}
+use Rattle.sd_view.specs.declared.acl.AclPart.{AclPart}
+use Rattle.sd_view.specs.declared.acl.AclPart.TheVariants as acl
+use Rattle.sd_view.specs.declared.control.ControlBit.{ControlBit}
+use Rattle.sd_view.specs.declared.control.TheConstants.{CONTROL_BITS}
 use Rattle.sd_explain.specs.Explain.{ace_head, ace_line, ace_rights, ace_trustee, acl_lines, code_if, control_line, count_line, explain, guid_words, name_after, or_none, rm_line, sid_line, sid_words}
 
 -- 1. The header: at most 57 and 8 characters.

@@ -14,12 +14,12 @@ use Rattle.sd_rights.specs.Numbers.{hex_digits}
 use Rattle.sd_core.specs.SidText.{sid_text}
 use Rattle.sd_rights.specs.declared.kinds.AceKind.{AceKind}
 use Rattle.sd_core.specs.declared.naming.Naming.{Naming}
-use Rattle.sd_binary.specs.Control.{has_bit}
-use Rattle.sd_binary.specs.Descriptor.{Descriptor}
-use Rattle.sd_binary.specs.declared.acl.AclPart.{AclPart}
-use Rattle.sd_binary.specs.declared.acl.AclPart.TheVariants as acl
-use Rattle.sd_binary.specs.declared.control.ControlBit.{ControlBit}
-use Rattle.sd_binary.specs.declared.control.TheConstants.{CONTROL_BITS}
+use Rattle.sd_view.specs.Control.{has_bit}
+use Rattle.sd_view.specs.Descriptor.{Descriptor}
+use Rattle.sd_view.specs.declared.acl.AclPart.{AclPart}
+use Rattle.sd_view.specs.declared.acl.AclPart.TheVariants as acl
+use Rattle.sd_view.specs.declared.control.ControlBit.{ControlBit}
+use Rattle.sd_view.specs.declared.control.TheConstants.{CONTROL_BITS}
 
 -- ---- the header (MS-DTYP 2.4.6)
 

@@ -2,7 +2,7 @@
 ghost use Rattle.std.specs.Prelude.{◌<◌};
 ghost use Rattle.std.specs.List.{flat_map};
 ghost use Rattle.sd_sink.specs.Print.{Prints};
-ghost use Rattle.sd_binary.specs.declared.control.TheConstants.{CONTROL_BITS};
+ghost use Rattle.sd_view.specs.declared.control.TheConstants.{CONTROL_BITS};
 ghost use Rattle.sd_explain.specs.Explain.{code_if, control_line, rm_line};
 
 use sd_binary::{CONTROL_BITS, ControlBit};

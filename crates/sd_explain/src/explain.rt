@@ -5,8 +5,8 @@ ghost use Rattle.sd_core.specs.Naming.{naming_by};
 ghost use Rattle.sd_sink.specs.Print.{Prints};
 ghost use Rattle.sd_core.specs.Sid.{SecurityId};
 ghost use Rattle.sd_sink.specs.Sink.{Puts};
-ghost use Rattle.sd_binary.specs.Descriptor.{IsDescriptor};
-ghost use Rattle.sd_binary.specs.Layout.{size};
+ghost use Rattle.sd_view.specs.Descriptor.{IsDescriptor};
+ghost use Rattle.sd_view.specs.Layout.{size};
 ghost use Rattle.sd_explain.specs.Explain.{explain};
 
 use crate::acl::print_acl;

@@ -2,13 +2,13 @@
 use Rattle.std.proofs.Common.{◌≤◌, ◌<◌, length, Option, Some, None, arith, length-append, lit≤}
 use Rattle.sd_filter.specs.Faults.{fault_text, number_and_name, part_text, parts_of, parts_text, NamedParts}
 use Rattle.sd_binary.specs.declared.buffer.TextFault.TheVariants as text
-use Rattle.sd_binary.specs.declared.fault.Part.{Part}
-use Rattle.sd_binary.specs.declared.fault.Part.TheVariants as part
-use Rattle.sd_binary.specs.declared.fault.SdFault.TheVariants as sd
+use Rattle.sd_view.specs.declared.fault.Part.{Part}
+use Rattle.sd_view.specs.declared.fault.Part.TheVariants as part
+use Rattle.sd_view.specs.declared.fault.SdFault.TheVariants as sd
 use Rattle.sd_filter.specs.declared.fault.LineFault.{LineFault}
 use Rattle.sd_filter.specs.declared.fault.LineFault.TheVariants.{TooLong, Text, Sd, Sddl}
 use Rattle.sd_core.specs.declared.sid_text.SidFault.TheVariants as sid
-use Rattle.sd_sddl.specs.declared.fault.SddlFault.TheVariants as sddl
+use Rattle.sd_reader.specs.declared.fault.SddlFault.TheVariants as sddl
 
 name-short : (fault : LineFault) → length (number_and_name fault) ≤ 30
 name-short TooLong = lit≤ tt

@@ -1,5 +1,5 @@
 -- What a line means has the limits of a descriptor.
-use Rattle.std.proofs.Common.{◌≡◌, ℕ, Bool, true, false, cond, eqb, List, [], ◌∷◌, length, ◌%◌, Option, Some, None, Result, Ok, Err, refl, ap, subst, sym, ◌∙◌}
+use Rattle.std.proofs.Common.{◌≡◌, ℕ, Bool, true, false, cond, eqb, List, [], ◌∷◌, length, ◌%◌, Option, Some, None, Result, Ok, Err, refl, ap, subst}
 use Rattle.std.specs.Prelude.{IfSome, nat_lt}
 use Rattle.hex.specs.Hex.{decode_of, decode_pairs}
 use Rattle.hex.specs.declared.error.FromHexError.{FromHexError}
@@ -7,15 +7,15 @@ use Rattle.hex.specs.declared.error.FromHexError.TheVariants.{OddLength}
 use Rattle.hex.proofs.HexLemmas.{decode_pairs-ok}
 use Rattle.sd_core.proofs.Numbers.{AreBytes}
 use Rattle.sd_core.specs.Sid.{IsSid, SecurityId}
-use Rattle.sd_sddl.specs.Meaning.{means}
-use Rattle.sd_sddl.specs.declared.fault.SddlFault.{SddlFault}
-use Rattle.sd_sddl.proofs.MeansLimits.{means-limits}
-use Rattle.sd_binary.specs.Descriptor.{Descriptor, IsDescriptor}
-use Rattle.sd_binary.specs.Reading.{fault, reading, shown, unless}
+use Rattle.sd_reader.specs.Meaning.{means}
+use Rattle.sd_reader.specs.declared.fault.SddlFault.{SddlFault}
+use Rattle.sd_reader.proofs.MeansLimits.{means-limits}
+use Rattle.sd_view.specs.Descriptor.{Descriptor, IsDescriptor}
+use Rattle.sd_view.specs.Reading.{fault, reading, shown, unless}
 use Rattle.sd_binary.specs.Text.{hex_spells, or_digit_fault}
 use Rattle.sd_binary.specs.declared.buffer.TextFault.{TextFault}
-use Rattle.sd_binary.specs.declared.fault.SdFault.{SdFault}
-use Rattle.sd_binary.proofs.ReadLaws.{fault-shows}
+use Rattle.sd_view.specs.declared.fault.SdFault.{SdFault}
+use Rattle.sd_view.proofs.ReadLaws.{fault-shows}
 use Rattle.sd_filter.specs.Answers.{Meaning, bytes_mean, line_limit, line_means, meaning, or_byte_fault, or_sddl_fault, text_means}
 use Rattle.sd_filter.specs.declared.fault.LineFault.{LineFault}
 use Rattle.sd_filter.specs.declared.fault.LineFault.TheVariants.{TooLong}

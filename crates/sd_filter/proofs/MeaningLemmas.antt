@@ -7,9 +7,9 @@ use Rattle.sd_core.specs.Token.{Entry}
 use Rattle.sd_sink.specs.Print.{Begins, Finishes, PrintTold}
 use Rattle.sd_sink.specs.Sink.{SinkTold, PutSome}
 use Rattle.sd_sink.specs.declared.sink.SinkFault.{SinkFault}
-use Rattle.sd_binary.specs.Descriptor.{Descriptor, Shows}
-use Rattle.sd_binary.specs.declared.fault.SdFault.{SdFault}
-use Rattle.sd_sddl.specs.declared.fault.SddlFault.{SddlFault}
+use Rattle.sd_view.specs.Descriptor.{Descriptor, Shows}
+use Rattle.sd_view.specs.declared.fault.SdFault.{SdFault}
+use Rattle.sd_reader.specs.declared.fault.SddlFault.{SddlFault}
 use Rattle.sd_filter.specs.Answers.{Meaning, answer, is_error, is_error_of_meaning, line_limit, line_means, meaning, or_sddl_fault, text_means, text_of_meaning}
 use Rattle.sd_filter.specs.Sofar.{HoldsText, PrintsAnswer, PutsAnswer}
 use Rattle.sd_sink.proofs.PrintLemmas.{printed}

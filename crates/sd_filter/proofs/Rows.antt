@@ -2,12 +2,12 @@
 use Rattle.std.proofs.Common.{◌≡◌, [], ◌∷◌, ◌++◌, None, false, codes, refl}
 use Rattle.hex.proofs.OnLiterals.{hex_on_literals}
 use Rattle.sd_core.specs.Sid.{sid_at}
-use Rattle.sd_binary.specs.Bytes.{u16_at, u32_at}
-use Rattle.sd_binary.specs.Layout.{header_bytes}
-use Rattle.sd_binary.specs.Reading.{acl_part_fault, acl_shown, fault, header_fault, overlap_fault, overlaps_fault, parts_fault, reading, sid_fault, sid_shown}
+use Rattle.sd_view.specs.Bytes.{u16_at, u32_at}
+use Rattle.sd_view.specs.Layout.{header_bytes}
+use Rattle.sd_view.specs.Reading.{acl_part_fault, acl_shown, fault, header_fault, overlap_fault, overlaps_fault, parts_fault, reading, sid_fault, sid_shown}
 use Rattle.sd_binary.specs.Text.{hex_spells}
-use Rattle.sd_binary.specs.declared.fault.Part.TheVariants as part
-use Rattle.sd_binary.specs.declared.fault.SdFault.TheVariants as sd
+use Rattle.sd_view.specs.declared.fault.Part.TheVariants as part
+use Rattle.sd_view.specs.declared.fault.SdFault.TheVariants as sd
 use Rattle.sd_filter.specs.declared.fault.LineFault.TheVariants.{Sd}
 use Rattle.sd_command.specs.declared.job.Act.TheVariants.{Convert}
 use Rattle.sd_command.specs.declared.job.Form.TheVariants.{Hex}

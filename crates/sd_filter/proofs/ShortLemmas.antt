@@ -1,12 +1,12 @@
 -- Each answer is short.
 use Rattle.std.proofs.Common.{IfSome, ◌≤◌, ◌+◌, ◌*◌, List, [], ◌∷◌, length, Some, None, Ok, Err, arith, length-append}
-use Rattle.hex.specs.Hex.{encode_lower, lower_digits}
+use Rattle.hex.specs.Hex.{lower_digits}
 use Rattle.hex.proofs.HexLemmas.{length-encode_with}
 use Rattle.sd_core.specs.Sid.{IsSid}
 use Rattle.sd_core.specs.Token.{Entry}
-use Rattle.sd_binary.specs.Descriptor.{Descriptor, IsDescriptor}
-use Rattle.sd_binary.specs.Layout.{layout, size}
-use Rattle.sd_binary.proofs.LayoutLaws.{length-layout}
+use Rattle.sd_view.specs.Descriptor.{Descriptor, IsDescriptor}
+use Rattle.sd_view.specs.Layout.{layout, size}
+use Rattle.sd_view.proofs.LayoutLaws.{length-layout}
 use Rattle.sd_sddl.proofs.SizeLaws.{sddl-length}
 use Rattle.sd_filter.specs.Answers.{AnswersAreShort, Meaning, act_prints, act_text, answer, form_text, meaning, naming_of, printed_of_meaning, printed_size, text_of_meaning}
 use Rattle.sd_filter.specs.Faults.{fault_text}

@@ -4,12 +4,12 @@ use Rattle.std.specs.List.{flat_map}
 use Rattle.hex.specs.Hex.{encode_lower}
 use Rattle.sd_core.specs.Sid.{SecurityId}
 use Rattle.sd_core.specs.Token.{Entry}
-use Rattle.sd_binary.specs.Descriptor.{Descriptor}
-use Rattle.sd_binary.specs.Layout.{layout, size}
-use Rattle.sd_binary.specs.Reading.{reading}
+use Rattle.sd_view.specs.Descriptor.{Descriptor}
+use Rattle.sd_view.specs.Layout.{layout, size}
+use Rattle.sd_view.specs.Reading.{reading}
 use Rattle.sd_binary.specs.Text.{hex_spells}
 use Rattle.sd_binary.specs.declared.buffer.TextFault.{TextFault}
-use Rattle.sd_binary.specs.declared.fault.SdFault.{SdFault}
+use Rattle.sd_view.specs.declared.fault.SdFault.{SdFault}
 use Rattle.sd_filter.specs.declared.fault.LineFault.{LineFault}
 use Rattle.sd_filter.specs.declared.fault.LineFault.TheVariants.{TooLong, Text, Sd, Sddl}
 use Rattle.sd_command.specs.declared.job.Act.{Act}
@@ -18,9 +18,9 @@ use Rattle.sd_command.specs.declared.job.Form.{Form}
 use Rattle.sd_command.specs.declared.job.Form.TheVariants as form
 use Rattle.sd_command.specs.declared.job.Job.{Job}
 use Rattle.sd_core.specs.declared.naming.Naming.{Naming}
-use Rattle.sd_sddl.specs.Meaning.{means}
+use Rattle.sd_reader.specs.Meaning.{means}
 use Rattle.sd_sddl.specs.Printed.{sddl}
-use Rattle.sd_sddl.specs.declared.fault.SddlFault.{SddlFault}
+use Rattle.sd_reader.specs.declared.fault.SddlFault.{SddlFault}
 use Rattle.sd_filter.specs.Faults.{fault_text}
 
 -- ---- what a line means

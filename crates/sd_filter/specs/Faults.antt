@@ -1,13 +1,13 @@
 -- The text of an `error` line: its number and name, and the part or parts where it has any.
 use Rattle.std.specs.Prelude.{ℕ, List, [], ◌++◌, Option, Some, None, codes}
 use Rattle.sd_binary.specs.declared.buffer.TextFault.TheVariants as text
-use Rattle.sd_binary.specs.declared.fault.Part.{Part}
-use Rattle.sd_binary.specs.declared.fault.Part.TheVariants as part
-use Rattle.sd_binary.specs.declared.fault.SdFault.TheVariants as sd
-use Rattle.sd_binary.specs.declared.builder.Which.{Which}
-use Rattle.sd_binary.specs.declared.builder.Which.TheVariants as which
+use Rattle.sd_view.specs.declared.fault.Part.{Part}
+use Rattle.sd_view.specs.declared.fault.Part.TheVariants as part
+use Rattle.sd_view.specs.declared.fault.SdFault.TheVariants as sd
+use Rattle.sd_view.specs.declared.control.Which.{Which}
+use Rattle.sd_view.specs.declared.control.Which.TheVariants as which
 use Rattle.sd_core.specs.declared.sid_text.SidFault.TheVariants as sid
-use Rattle.sd_sddl.specs.declared.fault.SddlFault.TheVariants as sddl
+use Rattle.sd_reader.specs.declared.fault.SddlFault.TheVariants as sddl
 use Rattle.sd_filter.specs.declared.fault.LineFault.{LineFault}
 use Rattle.sd_filter.specs.declared.fault.LineFault.TheVariants.{TooLong, Text, Sd, Sddl}
 

@@ -8,7 +8,7 @@ ghost use Rattle.sd_filter.specs.Sofar.{HoldsText, PrintsAnswer, PutsAnswer};
 ghost use Rattle.sd_filter.specs.Told.{sink_of};
 ghost use Rattle.std.specs.Option.{option_copied};
 ghost use Rattle.sd_binary.specs.Text.{hex_spells};
-ghost use Rattle.sd_sddl.specs.Meaning.{means};
+ghost use Rattle.sd_reader.specs.Meaning.{means};
 
 use crate::device::Drain;
 use crate::engine::Stores;

@@ -5,23 +5,24 @@ use Rattle.std.specs.List.{AllByRecursion, flat_map}
 use Rattle.std.proofs.lemmas.Grind.{flat_map-append}
 use Rattle.sd_core.specs.Ace.{AccessControlEntry}
 use Rattle.sd_core.specs.Sid.{SecurityId}
-use Rattle.sd_binary.specs.Descriptor.{Descriptor, IsDescriptor, dacl_present, sacl_present}
-use Rattle.sd_binary.specs.declared.acl.AclPart.{AclPart}
-use Rattle.sd_binary.specs.declared.acl.AclPart.TheVariants as acl
-use Rattle.sd_binary.specs.declared.control.AclFlags.{AclFlags}
-use Rattle.sd_sddl.specs.declared.fault.SddlFault.{SddlFault}
-use Rattle.sd_sddl.specs.declared.line.Head.TheVariants as head
-use Rattle.sd_sddl.specs.declared.line.SidPart.{SidPart}
-use Rattle.sd_sddl.specs.declared.line.SidPart.TheVariants as sid_part
+use Rattle.sd_view.specs.Descriptor.{Descriptor, IsDescriptor, dacl_present, sacl_present}
+use Rattle.sd_view.specs.declared.acl.AclPart.{AclPart}
+use Rattle.sd_view.specs.declared.acl.AclPart.TheVariants as acl
+use Rattle.sd_view.specs.declared.control.AclFlags.{AclFlags}
+use Rattle.sd_reader.specs.declared.fault.SddlFault.{SddlFault}
+use Rattle.sd_reader.specs.declared.line.Head.TheVariants as head
+use Rattle.sd_reader.specs.declared.line.SidPart.{SidPart}
+use Rattle.sd_reader.specs.declared.line.SidPart.TheVariants as sid_part
 use Rattle.sd_core.specs.declared.naming.Naming.{Naming}
-use Rattle.sd_binary.specs.declared.builder.Which.{Which}
-use Rattle.sd_binary.specs.declared.builder.Which.TheVariants as which
-use Rattle.sd_binary.specs.Control.{acl_flags, bit_if, flag_bits, no_flags}
-use Rattle.sd_binary.specs.Draft.{control_of, is_present, no_parts, other_flags}
-use Rattle.sd_sddl.specs.FoldedReading.{Field, Reading, described, fields_of, finished, folded, nothing_read, read_fields, reads_as, verdict}
-use Rattle.sd_sddl.specs.Line.{Sections, has_twice, is_shaped, parts_of}
-use Rattle.sd_sddl.specs.Meaning.{control_flags}
+use Rattle.sd_view.specs.declared.control.Which.{Which}
+use Rattle.sd_view.specs.declared.control.Which.TheVariants as which
+use Rattle.sd_view.specs.Control.{acl_flags, bit_if, flag_bits, no_flags, control_of, other_flags}
+use Rattle.sd_binary.specs.Draft.{is_present, no_parts}
+use Rattle.sd_reader.specs.FoldedReading.{Field, Reading, described, fields_of, finished, folded, nothing_read, read_fields, reads_as, verdict}
+use Rattle.sd_reader.specs.Line.{Sections, has_twice, is_shaped, parts_of}
+use Rattle.sd_reader.specs.Meaning.{control_flags}
 use Rattle.sd_sddl.specs.Printed.{ace_text, acl_text, dacl_text, group_text, kept_bits, owner_text, plain, sacl_text, sddl, sid_text_of, trustee_text}
+use Rattle.sd_reader.proofs.ControlFlags.{flags-stay}
 use Rattle.sd_sddl.proofs.AceTexts.{ace_text-inner, inner_text}
 use Rattle.sd_sddl.proofs.FieldsBack.{front_text}
 use Rattle.sd_sddl.proofs.LineCuts.{IsPart, Part, in_parentheses, letter_of, line-parts, part_text}
@@ -196,51 +197,6 @@ whole-described o g df acl.Null sf (acl.List ys) = refl
 whole-described o g df (acl.List xs) sf acl.Absent = refl
 whole-described o g df (acl.List xs) sf acl.Null = refl
 whole-described o g df (acl.List xs) sf (acl.List ys) = refl
-
--- the flags stand in the upper byte, without its highest bit
-upper-byte : (k : ℕ) → k < 128 → other_flags (256 * k) ≡ 256 * k
-upper-byte k small = omega arith
-
-scaled : (b : Bool) (n : ℕ) → bit_if b (256 * n) ≡ 256 * bit_if b n
-scaled true n = refl
-scaled false n = refl
-
-at-most : (b : Bool) (n : ℕ) → bit_if b n ≤ n
-at-most true n = omega arith
-at-most false n = omega arith
-
--- the six flags over 256
-abbrev six_bits : AclFlags → AclFlags → ℕ
-six_bits sacl dacl =
-    bit_if sacl.protected 0x20 + bit_if sacl.auto_inherit_required 0x2 + bit_if sacl.auto_inherited 0x8
-    + (bit_if dacl.protected 0x10 + bit_if dacl.auto_inherit_required 0x1 + bit_if dacl.auto_inherited 0x4)
-
-bits-low : (sacl dacl : AclFlags) → six_bits sacl dacl < 128
-bits-low s d =
-    let sp = at-most s.protected 0x20 in
-    let sr = at-most s.auto_inherit_required 0x2 in
-    let si = at-most s.auto_inherited 0x8 in
-    let dp = at-most d.protected 0x10 in
-    let dr = at-most d.auto_inherit_required 0x1 in
-    let di = at-most d.auto_inherited 0x4 in
-    omega arith
-
-flags-upper : (sacl dacl : AclFlags) → control_flags sacl dacl ≡ 256 * six_bits sacl dacl
-flags-upper s d =
-    let sp = scaled s.protected 0x20 in
-    let sr = scaled s.auto_inherit_required 0x2 in
-    let si = scaled s.auto_inherited 0x8 in
-    let dp = scaled d.protected 0x10 in
-    let dr = scaled d.auto_inherit_required 0x1 in
-    let di = scaled d.auto_inherited 0x4 in
-    omega arith
-
-pub flags-stay : (sacl dacl : AclFlags) → other_flags (control_flags sacl dacl) ≡ control_flags sacl dacl
-flags-stay s d = ap other_flags (flags-upper s d) ∙ upper-byte (six_bits s d) (bits-low s d) ∙ sym (flags-upper s d)
-
--- without the other bits they are seven bits of the upper byte
-pub control-upper : (sacl dacl : AclFlags) → (k : ℕ) × (k < 128) × (other_flags (control_flags sacl dacl) ≡ 256 * k)
-control-upper s d = (six_bits s d, bits-low s d, flags-stay s d ∙ flags-upper s d)
 
 -- the flags of an ACL, and the bit that says that it stands
 dacl-bits : (c : ℕ) (part : AclPart) (f : AclFlags) → f ≡ flags_of part (dacl_of c)

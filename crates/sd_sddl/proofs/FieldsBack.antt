@@ -16,15 +16,15 @@ use Rattle.sd_core.proofs.GuidTexts.{guid_text-length, guid_text-reads}
 use Rattle.sd_rights.proofs.RightsLaws.{rights_read_back, rights_text-length}
 use Rattle.sd_core.proofs.TextLaws.{sid_text-reads}
 use Rattle.sd_core.specs.declared.naming.Naming.{Naming}
-use Rattle.sd_sddl.specs.declared.fault.SddlFault.TheVariants as fault
-use Rattle.sd_sddl.specs.declared.line.AceField.TheVariants as field
-use Rattle.sd_sddl.specs.declared.line.SidPart.{SidPart}
-use Rattle.sd_sddl.specs.declared.line.Slot.{Slot}
-use Rattle.sd_sddl.specs.declared.line.Slot.TheVariants as slot
-use Rattle.sd_binary.specs.declared.control.AclFlags.{AclFlags}
-use Rattle.sd_binary.specs.declared.builder.Which.{Which}
-use Rattle.sd_sddl.specs.FoldedReading.{Reading, begun_or_null, no_fields, take_ace_field, take_field, take_front, take_readable, with_flags, with_owner_or_group, with_sid, with_trustee, with_value}
-use Rattle.sd_sddl.specs.FieldTexts.{front_reads, kind_reads, object_reads}
+use Rattle.sd_reader.specs.declared.fault.SddlFault.TheVariants as fault
+use Rattle.sd_reader.specs.declared.line.AceField.TheVariants as field
+use Rattle.sd_reader.specs.declared.line.SidPart.{SidPart}
+use Rattle.sd_reader.specs.declared.line.Slot.{Slot}
+use Rattle.sd_reader.specs.declared.line.Slot.TheVariants as slot
+use Rattle.sd_view.specs.declared.control.AclFlags.{AclFlags}
+use Rattle.sd_view.specs.declared.control.Which.{Which}
+use Rattle.sd_reader.specs.FoldedReading.{Reading, begun_or_null, no_fields, take_ace_field, take_field, take_front, take_readable, with_flags, with_owner_or_group, with_sid, with_trustee, with_value}
+use Rattle.sd_reader.specs.FieldTexts.{front_reads, kind_reads, object_reads}
 use Rattle.sd_binary.specs.Draft.{closed}
 use Rattle.sd_sddl.specs.Printed.{acl_flags_text, kind_text, name_or, object_text, trustee_text}
 use Rattle.sd_sddl.proofs.PlainTexts.{IsPlain, acl_flags_text-plain, flags-plain, kind-plain, object-plain, plain-append, plain-readable, rights-plain, trustee-plain}

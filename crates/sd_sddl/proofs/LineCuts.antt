@@ -3,11 +3,11 @@ use Rattle.std.proofs.Common.{◌≡◌, ℕ, Bool, true, false, ◌||◌, List,
 use Rattle.std.specs.Prelude.{◌==◌}
 use Rattle.std.specs.List.{AllByRecursion, flat_map, list_all}
 use Rattle.sd_rights.proofs.Bools.{both}
-use Rattle.sd_binary.specs.declared.builder.Which.TheVariants as which
-use Rattle.sd_sddl.specs.declared.line.Head.{Head}
-use Rattle.sd_sddl.specs.declared.line.Head.TheVariants as head
-use Rattle.sd_sddl.specs.declared.line.SidPart.TheVariants as sid_part
-use Rattle.sd_sddl.specs.Line.{Piece, Pieces, Section, Sections, ace, begins_with_colon, byte, has_six_fields, head_of, is_paired, parts_of, pieces_from, sections}
+use Rattle.sd_view.specs.declared.control.Which.TheVariants as which
+use Rattle.sd_reader.specs.declared.line.Head.{Head}
+use Rattle.sd_reader.specs.declared.line.Head.TheVariants as head
+use Rattle.sd_reader.specs.declared.line.SidPart.TheVariants as sid_part
+use Rattle.sd_reader.specs.Line.{Piece, Pieces, Section, Sections, ace, begins_with_colon, byte, has_six_fields, head_of, is_paired, parts_of, pieces_from, sections}
 use Rattle.sd_sddl.proofs.PlainTexts.{IsPlain, is_plain_byte, no_mark}
 
 -- 1. The parts of a line as they are printed.

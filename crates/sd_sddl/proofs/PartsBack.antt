@@ -6,26 +6,27 @@ use Rattle.std.proofs.lemmas.Bool.Decides.{nat_tests}
 use Rattle.sd_core.specs.Ace.{AccessControlEntry, GuidsFit, IsAce, IsGuid}
 use Rattle.sd_rights.specs.Kinds.{is_object}
 use Rattle.sd_core.specs.Sid.{IsSid, SecurityId}
-use Rattle.sd_binary.specs.Acl.{acl_size, aces_size}
-use Rattle.sd_binary.specs.Descriptor.{IsAclPart}
-use Rattle.sd_binary.specs.declared.acl.AclPart.{AclPart}
-use Rattle.sd_binary.specs.declared.acl.AclPart.TheVariants as acl
-use Rattle.sd_binary.specs.declared.control.AclFlags.{AclFlags}
-use Rattle.sd_sddl.specs.declared.fault.SddlFault.{SddlFault}
-use Rattle.sd_sddl.specs.declared.line.AceField.TheVariants as field
-use Rattle.sd_sddl.specs.declared.line.Head.TheVariants as head
-use Rattle.sd_sddl.specs.declared.line.SidPart.{SidPart}
-use Rattle.sd_sddl.specs.declared.line.Slot.TheVariants as slot
+use Rattle.sd_view.specs.Acl.{acl_size, aces_size}
+use Rattle.sd_view.specs.Descriptor.{IsAclPart}
+use Rattle.sd_view.specs.declared.acl.AclPart.{AclPart}
+use Rattle.sd_view.specs.declared.acl.AclPart.TheVariants as acl
+use Rattle.sd_view.specs.declared.control.AclFlags.{AclFlags}
+use Rattle.sd_reader.specs.declared.fault.SddlFault.{SddlFault}
+use Rattle.sd_reader.specs.declared.line.AceField.TheVariants as field
+use Rattle.sd_reader.specs.declared.line.Head.TheVariants as head
+use Rattle.sd_reader.specs.declared.line.SidPart.{SidPart}
+use Rattle.sd_reader.specs.declared.line.Slot.TheVariants as slot
 use Rattle.sd_core.specs.declared.naming.Naming.{Naming}
-use Rattle.sd_sddl.specs.declared.reading.AceFields.{AceFields}
-use Rattle.sd_binary.specs.declared.builder.Which.{Which}
-use Rattle.sd_binary.specs.declared.builder.Which.TheVariants as which
+use Rattle.sd_reader.specs.declared.reading.AceFields.{AceFields}
+use Rattle.sd_view.specs.declared.control.Which.{Which}
+use Rattle.sd_view.specs.declared.control.Which.TheVariants as which
 use Rattle.sd_binary.specs.Draft.{Draft, begun, closed, with_ace, with_acl}
-use Rattle.sd_sddl.specs.FoldedReading.{Field, Reading, ace_fields, grown, large_in, no_fields, read_fields, take_field, with_flags, with_owner_or_group, with_trustee}
-use Rattle.sd_sddl.specs.Line.{ace, byte, has_aces}
-use Rattle.sd_sddl.specs.Meaning.{and_then}
-use Rattle.sd_sddl.specs.FieldTexts.{or_else}
+use Rattle.sd_reader.specs.FoldedReading.{Field, Reading, ace_fields, grown, large_in, no_fields, read_fields, take_field, with_flags, with_owner_or_group, with_trustee}
+use Rattle.sd_reader.specs.Line.{ace, byte, has_aces}
+use Rattle.sd_reader.specs.Meaning.{and_then}
+use Rattle.sd_reader.specs.FieldTexts.{or_else}
 use Rattle.sd_sddl.specs.Printed.{trustee_text}
+use Rattle.sd_reader.proofs.FoldedSections.{read-append}
 use Rattle.sd_sddl.proofs.AceTexts.{field_at, inner-fields, inner_text, inner_text-is}
 use Rattle.sd_sddl.proofs.FieldsBack.{front_text, front_text-plain, null_front_text, null_front_text-plain, take-flags, take-inherited, take-kind, take-list, take-null, take-object, take-rights, take-sid, take-trustee}
 use Rattle.sd_sddl.proofs.LineCuts.{Body, IsInner, IsPart}
@@ -33,16 +34,6 @@ use Rattle.sd_sddl.proofs.LineFields.{listed, part_fields, text-no_aces}
 use Rattle.sd_sddl.proofs.PlainTexts.{trustee-plain}
 
 -- 1. Fields one after the other.
-
-pub read-append : (domain : Option SecurityId) (fs gs : List Field) (r : Reading)
-    → read_fields domain (fs ++ gs) r ≡ and_then (read_fields domain fs r) (read_fields domain gs)
-read-append domain [] gs r = refl
-read-append domain (f ∷ fs) gs r = by_first (take_field domain r f.slot f.text) (λ x. read-append domain fs gs x)
-  where
-    by_first : (t : Result Reading SddlFault) → ((x : Reading) → read_fields domain (fs ++ gs) x ≡ and_then (read_fields domain fs x) (read_fields domain gs))
-        → and_then t (read_fields domain (fs ++ gs)) ≡ and_then (and_then t (read_fields domain fs)) (read_fields domain gs)
-    by_first (Ok x) more = more x
-    by_first (Err e) more = refl
 
 -- fields that are read, before others
 pub read-on : (domain : Option SecurityId) (fs gs : List Field) (r after : Reading) → read_fields domain fs r ≡ Ok after

@@ -26,11 +26,10 @@ use Rattle.sd_core.proofs.AliasLaws.{alias-letters}
 use Rattle.sd_rights.proofs.Bools.{both}
 use Rattle.sd_core.proofs.TextLaws.{sid_text-bytes}
 use Rattle.sd_core.specs.declared.naming.Naming.{Naming}
-use Rattle.sd_sddl.specs.Line.{is_blank}
-use Rattle.sd_sddl.specs.Meaning.{is_unreadable}
-use Rattle.sd_binary.specs.declared.control.AclFlags.{AclFlags}
+use Rattle.sd_reader.specs.Line.{is_blank}
+use Rattle.sd_reader.specs.Meaning.{is_unreadable}
+use Rattle.sd_view.specs.declared.control.AclFlags.{AclFlags}
 use Rattle.sd_sddl.specs.Printed.{acl_flags_text, kind_text, object_text, text_if, trustee_text}
-use Rattle.sd_binary.specs.declared.control.AclFlags.{AclFlags}
 use Rattle.sd_sddl.specs.Printed.{name_or as alias_or}
 
 -- 1. Plain bytes.

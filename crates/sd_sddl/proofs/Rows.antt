@@ -9,8 +9,8 @@ use Rattle.sd_rights.specs.Rights.{rights_text}
 use Rattle.sd_core.specs.Sid.{SecurityId}
 use Rattle.sd_core.specs.SidText.{alias_of}
 use Rattle.sd_rights.specs.declared.kinds.AceKind.TheVariants as kinds
-use Rattle.sd_binary.specs.Descriptor.{Descriptor}
-use Rattle.sd_binary.specs.declared.acl.AclPart.TheVariants as acl
+use Rattle.sd_view.specs.Descriptor.{Descriptor}
+use Rattle.sd_view.specs.declared.acl.AclPart.TheVariants as acl
 use Rattle.sd_core.specs.declared.naming.Naming.{Naming}
 use Rattle.sd_sddl.specs.Printed.{ace_text, acl_flags_text, dacl_text, flags_field, group_text, kind_field, object_field, owner_text, rights_field, sacl_text, sddl, trustee_field, trustee_text}
 

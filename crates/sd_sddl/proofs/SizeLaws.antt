@@ -15,15 +15,15 @@ use Rattle.sd_rights.proofs.FlagLaws.{flags_text-length}
 use Rattle.sd_core.proofs.GuidTexts.{guid_text-length}
 use Rattle.sd_rights.proofs.RightsLaws.{rights_text-length}
 use Rattle.sd_core.proofs.TextLaws.{length-sid_text}
-use Rattle.sd_binary.specs.Acl.{aces_size}
-use Rattle.sd_binary.specs.Control.{acl_flags}
-use Rattle.sd_binary.specs.Descriptor.{Descriptor, IsAclPart, IsDescriptor, dacl_present, sacl_present}
-use Rattle.sd_binary.specs.Layout.{acl_part_size, sid_part_size, size}
-use Rattle.sd_binary.specs.declared.acl.AclPart.{AclPart}
-use Rattle.sd_binary.specs.declared.acl.AclPart.TheVariants as acl
+use Rattle.sd_view.specs.Acl.{aces_size}
+use Rattle.sd_view.specs.Control.{acl_flags}
+use Rattle.sd_view.specs.Descriptor.{Descriptor, IsAclPart, IsDescriptor, dacl_present, sacl_present}
+use Rattle.sd_view.specs.Layout.{acl_part_size, sid_part_size, size}
+use Rattle.sd_view.specs.declared.acl.AclPart.{AclPart}
+use Rattle.sd_view.specs.declared.acl.AclPart.TheVariants as acl
 use Rattle.sd_core.specs.declared.naming.Naming.{Naming}
-use Rattle.sd_binary.specs.declared.builder.Which.TheVariants as which
-use Rattle.sd_binary.specs.declared.control.AclFlags.{AclFlags}
+use Rattle.sd_view.specs.declared.control.Which.TheVariants as which
+use Rattle.sd_view.specs.declared.control.AclFlags.{AclFlags}
 use Rattle.sd_sddl.specs.Printed.{ace_text, acl_flags_text, acl_text, dacl_text, flags_field, group_text, kind_field, kind_text, name_or, object_field, object_text, owner_text, rights_field, sacl_text, sddl, sid_text_of, text_if, trustee_field, trustee_text}
 
 -- a SID takes at most 18 characters, and 11 for each sub-authority

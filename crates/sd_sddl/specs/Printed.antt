@@ -10,15 +10,15 @@ use Rattle.sd_rights.specs.Rights.{rights_text}
 use Rattle.sd_core.specs.Sid.{SecurityId}
 use Rattle.sd_core.specs.SidText.{sid_text}
 use Rattle.sd_rights.specs.declared.kinds.AceKind.{AceKind}
-use Rattle.sd_binary.specs.Control.{acl_flags, flag_bits, present_bit}
-use Rattle.sd_binary.specs.Descriptor.{Descriptor}
+use Rattle.sd_view.specs.Control.{acl_flags, flag_bits, present_bit}
+use Rattle.sd_view.specs.Descriptor.{Descriptor}
 use Rattle.sd_core.specs.declared.naming.Naming.{Naming}
-use Rattle.sd_binary.specs.declared.acl.AclPart.{AclPart}
-use Rattle.sd_binary.specs.declared.acl.AclPart.TheVariants as acl
-use Rattle.sd_binary.specs.declared.builder.Which.{Which}
-use Rattle.sd_binary.specs.declared.builder.Which.TheVariants as which
-use Rattle.sd_binary.specs.declared.control.AclFlags.{AclFlags}
-use Rattle.sd_binary.specs.declared.control.TheConstants.{SELF_RELATIVE}
+use Rattle.sd_view.specs.declared.acl.AclPart.{AclPart}
+use Rattle.sd_view.specs.declared.acl.AclPart.TheVariants as acl
+use Rattle.sd_view.specs.declared.control.Which.{Which}
+use Rattle.sd_view.specs.declared.control.Which.TheVariants as which
+use Rattle.sd_view.specs.declared.control.AclFlags.{AclFlags}
+use Rattle.sd_view.specs.declared.control.TheConstants.{SELF_RELATIVE}
 
 abbrev pub name_or : Option (List ℕ) → List ℕ → List ℕ
 name_or None text = text

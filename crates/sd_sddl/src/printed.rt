@@ -4,9 +4,9 @@ ghost use Rattle.sd_sink.specs.Print.{Prints};
 ghost use Rattle.sd_core.specs.Sid.{SecurityId};
 ghost use Rattle.sd_sink.specs.Sink.{Puts};
 ghost use Rattle.std.specs.Option.{option_copied};
-ghost use Rattle.sd_binary.specs.Descriptor.{IsDescriptor};
-ghost use Rattle.sd_binary.specs.Layout.{size};
-ghost use Rattle.sd_sddl.specs.Meaning.{means};
+ghost use Rattle.sd_view.specs.Descriptor.{IsDescriptor};
+ghost use Rattle.sd_view.specs.Layout.{size};
+ghost use Rattle.sd_reader.specs.Meaning.{means};
 ghost use Rattle.sd_sddl.specs.Printed.{plain, sddl, sid_text_of};
 ghost use Rattle.sd_core.specs.Naming.{naming_by};
 

@@ -26,6 +26,18 @@ impl<'a, S: Sink> Gather<'a, S> {
         }
     }
 
+    // Prints a text that there is no room for.
+    #[cold]
+    #[inline(never)]
+    fn put_over(&mut self, text: &[u8])
+        ensures { Prints (⟦<Gather<'a, S> as Print>⟧.told self.old) (⟦<Gather<'a, S> as Print>⟧.told self.new) text.now }
+    {
+        self.hand_down();
+        if !self.failed {
+            self.pass(text);
+        }
+    }
+
     // Hands down what is held.
     fn hand_down(&mut self)
         ensures prints { Prints (⟦<Gather<'a, S> as Print>⟧.told self.old) (⟦<Gather<'a, S> as Print>⟧.told self.new) [] }
@@ -51,14 +63,13 @@ impl<'a, S: Sink> Gather<'a, S> {
 impl<'a, S: Sink> Print for Gather<'a, S> {
     ghost told = { λ s. record { place = s.sink.ghost_name; failed = s.failed; below = S.told s.sink.now; held = s.held } };
 
+    // Where a text is known when the program is built, its few bytes are then written at once.
+    #[inline(always)]
     fn put(&mut self, text: &[u8]) {
         if text.len() <= self.held.room() {
             self.held.append(text);
         } else {
-            self.hand_down();
-            if !self.failed {
-                self.pass(text);
-            }
+            self.put_over(text);
         }
     }
 

@@ -41,6 +41,7 @@ impl Held {
     }
 
     /// Appends bytes that there is room for.
+    #[inline(always)]
     pub fn append(&mut self, text: &[u8])
         requires { length self.old + length text.now ≤ 512 }
         ensures { self.new ≡ self.old ++ text.now }

@@ -1,8 +1,8 @@
 use Rattle.std.proofs.Common.{◌≡◌, ◌<◌, ℕ, suc, ◌+◌, List, [], ◌∷◌, ◌++◌, length, take, get_or, ap, sym, ◌∙◌, arith}
 use Rattle.std.proofs.Math.Seq.{take-suc}
 use Rattle.std.specs.List.{flat_map}
-use Rattle.sd_binary.specs.declared.control.ControlBit.{ControlBit}
-use Rattle.sd_binary.specs.declared.control.TheConstants.{CONTROL_BITS}
+use Rattle.sd_view.specs.declared.control.ControlBit.{ControlBit}
+use Rattle.sd_view.specs.declared.control.TheConstants.{CONTROL_BITS}
 use Rattle.sd_sink.proofs.PrintLemmas.{prints_as}
 use Rattle.sd_sink.proofs.PrintLoops.{Prints-item}
 use Rattle.sd_explain.specs.Explain.{code_if}

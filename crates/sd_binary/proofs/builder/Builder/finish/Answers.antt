@@ -1,7 +1,7 @@
 use Rattle.std.proofs.Common.{◌≡◌, ◌+◌, length, ap, arith}
 use Rattle.std.specs.Prelude.{is_some, unwrap_or}
-use Rattle.sd_binary.specs.Draft.{control_of}
-use Rattle.sd_binary.specs.Layout.{header_bytes}
+use Rattle.sd_view.specs.Control.{control_of}
+use Rattle.sd_view.specs.Layout.{header_bytes}
 use Rattle.sd_binary.proofs.Finished.{finish-room, finish-shows, finish-written, length-header_for}
 use Rattle.sd_binary.proofs.InOrder.{finish-laid_out}
 use Rattle.sd_binary.proofs.builder.Builder.finish.Goals as goal

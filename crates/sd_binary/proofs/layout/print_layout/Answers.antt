@@ -1,7 +1,0 @@
-use Rattle.std.proofs.Common.{sym}
-use Rattle.sd_sink.proofs.PrintLemmas.{prints_then}
-use Rattle.sd_binary.proofs.layout.print_layout.Goals as goal
-
-pub returns-clause-printed : goal.returns-clause-printed
-returns-clause-printed g c =
-    rw (← c.header_of.ensures.value, ← c.owner_place.ensures.value, ← c.group_place.ensures.value, ← c.sacl.ensures, ← c.dacl.ensures) (search prints_then depth 10)

@@ -1,6 +1,0 @@
-use Rattle.std.proofs.Common.{subst}
-use Rattle.sd_binary.specs.Descriptor.{IsDescriptor}
-use Rattle.sd_binary.proofs.view.SdView.control.Goals as goal
-
-pub returns-clause-limits : goal.returns-clause-limits
-returns-clause-limits c = subst IsDescriptor c.self.view_is c.self.invariant.0.limits

@@ -1,0 +1,349 @@
+-- A descriptor that a line means keeps the limits of a descriptor's fields.
+use Rattle.std.proofs.Common.{◌≡◌, ◌<◌, ℕ, ◌+◌, ◌*◌, ◌^◌, List, [], ◌∷◌, ◌++◌, Option, Some, None, IfSome, Result, Ok, Err, IfOk, Bool, true, false, refl, subst, arith}
+use Rattle.std.specs.Prelude.{◌&&◌, nat_lt, if◌then◌else◌}
+use Rattle.std.specs.List.{AllByRecursion}
+use Rattle.std.specs.Option.{option_map}
+use Rattle.std.proofs.lemmas.Bool.Decides.{nat_tests}
+use Rattle.sd_core.specs.Ace.{AccessControlEntry, IsAce, IsGuid}
+use Rattle.sd_rights.specs.Kinds.{is_object}
+use Rattle.sd_rights.specs.Flags.{flags_reads}
+use Rattle.sd_core.specs.GuidText.{guid_reads}
+use Rattle.sd_rights.specs.Rights.{rights_reads}
+use Rattle.sd_core.specs.Sid.{IsSid, SecurityId}
+use Rattle.sd_core.specs.SidText.{sid_reads}
+use Rattle.sd_rights.specs.declared.kinds.AceKind.{AceKind}
+use Rattle.sd_core.specs.declared.sid_text.SidFault.{SidFault}
+use Rattle.sd_rights.proofs.ReadLimits.{flags-limits, rights-limit}
+use Rattle.sd_core.proofs.ReadLimits.{guid-limits, sid-limits}
+use Rattle.sd_view.specs.Acl.{IsAcl, acl_size}
+use Rattle.sd_view.specs.Descriptor.{Descriptor, IsAclPart, IsDescriptor, dacl_present, sacl_present, self_relative}
+use Rattle.sd_binary.specs.Draft.{Draft, closed, closed_in, is_present, more_in, with_acl}
+use Rattle.sd_view.specs.Control.{control_of, bit_if}
+use Rattle.sd_view.specs.declared.acl.AclPart.{AclPart}
+use Rattle.sd_view.specs.declared.acl.AclPart.TheVariants as acl
+use Rattle.sd_view.specs.declared.control.Which.{Which}
+use Rattle.sd_view.specs.declared.control.Which.TheVariants as which
+use Rattle.sd_reader.specs.FoldedReading.{Field, Reading, ace_of, begun_or_null, described, fault_of, fields_of, finished, folded, large_in, no_fields, nothing_read, read_fields, reads_as, take_ace_field, take_field, take_front, take_readable, verdict, with_flags, with_owner_or_group, with_sid, with_trustee, with_value}
+use Rattle.sd_reader.specs.Line.{has_twice, is_shaped, parts_of}
+use Rattle.sd_reader.specs.Meaning.{and_then, control_flags, is_unreadable, means, unless_large}
+use Rattle.sd_reader.specs.FieldTexts.{front_reads, kind_reads, object_reads, or_else}
+use Rattle.sd_reader.specs.Reads.{AreAceFields}
+use Rattle.sd_view.specs.declared.control.AclFlags.{AclFlags}
+use Rattle.sd_reader.specs.declared.fault.SddlFault.{SddlFault}
+use Rattle.sd_reader.specs.declared.fault.SddlFault.TheVariants as fault
+use Rattle.sd_reader.specs.declared.line.AceField.{AceField}
+use Rattle.sd_reader.specs.declared.line.AceField.TheVariants as field
+use Rattle.sd_reader.specs.declared.line.SidPart.{SidPart}
+use Rattle.sd_reader.specs.declared.line.SidPart.TheVariants as sid_part
+use Rattle.sd_reader.specs.declared.line.Slot.{Slot}
+use Rattle.sd_reader.specs.declared.line.Slot.TheVariants as slot
+use Rattle.sd_reader.specs.declared.reading.AceFields.{AceFields}
+use Rattle.sd_reader.specs.declared.reading.AclFront.{AclFront}
+use Rattle.sd_reader.proofs.ControlFlags.{control-upper}
+use Rattle.sd_reader.proofs.FoldedMeaning.{folded-means}
+use Rattle.sd_reader.proofs.FieldLaws.{sound-flags, sound-inherited, sound-kind, sound-mask, sound-object}
+
+-- 1. What the fields so far keep.
+
+-- the limits of the fields of an ACE
+record AreFields (f : AceFields) : Type 0 where
+  flags : f.flags < 256
+  mask : f.mask < 2 ^ 32
+  sound : AreAceFields f
+  object : IfSome f.object IsGuid
+  inherited : IfSome f.inherited IsGuid
+
+-- the limits of an ACL that has a list
+abbrev IsListed : AclPart → Type 0
+IsListed acl.Absent = Unit {0}
+IsListed acl.Null = Unit {0}
+IsListed (acl.List aces) = IsAcl aces
+
+-- an ACL that is open
+abbrev IsOpened : Option (Which × List AccessControlEntry) → Type 0
+IsOpened None = Unit {0}
+IsOpened (Some o) = IsAcl o.1
+
+record AreSids (t : Draft) : Type 0 where
+  owner : IfSome t.owner IsSid
+  group : IfSome t.group IsSid
+
+record AreAcls (t : Draft) : Type 0 where
+  sacl : IsListed t.sacl
+  dacl : IsListed t.dacl
+  opened : IsOpened t.«open»
+
+-- as long as no ACL is too large, each one keeps its limits
+record IsReading (r : Reading) : Type 0 where
+  sids : AreSids r.parts
+  ace : AreFields r.ace
+  acls : r.large ≡ None → AreAcls r.parts
+
+no_aces : IsAcl []
+no_aces = record { each = tt; fits = omega arith }
+
+-- 2. The parts.
+
+sids-closed : (t : Draft) (o : Option (Which × List AccessControlEntry)) → AreSids t → AreSids (closed_in o t)
+sids-closed t None h = h
+sids-closed t (Some o) h = listed o.0
+  where
+    listed : (w : Which) → AreSids (with_acl w (acl.List o.1) (record t { «open» = None }))
+    listed which.Sacl = record { owner = h.owner; group = h.group }
+    listed which.Dacl = record { owner = h.owner; group = h.group }
+
+acls-closed : (t : Draft) (o : Option (Which × List AccessControlEntry)) → AreAcls t → IsOpened o → AreAcls (closed_in o t)
+acls-closed t None h k = h
+acls-closed t (Some o) h k = listed o.0
+  where
+    listed : (w : Which) → AreAcls (with_acl w (acl.List o.1) (record t { «open» = None }))
+    listed which.Sacl = record { sacl = k; dacl = h.dacl; opened = tt }
+    listed which.Dacl = record { sacl = h.sacl; dacl = k; opened = tt }
+
+closed-sids : (t : Draft) → AreSids t → AreSids (closed t)
+closed-sids t h = sids-closed t t.«open» h
+
+closed-acls : (t : Draft) → AreAcls t → AreAcls (closed t)
+closed-acls t h = acls-closed t t.«open» h h.opened
+
+sids-begun : (w : Which) (null : Bool) (t : Draft) → AreSids t → AreSids (begun_or_null w null t)
+sids-begun which.Sacl true t h = record { owner = h.owner; group = h.group }
+sids-begun which.Dacl true t h = record { owner = h.owner; group = h.group }
+sids-begun w false t h = record { owner = h.owner; group = h.group }
+
+acls-begun : (w : Which) (null : Bool) (t : Draft) → AreAcls t → AreAcls (begun_or_null w null t)
+acls-begun which.Sacl true t h = record { sacl = tt; dacl = h.dacl; opened = h.opened }
+acls-begun which.Dacl true t h = record { sacl = h.sacl; dacl = tt; opened = h.opened }
+acls-begun w false t h = record { sacl = h.sacl; dacl = h.dacl; opened = no_aces }
+
+-- 3. Steps.
+
+owner_or_group-keeps : (p : SidPart) (r : Reading) (s : SecurityId) → IsSid s → IsReading r → IsReading (with_owner_or_group p r s)
+owner_or_group-keeps sid_part.Owner r s i h =
+    let others = closed-sids r.parts h.sids in
+    record {
+      sids = record { owner = i; group = others.group };
+      ace = h.ace;
+      acls = λ e. let k = closed-acls r.parts (h.acls e) in record { sacl = k.sacl; dacl = k.dacl; opened = k.opened };
+    }
+owner_or_group-keeps sid_part.Group r s i h =
+    let others = closed-sids r.parts h.sids in
+    record {
+      sids = record { owner = others.owner; group = i };
+      ace = h.ace;
+      acls = λ e. let k = closed-acls r.parts (h.acls e) in record { sacl = k.sacl; dacl = k.dacl; opened = k.opened };
+    }
+
+flags-keep : (w : Which) (f : AclFlags) (r : Reading) → IsReading r → IsReading (with_flags w f r)
+flags-keep which.Sacl f r h = record { sids = h.sids; ace = h.ace; acls = h.acls }
+flags-keep which.Dacl f r h = record { sids = h.sids; ace = h.ace; acls = h.acls }
+
+begun-keeps : (w : Which) (null : Bool) (r : Reading) → IsReading r → IsReading (record r { parts = begun_or_null w null (closed r.parts) })
+begun-keeps w null r h = record {
+  sids = sids-begun w null (closed r.parts) (closed-sids r.parts h.sids);
+  ace = h.ace;
+  acls = λ e. acls-begun w null (closed r.parts) (closed-acls r.parts (h.acls e));
+}
+
+front-keeps : (w : Which) (has_aces : Bool) (r : Reading) (o : Option AclFront) → IsReading r → IfOk (take_front w has_aces r o) IsReading
+unfolding take_front
+front-keeps w has_aces r None h = tt
+front-keeps w has_aces r (Some f) h = by_test (f.null && has_aces)
+  where
+    by_test : (b : Bool) → IfOk (if b then Err fault.Flags else Ok (with_flags w f.flags (record r { parts = begun_or_null w f.null (closed r.parts) }))) IsReading
+    by_test true = tt
+    by_test false = flags-keep w f.flags _ (begun-keeps w f.null r h)
+
+is-ace : (f : AceFields) (s : SecurityId) → AreFields f → IsSid s → IsAce (ace_of f s)
+is-ace f s h i = record { flags = h.flags; clear = h.sound.clear; mask = h.mask; fit = h.sound.fit; object = h.object; inherited = h.inherited; sid = i }
+
+each-more : (aces : List AccessControlEntry) (a : AccessControlEntry) → AllByRecursion IsAce aces → IsAce a → AllByRecursion IsAce (aces ++ a ∷ [])
+each-more [] a h k = (k, tt)
+each-more (b ∷ others) a h k = (h.0, each-more others a h.1 k)
+
+neither : (x y : Option Which) → or_else x y ≡ None → (x ≡ None) × (y ≡ None)
+neither None y e = (refl, e)
+neither (Some w) y e = absurd cc
+
+fits-still : (w : Which) (aces : List AccessControlEntry) → large_in (Some (w, aces)) ≡ None → acl_size aces < 2 ^ 16
+fits-still w aces e = by_test (nat_lt 65535 (acl_size aces)) refl e
+  where
+    by_test : (b : Bool) → nat_lt 65535 (acl_size aces) ≡ b → (if b then Some w else None) ≡ None → acl_size aces < 2 ^ 16
+    by_test true f g = absurd cc
+    by_test false f g = grind (arith, nat_tests)
+
+open-more : (a : AccessControlEntry) (o : Option (Which × List AccessControlEntry)) → IsAce a → IsOpened o → large_in (more_in a o) ≡ None → IsOpened (more_in a o)
+open-more a None k h e = tt
+open-more a (Some o) k h e = record { each = each-more o.1 a h.each k; fits = fits-still o.0 (o.1 ++ a ∷ []) e }
+
+trustee-keeps : (r : Reading) (s : SecurityId) → IsSid s → IsReading r → IsReading (with_trustee r s)
+trustee-keeps r s i h = record {
+  sids = record { owner = h.sids.owner; group = h.sids.group };
+  ace = h.ace;
+  acls = λ e.
+      let parts = neither r.large (large_in (more_in (ace_of r.ace s) r.parts.«open»)) e in
+      let before = h.acls parts.0 in
+      record { sacl = before.sacl; dacl = before.dacl; opened = open-more (ace_of r.ace s) r.parts.«open» (is-ace r.ace s h.ace i) before.opened parts.1 };
+}
+
+ace-keeps : (f : AceFields) (r : Reading) → AreFields f → IsReading r → IsReading (record r { ace = f })
+ace-keeps f r k h = record { sids = h.sids; ace = k; acls = h.acls }
+
+-- 4. The fields of an ACE.
+
+kind-fields : (kind : AceKind) → AreFields (record no_fields { kind = kind })
+kind-fields kind = record { flags = omega arith; mask = omega arith; sound = sound-kind kind; object = tt; inherited = tt }
+
+flags-fields : (f : AceFields) (text : List ℕ) (flags : ℕ) → AreFields f → flags_reads text ≡ Some flags → AreFields (record f { flags = flags })
+flags-fields f text flags h e =
+    let limits = flags-limits text flags e in
+    record { flags = limits.0; mask = h.mask; sound = sound-flags f flags h.sound limits.1; object = h.object; inherited = h.inherited }
+
+mask-fields : (f : AceFields) (text : List ℕ) (mask : ℕ) → AreFields f → rights_reads text ≡ Some mask → AreFields (record f { mask = mask })
+mask-fields f text mask h e =
+    record { flags = h.flags; mask = rights-limit text mask e; sound = sound-mask f mask h.sound; object = h.object; inherited = h.inherited }
+
+object-limits : (kind : AceKind) (text : List ℕ) → IfSome (object_reads kind text) (λ o. IfSome o IsGuid)
+unfolding object_reads
+object-limits kind [] = tt
+object-limits kind (b ∷ bs) = by_kind (is_object kind)
+  where
+    guid : (o : Option (List ℕ)) → guid_reads (b ∷ bs) ≡ o → IfSome (option_map (λ g. Some g) o) (λ x. IfSome x IsGuid)
+    guid None e = tt
+    guid (Some g) e = guid-limits (b ∷ bs) g e
+
+    by_kind : (o : Bool) → IfSome (if o then option_map (λ g. Some g) (guid_reads (b ∷ bs)) else None) (λ x. IfSome x IsGuid)
+    by_kind true = guid (guid_reads (b ∷ bs)) refl
+    by_kind false = tt
+
+guid-read : (kind : AceKind) (text : List ℕ) (o : Option (List ℕ)) → object_reads kind text ≡ Some o → IfSome o IsGuid
+guid-read kind text o e = subst (λ (x : Option (Option (List ℕ))). IfSome x (λ y. IfSome y IsGuid)) e (object-limits kind text)
+
+object-fields : (f : AceFields) (text : List ℕ) (o : Option (List ℕ)) → AreFields f → object_reads f.kind text ≡ Some o → AreFields (record f { object = o })
+object-fields f text o h e =
+    record { flags = h.flags; mask = h.mask; sound = sound-object f text o h.sound e; object = guid-read f.kind text o e; inherited = h.inherited }
+
+inherited-fields : (f : AceFields) (text : List ℕ) (o : Option (List ℕ)) → AreFields f → object_reads f.kind text ≡ Some o → AreFields (record f { inherited = o })
+inherited-fields f text o h e =
+    record { flags = h.flags; mask = h.mask; sound = sound-inherited f text o h.sound e; object = h.object; inherited = guid-read f.kind text o e }
+
+-- 5. Each field keeps the limits.
+
+value-keeps : {A : Type 0} (e : SddlFault) (with : A → Reading) (o : Option A) → ((x : A) → o ≡ Some x → IsReading (with x)) → IfOk (with_value e with o) IsReading
+value-keeps e with None h = tt
+value-keeps e with (Some x) h = h x refl
+
+sid-keeps : (with : SecurityId → Reading) (x : Result SecurityId SidFault) → ((s : SecurityId) → x ≡ Ok s → IsReading (with s)) → IfOk (with_sid with x) IsReading
+sid-keeps with (Ok s) h = h s refl
+sid-keeps with (Err e) h = tt
+
+module _ (domain : Option SecurityId) (is : IfSome domain IsSid) where
+  ace_field-keeps : (r : Reading) (f : AceField) (text : List ℕ) → IsReading r → IfOk (take_ace_field domain r f text) IsReading
+  unfolding take_ace_field
+  ace_field-keeps r field.Kind text h = value-keeps _ _ (kind_reads text) (λ kind e. ace-keeps _ r (kind-fields kind) h)
+  ace_field-keeps r field.Flags text h = value-keeps _ _ (flags_reads text) (λ flags e. ace-keeps _ r (flags-fields r.ace text flags h.ace e) h)
+  ace_field-keeps r field.Rights text h = value-keeps _ _ (rights_reads text) (λ mask e. ace-keeps _ r (mask-fields r.ace text mask h.ace e) h)
+  ace_field-keeps r field.Object text h = value-keeps _ _ (object_reads r.ace.kind text) (λ o e. ace-keeps _ r (object-fields r.ace text o h.ace e) h)
+  ace_field-keeps r field.Inherited text h = value-keeps _ _ (object_reads r.ace.kind text) (λ o e. ace-keeps _ r (inherited-fields r.ace text o h.ace e) h)
+  ace_field-keeps r field.Sid text h = sid-keeps (with_trustee r) (sid_reads text domain) (λ s e. trustee-keeps r s (sid-limits text domain s is e) h)
+
+  readable-keeps : (r : Reading) (s : Slot) (text : List ℕ) → IsReading r → IfOk (take_readable domain r s text) IsReading
+  readable-keeps r (slot.Sid p) text h =
+      sid-keeps (with_owner_or_group p r) (sid_reads text domain) (λ s e. owner_or_group-keeps p r s (sid-limits text domain s is e) h)
+  readable-keeps r (slot.AclFlags w has_aces) text h = front-keeps w has_aces r (front_reads text) h
+  readable-keeps r (slot.Ace f) text h = ace_field-keeps r f text h
+
+  field-keeps : (r : Reading) (s : Slot) (text : List ℕ) → IsReading r → IfOk (take_field domain r s text) IsReading
+  unfolding take_field
+  field-keeps r s text h = by_test (is_unreadable text)
+    where
+      by_test : (b : Bool) → IfOk (if b then Err (fault_of s) else take_readable domain r s text) IsReading
+      by_test true = tt
+      by_test false = readable-keeps r s text h
+
+  fields-keep : (fs : List Field) (r : Reading) → IsReading r → IfOk (read_fields domain fs r) IsReading
+  fields-keep [] r h = h
+  fields-keep (f ∷ fs) r h = by_first (take_field domain r f.slot f.text) (field-keeps r f.slot f.text h) (λ x k. fields-keep fs x k)
+    where
+      by_first : (t : Result Reading SddlFault) → IfOk t IsReading → ((x : Reading) → IsReading x → IfOk (read_fields domain fs x) IsReading)
+          → IfOk (and_then t (read_fields domain fs)) IsReading
+      by_first (Ok x) k more = more x k
+      by_first (Err e) k more = tt
+
+nothing-is : IsReading nothing_read
+nothing-is = record {
+  sids = record { owner = tt; group = tt };
+  ace = kind-fields _;
+  acls = λ e. record { sacl = tt; dacl = tt; opened = tt };
+}
+
+-- 6. The descriptor.
+
+-- the control word of ACLs that stand or not, above flags in its upper byte
+record IsControl (control : ℕ) (sacl dacl : Bool) : Type 0 where
+  small : control < 2 ^ 16
+  relative : self_relative control ≡ true
+  with_sacl : sacl_present control ≡ sacl
+  with_dacl : dacl_present control ≡ dacl
+
+word : (n k : ℕ) (sacl dacl : Bool) → k < 128 → n ≡ 256 * k
+    → IsControl (n + 0x8000 + bit_if sacl 0x10 + bit_if dacl 0x4) sacl dacl
+word n k true true small e = record { small = omega arith; relative = grind (arith, nat_tests); with_sacl = grind (arith, nat_tests); with_dacl = grind (arith, nat_tests) }
+word n k true false small e = record { small = omega arith; relative = grind (arith, nat_tests); with_sacl = grind (arith, nat_tests); with_dacl = grind (arith, nat_tests) }
+word n k false true small e = record { small = omega arith; relative = grind (arith, nat_tests); with_sacl = grind (arith, nat_tests); with_dacl = grind (arith, nat_tests) }
+word n k false false small e = record { small = omega arith; relative = grind (arith, nat_tests); with_sacl = grind (arith, nat_tests); with_dacl = grind (arith, nat_tests) }
+
+control-limits : (sacl dacl : AclFlags) (s d : Bool) → IsControl (control_of (control_flags sacl dacl) s d) s d
+control-limits sacl dacl s d = let upper = control-upper sacl dacl in word _ upper.0 s d upper.1 upper.2
+
+part-limits : (present : Bool) (part : AclPart) → present ≡ is_present part → IsListed part → IsAclPart present part
+part-limits present acl.Absent e h = e
+part-limits present acl.Null e h = e
+part-limits present (acl.List aces) e h = (e, h)
+
+described-limits : (r : Reading) → IsReading r → r.large ≡ None → IsDescriptor (described r)
+described-limits r h e =
+    let t = closed r.parts in
+    let sids = closed-sids r.parts h.sids in
+    let acls = closed-acls r.parts (h.acls e) in
+    let control = control-limits r.sacl r.dacl (is_present t.sacl) (is_present t.dacl) in
+    record {
+      control = control.small;
+      relative = control.relative;
+      rm = omega arith;
+      owner = sids.owner;
+      group = sids.group;
+      sacl = part-limits _ t.sacl control.with_sacl acls.sacl;
+      dacl = part-limits _ t.dacl control.with_dacl acls.dacl;
+    }
+
+finished-limits : (x : Result Reading SddlFault) → IfOk x IsReading → IfOk (finished x) IsDescriptor
+unfolding finished
+finished-limits (Err e) h = tt
+finished-limits (Ok r) h = by_large r.large refl
+  where
+    by_large : (o : Option Which) → r.large ≡ o → IfOk (unless_large o (described r)) IsDescriptor
+    by_large None e = described-limits r h e
+    by_large (Some w) e = tt
+
+verdict-keeps : (shaped twice : Bool) (read : Result Reading SddlFault) → IfOk read IsReading → IfOk (verdict shaped twice read) IsReading
+unfolding verdict
+verdict-keeps true true read h = tt
+verdict-keeps true false read h = h
+verdict-keeps false twice read h = tt
+
+folded-limits : (text : List ℕ) (domain : Option SecurityId) → IfSome domain IsSid
+    → IfOk (folded text domain) IsDescriptor
+unfolding folded reads_as
+folded-limits text domain is =
+    finished-limits _ (verdict-keeps (is_shaped text) (has_twice (parts_of text).parts) _ (fields-keep domain is (fields_of (parts_of text).parts) nothing_read nothing-is))
+
+-- what a line means under a SID of a domain, or none
+pub line-limits : (text : List ℕ) (domain : Option SecurityId) → IfSome domain IsSid
+    → IfOk (means text domain) IsDescriptor
+line-limits text domain is =
+    subst (λ (x : Result Descriptor SddlFault). IfOk x IsDescriptor) (folded-means text domain)
+    (folded-limits text domain is)
+
+pub means-limits : (text : List ℕ) (domain : Option SecurityId) (d : Descriptor) → IfSome domain IsSid → means text domain ≡ Ok d → IsDescriptor d
+means-limits text domain d is e = subst (λ (x : Result Descriptor SddlFault). IfOk x IsDescriptor) e (line-limits text domain is)

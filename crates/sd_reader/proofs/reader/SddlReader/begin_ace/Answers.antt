@@ -1,0 +1,44 @@
+use Rattle.std.proofs.Common.{true, refl, sym, ◌∙◌}
+use Rattle.sd_reader.specs.declared.line.Head.TheVariants as head
+use Rattle.sd_reader.specs.Progress.{result_or}
+use Rattle.sd_reader.proofs.Steps.{open_first, open_next, open_nowhere, unsound}
+use Rattle.sd_reader.proofs.FitLaws.{fits-first, fits-next, itself-or, none-before, read-ok}
+use Rattle.sd_reader.proofs.reader.SddlReader.begin_ace.Goals as goal
+
+pub end_field-requires : goal.end_field-requires
+end_field-requires c =
+    let k = c.requires.held.1 in
+    record { clean = c.requires.calm.held; held = (c.requires.held.0, λ none. (k.fields none, (rw (c.in-AclFlags.is) at (k.fits none)).lacks (head.Acl c.in-AclFlags.which) (itself-or _ (head.Acl c.in-AclFlags.which)))) }
+
+pub returns-in-AclFlags-clause-answers : goal.returns-in-AclFlags-clause-answers
+returns-in-AclFlags-clause-answers c = λ t k.
+    let s = c.args.self.now in
+    let e = c.end_field.ensures.read t k.fields in (
+      e.0,
+      record { fields = e.1; fits = λ none. fits-first s.fields.domain c.in-AclFlags.which s.seen t e.0 _ (read-ok s.fault _ t e.0 _ e.2 none) (rw (c.in-AclFlags.is) at (k.fits (none-before s.fault _ t e.0 _ e.2 none))) },
+      λ rest. rw (c.in-AclFlags.is, e.2, c.end_field.ensures.cleared, c.end_field.ensures.domain)
+          (open_first s.fields.domain s.sound s.twice s.seen (result_or t s.fault) s.field rest c.in-AclFlags.which c.requires.calm.held),
+    )
+
+pub returns-in-AfterAce-clause-answers : goal.returns-in-AfterAce-clause-answers
+returns-in-AfterAce-clause-answers c = λ t k.
+    let s = c.args.self.now in (
+      t,
+      record { fields = k.fields; fits = λ none. fits-next s.seen t (rw (c.in-AfterAce.is) at (k.fits none)) },
+      λ rest. rw (c.in-AfterAce.is, c.clear.ensures)
+          (open_next s.fields.domain s.sound s.twice s.seen (result_or t s.fault) s.field rest),
+    )
+
+pub returns-in_default : goal.returns-in_default
+returns-in_default c =
+    let s = c.args.self.now in
+    record {
+      answers = λ t k. (
+        t,
+        record { fields = k.fields; fits = k.fits },
+        λ rest. unsound s.fields.domain true s.twice s.seen (result_or t s.fault) s.field rest s.place
+            ∙ sym (open_nowhere s.fields.domain s.sound s.twice s.seen (result_or t s.fault) s.field rest s.place c.requires.here c.in_default.not-AclFlags c.in_default.not-AfterAce),
+      );
+      calm = record { held = c.requires.calm.held; gap = c.requires.calm.gap };
+      pending = refl;
+    }

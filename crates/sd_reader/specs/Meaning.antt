@@ -1,0 +1,167 @@
+-- What a line of SDDL means (MS-DTYP 2.5.1): the descriptor that its parts give, or the first fault.
+use Rattle.std.specs.Prelude.{ℕ, ◌+◌, ◌||◌, not, Bool, true, false, nat_lt, if◌then◌else◌, List, [], ◌∷◌, length, Option, Some, None, Result, Ok, Err}
+use Rattle.std.specs.List.{list_any}
+use Rattle.std.specs.Option.{ok_or}
+use Rattle.sd_core.specs.Ace.{AccessControlEntry}
+use Rattle.sd_rights.specs.Flags.{flags_reads}
+use Rattle.sd_rights.specs.Rights.{rights_reads}
+use Rattle.sd_core.specs.Sid.{SecurityId}
+use Rattle.sd_core.specs.SidText.{sid_reads}
+use Rattle.sd_core.specs.declared.sid_text.SidFault.{SidFault}
+use Rattle.sd_core.specs.declared.sid_text.SidFault.TheVariants.{SidForm}
+use Rattle.sd_view.specs.Descriptor.{Descriptor}
+use Rattle.sd_view.specs.Control.{bit_if, flag_bits, no_flags}
+use Rattle.sd_binary.specs.Draft.{is_present}
+use Rattle.sd_view.specs.Layout.{acl_part_size}
+use Rattle.sd_view.specs.declared.acl.AclPart.{AclPart}
+use Rattle.sd_view.specs.declared.acl.AclPart.TheVariants as acl
+use Rattle.sd_view.specs.declared.control.Which.{Which}
+use Rattle.sd_view.specs.declared.control.Which.TheVariants as which
+use Rattle.sd_view.specs.declared.control.AclFlags.{AclFlags}
+use Rattle.sd_view.specs.declared.control.TheConstants.{DACL_PRESENT, SACL_PRESENT, SELF_RELATIVE}
+use Rattle.sd_reader.specs.FieldTexts.{front_reads, kind_reads, object_reads}
+use Rattle.sd_reader.specs.Line.{Piece, Section, ace_cuts, aces, front, has_aces, has_twice, is_blank, is_shaped, parts_of, same_head, trim}
+use Rattle.sd_reader.specs.declared.fault.SddlFault.{SddlFault}
+use Rattle.sd_reader.specs.declared.fault.SddlFault.TheVariants as fault
+use Rattle.sd_reader.specs.declared.line.Head.{Head}
+use Rattle.sd_reader.specs.declared.line.Head.TheVariants as head
+use Rattle.sd_reader.specs.declared.line.SidPart.{SidPart}
+use Rattle.sd_reader.specs.declared.line.SidPart.TheVariants as sid_part
+
+-- One after the other: the first fault is the answer. `x ← read` goes on with what was read.
+abbrev pub and_then : {A B : Type 0} → Result A SddlFault → (A → Result B SddlFault) → Result B SddlFault
+and_then (Ok x) next = next x
+and_then (Err e) next = Err e
+
+abbrev pub ◌>>=◌ : {A B : Type 0} → Result A SddlFault → (A → Result B SddlFault) → Result B SddlFault
+◌>>=◌ read next = and_then read next
+
+-- each one of a list, from the left
+abbrev pub each : {A B : Type 0} → (A → Result B SddlFault) → List A → Result (List B) SddlFault
+each reads [] = Ok []
+each reads (x ∷ others) = do
+  y ← reads x
+  ys ← each reads others
+  Ok (y ∷ ys)
+
+-- 1. Fields.
+
+-- no field with a blank in it reads, which the readers of each field say too, and none of more than 183 bytes
+abbrev pub is_unreadable : List ℕ → Bool
+is_unreadable text = list_any is_blank text || nat_lt 183 (length text)
+
+-- what a field reads as, or the fault of one that does not read
+abbrev pub field_reads : {A : Type 0} → SddlFault → (List ℕ → Option A) → List ℕ → Result A SddlFault
+field_reads unread reads text = if is_unreadable text then Err unread else ok_or (reads text) unread
+
+abbrev pub sid_or_fault : Result SecurityId SidFault → Result SecurityId SddlFault
+sid_or_fault (Ok s) = Ok s
+sid_or_fault (Err e) = Err (fault.Sid e)
+
+abbrev pub sid_field_reads : Option SecurityId → List ℕ → Result SecurityId SddlFault
+sid_field_reads domain text =
+    if is_unreadable text then Err (fault.Sid SidForm) else sid_or_fault (sid_reads text domain)
+
+-- 2. An ACE (MS-DTYP 2.5.1.1): six fields, read from the left. Any other number of them is no shape.
+
+unfoldable pub ace_reads : Option SecurityId → List (List ℕ) → Result AccessControlEntry SddlFault
+ace_reads domain (kind ∷ flags ∷ rights ∷ object ∷ inherited ∷ sid ∷ []) = do
+  k ← field_reads fault.Kind kind_reads kind
+  f ← field_reads fault.Flags flags_reads flags
+  m ← field_reads fault.Rights rights_reads rights
+  o ← field_reads fault.Guid (object_reads k) object
+  i ← field_reads fault.Guid (object_reads k) inherited
+  s ← sid_field_reads domain sid
+  Ok (record { kind = k; flags = f; mask = m; object = o; inherited = i; sid = s })
+ace_reads domain others = Err fault.Shape
+
+-- 3. A section: a SID, or the flags of an ACL, and then null or its ACEs.
+
+pub data Said : Type 0 where
+  sid_said : SidPart → SecurityId → Said
+  acl_said : Which → AclFlags → AclPart → Said
+
+-- no ACE stands in a null ACL
+unfoldable pub entries_read : Option SecurityId → Bool → List Piece → Result AclPart SddlFault
+entries_read domain true body = if has_aces body then Err fault.Flags else Ok acl.Null
+entries_read domain false body = do
+  entries ← each (λ a. ace_reads domain (ace_cuts a)) (aces body)
+  Ok (acl.List entries)
+
+-- blanks at the ends of the SID, and of what stands before the first ACE, do not count
+unfoldable pub body_reads : Option SecurityId → Head → List Piece → Result Said SddlFault
+body_reads domain (head.Sid p) body = do
+  s ← sid_field_reads domain (trim (front body))
+  Ok (sid_said p s)
+body_reads domain (head.Acl w) body = do
+  f ← field_reads fault.Flags front_reads (trim (front body))
+  entries ← entries_read domain f.null body
+  Ok (acl_said w f.flags entries)
+
+abbrev pub section_reads : Option SecurityId → Section → Result Said SddlFault
+section_reads domain s = body_reads domain s.head s.body
+
+-- 4. The descriptor that sections give, of which no two have one head.
+
+-- the owner or the group, if a section gives it
+abbrev pub sid_of : SidPart → List Said → Option SecurityId
+sid_of p [] = None
+sid_of p (sid_said q s ∷ others) = if same_head (head.Sid p) (head.Sid q) then Some s else sid_of p others
+sid_of p (acl_said w f a ∷ others) = sid_of p others
+
+-- an ACL, which is absent where no section gives it
+abbrev pub acl_of : Which → List Said → AclPart
+acl_of w [] = acl.Absent
+acl_of w (sid_said p s ∷ others) = acl_of w others
+acl_of w (acl_said v f a ∷ others) = if same_head (head.Acl w) (head.Acl v) then a else acl_of w others
+
+-- its flags
+abbrev pub flags_of : Which → List Said → AclFlags
+flags_of w [] = no_flags
+flags_of w (sid_said p s ∷ others) = flags_of w others
+flags_of w (acl_said v f a ∷ others) = if same_head (head.Acl w) (head.Acl v) then f else flags_of w others
+
+-- the flags of both ACLs in the control word
+abbrev pub control_flags : AclFlags → AclFlags → ℕ
+control_flags sacl dacl = flag_bits which.Sacl sacl + flag_bits which.Dacl dacl
+
+-- the flags that are written, SR, and SP and DP of the ACLs that stand
+abbrev pub control_of : List Said → ℕ
+control_of said =
+    control_flags (flags_of which.Sacl said) (flags_of which.Dacl said) + SELF_RELATIVE
+    + bit_if (is_present (acl_of which.Sacl said)) SACL_PRESENT + bit_if (is_present (acl_of which.Dacl said)) DACL_PRESENT
+
+abbrev pub descriptor_of : List Said → Descriptor
+descriptor_of said = record {
+  control = control_of said;
+  rm = 0;
+  owner = sid_of sid_part.Owner said;
+  group = sid_of sid_part.Group said;
+  sacl = acl_of which.Sacl said;
+  dacl = acl_of which.Dacl said;
+}
+
+-- 5. The line.
+
+-- the first ACL from the left whose size passes 65,535
+abbrev pub first_large : List Said → Option Which
+first_large [] = None
+first_large (sid_said p s ∷ others) = first_large others
+first_large (acl_said w f a ∷ others) = if nat_lt 65535 (acl_part_size a) then Some w else first_large others
+
+abbrev pub unless_large : Option Which → Descriptor → Result Descriptor SddlFault
+unless_large None d = Ok d
+unless_large (Some w) d = Err (fault.AclTooLarge w)
+
+abbrev pub sections_mean : Option SecurityId → List Section → Result Descriptor SddlFault
+sections_mean domain sections = do
+  said ← each (section_reads domain) sections
+  unless_large (first_large said) (descriptor_of said)
+
+-- The descriptor that a line means under a domain, or its fault: its shape, then two sections with one letter, then the
+-- first field from the left that does not read, then an ACL that is too large.
+unfoldable pub means : List ℕ → Option SecurityId → Result Descriptor SddlFault
+means text domain =
+    if not (is_shaped text) then Err fault.Shape
+    else (if has_twice (parts_of text).parts then Err fault.PartTwice
+    else sections_mean domain (parts_of text).parts)

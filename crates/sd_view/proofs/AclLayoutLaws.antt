@@ -1,0 +1,141 @@
+-- The written form of an ACE or an ACL shows it, and is as long as its size says.
+use Rattle.std.proofs.Common.{◌≡◌, ◌≤◌, ◌<◌, ◌⊎◌, inl, inr, ℕ, ◌+◌, ◌*◌, ◌/◌, ◌%◌, ◌^◌, ◌&&◌, eqb, Bool, true, false, cond, List, [], ◌∷◌, ◌++◌, length, drop, Option, Some, None, refl, sym, ap, ◌∙◌, arith, length-append}
+use Rattle.std.specs.Prelude.{IfSome}
+use Rattle.std.specs.List.{flat_map, AllByRecursion}
+use Rattle.std.proofs.lemmas.List.{append-nil}
+use Rattle.byteorder.specs.Endian.{little_bytes}
+use Rattle.byteorder.specs.Numbers.{little_number-reads_back}
+use Rattle.uuid.proofs.RoundTrips.{swap_twice}
+use Rattle.sd_core.specs.Ace.{AccessControlEntry, GuidsFit, IsAce, IsGuid, ace_size, guid_size}
+use Rattle.sd_rights.specs.Kinds.{is_object, kind_code}
+use Rattle.sd_core.specs.Sid.{SecurityId, IsSid, BeginsWithSid, sid_bytes, sid_size}
+use Rattle.sd_core.proofs.SidLaws.{length-sid_bytes}
+use Rattle.sd_view.specs.Ace.{ShowsAce, ShowsGuid, announces_inherited, announces_object}
+use Rattle.sd_view.specs.Acl.{IsAcl, ShowsAces, ShowsAcl, acl_size, aces_size, has_object}
+use Rattle.sd_view.specs.AclLayout.{ace_bytes, acl_bytes, guids, object_flags, revision_if}
+use Rattle.sd_view.specs.Bytes.{u16_at, u32_at}
+
+-- the bytes of a SID begin with it
+begins : (s : SecurityId) → IsSid s → BeginsWithSid (sid_bytes s) s
+begins s h = record { limits = h; rest = []; shape = sym (append-nil (sid_bytes s)) }
+
+-- the bytes of an ACE and the place of its SID, by whether its kind is one of objects
+abbrev bytes_by : ℕ → ℕ → ℕ → ℕ → Bool → Option (List ℕ) → Option (List ℕ) → SecurityId → List ℕ
+bytes_by kind flags n mask b object inherited s =
+    (kind ∷ flags ∷ little_bytes 2 n ++ (little_bytes 4 mask ++ object_flags b object inherited)) ++ (guids b object inherited ++ sid_bytes s)
+
+abbrev place_by : Bool → Option (List ℕ) → Option (List ℕ) → ℕ
+place_by b object inherited = cond b (12 + guid_size object + guid_size inherited) 8
+
+length-by : (kind flags n mask : ℕ) (b : Bool) (o i : Option (List ℕ)) (s : SecurityId) → length (bytes_by kind flags n mask b o i s) ≡ place_by b o i + sid_size s
+length-by kind flags n mask false o i s = omega (arith, length-sid_bytes s)
+length-by kind flags n mask true None None s = omega (arith, length-sid_bytes s)
+length-by kind flags n mask true None (Some x) s = omega (arith, length-sid_bytes s)
+length-by kind flags n mask true (Some x) None s = omega (arith, length-sid_bytes s)
+length-by kind flags n mask true (Some x) (Some y) s = omega (arith, length-sid_bytes s)
+
+-- an ACE has as many bytes as its size says
+pub length-ace_bytes : (a : AccessControlEntry) → length (ace_bytes a) ≡ ace_size a
+length-ace_bytes a = length-by (kind_code a.kind) a.flags (ace_size a) a.mask (is_object a.kind) a.object a.inherited a.sid
+
+-- that is at least 16 bytes and at most 112, and a multiple of 4
+place-fourth : (b : Bool) (o i : Option (List ℕ)) → (place_by b o i % 4 ≡ 0) × (8 ≤ place_by b o i) × (place_by b o i ≤ 44)
+place-fourth false o i = (refl, omega arith, omega arith)
+place-fourth true None None = (refl, omega arith, omega arith)
+place-fourth true None (Some x) = (refl, omega arith, omega arith)
+place-fourth true (Some x) None = (refl, omega arith, omega arith)
+place-fourth true (Some x) (Some y) = (refl, omega arith, omega arith)
+
+ace_size-fourth : (a : AccessControlEntry) → (ace_size a % 4 ≡ 0) × (16 ≤ ace_size a)
+ace_size-fourth a =
+    let place = place-fourth (is_object a.kind) a.object a.inherited in
+    (omega (arith, place.0), omega (arith, place.1))
+
+pub ace_size-small : (a : AccessControlEntry) → IsAce a → ace_size a < 2 ^ 16
+ace_size-small a h =
+    let place = place-fourth (is_object a.kind) a.object a.inherited in
+    omega (arith, place.2, h.sid.count)
+
+-- the GUIDs and the SID stand at their places
+abbrev Stand : Bool → Option (List ℕ) → Option (List ℕ) → SecurityId → List ℕ → Type 0
+Stand b o i s place =
+    ShowsGuid (b && eqb (u32_at 8 place % 2) 1) (drop 12 place) o × ShowsGuid (b && eqb (u32_at 8 place / 2 % 2) 1) (drop (12 + guid_size o) place) i
+    × BeginsWithSid (drop (place_by b o i) place) s
+
+stand : (kind flags n mask : ℕ) (b : Bool) (o i : Option (List ℕ)) (s : SecurityId) → GuidsFit b o i → IfSome o IsGuid → IfSome i IsGuid → IsSid s
+    → Stand b o i s (bytes_by kind flags n mask b o i s)
+unfolding u32_at
+stand kind flags n mask false None None s fit g h sid = (tt, tt, begins s sid)
+stand kind flags n mask false (Some x) i s fit g h sid = absurd fit
+stand kind flags n mask false None (Some x) s fit g h sid = absurd fit
+stand kind flags n mask true None None s fit g h sid = (tt, tt, begins s sid)
+stand kind flags n mask true None (Some x) s fit g h sid = (tt, sym (swap_twice x h.size), begins s sid)
+stand kind flags n mask true (Some x) None s fit g h sid = (sym (swap_twice x g.size), tt, begins s sid)
+stand kind flags n mask true (Some x) (Some y) s fit g h sid = (sym (swap_twice x g.size), sym (swap_twice y h.size), begins s sid)
+
+-- the bytes of an ACE show it
+pub ace_bytes-shows : (a : AccessControlEntry) → IsAce a → ShowsAce (ace_bytes a) a
+unfolding u16_at u32_at announces_object announces_inherited
+ace_bytes-shows a h =
+    let b = is_object a.kind in
+    let flags = object_flags b a.object a.inherited in
+    let body = guids b a.object a.inherited ++ sid_bytes a.sid in
+    let parts = stand (kind_code a.kind) a.flags (ace_size a) a.mask b a.object a.inherited a.sid h.fit h.object h.inherited h.sid in
+    let long = length-ace_bytes a in
+    record {
+      kind = refl;
+      flags = refl;
+      clear = h.clear;
+      size = little_number-reads_back 2 (ace_size a) ((little_bytes 4 a.mask ++ flags) ++ body) (ace_size-small a h) ∙ sym long;
+      aligned = ap (λ (n : ℕ). n % 4) long ∙ (ace_size-fourth a).0;
+      mask = little_number-reads_back 4 a.mask (flags ++ body) h.mask;
+      object = parts.0;
+      inherited = parts.1;
+      sid = parts.2;
+    }
+
+-- the same of ACEs one after the other
+pub length-aces : (aces : List AccessControlEntry) → length (flat_map ace_bytes aces) ≡ aces_size aces
+length-aces [] = refl
+length-aces (a ∷ others) = length-append (ace_bytes a) (flat_map ace_bytes others) ∙ omega (arith, length-ace_bytes a, length-aces others)
+
+pub aces-many : (aces : List AccessControlEntry) → (aces_size aces % 4 ≡ 0) × (16 * length aces ≤ aces_size aces)
+aces-many [] = (refl, omega arith)
+aces-many (a ∷ others) =
+    let one = ace_size-fourth a in
+    let more = aces-many others in
+    (omega (arith, one.0, more.0), omega (arith, one.1, more.1))
+
+aces-shown : (aces : List AccessControlEntry) → AllByRecursion IsAce aces → ShowsAces (flat_map ace_bytes aces) aces
+aces-shown [] h = tt
+aces-shown (a ∷ others) h = (ace_bytes a, flat_map ace_bytes others, refl, ace_bytes-shows a h.0, aces-shown others h.1)
+
+-- an ACL has as many bytes as its size says
+pub length-acl_bytes : (aces : List AccessControlEntry) → length (acl_bytes aces) ≡ acl_size aces
+length-acl_bytes aces = omega (arith, length-aces aces)
+
+-- they are a multiple of 4, and so at most 65,532
+pub acl_size-fourth : (aces : List AccessControlEntry) → acl_size aces % 4 ≡ 0
+acl_size-fourth aces = let all = aces-many aces in omega (arith, all.0)
+
+pub acl_size-most : (aces : List AccessControlEntry) → IsAcl aces → acl_size aces ≤ 65532
+acl_size-most aces h = omega (arith, acl_size-fourth aces, h.fits)
+
+revision-is : (b : Bool) → (revision_if b ≡ 2) ⊎ (revision_if b ≡ 4)
+revision-is true = inr refl
+revision-is false = inl refl
+
+-- the bytes of an ACL show it
+pub acl_bytes-shows : (aces : List AccessControlEntry) → IsAcl aces → ShowsAcl (acl_bytes aces) aces
+unfolding u16_at
+acl_bytes-shows aces h =
+    let entries = flat_map ace_bytes aces in
+    let long = length-acl_bytes aces in
+    let all = aces-many aces in
+    record {
+      revision = revision-is (has_object aces);
+      header = omega (arith, long);
+      size = little_number-reads_back 2 (acl_size aces) (little_bytes 2 (length aces) ++ (0 ∷ 0 ∷ entries)) h.fits ∙ sym long;
+      count = little_number-reads_back 2 (length aces) (0 ∷ 0 ∷ entries) (omega (arith, all.1, h.fits));
+      places = aces-shown aces h.each;
+    }

@@ -1,0 +1,247 @@
+-- The layout of a descriptor shows it, and is as long as its size says.
+use Rattle.std.proofs.Common.{◌≡◌, ◌≤◌, ◌<◌, inl, ℕ, ◌+◌, ◌^◌, eqb, Bool, true, false, cond, List, [], ◌∷◌, ◌++◌, length, drop, slice_index, Option, Some, None, refl, sym, ap, ◌∙◌, arith, length-append}
+use Rattle.std.specs.Prelude.{◌==◌, if◌then◌else◌, IfSome}
+use Rattle.std.proofs.lemmas.Bool.Decides.{nat_tests}
+use Rattle.std.proofs.lemmas.List.{append-nil, drop_at, drop-drop}
+use Rattle.std.specs.List.{flat_map}
+use Rattle.byteorder.specs.Endian.{little_bytes}
+use Rattle.byteorder.specs.Numbers.{little_number-reads_back}
+use Rattle.sd_core.specs.Ace.{AccessControlEntry}
+use Rattle.sd_core.specs.Sid.{SecurityId, IsSid, sid_size}
+use Rattle.sd_view.specs.Acl.{IsAcl, acl_size}
+use Rattle.sd_view.specs.AclLayout.{acl_bytes, ace_bytes}
+use Rattle.sd_view.specs.Bytes.{u16_at, u32_at}
+use Rattle.sd_view.specs.Descriptor.{Apart, AreApart, Descriptor, Extent, IsAclPart, IsDescriptor, Shows, ShowsAclPart, ShowsSid, acl_extent, control_at, dacl_at, group_at, owner_at, sacl_at, sid_extent}
+use Rattle.sd_view.specs.Layout.{acl_part, acl_part_size, dacl_offset, descriptor_header, group_offset, header_bytes, layout, offset_if, sacl_offset, sid_part, sid_part_size, size}
+use Rattle.sd_view.specs.declared.acl.AclPart.{AclPart}
+use Rattle.sd_view.specs.declared.acl.AclPart.TheVariants as acl
+use Rattle.sd_core.proofs.SidLaws.{length-sid_bytes}
+use Rattle.sd_view.proofs.AclLayoutLaws.{acl_bytes-shows, acl_size-most, length-acl_bytes}
+
+-- a part has as many bytes as its size says, and is no larger than the largest SID or ACL
+pub length-sid_part : (o : Option SecurityId) → length (sid_part o) ≡ sid_part_size o
+length-sid_part None = refl
+length-sid_part (Some s) = length-sid_bytes s
+
+sid_part_size-most : (o : Option SecurityId) → IfSome o IsSid → sid_part_size o ≤ 68
+sid_part_size-most None h = omega arith
+sid_part_size-most (Some s) h = omega (arith, h.count)
+
+pub length-acl_part : (p : AclPart) → length (acl_part p) ≡ acl_part_size p
+length-acl_part acl.Absent = refl
+length-acl_part acl.Null = refl
+length-acl_part (acl.List aces) = length-acl_bytes aces
+
+acl_part_size-most : (present : Bool) (p : AclPart) → IsAclPart present p → acl_part_size p ≤ 65532
+acl_part_size-most present acl.Absent h = omega arith
+acl_part_size-most present acl.Null h = omega arith
+acl_part_size-most present (acl.List aces) h = acl_size-most aces h.1
+
+-- the fields of a header
+pub header-control : (rm control owner group sacl dacl : ℕ) (rest : List ℕ) → control < 2 ^ 16 → u16_at 2 (header_bytes rm control owner group sacl dacl ++ rest) ≡ control
+unfolding u16_at header_bytes
+header-control rm control owner group sacl dacl rest h =
+    little_number-reads_back 2 control (little_bytes 4 owner ++ (little_bytes 4 group ++ (little_bytes 4 sacl ++ (little_bytes 4 dacl ++ rest)))) h
+
+pub header-owner : (rm control owner group sacl dacl : ℕ) (rest : List ℕ) → owner < 2 ^ 32 → u32_at 4 (header_bytes rm control owner group sacl dacl ++ rest) ≡ owner
+unfolding u32_at header_bytes
+header-owner rm control owner group sacl dacl rest h =
+    little_number-reads_back 4 owner (little_bytes 4 group ++ (little_bytes 4 sacl ++ (little_bytes 4 dacl ++ rest))) h
+
+pub header-group : (rm control owner group sacl dacl : ℕ) (rest : List ℕ) → group < 2 ^ 32 → u32_at 8 (header_bytes rm control owner group sacl dacl ++ rest) ≡ group
+unfolding u32_at header_bytes
+header-group rm control owner group sacl dacl rest h =
+    little_number-reads_back 4 group (little_bytes 4 sacl ++ (little_bytes 4 dacl ++ rest)) h
+
+pub header-sacl : (rm control owner group sacl dacl : ℕ) (rest : List ℕ) → sacl < 2 ^ 32 → u32_at 12 (header_bytes rm control owner group sacl dacl ++ rest) ≡ sacl
+unfolding u32_at header_bytes
+header-sacl rm control owner group sacl dacl rest h = little_number-reads_back 4 sacl (little_bytes 4 dacl ++ rest) h
+
+pub header-dacl : (rm control owner group sacl dacl : ℕ) (rest : List ℕ) → dacl < 2 ^ 32 → u32_at 16 (header_bytes rm control owner group sacl dacl ++ rest) ≡ dacl
+unfolding u32_at header_bytes
+header-dacl rm control owner group sacl dacl rest h = little_number-reads_back 4 dacl rest h
+
+pub header-revision : (rm control owner group sacl dacl : ℕ) (rest : List ℕ) → slice_index (header_bytes rm control owner group sacl dacl ++ rest) 0 ≡ 1
+unfolding header_bytes
+header-revision rm control owner group sacl dacl rest = refl
+
+pub header-rm : (rm control owner group sacl dacl : ℕ) (rest : List ℕ) → slice_index (header_bytes rm control owner group sacl dacl ++ rest) 1 ≡ rm
+unfolding header_bytes
+header-rm rm control owner group sacl dacl rest = refl
+
+-- it has 20 bytes
+length-header : (d : Descriptor) → length (descriptor_header d) ≡ 20
+unfolding header_bytes
+length-header d = refl
+
+-- a size that is not zero
+not-zero : (n : ℕ) → 0 < n → eqb n 0 ≡ false
+not-zero n h = grind (arith, nat_tests)
+
+cond-most : (b : Bool) (n : ℕ) → cond b 0 n ≤ n
+cond-most true n = omega arith
+cond-most false n = omega arith
+
+-- where a part of a size stands that begins at a place
+abbrev extent_if : ℕ → ℕ → Extent
+extent_if place n = if n == 0 then None else Some (place, place + n)
+
+offset-most : (place n : ℕ) → offset_if place n ≤ place
+offset-most place n = cond-most (n == 0) place
+
+pub offset-stands : (place n : ℕ) → 0 < n → offset_if place n ≡ place
+offset-stands place n h = rw (not-zero n h) refl
+
+extent-stands : (place n : ℕ) → 0 < n → extent_if place n ≡ Some (place, place + n)
+extent-stands place n h = rw (not-zero n h) refl
+
+-- parts that follow each other share no byte
+cond-apart : (b c : Bool) (p q : ℕ × ℕ) → p.1 ≤ q.0 → Apart (cond b None (Some p)) (cond c None (Some q))
+cond-apart true c p q h = tt
+cond-apart false true p q h = tt
+cond-apart false false p q h = inl h
+
+apart : (p m q n : ℕ) → p + m ≤ q → Apart (extent_if p m) (extent_if q n)
+apart p m q n h = cond-apart (m == 0) (n == 0) (p, p + m) (q, q + n) h
+
+parts-apart : (p k l m n : ℕ)
+    → AreApart (record { owner = extent_if p k; group = extent_if (p + k) l; sacl = extent_if (p + k + l) m; dacl = extent_if (p + k + l + m) n })
+parts-apart p k l m n = record {
+  owner_group = apart p k (p + k) l (omega arith);
+  owner_sacl = apart p k (p + k + l) m (omega arith);
+  owner_dacl = apart p k (p + k + l + m) n (omega arith);
+  group_sacl = apart (p + k) l (p + k + l) m (omega arith);
+  group_dacl = apart (p + k) l (p + k + l + m) n (omega arith);
+  sacl_dacl = apart (p + k + l) m (p + k + l + m) n (omega arith);
+}
+
+-- what stands after a part
+after : (place n : ℕ) (whole part rest : List ℕ) → length part ≡ n → drop place whole ≡ part ++ rest → drop (place + n) whole ≡ rest
+after place n whole part rest len shape = sym (drop-drop n place whole) ∙ ap (drop n) shape ∙ drop_at part rest n len
+
+-- a SID that stands at its place is shown there
+sid-stands : (bytes rest : List ℕ) (offset place : ℕ) (o : Option SecurityId) → offset ≡ offset_if place (sid_part_size o)
+    → drop place bytes ≡ sid_part o ++ rest → 20 ≤ place → IfSome o IsSid
+    → ShowsSid bytes offset o × (sid_extent offset o ≡ extent_if place (sid_part_size o))
+sid-stands bytes rest offset place None at shape low h = (at, refl)
+sid-stands bytes rest offset place (Some s) at shape low h =
+    let same : offset ≡ place = at ∙ offset-stands place (sid_size s) (omega arith) in
+    let extent = extent-stands place (sid_size s) (omega arith) in (
+      (omega (arith, same, low), record { limits = h; rest = rest; shape = ap (λ (n : ℕ). drop n bytes) same ∙ shape }),
+      ap (λ (n : ℕ). sid_extent n (Some s)) same ∙ sym extent,
+    )
+
+-- an ACL's size field tells its written size
+pub acl_size-read : (bytes rest : List ℕ) (aces : List AccessControlEntry) → IsAcl aces → bytes ≡ acl_bytes aces ++ rest → u16_at 2 bytes ≡ acl_size aces
+unfolding u16_at
+acl_size-read bytes rest aces h found =
+    ap (u16_at 2) found
+    ∙ little_number-reads_back 2 (acl_size aces) (little_bytes 2 (length aces) ++ (0 ∷ 0 ∷ (flat_map ace_bytes aces ++ rest))) h.fits
+
+-- so is an ACL
+acl-stands : (bytes rest : List ℕ) (offset place : ℕ) (present : Bool) (p : AclPart) → offset ≡ offset_if place (acl_part_size p)
+    → drop place bytes ≡ acl_part p ++ rest → 20 ≤ place → IsAclPart present p
+    → ShowsAclPart bytes present offset p × (acl_extent bytes offset p ≡ extent_if place (acl_part_size p))
+acl-stands bytes rest offset place present acl.Absent at shape low h = (h, refl)
+acl-stands bytes rest offset place present acl.Null at shape low h = ((h, at), refl)
+acl-stands bytes rest offset place present (acl.List aces) at shape low h =
+    let same : offset ≡ place = at ∙ offset-stands place (acl_size aces) (omega arith) in
+    let extent = extent-stands place (acl_size aces) (omega arith) in
+    let found : drop offset bytes ≡ acl_bytes aces ++ rest = ap (λ (n : ℕ). drop n bytes) same ∙ shape in
+    let long = acl_size-read (drop offset bytes) rest aces h.1 found in (
+      (h.0, omega (arith, same, low), (acl_bytes aces, rest, found, acl_bytes-shows aces h.1)),
+      ap (λ (n : ℕ). Some (offset, offset + n)) long ∙ ap (λ (n : ℕ). Some (n, n + acl_size aces)) same ∙ sym extent,
+    )
+
+-- header, two SIDs of at most 68 bytes and two ACLs of at most 65,532
+pub size-most : (d : Descriptor) → IsDescriptor d → size d ≤ 131220
+size-most d h =
+    let owner = sid_part_size-most d.owner h.owner in
+    let group = sid_part_size-most d.group h.group in
+    let sacl = acl_part_size-most _ d.sacl h.sacl in
+    let dacl = acl_part_size-most _ d.dacl h.dacl in
+    omega arith
+
+-- five lists in a row
+length-five : (a b c d e : List ℕ) → length (a ++ (b ++ (c ++ (d ++ e)))) ≡ length a + (length b + (length c + (length d + length e)))
+length-five a b c d e = simp length-append
+
+-- the layout has as many bytes as its size says
+pub length-layout : (d : Descriptor) → length (layout d) ≡ size d
+length-layout d =
+    let owner = length-sid_part d.owner in
+    let group = length-sid_part d.group in
+    let sacl = length-acl_part d.sacl in
+    let dacl = length-acl_part d.dacl in
+    length-five (descriptor_header d) (sid_part d.owner) (sid_part d.group) (acl_part d.sacl) (acl_part d.dacl) ∙ omega (arith, length-header d)
+
+-- the fields of the layout's header
+offset-small : (place n : ℕ) → place ≤ 131220 → offset_if place n < 2 ^ 32
+offset-small place n h = omega (arith, offset-most place n)
+
+record Header (d : Descriptor) : Type 0 where
+  revision : slice_index (layout d) 0 ≡ 1
+  rm : slice_index (layout d) 1 ≡ d.rm
+  control : control_at (layout d) ≡ d.control
+  owner : owner_at (layout d) ≡ offset_if 20 (sid_part_size d.owner)
+  group : group_at (layout d) ≡ offset_if (group_offset d) (sid_part_size d.group)
+  sacl : sacl_at (layout d) ≡ offset_if (sacl_offset d) (acl_part_size d.sacl)
+  dacl : dacl_at (layout d) ≡ offset_if (dacl_offset d) (acl_part_size d.dacl)
+
+header : (d : Descriptor) → IsDescriptor d → Header d
+header d h =
+    let most = size-most d h in
+    let owner = offset_if 20 (sid_part_size d.owner) in
+    let group = offset_if (group_offset d) (sid_part_size d.group) in
+    let sacl = offset_if (sacl_offset d) (acl_part_size d.sacl) in
+    let dacl = offset_if (dacl_offset d) (acl_part_size d.dacl) in
+    let rest = sid_part d.owner ++ (sid_part d.group ++ (acl_part d.sacl ++ acl_part d.dacl)) in
+    record {
+      revision = header-revision d.rm d.control owner group sacl dacl rest;
+      rm = header-rm d.rm d.control owner group sacl dacl rest;
+      control = header-control d.rm d.control owner group sacl dacl rest h.control;
+      owner = header-owner d.rm d.control owner group sacl dacl rest (offset-small 20 (sid_part_size d.owner) (omega arith));
+      group = header-group d.rm d.control owner group sacl dacl rest (offset-small (group_offset d) (sid_part_size d.group) (omega arith));
+      sacl = header-sacl d.rm d.control owner group sacl dacl rest (offset-small (sacl_offset d) (acl_part_size d.sacl) (omega arith));
+      dacl = header-dacl d.rm d.control owner group sacl dacl rest (offset-small (dacl_offset d) (acl_part_size d.dacl) (omega arith));
+    }
+
+-- what stands from the place of each part on
+record Rests (d : Descriptor) : Type 0 where
+  owner : drop 20 (layout d) ≡ sid_part d.owner ++ (sid_part d.group ++ (acl_part d.sacl ++ acl_part d.dacl))
+  group : drop (group_offset d) (layout d) ≡ sid_part d.group ++ (acl_part d.sacl ++ acl_part d.dacl)
+  sacl : drop (sacl_offset d) (layout d) ≡ acl_part d.sacl ++ acl_part d.dacl
+  dacl : drop (dacl_offset d) (layout d) ≡ acl_part d.dacl ++ []
+
+rests : (d : Descriptor) → IsDescriptor d → Rests d
+rests d h =
+    let bytes = layout d in
+    let acls = acl_part d.sacl ++ acl_part d.dacl in
+    let owner = after 0 20 bytes (descriptor_header d) (sid_part d.owner ++ (sid_part d.group ++ acls)) (length-header d) refl in
+    let group = after 20 (sid_part_size d.owner) bytes (sid_part d.owner) (sid_part d.group ++ acls) (length-sid_part d.owner) owner in
+    let sacl = after (group_offset d) (sid_part_size d.group) bytes (sid_part d.group) acls (length-sid_part d.group) group in
+    let dacl = after (sacl_offset d) (acl_part_size d.sacl) bytes (acl_part d.sacl) (acl_part d.dacl) (length-acl_part d.sacl) sacl in
+    record { owner = owner; group = group; sacl = sacl; dacl = dacl ∙ sym (append-nil (acl_part d.dacl)) }
+
+-- the layout of a descriptor shows it
+pub layout-shows : (d : Descriptor) → IsDescriptor d → Shows (layout d) d
+layout-shows d h =
+    let bytes = layout d in
+    let first = header d h in
+    let rest = rests d h in
+    let owner = sid-stands bytes _ (owner_at bytes) 20 d.owner first.owner rest.owner (omega arith) h.owner in
+    let group = sid-stands bytes _ (group_at bytes) (group_offset d) d.group first.group rest.group (omega arith) h.group in
+    let sacl = acl-stands bytes _ (sacl_at bytes) (sacl_offset d) _ d.sacl first.sacl rest.sacl (omega arith) h.sacl in
+    let dacl = acl-stands bytes _ (dacl_at bytes) (dacl_offset d) _ d.dacl first.dacl rest.dacl (omega arith) h.dacl in
+    record {
+      header = omega (arith, length-layout d);
+      revision = first.revision;
+      rm = first.rm;
+      control = first.control;
+      relative = h.relative;
+      owner = owner.0;
+      group = group.0;
+      sacl = sacl.0;
+      dacl = dacl.0;
+      apart = rw (owner.1, group.1, sacl.1, dacl.1) (parts-apart 20 (sid_part_size d.owner) (sid_part_size d.group) (acl_part_size d.sacl) (acl_part_size d.dacl));
+    }

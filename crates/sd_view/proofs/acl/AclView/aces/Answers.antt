@@ -1,0 +1,23 @@
+use Rattle.std.proofs.Common.{◌≡◌, ℕ, List, drop, length, sym, ap, ◌∙◌}
+use Rattle.std.proofs.lemmas.List.{take_rest}
+use Rattle.sd_core.specs.Ace.{AccessControlEntry}
+use Rattle.sd_view.specs.AclReading.{aces_fault, aces_of}
+use Rattle.sd_view.specs.Bytes.{u16_at}
+use Rattle.sd_view.proofs.AclLaws.{length-aces_of}
+use Rattle.sd_view.proofs.acl.AclView.aces.Goals as goal
+
+-- the count of the ACEs that are seen stands in the place
+counted : (place : List ℕ) (n : ℕ) (aces : List AccessControlEntry) → aces_of (u16_at 4 place) (drop 8 place) ≡ aces → n ≡ length aces → n ≡ u16_at 4 place
+counted place n aces view e = e ∙ ap (length {A = AccessControlEntry}) (sym view) ∙ length-aces_of (u16_at 4 place) (drop 8 place)
+
+pub invariant_of-result : goal.invariant_of-result
+invariant_of-result c =
+    let place = c.self.inside.place.now in
+    let count = counted place c.count.result c.args.self.now c.self.view_is c.count.ensures in
+    ap (aces_fault c.count.result) (take_rest place 8) ∙ ap (λ (k : ℕ). aces_fault k (drop 8 place)) count ∙ c.self.invariant.0.sound
+
+pub returns-clause-value : goal.returns-clause-value
+returns-clause-value c =
+    let place = c.self.inside.place.now in
+    let count = counted place c.count.result c.args.self.now c.self.view_is c.count.ensures in
+    ap (aces_of c.count.result) (take_rest place 8) ∙ ap (λ (k : ℕ). aces_of k (drop 8 place)) count ∙ c.self.view_is

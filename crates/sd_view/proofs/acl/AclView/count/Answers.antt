@@ -1,0 +1,10 @@
+use Rattle.std.proofs.Common.{length, drop, sym, ap, ◌∙◌}
+use Rattle.sd_core.specs.Ace.{AccessControlEntry}
+use Rattle.sd_view.specs.Bytes.{u16_at}
+use Rattle.sd_view.proofs.AclLaws.{length-aces_of}
+use Rattle.sd_view.proofs.acl.AclView.count.Goals as goal
+
+pub returns : goal.returns
+returns c =
+    let place = c.self.inside.place.now in
+    c.u16_at.ensures ∙ sym (length-aces_of (u16_at 4 place) (drop 8 place)) ∙ ap (length {A = AccessControlEntry}) c.self.view_is

@@ -1,0 +1,9 @@
+use Rattle.std.proofs.Common.{ℕ, List, ◌++◌, ap}
+use Rattle.std.specs.List.{flat_map}
+use Rattle.sd_sink.proofs.PrintLemmas.{prints_as, prints_then}
+use Rattle.sd_view.specs.AclLayout.{ace_bytes}
+use Rattle.sd_view.proofs.acl_layout.print_acl.Goals as goal
+
+pub returns : goal.returns
+returns g c =
+    prints_as (ap (λ (t : List ℕ). t ++ flat_map ace_bytes c.args.acl.now) c.header_of.ensures) (prints_then c.put.ensures c.print_aces.ensures)

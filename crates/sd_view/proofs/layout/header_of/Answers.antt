@@ -1,0 +1,14 @@
+use Rattle.std.proofs.Common.{ap, length, refl, ◌∙◌}
+use Rattle.sd_view.specs.declared.view.Acls.{Acls}
+use Rattle.sd_view.proofs.LayoutLaws.{length-sid_part}
+use Rattle.sd_view.proofs.Parts.{written-size}
+use Rattle.sd_view.proofs.layout.header_of.Goals as goal
+
+pub returns-clause-value : goal.returns-clause-value
+returns-clause-value c =
+    let d = c.args.view.now in
+    let owner = ap length c.owner_place.ensures.value ∙ length-sid_part d.owner in
+    let group = ap length c.group_place.ensures.value ∙ length-sid_part d.group in
+    let sacl = ap (λ (a : Acls). a.sacl.size) c.acls-acls.ensures ∙ written-size d.sacl in
+    let dacl = ap (λ (a : Acls). a.dacl.size) c.acls-acls.ensures ∙ written-size d.dacl in
+    rw (c.header.ensures, c.rm.ensures, c.control.ensures.value, c.offset_if.ensures, c.offset_if-2.ensures, c.offset_if-3.ensures, c.offset_if-4.ensures, owner, group, sacl, dacl) refl

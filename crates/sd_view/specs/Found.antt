@@ -1,0 +1,22 @@
+-- What the check of some bytes found, which is kept for the views of them.
+use Rattle.std.specs.Prelude.{false}
+use Rattle.sd_view.specs.Acl.{acl_size, has_object}
+use Rattle.sd_view.specs.Descriptor.{Descriptor, Extents}
+use Rattle.sd_view.specs.declared.acl.AclPart.{AclPart}
+use Rattle.sd_view.specs.declared.acl.AclPart.TheVariants as acl
+use Rattle.sd_view.specs.declared.acl.Written.{Written}
+use Rattle.sd_view.specs.declared.view.Acls.{Acls}
+use Rattle.sd_view.specs.declared.view.Places.{Places}
+
+-- what the front of a written ACL is made from, besides the count: its size, and whether an object ACE
+-- stands in it
+abbrev pub written_of : AclPart → Written
+written_of acl.Absent = record { size = 0; object = false }
+written_of acl.Null = record { size = 0; object = false }
+written_of (acl.List aces) = record { size = acl_size aces; object = has_object aces }
+
+abbrev pub shown_written : Descriptor → Acls
+shown_written d = record { sacl = written_of d.sacl; dacl = written_of d.dacl }
+
+abbrev pub extents_seen : Places → Extents
+extents_seen p = record { owner = p.owner; group = p.group; sacl = p.sacl; dacl = p.dacl }

@@ -1,0 +1,10 @@
+pub mod Ace
+pub mod Acl
+pub mod AclLayout
+pub mod AclReading
+pub mod Bytes
+pub mod Control
+pub mod Descriptor
+pub mod Found
+pub mod Layout
+pub mod Reading

@@ -1,0 +1,128 @@
+-- The first fault of some bytes, and the descriptor that they show where there is none.
+-- `read` promises that this agrees with `Shows`.
+use Rattle.std.specs.Prelude.{◌≡◌, ◌≤◌, ℕ, ◌+◌, ◌==◌, ◌||◌, ◌&&◌, not, nat_lt, Bool, true, false, if◌then◌else◌, List, length, drop, slice_index, Option, Some, None, option_map, is_some, Result, Ok, Err}
+use Rattle.sd_core.specs.Sid.{SecurityId, sid_at, sid_stands}
+use Rattle.sd_view.specs.declared.fault.Part.{Part}
+use Rattle.sd_view.specs.declared.fault.Part.TheVariants.{Owner, Group, Sacl, Dacl}
+use Rattle.sd_view.specs.declared.fault.SdFault.{SdFault}
+use Rattle.sd_view.specs.declared.fault.SdFault.TheVariants as faults
+use Rattle.sd_view.specs.declared.fault.AclFault.{AclFault}
+use Rattle.sd_view.specs.declared.fault.AclFault.TheVariants as lists
+use Rattle.sd_view.specs.declared.acl.AclPart.{AclPart}
+use Rattle.sd_view.specs.declared.acl.AclPart.TheVariants as acl
+use Rattle.sd_view.specs.AclReading.{IsAclPlace, acl_fault, acl_of, acl_place, first}
+use Rattle.sd_view.specs.Bytes.{u16_at}
+use Rattle.sd_view.specs.Descriptor.{Descriptor, Extent, Extents, IsDescriptor, control_at, dacl_at, dacl_present, extents_of, group_at, owner_at, sacl_at, sacl_present, self_relative}
+
+-- the SID at an offset; an offset of 0 means that there is none
+unfoldable pub sid_shown : List ℕ → ℕ → Option SecurityId
+sid_shown bytes offset = if offset == 0 then None else option_map (λ found. found.0) (sid_at (drop offset bytes))
+
+-- the ACL at an offset, under its present bit; an offset of 0 means that it is null
+unfoldable pub acl_shown : List ℕ → Bool → ℕ → AclPart
+acl_shown bytes present offset =
+    if not present then acl.Absent
+    else if offset == 0 then acl.Null
+    else acl.List (acl_of (acl_place (drop offset bytes)))
+
+-- the descriptor that bytes without a fault show
+abbrev pub shown : List ℕ → Descriptor
+shown bytes = record {
+  control = control_at bytes;
+  rm = slice_index bytes 1;
+  owner = sid_shown bytes (owner_at bytes);
+  group = sid_shown bytes (group_at bytes);
+  sacl = acl_shown bytes (sacl_present (control_at bytes)) (sacl_at bytes);
+  dacl = acl_shown bytes (dacl_present (control_at bytes)) (dacl_at bytes);
+}
+
+-- the header: 5, 6, 7
+unfoldable pub header_fault : List ℕ → Option SdFault
+header_fault bytes =
+    if nat_lt (length bytes) 20 then Some faults.Short
+    else if not (slice_index bytes 0 == 1) then Some faults.Revision
+    else if not (self_relative (control_at bytes)) then Some faults.NotSelfRelative
+    else None
+
+-- owner and group: 8, 9
+unfoldable pub sid_fault : Part → List ℕ → ℕ → Option SdFault
+sid_fault part bytes offset =
+    if offset == 0 then None
+    else if nat_lt offset 20 || nat_lt (length bytes) (offset + 8) then Some (faults.Offset part)
+    else if is_some (sid_at (drop offset bytes)) then None
+    else Some (faults.Sid part)
+
+-- an ACL's fault, in a part
+abbrev pub fault_in : Part → AclFault → SdFault
+fault_in part lists.Acl = faults.Acl part
+fault_in part lists.AceSize = faults.AceSize part
+fault_in part lists.AceType = faults.AceType part
+fault_in part lists.AceFlags = faults.AceFlags part
+fault_in part lists.Sid = faults.Sid part
+
+-- SACL and DACL: 8, and 9 to 13
+unfoldable pub acl_part_fault : Part → List ℕ → Bool → ℕ → Option SdFault
+acl_part_fault part bytes present offset =
+    if not present then None
+    else if offset == 0 then None
+    else if nat_lt offset 20 || nat_lt (length bytes) (offset + 8) then Some (faults.Offset part)
+    else option_map (fault_in part) (acl_fault (drop offset bytes))
+
+unfoldable pub parts_fault : List ℕ → Option SdFault
+parts_fault bytes =
+    first (sid_fault Owner bytes (owner_at bytes))
+    (first (sid_fault Group bytes (group_at bytes))
+    (first (acl_part_fault Sacl bytes (sacl_present (control_at bytes)) (sacl_at bytes))
+    (acl_part_fault Dacl bytes (dacl_present (control_at bytes)) (dacl_at bytes))))
+
+-- whether two places share a byte
+abbrev pub share_a_byte : Extent → Extent → Bool
+share_a_byte None other = false
+share_a_byte (Some a) None = false
+share_a_byte (Some a) (Some b) = nat_lt b.0 a.1 && nat_lt a.0 b.1
+
+unfoldable pub overlap_fault : Part → Extent → Part → Extent → Option SdFault
+overlap_fault p a q b = if share_a_byte a b then Some (faults.Overlap p q) else None
+
+-- the first pair that shares a byte: 14
+unfoldable pub overlaps_fault : Extents → Option SdFault
+overlaps_fault e =
+    first (overlap_fault Owner e.owner Group e.group)
+    (first (overlap_fault Owner e.owner Sacl e.sacl)
+    (first (overlap_fault Owner e.owner Dacl e.dacl)
+    (first (overlap_fault Group e.group Sacl e.sacl)
+    (first (overlap_fault Group e.group Dacl e.dacl)
+    (overlap_fault Sacl e.sacl Dacl e.dacl)))))
+
+-- The first condition that holds: this is what says which fault comes first.
+unfoldable pub fault : List ℕ → Option SdFault
+fault bytes = first (header_fault bytes) (first (parts_fault bytes) (overlaps_fault (extents_of bytes (shown bytes))))
+
+abbrev pub unless : {F D : Type 0} → Option F → D → Result D F
+unless (Some f) d = Err f
+unless None d = Ok d
+
+-- what is read of some bytes: the first fault, or the descriptor that they show
+unfoldable pub reading : List ℕ → Result Descriptor SdFault
+reading bytes = unless (fault bytes) (shown bytes)
+
+-- where a SID is meant, one stands
+pub record IsSidAt (bytes : List ℕ) (offset : ℕ) : Type 0 where
+  pub within : offset ≤ length bytes
+  pub stands : (offset ≡ 0 → ⊥) → sid_stands (drop offset bytes) ≡ true
+
+-- where an ACL is meant, one stands
+pub record IsAclAt (bytes : List ℕ) (present : Bool) (offset : ℕ) : Type 0 where
+  pub within : present ≡ true → (offset ≡ 0 → ⊥) → offset + 8 ≤ length bytes
+  pub whole : present ≡ true → (offset ≡ 0 → ⊥) → u16_at 2 (drop offset bytes) ≤ length (drop offset bytes)
+  pub place : present ≡ true → (offset ≡ 0 → ⊥) → IsAclPlace (acl_place (drop offset bytes))
+
+-- bytes without a fault, with what a reader of their parts needs
+pub record Readable (bytes : List ℕ) : Type 0 where
+  pub sound : fault bytes ≡ None
+  pub header : 20 ≤ length bytes
+  pub owner : IsSidAt bytes (owner_at bytes)
+  pub group : IsSidAt bytes (group_at bytes)
+  pub sacl : IsAclAt bytes (sacl_present (control_at bytes)) (sacl_at bytes)
+  pub dacl : IsAclAt bytes (dacl_present (control_at bytes)) (dacl_at bytes)
+  pub limits : IsDescriptor (shown bytes)

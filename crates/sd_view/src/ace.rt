@@ -1,0 +1,273 @@
+// Access control entries read in place.
+ghost use Rattle.std.specs.Prelude.{◌≡◌, ◌≤◌, ◌<◌, ◌+◌, ◌%◌, ◌^◌, length, take, drop, Some, IfOk, MatchResult};
+ghost use Rattle.uuid.specs.Parts.{swap_fields};
+ghost use Rattle.sd_core.specs.Ace.{IsAce, ace_size};
+ghost use Rattle.sd_rights.specs.Kinds.{is_object};
+ghost use Rattle.sd_view.specs.Ace.{announces_inherited, announces_object};
+ghost use Rattle.sd_view.specs.AclLayout.{ace_body, ace_bytes, flag_if, front_size};
+ghost use Rattle.sd_view.specs.AclReading.{IsAcePlace, ace_fault, ace_of, kind_in, place_fault, sid_offset_in};
+ghost use Rattle.sd_view.specs.Bytes.{u16_at as u16_of};
+
+use crate::bytes::{u16_at, u32_at};
+use crate::fault::AclFault;
+use sd_core::{Ace, AceKind, Sid, guid_read};
+use std::marker::Model;
+use uuid::Uuid;
+
+/// The bytes of the smallest ACE: 8, and a SID without sub-authorities.
+const LEAST_SIZE: usize = 16;
+
+/// The bytes before the SID, or the object flags: type, flags, size and mask.
+pub const FRONT_SIZE: usize = 8;
+
+/// The bytes before the GUIDs in object kinds: the object flags stand there too.
+pub const OBJECT_FRONT_SIZE: usize = 12;
+
+const GUID_SIZE: usize = 16;
+
+/// The flag that MS-DTYP 2.4.4.1 does not name, and that no ACE has here.
+const UNUSED_FLAG: u8 = 0x20;
+
+/// What a check finds of the ACE at the front of some bytes: the bytes that it takes there, its written
+/// size, and whether it is an object ACE.
+#[derive(Clone, Copy)]
+pub struct Checked {
+    pub place: usize,
+    pub size: usize,
+    pub object: bool,
+}
+
+#[tactic(auto, unfolding(crate::specs::AclReading::kind_in))]
+fn kind_at(place: &[u8]) -> AceKind
+    requires { 16 ≤ length place.now }
+    ensures { result ≡ kind_in place.now }
+{
+    AceKind::from_code(place[0]).unwrap_or(AceKind::Allow)
+}
+
+// Whether the object type's GUID stands in the place.
+#[tactic(auto, unfolding(crate::specs::Ace::announces_object))]
+fn has_object(place: &[u8]) -> bool
+    requires { 16 ≤ length place.now }
+    ensures { result ≡ announces_object (kind_in place.now) place.now }
+{
+    kind_at(place).is_object() && u32_at(place, 8) % 2 == 1
+}
+
+// Whether the inherited object type's GUID stands in the place.
+#[tactic(auto, unfolding(crate::specs::Ace::announces_inherited))]
+fn has_inherited(place: &[u8]) -> bool
+    requires { 16 ≤ length place.now }
+    ensures { result ≡ announces_inherited (kind_in place.now) place.now }
+{
+    kind_at(place).is_object() && u32_at(place, 8) / 2 % 2 == 1
+}
+
+// Where the SID stands in the place.
+#[tactic(auto, unfolding(crate::specs::AclReading::sid_offset_in, crate::specs::AclReading::object_in, crate::specs::AclReading::inherited_in, crate::specs::AclReading::guid_if))]
+fn sid_offset(place: &[u8]) -> usize
+    requires { 16 ≤ length place.now }
+    ensures value { result ≡ sid_offset_in place.now }
+    ensures bound { result ≤ 44 }
+{
+    if !kind_at(place).is_object() {
+        return FRONT_SIZE;
+    }
+    let object = if has_object(place) { GUID_SIZE } else { 0 };
+    let inherited = if has_inherited(place) { GUID_SIZE } else { 0 };
+    OBJECT_FRONT_SIZE + object + inherited
+}
+
+// The written size of the ACE in the place.
+#[tactic(auto, unfolding(crate::specs::AclReading::place_fault))]
+fn check_place(place: &[u8]) -> Result<usize, AclFault>
+    requires { 16 ≤ length place.now }
+    ensures fault { MatchResult result (λ _. place_fault place.now ≡ None) (λ f. place_fault place.now ≡ Some f) }
+    ensures size { IfOk result (λ n. (n ≡ ace_size (ace_of place.now)) × (n ≤ length place.now)) }
+{
+    if AceKind::from_code(place[0]).is_none() {
+        return Err(AclFault::AceType);
+    }
+    if place[1] / UNUSED_FLAG % 2 == 1 {
+        return Err(AclFault::AceFlags);
+    }
+    let front = sid_offset(place);
+    if place.len() < front + 8 {
+        return Err(AclFault::AceSize);
+    }
+    let Some((_, size)) = Sid::read(&place[front..]) else {
+        return Err(AclFault::Sid);
+    };
+    Ok(front + size)
+}
+
+// The ACE at the front of what is left of an ACL.
+#[tactic(auto, unfolding(crate::specs::AclReading::ace_fault))]
+pub(crate) fn check_ace(left: &[u8]) -> Result<Checked, AclFault>
+    ensures fault { MatchResult result (λ _. ace_fault left.now ≡ None) (λ f. ace_fault left.now ≡ Some f) }
+    ensures place { IfOk result (λ c. (c.place ≡ u16_of 2 left.now) × (c.place ≤ length left.now)) }
+    ensures size { IfOk result (λ c. (c.size ≡ ace_size (ace_of (take (u16_of 2 left.now) left.now))) × (c.size ≤ c.place)) }
+    ensures object { IfOk result (λ c. c.object ≡ is_object (kind_in (take (u16_of 2 left.now) left.now))) }
+{
+    if left.len() < LEAST_SIZE {
+        return Err(AclFault::AceSize);
+    }
+    let n = usize::from(u16_at(left, 2));
+    if n < LEAST_SIZE || left.len() < n || n % 4 != 0 {
+        return Err(AclFault::AceSize);
+    }
+    let place = &left[..n];
+    let size = check_place(place)?;
+    Ok(Checked {
+        place: n,
+        size,
+        object: kind_at(place).is_object(),
+    })
+}
+
+/// An ACE in the bytes that show it (MS-DTYP 2.4.4).
+#[derive(Drop)]
+pub struct AceView<'a> {
+    place: &'a [u8],
+}
+
+impl<'a> Model for AceView<'a> {
+    ghost use Rattle.sd_core.specs.Ace.{AccessControlEntry};
+    ghost use Rattle.sd_view.specs.AclReading.{IsAcePlace, ace_of};
+
+    ghost Value = { AccessControlEntry };
+
+    ghost view = { λ v. ace_of v.place.now };
+
+    ghost invariant = { λ v. IsAcePlace v.place.now };
+}
+
+// The view of a place that was checked.
+pub(crate) fn ace_view(place: &[u8]) -> AceView<'_>
+    requires { IsAcePlace place.now }
+    ensures { result ≡ ace_of place.now }
+{
+    AceView { place }
+}
+
+impl<'a> AceView<'a> {
+    /// What it does.
+    pub fn kind(&self) -> AceKind
+        ensures value { result ≡ self.now.kind }
+        ensures limits { IsAce self.now }
+    {
+        kind_at(self.place)
+    }
+
+    /// Its flags (MS-DTYP 2.4.4.1). Bit 0x20 is clear.
+    pub fn flags(&self) -> u8
+        ensures { result ≡ self.now.flags }
+    {
+        self.place[1]
+    }
+
+    /// The access mask (MS-DTYP 2.4.3).
+    pub fn mask(&self) -> u32
+        ensures { result ≡ self.now.mask }
+    {
+        u32_at(self.place, 4)
+    }
+
+    /// The GUID of the object type, if there is one: in object kinds alone.
+    #[tactic(auto, unfolding(crate::specs::AclReading::object_in, crate::specs::AclReading::guid_if))]
+    pub fn object(&self) -> Option<Uuid>
+        ensures { result ≡ self.now.object }
+    {
+        if !has_object(self.place) {
+            return None;
+        }
+        guid_at(self.place, OBJECT_FRONT_SIZE)
+    }
+
+    /// The GUID of the inherited object type, if there is one: in object kinds alone.
+    #[tactic(auto, unfolding(crate::specs::AclReading::inherited_in, crate::specs::AclReading::object_in, crate::specs::AclReading::guid_if))]
+    pub fn inherited(&self) -> Option<Uuid>
+        ensures { result ≡ self.now.inherited }
+    {
+        if !has_inherited(self.place) {
+            return None;
+        }
+        let object = if has_object(self.place) { GUID_SIZE } else { 0 };
+        guid_at(self.place, OBJECT_FRONT_SIZE + object)
+    }
+
+    /// The SID of the trustee.
+    pub fn sid(&self) -> Sid
+        ensures { result ≡ self.now.sid }
+    {
+        Sid::read(&self.place[sid_offset(self.place)..]).unwrap().0
+    }
+
+    /// The written size in bytes, without what stands after the SID: at most 112.
+    pub fn size(&self) -> u16
+        ensures value { result ≡ ace_size self.now }
+        ensures most { ace_size self.now ≤ 112 }
+        // As many bytes as its written form has.
+        ensures written { length (ace_bytes self.now) ≡ ace_size self.now }
+    {
+        (self.front_size() + self.body().len()) as u16
+    }
+
+    /// The ACE by value.
+    pub fn ace(&self) -> Ace
+        ensures { result ≡ self.now }
+    {
+        // What is shown is an ACE, so its parts make one.
+        Ace::new(
+            self.kind(),
+            self.flags(),
+            self.mask(),
+            self.object(),
+            self.inherited(),
+            self.sid(),
+        )
+        .unwrap()
+    }
+
+    // The bytes before the GUIDs.
+    pub(crate) fn front_size(&self) -> usize
+        ensures { result ≡ front_size self.now.kind }
+    {
+        if kind_at(self.place).is_object() {
+            OBJECT_FRONT_SIZE
+        } else {
+            FRONT_SIZE
+        }
+    }
+
+    // Which GUIDs stand in the place (MS-DTYP 2.4.4.3).
+    #[tactic(auto, unfolding(crate::specs::AclReading::inherited_in, crate::specs::AclReading::object_in, crate::specs::AclReading::guid_if))]
+    pub(crate) fn object_flags(&self) -> u8
+        ensures { result ≡ flag_if self.now.object 1 + flag_if self.now.inherited 2 }
+    {
+        let object = if has_object(self.place) { 1 } else { 0 };
+        let inherited = if has_inherited(self.place) { 2 } else { 0 };
+        object + inherited
+    }
+
+    // The bytes of the GUIDs and of the SID.
+    pub(crate) fn body(&self) -> &'a [u8]
+        ensures value { result.now ≡ ace_body self.now }
+        ensures size { front_size self.now.kind + length result.now ≡ ace_size self.now }
+        ensures short { length result.now ≤ 100 }
+    {
+        let front = sid_offset(self.place);
+        let count = usize::from(self.place[front + 1]);
+        &self.place[self.front_size()..front + 8 + 4 * count]
+    }
+}
+
+// The GUID at a place (MS-DTYP 2.3.4.2).
+fn guid_at(bytes: &[u8], place: usize) -> Option<Uuid>
+    requires { place + 16 ≤ length bytes.now }
+    ensures { result ≡ Some (swap_fields (take 16 (drop place bytes.now))) }
+{
+    let mut guid = [0; GUID_SIZE];
+    guid.copy_from_slice(&bytes[place..place + GUID_SIZE]);
+    Some(guid_read(&guid))
+}

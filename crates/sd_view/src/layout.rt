@@ -1,0 +1,99 @@
+// The written form of a descriptor.
+ghost use Rattle.std.specs.Prelude.{◌≡◌, ◌≤◌, ◌<◌, ◌+◌, ◌^◌, ◌++◌, ℕ, List, length};
+ghost use Rattle.sd_sink.specs.Print.{Prints};
+ghost use Rattle.sd_sink.specs.Sink.{Puts};
+ghost use Rattle.sd_view.specs.Descriptor.{IsDescriptor, Shows};
+ghost use Rattle.sd_view.specs.Layout.{acl_part, descriptor_header, header_bytes, layout, offset_if, parts, size};
+ghost use Rattle.sd_view.specs.declared.limits.TheConstants.{MOST_LAYOUT_SIZE};
+
+use crate::acl::AclPart;
+use crate::acl_layout::print_acl;
+use crate::limits::HEADER_SIZE;
+use crate::view::SdView;
+use sd_core::{Print, Printer, Sink, SinkFault};
+
+/// Puts the one layout of a descriptor (MS-DTYP 2.4.6): header, owner, group, SACL, DACL, those that
+/// stand, without gaps, and 0 for each offset without a part.
+pub fn put_layout<S: Sink>(view: &SdView<'_>, sink: &mut S) -> Result<(), SinkFault>
+    ensures put { Puts (S.told sink.old) (S.told sink.new) (layout view.now) result }
+    // What is put shows the descriptor.
+    ensures shows { Shows (layout view.now) view.now }
+    ensures size { length (layout view.now) ≡ size view.now }
+    ensures most { size view.now ≤ MOST_LAYOUT_SIZE }
+    // No bytes that show the descriptor are fewer.
+    ensures least { (bytes : List ℕ) → Shows bytes view.now → size view.now ≤ length bytes }
+{
+    let mut out = Printer::new(sink);
+    print_layout(view, &mut out);
+    out.finish()
+}
+
+/// Prints the layout of a descriptor, as `put_layout` puts it.
+pub fn print_layout<P: Print>(view: &SdView<'_>, out: &mut P)
+    ensures printed { Prints (P.told out.old) (P.told out.new) (layout view.now) }
+    ensures limits { IsDescriptor view.now }
+{
+    out.put(&header_of(view));
+    out.put(view.owner_place());
+    out.put(view.group_place());
+    print_acl_part(&view.sacl(), out);
+    print_acl_part(&view.dacl(), out);
+}
+
+fn print_acl_part<P: Print>(part: &AclPart<'_>, out: &mut P)
+    ensures { Prints (P.told out.old) (P.told out.new) (acl_part part.now) }
+{
+    if let AclPart::List(acl) = part {
+        print_acl(acl, out);
+    }
+}
+
+fn header_of(view: &SdView<'_>) -> [u8; HEADER_SIZE]
+    ensures value { result ≡ descriptor_header view.now }
+    ensures limits { IsDescriptor view.now }
+{
+    let first = HEADER_SIZE as u32;
+    let owner = view.owner_place().len() as u32;
+    let group = view.group_place().len() as u32;
+    let acls = view.acls();
+    let sacl = acls.sacl.size as u32;
+    let dacl = acls.dacl.size as u32;
+    header(
+        view.rm(),
+        view.control(),
+        offset_if(first, owner),
+        offset_if(first + owner, group),
+        offset_if(first + owner + group, sacl),
+        offset_if(first + owner + group + sacl, dacl),
+    )
+}
+
+// The offset of a part of this size that stands at this place.
+fn offset_if(place: u32, size: u32) -> u32
+    ensures { result ≡ offset_if place size }
+{
+    if size == 0 { 0 } else { place }
+}
+
+/// A header of these fields.
+#[tactic(auto, unfolding(crate::specs::Layout::header_bytes))]
+pub fn header(
+    rm: u8,
+    control: u16,
+    owner: u32,
+    group: u32,
+    sacl: u32,
+    dacl: u32,
+) -> [u8; HEADER_SIZE]
+    ensures { result ≡ header_bytes rm control owner group sacl dacl }
+{
+    let c = control.to_le_bytes();
+    let o = owner.to_le_bytes();
+    let g = group.to_le_bytes();
+    let s = sacl.to_le_bytes();
+    let d = dacl.to_le_bytes();
+    [
+        1, rm, c[0], c[1], o[0], o[1], o[2], o[3], g[0], g[1], g[2], g[3], s[0], s[1], s[2], s[3],
+        d[0], d[1], d[2], d[3],
+    ]
+}

@@ -1,0 +1,23 @@
+//! Self-relative security descriptors as bytes (MS-DTYP 2.4.6): read in place, and put in one layout.
+#![tactic(auto)]
+
+mod ace;
+mod acl;
+mod acl_layout;
+mod bytes;
+mod control;
+mod fault;
+mod layout;
+mod limits;
+mod view;
+
+pub use ace::{AceView, FRONT_SIZE, OBJECT_FRONT_SIZE};
+pub use acl::{Aces, AclPart, AclView};
+pub use acl_layout::acl_header;
+pub use control::{AclFlags, CONTROL_BITS, ControlBit, Which, control_of};
+pub use fault::{Part, SdFault};
+pub use layout::{header, print_layout, put_layout};
+pub use limits::{
+    ACL_HEADER_SIZE, CAPACITY, HEADER_SIZE, MOST_ACL_SIZE, MOST_SID_SIZE, SID_HEADER_SIZE,
+};
+pub use view::{SdView, read};

@@ -1,0 +1,368 @@
+// Descriptors read in place.
+ghost use Rattle.std.specs.Prelude.{◌≡◌, ◌≤◌, ◌<◌, ◌+◌, ◌*◌, ℕ, List, length, Ok, IfOk, OnOk, MatchResult};
+ghost use Rattle.sd_view.specs.Descriptor.{Descriptor, Shows, IsDescriptor, acl_extent, extents_of, sid_extent};
+ghost use Rattle.sd_view.specs.Layout.{layout, sid_part, size};
+ghost use Rattle.sd_view.specs.Found.{extents_seen, shown_written, written_of};
+ghost use Rattle.sd_view.specs.Reading.{IsAclAt, IsSidAt, acl_part_fault, acl_shown, fault, fault_in, header_fault, share_a_byte as share_of, overlap_fault, overlaps_fault, parts_fault, reading, shown, sid_fault, sid_shown};
+ghost use Rattle.sd_view.specs.declared.limits.TheConstants.{HEADER_SIZE, MOST_LAYOUT_SIZE, MOST_SID_SIZE};
+
+use crate::acl::{AclPart, Written, acl_view, check_acl};
+use crate::bytes::{u16_at, u32_at};
+use crate::control::{DACL_PRESENT, SACL_PRESENT, SELF_RELATIVE, has_bit};
+use crate::fault::{AclFault, Part, SdFault};
+use crate::limits::HEADER_SIZE;
+use sd_core::Sid;
+use std::marker::Model;
+
+/// What is kept of an ACL that does not stand.
+const NOTHING: Written = Written {
+    size: 0,
+    object: false,
+};
+
+/// A descriptor in the bytes that show it.
+#[derive(Drop)]
+pub struct SdView<'a> {
+    bytes: &'a [u8],
+    // What the check of the ACLs found, so that they are not walked again for it.
+    acls: Acls,
+}
+
+impl<'a> Model for SdView<'a> {
+    ghost use Rattle.std.specs.Prelude.{◌≡◌};
+    ghost use Rattle.sd_view.specs.Descriptor.{Descriptor};
+    ghost use Rattle.sd_view.specs.Found.{shown_written};
+    ghost use Rattle.sd_view.specs.Reading.{Readable, shown};
+
+    ghost Value = { Descriptor };
+
+    ghost view = { λ v. shown v.bytes.now };
+
+    ghost invariant = { λ v. Readable v.bytes.now × (v.acls ≡ shown_written (shown v.bytes.now)) };
+}
+
+/// What the check found for the written form of the two ACLs.
+#[derive(Clone, Copy)]
+pub struct Acls {
+    pub sacl: Written,
+    pub dacl: Written,
+}
+
+/// Where the parts stand: the first byte, and the first one after the part.
+#[derive(Drop)]
+pub struct Places {
+    pub owner: Option<(u64, u64)>,
+    pub group: Option<(u64, u64)>,
+    pub sacl: Option<(u64, u64)>,
+    pub dacl: Option<(u64, u64)>,
+}
+
+/// The descriptor that the bytes show (MS-DTYP 2.4.6), or the first fault of the bytes.
+pub fn read(bytes: &[u8]) -> Result<SdView<'_>, SdFault>
+    // What is read is shown.
+    ensures found { IfOk result (λ d. Shows bytes.now d) }
+    // What is shown is read, and nothing else is shown.
+    ensures only { (d : Descriptor) → Shows bytes.now d → result ≡ Ok d }
+    // Which fault it is.
+    ensures fault { MatchResult result (λ _. fault bytes.now ≡ None) (λ f. fault bytes.now ≡ Some f) }
+    // The same as a function of the bytes.
+    ensures exact { result ≡ reading bytes.now }
+    ensures limits { IfOk result IsDescriptor }
+{
+    let acls = check(bytes)?;
+    Ok(SdView { bytes, acls })
+}
+
+// The first fault of the bytes, or what it found for the written form of the ACLs.
+#[tactic(auto, unfolding(crate::specs::Reading::fault))]
+fn check(bytes: &[u8]) -> Result<Acls, SdFault>
+    ensures fault { MatchResult result (λ _. fault bytes.now ≡ None) (λ f. fault bytes.now ≡ Some f) }
+    ensures acls { IfOk result (λ a. a ≡ shown_written (shown bytes.now)) }
+{
+    check_header(bytes)?;
+    let (places, acls) = check_parts(bytes)?;
+    check_overlaps(&places)?;
+    Ok(acls)
+}
+
+// The first fault of the header.
+#[tactic(auto, unfolding(crate::specs::Reading::header_fault))]
+fn check_header(bytes: &[u8]) -> Result<(), SdFault>
+    ensures fault { MatchResult result (λ _. header_fault bytes.now ≡ None) (λ f. header_fault bytes.now ≡ Some f) }
+    ensures room { OnOk result (HEADER_SIZE ≤ length bytes.now) }
+{
+    if bytes.len() < HEADER_SIZE {
+        return Err(SdFault::Short);
+    }
+    if bytes[0] != 1 {
+        return Err(SdFault::Revision);
+    }
+    if !has_bit(SELF_RELATIVE, u16_at(bytes, 2)) {
+        return Err(SdFault::NotSelfRelative);
+    }
+    Ok(())
+}
+
+// The first fault of the parts, or where they stand and what the written form of the ACLs needs.
+#[tactic(auto, unfolding(crate::specs::Reading::parts_fault))]
+fn check_parts(bytes: &[u8]) -> Result<(Places, Acls), SdFault>
+    requires { HEADER_SIZE ≤ length bytes.now }
+    ensures fault { MatchResult result (λ _. parts_fault bytes.now ≡ None) (λ f. parts_fault bytes.now ≡ Some f) }
+    ensures places { IfOk result (λ r. extents_seen r.0 ≡ extents_of bytes.now (shown bytes.now)) }
+    ensures acls { IfOk result (λ r. r.1 ≡ shown_written (shown bytes.now)) }
+{
+    let control = u16_at(bytes, 2);
+    let owner = check_sid(Part::Owner, bytes, u32_at(bytes, 4))?;
+    let group = check_sid(Part::Group, bytes, u32_at(bytes, 8))?;
+    let sacl_is_present = has_bit(SACL_PRESENT, control);
+    let (sacl, sacl_written) = check_acl_part(
+        Part::Sacl,
+        bytes,
+        sacl_is_present,
+        u32_at(bytes, 12),
+    )?;
+    let dacl_is_present = has_bit(DACL_PRESENT, control);
+    let (dacl, dacl_written) = check_acl_part(
+        Part::Dacl,
+        bytes,
+        dacl_is_present,
+        u32_at(bytes, 16),
+    )?;
+    let places = Places {
+        owner,
+        group,
+        sacl,
+        dacl,
+    };
+    let acls = Acls {
+        sacl: sacl_written,
+        dacl: dacl_written,
+    };
+    Ok((places, acls))
+}
+
+// The extent of the SID at an offset, where one is meant.
+#[tactic(auto, unfolding(crate::specs::Reading::sid_fault, crate::specs::Reading::sid_shown))]
+fn check_sid(part: Part, bytes: &[u8], offset: u32) -> Result<Option<(u64, u64)>, SdFault>
+    ensures { MatchResult result
+        (λ extent. (sid_fault part bytes.now offset ≡ None) × (extent ≡ sid_extent offset (sid_shown bytes.now offset)))
+        (λ f. sid_fault part bytes.now offset ≡ Some f) }
+{
+    if offset == 0 {
+        return Ok(None);
+    }
+    let place = offset as usize;
+    if place < HEADER_SIZE || bytes.len() < place + 8 {
+        return Err(SdFault::Offset(part));
+    }
+    let Some((_, size)) = Sid::read(&bytes[place..]) else {
+        return Err(SdFault::Sid(part));
+    };
+    Ok(Some((u64::from(offset), u64::from(offset) + size as u64)))
+}
+
+// The extent of the ACL at an offset, where one is meant, and what its written form needs.
+#[tactic(auto, unfolding(crate::specs::Reading::acl_part_fault, crate::specs::Reading::acl_shown))]
+fn check_acl_part(
+    part: Part,
+    bytes: &[u8],
+    present: bool,
+    offset: u32,
+) -> Result<(Option<(u64, u64)>, Written), SdFault>
+    ensures fault { MatchResult result (λ _. acl_part_fault part bytes.now present offset ≡ None) (λ f. acl_part_fault part bytes.now present offset ≡ Some f) }
+    ensures place { IfOk result (λ r. r.0 ≡ acl_extent bytes.now offset (acl_shown bytes.now present offset)) }
+    ensures written { IfOk result (λ r. r.1 ≡ written_of (acl_shown bytes.now present offset)) }
+{
+    if !present || offset == 0 {
+        return Ok((None, NOTHING));
+    }
+    let place = offset as usize;
+    if place < HEADER_SIZE || place + 8 > bytes.len() {
+        return Err(SdFault::Offset(part));
+    }
+    match check_acl(&bytes[place..]) {
+        Ok((size, written)) => Ok((
+            Some((u64::from(offset), u64::from(offset) + size as u64)),
+            written,
+        )),
+        Err(fault) => Err(fault_in(part, fault)),
+    }
+}
+
+// An ACL's fault, in a part.
+fn fault_in(part: Part, fault: AclFault) -> SdFault
+    ensures { result ≡ fault_in part fault }
+{
+    match fault {
+        AclFault::Acl => SdFault::Acl(part),
+        AclFault::AceSize => SdFault::AceSize(part),
+        AclFault::AceType => SdFault::AceType(part),
+        AclFault::AceFlags => SdFault::AceFlags(part),
+        AclFault::Sid => SdFault::Sid(part),
+    }
+}
+
+// The first pair of parts that shares a byte.
+#[tactic(auto, unfolding(crate::specs::Reading::overlaps_fault))]
+fn check_overlaps(places: &Places) -> Result<(), SdFault>
+    ensures { MatchResult result (λ _. overlaps_fault (extents_seen places.now) ≡ None) (λ f. overlaps_fault (extents_seen places.now) ≡ Some f) }
+{
+    check_apart(Part::Owner, places.owner, Part::Group, places.group)?;
+    check_apart(Part::Owner, places.owner, Part::Sacl, places.sacl)?;
+    check_apart(Part::Owner, places.owner, Part::Dacl, places.dacl)?;
+    check_apart(Part::Group, places.group, Part::Sacl, places.sacl)?;
+    check_apart(Part::Group, places.group, Part::Dacl, places.dacl)?;
+    check_apart(Part::Sacl, places.sacl, Part::Dacl, places.dacl)
+}
+
+// Whether two extents share a byte.
+fn share_a_byte(a: Option<(u64, u64)>, b: Option<(u64, u64)>) -> bool
+    ensures { result ≡ share_of a b }
+{
+    match (a, b) {
+        (Some(a), Some(b)) => b.0 < a.1 && a.0 < b.1,
+        _ => false,
+    }
+}
+
+#[tactic(auto, unfolding(crate::specs::Reading::overlap_fault))]
+fn check_apart(
+    p: Part,
+    a: Option<(u64, u64)>,
+    q: Part,
+    b: Option<(u64, u64)>,
+) -> Result<(), SdFault>
+    ensures { MatchResult result (λ _. overlap_fault p a q b ≡ None) (λ f. overlap_fault p a q b ≡ Some f) }
+{
+    if share_a_byte(a, b) {
+        return Err(SdFault::Overlap(p, q));
+    }
+    Ok(())
+}
+
+impl<'a> SdView<'a> {
+    /// The control word.
+    pub fn control(&self) -> u16
+        ensures value { result ≡ self.now.control }
+        ensures limits { IsDescriptor self.now }
+    {
+        u16_at(self.bytes, 2)
+    }
+
+    /// The resource manager byte.
+    pub fn rm(&self) -> u8
+        ensures { result ≡ self.now.rm }
+    {
+        self.bytes[1]
+    }
+
+    /// The SID of the owner, if there is one.
+    pub fn owner(&self) -> Option<Sid>
+        ensures { result ≡ self.now.owner }
+    {
+        sid_in(self.bytes, u32_at(self.bytes, 4))
+    }
+
+    /// The SID of the primary group, if there is one.
+    pub fn group(&self) -> Option<Sid>
+        ensures { result ≡ self.now.group }
+    {
+        sid_in(self.bytes, u32_at(self.bytes, 8))
+    }
+
+    /// The system ACL: what is audited, and the mandatory label.
+    pub fn sacl(&self) -> AclPart<'a>
+        ensures { result ≡ self.now.sacl }
+    {
+        let present = has_bit(SACL_PRESENT, self.control());
+        acl_in(self.bytes, present, u32_at(self.bytes, 12), self.acls.sacl)
+    }
+
+    /// The discretionary ACL: who is allowed what.
+    pub fn dacl(&self) -> AclPart<'a>
+        ensures { result ≡ self.now.dacl }
+    {
+        let present = has_bit(DACL_PRESENT, self.control());
+        acl_in(self.bytes, present, u32_at(self.bytes, 16), self.acls.dacl)
+    }
+
+    /// The size of the written layout in bytes, at most 131,220.
+    pub fn size(&self) -> u32
+        ensures value { result ≡ size self.now }
+        ensures most { size self.now ≤ MOST_LAYOUT_SIZE }
+        // As many bytes as the layout has.
+        ensures written { length (layout self.now) ≡ size self.now }
+        // No bytes that show the descriptor are fewer.
+        ensures least { (bytes : List ℕ) → Shows bytes self.now → size self.now ≤ length bytes }
+    {
+        let sids = self.owner_place().len() + self.group_place().len();
+        (HEADER_SIZE + sids + self.acls.sacl.size + self.acls.dacl.size) as u32
+    }
+
+    // What the check found for the written form of the two ACLs.
+    pub(crate) fn acls(&self) -> Acls
+        ensures { result ≡ shown_written self.now }
+    {
+        self.acls
+    }
+
+    // The owner's bytes, and none where there is no owner.
+    pub(crate) fn owner_place(&self) -> &'a [u8]
+        ensures value { result.now ≡ sid_part self.now.owner }
+        ensures short { length result.now ≤ MOST_SID_SIZE }
+        ensures limits { IsDescriptor self.now }
+    {
+        sid_place(self.bytes, u32_at(self.bytes, 4))
+    }
+
+    // The group's bytes, and none where there is no group.
+    pub(crate) fn group_place(&self) -> &'a [u8]
+        ensures value { result.now ≡ sid_part self.now.group }
+        ensures short { length result.now ≤ MOST_SID_SIZE }
+    {
+        sid_place(self.bytes, u32_at(self.bytes, 8))
+    }
+}
+
+// The SID at an offset that was checked.
+#[tactic(auto, unfolding(crate::specs::Reading::sid_shown))]
+fn sid_in(bytes: &[u8], offset: u32) -> Option<Sid>
+    requires { IsSidAt bytes.now offset }
+    ensures { result ≡ sid_shown bytes.now offset }
+{
+    if offset == 0 {
+        return None;
+    }
+    Sid::read(&bytes[offset as usize..]).map(|found| found.0)
+}
+
+// The bytes of the SID at an offset that was checked.
+fn sid_place(bytes: &[u8], offset: u32) -> &[u8]
+    requires { IsSidAt bytes.now offset }
+    ensures value { result.now ≡ sid_part (sid_shown bytes.now offset) }
+    ensures short { length result.now ≤ MOST_SID_SIZE }
+{
+    if offset == 0 {
+        return &[];
+    }
+    let place = &bytes[offset as usize..];
+    &place[..8 + 4 * usize::from(place[1])]
+}
+
+// The ACL at an offset that was checked.
+#[tactic(auto, unfolding(crate::specs::Reading::acl_shown))]
+fn acl_in(bytes: &[u8], present: bool, offset: u32, written: Written) -> AclPart<'_>
+    requires place { IsAclAt bytes.now present offset }
+    requires written { written ≡ written_of (acl_shown bytes.now present offset) }
+    ensures { result ≡ acl_shown bytes.now present offset }
+{
+    if !present {
+        return AclPart::Absent;
+    }
+    if offset == 0 {
+        return AclPart::Null;
+    }
+    let rest = &bytes[offset as usize..];
+    let size = usize::from(u16_at(rest, 2));
+    AclPart::List(acl_view(&rest[..size], written))
+}
