@@ -4,9 +4,9 @@ use Rattle.std.specs.List.{flat_map}
 use Rattle.std.proofs.lemmas.Bool.{cases_lt}
 use Rattle.std.proofs.lemmas.List.Concat.{flat_map-append}
 use Rattle.sd_core.specs.Ace.{AccessControlEntry}
-use Rattle.sd_binary.specs.Acl.{aces_size}
+use Rattle.sd_view.specs.Acl.{aces_size}
 use Rattle.sd_binary.specs.Draft.{Draft, IsOpenIn, open_size, open_size_in}
-use Rattle.sd_binary.specs.declared.builder.Which.{Which}
+use Rattle.sd_view.specs.declared.control.Which.{Which}
 use Rattle.sd_inherit.specs.Building.{HasOpen, more_aces, with_aces}
 
 abbrev pub Aces : Type 0

@@ -2,13 +2,13 @@
 use Rattle.std.proofs.Common.{◌≡◌, ◌≤◌, ℕ, ◌+◌, ◌^◌, ◌↔◌, Bool, true, false, List, Some, None, refl, sym, ap, arith}
 use Rattle.std.proofs.lemmas.Bool.Decides.{nat_tests}
 use Rattle.sd_core.specs.Ace.{AccessControlEntry}
-use Rattle.sd_binary.specs.Acl.{acl_size}
-use Rattle.sd_binary.specs.Control.{bit_if}
-use Rattle.sd_binary.specs.Descriptor.{Descriptor}
-use Rattle.sd_binary.specs.Draft.{Draft, built, control_of, is_present}
-use Rattle.sd_binary.specs.declared.acl.AclPart.TheVariants as acl
-use Rattle.sd_binary.specs.declared.builder.Which.TheVariants.{Sacl, Dacl}
-use Rattle.sd_binary.specs.declared.control.TheConstants.{DACL_AUTO_INHERITED, DACL_PRESENT, SACL_AUTO_INHERITED, SACL_PRESENT, SELF_RELATIVE}
+use Rattle.sd_view.specs.Acl.{acl_size}
+use Rattle.sd_view.specs.Control.{bit_if, control_of}
+use Rattle.sd_view.specs.Descriptor.{Descriptor}
+use Rattle.sd_binary.specs.Draft.{Draft, built, is_present}
+use Rattle.sd_view.specs.declared.acl.AclPart.TheVariants as acl
+use Rattle.sd_view.specs.declared.control.Which.TheVariants.{Sacl, Dacl}
+use Rattle.sd_view.specs.declared.control.TheConstants.{DACL_AUTO_INHERITED, DACL_PRESENT, SACL_AUTO_INHERITED, SACL_PRESENT, SELF_RELATIVE}
 use Rattle.sd_inherit.specs.Building.{inherited_bits}
 use Rattle.sd_inherit.specs.Derived.{derive_fault, derived, inherited, is_too_large, sacl_of}
 use Rattle.sd_inherit.specs.declared.derivation.DeriveFault.TheVariants.{DerivedTooLarge}

@@ -2,11 +2,11 @@
 use Rattle.std.specs.Prelude.{◌<◌, ℕ, ◌+◌, ◌^◌, Bool, List, [], ◌∷◌, ◌++◌, Option, Some, None}
 use Rattle.sd_core.specs.Ace.{AccessControlEntry}
 use Rattle.sd_binary.specs.Builds.{Builds, BuildsInOrder}
-use Rattle.sd_binary.specs.Control.{bit_if}
+use Rattle.sd_view.specs.Control.{bit_if}
 use Rattle.sd_binary.specs.Draft.{Draft, IsOpen, open_size}
 use Rattle.sd_binary.specs.declared.builder.Builder.{Builder}
-use Rattle.sd_binary.specs.declared.builder.Which.{Which}
-use Rattle.sd_binary.specs.declared.control.TheConstants.{DACL_AUTO_INHERITED, SACL_AUTO_INHERITED}
+use Rattle.sd_view.specs.declared.control.Which.{Which}
+use Rattle.sd_view.specs.declared.control.TheConstants.{DACL_AUTO_INHERITED, SACL_AUTO_INHERITED}
 use Rattle.sd_inherit.specs.declared.copies.Copies.{Copies}
 
 -- at most one, as a list

@@ -5,7 +5,7 @@ use Rattle.sd_core.specs.Mapping.{carries, mapped}
 use Rattle.sd_rights.specs.Rights.{is_label}
 use Rattle.sd_core.specs.Sid.{SecurityId}
 use Rattle.sd_core.specs.SidText.{same_sid}
-use Rattle.sd_binary.specs.Control.{bit_of}
+use Rattle.sd_view.specs.Control.{bit_of}
 use Rattle.sd_inherit.specs.declared.plan.Plan.{Plan}
 use Rattle.sd_inherit.specs.declared.plan.Target.{Target}
 use Rattle.sd_inherit.specs.declared.plan.Target.TheVariants.{File, Container}

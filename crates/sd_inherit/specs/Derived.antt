@@ -2,14 +2,14 @@
 use Rattle.std.specs.Prelude.{ℕ, ◌+◌, nat_lt, Bool, if◌then◌else◌, List, [], ◌∷◌, Option, Some, None}
 use Rattle.std.specs.List.{flat_map}
 use Rattle.sd_core.specs.Ace.{AccessControlEntry}
-use Rattle.sd_binary.specs.Acl.{acl_size}
-use Rattle.sd_binary.specs.Control.{bit_if}
-use Rattle.sd_binary.specs.Descriptor.{Descriptor}
+use Rattle.sd_view.specs.Acl.{acl_size}
+use Rattle.sd_view.specs.Control.{bit_if}
+use Rattle.sd_view.specs.Descriptor.{Descriptor}
 use Rattle.sd_binary.specs.Draft.{is_present}
-use Rattle.sd_binary.specs.declared.acl.AclPart.{AclPart}
-use Rattle.sd_binary.specs.declared.acl.AclPart.TheVariants as acl
-use Rattle.sd_binary.specs.declared.builder.Which.TheVariants.{Sacl, Dacl}
-use Rattle.sd_binary.specs.declared.control.TheConstants.{DACL_AUTO_INHERITED, DACL_PRESENT, SACL_AUTO_INHERITED, SACL_PRESENT, SELF_RELATIVE}
+use Rattle.sd_view.specs.declared.acl.AclPart.{AclPart}
+use Rattle.sd_view.specs.declared.acl.AclPart.TheVariants as acl
+use Rattle.sd_view.specs.declared.control.Which.TheVariants.{Sacl, Dacl}
+use Rattle.sd_view.specs.declared.control.TheConstants.{DACL_AUTO_INHERITED, DACL_PRESENT, SACL_AUTO_INHERITED, SACL_PRESENT, SELF_RELATIVE}
 use Rattle.sd_inherit.specs.Copies.{copies}
 use Rattle.sd_inherit.specs.declared.derivation.DeriveFault.{DeriveFault}
 use Rattle.sd_inherit.specs.declared.derivation.DeriveFault.TheVariants.{DerivedTooLarge}

@@ -2,10 +2,10 @@
 
 ghost use Rattle.std.specs.Prelude.{◌≡◌, ◌<◌, ◌≤◌, ◌+◌, ◌^◌, ◌↔◌, [], IsErr, IfOk, OnOk, not};
 ghost use Rattle.std.specs.List.{flat_map};
-ghost use Rattle.sd_binary.specs.Acl.{aces_size, acl_size};
+ghost use Rattle.sd_view.specs.Acl.{aces_size, acl_size};
 ghost use Rattle.sd_binary.specs.Draft.{CanBegin, Draft, bytes_after, is_present, open_size, part_of, with_acl};
-ghost use Rattle.sd_binary.specs.declared.acl.AclPart.TheVariants as acl;
-ghost use Rattle.sd_binary.specs.declared.builder.Which.TheVariants as which;
+ghost use Rattle.sd_view.specs.declared.acl.AclPart.TheVariants as acl;
+ghost use Rattle.sd_view.specs.declared.control.Which.TheVariants as which;
 ghost use Rattle.sd_inherit.specs.Building.{HasOpen, Writes, listed, one_or_none, with_aces};
 ghost use Rattle.sd_inherit.specs.Copies.{copies};
 ghost use Rattle.sd_inherit.specs.Derived.{inherited, sacl_of};
