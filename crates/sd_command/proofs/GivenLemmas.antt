@@ -11,8 +11,9 @@ use Rattle.sd_command.specs.declared.settings.UsageFault.TheVariants.{Value}
 abbrev pub Meets : {A : Type 0} → (Text → Option A) → (Text → Option A → Type 0) → Type 0
 Meets {A = A} reads answers = (text : Text) (value : Option A) → answers text value → value ≡ reads text
 
-pub given-is : {A : Type 0} (reads : Text → Option A) (answers : Text → Option A → Type 0) (option : OptionName) (text : Option Text)
-    (result : Result (Option A) UsageFault) → Meets reads answers → GivenBy answers option text result → result ≡ given option (value_if reads text)
+pub given-is : {A : Type 0} (reads : Text → Option A) (answers : Text → Option A → Type 0) (option : OptionName)
+    (text : Option Text) (result : Result (Option A) UsageFault)
+    → Meets reads answers → GivenBy answers option text result → result ≡ given option (value_if reads text)
 given-is reads answers option None result meets by = by
 given-is reads answers option (Some text) result meets by =
     by.2 ∙ ap (λ value. given option (option_map (λ v. Some v) value)) (meets text by.0 by.1)
@@ -23,7 +24,8 @@ read-default option default None value e = absurd (cc)
 read-default option default (Some v) value e = let same : value ≡ Some v = cc in rw same refl
 
 or-default : {A : Type 0} (reads : Text → Option A) (option : OptionName) (default : A) (text : Option Text)
-    (value : Option A) → given option (value_if reads text) ≡ Ok value → Ok (unwrap_or value default) ≡ given option (value_or default reads text)
+    (value : Option A) → given option (value_if reads text) ≡ Ok value
+    → Ok (unwrap_or value default) ≡ given option (value_or default reads text)
 or-default reads option default None value e = let same : value ≡ None = cc in rw same refl
 or-default reads option default (Some text) value e = read-default option default (reads text) value e
 
@@ -33,20 +35,21 @@ unread option None fault e = let same : fault ≡ Value option = cc in rw same r
 unread option (Some v) fault e = absurd (cc)
 
 or-unread : {A : Type 0} (reads : Text → Option A) (option : OptionName) (default : A) (text : Option Text)
-    (fault : UsageFault) → given option (value_if reads text) ≡ Err fault → Err fault ≡ given option (value_or default reads text)
+    (fault : UsageFault) → given option (value_if reads text) ≡ Err fault
+    → Err fault ≡ given option (value_or default reads text)
 or-unread reads option default None fault e = absurd (cc)
 or-unread reads option default (Some text) fault e = unread option (reads text) fault e
 
 -- where a value stands for an option that is left out
-pub given-or-is : {A : Type 0} (reads : Text → Option A) (default : A) (answers : Text → Option A → Type 0) (option : OptionName)
-    (text : Option Text) (result : Result (Option A) UsageFault) (value : Option A)
+pub given-or-is : {A : Type 0} (reads : Text → Option A) (default : A) (answers : Text → Option A → Type 0)
+    (option : OptionName) (text : Option Text) (result : Result (Option A) UsageFault) (value : Option A)
     → Meets reads answers → GivenBy answers option text result → result ≡ Ok value
     → Ok (unwrap_or value default) ≡ given option (value_or default reads text)
 given-or-is reads default answers option text result value meets by e =
     or-default reads option default text value (sym (given-is reads answers option text result meets by) ∙ e)
 
-pub given-or-fault : {A : Type 0} (reads : Text → Option A) (default : A) (answers : Text → Option A → Type 0) (option : OptionName)
-    (text : Option Text) (result : Result (Option A) UsageFault) (fault : UsageFault)
+pub given-or-fault : {A : Type 0} (reads : Text → Option A) (default : A) (answers : Text → Option A → Type 0)
+    (option : OptionName) (text : Option Text) (result : Result (Option A) UsageFault) (fault : UsageFault)
     → Meets reads answers → GivenBy answers option text result → result ≡ Err fault
     → Err fault ≡ given option (value_or default reads text)
 given-or-fault reads default answers option text result fault meets by e =

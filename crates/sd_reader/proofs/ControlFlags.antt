@@ -1,6 +1,6 @@
 -- The flags of both ACLs in a control word.
 use Rattle.std.proofs.Common.{◌≡◌, ◌≤◌, ◌<◌, ℕ, ◌+◌, ◌*◌, Bool, true, false, refl, ap, sym, ◌∙◌, arith}
-use Rattle.sd_view.specs.Control.{bit_if, flag_bits, other_flags}
+use Rattle.sd_view.specs.Control.{bit_if, other_flags}
 use Rattle.sd_view.specs.declared.control.AclFlags.{AclFlags}
 use Rattle.sd_reader.specs.Meaning.{control_flags}
 

@@ -1,5 +1,5 @@
 -- A printed descriptor reads back, but for what SDDL has no letters for.
-use Rattle.std.proofs.Common.{◌≡◌, ◌≤◌, ◌<◌, ℕ, ◌+◌, ◌*◌, Bool, true, false, List, [], ◌∷◌, ◌++◌, map, Option, Some, None, Result, Ok, refl, ap, sym, ◌∙◌, arith, append-nil}
+use Rattle.std.proofs.Common.{◌≡◌, ℕ, ◌+◌, Bool, true, false, List, [], ◌∷◌, ◌++◌, map, Option, Some, None, Result, Ok, refl, ap, sym, ◌∙◌, arith, append-nil}
 use Rattle.std.specs.Prelude.{codes}
 use Rattle.std.specs.List.{AllByRecursion, flat_map}
 use Rattle.std.proofs.lemmas.Grind.{flat_map-append}
@@ -16,7 +16,7 @@ use Rattle.sd_reader.specs.declared.line.SidPart.TheVariants as sid_part
 use Rattle.sd_core.specs.declared.naming.Naming.{Naming}
 use Rattle.sd_view.specs.declared.control.Which.{Which}
 use Rattle.sd_view.specs.declared.control.Which.TheVariants as which
-use Rattle.sd_view.specs.Control.{acl_flags, bit_if, flag_bits, no_flags, control_of, other_flags}
+use Rattle.sd_view.specs.Control.{acl_flags, bit_if, flag_bits, no_flags, control_of}
 use Rattle.sd_binary.specs.Draft.{is_present, no_parts}
 use Rattle.sd_reader.specs.FoldedReading.{Field, Reading, described, fields_of, finished, folded, nothing_read, read_fields, reads_as, verdict}
 use Rattle.sd_reader.specs.Line.{Sections, has_twice, is_shaped, parts_of}
