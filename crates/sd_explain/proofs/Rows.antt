@@ -1,6 +1,6 @@
 -- Worked descriptors, explained.
-use Rattle.std.proofs.Common.{◌≡◌, ℕ, [], ◌∷◌, ◌++◌, List, Option, Some, None, true, false, codes, refl}
-use Rattle.std.specs.Fmt.{decimal, digits}
+use Rattle.std.proofs.Common.{◌≡◌, [], ◌∷◌, ◌++◌, Some, None, true, false, codes, refl}
+use Rattle.std.specs.Fmt.{digits}
 use Rattle.sd_rights.specs.Kinds.{kind_entry, kind_letters}
 use Rattle.sd_core.specs.Ace.{AccessControlEntry}
 use Rattle.sd_rights.specs.Flags.{flags_text}

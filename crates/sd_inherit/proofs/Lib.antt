@@ -1,2 +1,3 @@
 pub mod BuildingLaws
 pub mod DerivedLaws
+mod Rows

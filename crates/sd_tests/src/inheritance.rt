@@ -35,7 +35,7 @@ fn check_text(rt: &(impl Abort + AllocGlobal), plan: &Plan, parent: &str, child:
     let view = read(made.bytes()).expect(rt, "a descriptor");
     let mut out = TextSink::new(rt.alloc());
     assert!(rt; put_sddl(&view, None, false, &mut out) == Ok(()));
-    assert!(rt; out.text == child.as_bytes());
+    assert!(rt; out.text.as_slice() == child.as_bytes());
 }
 
 // By the rules of inheritance in docs/DEFINITIONS.md.
@@ -86,7 +86,8 @@ fn leaves_the_layout(rt: HostRuntime) {
     let parent = "D:(A;OI;GRGX;;;BU)(A;CI;GA;;;SY)S:(ML;OICI;NW;;;HI)";
     let mut made = SdBuf::new(rt.alloc()).expect(&rt, "memory");
     assert!(rt; derive_from(&rt, &system, parent.as_bytes(), &mut made) == Ok(()));
-    let text = "0100148c1400000024000000300000004c0000000102000000000005200000002002000001010000000000051200000002001c00010000001110140001000000010100000000001000300000020020000100000000101800a900120001020000000000052000000021020000";
+    let text =
+        "0100148c1400000024000000300000004c0000000102000000000005200000002002000001010000000000051200000002001c00010000001110140001000000010100000000001000300000020020000100000000101800a900120001020000000000052000000021020000";
     let mut bytes = SdBuf::new(rt.alloc()).expect(&rt, "memory");
     assert!(rt; bytes.from_hex(text.as_bytes()) == Ok(()));
     assert!(rt; made.bytes() == bytes.bytes());

@@ -7,8 +7,10 @@ use Rattle.sd_sddl.proofs.ace.print_objects.Goals as goal
 pub returns-then-is_none-2 : goal.returns-then-is_none-2
 unfolding object_field
 returns-then-is_none-2 g c =
-    rw (is-none c.args.object _ c.is_none.ensures c.if-is_none.true,
-    is-none c.args.inherited _ c.is_none-then-is_none.ensures c.if-is_none-2.true) c.put.ensures
+    rw (
+      is-none c.args.object _ c.is_none.ensures c.if-is_none.true,
+      is-none c.args.inherited _ c.is_none-then-is_none.ensures c.if-is_none-2.true,
+    ) c.put.ensures
 
 pub returns : goal.returns
 unfolding object_field
