@@ -3,6 +3,8 @@
 #![tactic(auto)]
 
 #[cfg(test)]
+mod access;
+#[cfg(test)]
 mod ace;
 #[cfg(test)]
 mod buffer;
@@ -21,7 +23,11 @@ mod guid;
 #[cfg(test)]
 mod lines;
 #[cfg(test)]
+mod mapping;
+#[cfg(test)]
 mod memory;
+#[cfg(test)]
+mod plain_check;
 #[cfg(test)]
 mod program;
 #[cfg(test)]
