@@ -4,8 +4,8 @@ use Rattle.sd_core.specs.Ace.{AccessControlEntry}
 use Rattle.sd_core.specs.Mapping.{GenericMapping, mapped}
 use Rattle.sd_core.specs.Sid.{SecurityId}
 use Rattle.sd_core.specs.Token.{Entry}
-use Rattle.sd_core.specs.declared.ace.AceKind.{AceKind}
-use Rattle.sd_core.specs.declared.ace.AceKind.TheVariants as kinds
+use Rattle.sd_rights.specs.declared.kinds.AceKind.{AceKind}
+use Rattle.sd_rights.specs.declared.kinds.AceKind.TheVariants as kinds
 use Rattle.sd_core.specs.declared.token.EntryKind.TheVariants.{DenyOnly, Enabled}
 use Rattle.sd_binary.specs.Descriptor.{Descriptor}
 use Rattle.sd_binary.specs.declared.acl.AclPart.{AclPart}

@@ -6,8 +6,8 @@ use Rattle.sd_core.specs.Mapping.{carries}
 use Rattle.sd_core.specs.Sid.{SecurityId}
 use Rattle.sd_core.specs.SidText.{same_sid}
 use Rattle.sd_core.specs.Token.{Entry, meets}
-use Rattle.sd_core.specs.declared.ace.AceKind.{AceKind}
-use Rattle.sd_core.specs.declared.ace.AceKind.TheVariants as kinds
+use Rattle.sd_rights.specs.declared.kinds.AceKind.{AceKind}
+use Rattle.sd_rights.specs.declared.kinds.AceKind.TheVariants as kinds
 use Rattle.sd_binary.specs.Descriptor.{Descriptor}
 use Rattle.sd_access.specs.Ask.{Asked}
 

@@ -6,8 +6,8 @@ use Rattle.std.proofs.lemmas.List.{append-nil}
 use Rattle.byteorder.specs.Endian.{little_bytes}
 use Rattle.byteorder.specs.Numbers.{little_number-reads_back}
 use Rattle.uuid.proofs.RoundTrips.{swap_twice}
-use Rattle.sd_core.specs.Ace.{AccessControlEntry, GuidsFit, IsAce, IsGuid, ace_size, guid_size, is_object}
-use Rattle.sd_core.specs.Kinds.{kind_code}
+use Rattle.sd_core.specs.Ace.{AccessControlEntry, GuidsFit, IsAce, IsGuid, ace_size, guid_size}
+use Rattle.sd_rights.specs.Kinds.{is_object, kind_code}
 use Rattle.sd_core.specs.Sid.{SecurityId, IsSid, BeginsWithSid, sid_bytes, sid_size}
 use Rattle.sd_core.proofs.SidLaws.{length-sid_bytes}
 use Rattle.sd_binary.specs.Ace.{ShowsAce, ShowsGuid, announces_inherited, announces_object}

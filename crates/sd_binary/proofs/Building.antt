@@ -8,7 +8,8 @@ use Rattle.std.proofs.lemmas.List.{append-nil, drop_at, take_at}
 use Rattle.std.proofs.lemmas.List.Folds.{list_any-append}
 use Rattle.std.proofs.Math.Seq.{drop-append-add}
 use Rattle.byteorder.specs.Endian.{little_bytes}
-use Rattle.sd_core.specs.Ace.{AccessControlEntry, IsAce, ace_size, is_object}
+use Rattle.sd_core.specs.Ace.{AccessControlEntry, IsAce, ace_size}
+use Rattle.sd_rights.specs.Kinds.{is_object}
 use Rattle.sd_core.specs.Sid.{SecurityId, IsSid, sid_bytes}
 use Rattle.sd_binary.specs.Acl.{aces_size, acl_size, has_object}
 use Rattle.sd_binary.specs.AclLayout.{ace_bytes, acl_bytes, acl_header, revision_if}

@@ -2,7 +2,7 @@
 use Rattle.std.proofs.Common.{◌≡◌, ℕ, Bool, true, false, List, [], ◌∷◌, map, Some, None, Result, Ok, Err, codes, refl, replicate}
 use Prim.Native.String.{String}
 use Rattle.hex.specs.Hex.{decode_pairs}
-use Rattle.sd_core.specs.Kinds.{kind_code, kind_entry, kind_of}
+use Rattle.sd_rights.specs.Kinds.{kind_code, kind_entry, kind_of}
 use Rattle.sd_core.specs.Sid.{SecurityId, sid_at, sid_bytes}
 use Rattle.sd_binary.specs.declared.buffer.TextFault.{TextFault}
 use Rattle.sd_binary.specs.declared.buffer.TextFault.TheVariants.{HexDigit, HexOdd}
@@ -20,7 +20,7 @@ use Rattle.sd_binary.specs.Ace.{announces_inherited, announces_object}
 use Rattle.sd_binary.specs.AclReading.{ace_fault, aces_fault, aces_of, acl_fault, guid_if, inherited_in, kind_in, object_in, place_fault, sid_offset_in}
 use Rattle.sd_binary.specs.declared.acl.AclPart.TheVariants as acl
 use Rattle.sd_core.specs.Ace.{AccessControlEntry}
-use Rattle.sd_core.specs.declared.ace.AceKind.TheVariants as kinds
+use Rattle.sd_rights.specs.declared.kinds.AceKind.TheVariants as kinds
 use Rattle.sd_binary.specs.Reading.{acl_part_fault, acl_shown, fault, header_fault, overlap_fault, overlaps_fault, parts_fault, reading, sid_fault, sid_shown}
 use Rattle.sd_binary.specs.Text.{hex_spells}
 

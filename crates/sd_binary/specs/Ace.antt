@@ -1,9 +1,9 @@
 -- Access control entries as bytes (MS-DTYP 2.4.4): which place shows which.
 use Rattle.std.specs.Prelude.{◌≡◌, ℕ, ◌+◌, ◌/◌, ◌%◌, ◌==◌, ◌&&◌, Bool, true, false, List, length, drop, take, slice_index, Option, Some, None}
 use Rattle.uuid.specs.Parts.{swap_fields}
-use Rattle.sd_core.specs.Ace.{AccessControlEntry, guid_size, is_object, sid_offset}
-use Rattle.sd_core.specs.Kinds.{kind_code}
-use Rattle.sd_core.specs.declared.ace.AceKind.{AceKind}
+use Rattle.sd_core.specs.Ace.{AccessControlEntry, guid_size, sid_offset}
+use Rattle.sd_rights.specs.Kinds.{is_object, kind_code}
+use Rattle.sd_rights.specs.declared.kinds.AceKind.{AceKind}
 use Rattle.sd_core.specs.Sid.{BeginsWithSid}
 use Rattle.sd_binary.specs.Bytes.{u16_at, u32_at}
 

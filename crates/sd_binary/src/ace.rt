@@ -1,7 +1,8 @@
 // Access control entries read in place.
 ghost use Rattle.std.specs.Prelude.{◌≡◌, ◌≤◌, ◌<◌, ◌+◌, ◌%◌, ◌^◌, length, take, drop, Some, IfOk, MatchResult};
 ghost use Rattle.uuid.specs.Parts.{swap_fields};
-ghost use Rattle.sd_core.specs.Ace.{IsAce, ace_size, is_object};
+ghost use Rattle.sd_core.specs.Ace.{IsAce, ace_size};
+ghost use Rattle.sd_rights.specs.Kinds.{is_object};
 ghost use Rattle.sd_binary.specs.Ace.{announces_inherited, announces_object};
 ghost use Rattle.sd_binary.specs.AclLayout.{ace_body, ace_bytes, flag_if, front_size};
 ghost use Rattle.sd_binary.specs.AclReading.{IsAcePlace, ace_fault, ace_of, kind_in, place_fault, sid_offset_in};

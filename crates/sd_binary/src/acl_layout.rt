@@ -2,7 +2,7 @@
 ghost use Rattle.std.specs.Prelude.{◌≡◌, ◌++◌, ◌∷◌, [], take};
 ghost use Rattle.std.specs.List.{flat_map};
 ghost use Rattle.byteorder.specs.Endian.{little_bytes};
-ghost use Rattle.sd_core.specs.Print.{Prints};
+ghost use Rattle.sd_sink.specs.Print.{Prints};
 ghost use Rattle.sd_binary.specs.AclLayout.{ace_bytes, ace_front, acl_bytes, acl_header as header_bytes, front_size, revision_if};
 
 use crate::ace::AceView;

@@ -55,6 +55,16 @@ pub struct ControlBit {
     pub bit: u16,
 }
 
+impl ControlBit {
+    /// Whether it is set in a control word.
+    pub fn is_set(&self, control: u16) -> bool
+        requires { 0 < self.now.bit }
+        ensures { result ≡ has_bit self.now.bit control }
+    {
+        has_bit(self.bit, control)
+    }
+}
+
 /// The bits of the control word that have names, in rising order. 0x40 and 0x80 are kept and have none.
 pub const CONTROL_BITS: [ControlBit; 14] = [
     ControlBit {

@@ -1,7 +1,7 @@
 // The written form of a descriptor.
 ghost use Rattle.std.specs.Prelude.{◌≡◌, ◌≤◌, ◌<◌, ◌+◌, ◌^◌, ◌++◌, ℕ, List, length};
-ghost use Rattle.sd_core.specs.Print.{Prints};
-ghost use Rattle.sd_core.specs.Sink.{Puts};
+ghost use Rattle.sd_sink.specs.Print.{Prints};
+ghost use Rattle.sd_sink.specs.Sink.{Puts};
 ghost use Rattle.sd_binary.specs.Descriptor.{IsDescriptor, Shows};
 ghost use Rattle.sd_binary.specs.Layout.{acl_part, descriptor_header, header_bytes, layout, offset_if, parts, size};
 ghost use Rattle.sd_binary.specs.declared.limits.TheConstants.{MOST_LAYOUT_SIZE};

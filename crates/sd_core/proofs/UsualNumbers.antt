@@ -10,7 +10,8 @@ use Rattle.std.proofs.lemmas.List.{take_more, take_rest}
 use Rattle.std.specs.Prelude.{IfSome}
 use Rattle.sd_core.specs.Sid.{SecurityId}
 use Rattle.sd_core.proofs.FormLemmas.{form_is}
-use Rattle.sd_core.specs.SidText.{begins_with_s1, has_form, are_numbers, numbers_read, are_numbers, decimal_reads, is_decimal, number_after, numbers_read, pieces}
+use Rattle.sd_core.specs.SidText.{begins_with_s1, has_form, are_numbers, numbers_read, are_numbers, decimal_reads, is_decimal, numbers_read, pieces}
+use Rattle.sd_rights.specs.Numbers.{number_after}
 
 one_more : (base n b : ℕ) (xs : List ℕ) → number_after base n (xs ++ b ∷ []) ≡ option_and_then (λ m. if is_digit b base then Some (m * base + digit_value b) else None) (number_after base n xs)
 one_more base n b [] = refl

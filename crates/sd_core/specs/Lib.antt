@@ -1,14 +1,8 @@
 pub mod Ace
-pub mod Counts
-pub mod Flags
 pub mod GuidText
-pub mod Kinds
 pub mod Mapping
-pub mod Names
-pub mod Print
-pub mod Rights
+pub mod Naming
 pub mod Sid
 pub mod SidFields
 pub mod SidText
-pub mod Sink
 pub mod Token

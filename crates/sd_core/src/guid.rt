@@ -1,12 +1,10 @@
 ghost use Rattle.std.specs.Prelude.{◌≡◌, length, Some};
 ghost use Rattle.uuid.specs.Parts.{swap_fields};
 ghost use Rattle.sd_core.specs.GuidText.{guid_reads, guid_text};
-ghost use Rattle.sd_core.specs.Print.{Prints};
-ghost use Rattle.sd_core.specs.Sink.{Puts};
+ghost use Rattle.sd_sink.specs.Print.{Prints};
+ghost use Rattle.sd_sink.specs.Sink.{Puts};
 
-use crate::print::Print;
-use crate::printer::Printer;
-use crate::sink::{Sink, SinkFault};
+use sd_sink::{Print, Printer, Sink, SinkFault};
 use uuid::Uuid;
 
 /// The characters of a GUID's text: 32 digits and four hyphens.

@@ -4,36 +4,23 @@
 
 mod ace;
 mod alias;
-mod flags;
-mod gather;
 mod guid;
-mod held;
-mod kinds;
 mod mapping;
-mod memory;
-mod names;
-mod print;
-mod printer;
-mod rights;
-mod rights_reading;
-mod rights_table;
+mod naming;
 mod sid;
 mod sid_text;
-mod sink;
 mod token;
 mod usual_sid;
 
-pub use ace::{Ace, AceKind};
-pub use flags::{flags_from_text, print_flags, put_flags};
-pub use gather::Gather;
+pub use ace::Ace;
 pub use guid::{guid_bytes, guid_from_text, guid_read, print_guid, put_guid};
 pub use mapping::{Mapping, carries};
-pub use memory::NoMemory;
-pub use print::Print;
-pub use printer::Printer;
-pub use rights::{print_rights, put_rights};
-pub use rights_reading::rights_from_text;
+pub use naming::Naming;
+pub use sd_rights::{
+    AceKind, flags_from_text, print_decimal, print_flags, print_hex, print_rights, put_flags,
+    put_rights, rights_from_text,
+};
+pub use sd_sink::{Gather, NoMemory, Print, Printer, Sink, SinkFault};
 pub use sid::Sid;
 pub use sid_text::SidFault;
-pub use sink::{Sink, SinkFault};
 pub use token::{EntryKind, Token, TokenFull};

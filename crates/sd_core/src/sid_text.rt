@@ -1,20 +1,19 @@
 //! The texts of SIDs (MS-DTYP 2.4.2.1).
 ghost use Rattle.std.specs.Prelude.{◌≡◌, false, true, [], ◌+◌, ◌*◌, ◌<◌, ◌≤◌, ◌^◌, ◌++◌, length, take, drop, IfSome, MatchOption, Option, None, Ok};
 ghost use Rattle.std.specs.Char.{is_digit};
-ghost use Rattle.std.specs.Fmt.{decimal, digit_glyph};
 ghost use Rattle.std.specs.List.{flat_map, list_all};
 ghost use Rattle.std.specs.Option.{option_copied, option_map};
 ghost use Rattle.sd_core.specs.Sid.{IsSid, SecurityId};
-ghost use Rattle.sd_core.specs.Print.{Prints};
-ghost use Rattle.sd_core.specs.Sink.{Puts};
-ghost use Rattle.sd_core.specs.SidText.{all_pieces, all_read, are_letters, are_numbers, are_subs, authority_reads, authority_text, begins_with_s1, decimal_reads, has_form, hex_digits, is_decimal, is_hex, is_sid_byte, number, numbers_read, pieces, sid_reads, sid_text, sub_text};
+ghost use Rattle.sd_sink.specs.Print.{Prints};
+ghost use Rattle.sd_sink.specs.Sink.{Puts};
+ghost use Rattle.sd_rights.specs.Numbers.{number};
+ghost use Rattle.sd_core.specs.SidText.{all_pieces, all_read, are_letters, are_numbers, are_subs, authority_reads, authority_text, begins_with_s1, decimal_reads, has_form, is_decimal, is_hex, is_sid_byte, numbers_read, pieces, sid_reads, sid_text, sub_text};
 
 use crate::alias::read_letters;
-use crate::print::Print;
-use crate::printer::Printer;
 use crate::sid::Sid;
-use crate::sink::{Sink, SinkFault};
 use crate::usual_sid::read_usual;
+use sd_rights::{read_number, write_decimal, write_hex};
+use sd_sink::{Print, Printer, Sink, SinkFault};
 
 /// Why a text is no SID.
 #[derive(Clone, Copy, Debug, PartialEq, Eq)]
@@ -124,56 +123,10 @@ fn write_authority(authority: u64, text: &mut [u8; LONGEST], end: usize) -> usiz
     if authority < 1 << 32 {
         return write_decimal(authority as u32, text, end);
     }
-    let at = write_hex(authority, text, end);
+    let at = write_hex(HEX_DIGITS, authority, text, end);
     text[at - 1] = b'x';
     text[at - 2] = b'0';
     at - 2
-}
-
-fn write_hex(number: u64, text: &mut [u8; LONGEST], end: usize) -> usize
-    requires room { 12 ≤ end }
-    requires within { end ≤ 183 }
-    ensures start { result + 12 ≡ end }
-    ensures written { drop result text.new ≡ hex_digits 12 number ++ drop end text.old }
-{
-    let mut left = number;
-    let mut at = end;
-    for _ in 0..HEX_DIGITS {
-        at -= 1;
-        text[at] = hex_digit((left % 16) as u8);
-        left /= 16;
-    }
-    at
-}
-
-fn hex_digit(value: u8) -> u8
-    requires { value < 16 }
-    ensures { result ≡ digit_glyph false value }
-{
-    if value < 10 {
-        b'0' + value
-    } else {
-        b'a' - 10 + value
-    }
-}
-
-fn write_decimal(number: u32, text: &mut [u8; LONGEST], end: usize) -> usize
-    requires room { 10 ≤ end }
-    requires within { end ≤ 183 }
-    ensures room { end ≤ result + 10 }
-    ensures before { result < end }
-    ensures written { drop result text.new ≡ decimal number ++ drop end text.old }
-{
-    let mut left = number;
-    let mut at = end;
-    while left >= 10 {
-        at -= 1;
-        text[at] = b'0' + (left % 10) as u8;
-        left /= 10;
-    }
-    at -= 1;
-    text[at] = b'0' + left as u8;
-    at
 }
 
 fn are_letters(text: &[u8]) -> bool
@@ -329,24 +282,4 @@ fn read_decimal(text: &[u8]) -> Option<u64>
         return None;
     }
     read_number(10, 1 << 32, text)
-}
-
-/// The number that the digits write, where each is a digit and it is below the limit. No digits write 0.
-pub(crate) fn read_number(base: u32, limit: u64, text: &[u8]) -> Option<u64>
-    requires low { 2 ≤ base }
-    requires high { base ≤ 16 }
-    requires small { limit ≤ 2 ^ 48 }
-    requires some { 0 < limit }
-    ensures value { result ≡ number base limit text.now }
-    ensures limit { IfSome result (λ n. n < limit) }
-{
-    let mut number: u64 = 0;
-    for byte in text {
-        let digit = char::from(*byte).to_digit(base)?;
-        number = number * u64::from(base) + u64::from(digit);
-        if number >= limit {
-            return None;
-        }
-    }
-    Some(number)
 }

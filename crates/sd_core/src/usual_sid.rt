@@ -22,30 +22,29 @@ fn usual_numbers(text: &[u8]) -> Option<Sid>
     ensures { IfSome result (λ s. (are_numbers (pieces text.now) ≡ true) × (numbers_read (pieces text.now) ≡ Some s)) }
 {
     let (authority, rest) = front_number(text)?;
-    let mut subs = [0; MOST_SUBS];
-    let count = match rest {
-        None => 0,
-        Some(rest) => usual_subs(rest, &mut subs)?,
-    };
-    Sid::new(u64::from(authority), &subs[..count])
+    let mut sid = Sid::of_authority(authority);
+    if let Some(rest) = rest {
+        usual_subs(rest, &mut sid)?;
+    }
+    Some(sid)
 }
 
-// Writes the numbers to the front of the array, and says how many there are.
-fn usual_subs(text: &[u8], subs: &mut [u32; MOST_SUBS]) -> Option<usize>
-    ensures count { IfSome result (λ n. n ≤ 15) }
-    ensures numbers { IfSome result (λ n. (are_subs 0 (all_pieces (pieces text.now)) ≡ true) × (all_read (all_pieces (pieces text.now)) ≡ Some (take n subs.new))) }
+// Appends the numbers to a SID that has none.
+fn usual_subs(text: &[u8], sid: &mut Sid) -> Option<()>
+    requires { sid.old.subs ≡ [] }
+    ensures form { IfSome result (λ _. are_subs 0 (all_pieces (pieces text.now)) ≡ true) }
+    ensures numbers { IfSome result (λ _. all_read (all_pieces (pieces text.now)) ≡ Some sid.new.subs) }
+    ensures authority { sid.new.authority ≡ sid.old.authority }
 {
     let mut rest = text;
-    let mut count = 0;
     loop {
-        if count == MOST_SUBS {
+        if sid.subs().len() == MOST_SUBS {
             return None;
         }
         let (number, after) = front_number(rest)?;
-        subs[count] = number;
-        count += 1;
+        sid.push(number);
         match after {
-            None => return Some(count),
+            None => return Some(()),
             Some(after) => rest = after,
         }
     }

@@ -3,7 +3,7 @@ use Rattle.std.proofs.Common.{◌≡◌, ℕ, ◌+◌, List, [], ◌∷◌, ◌+
 use Rattle.std.proofs.lemmas.Grind.{flat_map-append, fold-append}
 use Rattle.std.proofs.lemmas.List.Sums.{sum_by-append}
 use Rattle.sd_core.specs.Token.{Entry}
-use Rattle.sd_filter.specs.declared.job.Job.{Job}
+use Rattle.sd_command.specs.declared.job.Job.{Job}
 use Rattle.sd_filter.specs.Answers.{answer, answers, bound, bounds, errors, is_error}
 
 pub answers-append : (job : Job) (entries : List Entry) (all more : List (List ℕ)) → answers job entries (all ++ more) ≡ answers job entries all ++ answers job entries more

@@ -3,8 +3,8 @@ use Rattle.std.proofs.Common.{zero, suc, ◌≡◌, ℕ, ◌+◌, ◌<◌, ◌�
 use Rattle.std.proofs.lemmas.List.{take-append-drop, take-take, drop-take}
 use Rattle.std.specs.Io.KnownBytes.{Appends, Keeps}
 use Rattle.std.proofs.KnownBytes.{Appends-trans}
-use Rattle.sd_core.specs.Counts.{counted}
-use Rattle.sd_core.specs.Sink.{PutSome}
+use Rattle.sd_sink.specs.Counts.{counted}
+use Rattle.sd_sink.specs.Sink.{PutSome}
 use Rattle.sd_filter.specs.Told.{DrainTold, sink_of, failed_writes_after}
 
 -- bytes that stay as they were grew by none

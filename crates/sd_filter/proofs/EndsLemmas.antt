@@ -3,8 +3,8 @@ use Rattle.std.proofs.Common.{ℕ, inr, List, Result, Ok, sym, subst}
 use Rattle.clap.specs.Words.{Text}
 use Rattle.sd_filter.specs.Endings.{Told, EndsBy, EndsTaken, EndsSettled, EndsRun, settled}
 use Rattle.sd_filter.specs.Preparing.{PreparesBy}
-use Rattle.sd_filter.specs.declared.job.Job.{Job}
-use Rattle.sd_filter.specs.declared.settings.UsageFault.{UsageFault}
+use Rattle.sd_command.specs.declared.job.Job.{Job}
+use Rattle.sd_command.specs.declared.settings.UsageFault.{UsageFault}
 use Rattle.sd_filter.specs.declared.program.Prepared.{Prepared}
 
 -- an ending by the job that the words settle is an ending of words that are taken

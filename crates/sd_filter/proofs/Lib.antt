@@ -6,7 +6,6 @@ pub mod HexTextLemmas
 pub mod HoldsLemmas
 pub mod LimitLemmas
 pub mod MeaningLemmas
-pub mod ParseLemmas
 pub mod PartsLemmas
 mod Rows
 pub mod RunLemmas

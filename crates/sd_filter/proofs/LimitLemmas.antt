@@ -19,9 +19,9 @@ use Rattle.sd_binary.proofs.ReadLaws.{fault-shows}
 use Rattle.sd_filter.specs.Answers.{Meaning, bytes_mean, line_limit, line_means, meaning, or_byte_fault, or_sddl_fault, text_means}
 use Rattle.sd_filter.specs.declared.fault.LineFault.{LineFault}
 use Rattle.sd_filter.specs.declared.fault.LineFault.TheVariants.{TooLong}
-use Rattle.sd_filter.specs.declared.job.Form.{Form}
-use Rattle.sd_filter.specs.declared.job.Form.TheVariants as form
-use Rattle.sd_filter.specs.declared.job.Job.{Job}
+use Rattle.sd_command.specs.declared.job.Form.{Form}
+use Rattle.sd_command.specs.declared.job.Form.TheVariants as form
+use Rattle.sd_command.specs.declared.job.Job.{Job}
 
 not_chosen : {A F : Type 0} (b : Bool) (f : F) (r : Result A F) (x : A) → cond b (Err f) r ≡ Ok x → r ≡ Ok x
 not_chosen true f r x e = absurd (cc)

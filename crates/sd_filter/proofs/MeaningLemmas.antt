@@ -4,19 +4,19 @@ use Rattle.std.specs.Prelude.{MatchResult}
 use Rattle.std.proofs.lemmas.Bool.Decides.{nat_tests}
 use Rattle.sd_core.specs.Sid.{SecurityId}
 use Rattle.sd_core.specs.Token.{Entry}
-use Rattle.sd_core.specs.Print.{Begins, Finishes, PrintTold}
-use Rattle.sd_core.specs.Sink.{SinkTold, PutSome}
-use Rattle.sd_core.specs.declared.sink.SinkFault.{SinkFault}
+use Rattle.sd_sink.specs.Print.{Begins, Finishes, PrintTold}
+use Rattle.sd_sink.specs.Sink.{SinkTold, PutSome}
+use Rattle.sd_sink.specs.declared.sink.SinkFault.{SinkFault}
 use Rattle.sd_binary.specs.Descriptor.{Descriptor, Shows}
 use Rattle.sd_binary.specs.declared.fault.SdFault.{SdFault}
 use Rattle.sd_sddl.specs.declared.fault.SddlFault.{SddlFault}
 use Rattle.sd_filter.specs.Answers.{Meaning, answer, is_error, is_error_of_meaning, line_limit, line_means, meaning, or_sddl_fault, text_means, text_of_meaning}
 use Rattle.sd_filter.specs.Sofar.{HoldsText, PrintsAnswer, PutsAnswer}
-use Rattle.sd_core.proofs.PrintLemmas.{printed}
+use Rattle.sd_sink.proofs.PrintLemmas.{printed}
 use Rattle.sd_filter.specs.declared.fault.LineFault.{LineFault}
 use Rattle.sd_filter.specs.declared.fault.LineFault.TheVariants.{TooLong}
-use Rattle.sd_filter.specs.declared.job.Form.{Form}
-use Rattle.sd_filter.specs.declared.job.Job.{Job}
+use Rattle.sd_command.specs.declared.job.Form.{Form}
+use Rattle.sd_command.specs.declared.job.Job.{Job}
 
 -- what is printed for what a line means is its answer
 pub answered : (job : Job) (entries : List Entry) (line : List ℕ) (old new : PrintTold) (m : Meaning) (faulty : Bool) → meaning job line ≡ m

@@ -1,7 +1,5 @@
--- Worked rows of lines, answers and command lines, computed.
-use Rattle.std.proofs.Common.{◌≡◌, List, [], ◌∷◌, ◌++◌, None, Ok, Err, true, false, codes, refl}
-use Rattle.clap.specs.Words.{Text, fault_of, takes}
-use Rattle.clap.proofs.OnLiterals.{clap_on_literals}
+-- Worked rows of lines and answers, computed.
+use Rattle.std.proofs.Common.{◌≡◌, [], ◌∷◌, ◌++◌, None, false, codes, refl}
 use Rattle.hex.proofs.OnLiterals.{hex_on_literals}
 use Rattle.sd_core.specs.Sid.{sid_at}
 use Rattle.sd_binary.specs.Bytes.{u16_at, u32_at}
@@ -11,16 +9,12 @@ use Rattle.sd_binary.specs.Text.{hex_spells}
 use Rattle.sd_binary.specs.declared.fault.Part.TheVariants as part
 use Rattle.sd_binary.specs.declared.fault.SdFault.TheVariants as sd
 use Rattle.sd_filter.specs.declared.fault.LineFault.TheVariants.{Sd}
-use Rattle.sd_filter.specs.declared.job.Act.TheVariants.{Convert}
-use Rattle.sd_filter.specs.declared.job.Form.TheVariants.{Hex}
-use Rattle.sd_filter.specs.declared.job.Job.{Job}
-use Rattle.sd_filter.specs.declared.settings.OptionName.TheVariants as name
-use Rattle.sd_filter.specs.declared.settings.UsageFault.TheVariants.{Value}
+use Rattle.sd_command.specs.declared.job.Act.TheVariants.{Convert}
+use Rattle.sd_command.specs.declared.job.Form.TheVariants.{Hex}
+use Rattle.sd_command.specs.declared.job.Job.{Job}
 use Rattle.sd_filter.specs.Answers.{answer, form_text, line_means}
-use Rattle.sd_filter.specs.CommandLine.{bare_line, convert_line, line}
 use Rattle.sd_filter.specs.Faults.{fault_text}
 use Rattle.sd_filter.specs.Lines.{ended, lines, parts, without_cr}
-use Rattle.sd_filter.specs.Settings.{convert_settings, given_domain, given_source, given_target, is_set, settings_of}
 
 -- "a" CR LF, LF, "b" CR CR LF, "c" CR: the CR at the very end stays
 pub four_lines : lines (97 ∷ 13 ∷ 10 ∷ 10 ∷ 98 ∷ 13 ∷ 13 ∷ 10 ∷ 99 ∷ 13 ∷ []) ≡ (97 ∷ []) ∷ [] ∷ (98 ∷ 13 ∷ []) ∷ (99 ∷ 13 ∷ []) ∷ []
@@ -53,25 +47,3 @@ sid_answer = refl
 pub header_answer : answer hex_to_hex [] (codes "01FF008000000000000000000000000000000000") ≡ codes "01ff008000000000000000000000000000000000" ++ 10 ∷ []
 unfolding answer line_means form_text hex_spells hex_on_literals reading fault header_fault parts_fault sid_fault sid_shown acl_part_fault acl_shown overlaps_fault overlap_fault u16_at u32_at header_bytes
 header_answer = refl
-
-abbrev to_hex : List Text
-to_hex = codes "sdtool" ∷ codes "convert" ∷ codes "--to" ∷ codes "hex" ∷ []
-
-abbrev to_xml : List Text
-to_xml = codes "sdtool" ∷ codes "convert" ∷ codes "--to" ∷ codes "xml" ∷ []
-
-pub taken : takes line to_hex ≡ true
-unfolding line bare_line convert_line clap_on_literals
-taken = refl
-
-pub no_fault : fault_of line to_hex ≡ []
-unfolding line bare_line convert_line clap_on_literals
-no_fault = refl
-
-pub settled : settings_of to_hex ≡ Ok hex_to_hex
-unfolding settings_of convert_settings given_domain given_source given_target is_set line bare_line convert_line clap_on_literals
-settled = refl
-
-pub not_settled : settings_of to_xml ≡ Err (Value name.To)
-unfolding settings_of convert_settings given_domain given_source given_target is_set line bare_line convert_line clap_on_literals
-not_settled = refl

@@ -2,15 +2,15 @@
 use Rattle.std.proofs.Common.{zero, suc, ◌≡◌, ℕ, ◌+◌, ◌<◌, List, [], ◌∷◌, ◌++◌, length, true, Option, None, Some, Result, Ok, Err, refl, sym, ◌∙◌, ap, arith, append-nil, append_assoc, inl, inr, ◌⊎◌}
 use Rattle.std.specs.Io.KnownBytes.{Consumes, Appends, Keeps, IsAtEnd}
 use Rattle.std.proofs.KnownBytes.{Consumes-nil, Consumes-trans, Consumes-kept}
-use Rattle.sd_core.specs.Counts.{counted}
+use Rattle.sd_sink.specs.Counts.{counted}
 use Rattle.sd_core.specs.Token.{TokenShown}
-use Rattle.sd_core.specs.Sink.{SinkTold, IsPrefix}
+use Rattle.sd_sink.specs.Sink.{SinkTold, IsPrefix}
 use Rattle.sd_filter.specs.Told.{SourceTold, DrainTold, sink_of, reads_after, ends_after, failed_reads_after}
 use Rattle.sd_filter.specs.Lines.{ended, lines, parts}
 use Rattle.sd_filter.specs.Answers.{answers}
 use Rattle.sd_filter.specs.Sofar.{Holds, Answered, Failed, Sofar, BeforeRead}
 use Rattle.sd_filter.specs.Outcome.{Finished, FaultSays, HandedOn}
-use Rattle.sd_filter.specs.declared.job.Job.{Job}
+use Rattle.sd_command.specs.declared.job.Job.{Job}
 use Rattle.sd_filter.specs.declared.engine.Desk.{Desk}
 use Rattle.sd_filter.specs.declared.engine.Report.{Report}
 use Rattle.sd_filter.specs.declared.engine.RunFault.TheVariants.{Read, Write, TooManyReads}

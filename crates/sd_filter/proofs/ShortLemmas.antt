@@ -12,11 +12,11 @@ use Rattle.sd_filter.specs.Answers.{AnswersAreShort, Meaning, act_prints, act_te
 use Rattle.sd_filter.specs.Faults.{fault_text}
 use Rattle.sd_filter.proofs.FaultLemmas.{fault_text-short}
 use Rattle.sd_filter.proofs.LimitLemmas.{MeansLimits, meaning-limits}
-use Rattle.sd_filter.specs.declared.job.Act.{Act}
-use Rattle.sd_filter.specs.declared.job.Act.TheVariants.{Convert}
-use Rattle.sd_filter.specs.declared.job.Form.{Form}
-use Rattle.sd_filter.specs.declared.job.Form.TheVariants as form
-use Rattle.sd_filter.specs.declared.job.Job.{Job}
+use Rattle.sd_command.specs.declared.job.Act.{Act}
+use Rattle.sd_command.specs.declared.job.Act.TheVariants.{Convert}
+use Rattle.sd_command.specs.declared.job.Form.{Form}
+use Rattle.sd_command.specs.declared.job.Form.TheVariants as form
+use Rattle.sd_command.specs.declared.job.Job.{Job}
 
 -- two characters a byte, or those of the SDDL; and the LF
 form-short : (job : Job) (form : Form) (d : Descriptor) → IsDescriptor d → length (form_text job form d) ≤ 8 * size d + 63

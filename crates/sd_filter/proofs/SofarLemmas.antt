@@ -5,14 +5,14 @@ use Rattle.std.proofs.lemmas.List.{length_push, take_more, take-append-drop, tak
 use Rattle.std.proofs.Math.Seq.{take-add}
 use Rattle.std.proofs.KnownBytes.{Appends-trans}
 use Rattle.sd_core.specs.Token.{Entry, TokenShown}
-use Rattle.sd_core.specs.Sink.{SinkTold, PutAll, PutSome}
-use Rattle.sd_core.specs.declared.sink.SinkFault.{SinkFault}
-use Rattle.sd_core.proofs.SinkLemmas.{PutAll-nil, PutAll-trans}
+use Rattle.sd_sink.specs.Sink.{SinkTold, PutAll, PutSome}
+use Rattle.sd_sink.specs.declared.sink.SinkFault.{SinkFault}
+use Rattle.sd_sink.proofs.SinkLemmas.{PutAll-nil, PutAll-trans}
 use Rattle.sd_filter.specs.Lines.{parts, ended, lines, last_line, without_cr}
 use Rattle.sd_filter.specs.Answers.{answer, answers, bounds, errors, is_error}
 use Rattle.sd_filter.specs.Outcome.{Compares}
 use Rattle.sd_filter.specs.Sofar.{Holds, Answered, Failed, Sofar}
-use Rattle.sd_filter.specs.declared.job.Job.{Job}
+use Rattle.sd_command.specs.declared.job.Job.{Job}
 use Rattle.sd_filter.specs.declared.engine.Desk.{Desk}
 use Rattle.sd_filter.specs.declared.engine.Report.{Report}
 use Rattle.sd_filter.proofs.PartsLemmas.{NoLf, ended-more, rest-more, ended-lf, rest-lf, ended-append}

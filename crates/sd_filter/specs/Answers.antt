@@ -12,12 +12,12 @@ use Rattle.sd_binary.specs.declared.buffer.TextFault.{TextFault}
 use Rattle.sd_binary.specs.declared.fault.SdFault.{SdFault}
 use Rattle.sd_filter.specs.declared.fault.LineFault.{LineFault}
 use Rattle.sd_filter.specs.declared.fault.LineFault.TheVariants.{TooLong, Text, Sd, Sddl}
-use Rattle.sd_filter.specs.declared.job.Act.{Act}
-use Rattle.sd_filter.specs.declared.job.Act.TheVariants.{Convert}
-use Rattle.sd_filter.specs.declared.job.Form.{Form}
-use Rattle.sd_filter.specs.declared.job.Form.TheVariants as form
-use Rattle.sd_filter.specs.declared.job.Job.{Job}
-use Rattle.sd_sddl.specs.declared.naming.Naming.{Naming}
+use Rattle.sd_command.specs.declared.job.Act.{Act}
+use Rattle.sd_command.specs.declared.job.Act.TheVariants.{Convert}
+use Rattle.sd_command.specs.declared.job.Form.{Form}
+use Rattle.sd_command.specs.declared.job.Form.TheVariants as form
+use Rattle.sd_command.specs.declared.job.Job.{Job}
+use Rattle.sd_core.specs.declared.naming.Naming.{Naming}
 use Rattle.sd_sddl.specs.Meaning.{means}
 use Rattle.sd_sddl.specs.Printed.{sddl}
 use Rattle.sd_sddl.specs.declared.fault.SddlFault.{SddlFault}

@@ -1,30 +1,23 @@
 -- How the program ends: its exit status, what it read, what it wrote, and what the fault stream got.
-use Rattle.std.specs.Prelude.{◌≡◌, ◌⊎◌, ◌++◌, ◌==◌, ℕ, ◌^◌, Bool, true, false, List, [], Result, Ok, Err, codes, if◌then◌else◌}
+use Rattle.std.specs.Prelude.{◌≡◌, ◌⊎◌, ◌++◌, ◌==◌, ℕ, ◌^◌, true, List, [], Result, Ok, Err, codes, if◌then◌else◌}
 use Rattle.std.specs.List.{list_any}
 use Rattle.clap.specs.Words.{Text, IsAmong, fault_of}
-use Rattle.clap.specs.declared.error.ErrorKind.{ErrorKind}
 use Rattle.clap.specs.declared.error.ErrorKind.TheVariants as kind
-use Rattle.sd_core.specs.Sink.{PutAll, PutSome}
+use Rattle.sd_sink.specs.Sink.{PutAll, PutSome}
 use Rattle.sd_core.specs.Token.{TokenShown}
 use Rattle.sd_filter.specs.Told.{SourceTold, DrainTold, sink_of}
 use Rattle.sd_filter.specs.Outcome.{Outcome}
-use Rattle.sd_filter.specs.CommandLine.{line}
-use Rattle.sd_filter.specs.Settings.{settings_of, option_text}
-use Rattle.sd_filter.specs.declared.job.Job.{Job}
-use Rattle.sd_filter.specs.declared.settings.UsageFault.{UsageFault}
-use Rattle.sd_filter.specs.declared.settings.UsageFault.TheVariants.{NoCommand, Value}
+use Rattle.sd_command.specs.CommandLine.{line}
+use Rattle.sd_command.specs.Refusing.{is_mistake}
+use Rattle.sd_command.specs.Settings.{settings_of}
+use Rattle.sd_command.specs.Usage.{fault_line, usage_line}
+use Rattle.sd_command.specs.declared.job.Job.{Job}
+use Rattle.sd_command.specs.declared.settings.UsageFault.{UsageFault}
 use Rattle.sd_filter.specs.declared.engine.Report.{Report}
 use Rattle.sd_filter.specs.declared.engine.RunFault.{RunFault}
 use Rattle.sd_filter.specs.declared.engine.RunFault.TheVariants.{Read, Write, TooManyReads}
 
 -- ---- what the fault stream gets
-
-abbrev pub fault_line : Text → Text
-fault_line text = codes "sdtool: " ++ text ++ codes "\n"
-
-abbrev pub usage_line : UsageFault → Text
-usage_line NoCommand = fault_line (codes "usage")
-usage_line (Value option) = fault_line (codes "usage: --" ++ option_text option)
 
 abbrev pub run_text : RunFault → Text
 run_text Read = codes "60 read"
@@ -53,12 +46,6 @@ pub record RunOf (job : Job) (source source' : SourceTold) (output output' : Dra
   pub outcome : Outcome (2 ^ 40) job token token' source source' output output' result
 
 -- ---- the endings
-
--- a kind of fault that stands for a mistake in the words: not want of memory, and not a request for help
-abbrev pub is_mistake : ErrorKind → Bool
-is_mistake kind.OutOfMemory = false
-is_mistake kind.DisplayHelp = false
-is_mistake _ = true
 
 -- what the three devices tell
 pub record Told : Type 0 where

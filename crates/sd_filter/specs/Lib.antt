@@ -4,7 +4,5 @@ pub mod Faults
 pub mod Answers
 pub mod Outcome
 pub mod Sofar
-pub mod CommandLine
-pub mod Settings
 pub mod Endings
 pub mod Preparing

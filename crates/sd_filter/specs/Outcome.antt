@@ -1,13 +1,13 @@
 -- What each return of a run says of what was read and written.
 use Rattle.std.specs.Prelude.{◌≡◌, ◌≤◌, ◌⊎◌, ℕ, ◌+◌, ◌-◌, ◌^◌, min, List, [], length, true, ◌++◌, Result, Ok, Err}
 use Rattle.std.specs.Io.KnownBytes.{Consumes, Appends, IsAtEnd}
-use Rattle.sd_core.specs.Counts.{counted}
+use Rattle.sd_sink.specs.Counts.{counted}
 use Rattle.sd_core.specs.Token.{TokenShown}
-use Rattle.sd_core.specs.Sink.{IsPrefix}
+use Rattle.sd_sink.specs.Sink.{IsPrefix}
 use Rattle.sd_filter.specs.Told.{SourceTold, DrainTold}
 use Rattle.sd_filter.specs.Lines.{lines, ended}
 use Rattle.sd_filter.specs.Answers.{answers, errors, bounds}
-use Rattle.sd_filter.specs.declared.job.Job.{Job}
+use Rattle.sd_command.specs.declared.job.Job.{Job}
 use Rattle.sd_filter.specs.declared.engine.Report.{Report}
 use Rattle.sd_filter.specs.declared.engine.RunFault.{RunFault}
 use Rattle.sd_filter.specs.declared.engine.RunFault.TheVariants.{Read, Write, TooManyReads}

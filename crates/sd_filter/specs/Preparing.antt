@@ -1,29 +1,17 @@
 -- What stands before the first read, step by step. Private contracts alone cite these words; they promise
 -- nothing to a caller.
-use Rattle.std.specs.Prelude.{◌≡◌, ◌⊎◌, ℕ, true, List, [], Result, Ok, Err}
-use Rattle.std.specs.List.{list_any}
-use Rattle.clap.specs.Words.{Text, Kinds, IsAmong, kind_of, fault_of}
-use Rattle.clap.specs.declared.error.Error.{Error}
-use Rattle.clap.specs.declared.error.ErrorKind.TheVariants as kind
-use Rattle.sd_filter.specs.CommandLine.{line}
-use Rattle.sd_filter.specs.Settings.{settings_of}
-use Rattle.sd_filter.specs.Endings.{Told, EndsIdle, EndsRefused, EndsWithHelp, EndsWithoutMemory, is_mistake, usage_line}
-use Rattle.sd_filter.specs.declared.parse.Refusal.{Refusal}
-use Rattle.sd_filter.specs.declared.parse.Refusal.TheVariants.{NoMemory, Usage, Help}
+use Rattle.std.specs.Prelude.{◌≡◌, ℕ, List, [], Result, Ok, Err}
+use Rattle.clap.specs.Words.{Text, fault_of}
+use Rattle.sd_command.specs.CommandLine.{line}
+use Rattle.sd_command.specs.Refusing.{RefusedBy}
+use Rattle.sd_command.specs.Settings.{settings_of}
+use Rattle.sd_command.specs.Usage.{usage_line}
+use Rattle.sd_filter.specs.Endings.{Told, EndsIdle, EndsRefused, EndsWithHelp, EndsWithoutMemory}
+use Rattle.sd_command.specs.declared.parse.Refusal.{Refusal}
+use Rattle.sd_command.specs.declared.parse.Refusal.TheVariants.{NoMemory, Usage, Help}
 use Rattle.sd_filter.specs.declared.program.Prepared.{Prepared}
 use Rattle.sd_filter.specs.declared.program.Stop.{Stop}
 use Rattle.sd_filter.specs.declared.program.Stop.TheVariants as stop
-
--- what the kinds that `clap` may give allow
-abbrev pub RefusedBy : Kinds → Refusal → Type 0
-RefusedBy kinds NoMemory = Unit {0}
-RefusedBy kinds Usage = list_any is_mistake kinds ≡ true
-RefusedBy kinds (Help text) = IsAmong kind.DisplayHelp kinds
-
-abbrev pub RefusedFor : Error → Refusal → Type 0
-RefusedFor e NoMemory = (kind_of e ≡ kind.OutOfMemory) ⊎ (kind_of e ≡ kind.DisplayHelp)
-RefusedFor e Usage = is_mistake (kind_of e) ≡ true
-RefusedFor e (Help text) = kind_of e ≡ kind.DisplayHelp
 
 abbrev pub StopsTaken : Result Prepared Stop → Type 0
 StopsTaken (Err (stop.Refused refusal)) = refusal ≡ NoMemory

@@ -4,14 +4,14 @@ use Rattle.std.specs.Prelude.{◌≡◌, ◌<◌, ◌≤◌, ℕ, List, [], ◌�
 use Rattle.std.specs.Io.KnownBytes.{Consumes, Appends}
 use Rattle.sd_filter.specs.Told.{SourceTold, DrainTold, sink_of}
 use Rattle.sd_core.specs.Token.{TokenShown}
-use Rattle.sd_core.specs.Print.{PrintTold, Prints}
-use Rattle.sd_core.specs.Sink.{SinkTold, PutAll, PutSome, IsPrefix}
-use Rattle.sd_core.specs.declared.sink.SinkFault.{SinkFault}
-use Rattle.sd_core.specs.Counts.{counted}
+use Rattle.sd_sink.specs.Print.{PrintTold, Prints}
+use Rattle.sd_sink.specs.Sink.{SinkTold, PutAll, PutSome, IsPrefix}
+use Rattle.sd_sink.specs.declared.sink.SinkFault.{SinkFault}
+use Rattle.sd_sink.specs.Counts.{counted}
 use Rattle.sd_filter.specs.Lines.{parts, ended, without_cr}
 use Rattle.sd_filter.specs.Answers.{answers, errors, bounds}
 use Rattle.sd_filter.specs.Outcome.{Compares, HandedOn, RoseBy}
-use Rattle.sd_filter.specs.declared.job.Job.{Job}
+use Rattle.sd_command.specs.declared.job.Job.{Job}
 use Rattle.sd_filter.specs.declared.engine.Desk.{Desk}
 use Rattle.sd_filter.specs.declared.engine.Report.{Report}
 use Rattle.sd_filter.specs.declared.line.Line.{Line}

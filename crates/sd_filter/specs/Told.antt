@@ -1,7 +1,7 @@
 -- What a source and a drain tell of themselves, and what a call does to it.
 use Rattle.std.specs.Prelude.{ℕ, zero, suc, List, [], ◌∷◌, Bool, true, false, Option, Result, Ok, Err}
-use Rattle.sd_core.specs.Counts.{counted}
-use Rattle.sd_core.specs.Sink.{SinkTold}
+use Rattle.sd_sink.specs.Counts.{counted}
+use Rattle.sd_sink.specs.Sink.{SinkTold}
 
 pub record SourceTold : Type 0 where
   -- the bytes that it has still to give, where they are known

@@ -1,6 +1,6 @@
 // The answer to one line.
 ghost use Rattle.std.specs.Prelude.{◌≡◌, ◌≤◌, ℕ, List, ◌++◌, [], ◌∷◌, length, true, is_some, Ok, Err};
-ghost use Rattle.sd_core.specs.Print.{Prints};
+ghost use Rattle.sd_sink.specs.Print.{Prints};
 ghost use Rattle.sd_core.specs.Token.{Entry};
 ghost use Rattle.sd_filter.specs.Answers.{act_fault, act_text, answer, bytes_mean, form_text, is_error, line_limit, or_sddl_fault, text_means};
 ghost use Rattle.sd_filter.specs.Faults.{fault_text};
@@ -14,9 +14,9 @@ use crate::device::Drain;
 use crate::engine::Stores;
 use crate::fault::{LineFault, print_fault};
 use crate::hex_text::{GATHERED, print_hex};
-use crate::job::{Act, Form, Job};
 use crate::sink::DrainSink;
 use sd_binary::{SdBuf, SdView, read, write_layout};
+use sd_command::{Act, Form, Job};
 use sd_core::{Gather, Print, Sid, Sink, SinkFault, Token};
 use sd_sddl::{print_sddl, read_sddl};
 

@@ -4,9 +4,9 @@ ghost use Rattle.sd_core.specs.Sid.{IsSid};
 ghost use Rattle.sd_filter.specs.Answers.{line_limit};
 
 use crate::hex_text::GATHERED;
-use crate::job::{Form, Job};
 use crate::line::Line;
 use sd_binary::SdBuf;
+use sd_command::{Form, Job};
 use sd_core::NoMemory;
 use std::alloc::Global;
 use std::marker::Model;
@@ -40,7 +40,7 @@ pub struct Engine {
 }
 
 impl Model for Engine {
-    ghost use Rattle.sd_filter.specs.declared.job.Job.{Job};
+    ghost use Rattle.sd_command.specs.declared.job.Job.{Job};
 
     ghost Value = { Job };
 

@@ -1,7 +1,7 @@
 // Why a line has no answer but an `error` line.
 ghost use Rattle.std.specs.Prelude.{◌≡◌, ◌<◌, length};
-ghost use Rattle.sd_core.specs.Print.{Prints};
-ghost use Rattle.sd_core.specs.Sink.{Puts};
+ghost use Rattle.sd_sink.specs.Print.{Prints};
+ghost use Rattle.sd_sink.specs.Sink.{Puts};
 ghost use Rattle.sd_filter.specs.Faults.{fault_text, number_and_name, part_text, parts_of};
 
 use sd_binary::{Part, SdFault, TextFault, Which};

@@ -1,6 +1,6 @@
 // The bytes go one after another into the line in hand, and each LF answers it.
 ghost use Rattle.std.specs.Prelude.{◌≡◌, ◌+◌, ◌<◌, ◌≤◌, ◌^◌, ℕ, List, ◌++◌, [], ◌∷◌, length, ◌≢◌, slice_index, MatchResult, Ok, false, unwrap_or, IfSome};
-ghost use Rattle.sd_core.specs.Sink.{SinkTold};
+ghost use Rattle.sd_sink.specs.Sink.{SinkTold};
 ghost use Rattle.sd_core.specs.Token.{TokenShown};
 ghost use Rattle.sd_filter.specs.Answers.{line_limit};
 ghost use Rattle.sd_filter.specs.Lines.{ended, lines, without_cr};
@@ -10,7 +10,7 @@ ghost use Rattle.sd_filter.specs.Told.{sink_of};
 use crate::answer::put_answer;
 use crate::device::Drain;
 use crate::engine::{Desk, Report, Stores};
-use crate::job::Job;
+use sd_command::Job;
 use sd_core::{SinkFault, Token};
 
 /// The bytes that are searched for an LF at once.

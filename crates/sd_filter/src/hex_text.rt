@@ -1,7 +1,7 @@
 // Bytes printed as hex.
 ghost use Rattle.std.specs.Prelude.{◌≡◌, ◌≤◌, ◌*◌, length, take};
 ghost use Rattle.hex.specs.Hex.{encode_lower};
-ghost use Rattle.sd_core.specs.Print.{Prints};
+ghost use Rattle.sd_sink.specs.Print.{Prints};
 
 use sd_core::Print;
 

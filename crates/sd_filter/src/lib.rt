@@ -3,18 +3,14 @@
 #![tactic(auto)]
 
 mod answer;
-mod command_line;
 mod device;
 mod engine;
 mod fault;
 mod feed;
 mod hex_text;
-mod job;
 mod line;
-mod parse;
 mod program;
 mod running;
-mod settings;
 mod sink;
 mod streams;
 #[cfg(test)]
@@ -23,7 +19,7 @@ mod tests;
 pub use device::{DeviceFault, Drain, Source};
 pub use engine::{Engine, Report, RunFault};
 pub use fault::{LineFault, put_fault};
-pub use job::{Act, Form, Job};
 pub use program::command;
 pub use running::run;
+pub use sd_command::{Act, Form, Job};
 pub use streams::{FromRead, ToWrite};

@@ -2,16 +2,16 @@
 ghost use Rattle.std.specs.Prelude.{◌≡◌, true, map, codes, []};
 ghost use Rattle.std.specs.String.{string_bytes};
 ghost use Rattle.clap.specs.Words.{takes};
-ghost use Rattle.sd_filter.specs.CommandLine.{line};
+ghost use Rattle.sd_command.specs.CommandLine.{line};
+ghost use Rattle.sd_command.specs.Usage.{fault_line};
 ghost use Rattle.sd_filter.specs.Endings as ends;
 ghost use Rattle.sd_filter.specs.Preparing as steps;
 
 use crate::device::{Drain, Source};
 use crate::engine::{Engine, RunFault};
-use crate::parse::{Refusal, parse};
 use crate::running::run;
-use crate::settings::{UsageFault, settings};
 use crate::sink::write_whole;
+use sd_command::{Refusal, UsageFault, parse_words, settle};
 use sd_core::Token;
 use std::alloc::Global;
 
@@ -36,7 +36,7 @@ pub fn command<R: Source, W: Drain, E: Drain>(
     ensures idle { ends.IsIdleAt result
         (record { source = R.told input.old; output = W.told output.old; faults = E.told faults.old })
         (record { source = R.told input.new; output = W.told output.new; faults = E.told faults.new }) }
-    ensures memory { result ≡ 4 → ends.Says (ends.fault_line (codes "no memory")) (E.told faults.old) (E.told faults.new) }
+    ensures memory { result ≡ 4 → ends.Says (fault_line (codes "no memory")) (E.told faults.old) (E.told faults.new) }
 {
     match prepare(alloc, words.as_slice()) {
         Ok(mut prepared) => answered(&mut prepared, input, output, faults),
@@ -59,16 +59,16 @@ pub enum Stop {
 }
 
 // All that takes memory.
-#[tactic(auto, unfolding(crate::specs::Settings::settings_of))]
+#[tactic(auto, unfolding(sd_command::specs::Settings::settings_of))]
 fn prepare(alloc: Global, words: &[String]) -> Result<Prepared, Stop>
     ensures taken { takes line (map string_bytes words.now) ≡ true → steps.StopsTaken result }
     ensures kinds { steps.PreparesBy (map string_bytes words.now) result }
 {
-    let matches = match parse(alloc, words) {
+    let matches = match parse_words(alloc, words) {
         Ok(matches) => matches,
         Err(refusal) => return Err(Stop::Refused(refusal)),
     };
-    let job = match settings(&matches) {
+    let job = match settle(&matches) {
         Ok(job) => job,
         Err(fault) => return Err(Stop::Value(fault)),
     };

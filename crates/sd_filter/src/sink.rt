@@ -1,6 +1,6 @@
 // A sink over a drain.
 ghost use Rattle.std.specs.Prelude.{◌≡◌};
-ghost use Rattle.sd_core.specs.Sink.{Puts};
+ghost use Rattle.sd_sink.specs.Sink.{Puts};
 ghost use Rattle.sd_filter.specs.Told.{sink_of};
 
 use crate::device::Drain;

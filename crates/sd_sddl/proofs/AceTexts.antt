@@ -4,10 +4,10 @@ use Rattle.std.specs.Prelude.{◌==◌, length}
 use Rattle.std.specs.List.{AllByRecursion, list_all}
 use Rattle.std.proofs.lemmas.List.Folds.{list_all-append}
 use Rattle.sd_core.specs.Ace.{AccessControlEntry, IsAce}
-use Rattle.sd_core.specs.Flags.{flags_text}
-use Rattle.sd_core.specs.Rights.{rights_text}
-use Rattle.sd_core.proofs.Bools.{both}
-use Rattle.sd_sddl.specs.declared.naming.Naming.{Naming}
+use Rattle.sd_rights.specs.Flags.{flags_text}
+use Rattle.sd_rights.specs.Rights.{rights_text}
+use Rattle.sd_rights.proofs.Bools.{both}
+use Rattle.sd_core.specs.declared.naming.Naming.{Naming}
 use Rattle.sd_sddl.specs.declared.line.AceField.{AceField}
 use Rattle.sd_sddl.specs.declared.line.AceField.TheVariants as field
 use Rattle.sd_sddl.specs.declared.line.Slot.TheVariants as slot

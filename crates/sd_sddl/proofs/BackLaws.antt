@@ -13,7 +13,7 @@ use Rattle.sd_sddl.specs.declared.fault.SddlFault.{SddlFault}
 use Rattle.sd_sddl.specs.declared.line.Head.TheVariants as head
 use Rattle.sd_sddl.specs.declared.line.SidPart.{SidPart}
 use Rattle.sd_sddl.specs.declared.line.SidPart.TheVariants as sid_part
-use Rattle.sd_sddl.specs.declared.naming.Naming.{Naming}
+use Rattle.sd_core.specs.declared.naming.Naming.{Naming}
 use Rattle.sd_binary.specs.declared.builder.Which.{Which}
 use Rattle.sd_binary.specs.declared.builder.Which.TheVariants as which
 use Rattle.sd_binary.specs.Control.{acl_flags, bit_if, flag_bits, no_flags}

@@ -1,8 +1,9 @@
 -- What a reader of fields holds, after one field more.
 use Rattle.std.proofs.Common.{◌≡◌, ℕ, ◌/◌, ◌%◌, List, [], ◌∷◌, Option, Some, None, Bool, true, false, refl, ap, ◌∙◌}
 use Rattle.std.specs.Prelude.{◌&&◌, Ok}
-use Rattle.sd_core.specs.Ace.{GuidsFit, is_object}
-use Rattle.sd_core.specs.declared.ace.AceKind.{AceKind}
+use Rattle.sd_core.specs.Ace.{GuidsFit}
+use Rattle.sd_rights.specs.Kinds.{is_object}
+use Rattle.sd_rights.specs.declared.kinds.AceKind.{AceKind}
 use Rattle.sd_binary.specs.Draft.{closed}
 use Rattle.sd_sddl.specs.FoldedReading.{Reading, begun_or_null, no_fields, take_front, with_flags}
 use Rattle.sd_sddl.specs.FieldTexts.{object_reads}

@@ -1,20 +1,21 @@
 -- Each printed field reads back.
 use Rattle.std.proofs.Common.{◌≡◌, ◌≤◌, ◌<◌, ℕ, ◌/◌, ◌%◌, ◌^◌, Bool, true, false, List, [], ◌∷◌, ◌++◌, length, Option, Some, None, Ok, refl, ap, ◌∙◌, arith, length-append}
 use Rattle.std.specs.Prelude.{IfSome, codes, if◌then◌else◌}
-use Rattle.sd_core.specs.Ace.{IsGuid, is_object}
-use Rattle.sd_core.specs.Flags.{flags_text}
+use Rattle.sd_core.specs.Ace.{IsGuid}
+use Rattle.sd_rights.specs.Kinds.{is_object}
+use Rattle.sd_rights.specs.Flags.{flags_text}
 use Rattle.sd_core.specs.GuidText.{guid_reads, guid_text}
-use Rattle.sd_core.specs.Rights.{rights_text}
+use Rattle.sd_rights.specs.Rights.{rights_text}
 use Rattle.sd_core.specs.Sid.{IsSid, SecurityId}
 use Rattle.sd_core.specs.SidText.{alias_of, sid_reads, sid_text}
-use Rattle.sd_core.specs.declared.ace.AceKind.{AceKind}
-use Rattle.sd_core.proofs.KindLaws.{kind_named-letters}
+use Rattle.sd_rights.specs.declared.kinds.AceKind.{AceKind}
+use Rattle.sd_rights.proofs.KindLaws.{kind_named-letters}
 use Rattle.sd_core.proofs.AliasLaws.{alias-back}
-use Rattle.sd_core.proofs.FlagLaws.{flags_read_back, flags_text-length}
+use Rattle.sd_rights.proofs.FlagLaws.{flags_read_back, flags_text-length}
 use Rattle.sd_core.proofs.GuidTexts.{guid_text-length, guid_text-reads}
-use Rattle.sd_core.proofs.RightsLaws.{rights_read_back, rights_text-length}
+use Rattle.sd_rights.proofs.RightsLaws.{rights_read_back, rights_text-length}
 use Rattle.sd_core.proofs.TextLaws.{sid_text-reads}
-use Rattle.sd_sddl.specs.declared.naming.Naming.{Naming}
+use Rattle.sd_core.specs.declared.naming.Naming.{Naming}
 use Rattle.sd_sddl.specs.declared.fault.SddlFault.TheVariants as fault
 use Rattle.sd_sddl.specs.declared.line.AceField.TheVariants as field
 use Rattle.sd_sddl.specs.declared.line.SidPart.{SidPart}
@@ -108,7 +109,7 @@ sid_back : (naming : Naming) (s : SecurityId) → IsSid s → sid_reads (trustee
 unfolding trustee_text
 sid_back naming s i = by_naming naming.numeric
   where
-    by_naming : (b : Bool) → sid_reads (if b then sid_text s else name_or (alias_of s naming.domain) (sid_text s)) naming.domain ≡ Ok s
+    by_naming : (b : Bool) → sid_reads (name_or (if b then None else alias_of s naming.domain) (sid_text s)) naming.domain ≡ Ok s
     by_naming true = sid_text-reads s i naming.domain
     by_naming false = named_back (alias_of s naming.domain) s naming.domain i (alias-back s naming.domain _ refl)
 

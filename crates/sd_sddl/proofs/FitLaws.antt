@@ -3,8 +3,8 @@ use Rattle.std.proofs.Common.{◌≡◌, ℕ, List, Option, Some, None, Bool, tr
 use Rattle.std.specs.Prelude.{if◌then◌else◌, is_some, ◌&&◌, ◌||◌, not, IfOk, Result, Ok, Err}
 use Rattle.sd_core.specs.Ace.{AccessControlEntry}
 use Rattle.sd_core.specs.Sid.{SecurityId}
-use Rattle.sd_core.specs.Flags.{flags_reads}
-use Rattle.sd_core.specs.Rights.{rights_reads}
+use Rattle.sd_rights.specs.Flags.{flags_reads}
+use Rattle.sd_rights.specs.Rights.{rights_reads}
 use Rattle.sd_core.specs.SidText.{sid_reads}
 use Rattle.sd_core.specs.declared.sid_text.SidFault.{SidFault}
 use Rattle.sd_binary.specs.declared.acl.AclPart.TheVariants as acl

@@ -3,7 +3,7 @@ use Rattle.std.proofs.Common.{◌≡◌, ◌≤◌, ℕ, ◌+◌, Bool, true, fa
 use Rattle.std.specs.Prelude.{nat_lt, not, if◌then◌else◌}
 use Rattle.std.specs.List.{list_all}
 use Rattle.std.proofs.lemmas.Bool.Decides.{nat_tests}
-use Rattle.sd_core.proofs.Bools.{both}
+use Rattle.sd_rights.proofs.Bools.{both}
 use Rattle.sd_core.specs.Ace.{AccessControlEntry}
 use Rattle.sd_core.specs.Sid.{SecurityId}
 use Rattle.sd_binary.specs.Acl.{acl_size, aces_size}

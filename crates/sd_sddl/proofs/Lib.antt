@@ -19,3 +19,4 @@ pub mod Runs
 pub mod SizeLaws
 pub mod Steps
 pub mod TrusteeLaws
+pub mod WholeFields

@@ -2,7 +2,7 @@
 use Rattle.std.proofs.Common.{◌≡◌, ℕ, Bool, true, false, ◌||◌, List, [], ◌∷◌, ◌++◌, map, Some, refl, ap, sym, ◌∙◌, append-nil, append_assoc, eqb-true}
 use Rattle.std.specs.Prelude.{◌==◌}
 use Rattle.std.specs.List.{AllByRecursion, flat_map, list_all}
-use Rattle.sd_core.proofs.Bools.{both}
+use Rattle.sd_rights.proofs.Bools.{both}
 use Rattle.sd_binary.specs.declared.builder.Which.TheVariants as which
 use Rattle.sd_sddl.specs.declared.line.Head.{Head}
 use Rattle.sd_sddl.specs.declared.line.Head.TheVariants as head

@@ -1,7 +1,7 @@
 -- A line of parts has its shape, and its fields are the texts of the parts.
 use Rattle.std.proofs.Common.{◌≡◌, ℕ, Bool, true, false, ◌&&◌, List, [], ◌∷◌, ◌++◌, map, Option, Some, None, refl, ap, ◌∙◌}
 use Rattle.std.specs.List.{AllByRecursion, flat_map, list_all}
-use Rattle.sd_core.proofs.Bools.{both}
+use Rattle.sd_rights.proofs.Bools.{both}
 use Rattle.sd_binary.specs.declared.builder.Which.TheVariants as which
 use Rattle.sd_sddl.specs.declared.line.Head.{Head}
 use Rattle.sd_sddl.specs.declared.line.Head.TheVariants as head

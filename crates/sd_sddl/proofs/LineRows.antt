@@ -1,14 +1,14 @@
 -- Worked lines, read.
 use Rattle.std.proofs.Common.{◌≡◌, ℕ, zero, suc, List, [], ◌∷◌, ◌++◌, Option, Some, None, codes, refl, Result, Ok, Err}
-use Rattle.sd_core.specs.Kinds.{kind_entry, kind_letters, kind_named}
+use Rattle.sd_rights.specs.Kinds.{kind_entry, kind_letters, kind_named}
 use Rattle.sd_core.specs.Ace.{AccessControlEntry}
-use Rattle.sd_core.specs.Flags.{flags_reads}
+use Rattle.sd_rights.specs.Flags.{flags_reads}
 use Rattle.sd_core.specs.GuidText.{guid_reads}
-use Rattle.sd_core.specs.Names.{run_of}
-use Rattle.sd_core.specs.Rights.{rights_reads}
+use Rattle.sd_rights.specs.Names.{run_of}
+use Rattle.sd_rights.specs.Rights.{rights_reads}
 use Rattle.sd_core.specs.Sid.{SecurityId}
 use Rattle.sd_core.specs.SidText.{has_form, letters_read, numbers_read, sid_reads}
-use Rattle.sd_core.specs.declared.ace.AceKind.TheVariants as kinds
+use Rattle.sd_rights.specs.declared.kinds.AceKind.TheVariants as kinds
 use Rattle.sd_core.specs.declared.sid_text.SidFault.TheVariants as sid_fault
 use Rattle.sd_binary.specs.Descriptor.{Descriptor}
 use Rattle.sd_binary.specs.declared.acl.AclPart.{AclPart}

@@ -4,15 +4,17 @@ use Rattle.std.specs.Prelude.{◌&&◌, nat_lt, if◌then◌else◌}
 use Rattle.std.specs.List.{AllByRecursion}
 use Rattle.std.specs.Option.{option_map}
 use Rattle.std.proofs.lemmas.Bool.Decides.{nat_tests}
-use Rattle.sd_core.specs.Ace.{AccessControlEntry, IsAce, IsGuid, is_object}
-use Rattle.sd_core.specs.Flags.{flags_reads}
+use Rattle.sd_core.specs.Ace.{AccessControlEntry, IsAce, IsGuid}
+use Rattle.sd_rights.specs.Kinds.{is_object}
+use Rattle.sd_rights.specs.Flags.{flags_reads}
 use Rattle.sd_core.specs.GuidText.{guid_reads}
-use Rattle.sd_core.specs.Rights.{rights_reads}
+use Rattle.sd_rights.specs.Rights.{rights_reads}
 use Rattle.sd_core.specs.Sid.{IsSid, SecurityId}
 use Rattle.sd_core.specs.SidText.{sid_reads}
-use Rattle.sd_core.specs.declared.ace.AceKind.{AceKind}
+use Rattle.sd_rights.specs.declared.kinds.AceKind.{AceKind}
 use Rattle.sd_core.specs.declared.sid_text.SidFault.{SidFault}
-use Rattle.sd_core.proofs.ReadLimits.{flags-limits, guid-limits, rights-limit, sid-limits}
+use Rattle.sd_rights.proofs.ReadLimits.{flags-limits, rights-limit}
+use Rattle.sd_core.proofs.ReadLimits.{guid-limits, sid-limits}
 use Rattle.sd_binary.specs.Acl.{IsAcl, acl_size}
 use Rattle.sd_binary.specs.Descriptor.{Descriptor, IsAclPart, IsDescriptor, dacl_present, sacl_present, self_relative}
 use Rattle.sd_binary.specs.Draft.{Draft, closed, closed_in, control_of, is_present, more_in, with_acl}

@@ -10,22 +10,22 @@ use Rattle.std.proofs.lemmas.Fmt.{digits_is_IsNumeral}
 use Rattle.std.proofs.lemmas.List.Folds.{list_all-append}
 use Rattle.uuid.specs.Text.{by_index, digit_place, hex_digit, is_hyphen_place, nibble}
 use Rattle.uuid.proofs.TextLemmas.{nibble_small}
-use Rattle.sd_core.specs.Flags.{flags_text}
+use Rattle.sd_rights.specs.Flags.{flags_text}
 use Rattle.sd_core.specs.GuidText.{guid_text}
-use Rattle.sd_core.specs.Kinds.{kind_entry, kind_letters}
-use Rattle.sd_core.specs.Names.{named_bits, names_of}
-use Rattle.sd_core.specs.Rights.{hex_text, is_label, name_or, names_or_hex, rights_text}
+use Rattle.sd_rights.specs.Kinds.{kind_entry, kind_letters}
+use Rattle.sd_rights.specs.Names.{named_bits, names_of}
+use Rattle.sd_rights.specs.Rights.{hex_text, is_label, name_or, names_or_hex, rights_text}
 use Rattle.sd_core.specs.Sid.{IsSid, SecurityId}
 use Rattle.sd_core.specs.SidText.{alias_of, is_sid_byte, sid_text}
-use Rattle.sd_core.specs.declared.ace.AceKind.{AceKind}
-use Rattle.sd_core.specs.declared.ace.AceKind.TheVariants as kinds
-use Rattle.sd_core.specs.declared.flags.TheConstants.{FLAGS}
-use Rattle.sd_core.specs.declared.names.NamedBits.{NamedBits}
-use Rattle.sd_core.specs.declared.rights_table.TheConstants.{COMPOUNDS, LABELS, SINGLES}
+use Rattle.sd_rights.specs.declared.kinds.AceKind.{AceKind}
+use Rattle.sd_rights.specs.declared.kinds.AceKind.TheVariants as kinds
+use Rattle.sd_rights.specs.declared.flags.TheConstants.{FLAGS}
+use Rattle.sd_rights.specs.declared.names.NamedBits.{NamedBits}
+use Rattle.sd_rights.specs.declared.rights_table.TheConstants.{COMPOUNDS, LABELS, SINGLES}
 use Rattle.sd_core.proofs.AliasLaws.{alias-letters}
-use Rattle.sd_core.proofs.Bools.{both}
+use Rattle.sd_rights.proofs.Bools.{both}
 use Rattle.sd_core.proofs.TextLaws.{sid_text-bytes}
-use Rattle.sd_sddl.specs.declared.naming.Naming.{Naming}
+use Rattle.sd_core.specs.declared.naming.Naming.{Naming}
 use Rattle.sd_sddl.specs.Line.{is_blank}
 use Rattle.sd_sddl.specs.Meaning.{is_unreadable}
 use Rattle.sd_binary.specs.declared.control.AclFlags.{AclFlags}
@@ -221,7 +221,7 @@ pub trustee-plain : (naming : Naming) (s : SecurityId) → IsSid s → IsPlain (
 unfolding trustee_text
 trustee-plain naming s i = by_naming naming.numeric
   where
-    by_naming : (b : Bool) → IsPlain (if b then sid_text s else alias_or (alias_of s naming.domain) (sid_text s))
+    by_naming : (b : Bool) → IsPlain (alias_or (if b then None else alias_of s naming.domain) (sid_text s))
     by_naming true = sid-plain s i
     by_naming false = name-plain (alias_of s naming.domain) (sid_text s) (alias-letters s naming.domain _ refl) (sid-plain s i)
 

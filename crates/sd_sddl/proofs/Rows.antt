@@ -1,17 +1,17 @@
 -- Worked descriptors, printed.
 use Rattle.std.proofs.Common.{◌≡◌, [], ◌∷◌, Option, Some, None, true, false, codes, refl}
 use Rattle.std.specs.Fmt.{digits}
-use Rattle.sd_core.specs.Kinds.{kind_entry, kind_letters}
+use Rattle.sd_rights.specs.Kinds.{kind_entry, kind_letters}
 use Rattle.sd_core.specs.Ace.{AccessControlEntry}
-use Rattle.sd_core.specs.Flags.{flags_text}
+use Rattle.sd_rights.specs.Flags.{flags_text}
 use Rattle.sd_core.specs.GuidText.{guid_text}
-use Rattle.sd_core.specs.Rights.{rights_text}
+use Rattle.sd_rights.specs.Rights.{rights_text}
 use Rattle.sd_core.specs.Sid.{SecurityId}
 use Rattle.sd_core.specs.SidText.{alias_of}
-use Rattle.sd_core.specs.declared.ace.AceKind.TheVariants as kinds
+use Rattle.sd_rights.specs.declared.kinds.AceKind.TheVariants as kinds
 use Rattle.sd_binary.specs.Descriptor.{Descriptor}
 use Rattle.sd_binary.specs.declared.acl.AclPart.TheVariants as acl
-use Rattle.sd_sddl.specs.declared.naming.Naming.{Naming}
+use Rattle.sd_core.specs.declared.naming.Naming.{Naming}
 use Rattle.sd_sddl.specs.Printed.{ace_text, acl_flags_text, dacl_text, flags_field, group_text, kind_field, object_field, owner_text, rights_field, sacl_text, sddl, trustee_field, trustee_text}
 
 -- `unfolding printed` lets `refl` compute a row

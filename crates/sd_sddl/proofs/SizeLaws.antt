@@ -1,18 +1,19 @@
 -- SDDL has at most eight characters for each byte of the written descriptor, and 63.
 use Rattle.std.proofs.Common.{◌≡◌, ◌≤◌, ◌<◌, ℕ, ◌+◌, ◌*◌, ◌^◌, Bool, true, false, cond, List, [], ◌∷◌, ◌++◌, length, Option, Some, None, refl, arith, length-append}
-use Rattle.std.specs.Prelude.{IfSome, codes, option_map}
+use Rattle.std.specs.Prelude.{IfSome, codes}
 use Rattle.std.specs.List.{flat_map, AllByRecursion}
-use Rattle.std.specs.Option.{option_and_then}
-use Rattle.sd_core.specs.Ace.{AccessControlEntry, GuidsFit, IsAce, ace_size, guid_size, is_object}
-use Rattle.sd_core.specs.Flags.{flags_text}
-use Rattle.sd_core.specs.Rights.{rights_text}
+use Rattle.sd_core.specs.Ace.{AccessControlEntry, GuidsFit, IsAce, ace_size, guid_size}
+use Rattle.sd_rights.specs.Kinds.{is_object}
+use Rattle.sd_rights.specs.Flags.{flags_text}
+use Rattle.sd_rights.specs.Rights.{rights_text}
 use Rattle.sd_core.specs.Sid.{SecurityId, IsSid}
-use Rattle.sd_core.specs.SidText.{alias_of, known_alias, or_else, relative_alias, sid_text, usable}
-use Rattle.sd_core.specs.declared.ace.AceKind.{AceKind}
-use Rattle.sd_core.proofs.KindLaws.{letters-few}
-use Rattle.sd_core.proofs.FlagLaws.{flags_text-length}
+use Rattle.sd_core.specs.SidText.{alias_of, sid_text}
+use Rattle.sd_rights.specs.declared.kinds.AceKind.{AceKind}
+use Rattle.sd_rights.proofs.KindLaws.{letters-few}
+use Rattle.sd_core.proofs.AliasNames.{IsName, alias_of-IsName}
+use Rattle.sd_rights.proofs.FlagLaws.{flags_text-length}
 use Rattle.sd_core.proofs.GuidTexts.{guid_text-length}
-use Rattle.sd_core.proofs.RightsLaws.{rights_text-length}
+use Rattle.sd_rights.proofs.RightsLaws.{rights_text-length}
 use Rattle.sd_core.proofs.TextLaws.{length-sid_text}
 use Rattle.sd_binary.specs.Acl.{aces_size}
 use Rattle.sd_binary.specs.Control.{acl_flags}
@@ -20,45 +21,23 @@ use Rattle.sd_binary.specs.Descriptor.{Descriptor, IsAclPart, IsDescriptor, dacl
 use Rattle.sd_binary.specs.Layout.{acl_part_size, sid_part_size, size}
 use Rattle.sd_binary.specs.declared.acl.AclPart.{AclPart}
 use Rattle.sd_binary.specs.declared.acl.AclPart.TheVariants as acl
-use Rattle.sd_sddl.specs.declared.naming.Naming.{Naming}
+use Rattle.sd_core.specs.declared.naming.Naming.{Naming}
 use Rattle.sd_binary.specs.declared.builder.Which.TheVariants as which
 use Rattle.sd_binary.specs.declared.control.AclFlags.{AclFlags}
 use Rattle.sd_sddl.specs.Printed.{ace_text, acl_flags_text, acl_text, dacl_text, flags_field, group_text, kind_field, kind_text, name_or, object_field, object_text, owner_text, rights_field, sacl_text, sddl, sid_text_of, text_if, trustee_field, trustee_text}
-
--- a name of two letters, where there is one
-abbrev IsName : Option (List ℕ) → Type 0
-IsName o = IfSome o (λ name. length name ≡ 2)
-
-mapped : {X : Type 0} (f : X → List ℕ) (o : Option X) → ((x : X) → length (f x) ≡ 2) → IsName (option_map f o)
-mapped f None two = tt
-mapped f (Some x) two = two x
-
-first_name : (a b : Option (List ℕ)) → IsName a → IsName b → IsName (or_else a b)
-first_name None b h k = k
-first_name (Some a) b h k = h
-
-under : (s : SecurityId) (domain : Option SecurityId) → IsName (option_and_then (relative_alias s) domain)
-under s None = tt
-under s (Some d) = mapped _ _ (λ e. refl)
-
-alias-name : (s : SecurityId) (domain : Option SecurityId) → IsName (alias_of s domain)
-unfolding alias_of
-alias-name s domain = first_name (known_alias s) (option_and_then (relative_alias s) (usable domain)) (mapped _ _ (λ e. refl)) (under s (usable domain))
 
 -- a SID takes at most 18 characters, and 11 for each sub-authority
 name_or-length : (o : Option (List ℕ)) (text : List ℕ) (n : ℕ) → IsName o → 2 ≤ n → length text ≤ n → length (name_or o text) ≤ n
 name_or-length None text n h low k = k
 name_or-length (Some name) text n h low k = omega (arith, h)
 
-chosen-length : (numeric : Bool) (a b : List ℕ) (n : ℕ) → length a ≤ n → length b ≤ n → length (cond numeric a b) ≤ n
-chosen-length true a b n h k = h
-chosen-length false a b n h k = k
-
 pub trustee-length : (naming : Naming) (s : SecurityId) → IsSid s → length (trustee_text naming s) ≤ 18 + 11 * length s.subs
 unfolding trustee_text
-trustee-length naming s h =
-    let text = length-sid_text s h in
-    chosen-length naming.numeric _ _ (18 + 11 * length s.subs) text (name_or-length (alias_of s naming.domain) (sid_text s) (18 + 11 * length s.subs) (alias-name s naming.domain) (omega arith) text)
+trustee-length naming s h = by_naming naming.numeric
+  where
+    by_naming : (b : Bool) → length (name_or (cond b None (alias_of s naming.domain)) (sid_text s)) ≤ 18 + 11 * length s.subs
+    by_naming true = length-sid_text s h
+    by_naming false = name_or-length (alias_of s naming.domain) (sid_text s) (18 + 11 * length s.subs) (alias_of-IsName s naming.domain) (omega arith) (length-sid_text s h)
 
 -- an ACE takes at most eight characters a byte
 pub kind-length : (kind : AceKind) → length (kind_text kind) ≤ 2

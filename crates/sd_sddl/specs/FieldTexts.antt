@@ -5,10 +5,9 @@ use Rattle.std.specs.Prelude.{ℕ, ◌-◌, ◌&&◌, Bool, true, false, ◌==�
 use Rattle.std.specs.Char.{to_ascii_uppercase}
 use Rattle.std.specs.Option.{option_and_then, option_map}
 use Rattle.std.specs.Str.{str_eq_ignore_ascii_case}
-use Rattle.sd_core.specs.Ace.{is_object}
+use Rattle.sd_rights.specs.Kinds.{is_object, kind_named}
 use Rattle.sd_core.specs.GuidText.{guid_reads}
-use Rattle.sd_core.specs.Kinds.{kind_named}
-use Rattle.sd_core.specs.declared.ace.AceKind.{AceKind}
+use Rattle.sd_rights.specs.declared.kinds.AceKind.{AceKind}
 use Rattle.sd_binary.specs.Control.{no_flags}
 use Rattle.sd_binary.specs.declared.control.AclFlags.{AclFlags}
 use Rattle.sd_sddl.specs.declared.reading.AclFront.{AclFront}

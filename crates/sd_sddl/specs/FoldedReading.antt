@@ -4,11 +4,11 @@
 use Rattle.std.specs.Prelude.{ℕ, ◌&&◌, Bool, true, false, nat_lt, if◌then◌else◌, List, [], ◌∷◌, ◌++◌, Option, Some, None, Result, Ok, Err}
 use Rattle.std.specs.List.{flat_map}
 use Rattle.sd_core.specs.Ace.{AccessControlEntry}
-use Rattle.sd_core.specs.Flags.{flags_reads}
-use Rattle.sd_core.specs.Rights.{rights_reads}
+use Rattle.sd_rights.specs.Flags.{flags_reads}
+use Rattle.sd_rights.specs.Rights.{rights_reads}
 use Rattle.sd_core.specs.Sid.{SecurityId}
 use Rattle.sd_core.specs.SidText.{sid_reads}
-use Rattle.sd_core.specs.declared.ace.AceKind.TheVariants as kinds
+use Rattle.sd_rights.specs.declared.kinds.AceKind.TheVariants as kinds
 use Rattle.sd_core.specs.declared.sid_text.SidFault.{SidFault}
 use Rattle.sd_core.specs.declared.sid_text.SidFault.TheVariants.{SidForm}
 use Rattle.sd_binary.specs.Acl.{acl_size}

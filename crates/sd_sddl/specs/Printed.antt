@@ -1,17 +1,18 @@
 -- A descriptor as SDDL (MS-DTYP 2.5.1.1).
-use Rattle.std.specs.Prelude.{ℕ, ◌+◌, Bool, true, false, if◌then◌else◌, List, [], ◌++◌, Option, Some, None, codes}
+use Rattle.std.specs.Prelude.{ℕ, ◌+◌, Bool, true, false, List, [], ◌++◌, Option, Some, None, codes}
 use Rattle.std.specs.List.{flat_map}
 use Rattle.sd_core.specs.Ace.{AccessControlEntry}
-use Rattle.sd_core.specs.Flags.{flags_text}
+use Rattle.sd_rights.specs.Flags.{flags_text}
 use Rattle.sd_core.specs.GuidText.{guid_text}
-use Rattle.sd_core.specs.Kinds.{kind_letters}
-use Rattle.sd_core.specs.Rights.{rights_text}
+use Rattle.sd_rights.specs.Kinds.{kind_letters}
+use Rattle.sd_core.specs.Naming.{alias_by}
+use Rattle.sd_rights.specs.Rights.{rights_text}
 use Rattle.sd_core.specs.Sid.{SecurityId}
-use Rattle.sd_core.specs.SidText.{alias_of, sid_text}
-use Rattle.sd_core.specs.declared.ace.AceKind.{AceKind}
+use Rattle.sd_core.specs.SidText.{sid_text}
+use Rattle.sd_rights.specs.declared.kinds.AceKind.{AceKind}
 use Rattle.sd_binary.specs.Control.{acl_flags, flag_bits, present_bit}
 use Rattle.sd_binary.specs.Descriptor.{Descriptor}
-use Rattle.sd_sddl.specs.declared.naming.Naming.{Naming}
+use Rattle.sd_core.specs.declared.naming.Naming.{Naming}
 use Rattle.sd_binary.specs.declared.acl.AclPart.{AclPart}
 use Rattle.sd_binary.specs.declared.acl.AclPart.TheVariants as acl
 use Rattle.sd_binary.specs.declared.builder.Which.{Which}
@@ -19,17 +20,13 @@ use Rattle.sd_binary.specs.declared.builder.Which.TheVariants as which
 use Rattle.sd_binary.specs.declared.control.AclFlags.{AclFlags}
 use Rattle.sd_binary.specs.declared.control.TheConstants.{SELF_RELATIVE}
 
--- how SIDs are printed: by their aliases, those of a domain too where there is one, or by numbers alone
-abbrev pub naming_by : Option SecurityId → Bool → Naming
-naming_by domain numeric = record { domain = domain; numeric = numeric }
-
 abbrev pub name_or : Option (List ℕ) → List ℕ → List ℕ
 name_or None text = text
 name_or (Some name) text = name
 
 -- the alias of a SID, under a domain; its text where it has none, or where numbers are asked for
 unfoldable pub trustee_text : Naming → SecurityId → List ℕ
-trustee_text naming s = if naming.numeric then sid_text s else name_or (alias_of s naming.domain) (sid_text s)
+trustee_text naming s = name_or (alias_by naming s) (sid_text s)
 
 -- ---- ACEs: six fields in parentheses
 

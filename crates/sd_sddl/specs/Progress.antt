@@ -102,6 +102,23 @@ abbrev pub place_of : Head → Place
 place_of (head.Sid p) = place.Sid p
 place_of (head.Acl w) = place.AclFlags w
 
+-- the byte that ends a field of an ACE, and where the line goes on after it
+abbrev pub end_of : AceField → ℕ
+end_of field.Kind = 59
+end_of field.Flags = 59
+end_of field.Rights = 59
+end_of field.Object = 59
+end_of field.Inherited = 59
+end_of field.Sid = 41
+
+abbrev pub place_after : AceField → Place
+place_after field.Kind = place.Ace field.Flags
+place_after field.Flags = place.Ace field.Rights
+place_after field.Rights = place.Ace field.Object
+place_after field.Object = place.Ace field.Inherited
+place_after field.Inherited = place.Ace field.Sid
+place_after field.Sid = place.AfterAce
+
 -- what the fields so far read as, once the part at hand ends with no ACE before its end
 abbrev pub ended_with : Option SecurityId → Place → Held → Result Reading SddlFault → Result Reading SddlFault
 ended_with domain place.Before h r = r

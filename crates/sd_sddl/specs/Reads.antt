@@ -1,7 +1,8 @@
 -- The reader of a line: what it has read, and what its buffer holds.
 use Rattle.std.specs.Prelude.{◌≡◌, ℕ, ◌/◌, ◌%◌, Bool, true, false, ◌||◌, not, ◌==◌, List, [], ◌∷◌, ◌++◌, Option, Some, None, Result, Ok, Err}
 use Rattle.std.specs.Option.{option_map}
-use Rattle.sd_core.specs.Ace.{GuidsFit, is_object}
+use Rattle.sd_core.specs.Ace.{GuidsFit}
+use Rattle.sd_rights.specs.Kinds.{is_object}
 use Rattle.sd_core.specs.Sid.{SecurityId}
 use Rattle.sd_binary.specs.Descriptor.{Descriptor, Shows}
 use Rattle.sd_binary.specs.declared.acl.AclPart.TheVariants as acl

@@ -1,11 +1,11 @@
 // ACEs as SDDL: six fields in parentheses (MS-DTYP 2.5.1.1).
-ghost use Rattle.std.specs.Prelude.{◌≡◌};
-ghost use Rattle.sd_core.specs.Print.{Prints};
-ghost use Rattle.sd_sddl.specs.Printed.{ace_text, kind_field, object_text};
+ghost use Rattle.std.specs.Prelude.{◌≡◌, ◌++◌, codes};
+ghost use Rattle.sd_sink.specs.Print.{Prints};
+ghost use Rattle.sd_sddl.specs.Printed.{ace_text, kind_field, object_field, object_text};
 
-use crate::naming::{Naming, print_trustee};
+use crate::trustee::print_trustee;
 use sd_binary::AceView;
-use sd_core::{AceKind, Print, Sid, print_flags, print_guid, print_rights};
+use sd_core::{AceKind, Naming, Print, Sid, print_flags, print_guid, print_rights};
 use uuid::Uuid;
 
 /// Prints an ACE.
@@ -41,11 +41,7 @@ fn print_fields<P: Print>(
     print_flags(flags, out);
     out.put(b";");
     print_rights(kind, mask, out);
-    out.put(b";");
-    print_object(object, out);
-    out.put(b";");
-    print_object(inherited, out);
-    out.put(b";");
+    print_objects(object, inherited, out);
     print_trustee(naming, sid, out);
     out.put(b")");
 }
@@ -59,6 +55,20 @@ fn print_kind<P: Print>(kind: AceKind, out: &mut P)
         return out.put(&[b'(', letters[0], b';']);
     }
     out.put(&[b'(', letters[0], letters[1], b';']);
+}
+
+// The object types, each with the semicolon before it, and the one behind them. Most ACEs have none.
+fn print_objects<P: Print>(object: Option<Uuid>, inherited: Option<Uuid>, out: &mut P)
+    ensures { Prints (P.told out.old) (P.told out.new) (codes ";" ++ (object_field object ++ object_field inherited)) }
+{
+    if object.is_none() && inherited.is_none() {
+        return out.put(b";;;");
+    }
+    out.put(b";");
+    print_object(object, out);
+    out.put(b";");
+    print_object(inherited, out);
+    out.put(b";");
 }
 
 fn print_object<P: Print>(object: Option<Uuid>, out: &mut P)

@@ -1,13 +1,12 @@
 // ACLs as SDDL (MS-DTYP 2.5.1.1).
 ghost use Rattle.std.specs.Prelude.{◌≡◌};
 ghost use Rattle.std.specs.List.{flat_map};
-ghost use Rattle.sd_core.specs.Print.{Prints};
+ghost use Rattle.sd_sink.specs.Print.{Prints};
 ghost use Rattle.sd_sddl.specs.Printed.{ace_text, acl_flags_text, acl_text, text_if};
 
 use crate::ace::print_ace;
-use crate::naming::Naming;
 use sd_binary::{AclFlags, AclPart, AclView};
-use sd_core::Print;
+use sd_core::{Naming, Print};
 
 /// Prints an ACL behind its head, `D:` or `S:`; nothing for one that is absent.
 pub fn print_acl<P: Print>(

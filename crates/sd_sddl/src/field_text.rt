@@ -4,7 +4,8 @@ ghost use Rattle.sd_sddl.specs.Held.{Held, no_text, broken_text, held_with, held
 
 use std::marker::Model;
 
-const LIMIT: usize = 183;
+/// The bytes that the text of a field has at most.
+pub const MOST_FIELD_SIZE: usize = 183;
 
 /// A field's text as far as it came. One that can no longer read is not kept.
 #[derive(Drop)]
@@ -35,6 +36,12 @@ impl FieldText {
         }
     }
 
+    pub fn is_empty(&self) -> bool
+        ensures { result ≡ true → self.now ≡ no_text }
+    {
+        self.len == 0 && !self.gap && !self.broken
+    }
+
     pub fn clear(&mut self)
         ensures { self.new ≡ no_text }
     {
@@ -54,7 +61,7 @@ impl FieldText {
     fn push(&mut self, byte: u8)
         ensures { self.new ≡ held_with self.old byte }
     {
-        if self.broken || self.gap || self.len == LIMIT {
+        if self.broken || self.gap || self.len == MOST_FIELD_SIZE {
             self.spoil();
         } else {
             self.bytes[self.len] = byte;
@@ -71,7 +78,7 @@ impl FieldText {
         }
         if self.broken || self.gap {
             self.spoil();
-        } else if LIMIT - self.len < run.len() {
+        } else if MOST_FIELD_SIZE - self.len < run.len() {
             self.spoil();
         } else {
             self.append(run);

@@ -1,7 +1,7 @@
 // The texts of fields that stand in SDDL alone (MS-DTYP 2.5.1.1).
 ghost use Rattle.std.specs.Prelude.{◌≡◌, ◌≤◌, length, List, ℕ, Some, None, IfSome};
 ghost use Rattle.std.specs.Str.{str_eq_ignore_ascii_case};
-ghost use Rattle.sd_core.specs.Ace.{is_object};
+ghost use Rattle.sd_rights.specs.Kinds.{is_object};
 ghost use Rattle.sd_binary.specs.Control.{no_flags};
 ghost use Rattle.sd_sddl.specs.FieldTexts.{after_a, ends_with_null, flags_after, front_reads, kind_reads, object_reads, one_letter, two_letters};
 

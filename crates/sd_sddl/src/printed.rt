@@ -1,18 +1,19 @@
 // Descriptors as SDDL (MS-DTYP 2.5.1).
 ghost use Rattle.std.specs.Prelude.{◌≡◌, ◌≤◌, ◌+◌, ◌*◌, ◌++◌, Bool, length, Ok, Option};
-ghost use Rattle.sd_core.specs.Print.{Prints};
+ghost use Rattle.sd_sink.specs.Print.{Prints};
 ghost use Rattle.sd_core.specs.Sid.{SecurityId};
-ghost use Rattle.sd_core.specs.Sink.{Puts};
+ghost use Rattle.sd_sink.specs.Sink.{Puts};
 ghost use Rattle.std.specs.Option.{option_copied};
 ghost use Rattle.sd_binary.specs.Descriptor.{IsDescriptor};
 ghost use Rattle.sd_binary.specs.Layout.{size};
 ghost use Rattle.sd_sddl.specs.Meaning.{means};
-ghost use Rattle.sd_sddl.specs.Printed.{naming_by, plain, sddl, sid_text_of};
+ghost use Rattle.sd_sddl.specs.Printed.{plain, sddl, sid_text_of};
+ghost use Rattle.sd_core.specs.Naming.{naming_by};
 
 use crate::acl::print_acl;
-use crate::naming::{Naming, print_trustee};
+use crate::trustee::print_trustee;
 use sd_binary::{AclFlags, SdView, Which};
-use sd_core::{Gather, Print, Sid, Sink, SinkFault};
+use sd_core::{Gather, Naming, Print, Sid, Sink, SinkFault};
 
 /// Puts a descriptor as SDDL: owner, group, DACL and SACL, those that stand, without blanks, in at most
 /// eight characters for each byte of its written layout, and 63. SIDs have their aliases, those of the

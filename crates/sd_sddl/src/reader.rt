@@ -1,21 +1,22 @@
 // A line, read a byte at a time.
 ghost use Rattle.std.specs.Prelude.{◌≡◌, ◌≤◌, ◌==◌, ℕ, List, [], ◌∷◌, ◌++◌, length, take, ◌||◌, if◌then◌else◌, true, false, Option, Some, None, Ok, Err, IfOk, IfSome, MatchResult};
+ghost use Rattle.std.specs.List.{list_all};
 ghost use Rattle.std.specs.Option.{option_copied};
 ghost use Rattle.sd_core.specs.Sid.{IsSid, SecurityId};
 ghost use Rattle.sd_binary.specs.Descriptor.{IsDescriptor, Shows};
 ghost use Rattle.sd_binary.specs.Draft.{IsWritten};
-ghost use Rattle.sd_sddl.specs.Held.{IsHeld, no_text, held_text};
+ghost use Rattle.sd_sddl.specs.Held.{IsHeld, is_plain_inside, no_text, held_text};
 ghost use Rattle.sd_sddl.specs.Line.{byte, head_at, head_of as head_named, pieces_from};
 ghost use Rattle.sd_sddl.specs.FoldedReading.{Reading, finished, reads_as, take_field};
-ghost use Rattle.sd_sddl.specs.Meaning.{and_then, means};
+ghost use Rattle.sd_sddl.specs.Meaning.{and_then, is_unreadable, means};
 ghost use Rattle.sd_sddl.specs.Reads.{CanTake, Holds, Takes};
-ghost use Rattle.sd_sddl.specs.Progress.{ended_with, is_inside, is_seen, place_of, result_or, with_head};
+ghost use Rattle.sd_sddl.specs.Progress.{end_of, ended_with, is_inside, is_seen, place_after, place_of, result_or, with_head};
 
 use crate::fault::SddlFault;
-use crate::field_text::FieldText;
+use crate::field_text::{FieldText, MOST_FIELD_SIZE};
 use crate::line::{
-    AceField, Head, Place, Seen, Slot, head_of, is_blank, next_field, place_of, plain_inside,
-    plain_outside,
+    AceField, Head, Place, Seen, Slot, ends_field, head_of, is_blank, next_field, place_after,
+    place_of, plain_in_field, plain_inside, plain_outside,
 };
 use crate::reading::{FieldReader, fault_of};
 use sd_binary::SdBuf;
@@ -313,9 +314,73 @@ impl SddlReader {
         let mut rest = bytes;
         while let Some((byte, after)) = rest.split_first() {
             self.feed(buf, *byte);
-            let count = self.feed_run(after);
-            rest = &after[count..];
+            let fields = self.feed_fields(buf, after);
+            let run = self.feed_run(&after[fields..]);
+            rest = &after[fields + run..];
         }
+    }
+
+    // Takes the fields of an ACE that stand whole at the front of the text, each with the byte that ends it, and says how
+    // many bytes they are.
+    fn feed_fields(&mut self, buf: &mut SdBuf, text: &[u8]) -> usize
+        requires { IsReader self.old buf.old }
+        ensures within { result ≤ length text.now }
+        ensures reader { IsReader self.new buf.new }
+        ensures read { (domain : Option SecurityId) (before : List ℕ) → Reads self.old buf.old domain before
+            → Reads self.new buf.new domain (before ++ take result text.now) }
+    {
+        let mut count = 0;
+        loop {
+            let more = self.feed_field(buf, &text[count..]);
+            if more == 0 {
+                return count;
+            }
+            count += more;
+        }
+    }
+
+    // Takes one such field, which is read where it stands and not copied. 0 where none stands there whole.
+    fn feed_field(&mut self, buf: &mut SdBuf, text: &[u8]) -> usize
+        requires { IsReader self.old buf.old }
+        ensures within { result ≤ length text.now }
+        ensures reader { IsReader self.new buf.new }
+        ensures read { (domain : Option SecurityId) (before : List ℕ) → Reads self.old buf.old domain before
+            → Reads self.new buf.new domain (before ++ take result text.now) }
+    {
+        let Place::Ace(field) = self.place else {
+            return 0;
+        };
+        if !self.sound || !self.field.is_empty() {
+            return 0;
+        }
+        let count = plain_in_field(field, text);
+        if count > MOST_FIELD_SIZE || !ends_field(field, &text[count..]) {
+            return 0;
+        }
+        self.take_field(buf, field, &text[..count]);
+        count + 1
+    }
+
+    // A field of an ACE and the byte that ends it.
+    fn take_field(&mut self, buf: &mut SdBuf, field: AceField, text: &[u8])
+        requires here { self.old.place ≡ Place.Ace field }
+        requires begins { self.old.field ≡ no_text }
+        requires plain { list_all is_plain_inside text.now ≡ true }
+        requires fits { length text.now ≤ 183 }
+        requires held { (t : Reading) × Keeps self.old buf.old t }
+        ensures answers { Steps self.old buf.old (text.now ++ end_of field ∷ []) self.new buf.new }
+        ensures place { self.new.place ≡ place_after field }
+        ensures field { self.new.field ≡ no_text }
+        ensures pending { self.new.pending ≡ self.old.pending }
+    {
+        read_text(
+            &mut self.fault,
+            &mut self.fields,
+            buf,
+            Slot::Ace(field),
+            text,
+        );
+        self.place = place_after(field);
     }
 
     // Takes the bytes at the front that only go onto the field at hand, all at once, and says how many they are.
@@ -452,6 +517,28 @@ fn take_held(
         Err(fault_of(slot))
     } else {
         fields.take_readable(buf, slot, field.text())
+    }
+}
+
+// Reads a field, where each one before it read.
+fn read_text(
+    fault: &mut Option<SddlFault>,
+    fields: &mut FieldReader,
+    buf: &mut SdBuf,
+    slot: Slot,
+    text: &[u8],
+)
+    requires clean { is_unreadable text.now ≡ false }
+    requires held { (t : Reading) × (fault.old ≡ None → Holds fields.old buf.old t × CanTake slot t) }
+    ensures read { (t : Reading) → (fault.old ≡ None → Holds fields.old buf.old t) → (u : Reading) × (fault.new ≡ None → Holds fields.new buf.new u)
+        × (result_or u fault.new ≡ and_then (result_or t fault.old) (λ r. take_field fields.old.domain r slot text.now)) }
+    ensures domain { fields.new.domain ≡ fields.old.domain }
+{
+    if fault.is_some() {
+        return;
+    }
+    if let Err(found) = fields.take_readable(buf, slot, text) {
+        *fault = Some(found);
     }
 }
 

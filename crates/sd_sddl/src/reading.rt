@@ -1,9 +1,9 @@
 // The fields of a line, read one after the other.
-ghost use Rattle.std.specs.Prelude.{◌≡◌, Option};
+ghost use Rattle.std.specs.Prelude.{◌≡◌, Option, false};
 ghost use Rattle.sd_core.specs.Sid.{SecurityId};
 ghost use Rattle.sd_core.specs.SidText.{sid_reads};
-ghost use Rattle.sd_sddl.specs.FoldedReading.{Reading, ace_fault_of, fault_of, no_fields, take_ace_field, take_front, take_readable, with_sid, with_trustee};
-ghost use Rattle.sd_sddl.specs.Meaning.{control_flags};
+ghost use Rattle.sd_sddl.specs.FoldedReading.{Reading, ace_fault_of, fault_of, no_fields, take_ace_field, take_field, take_front, with_sid, with_trustee};
+ghost use Rattle.sd_sddl.specs.Meaning.{control_flags, is_unreadable};
 ghost use Rattle.sd_sddl.specs.FieldTexts.{front_reads};
 
 use crate::fault::SddlFault;
@@ -44,7 +44,8 @@ pub struct FieldReader {
 
 impl FieldReader {
     ghost use Rattle.std.specs.Prelude.{◌≡◌, ◌/◌, ◌%◌, Ok, Err, Some, None, Option};
-    ghost use Rattle.sd_core.specs.Ace.{AccessControlEntry, GuidsFit, is_object};
+    ghost use Rattle.sd_core.specs.Ace.{AccessControlEntry, GuidsFit};
+    ghost use Rattle.sd_rights.specs.Kinds.{is_object};
     ghost use Rattle.sd_binary.specs.Draft.{IsOpen, closed};
     ghost use Rattle.sd_sddl.specs.declared.line.Head.TheVariants as head;
     ghost use Rattle.sd_sddl.specs.FoldedReading.{Reading, begun_or_null, finished, nothing_read, with_flags, with_owner_or_group};
@@ -67,14 +68,16 @@ impl FieldReader {
     }
 
     /// Reads a field whose text has no blank and at most 183 bytes.
+    #[tactic(auto, unfolding(crate::specs::FoldedReading::take_field))]
     pub fn take_readable(
         &mut self,
         buf: &mut SdBuf,
         slot: Slot,
         text: &[u8],
     ) -> Result<(), SddlFault>
-        requires { (t : Reading) × Holds self.old buf.old t × CanTake slot t }
-        ensures read { (t : Reading) → Holds self.old buf.old t → Takes (take_readable self.old.domain t slot text.now) result self.new buf.new }
+        requires clean { is_unreadable text.now ≡ false }
+        requires held { (t : Reading) × Holds self.old buf.old t × CanTake slot t }
+        ensures read { (t : Reading) → Holds self.old buf.old t → Takes (take_field self.old.domain t slot text.now) result self.new buf.new }
         ensures domain { self.new.domain ≡ self.old.domain }
     {
         match slot {

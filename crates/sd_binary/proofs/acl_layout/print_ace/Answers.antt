@@ -1,5 +1,5 @@
 use Rattle.std.proofs.Common.{ℕ, ap, ◌∙◌, take}
-use Rattle.sd_core.proofs.PrintLemmas.{prints_as, prints_then}
+use Rattle.sd_sink.proofs.PrintLemmas.{prints_as, prints_then}
 use Rattle.sd_binary.proofs.acl_layout.print_ace.Goals as goal
 
 pub returns : goal.returns

@@ -1,4 +1,4 @@
-use Rattle.sd_core.proofs.PrintLoops.{Prints-item, moved}
+use Rattle.sd_sink.proofs.PrintLoops.{Prints-item, moved}
 use Rattle.sd_binary.specs.AclLayout.{ace_bytes}
 use Rattle.sd_binary.proofs.acl_layout.print_aces.Goals as goal
 

@@ -1,6 +1,6 @@
 use Rattle.std.proofs.Common.{◌≡◌, ◌++◌}
 use Rattle.std.specs.List.{flat_map}
-use Rattle.sd_core.specs.Print.{Prints}
+use Rattle.sd_sink.specs.Print.{Prints}
 use Rattle.sd_binary.specs.AclLayout.{ace_bytes}
 use Rattle.sd_binary.proofs.acl_layout.print_aces.Given as goal
 

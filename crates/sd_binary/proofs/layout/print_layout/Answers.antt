@@ -1,5 +1,5 @@
 use Rattle.std.proofs.Common.{sym}
-use Rattle.sd_core.proofs.PrintLemmas.{prints_then}
+use Rattle.sd_sink.proofs.PrintLemmas.{prints_then}
 use Rattle.sd_binary.proofs.layout.print_layout.Goals as goal
 
 pub returns-clause-printed : goal.returns-clause-printed

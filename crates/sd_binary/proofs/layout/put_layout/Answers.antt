@@ -1,5 +1,5 @@
 use Rattle.std.proofs.Common.{rules}
-use Rattle.sd_core.proofs.PrintLemmas.{printed}
+use Rattle.sd_sink.proofs.PrintLemmas.{printed}
 use Rattle.sd_binary.proofs.LayoutLaws.{layout-shows, length-layout, size-most}
 use Rattle.sd_binary.proofs.SizeLaws.{size-least}
 use Rattle.sd_binary.proofs.layout.put_layout.Goals as goal

@@ -1,5 +1,6 @@
 use Rattle.std.proofs.Common.{◌≡◌, ◌≤◌, ℕ, ◌+◌, Bool, true, false, cond, List, ◌++◌, length, Option, Some, None, refl, sym, ap, ◌∙◌, append_assoc, length-append, arith}
-use Rattle.sd_core.specs.Ace.{AccessControlEntry, GuidsFit, ace_size, guid_size, is_object}
+use Rattle.sd_core.specs.Ace.{AccessControlEntry, GuidsFit, ace_size, guid_size}
+use Rattle.sd_rights.specs.Kinds.{is_object}
 use Rattle.sd_core.specs.Sid.{sid_bytes, sid_size}
 use Rattle.sd_binary.specs.AclLayout.{ace_front, front_size, guid_part, guids, object_flags}
 use Rattle.sd_binary.proofs.pieces.append_ace.Goals as goal

@@ -2,7 +2,7 @@ use Rattle.std.proofs.Common.{◌≡◌, ◌+◌, ◌<◌, true, false, get_or, 
 use Rattle.std.specs.Prelude.{◌==◌}
 use Rattle.std.specs.Char.{digit_value, is_digit}
 use Rattle.std.proofs.lemmas.Bool.Decides.{nat_tests}
-use Rattle.sd_core.specs.SidText.{number_after}
+use Rattle.sd_rights.specs.Numbers.{number_after}
 use Rattle.sd_core.proofs.Cutting.{cut_start, cut_step, cut_here, cut_end, rest_is}
 use Rattle.sd_core.proofs.UsualNumbers.{all_taken, decimal_is, digit_is, digit_more, reads_is, taken}
 use Rattle.sd_core.proofs.usual_sid.front_number.Goals as goal

@@ -1,5 +1,5 @@
 use Rattle.std.proofs.Common.{◌≡◌, ◌<◌, ◌^◌, take, Some}
-use Rattle.sd_core.specs.SidText.{number_after}
+use Rattle.sd_rights.specs.Numbers.{number_after}
 use Rattle.sd_core.proofs.Cutting.{CutsFrom}
 use Rattle.sd_core.proofs.usual_sid.front_number.Given as goal
 

@@ -1,5 +1,5 @@
 use Rattle.std.proofs.Common.{rules}
-use Rattle.sd_core.proofs.PrintLemmas.{prints_then}
+use Rattle.sd_sink.proofs.PrintLemmas.{prints_then}
 use Rattle.sd_filter.proofs.answer.print_act.Goals as goal
 
 pub returns : goal.returns

@@ -1,6 +1,6 @@
 use Rattle.std.proofs.Common.{◌≡◌, ◌≤◌, ◌-◌, length, take}
 use Rattle.hex.specs.Hex.{encode_lower}
-use Rattle.sd_core.specs.Print.{Prints}
+use Rattle.sd_sink.specs.Print.{Prints}
 use Rattle.sd_filter.proofs.hex_text.print_hex.Given as goal
 
 abbrev pub invariant-loop-at : goal.invariant-loop-at

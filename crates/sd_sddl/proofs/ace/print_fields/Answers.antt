@@ -1,14 +1,12 @@
-use Rattle.std.proofs.Common.{append_assoc}
-use Rattle.sd_core.proofs.PrintLemmas.{prints_then}
-use Rattle.sd_sddl.specs.Printed.{ace_text, flags_field, object_field, rights_field, trustee_field}
+use Rattle.std.proofs.Common.{append_assoc, refl}
+use Rattle.sd_sink.proofs.PrintLemmas.{prints_as, prints_then}
+use Rattle.sd_sddl.specs.Printed.{ace_text, flags_field, rights_field, trustee_field}
 use Rattle.sd_sddl.proofs.ace.print_fields.Goals as goal
 
 pub returns : goal.returns
-unfolding ace_text flags_field rights_field object_field trustee_field
+unfolding ace_text flags_field rights_field trustee_field
 returns g c =
-    simp append_assoc
+    prints_as (simp append_assoc refl)
     (prints_then c.print_kind.ensures (prints_then c.print_flags.ensures (prints_then c.put.ensures
-    (prints_then c.print_rights.ensures (prints_then c.put-2.ensures
-    (prints_then c.print_object.ensures (prints_then c.put-3.ensures
-    (prints_then c.print_object-2.ensures (prints_then c.put-4.ensures
-    (prints_then c.print_trustee.ensures c.put-5.ensures))))))))))
+    (prints_then c.print_rights.ensures (prints_then c.print_objects.ensures
+    (prints_then c.print_trustee.ensures c.put-2.ensures))))))

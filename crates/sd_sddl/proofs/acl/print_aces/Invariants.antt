@@ -1,6 +1,6 @@
 use Rattle.std.proofs.Common.{◌≡◌, ◌++◌}
 use Rattle.std.specs.List.{flat_map}
-use Rattle.sd_core.specs.Print.{Prints}
+use Rattle.sd_sink.specs.Print.{Prints}
 use Rattle.sd_sddl.specs.Printed.{ace_text}
 use Rattle.sd_sddl.proofs.acl.print_aces.Given as goal
 

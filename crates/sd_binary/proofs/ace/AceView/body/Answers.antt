@@ -2,7 +2,8 @@ use Rattle.std.proofs.Common.{◌≡◌, ◌≤◌, ◌/◌, ◌%◌, ◌+◌, �
 use Rattle.std.proofs.lemmas.List.{drop-drop, get_or-drop, length-take-le, take-append-drop, take_at}
 use Rattle.uuid.specs.Parts.{swap_fields}
 use Rattle.uuid.proofs.RoundTrips.{swap_twice}
-use Rattle.sd_core.specs.Ace.{AccessControlEntry, ace_size, guid_size, is_object}
+use Rattle.sd_core.specs.Ace.{AccessControlEntry, ace_size, guid_size}
+use Rattle.sd_rights.specs.Kinds.{is_object}
 use Rattle.sd_core.specs.Sid.{SecurityId, BeginsWithSid, sid_bytes, sid_of}
 use Rattle.sd_binary.specs.Ace.{announces_inherited, announces_object}
 use Rattle.sd_binary.specs.AclLayout.{ace_body, guid_part, guids, front_size}

@@ -1,5 +1,6 @@
 use Rattle.std.proofs.Common.{◌≡◌, ◌<◌, ◌+◌, ◌||◌, Bool, length, refl, sym, ap, ◌∙◌, arith}
-use Rattle.sd_core.specs.Ace.{ace_size, is_object}
+use Rattle.sd_core.specs.Ace.{ace_size}
+use Rattle.sd_rights.specs.Kinds.{is_object}
 use Rattle.sd_binary.specs.Draft.{open_size}
 use Rattle.sd_binary.proofs.Building.{ace-builds, is-open, open-roomy, open-size}
 use Rattle.sd_binary.proofs.InOrder.{ace-in-order, in-order-builds}

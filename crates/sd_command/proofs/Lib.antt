@@ -1,0 +1,3 @@
+pub mod GivenLemmas
+pub mod ParseLemmas
+mod Rows

@@ -1,0 +1,45 @@
+-- The command line is one of which `clap` says all, and what its refusals say of the words.
+use Rattle.std.proofs.Common.{◌≡◌, inl, inr, [], ◌∷◌, true, false, refl, sym, ◌∙◌, ap, subst, Bool, ◌||◌}
+use Rattle.std.specs.List.{list_any}
+use Rattle.clap.specs.Words.{is_simple, is_simple_and_free, Kinds, IsAmong, HasKind, kind_of}
+use Rattle.clap.proofs.OnLiterals.{clap_on_literals}
+use Rattle.clap.specs.declared.error.Error.{Error}
+use Rattle.clap.specs.declared.error.ErrorKind.{ErrorKind}
+use Rattle.clap.specs.declared.error.ErrorKind.TheVariants as kind
+use Rattle.sd_command.specs.CommandLine.{line, bare_line, convert_line}
+use Rattle.sd_command.specs.Refusing.{RefusedBy, RefusedFor, is_mistake}
+use Rattle.sd_command.specs.declared.parse.Refusal.{Refusal}
+use Rattle.sd_command.specs.declared.parse.Refusal.TheVariants.{NoMemory, Usage, Help}
+
+-- its matches are known from the words
+pub line-simple : is_simple line ≡ true
+unfolding line bare_line convert_line clap_on_literals
+line-simple = refl
+
+-- and so are its faults
+pub line-free : is_simple_and_free line ≡ true
+unfolding line bare_line convert_line clap_on_literals
+line-free = refl
+
+-- either of two is enough
+or-right : (a b : Bool) → b ≡ true → (a || b) ≡ true
+or-right true b e = refl
+or-right false b e = e
+
+or-left : (a b : Bool) → a ≡ true → (a || b) ≡ true
+or-left true b e = refl
+or-left false b e = cc
+
+-- a mistake among the kinds
+among-mistake : (kinds : Kinds) (k : ErrorKind) → IsAmong k kinds → is_mistake k ≡ true → list_any is_mistake kinds ≡ true
+among-mistake [] k h e = absurd h
+among-mistake (x ∷ xs) k (inl same) e = or-left (is_mistake x) _ (ap is_mistake (sym same) ∙ e)
+among-mistake (x ∷ xs) k (inr h) e = or-right (is_mistake x) _ (among-mistake xs k h e)
+
+-- what an error is taken for is what the kinds allow
+pub refused-by : (kinds : Kinds) (e : Error) (r : Refusal) → HasKind kinds e → RefusedFor e r → RefusedBy kinds r
+refused-by kinds e NoMemory h w = tt
+refused-by kinds e Usage (inl memory) w = let bad : false ≡ true = ap is_mistake (sym memory) ∙ w in cc
+refused-by kinds e Usage (inr h) w = among-mistake kinds (kind_of e) h w
+refused-by kinds e (Help text) (inl memory) w = let bad : kind.OutOfMemory ≡ kind.DisplayHelp = sym memory ∙ w in cc
+refused-by kinds e (Help text) (inr h) w = subst (λ (k : ErrorKind). IsAmong k kinds) w h

@@ -1,0 +1,11 @@
+use Rattle.std.proofs.Common.{ap, ap₂, ◌∙◌}
+use Rattle.std.proofs.lemmas.Result.{IfOk-weaker}
+use Rattle.clap.specs.Words.{App, with_subcommand}
+use Rattle.sd_command.specs.CommandLine.{line}
+use Rattle.sd_command.proofs.command_line.command_line.Goals as goal
+
+pub returns : goal.returns
+unfolding line
+returns c =
+    IfOk-weaker c.subcommand.result _ _ (λ r h. h.shape c.in_ok-convert_command.ensures.local
+    ∙ ap₂ with_subcommand c.bare_line.ensures.app (ap (λ (a : App). a.top) c.in_ok-convert_command.ensures.line)) c.subcommand.ensures

@@ -1,0 +1,4 @@
+pub mod CommandLine
+pub mod Refusing
+pub mod Settings
+pub mod Usage

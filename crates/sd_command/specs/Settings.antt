@@ -1,0 +1,96 @@
+-- What the matches of a command line settle.
+use Rattle.std.specs.Prelude.{◌≡◌, Bool, false, nat_lt, length, List, Option, Some, None, Result, Ok, Err, codes, if◌then◌else◌, option_map}
+use Rattle.std.specs.Str.{bytes_eq}
+use Rattle.clap.specs.Words.{Row, Text, first_of, subcommand_of}
+use Rattle.sd_core.specs.Sid.{SecurityId}
+use Rattle.sd_core.specs.SidText.{sid_reads}
+use Rattle.sd_core.specs.declared.sid_text.SidFault.{SidFault}
+use Rattle.sd_command.specs.CommandLine.{line}
+use Rattle.sd_command.specs.declared.job.Form.{Form}
+use Rattle.sd_command.specs.declared.job.Form.TheVariants.{Hex, Sddl}
+use Rattle.sd_command.specs.declared.job.Act.TheVariants.{Convert}
+use Rattle.sd_command.specs.declared.job.Job.{Job}
+use Rattle.sd_command.specs.declared.settings.OptionName.{OptionName}
+use Rattle.sd_command.specs.declared.settings.OptionName.TheVariants as name
+use Rattle.sd_command.specs.declared.settings.UsageFault.{UsageFault}
+use Rattle.sd_command.specs.declared.settings.UsageFault.TheVariants.{NoCommand, Value}
+
+abbrev pub option_text : OptionName → Text
+option_text name.Domain = codes "domain"
+option_text name.From = codes "from"
+option_text name.To = codes "to"
+
+abbrev pub form_reads : Text → Option Form
+form_reads text =
+    if bytes_eq text (codes "hex") then Some Hex
+    else if bytes_eq text (codes "sddl") then Some Sddl
+    else None
+
+abbrev pub with_room : Result SecurityId SidFault → Option SecurityId
+with_room (Err fault) = None
+with_room (Ok domain) = if nat_lt (length domain.subs) 15 then Some domain else None
+
+-- a SID that has room for one more sub-authority, read without a domain
+unfoldable pub domain_reads : Text → Option SecurityId
+domain_reads text = with_room (sid_reads text None)
+
+-- the value of an option, or what stands where it is left out
+abbrev pub value_or : {A : Type 0} → A → (Text → Option A) → Option Text → Option A
+value_or default reads None = Some default
+value_or default reads (Some text) = reads text
+
+-- the value of an option that may be left out
+abbrev pub value_if : {A : Type 0} → (Text → Option A) → Option Text → Option (Option A)
+value_if reads None = Some None
+value_if reads (Some text) = option_map (λ value. Some value) (reads text)
+
+-- the value, or the fault of an option whose value does not read
+abbrev pub given : {A : Type 0} → OptionName → Option A → Result A UsageFault
+given option None = Err (Value option)
+given option (Some value) = Ok value
+
+-- the same for a reader that is known by what it may answer to a text: private contracts alone cite it
+abbrev pub GivenBy :
+    {A : Type 0} → (Text → Option A → Type 0) → OptionName → Option Text → Result (Option A) UsageFault → Type 0
+GivenBy reads option None result = result ≡ Ok None
+GivenBy reads option (Some text) result = (value : _) × (reads text value) × (result ≡ given option (option_map (λ v. Some v) value))
+
+unfoldable pub given_domain : List Row → Result (Option SecurityId) UsageFault
+given_domain rows = given name.Domain (value_if domain_reads (first_of (codes "domain") rows))
+
+-- hex where the option is left out
+unfoldable pub given_source : List Row → Result Form UsageFault
+given_source rows = given name.From (value_or Hex form_reads (first_of (codes "from") rows))
+
+-- SDDL where the option is left out
+unfoldable pub given_target : List Row → Result Form UsageFault
+given_target rows = given name.To (value_or Sddl form_reads (first_of (codes "to") rows))
+
+-- a flag's text is `true` where it is given
+abbrev pub is_true : Option Text → Bool
+is_true None = false
+is_true (Some text) = bytes_eq text (codes "true")
+
+unfoldable pub is_set : Text → List Row → Bool
+is_set flag rows = is_true (first_of flag rows)
+
+abbrev pub and_then : {A B : Type 0} → Result A UsageFault → (A → Result B UsageFault) → Result B UsageFault
+and_then (Err fault) next = Err fault
+and_then (Ok value) next = next value
+
+-- the first option that does not read, or the job
+unfoldable pub convert_settings : List Row → Result Job UsageFault
+convert_settings rows =
+    and_then (given_domain rows) (λ domain.
+    and_then (given_source rows) (λ source.
+    and_then (given_target rows) (λ target.
+    Ok (record { source = source; act = Convert target; domain = domain; numeric = is_set (codes "numeric") rows }))))
+
+-- a command's name and its matches
+abbrev pub settings : Option (Text × List Row) → Result Job UsageFault
+settings None = Err NoCommand
+settings (Some matches) = convert_settings matches.1
+
+-- what words settle that the command line takes
+unfoldable pub settings_of : List Text → Result Job UsageFault
+settings_of words = settings (subcommand_of line words)

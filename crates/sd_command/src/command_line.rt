@@ -1,0 +1,87 @@
+// The command line: its commands and their options.
+ghost use Rattle.std.specs.Prelude.{◌≡◌, IfOk, false};
+ghost use Rattle.clap.specs.Words.{app_of, rule_of, with_rule};
+ghost use Rattle.clap.specs.declared.Command.TheViews.{out-Command};
+ghost use Rattle.sd_command.specs.CommandLine.{bare_line, convert_line, flag_rule, line, option_rule};
+
+use clap::{Arg, ArgAction, Command};
+use std::alloc::{AllocError, Global};
+
+/// The command line of the program.
+pub fn command_line<'a>(alloc: Global) -> Result<Command<'a>, AllocError>
+    ensures { IfOk result (λ c. app_of c ≡ line) }
+{
+    bare_line(alloc).subcommand(convert_command(alloc)?)
+}
+
+fn bare_line<'a>(alloc: Global) -> Command<'a>
+    ensures app { app_of result ≡ bare_line }
+    ensures local { (out-Command result).has_globals ≡ false }
+{
+    Command::new(alloc, "sdtool")
+        .about("Work on Windows security descriptors, one a line")
+        .subcommand_required(true)
+}
+
+fn convert_command<'a>(alloc: Global) -> Result<Command<'a>, AllocError>
+    ensures line { IfOk result (λ c. app_of c ≡ convert_line) }
+    ensures local { IfOk result (λ c. (out-Command c).has_globals ≡ false) }
+{
+    let command = Command::new(alloc, "convert").about("Print each descriptor in a canonical form");
+    let command = with_arg(
+        command,
+        option(
+            alloc,
+            "from",
+            "The form of the lines: hex, the default, or sddl",
+        ),
+    )?;
+    let command = with_arg(
+        command,
+        option(
+            alloc,
+            "to",
+            "The form of the answers: sddl, the default, or hex",
+        ),
+    )?;
+    let command = with_arg(
+        command,
+        option(
+            alloc,
+            "domain",
+            "The SID of the domain whose aliases are read and printed",
+        ),
+    )?;
+    with_arg(
+        command,
+        flag(alloc, "numeric", "Print SIDs without aliases"),
+    )
+}
+
+fn with_arg<'a>(command: Command<'a>, arg: Arg<'a>) -> Result<Command<'a>, AllocError>
+    requires local { arg.global ≡ false }
+    ensures app { IfOk result (λ c. app_of c ≡ with_rule (app_of command.entry) (rule_of arg.entry)) }
+    ensures local { (out-Command command.entry).has_globals ≡ false → IfOk result (λ c. (out-Command c).has_globals ≡ false) }
+{
+    command.arg(arg)
+}
+
+fn option<'a>(alloc: Global, name: &'a str, help: &'a str) -> Arg<'a>
+    ensures rule { rule_of result ≡ option_rule name.entry.now }
+    ensures local { result.global ≡ false }
+{
+    Arg::new(alloc, name)
+        .long(name)
+        .action(ArgAction::Set)
+        .help(help)
+}
+
+fn flag<'a>(alloc: Global, name: &'a str, help: &'a str) -> Arg<'a>
+    ensures rule { rule_of result ≡ flag_rule name.entry.now }
+    ensures local { result.global ≡ false }
+{
+    Arg::new(alloc, name)
+        .long(name)
+        .action(ArgAction::SetTrue)
+        .help(help)
+}

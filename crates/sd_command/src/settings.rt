@@ -1,0 +1,168 @@
+// What the matches of a command line settle.
+ghost use Rattle.std.specs.Prelude.{◌≡◌, IfOk, option_map};
+ghost use Rattle.clap.specs.Words.{first_of, found_of, rows_of, subcommand_rows_of};
+ghost use Rattle.sd_command.specs.Usage.{usage_line};
+ghost use Rattle.std.specs.Fn.{FnOnceReturnsAt};
+ghost use Rattle.sd_command.specs.Settings as specs;
+ghost use Rattle.sd_command.specs.Settings.{option_text};
+
+use crate::job::{Act, Form, Job};
+use clap::ArgMatches;
+use sd_core::Sid;
+
+/// The options whose values are read.
+#[derive(Clone, Copy, Debug, PartialEq, Eq)]
+pub enum OptionName {
+    Domain,
+    From,
+    To,
+}
+
+impl OptionName {
+    // The word that names it, behind two dashes.
+    fn text(self) -> &'static str
+        ensures { result.now ≡ option_text self }
+    {
+        match self {
+            OptionName::Domain => "domain",
+            OptionName::From => "from",
+            OptionName::To => "to",
+        }
+    }
+}
+
+/// Words that the command line takes and that settle no job.
+#[derive(Clone, Copy, Debug, PartialEq, Eq)]
+pub enum UsageFault {
+    /// No command is named.
+    NoCommand,
+    /// The value of an option does not read.
+    Value(OptionName),
+}
+
+impl UsageFault {
+    /// What the fault stream gets.
+    pub fn line(self) -> &'static str
+        ensures { result.now ≡ usage_line self }
+    {
+        match self {
+            UsageFault::NoCommand => "sdtool: usage\n",
+            UsageFault::Value(OptionName::Domain) => "sdtool: usage: --domain\n",
+            UsageFault::Value(OptionName::From) => "sdtool: usage: --from\n",
+            UsageFault::Value(OptionName::To) => "sdtool: usage: --to\n",
+        }
+    }
+}
+
+/// The first option that does not read, or the job.
+pub fn settle(matches: &ArgMatches<'_>) -> Result<Job, UsageFault>
+    ensures { result ≡ specs.settings (subcommand_rows_of matches.now) }
+{
+    match matches.subcommand() {
+        Some((_, convert)) => convert_settings(convert),
+        None => Err(UsageFault::NoCommand),
+    }
+}
+
+fn convert_settings(matches: &ArgMatches<'_>) -> Result<Job, UsageFault>
+    ensures { result ≡ specs.convert_settings (rows_of (found_of matches.now)) }
+{
+    let domain = given_domain(matches)?;
+    let source = given_source(matches)?;
+    let target = given_target(matches)?;
+    let numeric = is_set(matches, "numeric");
+    Ok(Job {
+        source,
+        act: Act::Convert(target),
+        domain,
+        numeric,
+    })
+}
+
+// What an option's text reads as. None where the option is left out.
+fn value_of<T, R: FnOnce(&str) -> Option<T>>(
+    matches: &ArgMatches<'_>,
+    option: OptionName,
+    read: R,
+) -> Result<Option<T>, UsageFault>
+    requires { R.IsAlwaysCallable read }
+    ensures { specs.GivenBy (λ text value. FnOnceReturnsAt R.FnOnce read text value) option
+        (first_of (option_text option) (rows_of (found_of matches.now))) result }
+{
+    match text_of(matches, option.text()) {
+        Some(text) => match read(text) {
+            Some(value) => Ok(Some(value)),
+            None => Err(UsageFault::Value(option)),
+        },
+        None => Ok(None),
+    }
+}
+
+fn given_domain(matches: &ArgMatches<'_>) -> Result<Option<Sid>, UsageFault>
+    ensures { result ≡ specs.given_domain (rows_of (found_of matches.now)) }
+{
+    value_of(matches, OptionName::Domain, domain_from_text)
+}
+
+// A SID with room for one more sub-authority, read without a domain.
+#[tactic(auto, unfolding(crate::specs::Settings::domain_reads))]
+fn domain_from_text(text: &str) -> Option<Sid>
+    ensures { result ≡ specs.domain_reads text.now }
+{
+    match Sid::from_text(text.as_bytes(), None) {
+        Ok(domain) => {
+            if domain.subs().len() < 15 {
+                Some(domain)
+            } else {
+                None
+            }
+        }
+        Err(_) => None,
+    }
+}
+
+// Hex where the option is left out.
+fn given_source(matches: &ArgMatches<'_>) -> Result<Form, UsageFault>
+    ensures { result ≡ specs.given_source (rows_of (found_of matches.now)) }
+{
+    let form = value_of(matches, OptionName::From, form_from_text)?;
+    Ok(form.unwrap_or(Form::Hex))
+}
+
+// SDDL where the option is left out.
+fn given_target(matches: &ArgMatches<'_>) -> Result<Form, UsageFault>
+    ensures { result ≡ specs.given_target (rows_of (found_of matches.now)) }
+{
+    let form = value_of(matches, OptionName::To, form_from_text)?;
+    Ok(form.unwrap_or(Form::Sddl))
+}
+
+fn form_from_text(text: &str) -> Option<Form>
+    ensures { result ≡ specs.form_reads text.now }
+{
+    if text == "hex" {
+        return Some(Form::Hex);
+    }
+    if text == "sddl" {
+        return Some(Form::Sddl);
+    }
+    None
+}
+
+// A flag's text is `true` where it is given, and else `false`.
+#[tactic(auto, unfolding(crate::specs::Settings::is_set))]
+fn is_set(matches: &ArgMatches<'_>, id: &str) -> bool
+    ensures { result ≡ specs.is_set id.now (rows_of (found_of matches.now)) }
+{
+    match text_of(matches, id) {
+        Some(text) => text == "true",
+        None => false,
+    }
+}
+
+// The text of an option.
+fn text_of<'a>(matches: &ArgMatches<'a>, id: &str) -> Option<&'a str>
+    ensures { option_map (λ s. s.now) result ≡ first_of id.now (rows_of (found_of matches.now)) }
+{
+    matches.get_str(id)
+}

@@ -1,0 +1,3 @@
+-- Descriptors explained.
+pub mod Numbered
+pub mod SizeLaws

@@ -1,0 +1,5 @@
+use Rattle.sd_sink.proofs.PrintLemmas.{prints_then}
+use Rattle.sd_explain.proofs.sid.print_alias.Goals as goal
+
+pub returns-in-Some : goal.returns-in-Some
+returns-in-Some g c = rw c.in-Some.is (prints_then c.put.ensures c.put-in-Some.ensures)

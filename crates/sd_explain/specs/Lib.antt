@@ -1,0 +1,2 @@
+-- Descriptors explained.
+pub mod Explain

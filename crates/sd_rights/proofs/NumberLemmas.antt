@@ -1,0 +1,50 @@
+-- The numbers that digits write.
+use Rattle.std.proofs.Common.{◌≡◌, ℕ, ◌+◌, ◌*◌, ◌^◌, ◌<◌, ◌≤◌, length, Bool, true, false, List, [], ◌∷◌, Option, Some, None, refl, arith, lt-ltb}
+use Rattle.std.specs.Prelude.{nat_lt, ◌&&◌, if◌then◌else◌}
+use Rattle.std.specs.Option.{option_and_then}
+use Rattle.std.specs.Char.{digit_value, is_digit}
+use Rattle.std.specs.List.{list_all}
+use Rattle.std.specs.Str.Parse.{digits_value_after}
+use Rattle.std.proofs.Math.Nat.{mul-le-mul_left}
+use Rattle.std.proofs.lemmas.Bool.Decides.{nat_tests}
+use Rattle.sd_rights.specs.Rights.{number}
+use Rattle.sd_rights.specs.Numbers.{number_after, number as number_below}
+
+-- 1. A number that grew too large stays too large.
+
+abbrev below : ℕ → ℕ → Option ℕ
+below limit n = if nat_lt n limit then Some n else None
+
+not_below : (limit n : ℕ) → limit ≤ n → nat_lt n limit ≡ false
+not_below limit n h = grind (arith, nat_tests)
+
+grows : (base n d limit : ℕ) → 1 ≤ base → limit ≤ n → limit ≤ n * base + d
+grows base n d limit b h = omega (arith, mul-le-mul_left n b)
+
+pub too_big : (base limit n : ℕ) (bs : List ℕ) → 1 ≤ base → limit ≤ n → option_and_then (λ m. if nat_lt m limit then Some m else None) (number_after base n bs) ≡ None
+too_big base limit n [] b h = rw (not_below limit n h) refl
+too_big base limit n (c ∷ cs) b h = by_digit (is_digit c base) (too_big base limit (n * base + digit_value c) cs b (grows base n (digit_value c) limit b h))
+  where
+    by_digit : (x : Bool) → option_and_then (λ m. if nat_lt m limit then Some m else None) (number_after base (n * base + digit_value c) cs) ≡ None
+        → option_and_then (λ m. if nat_lt m limit then Some m else None) (if x then number_after base (n * base + digit_value c) cs else None) ≡ None
+    by_digit true e = e
+    by_digit false e = refl
+
+-- 2. One digit or more write the same number in a SID and in rights.
+
+after_is : (base n : ℕ) (text : List ℕ) → number_after base n text ≡ (if list_all (λ c. is_digit c base) text then Some (digits_value_after base n text) else None)
+after_is base n [] = refl
+after_is base n (c ∷ cs) = by_digit (is_digit c base) (after_is base (n * base + digit_value c) cs)
+  where
+    by_digit : (x : Bool) → number_after base (n * base + digit_value c) cs ≡ (if list_all (λ b. is_digit b base) cs then Some (digits_value_after base (n * base + digit_value c) cs) else None)
+        → (if x then number_after base (n * base + digit_value c) cs else None) ≡ (if x && list_all (λ b. is_digit b base) cs then Some (digits_value_after base (n * base + digit_value c) cs) else None)
+    by_digit true e = e
+    by_digit false e = refl
+
+tested : (a : Bool) (n : ℕ) → option_and_then (below (2 ^ 32)) (if a then Some n else None) ≡ (if a && nat_lt n (2 ^ 32) then Some n else None)
+tested true n = refl
+tested false n = refl
+
+pub number_is : (base : ℕ) (text : List ℕ) → 0 < length text → number_below base (2 ^ 32) text ≡ number base text
+number_is base text some =
+    rw (after_is base 0 text, lt-ltb 0 (length text) some) (tested (list_all (λ b. is_digit b base) text) (digits_value_after base 0 text))

@@ -1,0 +1,8 @@
+use Rattle.sd_rights.proofs.RightsLaws.{rights_read_back, rights_text-length}
+use Rattle.sd_rights.proofs.rights.put_rights.Goals as goal
+
+pub returns-clause-back : goal.returns-clause-back
+returns-clause-back g c = rights_read_back c.args.kind c.args.mask c.ranges.mask.fits
+
+pub returns-clause-short : goal.returns-clause-short
+returns-clause-short g c = rights_text-length c.args.kind c.args.mask c.ranges.mask.fits

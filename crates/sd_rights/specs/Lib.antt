@@ -1,0 +1,5 @@
+pub mod Flags
+pub mod Kinds
+pub mod Names
+pub mod Numbers
+pub mod Rights

@@ -1,0 +1,80 @@
+ghost use Rattle.std.specs.Prelude.{◌≡◌, ◌≤◌, ◌/◌, ◌%◌, length, IfSome, Some};
+ghost use Rattle.sd_rights.specs.Flags.{flags_reads, flags_text};
+ghost use Rattle.sd_sink.specs.Print.{Prints};
+ghost use Rattle.sd_sink.specs.Sink.{Puts};
+
+use crate::names::{LONGEST, NamedBits, print_names, read_names};
+use sd_sink::{Print, Printer, Sink, SinkFault};
+
+/// The flags of an ACE (MS-DTYP 2.4.4.1 and 2.5.1.1), in the order in which they are printed.
+pub const FLAGS: [NamedBits; 7] = [
+    NamedBits {
+        first: b'O',
+        second: b'I',
+        bits: 0x1,
+    },
+    NamedBits {
+        first: b'C',
+        second: b'I',
+        bits: 0x2,
+    },
+    NamedBits {
+        first: b'N',
+        second: b'P',
+        bits: 0x4,
+    },
+    NamedBits {
+        first: b'I',
+        second: b'O',
+        bits: 0x8,
+    },
+    NamedBits {
+        first: b'I',
+        second: b'D',
+        bits: 0x10,
+    },
+    NamedBits {
+        first: b'S',
+        second: b'A',
+        bits: 0x40,
+    },
+    NamedBits {
+        first: b'F',
+        second: b'A',
+        bits: 0x80,
+    },
+];
+
+/// Puts the names of an ACE's flags. Bit 0x20 has no name.
+pub fn put_flags<S: Sink>(flags: u8, sink: &mut S) -> Result<(), SinkFault>
+    ensures put { Puts (S.told sink.old) (S.told sink.new) (flags_text flags) result }
+    // The text reads as the flags.
+    ensures back { flags / 0x20 % 2 ≡ 0 → flags_reads (flags_text flags) ≡ Some flags }
+    ensures short { length (flags_text flags) ≤ 14 }
+{
+    let mut out = Printer::new(sink);
+    print_flags(flags, &mut out);
+    out.finish()
+}
+
+/// Prints the names of an ACE's flags. Bit 0x20 has no name.
+pub fn print_flags<P: Print>(flags: u8, out: &mut P)
+    ensures { Prints (P.told out.old) (P.told out.new) (flags_text flags) }
+{
+    print_names(&FLAGS, u32::from(flags), out);
+}
+
+/// The flags of a text of at most 183 bytes (MS-DTYP 2.5.1.1): names of two letters, in either case and any
+/// order, also repeated. None for any other text.
+#[tactic(auto, unfolding(crate::specs::Flags::flags_reads))]
+pub fn flags_from_text(text: &[u8]) -> Option<u8>
+    ensures exact { result ≡ flags_reads text.now }
+    // No name has bit 0x20, which no ACE has.
+    ensures clear { IfSome result (λ flags. flags / 0x20 % 2 ≡ 0) }
+{
+    if text.len() > LONGEST {
+        return None;
+    }
+    let flags = read_names(&[&FLAGS], text)?;
+    Some(flags as u8)
+}

@@ -1,0 +1,19 @@
+//! The kinds of access control entries, their flags and their access rights: tables, codes and texts; and the
+//! texts of numbers.
+#![tactic(auto)]
+
+mod digits;
+mod flags;
+mod kinds;
+mod names;
+mod numbers;
+mod rights;
+mod rights_reading;
+mod rights_table;
+
+pub use digits::{print_decimal, print_hex, write_decimal, write_hex};
+pub use flags::{flags_from_text, print_flags, put_flags};
+pub use kinds::AceKind;
+pub use numbers::read_number;
+pub use rights::{print_rights, put_rights};
+pub use rights_reading::rights_from_text;

@@ -1,0 +1,98 @@
+ghost use Rattle.std.specs.Prelude.{◌≡◌, ◌≤◌, ◌<◌, ◌==◌, drop, false, length, Some};
+ghost use Rattle.std.specs.Fmt.{digits};
+ghost use Rattle.std.specs.List.{find};
+ghost use Rattle.sd_sink.specs.Print.{Prints};
+ghost use Rattle.sd_rights.specs.Rights.{hex_text, is_label, names_or_hex, rights_reads, rights_text};
+ghost use Rattle.sd_sink.specs.Sink.{Puts};
+ghost use Rattle.sd_rights.specs.declared.rights_table.TheConstants.{COMPOUNDS};
+
+use crate::digits::hex_digit;
+use crate::kinds::AceKind;
+use crate::names::{NamedBits, named_bits, print_names};
+use crate::rights_table::{COMPOUNDS, LABELS, SINGLES};
+use sd_sink::{Print, Printer, Sink, SinkFault};
+
+/// `0x` and the eight digits of the largest mask.
+const HEX_SIZE: usize = 10;
+
+/// Puts the text of an access mask (MS-DTYP 2.5.1.1): names where the mask is made of bits that have
+/// names in an ACE of this kind, and hex digits elsewhere.
+pub fn put_rights<S: Sink>(kind: AceKind, mask: u32, sink: &mut S) -> Result<(), SinkFault>
+    ensures put { Puts (S.told sink.old) (S.told sink.new) (rights_text kind mask) result }
+    // The text reads as the mask.
+    ensures back { rights_reads (rights_text kind mask) ≡ Some mask }
+    ensures short { length (rights_text kind mask) ≤ 34 }
+{
+    let mut out = Printer::new(sink);
+    print_rights(kind, mask, &mut out);
+    out.finish()
+}
+
+/// Prints the text of an access mask, as `put_rights` puts it.
+#[tactic(auto, unfolding(crate::specs::Rights::rights_text))]
+pub fn print_rights<P: Print>(kind: AceKind, mask: u32, out: &mut P)
+    ensures { Prints (P.told out.old) (P.told out.new) (rights_text kind mask) }
+{
+    if mask == 0 {
+        return print_hex(mask, out);
+    }
+    if is_label(kind) {
+        return print_names_or_hex(&LABELS, mask, out);
+    }
+    match whole_name(mask) {
+        Some(name) => out.put(&[name.first, name.second]),
+        None => print_names_or_hex(&SINGLES, mask, out),
+    }
+}
+
+fn is_label(kind: AceKind) -> bool
+    ensures { result ≡ is_label kind }
+{
+    matches!(kind, AceKind::Label)
+}
+
+// The name of exactly these bits. KR and KX name the same, and KR comes first.
+fn whole_name(mask: u32) -> Option<NamedBits>
+    ensures { result ≡ find (λ e. e.bits == mask) COMPOUNDS }
+{
+    COMPOUNDS.iter().copied().find(|name| name.bits == mask)
+}
+
+fn print_names_or_hex<P: Print>(table: &[NamedBits], mask: u32, out: &mut P)
+    requires fits { length table.now ≤ 17 }
+    ensures put { Prints (P.told out.old) (P.told out.new) (names_or_hex table.now mask) }
+{
+    if named_bits(table, mask) == mask {
+        print_names(table, mask, out);
+    } else {
+        print_hex(mask, out);
+    }
+}
+
+fn print_hex<P: Print>(mask: u32, out: &mut P)
+    ensures { Prints (P.told out.old) (P.told out.new) (hex_text mask) }
+{
+    let mut buffer = [0; HEX_SIZE];
+    let start = write_digits(mask, &mut buffer);
+    buffer[start - 1] = b'x';
+    buffer[start - 2] = b'0';
+    out.put(&buffer[start - 2..]);
+}
+
+// Writes the hex digits to the end of the buffer, and answers where they start.
+fn write_digits(mask: u32, buffer: &mut [u8; HEX_SIZE]) -> usize
+    ensures low { 2 ≤ result }
+    ensures high { result ≤ 10 }
+    ensures digits { drop result buffer.new ≡ digits 16 false mask }
+{
+    let mut start = HEX_SIZE;
+    let mut rest = mask;
+    while rest >= 16 {
+        start -= 1;
+        buffer[start] = hex_digit((rest % 16) as u8);
+        rest /= 16;
+    }
+    start -= 1;
+    buffer[start] = hex_digit(rest as u8);
+    start
+}

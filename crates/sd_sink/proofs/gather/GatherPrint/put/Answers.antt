@@ -1,0 +1,5 @@
+use Rattle.sd_sink.proofs.PrintLemmas.{prints_then}
+use Rattle.sd_sink.proofs.gather.GatherPrint.put.Goals as goal
+
+pub returns-then-not-self : goal.returns-then-not-self
+returns-then-not-self g c = prints_then c.hand_down.ensures.prints c.pass.ensures

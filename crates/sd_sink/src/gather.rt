@@ -1,0 +1,69 @@
+ghost use Rattle.std.specs.Prelude.{◌≡◌, ◌+◌, ◌≤◌, ◌++◌, List, ℕ, [], length, take, true, false};
+ghost use Rattle.sd_sink.specs.Print.{PrintTold, Prints, Begins};
+
+use crate::held::Held;
+use crate::print::Print;
+use crate::sink::{Sink, SinkFault};
+
+/// A printer that gathers small texts, and hands them down when it is full and when it finishes.
+#[derive(Drop)]
+pub struct Gather<'a, S: Sink> {
+    pub sink: &'a mut S,
+    pub held: Held,
+    pub failed: bool,
+}
+
+impl<'a, S: Sink> Gather<'a, S> {
+    pub fn new(sink: &'a mut S) -> Gather<'a, S>
+        ensures same_reference { result.sink.ghost_name ≡ sink.entry.ghost_name }
+        ensures same_sink { result.sink.now ≡ sink.old }
+        ensures begins { Begins (S.told sink.old) (⟦<Gather<'a, S> as Print>⟧.told result) }
+    {
+        Gather {
+            sink,
+            held: Held::new(),
+            failed: false,
+        }
+    }
+
+    // Hands down what is held.
+    fn hand_down(&mut self)
+        ensures prints { Prints (⟦<Gather<'a, S> as Print>⟧.told self.old) (⟦<Gather<'a, S> as Print>⟧.told self.new) [] }
+        ensures empty { self.new.failed ≡ false → self.new.held ≡ [] }
+    {
+        if !self.failed {
+            self.failed = self.sink.put(self.held.as_slice()).is_err();
+            self.held.clear();
+        }
+    }
+
+    // Hands down a text, where nothing is held.
+    fn pass(&mut self, text: &[u8])
+        requires { self.old.held ≡ [] }
+        ensures { Prints (⟦<Gather<'a, S> as Print>⟧.told self.old) (⟦<Gather<'a, S> as Print>⟧.told self.new) text.now }
+    {
+        if !self.failed {
+            self.failed = self.sink.put(text).is_err();
+        }
+    }
+}
+
+impl<'a, S: Sink> Print for Gather<'a, S> {
+    ghost told = { λ s. record { place = s.sink.ghost_name; failed = s.failed; below = S.told s.sink.now; held = s.held } };
+
+    fn put(&mut self, text: &[u8]) {
+        if text.len() <= self.held.room() {
+            self.held.append(text);
+        } else {
+            self.hand_down();
+            if !self.failed {
+                self.pass(text);
+            }
+        }
+    }
+
+    fn finish(&mut self) -> Result<(), SinkFault> {
+        self.hand_down();
+        if self.failed { Err(SinkFault) } else { Ok(()) }
+    }
+}

@@ -1,0 +1,17 @@
+ghost use Rattle.sd_sink.specs.Print.{PrintTold, Prints, Finishes};
+
+use crate::sink::SinkFault;
+
+/// Prints texts, and remembers a failure: after it nothing is handed down.
+pub trait Print {
+    /// What it holds, what the sink below it tells, and whether a call failed.
+    ghost told: { Self → PrintTold };
+
+    /// Prints the bytes.
+    fn put(&mut self, bytes: &[u8])
+        ensures { Prints (told self.old) (told self.new) bytes.now };
+
+    /// Hands down what is held. `Err` where a call failed, now or before.
+    fn finish(&mut self) -> Result<(), SinkFault>
+        ensures { Finishes (told self.old) (told self.new) result };
+}

@@ -1,0 +1,17 @@
+ghost use Rattle.sd_sink.specs.Sink.{SinkTold, Puts};
+
+/// The sink did not take all of the bytes.
+#[derive(Clone, Copy, Debug, PartialEq, Eq)]
+pub struct SinkFault;
+
+/// Where printed bytes and texts go.
+pub trait Sink {
+    /// Which reference it writes through, what was appended so far, how many calls failed, and how many bytes it takes
+    /// for certain.
+    ghost told: { Self → SinkTold };
+
+    /// Appends all of the bytes. An `Err` has appended a prefix of them, and its failures rose by one:
+    /// a fault is never answered otherwise, and no call follows one that failed.
+    fn put(&mut self, bytes: &[u8]) -> Result<(), SinkFault>
+        ensures { Puts (told self.old) (told self.new) bytes.now result };
+}
