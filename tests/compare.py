@@ -3,8 +3,9 @@
 
 Feeds the program thousands of lines, among them broken and hostile ones, and compares each answer with the one of
 reference.py: from a file, in random pieces through a pipe, and in many short inputs with all kinds of ends; from hex and
-from SDDL; as hex, and as SDDL without a domain, under several domains, and with numbers alone. What is printed as SDDL,
-and what is spelled otherwise than it would be printed, is compared with the descriptor that it was made from.
+from SDDL; as hex, and as SDDL or explained, without a domain, under several domains, and with numbers alone. What is
+printed as SDDL, and what is spelled otherwise than it would be printed, is compared with the descriptor that it was made
+from.
 The same seed gives the same lines. The last line is 'N passed, M failed'.
 """
 import argparse
@@ -31,13 +32,15 @@ PARTS = range(4)   # owner, group, SACL, DACL, in the order of their offsets
 ACLS = (2, 3)
 SACL_PRESENT, DACL_PRESENT = 0x10, 0x4
 PLAIN_TYPES, OBJECT_TYPES, UNKNOWN_FLAG = [0, 1, 2, 0x11], [5, 6, 7], 0x20
-HEX, SDDL, NUMERIC = ["--to", "hex"], [], ["--to", "sddl", "--numeric"]
+HEX, SDDL, NUMERIC = ["convert", "--to", "hex"], ["convert"], ["convert", "--to", "sddl", "--numeric"]
 # A usual domain, one that is a well-known SID, the shortest one, and the longest one.
 DOMAINS = ["S-1-5-21-1004336348-1177238915-682003330", "BA", "S-1-5", "S-1-0xfedcba987654" + "-4294967295" * 14]
-UNDER = [["--domain", domain] for domain in DOMAINS]
-EVERY_WORDS = [HEX, SDDL, NUMERIC, *UNDER, [*UNDER[0], "--numeric"]]
+UNDER = [["convert", "--domain", domain] for domain in DOMAINS]
+EXPLAINED = [["explain"], ["explain", "--domain", DOMAINS[0]], ["explain", "--numeric"]]
+EVERY_WORDS = [HEX, SDDL, NUMERIC, *UNDER, [*UNDER[0], "--numeric"], *EXPLAINED]
 FROM_SDDL = ["--from", "sddl"]
-EVERY_WORDS_FROM_SDDL = [[*FROM_SDDL, *words] for words in (HEX, SDDL, UNDER[0], [*HEX, *UNDER[0]])]
+TO_HEX = ["--to", "hex"]
+EVERY_WORDS_FROM_SDDL = [[*words, *FROM_SDDL] for words in (HEX, SDDL, UNDER[0], [*UNDER[0], *TO_HEX], EXPLAINED[1])]
 DOMAIN_SIDS = [reference.sid_of_text(domain.encode()) for domain in DOMAINS]
 SOME_MASKS = [*reference.RIGHTS.values(), *reference.COMPOUND_RIGHTS.values(), *reference.LABEL_RIGHTS.values()]
 ALIASES, KIND_NAMES, FLAG_NAMES, RIGHT_NAMES = (
@@ -655,7 +658,7 @@ def answers_of(program, words, data, sizes):
         else:
             given.write(data)
             given.seek(0)
-        child = subprocess.Popen([program, "convert", *words], stdin=reading, stdout=written)
+        child = subprocess.Popen([program, *words], stdin=reading, stdout=written)
         if feeder:
             os.close(reading)
             feeder.start()
@@ -674,6 +677,13 @@ def answers_of(program, words, data, sizes):
 def short(line):
     shown = repr(line[:400])[1:]
     return shown if len(line) <= 400 else f"{shown}.. ({len(line)} bytes)"
+
+
+def after_lfs(data, at, count):
+    """Behind so many LFs from a place on, or at the end."""
+    for _ in range(count):
+        at = data.find(b"\n", at) + 1 or len(data)
+    return at
 
 
 class Input:
@@ -709,19 +719,19 @@ class Count:
         """One run of the program: each answer is compared, and then that there is nothing more, and the status."""
         wanted, wanted_status = given.answers(words)
         written, status = answers_of(program, words, given.data, sizes)
-        *got, rest = written.split(b"\n")
-        what = " ".join([what, *words])
-        for line, answer, want in itertools.zip_longest(given.lines, got[:len(wanted)], wanted, fillvalue=b""):
-            if answer == want:
+        what, at = " ".join([what, *words]), 0
+        for line, answer in zip(given.lines, wanted):
+            # (an explanation has lines of its own)
+            end = after_lfs(written, at, answer.count(b"\n") + 1)
+            if written[at:end] == answer + b"\n":
                 self.passed += 1
             else:
-                self.fail(f"{what}: {short(line)}", f"gave {short(answer)}", f"not  {short(want)}")
-        rest = b"\n".join([*got[len(wanted):], rest])
-        if not rest and status == wanted_status and len(got) == len(wanted):
+                self.fail(f"{what}: {short(line)}", f"gave {short(written[at:end])}", f"not  {short(answer)}")
+            at = end
+        if at == len(written) and status == wanted_status:
             self.passed += 1
         else:
-            self.fail(f"{what}, at the end", f"{len(got)} answers, not {len(wanted)}; status {status}, not {wanted_status}; "
-                      f"more output: {short(rest)}")
+            self.fail(f"{what}, at the end", f"status {status}, not {wanted_status}; more output: {short(written[at:])}")
 
 
 def compare_hex(count, program, maker, number):
@@ -733,7 +743,7 @@ def compare_hex(count, program, maker, number):
     long = Input(b"".join(line + maker.end() + maker.line() + b"\n" for line in long_lines()))
     for words in EVERY_WORDS:
         count.run(program, "from a file", words, all_lines)
-    for words in (HEX, UNDER[0]):
+    for words in (HEX, UNDER[0], EXPLAINED[0]):
         count.run(program, "cut", words, all_lines, (maker.piece() for _ in itertools.count()))
         count.run(program, "long lines from a file", words, long)
         count.run(program, "long lines cut", words, long, (maker.chance.randint(1, PACKET) for _ in itertools.count()))
@@ -749,10 +759,11 @@ def compare_spelled(count, program, maker, descriptors):
         for what, texts_of_all in (("printed", printed), ("spelled otherwise", spelled)):
             known = [descriptor if text else None for descriptor, text in zip(descriptors, texts_of_all)]
             given = Input(b"".join(text + b"\n" for text in texts_of_all), known)
-            count.run(program, what, [*FROM_SDDL, *words], given)
+            count.run(program, what, [*words, *FROM_SDDL], given)
             # No option is given twice.
             others = [word for word in words if word not in ("--to", "sddl")]
-            count.run(program, what, [*FROM_SDDL, *others, *HEX], given)
+            count.run(program, what, [*others, *FROM_SDDL, *TO_HEX], given)
+            count.run(program, what, ["explain", *others[1:], *FROM_SDDL], given)
         lines += spelled
     return lines
 

@@ -63,18 +63,21 @@ class Job(NamedTuple):
     takes: int = 0  # the most bytes that a write takes
 
 
-HEX, FROM_SDDL = ["--to", "hex"], ["--from", "sddl"]
-SHORT_JOBS = [Job(HEX, SHORT_HEX, 1), Job([], SHORT_HEX, 1), Job(FROM_SDDL, SHORT_SDDL, 1),
-              Job([*FROM_SDDL, *HEX], SHORT_SDDL, 1)]
-LARGE_JOBS = [Job(HEX, MANY_HEX), Job([], MANY_HEX), Job(FROM_SDDL, MANY_SDDL), Job([*FROM_SDDL, *HEX], MANY_SDDL),
-              Job([], SHORT_HEX + b"\n" + BOTH_LONG + b"\n" + SHORT_HEX),
-              Job([*FROM_SDDL, *HEX], SHORT_SDDL + b"\n" + LONG_SDDL + b"\n" + SHORT_SDDL)]
+HEX, SDDL = ["convert", "--to", "hex"], ["convert"]
+SDDL_TO_HEX, SDDL_TO_SDDL = ["convert", "--from", "sddl", "--to", "hex"], ["convert", "--from", "sddl"]
+EXPLAIN, EXPLAIN_SDDL = ["explain"], ["explain", "--from", "sddl"]
+SHORT_JOBS = [Job(HEX, SHORT_HEX, 1), Job(SDDL, SHORT_HEX, 1), Job(SDDL_TO_SDDL, SHORT_SDDL, 1),
+              Job(SDDL_TO_HEX, SHORT_SDDL, 1), Job(EXPLAIN, SHORT_HEX, 1)]
+LARGE_JOBS = [Job(HEX, MANY_HEX), Job(SDDL, MANY_HEX), Job(SDDL_TO_SDDL, MANY_SDDL), Job(SDDL_TO_HEX, MANY_SDDL),
+              Job(SDDL, SHORT_HEX + b"\n" + BOTH_LONG + b"\n" + SHORT_HEX), Job(EXPLAIN, MANY_HEX),
+              Job(EXPLAIN, SHORT_HEX + b"\n" + BOTH_LONG + b"\n" + SHORT_HEX),
+              Job(SDDL_TO_HEX, SHORT_SDDL + b"\n" + LONG_SDDL + b"\n" + SHORT_SDDL)]
 # Pieces in which several lines end, an input that is one piece, and writes that take a few bytes.
 CUT_JOBS = [*(Job(HEX, SHORT_HEX, piece) for piece in (7, 50, 0)),
-            *(Job(FROM_SDDL, SHORT_SDDL, piece) for piece in (3, 0)),
-            Job(HEX, SHORT_HEX, 0, 4), Job([], SHORT_HEX, 5, 2), Job(FROM_SDDL, SHORT_SDDL, 0, 1),
-            Job(HEX, MANY_HEX, 0, 3000)]
-HELP = [["--help"], ["help"], ["convert", "--help"], ["help", "convert"]]
+            *(Job(SDDL_TO_SDDL, SHORT_SDDL, piece) for piece in (3, 0)), Job(EXPLAIN_SDDL, SHORT_SDDL, 3),
+            Job(HEX, SHORT_HEX, 0, 4), Job(SDDL, SHORT_HEX, 5, 2), Job(SDDL_TO_SDDL, SHORT_SDDL, 0, 1),
+            Job(HEX, MANY_HEX, 0, 3000), Job(EXPLAIN, SHORT_HEX, 0, 7)]
+HELP = [["--help"], ["help"], ["convert", "--help"], ["help", "convert"], ["explain", "--help"]]
 
 
 class Ended(NamedTuple):
@@ -121,8 +124,8 @@ class Runner:
             written.seek(0)
             return Ended(status, b"" if output else written.read(), stderr, preload.events_in(told))
 
-    def convert(self, job, output=None, **settings):
-        return self.run(["convert", *job.words], job.data, output, piece=job.piece, takes=job.takes, **settings)
+    def answer(self, job, output=None, **settings):
+        return self.run(job.words, job.data, output, piece=job.piece, takes=job.takes, **settings)
 
 
 class Answers:
@@ -212,18 +215,18 @@ def shown(job, settings):
     stream = {0: "read", 1: "write"}[settings["fd"]]
     times = {ONCE: "once", FOR_GOOD: "for good"}.get(settings["times"], f"{settings['times']} times")
     error = errno.errorcode.get(settings["error"], "nothing taken")
-    return f"sdtool convert {' '.join(job.words)}, pieces of {job.piece}, writes of {job.takes}, " \
+    return f"sdtool {' '.join(job.words)}, pieces of {job.piece}, writes of {job.takes}, " \
            f"{stream} {settings['at']} fails {times} ({error})"
 
 
 def judge_jobs(count, runner, pool):
     """Each read and each write of each job in turn."""
     for job in (*SHORT_JOBS, *CUT_JOBS, *LARGE_JOBS):
-        answers, plain = Answers(job), runner.convert(job)
-        words = " ".join(["sdtool convert", *job.words])
+        answers, plain = Answers(job), runner.answer(job)
+        words = " ".join(["sdtool", *job.words])
         count.add(is_plain(plain, answers), f"{words}, no fault: {plain}")
         tried = list(faults_of(plain, IN_SHORT_JOBS if job in SHORT_JOBS else IN_OTHERS))
-        for (judge, settings), ended in zip(tried, pool.map(lambda one: runner.convert(job, **one[1]), tried)):
+        for (judge, settings), ended in zip(tried, pool.map(lambda one: runner.answer(job, **one[1]), tried)):
             count.add(judge(ended, answers), f"{shown(job, settings)}: {ended}")
         reads, writes = (plain.letters().count(letter) for letter in "rw")
         print(f"{words}, {len(job.data)} bytes in pieces of {job.piece or PIECE}: {reads} reads, {writes} writes, "
@@ -235,12 +238,12 @@ def judge_both(count, runner):
     for job in SHORT_JOBS:
         answers, first = Answers(job), job.data.index(b"\n") + 1
         for at in (1, first, first + 1, first + 2, len(job.data)):
-            ended = runner.convert(job, output="/dev/full", fd=0, at=at, times=FOR_GOOD)
+            ended = runner.answer(job, output="/dev/full", fd=0, at=at, times=FOR_GOOD)
             says, last = (SAYS_READ, "Rv") if at <= first else (SAYS_WRITE, "wv")
             # (the failed write is the device's, of which the library tells as of one that moved nothing)
             calls = "r" * min(at - 1, first) + last
             count.add(ended[:3] == (3, b"", says) and ended.letters() == calls and answers.known(first) > 0,
-                      f"sdtool convert {' '.join(job.words)} > /dev/full, read {at} fails: {ended}")
+                      f"sdtool {' '.join(job.words)} > /dev/full, read {at} fails: {ended}")
 
 
 def judge_help(count, runner):

@@ -27,6 +27,7 @@ OBJECT_TYPE_PRESENT, INHERITED_OBJECT_TYPE_PRESENT = 0x1, 0x2
 UNKNOWN_FLAG = 0x20  # the one bit of an ACE's flags that is refused
 
 FORMS = {"from": ["hex", "sddl"], "to": ["hex", "sddl"]}
+EXPLANATION = "explanation"  # what the command explain prints, in place of a form
 TEXT_LIMIT = 183  # bytes of a field, and of the longest SID text
 SID_TEXT = re.compile(rb"S-1-(0x[0-9a-f]{12}|[0-9]+)((?:-[0-9]+){0,15})", re.IGNORECASE)
 MOST_OF_A_DOMAIN = 14  # sub-authorities; one more comes after them
@@ -72,6 +73,11 @@ ACL_FLAGS = {
     "S": (SACL_PRESENT, {"P": 0x2000, "AR": 0x0200, "AI": 0x0800}),
 }
 ACL_NAMES = {"D": "dacl", "S": "sacl"}
+# The bits of the control word that have a code, in rising order.
+CONTROL_CODES = {
+    "OD": 0x0001, "GD": 0x0002, "DP": 0x0004, "DD": 0x0008, "SP": 0x0010, "SD": 0x0020, "DC": 0x0100, "SC": 0x0200,
+    "DI": 0x0400, "SI": 0x0800, "PD": 0x1000, "PS": 0x2000, "RM": 0x4000, "SR": 0x8000,
+}
 LARGEST_ACL = 0xffff
 
 # A part of an SDDL line: its letter and a colon, a text, and ACEs of six fields with blanks after them. No other colon
@@ -243,7 +249,7 @@ def from_hex(line):
 
 
 class Settings(NamedTuple):
-    """What the words after the command ask for."""
+    """What the words ask for."""
     source: str = "hex"
     to: str = "sddl"
     domain: Optional[Sid] = None
@@ -360,11 +366,13 @@ def from_sddl(line, domain):
 
 
 def settings_of(words):
-    """What the words after `convert` ask for, which are options that each stand once and have a value where they need
-    one. Values are looked at in this order: domain, from, to."""
+    """What a command and the words after it ask for, which are options that each stand once and have a value where they
+    need one. Values are looked at in this order: domain, from, to."""
+    command, *words = words
     parser = argparse.ArgumentParser(allow_abbrev=False, add_help=False)
     parser.add_argument("--from", default="hex")
-    parser.add_argument("--to", default="sddl")
+    if command == b"convert":
+        parser.add_argument("--to", default="sddl")
     parser.add_argument("--domain")
     parser.add_argument("--numeric", action="store_true")
     given = vars(parser.parse_args([word.decode("latin-1") for word in words]))
@@ -377,9 +385,9 @@ def settings_of(words):
         if len(domain.sub_authorities) > MOST_OF_A_DOMAIN:
             raise Usage("domain")
     for name, forms in FORMS.items():
-        if given[name] not in forms:
+        if name in given and given[name] not in forms:
             raise Usage(name)
-    return Settings(given["from"], given["to"], domain, given["numeric"])
+    return Settings(given["from"], given.get("to", EXPLANATION), domain, given["numeric"])
 
 
 @functools.lru_cache
@@ -438,6 +446,41 @@ def sddl(descriptor, settings):
     return text
 
 
+def sid_words(sid, settings):
+    """The SID's text, and its alias where it has one and numbers alone are not asked for."""
+    if sid is None:
+        return "none"
+    alias = None if settings.numeric else aliases_under(settings.domain).get(sid)
+    return f"{sid.text()} {alias}" if alias else sid.text()
+
+
+def ace_words(ace, settings):
+    words = [KINDS[ace.type], "flags", names_of(ace.flags, ACE_FLAGS) or "none", "mask", f"0x{ace.mask:08x}",
+             "rights", rights_sddl(ace.mask, ace.type == LABEL_TYPE)]
+    for name, guid in (("object", ace.object_type), ("inherited", ace.inherited_object_type)):
+        words += [name, guid_sddl(guid)] if guid is not None else []
+    return " ".join([*words, "sid", sid_words(ace.sid, settings)])
+
+
+def acl_lines(letter, acl, descriptor, settings):
+    name = ACL_NAMES[letter]
+    if not descriptor.control & ACL_FLAGS[letter][0]:
+        return [f"{name} absent"]
+    if acl is None:
+        return [f"{name} null"]
+    return [f"{name} list {len(acl.aces)}",
+            *(f"{name} {number} {ace_words(ace, settings)}" for number, ace in enumerate(acl.aces, 1))]
+
+
+def explanation(descriptor, settings):
+    """A line for each thing that the descriptor has, without the last one's LF."""
+    codes = [code for code, bit in CONTROL_CODES.items() if descriptor.control & bit]
+    return "\n".join([" ".join([f"control 0x{descriptor.control:04x}", *codes]), f"rm 0x{descriptor.resource_manager:02x}",
+                      f"owner {sid_words(descriptor.owner, settings)}", f"group {sid_words(descriptor.group, settings)}",
+                      *acl_lines("D", descriptor.dacl, descriptor, settings),
+                      *acl_lines("S", descriptor.sacl, descriptor, settings), "end"])
+
+
 def shown(line, settings):
     """What a line shows: a descriptor, or the fault that it has, or None where it is empty."""
     if not line:
@@ -451,11 +494,13 @@ def shown(line, settings):
 
 
 def answer(found, settings):
-    """The answer to what a line shows, without its LF."""
+    """The answer to what a line shows, without its LF, which is the last one of an explanation."""
     if found is None:
         return b""
     if isinstance(found, Fault):
         return str(found).encode()
+    if settings.to == EXPLANATION:
+        return explanation(found, settings).encode()
     return (layout(found).hex() if settings.to == "hex" else sddl(found, settings)).encode()
 
 

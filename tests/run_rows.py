@@ -4,7 +4,7 @@ run_rows.py --reference [--only ID..]
 
 Runs the rows of rows.json on the built program, and compares what it writes and its exit status.
 With --one-byte the input comes one byte a read; rows that ask for a device of their own are left out.
-With --reference no program is run: the answers of reference.py are compared, in all rows that convert lines or name an
+With --reference no program is run: the answers of reference.py are compared, in all rows that answer lines or name an
 option whose value does not read, and ask for no device, so that the rows and what compare.py compares with are known
 to say the same.
 With --only it takes the rows whose id has one of the texts in it.
@@ -13,7 +13,8 @@ The last line is 'N passed, M failed'.
 A row has the program's words, its standard input, and what has to come of them: stdout (or stdout_has,
 texts that have to stand in it), stderr and status, which are empty and 0 where they are left out.
 A text is a string of characters below 256, each of which stands for one byte, or a list of texts, or
-{"repeat": TEXT, "times": N}. Where the standard streams are not to be files, a row has one of these:
+{"repeat": TEXT, "times": N}, or {"numbered": [BEFORE, AFTER], "times": N}: the numbers from 1 to N, each between two
+texts. Where the standard streams are not to be files, a row has one of these:
 
   talk     true: the input goes in line by line, each once the answer to the line before it has come. With an
            output "full", "closed pipe" or "not ready" that begins once the answers of stdout have come: then one
@@ -57,6 +58,9 @@ class Ended(NamedTuple):
 
 def text(value):
     """The bytes of a text of rows.json."""
+    if isinstance(value, dict) and "numbered" in value:
+        before, after = map(text, value["numbered"])
+        return b"".join(before + b"%d" % number + after for number in range(1, value["times"] + 1))
     if isinstance(value, dict):
         return text(value["repeat"]) * value["times"]
     if isinstance(value, list):
@@ -299,10 +303,9 @@ def is_for_reference(row):
 
 def asked_of_reference(row):
     """The one run of the row, as runs gives it, with the answers of reference.py in place of a program's."""
-    _, *words = map(text, row["words"])
     stdout = text(row["stdout"])
     try:
-        settings = reference.settings_of(words)
+        settings = reference.settings_of([text(word) for word in row["words"]])
         answers, status = reference.answers(reference.all_shown(text(row["stdin"]), settings), settings)
     except reference.Usage as fault:
         yield row["id"], Ended(b"", f"{fault}\n".encode(), 2, False), stdout

@@ -21,9 +21,17 @@ convert_line =
     (option_rule (codes "domain")))
     (flag_rule (codes "numeric"))
 
+-- `sdtool explain` and its options
+unfoldable pub explain_line : App
+explain_line =
+    with_rule (with_rule (with_rule (new_app (codes "explain"))
+    (option_rule (codes "from")))
+    (option_rule (codes "domain")))
+    (flag_rule (codes "numeric"))
+
 -- `sdtool`, which wants a command
 unfoldable pub bare_line : App
 bare_line = on_top (λ s. record s { subcommand_required = true }) (new_app (codes "sdtool"))
 
 unfoldable pub line : App
-line = with_subcommand bare_line convert_line.top
+line = with_subcommand (with_subcommand bare_line convert_line.top) explain_line.top

@@ -8,7 +8,7 @@ use Rattle.sd_core.specs.declared.sid_text.SidFault.{SidFault}
 use Rattle.sd_command.specs.CommandLine.{line}
 use Rattle.sd_command.specs.declared.job.Form.{Form}
 use Rattle.sd_command.specs.declared.job.Form.TheVariants.{Hex, Sddl}
-use Rattle.sd_command.specs.declared.job.Act.TheVariants.{Convert}
+use Rattle.sd_command.specs.declared.job.Act.TheVariants.{Convert, Explain}
 use Rattle.sd_command.specs.declared.job.Job.{Job}
 use Rattle.sd_command.specs.declared.settings.OptionName.{OptionName}
 use Rattle.sd_command.specs.declared.settings.OptionName.TheVariants as name
@@ -86,10 +86,23 @@ convert_settings rows =
     and_then (given_target rows) (λ target.
     Ok (record { source = source; act = Convert target; domain = domain; numeric = is_set (codes "numeric") rows }))))
 
+unfoldable pub explain_settings : List Row → Result Job UsageFault
+explain_settings rows =
+    and_then (given_domain rows) (λ domain.
+    and_then (given_source rows) (λ source.
+    Ok (record { source = source; act = Explain; domain = domain; numeric = is_set (codes "numeric") rows })))
+
+-- by the command's name
+abbrev pub command_settings : Text → List Row → Result Job UsageFault
+command_settings command rows =
+    if bytes_eq command (codes "convert") then convert_settings rows
+    else if bytes_eq command (codes "explain") then explain_settings rows
+    else Err NoCommand
+
 -- a command's name and its matches
 abbrev pub settings : Option (Text × List Row) → Result Job UsageFault
 settings None = Err NoCommand
-settings (Some matches) = convert_settings matches.1
+settings (Some matches) = command_settings matches.0 matches.1
 
 -- what words settle that the command line takes
 unfoldable pub settings_of : List Text → Result Job UsageFault

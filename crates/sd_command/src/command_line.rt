@@ -1,8 +1,8 @@
 // The command line: its commands and their options.
-ghost use Rattle.std.specs.Prelude.{◌≡◌, IfOk, false};
+ghost use Rattle.std.specs.Prelude.{◌≡◌, IfOk, codes, false};
 ghost use Rattle.clap.specs.Words.{app_of, rule_of, with_rule};
 ghost use Rattle.clap.specs.declared.Command.TheViews.{out-Command};
-ghost use Rattle.sd_command.specs.CommandLine.{bare_line, convert_line, flag_rule, line, option_rule};
+ghost use Rattle.sd_command.specs.CommandLine.{bare_line, convert_line, explain_line, flag_rule, line, option_rule};
 
 use clap::{Arg, ArgAction, Command};
 use std::alloc::{AllocError, Global};
@@ -11,7 +11,8 @@ use std::alloc::{AllocError, Global};
 pub fn command_line<'a>(alloc: Global) -> Result<Command<'a>, AllocError>
     ensures { IfOk result (λ c. app_of c ≡ line) }
 {
-    bare_line(alloc).subcommand(convert_command(alloc)?)
+    let command = bare_line(alloc).subcommand(convert_command(alloc)?)?;
+    command.subcommand(explain_command(alloc)?)
 }
 
 fn bare_line<'a>(alloc: Global) -> Command<'a>
@@ -28,14 +29,7 @@ fn convert_command<'a>(alloc: Global) -> Result<Command<'a>, AllocError>
     ensures local { IfOk result (λ c. (out-Command c).has_globals ≡ false) }
 {
     let command = Command::new(alloc, "convert").about("Print each descriptor in a canonical form");
-    let command = with_arg(
-        command,
-        option(
-            alloc,
-            "from",
-            "The form of the lines: hex, the default, or sddl",
-        ),
-    )?;
+    let command = with_arg(command, from_option(alloc))?;
     let command = with_arg(
         command,
         option(
@@ -44,18 +38,49 @@ fn convert_command<'a>(alloc: Global) -> Result<Command<'a>, AllocError>
             "The form of the answers: sddl, the default, or hex",
         ),
     )?;
-    let command = with_arg(
-        command,
-        option(
-            alloc,
-            "domain",
-            "The SID of the domain whose aliases are read and printed",
-        ),
-    )?;
-    with_arg(
-        command,
-        flag(alloc, "numeric", "Print SIDs without aliases"),
+    let command = with_arg(command, domain_option(alloc))?;
+    with_arg(command, numeric_flag(alloc))
+}
+
+fn explain_command<'a>(alloc: Global) -> Result<Command<'a>, AllocError>
+    ensures line { IfOk result (λ c. app_of c ≡ explain_line) }
+    ensures local { IfOk result (λ c. (out-Command c).has_globals ≡ false) }
+{
+    let command = Command::new(alloc, "explain").about(
+        "Say what each descriptor has, on a block of lines",
+    );
+    let command = with_arg(command, from_option(alloc))?;
+    let command = with_arg(command, domain_option(alloc))?;
+    with_arg(command, numeric_flag(alloc))
+}
+
+fn from_option<'a>(alloc: Global) -> Arg<'a>
+    ensures rule { rule_of result ≡ option_rule (codes "from") }
+    ensures local { result.global ≡ false }
+{
+    option(
+        alloc,
+        "from",
+        "The form of the lines: hex, the default, or sddl",
     )
+}
+
+fn domain_option<'a>(alloc: Global) -> Arg<'a>
+    ensures rule { rule_of result ≡ option_rule (codes "domain") }
+    ensures local { result.global ≡ false }
+{
+    option(
+        alloc,
+        "domain",
+        "The SID of the domain whose aliases are read and printed",
+    )
+}
+
+fn numeric_flag<'a>(alloc: Global) -> Arg<'a>
+    ensures rule { rule_of result ≡ flag_rule (codes "numeric") }
+    ensures local { result.global ≡ false }
+{
+    flag(alloc, "numeric", "Print SIDs without aliases")
 }
 
 fn with_arg<'a>(command: Command<'a>, arg: Arg<'a>) -> Result<Command<'a>, AllocError>

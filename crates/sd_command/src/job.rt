@@ -16,6 +16,8 @@ pub enum Form {
 pub enum Act {
     /// It is printed in this form.
     Convert(Form),
+    /// It is explained, by a block of lines.
+    Explain,
 }
 
 /// What a run does: how its lines spell descriptors, and what is done with each.

@@ -59,9 +59,21 @@ pub fn settle(matches: &ArgMatches<'_>) -> Result<Job, UsageFault>
     ensures { result ≡ specs.settings (subcommand_rows_of matches.now) }
 {
     match matches.subcommand() {
-        Some((_, convert)) => convert_settings(convert),
+        Some((command, found)) => command_settings(command, found),
         None => Err(UsageFault::NoCommand),
     }
+}
+
+fn command_settings(command: &str, matches: &ArgMatches<'_>) -> Result<Job, UsageFault>
+    ensures { result ≡ specs.command_settings command.now (rows_of (found_of matches.now)) }
+{
+    if command == "convert" {
+        return convert_settings(matches);
+    }
+    if command == "explain" {
+        return explain_settings(matches);
+    }
+    Err(UsageFault::NoCommand)
 }
 
 fn convert_settings(matches: &ArgMatches<'_>) -> Result<Job, UsageFault>
@@ -74,6 +86,20 @@ fn convert_settings(matches: &ArgMatches<'_>) -> Result<Job, UsageFault>
     Ok(Job {
         source,
         act: Act::Convert(target),
+        domain,
+        numeric,
+    })
+}
+
+fn explain_settings(matches: &ArgMatches<'_>) -> Result<Job, UsageFault>
+    ensures { result ≡ specs.explain_settings (rows_of (found_of matches.now)) }
+{
+    let domain = given_domain(matches)?;
+    let source = given_source(matches)?;
+    let numeric = is_set(matches, "numeric");
+    Ok(Job {
+        source,
+        act: Act::Explain,
         domain,
         numeric,
     })

@@ -1,3 +1,4 @@
 -- Descriptors explained.
 pub mod Numbered
+mod Rows
 pub mod SizeLaws

@@ -1,7 +1,6 @@
 -- The hex text of some bytes, piece by piece.
-use Rattle.std.proofs.Common.{◌≡◌, ℕ, ◌+◌, ◌-◌, ◌/◌, ◌%◌, ◌∷◌, slice_index, List, [], ◌++◌, take, drop, refl, sym, ◌∙◌, ap, arith, subst}
+use Rattle.std.proofs.Common.{◌≡◌, ℕ, ◌+◌, ◌-◌, ◌/◌, ◌%◌, ◌∷◌, slice_index, List, [], ◌++◌, take, drop, refl, ◌∙◌, ap, arith}
 use Rattle.std.proofs.Math.Seq.{take-add}
-use Rattle.std.proofs.lemmas.List.{take-append-drop}
 use Rattle.hex.specs.Hex.{encode_with, encode_lower, lower_digits}
 use Rattle.sd_sink.specs.Print.{PrintTold, Prints}
 use Rattle.sd_sink.proofs.PrintLemmas.{prints_then}

@@ -13,11 +13,12 @@ use Rattle.sd_binary.specs.declared.fault.SdFault.{SdFault}
 use Rattle.sd_filter.specs.declared.fault.LineFault.{LineFault}
 use Rattle.sd_filter.specs.declared.fault.LineFault.TheVariants.{TooLong, Text, Sd, Sddl}
 use Rattle.sd_command.specs.declared.job.Act.{Act}
-use Rattle.sd_command.specs.declared.job.Act.TheVariants.{Convert}
+use Rattle.sd_command.specs.declared.job.Act.TheVariants.{Convert, Explain}
 use Rattle.sd_command.specs.declared.job.Form.{Form}
 use Rattle.sd_command.specs.declared.job.Form.TheVariants as form
 use Rattle.sd_command.specs.declared.job.Job.{Job}
 use Rattle.sd_core.specs.declared.naming.Naming.{Naming}
+use Rattle.sd_explain.specs.Explain.{explain}
 use Rattle.sd_sddl.specs.Meaning.{means}
 use Rattle.sd_sddl.specs.Printed.{sddl}
 use Rattle.sd_sddl.specs.declared.fault.SddlFault.{SddlFault}
@@ -70,9 +71,10 @@ unfoldable pub form_text : Job → Form → Descriptor → List ℕ
 form_text job form.Hex d = encode_lower (layout d)
 form_text job form.Sddl d = sddl (naming_of job) d
 
--- what is answered to a descriptor, with its LF
+-- what is answered to a descriptor, with its LF; each line of an explanation has its own already
 abbrev pub act_text : Job → Act → List Entry → Descriptor → List ℕ
 act_text job (Convert form) entries d = form_text job form d ++ 10 ∷ []
+act_text job Explain entries d = explain (naming_of job) d
 
 abbrev pub text_of_meaning : Job → List Entry → Meaning → List ℕ
 text_of_meaning job entries None = 10 ∷ []
@@ -89,9 +91,10 @@ answers job entries lines = flat_map (answer job entries) lines
 
 -- ---- what is counted
 
--- the fault of an act at a descriptor: a conversion has none
+-- the fault of an act at a descriptor: a conversion has none, and an explanation has none
 abbrev pub act_fault : Act → Descriptor → Option LineFault
 act_fault (Convert form) d = None
+act_fault Explain d = None
 
 abbrev pub is_error_of_meaning : Act → Meaning → Bool
 is_error_of_meaning act None = false
@@ -106,9 +109,10 @@ is_error job line = is_error_of_meaning job.act (meaning job line)
 unfoldable pub errors : Job → List (List ℕ) → ℕ
 errors job lines = count_by (is_error job) lines
 
--- how often an entry of the token may be compared: a conversion compares none
+-- how often an entry of the token may be compared: neither a conversion nor an explanation compares any
 abbrev pub act_bound : Act → List Entry → Descriptor → ℕ
 act_bound (Convert form) entries d = 0
+act_bound Explain entries d = 0
 
 abbrev pub bound_of_meaning : Act → List Entry → Meaning → ℕ
 bound_of_meaning act entries None = 0
@@ -123,9 +127,10 @@ bounds job entries lines = sum_by (bound job entries) lines
 
 -- ---- how much is printed
 
--- the descriptor that is printed for one that was read: a conversion prints that one
+-- the descriptor that is printed for one that was read: a conversion prints that one, and so does an explanation
 abbrev pub act_prints : Act → Descriptor → Option Descriptor
 act_prints (Convert form) d = Some d
+act_prints Explain d = Some d
 
 abbrev pub printed_of_meaning : Act → Meaning → Option Descriptor
 printed_of_meaning act None = None

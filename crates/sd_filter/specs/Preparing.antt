@@ -7,7 +7,6 @@ use Rattle.sd_command.specs.Refusing.{RefusedBy}
 use Rattle.sd_command.specs.Settings.{settings_of}
 use Rattle.sd_command.specs.Usage.{usage_line}
 use Rattle.sd_filter.specs.Endings.{Told, EndsIdle, EndsRefused, EndsWithHelp, EndsWithoutMemory}
-use Rattle.sd_command.specs.declared.parse.Refusal.{Refusal}
 use Rattle.sd_command.specs.declared.parse.Refusal.TheVariants.{NoMemory, Usage, Help}
 use Rattle.sd_filter.specs.declared.program.Prepared.{Prepared}
 use Rattle.sd_filter.specs.declared.program.Stop.{Stop}

@@ -2,7 +2,8 @@
 ghost use Rattle.std.specs.Prelude.{◌≡◌, ◌≤◌, ℕ, List, ◌++◌, [], ◌∷◌, length, true, is_some, Ok, Err};
 ghost use Rattle.sd_sink.specs.Print.{Prints};
 ghost use Rattle.sd_core.specs.Token.{Entry};
-ghost use Rattle.sd_filter.specs.Answers.{act_fault, act_text, answer, bytes_mean, form_text, is_error, line_limit, or_sddl_fault, text_means};
+ghost use Rattle.sd_filter.specs.Answers.{act_fault, act_text, answer, bytes_mean, form_text, is_error, line_limit, naming_of, or_sddl_fault, text_means};
+ghost use Rattle.sd_explain.specs.Explain.{explain};
 ghost use Rattle.sd_filter.specs.Faults.{fault_text};
 ghost use Rattle.sd_filter.specs.Sofar.{HoldsText, PrintsAnswer, PutsAnswer};
 ghost use Rattle.sd_filter.specs.Told.{sink_of};
@@ -18,7 +19,7 @@ use crate::sink::DrainSink;
 use sd_binary::{SdBuf, SdView, read, write_layout};
 use sd_command::{Act, Form, Job};
 use sd_core::{Gather, Print, Sid, Sink, SinkFault, Token};
-use sd_sddl::{print_sddl, read_sddl};
+use sd_sddl::{print_explain, print_sddl, read_sddl};
 
 /// Puts the answer to a line and its LF, and says whether it is an `error` line. Of a line over its
 /// limit nothing but that is known.
@@ -148,6 +149,10 @@ fn print_act<P: Print>(
             print_form(job, form, view, written, digits, out);
             print_end(false, out)
         }
+        Act::Explain => {
+            print_explanation(job, view, out);
+            false
+        }
     }
 }
 
@@ -170,6 +175,13 @@ fn print_form<P: Print>(
         }
         Form::Sddl => print_sddl(view, job.domain.as_ref(), job.numeric, out),
     }
+}
+
+// Prints what a descriptor has, on lines that each have an LF already.
+fn print_explanation<P: Print>(job: &Job, view: &SdView<'_>, out: &mut P)
+    ensures { Prints (P.told out.old) (P.told out.new) (explain (naming_of job.now) view.now) }
+{
+    print_explain(view, job.domain.as_ref(), job.numeric, out);
 }
 
 // Ends a line.

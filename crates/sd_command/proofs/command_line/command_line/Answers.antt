@@ -7,5 +7,8 @@ use Rattle.sd_command.proofs.command_line.command_line.Goals as goal
 pub returns : goal.returns
 unfolding line
 returns c =
-    IfOk-weaker c.subcommand.result _ _ (λ r h. h.shape c.in_ok-convert_command.ensures.local
-    ∙ ap₂ with_subcommand c.bare_line.ensures.app (ap (λ (a : App). a.top) c.in_ok-convert_command.ensures.line)) c.subcommand.ensures
+    let top = λ (a : App). a.top in
+    let convert = c.in_ok-command.ensures.shape c.in_ok-convert_command.ensures.local
+    ∙ ap₂ with_subcommand c.bare_line.ensures.app (ap top c.in_ok-convert_command.ensures.line) in
+    IfOk-weaker c.subcommand-2.result _ _ (λ r h. h.shape c.in_ok-explain_command.ensures.local
+    ∙ ap₂ with_subcommand convert (ap top c.in_ok-explain_command.ensures.line)) c.subcommand-2.ensures

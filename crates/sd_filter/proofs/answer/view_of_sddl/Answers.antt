@@ -1,4 +1,4 @@
-use Rattle.std.proofs.Common.{◌≡◌, List, ℕ, subst, sym}
+use Rattle.std.proofs.Common.{List, ℕ, subst, sym}
 use Rattle.sd_binary.specs.Descriptor.{Shows}
 use Rattle.sd_filter.proofs.MeaningLemmas.{sddl-read, sddl-refused}
 use Rattle.sd_filter.proofs.answer.view_of_sddl.Goals as goal

@@ -1,0 +1,69 @@
+-- Worked descriptors, explained.
+use Rattle.std.proofs.Common.{◌≡◌, ℕ, [], ◌∷◌, ◌++◌, List, Option, Some, None, true, false, codes, refl}
+use Rattle.std.specs.Fmt.{decimal, digits}
+use Rattle.sd_rights.specs.Kinds.{kind_entry, kind_letters}
+use Rattle.sd_core.specs.Ace.{AccessControlEntry}
+use Rattle.sd_rights.specs.Flags.{flags_text}
+use Rattle.sd_core.specs.GuidText.{guid_text}
+use Rattle.sd_rights.specs.Rights.{rights_text}
+use Rattle.sd_core.specs.Sid.{SecurityId}
+use Rattle.sd_core.specs.SidText.{alias_of}
+use Rattle.sd_rights.specs.declared.kinds.AceKind.TheVariants as kinds
+use Rattle.sd_core.specs.declared.naming.Naming.{Naming}
+use Rattle.sd_binary.specs.Descriptor.{Descriptor}
+use Rattle.sd_binary.specs.declared.acl.AclPart.TheVariants as acl
+use Rattle.sd_explain.specs.Explain.{ace_head, ace_line, ace_rights, ace_trustee, control_line, count_line, explain, rm_line, sid_line, sid_words}
+
+-- `unfolding explained` lets `refl` compute a row
+explained : Unit {0}
+unfolding kind_entry kind_letters explain control_line rm_line sid_line sid_words count_line ace_line ace_head ace_rights ace_trustee alias_of flags_text rights_text guid_text digits
+explained = tt
+
+named : Naming
+named = record { domain = None; numeric = false }
+
+everyone : SecurityId
+everyone = record { authority = 1; subs = 0 ∷ [] }
+
+full_access : AccessControlEntry
+full_access = record { kind = kinds.Allow; flags = 0; mask = 0x1f01ff; object = None; inherited = None; sid = everyone }
+
+shared : Descriptor
+shared = record {
+  control = 0x8004;
+  rm = 0;
+  owner = Some (record { authority = 5; subs = 32 ∷ 544 ∷ [] });
+  group = Some (record { authority = 5; subs = 18 ∷ [] });
+  sacl = acl.Absent;
+  dacl = acl.List (full_access ∷ []);
+}
+
+shared_lines : explain named shared
+    ≡ codes "control 0x8004 DP SR\nrm 0x00\nowner S-1-5-32-544 BA\ngroup S-1-5-18 SY\ndacl list 1\n"
+    ++ codes "dacl 1 A flags none mask 0x001f01ff rights FA sid S-1-1-0 WD\nsacl absent\nend\n"
+unfolding explained named shared full_access everyone
+shared_lines = refl
+
+-- bits without a code, and no part at all
+bare_lines : explain named (record { control = 0x80c0; rm = 0xff; owner = None; group = None; sacl = acl.Absent; dacl = acl.Absent })
+    ≡ codes "control 0x80c0 SR\nrm 0xff\nowner none\ngroup none\ndacl absent\nsacl absent\nend\n"
+unfolding explained named
+bare_lines = refl
+
+-- every bit, and null ACLs
+full_control : explain named (record { control = 0xffff; rm = 0x0a; owner = None; group = None; sacl = acl.Null; dacl = acl.Null })
+    ≡ codes "control 0xffff OD GD DP DD SP SD DC SC DI SI PD PS RM SR\nrm 0x0a\nowner none\ngroup none\ndacl null\nsacl null\nend\n"
+unfolding explained named
+full_control = refl
+
+-- numbers alone, and an empty mask
+numbered : ace_line (record { domain = None; numeric = true }) (codes "dacl ") 1 (record full_access { mask = 0 })
+    ≡ codes "dacl 1 A flags none mask 0x00000000 rights 0x0 sid S-1-1-0\n"
+unfolding explained full_access everyone
+numbered = refl
+
+-- a label with all of its rights, as the 4,095th ACE of a SACL
+label : ace_line named (codes "sacl ") 4095 (record { kind = kinds.Label; flags = 0xdf; mask = 7; object = None; inherited = None; sid = record { authority = 16; subs = 12288 ∷ [] } })
+    ≡ codes "sacl 4095 ML flags OICINPIOIDSAFA mask 0x00000007 rights NWNRNX sid S-1-16-12288 HI\n"
+unfolding explained named
+label = refl
