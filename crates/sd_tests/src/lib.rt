@@ -3,6 +3,8 @@
 #![tactic(auto)]
 
 #[cfg(test)]
+mod access;
+#[cfg(test)]
 mod ace;
 #[cfg(test)]
 mod buffer;
@@ -16,6 +18,10 @@ mod flags;
 mod guid;
 #[cfg(test)]
 mod inheritance;
+#[cfg(test)]
+mod mapping;
+#[cfg(test)]
+mod plain_check;
 #[cfg(test)]
 mod rights;
 #[cfg(test)]
