@@ -8,6 +8,7 @@ The values are those of reference.py, from MS-DTYP 2.4.2.4, 2.4.3, 2.4.4.1 and 2
             as a kind, by itself and beside a listed one; every single letter as a kind
   printed   SIDs beside one another under each authority and domain; masks of at most three bits, of all choices of the
             named ones, and near the compound ones, in each kind of ACE; each byte of flags and each byte of a type
+  explained every control word, every resource manager byte, and each byte of flags in each kind of ACE
 
 The last line is 'N passed, M failed'.
 """
@@ -27,6 +28,7 @@ from reference import Ace, Acl, Descriptor, Sid  # noqa: E402
 SECONDS = 60  # for one run
 PAIRS = ["".join(pair) for pair in itertools.product(string.ascii_uppercase, repeat=2)]
 EVERYONE = Sid(1, (0,))
+EXPLAIN = ["explain"]  # all other words follow `convert`
 NO_ALIAS, NEEDS_DOMAIN, NO_FLAGS, NO_RIGHTS, NO_KIND = \
     "error 22 alias", "error 23 needs-domain", "error 26 flags", "error 27 rights", "error 29 kind"
 DOMAIN = Sid(5, (21, 1004336348, 1177238915, 682003330))
@@ -212,16 +214,45 @@ def types_printed():
     yield ["--to", "hex"], hex_lines
 
 
+def words_explained():
+    """Each control word with the bit that it has to have, beside null ACLs, and each resource manager byte."""
+    lines = []
+    for control in range(reference.SELF_RELATIVE, 1 << 16):
+        codes = "".join(f" {code}" for code, bit in reference.CONTROL_CODES.items() if control & bit)
+        manager = control % 256
+        dacl, sacl = ("null" if control & bit else "absent" for bit in (reference.DACL_PRESENT, reference.SACL_PRESENT))
+        lines.append((hex_of(Descriptor(control, manager, None, None, None, None)),
+                      f"control 0x{control:04x}{codes}\nrm 0x{manager:02x}\nowner none\ngroup none\n"
+                      f"dacl {dacl}\nsacl {sacl}\nend"))
+    yield EXPLAIN, lines
+
+
+def flags_explained():
+    """Each byte of flags, in an ACE of each kind."""
+    lines = []
+    for kind, name in reference.KINDS.items():
+        for flags in range(256):
+            names = "".join(flag for flag, bit in reference.ACE_FLAGS.items() if flags & bit) or "none"
+            text = "control 0x8004 DP SR\nrm 0x00\nowner none\ngroup none\ndacl list 1\n" \
+                   f"dacl 1 {name} flags {names} mask 0x00000000 rights 0x0 sid S-1-1-0 WD\nsacl absent\nend"
+            lines.append((hex_of(dacl_of(Ace(kind, flags, 0, None, None, EVERYONE))),
+                          "error 13 ace-flags dacl" if flags & 0x20 else text))
+    yield EXPLAIN, lines
+
+
 def judge(count, program, words, lines):
     """One run of the program over all of the lines."""
     lines = list(lines)
-    shown = " ".join(["sdtool convert", *words])
+    command = words if words == EXPLAIN else ["convert", *words]
+    shown = " ".join(["sdtool", *command])
     with tempfile.TemporaryFile() as given:
         given.write("".join(f"{line}\n" for line, _ in lines).encode())
         given.seek(0)
-        ended = subprocess.run([program, "convert", *words], stdin=given, capture_output=True, timeout=SECONDS)
+        ended = subprocess.run([program, *command], stdin=given, capture_output=True, timeout=SECONDS)
     *answers, rest = ended.stdout.decode("latin-1").split("\n")
-    for (line, wanted), answer in itertools.zip_longest(lines, answers, fillvalue=("", "no line")):
+    # (an explanation has several lines)
+    pieces = [(line, piece) for line, wanted in lines for piece in wanted.split("\n")]
+    for (line, wanted), answer in itertools.zip_longest(pieces, answers, fillvalue=("", "no line")):
         count.add(answer == wanted, f"{shown}: {line}\n  gave {answer}\n  not  {wanted}")
     is_faulty = any(wanted.startswith("error") for _, wanted in lines)
     count.add(ended.returncode == is_faulty and not rest and not ended.stderr,
@@ -233,7 +264,8 @@ def main():
     parser.add_argument("program", type=os.path.abspath)
     program = parser.parse_args().program
     count = preload.Count()
-    for part in (aliases_read, fields_read, kinds_read, aliases_printed, fields_printed, types_printed):
+    for part in (aliases_read, fields_read, kinds_read, aliases_printed, fields_printed, types_printed,
+                 words_explained, flags_explained):
         before = count.passed
         for words, lines in part():
             judge(count, program, words, lines)
