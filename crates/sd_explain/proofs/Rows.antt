@@ -45,15 +45,22 @@ unfolding explained named shared full_access everyone
 shared_lines = refl
 
 -- bits without a code, and no part at all
-bare_lines : explain named (record { control = 0x80c0; rm = 0xff; owner = None; group = None; sacl = acl.Absent; dacl = acl.Absent })
+bare : Descriptor
+bare = record { control = 0x80c0; rm = 0xff; owner = None; group = None; sacl = acl.Absent; dacl = acl.Absent }
+
+bare_lines : explain named bare
     ≡ codes "control 0x80c0 SR\nrm 0xff\nowner none\ngroup none\ndacl absent\nsacl absent\nend\n"
-unfolding explained named
+unfolding explained named bare
 bare_lines = refl
 
 -- every bit, and null ACLs
-full_control : explain named (record { control = 0xffff; rm = 0x0a; owner = None; group = None; sacl = acl.Null; dacl = acl.Null })
-    ≡ codes "control 0xffff OD GD DP DD SP SD DC SC DI SI PD PS RM SR\nrm 0x0a\nowner none\ngroup none\ndacl null\nsacl null\nend\n"
-unfolding explained named
+full : Descriptor
+full = record { control = 0xffff; rm = 0x0a; owner = None; group = None; sacl = acl.Null; dacl = acl.Null }
+
+full_control : explain named full
+    ≡ codes "control 0xffff OD GD DP DD SP SD DC SC DI SI PD PS RM SR\nrm 0x0a\n"
+    ++ codes "owner none\ngroup none\ndacl null\nsacl null\nend\n"
+unfolding explained named full
 full_control = refl
 
 -- numbers alone, and an empty mask
@@ -63,7 +70,13 @@ unfolding explained full_access everyone
 numbered = refl
 
 -- a label with all of its rights, as the 4,095th ACE of a SACL
-label : ace_line named (codes "sacl ") 4095 (record { kind = kinds.Label; flags = 0xdf; mask = 7; object = None; inherited = None; sid = record { authority = 16; subs = 12288 ∷ [] } })
+high : SecurityId
+high = record { authority = 16; subs = 12288 ∷ [] }
+
+no_access : AccessControlEntry
+no_access = record { kind = kinds.Label; flags = 0xdf; mask = 7; object = None; inherited = None; sid = high }
+
+label : ace_line named (codes "sacl ") 4095 no_access
     ≡ codes "sacl 4095 ML flags OICINPIOIDSAFA mask 0x00000007 rights NWNRNX sid S-1-16-12288 HI\n"
-unfolding explained named
+unfolding explained named no_access high
 label = refl

@@ -52,7 +52,13 @@ control_line-length : (control : ℕ) → length (control_line control) ≤ 57
 unfolding control_line
 control_line-length control =
     let words = flat_map (code_if control) CONTROL_BITS in
-    omega (arith, hex_digits-length 4 control, codes-length control CONTROL_BITS, length-append words (codes "\n"), length-append (hex_digits 4 control) (words ++ codes "\n"))
+    omega (
+      arith,
+      hex_digits-length 4 control,
+      codes-length control CONTROL_BITS,
+      length-append words (codes "\n"),
+      length-append (hex_digits 4 control) (words ++ codes "\n"),
+    )
 
 rm_line-length : (rm : ℕ) → length (rm_line rm) ≤ 8
 unfolding rm_line
@@ -80,16 +86,19 @@ unfolding sid_line
 sid_line-length naming part None e h = omega (arith, e, length-append part (codes "none\n"))
 sid_line-length naming part (Some s) e h =
     let words = sid_words naming s in
-    omega (arith, e, sid_words-length naming s h, length-append words (codes "\n"), length-append part (words ++ codes "\n"))
+    let lf = codes "\n" in
+    omega (arith, e, sid_words-length naming s h, length-append words lf, length-append part (words ++ lf))
 
 -- 3. ACEs: at most eight characters a byte.
 
-ace_head-length : (part : List ℕ) (n : ℕ) (kind : AceKind) → length part ≡ 5 → n < 10000 → length (ace_head part n kind) ≤ 12
+ace_head-length : (part : List ℕ) (n : ℕ) (kind : AceKind)
+    → length part ≡ 5 → n < 10000 → length (ace_head part n kind) ≤ 12
 unfolding ace_head
 ace_head-length part n kind e small =
     let number = length-decimal-le 4 n (omega arith) (omega arith) (omega arith) in
     let back = codes " " ++ kind_letters kind in
-    omega (arith, e, number, (letters-few kind).1, length-append (decimal n) back, length-append part (decimal n ++ back))
+    let words = decimal n ++ back in
+    omega (arith, e, number, (letters-few kind).1, length-append (decimal n) back, length-append part words)
 
 or_none-length : (text : List ℕ) → length text ≤ 14 → length (or_none text) ≤ 14
 or_none-length [] h = omega arith
@@ -101,25 +110,35 @@ ace_rights-length kind flags mask h =
     let names = or_none (flags_text flags) in
     let back = codes " rights " ++ rights_text kind mask in
     let middle = codes " mask 0x" ++ (hex_digits 8 mask ++ back) in
-    omega (arith, or_none-length (flags_text flags) (flags_text-length flags), hex_digits-length 8 mask, rights_text-length kind mask h, length-append (hex_digits 8 mask) back, length-append names middle)
+    omega (
+      arith,
+      or_none-length (flags_text flags) (flags_text-length flags),
+      hex_digits-length 8 mask,
+      rights_text-length kind mask h,
+      length-append (hex_digits 8 mask) back,
+      length-append names middle,
+    )
 
-guid_words-length : (name : List ℕ) (o : Option (List ℕ)) → length name ≤ 11 → length (guid_words name o) ≤ 3 * guid_size o
+guid_words-length : (name : List ℕ) (o : Option (List ℕ))
+    → length name ≤ 11 → length (guid_words name o) ≤ 3 * guid_size o
 guid_words-length name None h = omega arith
 guid_words-length name (Some g) h = omega (arith, h, guid_text-length g, length-append name (guid_text g))
 
-ace_trustee-length : (naming : Naming) (s : SecurityId) → IsSid s → length (ace_trustee naming s) ≤ 27 + 11 * length s.subs
+ace_trustee-length : (naming : Naming) (s : SecurityId)
+    → IsSid s → length (ace_trustee naming s) ≤ 27 + 11 * length s.subs
 unfolding ace_trustee
 ace_trustee-length naming s h =
     omega (arith, sid_words-length naming s h, length-append (sid_words naming s) (codes "\n"))
 
-offset-low : (b : Bool) (o i : Option (List ℕ)) → GuidsFit b o i → 8 + guid_size o + guid_size i ≤ cond b (12 + guid_size o + guid_size i) 8
+offset-low : (b : Bool) (o i : Option (List ℕ)) → GuidsFit b o i
+    → 8 + guid_size o + guid_size i ≤ cond b (12 + guid_size o + guid_size i) 8
 offset-low true o i h = omega arith
 offset-low false None None h = omega arith
 offset-low false (Some g) i h = absurd h
 offset-low false None (Some g) h = absurd h
 
-ace_line-length : (naming : Naming) (part : List ℕ) (n : ℕ) (a : AccessControlEntry) → length part ≡ 5 → n < 10000 → IsAce a
-    → length (ace_line naming part n a) ≤ 8 * ace_size a
+ace_line-length : (naming : Naming) (part : List ℕ) (n : ℕ) (a : AccessControlEntry)
+    → length part ≡ 5 → n < 10000 → IsAce a → length (ace_line naming part n a) ≤ 8 * ace_size a
 unfolding ace_line
 ace_line-length naming part n a e small h =
     let head = ace_head part n a.kind in
@@ -149,20 +168,29 @@ aces-few [] h = omega arith
 aces-few (a ∷ others) h =
     omega (arith, offset-low (is_object a.kind) a.object a.inherited h.0.fit, aces-few others h.1)
 
-numbered-length : (naming : Naming) (part : List ℕ) (n : ℕ) (aces : List AccessControlEntry) → length part ≡ 5 → n + length aces ≤ 10000 → AllByRecursion IsAce aces
+numbered-length : (naming : Naming) (part : List ℕ) (n : ℕ) (aces : List AccessControlEntry)
+    → length part ≡ 5 → n + length aces ≤ 10000 → AllByRecursion IsAce aces
     → length (flat_map (λ e. ace_line naming part e.0 e.1) (enumerate_from n aces)) ≤ 8 * aces_size aces
 numbered-length naming part n [] e small h = omega arith
 numbered-length naming part n (a ∷ others) e small h =
-    let rest = flat_map (λ (e : ℕ × AccessControlEntry). ace_line naming part e.0 e.1) (enumerate_from (n + 1) others) in
-    omega (arith, ace_line-length naming part n a e (omega arith) h.0, numbered-length naming part (n + 1) others e (omega arith) h.1, length-append (ace_line naming part n a) rest)
+    let line = λ (e : ℕ × AccessControlEntry). ace_line naming part e.0 e.1 in
+    let rest = flat_map line (enumerate_from (n + 1) others) in
+    omega (
+      arith,
+      ace_line-length naming part n a e (omega arith) h.0,
+      numbered-length naming part (n + 1) others e (omega arith) h.1,
+      length-append (ace_line naming part n a) rest,
+    )
 
 count_line-length : (part : List ℕ) (n : ℕ) → length part ≡ 5 → n < 10000 → length (count_line part n) ≤ 15
 unfolding count_line
 count_line-length part n e small =
     let number = length-decimal-le 4 n (omega arith) (omega arith) (omega arith) in
-    omega (arith, e, number, length-append (decimal n) (codes "\n"), length-append part (codes "list " ++ (decimal n ++ codes "\n")))
+    let words = codes "list " ++ (decimal n ++ codes "\n") in
+    omega (arith, e, number, length-append (decimal n) (codes "\n"), length-append part words)
 
-acl_lines-length : (naming : Naming) (part : List ℕ) (present : Bool) (p : AclPart) → length part ≡ 5 → IsAclPart present p
+acl_lines-length : (naming : Naming) (part : List ℕ) (present : Bool) (p : AclPart)
+    → length part ≡ 5 → IsAclPart present p
     → length (acl_lines naming part p) ≤ 8 * acl_part_size p + 12
 acl_lines-length naming part present acl.Absent e is = omega (arith, e, length-append part (codes "absent\n"))
 acl_lines-length naming part present acl.Null e is = omega (arith, e, length-append part (codes "null\n"))

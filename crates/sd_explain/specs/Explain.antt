@@ -29,7 +29,8 @@ code_if control b = if has_bit b.bit control then 32 ∷ b.first ∷ b.second �
 
 -- the control word, and the codes of its bits that have one, in rising order
 unfoldable pub control_line : ℕ → List ℕ
-control_line control = codes "control 0x" ++ (hex_digits 4 control ++ (flat_map (code_if control) CONTROL_BITS ++ codes "\n"))
+control_line control =
+    codes "control 0x" ++ (hex_digits 4 control ++ (flat_map (code_if control) CONTROL_BITS ++ codes "\n"))
 
 -- the resource manager byte
 unfoldable pub rm_line : ℕ → List ℕ
@@ -66,7 +67,8 @@ or_none (b ∷ bs) = b ∷ bs
 -- the flags, and the access mask as a number and as rights
 unfoldable pub ace_rights : AceKind → ℕ → ℕ → List ℕ
 ace_rights kind flags mask =
-    codes " flags " ++ (or_none (flags_text flags) ++ (codes " mask 0x" ++ (hex_digits 8 mask ++ (codes " rights " ++ rights_text kind mask))))
+    codes " flags " ++ (or_none (flags_text flags)
+    ++ (codes " mask 0x" ++ (hex_digits 8 mask ++ (codes " rights " ++ rights_text kind mask))))
 
 -- an object type or an inherited object type, where there is one
 abbrev pub guid_words : List ℕ → Option (List ℕ) → List ℕ
@@ -79,7 +81,8 @@ ace_trustee naming s = codes " sid " ++ (sid_words naming s ++ codes "\n")
 unfoldable pub ace_line : Naming → List ℕ → ℕ → AccessControlEntry → List ℕ
 ace_line naming part n a =
     ace_head part n a.kind ++ (ace_rights a.kind a.flags a.mask
-    ++ (guid_words (codes " object ") a.object ++ (guid_words (codes " inherited ") a.inherited ++ ace_trustee naming a.sid)))
+    ++ (guid_words (codes " object ") a.object
+    ++ (guid_words (codes " inherited ") a.inherited ++ ace_trustee naming a.sid)))
 
 -- ---- ACLs (2.4.5)
 

@@ -8,7 +8,8 @@ use Rattle.sd_sink.proofs.PrintLoops.{Prints-item}
 use Rattle.sd_explain.specs.Explain.{code_if}
 use Rattle.sd_explain.proofs.control.print_codes.Goals as goal
 
-next : (bits : List ControlBit) (i : ℕ) (d : ControlBit) → i < length bits → take i bits ++ get_or bits i d ∷ [] ≡ take (i + 1) bits
+next : (bits : List ControlBit) (i : ℕ) (d : ControlBit) → i < length bits
+    → take i bits ++ get_or bits i d ∷ [] ≡ take (i + 1) bits
 next bits i d within =
     let more : suc i ≡ i + 1 = omega arith in
     sym (take-suc bits i d within) ∙ ap (λ (k : ℕ). take k bits) more

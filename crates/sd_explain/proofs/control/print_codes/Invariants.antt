@@ -7,4 +7,5 @@ use Rattle.sd_explain.proofs.control.print_codes.Given as goal
 
 abbrev pub invariant-loop-bit : goal.invariant-loop-bit
 invariant-loop-bit g l =
-    Prints (g.P.Print.told l.fn.out) (g.P.Print.told l.out) (flat_map (code_if l.control) (take l.bit-index CONTROL_BITS))
+    Prints (g.P.Print.told l.fn.out) (g.P.Print.told l.out)
+    (flat_map (code_if l.control) (take l.bit-index CONTROL_BITS))

@@ -11,4 +11,5 @@ returns-clause-printed g c =
     let group = rw c.group.ensures at c.print_sid_line-2.ensures in
     let dacl = rw c.dacl.ensures at c.print_acl.ensures in
     let sacl = rw c.sacl.ensures at c.print_acl-2.ensures in
-    prints_then control (prints_then rm (prints_then owner (prints_then group (prints_then dacl (prints_then sacl c.put.ensures)))))
+    let acls = prints_then dacl (prints_then sacl c.put.ensures) in
+    prints_then control (prints_then rm (prints_then owner (prints_then group acls)))
