@@ -1,4 +1,4 @@
-use Rattle.std.proofs.Common.{◌≡◌, ◌∷◌, ◌++◌, ◌&&◌, ℕ, List, length, ap, sym, ◌∙◌, arith, rules}
+use Rattle.std.proofs.Common.{◌≡◌, ◌∷◌, ◌++◌, ◌&&◌, ℕ, List, length, ap, ◌∙◌, arith, rules}
 use Rattle.sd_core.specs.Mapping.{carries}
 use Rattle.sd_core.specs.Token.{Entry}
 use Rattle.sd_access.specs.Granted.{decides}
