@@ -36,7 +36,7 @@ CONVERTED = {
 def of_examples():
     """The examples again and again, in hex and in SDDL."""
     data = EXAMPLES.read_bytes()
-    sddl = faults.Answers(faults.Job([], data)).all
+    sddl = faults.Answers(faults.Job(["convert"], data)).all
     for name, lines, words in (("hex", data, ["--from", "hex"]), ("SDDL", sddl, ["--from", "sddl"])):
         for form in ("hex", "sddl"):
             yield f"examples in {name} to {form}", ([*words, "--to", form], lines * (MEGABYTE // len(lines)))

@@ -1,3 +1,4 @@
 pub mod Masks
+mod Rows
 pub mod ScanLaws
 pub mod VerdictLaws

@@ -17,6 +17,7 @@ const INHERIT_ONLY: u32 = 3;
 pub fn applies(ace: &AceView, view: &SdView, token: &mut Token, ask: &Ask) -> bool
     ensures value { result ≡ applies ace.now view.now token.old.entries ask.now }
     ensures entries { token.new.entries ≡ token.old.entries }
+    ensures goes_on { token.old.compared ≤ token.new.compared }
     ensures count { token.new.compared ≤ token.old.compared + length token.old.entries }
 {
     is_effective(ace)

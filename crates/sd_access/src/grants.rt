@@ -25,6 +25,7 @@ const BELOW_SYSTEM_SECURITY: u32 = 0xff_ffff;
 pub fn given(view: &SdView, token: &mut Token, ask: &Ask) -> u32
     ensures value { result ≡ given_mask view.now token.old.entries ask.now }
     ensures entries { token.new.entries ≡ token.old.entries }
+    ensures goes_on { token.old.compared ≤ token.new.compared }
     ensures count { token.new.compared ≤ token.old.compared + length token.old.entries }
 {
     mask_if(ask.security(), ACCESS_SYSTEM_SECURITY)
@@ -51,6 +52,7 @@ fn is_open(view: &SdView) -> bool
 fn is_owned(view: &SdView, token: &mut Token) -> bool
     ensures value { result ≡ is_owned view.now token.old.entries }
     ensures entries { token.new.entries ≡ token.old.entries }
+    ensures goes_on { token.old.compared ≤ token.new.compared }
     ensures count { token.new.compared ≤ token.old.compared + length token.old.entries }
 {
     some_meets(token, view.owner(), false)

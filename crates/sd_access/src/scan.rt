@@ -16,6 +16,7 @@ pub fn scan(view: &SdView, token: &mut Token, ask: &Ask, question: u32) -> u32
     requires { question < 2 ^ 25 }
     ensures rights { (right : ℕ) → carries result right ≡ (carries question right && is_allowed right view.now token.old.entries ask.now) }
     ensures entries { token.new.entries ≡ token.old.entries }
+    ensures goes_on { token.old.compared ≤ token.new.compared }
     ensures count { token.new.compared ≤ token.old.compared + scan_need question view.now token.old.entries ask.now (aces_of view.now.dacl) * length token.old.entries }
 {
     match view.dacl() {
@@ -29,6 +30,7 @@ fn scan_aces(acl: &AclView, view: &SdView, token: &mut Token, ask: &Ask, questio
     requires { question < 2 ^ 25 }
     ensures rights { (right : ℕ) → carries result right ≡ (carries question right && allows (find (decides right view.now token.old.entries ask.now) acl.now)) }
     ensures entries { token.new.entries ≡ token.old.entries }
+    ensures goes_on { token.old.compared ≤ token.new.compared }
     ensures count { token.new.compared ≤ token.old.compared + scan_need question view.now token.old.entries ask.now acl.now * length token.old.entries }
 {
     let mut undecided = question;
@@ -50,6 +52,7 @@ fn scan_aces(acl: &AclView, view: &SdView, token: &mut Token, ask: &Ask, questio
 fn decided(ace: &AceView, view: &SdView, token: &mut Token, ask: &Ask, undecided: u32) -> u32
     ensures rights { (right : ℕ) → carries result right ≡ (carries undecided right && decides right view.now token.old.entries ask.now ace.now) }
     ensures entries { token.new.entries ≡ token.old.entries }
+    ensures goes_on { token.old.compared ≤ token.new.compared }
     ensures count { token.new.compared ≤ token.old.compared + length token.old.entries }
     ensures spared { bit_and undecided (mapped ask.now.mapping ace.now.mask) ≡ 0 → token.new.compared ≡ token.old.compared }
 {

@@ -12,6 +12,7 @@ use sd_core::{Sid, Token};
 fn meets_any(token: &mut Token, sid: &Sid, deny: bool) -> bool
     ensures value { result ≡ meets sid.now deny token.old.entries }
     ensures entries { token.new.entries ≡ token.old.entries }
+    ensures goes_on { token.old.compared ≤ token.new.compared }
     ensures count { token.new.compared ≤ token.old.compared + length token.old.entries }
 {
     for i in 0..token.len() {
@@ -26,6 +27,7 @@ fn meets_any(token: &mut Token, sid: &Sid, deny: bool) -> bool
 pub fn some_meets(token: &mut Token, sid: Option<Sid>, deny: bool) -> bool
     ensures value { result ≡ some_meets sid deny token.old.entries }
     ensures entries { token.new.entries ≡ token.old.entries }
+    ensures goes_on { token.old.compared ≤ token.new.compared }
     ensures count { token.new.compared ≤ token.old.compared + length token.old.entries }
 {
     match sid {

@@ -28,6 +28,7 @@ pub enum Verdict {
 pub fn check(view: &SdView, token: &mut Token, ask: &Ask) -> Verdict
     ensures verdict { result ≡ verdict view.now token.old.entries ask.now }
     ensures entries { token.new.entries ≡ token.old.entries }
+    ensures goes_on { token.old.compared ≤ token.new.compared }
     // Each entry is looked at once for the owner, and once for each ACE that is needed.
     ensures needed { token.new.compared ≤ token.old.compared + (need view.now token.old.entries ask.now + 1) * length token.old.entries }
     ensures bound { token.new.compared ≤ token.old.compared + bound view.now (length token.old.entries) }
@@ -48,6 +49,7 @@ pub fn check(view: &SdView, token: &mut Token, ask: &Ask) -> Verdict
 fn granted(view: &SdView, token: &mut Token, ask: &Ask) -> u32
     ensures rights { HasGranted view.now token.old.entries ask.now result }
     ensures entries { token.new.entries ≡ token.old.entries }
+    ensures goes_on { token.old.compared ≤ token.new.compared }
     ensures count { token.new.compared ≤ token.old.compared + (need view.now token.old.entries ask.now + 1) * length token.old.entries }
 {
     let given = given(view, token, ask);

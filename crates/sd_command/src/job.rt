@@ -1,5 +1,6 @@
 // What is to be done with each line.
 
+use sd_access::Ask;
 use sd_core::Sid;
 
 /// How a line spells a descriptor.
@@ -18,6 +19,8 @@ pub enum Act {
     Convert(Form),
     /// It is explained, by a block of lines.
     Explain,
+    /// It is said whether it grants what is asked (MS-DTYP 2.5.3).
+    Check(Ask),
 }
 
 /// What a run does: how its lines spell descriptors, and what is done with each.

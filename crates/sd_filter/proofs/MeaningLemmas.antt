@@ -3,14 +3,15 @@ use Rattle.std.proofs.Common.{◌≡◌, ◌≤◌, ◌<◌, ℕ, List, [], ◌�
 use Rattle.std.specs.Prelude.{MatchResult}
 use Rattle.std.proofs.lemmas.Bool.Decides.{nat_tests}
 use Rattle.sd_core.specs.Sid.{SecurityId}
-use Rattle.sd_core.specs.Token.{Entry}
+use Rattle.sd_core.specs.Token.{Entry, TokenShown}
 use Rattle.sd_sink.specs.Print.{Begins, Finishes, PrintTold}
 use Rattle.sd_sink.specs.Sink.{SinkTold, PutSome}
 use Rattle.sd_sink.specs.declared.sink.SinkFault.{SinkFault}
 use Rattle.sd_view.specs.Descriptor.{Descriptor, Shows}
 use Rattle.sd_view.specs.declared.fault.SdFault.{SdFault}
 use Rattle.sd_reader.specs.declared.fault.SddlFault.{SddlFault}
-use Rattle.sd_filter.specs.Answers.{Meaning, answer, is_error, is_error_of_meaning, line_limit, line_means, meaning, or_sddl_fault, text_means, text_of_meaning}
+use Rattle.sd_filter.specs.Answers.{Meaning, answer, bound, bound_of_meaning, is_error, is_error_of_meaning, line_limit, line_means, meaning, or_sddl_fault, text_means, text_of_meaning}
+use Rattle.sd_filter.specs.Outcome.{Compares}
 use Rattle.sd_filter.specs.Sofar.{HoldsText, PrintsAnswer, PutsAnswer}
 use Rattle.sd_sink.proofs.PrintLemmas.{printed}
 use Rattle.sd_filter.specs.declared.fault.LineFault.{LineFault}
@@ -23,6 +24,16 @@ pub answered : (job : Job) (entries : List Entry) (line : List ℕ) (old new : P
     → PrintsAnswer old new (text_of_meaning job entries m) (is_error_of_meaning job.act m) faulty → PrintsAnswer old new (answer job entries line) (is_error job line) faulty
 unfolding answer is_error
 answered job entries line old new m faulty e h = rw e h
+
+-- what is compared for what a line means is what the line may compare
+pub compared : (job : Job) (entries : List Entry) (line : List ℕ) (token token' : TokenShown) (m : Meaning) → meaning job line ≡ m
+    → Compares token token' (bound_of_meaning job.act entries m) → Compares token token' (bound job entries line)
+unfolding bound
+compared job entries line token token' m e h = rw e h
+
+-- no entry was compared
+pub Compares-none : (token : TokenShown) (n : ℕ) → Compares token token n
+Compares-none token n = record { goes_on = omega arith; at_most = omega arith }
 
 -- an answer that was printed from the start, and finished
 pub gathered : {old new : SinkTold} {a b c : PrintTold} {text : List ℕ} {error faulty : Bool} → Begins old a → c.below ≡ new

@@ -9,7 +9,7 @@ use Rattle.sd_sink.specs.Sink.{SinkTold, PutAll, PutSome}
 use Rattle.sd_sink.specs.declared.sink.SinkFault.{SinkFault}
 use Rattle.sd_sink.proofs.SinkLemmas.{PutAll-nil, PutAll-trans}
 use Rattle.sd_filter.specs.Lines.{parts, ended, lines, last_line, without_cr}
-use Rattle.sd_filter.specs.Answers.{answer, answers, bounds, errors, is_error}
+use Rattle.sd_filter.specs.Answers.{answer, answers, bound, bounds, errors, is_error}
 use Rattle.sd_filter.specs.Outcome.{Compares}
 use Rattle.sd_filter.specs.Sofar.{Holds, Answered, Failed, Sofar}
 use Rattle.sd_command.specs.declared.job.Job.{Job}
@@ -18,39 +18,44 @@ use Rattle.sd_filter.specs.declared.engine.Report.{Report}
 use Rattle.sd_filter.proofs.PartsLemmas.{NoLf, ended-more, rest-more, ended-lf, rest-lf, ended-append}
 use Rattle.sd_filter.proofs.AnswersLemmas.{answers-one, answers-push, errors-push, bounds-push}
 
--- no entry was compared
-Compares-same : (token0 token token' : TokenShown) (n more : ℕ) → Compares token0 token n → token' ≡ token → Compares token0 token' (n + more)
-Compares-same token0 token token' n more h same =
+-- comparisons, and further ones
+Compares-more : (token0 token token' : TokenShown) (n more : ℕ) → Compares token0 token n → Compares token token' more
+    → Compares token0 token' (n + more)
+Compares-more token0 token token' n more h further =
     let low = h.goes_on in
     let high = h.at_most in
-    let count : token'.compared ≡ token.compared = ap (λ (t : TokenShown). t.compared) same in
+    let then_low = further.goes_on in
+    let then_high = further.at_most in
     record { goes_on = omega arith; at_most = omega arith }
 
 -- one line more is answered
 pub Answered-push : (job : Job) (token0 token token' : TokenShown) (sink0 sink sink' : SinkTold) (all : List (List ℕ)) (text : List ℕ) (report report' : Report)
     → Answered job token0 sink0 all token sink report
     → PutAll sink sink' (answer job token.entries text)
-    → token' ≡ token
+    → token'.entries ≡ token.entries
+    → Compares token token' (bound job token.entries text)
     → report'.lines ≡ report.lines + 1
     → report'.faults ≡ report.faults + cond (is_error job text) 1 0
     → Answered job token0 sink0 (all ++ text ∷ []) token' sink' report'
-Answered-push job token0 token token' sink0 sink sink' all text report report' h put same more_lines more_faults =
+Answered-push job token0 token token' sink0 sink sink' all text report report' h put same further more_lines more_faults =
     let put0 : PutAll sink sink' (answer job token0.entries text) = subst (λ (e : List Entry). PutAll sink sink' (answer job e text)) h.same_entries put in
     record {
       put = rw (answers-push job token0.entries all text) (PutAll-trans _ _ _ _ _ h.put put0);
       lines_counted = more_lines ∙ ap (λ n. n + 1) h.lines_counted ∙ sym (length_push all text);
       faults_counted = more_faults ∙ ap (λ n. n + cond (is_error job text) 1 0) h.faults_counted ∙ sym (errors-push job all text);
-      same_entries = ap (λ (t : TokenShown). t.entries) same ∙ h.same_entries;
-      compared = rw (bounds-push job token0.entries all text) (Compares-same token0 token token' _ _ h.compared same);
+      same_entries = same ∙ h.same_entries;
+      compared = rw (bounds-push job token0.entries all text) (Compares-more token0 token token' _ _ h.compared
+          (subst (λ (e : List Entry). Compares token token' (bound job e text)) h.same_entries further));
     }
 
 -- the answer to one line more breaks off
 pub Failed-push : (job : Job) (token0 token token' : TokenShown) (sink0 sink sink' : SinkTold) (all : List (List ℕ)) (text : List ℕ) (report : Report)
     → Answered job token0 sink0 all token sink report
     → PutSome sink sink' (answer job token.entries text)
-    → token' ≡ token
+    → token'.entries ≡ token.entries
+    → Compares token token' (bound job token.entries text)
     → Failed job token0 sink0 (all ++ text ∷ []) token' sink'
-Failed-push job token0 token token' sink0 sink sink' all text report h put same =
+Failed-push job token0 token token' sink0 sink sink' all text report h put same further =
     let put0 : PutSome sink sink' (answer job token0.entries text) = subst (λ (e : List Entry). PutSome sink sink' (answer job e text)) h.same_entries put in
     record {
       whole = all;
@@ -62,8 +67,9 @@ Failed-push job token0 token token' sink0 sink sink' all text report h put same 
       is_prefix = rw (answers-one job token0.entries text) put0.is_prefix;
       appended = Appends-trans _ _ _ _ _ h.put.appended put0.appended;
       failed = let none = h.put.no_failure in let rose = put0.failed in omega arith;
-      same_entries = ap (λ (t : TokenShown). t.entries) same ∙ h.same_entries;
-      compared = rw (bounds-push job token0.entries all text) (Compares-same token0 token token' _ _ h.compared same);
+      same_entries = same ∙ h.same_entries;
+      compared = rw (bounds-push job token0.entries all text) (Compares-more token0 token token' _ _ h.compared
+          (subst (λ (e : List Entry). Compares token token' (bound job e text)) h.same_entries further));
     }
 
 -- further lines are not answered either

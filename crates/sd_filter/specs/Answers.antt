@@ -1,5 +1,5 @@
 -- The answer to each line, which rests on that line alone.
-use Rattle.std.specs.Prelude.{◌≤◌, ℕ, ◌+◌, ◌*◌, List, [], ◌∷◌, ◌++◌, if◌then◌else◌, nat_lt, length, Bool, true, false, Option, Some, None, is_some, Result, Ok, Err, count_by, sum_by}
+use Rattle.std.specs.Prelude.{◌≤◌, ℕ, ◌+◌, ◌*◌, List, [], ◌∷◌, ◌++◌, if◌then◌else◌, nat_lt, length, Bool, true, false, Option, Some, None, is_some, Result, Ok, Err, count_by, sum_by, codes}
 use Rattle.std.specs.List.{flat_map}
 use Rattle.hex.specs.Hex.{encode_lower}
 use Rattle.sd_core.specs.Sid.{SecurityId}
@@ -13,12 +13,17 @@ use Rattle.sd_view.specs.declared.fault.SdFault.{SdFault}
 use Rattle.sd_filter.specs.declared.fault.LineFault.{LineFault}
 use Rattle.sd_filter.specs.declared.fault.LineFault.TheVariants.{TooLong, Text, Sd, Sddl}
 use Rattle.sd_command.specs.declared.job.Act.{Act}
-use Rattle.sd_command.specs.declared.job.Act.TheVariants.{Convert, Explain}
+use Rattle.sd_command.specs.declared.job.Act.TheVariants.{Check, Convert, Explain}
 use Rattle.sd_command.specs.declared.job.Form.{Form}
 use Rattle.sd_command.specs.declared.job.Form.TheVariants as form
 use Rattle.sd_command.specs.declared.job.Job.{Job}
 use Rattle.sd_core.specs.declared.naming.Naming.{Naming}
+use Rattle.sd_access.specs.Need.{bound as check_bound}
+use Rattle.sd_access.specs.Verdict.{verdict}
+use Rattle.sd_access.specs.declared.verdict.Verdict.{Verdict}
+use Rattle.sd_access.specs.declared.verdict.Verdict.TheVariants.{Denied, Granted}
 use Rattle.sd_explain.specs.Explain.{explain}
+use Rattle.sd_rights.specs.Numbers.{hex_digits}
 use Rattle.sd_reader.specs.Meaning.{means}
 use Rattle.sd_sddl.specs.Printed.{sddl}
 use Rattle.sd_reader.specs.declared.fault.SddlFault.{SddlFault}
@@ -71,10 +76,16 @@ unfoldable pub form_text : Job → Form → Descriptor → List ℕ
 form_text job form.Hex d = encode_lower (layout d)
 form_text job form.Sddl d = sddl (naming_of job) d
 
+-- the mask in eight hex digits
+abbrev pub verdict_text : Verdict → List ℕ
+verdict_text (Granted mask) = codes "granted 0x" ++ hex_digits 8 mask
+verdict_text (Denied mask) = codes "denied 0x" ++ hex_digits 8 mask
+
 -- what is answered to a descriptor, with its LF; each line of an explanation has its own already
 abbrev pub act_text : Job → Act → List Entry → Descriptor → List ℕ
 act_text job (Convert form) entries d = form_text job form d ++ 10 ∷ []
 act_text job Explain entries d = explain (naming_of job) d
+act_text job (Check ask) entries d = verdict_text (verdict d entries ask) ++ 10 ∷ []
 
 abbrev pub text_of_meaning : Job → List Entry → Meaning → List ℕ
 text_of_meaning job entries None = 10 ∷ []
@@ -91,10 +102,11 @@ answers job entries lines = flat_map (answer job entries) lines
 
 -- ---- what is counted
 
--- the fault of an act at a descriptor: a conversion has none, and an explanation has none
+-- the fault of an act at a descriptor: there is none yet
 abbrev pub act_fault : Act → Descriptor → Option LineFault
 act_fault (Convert form) d = None
 act_fault Explain d = None
+act_fault (Check ask) d = None
 
 abbrev pub is_error_of_meaning : Act → Meaning → Bool
 is_error_of_meaning act None = false
@@ -109,10 +121,11 @@ is_error job line = is_error_of_meaning job.act (meaning job line)
 unfoldable pub errors : Job → List (List ℕ) → ℕ
 errors job lines = count_by (is_error job) lines
 
--- how often an entry of the token may be compared: neither a conversion nor an explanation compares any
+-- how often an entry of the token may be compared: a check alone compares any
 abbrev pub act_bound : Act → List Entry → Descriptor → ℕ
 act_bound (Convert form) entries d = 0
 act_bound Explain entries d = 0
+act_bound (Check ask) entries d = check_bound d (length entries)
 
 abbrev pub bound_of_meaning : Act → List Entry → Meaning → ℕ
 bound_of_meaning act entries None = 0
@@ -127,10 +140,12 @@ bounds job entries lines = sum_by (bound job entries) lines
 
 -- ---- how much is printed
 
--- the descriptor that is printed for one that was read: a conversion prints that one, and so does an explanation
+-- the descriptor that is printed for one that was read: a conversion prints that one, and so does an explanation; a
+-- verdict prints none
 abbrev pub act_prints : Act → Descriptor → Option Descriptor
 act_prints (Convert form) d = Some d
 act_prints Explain d = Some d
+act_prints (Check ask) d = None
 
 abbrev pub printed_of_meaning : Act → Meaning → Option Descriptor
 printed_of_meaning act None = None

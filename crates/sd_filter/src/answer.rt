@@ -1,10 +1,10 @@
 // The answer to one line.
 ghost use Rattle.std.specs.Prelude.{◌≡◌, ◌≤◌, ℕ, List, ◌++◌, [], ◌∷◌, length, true, is_some, Ok, Err};
 ghost use Rattle.sd_sink.specs.Print.{Prints};
-ghost use Rattle.sd_core.specs.Token.{Entry};
-ghost use Rattle.sd_filter.specs.Answers.{act_fault, act_text, answer, bytes_mean, form_text, is_error, line_limit, naming_of, or_sddl_fault, text_means};
+ghost use Rattle.sd_filter.specs.Answers.{act_bound, act_fault, act_text, answer, bound, bytes_mean, form_text, is_error, line_limit, naming_of, or_sddl_fault, text_means, verdict_text};
 ghost use Rattle.sd_explain.specs.Explain.{explain};
 ghost use Rattle.sd_filter.specs.Faults.{fault_text};
+ghost use Rattle.sd_filter.specs.Outcome.{Compares};
 ghost use Rattle.sd_filter.specs.Sofar.{HoldsText, PrintsAnswer, PutsAnswer};
 ghost use Rattle.sd_filter.specs.Told.{sink_of};
 ghost use Rattle.std.specs.Option.{option_copied};
@@ -16,9 +16,10 @@ use crate::engine::Stores;
 use crate::fault::{LineFault, print_fault};
 use crate::hex_text::{GATHERED, print_hex};
 use crate::sink::DrainSink;
+use sd_access::{Verdict, check};
 use sd_binary::{SdBuf, SdView, read, write_layout};
 use sd_command::{Act, Form, Job};
-use sd_core::{Gather, Print, Sid, Sink, SinkFault, Token};
+use sd_core::{Gather, Print, Sid, Sink, SinkFault, Token, print_hex as print_hex_digits};
 use sd_sddl::{print_explain, print_sddl, read_sddl};
 
 /// Puts the answer to a line and its LF, and says whether it is an `error` line. Of a line over its
@@ -34,7 +35,9 @@ pub fn put_answer<W: Drain>(
     requires { length text.now ≤ line_limit job.now.source }
     ensures put { (line : List ℕ) → HoldsText (line_limit job.now.source) text.now over line
         → PutsAnswer (sink_of (W.told drain.old)) (sink_of (W.told drain.new)) (answer job.now token.old.entries line) (is_error job.now line) result }
-    ensures token { token.new ≡ token.old }
+    ensures entries { token.new.entries ≡ token.old.entries }
+    ensures compared { (line : List ℕ) → HoldsText (line_limit job.now.source) text.now over line
+        → Compares token.old token.new (bound job.now token.old.entries line) }
 {
     let mut sink = DrainSink { drain };
     put_gathered(job, text, over, stores, token, &mut sink)
@@ -52,7 +55,9 @@ fn put_gathered<S: Sink>(
     requires { length text.now ≤ line_limit job.now.source }
     ensures put { (line : List ℕ) → HoldsText (line_limit job.now.source) text.now over line
         → PutsAnswer (S.told sink.old) (S.told sink.new) (answer job.now token.old.entries line) (is_error job.now line) result }
-    ensures token { token.new ≡ token.old }
+    ensures entries { token.new.entries ≡ token.old.entries }
+    ensures compared { (line : List ℕ) → HoldsText (line_limit job.now.source) text.now over line
+        → Compares token.old token.new (bound job.now token.old.entries line) }
 {
     let mut out = Gather::new(sink);
     let faulty = print_answer(job, text, over, stores, token, &mut out);
@@ -73,7 +78,9 @@ fn print_answer<P: Print>(
     requires { length text.now ≤ line_limit job.now.source }
     ensures printed { (line : List ℕ) → HoldsText (line_limit job.now.source) text.now over line
         → PrintsAnswer (P.told out.old) (P.told out.new) (answer job.now token.old.entries line) (is_error job.now line) result }
-    ensures token { token.new ≡ token.old }
+    ensures entries { token.new.entries ≡ token.old.entries }
+    ensures compared { (line : List ℕ) → HoldsText (line_limit job.now.source) text.now over line
+        → Compares token.old token.new (bound job.now token.old.entries line) }
 {
     if over {
         return print_error(&LineFault::TooLong, out);
@@ -82,7 +89,14 @@ fn print_answer<P: Print>(
         return print_end(false, out);
     }
     match view_of(job, text, &mut stores.read) {
-        Ok(view) => print_act(job, &view, &mut stores.written, &mut stores.digits, out),
+        Ok(view) => print_act(
+            job,
+            &view,
+            &mut stores.written,
+            &mut stores.digits,
+            token,
+            out,
+        ),
         Err(fault) => print_error(&fault, out),
     }
 }
@@ -139,10 +153,13 @@ fn print_act<P: Print>(
     view: &SdView<'_>,
     written: &mut SdBuf,
     digits: &mut [u8; GATHERED],
+    token: &mut Token,
     out: &mut P,
 ) -> bool
-    ensures { (entries : List Entry) → PrintsAnswer (P.told out.old) (P.told out.new)
-        (act_text job.now job.now.act entries view.now) (is_some (act_fault job.now.act view.now)) result }
+    ensures printed { PrintsAnswer (P.told out.old) (P.told out.new)
+        (act_text job.now job.now.act token.old.entries view.now) (is_some (act_fault job.now.act view.now)) result }
+    ensures entries { token.new.entries ≡ token.old.entries }
+    ensures compared { Compares token.old token.new (act_bound job.now.act token.old.entries view.now) }
 {
     match job.act {
         Act::Convert(form) => {
@@ -152,6 +169,10 @@ fn print_act<P: Print>(
         Act::Explain => {
             print_explanation(job, view, out);
             false
+        }
+        Act::Check(ask) => {
+            print_verdict(check(view, token, &ask), out);
+            print_end(false, out)
         }
     }
 }
@@ -182,6 +203,22 @@ fn print_explanation<P: Print>(job: &Job, view: &SdView<'_>, out: &mut P)
     ensures { Prints (P.told out.old) (P.told out.new) (explain (naming_of job.now) view.now) }
 {
     print_explain(view, job.domain.as_ref(), job.numeric, out);
+}
+
+// Prints a verdict: its word, and its mask in eight hex digits.
+fn print_verdict<P: Print>(verdict: Verdict, out: &mut P)
+    ensures { Prints (P.told out.old) (P.told out.new) (verdict_text verdict) }
+{
+    match verdict {
+        Verdict::Granted(mask) => {
+            out.put(b"granted 0x");
+            print_hex_digits(8, u64::from(mask), out);
+        }
+        Verdict::Denied(mask) => {
+            out.put(b"denied 0x");
+            print_hex_digits(8, u64::from(mask), out);
+        }
+    }
 }
 
 // Ends a line.

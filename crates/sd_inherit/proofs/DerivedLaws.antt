@@ -1,5 +1,5 @@
 -- What is derived, from the parts that the builder was given, and why it may not be.
-use Rattle.std.proofs.Common.{◌≡◌, ◌≤◌, ℕ, ◌+◌, ◌^◌, ◌↔◌, Bool, true, false, List, Some, None, refl, sym, ap, arith}
+use Rattle.std.proofs.Common.{◌≡◌, ◌≤◌, ℕ, ◌+◌, ◌^◌, ◌↔◌, Bool, true, false, not, List, [], ◌∷◌, ◌++◌, Some, None, refl, sym, ap, arith}
 use Rattle.std.proofs.lemmas.Bool.Decides.{nat_tests}
 use Rattle.sd_core.specs.Ace.{AccessControlEntry}
 use Rattle.sd_view.specs.Acl.{acl_size}
@@ -72,3 +72,9 @@ built-derived d plan has_sacl is =
       sacl = sacl_of (inherited plan d.sacl);
       dacl = acl.List (inherited plan d.dacl);
     } in e) (control-is (is_present (sacl_of (inherited plan d.sacl)))))
+
+-- a SACL stands where the first of its copies do
+pub sacl-stands : (first others : List AccessControlEntry) → not (is_present (sacl_of first)) ≡ false
+    → sacl_of (first ++ others) ≡ acl.List (first ++ others)
+sacl-stands [] others e = absurd cc
+sacl-stands (a ∷ first) others e = refl

@@ -1,7 +1,6 @@
 //! The descriptor of a new object.
 
-ghost use Rattle.std.specs.Prelude.{◌≡◌, ◌<◌, ◌≤◌, ◌↔◌, [], None, Some, MatchResult, OnOk, OnErr};
-ghost use Rattle.sd_view.specs.Control.{flag_bits};
+ghost use Rattle.std.specs.Prelude.{◌≡◌, [], None, Some, MatchResult, OnOk, OnErr};
 ghost use Rattle.sd_view.specs.Descriptor.{Shows};
 ghost use Rattle.sd_view.specs.Layout.{layout};
 ghost use Rattle.sd_inherit.specs.Building.{inherited_bits};

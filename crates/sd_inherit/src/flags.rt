@@ -1,7 +1,7 @@
 //! The flags of inheritance (MS-DTYP 2.4.4.1).
 
-ghost use Rattle.std.specs.Prelude.{◌≡◌, ◌<◌, ◌≤◌, ◌+◌};
-ghost use Rattle.sd_inherit.specs.Copies.{audit_flags, copied_flags, onward_flags};
+ghost use Rattle.std.specs.Prelude.{◌≡◌, ◌<◌, ◌≤◌};
+ghost use Rattle.sd_inherit.specs.Copies.{copied_flags, onward_flags};
 
 /// The places of OBJECT_INHERIT_ACE, CONTAINER_INHERIT_ACE and NO_PROPAGATE_INHERIT_ACE.
 pub const OBJECT_INHERIT: u32 = 0;

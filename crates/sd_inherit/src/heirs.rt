@@ -1,6 +1,6 @@
 //! Who and what stands in a copy for the creator, and for generic rights.
 
-ghost use Rattle.std.specs.Prelude.{◌≡◌, ◌<◌, ◌^◌};
+ghost use Rattle.std.specs.Prelude.{◌≡◌};
 ghost use Rattle.sd_rights.specs.Rights.{is_label};
 ghost use Rattle.sd_core.specs.SidText.{same_sid};
 ghost use Rattle.sd_inherit.specs.Copies.{creator_group, creator_owner, has_generic, heir, heir_mask, differs};

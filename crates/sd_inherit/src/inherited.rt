@@ -1,6 +1,6 @@
 //! ACLs of copies, built.
 
-ghost use Rattle.std.specs.Prelude.{◌≡◌, ◌<◌, ◌≤◌, ◌+◌, ◌^◌, ◌↔◌, [], IsErr, IfOk, OnOk, not};
+ghost use Rattle.std.specs.Prelude.{◌≡◌, ◌≤◌, ◌+◌, ◌^◌, ◌↔◌, ◌++◌, [], IsErr, IfOk, OnOk};
 ghost use Rattle.std.specs.List.{flat_map};
 ghost use Rattle.sd_view.specs.Acl.{aces_size, acl_size};
 ghost use Rattle.sd_binary.specs.Draft.{CanBegin, Draft, bytes_after, is_present, open_size, part_of, with_acl};
@@ -12,7 +12,7 @@ ghost use Rattle.sd_inherit.specs.Derived.{inherited, sacl_of};
 
 use crate::copies::{Copies, copies_of};
 use crate::plan::Plan;
-use sd_binary::{AclPart, AclTooLarge, AclView, Builder, SdBuf, Which};
+use sd_binary::{Aces, AclPart, AclTooLarge, Builder, SdBuf, Which};
 use sd_core::Ace;
 
 /// Appends the SACL, if a copy stands in it, and tells whether it does.
@@ -30,11 +30,41 @@ pub fn put_sacl(
     ensures stands { IfOk result (λ stands. stands ≡ is_present (sacl_of (inherited plan.now sacl.now))) }
     ensures full { IsErr result ↔ (2 ^ 16 ≤ acl_size (inherited plan.now sacl.now)) }
 {
-    if !has_copy(plan, sacl) {
+    let AclPart::List(acl) = sacl else {
         return Ok(false);
+    };
+    let mut aces = acl.aces();
+    while let Some(ace) = aces.next() {
+        let copies = copies_of(plan, &ace.ace());
+        if !copies.is_empty() {
+            put_from(builder, buf, plan, &copies, aces)?;
+            return Ok(true);
+        }
     }
-    put_acl(builder, buf, plan, Which::Sacl, sacl)?;
-    Ok(true)
+    Ok(false)
+}
+
+// Appends the SACL from the first copies on.
+fn put_from(
+    builder: &mut Builder,
+    buf: &mut SdBuf,
+    plan: &Plan,
+    first: &Copies,
+    others: Aces<'_>,
+) -> Result<(), AclTooLarge>
+    requires { (t : Draft) × Writes builder.old buf.old t × CanBegin which.Sacl t
+        × (bytes_after (part_of which.Sacl) t ≡ []) }
+    ensures ok { (t : Draft) → Writes builder.old buf.old t → CanBegin which.Sacl t
+        → bytes_after (part_of which.Sacl) t ≡ []
+        → OnOk result (Writes builder.new buf.new
+        (with_acl which.Sacl (acl.List (listed first.now ++ flat_map (copies plan.now) others.entry)) t)) }
+    ensures full { IsErr result ↔ (2 ^ 16 ≤ acl_size (listed first.now ++ flat_map (copies plan.now) others.entry)) }
+{
+    builder.begin_acl(buf, Which::Sacl);
+    put_copies(builder, buf, first)?;
+    put_inherited(builder, buf, plan, others)?;
+    builder.end_acl(buf);
+    Ok(())
 }
 
 /// Appends an ACL of the copies.
@@ -52,7 +82,7 @@ pub fn put_acl(
 {
     builder.begin_acl(buf, which);
     if let AclPart::List(acl) = part {
-        put_inherited(builder, buf, plan, acl)?;
+        put_inherited(builder, buf, plan, acl.aces())?;
     }
     builder.end_acl(buf);
     Ok(())
@@ -63,15 +93,15 @@ fn put_inherited(
     builder: &mut Builder,
     buf: &mut SdBuf,
     plan: &Plan,
-    acl: &AclView,
+    aces: Aces<'_>,
 ) -> Result<(), AclTooLarge>
     requires { (t : Draft) × Writes builder.old buf.old t × HasOpen t }
     ensures ok { (t : Draft) → Writes builder.old buf.old t
-        → OnOk result (Writes builder.new buf.new (with_aces (flat_map (copies plan.now) acl.now) t)) }
+        → OnOk result (Writes builder.new buf.new (with_aces (flat_map (copies plan.now) aces.entry) t)) }
     ensures full { (t : Draft) → Writes builder.old buf.old t → HasOpen t
-        → (IsErr result ↔ (2 ^ 16 ≤ open_size t + aces_size (flat_map (copies plan.now) acl.now))) }
+        → (IsErr result ↔ (2 ^ 16 ≤ open_size t + aces_size (flat_map (copies plan.now) aces.entry))) }
 {
-    for ace in acl.aces() {
+    for ace in aces {
         put_copies(builder, buf, &copies_of(plan, &ace.ace()))?;
     }
     Ok(())
@@ -99,25 +129,4 @@ fn put_copy(builder: &mut Builder, buf: &mut SdBuf, copy: Option<Ace>) -> Result
         None => Ok(()),
         Some(ace) => builder.ace(buf, &ace),
     }
-}
-
-// Whether a copy stands in the ACL that is inherited.
-fn has_copy(plan: &Plan, part: &AclPart) -> bool
-    ensures { result ≡ is_present (sacl_of (inherited plan.now part.now)) }
-{
-    match part {
-        AclPart::List(acl) => gives_copy(plan, acl),
-        AclPart::Absent | AclPart::Null => false,
-    }
-}
-
-fn gives_copy(plan: &Plan, acl: &AclView) -> bool
-    ensures { result ≡ is_present (sacl_of (flat_map (copies plan.now) acl.now)) }
-{
-    for ace in acl.aces() {
-        if !copies_of(plan, &ace.ace()).is_empty() {
-            return true;
-        }
-    }
-    false
 }

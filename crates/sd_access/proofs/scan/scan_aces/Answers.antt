@@ -34,6 +34,7 @@ loop-ace-preserved c =
     record {
       parts = parts;
       entries = c.decided-decided.ensures.entries ∙ same;
+      goes_on = omega arith;
       count = count_step a ys c.args.token.now.compared c.loop-ace.token.compared
           c.decided-decided.new.token.compared (length t) c.loop-ace.invariant.count
           (rw (← same) c.decided-decided.ensures.count);

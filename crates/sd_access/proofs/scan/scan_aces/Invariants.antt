@@ -10,6 +10,7 @@ abbrev pub invariant-loop-ace : goal.invariant-loop-ace
 invariant-loop-ace l = record {
   parts : l.acl ≡ l.yielded ++ l.ace-iterator;
   entries : l.token.entries ≡ l.fn.token.entries;
+  goes_on : l.fn.token.compared ≤ l.token.compared;
   count : l.token.compared ≤ l.fn.token.compared + length l.yielded * length l.fn.token.entries;
   rights : (right : ℕ)
       → (carries l.granted right

@@ -8,7 +8,7 @@ use Rattle.sd_inherit.proofs.inherited.put_inherited.Given as goal
 -- the copies of the ACEs so far are appended
 abbrev pub invariant-loop-ace : goal.invariant-loop-ace
 invariant-loop-ace l = record {
-  parts : l.acl ≡ l.yielded ++ l.ace-iterator;
+  parts : l.fn.aces ≡ l.yielded ++ l.ace-iterator;
   writes : (t : Draft) → Writes l.fn.builder l.fn.buf t
       → Writes l.builder l.buf (with_aces (flat_map (copies l.plan) l.yielded) t);
   room : (t : Draft) → Writes l.fn.builder l.fn.buf t → HasOpen t

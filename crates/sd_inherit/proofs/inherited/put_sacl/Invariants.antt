@@ -1,0 +1,16 @@
+use Rattle.std.proofs.Common.{◌≡◌, length}
+use Rattle.std.specs.List.{flat_map}
+use Rattle.sd_inherit.specs.Copies.{copies}
+use Rattle.sd_inherit.specs.Derived.{inherited}
+use Rattle.sd_inherit.proofs.inherited.put_sacl.Given as goal
+
+-- the ACEs so far have no copy
+abbrev pub invariant-loop-ace : goal.invariant-loop-ace
+invariant-loop-ace l = record {
+  aces : flat_map (copies l.plan) l.aces ≡ inherited l.plan l.sacl;
+  builder : l.builder ≡ l.fn.builder;
+  buf : l.buf ≡ l.fn.buf;
+}
+
+abbrev pub decreases-loop-ace : goal.decreases-loop-ace
+decreases-loop-ace l = length l.aces
