@@ -1,3 +1,4 @@
+pub mod AceSizes
 pub mod AliasLaws
 pub mod AliasLemmas
 pub mod AliasNames

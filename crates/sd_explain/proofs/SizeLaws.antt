@@ -4,7 +4,7 @@ use Rattle.std.specs.Prelude.{IfSome, codes}
 use Rattle.std.specs.Fmt.{decimal, digit_glyph}
 use Rattle.std.specs.List.{flat_map, enumerate_from, AllByRecursion}
 use Rattle.std.proofs.lemmas.Fmt.{length-decimal-le}
-use Rattle.sd_core.specs.Ace.{AccessControlEntry, GuidsFit, IsAce, ace_size, guid_size}
+use Rattle.sd_core.specs.Ace.{AccessControlEntry, IsAce, ace_size, guid_size}
 use Rattle.sd_rights.specs.Kinds.{is_object, kind_letters}
 use Rattle.sd_rights.specs.Flags.{flags_text}
 use Rattle.sd_core.specs.GuidText.{guid_text}
@@ -15,6 +15,7 @@ use Rattle.sd_core.specs.SidText.{alias_of, sid_text}
 use Rattle.sd_rights.specs.Numbers.{hex_digits}
 use Rattle.sd_rights.specs.declared.kinds.AceKind.{AceKind}
 use Rattle.sd_core.specs.declared.naming.Naming.{Naming}
+use Rattle.sd_core.proofs.AceSizes.{offset-low}
 use Rattle.sd_core.proofs.AliasNames.{IsName, alias_of-IsName}
 use Rattle.sd_rights.proofs.FlagLaws.{flags_text-length}
 use Rattle.sd_core.proofs.GuidTexts.{guid_text-length}
@@ -129,13 +130,6 @@ ace_trustee-length : (naming : Naming) (s : SecurityId)
 unfolding ace_trustee
 ace_trustee-length naming s h =
     omega (arith, sid_words-length naming s h, length-append (sid_words naming s) (codes "\n"))
-
-offset-low : (b : Bool) (o i : Option (List ℕ)) → GuidsFit b o i
-    → 8 + guid_size o + guid_size i ≤ cond b (12 + guid_size o + guid_size i) 8
-offset-low true o i h = omega arith
-offset-low false None None h = omega arith
-offset-low false (Some g) i h = absurd h
-offset-low false None (Some g) h = absurd h
 
 ace_line-length : (naming : Naming) (part : List ℕ) (n : ℕ) (a : AccessControlEntry)
     → length part ≡ 5 → n < 10000 → IsAce a → length (ace_line naming part n a) ≤ 8 * ace_size a

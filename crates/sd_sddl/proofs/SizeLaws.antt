@@ -2,7 +2,7 @@
 use Rattle.std.proofs.Common.{◌≡◌, ◌≤◌, ◌<◌, ℕ, ◌+◌, ◌*◌, ◌^◌, Bool, true, false, cond, List, [], ◌∷◌, ◌++◌, length, Option, Some, None, refl, arith, length-append}
 use Rattle.std.specs.Prelude.{IfSome, codes}
 use Rattle.std.specs.List.{flat_map, AllByRecursion}
-use Rattle.sd_core.specs.Ace.{AccessControlEntry, GuidsFit, IsAce, ace_size, guid_size}
+use Rattle.sd_core.specs.Ace.{AccessControlEntry, IsAce, ace_size, guid_size}
 use Rattle.sd_rights.specs.Kinds.{is_object}
 use Rattle.sd_rights.specs.Flags.{flags_text}
 use Rattle.sd_rights.specs.Rights.{rights_text}
@@ -10,6 +10,7 @@ use Rattle.sd_core.specs.Sid.{SecurityId, IsSid}
 use Rattle.sd_core.specs.SidText.{alias_of, sid_text}
 use Rattle.sd_rights.specs.declared.kinds.AceKind.{AceKind}
 use Rattle.sd_rights.proofs.KindLaws.{letters-few}
+use Rattle.sd_core.proofs.AceSizes.{offset-low}
 use Rattle.sd_core.proofs.AliasNames.{IsName, alias_of-IsName}
 use Rattle.sd_rights.proofs.FlagLaws.{flags_text-length}
 use Rattle.sd_core.proofs.GuidTexts.{guid_text-length}
@@ -46,12 +47,6 @@ kind-length kind = (letters-few kind).1
 object-length : (o : Option (List ℕ)) → length (object_text o) ≤ 3 * guid_size o
 object-length None = omega arith
 object-length (Some g) = let n = guid_text-length g in omega (arith, n)
-
-offset-low : (b : Bool) (o i : Option (List ℕ)) → GuidsFit b o i → 8 + guid_size o + guid_size i ≤ cond b (12 + guid_size o + guid_size i) 8
-offset-low true o i h = omega arith
-offset-low false None None h = omega arith
-offset-low false (Some g) i h = absurd h
-offset-low false None (Some g) h = absurd h
 
 -- the six fields
 kind_field-length : (kind : AceKind) → length (kind_field kind) ≤ 4
