@@ -47,16 +47,20 @@ fault-short : (fault : LineFault) → length (fault_text fault ++ 10 ∷ []) ≤
 fault-short fault = let short = fault_text-short fault in omega (arith, length-append (fault_text fault) (10 ∷ []))
 
 -- the form's text and the LF
-line-short : (job : Job) (form : Form) (d : Descriptor) → IsDescriptor d → length (form_text job form d ++ 10 ∷ []) ≤ 8 * size d + 64
+line-short : (job : Job) (form : Form) (d : Descriptor) → IsDescriptor d
+    → length (form_text job form d ++ 10 ∷ []) ≤ 8 * size d + 64
 line-short job form d h = omega (arith, length-append (form_text job form d) (10 ∷ []), form-short job form d h)
 
 -- what is derived has the limits of a descriptor, unless it is refused
-derived-short : (job : Job) (form : Form) (plan : Plan) (d : Descriptor) (f : Option DeriveFault) → derive_fault d plan ≡ f → IsPlan plan → IsDescriptor d
-    → length (unless_fault (as_line_fault f) (form_text job form (derived d plan) ++ 10 ∷ [])) ≤ 8 * printed_size (unless_refused f (derived d plan)) + 64
+derived-short : (job : Job) (form : Form) (plan : Plan) (d : Descriptor) (f : Option DeriveFault)
+    → derive_fault d plan ≡ f → IsPlan plan → IsDescriptor d
+    → length (unless_fault (as_line_fault f) (form_text job form (derived d plan) ++ 10 ∷ []))
+    ≤ 8 * printed_size (unless_refused f (derived d plan)) + 64
 derived-short job form plan d None e k h = line-short job form (derived d plan) (derived-limits d plan h k e)
 derived-short job form plan d (Some fault) e k h = fault-short (Derive fault)
 
-act-short : (job : Job) (act : Act) (entries : List Entry) (d : Descriptor) → ActLimits act → IsDescriptor d → length (act_text job act entries d) ≤ 8 * printed_size (act_prints act d) + 64
+act-short : (job : Job) (act : Act) (entries : List Entry) (d : Descriptor) → ActLimits act → IsDescriptor d
+    → length (act_text job act entries d) ≤ 8 * printed_size (act_prints act d) + 64
 act-short job (Convert form) entries d k h = line-short job form d h
 act-short job Explain entries d k h = explain-length (naming_of job) d h
 act-short job (Check ask) entries d k h = verdict-short (verdict d entries ask)
@@ -68,6 +72,7 @@ text-short job entries None k h = omega arith
 text-short job entries (Some (Err fault)) k h = fault-short fault
 text-short job entries (Some (Ok d)) k h = act-short job job.act entries d k h
 
-pub answers-short : (job : Job) (entries : List Entry) → IfSome job.domain IsSid → ActLimits job.act → AnswersAreShort job entries
+pub answers-short : (job : Job) (entries : List Entry) → IfSome job.domain IsSid → ActLimits job.act
+    → AnswersAreShort job entries
 unfolding answer
 answers-short job entries k a line = text-short job entries (meaning job line) a (meaning-limits job line k)

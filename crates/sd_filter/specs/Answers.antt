@@ -100,7 +100,7 @@ abbrev pub unless_fault : Option LineFault → List ℕ → List ℕ
 unless_fault None text = text
 unless_fault (Some fault) text = fault_text fault ++ 10 ∷ []
 
--- the answer to a descriptor at which the act has no fault, with its LF; each line of an explanation has its own already
+-- what is answered where the act has no fault, with its LF; each line of an explanation has its own already
 abbrev pub done_text : Job → Act → List Entry → Descriptor → List ℕ
 done_text job (Convert form) entries d = form_text job form d ++ 10 ∷ []
 done_text job Explain entries d = explain (naming_of job) d

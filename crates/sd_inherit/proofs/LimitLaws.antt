@@ -73,13 +73,15 @@ module _ (plan : Plan) (keeps : IsPlan plan) where
     sid = h.sid;
   }
 
-  copies_for-limits : (target : Target) (a : AccessControlEntry) → IsAce a → AllByRecursion IsAce (copies_for target plan a)
+  copies_for-limits : (target : Target) (a : AccessControlEntry) → IsAce a
+      → AllByRecursion IsAce (copies_for target plan a)
   copies_for-limits File a h =
       one_of (AllByRecursion IsAce) (is_for_files a) (effective_copy plan a 0 ∷ []) []
       (effective-limits a 0 (lit≤ tt) h, tt) tt
   copies_for-limits Container a h =
       let alone : IsAce (effective_copy plan a 0) = effective-limits a 0 (lit≤ tt) h in
-      let on : IsAce (effective_copy plan a (onward_flags a.flags)) = effective-limits a (onward_flags a.flags) (omega arith) h in
+      let on : IsAce (effective_copy plan a (onward_flags a.flags)) =
+      effective-limits a (onward_flags a.flags) (omega arith) h in
       let handed : IsAce (inherit_only_copy a) = inherit_only-limits a h in
       one_of (AllByRecursion IsAce) (is_for_containers a && is_for_one_level a) _ _ (alone, tt)
       (one_of (AllByRecursion IsAce) (is_for_containers a && differs a) _ _ (alone, (handed, tt))
@@ -90,11 +92,13 @@ module _ (plan : Plan) (keeps : IsPlan plan) where
   unfolding copies
   copies-limits a h = copies_for-limits plan.target a h
 
-  both-limits : (xs ys : List AccessControlEntry) → AllByRecursion IsAce xs → AllByRecursion IsAce ys → AllByRecursion IsAce (xs ++ ys)
+  both-limits : (xs ys : List AccessControlEntry) → AllByRecursion IsAce xs → AllByRecursion IsAce ys
+      → AllByRecursion IsAce (xs ++ ys)
   both-limits [] ys p q = q
   both-limits (x ∷ xs) ys p q = (p.0, both-limits xs ys p.1 q)
 
-  all-limits : (aces : List AccessControlEntry) → AllByRecursion IsAce aces → AllByRecursion IsAce (flat_map (copies plan) aces)
+  all-limits : (aces : List AccessControlEntry) → AllByRecursion IsAce aces
+      → AllByRecursion IsAce (flat_map (copies plan) aces)
   all-limits [] h = tt
   all-limits (a ∷ others) h =
       both-limits (copies plan a) (flat_map (copies plan) others) (copies-limits a h.0) (all-limits others h.1)
