@@ -1,6 +1,7 @@
 //! The texts of faults.
 
 use crate::text_sink::TextSink;
+use sd_access::DeriveFault;
 use sd_binary::{Part, SdFault, TextFault, Which};
 use sd_core::SidFault;
 use sd_filter::{LineFault, RunFault, put_fault};
@@ -80,6 +81,14 @@ fn names_faults(rt: HostRuntime) {
         (
             LineFault::Sddl(SddlFault::AclTooLarge(Which::Sacl)),
             "error 30 acl-too-large sacl",
+        ),
+        (
+            LineFault::Derive(DeriveFault::DerivedTooLarge(Which::Sacl)),
+            "error 40 derived-too-large sacl",
+        ),
+        (
+            LineFault::Derive(DeriveFault::DerivedTooLarge(Which::Dacl)),
+            "error 40 derived-too-large dacl",
         ),
     ] {
         let mut sink = TextSink::new(rt.alloc());
