@@ -2,12 +2,10 @@
 
 ghost use Rattle.std.specs.Prelude.{◌<◌, length};
 
-use crate::memory::{Input, Output};
 use crate::plain_check::Question;
 use sd_access::{Ask, AskFault, Privileges, Verdict, check};
 use sd_binary::{SdBuf, read};
 use sd_core::{EntryKind, Mapping, Sid, Token};
-use sd_filter::{Act, Engine, Form, FromRead, Job, Report, ToWrite, run};
 use sd_sddl::read_sddl;
 use std::process::Abort;
 use uuid::Uuid;
@@ -318,34 +316,6 @@ fn refuses_requests(rt: HostRuntime) {
         let ask = Ask::new(desired, maximum, Mapping::KEY, None, None, NO_PRIVILEGES);
         assert!(rt; ask.err() == fault);
     }
-}
-
-// Each line is answered by itself, an empty one and a faulty one too.
-#[test]
-fn runs_over_lines(rt: HostRuntime) {
-    let job = Job {
-        source: Form::Sddl,
-        act: Act::Check(file_ask(&rt, 0x120089, false, NO_PRIVILEGES)),
-        domain: None,
-        numeric: false,
-    };
-    let mut engine = Engine::new(rt.alloc(), job).expect(&rt, "memory for an engine");
-    let mut token = token_of(&rt, &[USER, "!BA"]);
-    let text = "D:(A;;FA;;;BA)\nD:(A;;FA;;;S-1-5-21-1-2-3-1001)\n\nD:(\n";
-    let answers = "denied 0x00120089\ngranted 0x00120089\n\nerror 20 shape\n";
-    let mut input = Input::new(text.as_bytes());
-    let mut output = Output::new(rt.alloc());
-    let mut source = FromRead::new(&mut input);
-    let mut drain = ToWrite::new(&mut output);
-    let got = run(&mut engine, &mut token, &mut source, &mut drain);
-    let report = Report {
-        lines: 4,
-        faults: 1,
-    };
-    assert!(rt; got == Ok(report));
-    assert!(rt; output.taken.as_slice() == answers.as_bytes());
-    assert!(rt; token.len() == 2);
-    assert!(rt; token.compared() <= 8);
 }
 
 // Numbers that look random, and are the same in each run.
