@@ -1,6 +1,6 @@
 // What is to be done with each line.
 
-use sd_access::Ask;
+use sd_access::{Ask, Plan};
 use sd_core::Sid;
 
 /// How a line spells a descriptor.
@@ -21,6 +21,8 @@ pub enum Act {
     Explain,
     /// It is said whether it grants what is asked (MS-DTYP 2.5.3).
     Check(Ask),
+    /// What a new object inherits from its container (MS-DTYP 2.5.3.4) is printed in this form.
+    Derive(Plan, Form),
 }
 
 /// What a run does: how its lines spell descriptors, and what is done with each.

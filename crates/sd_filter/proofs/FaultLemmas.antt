@@ -5,8 +5,9 @@ use Rattle.sd_binary.specs.declared.buffer.TextFault.TheVariants as text
 use Rattle.sd_view.specs.declared.fault.Part.{Part}
 use Rattle.sd_view.specs.declared.fault.Part.TheVariants as part
 use Rattle.sd_view.specs.declared.fault.SdFault.TheVariants as sd
+use Rattle.sd_inherit.specs.declared.derivation.DeriveFault.TheVariants.{DerivedTooLarge}
 use Rattle.sd_filter.specs.declared.fault.LineFault.{LineFault}
-use Rattle.sd_filter.specs.declared.fault.LineFault.TheVariants.{TooLong, Text, Sd, Sddl}
+use Rattle.sd_filter.specs.declared.fault.LineFault.TheVariants.{TooLong, Text, Sd, Sddl, Derive}
 use Rattle.sd_core.specs.declared.sid_text.SidFault.TheVariants as sid
 use Rattle.sd_reader.specs.declared.fault.SddlFault.TheVariants as sddl
 
@@ -35,6 +36,7 @@ name-short (Sddl sddl.Rights) = lit≤ tt
 name-short (Sddl sddl.Guid) = lit≤ tt
 name-short (Sddl sddl.Kind) = lit≤ tt
 name-short (Sddl (sddl.AclTooLarge w)) = lit≤ tt
+name-short (Derive (DerivedTooLarge w)) = lit≤ tt
 
 part-short : (p : Option Part) → length (part_text p) ≤ 6
 part-short None = lit≤ tt

@@ -1,5 +1,5 @@
 -- Each answer is short.
-use Rattle.std.proofs.Common.{IfSome, ◌≤◌, ◌+◌, ◌*◌, List, [], ◌∷◌, ◌++◌, length, lit≤, Some, None, Ok, Err, arith, length-append}
+use Rattle.std.proofs.Common.{◌≡◌, IfSome, ◌≤◌, ◌+◌, ◌*◌, List, [], ◌∷◌, ◌++◌, length, lit≤, Option, Some, None, Ok, Err, refl, arith, length-append}
 use Rattle.hex.specs.Hex.{lower_digits}
 use Rattle.hex.proofs.HexLemmas.{length-encode_with}
 use Rattle.sd_core.specs.Sid.{IsSid}
@@ -11,13 +11,22 @@ use Rattle.sd_access.specs.Verdict.{verdict}
 use Rattle.sd_access.specs.declared.verdict.Verdict.{Verdict}
 use Rattle.sd_access.specs.declared.verdict.Verdict.TheVariants.{Denied, Granted}
 use Rattle.sd_explain.proofs.SizeLaws.{explain-length}
+use Rattle.sd_inherit.proofs.LimitLaws.{derived-limits}
+use Rattle.sd_inherit.specs.Derived.{derive_fault, derived}
+use Rattle.sd_inherit.specs.Limits.{IsPlan}
+use Rattle.sd_inherit.specs.declared.derivation.DeriveFault.{DeriveFault}
+use Rattle.sd_inherit.specs.declared.plan.Plan.{Plan}
 use Rattle.sd_sddl.proofs.SizeLaws.{sddl-length}
-use Rattle.sd_filter.specs.Answers.{AnswersAreShort, Meaning, act_prints, act_text, answer, form_text, meaning, naming_of, printed_of_meaning, printed_size, text_of_meaning, verdict_text}
+use Rattle.sd_filter.specs.ActLimits.{ActLimits}
+use Rattle.sd_filter.specs.Answers.{AnswersAreShort, Meaning, act_prints, act_text, answer, as_line_fault, form_text, meaning, naming_of, printed_of_meaning, printed_size, text_of_meaning, unless_fault, unless_refused, verdict_text}
 use Rattle.sd_filter.specs.Faults.{fault_text}
+use Rattle.sd_filter.specs.declared.fault.LineFault.{LineFault}
+use Rattle.sd_filter.specs.declared.fault.LineFault.TheVariants.{Derive}
 use Rattle.sd_filter.proofs.FaultLemmas.{fault_text-short}
 use Rattle.sd_filter.proofs.LimitLemmas.{MeansLimits, meaning-limits}
 use Rattle.sd_command.specs.declared.job.Act.{Act}
 use Rattle.sd_command.specs.declared.job.Act.TheVariants.{Check, Convert, Explain}
+use Rattle.sd_command.specs.declared.job.Act.TheVariants as act
 use Rattle.sd_command.specs.declared.job.Form.{Form}
 use Rattle.sd_command.specs.declared.job.Form.TheVariants as form
 use Rattle.sd_command.specs.declared.job.Job.{Job}
@@ -33,16 +42,37 @@ verdict-short : (v : Verdict) → length (verdict_text v ++ 10 ∷ []) ≤ 64
 verdict-short (Granted mask) = lit≤ tt
 verdict-short (Denied mask) = lit≤ tt
 
-act-short : (job : Job) (act : Act) (entries : List Entry) (d : Descriptor) → IsDescriptor d → length (act_text job act entries d) ≤ 8 * printed_size (act_prints act d) + 64
-act-short job (Convert form) entries d h = omega (arith, length-append (form_text job form d) (10 ∷ []), form-short job form d h)
-act-short job Explain entries d h = explain-length (naming_of job) d h
-act-short job (Check ask) entries d h = verdict-short (verdict d entries ask)
+-- an `error` line has 64 bytes at most
+fault-short : (fault : LineFault) → length (fault_text fault ++ 10 ∷ []) ≤ 64
+fault-short fault = let short = fault_text-short fault in omega (arith, length-append (fault_text fault) (10 ∷ []))
 
-text-short : (job : Job) (entries : List Entry) (m : Meaning) → MeansLimits m → length (text_of_meaning job entries m) ≤ 8 * printed_size (printed_of_meaning job.act m) + 64
-text-short job entries None h = omega arith
-text-short job entries (Some (Err fault)) h = let short = fault_text-short fault in omega (arith, length-append (fault_text fault) (10 ∷ []))
-text-short job entries (Some (Ok d)) h = act-short job job.act entries d h
+-- the form's text and the LF
+line-short : (job : Job) (form : Form) (d : Descriptor) → IsDescriptor d
+    → length (form_text job form d ++ 10 ∷ []) ≤ 8 * size d + 64
+line-short job form d h = omega (arith, length-append (form_text job form d) (10 ∷ []), form-short job form d h)
 
-pub answers-short : (job : Job) (entries : List Entry) → IfSome job.domain IsSid → AnswersAreShort job entries
+-- what is derived has the limits of a descriptor, unless it is refused
+derived-short : (job : Job) (form : Form) (plan : Plan) (d : Descriptor) (f : Option DeriveFault)
+    → derive_fault d plan ≡ f → IsPlan plan → IsDescriptor d
+    → length (unless_fault (as_line_fault f) (form_text job form (derived d plan) ++ 10 ∷ []))
+    ≤ 8 * printed_size (unless_refused f (derived d plan)) + 64
+derived-short job form plan d None e k h = line-short job form (derived d plan) (derived-limits d plan h k e)
+derived-short job form plan d (Some fault) e k h = fault-short (Derive fault)
+
+act-short : (job : Job) (act : Act) (entries : List Entry) (d : Descriptor) → ActLimits act → IsDescriptor d
+    → length (act_text job act entries d) ≤ 8 * printed_size (act_prints act d) + 64
+act-short job (Convert form) entries d k h = line-short job form d h
+act-short job Explain entries d k h = explain-length (naming_of job) d h
+act-short job (Check ask) entries d k h = verdict-short (verdict d entries ask)
+act-short job (act.Derive plan form) entries d k h = derived-short job form plan d (derive_fault d plan) refl k h
+
+text-short : (job : Job) (entries : List Entry) (m : Meaning) → ActLimits job.act → MeansLimits m
+    → length (text_of_meaning job entries m) ≤ 8 * printed_size (printed_of_meaning job.act m) + 64
+text-short job entries None k h = omega arith
+text-short job entries (Some (Err fault)) k h = fault-short fault
+text-short job entries (Some (Ok d)) k h = act-short job job.act entries d k h
+
+pub answers-short : (job : Job) (entries : List Entry) → IfSome job.domain IsSid → ActLimits job.act
+    → AnswersAreShort job entries
 unfolding answer
-answers-short job entries k line = text-short job entries (meaning job line) (meaning-limits job line k)
+answers-short job entries k a line = text-short job entries (meaning job line) a (meaning-limits job line k)

@@ -11,9 +11,10 @@ use Rattle.sd_binary.specs.Text.{hex_spells}
 use Rattle.sd_binary.specs.declared.buffer.TextFault.{TextFault}
 use Rattle.sd_view.specs.declared.fault.SdFault.{SdFault}
 use Rattle.sd_filter.specs.declared.fault.LineFault.{LineFault}
-use Rattle.sd_filter.specs.declared.fault.LineFault.TheVariants.{TooLong, Text, Sd, Sddl}
+use Rattle.sd_filter.specs.declared.fault.LineFault.TheVariants.{TooLong, Text, Sd, Sddl, Derive}
 use Rattle.sd_command.specs.declared.job.Act.{Act}
 use Rattle.sd_command.specs.declared.job.Act.TheVariants.{Check, Convert, Explain}
+use Rattle.sd_command.specs.declared.job.Act.TheVariants as act
 use Rattle.sd_command.specs.declared.job.Form.{Form}
 use Rattle.sd_command.specs.declared.job.Form.TheVariants as form
 use Rattle.sd_command.specs.declared.job.Job.{Job}
@@ -22,6 +23,8 @@ use Rattle.sd_access.specs.Need.{bound as check_bound}
 use Rattle.sd_access.specs.Verdict.{verdict}
 use Rattle.sd_access.specs.declared.verdict.Verdict.{Verdict}
 use Rattle.sd_access.specs.declared.verdict.Verdict.TheVariants.{Denied, Granted}
+use Rattle.sd_inherit.specs.Derived.{derive_fault, derived}
+use Rattle.sd_inherit.specs.declared.derivation.DeriveFault.{DeriveFault}
 use Rattle.sd_explain.specs.Explain.{explain}
 use Rattle.sd_rights.specs.Numbers.{hex_digits}
 use Rattle.sd_reader.specs.Meaning.{means}
@@ -81,11 +84,32 @@ abbrev pub verdict_text : Verdict → List ℕ
 verdict_text (Granted mask) = codes "granted 0x" ++ hex_digits 8 mask
 verdict_text (Denied mask) = codes "denied 0x" ++ hex_digits 8 mask
 
--- what is answered to a descriptor, with its LF; each line of an explanation has its own already
+abbrev pub as_line_fault : Option DeriveFault → Option LineFault
+as_line_fault None = None
+as_line_fault (Some fault) = Some (Derive fault)
+
+-- the fault of an act at a descriptor: to derive alone may have one
+abbrev pub act_fault : Act → Descriptor → Option LineFault
+act_fault (Convert form) d = None
+act_fault Explain d = None
+act_fault (Check ask) d = None
+act_fault (act.Derive plan form) d = as_line_fault (derive_fault d plan)
+
+-- an `error` line stands in the place of the answer
+abbrev pub unless_fault : Option LineFault → List ℕ → List ℕ
+unless_fault None text = text
+unless_fault (Some fault) text = fault_text fault ++ 10 ∷ []
+
+-- what is answered where the act has no fault, with its LF; each line of an explanation has its own already
+abbrev pub done_text : Job → Act → List Entry → Descriptor → List ℕ
+done_text job (Convert form) entries d = form_text job form d ++ 10 ∷ []
+done_text job Explain entries d = explain (naming_of job) d
+done_text job (Check ask) entries d = verdict_text (verdict d entries ask) ++ 10 ∷ []
+done_text job (act.Derive plan form) entries d = form_text job form (derived d plan) ++ 10 ∷ []
+
+-- what is answered to a descriptor
 abbrev pub act_text : Job → Act → List Entry → Descriptor → List ℕ
-act_text job (Convert form) entries d = form_text job form d ++ 10 ∷ []
-act_text job Explain entries d = explain (naming_of job) d
-act_text job (Check ask) entries d = verdict_text (verdict d entries ask) ++ 10 ∷ []
+act_text job act entries d = unless_fault (act_fault act d) (done_text job act entries d)
 
 abbrev pub text_of_meaning : Job → List Entry → Meaning → List ℕ
 text_of_meaning job entries None = 10 ∷ []
@@ -101,12 +125,6 @@ unfoldable pub answers : Job → List Entry → List (List ℕ) → List ℕ
 answers job entries lines = flat_map (answer job entries) lines
 
 -- ---- what is counted
-
--- the fault of an act at a descriptor: there is none yet
-abbrev pub act_fault : Act → Descriptor → Option LineFault
-act_fault (Convert form) d = None
-act_fault Explain d = None
-act_fault (Check ask) d = None
 
 abbrev pub is_error_of_meaning : Act → Meaning → Bool
 is_error_of_meaning act None = false
@@ -126,6 +144,7 @@ abbrev pub act_bound : Act → List Entry → Descriptor → ℕ
 act_bound (Convert form) entries d = 0
 act_bound Explain entries d = 0
 act_bound (Check ask) entries d = check_bound d (length entries)
+act_bound (act.Derive plan form) entries d = 0
 
 abbrev pub bound_of_meaning : Act → List Entry → Meaning → ℕ
 bound_of_meaning act entries None = 0
@@ -140,12 +159,17 @@ bounds job entries lines = sum_by (bound job entries) lines
 
 -- ---- how much is printed
 
+abbrev pub unless_refused : Option DeriveFault → Descriptor → Option Descriptor
+unless_refused None d = Some d
+unless_refused (Some fault) d = None
+
 -- the descriptor that is printed for one that was read: a conversion prints that one, and so does an explanation; a
--- verdict prints none
+-- verdict prints none; to derive prints the derived one, unless there is none
 abbrev pub act_prints : Act → Descriptor → Option Descriptor
 act_prints (Convert form) d = Some d
 act_prints Explain d = Some d
 act_prints (Check ask) d = None
+act_prints (act.Derive plan form) d = unless_refused (derive_fault d plan) (derived d plan)
 
 abbrev pub printed_of_meaning : Act → Meaning → Option Descriptor
 printed_of_meaning act None = None

@@ -8,8 +8,9 @@ use Rattle.sd_view.specs.declared.control.Which.{Which}
 use Rattle.sd_view.specs.declared.control.Which.TheVariants as which
 use Rattle.sd_core.specs.declared.sid_text.SidFault.TheVariants as sid
 use Rattle.sd_reader.specs.declared.fault.SddlFault.TheVariants as sddl
+use Rattle.sd_inherit.specs.declared.derivation.DeriveFault.TheVariants.{DerivedTooLarge}
 use Rattle.sd_filter.specs.declared.fault.LineFault.{LineFault}
-use Rattle.sd_filter.specs.declared.fault.LineFault.TheVariants.{TooLong, Text, Sd, Sddl}
+use Rattle.sd_filter.specs.declared.fault.LineFault.TheVariants.{TooLong, Text, Sd, Sddl, Derive}
 
 abbrev pub number_and_name : LineFault → List ℕ
 number_and_name TooLong = codes "error 1 too-long"
@@ -36,6 +37,7 @@ number_and_name (Sddl sddl.Rights) = codes "error 27 rights"
 number_and_name (Sddl sddl.Guid) = codes "error 28 guid"
 number_and_name (Sddl sddl.Kind) = codes "error 29 kind"
 number_and_name (Sddl (sddl.AclTooLarge w)) = codes "error 30 acl-too-large"
+number_and_name (Derive (DerivedTooLarge w)) = codes "error 40 derived-too-large"
 
 abbrev pub NamedParts : Type 0
 NamedParts = Option Part × Option Part
@@ -65,6 +67,7 @@ parts_of (Sddl sddl.Rights) = (None, None)
 parts_of (Sddl sddl.Guid) = (None, None)
 parts_of (Sddl sddl.Kind) = (None, None)
 parts_of (Sddl (sddl.AclTooLarge w)) = (Some (part_of w), None)
+parts_of (Derive (DerivedTooLarge w)) = (Some (part_of w), None)
 
 -- a part behind a blank
 abbrev pub part_text : Option Part → List ℕ

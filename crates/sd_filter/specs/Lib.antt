@@ -1,6 +1,7 @@
 pub mod Told
 pub mod Lines
 pub mod Faults
+pub mod ActLimits
 pub mod Answers
 pub mod Outcome
 pub mod Sofar

@@ -1,22 +1,25 @@
 // The answer to one line.
 ghost use Rattle.std.specs.Prelude.{◌≡◌, ◌≤◌, ℕ, List, ◌++◌, [], ◌∷◌, length, true, is_some, Ok, Err};
 ghost use Rattle.sd_sink.specs.Print.{Prints};
-ghost use Rattle.sd_filter.specs.Answers.{act_bound, act_fault, act_text, answer, bound, bytes_mean, form_text, is_error, line_limit, naming_of, or_sddl_fault, text_means, verdict_text};
+ghost use Rattle.sd_filter.specs.Answers.{act_bound, act_fault, act_text, answer, as_line_fault, bound, bytes_mean, form_text, is_error, line_limit, naming_of, or_sddl_fault, text_means, unless_fault, verdict_text};
 ghost use Rattle.sd_explain.specs.Explain.{explain};
 ghost use Rattle.sd_filter.specs.Faults.{fault_text};
 ghost use Rattle.sd_filter.specs.Outcome.{Compares};
 ghost use Rattle.sd_filter.specs.Sofar.{HoldsText, PrintsAnswer, PutsAnswer};
 ghost use Rattle.sd_filter.specs.Told.{sink_of};
+ghost use Rattle.sd_inherit.specs.Derived.{derive_fault, derived};
 ghost use Rattle.std.specs.Option.{option_copied};
 ghost use Rattle.sd_binary.specs.Text.{hex_spells};
 ghost use Rattle.sd_reader.specs.Meaning.{means};
+ghost use Rattle.sd_view.specs.Descriptor.{Descriptor, Shows};
+ghost use Rattle.sd_view.specs.Layout.{layout};
 
 use crate::device::Drain;
 use crate::engine::Stores;
 use crate::fault::{LineFault, print_fault};
 use crate::hex_text::{GATHERED, print_hex};
 use crate::sink::DrainSink;
-use sd_access::{Verdict, check};
+use sd_access::{Plan, Verdict, check, derive};
 use sd_binary::{SdBuf, SdView, read, write_layout};
 use sd_command::{Act, Form, Job};
 use sd_core::{Gather, Print, Sid, Sink, SinkFault, Token, print_hex as print_hex_digits};
@@ -174,6 +177,7 @@ fn print_act<P: Print>(
             print_verdict(check(view, token, &ask), out);
             print_end(false, out)
         }
+        Act::Derive(plan, form) => print_derived(job, view, &plan, form, written, digits, out),
     }
 }
 
@@ -195,6 +199,52 @@ fn print_form<P: Print>(
             print_hex(written.bytes(), digits, out);
         }
         Form::Sddl => print_sddl(view, job.domain.as_ref(), job.numeric, out),
+    }
+}
+
+// Prints the descriptor of a new object in a form, or why there is none.
+fn print_derived<P: Print>(
+    job: &Job,
+    parent: &SdView<'_>,
+    plan: &Plan,
+    form: Form,
+    written: &mut SdBuf,
+    digits: &mut [u8; GATHERED],
+    out: &mut P,
+) -> bool
+    ensures { PrintsAnswer (P.told out.old) (P.told out.new)
+        (unless_fault (as_line_fault (derive_fault parent.now plan.now)) (form_text job.now form (derived parent.now plan.now) ++ 10 ∷ []))
+        (is_some (as_line_fault (derive_fault parent.now plan.now))) result }
+{
+    match derive(parent, plan, written) {
+        Ok(()) => {
+            print_written(job, form, written, digits, out);
+            print_end(false, out)
+        }
+        Err(fault) => print_error(&LineFault::Derive(fault), out),
+    }
+}
+
+// Prints the descriptor that is written in the buffer. As hex its bytes are spelled where they are.
+#[tactic(auto, unfolding(crate::specs::Answers::form_text))]
+fn print_written<P: Print>(
+    job: &Job,
+    form: Form,
+    written: &SdBuf,
+    digits: &mut [u8; GATHERED],
+    out: &mut P,
+)
+    ensures { (d : Descriptor) → Shows written.now d → written.now ≡ layout d
+        → Prints (P.told out.old) (P.told out.new) (form_text job.now form d) }
+{
+    match form {
+        Form::Hex => print_hex(written.bytes(), digits, out),
+        Form::Sddl => {
+            // Its bytes show a descriptor, so they are read.
+            if let Ok(view) = read(written.bytes()) {
+                print_sddl(&view, job.domain.as_ref(), job.numeric, out);
+            }
+        }
     }
 }
 

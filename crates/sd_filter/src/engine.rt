@@ -1,12 +1,15 @@
 // The engine, which has every buffer of a run.
 ghost use Rattle.std.specs.Prelude.{◌≡◌, IfOk, IfSome};
 ghost use Rattle.sd_core.specs.Sid.{IsSid};
+ghost use Rattle.sd_filter.specs.ActLimits.{ActLimits};
 ghost use Rattle.sd_filter.specs.Answers.{line_limit};
+ghost use Rattle.sd_inherit.specs.Limits.{IsPlan};
 
 use crate::hex_text::GATHERED;
 use crate::line::Line;
+use sd_access::Plan;
 use sd_binary::SdBuf;
-use sd_command::{Form, Job};
+use sd_command::{Act, Form, Job};
 use sd_core::NoMemory;
 use std::alloc::Global;
 use std::marker::Model;
@@ -64,14 +67,35 @@ impl Engine {
         Ok(Engine { desk })
     }
 
-    // The limits of the job's domain: its size tells that it keeps them.
+    // The limits of the job's domain: its size tells that it keeps them. And those of its act.
     pub(crate) fn note_limits(&self)
-        ensures { IfSome self.now.domain IsSid }
+        ensures domain { IfSome self.now.domain IsSid }
+        ensures act { ActLimits self.now.act }
     {
         if let Some(domain) = &self.desk.job.domain {
             let _ = domain.size();
         }
+        note_act(&self.desk.job.act);
     }
+}
+
+// The limits of what an act has.
+fn note_act(act: &Act)
+    ensures { ActLimits act.now }
+{
+    match act {
+        Act::Convert(_) | Act::Explain | Act::Check(_) => {}
+        Act::Derive(plan, _) => note_plan(plan),
+    }
+}
+
+// The limits of a plan: its SIDs and its mapping tell that they keep them.
+fn note_plan(plan: &Plan)
+    ensures { IsPlan plan.now }
+{
+    let _ = plan.owner.size();
+    let _ = plan.group.size();
+    let _ = plan.mapping.read();
 }
 
 // The job, the line in hand, and the buffers.

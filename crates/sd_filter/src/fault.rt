@@ -4,6 +4,7 @@ ghost use Rattle.sd_sink.specs.Print.{Prints};
 ghost use Rattle.sd_sink.specs.Sink.{Puts};
 ghost use Rattle.sd_filter.specs.Faults.{fault_text, number_and_name, part_text, parts_of};
 
+use sd_access::DeriveFault;
 use sd_binary::{Part, SdFault, TextFault, Which};
 use sd_core::{Print, Printer, SidFault, Sink, SinkFault};
 use sd_sddl::SddlFault;
@@ -19,6 +20,8 @@ pub enum LineFault {
     Sd(SdFault),
     /// 20 to 30: it is no SDDL.
     Sddl(SddlFault),
+    /// 40: nothing can be derived from its descriptor.
+    Derive(DeriveFault),
 }
 
 /// Puts the text of an `error` line, without its LF: at most 63 bytes.
@@ -70,6 +73,7 @@ fn number_and_name(fault: LineFault) -> &'static str
         LineFault::Sddl(SddlFault::Guid) => "error 28 guid",
         LineFault::Sddl(SddlFault::Kind) => "error 29 kind",
         LineFault::Sddl(SddlFault::AclTooLarge(_)) => "error 30 acl-too-large",
+        LineFault::Derive(DeriveFault::DerivedTooLarge(_)) => "error 40 derived-too-large",
     }
 }
 
@@ -86,6 +90,8 @@ fn parts_of(fault: LineFault) -> (Option<Part>, Option<Part>)
         LineFault::Sd(SdFault::Overlap(first, second)) => (Some(first), Some(second)),
         LineFault::Sddl(SddlFault::AclTooLarge(Which::Sacl)) => (Some(Part::Sacl), None),
         LineFault::Sddl(SddlFault::AclTooLarge(Which::Dacl)) => (Some(Part::Dacl), None),
+        LineFault::Derive(DeriveFault::DerivedTooLarge(Which::Sacl)) => (Some(Part::Sacl), None),
+        LineFault::Derive(DeriveFault::DerivedTooLarge(Which::Dacl)) => (Some(Part::Dacl), None),
         _ => (None, None),
     }
 }

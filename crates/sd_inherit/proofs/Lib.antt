@@ -1,3 +1,4 @@
 pub mod BuildingLaws
 pub mod DerivedLaws
+pub mod LimitLaws
 mod Rows

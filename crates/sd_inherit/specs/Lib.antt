@@ -2,3 +2,4 @@
 pub mod Building
 pub mod Copies
 pub mod Derived
+pub mod Limits

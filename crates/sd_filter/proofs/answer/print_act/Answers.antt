@@ -24,3 +24,9 @@ returns-in-Check-clause-printed g c =
 pub returns-in-Check-clause-compared : goal.returns-in-Check-clause-compared
 returns-in-Check-clause-compared g c =
     rw c.in-Check.is (record { goes_on = c.check.ensures.goes_on; at_most = c.check.ensures.bound })
+
+pub returns-in-Derive-clause-printed : goal.returns-in-Derive-clause-printed
+returns-in-Derive-clause-printed g c = rw c.in-Derive.is c.print_derived.ensures
+
+pub returns-in-Derive-clause-compared : goal.returns-in-Derive-clause-compared
+returns-in-Derive-clause-compared g c = rw c.in-Derive.is (Compares-none c.args.token.now 0)

@@ -1,0 +1,9 @@
+-- The limits of a plan.
+use Rattle.sd_core.specs.Mapping.{IsMapping}
+use Rattle.sd_core.specs.Sid.{IsSid}
+use Rattle.sd_inherit.specs.declared.plan.Plan.{Plan}
+
+pub record IsPlan (plan : Plan) : Type 0 where
+  pub owner : IsSid plan.owner
+  pub group : IsSid plan.group
+  pub mapping : IsMapping plan.mapping
