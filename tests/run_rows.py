@@ -2,7 +2,7 @@
 """run_rows.py PROGRAM [--one-byte] [--only ID..]
 run_rows.py --reference [--only ID..]
 
-Runs the rows of rows.json on the built program, and compares what it writes and its exit status.
+Runs the rows of the folder rows, by subject, on the built program, and compares what it writes and its exit status.
 With --one-byte the input comes one byte a read; rows that ask for a device of their own are left out.
 With --reference no program is run: the answers of reference.py are compared, in all rows that answer lines or name an
 option whose value does not read, and ask for no device, so that the rows and what compare.py compares with are known
@@ -57,7 +57,7 @@ class Ended(NamedTuple):
 
 
 def text(value):
-    """The bytes of a text of rows.json."""
+    """The bytes of a text of a row."""
     if isinstance(value, dict) and "numbered" in value:
         before, after = map(text, value["numbered"])
         return b"".join(before + b"%d" % number + after for number in range(1, value["times"] + 1))
@@ -66,6 +66,15 @@ def text(value):
     if isinstance(value, list):
         return b"".join(map(text, value))
     return value.encode("latin-1")
+
+
+def all_rows():
+    """The rows of all subjects; no two have one id."""
+    files = sorted(pathlib.Path(__file__).with_name("rows").glob("*.json"))
+    rows = [row for file in files for row in json.loads(file.read_text(encoding="utf-8"))]
+    if len({row["id"] for row in rows}) < len(rows):
+        sys.exit("two rows have one id")
+    return rows
 
 
 def lines_of(data):
@@ -314,15 +323,14 @@ def asked_of_reference(row):
 
 
 def main():
-    parser = argparse.ArgumentParser(description="Runs the rows of rows.json on the built program.")
+    parser = argparse.ArgumentParser(description="Runs the rows of the folder rows on the built program.")
     judged = parser.add_mutually_exclusive_group(required=True)
     judged.add_argument("program", nargs="?", type=os.path.abspath)
     judged.add_argument("--reference", action="store_true", help="compares the answers of reference.py")
     parser.add_argument("--one-byte", action="store_true", help="the input comes one byte a read")
     parser.add_argument("--only", nargs="+", metavar="ID", default=[""], help="rows whose id has one of these in it")
     given = parser.parse_args()
-    rows = json.loads(pathlib.Path(__file__).with_name("rows.json").read_text(encoding="utf-8"))
-    rows = [row for row in rows if any(word in row["id"] for word in given.only)]
+    rows = [row for row in all_rows() if any(word in row["id"] for word in given.only)]
     if given.one_byte or given.reference:
         rows = [row for row in rows if not {"talk", "input", "output", "faults"} & row.keys()]
     if given.reference:

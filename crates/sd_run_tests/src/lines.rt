@@ -1,4 +1,4 @@
-//! Lines and their answers, as a whole and byte by byte. Many more stand in `tests/rows.json`, which is run on the
+//! Lines and their answers, as a whole and byte by byte. Many more stand in `tests/rows/`, which are run on the
 //! built program.
 
 use crate::program::{BARE, expect_answers, expect_pieces};
