@@ -1,5 +1,5 @@
 -- What is derived from a descriptor has the limits of one.
-use Rattle.std.proofs.Common.{◌≡◌, ◌≤◌, ◌<◌, ℕ, ◌%◌, ◌^◌, Bool, true, false, cond, not, ◌&&◌, List, [], ◌∷◌, ◌++◌, Some, None, refl, arith, lit≤}
+use Rattle.std.proofs.Common.{◌≡◌, ◌≤◌, ◌<◌, ℕ, ◌^◌, Bool, true, false, cond, not, ◌&&◌, List, [], ◌∷◌, ◌++◌, Some, None, refl, arith, lit≤}
 use Rattle.std.proofs.lemmas.Bool.Decides.{nat_tests}
 use Rattle.std.proofs.lemmas.Nat.{or_lt}
 use Rattle.std.specs.List.{AllByRecursion, flat_map}
@@ -12,7 +12,7 @@ use Rattle.sd_view.specs.Acl.{IsAcl, acl_size}
 use Rattle.sd_view.specs.Descriptor.{Descriptor, IsAclPart, IsDescriptor}
 use Rattle.sd_view.specs.declared.acl.AclPart.{AclPart}
 use Rattle.sd_view.specs.declared.acl.AclPart.TheVariants as acl
-use Rattle.sd_inherit.specs.Copies.{copied_flags, copies, copies_for, creator_group, creator_owner, differs, effective_copy, heir, heir_mask, inherit_only_copy, is_for_containers, is_for_files, is_for_one_level, onward_flags}
+use Rattle.sd_inherit.specs.Copies.{copies, copies_for, creator_group, creator_owner, differs, effective_copy, heir, heir_mask, inherit_only_copy, is_for_containers, is_for_files, is_for_one_level, onward_flags}
 use Rattle.sd_inherit.specs.Derived.{derive_fault, derived, derived_control, inherited, is_too_large, sacl_of}
 use Rattle.sd_inherit.specs.Limits.{IsPlan}
 use Rattle.sd_inherit.specs.declared.derivation.DeriveFault.{DeriveFault}
