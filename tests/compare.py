@@ -6,6 +6,8 @@ reference.py: from a file, in random pieces through a pipe, and in many short in
 from SDDL; as hex, and as SDDL or explained, without a domain, under several domains, and with numbers alone. What is
 printed as SDDL, and what is spelled otherwise than it would be printed, is compared with the descriptor that it was made
 from.
+Checks ask for what has to do with the descriptors: by tokens of SIDs that stand in them, about rights and object types of
+their ACEs.
 The same seed gives the same lines. The last line is 'N passed, M failed'.
 """
 import argparse
@@ -37,10 +39,12 @@ HEX, SDDL, NUMERIC = ["convert", "--to", "hex"], ["convert"], ["convert", "--to"
 DOMAINS = ["S-1-5-21-1004336348-1177238915-682003330", "BA", "S-1-5", "S-1-0xfedcba987654" + "-4294967295" * 14]
 UNDER = [["convert", "--domain", domain] for domain in DOMAINS]
 EXPLAINED = [["explain"], ["explain", "--domain", DOMAINS[0]], ["explain", "--numeric"]]
-EVERY_WORDS = [HEX, SDDL, NUMERIC, *UNDER, [*UNDER[0], "--numeric"], *EXPLAINED]
+CHECKED = [["check", "--token", "WD,!BA,SY", "--maximum"],
+           ["check", "--token", "BU,DU", "--domain", DOMAINS[0], "--type", "ds", "--want", "RPWP", "--self", "BU"]]
+EVERY_WORDS = [HEX, SDDL, NUMERIC, *UNDER, [*UNDER[0], "--numeric"], *EXPLAINED, *CHECKED]
 FROM_SDDL = ["--from", "sddl"]
 TO_HEX = ["--to", "hex"]
-EVERY_WORDS_FROM_SDDL = [[*words, *FROM_SDDL] for words in (HEX, SDDL, UNDER[0], [*UNDER[0], *TO_HEX], EXPLAINED[1])]
+EVERY_WORDS_FROM_SDDL = [[*words, *FROM_SDDL] for words in (HEX, SDDL, UNDER[0], [*UNDER[0], *TO_HEX], EXPLAINED[1], CHECKED[1])]
 DOMAIN_SIDS = [reference.sid_of_text(domain.encode()) for domain in DOMAINS]
 SOME_MASKS = [*reference.RIGHTS.values(), *reference.COMPOUND_RIGHTS.values(), *reference.LABEL_RIGHTS.values()]
 ALIASES, KIND_NAMES, FLAG_NAMES, RIGHT_NAMES = (
@@ -794,6 +798,40 @@ def compare_short(count, program, maker, number):
         count.run(program, "short input", maker.chance.choice(every_words), Input(data), sizes)
 
 
+def token_text(maker, descriptors):
+    """The text of a token with SIDs of these descriptors among others, some of them deny-only."""
+    sids = [sid for one in descriptors for sid in (one.owner, *(ace.sid for ace in (one.dacl.aces if one.dacl else ())))
+            if sid is not None]
+    some = maker.chance.choices([sid.text() for sid in sids] + ["WD", "S-1-3-4", "PS"], k=maker.chance.randint(1, 9))
+    return ",".join(maker.chance.choice(["", "", "!"]) + sid for sid in some)
+
+
+def check_words(maker, descriptors):
+    """Words of check that ask for something, about what the descriptors say."""
+    aces = [ace for one in descriptors if one.dacl for ace in one.dacl.aces]
+    words = ["check", "--token", token_text(maker, descriptors), "--type", maker.chance.choice(list(reference.MAPPINGS))]
+    masks = [mask for mask in (maker.rights(), maker.chance.getrandbits(25), *(ace.mask for ace in aces)) if mask]
+    wanted = maker.chance.choice(masks) & ~reference.RESERVED
+    if wanted and maker.chance.random() < 0.7:
+        words += ["--want", f"0x{wanted:x}"]
+    if "--want" not in words or maker.chance.random() < 0.5:
+        words.append("--maximum")
+    guids = [ace.object_type for ace in aces if ace.object_type is not None]
+    if guids and maker.chance.random() < 0.7:
+        words += ["--object", reference.guid_sddl(maker.chance.choice(guids))]
+    if maker.chance.random() < 0.5:
+        words += ["--self", maker.chance.choice(words[2].replace("!", "").split(","))]
+    return words + [flag for flag in ("--security", "--take-ownership") if maker.chance.random() < 0.3]
+
+
+def compare_checks(count, program, maker, number):
+    """Checks by tokens that have something to do with the descriptors, each on a few of them."""
+    for _ in range(number):
+        pieces = [maker.canonical().data for _ in range(20)]
+        given = Input(b"".join(data.hex().encode() + b"\n" for data in pieces))
+        count.run(program, "checked", check_words(maker, [reference.read(data) for data in pieces]), given)
+
+
 def main():
     parser = argparse.ArgumentParser(description="Compares the program's answers with those of reference.py.")
     parser.add_argument("program", type=os.path.abspath)
@@ -805,6 +843,7 @@ def main():
     compare_hex(count, given.program, maker, given.lines)
     compare_sddl(count, given.program, maker, given.lines)
     compare_short(count, given.program, maker, given.lines // 25)
+    compare_checks(count, given.program, maker, given.lines // 20)
     print(f"{count.passed} passed, {count.failed} failed")
     return 1 if count.failed else 0
 

@@ -28,6 +28,17 @@ UNKNOWN_FLAG = 0x20  # the one bit of an ACE's flags that is refused
 
 FORMS = {"from": ["hex", "sddl"], "to": ["hex", "sddl"]}
 EXPLANATION = "explanation"  # what the command explain prints, in place of a form
+VERDICT = "verdict"  # and the command check
+# What GENERIC_ALL, GENERIC_EXECUTE, GENERIC_WRITE and GENERIC_READ mean, the bits 28 to 31, on each type of object.
+MAPPINGS = {
+    "file": (0x1f_01ff, 0x12_00a0, 0x12_0116, 0x12_0089),
+    "key": (0xf_003f, 0x2_0019, 0x2_0006, 0x2_0019),
+    "ds": (0xf_01ff, 0x2_0004, 0x2_0028, 0x2_0094),
+}
+MOST_ENTRIES = 1024  # of a token
+MAXIMUM_ALLOWED, RESERVED = 1 << 25, 3 << 26
+PLACES = range(25)  # of the rights that can be granted
+READ_CONTROL, WRITE_DAC, WRITE_OWNER, SYSTEM_SECURITY = 17, 18, 19, 24
 TEXT_LIMIT = 183  # bytes of a field, and of the longest SID text
 SID_TEXT = re.compile(rb"S-1-(0x[0-9a-f]{12}|[0-9]+)((?:-[0-9]+){0,15})", re.IGNORECASE)
 MOST_OF_A_DOMAIN = 14  # sub-authorities; one more comes after them
@@ -95,10 +106,10 @@ class Fault(Exception):
 
 
 class Usage(Exception):
-    """The option whose value does not read."""
+    """The option whose value does not read, or why nothing can be asked."""
 
     def __str__(self):
-        return f"sdtool: usage: --{self.args[0]}"
+        return f"sdtool: {self.args[0]}" if self.args[0].startswith("error ") else f"sdtool: usage: --{self.args[0]}"
 
 
 class Sid(NamedTuple):
@@ -248,12 +259,25 @@ def from_hex(line):
     return bytes.fromhex(line.decode("ascii"))
 
 
+class Ask(NamedTuple):
+    """What check asks: pairs of a SID and whether it only denies, and the rest of the words."""
+    token: Tuple[Tuple[Sid, bool], ...]
+    wanted: int
+    maximum: bool
+    mapping: Tuple[int, ...]
+    object_type: Optional[bytes]
+    principal_self: Optional[Sid]
+    security: bool
+    take_ownership: bool
+
+
 class Settings(NamedTuple):
     """What the words ask for."""
     source: str = "hex"
     to: str = "sddl"
     domain: Optional[Sid] = None
     numeric: bool = False
+    ask: Optional[Ask] = None
 
 
 def sid_of_text(text, domain=None):
@@ -365,16 +389,69 @@ def from_sddl(line, domain):
     return Descriptor(control, 0, *read_parts.values())
 
 
+def value_of(given, name, read):
+    """The value of an option, or None where it is left out."""
+    if given[name] is None:
+        return None
+    try:
+        return read(given[name].encode("latin-1"))
+    except Fault:
+        raise Usage(name) from None
+
+
+def entries_of_text(text, domain):
+    """The entries of a token, each a SID and whether it only denies."""
+    pieces = text.split(b",")
+    if len(pieces) > MOST_ENTRIES:
+        raise Fault(25, "sid-form")
+    return tuple((sid_of_text(piece[1:] if piece[:1] == b"!" else piece, domain), piece[:1] == b"!") for piece in pieces)
+
+
+def needed_guid(text):
+    if not text:
+        raise Fault(28, "guid")
+    return guid_of_text(text, True)
+
+
+def mapped(mask, mapping):
+    """The mask with each generic right replaced by what it means."""
+    meant = (all_of for place, all_of in zip(range(28, 32), mapping) if mask >> place & 1)
+    return functools.reduce(operator.or_, meant, mask % (1 << 28))
+
+
+def ask_of(given, domain):
+    """What the words after check ask."""
+    kind = given["type"] or "file" if given["type"] != "" else ""
+    if kind not in MAPPINGS:
+        raise Usage("type")
+    token = value_of(given, "token", lambda text: entries_of_text(text, domain))
+    want = value_of(given, "want", rights_of_text) or 0
+    object_type = value_of(given, "object", needed_guid)
+    principal_self = value_of(given, "self", lambda text: sid_of_text(text, domain))
+    if not want and not given["maximum"]:
+        raise Usage("error 50 empty-request")
+    if want & RESERVED:
+        raise Usage("error 51 reserved-bits")
+    return Ask(token, mapped(want, MAPPINGS[kind]) & ~MAXIMUM_ALLOWED, given["maximum"] or bool(want & MAXIMUM_ALLOWED),
+               MAPPINGS[kind], object_type, principal_self, given["security"], given["take_ownership"])
+
+
 def settings_of(words):
     """What a command and the words after it ask for, which are options that each stand once and have a value where they
-    need one. Values are looked at in this order: domain, from, to."""
+    need one. Values are looked at in this order: domain, from, to, type, token, want, object, self."""
     command, *words = words
     parser = argparse.ArgumentParser(allow_abbrev=False, add_help=False)
     parser.add_argument("--from", default="hex")
     if command == b"convert":
         parser.add_argument("--to", default="sddl")
     parser.add_argument("--domain")
-    parser.add_argument("--numeric", action="store_true")
+    if command == b"check":
+        for option in ("token", "want", "type", "object", "self"):
+            parser.add_argument(f"--{option}")
+        for flag in ("maximum", "security", "take-ownership"):
+            parser.add_argument(f"--{flag}", action="store_true")
+    else:
+        parser.add_argument("--numeric", action="store_true")
     given = vars(parser.parse_args([word.decode("latin-1") for word in words]))
     domain = None
     if given["domain"] is not None:
@@ -387,6 +464,8 @@ def settings_of(words):
     for name, forms in FORMS.items():
         if name in given and given[name] not in forms:
             raise Usage(name)
+    if command == b"check":
+        return Settings(given["from"], VERDICT, domain, False, ask_of(given, domain))
     return Settings(given["from"], given.get("to", EXPLANATION), domain, given["numeric"])
 
 
@@ -481,6 +560,48 @@ def explanation(descriptor, settings):
                       *acl_lines("S", descriptor.sacl, descriptor, settings), "end"])
 
 
+def meets(sid, token, deny):
+    """Whether an entry has the SID that is enabled, or may be deny-only."""
+    return any(entry == sid and (deny or not only_denies) for entry, only_denies in token)
+
+
+def applies(ace, descriptor, ask):
+    """Whether the ACE counts for the token (2.5.3.1)."""
+    subject = ace.sid
+    if subject == Sid(5, (10,)) and ask.principal_self is not None:
+        subject = ask.principal_self
+    elif subject == Sid(3, (4,)):
+        subject = descriptor.owner
+    is_typed = ace.type in OBJECT_TYPES and ace.object_type is not None
+    return (not ace.flags & ACE_FLAGS["IO"] and ace.type in (0, 1, 5, 6)
+            and (not is_typed or ace.object_type == ask.object_type)
+            and subject is not None and meets(subject, ask.token, ace.type in (1, 6)))
+
+
+def granted(place, descriptor, ask):
+    """Whether the one right at the place is granted (2.5.3.2)."""
+    if place == SYSTEM_SECURITY:
+        return ask.security
+    if descriptor.dacl is None or place == WRITE_OWNER and ask.take_ownership:
+        return True
+    aces = descriptor.dacl.aces
+    names_owner = any(ace.type in (0, 1, 5, 6) and ace.sid == Sid(3, (4,)) and not ace.flags & ACE_FLAGS["IO"] for ace in aces)
+    if place in (READ_CONTROL, WRITE_DAC) and not names_owner and meets(descriptor.owner, ask.token, False):
+        return True
+    for ace in aces:
+        if applies(ace, descriptor, ask) and mapped(ace.mask, ask.mapping) >> place & 1:
+            return ace.type in (0, 5)
+    return False
+
+
+def verdict(descriptor, ask):
+    """What the descriptor grants, or which wanted rights are missing."""
+    rights = sum(1 << place for place in PLACES if granted(place, descriptor, ask))
+    missing = ask.wanted & ~rights
+    answered = ask.wanted | rights & ask.mapping[0] * ask.maximum
+    return f"denied 0x{missing:08x}" if missing or not answered else f"granted 0x{answered:08x}"
+
+
 def shown(line, settings):
     """What a line shows: a descriptor, or the fault that it has, or None where it is empty."""
     if not line:
@@ -499,6 +620,8 @@ def answer(found, settings):
         return b""
     if isinstance(found, Fault):
         return str(found).encode()
+    if settings.to == VERDICT:
+        return verdict(found, settings.ask).encode()
     if settings.to == EXPLANATION:
         return explanation(found, settings).encode()
     return (layout(found).hex() if settings.to == "hex" else sddl(found, settings)).encode()

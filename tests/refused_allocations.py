@@ -56,6 +56,11 @@ COMMAND_LINES = [
     ["explain"],
     ["explain", "--from", "sddl", "--numeric", "--domain", LONGEST_DOMAIN],
     ["explain", "--domain", DOMAIN, "--from", "xml"],
+    ["check", "--token", ",".join(["!WD"] * 1024), "--maximum", "--domain", DOMAIN],
+    ["check", "--token", "WD", "--type", "ds", "--want", "RP", "--object", "bf967aba-0de6-11d0-a285-00aa003049e2",
+     "--self", "BA", "--security", "--take-ownership"],
+    ["check", "--token", ",".join(["WD"] * 1025)],
+    ["check", "--token", "WD"],
     ["--help"],
     [],
 ]
@@ -78,6 +83,8 @@ READING = [
     (["convert", "--from", "sddl", "--domain", LONGEST_DOMAIN], SDDL_LINES * 5),
     (["explain", "--domain", DOMAIN], HEX_LINES * 5),
     (["explain", "--from", "sddl", "--numeric"], SDDL_LINES * 5),
+    (["check", "--token", "WD,!BA", "--maximum"], HEX_LINES * 5),
+    (["check", "--token", "WD,!BA", "--want", "RC", "--from", "sddl"], SDDL_LINES * 5),
 ]
 
 

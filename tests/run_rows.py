@@ -46,6 +46,7 @@ sys.dont_write_bytecode = True
 import reference  # noqa: E402
 
 SECONDS = 60  # for one run: a program that hangs fails its row
+ASKED_WRONGLY = ("sdtool: usage: ", "sdtool: error 50 ", "sdtool: error 51 ")  # what reference.py says of words
 SECONDS_TO_END = 10  # once its output takes nothing more
 
 
@@ -307,12 +308,12 @@ def runs(program, row, one_byte):
 
 def is_for_reference(row):
     """Whether reference.py says what has to come of the row: it knows neither help nor which words are no options."""
-    return "stdout_has" not in row and (row.get("status", 0) < 2 or row.get("stderr", "").startswith("sdtool: usage: "))
+    return "stdout_has" not in row and (row.get("status", 0) < 2 or row.get("stderr", "").startswith(ASKED_WRONGLY))
 
 
 def asked_of_reference(row):
     """The one run of the row, as runs gives it, with the answers of reference.py in place of a program's."""
-    stdout = text(row["stdout"])
+    stdout = text(row.get("stdout", ""))
     try:
         settings = reference.settings_of([text(word) for word in row["words"]])
         answers, status = reference.answers(reference.all_shown(text(row["stdin"]), settings), settings)

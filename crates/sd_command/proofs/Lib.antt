@@ -1,3 +1,4 @@
 pub mod GivenLemmas
 pub mod ParseLemmas
 mod Rows
+pub mod TokenLemmas

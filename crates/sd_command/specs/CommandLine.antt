@@ -12,6 +12,10 @@ option_rule name = record (new_rule name) { long = Some name; action = Some Set 
 abbrev pub flag_rule : Text → Rule
 flag_rule name = record (new_rule name) { long = Some name; action = Some SetTrue }
 
+-- `--name VALUE`, exactly once
+abbrev pub required_rule : Text → Rule
+required_rule name = record (option_rule name) { required = true }
+
 -- `sdtool convert` and its options
 unfoldable pub convert_line : App
 convert_line =
@@ -29,9 +33,25 @@ explain_line =
     (option_rule (codes "domain")))
     (flag_rule (codes "numeric"))
 
+-- `sdtool check` and its options
+unfoldable pub check_line : App
+check_line =
+    with_rule (with_rule (with_rule (with_rule (with_rule (with_rule (with_rule (with_rule (with_rule (with_rule
+    (new_app (codes "check"))
+    (option_rule (codes "from")))
+    (option_rule (codes "domain")))
+    (required_rule (codes "token")))
+    (option_rule (codes "want")))
+    (flag_rule (codes "maximum")))
+    (option_rule (codes "type")))
+    (option_rule (codes "object")))
+    (option_rule (codes "self")))
+    (flag_rule (codes "security")))
+    (flag_rule (codes "take-ownership"))
+
 -- `sdtool`, which wants a command
 unfoldable pub bare_line : App
 bare_line = on_top (λ s. record s { subcommand_required = true }) (new_app (codes "sdtool"))
 
 unfoldable pub line : App
-line = with_subcommand (with_subcommand bare_line convert_line.top) explain_line.top
+line = with_subcommand (with_subcommand (with_subcommand bare_line convert_line.top) explain_line.top) check_line.top

@@ -1,24 +1,37 @@
 -- What the matches of a command line settle.
-use Rattle.std.specs.Prelude.{◌≡◌, Bool, false, nat_lt, length, List, Option, Some, None, Result, Ok, Err, codes, if◌then◌else◌, option_map}
+use Rattle.std.specs.Prelude.{◌≡◌, ℕ, Bool, ◌||◌, false, nat_lt, length, List, [], Option, Some, None, Result, Ok, Err, codes, if◌then◌else◌, option_map}
 use Rattle.std.specs.Str.{bytes_eq}
 use Rattle.clap.specs.Words.{Row, Text, first_of, subcommand_of}
 use Rattle.sd_core.specs.Sid.{SecurityId}
 use Rattle.sd_core.specs.SidText.{sid_reads}
+use Rattle.sd_core.specs.GuidText.{guid_reads}
+use Rattle.sd_core.specs.Mapping.{GenericMapping}
+use Rattle.sd_core.specs.Token.{Entry}
 use Rattle.sd_core.specs.declared.sid_text.SidFault.{SidFault}
+use Rattle.sd_rights.specs.Rights.{rights_reads}
+use Rattle.sd_access.specs.Ask.{Asked, ask_fault, asks_maximum, wanted_of}
+use Rattle.sd_access.specs.declared.ask.AskFault.{AskFault}
 use Rattle.sd_command.specs.CommandLine.{line}
+use Rattle.sd_command.specs.Mappings.{directory_mapping, file_mapping, key_mapping}
+use Rattle.sd_command.specs.TokenText.{entries_read, sid_under}
 use Rattle.sd_command.specs.declared.job.Form.{Form}
 use Rattle.sd_command.specs.declared.job.Form.TheVariants.{Hex, Sddl}
-use Rattle.sd_command.specs.declared.job.Act.TheVariants.{Convert, Explain}
+use Rattle.sd_command.specs.declared.job.Act.TheVariants.{Check, Convert, Explain}
 use Rattle.sd_command.specs.declared.job.Job.{Job}
 use Rattle.sd_command.specs.declared.settings.OptionName.{OptionName}
 use Rattle.sd_command.specs.declared.settings.OptionName.TheVariants as name
 use Rattle.sd_command.specs.declared.settings.UsageFault.{UsageFault}
-use Rattle.sd_command.specs.declared.settings.UsageFault.TheVariants.{NoCommand, Value}
+use Rattle.sd_command.specs.declared.settings.UsageFault.TheVariants.{NoCommand, Unasked, Value}
 
 abbrev pub option_text : OptionName → Text
 option_text name.Domain = codes "domain"
 option_text name.From = codes "from"
 option_text name.To = codes "to"
+option_text name.Type = codes "type"
+option_text name.Token = codes "token"
+option_text name.Want = codes "want"
+option_text name.Object = codes "object"
+option_text name.PrincipalSelf = codes "self"
 
 abbrev pub form_reads : Text → Option Form
 form_reads text =
@@ -43,6 +56,11 @@ value_or default reads (Some text) = reads text
 abbrev pub value_if : {A : Type 0} → (Text → Option A) → Option Text → Option (Option A)
 value_if reads None = Some None
 value_if reads (Some text) = option_map (λ value. Some value) (reads text)
+
+-- the value of an option that may not be left out
+abbrev pub value_needed : {A : Type 0} → (Text → Option A) → Option Text → Option A
+value_needed reads None = None
+value_needed reads (Some text) = reads text
 
 -- the value, or the fault of an option whose value does not read
 abbrev pub given : {A : Type 0} → OptionName → Option A → Result A UsageFault
@@ -75,6 +93,55 @@ is_true (Some text) = bytes_eq text (codes "true")
 unfoldable pub is_set : Text → List Row → Bool
 is_set flag rows = is_true (first_of flag rows)
 
+-- ---- what `check` asks
+
+abbrev pub mapping_reads : Text → Option GenericMapping
+mapping_reads text =
+    if bytes_eq text (codes "file") then Some file_mapping
+    else if bytes_eq text (codes "key") then Some key_mapping
+    else if bytes_eq text (codes "ds") then Some directory_mapping
+    else None
+
+-- that of files where the option is left out
+unfoldable pub given_mapping : List Row → Result GenericMapping UsageFault
+given_mapping rows = given name.Type (value_or file_mapping mapping_reads (first_of (codes "type") rows))
+
+-- the entries of the token, whose SIDs are read under the domain
+unfoldable pub given_token : Option SecurityId → List Row → Result (List Entry) UsageFault
+given_token domain rows = given name.Token (value_needed (entries_read domain) (first_of (codes "token") rows))
+
+-- no right where the option is left out
+unfoldable pub given_want : List Row → Result ℕ UsageFault
+given_want rows = given name.Want (value_or 0 rights_reads (first_of (codes "want") rows))
+
+unfoldable pub given_object : List Row → Result (Option (List ℕ)) UsageFault
+given_object rows = given name.Object (value_if guid_reads (first_of (codes "object") rows))
+
+-- whom PRINCIPAL SELF stands for, read under the domain
+unfoldable pub given_self : Option SecurityId → List Row → Result (Option SecurityId) UsageFault
+given_self domain rows = given name.PrincipalSelf (value_if (sid_under domain) (first_of (codes "self") rows))
+
+-- what is asked, or why nothing can be
+abbrev pub unless : Option AskFault → Asked → Result Asked UsageFault
+unless None ask = Ok ask
+unless (Some fault) ask = Err (Unasked fault)
+
+-- a desired mask on a type of object, and the rest of what is asked
+unfoldable pub asked :
+    GenericMapping → ℕ → Option (List ℕ) → Option SecurityId → List Row → Result Asked UsageFault
+asked mapping want object principal rows =
+    unless (ask_fault want (is_set (codes "maximum") rows)) (record {
+      wanted = wanted_of mapping want;
+      maximum = is_set (codes "maximum") rows || asks_maximum want;
+      mapping = mapping;
+      object = object;
+      principal_self = principal;
+      security = is_set (codes "security") rows;
+      take_ownership = is_set (codes "take-ownership") rows;
+    })
+
+-- ---- the commands
+
 abbrev pub and_then : {A B : Type 0} → Result A UsageFault → (A → Result B UsageFault) → Result B UsageFault
 and_then (Err fault) next = Err fault
 and_then (Ok value) next = next value
@@ -93,18 +160,44 @@ explain_settings rows =
     and_then (given_source rows) (λ source.
     Ok (record { source = source; act = Explain; domain = domain; numeric = is_set (codes "numeric") rows })))
 
+-- what the words settle: what is done with each line, and the entries of the token that asks
+pub record Settings : Type 0 where
+  pub job : Job
+  pub entries : List Entry
+
+abbrev pub with_entries : List Entry → Result Job UsageFault → Result Settings UsageFault
+with_entries entries (Err fault) = Err fault
+with_entries entries (Ok job) = Ok (record { job = job; entries = entries })
+
+-- the values in the order in which they are looked at
+unfoldable pub check_settings : List Row → Result Settings UsageFault
+check_settings rows =
+    and_then (given_domain rows) (λ domain.
+    and_then (given_source rows) (λ source.
+    and_then (given_mapping rows) (λ mapping.
+    and_then (given_token domain rows) (λ entries.
+    and_then (given_want rows) (λ want.
+    and_then (given_object rows) (λ object.
+    and_then (given_self domain rows) (λ principal.
+    and_then (asked mapping want object principal rows) (λ ask.
+    Ok (record {
+      job = record { source = source; act = Check ask; domain = domain; numeric = false };
+      entries = entries;
+    })))))))))
+
 -- by the command's name
-abbrev pub command_settings : Text → List Row → Result Job UsageFault
+abbrev pub command_settings : Text → List Row → Result Settings UsageFault
 command_settings command rows =
-    if bytes_eq command (codes "convert") then convert_settings rows
-    else if bytes_eq command (codes "explain") then explain_settings rows
+    if bytes_eq command (codes "convert") then with_entries [] (convert_settings rows)
+    else if bytes_eq command (codes "explain") then with_entries [] (explain_settings rows)
+    else if bytes_eq command (codes "check") then check_settings rows
     else Err NoCommand
 
 -- a command's name and its matches
-abbrev pub settings : Option (Text × List Row) → Result Job UsageFault
+abbrev pub settings : Option (Text × List Row) → Result Settings UsageFault
 settings None = Err NoCommand
 settings (Some matches) = command_settings matches.0 matches.1
 
 -- what words settle that the command line takes
-unfoldable pub settings_of : List Text → Result Job UsageFault
+unfoldable pub settings_of : List Text → Result Settings UsageFault
 settings_of words = settings (subcommand_of line words)

@@ -1,8 +1,8 @@
 // The command line: its commands and their options.
 ghost use Rattle.std.specs.Prelude.{◌≡◌, IfOk, codes, false};
-ghost use Rattle.clap.specs.Words.{app_of, rule_of, with_rule};
+ghost use Rattle.clap.specs.Words.{app_of, new_app, rule_of, with_rule};
 ghost use Rattle.clap.specs.declared.Command.TheViews.{out-Command};
-ghost use Rattle.sd_command.specs.CommandLine.{bare_line, convert_line, explain_line, flag_rule, line, option_rule};
+ghost use Rattle.sd_command.specs.CommandLine.{bare_line, check_line, convert_line, explain_line, flag_rule, line, option_rule, required_rule};
 
 use clap::{Arg, ArgAction, Command};
 use std::alloc::{AllocError, Global};
@@ -12,7 +12,8 @@ pub fn command_line<'a>(alloc: Global) -> Result<Command<'a>, AllocError>
     ensures { IfOk result (λ c. app_of c ≡ line) }
 {
     let command = bare_line(alloc).subcommand(convert_command(alloc)?)?;
-    command.subcommand(explain_command(alloc)?)
+    let command = command.subcommand(explain_command(alloc)?)?;
+    command.subcommand(check_command(alloc)?)
 }
 
 fn bare_line<'a>(alloc: Global) -> Command<'a>
@@ -28,7 +29,11 @@ fn convert_command<'a>(alloc: Global) -> Result<Command<'a>, AllocError>
     ensures line { IfOk result (λ c. app_of c ≡ convert_line) }
     ensures local { IfOk result (λ c. (out-Command c).has_globals ≡ false) }
 {
-    let command = Command::new(alloc, "convert").about("Print each descriptor in a canonical form");
+    let command = named(
+        alloc,
+        "convert",
+        "Print each descriptor in a canonical form",
+    );
     let command = with_arg(command, from_option(alloc))?;
     let command = with_arg(
         command,
@@ -46,12 +51,44 @@ fn explain_command<'a>(alloc: Global) -> Result<Command<'a>, AllocError>
     ensures line { IfOk result (λ c. app_of c ≡ explain_line) }
     ensures local { IfOk result (λ c. (out-Command c).has_globals ≡ false) }
 {
-    let command = Command::new(alloc, "explain").about(
+    let command = named(
+        alloc,
+        "explain",
         "Say what each descriptor has, on a block of lines",
     );
     let command = with_arg(command, from_option(alloc))?;
     let command = with_arg(command, domain_option(alloc))?;
     with_arg(command, numeric_flag(alloc))
+}
+
+fn check_command<'a>(alloc: Global) -> Result<Command<'a>, AllocError>
+    ensures line { IfOk result (λ c. app_of c ≡ check_line) }
+    ensures local { IfOk result (λ c. (out-Command c).has_globals ≡ false) }
+{
+    let command = named(alloc, "check", "Say what each descriptor grants to a token");
+    let command = with_arg(command, from_option(alloc))?;
+    let command = with_arg(command, domain_option(alloc))?;
+    let command = with_arg(command, token_option(alloc))?;
+    let command = with_arg(command, want_option(alloc))?;
+    let command = with_arg(
+        command,
+        flag(alloc, "maximum", "Ask for all that is granted"),
+    )?;
+    let command = with_arg(command, type_option(alloc))?;
+    let command = with_arg(command, object_option(alloc))?;
+    let command = with_arg(command, self_option(alloc))?;
+    let command = with_arg(
+        command,
+        flag(alloc, "security", "The token holds SeSecurityPrivilege"),
+    )?;
+    with_arg(
+        command,
+        flag(
+            alloc,
+            "take-ownership",
+            "The token holds SeTakeOwnershipPrivilege",
+        ),
+    )
 }
 
 fn from_option<'a>(alloc: Global) -> Arg<'a>
@@ -76,11 +113,65 @@ fn domain_option<'a>(alloc: Global) -> Arg<'a>
     )
 }
 
+fn token_option<'a>(alloc: Global) -> Arg<'a>
+    ensures rule { rule_of result ≡ required_rule (codes "token") }
+    ensures local { result.global ≡ false }
+{
+    required(
+        alloc,
+        "token",
+        "The SIDs of the token, parted by commas, with ! before one that only denies",
+    )
+}
+
+fn want_option<'a>(alloc: Global) -> Arg<'a>
+    ensures rule { rule_of result ≡ option_rule (codes "want") }
+    ensures local { result.global ≡ false }
+{
+    option(alloc, "want", "The rights that are wanted")
+}
+
+fn type_option<'a>(alloc: Global) -> Arg<'a>
+    ensures rule { rule_of result ≡ option_rule (codes "type") }
+    ensures local { result.global ≡ false }
+{
+    option(
+        alloc,
+        "type",
+        "The type of object: file, the default, key or ds",
+    )
+}
+
+fn object_option<'a>(alloc: Global) -> Arg<'a>
+    ensures rule { rule_of result ≡ option_rule (codes "object") }
+    ensures local { result.global ≡ false }
+{
+    option(
+        alloc,
+        "object",
+        "The GUID of the object type that is asked for",
+    )
+}
+
+fn self_option<'a>(alloc: Global) -> Arg<'a>
+    ensures rule { rule_of result ≡ option_rule (codes "self") }
+    ensures local { result.global ≡ false }
+{
+    option(alloc, "self", "The SID that PRINCIPAL SELF stands for")
+}
+
 fn numeric_flag<'a>(alloc: Global) -> Arg<'a>
     ensures rule { rule_of result ≡ flag_rule (codes "numeric") }
     ensures local { result.global ≡ false }
 {
     flag(alloc, "numeric", "Print SIDs without aliases")
+}
+
+fn named<'a>(alloc: Global, name: &'a str, about: &'a str) -> Command<'a>
+    ensures app { app_of result ≡ new_app name.entry.now }
+    ensures local { (out-Command result).has_globals ≡ false }
+{
+    Command::new(alloc, name).about(about)
 }
 
 fn with_arg<'a>(command: Command<'a>, arg: Arg<'a>) -> Result<Command<'a>, AllocError>
@@ -99,6 +190,13 @@ fn option<'a>(alloc: Global, name: &'a str, help: &'a str) -> Arg<'a>
         .long(name)
         .action(ArgAction::Set)
         .help(help)
+}
+
+fn required<'a>(alloc: Global, name: &'a str, help: &'a str) -> Arg<'a>
+    ensures rule { rule_of result ≡ required_rule name.entry.now }
+    ensures local { result.global ≡ false }
+{
+    option(alloc, name, help).required(true)
 }
 
 fn flag<'a>(alloc: Global, name: &'a str, help: &'a str) -> Arg<'a>

@@ -1,14 +1,16 @@
 // What the matches of a command line settle.
-ghost use Rattle.std.specs.Prelude.{◌≡◌, IfOk, option_map};
+ghost use Rattle.std.specs.Prelude.{◌≡◌, [], option_map};
 ghost use Rattle.clap.specs.Words.{first_of, found_of, rows_of, subcommand_rows_of};
 ghost use Rattle.sd_command.specs.Usage.{usage_line};
 ghost use Rattle.std.specs.Fn.{FnOnceReturnsAt};
 ghost use Rattle.sd_command.specs.Settings as specs;
-ghost use Rattle.sd_command.specs.Settings.{option_text};
+ghost use Rattle.sd_command.specs.Settings.{option_text, with_entries};
 
+use crate::check_settings::check_settings;
 use crate::job::{Act, Form, Job};
 use clap::ArgMatches;
-use sd_core::Sid;
+use sd_access::AskFault;
+use sd_core::{Sid, Token};
 
 /// The options whose values are read.
 #[derive(Clone, Copy, Debug, PartialEq, Eq)]
@@ -16,6 +18,11 @@ pub enum OptionName {
     Domain,
     From,
     To,
+    Type,
+    Token,
+    Want,
+    Object,
+    PrincipalSelf,
 }
 
 impl OptionName {
@@ -27,6 +34,11 @@ impl OptionName {
             OptionName::Domain => "domain",
             OptionName::From => "from",
             OptionName::To => "to",
+            OptionName::Type => "type",
+            OptionName::Token => "token",
+            OptionName::Want => "want",
+            OptionName::Object => "object",
+            OptionName::PrincipalSelf => "self",
         }
     }
 }
@@ -38,6 +50,8 @@ pub enum UsageFault {
     NoCommand,
     /// The value of an option does not read.
     Value(OptionName),
+    /// All values read, and together they ask for nothing that can be asked.
+    Unasked(AskFault),
 }
 
 impl UsageFault {
@@ -50,28 +64,48 @@ impl UsageFault {
             UsageFault::Value(OptionName::Domain) => "sdtool: usage: --domain\n",
             UsageFault::Value(OptionName::From) => "sdtool: usage: --from\n",
             UsageFault::Value(OptionName::To) => "sdtool: usage: --to\n",
+            UsageFault::Value(OptionName::Type) => "sdtool: usage: --type\n",
+            UsageFault::Value(OptionName::Token) => "sdtool: usage: --token\n",
+            UsageFault::Value(OptionName::Want) => "sdtool: usage: --want\n",
+            UsageFault::Value(OptionName::Object) => "sdtool: usage: --object\n",
+            UsageFault::Value(OptionName::PrincipalSelf) => "sdtool: usage: --self\n",
+            UsageFault::Unasked(AskFault::EmptyRequest) => "sdtool: error 50 empty-request\n",
+            UsageFault::Unasked(AskFault::ReservedBits) => "sdtool: error 51 reserved-bits\n",
         }
     }
 }
 
-/// The first option that does not read, or the job.
-pub fn settle(matches: &ArgMatches<'_>) -> Result<Job, UsageFault>
-    ensures { result ≡ specs.settings (subcommand_rows_of matches.now) }
+/// The first option that does not read, or why nothing can be asked, or the job, with the entries of the token
+/// that asks. The token has to have none before. After a fault it may have some.
+pub fn settle(matches: &ArgMatches<'_>, token: &mut Token) -> Result<Job, UsageFault>
+    requires empty { token.old.entries ≡ [] }
+    ensures settled { with_entries token.new.entries result ≡ specs.settings (subcommand_rows_of matches.now) }
+    ensures compared { token.new.compared ≡ token.old.compared }
 {
     match matches.subcommand() {
-        Some((command, found)) => command_settings(command, found),
+        Some((command, found)) => command_settings(command, found, token),
         None => Err(UsageFault::NoCommand),
     }
 }
 
-fn command_settings(command: &str, matches: &ArgMatches<'_>) -> Result<Job, UsageFault>
-    ensures { result ≡ specs.command_settings command.now (rows_of (found_of matches.now)) }
+fn command_settings(
+    command: &str,
+    matches: &ArgMatches<'_>,
+    token: &mut Token,
+) -> Result<Job, UsageFault>
+    requires empty { token.old.entries ≡ [] }
+    ensures settled { with_entries token.new.entries result
+        ≡ specs.command_settings command.now (rows_of (found_of matches.now)) }
+    ensures compared { token.new.compared ≡ token.old.compared }
 {
     if command == "convert" {
         return convert_settings(matches);
     }
     if command == "explain" {
         return explain_settings(matches);
+    }
+    if command == "check" {
+        return check_settings(matches, token);
     }
     Err(UsageFault::NoCommand)
 }
@@ -106,7 +140,7 @@ fn explain_settings(matches: &ArgMatches<'_>) -> Result<Job, UsageFault>
 }
 
 // What an option's text reads as. None where the option is left out.
-fn value_of<T, R: FnOnce(&str) -> Option<T>>(
+pub(crate) fn value_of<T, R: FnOnce(&str) -> Option<T>>(
     matches: &ArgMatches<'_>,
     option: OptionName,
     read: R,
@@ -124,7 +158,7 @@ fn value_of<T, R: FnOnce(&str) -> Option<T>>(
     }
 }
 
-fn given_domain(matches: &ArgMatches<'_>) -> Result<Option<Sid>, UsageFault>
+pub(crate) fn given_domain(matches: &ArgMatches<'_>) -> Result<Option<Sid>, UsageFault>
     ensures { result ≡ specs.given_domain (rows_of (found_of matches.now)) }
 {
     value_of(matches, OptionName::Domain, domain_from_text)
@@ -148,7 +182,7 @@ fn domain_from_text(text: &str) -> Option<Sid>
 }
 
 // Hex where the option is left out.
-fn given_source(matches: &ArgMatches<'_>) -> Result<Form, UsageFault>
+pub(crate) fn given_source(matches: &ArgMatches<'_>) -> Result<Form, UsageFault>
     ensures { result ≡ specs.given_source (rows_of (found_of matches.now)) }
 {
     let form = value_of(matches, OptionName::From, form_from_text)?;
@@ -177,7 +211,7 @@ fn form_from_text(text: &str) -> Option<Form>
 
 // A flag's text is `true` where it is given, and else `false`.
 #[tactic(auto, unfolding(crate::specs::Settings::is_set))]
-fn is_set(matches: &ArgMatches<'_>, id: &str) -> bool
+pub(crate) fn is_set(matches: &ArgMatches<'_>, id: &str) -> bool
     ensures { result ≡ specs.is_set id.now (rows_of (found_of matches.now)) }
 {
     match text_of(matches, id) {
@@ -187,7 +221,7 @@ fn is_set(matches: &ArgMatches<'_>, id: &str) -> bool
 }
 
 // The text of an option.
-fn text_of<'a>(matches: &ArgMatches<'a>, id: &str) -> Option<&'a str>
+pub(crate) fn text_of<'a>(matches: &ArgMatches<'a>, id: &str) -> Option<&'a str>
     ensures { option_map (λ s. s.now) result ≡ first_of id.now (rows_of (found_of matches.now)) }
 {
     matches.get_str(id)

@@ -9,9 +9,8 @@ use Rattle.sd_filter.specs.Told.{SourceTold, DrainTold, sink_of}
 use Rattle.sd_filter.specs.Outcome.{Outcome}
 use Rattle.sd_command.specs.CommandLine.{line}
 use Rattle.sd_command.specs.Refusing.{is_mistake}
-use Rattle.sd_command.specs.Settings.{settings_of}
+use Rattle.sd_command.specs.Settings.{Settings, settings_of}
 use Rattle.sd_command.specs.Usage.{fault_line, usage_line}
-use Rattle.sd_command.specs.declared.job.Job.{Job}
 use Rattle.sd_command.specs.declared.settings.UsageFault.{UsageFault}
 use Rattle.sd_filter.specs.declared.engine.Report.{Report}
 use Rattle.sd_filter.specs.declared.engine.RunFault.{RunFault}
@@ -37,13 +36,13 @@ IsIdle source source' output output' = (source' ≡ source) × (output' ≡ outp
 
 -- ---- a run
 
--- the outcome of a run with an empty token
-pub record RunOf (job : Job) (source source' : SourceTold) (output output' : DrainTold) (result : Result Report RunFault) : Type 0 where
+-- the outcome of a run for what the words settle: their job, and a token with their entries
+pub record RunOf (settings : Settings) (source source' : SourceTold) (output output' : DrainTold) (result : Result Report RunFault) : Type 0 where
   pub token : TokenShown
   pub token' : TokenShown
-  pub no_entry : token.entries ≡ []
+  pub entries : token.entries ≡ settings.entries
   pub none_compared : token.compared ≡ 0
-  pub outcome : Outcome (2 ^ 40) job token token' source source' output output' result
+  pub outcome : Outcome (2 ^ 40) settings.job token token' source source' output output' result
 
 -- ---- the endings
 
@@ -77,16 +76,16 @@ abbrev pub SaysOf : Result Report RunFault → DrainTold → DrainTold → Type 
 SaysOf (Ok report) drain drain' = drain' ≡ drain
 SaysOf (Err fault) drain drain' = Says (run_line fault) drain drain'
 
-pub record EndsRun (job : Job) (told told' : Told) (status : ℕ) : Type 0 where
+pub record EndsRun (settings : Settings) (told told' : Told) (status : ℕ) : Type 0 where
   -- what the run returned
   pub result : Result Report RunFault
-  pub run : RunOf job told.source told'.source told.output told'.output result
+  pub run : RunOf settings told.source told'.source told.output told'.output result
   pub says : SaysOf result told.faults told'.faults
   pub is : status ≡ status_of result
 
--- by what the words settle: a job is run, and an option that does not read is named
-abbrev pub EndsSettled : Result Job UsageFault → Told → Told → ℕ → Type 0
-EndsSettled (Ok job) = EndsRun job
+-- by what the words settle: a job is run, and else it is said what does not read, or why nothing can be asked
+abbrev pub EndsSettled : Result Settings UsageFault → Told → Told → ℕ → Type 0
+EndsSettled (Ok settings) = EndsRun settings
 EndsSettled (Err fault) = EndsIdle 2 (usage_line fault)
 
 -- words that the command line takes: want of memory alone keeps them from what they settle

@@ -1,5 +1,5 @@
 // The whole program over a reader and two writers.
-ghost use Rattle.std.specs.Prelude.{◌≡◌, true, map, codes, []};
+ghost use Rattle.std.specs.Prelude.{◌≡◌, true, map, codes};
 ghost use Rattle.std.specs.String.{string_bytes};
 ghost use Rattle.clap.specs.Words.{takes};
 ghost use Rattle.sd_command.specs.CommandLine.{line};
@@ -68,16 +68,16 @@ fn prepare(alloc: Global, words: &[String]) -> Result<Prepared, Stop>
         Ok(matches) => matches,
         Err(refusal) => return Err(Stop::Refused(refusal)),
     };
-    let job = match settle(&matches) {
+    let mut token = match Token::new(alloc) {
+        Ok(token) => token,
+        Err(_) => return Err(Stop::Refused(Refusal::NoMemory)),
+    };
+    let job = match settle(&matches, &mut token) {
         Ok(job) => job,
         Err(fault) => return Err(Stop::Value(fault)),
     };
-    let engine = match Engine::new(alloc, job) {
-        Ok(engine) => engine,
-        Err(_) => return Err(Stop::Refused(Refusal::NoMemory)),
-    };
-    match Token::new(alloc) {
-        Ok(token) => Ok(Prepared { engine, token }),
+    match Engine::new(alloc, job) {
+        Ok(engine) => Ok(Prepared { engine, token }),
         Err(_) => Err(Stop::Refused(Refusal::NoMemory)),
     }
 }
@@ -128,9 +128,8 @@ fn answered<R: Source, W: Drain, E: Drain>(
     output: &mut W,
     faults: &mut E,
 ) -> u8
-    requires no_entry { prepared.old.token.entries ≡ [] }
     requires none_compared { prepared.old.token.compared ≡ 0 }
-    ensures { ends.EndsRun prepared.old.engine
+    ensures { ends.EndsRun (steps.settled prepared.old)
         (record { source = R.told input.old; output = W.told output.old; faults = E.told faults.old })
         (record { source = R.told input.new; output = W.told output.new; faults = E.told faults.new }) result }
 {

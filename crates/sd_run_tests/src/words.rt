@@ -77,6 +77,18 @@ fn refuses_words(rt: HostRuntime) {
         ("sdtool convert --from SDDL", "sdtool: usage: --from\n"),
         ("sdtool convert --to x --from y", "sdtool: usage: --from\n"),
         ("sdtool explain --from xml", "sdtool: usage: --from\n"),
+        ("sdtool check", "sdtool: usage\n"),
+        ("sdtool check --token WD --token WD", "sdtool: usage\n"),
+        ("sdtool check --token WD --numeric", "sdtool: usage\n"),
+        ("sdtool check --token WD,", "sdtool: usage: --token\n"),
+        (
+            "sdtool check --token WD",
+            "sdtool: error 50 empty-request\n",
+        ),
+        (
+            "sdtool check --token WD --want 0x8000000",
+            "sdtool: error 51 reserved-bits\n",
+        ),
         ("sdtool convert --domain DA", "sdtool: usage: --domain\n"),
         ("sdtool convert --domain ", "sdtool: usage: --domain\n"),
         (
@@ -96,6 +108,7 @@ Usage: sdtool <COMMAND>
 Commands:
   convert  Print each descriptor in a canonical form
   explain  Say what each descriptor has, on a block of lines
+  check    Say what each descriptor grants to a token
   help     Print this message or the help of the given subcommand(s)
 
 Options:
@@ -125,7 +138,25 @@ Options:
   -h, --help             Print help
 ";
 
-const HELPS: [(&str, &str); 7] = [
+const CHECK_HELP: &str = "Say what each descriptor grants to a token
+
+Usage: sdtool check [OPTIONS] --token <token>
+
+Options:
+      --from <from>      The form of the lines: hex, the default, or sddl
+      --domain <domain>  The SID of the domain whose aliases are read and printed
+      --token <token>    The SIDs of the token, parted by commas, with ! before one that only denies
+      --want <want>      The rights that are wanted
+      --maximum          Ask for all that is granted
+      --type <type>      The type of object: file, the default, key or ds
+      --object <object>  The GUID of the object type that is asked for
+      --self <self>      The SID that PRINCIPAL SELF stands for
+      --security         The token holds SeSecurityPrivilege
+      --take-ownership   The token holds SeTakeOwnershipPrivilege
+  -h, --help             Print help
+";
+
+const HELPS: [(&str, &str); 8] = [
     ("sdtool help", HELP),
     ("sdtool --help", HELP),
     ("sdtool -h", HELP),
@@ -133,6 +164,7 @@ const HELPS: [(&str, &str); 7] = [
     ("sdtool convert --help", CONVERT_HELP),
     ("sdtool convert --to x -h", CONVERT_HELP),
     ("sdtool help explain", EXPLAIN_HELP),
+    ("sdtool help check", CHECK_HELP),
 ];
 
 #[test]

@@ -10,5 +10,7 @@ returns c =
     let top = λ (a : App). a.top in
     let convert = c.in_ok-command.ensures.shape c.in_ok-convert_command.ensures.local
     ∙ ap₂ with_subcommand c.bare_line.ensures.app (ap top c.in_ok-convert_command.ensures.line) in
-    IfOk-weaker c.subcommand-2.result _ _ (λ r h. h.shape c.in_ok-explain_command.ensures.local
-    ∙ ap₂ with_subcommand convert (ap top c.in_ok-explain_command.ensures.line)) c.subcommand-2.ensures
+    let explain = c.in_ok-command-2.ensures.shape c.in_ok-explain_command.ensures.local
+    ∙ ap₂ with_subcommand convert (ap top c.in_ok-explain_command.ensures.line) in
+    IfOk-weaker c.subcommand-3.result _ _ (λ r h. h.shape c.in_ok-check_command.ensures.local
+    ∙ ap₂ with_subcommand explain (ap top c.in_ok-check_command.ensures.line)) c.subcommand-3.ensures

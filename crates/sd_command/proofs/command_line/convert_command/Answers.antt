@@ -1,15 +1,13 @@
-use Rattle.std.proofs.Common.{ap, ap₂, ◌∙◌}
+use Rattle.std.proofs.Common.{ap₂, ◌∙◌}
 use Rattle.std.proofs.lemmas.Result.{IfOk-weaker}
 use Rattle.clap.specs.Words.{with_rule}
-use Rattle.clap.specs.Simple.{app_of_fields}
 use Rattle.sd_command.specs.CommandLine.{convert_line}
 use Rattle.sd_command.proofs.command_line.convert_command.Goals as goal
 
 pub returns-clause-line : goal.returns-clause-line
 unfolding convert_line
 returns-clause-line c =
-    let bare = ap app_of_fields c.about-command.ensures ∙ c.new.ensures.app in
-    let from = c.in_ok-command.ensures.app ∙ ap₂ with_rule bare c.from_option.ensures.rule in
+    let from = c.in_ok-command.ensures.app ∙ ap₂ with_rule c.named-command.ensures.app c.from_option.ensures.rule in
     let to = c.in_ok-command-2.ensures.app ∙ ap₂ with_rule from c.option.ensures.rule in
     let domain = c.in_ok-command-3.ensures.app ∙ ap₂ with_rule to c.domain_option.ensures.rule in
     IfOk-weaker c.with_arg-4.result _ _ (λ r h. h ∙ ap₂ with_rule domain c.numeric_flag.ensures.rule) c.with_arg-4.ensures.app

@@ -1,0 +1,147 @@
+// What the matches of `check` settle.
+ghost use Rattle.std.specs.Prelude.{◌≡◌, []};
+ghost use Rattle.std.specs.Option.{option_copied};
+ghost use Rattle.clap.specs.Words.{found_of, rows_of};
+ghost use Rattle.sd_core.specs.GuidText.{guid_reads};
+ghost use Rattle.sd_rights.specs.Rights.{rights_reads};
+ghost use Rattle.sd_command.specs.Adding.{gives};
+ghost use Rattle.sd_command.specs.Settings as specs;
+ghost use Rattle.sd_command.specs.Settings.{with_entries};
+
+use crate::job::{Act, Job};
+use crate::settings::{
+    OptionName, UsageFault, given_domain, given_source, is_set, text_of, value_of,
+};
+use crate::token_text::{add_entries, sid_under};
+use clap::ArgMatches;
+use sd_access::{Ask, Privileges};
+use sd_core::{Mapping, Sid, Token, guid_from_text, rights_from_text};
+use uuid::Uuid;
+
+// The values in the order in which they are looked at.
+pub(crate) fn check_settings(matches: &ArgMatches<'_>, token: &mut Token) -> Result<Job, UsageFault>
+    requires empty { token.old.entries ≡ [] }
+    ensures settled { with_entries token.new.entries result ≡ specs.check_settings (rows_of (found_of matches.now)) }
+    ensures compared { token.new.compared ≡ token.old.compared }
+{
+    let domain = given_domain(matches)?;
+    let source = given_source(matches)?;
+    let mapping = given_mapping(matches)?;
+    given_token(matches, domain.as_ref(), token)?;
+    let want = given_want(matches)?;
+    let object = given_object(matches)?;
+    let principal = given_self(matches, domain.as_ref())?;
+    let ask = asked(matches, mapping, want, object, principal)?;
+    Ok(Job {
+        source,
+        act: Act::Check(ask),
+        domain,
+        numeric: false,
+    })
+}
+
+// That of files where the option is left out.
+fn given_mapping(matches: &ArgMatches<'_>) -> Result<Mapping, UsageFault>
+    ensures { result ≡ specs.given_mapping (rows_of (found_of matches.now)) }
+{
+    let mapping = value_of(matches, OptionName::Type, mapping_from_text)?;
+    Ok(mapping.unwrap_or(Mapping::FILE))
+}
+
+fn mapping_from_text(text: &str) -> Option<Mapping>
+    ensures { result ≡ specs.mapping_reads text.now }
+{
+    if text == "file" {
+        return Some(Mapping::FILE);
+    }
+    if text == "key" {
+        return Some(Mapping::KEY);
+    }
+    if text == "ds" {
+        return Some(Mapping::DS);
+    }
+    None
+}
+
+// The entries go into the token.
+#[tactic(auto, unfolding(crate::specs::Settings::given_token))]
+fn given_token(
+    matches: &ArgMatches<'_>,
+    domain: Option<&Sid>,
+    token: &mut Token,
+) -> Result<(), UsageFault>
+    requires empty { token.old.entries ≡ [] }
+    ensures entries { gives token.new.entries result
+        ≡ specs.given_token (option_copied domain.entry) (rows_of (found_of matches.now)) }
+    ensures compared { token.new.compared ≡ token.old.compared }
+{
+    match text_of(matches, "token") {
+        Some(text) => match add_entries(text, domain, token) {
+            Some(()) => Ok(()),
+            None => Err(UsageFault::Value(OptionName::Token)),
+        },
+        None => Err(UsageFault::Value(OptionName::Token)),
+    }
+}
+
+// No right where the option is left out.
+fn given_want(matches: &ArgMatches<'_>) -> Result<u32, UsageFault>
+    ensures { result ≡ specs.given_want (rows_of (found_of matches.now)) }
+{
+    let want = value_of(matches, OptionName::Want, want_from_text)?;
+    Ok(want.unwrap_or(0))
+}
+
+fn want_from_text(text: &str) -> Option<u32>
+    ensures { result ≡ rights_reads text.now }
+{
+    rights_from_text(text.as_bytes())
+}
+
+fn given_object(matches: &ArgMatches<'_>) -> Result<Option<Uuid>, UsageFault>
+    ensures { result ≡ specs.given_object (rows_of (found_of matches.now)) }
+{
+    value_of(matches, OptionName::Object, object_from_text)
+}
+
+fn object_from_text(text: &str) -> Option<Uuid>
+    ensures { result ≡ guid_reads text.now }
+{
+    guid_from_text(text.as_bytes())
+}
+
+// Whom PRINCIPAL SELF stands for.
+#[tactic(auto, unfolding(crate::specs::Settings::given_self))]
+fn given_self(matches: &ArgMatches<'_>, domain: Option<&Sid>) -> Result<Option<Sid>, UsageFault>
+    ensures { result ≡ specs.given_self (option_copied domain.entry) (rows_of (found_of matches.now)) }
+{
+    match text_of(matches, "self") {
+        Some(text) => match sid_under(text.as_bytes(), domain) {
+            Some(sid) => Ok(Some(sid)),
+            None => Err(UsageFault::Value(OptionName::PrincipalSelf)),
+        },
+        None => Ok(None),
+    }
+}
+
+// What is asked, or why nothing can be.
+#[tactic(auto, unfolding(crate::specs::Settings::asked))]
+fn asked(
+    matches: &ArgMatches<'_>,
+    mapping: Mapping,
+    want: u32,
+    object: Option<Uuid>,
+    principal: Option<Sid>,
+) -> Result<Ask, UsageFault>
+    ensures { result ≡ specs.asked mapping want object principal (rows_of (found_of matches.now)) }
+{
+    let maximum = is_set(matches, "maximum");
+    let privileges = Privileges {
+        security: is_set(matches, "security"),
+        take_ownership: is_set(matches, "take-ownership"),
+    };
+    match Ask::new(want, maximum, mapping, object, principal, privileges) {
+        Ok(ask) => Ok(ask),
+        Err(fault) => Err(UsageFault::Unasked(fault)),
+    }
+}
