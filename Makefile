@@ -8,12 +8,13 @@ SOURCES := crates.txt $(shell find crates -path '*/out' -prune -o -path '*/must-
 
 need_toolchain = $(if $(shell command -v rt 2>&1),,$(error the Rattle toolchain is missing: there is no command 'rt' on the PATH))
 
-.PHONY: help program run check rows test edits bench install clean
+.PHONY: help program run quick check rows test edits bench install clean
 
 # The first target, so that `make` alone says what there is.
 help:
 	@echo 'make run               builds the program and shows the examples, each with its answer (6 minutes, then seconds)'
 	@echo 'make program           builds the program alone: crates/sdtool/out/sdtool'
+	@echo 'make quick             builds the program without a proof, and gives it rows and random lines (40 seconds)'
 	@echo 'make check CRATE=NAME  proves a crate, over the work that earlier checks kept (seconds to 2 minutes)'
 	@echo 'make rows ID=WORD      the rows whose names have the word, on the built program (seconds; ID= for all)'
 	@echo 'make test              the gate and all tests of the built program (an hour); ends with N passed, M failed'
@@ -34,6 +35,10 @@ $(PROGRAM): $(SOURCES)
 # Where a line is faulty the status is 1, which here is an answer and no failure.
 run: program
 	@$(PROGRAM) convert < $(EXAMPLES) | paste -d '\n' $(EXAMPLES) - | sed -e 'n;s/^/    /'
+
+quick:
+	$(need_toolchain)
+	tests/quick.py
 
 check:
 	$(need_toolchain)

@@ -43,6 +43,7 @@ import tty
 from typing import NamedTuple
 
 sys.dont_write_bytecode = True
+import preload  # noqa: E402
 import reference  # noqa: E402
 
 SECONDS = 60  # for one run: a program that hangs fails its row
@@ -306,9 +307,15 @@ def runs(program, row, one_byte):
         yield name, execute(command, data, **devices), stdout
 
 
+def is_for_files(row):
+    """Whether the row asks for no device of its own."""
+    return not {"talk", "input", "output", "faults"} & row.keys()
+
+
 def is_for_reference(row):
     """Whether the reference says what has to come of the row: it knows neither help nor which words are no options."""
-    return "stdout_has" not in row and (row.get("status", 0) < 2 or row.get("stderr", "").startswith(ASKED_WRONGLY))
+    is_known = row.get("status", 0) < 2 or row.get("stderr", "").startswith(ASKED_WRONGLY)
+    return is_for_files(row) and "stdout_has" not in row and is_known
 
 
 def asked_of_reference(row):
@@ -323,6 +330,14 @@ def asked_of_reference(row):
         yield row["id"], Ended(b"".join(answer + b"\n" for answer in answers), b"", status, True), stdout
 
 
+def judge(count, rows, runs_of):
+    """Counts the runs that a row has by what it wants of them."""
+    for row in rows:
+        for name, ended, stdout in runs_of(row):
+            wrong = differences(row, ended, stdout)
+            count.add(not wrong, f"{name}: {'; '.join(wrong)}")
+
+
 def main():
     parser = argparse.ArgumentParser(description="Runs the rows of the folder rows on the built program.")
     judged = parser.add_mutually_exclusive_group(required=True)
@@ -332,22 +347,15 @@ def main():
     parser.add_argument("--only", nargs="+", metavar="ID", default=[""], help="rows whose id has one of these in it")
     given = parser.parse_args()
     rows = [row for row in all_rows() if any(word in row["id"] for word in given.only)]
-    if given.one_byte or given.reference:
-        rows = [row for row in rows if not {"talk", "input", "output", "faults"} & row.keys()]
+    if given.one_byte:
+        rows = [row for row in rows if is_for_files(row)]
     if given.reference:
         rows = [row for row in rows if is_for_reference(row)]
     if not rows:
         parser.error("there is no such row")
-    passed = failed = 0
-    for row in rows:
-        ran = asked_of_reference(row) if given.reference else runs(given.program, row, given.one_byte)
-        for name, ended, stdout in ran:
-            wrong = differences(row, ended, stdout)
-            passed, failed = passed + (not wrong), failed + bool(wrong)
-            if wrong:
-                print(f"FAIL {name}: {'; '.join(wrong)}")
-    print(f"{passed} passed, {failed} failed")
-    return 1 if failed else 0
+    count = preload.Count(most_shown=len(rows))
+    judge(count, rows, asked_of_reference if given.reference else lambda row: runs(given.program, row, given.one_byte))
+    return count.end()
 
 
 if __name__ == "__main__":
