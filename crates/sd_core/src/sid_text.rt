@@ -12,7 +12,7 @@ ghost use Rattle.sd_core.specs.SidText.{all_pieces, all_read, are_letters, are_n
 use crate::alias::read_letters;
 use crate::sid::Sid;
 use crate::usual_sid::read_usual;
-use sd_rights::{read_number, write_decimal, write_hex};
+use sd_rights::{print_decimal, print_decimal_behind, print_hex, read_number};
 use sd_sink::{Print, Printer, Sink, SinkFault};
 
 /// Why a text is no SID.
@@ -57,9 +57,9 @@ impl Sid {
         ensures put { Prints (P.told out.old) (P.told out.new) (sid_text self.now) }
         ensures limits { IsSid self.now }
     {
-        let mut text = [0; LONGEST];
-        let start = write_sid(self, &mut text);
-        out.put(&text[start..]);
+        out.put(b"S-1-");
+        print_authority(self.authority(), out);
+        print_subs(self.subs(), out);
     }
 
     /// The SID of a text. Two letters are an alias, in either case, some of them under the domain, which
@@ -84,49 +84,23 @@ impl Sid {
     }
 }
 
-// Writes the text to the end of the array, and says where it begins; so does each function below.
-fn write_sid(sid: &Sid, text: &mut [u8; LONGEST]) -> usize
-    ensures within { result ≤ 183 }
-    ensures written { drop result text.new ≡ sid_text sid.now }
-    ensures limits { IsSid sid.now }
-{
-    let subs = write_subs(sid.subs(), text);
-    let authority = write_authority(sid.authority(), text, subs);
-    let start = authority - 4;
-    text[start..authority].copy_from_slice(b"S-1-");
-    start
-}
-
-fn write_subs(subs: &[u32], text: &mut [u8; LONGEST]) -> usize
-    requires { length subs.now ≤ 15 }
-    ensures room { 183 ≤ result + 11 * length subs.now }
-    ensures within { result ≤ 183 }
-    ensures written { drop result text.new ≡ flat_map sub_text subs.now }
-{
-    let mut at = LONGEST;
-    let mut left = subs.len();
-    while left > 0 {
-        left -= 1;
-        at = write_decimal(subs[left], text, at) - 1;
-        text[at] = b'-';
-    }
-    at
-}
-
-fn write_authority(authority: u64, text: &mut [u8; LONGEST], end: usize) -> usize
-    requires room { 14 ≤ end }
-    requires within { end ≤ 183 }
-    ensures room { end ≤ result + 14 }
-    ensures before { result ≤ end }
-    ensures written { drop result text.new ≡ authority_text authority ++ drop end text.old }
+// Decimal below 2^32, and else twelve hex digits.
+fn print_authority<P: Print>(authority: u64, out: &mut P)
+    ensures { Prints (P.told out.old) (P.told out.new) (authority_text authority) }
 {
     if authority < 1 << 32 {
-        return write_decimal(authority as u32, text, end);
+        return print_decimal(authority as u32, out);
     }
-    let at = write_hex(HEX_DIGITS, authority, text, end);
-    text[at - 1] = b'x';
-    text[at - 2] = b'0';
-    at - 2
+    out.put(b"0x");
+    print_hex(HEX_DIGITS, authority, out);
+}
+
+fn print_subs<P: Print>(subs: &[u32], out: &mut P)
+    ensures { Prints (P.told out.old) (P.told out.new) (flat_map sub_text subs.now) }
+{
+    for sub in subs {
+        print_decimal_behind(b'-', *sub, out);
+    }
 }
 
 fn are_letters(text: &[u8]) -> bool
