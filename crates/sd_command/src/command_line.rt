@@ -40,7 +40,7 @@ fn convert_command<'a>(alloc: Global) -> Result<Command<'a>, AllocError>
         option(
             alloc,
             "to",
-            "The form of the answers: sddl, the default, or hex",
+            "The form of the answers: sddl, the default, hex or base64",
         ),
     )?;
     let command = with_arg(command, domain_option(alloc))?;
@@ -98,7 +98,7 @@ fn from_option<'a>(alloc: Global) -> Arg<'a>
     option(
         alloc,
         "from",
-        "The form of the lines: hex, the default, or sddl",
+        "The form of the lines: hex, the default, base64 or sddl",
     )
 }
 
