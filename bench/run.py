@@ -56,8 +56,8 @@ def words_of(source, target):
 def input_file(folder, settings):
     """The input, made anew where this generator has not made it yet."""
     generator = HERE / "generate.py"
-    made_by = generator.read_bytes() + pathlib.Path(generate.reference.__file__).read_bytes()
-    version = hashlib.sha256(made_by).hexdigest()[:12]
+    made_by = [generator, *sorted(pathlib.Path(generate.reference.__file__).parent.glob("*.py"))]
+    version = hashlib.sha256(b"".join(path.read_bytes() for path in made_by)).hexdigest()[:12]
     path = folder / f"{'-'.join(word.strip('-') for word in settings)}-{version}.lines"
     if not path.exists():
         print(f"making {path}")

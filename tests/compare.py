@@ -2,7 +2,7 @@
 """compare.py PROGRAM [--lines N] [--seed S]
 
 Feeds the program thousands of lines, among them broken and hostile ones, and compares each answer with the one of
-reference.py: from a file, in random pieces through a pipe, and in many short inputs with all kinds of ends; from hex and
+the reference: from a file, in random pieces through a pipe, and in many short inputs with all kinds of ends; from hex and
 from SDDL; as hex, and as SDDL or explained, without a domain, under several domains, and with numbers alone. What is
 printed as SDDL, and what is spelled otherwise than it would be printed, is compared with the descriptor that it was made
 from.
@@ -694,11 +694,11 @@ class Input:
     """An input, and what its lines show, which is found out once for all ways in which they are converted."""
 
     def __init__(self, data, known=None):
-        """Where it is known what the lines show, reference.py does not read them."""
+        """Where it is known what the lines show, the reference does not read them."""
         self.data, self.lines, self.known, self.shown, self.answered = data, reference.lines(data), known, {}, {}
 
     def answers(self, words):
-        """The answers that reference.py gives under these words, and the status."""
+        """The answers that the reference gives under these words, and the status."""
         settings = reference.settings_of([word.encode() for word in words])
         if settings not in self.answered:
             reading = settings.source, settings.domain if settings.source == "sddl" else None
@@ -833,7 +833,7 @@ def compare_checks(count, program, maker, number):
 
 
 def main():
-    parser = argparse.ArgumentParser(description="Compares the program's answers with those of reference.py.")
+    parser = argparse.ArgumentParser(description="Compares the program's answers with those of the reference.")
     parser.add_argument("program", type=os.path.abspath)
     parser.add_argument("--lines", type=int, default=10_000, help="random lines (%(default)s)")
     parser.add_argument("--seed", type=int, default=1, help="(%(default)s)")

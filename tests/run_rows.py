@@ -4,7 +4,7 @@ run_rows.py --reference [--only ID..]
 
 Runs the rows of the folder rows, by subject, on the built program, and compares what it writes and its exit status.
 With --one-byte the input comes one byte a read; rows that ask for a device of their own are left out.
-With --reference no program is run: the answers of reference.py are compared, in all rows that answer lines or name an
+With --reference no program is run: the answers of the reference are compared, in all rows that answer lines or name an
 option whose value does not read, and ask for no device, so that the rows and what compare.py compares with are known
 to say the same.
 With --only it takes the rows whose id has one of the texts in it.
@@ -46,7 +46,7 @@ sys.dont_write_bytecode = True
 import reference  # noqa: E402
 
 SECONDS = 60  # for one run: a program that hangs fails its row
-ASKED_WRONGLY = ("sdtool: usage: ", "sdtool: error 50 ", "sdtool: error 51 ")  # what reference.py says of words
+ASKED_WRONGLY = ("sdtool: usage: ", "sdtool: error 50 ", "sdtool: error 51 ")  # what the reference says of words
 SECONDS_TO_END = 10  # once its output takes nothing more
 
 
@@ -307,12 +307,12 @@ def runs(program, row, one_byte):
 
 
 def is_for_reference(row):
-    """Whether reference.py says what has to come of the row: it knows neither help nor which words are no options."""
+    """Whether the reference says what has to come of the row: it knows neither help nor which words are no options."""
     return "stdout_has" not in row and (row.get("status", 0) < 2 or row.get("stderr", "").startswith(ASKED_WRONGLY))
 
 
 def asked_of_reference(row):
-    """The one run of the row, as runs gives it, with the answers of reference.py in place of a program's."""
+    """The one run of the row, as runs gives it, with the answers of the reference in place of a program's."""
     stdout = text(row.get("stdout", ""))
     try:
         settings = reference.settings_of([text(word) for word in row["words"]])
@@ -327,7 +327,7 @@ def main():
     parser = argparse.ArgumentParser(description="Runs the rows of the folder rows on the built program.")
     judged = parser.add_mutually_exclusive_group(required=True)
     judged.add_argument("program", nargs="?", type=os.path.abspath)
-    judged.add_argument("--reference", action="store_true", help="compares the answers of reference.py")
+    judged.add_argument("--reference", action="store_true", help="compares the answers of the reference")
     parser.add_argument("--one-byte", action="store_true", help="the input comes one byte a read")
     parser.add_argument("--only", nargs="+", metavar="ID", default=[""], help="rows whose id has one of these in it")
     given = parser.parse_args()

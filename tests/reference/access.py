@@ -1,0 +1,71 @@
+"""What a descriptor grants to a token (MS-DTYP 2.5.3)."""
+import functools
+import operator
+from typing import NamedTuple, Optional, Tuple
+
+from .parts import OBJECT_TYPES, Sid
+from .tables import ACE_FLAGS
+
+MAXIMUM_ALLOWED, RESERVED = 1 << 25, 3 << 26
+PLACES = range(25)  # of the rights that can be granted
+READ_CONTROL, WRITE_DAC, WRITE_OWNER, SYSTEM_SECURITY = 17, 18, 19, 24
+
+
+class Ask(NamedTuple):
+    """What check asks: pairs of a SID and whether it only denies, and the rest of the words."""
+    token: Tuple[Tuple[Sid, bool], ...]
+    wanted: int
+    maximum: bool
+    mapping: Tuple[int, ...]
+    object_type: Optional[bytes]
+    principal_self: Optional[Sid]
+    security: bool
+    take_ownership: bool
+
+
+def mapped(mask, mapping):
+    """The mask with each generic right replaced by what it means."""
+    meant = (all_of for place, all_of in zip(range(28, 32), mapping) if mask >> place & 1)
+    return functools.reduce(operator.or_, meant, mask % (1 << 28))
+
+
+def meets(sid, token, deny):
+    """Whether an entry has the SID that is enabled, or may be deny-only."""
+    return any(entry == sid and (deny or not only_denies) for entry, only_denies in token)
+
+
+def applies(ace, descriptor, ask):
+    """Whether the ACE counts for the token (2.5.3.1)."""
+    subject = ace.sid
+    if subject == Sid(5, (10,)) and ask.principal_self is not None:
+        subject = ask.principal_self
+    elif subject == Sid(3, (4,)):
+        subject = descriptor.owner
+    is_typed = ace.type in OBJECT_TYPES and ace.object_type is not None
+    return (not ace.flags & ACE_FLAGS["IO"] and ace.type in (0, 1, 5, 6)
+            and (not is_typed or ace.object_type == ask.object_type)
+            and subject is not None and meets(subject, ask.token, ace.type in (1, 6)))
+
+
+def granted(place, descriptor, ask):
+    """Whether the one right at the place is granted (2.5.3.2)."""
+    if place == SYSTEM_SECURITY:
+        return ask.security
+    if descriptor.dacl is None or place == WRITE_OWNER and ask.take_ownership:
+        return True
+    aces = descriptor.dacl.aces
+    names_owner = any(ace.type in (0, 1, 5, 6) and ace.sid == Sid(3, (4,)) and not ace.flags & ACE_FLAGS["IO"] for ace in aces)
+    if place in (READ_CONTROL, WRITE_DAC) and not names_owner and meets(descriptor.owner, ask.token, False):
+        return True
+    for ace in aces:
+        if applies(ace, descriptor, ask) and mapped(ace.mask, ask.mapping) >> place & 1:
+            return ace.type in (0, 5)
+    return False
+
+
+def verdict(descriptor, ask):
+    """What the descriptor grants, or which wanted rights are missing."""
+    rights = sum(1 << place for place in PLACES if granted(place, descriptor, ask))
+    missing = ask.wanted & ~rights
+    answered = ask.wanted | rights & ask.mapping[0] * ask.maximum
+    return f"denied 0x{missing:08x}" if missing or not answered else f"granted 0x{answered:08x}"

@@ -1,0 +1,53 @@
+"""The lines of an input, and the answer to each."""
+from .access import verdict
+from .binary import layout, read
+from .command_line import EXPLANATION, VERDICT
+from .explaining import explanation
+from .parts import Fault
+from .sddl_printing import sddl
+from .sddl_reading import from_sddl
+from .spelling import from_hex
+
+LINE_LIMITS = {"hex": 262_452, "sddl": 1_049_872}  # bytes of a line, without its LF and the CR before it
+
+
+def shown(line, settings):
+    """What a line shows: a descriptor, or the fault that it has, or None where it is empty."""
+    if not line:
+        return None
+    try:
+        if len(line) > LINE_LIMITS[settings.source]:
+            raise Fault(1, "too-long")
+        return from_sddl(line, settings.domain) if settings.source == "sddl" else read(from_hex(line))
+    except Fault as fault:
+        return fault.with_traceback(None)  # (which would keep all that stood in the frames)
+
+
+def answer(found, settings):
+    """The answer to what a line shows, without its LF, which is the last one of an explanation."""
+    if found is None:
+        return b""
+    if isinstance(found, Fault):
+        return str(found).encode()
+    if settings.to == VERDICT:
+        return verdict(found, settings.ask).encode()
+    if settings.to == EXPLANATION:
+        return explanation(found, settings).encode()
+    return (layout(found).hex() if settings.to == "hex" else sddl(found, settings)).encode()
+
+
+def lines(data):
+    """The lines of an input: each ends with LF, and one CR directly before it is dropped; a last line without
+    LF counts where it is not empty, and keeps its CR."""
+    *ended, last = data.split(b"\n")
+    return [line[:-1] if line.endswith(b"\r") else line for line in ended] + ([last] if last else [])
+
+
+def all_shown(data, settings):
+    """What each line of an input shows."""
+    return [shown(line, settings) for line in lines(data)]
+
+
+def answers(found, settings):
+    """The answers to what the lines of an input show, and the exit status."""
+    return [answer(one, settings) for one in found], int(any(isinstance(one, Fault) for one in found))
