@@ -7,7 +7,7 @@ from .parts import Fault, Sid
 from .sddl_reading import MOST_OF_A_DOMAIN, guid_of_text, rights_of_text, sid_of_text
 from .tables import MAPPINGS
 
-FORMS = {"from": ["hex", "sddl"], "to": ["hex", "sddl"]}
+FORMS = {"from": ["hex", "base64", "sddl"], "to": ["hex", "base64", "sddl"]}
 EXPLANATION = "explanation"  # what the command explain prints, in place of a form
 VERDICT = "verdict"  # and the command check
 MOST_ENTRIES = 1024  # of a token
