@@ -2,10 +2,10 @@
 """compare.py PROGRAM [--lines N] [--seed S]
 
 Feeds the program thousands of lines, among them broken and hostile ones, and compares each answer with the one of
-the reference: from a file, in random pieces through a pipe, and in many short inputs with all kinds of ends; from hex and
-from SDDL; as hex, and as SDDL or explained, without a domain, under several domains, and with numbers alone. What is
-printed as SDDL, and what is spelled otherwise than it would be printed, is compared with the descriptor that it was made
-from.
+the reference: from a file, in random pieces through a pipe, and in many short inputs with all kinds of ends; from hex,
+base64 and SDDL; as hex and base64, and as SDDL or explained, without a domain, under several domains, and with numbers
+alone. What is printed as SDDL, and what is spelled otherwise than it would be printed, is compared with the descriptor
+that it was made from.
 Checks ask for what has to do with the descriptors: by tokens of SIDs that stand in them, about rights and object types of
 their ACEs. What is derived comes from descriptors whose ACEs are handed on, for owners and groups that stand in them.
 The same seed gives the same lines. The last line is 'N passed, M failed'.
@@ -23,6 +23,7 @@ import threading
 from typing import List, NamedTuple, Tuple
 
 sys.dont_write_bytecode = True
+import base64_lines  # noqa: E402
 import reference  # noqa: E402
 
 SECONDS = 300      # for one run of the program
@@ -35,6 +36,7 @@ ACLS = (2, 3)
 SACL_PRESENT, DACL_PRESENT = 0x10, 0x4
 PLAIN_TYPES, OBJECT_TYPES, UNKNOWN_FLAG = [0, 1, 2, 0x11], [5, 6, 7], 0x20
 HEX, SDDL, NUMERIC = ["convert", "--to", "hex"], ["convert"], ["convert", "--to", "sddl", "--numeric"]
+BASE64 = ["convert", "--to", "base64"]
 # A usual domain, one that is a well-known SID, the shortest one, and the longest one.
 DOMAINS = ["S-1-5-21-1004336348-1177238915-682003330", "BA", "S-1-5", "S-1-0xfedcba987654" + "-4294967295" * 14]
 UNDER = [["convert", "--domain", domain] for domain in DOMAINS]
@@ -43,11 +45,12 @@ CHECKED = [["check", "--token", "WD,!BA,SY", "--maximum"],
            ["check", "--token", "BU,DU", "--domain", DOMAINS[0], "--type", "ds", "--want", "RPWP", "--self", "BU"]]
 DERIVED = [["derive", "--kind", "container", "--owner", "BA", "--group", "SY"],
            ["derive", "--kind", "file", "--owner", "DA", "--group", "BU", "--domain", DOMAINS[0], "--type", "ds", "--to", "hex"]]
-EVERY_WORDS = [HEX, SDDL, NUMERIC, *UNDER, [*UNDER[0], "--numeric"], *EXPLAINED, *CHECKED, *DERIVED]
+EVERY_WORDS = [HEX, BASE64, SDDL, NUMERIC, *UNDER, [*UNDER[0], "--numeric"], *EXPLAINED, *CHECKED, *DERIVED]
 FROM_SDDL = ["--from", "sddl"]
 TO_HEX = ["--to", "hex"]
-EVERY_WORDS_FROM_SDDL = [[*words, *FROM_SDDL] for words in (HEX, SDDL, UNDER[0], [*UNDER[0], *TO_HEX], EXPLAINED[1], CHECKED[1],
+EVERY_WORDS_FROM_SDDL = [[*words, *FROM_SDDL] for words in (HEX, SDDL, BASE64, UNDER[0], [*UNDER[0], *TO_HEX], EXPLAINED[1], CHECKED[1],
                                                             DERIVED[1])]
+EVERY_WORDS_FROM_BASE64 = [[*words, "--from", "base64"] for words in (HEX, SDDL, BASE64, EXPLAINED[0], CHECKED[0], DERIVED[0])]
 DOMAIN_SIDS = [reference.sid_of_text(domain.encode()) for domain in DOMAINS]
 CREATORS = [reference.sid_of_text(name) for name in (b"CO", b"CG")]
 SOME_MASKS = [*reference.RIGHTS.values(), *reference.COMPOUND_RIGHTS.values(), *reference.LABEL_RIGHTS.values()]
@@ -531,6 +534,9 @@ class Lines:
             return b""
         return bytes(line)
 
+    def base64_line(self):
+        return base64_lines.any_line(self.chance, self.chance.choice(self.kinds)().data)
+
     def plain(self):
         """A descriptor without what SDDL has no letters for."""
         descriptor = reference.read(self.descriptor().data)
@@ -761,7 +767,23 @@ def compare_hex(count, program, maker, number):
     long = Input(b"".join(line + maker.end() + maker.line() + b"\n" for line in long_lines()))
     for words in EVERY_WORDS:
         count.run(program, "from a file", words, all_lines)
-    for words in (HEX, UNDER[0], EXPLAINED[0]):
+    for words in (HEX, BASE64, UNDER[0], EXPLAINED[0]):
+        count.run(program, "cut", words, all_lines, (maker.piece() for _ in itertools.count()))
+        count.run(program, "long lines from a file", words, long)
+        count.run(program, "long lines cut", words, long, (maker.chance.randint(1, PACKET) for _ in itertools.count()))
+
+
+def compare_base64(count, program, maker, number):
+    """From base64, random lines of this number among the others."""
+    headers = [header(), header() + b"\xff", header(20) + sid_bytes(0)]  # with one `=`, none, and two
+    pieces = [*base64_lines.fixed_lines(headers, whole().data), *(maker.base64_line() for _ in range(number))]
+    maker.chance.shuffle(pieces)
+    all_lines = Input(b"".join(line + maker.end() for line in pieces))
+    long = Input(b"".join(line + maker.end() + maker.base64_line() + b"\n"
+                          for line in base64_lines.long_lines(large_descriptors())))
+    for words in EVERY_WORDS_FROM_BASE64:
+        count.run(program, "from a file", words, all_lines)
+    for words in EVERY_WORDS_FROM_BASE64[:3]:
         count.run(program, "cut", words, all_lines, (maker.piece() for _ in itertools.count()))
         count.run(program, "long lines from a file", words, long)
         count.run(program, "long lines cut", words, long, (maker.chance.randint(1, PACKET) for _ in itertools.count()))
@@ -806,7 +828,8 @@ def compare_sddl(count, program, maker, number):
 def compare_short(count, program, maker, number):
     """Inputs of few lines, with all kinds of ends."""
     for _ in range(number):
-        kind, every_words = maker.chance.choice([(maker.line, EVERY_WORDS), (maker.sddl_line, EVERY_WORDS_FROM_SDDL)])
+        kind, every_words = maker.chance.choice([(maker.line, EVERY_WORDS), (maker.base64_line, EVERY_WORDS_FROM_BASE64),
+                                                 (maker.sddl_line, EVERY_WORDS_FROM_SDDL)])
         data = b"".join(kind() + maker.end() for _ in range(maker.chance.randrange(4))) + kind() + maker.last_end()
         sizes = maker.chance.choice([None, itertools.repeat(1), itertools.repeat(7)])
         count.run(program, "short input", maker.chance.choice(every_words), Input(data), sizes)
@@ -900,6 +923,7 @@ def main():
     maker = Lines(random.Random(given.seed))
     count = Count()
     compare_hex(count, given.program, maker, given.lines)
+    compare_base64(count, given.program, maker, given.lines)
     compare_sddl(count, given.program, maker, given.lines)
     compare_short(count, given.program, maker, given.lines // 25)
     compare_checks(count, given.program, maker, given.lines // 20)

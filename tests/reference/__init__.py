@@ -1,8 +1,8 @@
 """What the program has to answer, written a second time and independently of it, a file for each subject.
 
 The bytes follow MS-DTYP: 2.4.2.2 (SID), 2.4.4 (ACE), 2.4.5 (ACL), 2.4.6 (self-relative SECURITY_DESCRIPTOR). The texts
-follow 2.4.2.1 (SID), 2.4.2.4 (well-known SIDs), 2.3.4.3 (GUID) and 2.5.1 (SDDL). Nothing here is fast, and nothing is
-shared with the program. What the tests take stands here; a file takes only from those that are named before it:
+follow 2.4.2.1 (SID), 2.4.2.4 (well-known SIDs), 2.3.4.3 (GUID) and 2.5.1 (SDDL), and RFC 4648 (base64). Nothing here is
+fast, and nothing is shared with the program. What the tests take stands here; a file takes only from those that are named before it:
 
   parts.py          SIDs, ACEs and ACLs, and their bytes
   binary.py         the bytes of a descriptor, read and laid out
@@ -23,6 +23,6 @@ from .parts import ACE_HEADER, ACL_HEADER, Ace, Acl, Descriptor, Sid
 from .run import LINE_LIMITS, all_shown, answers, lines
 from .sddl_printing import aliases_under, guid_sddl, sddl
 from .sddl_reading import sid_of_text
-from .spelling import HEX_DIGITS
+from .spelling import HEX_DIGITS, to_base64
 from .tables import (ACE_FLAGS, ACL_FLAGS, COMPOUND_RIGHTS, CONTROL_CODES, EVERY_RIGHT, KINDS, LABEL_RIGHTS, MAPPINGS,
                      OF_THE_DOMAIN, RIGHTS, WELL_KNOWN)

@@ -8,7 +8,7 @@ from .parts import Fault, Sid
 from .sddl_reading import MOST_OF_A_DOMAIN, guid_of_text, rights_of_text, sid_of_text
 from .tables import MAPPINGS
 
-FORMS = {"from": ["hex", "sddl"], "to": ["hex", "sddl"]}
+FORMS = {"from": ["hex", "base64", "sddl"], "to": ["hex", "base64", "sddl"]}
 TARGETS = ["file", "container"]  # what is made
 EXPLANATION = "explanation"  # what the command explain prints, in place of a form
 VERDICT = "verdict"  # and the command check

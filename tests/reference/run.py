@@ -7,9 +7,10 @@ from .inheriting import derived
 from .parts import Descriptor, Fault
 from .sddl_printing import sddl
 from .sddl_reading import from_sddl
-from .spelling import from_hex
+from .spelling import from_base64, from_hex, to_base64
 
-LINE_LIMITS = {"hex": 262_452, "sddl": 1_049_872}  # bytes of a line, without its LF and the CR before it
+# bytes of a line, without its LF and the CR before it
+LINE_LIMITS = {"hex": 262_452, "base64": 174_968, "sddl": 1_049_872}
 
 
 def shown(line, settings):
@@ -19,7 +20,9 @@ def shown(line, settings):
     try:
         if len(line) > LINE_LIMITS[settings.source]:
             raise Fault(1, "too-long")
-        return from_sddl(line, settings.domain) if settings.source == "sddl" else read(from_hex(line))
+        if settings.source == "sddl":
+            return from_sddl(line, settings.domain)
+        return read(from_base64(line) if settings.source == "base64" else from_hex(line))
     except Fault as fault:
         return fault.with_traceback(None)  # (which would keep all that stood in the frames)
 
@@ -44,7 +47,9 @@ def answer(found, settings):
         return verdict(found, settings.ask).encode()
     if settings.to == EXPLANATION:
         return explanation(found, settings).encode()
-    return (layout(found).hex() if settings.to == "hex" else sddl(found, settings)).encode()
+    if settings.to == "sddl":
+        return sddl(found, settings).encode()
+    return (to_base64(layout(found)) if settings.to == "base64" else layout(found).hex()).encode()
 
 
 def lines(data):

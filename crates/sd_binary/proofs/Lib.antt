@@ -4,4 +4,5 @@ pub mod Decoded
 pub mod Finished
 pub mod InOrder
 mod Rows
+pub mod SpelledBase64
 pub mod Standing

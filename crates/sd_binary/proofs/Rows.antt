@@ -1,11 +1,14 @@
--- Worked rows, computed: what hex texts spell, what their bytes are read as, and what is laid out.
+-- Worked rows, computed: what hex and base64 texts spell, what their bytes are read as, and what is laid out.
 use Rattle.std.proofs.Common.{◌≡◌, ℕ, Bool, true, false, List, [], ◌∷◌, map, Some, None, Result, Ok, Err, codes, refl, replicate}
 use Prim.Native.String.{String}
+use Rattle.base64.proofs.OnLiterals.{base64_on_literals}
+use Rattle.base64.specs.Engines.{standard}
+use Rattle.base64.specs.GeneralPurpose.{engine_symbols}
 use Rattle.hex.specs.Hex.{decode_pairs}
 use Rattle.sd_rights.specs.Kinds.{kind_code, kind_entry, kind_of}
 use Rattle.sd_core.specs.Sid.{SecurityId, sid_at, sid_bytes}
 use Rattle.sd_binary.specs.declared.buffer.TextFault.{TextFault}
-use Rattle.sd_binary.specs.declared.buffer.TextFault.TheVariants.{HexDigit, HexOdd}
+use Rattle.sd_binary.specs.declared.buffer.TextFault.TheVariants.{Base64, HexDigit, HexOdd}
 use Rattle.sd_view.specs.declared.fault.Part.TheVariants.{Owner, Group, Sacl, Dacl}
 use Rattle.sd_view.specs.declared.fault.SdFault.TheVariants as faults
 use Rattle.sd_view.specs.Bytes.{u16_at, u32_at}
@@ -22,7 +25,7 @@ use Rattle.sd_view.specs.declared.acl.AclPart.TheVariants as acl
 use Rattle.sd_core.specs.Ace.{AccessControlEntry}
 use Rattle.sd_rights.specs.declared.kinds.AceKind.TheVariants as kinds
 use Rattle.sd_view.specs.Reading.{acl_part_fault, acl_shown, fault, header_fault, overlap_fault, overlaps_fault, parts_fault, reading, sid_fault, sid_shown}
-use Rattle.sd_binary.specs.Text.{hex_spells}
+use Rattle.sd_binary.specs.Text.{base64_spells, hex_spells}
 
 spelled : Result (List ℕ) TextFault → List ℕ
 spelled (Ok bytes) = bytes
@@ -68,6 +71,39 @@ odd_before_no_digit = refl
 no_text : hex_spells (codes "") ≡ Ok []
 unfolding computed
 no_text = refl
+
+-- base64 texts
+
+standard_alphabet : engine_symbols standard ≡ codes "ABCDEFGHIJKLMNOPQRSTUVWXYZabcdefghijklmnopqrstuvwxyz0123456789+/"
+standard_alphabet = refl
+
+three_bytes : base64_spells (codes "AQAE") ≡ Ok (1 ∷ 0 ∷ 4 ∷ [])
+unfolding base64_spells base64_on_literals
+three_bytes = refl
+
+one_byte : base64_spells (codes "AQ==") ≡ Ok (1 ∷ [])
+unfolding base64_spells base64_on_literals
+one_byte = refl
+
+no_padding : base64_spells (codes "AQ") ≡ Err Base64
+unfolding base64_spells base64_on_literals
+no_padding = refl
+
+bits_behind_the_last_byte : base64_spells (codes "AR==") ≡ Err Base64
+unfolding base64_spells base64_on_literals
+bits_behind_the_last_byte = refl
+
+blank_inside : base64_spells (codes "AQ AE") ≡ Err Base64
+unfolding base64_spells base64_on_literals
+blank_inside = refl
+
+letters_of_urls : base64_spells (codes "-_-_") ≡ Err Base64
+unfolding base64_spells base64_on_literals
+letters_of_urls = refl
+
+no_base64_text : base64_spells (codes "") ≡ Ok []
+unfolding base64_spells base64_on_literals
+no_base64_text = refl
 
 -- a header without parts
 

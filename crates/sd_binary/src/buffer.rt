@@ -1,8 +1,10 @@
 // The buffer that holds the bytes of a descriptor.
 ghost use Rattle.std.specs.Prelude.{◌≡◌, ◌≤◌, ◌<◌, ◌*◌, take, drop, ◌++◌, ◌∷◌, ◌+◌, ◌-◌, ◌↔◌, [], length, Ok, Err, IfOk, OnOk, OnErr, IsErr, MatchResult};
-ghost use Rattle.sd_binary.specs.Text.{hex_spells};
+ghost use Rattle.base64.specs.Decode.{decoded_estimate};
+ghost use Rattle.sd_binary.specs.Text.{IsOneEncoding, base64_spells, hex_spells};
 ghost use Rattle.sd_view.specs.declared.limits.TheConstants.{CAPACITY};
 
+use base64::engine::general_purpose::STANDARD;
 use sd_core::NoMemory;
 use sd_view::CAPACITY;
 use std::alloc::Global;
@@ -19,6 +21,8 @@ pub enum TextFault {
     HexDigit,
     /// 3: the number of characters is odd.
     HexOdd,
+    /// 4: it is no base64.
+    Base64,
 }
 
 /// At most 131,226 bytes, in memory that is taken once.
@@ -122,6 +126,21 @@ impl SdBuf {
         self.held = held;
         Ok(())
     }
+
+    /// Replaces the contents by the bytes that a base64 text of at most 174,968 characters spells (RFC 4648,
+    /// section 4), with all of its padding and nothing else in it. After a fault the buffer is empty.
+    pub fn from_base64(&mut self, text: &[u8]) -> Result<(), TextFault>
+        requires { length text.now ≤ 174968 }
+        ensures exact { MatchResult (base64_spells text.now)
+            (λ bytes. (result ≡ Ok tt) × (self.new ≡ bytes))
+            (λ fault. (result ≡ Err fault) × (self.new ≡ [])) }
+        ensures encoding { IsOneEncoding text.now }
+    {
+        self.clear();
+        let held = decode_base64(text, &mut self.cells)?;
+        self.held = held;
+        Ok(())
+    }
 }
 
 // Copies the bytes into the cells from a place on.
@@ -148,5 +167,20 @@ fn decode_hex(text: &[u8], cells: &mut [u8]) -> Result<usize, TextFault>
     match hex::decode_to_slice(text, &mut cells[..count]) {
         Ok(()) => Ok(count),
         Err(_) => Err(TextFault::HexDigit),
+    }
+}
+
+// Decodes to the front of the cells, and says how many bytes there are.
+fn decode_base64(text: &[u8], cells: &mut [u8]) -> Result<usize, TextFault>
+    requires { decoded_estimate (length text.now) ≤ length cells.old }
+    ensures value { MatchResult (base64_spells text.now)
+        (λ bytes. (result ≡ Ok (length bytes)) × (take (length bytes) cells.new ≡ bytes))
+        (λ fault. result ≡ Err fault) }
+    ensures within { IfOk result (λ n. n ≤ length cells.old) }
+{
+    // There is room for what any text of this length spells.
+    match STANDARD.decode_slice_unchecked(text, cells) {
+        Ok(count) => Ok(count),
+        Err(_) => Err(TextFault::Base64),
     }
 }

@@ -18,7 +18,7 @@ use Rattle.sd_command.specs.CommandLine.{line}
 use Rattle.sd_command.specs.Mappings.{directory_mapping, file_mapping, key_mapping}
 use Rattle.sd_command.specs.TokenText.{entries_read, sid_under}
 use Rattle.sd_command.specs.declared.job.Form.{Form}
-use Rattle.sd_command.specs.declared.job.Form.TheVariants.{Hex, Sddl}
+use Rattle.sd_command.specs.declared.job.Form.TheVariants.{Base64, Hex, Sddl}
 use Rattle.sd_command.specs.declared.job.Act.TheVariants.{Check, Convert, Derive, Explain}
 use Rattle.sd_command.specs.declared.job.Job.{Job}
 use Rattle.sd_command.specs.declared.settings.OptionName.{OptionName}
@@ -42,6 +42,7 @@ option_text name.PrincipalSelf = codes "self"
 abbrev pub form_reads : Text → Option Form
 form_reads text =
     if bytes_eq text (codes "hex") then Some Hex
+    else if bytes_eq text (codes "base64") then Some Base64
     else if bytes_eq text (codes "sddl") then Some Sddl
     else None
 

@@ -122,7 +122,7 @@ fn from_option<'a>(alloc: Global) -> Arg<'a>
     option(
         alloc,
         "from",
-        "The form of the lines: hex, the default, or sddl",
+        "The form of the lines: hex, the default, base64 or sddl",
     )
 }
 
@@ -133,7 +133,7 @@ fn to_option<'a>(alloc: Global) -> Arg<'a>
     option(
         alloc,
         "to",
-        "The form of the answers: sddl, the default, or hex",
+        "The form of the answers: sddl, the default, hex or base64",
     )
 }
 

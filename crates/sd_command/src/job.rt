@@ -8,6 +8,8 @@ use sd_core::Sid;
 pub enum Form {
     /// Hex digits, two a byte.
     Hex,
+    /// Base64 (RFC 4648, section 4), four characters for three bytes.
+    Base64,
     /// SDDL (MS-DTYP 2.5.1).
     Sddl,
 }

@@ -219,6 +219,9 @@ fn form_from_text(text: &str) -> Option<Form>
     if text == "hex" {
         return Some(Form::Hex);
     }
+    if text == "base64" {
+        return Some(Form::Base64);
+    }
     if text == "sddl" {
         return Some(Form::Sddl);
     }

@@ -15,6 +15,7 @@ name-short : (fault : LineFault) → length (number_and_name fault) ≤ 30
 name-short TooLong = lit≤ tt
 name-short (Text text.HexDigit) = lit≤ tt
 name-short (Text text.HexOdd) = lit≤ tt
+name-short (Text text.Base64) = lit≤ tt
 name-short (Sd sd.Short) = lit≤ tt
 name-short (Sd sd.Revision) = lit≤ tt
 name-short (Sd sd.NotSelfRelative) = lit≤ tt

@@ -1,4 +1,5 @@
 pub mod AnswersLemmas
+pub mod Base64Lemmas
 pub mod DrainLemmas
 pub mod EndsLemmas
 pub mod FaultLemmas

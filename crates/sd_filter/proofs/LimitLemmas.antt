@@ -12,11 +12,12 @@ use Rattle.sd_reader.specs.declared.fault.SddlFault.{SddlFault}
 use Rattle.sd_reader.proofs.MeansLimits.{means-limits}
 use Rattle.sd_view.specs.Descriptor.{Descriptor, IsDescriptor}
 use Rattle.sd_view.specs.Reading.{fault, reading, shown, unless}
-use Rattle.sd_binary.specs.Text.{hex_spells, or_digit_fault}
+use Rattle.sd_binary.specs.Text.{base64_spells, hex_spells, or_digit_fault}
 use Rattle.sd_binary.specs.declared.buffer.TextFault.{TextFault}
 use Rattle.sd_view.specs.declared.fault.SdFault.{SdFault}
 use Rattle.sd_view.proofs.ReadLaws.{fault-shows}
 use Rattle.sd_filter.specs.Answers.{Meaning, bytes_mean, line_limit, line_means, meaning, or_byte_fault, or_sddl_fault, text_means}
+use Rattle.sd_filter.proofs.Base64Lemmas.{spelled-base64}
 use Rattle.sd_filter.specs.declared.fault.LineFault.{LineFault}
 use Rattle.sd_filter.specs.declared.fault.LineFault.TheVariants.{TooLong}
 use Rattle.sd_command.specs.declared.job.Form.{Form}
@@ -65,6 +66,7 @@ sddl_limits (Ok d) h = h d refl
 
 text_limits : (form : Form) (domain : Option SecurityId) (text : List ℕ) → IfSome domain IsSid → Limits (text_means form domain text)
 text_limits form.Hex domain text k = bytes_limits (hex_spells text) (spelled-bytes text)
+text_limits form.Base64 domain text k = bytes_limits (base64_spells text) (spelled-base64 text)
 text_limits form.Sddl domain text k = sddl_limits (means text domain) (λ d e. means-limits text domain d k e)
 
 chosen_limits : (b : Bool) (r : Result Descriptor LineFault) → Limits r → Limits (cond b (Err TooLong) r)

@@ -1,16 +1,17 @@
 -- Worked rows of lines and answers, computed.
 use Rattle.std.proofs.Common.{◌≡◌, [], ◌∷◌, ◌++◌, None, false, codes, refl}
+use Rattle.base64.proofs.OnLiterals.{base64_on_literals}
 use Rattle.hex.proofs.OnLiterals.{hex_on_literals}
 use Rattle.sd_core.specs.Sid.{sid_at}
 use Rattle.sd_view.specs.Bytes.{u16_at, u32_at}
 use Rattle.sd_view.specs.Layout.{header_bytes}
 use Rattle.sd_view.specs.Reading.{acl_part_fault, acl_shown, fault, header_fault, overlap_fault, overlaps_fault, parts_fault, reading, sid_fault, sid_shown}
-use Rattle.sd_binary.specs.Text.{hex_spells}
+use Rattle.sd_binary.specs.Text.{base64_spells, hex_spells}
 use Rattle.sd_view.specs.declared.fault.Part.TheVariants as part
 use Rattle.sd_view.specs.declared.fault.SdFault.TheVariants as sd
 use Rattle.sd_filter.specs.declared.fault.LineFault.TheVariants.{Sd}
 use Rattle.sd_command.specs.declared.job.Act.TheVariants.{Convert}
-use Rattle.sd_command.specs.declared.job.Form.TheVariants.{Hex}
+use Rattle.sd_command.specs.declared.job.Form.TheVariants.{Base64, Hex}
 use Rattle.sd_command.specs.declared.job.Job.{Job}
 use Rattle.sd_filter.specs.Answers.{answer, form_text, line_means}
 use Rattle.sd_filter.specs.Faults.{fault_text}
@@ -47,3 +48,17 @@ sid_answer = refl
 pub header_answer : answer hex_to_hex [] (codes "01FF008000000000000000000000000000000000") ≡ codes "01ff008000000000000000000000000000000000" ++ 10 ∷ []
 unfolding answer line_means form_text hex_spells hex_on_literals reading fault header_fault parts_fault sid_fault sid_shown acl_part_fault acl_shown overlaps_fault overlap_fault u16_at u32_at header_bytes
 header_answer = refl
+
+abbrev base64_to_hex : Job
+base64_to_hex = record { source = Base64; act = Convert Hex; domain = None; numeric = false }
+
+pub base64_answer : answer base64_to_hex [] (codes "Af8AgAAAAAAAAAAAAAAAAAAAAAA=") ≡ codes "01ff008000000000000000000000000000000000" ++ 10 ∷ []
+unfolding answer line_means form_text base64_spells base64_on_literals hex_on_literals reading fault header_fault parts_fault sid_fault sid_shown acl_part_fault acl_shown overlaps_fault overlap_fault u16_at u32_at header_bytes
+base64_answer = refl
+
+abbrev hex_to_base64 : Job
+hex_to_base64 = record { source = Hex; act = Convert Base64; domain = None; numeric = false }
+
+pub answer_in_base64 : answer hex_to_base64 [] (codes "01FF008000000000000000000000000000000000") ≡ codes "Af8AgAAAAAAAAAAAAAAAAAAAAAA=" ++ 10 ∷ []
+unfolding answer line_means form_text hex_spells base64_on_literals hex_on_literals reading fault header_fault parts_fault sid_fault sid_shown acl_part_fault acl_shown overlaps_fault overlap_fault u16_at u32_at header_bytes
+answer_in_base64 = refl

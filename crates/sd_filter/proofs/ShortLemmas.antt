@@ -22,6 +22,7 @@ use Rattle.sd_filter.specs.Answers.{AnswersAreShort, Meaning, act_prints, act_te
 use Rattle.sd_filter.specs.Faults.{fault_text}
 use Rattle.sd_filter.specs.declared.fault.LineFault.{LineFault}
 use Rattle.sd_filter.specs.declared.fault.LineFault.TheVariants.{Derive}
+use Rattle.sd_filter.proofs.Base64Lemmas.{base64-short}
 use Rattle.sd_filter.proofs.FaultLemmas.{fault_text-short}
 use Rattle.sd_filter.proofs.LimitLemmas.{MeansLimits, meaning-limits}
 use Rattle.sd_command.specs.declared.job.Act.{Act}
@@ -31,10 +32,11 @@ use Rattle.sd_command.specs.declared.job.Form.{Form}
 use Rattle.sd_command.specs.declared.job.Form.TheVariants as form
 use Rattle.sd_command.specs.declared.job.Job.{Job}
 
--- two characters a byte, or those of the SDDL; and the LF
+-- two characters a byte, of base64 two more at most, or those of the SDDL; and the LF
 form-short : (job : Job) (form : Form) (d : Descriptor) → IsDescriptor d → length (form_text job form d) ≤ 8 * size d + 63
 unfolding form_text
 form-short job form.Hex d h = omega (arith, length-encode_with lower_digits (layout d), length-layout d)
+form-short job form.Base64 d h = let short = base64-short (layout d) in omega (arith, short, length-layout d)
 form-short job form.Sddl d h = sddl-length (naming_of job) d h
 
 -- the word, eight digits and the LF

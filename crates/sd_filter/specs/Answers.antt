@@ -1,13 +1,15 @@
 -- The answer to each line, which rests on that line alone.
 use Rattle.std.specs.Prelude.{◌≤◌, ℕ, ◌+◌, ◌*◌, List, [], ◌∷◌, ◌++◌, if◌then◌else◌, nat_lt, length, Bool, true, false, Option, Some, None, is_some, Result, Ok, Err, count_by, sum_by, codes}
 use Rattle.std.specs.List.{flat_map}
+use Rattle.base64.specs.Engines.{standard}
+use Rattle.base64.specs.GeneralPurpose.{encode_of}
 use Rattle.hex.specs.Hex.{encode_lower}
 use Rattle.sd_core.specs.Sid.{SecurityId}
 use Rattle.sd_core.specs.Token.{Entry}
 use Rattle.sd_view.specs.Descriptor.{Descriptor}
 use Rattle.sd_view.specs.Layout.{layout, size}
 use Rattle.sd_view.specs.Reading.{reading}
-use Rattle.sd_binary.specs.Text.{hex_spells}
+use Rattle.sd_binary.specs.Text.{base64_spells, hex_spells}
 use Rattle.sd_binary.specs.declared.buffer.TextFault.{TextFault}
 use Rattle.sd_view.specs.declared.fault.SdFault.{SdFault}
 use Rattle.sd_filter.specs.declared.fault.LineFault.{LineFault}
@@ -37,6 +39,7 @@ use Rattle.sd_filter.specs.Faults.{fault_text}
 -- the bytes that a line has at most, without its LF and a dropped CR
 abbrev pub line_limit : Form → ℕ
 line_limit form.Hex = 262452
+line_limit form.Base64 = 174968
 line_limit form.Sddl = 1049872
 
 abbrev pub or_byte_fault : Result Descriptor SdFault → Result Descriptor LineFault
@@ -51,10 +54,11 @@ abbrev pub or_sddl_fault : Result Descriptor SddlFault → Result Descriptor Lin
 or_sddl_fault (Err fault) = Err (Sddl fault)
 or_sddl_fault (Ok d) = Ok d
 
--- What a text means in a form, under a domain. Hex: its text spells no bytes, its bytes do not read, or the descriptor
--- that its bytes show. SDDL: its first fault, or the descriptor that it means.
+-- What a text means in a form, under a domain. Hex and base64: its text spells no bytes, its bytes do not read, or the
+-- descriptor that its bytes show. SDDL: its first fault, or the descriptor that it means.
 abbrev pub text_means : Form → Option SecurityId → List ℕ → Result Descriptor LineFault
 text_means form.Hex domain text = bytes_mean (hex_spells text)
+text_means form.Base64 domain text = bytes_mean (base64_spells text)
 text_means form.Sddl domain text = or_sddl_fault (means text domain)
 
 -- a line over its limit is too long, whatever else is wrong with it
@@ -77,6 +81,7 @@ naming_of job = record { domain = job.domain; numeric = job.numeric }
 
 unfoldable pub form_text : Job → Form → Descriptor → List ℕ
 form_text job form.Hex d = encode_lower (layout d)
+form_text job form.Base64 d = encode_of standard (layout d)
 form_text job form.Sddl d = sddl (naming_of job) d
 
 -- the mask in eight hex digits

@@ -16,6 +16,7 @@ abbrev pub number_and_name : LineFault → List ℕ
 number_and_name TooLong = codes "error 1 too-long"
 number_and_name (Text text.HexDigit) = codes "error 2 hex-digit"
 number_and_name (Text text.HexOdd) = codes "error 3 hex-odd"
+number_and_name (Text text.Base64) = codes "error 4 base64"
 number_and_name (Sd sd.Short) = codes "error 5 short"
 number_and_name (Sd sd.Revision) = codes "error 6 revision"
 number_and_name (Sd sd.NotSelfRelative) = codes "error 7 not-self-relative"

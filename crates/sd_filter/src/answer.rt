@@ -9,11 +9,12 @@ ghost use Rattle.sd_filter.specs.Sofar.{HoldsText, PrintsAnswer, PutsAnswer};
 ghost use Rattle.sd_filter.specs.Told.{sink_of};
 ghost use Rattle.sd_inherit.specs.Derived.{derive_fault, derived};
 ghost use Rattle.std.specs.Option.{option_copied};
-ghost use Rattle.sd_binary.specs.Text.{hex_spells};
+ghost use Rattle.sd_binary.specs.Text.{base64_spells, hex_spells};
 ghost use Rattle.sd_reader.specs.Meaning.{means};
 ghost use Rattle.sd_view.specs.Descriptor.{Descriptor, Shows};
 ghost use Rattle.sd_view.specs.Layout.{layout};
 
+use crate::base64_text::print_base64;
 use crate::device::Drain;
 use crate::engine::Stores;
 use crate::fault::{LineFault, print_fault};
@@ -96,7 +97,7 @@ fn print_answer<P: Print>(
             job,
             &view,
             &mut stores.written,
-            &mut stores.digits,
+            &mut stores.spelled,
             token,
             out,
         ),
@@ -111,6 +112,7 @@ fn view_of<'a>(job: &Job, text: &[u8], buf: &'a mut SdBuf) -> Result<SdView<'a>,
 {
     match job.source {
         Form::Hex => view_of_hex(text, buf),
+        Form::Base64 => view_of_base64(text, buf),
         Form::Sddl => view_of_sddl(text, job.domain.as_ref(), buf),
     }
 }
@@ -120,6 +122,16 @@ fn view_of_hex<'a>(text: &[u8], buf: &'a mut SdBuf) -> Result<SdView<'a>, LineFa
     ensures { result ≡ bytes_mean (hex_spells text.now) }
 {
     match buf.from_hex(text) {
+        Ok(()) => read(buf.bytes()).map_err(LineFault::Sd),
+        Err(fault) => Err(LineFault::Text(fault)),
+    }
+}
+
+fn view_of_base64<'a>(text: &[u8], buf: &'a mut SdBuf) -> Result<SdView<'a>, LineFault>
+    requires { length text.now ≤ 174968 }
+    ensures { result ≡ bytes_mean (base64_spells text.now) }
+{
+    match buf.from_base64(text) {
         Ok(()) => read(buf.bytes()).map_err(LineFault::Sd),
         Err(fault) => Err(LineFault::Text(fault)),
     }
@@ -155,7 +167,7 @@ fn print_act<P: Print>(
     job: &Job,
     view: &SdView<'_>,
     written: &mut SdBuf,
-    digits: &mut [u8; GATHERED],
+    spelled: &mut [u8; GATHERED],
     token: &mut Token,
     out: &mut P,
 ) -> bool
@@ -166,7 +178,7 @@ fn print_act<P: Print>(
 {
     match job.act {
         Act::Convert(form) => {
-            print_form(job, form, view, written, digits, out);
+            print_form(job, form, view, written, spelled, out);
             print_end(false, out)
         }
         Act::Explain => {
@@ -177,7 +189,7 @@ fn print_act<P: Print>(
             print_verdict(check(view, token, &ask), out);
             print_end(false, out)
         }
-        Act::Derive(plan, form) => print_derived(job, view, &plan, form, written, digits, out),
+        Act::Derive(plan, form) => print_derived(job, view, &plan, form, written, spelled, out),
     }
 }
 
@@ -188,7 +200,7 @@ fn print_form<P: Print>(
     form: Form,
     view: &SdView<'_>,
     written: &mut SdBuf,
-    digits: &mut [u8; GATHERED],
+    spelled: &mut [u8; GATHERED],
     out: &mut P,
 )
     ensures { Prints (P.told out.old) (P.told out.new) (form_text job.now form view.now) }
@@ -196,7 +208,11 @@ fn print_form<P: Print>(
     match form {
         Form::Hex => {
             write_layout(view, written);
-            print_hex(written.bytes(), digits, out);
+            print_hex(written.bytes(), spelled, out);
+        }
+        Form::Base64 => {
+            write_layout(view, written);
+            print_base64(written.bytes(), spelled, out);
         }
         Form::Sddl => print_sddl(view, job.domain.as_ref(), job.numeric, out),
     }
@@ -209,7 +225,7 @@ fn print_derived<P: Print>(
     plan: &Plan,
     form: Form,
     written: &mut SdBuf,
-    digits: &mut [u8; GATHERED],
+    spelled: &mut [u8; GATHERED],
     out: &mut P,
 ) -> bool
     ensures { PrintsAnswer (P.told out.old) (P.told out.new)
@@ -218,27 +234,29 @@ fn print_derived<P: Print>(
 {
     match derive(parent, plan, written) {
         Ok(()) => {
-            print_written(job, form, written, digits, out);
+            print_written(job, form, written, spelled, out);
             print_end(false, out)
         }
         Err(fault) => print_error(&LineFault::Derive(fault), out),
     }
 }
 
-// Prints the descriptor that is written in the buffer. As hex its bytes are spelled where they are.
+// Prints the descriptor that is written in the buffer. As hex and base64 its bytes are spelled
+// where they are.
 #[tactic(auto, unfolding(crate::specs::Answers::form_text))]
 fn print_written<P: Print>(
     job: &Job,
     form: Form,
     written: &SdBuf,
-    digits: &mut [u8; GATHERED],
+    spelled: &mut [u8; GATHERED],
     out: &mut P,
 )
     ensures { (d : Descriptor) → Shows written.now d → written.now ≡ layout d
         → Prints (P.told out.old) (P.told out.new) (form_text job.now form d) }
 {
     match form {
-        Form::Hex => print_hex(written.bytes(), digits, out),
+        Form::Hex => print_hex(written.bytes(), spelled, out),
+        Form::Base64 => print_base64(written.bytes(), spelled, out),
         Form::Sddl => {
             // Its bytes show a descriptor, so they are read.
             if let Ok(view) = read(written.bytes()) {

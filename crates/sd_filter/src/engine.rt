@@ -61,7 +61,7 @@ impl Engine {
             stores: Stores {
                 read: SdBuf::new(alloc)?,
                 written: SdBuf::new(alloc)?,
-                digits: [0; GATHERED],
+                spelled: [0; GATHERED],
             },
         };
         Ok(Engine { desk })
@@ -107,12 +107,12 @@ pub struct Desk {
     ghost limit: { line.limit ≡ line_limit job.source },
 }
 
-// The bytes of a line's descriptor, those of the one that is printed, and a piece of its digits.
+// The bytes of a line's descriptor, those of the one that is printed, and a piece of the text that spells them.
 #[derive(Drop)]
 pub struct Stores {
     pub read: SdBuf,
     pub written: SdBuf,
-    pub digits: [u8; GATHERED],
+    pub spelled: [u8; GATHERED],
 }
 
 // The bytes that a line may have.
@@ -121,6 +121,7 @@ fn line_limit(form: Form) -> usize
 {
     match form {
         Form::Hex => 262_452,
+        Form::Base64 => 174_968,
         Form::Sddl => 1_049_872,
     }
 }

@@ -14,7 +14,7 @@ use sd_sddl::SddlFault;
 pub enum LineFault {
     /// 1: the line is longer than its limit, whatever else is wrong with it.
     TooLong,
-    /// 2, 3: its text spells no bytes.
+    /// 2 to 4: its text spells no bytes.
     Text(TextFault),
     /// 5 to 14: its bytes show no descriptor.
     Sd(SdFault),
@@ -52,6 +52,7 @@ fn number_and_name(fault: LineFault) -> &'static str
         LineFault::TooLong => "error 1 too-long",
         LineFault::Text(TextFault::HexDigit) => "error 2 hex-digit",
         LineFault::Text(TextFault::HexOdd) => "error 3 hex-odd",
+        LineFault::Text(TextFault::Base64) => "error 4 base64",
         LineFault::Sd(SdFault::Short) => "error 5 short",
         LineFault::Sd(SdFault::Revision) => "error 6 revision",
         LineFault::Sd(SdFault::NotSelfRelative) => "error 7 not-self-relative",

@@ -5,7 +5,7 @@ ghost use Rattle.sd_sink.specs.Print.{Prints};
 
 use sd_core::Print;
 
-/// The digits that are gathered before they are printed.
+/// The characters that are gathered before they are printed: of hex 512 bytes, of base64 768.
 pub const GATHERED: usize = 1024;
 
 /// Prints the bytes as lower-case hex, by way of the cells.

@@ -3,6 +3,7 @@
 #![tactic(auto)]
 
 mod answer;
+mod base64_text;
 mod device;
 mod engine;
 mod fault;

@@ -138,8 +138,8 @@ const CONVERT_HELP: &str = "Print each descriptor in a canonical form
 Usage: sdtool convert [OPTIONS]
 
 Options:
-      --from <from>      The form of the lines: hex, the default, or sddl
-      --to <to>          The form of the answers: sddl, the default, or hex
+      --from <from>      The form of the lines: hex, the default, base64 or sddl
+      --to <to>          The form of the answers: sddl, the default, hex or base64
       --domain <domain>  The SID of the domain whose aliases are read and printed
       --numeric          Print SIDs without aliases
   -h, --help             Print help
@@ -150,7 +150,7 @@ const EXPLAIN_HELP: &str = "Say what each descriptor has, on a block of lines
 Usage: sdtool explain [OPTIONS]
 
 Options:
-      --from <from>      The form of the lines: hex, the default, or sddl
+      --from <from>      The form of the lines: hex, the default, base64 or sddl
       --domain <domain>  The SID of the domain whose aliases are read and printed
       --numeric          Print SIDs without aliases
   -h, --help             Print help
@@ -161,7 +161,7 @@ const CHECK_HELP: &str = "Say what each descriptor grants to a token
 Usage: sdtool check [OPTIONS] --token <token>
 
 Options:
-      --from <from>      The form of the lines: hex, the default, or sddl
+      --from <from>      The form of the lines: hex, the default, base64 or sddl
       --domain <domain>  The SID of the domain whose aliases are read and printed
       --token <token>    The SIDs of the token, parted by commas, with ! before one that only denies
       --want <want>      The rights that are wanted
