@@ -17,6 +17,10 @@ answers-one job entries line = append-nil (answer job entries line)
 pub answers-push : (job : Job) (entries : List Entry) (all : List (List ℕ)) (line : List ℕ) → answers job entries (all ++ line ∷ []) ≡ answers job entries all ++ answer job entries line
 answers-push job entries all line = answers-append job entries all (line ∷ []) ∙ ap (λ l. answers job entries all ++ l) (answers-one job entries line)
 
+pub errors-append : (job : Job) (all more : List (List ℕ)) → errors job (all ++ more) ≡ errors job all + errors job more
+unfolding errors
+errors-append job all more = sum_by-append (λ line. cond (is_error job line) 1 0) all more
+
 pub errors-push : (job : Job) (all : List (List ℕ)) (line : List ℕ) → errors job (all ++ line ∷ []) ≡ errors job all + cond (is_error job line) 1 0
 unfolding errors
 errors-push job all line = fold-append _ 0 all (line ∷ [])

@@ -8,6 +8,7 @@ pub mod HoldsLemmas
 pub mod LimitLemmas
 pub mod MeaningLemmas
 pub mod PartsLemmas
+pub mod PiecesLemmas
 mod Rows
 pub mod RunLemmas
 pub mod ShortLemmas

@@ -5,7 +5,7 @@ use Rattle.std.proofs.lemmas.Bool.{cases_lt}
 use Rattle.sd_filter.specs.Lines.{IsCut, LinesAreCut, Parts, parts, onto_first, without_cr, ended}
 
 -- one byte in front of these parts
-abbrev front : Bool → ℕ → Parts → Parts
+abbrev pub front : Bool → ℕ → Parts → Parts
 front c b p = cond c (record { ended = [] ∷ p.ended; rest = p.rest }) (onto_first b p.ended p.rest)
 
 -- one byte in front of a cut

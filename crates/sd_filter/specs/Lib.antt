@@ -3,6 +3,7 @@ pub mod Lines
 pub mod Faults
 pub mod ActLimits
 pub mod Answers
+pub mod Pieces
 pub mod Outcome
 pub mod Sofar
 pub mod Endings

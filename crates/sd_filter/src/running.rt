@@ -5,6 +5,7 @@ ghost use Rattle.sd_sink.specs.Sink.{SinkTold};
 ghost use Rattle.sd_filter.specs.Told.{sink_of};
 ghost use Rattle.sd_filter.specs.Answers.{AnswersAreShort};
 ghost use Rattle.sd_filter.specs.Lines.{LinesAreCut, ended, lines};
+ghost use Rattle.sd_filter.specs.Pieces.{AnswersSplit};
 ghost use Rattle.sd_filter.specs.Sofar.{Answered, Failed, Sofar};
 ghost use Rattle.sd_filter.specs.Outcome.{Outcome};
 
@@ -36,6 +37,8 @@ pub fn run<R: Source, W: Drain>(
     ensures answers_are_short { AnswersAreShort engine.old token.old.entries }
     // The lines are cut at each LF and nowhere else.
     ensures lines_are_cut { LinesAreCut }
+    // The answers to an input that is cut behind an LF are those to its pieces.
+    ensures answers_split { AnswersSplit engine.old token.old.entries }
     ensures job { engine.new ≡ engine.old }
     ensures entries { token.new.entries ≡ token.old.entries }
 {

@@ -1,4 +1,5 @@
 use Rattle.sd_filter.proofs.PartsLemmas.{parts-cut}
+use Rattle.sd_filter.proofs.PiecesLemmas.{answers-split}
 use Rattle.sd_filter.proofs.ShortLemmas.{answers-short}
 use Rattle.sd_filter.proofs.running.run.Goals as goal
 
@@ -7,3 +8,6 @@ returns-clause-answers_are_short g c = answers-short _ _ c.note_limits.ensures.d
 
 pub returns-clause-lines_are_cut : goal.returns-clause-lines_are_cut
 returns-clause-lines_are_cut g c = parts-cut
+
+pub returns-clause-answers_split : goal.returns-clause-answers_split
+returns-clause-answers_split g c = answers-split _ _
