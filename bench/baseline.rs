@@ -1,5 +1,7 @@
-//! What the benchmark measures `sdtool convert` and `sdtool explain` against: the same answers, by a plain program that stands on std alone.
-//! It takes the same words, reads the standard input and writes the standard output.
+//! What the benchmark measures `sdtool` against: the same answers, by a plain program that stands on std alone.
+//! It takes the same words, but in a check no object type, PRINCIPAL SELF or privileges, reads the standard input and
+//! writes the standard output.
+use std::collections::HashMap;
 use std::env;
 use std::fmt;
 use std::io::{self, BufRead, BufWriter, Write};
@@ -23,6 +25,8 @@ const MAX_ACL_SIZE: usize = 0xffff;
 const SELF_RELATIVE: u16 = 0x8000;
 const DACL_PRESENT: u16 = 0x0004;
 const SACL_PRESENT: u16 = 0x0010;
+const DACL_AUTO_INHERITED: u16 = 0x0400;
+const SACL_AUTO_INHERITED: u16 = 0x0800;
 const UNKNOWN_FLAG: u8 = 0x20;
 const OBJECT_TYPE_PRESENT: u32 = 0x1;
 const INHERITED_OBJECT_TYPE_PRESENT: u32 = 0x2;
@@ -86,6 +90,7 @@ enum Fault {
     Guid,
     Kind,
     AclTooLarge(Part),
+    DerivedTooLarge(Part),
 }
 
 impl fmt::Display for Fault {
@@ -115,6 +120,7 @@ impl fmt::Display for Fault {
             Fault::Guid => f.write_str("error 28 guid"),
             Fault::Kind => f.write_str("error 29 kind"),
             Fault::AclTooLarge(part) => write!(f, "error 30 acl-too-large {part}"),
+            Fault::DerivedTooLarge(part) => write!(f, "error 40 derived-too-large {part}"),
         }
     }
 }
@@ -1123,6 +1129,12 @@ fn read_sddl(
             return Err(Fault::AclTooLarge(acl));
         }
     }
+    join_parts(control, bytes, layout);
+    Ok(())
+}
+
+/// Makes the canonical layout of parts, of which those without bytes do not stand.
+fn join_parts(control: u16, bytes: &[Vec<u8>; PARTS.len()], layout: &mut Vec<u8>) {
     layout.clear();
     layout.extend_from_slice(&[1, 0]);
     layout.extend_from_slice(&control.to_le_bytes());
@@ -1132,7 +1144,243 @@ fn read_sddl(
         set_u32(layout, OFFSETS_AT + 4 * index, offset);
         layout.extend_from_slice(part);
     }
-    Ok(())
+}
+
+/// What the generic rights mean, from the lowest bit on: all, execute, write, read.
+type Mapping = [u32; 4];
+
+fn mapping_of_word(word: &str) -> Option<Mapping> {
+    match word {
+        "file" => Some([0x1f_01ff, 0x12_00a0, 0x12_0116, 0x12_0089]),
+        "key" => Some([0xf_003f, 0x2_0019, 0x2_0006, 0x2_0019]),
+        "ds" => Some([0xf_01ff, 0x2_0004, 0x2_0028, 0x2_0094]),
+        _ => None,
+    }
+}
+
+const FIRST_GENERIC: u32 = 28;
+
+fn mapped(mask: u32, mapping: &Mapping) -> u32 {
+    let mut specific = mask % (1 << FIRST_GENERIC);
+    for (place, rights) in (FIRST_GENERIC..).zip(mapping) {
+        if mask >> place & 1 != 0 {
+            specific |= rights;
+        }
+    }
+    specific
+}
+
+const OBJECT_INHERIT: u8 = 0x01;
+const CONTAINER_INHERIT: u8 = 0x02;
+const NO_PROPAGATE: u8 = 0x04;
+const INHERIT_ONLY: u8 = 0x08;
+const INHERITED: u8 = 0x10;
+const AUDIT_FLAGS: u8 = 0xc0;
+
+const CREATOR_OWNER: &[u8] = &[1, 1, 0, 0, 0, 0, 0, 3, 0, 0, 0, 0];
+const CREATOR_GROUP: &[u8] = &[1, 1, 0, 0, 0, 0, 0, 3, 1, 0, 0, 0];
+const OWNER_RIGHTS: &[u8] = &[1, 1, 0, 0, 0, 0, 0, 3, 4, 0, 0, 0];
+
+/// The bytes of a part of a canonical layout, where it stands and is not null, and what follows it.
+fn part_at(layout: &[u8], part: Part) -> Option<&[u8]> {
+    match u32_at(layout, OFFSETS_AT + 4 * part as usize) as usize {
+        0 => None,
+        at => Some(&layout[at..]),
+    }
+}
+
+fn sid_at_front(bytes: &[u8]) -> &[u8] {
+    &bytes[..SID_HEADER_SIZE + 4 * usize::from(bytes[1])]
+}
+
+/// The ACEs of an ACL of a canonical layout, each with the place of its SID.
+fn aces(acl: &[u8]) -> impl Iterator<Item = (&[u8], usize)> {
+    let mut left = &acl[ACL_HEADER_SIZE..];
+    (0..u16_at(acl, 4)).map(move |_| {
+        let (ace, rest) = left.split_at(usize::from(u16_at(left, 2)));
+        left = rest;
+        match ace[0] {
+            0x05 | 0x06 | 0x07 => {
+                let guids = ace[ACE_HEADER_SIZE].count_ones() as usize;
+                (ace, ACE_HEADER_SIZE + 4 + GUID_SIZE * guids)
+            }
+            _ => (ace, ACE_HEADER_SIZE),
+        }
+    })
+}
+
+const READ_CONTROL_AND_WRITE_DAC: u32 = 0x6_0000;
+const SYSTEM_SECURITY: u32 = 1 << 24;
+const MAXIMUM_ALLOWED: u32 = 1 << 25;
+
+struct Entry {
+    sid: Vec<u8>,
+    /// The last four bytes of the SID, which tell most of them apart.
+    last: u32,
+    only_denies: bool,
+}
+
+struct Ask {
+    token: Vec<Entry>,
+    wanted: u32,
+    maximum: bool,
+    mapping: Mapping,
+}
+
+fn entry_of_text(text: &str, domain: Option<&Sid>) -> Option<Entry> {
+    let unmarked = text.strip_prefix('!');
+    let mut sid = Vec::new();
+    let text = unmarked.unwrap_or(text);
+    sid_of_text(text.as_bytes(), domain).ok()?.put_bytes(&mut sid);
+    Some(Entry {
+        last: u32_at(&sid, sid.len() - 4),
+        sid,
+        only_denies: unmarked.is_some(),
+    })
+}
+
+impl Ask {
+    fn meets(&self, sid: &[u8], denies: bool) -> bool {
+        let last = u32_at(sid, sid.len() - 4);
+        let mut entries = self.token.iter();
+        entries.any(|entry| entry.last == last && entry.sid == sid && (denies || !entry.only_denies))
+    }
+
+    /// The rights among the undecided ones that the descriptor of a canonical layout grants.
+    fn granted(&self, layout: &[u8], mut undecided: u32) -> u32 {
+        let Some(dacl) = part_at(layout, Part::Dacl) else {
+            return undecided;
+        };
+        let is_for_access = |ace: &[u8]| !matches!(ace[0], 0x02 | 0x07 | 0x11) && ace[1] & INHERIT_ONLY == 0;
+        let owner = part_at(layout, Part::Owner).map(sid_at_front);
+        let mut granted = 0;
+        if owner.is_some_and(|owner| undecided & READ_CONTROL_AND_WRITE_DAC != 0 && self.meets(owner, false)) {
+            let is_for_owner = |(ace, at): (&[u8], usize)| is_for_access(ace) && &ace[at..] == OWNER_RIGHTS;
+            if !aces(dacl).any(is_for_owner) {
+                granted = undecided & READ_CONTROL_AND_WRITE_DAC;
+                undecided &= !READ_CONTROL_AND_WRITE_DAC;
+            }
+        }
+        for (ace, at) in aces(dacl) {
+            if undecided == 0 {
+                break;
+            }
+            let decided = mapped(u32_at(ace, 4), &self.mapping) & undecided;
+            let is_object = matches!(ace[0], 0x05 | 0x06);
+            let is_for_a_type = is_object && u32_at(ace, ACE_HEADER_SIZE) & OBJECT_TYPE_PRESENT != 0;
+            if decided == 0 || !is_for_access(ace) || is_for_a_type {
+                continue;
+            }
+            let sid = if &ace[at..] == OWNER_RIGHTS { owner } else { Some(&ace[at..]) };
+            let denies = matches!(ace[0], 0x01 | 0x06);
+            if sid.is_some_and(|sid| self.meets(sid, denies)) {
+                granted |= if denies { 0 } else { decided };
+                undecided &= !decided;
+            }
+        }
+        granted
+    }
+
+    /// Appends the verdict on the descriptor of a canonical layout.
+    fn put_verdict(&self, layout: &[u8], text: &mut Vec<u8>) {
+        let of_all = if self.maximum { self.mapping[0] } else { 0 };
+        let granted = self.granted(layout, (self.wanted | of_all) & !SYSTEM_SECURITY);
+        let missing = self.wanted & !granted;
+        let answered = self.wanted | granted & of_all;
+        let is_granted = missing == 0 && answered != 0;
+        text.extend_from_slice(if is_granted { b"granted 0x" } else { b"denied 0x" });
+        put_hex(&(if is_granted { answered } else { missing }).to_be_bytes(), text);
+    }
+}
+
+struct Plan {
+    is_container: bool,
+    owner: Vec<u8>,
+    group: Vec<u8>,
+    mapping: Mapping,
+}
+
+impl Plan {
+    /// Appends the copies of an ACE; how many there are.
+    fn put_copies(&self, ace: &[u8], sid_at: usize, acl: &mut Vec<u8>) -> u16 {
+        let (flags, mask, sid) = (ace[1], u32_at(ace, 4), &ace[sid_at..]);
+        let is_label = ace[0] == 0x11;
+        let mut put = |flags: u8, mask: u32, sid: &[u8]| {
+            let start = acl.len();
+            acl.extend_from_slice(&ace[..sid_at]);
+            acl.extend_from_slice(sid);
+            acl[start + 1] = flags | ace[1] & AUDIT_FLAGS | INHERITED;
+            let size = acl.len() - start;
+            set_u16(acl, start + 2, size);
+            set_u32(acl, start + 4, mask);
+        };
+        let for_files = flags & OBJECT_INHERIT != 0;
+        let for_containers = flags & CONTAINER_INHERIT != 0;
+        let for_one_level = flags & NO_PROPAGATE != 0;
+        let onward = flags & (OBJECT_INHERIT | CONTAINER_INHERIT);
+        let heir = match sid {
+            CREATOR_OWNER => &self.owner[..],
+            CREATOR_GROUP => &self.group[..],
+            sid => sid,
+        };
+        let own_mask = if is_label { mask } else { mapped(mask, &self.mapping) };
+        let differs = matches!(sid, CREATOR_OWNER | CREATOR_GROUP) || !is_label && mask >> FIRST_GENERIC != 0;
+        if !self.is_container && for_files || self.is_container && for_containers && for_one_level {
+            put(0, own_mask, heir);
+            1
+        } else if !self.is_container {
+            0
+        } else if for_containers && differs {
+            put(0, own_mask, heir);
+            put(onward | INHERIT_ONLY, mask, sid);
+            2
+        } else if for_containers {
+            put(onward, own_mask, heir);
+            1
+        } else if for_files && !for_one_level {
+            put(onward | INHERIT_ONLY, mask, sid);
+            1
+        } else {
+            0
+        }
+    }
+
+    /// Makes the ACL of the copies of an ACL's ACEs.
+    fn derive_acl(&self, parent: Option<&[u8]>, acl: &mut Vec<u8>) {
+        acl.clear();
+        acl.extend_from_slice(&[2, 0, 0, 0, 0, 0, 0, 0]);
+        let mut count = 0;
+        for (ace, sid_at) in parent.into_iter().flat_map(aces) {
+            let copies = self.put_copies(ace, sid_at, acl);
+            if copies > 0 && matches!(ace[0], 0x05 | 0x06 | 0x07) {
+                acl[0] = 4;
+            }
+            count += copies;
+        }
+        let size = acl.len();
+        set_u16(acl, 2, size);
+        set_u16(acl, 4, usize::from(count));
+    }
+
+    /// Makes the canonical layout of what is made under the descriptor of another.
+    fn derive(&self, parent: &[u8], bytes: &mut [Vec<u8>; PARTS.len()], layout: &mut Vec<u8>) -> Result<(), Fault> {
+        bytes[Part::Owner as usize].clone_from(&self.owner);
+        bytes[Part::Group as usize].clone_from(&self.group);
+        for acl in [Part::Sacl, Part::Dacl] {
+            self.derive_acl(part_at(parent, acl), &mut bytes[acl as usize]);
+            if bytes[acl as usize].len() > MAX_ACL_SIZE {
+                return Err(Fault::DerivedTooLarge(acl));
+            }
+        }
+        let mut control = SELF_RELATIVE | DACL_PRESENT | DACL_AUTO_INHERITED;
+        if bytes[Part::Sacl as usize].len() > ACL_HEADER_SIZE {
+            control |= SACL_PRESENT | SACL_AUTO_INHERITED;
+        } else {
+            bytes[Part::Sacl as usize].clear();
+        }
+        join_parts(control, bytes, layout);
+        Ok(())
+    }
 }
 
 #[derive(Clone, Copy)]
@@ -1149,17 +1397,31 @@ impl Form {
             _ => None,
         }
     }
+
+    fn put(self, layout: &[u8], naming: &Naming, text: &mut Vec<u8>) {
+        match self {
+            Form::Hex => put_hex(layout, text),
+            Form::Sddl => put_sddl(layout, naming, text),
+        }
+    }
+}
+
+enum Act {
+    Convert(Form),
+    Explain,
+    Check(Ask),
+    Derive(Plan, Form),
 }
 
 /// What is asked for, and the buffers that are used again for each line.
 struct Converter {
     from: Form,
-    /// None for an explanation.
-    to: Option<Form>,
+    act: Act,
     naming: Naming,
     bytes: Vec<u8>,
     parts: [Vec<u8>; PARTS.len()],
     layout: Vec<u8>,
+    derived: Vec<u8>,
 }
 
 impl Converter {
@@ -1175,10 +1437,14 @@ impl Converter {
             }
             Form::Sddl => read_sddl(line, self.naming.domain.as_ref(), &mut self.parts, &mut self.layout)?,
         }
-        match self.to {
-            Some(Form::Hex) => put_hex(&self.layout, text),
-            Some(Form::Sddl) => put_sddl(&self.layout, &self.naming, text),
-            None => explain(&self.layout, &self.naming, text),
+        match &self.act {
+            Act::Convert(form) => form.put(&self.layout, &self.naming, text),
+            Act::Explain => explain(&self.layout, &self.naming, text),
+            Act::Check(ask) => ask.put_verdict(&self.layout, text),
+            Act::Derive(plan, form) => {
+                plan.derive(&self.layout, &mut self.parts, &mut self.derived)?;
+                form.put(&self.derived, &self.naming, text);
+            }
         }
         Ok(())
     }
@@ -1210,36 +1476,93 @@ fn convert(mut converter: Converter, mut input: impl BufRead, mut output: impl W
     Ok(all_good)
 }
 
+/// The words after a command, each option with its value, and each flag with none.
+struct Words(HashMap<String, String>);
+
+impl Words {
+    fn of(mut words: impl Iterator<Item = String>) -> Option<Words> {
+        let mut values = HashMap::new();
+        while let Some(word) = words.next() {
+            let name = word.strip_prefix("--")?.to_owned();
+            let is_flag = matches!(name.as_str(), "numeric" | "maximum");
+            values.insert(name, if is_flag { String::new() } else { words.next()? });
+        }
+        Some(Words(values))
+    }
+
+    fn take_or(&mut self, name: &str, default: &str) -> String {
+        self.0.remove(name).unwrap_or_else(|| default.to_owned())
+    }
+
+    fn take_sid(&mut self, name: &str, domain: Option<&Sid>) -> Option<Vec<u8>> {
+        let mut bytes = Vec::new();
+        let text = self.0.remove(name)?;
+        sid_of_text(text.as_bytes(), domain).ok()?.put_bytes(&mut bytes);
+        Some(bytes)
+    }
+
+    fn take_ask(&mut self, domain: Option<&Sid>) -> Option<Ask> {
+        let mapping = mapping_of_word(&self.take_or("type", "file"))?;
+        let token = self.0.remove("token")?;
+        let want = rights_of_text(self.take_or("want", "0").as_bytes())?;
+        Some(Ask {
+            token: token.split(',').map(|text| entry_of_text(text, domain)).collect::<Option<_>>()?,
+            wanted: mapped(want, &mapping) & !MAXIMUM_ALLOWED,
+            maximum: self.0.remove("maximum").is_some() || want & MAXIMUM_ALLOWED != 0,
+            mapping,
+        })
+    }
+
+    fn take_plan(&mut self, domain: Option<&Sid>) -> Option<Plan> {
+        Some(Plan {
+            mapping: mapping_of_word(&self.take_or("type", "file"))?,
+            is_container: match self.0.remove("kind")?.as_str() {
+                "file" => false,
+                "container" => true,
+                _ => return None,
+            },
+            owner: self.take_sid("owner", domain)?,
+            group: self.take_sid("group", domain)?,
+        })
+    }
+}
+
 /// What the words ask for; None where they are not understood.
 fn converter_of(mut words: impl Iterator<Item = String>) -> Option<Converter> {
-    let mut converter = Converter {
-        from: Form::Hex,
-        to: Some(Form::Sddl),
-        naming: Naming::default(),
+    let command = words.next()?;
+    let mut words = Words::of(words)?;
+    let domain = match words.0.remove("domain") {
+        Some(text) => Some(sid_of_text(text.as_bytes(), None).ok()?),
+        None => None,
+    };
+    let act = match command.as_str() {
+        "convert" => Act::Convert(Form::of_word(&words.take_or("to", "sddl"))?),
+        "explain" => Act::Explain,
+        "check" => Act::Check(words.take_ask(domain.as_ref())?),
+        "derive" => {
+            let plan = words.take_plan(domain.as_ref())?;
+            Act::Derive(plan, Form::of_word(&words.take_or("to", "sddl"))?)
+        }
+        _ => return None,
+    };
+    let converter = Converter {
+        from: Form::of_word(&words.take_or("from", "hex"))?,
+        act,
+        naming: Naming {
+            domain,
+            numeric: words.0.remove("numeric").is_some(),
+        },
         bytes: Vec::new(),
         parts: Default::default(),
         layout: Vec::new(),
+        derived: Vec::new(),
     };
-    match words.next()?.as_str() {
-        "convert" => {}
-        "explain" => converter.to = None,
-        _ => return None,
-    }
-    while let Some(word) = words.next() {
-        match word.as_str() {
-            "--from" => converter.from = Form::of_word(&words.next()?)?,
-            "--to" if converter.to.is_some() => converter.to = Some(Form::of_word(&words.next()?)?),
-            "--domain" => converter.naming.domain = Some(sid_of_text(words.next()?.as_bytes(), None).ok()?),
-            "--numeric" => converter.naming.numeric = true,
-            _ => return None,
-        }
-    }
-    Some(converter)
+    words.0.is_empty().then_some(converter)
 }
 
 fn main() -> ExitCode {
     let Some(converter) = converter_of(env::args().skip(1)) else {
-        eprintln!("baseline: convert|explain [--from hex|sddl] [--to hex|sddl] [--domain SID] [--numeric]");
+        eprintln!("baseline: the words are not understood");
         return ExitCode::from(2);
     };
     match convert(converter, io::stdin().lock(), BufWriter::new(io::stdout().lock())) {

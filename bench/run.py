@@ -2,8 +2,8 @@
 """run.py [PROGRAM] [--megabytes N] [--rounds N]
 
 Measures the program (crates/sdtool/out/sdtool where none is given) against baseline.rs and cat: on the mixture that
-generate.py makes in hex and in SDDL, to hex, to SDDL and explained under one of its domains, and to hex on lines of 375
-to 1,500 ACEs, which show whether an ACE costs the same in a longer line.
+generate.py makes in hex and in SDDL, to hex, to SDDL and explained under one of its domains, checked, and derived from;
+and on lines of 375 to 1,500 ACEs, which show whether an ACE costs the same in a longer line.
 The inputs have the same size and are kept in the folder sdtool-bench among the temporary files.
 
 It checks that program and baseline write the same each time, runs the three in turn, so that what else the machine
@@ -28,29 +28,43 @@ import preload  # noqa: E402
 
 HERE = pathlib.Path(__file__).resolve().parent
 PROGRAM = HERE.parent / "crates/sdtool/out/sdtool"
-DOMAIN = ["--domain", "-".join(["S-1", *map(str, generate.HOME)])]
-# What is measured: the form of the lines, the number of ACEs of each, or None for the mixture, and the form of the
-# answers, or None where they are explained.
+DOMAIN_TEXT = "-".join(["S-1", *map(str, generate.HOME)])
+
+
+def accounts(*numbers):
+    """Accounts and groups of the domain."""
+    return [f"{DOMAIN_TEXT}-{number}" for number in numbers]
+
+
+# A user who is in groups that are met in descriptors, and one who is in very many of which none is.
+USUAL_TOKEN = ["WD", "AU", "IU", "BU", *accounts(1105, 513, *range(40_000, 40_014))]
+LARGEST_TOKEN = accounts(*range(40_000, 41_024))
+CHECKED, CHECKED_IN_VAIN = (["check", "--want", "FR", "--token", ",".join(token)] for token in (USUAL_TOKEN, LARGEST_TOKEN))
+DERIVED = ["derive", "--kind", "container", "--owner", *accounts(1105), "--group", *accounts(513)]
+TO_HEX, TO_SDDL = ["convert", "--to", "hex"], ["convert", "--to", "sddl"]
+# What is measured: the form of the lines, the number of ACEs of each, or None for the mixture, and what is asked.
 MEASURED = {
-    "the mixture to hex": ("hex", None, "hex"),
-    "the mixture to SDDL": ("hex", None, "sddl"),
-    "the mixture explained": ("hex", None, None),
-    "the mixture from SDDL to hex": ("sddl", None, "hex"),
-    "the mixture from SDDL to SDDL": ("sddl", None, "sddl"),
-    "375 ACEs a line to hex": ("hex", 375, "hex"),
-    "750 ACEs a line to hex": ("hex", 750, "hex"),
-    "1,500 ACEs a line to hex": ("hex", 1500, "hex"),
-    "1,500 ACEs a line explained": ("hex", 1500, None),
-    "375 ACEs a line from SDDL to hex": ("sddl", 375, "hex"),
-    "1,500 ACEs a line from SDDL to hex": ("sddl", 1500, "hex"),
+    "the mixture to hex": ("hex", None, TO_HEX),
+    "the mixture to SDDL": ("hex", None, TO_SDDL),
+    "the mixture explained": ("hex", None, ["explain"]),
+    "the mixture from SDDL to hex": ("sddl", None, TO_HEX),
+    "the mixture from SDDL to SDDL": ("sddl", None, TO_SDDL),
+    "the mixture checked for a token of 20": ("hex", None, CHECKED),
+    "the mixture derived from": ("hex", None, [*DERIVED, "--to", "hex"]),
+    "the mixture derived from, SDDL to SDDL": ("sddl", None, DERIVED),
+    "375 ACEs a line to hex": ("hex", 375, TO_HEX),
+    "750 ACEs a line to hex": ("hex", 750, TO_HEX),
+    "1,500 ACEs a line to hex": ("hex", 1500, TO_HEX),
+    "1,500 ACEs a line explained": ("hex", 1500, ["explain"]),
+    "375 ACEs a line from SDDL to hex": ("sddl", 375, TO_HEX),
+    "1,500 ACEs a line from SDDL to hex": ("sddl", 1500, TO_HEX),
+    "1,500 ACEs a line checked for a token of 1,024": ("hex", 1500, CHECKED_IN_VAIN),
 }
 
 
-def words_of(source, target):
+def words_of(source, asked):
     """Under the domain, where a SID may be spelled by its alias."""
-    if target is None:
-        return ["explain", "--from", source, *DOMAIN]
-    return ["convert", "--from", source, "--to", target, *(DOMAIN if "sddl" in (source, target) else [])]
+    return [*asked, "--from", source, "--domain", DOMAIN_TEXT]
 
 
 def input_file(folder, settings):
@@ -132,9 +146,9 @@ def main():
     folder.mkdir(exist_ok=True)
     baseline, library = build_baseline(folder), preload.build("faults.c", folder)
     inputs, commands = {}, {}
-    for name, (source, aces, target) in MEASURED.items():
+    for name, (source, aces, asked) in MEASURED.items():
         settings = ["--form", source, "--megabytes", str(wanted.megabytes), *(["--aces", str(aces)] if aces else [])]
-        inputs[name], words = input_file(folder, settings), words_of(source, target)
+        inputs[name], words = input_file(folder, settings), words_of(source, asked)
         commands[name] = {"sdtool": [wanted.program, *words], "baseline": [baseline, *words], "cat": ["cat"]}
     judged = [(given, [commands[name]["sdtool"], commands[name]["baseline"]]) for name, given in inputs.items()]
     if not all([write_the_same(folder, given, both) for given, both in judged]):

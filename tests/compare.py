@@ -7,7 +7,7 @@ base64 and SDDL; as hex and base64, and as SDDL or explained, without a domain, 
 alone. What is printed as SDDL, and what is spelled otherwise than it would be printed, is compared with the descriptor
 that it was made from.
 Checks ask for what has to do with the descriptors: by tokens of SIDs that stand in them, about rights and object types of
-their ACEs.
+their ACEs. What is derived comes from descriptors whose ACEs are handed on, for owners and groups that stand in them.
 The same seed gives the same lines. The last line is 'N passed, M failed'.
 """
 import argparse
@@ -43,12 +43,16 @@ UNDER = [["convert", "--domain", domain] for domain in DOMAINS]
 EXPLAINED = [["explain"], ["explain", "--domain", DOMAINS[0]], ["explain", "--numeric"]]
 CHECKED = [["check", "--token", "WD,!BA,SY", "--maximum"],
            ["check", "--token", "BU,DU", "--domain", DOMAINS[0], "--type", "ds", "--want", "RPWP", "--self", "BU"]]
-EVERY_WORDS = [HEX, BASE64, SDDL, NUMERIC, *UNDER, [*UNDER[0], "--numeric"], *EXPLAINED, *CHECKED]
+DERIVED = [["derive", "--kind", "container", "--owner", "BA", "--group", "SY"],
+           ["derive", "--kind", "file", "--owner", "DA", "--group", "BU", "--domain", DOMAINS[0], "--type", "ds", "--to", "hex"]]
+EVERY_WORDS = [HEX, BASE64, SDDL, NUMERIC, *UNDER, [*UNDER[0], "--numeric"], *EXPLAINED, *CHECKED, *DERIVED]
 FROM_SDDL = ["--from", "sddl"]
 TO_HEX = ["--to", "hex"]
-EVERY_WORDS_FROM_SDDL = [[*words, *FROM_SDDL] for words in (HEX, SDDL, BASE64, UNDER[0], [*UNDER[0], *TO_HEX], EXPLAINED[1], CHECKED[1])]
-EVERY_WORDS_FROM_BASE64 = [[*words, "--from", "base64"] for words in (HEX, SDDL, BASE64, EXPLAINED[0], CHECKED[0])]
+EVERY_WORDS_FROM_SDDL = [[*words, *FROM_SDDL] for words in (HEX, SDDL, BASE64, UNDER[0], [*UNDER[0], *TO_HEX], EXPLAINED[1],
+                                                            CHECKED[1], DERIVED[1])]
+EVERY_WORDS_FROM_BASE64 = [[*words, "--from", "base64"] for words in (HEX, SDDL, BASE64, EXPLAINED[0], CHECKED[0], DERIVED[0])]
 DOMAIN_SIDS = [reference.sid_of_text(domain.encode()) for domain in DOMAINS]
+CREATORS = [reference.sid_of_text(name) for name in (b"CO", b"CG")]
 SOME_MASKS = [*reference.RIGHTS.values(), *reference.COMPOUND_RIGHTS.values(), *reference.LABEL_RIGHTS.values()]
 ALIASES, KIND_NAMES, FLAG_NAMES, RIGHT_NAMES = (
     [name.encode() for name in names] for names in ([*reference.WELL_KNOWN, *reference.OF_THE_DOMAIN],
@@ -542,6 +546,16 @@ class Lines:
                 control |= descriptor.control & (present | sum(flags.values()))
         return descriptor._replace(control=control, resource_manager=0)
 
+    def parent(self, descriptor):
+        """The descriptor with ACEs of which the most are handed on, many of them for the creator."""
+        return descriptor._replace(sacl=self.handed_on(descriptor.sacl), dacl=self.handed_on(descriptor.dacl))
+
+    def handed_on(self, acl):
+        return acl and reference.Acl(tuple(ace._replace(
+            flags=self.chance.choice([ace.flags, ace.flags & ~7, ace.flags & ~4]) | self.chance.choice([0, 1, 2, 3, 3]),
+            mask=self.chance.choice([ace.mask, ace.mask & 0x0fff_ffff]),
+            sid=self.chance.choice([ace.sid, ace.sid, *CREATORS])) for ace in acl.aces))
+
     def in_any_case(self, text):
         upper = self.chance.choice([0, -1, self.chance.getrandbits(len(text) + 1)])
         return "".join(letter.upper() if upper >> at & 1 else letter.lower() for at, letter in enumerate(text))
@@ -821,11 +835,15 @@ def compare_short(count, program, maker, number):
         count.run(program, "short input", maker.chance.choice(every_words), Input(data), sizes)
 
 
+def sid_texts(descriptors):
+    """The texts of the SIDs of their owners and DACLs."""
+    return [sid.text() for one in descriptors for sid in (one.owner, *(ace.sid for ace in (one.dacl.aces if one.dacl else ())))
+            if sid is not None]
+
+
 def token_text(maker, descriptors):
     """The text of a token with SIDs of these descriptors among others, some of them deny-only."""
-    sids = [sid for one in descriptors for sid in (one.owner, *(ace.sid for ace in (one.dacl.aces if one.dacl else ())))
-            if sid is not None]
-    some = maker.chance.choices([sid.text() for sid in sids] + ["WD", "S-1-3-4", "PS"], k=maker.chance.randint(1, 9))
+    some = maker.chance.choices(sid_texts(descriptors) + ["WD", "S-1-3-4", "PS"], k=maker.chance.randint(1, 9))
     return ",".join(maker.chance.choice(["", "", "!"]) + sid for sid in some)
 
 
@@ -855,6 +873,48 @@ def compare_checks(count, program, maker, number):
         count.run(program, "checked", check_words(maker, [reference.read(data) for data in pieces]), given)
 
 
+def derive_words(maker, descriptors):
+    """Words of derive, for an owner and a group of these descriptors or others."""
+    others = ["BA", "CO", "CG", "s-1-0x00000000000f-007"]
+    words = ["derive", "--kind", maker.chance.choice(["file", "container", "container"])]
+    if maker.chance.random() < 0.3:
+        words += ["--domain", DOMAINS[0]]
+        others += ["DA", "du"]
+    for name in ("--owner", "--group"):
+        words += [name, maker.chance.choice(maker.chance.choice([others, sid_texts(descriptors) or others]))]
+    if maker.chance.random() < 0.7:
+        words += ["--type", maker.chance.choice(list(reference.MAPPINGS))]
+    words += maker.chance.choice([[], [], TO_HEX, ["--to", "base64"]])
+    return words + ["--numeric"] * (maker.chance.random() < 0.2)
+
+
+def large_parents():
+    """ACLs whose copies for an owner of 16 bytes are about as large as an ACL may be."""
+    def acl_of(letter, kind, count, rest):
+        aces = f"({kind};OICINP;FA;;;CO)" * count + "".join(f"({kind};OICINP;FA;;;S-1-5{sub})" for sub in rest)
+        return f"{letter}:{aces}".encode()
+    for count, rest in itertools.product((2729, 2730), ([], [""], ["-1"], ["-1-2-3"], ["-1-2-3-4"])):
+        dacl, sacl = acl_of("D", "A", count, rest), acl_of("S", "AU", count, rest)
+        yield from (dacl, sacl, dacl + b"S:(AU;CI;FA;;;CO)", sacl + b"D:(A;OI;FA;;;CG)", dacl + sacl)
+
+
+def compare_derived(count, program, maker, number):
+    """What is derived for owners and groups that have something to do with the descriptors, from a few of them each."""
+    for _ in range(number):
+        descriptors = [maker.parent(reference.read(maker.descriptor().data)) for _ in range(20)]
+        given = Input(b"".join(reference.layout(one).hex().encode() + b"\n" for one in descriptors), descriptors)
+        count.run(program, "derived", derive_words(maker, descriptors), given)
+        descriptors = [maker.parent(maker.plain()) for _ in range(20)]
+        spelled = [maker.spelled_as_sddl(one, None) for one in descriptors]
+        known = [one if text else None for one, text in zip(descriptors, spelled)]
+        given = Input(b"".join(text + b"\n" for text in spelled), known)
+        count.run(program, "derived", [*derive_words(maker, descriptors), *FROM_SDDL], given)
+    large = Input(b"".join(line + b"\n" for line in large_parents()))
+    for kind, form in itertools.product(["file", "container"], ["hex", "base64", "sddl"]):
+        words = ["derive", "--kind", kind, "--owner", "BA", "--group", "SY", "--to", form, *FROM_SDDL]
+        count.run(program, "large ACLs derived", words, large)
+
+
 def main():
     parser = argparse.ArgumentParser(description="Compares the program's answers with those of the reference.")
     parser.add_argument("program", type=os.path.abspath)
@@ -868,6 +928,7 @@ def main():
     compare_sddl(count, given.program, maker, given.lines)
     compare_short(count, given.program, maker, given.lines // 25)
     compare_checks(count, given.program, maker, given.lines // 20)
+    compare_derived(count, given.program, maker, given.lines // 20)
     print(f"{count.passed} passed, {count.failed} failed")
     return 1 if count.failed else 0
 

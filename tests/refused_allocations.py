@@ -63,19 +63,25 @@ COMMAND_LINES = [
      "--self", "BA", "--security", "--take-ownership"],
     ["check", "--token", ",".join(["WD"] * 1025)],
     ["check", "--token", "WD"],
+    ["derive", "--kind", "container", "--owner", "DA", "--group", "DU", "--domain", DOMAIN, "--from=sddl", "--to=hex",
+     "--type", "key", "--numeric"],
+    ["derive", "--kind", "file", "--owner", "BA", "--group", "DU"],
+    ["derive", "--kind", "file", "--owner", "BA"],
     ["--help"],
     [],
 ]
 HEX_LINES = [EMPTY, b"zz", b"", EMPTY + b"\r", EMPTY + b"f" * (LIMIT - len(EMPTY)), b"0" * (LIMIT + 1), b"0", EMPTY,
              WITH_DACL, WITH_SACL, OF_DOMAIN, NULL_ACLS, LABEL, GUIDS, FULL, *FAULTY_ACLS, WITH_DACL]
 SDDL_ACE = b"(OA;CIIO;0x1f;bf967aba-0de6-11d0-a285-00aa003049e2;bf967a9c-0de6-11d0-a285-00aa003049e2;S-1-5-21-1-2-3-512)"
+# Of which a file gets two ACLs that are too large.
+TOO_LARGE = b"D:" + b"(A;OI;FA;;;CO)" * 3000 + b"S:" + b"(AU;OI;FA;;;CO)" * 3000
 FULL_SDDL = b"D:" + b"(AU;OICINPIOIDSAFA;CCDCLCSWRPWPDTLOCRSDRCWDWOGAGXGWGR;;;S-1-0xffffffffffff)" * 4095
 # A fault of each kind, and lines at the limit and past it.
 FAULTY_SDDL = [b"x", b"D:(A;;FA;;WD)", b"O:BAO:SY", b"O:ZZ", b"O:S-1-4294967296", b"O:", b"D:PX", b"D:(A;;0x;;;WD)",
                b"D:(OA;;FA;x;;WD)", b"S:(XA;;FA;;;WD)", b"D:" + b"(A;;FA;;;WD)" * 3277, b"O:" + b"x" * (SDDL_LIMIT - 2),
                b" " * (SDDL_LIMIT + 1)]
 SDDL_LINES = [b"O:BAG:SYD:PAI" + SDDL_ACE + b"S:AR(ML;;NW;;;HI)", b"", b" o:ba ", b"D:NO_ACCESS_CONTROL\r", FULL_SDDL,
-              b" " * SDDL_LIMIT, *FAULTY_SDDL, b"G:S-1-5" + b"-4294967295" * 15, b"O:DA", b"D:" + SDDL_ACE]
+              b" " * SDDL_LIMIT, TOO_LARGE, *FAULTY_SDDL, b"G:S-1-5" + b"-4294967295" * 15, b"O:DA", b"D:" + SDDL_ACE]
 BASE64_LINES = [base64.b64encode(bytes.fromhex(line.decode())) for line in (EMPTY, WITH_DACL, OF_DOMAIN, GUIDS, FULL)]
 BASE64_LINES += [b"", b"AQ", b"AQ==", BASE64_LINES[0] + b"\r", b"A" * BASE64_LIMIT, b"!" * BASE64_LIMIT,
                  b"A" * (BASE64_LIMIT + 1), BASE64_LINES[1]]
@@ -93,6 +99,8 @@ READING = [
     (["explain", "--from", "sddl", "--numeric"], SDDL_LINES * 5),
     (["check", "--token", "WD,!BA", "--maximum"], HEX_LINES * 5),
     (["check", "--token", "WD,!BA", "--want", "RC", "--from", "sddl"], SDDL_LINES * 5),
+    (["derive", "--kind", "container", "--owner", "BA", "--group", "SY"], HEX_LINES * 5),
+    (["derive", "--kind", "file", "--owner", "BA", "--group", "SY", "--from", "sddl", "--to", "hex"], SDDL_LINES * 5),
 ]
 
 

@@ -3,11 +3,13 @@ import argparse
 from typing import NamedTuple, Optional
 
 from .access import MAXIMUM_ALLOWED, RESERVED, Ask, mapped
+from .inheriting import Plan
 from .parts import Fault, Sid
 from .sddl_reading import MOST_OF_A_DOMAIN, guid_of_text, rights_of_text, sid_of_text
 from .tables import MAPPINGS
 
 FORMS = {"from": ["hex", "base64", "sddl"], "to": ["hex", "base64", "sddl"]}
+TARGETS = ["file", "container"]  # what is made
 EXPLANATION = "explanation"  # what the command explain prints, in place of a form
 VERDICT = "verdict"  # and the command check
 MOST_ENTRIES = 1024  # of a token
@@ -27,6 +29,7 @@ class Settings(NamedTuple):
     domain: Optional[Sid] = None
     numeric: bool = False
     ask: Optional[Ask] = None
+    plan: Optional[Plan] = None
 
 
 def value_of(given, name, read):
@@ -53,11 +56,26 @@ def needed_guid(text):
     return guid_of_text(text, True)
 
 
-def ask_of(given, domain):
-    """What the words after check ask."""
-    kind = given["type"] or "file" if given["type"] != "" else ""
+def mapping_of(given):
+    """What generic rights mean on the type of object."""
+    kind = "file" if given["type"] is None else given["type"]
     if kind not in MAPPINGS:
         raise Usage("type")
+    return MAPPINGS[kind]
+
+
+def plan_of(given, domain):
+    """What the words after derive make."""
+    mapping = mapping_of(given)
+    if given["kind"] not in TARGETS:
+        raise Usage("kind")
+    owner, group = (value_of(given, name, lambda text: sid_of_text(text, domain)) for name in ("owner", "group"))
+    return Plan(given["kind"] == "container", owner, group, mapping)
+
+
+def ask_of(given, domain):
+    """What the words after check ask."""
+    mapping = mapping_of(given)
     token = value_of(given, "token", lambda text: entries_of_text(text, domain))
     want = value_of(given, "want", rights_of_text) or 0
     object_type = value_of(given, "object", needed_guid)
@@ -66,19 +84,23 @@ def ask_of(given, domain):
         raise Usage("error 50 empty-request")
     if want & RESERVED:
         raise Usage("error 51 reserved-bits")
-    return Ask(token, mapped(want, MAPPINGS[kind]) & ~MAXIMUM_ALLOWED, given["maximum"] or bool(want & MAXIMUM_ALLOWED),
-               MAPPINGS[kind], object_type, principal_self, given["security"], given["take_ownership"])
+    return Ask(token, mapped(want, mapping) & ~MAXIMUM_ALLOWED, given["maximum"] or bool(want & MAXIMUM_ALLOWED), mapping,
+               object_type, principal_self, given["security"], given["take_ownership"])
 
 
 def settings_of(words):
     """What a command and the words after it ask for, which are options that each stand once and have a value where they
-    need one. Values are looked at in this order: domain, from, to, type, token, want, object, self."""
+    need one. Values are looked at in this order: domain, from, to, type, kind, owner, group, token, want, object, self."""
     command, *words = words
     parser = argparse.ArgumentParser(allow_abbrev=False, add_help=False)
     parser.add_argument("--from", default="hex")
-    if command == b"convert":
+    if command in (b"convert", b"derive"):
         parser.add_argument("--to", default="sddl")
     parser.add_argument("--domain")
+    if command == b"derive":
+        for option in ("kind", "owner", "group"):
+            parser.add_argument(f"--{option}", required=True)
+        parser.add_argument("--type")
     if command == b"check":
         for option in ("token", "want", "type", "object", "self"):
             parser.add_argument(f"--{option}")
@@ -100,4 +122,5 @@ def settings_of(words):
             raise Usage(name)
     if command == b"check":
         return Settings(given["from"], VERDICT, domain, False, ask_of(given, domain))
-    return Settings(given["from"], given.get("to", EXPLANATION), domain, given["numeric"])
+    plan = plan_of(given, domain) if command == b"derive" else None
+    return Settings(given["from"], given.get("to", EXPLANATION), domain, given["numeric"], None, plan)

@@ -11,6 +11,7 @@ ACE_HEADER = struct.Struct("<BBHI")   # type, flags, size, mask
 PLAIN_TYPES, OBJECT_TYPES, LABEL_TYPE = (0x00, 0x01, 0x02), (0x05, 0x06, 0x07), 0x11
 OBJECT_TYPE_PRESENT, INHERITED_OBJECT_TYPE_PRESENT = 0x1, 0x2
 ACL_NAMES = {"D": "dacl", "S": "sacl"}
+LARGEST_ACL = 0xffff  # bytes
 
 
 class Fault(Exception):

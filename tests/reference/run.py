@@ -3,7 +3,8 @@ from .access import verdict
 from .binary import layout, read
 from .command_line import EXPLANATION, VERDICT
 from .explaining import explanation
-from .parts import Fault
+from .inheriting import derived
+from .parts import Descriptor, Fault
 from .sddl_printing import sddl
 from .sddl_reading import from_sddl
 from .spelling import from_base64, from_hex, to_base64
@@ -24,6 +25,16 @@ def shown(line, settings):
         return read(from_base64(line) if settings.source == "base64" else from_hex(line))
     except Fault as fault:
         return fault.with_traceback(None)  # (which would keep all that stood in the frames)
+
+
+def made(found, settings):
+    """What is printed of what a line shows: under derive the new object's descriptor, or why there is none."""
+    if settings.plan is None or not isinstance(found, Descriptor):
+        return found
+    try:
+        return derived(found, settings.plan)
+    except Fault as fault:
+        return fault.with_traceback(None)
 
 
 def answer(found, settings):
@@ -55,4 +66,5 @@ def all_shown(data, settings):
 
 def answers(found, settings):
     """The answers to what the lines of an input show, and the exit status."""
+    found = [made(one, settings) for one in found]
     return [answer(one, settings) for one in found], int(any(isinstance(one, Fault) for one in found))

@@ -5,7 +5,7 @@ import re
 import uuid
 
 from .binary import SELF_RELATIVE
-from .parts import ACL_HEADER, ACL_NAMES, OBJECT_TYPES, Ace, Acl, Descriptor, Fault, Sid
+from .parts import ACL_HEADER, ACL_NAMES, LARGEST_ACL, OBJECT_TYPES, Ace, Acl, Descriptor, Fault, Sid
 from .tables import ACE_FLAGS, ACL_FLAGS, EVERY_RIGHT, KINDS, OF_THE_DOMAIN, WELL_KNOWN
 
 TEXT_LIMIT = 183  # bytes of a field, and of the longest SID text
@@ -13,7 +13,6 @@ SID_TEXT = re.compile(rb"S-1-(0x[0-9a-f]{12}|[0-9]+)((?:-[0-9]+){0,15})", re.IGN
 MOST_OF_A_DOMAIN = 14  # sub-authorities; one more comes after them
 NUMBER_TEXT = re.compile(rb"0x([0-9a-f]+)|0([0-7]*)|([1-9][0-9]*)", re.IGNORECASE)  # hex, octal, decimal
 GUID_TEXT = re.compile(rb"[0-9a-f]{8}(?:-[0-9a-f]{4}){3}-[0-9a-f]{12}", re.IGNORECASE)
-LARGEST_ACL = 0xffff
 
 # A part of an SDDL line: its letter and a colon, a text, and ACEs of six fields with blanks after them. No other colon
 # stands outside parentheses, so the text ends before the next part's letter, before a parenthesis, or with the line.

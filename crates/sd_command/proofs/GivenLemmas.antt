@@ -1,8 +1,8 @@
 -- What a reader of an option's text gives, by the definition that the reader meets.
 use Rattle.std.proofs.Common.{◌≡◌, Option, Some, None, Result, Ok, Err, option_map, ap, ◌∙◌, refl, sym}
-use Rattle.std.specs.Option.{unwrap_or}
+use Rattle.std.specs.Option.{ok_or, unwrap_or}
 use Rattle.clap.specs.Words.{Text}
-use Rattle.sd_command.specs.Settings.{GivenBy, given, value_if, value_or}
+use Rattle.sd_command.specs.Settings.{GivenBy, given, value_if, value_needed, value_or}
 use Rattle.sd_command.specs.declared.settings.OptionName.{OptionName}
 use Rattle.sd_command.specs.declared.settings.UsageFault.{UsageFault}
 use Rattle.sd_command.specs.declared.settings.UsageFault.TheVariants.{Value}
@@ -54,3 +54,41 @@ pub given-or-fault : {A : Type 0} (reads : Text → Option A) (default : A) (ans
     → Err fault ≡ given option (value_or default reads text)
 given-or-fault reads default answers option text result fault meets by e =
     or-unread reads option default text fault (sym (given-is reads answers option text result meets by) ∙ e)
+
+-- where an option may not be left out
+
+pub needed-is : {A : Type 0} (reads : Text → Option A) (option : OptionName) (text : Option Text) (value : Option A)
+    → given option (value_if reads text) ≡ Ok value → given option value ≡ given option (value_needed reads text)
+needed-is reads option None value e = let same : value ≡ None = cc in rw same refl
+needed-is reads option (Some text) value e = read-needed option (reads text) value e
+  where
+    read-needed : {A : Type 0} (option : OptionName) (read value : Option A)
+        → given option (option_map (λ v. Some v) read) ≡ Ok value → given option value ≡ given option read
+    read-needed option None value e = absurd (cc)
+    read-needed option (Some v) value e = let same : value ≡ Some v = cc in rw same refl
+
+pub needed-fault : {A : Type 0} (reads : Text → Option A) (option : OptionName) (text : Option Text)
+    (fault : UsageFault) → given option (value_if reads text) ≡ Err fault
+    → Err fault ≡ given option (value_needed reads text)
+needed-fault reads option None fault e = absurd (cc)
+needed-fault reads option (Some text) fault e = unread option (reads text) fault e
+
+pub given-needed-is : {A : Type 0} (reads : Text → Option A) (answers : Text → Option A → Type 0) (option : OptionName)
+    (text : Option Text) (result : Result (Option A) UsageFault) (value : Option A)
+    → Meets reads answers → GivenBy answers option text result → result ≡ Ok value
+    → given option value ≡ given option (value_needed reads text)
+given-needed-is reads answers option text result value meets by e =
+    needed-is reads option text value (sym (given-is reads answers option text result meets by) ∙ e)
+
+pub given-needed-fault : {A : Type 0} (reads : Text → Option A) (answers : Text → Option A → Type 0)
+    (option : OptionName) (text : Option Text) (result : Result (Option A) UsageFault) (fault : UsageFault)
+    → Meets reads answers → GivenBy answers option text result → result ≡ Err fault
+    → Err fault ≡ given option (value_needed reads text)
+given-needed-fault reads answers option text result fault meets by e =
+    needed-fault reads option text fault (sym (given-is reads answers option text result meets by) ∙ e)
+
+-- a value that is left out is its option's fault
+pub ok-or-given : {A : Type 0} (option : OptionName) (value : Option A)
+    → ok_or value (Value option) ≡ given option value
+ok-or-given option None = refl
+ok-or-given option (Some v) = refl

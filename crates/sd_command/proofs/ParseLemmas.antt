@@ -6,19 +6,19 @@ use Rattle.clap.proofs.OnLiterals.{clap_on_literals}
 use Rattle.clap.specs.declared.error.Error.{Error}
 use Rattle.clap.specs.declared.error.ErrorKind.{ErrorKind}
 use Rattle.clap.specs.declared.error.ErrorKind.TheVariants as kind
-use Rattle.sd_command.specs.CommandLine.{line, bare_line, check_line, convert_line, explain_line}
+use Rattle.sd_command.specs.CommandLine.{line, bare_line, check_line, convert_line, derive_line, explain_line}
 use Rattle.sd_command.specs.Refusing.{RefusedBy, RefusedFor, is_mistake}
 use Rattle.sd_command.specs.declared.parse.Refusal.{Refusal}
 use Rattle.sd_command.specs.declared.parse.Refusal.TheVariants.{NoMemory, Usage, Help}
 
 -- its matches are known from the words
 pub line-simple : is_simple line ≡ true
-unfolding line bare_line convert_line explain_line check_line clap_on_literals
+unfolding line bare_line convert_line explain_line check_line derive_line clap_on_literals
 line-simple = refl
 
 -- and so are its faults
 pub line-free : is_simple_and_free line ≡ true
-unfolding line bare_line convert_line explain_line check_line clap_on_literals
+unfolding line bare_line convert_line explain_line check_line derive_line clap_on_literals
 line-free = refl
 
 -- either of two is enough
@@ -31,7 +31,8 @@ or-left true b e = refl
 or-left false b e = cc
 
 -- a mistake among the kinds
-among-mistake : (kinds : Kinds) (k : ErrorKind) → IsAmong k kinds → is_mistake k ≡ true → list_any is_mistake kinds ≡ true
+among-mistake : (kinds : Kinds) (k : ErrorKind) → IsAmong k kinds → is_mistake k ≡ true
+    → list_any is_mistake kinds ≡ true
 among-mistake [] k h e = absurd h
 among-mistake (x ∷ xs) k (inl same) e = or-left (is_mistake x) _ (ap is_mistake (sym same) ∙ e)
 among-mistake (x ∷ xs) k (inr h) e = or-right (is_mistake x) _ (among-mistake xs k h e)

@@ -1,5 +1,7 @@
 -- The pieces of a token's text, one after the other.
-use Rattle.std.proofs.Common.{append_assoc, append-nil, length-append, ◌≡◌, ◌≤◌, ◌<◌, ◌+◌, ℕ, Bool, List, [], ◌∷◌, ◌++◌, length, Option, Some, None, option_map, ap, sym, ◌∙◌, refl, arith, true, false}
+use Rattle.std.proofs.Common.{◌≡◌, ◌≤◌, ◌<◌, ◌+◌, ℕ, Bool, true, false, List, [], ◌∷◌, ◌++◌, length}
+use Rattle.std.proofs.Common.{Option, Some, None, option_map, append_assoc, append-nil, length-append}
+use Rattle.std.proofs.Common.{ap, sym, ◌∙◌, refl, arith}
 use Rattle.std.specs.Prelude.{◌==◌, nat_lt, if◌then◌else◌}
 use Rattle.std.specs.Option.{option_and_then}
 use Rattle.std.specs.List.{position_or_len, before_first, after_first}
@@ -26,7 +28,8 @@ cut-more text piece others h a b = rw (a, b) (slice_split_first is_comma text 0 
 pub cut-last : (text : Text) → position_or_len is_comma text ≡ length text → pieces text ≡ text ∷ []
 cut-last text h =
     slice_split_none is_comma text
-    (All-from_get_or (λ c. is_comma c ≡ false) text 0 (λ i below. fails_before_first is_comma text i 0 (omega (arith, h, below))))
+    (All-from_get_or (λ c. is_comma c ≡ false) text 0 (λ i below.
+    fails_before_first is_comma text i 0 (omega (arith, h, below))))
 
 -- ---- the entries so far
 
@@ -37,8 +40,10 @@ joined entries e (Some es) = ap (λ (xs : List Entry). Some xs) (append_assoc en
 
 one-more : (domain : Option SecurityId) (ps : List Text) (entries : List Entry) (e : Option Entry)
     → length entries < 1024
-    → ((f : Entry) → with_pieces domain ps (entries ++ f ∷ []) ≡ option_map (λ es. (entries ++ f ∷ []) ++ es) (all_read domain ps))
-    → option_and_then (with_pieces domain ps) (with_entry entries e) ≡ option_map (λ es. entries ++ es) (also e (all_read domain ps))
+    → ((f : Entry) → with_pieces domain ps (entries ++ f ∷ [])
+    ≡ option_map (λ es. (entries ++ f ∷ []) ++ es) (all_read domain ps))
+    → option_and_then (with_pieces domain ps) (with_entry entries e)
+    ≡ option_map (λ es. entries ++ es) (also e (all_read domain ps))
 one-more domain ps entries None h more = refl
 one-more domain ps entries (Some e) h more =
     let room : nat_lt (length entries) 1024 ≡ true = grind (arith, nat_tests) in
@@ -49,7 +54,8 @@ pub added : (domain : Option SecurityId) (ps : List Text) (entries : List Entry)
     → with_pieces domain ps entries ≡ option_map (λ es. entries ++ es) (all_read domain ps)
 added domain [] entries h = ap (λ (xs : List Entry). Some xs) (sym (append-nil entries))
 added domain (p ∷ ps) entries h =
-    one-more domain ps entries (entry_reads domain p) (omega arith) (λ f. added domain ps (entries ++ f ∷ []) (omega (arith, length-append entries (f ∷ []))))
+    one-more domain ps entries (entry_reads domain p) (omega arith) (λ f.
+    added domain ps (entries ++ f ∷ []) (omega (arith, length-append entries (f ∷ []))))
 
 no-more : (domain : Option SecurityId) (ps : List Text) (entries : List Entry) (e : Option Entry)
     → ((f : Entry) → length entries < 1024 → with_pieces domain ps (entries ++ f ∷ []) ≡ None)
@@ -67,30 +73,36 @@ pub full : (domain : Option SecurityId) (ps : List Text) (entries : List Entry) 
     → 1024 < length entries + length ps → with_pieces domain ps entries ≡ None
 full domain [] entries a b = absurd (omega arith)
 full domain (p ∷ ps) entries a b =
-    no-more domain ps entries (entry_reads domain p) (λ f room. full domain ps (entries ++ f ∷ []) (omega (arith, length-append entries (f ∷ []))) (omega (arith, length-append entries (f ∷ []))))
+    no-more domain ps entries (entry_reads domain p) (λ f room.
+    let one = length-append entries (f ∷ []) in
+    full domain ps (entries ++ f ∷ []) (omega (arith, one)) (omega (arith, one)))
 
 -- all pieces, into a token without an entry
-pub all-added : (domain : Option SecurityId) (text : Text) → with_pieces domain (pieces text) [] ≡ entries_read domain text
+pub all-added : (domain : Option SecurityId) (text : Text)
+    → with_pieces domain (pieces text) [] ≡ entries_read domain text
 unfolding entries_read
 all-added domain text = by_test (nat_lt 1024 (length (pieces text))) refl
   where
     by_test : (b : Bool) → nat_lt 1024 (length (pieces text)) ≡ b
         → with_pieces domain (pieces text) [] ≡ (if b then None else all_read domain (pieces text))
     by_test true t = full domain (pieces text) [] (omega arith) (grind (arith, nat_tests))
-    by_test false t = added domain (pieces text) [] (grind (arith, nat_tests)) ∙ option_map_id (all_read domain (pieces text))
+    by_test false t =
+        added domain (pieces text) [] (grind (arith, nat_tests)) ∙ option_map_id (all_read domain (pieces text))
 
 -- ---- from one piece to the next
 
-pub one-cut : (domain : Option SecurityId) (rest piece others : Text) (entries entries' : List Entry) (all : Option (List Entry))
-    → pieces rest ≡ piece ∷ pieces others → Some entries' ≡ with_entry entries (entry_reads domain piece)
+pub one-cut : (domain : Option SecurityId) (rest piece others : Text) (entries entries' : List Entry)
+    (all : Option (List Entry)) → pieces rest ≡ piece ∷ pieces others
+    → Some entries' ≡ with_entry entries (entry_reads domain piece)
     → with_pieces domain (pieces rest) entries ≡ all → with_pieces domain (pieces others) entries' ≡ all
 one-cut domain rest piece others entries entries' all cut e h =
     ap (option_and_then (with_pieces domain (pieces others))) e
     ∙ (sym (ap (λ (ps : List Text). with_pieces domain ps entries) cut) ∙ h)
 
 -- a piece that does not read, or finds no room
-pub one-fails : (domain : Option SecurityId) (rest piece others : Text) (entries : List Entry) (all : Option (List Entry))
-    → pieces rest ≡ piece ∷ pieces others → None ≡ with_entry entries (entry_reads domain piece)
+pub one-fails : (domain : Option SecurityId) (rest piece others : Text) (entries : List Entry)
+    (all : Option (List Entry)) → pieces rest ≡ piece ∷ pieces others
+    → None ≡ with_entry entries (entry_reads domain piece)
     → with_pieces domain (pieces rest) entries ≡ all → None ≡ all
 one-fails domain rest piece others entries all cut e h =
     ap (option_and_then (with_pieces domain (pieces others))) e

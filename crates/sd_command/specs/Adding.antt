@@ -1,5 +1,5 @@
--- What a token has after the pieces of a text, one after the other. Private contracts alone cite these words; they promise
--- nothing to a caller.
+-- What a token has after the pieces of a text, one after the other. Private contracts alone cite these words; they
+-- promise nothing to a caller.
 use Rattle.std.specs.Prelude.{nat_lt, Result, Ok, Err, if◌then◌else◌, ◌++◌, List, [], ◌∷◌, length, Option, Some, None}
 use Rattle.std.specs.Option.{option_and_then}
 use Rattle.clap.specs.Words.{Text}
@@ -15,7 +15,8 @@ with_entry entries (Some e) = if nat_lt (length entries) 1024 then Some (entries
 
 abbrev pub with_pieces : Option SecurityId → List Text → List Entry → Option (List Entry)
 with_pieces domain [] entries = Some entries
-with_pieces domain (p ∷ ps) entries = option_and_then (with_pieces domain ps) (with_entry entries (entry_reads domain p))
+with_pieces domain (p ∷ ps) entries =
+    option_and_then (with_pieces domain ps) (with_entry entries (entry_reads domain p))
 
 -- a value where there is no fault
 abbrev pub gives : {A B : Type 0} → A → Result B UsageFault → Result A UsageFault

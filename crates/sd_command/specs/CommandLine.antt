@@ -49,9 +49,28 @@ check_line =
     (flag_rule (codes "security")))
     (flag_rule (codes "take-ownership"))
 
+-- `sdtool derive` and its options
+unfoldable pub derive_line : App
+derive_line =
+    with_rule (with_rule (with_rule (with_rule (with_rule (with_rule (with_rule (with_rule
+    (new_app (codes "derive"))
+    (option_rule (codes "from")))
+    (option_rule (codes "to")))
+    (option_rule (codes "domain")))
+    (flag_rule (codes "numeric")))
+    (required_rule (codes "kind")))
+    (required_rule (codes "owner")))
+    (required_rule (codes "group")))
+    (option_rule (codes "type"))
+
 -- `sdtool`, which wants a command
 unfoldable pub bare_line : App
 bare_line = on_top (λ s. record s { subcommand_required = true }) (new_app (codes "sdtool"))
 
 unfoldable pub line : App
-line = with_subcommand (with_subcommand (with_subcommand bare_line convert_line.top) explain_line.top) check_line.top
+line =
+    with_subcommand (with_subcommand (with_subcommand (with_subcommand bare_line
+    convert_line.top)
+    explain_line.top)
+    check_line.top)
+    derive_line.top

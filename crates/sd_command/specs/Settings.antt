@@ -1,5 +1,6 @@
 -- What the matches of a command line settle.
-use Rattle.std.specs.Prelude.{◌≡◌, ℕ, Bool, ◌||◌, false, nat_lt, length, List, [], Option, Some, None, Result, Ok, Err, codes, if◌then◌else◌, option_map}
+use Rattle.std.specs.Prelude.{◌≡◌, ℕ, Bool, ◌||◌, false, nat_lt, length, if◌then◌else◌}
+use Rattle.std.specs.Prelude.{List, [], Option, Some, None, Result, Ok, Err, codes, option_map}
 use Rattle.std.specs.Str.{bytes_eq}
 use Rattle.clap.specs.Words.{Row, Text, first_of, subcommand_of}
 use Rattle.sd_core.specs.Sid.{SecurityId}
@@ -11,12 +12,14 @@ use Rattle.sd_core.specs.declared.sid_text.SidFault.{SidFault}
 use Rattle.sd_rights.specs.Rights.{rights_reads}
 use Rattle.sd_access.specs.Ask.{Asked, ask_fault, asks_maximum, wanted_of}
 use Rattle.sd_access.specs.declared.ask.AskFault.{AskFault}
+use Rattle.sd_inherit.specs.declared.plan.Target.{Target}
+use Rattle.sd_inherit.specs.declared.plan.Target.TheVariants.{File, Container}
 use Rattle.sd_command.specs.CommandLine.{line}
 use Rattle.sd_command.specs.Mappings.{directory_mapping, file_mapping, key_mapping}
 use Rattle.sd_command.specs.TokenText.{entries_read, sid_under}
 use Rattle.sd_command.specs.declared.job.Form.{Form}
 use Rattle.sd_command.specs.declared.job.Form.TheVariants.{Base64, Hex, Sddl}
-use Rattle.sd_command.specs.declared.job.Act.TheVariants.{Check, Convert, Explain}
+use Rattle.sd_command.specs.declared.job.Act.TheVariants.{Check, Convert, Derive, Explain}
 use Rattle.sd_command.specs.declared.job.Job.{Job}
 use Rattle.sd_command.specs.declared.settings.OptionName.{OptionName}
 use Rattle.sd_command.specs.declared.settings.OptionName.TheVariants as name
@@ -28,6 +31,9 @@ option_text name.Domain = codes "domain"
 option_text name.From = codes "from"
 option_text name.To = codes "to"
 option_text name.Type = codes "type"
+option_text name.Kind = codes "kind"
+option_text name.Owner = codes "owner"
+option_text name.Group = codes "group"
 option_text name.Token = codes "token"
 option_text name.Want = codes "want"
 option_text name.Object = codes "object"
@@ -94,7 +100,7 @@ is_true (Some text) = bytes_eq text (codes "true")
 unfoldable pub is_set : Text → List Row → Bool
 is_set flag rows = is_true (first_of flag rows)
 
--- ---- what `check` asks
+-- ---- what `check` and `derive` both have
 
 abbrev pub mapping_reads : Text → Option GenericMapping
 mapping_reads text =
@@ -107,6 +113,12 @@ mapping_reads text =
 unfoldable pub given_mapping : List Row → Result GenericMapping UsageFault
 given_mapping rows = given name.Type (value_or file_mapping mapping_reads (first_of (codes "type") rows))
 
+-- the SID of an option, read under the domain
+unfoldable pub given_sid : OptionName → Option SecurityId → List Row → Result (Option SecurityId) UsageFault
+given_sid option domain rows = given option (value_if (sid_under domain) (first_of (option_text option) rows))
+
+-- ---- what `check` asks
+
 -- the entries of the token, whose SIDs are read under the domain
 unfoldable pub given_token : Option SecurityId → List Row → Result (List Entry) UsageFault
 given_token domain rows = given name.Token (value_needed (entries_read domain) (first_of (codes "token") rows))
@@ -117,10 +129,6 @@ given_want rows = given name.Want (value_or 0 rights_reads (first_of (codes "wan
 
 unfoldable pub given_object : List Row → Result (Option (List ℕ)) UsageFault
 given_object rows = given name.Object (value_if guid_reads (first_of (codes "object") rows))
-
--- whom PRINCIPAL SELF stands for, read under the domain
-unfoldable pub given_self : Option SecurityId → List Row → Result (Option SecurityId) UsageFault
-given_self domain rows = given name.PrincipalSelf (value_if (sid_under domain) (first_of (codes "self") rows))
 
 -- what is asked, or why nothing can be
 abbrev pub unless : Option AskFault → Asked → Result Asked UsageFault
@@ -140,6 +148,21 @@ asked mapping want object principal rows =
       security = is_set (codes "security") rows;
       take_ownership = is_set (codes "take-ownership") rows;
     })
+
+-- ---- what `derive` makes, and for whom
+
+abbrev pub kind_reads : Text → Option Target
+kind_reads text =
+    if bytes_eq text (codes "file") then Some File
+    else if bytes_eq text (codes "container") then Some Container
+    else None
+
+unfoldable pub given_kind : List Row → Result Target UsageFault
+given_kind rows = given name.Kind (value_needed kind_reads (first_of (codes "kind") rows))
+
+-- the owner or the group of what is made, a SID that may not be left out
+unfoldable pub needed_sid : OptionName → Option SecurityId → List Row → Result SecurityId UsageFault
+needed_sid option domain rows = given option (value_needed (sid_under domain) (first_of (option_text option) rows))
 
 -- ---- the commands
 
@@ -179,12 +202,28 @@ check_settings rows =
     and_then (given_token domain rows) (λ entries.
     and_then (given_want rows) (λ want.
     and_then (given_object rows) (λ object.
-    and_then (given_self domain rows) (λ principal.
+    and_then (given_sid name.PrincipalSelf domain rows) (λ principal.
     and_then (asked mapping want object principal rows) (λ ask.
     Ok (record {
       job = record { source = source; act = Check ask; domain = domain; numeric = false };
       entries = entries;
     })))))))))
+
+unfoldable pub derive_settings : List Row → Result Job UsageFault
+derive_settings rows =
+    and_then (given_domain rows) (λ domain.
+    and_then (given_source rows) (λ source.
+    and_then (given_target rows) (λ target.
+    and_then (given_mapping rows) (λ mapping.
+    and_then (given_kind rows) (λ kind.
+    and_then (needed_sid name.Owner domain rows) (λ owner.
+    and_then (needed_sid name.Group domain rows) (λ group.
+    Ok (record {
+      source = source;
+      act = Derive (record { target = kind; owner = owner; group = group; mapping = mapping }) target;
+      domain = domain;
+      numeric = is_set (codes "numeric") rows;
+    }))))))))
 
 -- by the command's name
 abbrev pub command_settings : Text → List Row → Result Settings UsageFault
@@ -192,6 +231,7 @@ command_settings command rows =
     if bytes_eq command (codes "convert") then with_entries [] (convert_settings rows)
     else if bytes_eq command (codes "explain") then with_entries [] (explain_settings rows)
     else if bytes_eq command (codes "check") then check_settings rows
+    else if bytes_eq command (codes "derive") then with_entries [] (derive_settings rows)
     else Err NoCommand
 
 -- a command's name and its matches

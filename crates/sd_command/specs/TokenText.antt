@@ -1,5 +1,6 @@
 -- The text of a token (MS-DTYP 2.5.2): SIDs parted by commas, with an exclamation mark before each that is deny-only.
-use Rattle.std.specs.Prelude.{◌==◌, nat_lt, if◌then◌else◌, List, [], ◌∷◌, length, Option, Some, None, Result, Ok, Err, option_map}
+use Rattle.std.specs.Prelude.{◌==◌, nat_lt, if◌then◌else◌, List, [], ◌∷◌, length}
+use Rattle.std.specs.Prelude.{Option, Some, None, Result, Ok, Err, option_map}
 use Rattle.std.specs.List.{slice_split}
 use Rattle.clap.specs.Words.{Text}
 use Rattle.sd_core.specs.Sid.{SecurityId}

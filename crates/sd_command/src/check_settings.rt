@@ -10,9 +10,10 @@ ghost use Rattle.sd_command.specs.Settings.{with_entries};
 
 use crate::job::{Act, Job};
 use crate::settings::{
-    OptionName, UsageFault, given_domain, given_source, is_set, text_of, value_of,
+    OptionName, UsageFault, given_domain, given_mapping, given_sid, given_source, is_set, text_of,
+    value_of,
 };
-use crate::token_text::{add_entries, sid_under};
+use crate::token_text::add_entries;
 use clap::ArgMatches;
 use sd_access::{Ask, Privileges};
 use sd_core::{Mapping, Sid, Token, guid_from_text, rights_from_text};
@@ -21,7 +22,8 @@ use uuid::Uuid;
 // The values in the order in which they are looked at.
 pub(crate) fn check_settings(matches: &ArgMatches<'_>, token: &mut Token) -> Result<Job, UsageFault>
     requires empty { token.old.entries ≡ [] }
-    ensures settled { with_entries token.new.entries result ≡ specs.check_settings (rows_of (found_of matches.now)) }
+    ensures settled { with_entries token.new.entries result
+        ≡ specs.check_settings (rows_of (found_of matches.now)) }
     ensures compared { token.new.compared ≡ token.old.compared }
 {
     let domain = given_domain(matches)?;
@@ -30,7 +32,7 @@ pub(crate) fn check_settings(matches: &ArgMatches<'_>, token: &mut Token) -> Res
     given_token(matches, domain.as_ref(), token)?;
     let want = given_want(matches)?;
     let object = given_object(matches)?;
-    let principal = given_self(matches, domain.as_ref())?;
+    let principal = given_sid(matches, OptionName::PrincipalSelf, domain.as_ref())?;
     let ask = asked(matches, mapping, want, object, principal)?;
     Ok(Job {
         source,
@@ -38,29 +40,6 @@ pub(crate) fn check_settings(matches: &ArgMatches<'_>, token: &mut Token) -> Res
         domain,
         numeric: false,
     })
-}
-
-// That of files where the option is left out.
-fn given_mapping(matches: &ArgMatches<'_>) -> Result<Mapping, UsageFault>
-    ensures { result ≡ specs.given_mapping (rows_of (found_of matches.now)) }
-{
-    let mapping = value_of(matches, OptionName::Type, mapping_from_text)?;
-    Ok(mapping.unwrap_or(Mapping::FILE))
-}
-
-fn mapping_from_text(text: &str) -> Option<Mapping>
-    ensures { result ≡ specs.mapping_reads text.now }
-{
-    if text == "file" {
-        return Some(Mapping::FILE);
-    }
-    if text == "key" {
-        return Some(Mapping::KEY);
-    }
-    if text == "ds" {
-        return Some(Mapping::DS);
-    }
-    None
 }
 
 // The entries go into the token.
@@ -108,20 +87,6 @@ fn object_from_text(text: &str) -> Option<Uuid>
     ensures { result ≡ guid_reads text.now }
 {
     guid_from_text(text.as_bytes())
-}
-
-// Whom PRINCIPAL SELF stands for.
-#[tactic(auto, unfolding(crate::specs::Settings::given_self))]
-fn given_self(matches: &ArgMatches<'_>, domain: Option<&Sid>) -> Result<Option<Sid>, UsageFault>
-    ensures { result ≡ specs.given_self (option_copied domain.entry) (rows_of (found_of matches.now)) }
-{
-    match text_of(matches, "self") {
-        Some(text) => match sid_under(text.as_bytes(), domain) {
-            Some(sid) => Ok(Some(sid)),
-            None => Err(UsageFault::Value(OptionName::PrincipalSelf)),
-        },
-        None => Ok(None),
-    }
 }
 
 // What is asked, or why nothing can be.

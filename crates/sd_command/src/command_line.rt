@@ -2,7 +2,9 @@
 ghost use Rattle.std.specs.Prelude.{◌≡◌, IfOk, codes, false};
 ghost use Rattle.clap.specs.Words.{app_of, new_app, rule_of, with_rule};
 ghost use Rattle.clap.specs.declared.Command.TheViews.{out-Command};
-ghost use Rattle.sd_command.specs.CommandLine.{bare_line, check_line, convert_line, explain_line, flag_rule, line, option_rule, required_rule};
+ghost use Rattle.sd_command.specs.CommandLine.{bare_line, check_line, convert_line, derive_line};
+ghost use Rattle.sd_command.specs.CommandLine.{explain_line, line};
+ghost use Rattle.sd_command.specs.CommandLine.{flag_rule, option_rule, required_rule};
 
 use clap::{Arg, ArgAction, Command};
 use std::alloc::{AllocError, Global};
@@ -13,7 +15,8 @@ pub fn command_line<'a>(alloc: Global) -> Result<Command<'a>, AllocError>
 {
     let command = bare_line(alloc).subcommand(convert_command(alloc)?)?;
     let command = command.subcommand(explain_command(alloc)?)?;
-    command.subcommand(check_command(alloc)?)
+    let command = command.subcommand(check_command(alloc)?)?;
+    command.subcommand(derive_command(alloc)?)
 }
 
 fn bare_line<'a>(alloc: Global) -> Command<'a>
@@ -35,14 +38,7 @@ fn convert_command<'a>(alloc: Global) -> Result<Command<'a>, AllocError>
         "Print each descriptor in a canonical form",
     );
     let command = with_arg(command, from_option(alloc))?;
-    let command = with_arg(
-        command,
-        option(
-            alloc,
-            "to",
-            "The form of the answers: sddl, the default, hex or base64",
-        ),
-    )?;
+    let command = with_arg(command, to_option(alloc))?;
     let command = with_arg(command, domain_option(alloc))?;
     with_arg(command, numeric_flag(alloc))
 }
@@ -91,6 +87,34 @@ fn check_command<'a>(alloc: Global) -> Result<Command<'a>, AllocError>
     )
 }
 
+fn derive_command<'a>(alloc: Global) -> Result<Command<'a>, AllocError>
+    ensures line { IfOk result (λ c. app_of c ≡ derive_line) }
+    ensures local { IfOk result (λ c. (out-Command c).has_globals ≡ false) }
+{
+    let command = named(
+        alloc,
+        "derive",
+        "Print what a new object inherits from each descriptor",
+    );
+    let command = with_arg(command, from_option(alloc))?;
+    let command = with_arg(command, to_option(alloc))?;
+    let command = with_arg(command, domain_option(alloc))?;
+    let command = with_arg(command, numeric_flag(alloc))?;
+    let command = with_arg(
+        command,
+        required(alloc, "kind", "What is made: file or container"),
+    )?;
+    let command = with_arg(
+        command,
+        required(alloc, "owner", "The SID of the owner of what is made"),
+    )?;
+    let command = with_arg(
+        command,
+        required(alloc, "group", "The SID of the group of what is made"),
+    )?;
+    with_arg(command, type_option(alloc))
+}
+
 fn from_option<'a>(alloc: Global) -> Arg<'a>
     ensures rule { rule_of result ≡ option_rule (codes "from") }
     ensures local { result.global ≡ false }
@@ -99,6 +123,17 @@ fn from_option<'a>(alloc: Global) -> Arg<'a>
         alloc,
         "from",
         "The form of the lines: hex, the default, base64 or sddl",
+    )
+}
+
+fn to_option<'a>(alloc: Global) -> Arg<'a>
+    ensures rule { rule_of result ≡ option_rule (codes "to") }
+    ensures local { result.global ≡ false }
+{
+    option(
+        alloc,
+        "to",
+        "The form of the answers: sddl, the default, hex or base64",
     )
 }
 
@@ -176,8 +211,10 @@ fn named<'a>(alloc: Global, name: &'a str, about: &'a str) -> Command<'a>
 
 fn with_arg<'a>(command: Command<'a>, arg: Arg<'a>) -> Result<Command<'a>, AllocError>
     requires local { arg.global ≡ false }
-    ensures app { IfOk result (λ c. app_of c ≡ with_rule (app_of command.entry) (rule_of arg.entry)) }
-    ensures local { (out-Command command.entry).has_globals ≡ false → IfOk result (λ c. (out-Command c).has_globals ≡ false) }
+    ensures app { IfOk result (λ c.
+        app_of c ≡ with_rule (app_of command.entry) (rule_of arg.entry)) }
+    ensures local { (out-Command command.entry).has_globals ≡ false
+        → IfOk result (λ c. (out-Command c).has_globals ≡ false) }
 {
     command.arg(arg)
 }

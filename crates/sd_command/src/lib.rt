@@ -3,6 +3,7 @@
 
 mod check_settings;
 mod command_line;
+mod derive_settings;
 mod job;
 mod parse;
 mod settings;

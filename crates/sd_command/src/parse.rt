@@ -44,8 +44,10 @@ fn reason(alloc: Global, error: &Error) -> Refusal
 
 /// The matches of the words, which live as long as the command's own texts.
 pub fn parse_words<'a>(alloc: Global, words: &'a [String]) -> Result<ArgMatches<'a>, Refusal>
-    ensures ok { IfOk result (λ m. subcommand_rows_of m ≡ subcommand_of line (map string_bytes words.entry.now)) }
-    ensures takes { IfErr result (λ r. takes line (map string_bytes words.entry.now) ≡ true → r ≡ Refusal.NoMemory) }
+    ensures ok { IfOk result (λ m.
+        subcommand_rows_of m ≡ subcommand_of line (map string_bytes words.entry.now)) }
+    ensures takes { IfErr result (λ r.
+        takes line (map string_bytes words.entry.now) ≡ true → r ≡ Refusal.NoMemory) }
     ensures kinds { MatchResult result
         (λ _. fault_of line (map string_bytes words.entry.now) ≡ [])
         (RefusedBy (fault_of line (map string_bytes words.entry.now))) }

@@ -3,14 +3,17 @@ ghost use Rattle.std.specs.Prelude.{◌≡◌, [], option_map};
 ghost use Rattle.clap.specs.Words.{first_of, found_of, rows_of, subcommand_rows_of};
 ghost use Rattle.sd_command.specs.Usage.{usage_line};
 ghost use Rattle.std.specs.Fn.{FnOnceReturnsAt};
+ghost use Rattle.std.specs.Option.{option_copied};
 ghost use Rattle.sd_command.specs.Settings as specs;
 ghost use Rattle.sd_command.specs.Settings.{option_text, with_entries};
 
 use crate::check_settings::check_settings;
+use crate::derive_settings::derive_settings;
 use crate::job::{Act, Form, Job};
+use crate::token_text::sid_under;
 use clap::ArgMatches;
 use sd_access::AskFault;
-use sd_core::{Sid, Token};
+use sd_core::{Mapping, Sid, Token};
 
 /// The options whose values are read.
 #[derive(Clone, Copy, Debug, PartialEq, Eq)]
@@ -19,6 +22,9 @@ pub enum OptionName {
     From,
     To,
     Type,
+    Kind,
+    Owner,
+    Group,
     Token,
     Want,
     Object,
@@ -35,6 +41,9 @@ impl OptionName {
             OptionName::From => "from",
             OptionName::To => "to",
             OptionName::Type => "type",
+            OptionName::Kind => "kind",
+            OptionName::Owner => "owner",
+            OptionName::Group => "group",
             OptionName::Token => "token",
             OptionName::Want => "want",
             OptionName::Object => "object",
@@ -65,6 +74,9 @@ impl UsageFault {
             UsageFault::Value(OptionName::From) => "sdtool: usage: --from\n",
             UsageFault::Value(OptionName::To) => "sdtool: usage: --to\n",
             UsageFault::Value(OptionName::Type) => "sdtool: usage: --type\n",
+            UsageFault::Value(OptionName::Kind) => "sdtool: usage: --kind\n",
+            UsageFault::Value(OptionName::Owner) => "sdtool: usage: --owner\n",
+            UsageFault::Value(OptionName::Group) => "sdtool: usage: --group\n",
             UsageFault::Value(OptionName::Token) => "sdtool: usage: --token\n",
             UsageFault::Value(OptionName::Want) => "sdtool: usage: --want\n",
             UsageFault::Value(OptionName::Object) => "sdtool: usage: --object\n",
@@ -75,11 +87,12 @@ impl UsageFault {
     }
 }
 
-/// The first option that does not read, or why nothing can be asked, or the job, with the entries of the token
-/// that asks. The token has to have none before. After a fault it may have some.
+/// The first option that does not read, or why nothing can be asked, or the job, with the entries
+/// of the token that asks. The token has to have none before. After a fault it may have some.
 pub fn settle(matches: &ArgMatches<'_>, token: &mut Token) -> Result<Job, UsageFault>
     requires empty { token.old.entries ≡ [] }
-    ensures settled { with_entries token.new.entries result ≡ specs.settings (subcommand_rows_of matches.now) }
+    ensures settled { with_entries token.new.entries result
+        ≡ specs.settings (subcommand_rows_of matches.now) }
     ensures compared { token.new.compared ≡ token.old.compared }
 {
     match matches.subcommand() {
@@ -106,6 +119,9 @@ fn command_settings(
     }
     if command == "check" {
         return check_settings(matches, token);
+    }
+    if command == "derive" {
+        return derive_settings(matches);
     }
     Err(UsageFault::NoCommand)
 }
@@ -190,7 +206,7 @@ pub(crate) fn given_source(matches: &ArgMatches<'_>) -> Result<Form, UsageFault>
 }
 
 // SDDL where the option is left out.
-fn given_target(matches: &ArgMatches<'_>) -> Result<Form, UsageFault>
+pub(crate) fn given_target(matches: &ArgMatches<'_>) -> Result<Form, UsageFault>
     ensures { result ≡ specs.given_target (rows_of (found_of matches.now)) }
 {
     let form = value_of(matches, OptionName::To, form_from_text)?;
@@ -210,6 +226,48 @@ fn form_from_text(text: &str) -> Option<Form>
         return Some(Form::Sddl);
     }
     None
+}
+
+// That of files where the option is left out.
+pub(crate) fn given_mapping(matches: &ArgMatches<'_>) -> Result<Mapping, UsageFault>
+    ensures { result ≡ specs.given_mapping (rows_of (found_of matches.now)) }
+{
+    let mapping = value_of(matches, OptionName::Type, mapping_from_text)?;
+    Ok(mapping.unwrap_or(Mapping::FILE))
+}
+
+fn mapping_from_text(text: &str) -> Option<Mapping>
+    ensures { result ≡ specs.mapping_reads text.now }
+{
+    if text == "file" {
+        return Some(Mapping::FILE);
+    }
+    if text == "key" {
+        return Some(Mapping::KEY);
+    }
+    if text == "ds" {
+        return Some(Mapping::DS);
+    }
+    None
+}
+
+// The SID of an option, read under the domain. None where the option is left out.
+#[tactic(auto, unfolding(crate::specs::Settings::given_sid))]
+pub(crate) fn given_sid(
+    matches: &ArgMatches<'_>,
+    option: OptionName,
+    domain: Option<&Sid>,
+) -> Result<Option<Sid>, UsageFault>
+    ensures { result
+        ≡ specs.given_sid option (option_copied domain.entry) (rows_of (found_of matches.now)) }
+{
+    match text_of(matches, option.text()) {
+        Some(text) => match sid_under(text.as_bytes(), domain) {
+            Some(sid) => Ok(Some(sid)),
+            None => Err(UsageFault::Value(option)),
+        },
+        None => Ok(None),
+    }
 }
 
 // A flag's text is `true` where it is given, and else `false`.

@@ -9,7 +9,8 @@ use sd_core::{EntryKind, Sid, Token};
 // Adds the entries of all pieces. None where one does not read, or finds no room.
 pub(crate) fn add_entries(text: &str, domain: Option<&Sid>, token: &mut Token) -> Option<()>
     requires empty { token.old.entries ≡ [] }
-    ensures entries { option_map (λ _. token.new.entries) result ≡ specs.entries_read (option_copied domain.entry) text.now }
+    ensures entries { option_map (λ _. token.new.entries) result
+        ≡ specs.entries_read (option_copied domain.entry) text.now }
     ensures compared { token.new.compared ≡ token.old.compared }
 {
     let mut rest = text;

@@ -1,4 +1,4 @@
-//! Runs that do with each line what the command line has no command for yet.
+//! Runs that check and that derive.
 
 use crate::memory::{Input, Output};
 use sd_access::{Ask, Plan, Privileges, Target};

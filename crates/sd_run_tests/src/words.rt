@@ -89,6 +89,23 @@ fn refuses_words(rt: HostRuntime) {
             "sdtool check --token WD --want 0x8000000",
             "sdtool: error 51 reserved-bits\n",
         ),
+        ("sdtool derive --kind file --owner BA", "sdtool: usage\n"),
+        (
+            "sdtool derive --kind file --owner BA --group x --to x",
+            "sdtool: usage: --to\n",
+        ),
+        (
+            "sdtool derive --group ZZ --owner BA --kind folder",
+            "sdtool: usage: --kind\n",
+        ),
+        (
+            "sdtool derive --group DU --owner DA --kind file",
+            "sdtool: usage: --owner\n",
+        ),
+        (
+            "sdtool derive --group DU --owner BA --kind file",
+            "sdtool: usage: --group\n",
+        ),
         ("sdtool convert --domain DA", "sdtool: usage: --domain\n"),
         ("sdtool convert --domain ", "sdtool: usage: --domain\n"),
         (
@@ -109,6 +126,7 @@ Commands:
   convert  Print each descriptor in a canonical form
   explain  Say what each descriptor has, on a block of lines
   check    Say what each descriptor grants to a token
+  derive   Print what a new object inherits from each descriptor
   help     Print this message or the help of the given subcommand(s)
 
 Options:
@@ -156,7 +174,23 @@ Options:
   -h, --help             Print help
 ";
 
-const HELPS: [(&str, &str); 8] = [
+const DERIVE_HELP: &str = "Print what a new object inherits from each descriptor
+
+Usage: sdtool derive [OPTIONS] --kind <kind> --owner <owner> --group <group>
+
+Options:
+      --from <from>      The form of the lines: hex, the default, base64 or sddl
+      --to <to>          The form of the answers: sddl, the default, hex or base64
+      --domain <domain>  The SID of the domain whose aliases are read and printed
+      --numeric          Print SIDs without aliases
+      --kind <kind>      What is made: file or container
+      --owner <owner>    The SID of the owner of what is made
+      --group <group>    The SID of the group of what is made
+      --type <type>      The type of object: file, the default, key or ds
+  -h, --help             Print help
+";
+
+const HELPS: [(&str, &str); 9] = [
     ("sdtool help", HELP),
     ("sdtool --help", HELP),
     ("sdtool -h", HELP),
@@ -165,6 +199,7 @@ const HELPS: [(&str, &str); 8] = [
     ("sdtool convert --to x -h", CONVERT_HELP),
     ("sdtool help explain", EXPLAIN_HELP),
     ("sdtool help check", CHECK_HELP),
+    ("sdtool derive --help", DERIVE_HELP),
 ];
 
 #[test]

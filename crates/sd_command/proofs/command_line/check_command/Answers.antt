@@ -16,10 +16,13 @@ returns-clause-line c =
     let object = c.in_ok-command-7.ensures.app ∙ ap₂ with_rule type c.object_option.ensures.rule in
     let self = c.in_ok-command-8.ensures.app ∙ ap₂ with_rule object c.self_option.ensures.rule in
     let security = c.in_ok-command-9.ensures.app ∙ ap₂ with_rule self c.flag-2.ensures.rule in
-    IfOk-weaker c.with_arg-10.result _ _ (λ r h. h ∙ ap₂ with_rule security c.flag-3.ensures.rule) c.with_arg-10.ensures.app
+    IfOk-weaker c.with_arg-10.result _ _ (λ r h. h ∙ ap₂ with_rule security c.flag-3.ensures.rule)
+    c.with_arg-10.ensures.app
 
 pub returns-clause-local : goal.returns-clause-local
 returns-clause-local c =
-    let third = c.in_ok-command-3.ensures.local (c.in_ok-command-2.ensures.local (c.in_ok-command.ensures.local c.named-command.ensures.local)) in
-    let sixth = c.in_ok-command-6.ensures.local (c.in_ok-command-5.ensures.local (c.in_ok-command-4.ensures.local third)) in
-    c.with_arg-10.ensures.local (c.in_ok-command-9.ensures.local (c.in_ok-command-8.ensures.local (c.in_ok-command-7.ensures.local sixth)))
+    let second = c.in_ok-command-2.ensures.local (c.in_ok-command.ensures.local c.named-command.ensures.local) in
+    let fourth = c.in_ok-command-4.ensures.local (c.in_ok-command-3.ensures.local second) in
+    let sixth = c.in_ok-command-6.ensures.local (c.in_ok-command-5.ensures.local fourth) in
+    let eighth = c.in_ok-command-8.ensures.local (c.in_ok-command-7.ensures.local sixth) in
+    c.with_arg-10.ensures.local (c.in_ok-command-9.ensures.local eighth)

@@ -12,5 +12,7 @@ returns c =
     ∙ ap₂ with_subcommand c.bare_line.ensures.app (ap top c.in_ok-convert_command.ensures.line) in
     let explain = c.in_ok-command-2.ensures.shape c.in_ok-explain_command.ensures.local
     ∙ ap₂ with_subcommand convert (ap top c.in_ok-explain_command.ensures.line) in
-    IfOk-weaker c.subcommand-3.result _ _ (λ r h. h.shape c.in_ok-check_command.ensures.local
-    ∙ ap₂ with_subcommand explain (ap top c.in_ok-check_command.ensures.line)) c.subcommand-3.ensures
+    let check = c.in_ok-command-3.ensures.shape c.in_ok-check_command.ensures.local
+    ∙ ap₂ with_subcommand explain (ap top c.in_ok-check_command.ensures.line) in
+    IfOk-weaker c.subcommand-4.result _ _ (λ r h. h.shape c.in_ok-derive_command.ensures.local
+    ∙ ap₂ with_subcommand check (ap top c.in_ok-derive_command.ensures.line)) c.subcommand-4.ensures

@@ -8,6 +8,7 @@ pub returns-clause-line : goal.returns-clause-line
 unfolding convert_line
 returns-clause-line c =
     let from = c.in_ok-command.ensures.app ∙ ap₂ with_rule c.named-command.ensures.app c.from_option.ensures.rule in
-    let to = c.in_ok-command-2.ensures.app ∙ ap₂ with_rule from c.option.ensures.rule in
+    let to = c.in_ok-command-2.ensures.app ∙ ap₂ with_rule from c.to_option.ensures.rule in
     let domain = c.in_ok-command-3.ensures.app ∙ ap₂ with_rule to c.domain_option.ensures.rule in
-    IfOk-weaker c.with_arg-4.result _ _ (λ r h. h ∙ ap₂ with_rule domain c.numeric_flag.ensures.rule) c.with_arg-4.ensures.app
+    IfOk-weaker c.with_arg-4.result _ _ (λ r h. h ∙ ap₂ with_rule domain c.numeric_flag.ensures.rule)
+    c.with_arg-4.ensures.app

@@ -18,7 +18,14 @@ pub returns-in_err-target : goal.returns-in_err-target
 unfolding specs.convert_settings
 returns-in_err-target c =
     let e : c.from_residual-in_err-target.result ≡ Err c.in_err-target.field-0.0 = search rules in
-    rw (← c.given_domain.ensures, c.in_ok-domain.was, ← c.given_source.ensures, c.in_ok-source.was, ← c.given_target.ensures, c.in_err-target.was) e
+    rw (
+      ← c.given_domain.ensures,
+      c.in_ok-domain.was,
+      ← c.given_source.ensures,
+      c.in_ok-source.was,
+      ← c.given_target.ensures,
+      c.in_err-target.was,
+    ) e
 
 pub returns : goal.returns
 unfolding specs.convert_settings

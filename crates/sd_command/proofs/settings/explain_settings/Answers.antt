@@ -16,4 +16,11 @@ returns-in_err-source c =
 
 pub returns : goal.returns
 unfolding specs.explain_settings
-returns c = rw (← c.given_domain.ensures, c.in_ok-domain.was, ← c.given_source.ensures, c.in_ok-source.was, c.is_set-numeric.ensures)
+returns c =
+    rw (
+      ← c.given_domain.ensures,
+      c.in_ok-domain.was,
+      ← c.given_source.ensures,
+      c.in_ok-source.was,
+      c.is_set-numeric.ensures,
+    )
