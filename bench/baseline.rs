@@ -9,6 +9,7 @@ use std::ops::Range;
 use std::process::ExitCode;
 
 const HEX_LINE_LIMIT: usize = 262_452;
+const BASE64_LINE_LIMIT: usize = 174_968;
 const SDDL_LINE_LIMIT: usize = 1_049_872;
 const TEXT_LIMIT: usize = 183;
 
@@ -69,6 +70,7 @@ enum Fault {
     TooLong,
     HexDigit,
     HexOdd,
+    Base64,
     Short,
     Revision,
     NotSelfRelative,
@@ -99,6 +101,7 @@ impl fmt::Display for Fault {
             Fault::TooLong => f.write_str("error 1 too-long"),
             Fault::HexDigit => f.write_str("error 2 hex-digit"),
             Fault::HexOdd => f.write_str("error 3 hex-odd"),
+            Fault::Base64 => f.write_str("error 4 base64"),
             Fault::Short => f.write_str("error 5 short"),
             Fault::Revision => f.write_str("error 6 revision"),
             Fault::NotSelfRelative => f.write_str("error 7 not-self-relative"),
@@ -144,6 +147,48 @@ fn decode(line: &[u8], bytes: &mut Vec<u8>) -> Result<(), Fault> {
     }
     for pair in line.chunks_exact(2) {
         bytes.push(digit(pair[0])? << 4 | digit(pair[1])?);
+    }
+    Ok(())
+}
+
+const BASE64_SYMBOLS: &[u8; 64] = b"ABCDEFGHIJKLMNOPQRSTUVWXYZabcdefghijklmnopqrstuvwxyz0123456789+/";
+const NO_SYMBOL: u8 = 64;
+
+/// The place of each byte among the symbols.
+static BASE64_VALUES: [u8; 256] = {
+    let mut values = [NO_SYMBOL; 256];
+    let mut value = 0;
+    while value < BASE64_SYMBOLS.len() {
+        values[BASE64_SYMBOLS[value] as usize] = value as u8;
+        value += 1;
+    }
+    values
+};
+
+fn decode_base64(line: &[u8], bytes: &mut Vec<u8>) -> Result<(), Fault> {
+    bytes.clear();
+    if line.len() > BASE64_LINE_LIMIT {
+        return Err(Fault::TooLong);
+    }
+    if line.len() % 4 != 0 {
+        return Err(Fault::Base64);
+    }
+    let padding = line.iter().rev().take(2).take_while(|byte| **byte == b'=').count();
+    for group in line[..line.len() - padding].chunks(4) {
+        let mut bits = 0;
+        for place in 0..4 {
+            let value = group.get(place).map_or(0, |symbol| BASE64_VALUES[usize::from(*symbol)]);
+            if value == NO_SYMBOL {
+                return Err(Fault::Base64);
+            }
+            bits = bits << 6 | u32::from(value);
+        }
+        let [_, three @ ..] = bits.to_be_bytes();
+        let (whole, left_over) = three.split_at(group.len() - 1);
+        if left_over.iter().any(|byte| *byte != 0) {
+            return Err(Fault::Base64);
+        }
+        bytes.extend_from_slice(whole);
     }
     Ok(())
 }
@@ -288,6 +333,16 @@ fn put_hex(bytes: &[u8], text: &mut Vec<u8>) {
     for byte in bytes {
         text.push(DIGITS[usize::from(byte >> 4)]);
         text.push(DIGITS[usize::from(byte & 15)]);
+    }
+}
+
+fn put_base64(bytes: &[u8], text: &mut Vec<u8>) {
+    for group in bytes.chunks(3) {
+        let byte = |at: usize| group.get(at).map_or(0, |byte| u32::from(*byte));
+        let bits = byte(0) << 16 | byte(1) << 8 | byte(2);
+        let mut symbols = [18, 12, 6, 0].map(|shift| BASE64_SYMBOLS[(bits >> shift & 63) as usize]);
+        symbols[group.len() + 1..].fill(b'=');
+        text.extend_from_slice(&symbols);
     }
 }
 
@@ -1386,6 +1441,7 @@ impl Plan {
 #[derive(Clone, Copy)]
 enum Form {
     Hex,
+    Base64,
     Sddl,
 }
 
@@ -1393,6 +1449,7 @@ impl Form {
     fn of_word(word: &str) -> Option<Form> {
         match word {
             "hex" => Some(Form::Hex),
+            "base64" => Some(Form::Base64),
             "sddl" => Some(Form::Sddl),
             _ => None,
         }
@@ -1401,6 +1458,7 @@ impl Form {
     fn put(self, layout: &[u8], naming: &Naming, text: &mut Vec<u8>) {
         match self {
             Form::Hex => put_hex(layout, text),
+            Form::Base64 => put_base64(layout, text),
             Form::Sddl => put_sddl(layout, naming, text),
         }
     }
@@ -1433,6 +1491,10 @@ impl Converter {
         match self.from {
             Form::Hex => {
                 decode(line, &mut self.bytes)?;
+                convert_descriptor(&self.bytes, &mut self.layout)?;
+            }
+            Form::Base64 => {
+                decode_base64(line, &mut self.bytes)?;
                 convert_descriptor(&self.bytes, &mut self.layout)?;
             }
             Form::Sddl => read_sddl(line, self.naming.domain.as_ref(), &mut self.parts, &mut self.layout)?,

@@ -1,12 +1,13 @@
 #!/usr/bin/env python3
 """generate.py [--form FORM] [--aces N] [--megabytes N] [--seed S] > FILE
 
-Writes lines of hex, or of SDDL, such as an export of a file server and a directory has them. Each descriptor has an owner, a group
-and a DACL of 3 to 10 ACEs, mostly for accounts of a few domains, for groups that each domain has, and for well-known
-SIDs; one in four is a directory's, with object ACEs among the others, and one in three has a SACL too. One in eight is
-not laid out canonically, one in ten is in upper case, and one in twenty is faulty, with each kind of fault among them.
-In SDDL they are spelled as they are printed under one of the domains, but for one in eight, which has its parts in
-another order and blanks between them, one in ten in lower case, and one in twenty that is faulty.
+Writes lines of hex, of base64 or of SDDL, such as an export of a file server and a directory has them. Each descriptor
+has an owner, a group and a DACL of 3 to 10 ACEs, mostly for accounts of a few domains, for groups that each domain has,
+and for well-known SIDs; one in four is a directory's, with object ACEs among the others, and one in three has a SACL
+too. One in eight is not laid out canonically, one in ten is in upper case if it is hex, and one in twenty is faulty,
+with each kind of fault among them. In SDDL they are spelled as they are printed under one of the domains, but for one
+in eight, which has its parts in another order and blanks between them, one in ten in lower case, and one in twenty that
+is faulty.
 
 With --aces all lines have a DACL of so many ACEs (at most 1,500), of the same mixture, and none is faulty or unusual.
 
@@ -25,7 +26,8 @@ sys.path.append(str(pathlib.Path(__file__).resolve().parent.parent / "tests"))
 import reference  # noqa: E402  (what SDDL a descriptor has)
 
 # A line that is too long, and its chance: it is rare here, since it has the size of hundreds of others.
-TOO_LONG = {"hex": ("0" * 262_454, 0.00004), "sddl": ("D:" + "(A;;FA;;;WD)" * 90_000, 0.00001)}
+TOO_LONG = {"hex": ("0" * 262_454, 0.00004), "base64": ("A" * 174_970, 0.00004),
+            "sddl": ("D:" + "(A;;FA;;;WD)" * 90_000, 0.00001)}
 TOO_LARGE = "D:" + "(A;;FA;;;WD)" * 3_277  # for an ACL
 DISTINCT_LINES = 20_000
 DISTINCT_ACES = 60_000  # in the pool, where each line has very many
@@ -212,6 +214,14 @@ class Generator:
         line = (self.chance.choice(self.faults)() if kind < 0.05 else self.descriptor()).hex()
         return line.upper() if 0.10 < kind < 0.20 else line
 
+    def base64_line(self):
+        kind = self.chance.random()
+        line = reference.to_base64(self.chance.choice(self.faults)() if 0.006 <= kind < 0.05 else self.descriptor())
+        at = self.chance.randrange(len(line))
+        if kind < 0.003:
+            return line[:at] + line[at + 1:]
+        return line[:at] + "-" + line[at + 1:] if kind < 0.006 else line
+
     def faulty_sddl(self, parts):
         """A field that does not read, a part that stands twice, or a line that has not the shape of SDDL."""
         line = "".join(parts)
@@ -252,17 +262,17 @@ def sddl(data):
 
 def main():
     parser = argparse.ArgumentParser(description="Writes the benchmark's input.")
-    parser.add_argument("--form", choices=["hex", "sddl"], default="hex", help="(%(default)s)")
+    parser.add_argument("--form", choices=["hex", "base64", "sddl"], default="hex", help="(%(default)s)")
     parser.add_argument("--aces", type=int, help="the number of ACEs of each line")
     parser.add_argument("--megabytes", type=int, default=150, help="(%(default)s)")
     parser.add_argument("--seed", type=int, default=1, help="(%(default)s)")
     given = parser.parse_args()
     generator = Generator(given.seed)
     if given.aces:
-        spelled = {"hex": bytes.hex, "sddl": sddl}[given.form]
+        spelled = {"hex": bytes.hex, "base64": reference.to_base64, "sddl": sddl}[given.form]
         pool = [spelled(generator.long_descriptor(given.aces)) for _ in range(max(1, DISTINCT_ACES // given.aces))]
     else:
-        maker = {"hex": generator.line, "sddl": generator.sddl_line}[given.form]
+        maker = {"hex": generator.line, "base64": generator.base64_line, "sddl": generator.sddl_line}[given.form]
         pool = [maker() for _ in range(DISTINCT_LINES)]
         pool += [TOO_LARGE] if given.form == "sddl" else []
     too_long, chance_of_it = TOO_LONG[given.form]

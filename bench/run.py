@@ -2,8 +2,8 @@
 """run.py [PROGRAM] [--megabytes N] [--rounds N]
 
 Measures the program (crates/sdtool/out/sdtool where none is given) against baseline.rs and cat: on the mixture that
-generate.py makes in hex and in SDDL, to hex, to SDDL and explained under one of its domains, checked, and derived from;
-and on lines of 375 to 1,500 ACEs, which show whether an ACE costs the same in a longer line.
+generate.py makes in hex, base64 and SDDL, to hex, base64 and SDDL and explained under one of its domains, checked, and
+derived from; and on lines of 375 to 1,500 ACEs, which show whether an ACE costs the same in a longer line.
 The inputs have the same size and are kept in the folder sdtool-bench among the temporary files.
 
 It checks that program and baseline write the same each time, runs the three in turn, so that what else the machine
@@ -41,12 +41,16 @@ USUAL_TOKEN = ["WD", "AU", "IU", "BU", *accounts(1105, 513, *range(40_000, 40_01
 LARGEST_TOKEN = accounts(*range(40_000, 41_024))
 CHECKED, CHECKED_IN_VAIN = (["check", "--want", "FR", "--token", ",".join(token)] for token in (USUAL_TOKEN, LARGEST_TOKEN))
 DERIVED = ["derive", "--kind", "container", "--owner", *accounts(1105), "--group", *accounts(513)]
-TO_HEX, TO_SDDL = ["convert", "--to", "hex"], ["convert", "--to", "sddl"]
+TO_HEX, TO_BASE64, TO_SDDL = (["convert", "--to", form] for form in ("hex", "base64", "sddl"))
 # What is measured: the form of the lines, the number of ACEs of each, or None for the mixture, and what is asked.
 MEASURED = {
     "the mixture to hex": ("hex", None, TO_HEX),
+    "the mixture to base64": ("hex", None, TO_BASE64),
     "the mixture to SDDL": ("hex", None, TO_SDDL),
     "the mixture explained": ("hex", None, ["explain"]),
+    "the mixture from base64 to hex": ("base64", None, TO_HEX),
+    "the mixture from base64 to base64": ("base64", None, TO_BASE64),
+    "the mixture from base64 to SDDL": ("base64", None, TO_SDDL),
     "the mixture from SDDL to hex": ("sddl", None, TO_HEX),
     "the mixture from SDDL to SDDL": ("sddl", None, TO_SDDL),
     "the mixture checked for a token of 20": ("hex", None, CHECKED),

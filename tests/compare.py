@@ -48,8 +48,8 @@ DERIVED = [["derive", "--kind", "container", "--owner", "BA", "--group", "SY"],
 EVERY_WORDS = [HEX, BASE64, SDDL, NUMERIC, *UNDER, [*UNDER[0], "--numeric"], *EXPLAINED, *CHECKED, *DERIVED]
 FROM_SDDL = ["--from", "sddl"]
 TO_HEX = ["--to", "hex"]
-EVERY_WORDS_FROM_SDDL = [[*words, *FROM_SDDL] for words in (HEX, SDDL, BASE64, UNDER[0], [*UNDER[0], *TO_HEX], EXPLAINED[1], CHECKED[1],
-                                                            DERIVED[1])]
+EVERY_WORDS_FROM_SDDL = [[*words, *FROM_SDDL] for words in (HEX, SDDL, BASE64, UNDER[0], [*UNDER[0], *TO_HEX], EXPLAINED[1],
+                                                            CHECKED[1], DERIVED[1])]
 EVERY_WORDS_FROM_BASE64 = [[*words, "--from", "base64"] for words in (HEX, SDDL, BASE64, EXPLAINED[0], CHECKED[0], DERIVED[0])]
 DOMAIN_SIDS = [reference.sid_of_text(domain.encode()) for domain in DOMAINS]
 CREATORS = [reference.sid_of_text(name) for name in (b"CO", b"CG")]
@@ -884,7 +884,8 @@ def derive_words(maker, descriptors):
         words += [name, maker.chance.choice(maker.chance.choice([others, sid_texts(descriptors) or others]))]
     if maker.chance.random() < 0.7:
         words += ["--type", maker.chance.choice(list(reference.MAPPINGS))]
-    return words + TO_HEX * (maker.chance.random() < 0.5) + ["--numeric"] * (maker.chance.random() < 0.2)
+    words += maker.chance.choice([[], [], TO_HEX, ["--to", "base64"]])
+    return words + ["--numeric"] * (maker.chance.random() < 0.2)
 
 
 def large_parents():
@@ -909,7 +910,7 @@ def compare_derived(count, program, maker, number):
         given = Input(b"".join(text + b"\n" for text in spelled), known)
         count.run(program, "derived", [*derive_words(maker, descriptors), *FROM_SDDL], given)
     large = Input(b"".join(line + b"\n" for line in large_parents()))
-    for kind, form in itertools.product(["file", "container"], ["hex", "sddl"]):
+    for kind, form in itertools.product(["file", "container"], ["hex", "base64", "sddl"]):
         words = ["derive", "--kind", kind, "--owner", "BA", "--group", "SY", "--to", form, *FROM_SDDL]
         count.run(program, "large ACLs derived", words, large)
 

@@ -16,6 +16,7 @@ Wherever the program reads, the answers to all lines that had ended are out.
 The last line is 'N passed, M failed'.
 """
 import argparse
+import base64
 import concurrent.futures
 import errno
 import itertools
@@ -43,6 +44,7 @@ SAYS_READ, SAYS_WRITE = b"sdtool: error 60 read\n", b"sdtool: error 61 write\n"
 
 NO_PARTS = b"0100008000000000000000000000000000000000"
 OWNER = b"0100008014000000000000000000000000000000" b"010100000000000512000000"
+BASE64_NO_PARTS, BASE64_OWNER = (base64.b64encode(bytes.fromhex(text.decode())) for text in (NO_PARTS, OWNER))
 ACE = b"00001400ff011f00010100000000000100000000"
 WITH_DACL = b"010004800000000000000000000000001400000002001c0001000000" + ACE
 SHORT_HEX = OWNER + b"\nzz\n\n" + NO_PARTS + b"\r\n" + OWNER
@@ -51,8 +53,11 @@ SHORT_SDDL = b"o:ba d:(a;;fa;;;wd)\n?\n\nS:P\r\n O:SY\n \nG:WD"
 LONG_ACE = b"02df1000ff010ff00100ffffffffffff"
 LONG_ACL = b"0200f8ffff0f0000" + LONG_ACE * 4095
 BOTH_LONG = b"01001480000000000000000014000000" + (20 + 65_528).to_bytes(4, "little").hex().encode() + LONG_ACL * 2
+BASE64_BOTH_LONG = base64.b64encode(bytes.fromhex(BOTH_LONG.decode()))
 LONG_SDDL = b"D:" + b"(AU;OICINPIOIDSAFA;CCDCLCSWRPWPDTLOCRSDRCWDWOGAGXGWGR;;;S-1-0xffffffffffff)" * 4095
 MANY_HEX = (WITH_DACL + b"\n" + b"zz\n" * 20 + OWNER + b"\n") * 150
+SHORT_BASE64 = BASE64_OWNER + b"\nAQ\n\n" + BASE64_NO_PARTS + b"\r\n" + BASE64_OWNER
+MANY_BASE64 = (BASE64_OWNER + b"\n" + b"AQ==\n" * 20) * 150
 MANY_SDDL = b"O:BAG:SYD:P(A;;FA;;;WD)(A;;FR;;;SY)\nO:ZZ\n" * 600
 
 
@@ -66,23 +71,26 @@ class Job(NamedTuple):
 HEX, SDDL = ["convert", "--to", "hex"], ["convert"]
 SDDL_TO_HEX, SDDL_TO_SDDL = ["convert", "--from", "sddl", "--to", "hex"], ["convert", "--from", "sddl"]
 EXPLAIN, EXPLAIN_SDDL = ["explain"], ["explain", "--from", "sddl"]
+TO_BASE64, FROM_BASE64 = ["convert", "--to", "base64"], ["convert", "--from", "base64"]
 CHECK = ["check", "--token", "WD,!SY", "--maximum"]
 DERIVE = ["derive", "--kind", "container", "--owner", "BA", "--group", "SY"]
 DERIVE_SDDL_TO_HEX = [*DERIVE, "--from", "sddl", "--to", "hex"]
 SHORT_JOBS = [Job(HEX, SHORT_HEX, 1), Job(SDDL, SHORT_HEX, 1), Job(SDDL_TO_SDDL, SHORT_SDDL, 1),
               Job(SDDL_TO_HEX, SHORT_SDDL, 1), Job(EXPLAIN, SHORT_HEX, 1), Job(CHECK, SHORT_HEX, 1),
-              Job(DERIVE, SHORT_HEX, 1)]
+              Job(DERIVE, SHORT_HEX, 1), Job(TO_BASE64, SHORT_HEX, 1), Job(FROM_BASE64, SHORT_BASE64, 1)]
 LARGE_JOBS = [Job(HEX, MANY_HEX), Job(SDDL, MANY_HEX), Job(SDDL_TO_SDDL, MANY_SDDL), Job(SDDL_TO_HEX, MANY_SDDL),
               Job(SDDL, SHORT_HEX + b"\n" + BOTH_LONG + b"\n" + SHORT_HEX), Job(EXPLAIN, MANY_HEX),
               Job(EXPLAIN, SHORT_HEX + b"\n" + BOTH_LONG + b"\n" + SHORT_HEX),
               Job(SDDL_TO_HEX, SHORT_SDDL + b"\n" + LONG_SDDL + b"\n" + SHORT_SDDL), Job(DERIVE, MANY_HEX),
-              Job(DERIVE_SDDL_TO_HEX, SHORT_SDDL + b"\n" + LONG_SDDL + b"\n" + SHORT_SDDL)]
+              Job(DERIVE_SDDL_TO_HEX, SHORT_SDDL + b"\n" + LONG_SDDL + b"\n" + SHORT_SDDL),
+              Job(TO_BASE64, SHORT_HEX + b"\n" + BOTH_LONG + b"\n" + SHORT_HEX), Job(FROM_BASE64, MANY_BASE64)]
 # Pieces in which several lines end, an input that is one piece, and writes that take a few bytes.
 CUT_JOBS = [*(Job(HEX, SHORT_HEX, piece) for piece in (7, 50, 0)),
             *(Job(SDDL_TO_SDDL, SHORT_SDDL, piece) for piece in (3, 0)), Job(EXPLAIN_SDDL, SHORT_SDDL, 3),
             Job(DERIVE_SDDL_TO_HEX, SHORT_SDDL, 3),
             Job(HEX, SHORT_HEX, 0, 4), Job(SDDL, SHORT_HEX, 5, 2), Job(SDDL_TO_SDDL, SHORT_SDDL, 0, 1),
-            Job(HEX, MANY_HEX, 0, 3000), Job(EXPLAIN, SHORT_HEX, 0, 7)]
+            Job(HEX, MANY_HEX, 0, 3000), Job(EXPLAIN, SHORT_HEX, 0, 7),
+            Job(FROM_BASE64, SHORT_BASE64, 5), Job(TO_BASE64, SHORT_HEX, 0, 3)]
 HELP = [["--help"], ["help"], ["convert", "--help"], ["help", "convert"], ["explain", "--help"], ["derive", "--help"]]
 
 

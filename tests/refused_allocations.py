@@ -8,6 +8,7 @@ Then every allocation from the first read on: there is none, so nothing changes.
 The last line is 'N passed, M failed'.
 """
 import argparse
+import base64
 import os
 import subprocess
 import sys
@@ -20,7 +21,7 @@ import preload  # noqa: E402
 SECONDS = 60       # for one run
 ALLOCATIONS = 5000  # of one command line, at the very most
 EMPTY = b"0100008000000000000000000000000000000000"
-LIMIT, SDDL_LIMIT = 262_452, 1_049_872  # bytes of the longest line that is read
+LIMIT, BASE64_LIMIT, SDDL_LIMIT = 262_452, 174_968, 1_049_872  # bytes of the longest line that is read
 DOMAIN = "S-1-5-21-1-2-3"
 LONGEST_DOMAIN = "S-1-0xffffffffffff" + "-1" * 14
 OF_DOMAIN = b"0100008014000000000000000000000000000000" b"010500000000000515000000" b"01000000020000000300000000020000"
@@ -48,6 +49,7 @@ COMMAND_LINES = [
     ["convert", "--domain", "DA"],
     ["convert", "--domain", "BA", "--from", "sddl"],
     ["convert", "--from=sddl", "--to=hex"],
+    ["convert", "--from", "base64", "--to=base64"],
     ["convert", "--domain", "BA", "--from", "xml"],
     ["convert", "--to", "xml"],
     ["convert", "--numeric", "--numeric"],
@@ -80,6 +82,9 @@ FAULTY_SDDL = [b"x", b"D:(A;;FA;;WD)", b"O:BAO:SY", b"O:ZZ", b"O:S-1-4294967296"
                b" " * (SDDL_LIMIT + 1)]
 SDDL_LINES = [b"O:BAG:SYD:PAI" + SDDL_ACE + b"S:AR(ML;;NW;;;HI)", b"", b" o:ba ", b"D:NO_ACCESS_CONTROL\r", FULL_SDDL,
               b" " * SDDL_LIMIT, TOO_LARGE, *FAULTY_SDDL, b"G:S-1-5" + b"-4294967295" * 15, b"O:DA", b"D:" + SDDL_ACE]
+BASE64_LINES = [base64.b64encode(bytes.fromhex(line.decode())) for line in (EMPTY, WITH_DACL, OF_DOMAIN, GUIDS, FULL)]
+BASE64_LINES += [b"", b"AQ", b"AQ==", BASE64_LINES[0] + b"\r", b"A" * BASE64_LIMIT, b"!" * BASE64_LIMIT,
+                 b"A" * (BASE64_LIMIT + 1), BASE64_LINES[1]]
 # The words, and the lines that are read under them.
 READING = [
     (["convert", "--to", "hex"], HEX_LINES * 20),
@@ -87,6 +92,9 @@ READING = [
     (["convert", "--domain", LONGEST_DOMAIN, "--to", "sddl", "--numeric"], HEX_LINES * 20),
     (["convert", "--from", "sddl", "--to", "hex"], SDDL_LINES * 5),
     (["convert", "--from", "sddl", "--domain", LONGEST_DOMAIN], SDDL_LINES * 5),
+    (["convert", "--to", "base64"], HEX_LINES * 5),
+    (["convert", "--from", "base64"], BASE64_LINES * 5),
+    (["convert", "--from", "base64", "--to", "base64"], BASE64_LINES * 5),
     (["explain", "--domain", DOMAIN], HEX_LINES * 5),
     (["explain", "--from", "sddl", "--numeric"], SDDL_LINES * 5),
     (["check", "--token", "WD,!BA", "--maximum"], HEX_LINES * 5),

@@ -26,6 +26,8 @@ CONVERTED = {
     "the longest SDDL that is printed": (["--from", "hex", "--to", "sddl"], faults.BOTH_LONG + b"\n"),
     "the same without an LF": (["--from", "hex", "--to", "sddl"], faults.BOTH_LONG),
     "the longest descriptor": (["--from", "hex", "--to", "hex"], faults.BOTH_LONG + b"\n"),
+    "the same to base64": (["--from", "hex", "--to", "base64"], faults.BOTH_LONG + b"\n"),
+    "the same from base64": (["--from", "base64", "--to", "hex"], faults.BASE64_BOTH_LONG + b"\n"),
     "a line of SDDL that is as long": (["--from", "sddl", "--to", "sddl"], LONGEST_SDDL + b"\n"),
     "the same to hex": (["--from", "sddl", "--to", "hex"], LONGEST_SDDL + b"\n"),
     "faulty lines of a few bytes": (["--from", "hex", "--to", "hex"], b"z\n" * 200_000),
@@ -34,12 +36,12 @@ CONVERTED = {
 
 
 def of_examples():
-    """The examples again and again, in hex and in SDDL."""
+    """The examples again and again, in each form."""
     data = EXAMPLES.read_bytes()
-    sddl = faults.Answers(faults.Job(["convert"], data)).all
-    for name, lines, words in (("hex", data, ["--from", "hex"]), ("SDDL", sddl, ["--from", "sddl"])):
-        for form in ("hex", "sddl"):
-            yield f"examples in {name} to {form}", ([*words, "--to", form], lines * (MEGABYTE // len(lines)))
+    for source in ("hex", "base64", "sddl"):
+        lines = data if source == "hex" else faults.Answers(faults.Job(["convert", "--to", source], data)).all
+        for form in ("hex", "base64", "sddl"):
+            yield f"examples in {source} to {form}", (["--from", source, "--to", form], lines * (MEGABYTE // len(lines)))
 
 
 def main():

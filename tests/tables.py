@@ -9,6 +9,7 @@ The values are those of the reference, from MS-DTYP 2.4.2.4, 2.4.3, 2.4.4.1 and 
   printed   SIDs beside one another under each authority and domain; masks of at most three bits, of all choices of the
             named ones, and near the compound ones, in each kind of ACE; each byte of flags and each byte of a type
   explained every control word, every resource manager byte, and each byte of flags in each kind of ACE
+  base64    each symbol in each of four places, printed and read; and each byte there, of which no other one is read
 
 The last line is 'N passed, M failed'.
 """
@@ -27,6 +28,7 @@ from reference import Ace, Acl, Descriptor, Sid  # noqa: E402
 
 SECONDS = 60  # for one run
 PAIRS = ["".join(pair) for pair in itertools.product(string.ascii_uppercase, repeat=2)]
+SYMBOLS = string.ascii_letters + string.digits + "+/"
 EVERYONE = Sid(1, (0,))
 EXPLAIN = ["explain"]  # all other words follow `convert`
 NO_ALIAS, NEEDS_DOMAIN, NO_FLAGS, NO_RIGHTS, NO_KIND = \
@@ -240,13 +242,30 @@ def flags_explained():
     yield EXPLAIN, lines
 
 
+def of_base64():
+    """Each symbol in each of the four places that stand for three bytes, and each byte there."""
+    printed, read = [], []
+    for place, value in itertools.product(range(4), range(64)):
+        first, second, third = (value << 18 - 6 * place).to_bytes(3, "big")
+        # (the bytes 30, 31 and 32)
+        given = reference.layout(owner_alone(Sid(5, (first << 16 | second << 24, third))))
+        printed.append((given.hex(), reference.to_base64(given)))
+        read.append((reference.to_base64(given), given.hex()))
+        if value == 0:
+            text = read[-1][0]
+            read += ((text[:40 + place] + chr(byte) + text[41 + place:], "error 4 base64")
+                     for byte in range(256) if chr(byte) not in SYMBOLS + "\n")
+    yield ["--to", "base64"], printed
+    yield ["--from", "base64", "--to", "hex"], read
+
+
 def judge(count, program, words, lines):
     """One run of the program over all of the lines."""
     lines = list(lines)
     command = words if words == EXPLAIN else ["convert", *words]
     shown = " ".join(["sdtool", *command])
     with tempfile.TemporaryFile() as given:
-        given.write("".join(f"{line}\n" for line, _ in lines).encode())
+        given.write("".join(f"{line}\n" for line, _ in lines).encode("latin-1"))
         given.seek(0)
         ended = subprocess.run([program, *command], stdin=given, capture_output=True, timeout=SECONDS)
     *answers, rest = ended.stdout.decode("latin-1").split("\n")
@@ -265,7 +284,7 @@ def main():
     program = parser.parse_args().program
     count = preload.Count()
     for part in (aliases_read, fields_read, kinds_read, aliases_printed, fields_printed, types_printed,
-                 words_explained, flags_explained):
+                 words_explained, flags_explained, of_base64):
         before = count.passed
         for words, lines in part():
             judge(count, program, words, lines)

@@ -14,6 +14,10 @@ const EVERYONE: &str =
 const OBJECT: &str =
     "01000480000000000000000000000000140000000400300001000000050228001000000001000000ba7a96bfe60dd011a28500aa003049e201010000000000050b000000";
 
+// The bytes of EVERYONE, put into base64 by another program.
+const BASE64_EVERYONE: &str =
+    "AQAEgBQAAAAkAAAAAAAAADAAAAABAgAAAAAABSAAAAAgAgAAAQEAAAAAAAUSAAAAAgAcAAEAAAAAABQA/wEfAAEBAAAAAAABAAAAAA==";
+
 // The owner is the group of a domain's administrators.
 const OF_DOMAIN: &str =
     "010000801400000000000000000000000000000001050000000000051500000001000000020000000300000000020000";
@@ -80,6 +84,12 @@ fn converts(rt: HostRuntime) {
             OF_DOMAIN,
             "O:S-1-5-21-1-2-3-512",
         ),
+        ("sdtool convert --to base64", EVERYONE, BASE64_EVERYONE),
+        (
+            "sdtool convert --from base64 --to hex",
+            BASE64_EVERYONE,
+            EVERYONE,
+        ),
         (
             "sdtool convert --from sddl --to hex",
             "O:BAG:SYD:(A;;FA;;;WD)",
@@ -101,6 +111,7 @@ fn converts(rt: HostRuntime) {
     for (words, line, answer) in [
         (HEX_TO_HEX, "0100048014", "error 5 short"),
         (HEX_TO_HEX, "\u{feff}00", "error 3 hex-odd"),
+        ("sdtool convert --from base64", "AQAEgBQ", "error 4 base64"),
         ("sdtool convert --from sddl", "O:ZZ", "error 22 alias"),
     ] {
         expect_line(&rt, words, line, 1, answer);

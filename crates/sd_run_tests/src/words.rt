@@ -179,8 +179,8 @@ const DERIVE_HELP: &str = "Print what a new object inherits from each descriptor
 Usage: sdtool derive [OPTIONS] --kind <kind> --owner <owner> --group <group>
 
 Options:
-      --from <from>      The form of the lines: hex, the default, or sddl
-      --to <to>          The form of the answers: sddl, the default, or hex
+      --from <from>      The form of the lines: hex, the default, base64 or sddl
+      --to <to>          The form of the answers: sddl, the default, hex or base64
       --domain <domain>  The SID of the domain whose aliases are read and printed
       --numeric          Print SIDs without aliases
       --kind <kind>      What is made: file or container
