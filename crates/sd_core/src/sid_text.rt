@@ -6,13 +6,14 @@ ghost use Rattle.std.specs.Option.{option_copied, option_map};
 ghost use Rattle.sd_core.specs.Sid.{IsSid, SecurityId};
 ghost use Rattle.sd_sink.specs.Print.{Prints};
 ghost use Rattle.sd_sink.specs.Sink.{Puts};
+ghost use Rattle.sd_rights.specs.Limits.{most_field, most_subs};
 ghost use Rattle.sd_rights.specs.Numbers.{number};
 ghost use Rattle.sd_core.specs.SidText.{all_pieces, all_read, are_letters, are_numbers, are_subs, authority_reads, authority_text, begins_with_s1, decimal_reads, has_form, is_decimal, is_hex, is_sid_byte, numbers_read, pieces, sid_reads, sid_text, sub_text};
 
 use crate::alias::read_letters;
 use crate::sid::Sid;
 use crate::usual_sid::read_usual;
-use sd_rights::{read_number, write_decimal, write_hex};
+use sd_rights::{MOST_FIELD_SIZE, MOST_SUBS, read_number, write_decimal, write_hex};
 use sd_sink::{Print, Printer, Sink, SinkFault};
 
 /// Why a text is no SID.
@@ -27,12 +28,6 @@ pub enum SidFault {
     /// 25: neither two letters nor of the form `S-1-`, authority and sub-authorities.
     SidForm,
 }
-
-/// The bytes of the longest text: `S-1-`, an authority in hex, and 15 numbers of ten digits with a dash.
-pub(crate) const LONGEST: usize = 183;
-
-/// The sub-authorities that a SID has at most.
-pub(crate) const MOST_SUBS: usize = 15;
 
 /// The digits of an authority in hex.
 const HEX_DIGITS: usize = 12;
@@ -57,7 +52,7 @@ impl Sid {
         ensures put { Prints (P.told out.old) (P.told out.new) (sid_text self.now) }
         ensures limits { IsSid self.now }
     {
-        let mut text = [0; LONGEST];
+        let mut text = [0; MOST_FIELD_SIZE];
         let start = write_sid(self, &mut text);
         out.put(&text[start..]);
     }
@@ -85,8 +80,8 @@ impl Sid {
 }
 
 // Writes the text to the end of the array, and says where it begins; so does each function below.
-fn write_sid(sid: &Sid, text: &mut [u8; LONGEST]) -> usize
-    ensures within { result ≤ 183 }
+fn write_sid(sid: &Sid, text: &mut [u8; MOST_FIELD_SIZE]) -> usize
+    ensures within { result ≤ most_field }
     ensures written { drop result text.new ≡ sid_text sid.now }
     ensures limits { IsSid sid.now }
 {
@@ -97,13 +92,13 @@ fn write_sid(sid: &Sid, text: &mut [u8; LONGEST]) -> usize
     start
 }
 
-fn write_subs(subs: &[u32], text: &mut [u8; LONGEST]) -> usize
-    requires { length subs.now ≤ 15 }
-    ensures room { 183 ≤ result + 11 * length subs.now }
-    ensures within { result ≤ 183 }
+fn write_subs(subs: &[u32], text: &mut [u8; MOST_FIELD_SIZE]) -> usize
+    requires { length subs.now ≤ most_subs }
+    ensures room { most_field ≤ result + 11 * length subs.now }
+    ensures within { result ≤ most_field }
     ensures written { drop result text.new ≡ flat_map sub_text subs.now }
 {
-    let mut at = LONGEST;
+    let mut at = MOST_FIELD_SIZE;
     let mut left = subs.len();
     while left > 0 {
         left -= 1;
@@ -113,9 +108,9 @@ fn write_subs(subs: &[u32], text: &mut [u8; LONGEST]) -> usize
     at
 }
 
-fn write_authority(authority: u64, text: &mut [u8; LONGEST], end: usize) -> usize
+fn write_authority(authority: u64, text: &mut [u8; MOST_FIELD_SIZE], end: usize) -> usize
     requires room { 14 ≤ end }
-    requires within { end ≤ 183 }
+    requires within { end ≤ most_field }
     ensures room { end ≤ result + 14 }
     ensures before { result ≤ end }
     ensures written { drop result text.new ≡ authority_text authority ++ drop end text.old }
@@ -140,7 +135,7 @@ fn has_form(text: &[u8]) -> bool
     ensures value { result ≡ has_form text.now }
     ensures long { result ≡ true → 4 ≤ length text.now }
 {
-    if text.len() > LONGEST || !begins_with_s1(text) {
+    if text.len() > MOST_FIELD_SIZE || !begins_with_s1(text) {
         return false;
     }
     are_numbers(&text[4..])
@@ -232,7 +227,7 @@ fn are_digits(base: u32, text: &[u8]) -> bool
 
 #[tactic(auto, unfolding(crate::specs::SidText::numbers_read))]
 fn read_numbers(text: &[u8]) -> Option<Sid>
-    requires { length (pieces text.now).others ≤ 15 }
+    requires { length (pieces text.now).others ≤ most_subs }
     ensures { result ≡ numbers_read (pieces text.now) }
 {
     let (first, rest) = cut(text);
@@ -257,8 +252,8 @@ fn read_authority(text: &[u8]) -> Option<u64>
 
 // Writes the numbers to the front of the array, and says how many there are.
 fn read_subs(text: &[u8], subs: &mut [u32; MOST_SUBS]) -> Option<usize>
-    requires { length (all_pieces (pieces text.now)) ≤ 15 }
-    ensures count { IfSome result (λ n. n ≤ 15) }
+    requires { length (all_pieces (pieces text.now)) ≤ most_subs }
+    ensures count { IfSome result (λ n. n ≤ most_subs) }
     ensures numbers { option_map (λ n. take n subs.new) result ≡ all_read (all_pieces (pieces text.now)) }
 {
     let mut rest = text;

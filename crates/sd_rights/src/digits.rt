@@ -2,17 +2,18 @@
 ghost use Rattle.std.specs.Prelude.{◌≡◌, false, ◌+◌, ◌<◌, ◌≤◌, ◌++◌, drop};
 ghost use Rattle.std.specs.Fmt.{decimal, digit_glyph};
 ghost use Rattle.sd_sink.specs.Print.{Prints};
+ghost use Rattle.sd_rights.specs.Limits.{most_field};
 ghost use Rattle.sd_rights.specs.Numbers.{hex_digits};
 
-use crate::names::LONGEST;
+use crate::limits::MOST_FIELD_SIZE;
 use sd_sink::Print;
 
 /// Prints a number in decimal, without leading zeros.
 pub fn print_decimal<P: Print>(number: u32, out: &mut P)
     ensures { Prints (P.told out.old) (P.told out.new) (decimal number) }
 {
-    let mut text = [0; LONGEST];
-    let start = write_decimal(number, &mut text, LONGEST);
+    let mut text = [0; MOST_FIELD_SIZE];
+    let start = write_decimal(number, &mut text, MOST_FIELD_SIZE);
     out.put(&text[start..]);
 }
 
@@ -21,17 +22,17 @@ pub fn print_hex<P: Print>(digits: usize, number: u64, out: &mut P)
     requires { digits ≤ 16 }
     ensures { Prints (P.told out.old) (P.told out.new) (hex_digits digits number) }
 {
-    let mut text = [0; LONGEST];
-    let start = write_hex(digits, number, &mut text, LONGEST);
+    let mut text = [0; MOST_FIELD_SIZE];
+    let start = write_hex(digits, number, &mut text, MOST_FIELD_SIZE);
     out.put(&text[start..]);
 }
 
 // Each of the functions below writes to the array up to a place, and says where what it wrote begins.
 
 /// Writes as many hex digits of a number, the last ones.
-pub fn write_hex(digits: usize, number: u64, text: &mut [u8; LONGEST], end: usize) -> usize
+pub fn write_hex(digits: usize, number: u64, text: &mut [u8; MOST_FIELD_SIZE], end: usize) -> usize
     requires room { digits ≤ end }
-    requires within { end ≤ 183 }
+    requires within { end ≤ most_field }
     ensures start { result + digits ≡ end }
     ensures written { drop result text.new ≡ hex_digits digits number ++ drop end text.old }
 {
@@ -58,9 +59,9 @@ pub(crate) fn hex_digit(value: u8) -> u8
 }
 
 /// Writes a number in decimal.
-pub fn write_decimal(number: u32, text: &mut [u8; LONGEST], end: usize) -> usize
+pub fn write_decimal(number: u32, text: &mut [u8; MOST_FIELD_SIZE], end: usize) -> usize
     requires room { 10 ≤ end }
-    requires within { end ≤ 183 }
+    requires within { end ≤ most_field }
     ensures room { end ≤ result + 10 }
     ensures before { result < end }
     ensures written { drop result text.new ≡ decimal number ++ drop end text.old }
