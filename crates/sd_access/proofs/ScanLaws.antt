@@ -12,7 +12,7 @@ use Rattle.sd_access.specs.Applies.{applies, is_allow}
 use Rattle.sd_access.specs.Ask.{Asked}
 use Rattle.sd_access.specs.Granted.{allows, decides}
 use Rattle.sd_access.specs.Need.{all_below, least}
-use Rattle.sd_access.specs.Scan.{are_decided, scan_need}
+use Rattle.sd_access.specs.Inner.Scan.{are_decided, scan_need}
 use Rattle.sd_access.proofs.Masks.{carries-and, carries-or, carries-and_not, carries-zero, carries_above, same_masks}
 
 -- 1. One right. It was granted (g), is undecided (u), is in question (q), and the ACE would decide it (d); an ACE

@@ -9,7 +9,7 @@ use Rattle.sd_view.specs.Descriptor.{Descriptor}
 use Rattle.sd_access.specs.Ask.{AreRights, Asked}
 use Rattle.sd_access.specs.Granted.{aces_of, decides, granted, is_allowed, is_open, is_owned, needs_no_ace}
 use Rattle.sd_access.specs.Need.{bound, in_question, least, need}
-use Rattle.sd_access.specs.Scan.{HasGranted, given_mask, question_of, scan_need, undecided_of}
+use Rattle.sd_access.specs.Inner.Scan.{HasGranted, given_mask, question_of, scan_need, undecided_of}
 use Rattle.sd_access.specs.Verdict.{missing, verdict, won}
 use Rattle.sd_access.specs.declared.verdict.Verdict.TheVariants.{Granted, Denied}
 use Rattle.sd_access.proofs.Masks.{carries-and, carries-or, carries-and_not, carries-mask_if, is_rights_below}

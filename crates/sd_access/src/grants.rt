@@ -3,7 +3,7 @@
 ghost use Rattle.std.specs.Prelude.{◌≡◌, ◌≤◌, ◌+◌, length};
 ghost use Rattle.sd_core.specs.Mapping.{mask_if};
 ghost use Rattle.sd_access.specs.Granted.{is_for_owner_rights, is_open, is_owned, names_owner_rights};
-ghost use Rattle.sd_access.specs.Scan.{given_mask};
+ghost use Rattle.sd_access.specs.Inner.Scan.{given_mask};
 
 use crate::applies::is_effective;
 use crate::ask::Ask;
@@ -21,7 +21,7 @@ const READ_CONTROL_AND_WRITE_DAC: u32 = 0x6_0000;
 const BELOW_SYSTEM_SECURITY: u32 = 0xff_ffff;
 
 /// The rights that are granted whatever the ACEs say.
-#[tactic(auto, unfolding(crate::specs::Scan::given_mask))]
+#[tactic(auto, unfolding(crate::specs::Inner::Scan::given_mask))]
 pub fn given(view: &SdView, token: &mut Token, ask: &Ask) -> u32
     ensures value { result ≡ given_mask view.now token.old.entries ask.now }
     ensures entries { token.new.entries ≡ token.old.entries }

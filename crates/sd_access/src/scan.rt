@@ -4,7 +4,7 @@ ghost use Rattle.std.specs.Prelude.{◌≡◌, ◌<◌, ◌≤◌, ◌+◌, ◌*
 ghost use Rattle.std.specs.List.{find};
 ghost use Rattle.sd_core.specs.Mapping.{carries, mapped};
 ghost use Rattle.sd_access.specs.Granted.{aces_of, allows, decides, is_allowed};
-ghost use Rattle.sd_access.specs.Scan.{scan_need};
+ghost use Rattle.sd_access.specs.Inner.Scan.{scan_need};
 
 use crate::applies::{applies, is_allow};
 use crate::ask::Ask;

@@ -4,7 +4,7 @@ ghost use Rattle.std.specs.Prelude.{◌≡◌, ◌≤◌, ◌+◌, ◌*◌, ◌^
 ghost use Rattle.sd_core.specs.Mapping.{mask_if as mask_if_of};
 ghost use Rattle.sd_access.specs.Ask.{AreRights};
 ghost use Rattle.sd_access.specs.Need.{bound, need};
-ghost use Rattle.sd_access.specs.Scan.{HasGranted, question_of};
+ghost use Rattle.sd_access.specs.Inner.Scan.{HasGranted, question_of};
 ghost use Rattle.sd_access.specs.Verdict.{verdict};
 
 use crate::ask::Ask;

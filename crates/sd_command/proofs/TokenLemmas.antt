@@ -13,7 +13,7 @@ use Rattle.std.proofs.lemmas.List.Splits.{slice_split_first, slice_split_none}
 use Rattle.clap.specs.Words.{Text}
 use Rattle.sd_core.specs.Sid.{SecurityId}
 use Rattle.sd_core.specs.Token.{Entry}
-use Rattle.sd_command.specs.Adding.{with_entry, with_pieces}
+use Rattle.sd_command.specs.Inner.Adding.{with_entry, with_pieces}
 use Rattle.sd_command.specs.TokenText.{all_read, also, entries_read, entry_reads, pieces}
 
 -- ---- where the text is cut

@@ -1,5 +1,5 @@
-pub mod Adding
 pub mod CommandLine
+pub mod Inner
 pub mod Mappings
 pub mod Refusing
 pub mod Settings

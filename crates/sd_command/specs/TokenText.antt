@@ -3,6 +3,7 @@ use Rattle.std.specs.Prelude.{◌==◌, nat_lt, if◌then◌else◌, List, [], �
 use Rattle.std.specs.Prelude.{Option, Some, None, Result, Ok, Err, option_map}
 use Rattle.std.specs.List.{slice_split}
 use Rattle.clap.specs.Words.{Text}
+use Rattle.sd_rights.specs.Limits.{most_entries}
 use Rattle.sd_core.specs.Sid.{SecurityId}
 use Rattle.sd_core.specs.SidText.{sid_reads}
 use Rattle.sd_core.specs.Token.{Entry}
@@ -43,4 +44,4 @@ all_read domain (p ∷ ps) = also (entry_reads domain p) (all_read domain ps)
 
 -- the entries of a text of at most 1,024 pieces
 unfoldable pub entries_read : Option SecurityId → Text → Option (List Entry)
-entries_read domain text = if nat_lt 1024 (length (pieces text)) then None else all_read domain (pieces text)
+entries_read domain text = if nat_lt most_entries (length (pieces text)) then None else all_read domain (pieces text)

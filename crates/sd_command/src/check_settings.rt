@@ -4,7 +4,7 @@ ghost use Rattle.std.specs.Option.{option_copied};
 ghost use Rattle.clap.specs.Words.{found_of, rows_of};
 ghost use Rattle.sd_core.specs.GuidText.{guid_reads};
 ghost use Rattle.sd_rights.specs.Rights.{rights_reads};
-ghost use Rattle.sd_command.specs.Adding.{gives};
+ghost use Rattle.sd_command.specs.Inner.Adding.{gives};
 ghost use Rattle.sd_command.specs.Settings as specs;
 ghost use Rattle.sd_command.specs.Settings.{with_entries};
 

@@ -1,7 +1,7 @@
 // The text of a token: SIDs parted by commas.
 ghost use Rattle.std.specs.Prelude.{◌≡◌, [], option_map};
 ghost use Rattle.std.specs.Option.{option_copied};
-ghost use Rattle.sd_command.specs.Adding.{with_entry};
+ghost use Rattle.sd_command.specs.Inner.Adding.{with_entry};
 ghost use Rattle.sd_command.specs.TokenText as specs;
 
 use sd_core::{EntryKind, Sid, Token};

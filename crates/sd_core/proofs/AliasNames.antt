@@ -1,9 +1,9 @@
 -- An alias has two letters.
 use Rattle.std.proofs.Common.{◌≡◌, List, ℕ, Option, Some, None, length, refl}
 use Rattle.std.specs.Prelude.{IfSome}
-use Rattle.std.specs.Option.{option_and_then, option_map}
+use Rattle.std.specs.Option.{option_and_then, option_map, option_or}
 use Rattle.sd_core.specs.Sid.{SecurityId}
-use Rattle.sd_core.specs.SidText.{alias_of, known_alias, or_else, relative_alias, usable}
+use Rattle.sd_core.specs.SidText.{alias_of, known_alias, relative_alias, usable}
 
 -- a name of two letters, where there is one
 abbrev pub IsName : Option (List ℕ) → Type 0
@@ -13,7 +13,7 @@ mapped : {X : Type 0} (f : X → List ℕ) (o : Option X) → ((x : X) → lengt
 mapped f None two = tt
 mapped f (Some x) two = two x
 
-first_name : (a b : Option (List ℕ)) → IsName a → IsName b → IsName (or_else a b)
+first_name : (a b : Option (List ℕ)) → IsName a → IsName b → IsName (option_or a b)
 first_name None b h k = k
 first_name (Some a) b h k = h
 

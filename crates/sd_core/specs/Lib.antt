@@ -1,8 +1,8 @@
 pub mod Ace
 pub mod GuidText
+pub mod Inner
 pub mod Mapping
 pub mod Naming
 pub mod Sid
-pub mod SidFields
 pub mod SidText
 pub mod Token

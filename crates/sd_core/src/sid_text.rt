@@ -6,13 +6,16 @@ ghost use Rattle.std.specs.Option.{option_copied, option_map};
 ghost use Rattle.sd_core.specs.Sid.{IsSid, SecurityId};
 ghost use Rattle.sd_sink.specs.Print.{Prints};
 ghost use Rattle.sd_sink.specs.Sink.{Puts};
+ghost use Rattle.sd_rights.specs.Limits.{most_field, most_subs};
 ghost use Rattle.sd_rights.specs.Numbers.{number};
 ghost use Rattle.sd_core.specs.SidText.{all_pieces, all_read, are_letters, are_numbers, are_subs, authority_reads, authority_text, begins_with_s1, decimal_reads, has_form, is_decimal, is_hex, is_sid_byte, numbers_read, pieces, sid_reads, sid_text, sub_text};
 
 use crate::alias::read_letters;
 use crate::sid::Sid;
 use crate::usual_sid::read_usual;
-use sd_rights::{print_decimal, print_decimal_behind, print_hex, read_number};
+use sd_rights::{
+    MOST_FIELD_SIZE, MOST_SUBS, print_decimal, print_decimal_behind, print_hex, read_number,
+};
 use sd_sink::{Print, Printer, Sink, SinkFault};
 
 /// Why a text is no SID.
@@ -27,12 +30,6 @@ pub enum SidFault {
     /// 25: neither two letters nor of the form `S-1-`, authority and sub-authorities.
     SidForm,
 }
-
-/// The bytes of the longest text: `S-1-`, an authority in hex, and 15 numbers of ten digits with a dash.
-pub(crate) const LONGEST: usize = 183;
-
-/// The sub-authorities that a SID has at most.
-pub(crate) const MOST_SUBS: usize = 15;
 
 /// The digits of an authority in hex.
 const HEX_DIGITS: usize = 12;
@@ -114,7 +111,7 @@ fn has_form(text: &[u8]) -> bool
     ensures value { result ≡ has_form text.now }
     ensures long { result ≡ true → 4 ≤ length text.now }
 {
-    if text.len() > LONGEST || !begins_with_s1(text) {
+    if text.len() > MOST_FIELD_SIZE || !begins_with_s1(text) {
         return false;
     }
     are_numbers(&text[4..])
@@ -206,7 +203,7 @@ fn are_digits(base: u32, text: &[u8]) -> bool
 
 #[tactic(auto, unfolding(crate::specs::SidText::numbers_read))]
 fn read_numbers(text: &[u8]) -> Option<Sid>
-    requires { length (pieces text.now).others ≤ 15 }
+    requires { length (pieces text.now).others ≤ most_subs }
     ensures { result ≡ numbers_read (pieces text.now) }
 {
     let (first, rest) = cut(text);
@@ -231,8 +228,8 @@ fn read_authority(text: &[u8]) -> Option<u64>
 
 // Writes the numbers to the front of the array, and says how many there are.
 fn read_subs(text: &[u8], subs: &mut [u32; MOST_SUBS]) -> Option<usize>
-    requires { length (all_pieces (pieces text.now)) ≤ 15 }
-    ensures count { IfSome result (λ n. n ≤ 15) }
+    requires { length (all_pieces (pieces text.now)) ≤ most_subs }
+    ensures count { IfSome result (λ n. n ≤ most_subs) }
     ensures numbers { option_map (λ n. take n subs.new) result ≡ all_read (all_pieces (pieces text.now)) }
 {
     let mut rest = text;

@@ -3,14 +3,15 @@ ghost use Rattle.std.specs.Prelude.{◌≡◌, ◌≤◌, ◌<◌, ◌^◌, [], 
 ghost use Rattle.sd_core.specs.SidText.{all_pieces, all_read, are_numbers, are_subs, decimal_reads, has_form, is_decimal, numbers_read, pieces};
 
 use crate::sid::Sid;
-use crate::sid_text::{LONGEST, MOST_SUBS, begins_with_s1};
+use crate::sid_text::begins_with_s1;
+use sd_rights::{MOST_FIELD_SIZE, MOST_SUBS};
 
 /// The SID of a text, where its authority and its sub-authorities are decimal and below 2^32. None says nothing of
 /// the text.
 pub(crate) fn read_usual(text: &[u8]) -> Option<Sid>
     ensures { IfSome result (λ s. (has_form text.now ≡ true) × (numbers_read (pieces (drop 4 text.now)) ≡ Some s)) }
 {
-    if LONGEST < text.len() || !begins_with_s1(text) {
+    if MOST_FIELD_SIZE < text.len() || !begins_with_s1(text) {
         return None;
     }
     usual_numbers(&text[4..])

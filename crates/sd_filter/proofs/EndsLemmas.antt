@@ -2,7 +2,7 @@
 use Rattle.std.proofs.Common.{ℕ, inr, List, Result, Ok, sym, subst}
 use Rattle.clap.specs.Words.{Text}
 use Rattle.sd_filter.specs.Endings.{Told, EndsBy, EndsTaken, EndsSettled, EndsRun, settled}
-use Rattle.sd_filter.specs.Preparing.{PreparesBy, settled as of}
+use Rattle.sd_filter.specs.Inner.Preparing.{PreparesBy, settled as of}
 use Rattle.sd_command.specs.Settings.{Settings}
 use Rattle.sd_command.specs.declared.settings.UsageFault.{UsageFault}
 use Rattle.sd_filter.specs.declared.program.Prepared.{Prepared}

@@ -1,7 +1,7 @@
 -- What is held after more bytes.
 use Rattle.std.proofs.Common.{◌≡◌, ℕ, List, [], ◌∷◌, ◌++◌, Bool, true, false, ◌==◌, cond, refl, sym, ◌∙◌, ap, append-nil, append_assoc, length, arith, rules}
 use Rattle.sd_filter.specs.Lines.{without_cr}
-use Rattle.sd_filter.specs.Sofar.{HoldsText, Holds}
+use Rattle.sd_filter.specs.Inner.Sofar.{HoldsText, Holds}
 use Rattle.sd_filter.specs.declared.line.Line.{Line}
 
 -- the one CR at the end goes

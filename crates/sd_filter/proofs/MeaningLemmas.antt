@@ -12,7 +12,7 @@ use Rattle.sd_view.specs.declared.fault.SdFault.{SdFault}
 use Rattle.sd_reader.specs.declared.fault.SddlFault.{SddlFault}
 use Rattle.sd_filter.specs.Answers.{Meaning, answer, bound, bound_of_meaning, is_error, is_error_of_meaning, line_limit, line_means, meaning, or_sddl_fault, text_means, text_of_meaning}
 use Rattle.sd_filter.specs.Outcome.{Compares}
-use Rattle.sd_filter.specs.Sofar.{HoldsText, PrintsAnswer, PutsAnswer}
+use Rattle.sd_filter.specs.Inner.Sofar.{HoldsText, PrintsAnswer, PutsAnswer}
 use Rattle.sd_sink.proofs.PrintLemmas.{printed}
 use Rattle.sd_filter.specs.declared.fault.LineFault.{LineFault}
 use Rattle.sd_filter.specs.declared.fault.LineFault.TheVariants.{TooLong}

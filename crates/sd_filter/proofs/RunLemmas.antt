@@ -8,7 +8,7 @@ use Rattle.sd_sink.specs.Sink.{SinkTold, IsPrefix}
 use Rattle.sd_filter.specs.Told.{SourceTold, DrainTold, sink_of, reads_after, ends_after, failed_reads_after}
 use Rattle.sd_filter.specs.Lines.{ended, lines, parts}
 use Rattle.sd_filter.specs.Answers.{answers}
-use Rattle.sd_filter.specs.Sofar.{Holds, Answered, Failed, Sofar, BeforeRead}
+use Rattle.sd_filter.specs.Inner.Sofar.{Holds, Answered, Failed, Sofar, BeforeRead}
 use Rattle.sd_filter.specs.Outcome.{Finished, FaultSays, HandedOn}
 use Rattle.sd_command.specs.declared.job.Job.{Job}
 use Rattle.sd_filter.specs.declared.engine.Desk.{Desk}

@@ -13,11 +13,11 @@ use Rattle.sd_access.specs.declared.verdict.Verdict.TheVariants.{Denied, Granted
 use Rattle.sd_explain.proofs.SizeLaws.{explain-length}
 use Rattle.sd_inherit.proofs.LimitLaws.{derived-limits}
 use Rattle.sd_inherit.specs.Derived.{derive_fault, derived}
-use Rattle.sd_inherit.specs.Limits.{IsPlan}
+use Rattle.sd_inherit.specs.Inner.Limits.{IsPlan}
 use Rattle.sd_inherit.specs.declared.derivation.DeriveFault.{DeriveFault}
 use Rattle.sd_inherit.specs.declared.plan.Plan.{Plan}
 use Rattle.sd_sddl.proofs.SizeLaws.{sddl-length}
-use Rattle.sd_filter.specs.ActLimits.{ActLimits}
+use Rattle.sd_filter.specs.Inner.ActLimits.{ActLimits}
 use Rattle.sd_filter.specs.Answers.{AnswersAreShort, Meaning, act_prints, act_text, answer, as_line_fault, form_text, meaning, naming_of, printed_of_meaning, printed_size, text_of_meaning, unless_fault, unless_refused, verdict_text}
 use Rattle.sd_filter.specs.Faults.{fault_text}
 use Rattle.sd_filter.specs.declared.fault.LineFault.{LineFault}

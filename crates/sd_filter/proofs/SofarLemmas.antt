@@ -11,7 +11,7 @@ use Rattle.sd_sink.proofs.SinkLemmas.{PutAll-nil, PutAll-trans}
 use Rattle.sd_filter.specs.Lines.{parts, ended, lines, last_line, without_cr}
 use Rattle.sd_filter.specs.Answers.{answer, answers, bound, bounds, errors, is_error}
 use Rattle.sd_filter.specs.Outcome.{Compares}
-use Rattle.sd_filter.specs.Sofar.{Holds, Answered, Failed, Sofar}
+use Rattle.sd_filter.specs.Inner.Sofar.{Holds, Answered, Failed, Sofar}
 use Rattle.sd_command.specs.declared.job.Job.{Job}
 use Rattle.sd_filter.specs.declared.engine.Desk.{Desk}
 use Rattle.sd_filter.specs.declared.engine.Report.{Report}

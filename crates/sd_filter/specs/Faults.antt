@@ -4,8 +4,7 @@ use Rattle.sd_binary.specs.declared.buffer.TextFault.TheVariants as text
 use Rattle.sd_view.specs.declared.fault.Part.{Part}
 use Rattle.sd_view.specs.declared.fault.Part.TheVariants as part
 use Rattle.sd_view.specs.declared.fault.SdFault.TheVariants as sd
-use Rattle.sd_view.specs.declared.control.Which.{Which}
-use Rattle.sd_view.specs.declared.control.Which.TheVariants as which
+use Rattle.sd_binary.specs.Draft.{part_of}
 use Rattle.sd_core.specs.declared.sid_text.SidFault.TheVariants as sid
 use Rattle.sd_reader.specs.declared.fault.SddlFault.TheVariants as sddl
 use Rattle.sd_inherit.specs.declared.derivation.DeriveFault.TheVariants.{DerivedTooLarge}
@@ -42,10 +41,6 @@ number_and_name (Derive (DerivedTooLarge w)) = codes "error 40 derived-too-large
 
 abbrev pub NamedParts : Type 0
 NamedParts = Option Part × Option Part
-
-abbrev pub part_of : Which → Part
-part_of which.Sacl = part.Sacl
-part_of which.Dacl = part.Dacl
 
 abbrev pub parts_of : LineFault → NamedParts
 parts_of TooLong = (None, None)

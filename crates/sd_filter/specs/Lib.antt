@@ -1,10 +1,8 @@
-pub mod Told
-pub mod Lines
-pub mod Faults
-pub mod ActLimits
 pub mod Answers
-pub mod Pieces
-pub mod Outcome
-pub mod Sofar
 pub mod Endings
-pub mod Preparing
+pub mod Faults
+pub mod Inner
+pub mod Lines
+pub mod Outcome
+pub mod Pieces
+pub mod Told

@@ -5,7 +5,7 @@ ghost use Rattle.sd_filter.specs.Answers.{act_bound, act_fault, act_text, answer
 ghost use Rattle.sd_explain.specs.Explain.{explain};
 ghost use Rattle.sd_filter.specs.Faults.{fault_text};
 ghost use Rattle.sd_filter.specs.Outcome.{Compares};
-ghost use Rattle.sd_filter.specs.Sofar.{HoldsText, PrintsAnswer, PutsAnswer};
+ghost use Rattle.sd_filter.specs.Inner.Sofar.{HoldsText, PrintsAnswer, PutsAnswer};
 ghost use Rattle.sd_filter.specs.Told.{sink_of};
 ghost use Rattle.sd_inherit.specs.Derived.{derive_fault, derived};
 ghost use Rattle.std.specs.Option.{option_copied};

@@ -1,9 +1,9 @@
 // The engine, which has every buffer of a run.
 ghost use Rattle.std.specs.Prelude.{◌≡◌, IfOk, IfSome};
 ghost use Rattle.sd_core.specs.Sid.{IsSid};
-ghost use Rattle.sd_filter.specs.ActLimits.{ActLimits};
+ghost use Rattle.sd_filter.specs.Inner.ActLimits.{ActLimits};
 ghost use Rattle.sd_filter.specs.Answers.{line_limit};
-ghost use Rattle.sd_inherit.specs.Limits.{IsPlan};
+ghost use Rattle.sd_inherit.specs.Inner.Limits.{IsPlan};
 
 use crate::hex_text::GATHERED;
 use crate::line::Line;

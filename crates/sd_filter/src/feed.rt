@@ -4,7 +4,7 @@ ghost use Rattle.sd_sink.specs.Sink.{SinkTold};
 ghost use Rattle.sd_core.specs.Token.{TokenShown};
 ghost use Rattle.sd_filter.specs.Answers.{line_limit};
 ghost use Rattle.sd_filter.specs.Lines.{ended, lines, without_cr};
-ghost use Rattle.sd_filter.specs.Sofar.{HoldsText, Answered, Failed, Sofar};
+ghost use Rattle.sd_filter.specs.Inner.Sofar.{HoldsText, Answered, Failed, Sofar};
 ghost use Rattle.sd_filter.specs.Told.{sink_of};
 
 use crate::answer::put_answer;

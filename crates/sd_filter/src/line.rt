@@ -16,7 +16,7 @@ pub struct Line {
 }
 
 impl Line {
-    ghost use Rattle.sd_filter.specs.Sofar.{HoldsText, Holds};
+    ghost use Rattle.sd_filter.specs.Inner.Sofar.{HoldsText, Holds};
 
     pub fn new(alloc: Global, limit: usize) -> Result<Line, NoMemory>
         ensures { IfOk result (λ line. line.limit ≡ limit) }

@@ -5,7 +5,7 @@ ghost use Rattle.clap.specs.Words.{takes};
 ghost use Rattle.sd_command.specs.CommandLine.{line};
 ghost use Rattle.sd_command.specs.Usage.{fault_line};
 ghost use Rattle.sd_filter.specs.Endings as ends;
-ghost use Rattle.sd_filter.specs.Preparing as steps;
+ghost use Rattle.sd_filter.specs.Inner.Preparing as steps;
 
 use crate::device::{Drain, Source};
 use crate::engine::{Engine, RunFault};

@@ -6,7 +6,7 @@ ghost use Rattle.sd_filter.specs.Told.{sink_of};
 ghost use Rattle.sd_filter.specs.Answers.{AnswersAreShort};
 ghost use Rattle.sd_filter.specs.Lines.{LinesAreCut, ended, lines};
 ghost use Rattle.sd_filter.specs.Pieces.{AnswersSplit};
-ghost use Rattle.sd_filter.specs.Sofar.{Answered, Failed, Sofar};
+ghost use Rattle.sd_filter.specs.Inner.Sofar.{Answered, Failed, Sofar};
 ghost use Rattle.sd_filter.specs.Outcome.{Outcome};
 
 use crate::device::{Drain, Source};

@@ -7,7 +7,7 @@ use Rattle.sd_core.specs.Ace.{AccessControlEntry}
 use Rattle.sd_view.specs.Acl.{aces_size}
 use Rattle.sd_binary.specs.Draft.{Draft, IsOpenIn, open_size, open_size_in}
 use Rattle.sd_view.specs.declared.control.Which.{Which}
-use Rattle.sd_inherit.specs.Building.{HasOpen, more_aces, with_aces}
+use Rattle.sd_inherit.specs.Inner.Building.{HasOpen, more_aces, with_aces}
 
 abbrev pub Aces : Type 0
 Aces = List AccessControlEntry

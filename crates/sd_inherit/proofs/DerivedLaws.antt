@@ -9,7 +9,7 @@ use Rattle.sd_binary.specs.Draft.{Draft, built, is_present}
 use Rattle.sd_view.specs.declared.acl.AclPart.TheVariants as acl
 use Rattle.sd_view.specs.declared.control.Which.TheVariants.{Sacl, Dacl}
 use Rattle.sd_view.specs.declared.control.TheConstants.{DACL_AUTO_INHERITED, DACL_PRESENT, SACL_AUTO_INHERITED, SACL_PRESENT, SELF_RELATIVE}
-use Rattle.sd_inherit.specs.Building.{inherited_bits}
+use Rattle.sd_inherit.specs.Inner.Building.{inherited_bits}
 use Rattle.sd_inherit.specs.Derived.{derive_fault, derived, inherited, is_too_large, sacl_of}
 use Rattle.sd_inherit.specs.declared.derivation.DeriveFault.TheVariants.{DerivedTooLarge}
 use Rattle.sd_inherit.specs.declared.plan.Plan.{Plan}

@@ -1,6 +1,7 @@
 -- The descriptor of a new object (MS-DTYP 2.5.3.4): what it inherits from its container, and whom it belongs to.
 use Rattle.std.specs.Prelude.{ℕ, ◌+◌, nat_lt, Bool, if◌then◌else◌, List, [], ◌∷◌, Option, Some, None}
 use Rattle.std.specs.List.{flat_map}
+use Rattle.sd_rights.specs.Limits.{most_acl}
 use Rattle.sd_core.specs.Ace.{AccessControlEntry}
 use Rattle.sd_view.specs.Acl.{acl_size}
 use Rattle.sd_view.specs.Control.{bit_if}
@@ -43,7 +44,7 @@ derived d plan = record {
 
 -- the size of an ACL has 16 bits
 abbrev pub is_too_large : List AccessControlEntry → Bool
-is_too_large aces = nat_lt 65535 (acl_size aces)
+is_too_large aces = nat_lt most_acl (acl_size aces)
 
 -- why nothing is derived: the SACL is looked at before the DACL
 unfoldable pub derive_fault : Descriptor → Plan → Option DeriveFault

@@ -1,5 +1,4 @@
 -- What a new object inherits (MS-DTYP 2.5.3.4).
-pub mod Building
 pub mod Copies
 pub mod Derived
-pub mod Limits
+pub mod Inner

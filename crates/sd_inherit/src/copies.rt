@@ -2,7 +2,7 @@
 
 ghost use Rattle.std.specs.Prelude.{◌≡◌, ◌<◌, ◌/◌, ◌%◌, not, None, Some};
 ghost use Rattle.sd_binary.specs.Draft.{is_present};
-ghost use Rattle.sd_inherit.specs.Building.{listed};
+ghost use Rattle.sd_inherit.specs.Inner.Building.{listed};
 ghost use Rattle.sd_inherit.specs.Copies.{copies, copies_for, effective_copy, inherit_only_copy};
 ghost use Rattle.sd_inherit.specs.Derived.{sacl_of};
 

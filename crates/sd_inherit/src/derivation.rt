@@ -3,7 +3,7 @@
 ghost use Rattle.std.specs.Prelude.{◌≡◌, [], None, Some, MatchResult, OnOk, OnErr};
 ghost use Rattle.sd_view.specs.Descriptor.{Shows};
 ghost use Rattle.sd_view.specs.Layout.{layout};
-ghost use Rattle.sd_inherit.specs.Building.{inherited_bits};
+ghost use Rattle.sd_inherit.specs.Inner.Building.{inherited_bits};
 ghost use Rattle.sd_inherit.specs.Derived.{derive_fault, derived};
 
 use crate::inherited::{put_acl, put_sacl};

@@ -6,7 +6,7 @@ ghost use Rattle.sd_view.specs.Acl.{aces_size, acl_size};
 ghost use Rattle.sd_binary.specs.Draft.{CanBegin, Draft, bytes_after, is_present, open_size, part_of, with_acl};
 ghost use Rattle.sd_view.specs.declared.acl.AclPart.TheVariants as acl;
 ghost use Rattle.sd_view.specs.declared.control.Which.TheVariants as which;
-ghost use Rattle.sd_inherit.specs.Building.{HasOpen, Writes, listed, one_or_none, with_aces};
+ghost use Rattle.sd_inherit.specs.Inner.Building.{HasOpen, Writes, listed, one_or_none, with_aces};
 ghost use Rattle.sd_inherit.specs.Copies.{copies};
 ghost use Rattle.sd_inherit.specs.Derived.{inherited, sacl_of};
 

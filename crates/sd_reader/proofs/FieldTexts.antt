@@ -7,10 +7,10 @@ use Rattle.std.proofs.Math.Dec.{eqb-suc-zero}
 use Rattle.sd_reader.specs.declared.line.Slot.{Slot}
 use Rattle.sd_core.specs.Sid.{SecurityId}
 use Rattle.sd_reader.specs.Line.{is_blank, trim, trim_end}
-use Rattle.sd_reader.specs.FoldedReading.{Reading, take_field}
+use Rattle.sd_reader.specs.Inner.FoldedReading.{Reading, take_field}
 use Rattle.sd_reader.specs.Meaning.{is_unreadable}
-use Rattle.sd_reader.specs.Held.{Held, IsHeld, broken_text, held_with, held_blank, outer_with, within_with, held_text}
-use Rattle.sd_reader.specs.Progress.{unreadable, text_with, inner_with}
+use Rattle.sd_reader.specs.Inner.Held.{Held, IsHeld, broken_text, held_with, held_blank, outer_with, within_with, held_text}
+use Rattle.sd_reader.specs.Inner.Progress.{unreadable, text_with, inner_with}
 
 -- two texts that read as the same in each field
 pub Same : List ℕ → List ℕ → Type 0

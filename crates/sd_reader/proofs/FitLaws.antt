@@ -10,13 +10,13 @@ use Rattle.sd_core.specs.declared.sid_text.SidFault.{SidFault}
 use Rattle.sd_view.specs.declared.acl.AclPart.TheVariants as acl
 use Rattle.sd_binary.specs.Draft.{Draft, IsOpen, IsOpenIn, acl_of, closed, more_in, with_ace}
 use Rattle.sd_reader.specs.Line.{same_head}
-use Rattle.sd_reader.specs.FoldedReading.{Reading, ace_of, begun_or_null, fault_of, nothing_read, take_ace_field, take_field, take_front, take_readable, with_flags, with_owner_or_group, with_sid, with_trustee, with_value}
+use Rattle.sd_reader.specs.Inner.FoldedReading.{Reading, ace_of, begun_or_null, fault_of, nothing_read, take_ace_field, take_field, take_front, take_readable, with_flags, with_owner_or_group, with_sid, with_trustee, with_value}
 use Rattle.sd_reader.specs.Meaning.{and_then, is_unreadable}
 use Rattle.sd_reader.specs.FieldTexts.{front_reads, kind_reads, object_reads}
-use Rattle.sd_reader.specs.Held.{Held, held_text}
-use Rattle.sd_reader.specs.Progress.{ended_with, is_seen, place_of, result_or, with_head}
+use Rattle.sd_reader.specs.Inner.Held.{Held, held_text}
+use Rattle.sd_reader.specs.Inner.Progress.{ended_with, is_seen, place_of, result_or, with_head}
 use Rattle.sd_reader.proofs.Steps.{seen_with}
-use Rattle.sd_reader.specs.Reads.{Fits, Keeps, Lacks, is_at_front, is_in_acl}
+use Rattle.sd_reader.specs.Inner.Reads.{Fits, Keeps, Lacks, is_at_front, is_in_acl}
 use Rattle.sd_view.specs.declared.control.AclFlags.{AclFlags}
 use Rattle.sd_reader.specs.declared.fault.SddlFault.{SddlFault}
 use Rattle.sd_reader.specs.declared.fault.SddlFault.TheVariants as fault

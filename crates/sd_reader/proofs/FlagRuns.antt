@@ -3,11 +3,12 @@ use Rattle.std.proofs.Common.{◌≡◌, ℕ, List, [], ◌∷◌, Option, Some,
 use Rattle.std.specs.Prelude.{◌==◌}
 use Rattle.std.specs.Char.{to_ascii_uppercase}
 use Rattle.sd_view.specs.declared.control.AclFlags.{AclFlags}
-use Rattle.sd_reader.specs.FieldTexts.{flags_after, or_else, two_letters}
+use Rattle.std.specs.Option.{option_or}
+use Rattle.sd_reader.specs.FieldTexts.{flags_after, two_letters}
 
-or_else-none : {A : Type 0} (x : Option A) → or_else x None ≡ x
-or_else-none None = refl
-or_else-none (Some x) = refl
+pub or-none : {A : Type 0} (x : Option A) → option_or x None ≡ x
+or-none None = refl
+or-none (Some x) = refl
 
 -- a P
 pub run-p : (f : AclFlags) (a : ℕ) (rest text : List ℕ) → text ≡ a ∷ rest → to_ascii_uppercase a ≡ 80
@@ -16,7 +17,7 @@ run-p f a rest text is e = rw is (by_rest rest)
   where
     by_rest : (rest : List ℕ) → flags_after (record f { protected = true }) rest ≡ flags_after f (a ∷ rest)
     by_rest [] = rw e refl
-    by_rest (b ∷ rest) = rw e (sym (or_else-none (flags_after (record f { protected = true }) (b ∷ rest))))
+    by_rest (b ∷ rest) = rw e (sym (or-none (flags_after (record f { protected = true }) (b ∷ rest))))
 
 -- AR or AI
 pub run-pair : (f g : AclFlags) (a b : ℕ) (tail rest text : List ℕ) → text ≡ a ∷ tail → tail ≡ b ∷ rest → (to_ascii_uppercase a == 80) ≡ false → Some g ≡ two_letters f a b

@@ -14,8 +14,9 @@ use Rattle.sd_view.specs.declared.acl.AclPart.{AclPart}
 use Rattle.sd_view.specs.declared.acl.AclPart.TheVariants as acl
 use Rattle.sd_view.specs.declared.control.Which.{Which}
 use Rattle.sd_view.specs.declared.control.Which.TheVariants as which
-use Rattle.sd_reader.specs.FieldTexts.{front_reads, or_else}
-use Rattle.sd_reader.specs.FoldedReading.{Reading, described, fields_of, finished, folded, large_in, nothing_read, read_fields, reads_as, verdict}
+use Rattle.std.specs.Option.{option_or}
+use Rattle.sd_reader.specs.FieldTexts.{front_reads}
+use Rattle.sd_reader.specs.Inner.FoldedReading.{Reading, described, fields_of, finished, folded, large_in, nothing_read, read_fields, reads_as, verdict}
 use Rattle.sd_reader.specs.Line.{Piece, Section, are_shaped, front, has_head, has_twice, is_blank_piece, is_paired, is_shaped, parts_of, same_head, trim}
 use Rattle.sd_reader.specs.Meaning.{Said, acl_said, and_then, body_reads, control_flags, descriptor_of, each, entries_read, field_reads, first_large, means, section_reads, sections_mean, sid_field_reads, sid_said, unless_large, acl_of as acl_picked, flags_of as flags_picked, sid_of as sid_picked}
 use Rattle.sd_view.specs.Control.{bit_if}
@@ -27,6 +28,7 @@ use Rattle.sd_reader.specs.declared.line.SidPart.TheVariants as sid_part
 use Rattle.sd_reader.specs.declared.reading.AceFields.{AceFields}
 use Rattle.sd_reader.specs.declared.reading.AclFront.{AclFront}
 use Rattle.sd_reader.proofs.ControlFlags.{flags-stay}
+use Rattle.sd_reader.proofs.FlagRuns.{or-none}
 use Rattle.sd_reader.proofs.FoldedSections.{Found, before_sid, sections-read, with_all, with_entries, with_said}
 
 -- 1. What the fold holds after a section.
@@ -73,18 +75,14 @@ opened t sf df a l w es = record {
 abbrev large_with : Which → List AccessControlEntry → Option Which
 large_with w es = large_in (Some (w, es))
 
-or_else-none : {A : Type 0} (x : Option A) → or_else x None ≡ x
-or_else-none None = refl
-or_else-none (Some x) = refl
+or-assoc : {A : Type 0} (x y z : Option A) → option_or (option_or x y) z ≡ option_or x (option_or y z)
+or-assoc None y z = refl
+or-assoc (Some x) y z = refl
 
-or_else-assoc : {A : Type 0} (x y z : Option A) → or_else (or_else x y) z ≡ or_else x (or_else y z)
-or_else-assoc None y z = refl
-or_else-assoc (Some x) y z = refl
-
-or_else-again : {A : Type 0} (x y : Option A) → or_else (or_else x y) y ≡ or_else x y
-or_else-again None None = refl
-or_else-again None (Some y) = refl
-or_else-again (Some x) y = refl
+or-again : {A : Type 0} (x y : Option A) → option_or (option_or x y) y ≡ option_or x y
+or-again None None = refl
+or-again None (Some y) = refl
+or-again (Some x) y = refl
 
 longer : (es more : List AccessControlEntry) → aces_size es ≤ aces_size (es ++ more)
 longer [] more = omega arith
@@ -92,11 +90,11 @@ longer (e ∷ es) more = let h = longer es more in omega arith
 
 -- an ACL that is too large stays so
 still-large : (w : Which) (es more : List AccessControlEntry)
-    → or_else (large_with w es) (large_with w (es ++ more)) ≡ large_with w (es ++ more)
+    → option_or (large_with w es) (large_with w (es ++ more)) ≡ large_with w (es ++ more)
 still-large w es more = by_test (nat_lt 65535 (acl_size es)) (nat_lt 65535 (acl_size (es ++ more))) refl refl
   where
     by_test : (x y : Bool) → nat_lt 65535 (acl_size es) ≡ x → nat_lt 65535 (acl_size (es ++ more)) ≡ y
-        → or_else (if x then Some w else None) (if y then Some w else None) ≡ (if y then Some w else None)
+        → option_or (if x then Some w else None) (if y then Some w else None) ≡ (if y then Some w else None)
     by_test false y e f = refl
     by_test true true e f = refl
     by_test true false e f = absurd (let h = longer es more in grind (arith, nat_tests))
@@ -108,21 +106,21 @@ module _ (t : Draft) (sf df : AclFlags) (w : Which) where
   entries-gathered [] before a l = rw append-nil refl
   entries-gathered (e ∷ es) before a l =
       let now = before ++ e ∷ [] in
-      entries-gathered es now (before_sid e) (or_else l (large_with w now))
+      entries-gathered es now (before_sid e) (option_or l (large_with w now))
       ∙ ap (λ (all : List AccessControlEntry). gathered (opened t sf df a l w all)) (append_assoc before (e ∷ []) es)
 
   entries-large : (es before : List AccessControlEntry) (a : AceFields) (l : Option Which)
-      → or_else l (large_with w before) ≡ l
-      → (with_entries (opened t sf df a l w before) es).large ≡ or_else l (large_with w (before ++ es))
+      → option_or l (large_with w before) ≡ l
+      → (with_entries (opened t sf df a l w before) es).large ≡ option_or l (large_with w (before ++ es))
   unfolding with_entries
   entries-large [] before a l h = rw append-nil (sym h)
   entries-large (e ∷ es) before a l h =
       let now = before ++ e ∷ [] in
-      let large = or_else l (large_with w now) in
-      entries-large es now (before_sid e) large (or_else-again l (large_with w now))
-      ∙ or_else-assoc l (large_with w now) (large_with w (now ++ es))
-      ∙ ap (or_else l) (still-large w now es)
-      ∙ ap (λ (all : List AccessControlEntry). or_else l (large_with w all)) (append_assoc before (e ∷ []) es)
+      let large = option_or l (large_with w now) in
+      entries-large es now (before_sid e) large (or-again l (large_with w now))
+      ∙ or-assoc l (large_with w now) (large_with w (now ++ es))
+      ∙ ap (option_or l) (still-large w now es)
+      ∙ ap (λ (all : List AccessControlEntry). option_or l (large_with w all)) (append_assoc before (e ∷ []) es)
 
 -- no ACL is open after the part at hand
 none-open : (t : Draft) → (closed t).«open» ≡ None
@@ -154,35 +152,35 @@ abbrev large_said : Said → Option Which
 large_said (sid_said p s) = None
 large_said (acl_said w f a) = if nat_lt 65535 (acl_part_size a) then Some w else None
 
-said-large : (r : Reading) (x : Said) → (with_said r x).large ≡ or_else r.large (large_said x)
-said-large r (sid_said sid_part.Owner s) = sym (or_else-none r.large)
-said-large r (sid_said sid_part.Group s) = sym (or_else-none r.large)
-said-large r (acl_said which.Sacl f acl.Absent) = sym (or_else-none r.large)
-said-large r (acl_said which.Sacl f acl.Null) = sym (or_else-none r.large)
+said-large : (r : Reading) (x : Said) → (with_said r x).large ≡ option_or r.large (large_said x)
+said-large r (sid_said sid_part.Owner s) = sym (or-none r.large)
+said-large r (sid_said sid_part.Group s) = sym (or-none r.large)
+said-large r (acl_said which.Sacl f acl.Absent) = sym (or-none r.large)
+said-large r (acl_said which.Sacl f acl.Null) = sym (or-none r.large)
 said-large r (acl_said which.Sacl f (acl.List es)) =
-    entries-large (closed r.parts) f r.dacl which.Sacl es [] r.ace r.large (or_else-none r.large)
-said-large r (acl_said which.Dacl f acl.Absent) = sym (or_else-none r.large)
-said-large r (acl_said which.Dacl f acl.Null) = sym (or_else-none r.large)
+    entries-large (closed r.parts) f r.dacl which.Sacl es [] r.ace r.large (or-none r.large)
+said-large r (acl_said which.Dacl f acl.Absent) = sym (or-none r.large)
+said-large r (acl_said which.Dacl f acl.Null) = sym (or-none r.large)
 said-large r (acl_said which.Dacl f (acl.List es)) =
-    entries-large (closed r.parts) r.sacl f which.Dacl es [] r.ace r.large (or_else-none r.large)
+    entries-large (closed r.parts) r.sacl f which.Dacl es [] r.ace r.large (or-none r.large)
 
 -- 2. What it holds after all of them.
 
-first-or : (x : Said) (xs : List Said) → or_else (large_said x) (first_large xs) ≡ first_large (x ∷ xs)
+first-or : (x : Said) (xs : List Said) → option_or (large_said x) (first_large xs) ≡ first_large (x ∷ xs)
 first-or (sid_said p s) xs = refl
 first-or (acl_said w f a) xs = by_test (nat_lt 65535 (acl_part_size a))
   where
     by_test : (b : Bool)
-        → or_else (if b then Some w else None) (first_large xs) ≡ (if b then Some w else first_large xs)
+        → option_or (if b then Some w else None) (first_large xs) ≡ (if b then Some w else first_large xs)
     by_test true = refl
     by_test false = refl
 
-all-large : (xs : List Said) (r : Reading) → (with_all r xs).large ≡ or_else r.large (first_large xs)
+all-large : (xs : List Said) (r : Reading) → (with_all r xs).large ≡ option_or r.large (first_large xs)
 unfolding with_all
-all-large [] r = sym (or_else-none r.large)
+all-large [] r = sym (or-none r.large)
 all-large (x ∷ xs) r =
-    all-large xs (with_said r x) ∙ ap (λ (l : Option Which). or_else l (first_large xs)) (said-large r x)
-    ∙ or_else-assoc r.large (large_said x) (first_large xs) ∙ ap (or_else r.large) (first-or x xs)
+    all-large xs (with_said r x) ∙ ap (λ (l : Option Which). option_or l (first_large xs)) (said-large r x)
+    ∙ or-assoc r.large (large_said x) (first_large xs) ∙ ap (option_or r.large) (first-or x xs)
 
 -- one after the other, from the left
 with_those : List Said → Gathered → Gathered

@@ -2,7 +2,7 @@
 use Rattle.std.proofs.Common.{◌≡◌, ◌<◌, ℕ, ◌+◌, ◌*◌, ◌^◌, List, [], ◌∷◌, ◌++◌, Option, Some, None, IfSome, Result, Ok, Err, IfOk, Bool, true, false, refl, subst, arith}
 use Rattle.std.specs.Prelude.{◌&&◌, nat_lt, if◌then◌else◌}
 use Rattle.std.specs.List.{AllByRecursion}
-use Rattle.std.specs.Option.{option_map}
+use Rattle.std.specs.Option.{option_map, option_or}
 use Rattle.std.proofs.lemmas.Bool.Decides.{nat_tests}
 use Rattle.sd_core.specs.Ace.{AccessControlEntry, IsAce, IsGuid}
 use Rattle.sd_rights.specs.Kinds.{is_object}
@@ -23,11 +23,11 @@ use Rattle.sd_view.specs.declared.acl.AclPart.{AclPart}
 use Rattle.sd_view.specs.declared.acl.AclPart.TheVariants as acl
 use Rattle.sd_view.specs.declared.control.Which.{Which}
 use Rattle.sd_view.specs.declared.control.Which.TheVariants as which
-use Rattle.sd_reader.specs.FoldedReading.{Field, Reading, ace_of, begun_or_null, described, fault_of, fields_of, finished, folded, large_in, no_fields, nothing_read, read_fields, reads_as, take_ace_field, take_field, take_front, take_readable, verdict, with_flags, with_owner_or_group, with_sid, with_trustee, with_value}
+use Rattle.sd_reader.specs.Inner.FoldedReading.{Field, Reading, ace_of, begun_or_null, described, fault_of, fields_of, finished, folded, large_in, no_fields, nothing_read, read_fields, reads_as, take_ace_field, take_field, take_front, take_readable, verdict, with_flags, with_owner_or_group, with_sid, with_trustee, with_value}
 use Rattle.sd_reader.specs.Line.{has_twice, is_shaped, parts_of}
 use Rattle.sd_reader.specs.Meaning.{and_then, control_flags, is_unreadable, means, unless_large}
-use Rattle.sd_reader.specs.FieldTexts.{front_reads, kind_reads, object_reads, or_else}
-use Rattle.sd_reader.specs.Reads.{AreAceFields}
+use Rattle.sd_reader.specs.FieldTexts.{front_reads, kind_reads, object_reads}
+use Rattle.sd_reader.specs.Inner.Reads.{AreAceFields}
 use Rattle.sd_view.specs.declared.control.AclFlags.{AclFlags}
 use Rattle.sd_reader.specs.declared.fault.SddlFault.{SddlFault}
 use Rattle.sd_reader.specs.declared.fault.SddlFault.TheVariants as fault
@@ -161,7 +161,7 @@ each-more : (aces : List AccessControlEntry) (a : AccessControlEntry) → AllByR
 each-more [] a h k = (k, tt)
 each-more (b ∷ others) a h k = (h.0, each-more others a h.1 k)
 
-neither : (x y : Option Which) → or_else x y ≡ None → (x ≡ None) × (y ≡ None)
+neither : (x y : Option Which) → option_or x y ≡ None → (x ≡ None) × (y ≡ None)
 neither None y e = (refl, e)
 neither (Some w) y e = absurd cc
 

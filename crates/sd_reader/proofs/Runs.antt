@@ -12,11 +12,11 @@ use Rattle.sd_reader.specs.declared.line.AceField.{AceField}
 use Rattle.sd_reader.specs.declared.line.Place.TheVariants as place
 use Rattle.sd_reader.specs.declared.line.Seen.{Seen}
 use Rattle.sd_reader.specs.declared.line.SidPart.{SidPart}
-use Rattle.sd_reader.specs.Held.{Held, IsHeld, broken_text, held_run, held_with, is_plain_inside, is_plain_outside}
+use Rattle.sd_reader.specs.Inner.Held.{Held, IsHeld, broken_text, held_run, held_with, is_plain_inside, is_plain_outside}
 use Rattle.sd_reader.specs.Line.{head_of, is_blank}
-use Rattle.sd_reader.specs.FoldedReading.{Reading}
-use Rattle.sd_reader.specs.Progress.{answer, result_or}
-use Rattle.sd_reader.specs.Reads.{IsReader, Reads, answer_at}
+use Rattle.sd_reader.specs.Inner.FoldedReading.{Reading}
+use Rattle.sd_reader.specs.Inner.Progress.{answer, result_or}
+use Rattle.sd_reader.specs.Inner.Reads.{IsReader, Reads, answer_at}
 use Rattle.sd_reader.specs.declared.reader.SddlReader.{SddlReader}
 use Rattle.sd_reader.proofs.FieldTexts.{append_nothing, same_inner, same_text, with_held}
 use Rattle.sd_reader.proofs.Steps.{entry_text, no_head, sid_text}

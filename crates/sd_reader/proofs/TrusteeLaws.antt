@@ -8,8 +8,8 @@ use Rattle.sd_core.specs.Sid.{SecurityId}
 use Rattle.sd_view.specs.Acl.{acl_size, aces_size}
 use Rattle.sd_binary.specs.Builds.{Builds}
 use Rattle.sd_binary.specs.Draft.{IsOpen, IsOpenIn, more_in, open_size, open_size_in, with_ace}
-use Rattle.sd_reader.specs.FoldedReading.{Reading, ace_of, large_in, with_trustee}
-use Rattle.sd_reader.specs.Reads.{Holds}
+use Rattle.sd_reader.specs.Inner.FoldedReading.{Reading, ace_of, large_in, with_trustee}
+use Rattle.sd_reader.specs.Inner.Reads.{Holds}
 use Rattle.sd_reader.specs.declared.reading.FieldReader.{FieldReader}
 use Rattle.sd_binary.specs.declared.builder.Builder.{Builder}
 use Rattle.sd_view.specs.declared.control.Which.{Which}

@@ -12,11 +12,11 @@ use Rattle.sd_reader.specs.declared.line.Head.{Head}
 use Rattle.sd_reader.specs.declared.line.Place.TheVariants as place
 use Rattle.sd_reader.specs.declared.line.Seen.{Seen}
 use Rattle.sd_reader.specs.declared.line.Slot.TheVariants as slot
-use Rattle.sd_reader.specs.FoldedReading.{Reading, reads_as, take_field}
-use Rattle.sd_reader.specs.Held.{IsHeld, is_plain_inside, no_text}
+use Rattle.sd_reader.specs.Inner.FoldedReading.{Reading, reads_as, take_field}
+use Rattle.sd_reader.specs.Inner.Held.{IsHeld, is_plain_inside, no_text}
 use Rattle.sd_reader.specs.Meaning.{and_then, is_unreadable}
-use Rattle.sd_reader.specs.Progress.{answer, end_of, place_after}
-use Rattle.sd_reader.specs.Reads.{Reads, is_at_front}
+use Rattle.sd_reader.specs.Inner.Progress.{answer, end_of, place_after}
+use Rattle.sd_reader.specs.Inner.Reads.{Reads, is_at_front}
 use Rattle.sd_reader.specs.declared.reader.SddlReader.{SddlReader}
 use Rattle.sd_reader.proofs.FieldTexts.{held-readable}
 use Rattle.sd_reader.proofs.Runs.{inside-held, inside-run, rest-from, run-fits}

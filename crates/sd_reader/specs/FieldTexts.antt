@@ -3,7 +3,7 @@
 -- sd_core.
 use Rattle.std.specs.Prelude.{ℕ, ◌-◌, ◌&&◌, Bool, true, false, ◌==◌, nat_le, if◌then◌else◌, List, [], ◌∷◌, length, take, drop, codes, Option, Some, None}
 use Rattle.std.specs.Char.{to_ascii_uppercase}
-use Rattle.std.specs.Option.{option_and_then, option_map}
+use Rattle.std.specs.Option.{option_and_then, option_map, option_or}
 use Rattle.std.specs.Str.{str_eq_ignore_ascii_case}
 use Rattle.sd_rights.specs.Kinds.{is_object, kind_named}
 use Rattle.sd_core.specs.GuidText.{guid_reads}
@@ -29,16 +29,12 @@ after_a f b =
 abbrev pub two_letters : AclFlags → ℕ → ℕ → Option AclFlags
 two_letters f a b = if to_ascii_uppercase a == 65 then after_a f b else None
 
-abbrev pub or_else : {A : Type 0} → Option A → Option A → Option A
-or_else None other = other
-or_else (Some x) other = Some x
-
 -- a run of P, AR and AI in any order and in either case, beside the flags so far
 abbrev pub flags_after : AclFlags → List ℕ → Option AclFlags
 flags_after f [] = Some f
 flags_after f (a ∷ []) = one_letter f a
 flags_after f (a ∷ b ∷ rest) =
-    or_else (option_and_then (λ g. flags_after g (b ∷ rest)) (one_letter f a)) (option_and_then (λ g. flags_after g rest) (two_letters f a b))
+    option_or (option_and_then (λ g. flags_after g (b ∷ rest)) (one_letter f a)) (option_and_then (λ g. flags_after g rest) (two_letters f a b))
 
 abbrev pub ends_with_null : List ℕ → Bool
 ends_with_null text = nat_le 17 (length text) && str_eq_ignore_ascii_case (drop (length text - 17) text) (codes "NO_ACCESS_CONTROL")

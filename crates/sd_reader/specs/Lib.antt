@@ -1,7 +1,4 @@
 pub mod FieldTexts
-pub mod FoldedReading
-pub mod Held
+pub mod Inner
 pub mod Line
 pub mod Meaning
-pub mod Progress
-pub mod Reads

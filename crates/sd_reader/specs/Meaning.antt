@@ -4,6 +4,7 @@ use Rattle.std.specs.List.{list_any}
 use Rattle.std.specs.Option.{ok_or}
 use Rattle.sd_core.specs.Ace.{AccessControlEntry}
 use Rattle.sd_rights.specs.Flags.{flags_reads}
+use Rattle.sd_rights.specs.Limits.{most_acl, most_field}
 use Rattle.sd_rights.specs.Rights.{rights_reads}
 use Rattle.sd_core.specs.Sid.{SecurityId}
 use Rattle.sd_core.specs.SidText.{sid_reads}
@@ -46,9 +47,9 @@ each reads (x ∷ others) = do
 
 -- 1. Fields.
 
--- no field with a blank in it reads, which the readers of each field say too, and none of more than 183 bytes
+-- no field with a blank in it reads, which the readers of each field say too, and none that is too long
 abbrev pub is_unreadable : List ℕ → Bool
-is_unreadable text = list_any is_blank text || nat_lt 183 (length text)
+is_unreadable text = list_any is_blank text || nat_lt most_field (length text)
 
 -- what a field reads as, or the fault of one that does not read
 abbrev pub field_reads : {A : Type 0} → SddlFault → (List ℕ → Option A) → List ℕ → Result A SddlFault
@@ -143,11 +144,11 @@ descriptor_of said = record {
 
 -- 5. The line.
 
--- the first ACL from the left whose size passes 65,535
+-- the first ACL from the left that is too large
 abbrev pub first_large : List Said → Option Which
 first_large [] = None
 first_large (sid_said p s ∷ others) = first_large others
-first_large (acl_said w f a ∷ others) = if nat_lt 65535 (acl_part_size a) then Some w else first_large others
+first_large (acl_said w f a ∷ others) = if nat_lt most_acl (acl_part_size a) then Some w else first_large others
 
 abbrev pub unless_large : Option Which → Descriptor → Result Descriptor SddlFault
 unless_large None d = Ok d

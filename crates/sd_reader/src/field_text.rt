@@ -1,16 +1,15 @@
-// The text of the field at hand, of at most 183 bytes.
+// The text of the field at hand, of at most MOST_FIELD_SIZE bytes.
 ghost use Rattle.std.specs.Prelude.{◌≡◌, ◌≤◌, ◌↔◌, ℕ, ◌+◌, ◌++◌, length, take, IsTrue, true};
-ghost use Rattle.sd_reader.specs.Held.{Held, no_text, broken_text, held_with, held_run, held_blank, outer_with, within_with, held_text};
+ghost use Rattle.sd_rights.specs.Limits.{most_field};
+ghost use Rattle.sd_reader.specs.Inner.Held.{Held, no_text, broken_text, held_with, held_run, held_blank, outer_with, within_with, held_text};
 
+use sd_rights::MOST_FIELD_SIZE;
 use std::marker::Model;
-
-/// The bytes that the text of a field has at most.
-pub const MOST_FIELD_SIZE: usize = 183;
 
 /// A field's text as far as it came. One that can no longer read is not kept.
 #[derive(Drop)]
 pub struct FieldText {
-    bytes: [u8; 183],
+    bytes: [u8; MOST_FIELD_SIZE],
     len: usize,
     gap: bool,
     broken: bool,
@@ -21,7 +20,7 @@ impl Model for FieldText {
 
     ghost view = { λ f. record { text = take f.len f.bytes; gap = f.gap; broken = f.broken } };
 
-    ghost invariant = { λ f. f.len ≤ 183 };
+    ghost invariant = { λ f. f.len ≤ most_field };
 }
 
 impl FieldText {
@@ -29,7 +28,7 @@ impl FieldText {
         ensures { result ≡ no_text }
     {
         FieldText {
-            bytes: [0; 183],
+            bytes: [0; MOST_FIELD_SIZE],
             len: 0,
             gap: false,
             broken: false,
@@ -87,7 +86,7 @@ impl FieldText {
 
     // Bytes for which there is room.
     fn append(&mut self, run: &[u8])
-        requires room { length self.old.text + length run.now ≤ 183 }
+        requires room { length self.old.text + length run.now ≤ most_field }
         ensures { self.new ≡ record self.old { text = self.old.text ++ run.now } }
     {
         let end = self.len + run.len();

@@ -1,10 +1,10 @@
 // The parts of an SDDL line, and the places in it.
 ghost use Rattle.std.specs.Prelude.{◌≡◌, ◌≤◌, [], ◌∷◌, length, take, true};
 ghost use Rattle.std.specs.List.{list_all};
-ghost use Rattle.sd_reader.specs.Held.{is_plain_inside, is_plain_outside};
+ghost use Rattle.sd_reader.specs.Inner.Held.{is_plain_inside, is_plain_outside};
 ghost use Rattle.sd_reader.specs.Line.{head_of, is_blank};
-ghost use Rattle.sd_reader.specs.FoldedReading.{next_field};
-ghost use Rattle.sd_reader.specs.Progress.{end_of, place_after, place_of};
+ghost use Rattle.sd_reader.specs.Inner.FoldedReading.{next_field};
+ghost use Rattle.sd_reader.specs.Inner.Progress.{end_of, place_after, place_of};
 
 use sd_binary::Which;
 
@@ -73,7 +73,7 @@ pub struct Seen {
 
 impl Seen {
     ghost use Rattle.std.specs.Prelude.{◌≡◌};
-    ghost use Rattle.sd_reader.specs.Progress.{is_seen, with_head};
+    ghost use Rattle.sd_reader.specs.Inner.Progress.{is_seen, with_head};
 
     /// Whether a head stood.
     pub fn has(&self, head: Head) -> bool

@@ -2,18 +2,19 @@
 ghost use Rattle.std.specs.Prelude.{◌≡◌, ◌≤◌, ◌==◌, ℕ, List, [], ◌∷◌, ◌++◌, length, take, ◌||◌, if◌then◌else◌, true, false, Option, Some, None, Ok, Err, IfOk, IfSome, MatchResult};
 ghost use Rattle.std.specs.List.{list_all};
 ghost use Rattle.std.specs.Option.{option_copied};
+ghost use Rattle.sd_rights.specs.Limits.{most_field};
 ghost use Rattle.sd_core.specs.Sid.{IsSid, SecurityId};
 ghost use Rattle.sd_view.specs.Descriptor.{IsDescriptor, Shows};
 ghost use Rattle.sd_binary.specs.Draft.{IsWritten};
-ghost use Rattle.sd_reader.specs.Held.{IsHeld, is_plain_inside, no_text, held_text};
+ghost use Rattle.sd_reader.specs.Inner.Held.{IsHeld, is_plain_inside, no_text, held_text};
 ghost use Rattle.sd_reader.specs.Line.{byte, head_at, head_of as head_named, pieces_from};
-ghost use Rattle.sd_reader.specs.FoldedReading.{Reading, finished, reads_as, take_field};
+ghost use Rattle.sd_reader.specs.Inner.FoldedReading.{Reading, finished, reads_as, take_field};
 ghost use Rattle.sd_reader.specs.Meaning.{and_then, is_unreadable, means};
-ghost use Rattle.sd_reader.specs.Reads.{CanTake, Holds, Takes};
-ghost use Rattle.sd_reader.specs.Progress.{end_of, ended_with, is_inside, is_seen, place_after, place_of, result_or, with_head};
+ghost use Rattle.sd_reader.specs.Inner.Reads.{CanTake, Holds, Takes};
+ghost use Rattle.sd_reader.specs.Inner.Progress.{end_of, ended_with, is_inside, is_seen, place_after, place_of, result_or, with_head};
 
 use crate::fault::SddlFault;
-use crate::field_text::{FieldText, MOST_FIELD_SIZE};
+use crate::field_text::FieldText;
 use crate::line::{
     AceField, Head, Place, Seen, Slot, ends_field, head_of, is_blank, next_field, place_after,
     place_of, plain_in_field, plain_inside, plain_outside,
@@ -21,6 +22,7 @@ use crate::line::{
 use crate::reading::{FieldReader, fault_of};
 use sd_binary::SdBuf;
 use sd_core::Sid;
+use sd_rights::MOST_FIELD_SIZE;
 
 /// A reader of one line, a byte at a time, beside the buffer in which the descriptor is built.
 #[derive(Drop)]
@@ -39,7 +41,7 @@ pub struct SddlReader {
 }
 
 impl SddlReader {
-    ghost use Rattle.sd_reader.specs.Reads.{Ends, Holds, Keeps, IsCalm, IsReader, IsText, Reads, Steps, StepsOn, StepsText, answer_at, waiting};
+    ghost use Rattle.sd_reader.specs.Inner.Reads.{Ends, Holds, Keeps, IsCalm, IsReader, IsText, Reads, Steps, StepsOn, StepsText, answer_at, waiting};
 
     /// A reader that was fed nothing.
     pub fn new(domain: Option<Sid>, buf: &mut SdBuf) -> Self
@@ -366,7 +368,7 @@ impl SddlReader {
         requires here { self.old.place ≡ Place.Ace field }
         requires begins { self.old.field ≡ no_text }
         requires plain { list_all is_plain_inside text.now ≡ true }
-        requires fits { length text.now ≤ 183 }
+        requires fits { length text.now ≤ most_field }
         requires held { (t : Reading) × Keeps self.old buf.old t }
         ensures answers { Steps self.old buf.old (text.now ++ end_of field ∷ []) self.new buf.new }
         ensures place { self.new.place ≡ place_after field }

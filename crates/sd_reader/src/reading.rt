@@ -2,7 +2,7 @@
 ghost use Rattle.std.specs.Prelude.{◌≡◌, Option, false};
 ghost use Rattle.sd_core.specs.Sid.{SecurityId};
 ghost use Rattle.sd_core.specs.SidText.{sid_reads};
-ghost use Rattle.sd_reader.specs.FoldedReading.{Reading, ace_fault_of, fault_of, no_fields, take_ace_field, take_field, take_front, with_sid, with_trustee};
+ghost use Rattle.sd_reader.specs.Inner.FoldedReading.{Reading, ace_fault_of, fault_of, no_fields, take_ace_field, take_field, take_front, with_sid, with_trustee};
 ghost use Rattle.sd_reader.specs.Meaning.{control_flags, is_unreadable};
 ghost use Rattle.sd_reader.specs.FieldTexts.{front_reads};
 
@@ -48,8 +48,8 @@ impl FieldReader {
     ghost use Rattle.sd_rights.specs.Kinds.{is_object};
     ghost use Rattle.sd_binary.specs.Draft.{IsOpen, closed};
     ghost use Rattle.sd_reader.specs.declared.line.Head.TheVariants as head;
-    ghost use Rattle.sd_reader.specs.FoldedReading.{Reading, begun_or_null, finished, nothing_read, with_flags, with_owner_or_group};
-    ghost use Rattle.sd_reader.specs.Reads.{CanTake, Ends, Holds, Lacks, Takes};
+    ghost use Rattle.sd_reader.specs.Inner.FoldedReading.{Reading, begun_or_null, finished, nothing_read, with_flags, with_owner_or_group};
+    ghost use Rattle.sd_reader.specs.Inner.Reads.{CanTake, Ends, Holds, Lacks, Takes};
 
     /// A reader that has read nothing.
     pub fn new(domain: Option<Sid>, buf: &mut SdBuf) -> FieldReader
@@ -69,7 +69,7 @@ impl FieldReader {
 
     /// Reads a field whose text has no blank and at most 183 bytes.
     #[inline(always)]
-    #[tactic(auto, unfolding(crate::specs::FoldedReading::take_field))]
+    #[tactic(auto, unfolding(crate::specs::Inner::FoldedReading::take_field))]
     pub fn take_readable(
         &mut self,
         buf: &mut SdBuf,
@@ -130,7 +130,7 @@ impl FieldReader {
     }
 
     // What stands in an ACL before its ACEs.
-    #[tactic(auto, unfolding(crate::specs::FoldedReading::take_front))]
+    #[tactic(auto, unfolding(crate::specs::Inner::FoldedReading::take_front))]
     fn take_front(
         &mut self,
         buf: &mut SdBuf,
@@ -174,7 +174,7 @@ impl FieldReader {
     }
 
     // A field of the ACE at hand.
-    #[tactic(auto, unfolding(crate::specs::FoldedReading::take_ace_field))]
+    #[tactic(auto, unfolding(crate::specs::Inner::FoldedReading::take_ace_field))]
     fn take_ace_field(
         &mut self,
         buf: &mut SdBuf,
@@ -261,7 +261,7 @@ impl FieldReader {
     }
 
     /// Ends the descriptor.
-    #[tactic(auto, unfolding(crate::specs::FoldedReading::finished))]
+    #[tactic(auto, unfolding(crate::specs::Inner::FoldedReading::finished))]
     pub fn finish(mut self, buf: &mut SdBuf) -> Result<(), SddlFault>
         requires { (t : Reading) × Holds self buf.old t }
         ensures { (t : Reading) → Holds self buf.old t → Ends (finished (Ok t)) result buf.new }

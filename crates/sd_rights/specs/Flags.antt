@@ -1,11 +1,12 @@
 -- The texts of the flags of an ACE (MS-DTYP 2.5.1.1, ace-flag-string).
 use Rattle.std.specs.Prelude.{ℕ, nat_lt, if◌then◌else◌, List, length, Option, None}
+use Rattle.sd_rights.specs.Limits.{most_field}
 use Rattle.sd_rights.specs.Names.{run_of, names_of}
 use Rattle.sd_rights.specs.declared.flags.TheConstants.{FLAGS}
 
--- the flags that a text of at most 183 bytes gives: a run of names in any order, also repeated
+-- the flags that the text of a field gives: a run of names in any order, also repeated
 unfoldable pub flags_reads : List ℕ → Option ℕ
-flags_reads text = if nat_lt 183 (length text) then None else run_of FLAGS text
+flags_reads text = if nat_lt most_field (length text) then None else run_of FLAGS text
 
 -- the names of the flags, in the order of the table
 unfoldable pub flags_text : ℕ → List ℕ

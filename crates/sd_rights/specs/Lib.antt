@@ -1,5 +1,6 @@
 pub mod Flags
 pub mod Kinds
+pub mod Limits
 pub mod Names
 pub mod Numbers
 pub mod Rights

@@ -4,6 +4,7 @@ use Rattle.std.specs.List.{find, list_all}
 use Rattle.std.specs.Char.{is_digit}
 use Rattle.std.specs.Fmt.{digits}
 use Rattle.std.specs.Str.Parse.{digits_value}
+use Rattle.sd_rights.specs.Limits.{most_field}
 use Rattle.sd_rights.specs.Names.{run_of, names_of, named_bits}
 use Rattle.sd_rights.specs.declared.kinds.AceKind.{AceKind}
 use Rattle.sd_rights.specs.declared.kinds.AceKind.TheVariants as kinds
@@ -36,9 +37,9 @@ short_rights_reads [] = Some 0
 short_rights_reads (c ∷ cs) =
     if is_digit c 10 then (if c == 48 then after_zero cs else number 10 (c ∷ cs)) else run_of all_rights (c ∷ cs)
 
--- the mask that a text of at most 183 bytes gives
+-- the mask that the text of a field gives
 unfoldable pub rights_reads : List ℕ → Option ℕ
-rights_reads text = if nat_lt 183 (length text) then None else short_rights_reads text
+rights_reads text = if nat_lt most_field (length text) then None else short_rights_reads text
 
 -- 2. Printing.
 

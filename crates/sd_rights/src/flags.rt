@@ -3,7 +3,8 @@ ghost use Rattle.sd_rights.specs.Flags.{flags_reads, flags_text};
 ghost use Rattle.sd_sink.specs.Print.{Prints};
 ghost use Rattle.sd_sink.specs.Sink.{Puts};
 
-use crate::names::{LONGEST, NamedBits, print_names, read_names};
+use crate::limits::MOST_FIELD_SIZE;
+use crate::names::{NamedBits, print_names, read_names};
 use sd_sink::{Print, Printer, Sink, SinkFault};
 
 /// The flags of an ACE (MS-DTYP 2.4.4.1 and 2.5.1.1), in the order in which they are printed.
@@ -72,7 +73,7 @@ pub fn flags_from_text(text: &[u8]) -> Option<u8>
     // No name has bit 0x20, which no ACE has.
     ensures clear { IfSome result (λ flags. flags / 0x20 % 2 ≡ 0) }
 {
-    if text.len() > LONGEST {
+    if text.len() > MOST_FIELD_SIZE {
         return None;
     }
     let flags = read_names(&[&FLAGS], text)?;

@@ -5,6 +5,7 @@
 mod digits;
 mod flags;
 mod kinds;
+mod limits;
 mod names;
 mod numbers;
 mod rights;
@@ -14,6 +15,7 @@ mod rights_table;
 pub use digits::{print_decimal, print_decimal_behind, print_hex};
 pub use flags::{flags_from_text, print_flags, put_flags};
 pub use kinds::AceKind;
+pub use limits::{MOST_ENTRIES, MOST_FIELD_SIZE, MOST_SUBS};
 pub use numbers::read_number;
 pub use rights::{print_rights, put_rights};
 pub use rights_reading::rights_from_text;

@@ -15,9 +15,6 @@ pub struct NamedBits {
     pub bits: u32,
 }
 
-/// The bytes of the longest text that is read as rights, as flags or as a SID.
-pub const LONGEST: usize = 183;
-
 /// The names of the largest table.
 const MOST_NAMES: usize = 17;
 

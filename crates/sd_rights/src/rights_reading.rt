@@ -3,7 +3,8 @@
 ghost use Rattle.std.specs.Prelude.{◌≡◌, ◌≤◌};
 ghost use Rattle.sd_rights.specs.Rights.{after_zero, number, rights_reads, short_rights_reads};
 
-use crate::names::{LONGEST, read_names};
+use crate::limits::MOST_FIELD_SIZE;
+use crate::names::read_names;
 use crate::numbers::read_number;
 use crate::rights_table::{COMPOUNDS, LABELS, SINGLES};
 
@@ -15,7 +16,7 @@ use crate::rights_table::{COMPOUNDS, LABELS, SINGLES};
 pub fn rights_from_text(text: &[u8]) -> Option<u32>
     ensures { result ≡ rights_reads text.now }
 {
-    if text.len() > LONGEST {
+    if text.len() > MOST_FIELD_SIZE {
         return None;
     }
     read_rights(text)

@@ -18,7 +18,7 @@ use Rattle.sd_view.specs.declared.control.Which.{Which}
 use Rattle.sd_view.specs.declared.control.Which.TheVariants as which
 use Rattle.sd_view.specs.Control.{acl_flags, bit_if, flag_bits, no_flags, control_of}
 use Rattle.sd_binary.specs.Draft.{is_present, no_parts}
-use Rattle.sd_reader.specs.FoldedReading.{Field, Reading, described, fields_of, finished, folded, nothing_read, read_fields, reads_as, verdict}
+use Rattle.sd_reader.specs.Inner.FoldedReading.{Field, Reading, described, fields_of, finished, folded, nothing_read, read_fields, reads_as, verdict}
 use Rattle.sd_reader.specs.Line.{Sections, has_twice, is_shaped, parts_of}
 use Rattle.sd_reader.specs.Meaning.{control_flags}
 use Rattle.sd_sddl.specs.Printed.{ace_text, acl_text, dacl_text, group_text, kept_bits, owner_text, plain, sacl_text, sddl, sid_text_of, trustee_text}

@@ -21,10 +21,10 @@ use Rattle.sd_reader.specs.declared.reading.AceFields.{AceFields}
 use Rattle.sd_view.specs.declared.control.Which.{Which}
 use Rattle.sd_view.specs.declared.control.Which.TheVariants as which
 use Rattle.sd_binary.specs.Draft.{Draft, begun, closed, with_ace, with_acl}
-use Rattle.sd_reader.specs.FoldedReading.{Field, Reading, ace_fields, grown, large_in, no_fields, read_fields, take_field, with_flags, with_owner_or_group, with_trustee}
+use Rattle.sd_reader.specs.Inner.FoldedReading.{Field, Reading, ace_fields, grown, large_in, no_fields, read_fields, take_field, with_flags, with_owner_or_group, with_trustee}
 use Rattle.sd_reader.specs.Line.{ace, byte, has_aces}
 use Rattle.sd_reader.specs.Meaning.{and_then}
-use Rattle.sd_reader.specs.FieldTexts.{or_else}
+use Rattle.std.specs.Option.{option_or}
 use Rattle.sd_sddl.specs.Printed.{trustee_text}
 use Rattle.sd_reader.proofs.FoldedSections.{read-append}
 use Rattle.sd_sddl.proofs.AceTexts.{field_at, inner-fields, inner_text, inner_text-is}
@@ -76,7 +76,7 @@ with_fields f r = record r { ace = f }
 abbrev opened : Which → List AccessControlEntry → Reading → Reading
 opened w done r = record r { parts = record r.parts { «open» = Some (w, done) } }
 
-nothing-else : {A : Type 0} (o : Option A) → or_else o None ≡ o
+nothing-else : {A : Type 0} (o : Option A) → option_or o None ≡ o
 nothing-else None = refl
 nothing-else (Some x) = refl
 
@@ -87,7 +87,7 @@ grown-open : (w : Which) (done : List AccessControlEntry) (a : AccessControlEntr
     → grown (opened w done r) (with_ace a (opened w done r).parts) ≡ opened w (done ++ a ∷ []) r
 grown-open w done a r small =
     ap (λ (l : Option Which). record (opened w (done ++ a ∷ []) r) { large = l })
-    (ap (or_else r.large) (not-large w (done ++ a ∷ []) small) ∙ nothing-else r.large)
+    (ap (option_or r.large) (not-large w (done ++ a ∷ []) small) ∙ nothing-else r.large)
 
 ace-back : (naming : Naming) (w : Which) (done : List AccessControlEntry) (a : AccessControlEntry) (r : Reading) → IsAce a → acl_size (done ++ a ∷ []) < 2 ^ 16
     → read_fields naming.domain (ace_fields (inner_text naming a)) (opened w done r) ≡ Ok (opened w (done ++ a ∷ []) (with_fields (fields_of_ace a) r))

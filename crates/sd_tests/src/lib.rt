@@ -3,8 +3,6 @@
 #![tactic(auto)]
 
 #[cfg(test)]
-mod access;
-#[cfg(test)]
 mod ace;
 #[cfg(test)]
 mod buffer;
@@ -19,10 +17,6 @@ mod guid;
 #[cfg(test)]
 mod inheritance;
 #[cfg(test)]
-mod mapping;
-#[cfg(test)]
-mod plain_check;
-#[cfg(test)]
 mod rights;
 #[cfg(test)]
 mod sddl;
@@ -30,5 +24,3 @@ mod sddl;
 mod sid;
 #[cfg(test)]
 mod text_sink;
-#[cfg(test)]
-mod token;

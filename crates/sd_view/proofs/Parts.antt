@@ -6,7 +6,7 @@ use Rattle.sd_core.specs.Sid.{sid_bytes, sid_of, sid_stands}
 use Rattle.sd_core.proofs.Numbers.{AreBytes, AreBytes-drop}
 use Rattle.sd_view.specs.declared.acl.AclPart.{AclPart}
 use Rattle.sd_view.specs.declared.acl.AclPart.TheVariants as acl
-use Rattle.sd_view.specs.Found.{written_of}
+use Rattle.sd_view.specs.Inner.Found.{written_of}
 use Rattle.sd_view.specs.Layout.{acl_part_size, sid_part}
 use Rattle.sd_view.specs.Reading.{IsSidAt, sid_shown}
 use Rattle.sd_core.proofs.SidLaws.{length-sid_bytes}

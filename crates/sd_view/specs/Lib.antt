@@ -5,6 +5,6 @@ pub mod AclReading
 pub mod Bytes
 pub mod Control
 pub mod Descriptor
-pub mod Found
+pub mod Inner
 pub mod Layout
 pub mod Reading

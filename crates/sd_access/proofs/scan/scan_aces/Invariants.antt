@@ -2,7 +2,7 @@ use Rattle.std.proofs.Common.{◌≡◌, ◌≤◌, ◌<◌, ◌+◌, ◌*◌, �
 use Rattle.std.specs.List.{find, list_any}
 use Rattle.sd_core.specs.Mapping.{carries}
 use Rattle.sd_access.specs.Granted.{allows, decides}
-use Rattle.sd_access.specs.Scan.{are_decided}
+use Rattle.sd_access.specs.Inner.Scan.{are_decided}
 use Rattle.sd_access.proofs.scan.scan_aces.Given as goal
 
 -- what was granted so far, and what the rest of the list allows of the undecided rights, are the answer

@@ -1,5 +1,5 @@
 use Rattle.std.proofs.Common.{◌≡◌, ◌-◌, ◌^◌, ℕ, ap, ◌∙◌, refl, bit_and, bit_or}
-use Rattle.sd_access.specs.Scan.{question_of, undecided_of}
+use Rattle.sd_access.specs.Inner.Scan.{question_of, undecided_of}
 use Rattle.sd_access.proofs.VerdictLaws.{count_all, granted_bit, undecided-lt}
 use Rattle.sd_access.proofs.verdict.granted.Goals as goal
 use Rattle.sd_access.proofs.verdict.granted.Goals.{After-undecided-undecided}

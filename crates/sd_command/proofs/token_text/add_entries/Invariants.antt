@@ -2,7 +2,7 @@ use Rattle.std.proofs.Common.{◌≡◌, [], length}
 use denote.Text.{Utf8}
 use denote.Shadow.{shadow}
 use Rattle.std.specs.Option.{option_copied}
-use Rattle.sd_command.specs.Adding.{with_pieces}
+use Rattle.sd_command.specs.Inner.Adding.{with_pieces}
 use Rattle.sd_command.specs.TokenText.{pieces}
 use Rattle.sd_command.proofs.token_text.add_entries.Given as goal
 

@@ -1,5 +1,5 @@
 use Rattle.sd_filter.specs.Answers.{line_limit}
-use Rattle.sd_filter.specs.Sofar.{HoldsText}
+use Rattle.sd_filter.specs.Inner.Sofar.{HoldsText}
 use Rattle.sd_filter.proofs.feed.answer_held.Goals as goal
 
 pub returns-clause-answered : goal.returns-clause-answered

@@ -1,7 +1,7 @@
 use Rattle.std.proofs.Common.{◌≡◌, ◌≤◌, ◌+◌, ◌-◌, ℕ, List, ◌++◌, length, take}
 use Rattle.sd_core.specs.Token.{TokenShown}
 use Rattle.sd_sink.specs.Sink.{SinkTold}
-use Rattle.sd_filter.specs.Sofar.{Sofar}
+use Rattle.sd_filter.specs.Inner.Sofar.{Sofar}
 use Rattle.sd_filter.specs.Told.{sink_of}
 use Rattle.sd_filter.proofs.feed.feed_all.Given as goal
 

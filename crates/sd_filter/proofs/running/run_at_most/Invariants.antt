@@ -1,5 +1,5 @@
 use Rattle.std.proofs.Common.{◌≡◌, ◌≤◌, ◌*◌, length}
-use Rattle.sd_filter.specs.Sofar.{BeforeRead}
+use Rattle.sd_filter.specs.Inner.Sofar.{BeforeRead}
 use Rattle.sd_filter.proofs.running.run_at_most.Given as goal
 
 abbrev pub invariant-loop-turn : goal.invariant-loop-turn

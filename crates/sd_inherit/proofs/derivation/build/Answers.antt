@@ -1,6 +1,6 @@
 use Rattle.std.proofs.Common.{◌≡◌, Some, refl}
 use Rattle.sd_binary.specs.Draft.{Draft, built, no_parts}
-use Rattle.sd_inherit.specs.Building.{Writes}
+use Rattle.sd_inherit.specs.Inner.Building.{Writes}
 use Rattle.sd_inherit.specs.Derived.{derived, inherited, sacl_of}
 use Rattle.sd_inherit.proofs.DerivedLaws.{built-derived, fault-dacl, fault-none, fault-sacl, parts_of}
 use Rattle.sd_inherit.proofs.derivation.build.Goals as goal

@@ -1,5 +1,5 @@
 use Rattle.std.proofs.Common.{is_err}
-use Rattle.sd_inherit.specs.Building.{one_or_none, with_aces}
+use Rattle.sd_inherit.specs.Inner.Building.{one_or_none, with_aces}
 use Rattle.sd_inherit.proofs.BuildingLaws.{full_after, stays_open}
 use Rattle.sd_inherit.proofs.inherited.put_copies.Goals as goal
 

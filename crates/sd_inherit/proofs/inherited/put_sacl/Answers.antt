@@ -1,6 +1,6 @@
 use Rattle.std.proofs.Common.{◌≡◌, ◌++◌, ap, sym, ◌∙◌}
 use Rattle.std.specs.List.{flat_map}
-use Rattle.sd_inherit.specs.Building.{listed}
+use Rattle.sd_inherit.specs.Inner.Building.{listed}
 use Rattle.sd_inherit.specs.Copies.{copies}
 use Rattle.sd_inherit.specs.Derived.{inherited}
 use Rattle.sd_inherit.proofs.DerivedLaws.{sacl-stands}

@@ -1,7 +1,7 @@
 use Rattle.std.proofs.Common.{◌≡◌, take}
 use Rattle.std.specs.Prelude.{not}
 use Rattle.std.specs.List.{list_all}
-use Rattle.sd_reader.specs.Held.{is_plain_inside}
+use Rattle.sd_reader.specs.Inner.Held.{is_plain_inside}
 use Rattle.sd_reader.proofs.line.are_plain_inside.Given as goal
 
 abbrev pub invariant-loop-byte : goal.invariant-loop-byte

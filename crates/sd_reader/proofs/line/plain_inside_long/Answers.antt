@@ -1,6 +1,6 @@
 use Rattle.std.proofs.Common.{◌≡◌, ◌+◌, ◌-◌, ◌∙◌, take, drop, true, arith, ap, sym, subst}
 use Rattle.std.specs.List.{list_all}
-use Rattle.sd_reader.specs.Held.{is_plain_inside}
+use Rattle.sd_reader.specs.Inner.Held.{is_plain_inside}
 use Rattle.sd_reader.proofs.Runs.{rest-from}
 use Rattle.sd_reader.proofs.WholeFields.{plain-more}
 use Rattle.sd_reader.proofs.line.plain_inside_long.Goals as goal

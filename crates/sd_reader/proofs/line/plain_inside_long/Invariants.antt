@@ -1,6 +1,6 @@
 use Rattle.std.proofs.Common.{◌≡◌, ◌≤◌, ◌-◌, length, take, true}
 use Rattle.std.specs.List.{list_all}
-use Rattle.sd_reader.specs.Held.{is_plain_inside}
+use Rattle.sd_reader.specs.Inner.Held.{is_plain_inside}
 use Rattle.sd_reader.proofs.line.plain_inside_long.Given as goal
 
 abbrev pub invariant-loop-start : goal.invariant-loop-start

@@ -1,6 +1,6 @@
 use Rattle.std.proofs.Common.{true, refl, sym, ◌∙◌}
 use Rattle.sd_reader.specs.declared.line.Head.TheVariants as head
-use Rattle.sd_reader.specs.Progress.{result_or}
+use Rattle.sd_reader.specs.Inner.Progress.{result_or}
 use Rattle.sd_reader.proofs.Steps.{open_first, open_next, open_nowhere, unsound}
 use Rattle.sd_reader.proofs.FitLaws.{fits-first, fits-next, itself-or, none-before, read-ok}
 use Rattle.sd_reader.proofs.reader.SddlReader.begin_ace.Goals as goal

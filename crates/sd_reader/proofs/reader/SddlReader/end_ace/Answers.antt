@@ -1,6 +1,6 @@
 use Rattle.std.proofs.Common.{true, refl, sym, ◌∙◌}
 use Rattle.sd_reader.specs.declared.line.Place.TheVariants as place
-use Rattle.sd_reader.specs.Progress.{result_or}
+use Rattle.sd_reader.specs.Inner.Progress.{result_or}
 use Rattle.sd_reader.proofs.Steps.{close_early, close_last, column_more, unsound}
 use Rattle.sd_reader.proofs.FitLaws.{fits-field, none-before, read-ok}
 use Rattle.sd_reader.proofs.reader.SddlReader.end_ace.Goals as goal

@@ -1,7 +1,7 @@
 use Rattle.std.proofs.Common.{true, refl, sym, ◌∙◌, arith}
 use Rattle.sd_reader.specs.declared.line.AceField.TheVariants as field
 use Rattle.sd_reader.specs.declared.line.Place.TheVariants as place
-use Rattle.sd_reader.specs.Progress.{result_or}
+use Rattle.sd_reader.specs.Inner.Progress.{result_or}
 use Rattle.sd_reader.proofs.Steps.{column_more, cut, cut_late, unsound}
 use Rattle.sd_reader.proofs.FitLaws.{fits-field, none-before, read-ok}
 use Rattle.sd_reader.proofs.reader.SddlReader.end_ace_field.Goals as goal

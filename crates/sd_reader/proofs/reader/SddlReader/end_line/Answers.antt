@@ -3,9 +3,9 @@ use Rattle.std.specs.Prelude.{Result}
 use Rattle.sd_reader.specs.declared.fault.SddlFault.{SddlFault}
 use Rattle.sd_reader.specs.declared.fault.SddlFault.TheVariants as fault
 use Rattle.sd_reader.specs.declared.reader.SddlReader.{SddlReader}
-use Rattle.sd_reader.specs.FoldedReading.{Reading, finished}
-use Rattle.sd_reader.specs.Progress.{result_or}
-use Rattle.sd_reader.specs.Reads.{answer_at, Ends}
+use Rattle.sd_reader.specs.Inner.FoldedReading.{Reading, finished}
+use Rattle.sd_reader.specs.Inner.Progress.{result_or}
+use Rattle.sd_reader.specs.Inner.Reads.{answer_at, Ends}
 use Rattle.sd_reader.proofs.Steps.{finished_once, finished_twice, outside_of, unfinished, unsound}
 use Rattle.sd_reader.proofs.reader.SddlReader.end_line.Goals as goal
 

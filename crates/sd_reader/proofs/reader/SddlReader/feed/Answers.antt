@@ -2,9 +2,9 @@ use Rattle.std.proofs.Common.{◌≡◌, ℕ, true, List, [], ◌∷◌, refl, a
 use Rattle.std.specs.Prelude.{Option}
 use Rattle.sd_core.specs.Sid.{SecurityId}
 use Rattle.sd_reader.specs.declared.fault.SddlFault.TheVariants as fault
-use Rattle.sd_reader.specs.FoldedReading.{reads_as}
-use Rattle.sd_reader.specs.Progress.{result_or}
-use Rattle.sd_reader.specs.Reads.{answer_at, waiting}
+use Rattle.sd_reader.specs.Inner.FoldedReading.{reads_as}
+use Rattle.sd_reader.specs.Inner.Progress.{result_or}
+use Rattle.sd_reader.specs.Inner.Reads.{answer_at, waiting}
 use Rattle.sd_reader.proofs.Steps.{unsound}
 use Rattle.sd_reader.proofs.reader.SddlReader.feed.Goals as goal
 

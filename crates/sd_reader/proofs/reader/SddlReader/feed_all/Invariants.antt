@@ -1,7 +1,7 @@
 use Rattle.std.proofs.Common.{◌≡◌, ℕ, List, ◌++◌, length}
 use Rattle.std.specs.Prelude.{Option}
 use Rattle.sd_core.specs.Sid.{SecurityId}
-use Rattle.sd_reader.specs.Reads.{IsReader, Reads}
+use Rattle.sd_reader.specs.Inner.Reads.{IsReader, Reads}
 use Rattle.sd_reader.proofs.reader.SddlReader.feed_all.Given as goal
 
 abbrev pub invariant-loop-byte : goal.invariant-loop-byte

@@ -1,7 +1,7 @@
 use Rattle.std.proofs.Common.{◌≡◌, ℕ, [], ◌∷◌, ◌++◌, take, refl, ap, ◌∙◌, None}
 use Rattle.std.specs.Prelude.{Option}
-use Rattle.sd_reader.specs.Progress.{end_of}
-use Rattle.sd_reader.specs.Reads.{answer_at, waiting}
+use Rattle.sd_reader.specs.Inner.Progress.{end_of}
+use Rattle.sd_reader.specs.Inner.Reads.{answer_at, waiting}
 use Rattle.sd_reader.proofs.WholeFields.{fed-field, with-end}
 use Rattle.sd_reader.proofs.reader.SddlReader.feed_field.Goals as goal
 

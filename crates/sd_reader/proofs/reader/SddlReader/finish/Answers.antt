@@ -2,8 +2,8 @@ use Rattle.std.proofs.Common.{◌≡◌, ℕ, List, [], refl, ap, ◌∙◌, ◌
 use Rattle.std.specs.Prelude.{Option}
 use Rattle.sd_core.specs.Sid.{SecurityId}
 use Rattle.sd_reader.specs.Meaning.{means}
-use Rattle.sd_reader.specs.FoldedReading.{Reading, finished, folded, reads_as}
-use Rattle.sd_reader.specs.Reads.{Keeps, Reads, answer_at, waiting}
+use Rattle.sd_reader.specs.Inner.FoldedReading.{Reading, finished, folded, reads_as}
+use Rattle.sd_reader.specs.Inner.Reads.{Keeps, Reads, answer_at, waiting}
 use Rattle.sd_reader.proofs.FieldTexts.{append_nothing}
 use Rattle.sd_reader.proofs.FitLaws.{keeps-same}
 use Rattle.sd_reader.proofs.FoldedMeaning.{folded-means}

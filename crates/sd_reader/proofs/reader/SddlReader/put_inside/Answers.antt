@@ -2,7 +2,7 @@ use Rattle.std.proofs.Common.{◌≡◌, true, false, refl, sym, ◌∙◌, arit
 use Rattle.std.specs.Prelude.{◌==◌}
 use Rattle.std.proofs.lemmas.Bool.Decides.{nat_tests}
 use Rattle.sd_reader.specs.declared.line.Place.TheVariants as place
-use Rattle.sd_reader.specs.Progress.{result_or}
+use Rattle.sd_reader.specs.Inner.Progress.{result_or}
 use Rattle.sd_reader.proofs.FieldTexts.{same_within}
 use Rattle.sd_reader.proofs.Steps.{entry_text, open_inside, unsound}
 use Rattle.sd_reader.proofs.reader.SddlReader.put_inside.Goals as goal

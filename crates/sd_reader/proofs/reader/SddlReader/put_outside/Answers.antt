@@ -1,5 +1,5 @@
 use Rattle.std.proofs.Common.{true, sym, inl, inr, ◌∙◌}
-use Rattle.sd_reader.specs.Progress.{result_or}
+use Rattle.sd_reader.specs.Inner.Progress.{result_or}
 use Rattle.sd_reader.proofs.Steps.{close_outside, colon, unsound}
 use Rattle.sd_reader.proofs.FitLaws.{keeps-same}
 use Rattle.sd_reader.proofs.reader.SddlReader.put_outside.Goals as goal

@@ -1,5 +1,5 @@
 use Rattle.std.proofs.Common.{true, refl, sym, ◌∙◌}
-use Rattle.sd_reader.specs.Progress.{result_or}
+use Rattle.sd_reader.specs.Inner.Progress.{result_or}
 use Rattle.sd_reader.proofs.FieldTexts.{same_outer}
 use Rattle.sd_reader.proofs.Steps.{outside_blank, outside_other, outside_text, unsound}
 use Rattle.sd_reader.proofs.reader.SddlReader.put_text.Goals as goal

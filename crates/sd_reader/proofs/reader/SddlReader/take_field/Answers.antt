@@ -1,5 +1,5 @@
 use Rattle.std.proofs.Common.{append_assoc}
-use Rattle.sd_reader.specs.Progress.{place_after, result_or}
+use Rattle.sd_reader.specs.Inner.Progress.{place_after, result_or}
 use Rattle.sd_reader.proofs.FitLaws.{fits-field, none-before, read-ok}
 use Rattle.sd_reader.proofs.WholeFields.{after-no-front, whole-field, whole-readable}
 use Rattle.sd_reader.proofs.reader.SddlReader.take_field.Goals as goal

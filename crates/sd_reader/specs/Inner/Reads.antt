@@ -8,10 +8,10 @@ use Rattle.sd_view.specs.Descriptor.{Descriptor, Shows}
 use Rattle.sd_view.specs.declared.acl.AclPart.TheVariants as acl
 use Rattle.sd_binary.specs.Builds.{Builds}
 use Rattle.sd_binary.specs.Draft.{IsOpen, IsWritten, acl_of, closed}
-use Rattle.sd_reader.specs.Held.{IsHeld}
+use Rattle.sd_reader.specs.Inner.Held.{IsHeld}
 use Rattle.sd_reader.specs.Line.{byte, head_at, pieces_from, same_head}
-use Rattle.sd_reader.specs.FoldedReading.{Reading, reads_as}
-use Rattle.sd_reader.specs.Progress.{answer, is_inside, is_seen, result_or}
+use Rattle.sd_reader.specs.Inner.FoldedReading.{Reading, reads_as}
+use Rattle.sd_reader.specs.Inner.Progress.{answer, is_inside, is_seen, result_or}
 use Rattle.sd_reader.specs.declared.fault.SddlFault.{SddlFault}
 use Rattle.sd_reader.specs.declared.line.Head.{Head}
 use Rattle.sd_reader.specs.declared.line.Head.TheVariants as head

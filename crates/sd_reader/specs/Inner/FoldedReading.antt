@@ -3,6 +3,7 @@
 -- `means`.
 use Rattle.std.specs.Prelude.{ℕ, ◌&&◌, Bool, true, false, nat_lt, if◌then◌else◌, List, [], ◌∷◌, ◌++◌, Option, Some, None, Result, Ok, Err}
 use Rattle.std.specs.List.{flat_map}
+use Rattle.sd_rights.specs.Limits.{most_acl}
 use Rattle.sd_core.specs.Ace.{AccessControlEntry}
 use Rattle.sd_rights.specs.Flags.{flags_reads}
 use Rattle.sd_rights.specs.Rights.{rights_reads}
@@ -19,7 +20,8 @@ use Rattle.sd_view.specs.declared.control.Which.{Which}
 use Rattle.sd_view.specs.declared.control.Which.TheVariants as which
 use Rattle.sd_view.specs.Control.{no_flags}
 use Rattle.sd_view.specs.declared.control.AclFlags.{AclFlags}
-use Rattle.sd_reader.specs.FieldTexts.{front_reads, kind_reads, object_reads, or_else}
+use Rattle.std.specs.Option.{option_or}
+use Rattle.sd_reader.specs.FieldTexts.{front_reads, kind_reads, object_reads}
 use Rattle.sd_reader.specs.Line.{Piece, Section, aces, cuts, front, has_aces, has_twice, is_shaped, parts_of, trim}
 use Rattle.sd_reader.specs.Meaning.{and_then, control_flags, is_unreadable, unless_large}
 use Rattle.sd_reader.specs.declared.fault.SddlFault.{SddlFault}
@@ -82,7 +84,7 @@ pub record Reading : Type 0 where
   pub dacl : AclFlags
   -- the fields of the ACE at hand
   pub ace : AceFields
-  -- the first ACL from the left whose size passes 65,535
+  -- the first ACL from the left that is too large
   pub large : Option Which
 
 abbrev pub no_fields : AceFields
@@ -125,10 +127,10 @@ ace_of f s = record { kind = f.kind; flags = f.flags; mask = f.mask; object = f.
 
 abbrev pub large_in : Option (Which × List AccessControlEntry) → Option Which
 large_in None = None
-large_in (Some o) = if nat_lt 65535 (acl_size o.1) then Some o.0 else None
+large_in (Some o) = if nat_lt most_acl (acl_size o.1) then Some o.0 else None
 
 abbrev pub grown : Reading → Draft → Reading
-grown r parts = record r { parts = parts; large = or_else r.large (large_in parts.«open») }
+grown r parts = record r { parts = parts; large = option_or r.large (large_in parts.«open») }
 
 -- the ACE at hand ends with its SID
 abbrev pub with_trustee : Reading → SecurityId → Reading

@@ -3,6 +3,7 @@
 use Rattle.std.specs.Prelude.{nat_lt, Result, Ok, Err, if◌then◌else◌, ◌++◌, List, [], ◌∷◌, length, Option, Some, None}
 use Rattle.std.specs.Option.{option_and_then}
 use Rattle.clap.specs.Words.{Text}
+use Rattle.sd_rights.specs.Limits.{most_entries}
 use Rattle.sd_core.specs.Sid.{SecurityId}
 use Rattle.sd_core.specs.Token.{Entry}
 use Rattle.sd_command.specs.TokenText.{entry_reads}
@@ -11,7 +12,7 @@ use Rattle.sd_command.specs.declared.settings.UsageFault.{UsageFault}
 -- one entry more, if it reads and there is room
 abbrev pub with_entry : List Entry → Option Entry → Option (List Entry)
 with_entry entries None = None
-with_entry entries (Some e) = if nat_lt (length entries) 1024 then Some (entries ++ e ∷ []) else None
+with_entry entries (Some e) = if nat_lt (length entries) most_entries then Some (entries ++ e ∷ []) else None
 
 abbrev pub with_pieces : Option SecurityId → List Text → List Entry → Option (List Entry)
 with_pieces domain [] entries = Some entries

@@ -2,6 +2,7 @@
 use Rattle.std.specs.Prelude.{◌≡◌, ℕ, ◌≤◌, Bool, true, false, ◌||◌, ◌&&◌, not, ◌==◌, if◌then◌else◌, List, [], ◌∷◌, ◌++◌, length}
 use Rattle.std.specs.Option.{is_none}
 use Rattle.std.specs.List.{list_any}
+use Rattle.sd_rights.specs.Limits.{most_field}
 use Rattle.sd_reader.specs.Line.{head_of, is_blank}
 
 -- the bytes so far, whether blanks stood after them, and whether the text can no longer read
@@ -19,7 +20,7 @@ broken_text = record { text = []; gap = false; broken = true }
 
 -- one byte more that is no blank
 abbrev pub held_with : Held → ℕ → Held
-held_with h b = if h.broken || (h.gap || length h.text == 183) then broken_text else record { text = h.text ++ b ∷ []; gap = false; broken = false }
+held_with h b = if h.broken || (h.gap || length h.text == most_field) then broken_text else record { text = h.text ++ b ∷ []; gap = false; broken = false }
 
 -- a blank where blanks at the ends do not count
 abbrev pub held_blank : Held → Held
@@ -28,7 +29,7 @@ held_blank h = if h.broken || length h.text == 0 then h else record { text = h.t
 -- what is kept has no blank, and fits
 pub record IsHeld (h : Held) : Type 0 where
   pub clean : list_any is_blank h.text ≡ false
-  pub fits : length h.text ≤ 183
+  pub fits : length h.text ≤ most_field
 
 -- one byte more of a text whose blanks at the ends do not count
 abbrev pub outer_with : Held → ℕ → Held

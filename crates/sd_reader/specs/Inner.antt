@@ -1,0 +1,5 @@
+-- What a reader has and promises in the middle of a line. No definition rests on these files.
+pub mod FoldedReading
+pub mod Held
+pub mod Progress
+pub mod Reads
