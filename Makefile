@@ -2,13 +2,14 @@
 PREFIX ?= /usr/local
 DESTDIR ?=
 
+DOCUMENTS := $(PREFIX)/share/doc/sdtool
 PROGRAM := crates/sdtool/out/sdtool
 EXAMPLES := examples/descriptors.hex
 SOURCES := crates.txt $(shell find crates -path '*/out' -prune -o -path '*/must-fail' -prune -o -type f -print)
 
 need_toolchain = $(if $(shell command -v rt 2>&1),,$(error the Rattle toolchain is missing: there is no command 'rt' on the PATH))
 
-.PHONY: help program run quick check rows test edits bench install clean
+.PHONY: help program run quick check rows test edits bench install uninstall deb clean
 
 # The first target, so that `make` alone says what there is.
 help:
@@ -20,7 +21,9 @@ help:
 	@echo 'make test              the gate and all tests of the built program (an hour); ends with N passed, M failed'
 	@echo 'make edits CRATE=NAME  tries every edit that the check has to refuse, also those that the gate leaves out'
 	@echo 'make bench             measures the program against a plain one in Rust, and cat (8 minutes)'
-	@echo 'make install           puts the program and its man page below PREFIX ($(PREFIX))'
+	@echo 'make install           puts the program, its man page and its documents below PREFIX ($(PREFIX))'
+	@echo 'make uninstall         takes them away again'
+	@echo 'make deb               a Debian package of them, in out/ (seconds where the program is built)'
 	@echo 'make clean             removes what was built'
 
 program: $(PROGRAM)
@@ -60,9 +63,19 @@ bench: program
 	bench/run.py $(PROGRAM)
 
 install: program
-	install -d '$(DESTDIR)$(PREFIX)/bin' '$(DESTDIR)$(PREFIX)/share/man/man1'
+	install -d '$(DESTDIR)$(PREFIX)/bin' '$(DESTDIR)$(PREFIX)/share/man/man1' '$(DESTDIR)$(DOCUMENTS)'
 	install -m 755 $(PROGRAM) '$(DESTDIR)$(PREFIX)/bin/sdtool'
 	install -m 644 docs/sdtool.1 '$(DESTDIR)$(PREFIX)/share/man/man1/sdtool.1'
+	install -m 644 README.md LICENSE docs/FORMAT.md docs/COOKBOOK.md '$(DESTDIR)$(DOCUMENTS)'
+	cp -R examples '$(DESTDIR)$(DOCUMENTS)'
+
+uninstall:
+	rm -f '$(DESTDIR)$(PREFIX)/bin/sdtool' '$(DESTDIR)$(PREFIX)/share/man/man1/sdtool.1'
+	rm -rf '$(DESTDIR)$(DOCUMENTS)'
+
+# Of the tree that install makes.
+deb: program
+	MAKE='$(MAKE)' packaging/deb.sh
 
 clean:
-	rm -rf crates/*/out
+	rm -rf crates/*/out out

@@ -10,6 +10,7 @@ import argparse
 import os
 import pathlib
 import re
+import shutil
 import subprocess
 import sys
 import tempfile
@@ -20,8 +21,8 @@ import preload  # noqa: E402
 
 SECONDS = 60  # for one command
 TOP = pathlib.Path(__file__).resolve().parent.parent
-# The documents, and the folder in which the commands of each are run.
-DOCUMENTS = {"README.md": ".", "docs/FORMAT.md": ".", "docs/sdtool.1": "examples"}
+# The documents, and the folder in which the commands of each are run: one that has a copy of examples/, or that copy.
+DOCUMENTS = {"README.md": ".", "docs/COOKBOOK.md": "examples", "docs/FORMAT.md": ".", "docs/sdtool.1": "examples"}
 COMMAND = re.compile(r"\s*\$ .*\bsdtool\b")
 ESCAPES = {r"\-": "-", r"\(aq": "'", r"\(dq": '"', r"\(ha": "^", r"\(ti": "~", r"\(bs": "\\", r"\e": "\\", r"\&": ""}
 
@@ -53,7 +54,7 @@ def examples_in(blocks):
 
 
 def printed_by(command, folder, path):
-    ended = subprocess.run(["sh", "-c", command], cwd=TOP / folder, env={**os.environ, "PATH": path}, text=True,
+    ended = subprocess.run(["sh", "-c", command], cwd=folder, env={**os.environ, "PATH": path}, text=True,
                            stdin=subprocess.DEVNULL, stdout=subprocess.PIPE, stderr=subprocess.STDOUT, timeout=SECONDS)
     return ended.stdout
 
@@ -71,8 +72,10 @@ def main():
             examples = list(examples_in(blocks_of(text, document.endswith(".1"))))
             stand = sum(bool(COMMAND.match(line)) for line in text.splitlines())
             count.add(0 < stand == len(examples), f"{document}: {stand} examples stand there, {len(examples)} are run")
+            room = pathlib.Path(bin_folder, document.replace("/", "_"))
+            shutil.copytree(TOP / "examples", room / "examples")
             for example in examples:
-                printed = printed_by(example.command, folder, path)
+                printed = printed_by(example.command, room / folder, path)
                 count.add(printed == example.printed,
                           f"{document}: {example.command}\n  printed {printed!r}\n  not     {example.printed!r}")
     return count.end()
