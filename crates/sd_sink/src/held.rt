@@ -1,4 +1,5 @@
-// Bytes that are held back.
+//! Bytes that are held back.
+
 ghost use Rattle.std.specs.Prelude.{◌≡◌, ◌+◌, ◌-◌, ◌≤◌, ◌++◌, [], length};
 
 use std::marker::Model;
@@ -24,6 +25,7 @@ impl Model for Held {
 }
 
 impl Held {
+    /// Holds nothing.
     pub fn new() -> Held
         ensures { result ≡ [] }
     {
@@ -51,12 +53,14 @@ impl Held {
         self.len = end;
     }
 
+    /// Holds nothing any more.
     pub fn clear(&mut self)
         ensures { self.new ≡ [] }
     {
         self.len = 0;
     }
 
+    /// What is held.
     pub fn as_slice(&self) -> &[u8]
         ensures { result.now ≡ self.now }
     {
