@@ -1,3 +1,5 @@
+//! GUIDs (MS-DTYP 2.3.4), as bytes and as text.
+
 ghost use Rattle.std.specs.Prelude.{◌≡◌, length, Some};
 ghost use Rattle.uuid.specs.Parts.{swap_fields};
 ghost use Rattle.sd_core.specs.GuidText.{guid_reads, guid_text};

@@ -1,4 +1,5 @@
-// How SIDs are named in what is printed.
+//! How SIDs are named in what is printed.
+
 ghost use Rattle.std.specs.Prelude.{◌≡◌};
 ghost use Rattle.sd_core.specs.Naming.{alias_by};
 

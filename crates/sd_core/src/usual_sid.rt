@@ -1,4 +1,5 @@
-// The usual text of a SID, with decimal numbers alone, read in one pass.
+//! The usual text of a SID, with decimal numbers alone, read in one pass.
+
 ghost use Rattle.std.specs.Prelude.{◌≡◌, ◌≤◌, ◌<◌, ◌^◌, [], List, ℕ, length, take, drop, true, IfSome, MatchOption, Some};
 ghost use Rattle.sd_core.specs.SidText.{all_pieces, all_read, are_numbers, are_subs, decimal_reads, has_form, is_decimal, numbers_read, pieces};
 

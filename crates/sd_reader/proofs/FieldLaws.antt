@@ -5,9 +5,9 @@ use Rattle.sd_core.specs.Ace.{GuidsFit}
 use Rattle.sd_rights.specs.Kinds.{is_object}
 use Rattle.sd_rights.specs.declared.kinds.AceKind.{AceKind}
 use Rattle.sd_binary.specs.Draft.{closed}
-use Rattle.sd_reader.specs.Inner.FoldedReading.{Reading, begun_or_null, no_fields, take_front, with_flags}
+use Rattle.sd_reader.specs.Inner.FoldedReading.{FieldsRead, begun_or_null, no_fields, take_front, with_flags}
 use Rattle.sd_reader.specs.FieldTexts.{object_reads}
-use Rattle.sd_reader.specs.Inner.Reads.{AreAceFields, Holds}
+use Rattle.sd_reader.specs.Inner.Reads.{AreAceFields, HasRead}
 use Rattle.sd_view.specs.declared.control.AclFlags.{AclFlags}
 use Rattle.sd_reader.specs.declared.reading.AceFields.{AceFields}
 use Rattle.sd_reader.specs.declared.reading.AclFront.{AclFront}
@@ -15,14 +15,14 @@ use Rattle.sd_view.specs.declared.control.Which.{Which}
 use Rattle.sd_view.specs.declared.control.Which.TheVariants as which
 use Rattle.sd_reader.specs.declared.reading.FieldReader.{FieldReader}
 
-module _ (r : FieldReader) (buf : List ℕ) (t : Reading) (h : Holds r buf t) where
-  pub holds-sacl : (f : AclFlags) → Holds (record r { sacl = f }) buf (record t { sacl = f })
+module _ (r : FieldReader) (buf : List ℕ) (t : FieldsRead) (h : HasRead r buf t) where
+  pub holds-sacl : (f : AclFlags) → HasRead (record r { sacl = f }) buf (record t { sacl = f })
   holds-sacl f = record { sacl = refl; dacl = h.dacl; ace = h.ace; large = h.large; sound = h.sound; builds = h.builds; open_acl = h.open_acl }
 
-  pub holds-dacl : (f : AclFlags) → Holds (record r { dacl = f }) buf (record t { dacl = f })
+  pub holds-dacl : (f : AclFlags) → HasRead (record r { dacl = f }) buf (record t { dacl = f })
   holds-dacl f = record { sacl = h.sacl; dacl = refl; ace = h.ace; large = h.large; sound = h.sound; builds = h.builds; open_acl = h.open_acl }
 
-  pub holds-ace : (a : AceFields) → AreAceFields a → Holds (record r { ace = a }) buf (record t { ace = a })
+  pub holds-ace : (a : AceFields) → AreAceFields a → HasRead (record r { ace = a }) buf (record t { ace = a })
   holds-ace a sound = record { sacl = h.sacl; dacl = h.dacl; ace = refl; large = h.large; sound = sound; builds = h.builds; open_acl = h.open_acl }
 
 pub sound-kind : (kind : AceKind) → AreAceFields (record no_fields { kind = kind })
@@ -83,12 +83,12 @@ sound-inherited f text object s e = record { clear = s.clear; fit = by_object ob
     by_object (Some g) e = any (is_object f.kind) f.object (Some g) (guid_stands f.kind text g e)
 
 -- an ACL begins
-front-taken : (w : Which) (has_aces : Bool) (t : Reading) (f : AclFront) (found : Option AclFront) → found ≡ Some f → (f.null && has_aces) ≡ false
+front-taken : (w : Which) (has_aces : Bool) (t : FieldsRead) (f : AclFront) (found : Option AclFront) → found ≡ Some f → (f.null && has_aces) ≡ false
     → take_front w has_aces t found ≡ Ok (with_flags w f.flags (record t { parts = begun_or_null w f.null (closed t.parts) }))
 unfolding take_front
 front-taken w has_aces t f found is e = rw (is, e) refl
 
-module _ (w : Which) (has_aces : Bool) (t : Reading) (f : AclFront) (found : Option AclFront) (is : found ≡ Some f) (e : (f.null && has_aces) ≡ false) where
+module _ (w : Which) (has_aces : Bool) (t : FieldsRead) (f : AclFront) (found : Option AclFront) (is : found ≡ Some f) (e : (f.null && has_aces) ≡ false) where
   pub sacl-taken : w ≡ which.Sacl → take_front w has_aces t found ≡ Ok (record t { parts = begun_or_null w f.null (closed t.parts); sacl = f.flags })
   sacl-taken same = front-taken w has_aces t f found is e
       ∙ ap (λ (v : Which). Ok (with_flags v f.flags (record t { parts = begun_or_null w f.null (closed t.parts) }))) same

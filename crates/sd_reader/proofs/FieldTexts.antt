@@ -7,16 +7,16 @@ use Rattle.std.proofs.Math.Dec.{eqb-suc-zero}
 use Rattle.sd_reader.specs.declared.line.Slot.{Slot}
 use Rattle.sd_core.specs.Sid.{SecurityId}
 use Rattle.sd_reader.specs.Line.{is_blank, trim, trim_end}
-use Rattle.sd_reader.specs.Inner.FoldedReading.{Reading, take_field}
+use Rattle.sd_reader.specs.Inner.FoldedReading.{FieldsRead, take_field}
 use Rattle.sd_reader.specs.Meaning.{is_unreadable}
 use Rattle.sd_reader.specs.Inner.Held.{Held, IsHeld, broken_text, held_with, held_blank, outer_with, within_with, held_text}
 use Rattle.sd_reader.specs.Inner.Progress.{unreadable, text_with, inner_with}
 
 -- two texts that read as the same in each field
 pub Same : List ℕ → List ℕ → Type 0
-Same t u = (domain : Option SecurityId) (b : Reading) (s : Slot) → take_field domain b s t ≡ take_field domain b s u
+Same t u = (domain : Option SecurityId) (b : FieldsRead) (s : Slot) → take_field domain b s t ≡ take_field domain b s u
 
-pub same_reads : (t u : List ℕ) → Same t u → (domain : Option SecurityId) (b : Reading) (s : Slot) → take_field domain b s t ≡ take_field domain b s u
+pub same_reads : (t u : List ℕ) → Same t u → (domain : Option SecurityId) (b : FieldsRead) (s : Slot) → take_field domain b s t ≡ take_field domain b s u
 unfolding Same
 same_reads t u h = h
 

@@ -10,13 +10,13 @@ use Rattle.sd_core.specs.declared.sid_text.SidFault.{SidFault}
 use Rattle.sd_view.specs.declared.acl.AclPart.TheVariants as acl
 use Rattle.sd_binary.specs.Draft.{Draft, IsOpen, IsOpenIn, acl_of, closed, more_in, with_ace}
 use Rattle.sd_reader.specs.Line.{same_head}
-use Rattle.sd_reader.specs.Inner.FoldedReading.{Reading, ace_of, begun_or_null, fault_of, nothing_read, take_ace_field, take_field, take_front, take_readable, with_flags, with_owner_or_group, with_sid, with_trustee, with_value}
+use Rattle.sd_reader.specs.Inner.FoldedReading.{FieldsRead, ace_of, begun_or_null, fault_of, nothing_read, take_ace_field, take_field, take_front, take_readable, with_flags, with_owner_or_group, with_sid, with_trustee, with_value}
 use Rattle.sd_reader.specs.Meaning.{and_then, is_unreadable}
 use Rattle.sd_reader.specs.FieldTexts.{front_reads, kind_reads, object_reads}
 use Rattle.sd_reader.specs.Inner.Held.{Held, held_text}
-use Rattle.sd_reader.specs.Inner.Progress.{ended_with, is_seen, place_of, result_or, with_head}
+use Rattle.sd_reader.specs.Inner.Progress.{ended_with, is_seen, state_of, result_or, with_head}
 use Rattle.sd_reader.proofs.Steps.{seen_with}
-use Rattle.sd_reader.specs.Inner.Reads.{Fits, Keeps, Lacks, is_at_front, is_in_acl}
+use Rattle.sd_reader.specs.Inner.Reads.{Fits, LineHasRead, Lacks, is_at_front, is_in_acl}
 use Rattle.sd_view.specs.declared.control.AclFlags.{AclFlags}
 use Rattle.sd_reader.specs.declared.fault.SddlFault.{SddlFault}
 use Rattle.sd_reader.specs.declared.fault.SddlFault.TheVariants as fault
@@ -24,8 +24,8 @@ use Rattle.sd_reader.specs.declared.line.AceField.{AceField}
 use Rattle.sd_reader.specs.declared.line.AceField.TheVariants as field
 use Rattle.sd_reader.specs.declared.line.Head.{Head}
 use Rattle.sd_reader.specs.declared.line.Head.TheVariants as head
-use Rattle.sd_reader.specs.declared.line.Place.{Place}
-use Rattle.sd_reader.specs.declared.line.Place.TheVariants as place
+use Rattle.sd_reader.specs.declared.line.State.{State}
+use Rattle.sd_reader.specs.declared.line.State.TheVariants as state
 use Rattle.sd_reader.specs.declared.line.Seen.{Seen}
 use Rattle.sd_reader.specs.declared.line.SidPart.{SidPart}
 use Rattle.sd_reader.specs.declared.line.SidPart.TheVariants as sid_part
@@ -38,7 +38,7 @@ use Rattle.sd_view.specs.declared.control.Which.{Which}
 use Rattle.sd_view.specs.declared.control.Which.TheVariants as which
 
 -- 1. Where no fault is found, none was there, and the field was read.
-pub taken : (fault : Option SddlFault) (t u : Reading) (next : Reading → Result Reading SddlFault) → Ok u ≡ and_then (result_or t fault) next
+pub taken : (fault : Option SddlFault) (t u : FieldsRead) (next : FieldsRead → Result FieldsRead SddlFault) → Ok u ≡ and_then (result_or t fault) next
     → (fault ≡ None) × (next t ≡ Ok u)
 taken None t u next e = (refl, sym e)
 taken (Some f) t u next e = absurd cc
@@ -177,7 +177,7 @@ gives (slot.Sid p) h = same_head (head.Sid p) h
 gives (slot.AclFlags w has_aces) h = same_head (head.Acl w) h
 gives (slot.Ace f) h = false
 
-lacks-sid : (r : Reading) (p : SidPart) (s : SecurityId) (h : Head) → same_head (head.Sid p) h ≡ false → Lacks h r → Lacks h (with_owner_or_group p r s)
+lacks-sid : (r : FieldsRead) (p : SidPart) (s : SecurityId) (h : Head) → same_head (head.Sid p) h ≡ false → Lacks h r → Lacks h (with_owner_or_group p r s)
 lacks-sid r sid_part.Owner s (head.Sid sid_part.Owner) e l = absurd cc
 lacks-sid r sid_part.Owner s (head.Sid sid_part.Group) e l = group-closed r.parts ∙ l
 lacks-sid r sid_part.Owner s (head.Acl v) e l = acl-beside-owner r.parts s v ∙ l
@@ -185,7 +185,7 @@ lacks-sid r sid_part.Group s (head.Sid sid_part.Owner) e l = owner-closed r.part
 lacks-sid r sid_part.Group s (head.Sid sid_part.Group) e l = absurd cc
 lacks-sid r sid_part.Group s (head.Acl v) e l = acl-beside-group r.parts s v ∙ l
 
-lacks-front : (r : Reading) (w : Which) (f : AclFront) (h : Head) → same_head (head.Acl w) h ≡ false → Lacks h r
+lacks-front : (r : FieldsRead) (w : Which) (f : AclFront) (h : Head) → same_head (head.Acl w) h ≡ false → Lacks h r
     → Lacks h (with_flags w f.flags (record r { parts = begun_or_null w f.null (closed r.parts) }))
 lacks-front r which.Sacl f (head.Sid sid_part.Owner) e l = owner-begun (closed r.parts) which.Sacl f.null ∙ (owner-closed r.parts ∙ l)
 lacks-front r which.Sacl f (head.Sid sid_part.Group) e l = group-begun (closed r.parts) which.Sacl f.null ∙ (group-closed r.parts ∙ l)
@@ -194,31 +194,31 @@ lacks-front r which.Dacl f (head.Sid sid_part.Owner) e l = owner-begun (closed r
 lacks-front r which.Dacl f (head.Sid sid_part.Group) e l = group-begun (closed r.parts) which.Dacl f.null ∙ (group-closed r.parts ∙ l)
 lacks-front r which.Dacl f (head.Acl v) e l = acl-beside-acl r.parts which.Dacl f.null v e ∙ l
 
-lacks-trustee : (r : Reading) (s : SecurityId) (h : Head) → Lacks h r → Lacks h (with_trustee r s)
+lacks-trustee : (r : FieldsRead) (s : SecurityId) (h : Head) → Lacks h r → Lacks h (with_trustee r s)
 lacks-trustee r s (head.Sid sid_part.Owner) l = l
 lacks-trustee r s (head.Sid sid_part.Group) l = l
 lacks-trustee r s (head.Acl v) l = absent-with_ace r.parts (ace_of r.ace s) v l
 
 -- what holds of each reading with a value holds of the one that is found
-module _ (P : Reading → Type 0) (u : Reading) where
-  if-ok : (x : Result Reading SddlFault) → IfOk x P → x ≡ Ok u → P u
-  if-ok x k e = subst (λ (y : Result Reading SddlFault). IfOk y P) e k
+module _ (P : FieldsRead → Type 0) (u : FieldsRead) where
+  if-ok : (x : Result FieldsRead SddlFault) → IfOk x P → x ≡ Ok u → P u
+  if-ok x k e = subst (λ (y : Result FieldsRead SddlFault). IfOk y P) e k
 
-  if-sid : (with : SecurityId → Reading) (x : Result SecurityId SidFault) → ((s : SecurityId) → P (with s)) → with_sid with x ≡ Ok u → P u
+  if-sid : (with : SecurityId → FieldsRead) (x : Result SecurityId SidFault) → ((s : SecurityId) → P (with s)) → with_sid with x ≡ Ok u → P u
   if-sid with x k e = if-ok (with_sid with x) (cases x) e
     where
       cases : (x : Result SecurityId SidFault) → IfOk (with_sid with x) P
       cases (Ok s) = k s
       cases (Err f) = tt
 
-  if-value : {A : Type 0} (f : SddlFault) (with : A → Reading) (x : Option A) → ((y : A) → P (with y)) → with_value f with x ≡ Ok u → P u
+  if-value : {A : Type 0} (f : SddlFault) (with : A → FieldsRead) (x : Option A) → ((y : A) → P (with y)) → with_value f with x ≡ Ok u → P u
   if-value {A} f with x k e = if-ok (with_value f with x) (cases x) e
     where
       cases : (x : Option A) → IfOk (with_value f with x) P
       cases None = tt
       cases (Some y) = k y
 
-  if-front : (w : Which) (has_aces : Bool) (r : Reading) (x : Option AclFront)
+  if-front : (w : Which) (has_aces : Bool) (r : FieldsRead) (x : Option AclFront)
       → ((f : AclFront) → (f.null && has_aces) ≡ false → P (with_flags w f.flags (record r { parts = begun_or_null w f.null (closed r.parts) }))) → take_front w has_aces r x ≡ Ok u → P u
   unfolding take_front
   if-front w has_aces r x k e = if-ok (take_front w has_aces r x) (cases x) e
@@ -232,7 +232,7 @@ module _ (P : Reading → Type 0) (u : Reading) where
       cases None = tt
       cases (Some f) = by_test f (f.null && has_aces) refl
 
-readable : (domain : Option SecurityId) (r u : Reading) (s : Slot) (text : List ℕ) → take_field domain r s text ≡ Ok u → take_readable domain r s text ≡ Ok u
+readable : (domain : Option SecurityId) (r u : FieldsRead) (s : Slot) (text : List ℕ) → take_field domain r s text ≡ Ok u → take_readable domain r s text ≡ Ok u
 unfolding take_field
 readable domain r u s text e = by_test (is_unreadable text) refl
   where
@@ -240,7 +240,7 @@ readable domain r u s text e = by_test (is_unreadable text) refl
     by_test true f = absurd (let no : Err (fault_of s) ≡ Ok u = (rw f at e) in cc)
     by_test false f = (rw f at e)
 
-ace_field : (P : Reading → Type 0) (domain : Option SecurityId) (r u : Reading) (f : AceField) (text : List ℕ)
+ace_field : (P : FieldsRead → Type 0) (domain : Option SecurityId) (r u : FieldsRead) (f : AceField) (text : List ℕ)
     → ((a : AceFields) → P (record r { ace = a })) → ((s : SecurityId) → P (with_trustee r s)) → take_ace_field domain r f text ≡ Ok u → P u
 unfolding take_ace_field
 ace_field P domain r u field.Kind text k l e = if-value P u _ _ (kind_reads text) (λ x. k _) e
@@ -250,7 +250,7 @@ ace_field P domain r u field.Object text k l e = if-value P u _ _ (object_reads 
 ace_field P domain r u field.Inherited text k l e = if-value P u _ _ (object_reads r.ace.kind text) (λ x. k _) e
 ace_field P domain r u field.Sid text k l e = if-sid P u _ (sid_reads text domain) l e
 
-lacks-taken : (domain : Option SecurityId) (r u : Reading) (s : Slot) (text : List ℕ) (h : Head) → take_field domain r s text ≡ Ok u → gives s h ≡ false → Lacks h r → Lacks h u
+lacks-taken : (domain : Option SecurityId) (r u : FieldsRead) (s : Slot) (text : List ℕ) (h : Head) → take_field domain r s text ≡ Ok u → gives s h ≡ false → Lacks h r → Lacks h u
 lacks-taken domain r u (slot.Sid p) text h e g l =
     if-sid (λ x. Lacks h x) u (with_owner_or_group p r) (sid_reads text domain) (λ s. lacks-sid r p s h g l) (readable domain r u (slot.Sid p) text e)
 lacks-taken domain r u (slot.AclFlags w has_aces) text h e g l =
@@ -264,7 +264,7 @@ lacks-taken domain r u (slot.Ace f) text h e g l =
     same a (head.Acl v) l = l
 
 -- an ACL whose first parenthesis comes is open
-open-front : (domain : Option SecurityId) (r u : Reading) (w : Which) (text : List ℕ) → take_field domain r (slot.AclFlags w true) text ≡ Ok u → IsOpen u.parts
+open-front : (domain : Option SecurityId) (r u : FieldsRead) (w : Which) (text : List ℕ) → take_field domain r (slot.AclFlags w true) text ≡ Ok u → IsOpen u.parts
 open-front domain r u w text e =
     if-front (λ x. IsOpen x.parts) u w true r (front_reads text) (λ f n. begins f.null f.flags n) (readable domain r u (slot.AclFlags w true) text e)
   where
@@ -277,7 +277,7 @@ open-front domain r u w text e =
     begins false flags n = with_w w flags _ tt
 
 -- and stays so within its ACEs
-open-taken : (domain : Option SecurityId) (r u : Reading) (f : AceField) (text : List ℕ) → take_field domain r (slot.Ace f) text ≡ Ok u → IsOpen r.parts → IsOpen u.parts
+open-taken : (domain : Option SecurityId) (r u : FieldsRead) (f : AceField) (text : List ℕ) → take_field domain r (slot.Ace f) text ≡ Ok u → IsOpen r.parts → IsOpen u.parts
 open-taken domain r u f text e o =
     ace_field (λ x. IsOpen x.parts) domain r u f text (λ a. o) (λ s. open-with_ace r.parts (ace_of r.ace s) o) (readable domain r u (slot.Ace f) text e)
 
@@ -294,7 +294,7 @@ not_false : (x : Bool) → x ≡ false → not x ≡ true
 not_false x e = rw e refl
 
 -- a part that was not seen is not at hand
-not-here : (p : Place) (seen : Seen) (t : Reading) → Fits p seen t → (h : Head) → is_seen seen h ≡ false → is_at_front p h ≡ false
+not-here : (p : State) (seen : Seen) (t : FieldsRead) → Fits p seen t → (h : Head) → is_seen seen h ≡ false → is_at_front p h ≡ false
 not-here p seen t k h e = by_front (is_at_front p h) refl
   where
     by_front : (b : Bool) → is_at_front p h ≡ b → is_at_front p h ≡ false
@@ -306,23 +306,23 @@ not_or_false true e = absurd cc
 not_or_false false e = refl
 
 -- an ACL's first parenthesis
-pub fits-first : (domain : Option SecurityId) (w : Which) (seen : Seen) (t u : Reading) (text : List ℕ) → take_field domain t (slot.AclFlags w true) text ≡ Ok u
-    → Fits (place.AclFlags w) seen t → Fits (place.Ace field.Kind) seen u
+pub fits-first : (domain : Option SecurityId) (w : Which) (seen : Seen) (t u : FieldsRead) (text : List ℕ) → take_field domain t (slot.AclFlags w true) text ≡ Ok u
+    → Fits (state.AclFlags w) seen t → Fits (state.Ace field.Kind) seen u
 fits-first domain w seen t u text e k = record {
   here = λ h f. absurd cc;
   lacks = λ h f.
       let unseen = not_or_false (is_seen seen h) f in
-      lacks-taken domain t u (slot.AclFlags w true) text h e (not-here (place.AclFlags w) seen t k h unseen) (k.lacks h (or_left (not (is_seen seen h)) _ (not_false (is_seen seen h) unseen)));
+      lacks-taken domain t u (slot.AclFlags w true) text h e (not-here (state.AclFlags w) seen t k h unseen) (k.lacks h (or_left (not (is_seen seen h)) _ (not_false (is_seen seen h) unseen)));
   opened = λ _. open-front domain t u w text e;
 }
 
 -- a further one
-pub fits-next : (seen : Seen) (t : Reading) → Fits place.AfterAce seen t → Fits (place.Ace field.Kind) seen t
+pub fits-next : (seen : Seen) (t : FieldsRead) → Fits state.AfterAce seen t → Fits (state.Ace field.Kind) seen t
 fits-next seen t k = record { here = λ h f. absurd cc; lacks = k.lacks; opened = λ _. k.opened refl }
 
 -- a field of an ACE
-pub fits-field : (domain : Option SecurityId) (f : AceField) (p : Place) (seen : Seen) (t u : Reading) (text : List ℕ) → take_field domain t (slot.Ace f) text ≡ Ok u
-    → ((h : Head) → is_at_front p h ≡ false) → Fits (place.Ace f) seen t → Fits p seen u
+pub fits-field : (domain : Option SecurityId) (f : AceField) (p : State) (seen : Seen) (t u : FieldsRead) (text : List ℕ) → take_field domain t (slot.Ace f) text ≡ Ok u
+    → ((h : Head) → is_at_front p h ≡ false) → Fits (state.Ace f) seen t → Fits p seen u
 fits-field domain f p seen t u text e none k = record {
   here = λ h g. absurd (true≢false (sym g ∙ none h));
   lacks = λ h g.
@@ -333,7 +333,7 @@ fits-field domain f p seen t u text e none k = record {
 
 -- 5. What a reader keeps.
 
-module _ (fault fault' : Option SddlFault) (t u : Reading) (next : Reading → Result Reading SddlFault) (e : result_or u fault' ≡ and_then (result_or t fault) next) where
+module _ (fault fault' : Option SddlFault) (t u : FieldsRead) (next : FieldsRead → Result FieldsRead SddlFault) (e : result_or u fault' ≡ and_then (result_or t fault) next) where
   -- where no fault is found, none was there, and the field was read
   pub none-before : fault' ≡ None → fault ≡ None
   none-before none = (taken fault t u next (rw none at e)).0
@@ -370,11 +370,11 @@ head-itself (head.Acl which.Dacl) = refl
 pub itself-or : (x : Bool) (h : Head) → (x || same_head h h) ≡ true
 itself-or x h = or_right x (same_head h h) (head-itself h)
 
-front-of : (h k : Head) → is_at_front (place_of h) k ≡ same_head h k
+front-of : (h k : Head) → is_at_front (state_of h) k ≡ same_head h k
 front-of (head.Sid p) k = refl
 front-of (head.Acl w) k = refl
 
-not-in-acl : (h : Head) → is_in_acl (place_of h) ≡ true → ⊥
+not-in-acl : (h : Head) → is_in_acl (state_of h) ≡ true → ⊥
 not-in-acl (head.Sid p) e = absurd cc
 not-in-acl (head.Acl w) e = absurd cc
 
@@ -383,8 +383,8 @@ not_or true y e f = absurd (let g : (false || y) ≡ true = e in true≢false (s
 not_or false y e f = refl
 
 -- a head that was not seen begins a part that is not given
-pub fits-head : (p : Place) (seen : Seen) (t u : Reading) (h : Head) → ((k : Head) → is_seen seen k ≡ false → Lacks k t → Lacks k u) → is_seen seen h ≡ false
-    → Fits p seen t → Fits (place_of h) (with_head seen h) u
+pub fits-head : (p : State) (seen : Seen) (t u : FieldsRead) (h : Head) → ((k : Head) → is_seen seen k ≡ false → Lacks k t → Lacks k u) → is_seen seen h ≡ false
+    → Fits p seen t → Fits (state_of h) (with_head seen h) u
 fits-head p seen t u h keeps unseen k = record {
   here = λ x f. seen_with seen h x ∙ or_right (is_seen seen x) _ (sym (front-of h x) ∙ f);
   lacks = λ x f. by_same x (same_head h x) refl (rw (seen_with seen h x, front-of h x) at f);
@@ -398,7 +398,7 @@ fits-head p seen t u h keeps unseen k = record {
     by_same x true e f = subst (λ (y : Head). Lacks y u) (same-head h x e) (lacking h unseen)
     by_same x false e f = lacking x (not_or (is_seen seen x) (same_head h x) f e)
 
-lacks-same : (h : Head) (f : Option SddlFault) (t u : Reading) → Ok u ≡ result_or t f → Lacks h t → Lacks h u
+lacks-same : (h : Head) (f : Option SddlFault) (t u : FieldsRead) → Ok u ≡ result_or t f → Lacks h t → Lacks h u
 lacks-same h f t u e l = if-ok (λ y. Lacks h y) u (result_or t f) (by_fault f) (sym e)
   where
     by_fault : (f : Option SddlFault) → IfOk (result_or t f) (λ y. Lacks h y)
@@ -406,25 +406,25 @@ lacks-same h f t u e l = if-ok (λ y. Lacks h y) u (result_or t f) (by_fault f) 
     by_fault (Some g) = tt
 
 -- what a part gives that ends here
-pub lacks-ended : (domain : Option SecurityId) (p : Place) (seen : Seen) (x : Held) (fault fault' : Option SddlFault) (t u : Reading)
+pub lacks-ended : (domain : Option SecurityId) (p : State) (seen : Seen) (x : Held) (fault fault' : Option SddlFault) (t u : FieldsRead)
     → result_or u fault' ≡ ended_with domain p x (result_or t fault) → fault' ≡ None → Fits p seen t → (k : Head) → is_seen seen k ≡ false → Lacks k t → Lacks k u
-lacks-ended domain place.Before seen x fault fault' t u e none k h n l = lacks-same h fault t u (rw none at e) l
-lacks-ended domain (place.Sid p) seen x fault fault' t u e none k h n l =
-    lacks-taken domain t u (slot.Sid p) (held_text x) h (read-ok fault fault' t u _ e none) (not-here (place.Sid p) seen t k h n) l
-lacks-ended domain (place.AclFlags w) seen x fault fault' t u e none k h n l =
-    lacks-taken domain t u (slot.AclFlags w false) (held_text x) h (read-ok fault fault' t u _ e none) (not-here (place.AclFlags w) seen t k h n) l
-lacks-ended domain place.AfterAce seen x fault fault' t u e none k h n l = lacks-same h fault t u (rw none at e) l
-lacks-ended domain (place.Ace f) seen x fault fault' t u e none k h n l = lacks-same h fault t u (rw none at e) l
+lacks-ended domain state.Before seen x fault fault' t u e none k h n l = lacks-same h fault t u (rw none at e) l
+lacks-ended domain (state.Sid p) seen x fault fault' t u e none k h n l =
+    lacks-taken domain t u (slot.Sid p) (held_text x) h (read-ok fault fault' t u _ e none) (not-here (state.Sid p) seen t k h n) l
+lacks-ended domain (state.AclFlags w) seen x fault fault' t u e none k h n l =
+    lacks-taken domain t u (slot.AclFlags w false) (held_text x) h (read-ok fault fault' t u _ e none) (not-here (state.AclFlags w) seen t k h n) l
+lacks-ended domain state.AfterAce seen x fault fault' t u e none k h n l = lacks-same h fault t u (rw none at e) l
+lacks-ended domain (state.Ace f) seen x fault fault' t u e none k h n l = lacks-same h fault t u (rw none at e) l
 
 -- where no fault is found at the end of a part, none was there
-pub none-ended : (domain : Option SecurityId) (p : Place) (x : Held) (fault fault' : Option SddlFault) (t u : Reading)
+pub none-ended : (domain : Option SecurityId) (p : State) (x : Held) (fault fault' : Option SddlFault) (t u : FieldsRead)
     → result_or u fault' ≡ ended_with domain p x (result_or t fault) → fault' ≡ None → fault ≡ None
 none-ended domain p x None fault' t u e none = refl
-none-ended domain place.Before x (Some f) fault' t u e none = absurd (let no : Ok u ≡ Err f = (rw none at e) in cc)
-none-ended domain (place.Sid p) x (Some f) fault' t u e none = absurd (let no : Ok u ≡ Err f = (rw none at e) in cc)
-none-ended domain (place.AclFlags w) x (Some f) fault' t u e none = absurd (let no : Ok u ≡ Err f = (rw none at e) in cc)
-none-ended domain place.AfterAce x (Some f) fault' t u e none = absurd (let no : Ok u ≡ Err f = (rw none at e) in cc)
-none-ended domain (place.Ace a) x (Some f) fault' t u e none = absurd (let no : Ok u ≡ Err f = (rw none at e) in cc)
+none-ended domain state.Before x (Some f) fault' t u e none = absurd (let no : Ok u ≡ Err f = (rw none at e) in cc)
+none-ended domain (state.Sid p) x (Some f) fault' t u e none = absurd (let no : Ok u ≡ Err f = (rw none at e) in cc)
+none-ended domain (state.AclFlags w) x (Some f) fault' t u e none = absurd (let no : Ok u ≡ Err f = (rw none at e) in cc)
+none-ended domain state.AfterAce x (Some f) fault' t u e none = absurd (let no : Ok u ≡ Err f = (rw none at e) in cc)
+none-ended domain (state.Ace a) x (Some f) fault' t u e none = absurd (let no : Ok u ≡ Err f = (rw none at e) in cc)
 
 -- the fault of a head: one where it was seen
 pub unseen-head : (seen : Bool) (f : SddlFault) (fault : Option SddlFault) → (if seen then Some f else fault) ≡ None → (seen ≡ false) × (fault ≡ None)
@@ -433,7 +433,7 @@ unseen-head false f fault e = (refl, e)
 
 -- 7. The start.
 
-pub fits-start : Fits place.Before (record { owner = false; group = false; sacl = false; dacl = false }) nothing_read
+pub fits-start : Fits state.Before (record { owner = false; group = false; sacl = false; dacl = false }) nothing_read
 fits-start = record { here = λ h e. absurd cc; lacks = λ h e. nothing h; opened = λ e. absurd cc }
   where
     nothing : (h : Head) → Lacks h nothing_read
@@ -444,5 +444,5 @@ fits-start = record { here = λ h e. absurd cc; lacks = λ h e. nothing h; opene
 
 -- 8. A step that changes the text of the field at hand alone, or finds that the shape fails.
 
-pub keeps-same : (s s' : SddlReader) (sound : Bool) (field' : Held) (buf : List ℕ) (t : Reading) → s' ≡ record s { sound = sound; field = field' } → Keeps s buf t → Keeps s' buf t
+pub keeps-same : (s s' : SddlReader) (sound : Bool) (field' : Held) (buf : List ℕ) (t : FieldsRead) → s' ≡ record s { sound = sound; field = field' } → LineHasRead s buf t → LineHasRead s' buf t
 keeps-same s s' sound field' buf t same k = rw same (record { fields = k.fields; fits = k.fits })

@@ -16,9 +16,9 @@ use Rattle.sd_view.specs.declared.control.Which.{Which}
 use Rattle.sd_view.specs.declared.control.Which.TheVariants as which
 use Rattle.std.specs.Option.{option_or}
 use Rattle.sd_reader.specs.FieldTexts.{front_reads}
-use Rattle.sd_reader.specs.Inner.FoldedReading.{Reading, described, fields_of, finished, folded, large_in, nothing_read, read_fields, reads_as, verdict}
+use Rattle.sd_reader.specs.Inner.FoldedReading.{FieldsRead, described, fields_of, finished, folded, large_in, nothing_read, read_fields, reads_as, verdict}
 use Rattle.sd_reader.specs.Line.{Piece, Section, are_shaped, front, has_head, has_twice, is_blank_piece, is_paired, is_shaped, parts_of, same_head, trim}
-use Rattle.sd_reader.specs.Meaning.{Said, acl_said, and_then, body_reads, control_flags, descriptor_of, each, entries_read, field_reads, first_large, means, section_reads, sections_mean, sid_field_reads, sid_said, unless_large, acl_of as acl_picked, flags_of as flags_picked, sid_of as sid_picked}
+use Rattle.sd_reader.specs.Meaning.{Said, acl_said, and_then, body_reads, control_flags, descriptor_of, each, entries_read, field_reads, first_large, means, section_reads, sections_mean, sid_field_reads, sid_said, unless_large, picked_acl, picked_flags, picked_sid}
 use Rattle.sd_view.specs.Control.{bit_if}
 use Rattle.sd_view.specs.declared.control.AclFlags.{AclFlags}
 use Rattle.sd_reader.specs.declared.fault.SddlFault.TheVariants as fault
@@ -52,7 +52,7 @@ of_draft t sf df = record {
   dacl_flags = df;
 }
 
-abbrev gathered : Reading → Gathered
+abbrev gathered : FieldsRead → Gathered
 gathered r = of_draft (closed r.parts) r.sacl r.dacl
 
 abbrev with_one : Said → Gathered → Gathered
@@ -62,7 +62,7 @@ with_one (acl_said which.Sacl f a) g = record g { sacl = a; sacl_flags = f }
 with_one (acl_said which.Dacl f a) g = record g { dacl = a; dacl_flags = f }
 
 -- a fold with an open ACL
-abbrev opened : Draft → AclFlags → AclFlags → AceFields → Option Which → Which → List AccessControlEntry → Reading
+abbrev opened : Draft → AclFlags → AclFlags → AceFields → Option Which → Which → List AccessControlEntry → FieldsRead
 opened t sf df a l w es = record {
   parts = record t { «open» = Some (w, es) };
   sacl = sf;
@@ -135,7 +135,7 @@ none-open t = by_open t.«open» refl
     by_open None e = e
     by_open (Some o) e = one o.0 o.1
 
-said-gathered : (r : Reading) (x : Said) → gathered (with_said r x) ≡ with_one x (gathered r)
+said-gathered : (r : FieldsRead) (x : Said) → gathered (with_said r x) ≡ with_one x (gathered r)
 unfolding with_entries
 said-gathered r (sid_said sid_part.Owner s) = rw (none-open r.parts) refl
 said-gathered r (sid_said sid_part.Group s) = rw (none-open r.parts) refl
@@ -152,7 +152,7 @@ abbrev large_said : Said → Option Which
 large_said (sid_said p s) = None
 large_said (acl_said w f a) = if nat_lt 65535 (acl_part_size a) then Some w else None
 
-said-large : (r : Reading) (x : Said) → (with_said r x).large ≡ option_or r.large (large_said x)
+said-large : (r : FieldsRead) (x : Said) → (with_said r x).large ≡ option_or r.large (large_said x)
 said-large r (sid_said sid_part.Owner s) = sym (or-none r.large)
 said-large r (sid_said sid_part.Group s) = sym (or-none r.large)
 said-large r (acl_said which.Sacl f acl.Absent) = sym (or-none r.large)
@@ -175,7 +175,7 @@ first-or (acl_said w f a) xs = by_test (nat_lt 65535 (acl_part_size a))
     by_test true = refl
     by_test false = refl
 
-all-large : (xs : List Said) (r : Reading) → (with_all r xs).large ≡ option_or r.large (first_large xs)
+all-large : (xs : List Said) (r : FieldsRead) → (with_all r xs).large ≡ option_or r.large (first_large xs)
 unfolding with_all
 all-large [] r = sym (or-none r.large)
 all-large (x ∷ xs) r =
@@ -187,7 +187,7 @@ with_those : List Said → Gathered → Gathered
 with_those [] g = g
 with_those (x ∷ xs) g = with_those xs (with_one x g)
 
-all-gathered : (xs : List Said) (r : Reading) → gathered (with_all r xs) ≡ with_those xs (gathered r)
+all-gathered : (xs : List Said) (r : FieldsRead) → gathered (with_all r xs) ≡ with_those xs (gathered r)
 unfolding with_all with_those
 all-gathered [] r = refl
 all-gathered (x ∷ xs) r = all-gathered xs (with_said r x) ∙ ap (with_those xs) (said-gathered r x)
@@ -241,12 +241,12 @@ put-last (y ∷ ys) x g e =
 
 abbrev picked : List Said → Gathered
 picked xs = record {
-  owner = sid_picked sid_part.Owner xs;
-  group = sid_picked sid_part.Group xs;
-  sacl = acl_picked which.Sacl xs;
-  dacl = acl_picked which.Dacl xs;
-  sacl_flags = flags_picked which.Sacl xs;
-  dacl_flags = flags_picked which.Dacl xs;
+  owner = picked_sid sid_part.Owner xs;
+  group = picked_sid sid_part.Group xs;
+  sacl = picked_acl which.Sacl xs;
+  dacl = picked_acl which.Dacl xs;
+  sacl_flags = picked_flags which.Sacl xs;
+  dacl_flags = picked_flags which.Dacl xs;
 }
 
 picked-one : (x : Said) (xs : List Said) → with_one x (picked xs) ≡ picked (x ∷ xs)
@@ -327,13 +327,13 @@ descriptor_from g =
 -- the control word with these flags
 abbrev word_with : List Said → ℕ → ℕ
 word_with xs flags =
-    flags + 0x8000 + bit_if (is_present (acl_picked which.Sacl xs)) 0x10
-    + bit_if (is_present (acl_picked which.Dacl xs)) 0x4
+    flags + 0x8000 + bit_if (is_present (picked_acl which.Sacl xs)) 0x10
+    + bit_if (is_present (picked_acl which.Dacl xs)) 0x4
 
 picked-descriptor : (xs : List Said) → descriptor_from (picked xs) ≡ descriptor_of xs
 picked-descriptor xs =
     ap (λ (flags : ℕ). record (descriptor_of xs) { control = word_with xs flags })
-    (flags-stay (flags_picked which.Sacl xs) (flags_picked which.Dacl xs))
+    (flags-stay (picked_flags which.Sacl xs) (picked_flags which.Dacl xs))
 
 all-described : (xs : List Said) → is_twice xs ≡ false → described (with_all nothing_read xs) ≡ descriptor_of xs
 all-described xs e = ap descriptor_from (all-gathered xs nothing_read ∙ all-picked xs e) ∙ picked-descriptor xs
@@ -365,7 +365,7 @@ folded-means text domain = by_shape (is_shaped text) refl
     ss : List Section
     ss = (parts_of text).parts
 
-    read : Found Reading
+    read : Found FieldsRead
     read = read_fields domain (fields_of ss) nothing_read
 
     meant : Found Descriptor

@@ -17,7 +17,7 @@ use Rattle.sd_view.specs.declared.acl.AclPart.{AclPart}
 use Rattle.sd_view.specs.declared.acl.AclPart.TheVariants as acl
 use Rattle.sd_view.specs.declared.control.Which.{Which}
 use Rattle.sd_reader.specs.FieldTexts.{front_reads, kind_reads, object_reads}
-use Rattle.sd_reader.specs.Inner.FoldedReading.{Field, Reading, ace_fields, ace_fields_from, ace_of, fields_in, fields_of, grown, no_fields, read_fields, take_ace_field, take_field, take_front, with_flags, with_owner_or_group, with_sid, with_trustee, with_value}
+use Rattle.sd_reader.specs.Inner.FoldedReading.{Field, FieldsRead, ace_fields, ace_fields_from, ace_of, fields_in, fields_of, grown, no_fields, read_fields, take_ace_field, take_field, take_front, with_flags, with_owner_or_group, with_sid, with_trustee, with_value}
 use Rattle.sd_reader.specs.Line.{Piece, Section, ace, ace_cuts, aces, are_aces, are_shaped, byte, cuts, front, has_aces, has_six_fields, is_acl_body, is_blank, is_body, trim}
 use Rattle.sd_reader.specs.Meaning.{Said, acl_said, ace_reads, and_then, body_reads, each, entries_read, field_reads, is_unreadable, section_reads, sid_field_reads, sid_or_fault, sid_said}
 use Rattle.sd_view.specs.declared.control.AclFlags.{AclFlags}
@@ -33,12 +33,12 @@ use Rattle.sd_reader.specs.declared.reading.AclFront.{AclFront}
 
 -- 1. One step after the other.
 
-pub read-append : (domain : Option SecurityId) (fs gs : List Field) (r : Reading)
+pub read-append : (domain : Option SecurityId) (fs gs : List Field) (r : FieldsRead)
     → read_fields domain (fs ++ gs) r ≡ and_then (read_fields domain fs r) (read_fields domain gs)
 read-append domain [] gs r = refl
 read-append domain (f ∷ fs) gs r = by_first (take_field domain r f.slot f.text) (λ x. read-append domain fs gs x)
   where
-    by_first : (t : Result Reading SddlFault) → ((x : Reading) → read_fields domain (fs ++ gs) x ≡ and_then (read_fields domain fs x) (read_fields domain gs))
+    by_first : (t : Result FieldsRead SddlFault) → ((x : FieldsRead) → read_fields domain (fs ++ gs) x ≡ and_then (read_fields domain fs x) (read_fields domain gs))
         → and_then t (read_fields domain (fs ++ gs)) ≡ and_then (and_then t (read_fields domain fs)) (read_fields domain gs)
     by_first (Ok x) more = more x
     by_first (Err e) more = refl
@@ -48,8 +48,8 @@ abbrev pub Found : Type 0 → Type 0
 Found A = Result A SddlFault
 
 -- a field of the fold, and what follows it, against the same field read by itself
-value-step : {A C : Type 0} (e : SddlFault) (with : A → Reading) (bad : Bool) (o : Option A)
-    (next : Reading → Found Reading) (body : A → Found C) (last : C → Found Reading)
+value-step : {A C : Type 0} (e : SddlFault) (with : A → FieldsRead) (bad : Bool) (o : Option A)
+    (next : FieldsRead → Found FieldsRead) (body : A → Found C) (last : C → Found FieldsRead)
     → ((x : A) → next (with x) ≡ and_then (body x) last)
     → and_then (if bad then Err e else with_value e with o) next
     ≡ and_then (and_then (if bad then Err e else ok_or o e) body) last
@@ -57,8 +57,8 @@ value-step e with true o next body last h = refl
 value-step e with false None next body last h = refl
 value-step e with false (Some x) next body last h = h x
 
-sid-step : {C : Type 0} (with : SecurityId → Reading) (bad : Bool) (found : Result SecurityId SidFault)
-    (next : Reading → Found Reading) (body : SecurityId → Found C) (last : C → Found Reading)
+sid-step : {C : Type 0} (with : SecurityId → FieldsRead) (bad : Bool) (found : Result SecurityId SidFault)
+    (next : FieldsRead → Found FieldsRead) (body : SecurityId → Found C) (last : C → Found FieldsRead)
     → ((s : SecurityId) → next (with s) ≡ and_then (body s) last)
     → and_then (if bad then Err (fault.Sid SidForm) else with_sid with found) next
     ≡ and_then (and_then (if bad then Err (fault.Sid SidForm) else sid_or_fault found) body) last
@@ -67,8 +67,8 @@ sid-step with false (Err e) next body last h = refl
 sid-step with false (Ok s) next body last h = h s
 
 -- a step, and then the others of a list
-each-step : {A : Type 0} (x : Found A) (xs : Found (List A)) (first : A → Reading) (next : Reading → Found Reading)
-    (last : List A → Reading) → ((a : A) → next (first a) ≡ and_then xs (λ l. Ok (last (a ∷ l))))
+each-step : {A : Type 0} (x : Found A) (xs : Found (List A)) (first : A → FieldsRead) (next : FieldsRead → Found FieldsRead)
+    (last : List A → FieldsRead) → ((a : A) → next (first a) ≡ and_then xs (λ l. Ok (last (a ∷ l))))
     → and_then (and_then x (λ a. Ok (first a))) next
     ≡ and_then (and_then x (λ a. and_then xs (λ l. Ok (a ∷ l)))) (λ l. Ok (last l))
 each-step (Err e) xs first next last h = refl
@@ -87,17 +87,17 @@ before_sid e = record {
   inherited = e.inherited;
 }
 
-abbrev pub with_entry : Reading → AccessControlEntry → Reading
+abbrev pub with_entry : FieldsRead → AccessControlEntry → FieldsRead
 with_entry r e = grown (record r { ace = before_sid e }) (with_ace e r.parts)
 
-abbrev entry_in : Reading → AccessControlEntry → Found Reading
+abbrev entry_in : FieldsRead → AccessControlEntry → Found FieldsRead
 entry_in r e = Ok (with_entry r e)
 
 abbrev field_at : AceField → List ℕ → Field
 field_at f text = record { slot = slot.Ace f; text = text }
 
 -- the fold with other fields of the ACE at hand
-abbrev with_fields : Reading → AceFields → Reading
+abbrev with_fields : FieldsRead → AceFields → FieldsRead
 with_fields r a = record r { ace = a }
 
 module _ (domain : Option SecurityId) (sid : List ℕ) where
@@ -105,7 +105,7 @@ module _ (domain : Option SecurityId) (sid : List ℕ) where
   abbrev from_sid : AceFields → Found AccessControlEntry
   from_sid a = and_then (sid_field_reads domain sid) (λ s. Ok (ace_of a s))
 
-  sid-last : (r : Reading)
+  sid-last : (r : FieldsRead)
       → read_fields domain (field_at field.Sid sid ∷ []) r ≡ and_then (from_sid r.ace) (entry_in r)
   unfolding take_field take_ace_field
   sid-last r =
@@ -120,7 +120,7 @@ module _ (domain : Option SecurityId) (sid : List ℕ) where
     abbrev last_two : List Field
     last_two = field_at field.Inherited inherited ∷ field_at field.Sid sid ∷ []
 
-    inherited-last : (r : Reading) → read_fields domain last_two r ≡ and_then (from_inherited r.ace) (entry_in r)
+    inherited-last : (r : FieldsRead) → read_fields domain last_two r ≡ and_then (from_inherited r.ace) (entry_in r)
     unfolding take_field take_ace_field
     inherited-last r =
         value-step fault.Guid (λ i. with_fields r (record r.ace { inherited = i }))
@@ -136,7 +136,7 @@ module _ (domain : Option SecurityId) (sid : List ℕ) where
       abbrev last_three : List Field
       last_three = field_at field.Object object ∷ last_two
 
-      object-last : (r : Reading) → read_fields domain last_three r ≡ and_then (from_object r.ace) (entry_in r)
+      object-last : (r : FieldsRead) → read_fields domain last_three r ≡ and_then (from_object r.ace) (entry_in r)
       unfolding take_field take_ace_field
       object-last r =
           value-step fault.Guid (λ o. with_fields r (record r.ace { object = o }))
@@ -152,7 +152,7 @@ module _ (domain : Option SecurityId) (sid : List ℕ) where
         abbrev last_four : List Field
         last_four = field_at field.Rights rights ∷ last_three
 
-        rights-last : (r : Reading) → read_fields domain last_four r ≡ and_then (from_rights r.ace) (entry_in r)
+        rights-last : (r : FieldsRead) → read_fields domain last_four r ≡ and_then (from_rights r.ace) (entry_in r)
         unfolding take_field take_ace_field
         rights-last r =
             value-step fault.Rights (λ m. with_fields r (record r.ace { mask = m }))
@@ -168,7 +168,7 @@ module _ (domain : Option SecurityId) (sid : List ℕ) where
           abbrev last_five : List Field
           last_five = field_at field.Flags flags ∷ last_four
 
-          flags-last : (r : Reading) → read_fields domain last_five r ≡ and_then (from_flags r.ace) (entry_in r)
+          flags-last : (r : FieldsRead) → read_fields domain last_five r ≡ and_then (from_flags r.ace) (entry_in r)
           unfolding take_field take_ace_field
           flags-last r =
               value-step fault.Flags (λ f. with_fields r (record r.ace { flags = f }))
@@ -179,7 +179,7 @@ module _ (domain : Option SecurityId) (sid : List ℕ) where
           abbrev five : List (List ℕ)
           five = flags ∷ rights ∷ object ∷ inherited ∷ sid ∷ []
 
-          six-read : (r : Reading) (kind : List ℕ)
+          six-read : (r : FieldsRead) (kind : List ℕ)
               → read_fields domain (ace_fields_from field.Kind kind five) r
               ≡ and_then (ace_reads domain (kind ∷ five)) (entry_in r)
           unfolding take_field take_ace_field ace_reads
@@ -190,7 +190,7 @@ module _ (domain : Option SecurityId) (sid : List ℕ) where
               (λ k. flags-last (with_fields r (record no_fields { kind = k })))
 
 -- five others after the first
-cuts-read : (domain : Option SecurityId) (r : Reading) (kind : List ℕ) (others : List (List ℕ))
+cuts-read : (domain : Option SecurityId) (r : FieldsRead) (kind : List ℕ) (others : List (List ℕ))
     → (length others == 5) ≡ true
     → read_fields domain (ace_fields_from field.Kind kind others) r
     ≡ and_then (ace_reads domain (kind ∷ others)) (entry_in r)
@@ -202,13 +202,13 @@ cuts-read domain r kind (a ∷ b ∷ c ∷ d ∷ []) six = absurd cc
 cuts-read domain r kind (a ∷ b ∷ c ∷ d ∷ e ∷ []) six = six-read domain e d c b a r kind
 cuts-read domain r kind (a ∷ b ∷ c ∷ d ∷ e ∷ f ∷ others) six = absurd (grind (arith, nat_tests))
 
-ace-read : (domain : Option SecurityId) (r : Reading) (text : List ℕ) → has_six_fields text ≡ true
+ace-read : (domain : Option SecurityId) (r : FieldsRead) (text : List ℕ) → has_six_fields text ≡ true
     → read_fields domain (ace_fields text) r ≡ and_then (ace_reads domain (ace_cuts text)) (entry_in r)
 ace-read domain r text six = cuts-read domain r (cuts text).first (cuts text).others six
 
 -- 3. ACEs, one after the other.
 
-unfoldable pub with_entries : Reading → List AccessControlEntry → Reading
+unfoldable pub with_entries : FieldsRead → List AccessControlEntry → FieldsRead
 with_entries r [] = r
 with_entries r (e ∷ es) = with_entries (with_entry r e) es
 
@@ -218,31 +218,31 @@ HaveSix texts = AllByRecursion (λ a. has_six_fields a ≡ true) texts
 abbrev aces_read : Option SecurityId → List (List ℕ) → Found (List AccessControlEntry)
 aces_read domain texts = each (λ a. ace_reads domain (ace_cuts a)) texts
 
-abbrev aces_folded : Option SecurityId → List (List ℕ) → Reading → Found Reading
+abbrev aces_folded : Option SecurityId → List (List ℕ) → FieldsRead → Found FieldsRead
 aces_folded domain texts r = read_fields domain (flat_map ace_fields texts) r
 
-aces-read : (domain : Option SecurityId) (r : Reading) (texts : List (List ℕ)) → HaveSix texts
+aces-read : (domain : Option SecurityId) (r : FieldsRead) (texts : List (List ℕ)) → HaveSix texts
     → aces_folded domain texts r ≡ and_then (aces_read domain texts) (λ es. Ok (with_entries r es))
 unfolding with_entries
 aces-read domain r [] h = refl
 aces-read domain r (a ∷ others) h =
     read-append domain (ace_fields a) (flat_map ace_fields others) r
-    ∙ ap (λ (x : Found Reading). and_then x (aces_folded domain others)) (ace-read domain r a h.0)
+    ∙ ap (λ (x : Found FieldsRead). and_then x (aces_folded domain others)) (ace-read domain r a h.0)
     ∙ each-step (ace_reads domain (ace_cuts a)) (aces_read domain others) (with_entry r)
     (aces_folded domain others) (with_entries r) (λ e. aces-read domain (with_entry r e) others h.1)
 
 -- 4. A section.
 
-abbrev pub given : Which → AclFlags → AclPart → Reading → Reading
+abbrev pub given : Which → AclFlags → AclPart → FieldsRead → FieldsRead
 given w f acl.Absent r = with_flags w f (record r { parts = with_acl w acl.Absent (closed r.parts) })
 given w f acl.Null r = with_flags w f (record r { parts = with_acl w acl.Null (closed r.parts) })
 given w f (acl.List es) r = with_entries (with_flags w f (record r { parts = begun w (closed r.parts) })) es
 
-abbrev pub with_said : Reading → Said → Reading
+abbrev pub with_said : FieldsRead → Said → FieldsRead
 with_said r (sid_said p s) = with_owner_or_group p r s
 with_said r (acl_said w f a) = given w f a r
 
-abbrev said_in : Reading → Said → Found Reading
+abbrev said_in : FieldsRead → Said → Found FieldsRead
 said_in r x = Ok (with_said r x)
 
 no-aces : (body : List Piece) → has_aces body ≡ false → aces body ≡ []
@@ -250,14 +250,14 @@ no-aces [] e = refl
 no-aces (byte b ∷ ps) e = no-aces ps e
 no-aces (ace a ∷ ps) e = absurd cc
 
-list-read : (x : Found (List AccessControlEntry)) (w : Which) (f : AclFlags) (r : Reading)
+list-read : (x : Found (List AccessControlEntry)) (w : Which) (f : AclFlags) (r : FieldsRead)
     → and_then x (λ es. Ok (given w f (acl.List es) r))
     ≡ and_then (and_then (and_then x (λ es. Ok (acl.List es))) (λ a. Ok (acl_said w f a))) (said_in r)
 list-read (Ok es) w f r = refl
 list-read (Err e) w f r = refl
 
-module _ (domain : Option SecurityId) (w : Which) (body : List Piece) (r : Reading) (six : HaveSix (aces body)) where
-  abbrev acl_aces : Reading → Found Reading
+module _ (domain : Option SecurityId) (w : Which) (body : List Piece) (r : FieldsRead) (six : HaveSix (aces body)) where
+  abbrev acl_aces : FieldsRead → Found FieldsRead
   acl_aces x = aces_folded domain (aces body) x
 
   abbrev front_said : AclFront → Found Said
@@ -296,7 +296,7 @@ acl-six [] h = tt
 acl-six (byte b ∷ ps) h = acl-six ps (both _ (is_acl_body ps) h).1
 acl-six (ace a ∷ ps) h = aces-six (ace a ∷ ps) h
 
-section-read : (domain : Option SecurityId) (r : Reading) (h : Head) (body : List Piece) → is_body h body ≡ true
+section-read : (domain : Option SecurityId) (r : FieldsRead) (h : Head) (body : List Piece) → is_body h body ≡ true
     → read_fields domain (fields_in h body) r ≡ and_then (body_reads domain h body) (said_in r)
 unfolding take_field body_reads
 section-read domain r (head.Sid p) body shaped =
@@ -309,18 +309,18 @@ section-read domain r (head.Acl w) body shaped =
 
 -- 5. Sections, one after the other.
 
-unfoldable pub with_all : Reading → List Said → Reading
+unfoldable pub with_all : FieldsRead → List Said → FieldsRead
 with_all r [] = r
 with_all r (x ∷ xs) = with_all (with_said r x) xs
 
-pub sections-read : (domain : Option SecurityId) (r : Reading) (ss : List Section) → are_shaped ss ≡ true
+pub sections-read : (domain : Option SecurityId) (r : FieldsRead) (ss : List Section) → are_shaped ss ≡ true
     → read_fields domain (fields_of ss) r ≡ and_then (each (section_reads domain) ss) (λ xs. Ok (with_all r xs))
 unfolding with_all
 sections-read domain r [] h = refl
 sections-read domain r (s ∷ ss) h =
     let parts = both (is_body s.head s.body) _ h in
     read-append domain (fields_in s.head s.body) (fields_of ss) r
-    ∙ ap (λ (x : Found Reading). and_then x (read_fields domain (fields_of ss)))
+    ∙ ap (λ (x : Found FieldsRead). and_then x (read_fields domain (fields_of ss)))
     (section-read domain r s.head s.body parts.0)
     ∙ each-step (section_reads domain s) (each (section_reads domain) ss) (with_said r)
     (read_fields domain (fields_of ss)) (with_all r) (λ x. sections-read domain (with_said r x) ss parts.1)

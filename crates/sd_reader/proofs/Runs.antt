@@ -9,13 +9,13 @@ use Rattle.std.proofs.lemmas.Grind.{common_steps}
 use Rattle.sd_core.specs.Sid.{SecurityId}
 use Rattle.sd_reader.specs.declared.fault.SddlFault.{SddlFault}
 use Rattle.sd_reader.specs.declared.line.AceField.{AceField}
-use Rattle.sd_reader.specs.declared.line.Place.TheVariants as place
+use Rattle.sd_reader.specs.declared.line.State.TheVariants as state
 use Rattle.sd_reader.specs.declared.line.Seen.{Seen}
 use Rattle.sd_reader.specs.declared.line.SidPart.{SidPart}
 use Rattle.sd_reader.specs.Inner.Held.{Held, IsHeld, broken_text, held_run, held_with, is_plain_inside, is_plain_outside}
 use Rattle.sd_reader.specs.Line.{head_of, is_blank}
-use Rattle.sd_reader.specs.Inner.FoldedReading.{Reading}
-use Rattle.sd_reader.specs.Inner.Progress.{answer, result_or}
+use Rattle.sd_reader.specs.Inner.FoldedReading.{FieldsRead}
+use Rattle.sd_reader.specs.Inner.Progress.{rest_answer, result_or}
 use Rattle.sd_reader.specs.Inner.Reads.{IsReader, Reads, answer_at}
 use Rattle.sd_reader.specs.declared.reader.SddlReader.{SddlReader}
 use Rattle.sd_reader.proofs.FieldTexts.{append_nothing, same_inner, same_text, with_held}
@@ -167,10 +167,10 @@ outside-held h (b ∷ bs) k e =
 
 -- 3. The answer to a run.
 
-module _ (dm : Option SecurityId) (so tw : Bool) (se : Seen) (r : Result Reading SddlFault) where
+module _ (dm : Option SecurityId) (so tw : Bool) (se : Seen) (r : Result FieldsRead SddlFault) where
   pub inside-run : (c : AceField) (h : Held) (bs rest : List ℕ) → IsHeld h → h.gap ≡ false
       → list_all is_plain_inside bs ≡ true
-      → answer dm so tw se r (place.Ace c) (held_run h bs) rest ≡ answer dm so tw se r (place.Ace c) h (bs ++ rest)
+      → rest_answer dm so tw se r (state.Ace c) (held_run h bs) rest ≡ rest_answer dm so tw se r (state.Ace c) h (bs ++ rest)
   inside-run c h [] rest k n e = refl
   inside-run c h (b ∷ bs) rest k n e =
       let p = both_parts (is_plain_inside b) _ e in
@@ -180,7 +180,7 @@ module _ (dm : Option SecurityId) (so tw : Bool) (se : Seen) (r : Result Reading
       (λ u. same_inner h b u k n l.blank)
 
   pub outside-run : (p : SidPart) (h : Held) (bs rest : List ℕ) → IsHeld h → list_all is_plain_outside bs ≡ true
-      → answer dm so tw se r (place.Sid p) (held_run h bs) rest ≡ answer dm so tw se r (place.Sid p) h (bs ++ rest)
+      → rest_answer dm so tw se r (state.Sid p) (held_run h bs) rest ≡ rest_answer dm so tw se r (state.Sid p) h (bs ++ rest)
   outside-run p h [] rest k e = refl
   outside-run p h (b ∷ bs) rest k e =
       let o = outside_parts b bs e in
@@ -199,7 +199,7 @@ Goes s bs = (buf : List ℕ) → IsReader s buf → IsReader (record s { field =
 
 -- where no byte waits, and the answer to the run is that to what follows it
 goes-on : (s : SddlReader) (bs buf : List ℕ) (domain : Option SecurityId) (before : List ℕ) → s.pending ≡ None
-    → ((t : Reading) (rest : List ℕ)
+    → ((t : FieldsRead) (rest : List ℕ)
     → answer_at (record s { field = held_run s.field bs }) t rest ≡ answer_at s t (bs ++ rest))
     → Reads s buf domain before → Reads (record s { field = held_run s.field bs }) buf domain (before ++ bs)
 goes-on s bs buf domain before none step h = (
@@ -208,7 +208,7 @@ goes-on s bs buf domain before none step h = (
   λ rest. rw none (step h.0 rest ∙ (rw none at h.2 (bs ++ rest)) ∙ rw append_assoc refl),
 )
 
-pub inside-goes : (s : SddlReader) (c : AceField) (bs : List ℕ) → s.place ≡ place.Ace c
+pub inside-goes : (s : SddlReader) (c : AceField) (bs : List ℕ) → s.state ≡ state.Ace c
     → list_all is_plain_inside bs ≡ true → Goes s bs
 inside-goes s c bs here plain buf r =
     let gap : s.field.gap ≡ false = r.calm.gap (rw here refl) in (
@@ -224,7 +224,7 @@ inside-goes s c bs here plain buf r =
           (result_or t s.fault) c s.field bs rest r.calm.held gap plain)) h,
     )
 
-pub outside-goes : (s : SddlReader) (p : SidPart) (bs : List ℕ) → s.place ≡ place.Sid p → s.pending ≡ None
+pub outside-goes : (s : SddlReader) (p : SidPart) (bs : List ℕ) → s.state ≡ state.Sid p → s.pending ≡ None
     → list_all is_plain_outside bs ≡ true → Goes s bs
 outside-goes s p bs here none plain buf r = (
   record {

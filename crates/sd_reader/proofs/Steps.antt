@@ -13,8 +13,8 @@ use Rattle.sd_reader.specs.declared.line.AceField.{AceField}
 use Rattle.sd_reader.specs.declared.line.AceField.TheVariants as field
 use Rattle.sd_reader.specs.declared.line.Head.{Head}
 use Rattle.sd_reader.specs.declared.line.Head.TheVariants as head
-use Rattle.sd_reader.specs.declared.line.Place.{Place}
-use Rattle.sd_reader.specs.declared.line.Place.TheVariants as place
+use Rattle.sd_reader.specs.declared.line.State.{State}
+use Rattle.sd_reader.specs.declared.line.State.TheVariants as state
 use Rattle.sd_reader.specs.declared.line.Seen.{Seen}
 use Rattle.sd_reader.specs.declared.line.SidPart.{SidPart}
 use Rattle.sd_reader.specs.declared.line.SidPart.TheVariants as sid_part
@@ -22,9 +22,9 @@ use Rattle.sd_reader.specs.declared.line.Slot.{Slot}
 use Rattle.sd_reader.specs.declared.line.Slot.TheVariants as slot
 use Rattle.sd_reader.specs.Inner.Held.{Held, IsHeld, no_text, held_text}
 use Rattle.sd_reader.specs.Line.{is_blank, is_paired, Piece, byte, ace, pieces_from, sections, Section, Sections, is_sid_body, are_aces, is_acl_body, are_shaped, cuts, front, aces, has_aces, has_twice, has_head, head_at, head_of, parts_of, begins_with_colon, same_head, is_body}
-use Rattle.sd_reader.specs.Inner.FoldedReading.{Field, Reading, ace_fields, ace_fields_from, fields_in, fields_of, next_field, nothing_read, read_fields, reads_as, take_field, verdict}
+use Rattle.sd_reader.specs.Inner.FoldedReading.{Field, FieldsRead, ace_fields, ace_fields_from, fields_in, fields_of, next_field, nothing_read, read_fields, reads_as, take_field, verdict}
 use Rattle.sd_reader.specs.Meaning.{and_then}
-use Rattle.sd_reader.specs.Inner.Progress.{is_inside, fields_left, is_shaped_here, text_with, inner_with, fields_here, is_seen, result_or, with_head, has_seen, judged, answer, place_of, ended_with}
+use Rattle.sd_reader.specs.Inner.Progress.{is_inside, fields_left, is_shaped_here, text_with, inner_with, fields_here, is_seen, result_or, with_head, has_seen, judged, rest_answer, state_of, ended_with}
 use Rattle.sd_reader.proofs.FieldTexts.{Same, same_reads, text_ended, inner_ended}
 
 -- 1. Small facts.
@@ -39,17 +39,17 @@ no_second true y e = e
 no_second false y e = refl
 
 -- a shape that fails
-unshaped : (x t : Bool) (r : Result Reading SddlFault) → x ≡ false → verdict x t r ≡ Err fault.Shape
+unshaped : (x t : Bool) (r : Result FieldsRead SddlFault) → x ≡ false → verdict x t r ≡ Err fault.Shape
 unfolding verdict
 unshaped x t r e = rw e refl
 
 -- the texts of the field at hand may be changed for others that read as the same
-swap : (dm : Option SecurityId) (r : Result Reading SddlFault) (s : Slot) (t u : List ℕ) (fs : List Field) → Same t u → and_then r (read_fields dm (record { slot = s; text = t } ∷ fs)) ≡ and_then r (read_fields dm (record { slot = s; text = u } ∷ fs))
+swap : (dm : Option SecurityId) (r : Result FieldsRead SddlFault) (s : Slot) (t u : List ℕ) (fs : List Field) → Same t u → and_then r (read_fields dm (record { slot = s; text = t } ∷ fs)) ≡ and_then r (read_fields dm (record { slot = s; text = u } ∷ fs))
 swap dm (Ok b) s t u fs h = ap (λ x. and_then x (read_fields dm fs)) (same_reads t u h dm b s)
 swap dm (Err e) s t u fs h = refl
 
 -- the field at hand is read, and then the others
-ended : (dm : Option SecurityId) (r : Result Reading SddlFault) (s : Slot) (t : List ℕ) (fs : List Field) → and_then r (read_fields dm (record { slot = s; text = t } ∷ fs)) ≡ and_then (and_then r (λ b. take_field dm b s t)) (read_fields dm fs)
+ended : (dm : Option SecurityId) (r : Result FieldsRead SddlFault) (s : Slot) (t : List ℕ) (fs : List Field) → and_then r (read_fields dm (record { slot = s; text = t } ∷ fs)) ≡ and_then (and_then r (λ b. take_field dm b s t)) (read_fields dm fs)
 ended dm (Ok b) s t fs = refl
 ended dm (Err e) s t fs = refl
 
@@ -66,16 +66,16 @@ no-colon b bs x e = by_open (b == 40) refl
 
 -- 2. A byte outside parentheses that begins no head goes onto the part at hand.
 
-pub plain : (dm : Option SecurityId) (so tw : Bool) (se : Seen) (r : Result Reading SddlFault) (pl : Place) (h : Held) (b : ℕ) (bs : List ℕ) → is_inside pl ≡ false
+pub plain : (dm : Option SecurityId) (so tw : Bool) (se : Seen) (r : Result FieldsRead SddlFault) (pl : State) (h : Held) (b : ℕ) (bs : List ℕ) → is_inside pl ≡ false
     → (b == 40) ≡ false → (b == 41) ≡ false → head_at (byte b) (pieces_from false bs).after ≡ None
-    → answer dm so tw se r pl h (b ∷ bs)
+    → rest_answer dm so tw se r pl h (b ∷ bs)
     ≡ judged dm so tw se r pl h (is_paired false bs) [] (record { before = byte b ∷ (parts_of bs).before; parts = (parts_of bs).parts })
-unfolding answer
+unfolding rest_answer
 plain dm so tw se r pl h b bs out e40 e41 none = rw (out, e40, e41, none) refl
 
 -- 3. In an owner or a group, and in a list before its first entry.
 
-module _ (dm : Option SecurityId) (so tw : Bool) (se : Seen) (r : Result Reading SddlFault) (b : ℕ) (bs : List ℕ) (e40 : (b == 40) ≡ false) (e41 : (b == 41) ≡ false) (none : head_at (byte b) (pieces_from false bs).after ≡ None) where
+module _ (dm : Option SecurityId) (so tw : Bool) (se : Seen) (r : Result FieldsRead SddlFault) (b : ℕ) (bs : List ℕ) (e40 : (b == 40) ≡ false) (e41 : (b == 41) ≡ false) (none : head_at (byte b) (pieces_from false bs).after ≡ None) where
   shaped : Bool → Bool
   shaped here = so && (is_paired false bs && (here && are_shaped (parts_of bs).parts))
 
@@ -83,97 +83,97 @@ module _ (dm : Option SecurityId) (so tw : Bool) (se : Seen) (r : Result Reading
   twice = tw || (has_seen se (parts_of bs).parts || has_twice (parts_of bs).parts)
 
   pub sid_text : (p : SidPart) (h h' : Held) → (b == 58) ≡ false → ((t : List ℕ) → Same (text_with h (b ∷ t)) (text_with h' t))
-      → answer dm so tw se r (place.Sid p) h' bs ≡ answer dm so tw se r (place.Sid p) h (b ∷ bs)
-  unfolding answer judged shaped twice
+      → rest_answer dm so tw se r (state.Sid p) h' bs ≡ rest_answer dm so tw se r (state.Sid p) h (b ∷ bs)
+  unfolding rest_answer judged shaped twice
   sid_text p h h' e58 same =
-      sym (rw (plain dm so tw se r (place.Sid p) h b bs refl e40 e41 none, e58)
+      sym (rw (plain dm so tw se r (state.Sid p) h b bs refl e40 e41 none, e58)
       (ap (λ x. verdict (shaped (is_sid_body (parts_of bs).before)) twice x)
       (swap dm r (slot.Sid p) _ _ (fields_of (parts_of bs).parts) (same (front (parts_of bs).before)))))
 
   pub control_text : (w : Which) (h h' : Held) → (b == 58) ≡ false → ((t : List ℕ) → Same (text_with h (b ∷ t)) (text_with h' t))
-      → answer dm so tw se r (place.AclFlags w) h' bs ≡ answer dm so tw se r (place.AclFlags w) h (b ∷ bs)
-  unfolding answer judged shaped twice
+      → rest_answer dm so tw se r (state.AclFlags w) h' bs ≡ rest_answer dm so tw se r (state.AclFlags w) h (b ∷ bs)
+  unfolding rest_answer judged shaped twice
   control_text w h h' e58 same =
-      sym (rw (plain dm so tw se r (place.AclFlags w) h b bs refl e40 e41 none, e58)
+      sym (rw (plain dm so tw se r (state.AclFlags w) h b bs refl e40 e41 none, e58)
       (ap (λ x. verdict (shaped (is_acl_body (parts_of bs).before)) twice x)
       (swap dm r (slot.AclFlags w (has_aces (parts_of bs).before)) _ _ (flat_map ace_fields (aces (parts_of bs).before) ++ fields_of (parts_of bs).parts) (same (front (parts_of bs).before)))))
 
   -- blanks before the first head and between aces
-  pub before_blank : (h : Held) → is_blank b ≡ true → answer dm so tw se r place.Before h bs ≡ answer dm so tw se r place.Before h (b ∷ bs)
-  unfolding answer judged
-  before_blank h e = sym (rw (plain dm so tw se r place.Before h b bs refl e40 e41 none, e) refl)
+  pub before_blank : (h : Held) → is_blank b ≡ true → rest_answer dm so tw se r state.Before h bs ≡ rest_answer dm so tw se r state.Before h (b ∷ bs)
+  unfolding rest_answer judged
+  before_blank h e = sym (rw (plain dm so tw se r state.Before h b bs refl e40 e41 none, e) refl)
 
-  pub between_blank : (h : Held) → is_blank b ≡ true → answer dm so tw se r place.AfterAce h bs ≡ answer dm so tw se r place.AfterAce h (b ∷ bs)
-  unfolding answer judged
-  between_blank h e = sym (rw (plain dm so tw se r place.AfterAce h b bs refl e40 e41 none, e) refl)
+  pub between_blank : (h : Held) → is_blank b ≡ true → rest_answer dm so tw se r state.AfterAce h bs ≡ rest_answer dm so tw se r state.AfterAce h (b ∷ bs)
+  unfolding rest_answer judged
+  between_blank h e = sym (rw (plain dm so tw se r state.AfterAce h b bs refl e40 e41 none, e) refl)
 
   -- nothing else stands there
-  pub before_other : (h : Held) → is_blank b ≡ false → answer dm so tw se r place.Before h (b ∷ bs) ≡ Err fault.Shape
-  unfolding answer judged
-  before_other h e = rw (plain dm so tw se r place.Before h b bs refl e40 e41 none, e) (unshaped _ _ _ (no_both so _ _ refl))
+  pub before_other : (h : Held) → is_blank b ≡ false → rest_answer dm so tw se r state.Before h (b ∷ bs) ≡ Err fault.Shape
+  unfolding rest_answer judged
+  before_other h e = rw (plain dm so tw se r state.Before h b bs refl e40 e41 none, e) (unshaped _ _ _ (no_both so _ _ refl))
 
-  pub between_other : (h : Held) → is_blank b ≡ false → answer dm so tw se r place.AfterAce h (b ∷ bs) ≡ Err fault.Shape
-  unfolding answer judged
-  between_other h e = rw (plain dm so tw se r place.AfterAce h b bs refl e40 e41 none, e) (unshaped _ _ _ (no_both so _ _ refl))
+  pub between_other : (h : Held) → is_blank b ≡ false → rest_answer dm so tw se r state.AfterAce h (b ∷ bs) ≡ Err fault.Shape
+  unfolding rest_answer judged
+  between_other h e = rw (plain dm so tw se r state.AfterAce h b bs refl e40 e41 none, e) (unshaped _ _ _ (no_both so _ _ refl))
 
 -- 4. Bytes that break the shape.
 
-module _ (dm : Option SecurityId) (so tw : Bool) (se : Seen) (r : Result Reading SddlFault) (h : Held) (bs : List ℕ) where
+module _ (dm : Option SecurityId) (so tw : Bool) (se : Seen) (r : Result FieldsRead SddlFault) (h : Held) (bs : List ℕ) where
   -- a parenthesis that closes where none is open
-  pub close_outside : (pl : Place) → is_inside pl ≡ false → answer dm so tw se r pl h (41 ∷ bs) ≡ Err fault.Shape
-  unfolding answer judged
+  pub close_outside : (pl : State) → is_inside pl ≡ false → rest_answer dm so tw se r pl h (41 ∷ bs) ≡ Err fault.Shape
+  unfolding rest_answer judged
   close_outside pl out = rw out (unshaped _ _ _ (no_second so _ refl))
 
   -- a parenthesis in a parenthesis
-  pub open_inside : (c : AceField) → answer dm so tw se r (place.Ace c) h (40 ∷ bs) ≡ Err fault.Shape
-  unfolding answer judged
+  pub open_inside : (c : AceField) → rest_answer dm so tw se r (state.Ace c) h (40 ∷ bs) ≡ Err fault.Shape
+  unfolding rest_answer judged
   open_inside c = unshaped _ _ _ (no_second so _ refl)
 
   -- a colon with no letter before it
-  pub colon : (pl : Place) → is_inside pl ≡ false → answer dm so tw se r pl h (58 ∷ bs) ≡ Err fault.Shape
+  pub colon : (pl : State) → is_inside pl ≡ false → rest_answer dm so tw se r pl h (58 ∷ bs) ≡ Err fault.Shape
   unfolding judged
   colon pl out = rw (plain dm so tw se r pl h 58 bs out refl refl (no_head (begins_with_colon (pieces_from false bs).after) (head_of 58) refl)) (unshaped _ _ _ (no_both so _ _ (here pl out)))
     where
-      here : (pl : Place) → is_inside pl ≡ false → (is_shaped_here pl [] (byte 58 ∷ (parts_of bs).before) && are_shaped (parts_of bs).parts) ≡ false
-      here place.Before out = refl
-      here (place.Sid p) out = refl
-      here (place.AclFlags w) out = refl
-      here place.AfterAce out = refl
-      here (place.Ace c) out = absurd cc
+      here : (pl : State) → is_inside pl ≡ false → (is_shaped_here pl [] (byte 58 ∷ (parts_of bs).before) && are_shaped (parts_of bs).parts) ≡ false
+      here state.Before out = refl
+      here (state.Sid p) out = refl
+      here (state.AclFlags w) out = refl
+      here state.AfterAce out = refl
+      here (state.Ace c) out = absurd cc
 
   -- a parenthesis where no list is
-  pub open_before : answer dm so tw se r place.Before h (40 ∷ bs) ≡ Err fault.Shape
-  unfolding answer judged
+  pub open_before : rest_answer dm so tw se r state.Before h (40 ∷ bs) ≡ Err fault.Shape
+  unfolding rest_answer judged
   open_before = unshaped _ _ _ (no_both so _ _ refl)
 
-  pub open_sid : (p : SidPart) → answer dm so tw se r (place.Sid p) h (40 ∷ bs) ≡ Err fault.Shape
-  unfolding answer judged
+  pub open_sid : (p : SidPart) → rest_answer dm so tw se r (state.Sid p) h (40 ∷ bs) ≡ Err fault.Shape
+  unfolding rest_answer judged
   open_sid p = unshaped _ _ _ (no_both so _ _ refl)
 
-  pub unsound : (pl : Place) → answer dm false tw se r pl h bs ≡ Err fault.Shape
-  unfolding answer judged verdict
+  pub unsound : (pl : State) → rest_answer dm false tw se r pl h bs ≡ Err fault.Shape
+  unfolding rest_answer judged verdict
   unsound pl = refl
 
 -- 5. An entry.
 
-module _ (dm : Option SecurityId) (so tw : Bool) (se : Seen) (r : Result Reading SddlFault) (h : Held) (bs : List ℕ) where
+module _ (dm : Option SecurityId) (so tw : Bool) (se : Seen) (r : Result FieldsRead SddlFault) (h : Held) (bs : List ℕ) where
   -- it begins, and ends what stood before it
-  pub open_first : (w : Which) → IsHeld h → answer dm so tw se (and_then r (λ b. take_field dm b (slot.AclFlags w true) (held_text h))) (place.Ace field.Kind) no_text bs ≡ answer dm so tw se r (place.AclFlags w) h (40 ∷ bs)
-  unfolding answer judged
+  pub open_first : (w : Which) → IsHeld h → rest_answer dm so tw se (and_then r (λ b. take_field dm b (slot.AclFlags w true) (held_text h))) (state.Ace field.Kind) no_text bs ≡ rest_answer dm so tw se r (state.AclFlags w) h (40 ∷ bs)
+  unfolding rest_answer judged
   open_first w k = sym (ap (λ x. verdict (so && (is_paired true bs && (are_aces (ace (pieces_from true bs).held ∷ (sections (pieces_from true bs).after).before) && are_shaped (sections (pieces_from true bs).after).parts))) (tw || (has_seen se (sections (pieces_from true bs).after).parts || has_twice (sections (pieces_from true bs).after).parts)) x)
       (ended dm r (slot.AclFlags w true) (text_with h []) _ ∙ ap (λ t. and_then (and_then r (λ b. take_field dm b (slot.AclFlags w true) t)) (read_fields dm (flat_map ace_fields ((pieces_from true bs).held ∷ aces (sections (pieces_from true bs).after).before) ++ fields_of (sections (pieces_from true bs).after).parts))) (text_ended h k)))
 
-  pub open_next : answer dm so tw se r (place.Ace field.Kind) no_text bs ≡ answer dm so tw se r place.AfterAce h (40 ∷ bs)
-  unfolding answer judged
+  pub open_next : rest_answer dm so tw se r (state.Ace field.Kind) no_text bs ≡ rest_answer dm so tw se r state.AfterAce h (40 ∷ bs)
+  unfolding rest_answer judged
   open_next = refl
 
   -- a byte of a field
   pub entry_text : (c : AceField) (h' : Held) (b : ℕ) → (b == 40) ≡ false → (b == 41) ≡ false → (b == 59) ≡ false → ((t : List ℕ) → Same (inner_with h (b ∷ t)) (inner_with h' t))
-      → answer dm so tw se r (place.Ace c) h' bs ≡ answer dm so tw se r (place.Ace c) h (b ∷ bs)
-  unfolding answer judged
+      → rest_answer dm so tw se r (state.Ace c) h' bs ≡ rest_answer dm so tw se r (state.Ace c) h (b ∷ bs)
+  unfolding rest_answer judged
   entry_text c h' b e40 e41 e59 same =
       sym (rw (e40, e41, e59)
-      (ap (λ x. verdict (so && (is_paired true bs && (is_shaped_here (place.Ace c) (pieces_from true bs).held (sections (pieces_from true bs).after).before && are_shaped (sections (pieces_from true bs).after).parts))) (tw || (has_seen se (sections (pieces_from true bs).after).parts || has_twice (sections (pieces_from true bs).after).parts)) x)
+      (ap (λ x. verdict (so && (is_paired true bs && (is_shaped_here (state.Ace c) (pieces_from true bs).held (sections (pieces_from true bs).after).before && are_shaped (sections (pieces_from true bs).after).parts))) (tw || (has_seen se (sections (pieces_from true bs).after).parts || has_twice (sections (pieces_from true bs).after).parts)) x)
       (swap_first (cuts (pieces_from true bs).held).others)))
     where
       swap_first : (o : List (List ℕ))
@@ -189,14 +189,14 @@ module _ (dm : Option SecurityId) (so tw : Bool) (se : Seen) (r : Result Reading
   inner = sections (pieces_from true bs).after
 
   -- the entry ends after its last field
-  pub close_last : answer dm so tw se (and_then r (λ b. take_field dm b (slot.Ace field.Sid) (held_text h))) place.AfterAce no_text bs ≡ answer dm so tw se r (place.Ace field.Sid) h (41 ∷ bs)
-  unfolding answer judged rest
+  pub close_last : rest_answer dm so tw se (and_then r (λ b. take_field dm b (slot.Ace field.Sid) (held_text h))) state.AfterAce no_text bs ≡ rest_answer dm so tw se r (state.Ace field.Sid) h (41 ∷ bs)
+  unfolding rest_answer judged rest
   close_last = sym (ap (λ x. verdict (so && (is_paired false bs && (are_aces rest.before && are_shaped rest.parts))) (tw || (has_seen se rest.parts || has_twice rest.parts)) x)
       (ended dm r (slot.Ace field.Sid) (inner_with h []) _ ∙ ap (λ t. and_then (and_then r (λ b. take_field dm b (slot.Ace field.Sid) t)) (read_fields dm (flat_map ace_fields (aces rest.before) ++ fields_of rest.parts))) (inner_ended h)))
 
   -- or too early
-  pub close_early : (c : AceField) → (fields_left c == 0) ≡ false → answer dm so tw se r (place.Ace c) h (41 ∷ bs) ≡ Err fault.Shape
-  unfolding answer judged
+  pub close_early : (c : AceField) → (fields_left c == 0) ≡ false → rest_answer dm so tw se r (state.Ace c) h (41 ∷ bs) ≡ Err fault.Shape
+  unfolding rest_answer judged
   close_early field.Kind e = unshaped _ _ _ (no_both so _ _ refl)
   close_early field.Flags e = unshaped _ _ _ (no_both so _ _ refl)
   close_early field.Rights e = unshaped _ _ _ (no_both so _ _ refl)
@@ -205,13 +205,13 @@ module _ (dm : Option SecurityId) (so tw : Bool) (se : Seen) (r : Result Reading
   close_early field.Sid e = absurd cc
 
   -- a semicolon too many
-  pub cut_late : answer dm so tw se r (place.Ace field.Sid) h (59 ∷ bs) ≡ Err fault.Shape
-  unfolding answer judged
+  pub cut_late : rest_answer dm so tw se r (state.Ace field.Sid) h (59 ∷ bs) ≡ Err fault.Shape
+  unfolding rest_answer judged
   cut_late = rw (eqb-suc-zero (length (cuts (pieces_from true bs).held).others)) (unshaped _ _ _ (no_both so _ _ refl))
 
   -- the next field
-  pub cut : (c : AceField) → (fields_left c == 0) ≡ false → answer dm so tw se (and_then r (λ b. take_field dm b (slot.Ace c) (held_text h))) (place.Ace (next_field c)) no_text bs ≡ answer dm so tw se r (place.Ace c) h (59 ∷ bs)
-  unfolding answer judged inner
+  pub cut : (c : AceField) → (fields_left c == 0) ≡ false → rest_answer dm so tw se (and_then r (λ b. take_field dm b (slot.Ace c) (held_text h))) (state.Ace (next_field c)) no_text bs ≡ rest_answer dm so tw se r (state.Ace c) h (59 ∷ bs)
+  unfolding rest_answer judged inner
   cut c e = sym (rw (left c e (length (cuts (pieces_from true bs).held).others)) (ap (λ x. verdict (so && (is_paired true bs && ((length (cuts (pieces_from true bs).held).others == fields_left (next_field c) && are_aces inner.before) && are_shaped inner.parts))) (tw || (has_seen se inner.parts || has_twice inner.parts)) x)
       (ended dm r (slot.Ace c) (inner_with h []) _ ∙ ap (λ t. and_then (and_then r (λ b. take_field dm b (slot.Ace c) t)) (read_fields dm ((ace_fields_from (next_field c) (cuts (pieces_from true bs).held).first (cuts (pieces_from true bs).held).others ++ flat_map ace_fields (aces inner.before)) ++ fields_of inner.parts))) (inner_ended h))))
     where
@@ -225,20 +225,20 @@ module _ (dm : Option SecurityId) (so tw : Bool) (se : Seen) (r : Result Reading
 
 -- 6. A head.
 
-ends_here : (dm : Option SecurityId) (pl : Place) (h : Held) (r : Result Reading SddlFault) (fs : List Field) → IsHeld h → is_inside pl ≡ false
+ends_here : (dm : Option SecurityId) (pl : State) (h : Held) (r : Result FieldsRead SddlFault) (fs : List Field) → IsHeld h → is_inside pl ≡ false
     → and_then r (read_fields dm (fields_here pl h [] [] ++ fs)) ≡ and_then (ended_with dm pl h r) (read_fields dm fs)
-ends_here dm place.Before h r fs k out = refl
-ends_here dm (place.Sid p) h r fs k out = ended dm r (slot.Sid p) (text_with h []) fs ∙ ap (λ t. and_then (and_then r (λ b. take_field dm b (slot.Sid p) t)) (read_fields dm fs)) (text_ended h k)
-ends_here dm (place.AclFlags w) h r fs k out = ended dm r (slot.AclFlags w false) (text_with h []) fs ∙ ap (λ t. and_then (and_then r (λ b. take_field dm b (slot.AclFlags w false) t)) (read_fields dm fs)) (text_ended h k)
-ends_here dm place.AfterAce h r fs k out = refl
-ends_here dm (place.Ace c) h r fs k out = absurd cc
+ends_here dm state.Before h r fs k out = refl
+ends_here dm (state.Sid p) h r fs k out = ended dm r (slot.Sid p) (text_with h []) fs ∙ ap (λ t. and_then (and_then r (λ b. take_field dm b (slot.Sid p) t)) (read_fields dm fs)) (text_ended h k)
+ends_here dm (state.AclFlags w) h r fs k out = ended dm r (slot.AclFlags w false) (text_with h []) fs ∙ ap (λ t. and_then (and_then r (λ b. take_field dm b (slot.AclFlags w false) t)) (read_fields dm fs)) (text_ended h k)
+ends_here dm state.AfterAce h r fs k out = refl
+ends_here dm (state.Ace c) h r fs k out = absurd cc
 
-shaped_end : (pl : Place) → is_inside pl ≡ false → is_shaped_here pl [] [] ≡ true
-shaped_end place.Before out = refl
-shaped_end (place.Sid p) out = refl
-shaped_end (place.AclFlags w) out = refl
-shaped_end place.AfterAce out = refl
-shaped_end (place.Ace c) out = absurd cc
+shaped_end : (pl : State) → is_inside pl ≡ false → is_shaped_here pl [] [] ≡ true
+shaped_end state.Before out = refl
+shaped_end (state.Sid p) out = refl
+shaped_end (state.AclFlags w) out = refl
+shaped_end state.AfterAce out = refl
+shaped_end (state.Ace c) out = absurd cc
 
 or_true : (x : Bool) → (x || true) ≡ true
 or_true true = refl
@@ -285,26 +285,26 @@ has_seen_with se p (s ∷ ss) = rw (seen_with se p s.head, has_seen_with se p ss
 not_letter : (b c : ℕ) (p : Head) → head_of b ≡ Some p → head_of c ≡ None → (b == c) ≡ false
 not_letter b c p e n = elim (eqb_tells b c) [ inl h ↦ absurd (let f : head_of b ≡ None = rw (h.1) n in cc) | inr h ↦ h.0 ]
 
-same_body : (p : Head) (ps : List Piece) → is_body p ps ≡ is_shaped_here (place_of p) [] ps
+same_body : (p : Head) (ps : List Piece) → is_body p ps ≡ is_shaped_here (state_of p) [] ps
 same_body (head.Sid p) ps = refl
 same_body (head.Acl w) ps = refl
 
-same_fields : (p : Head) (ps : List Piece) → fields_in p ps ≡ fields_here (place_of p) no_text [] ps
+same_fields : (p : Head) (ps : List Piece) → fields_in p ps ≡ fields_here (state_of p) no_text [] ps
 same_fields (head.Sid p) ps = refl
 same_fields (head.Acl w) ps = refl
 
-outside : (p : Head) → is_inside (place_of p) ≡ false
+outside : (p : Head) → is_inside (state_of p) ≡ false
 outside (head.Sid p) = refl
 outside (head.Acl w) = refl
 
 -- what the parentheses at hand hold matters only inside them
-from_outside : (dm : Option SecurityId) (so tw : Bool) (se : Seen) (r : Result Reading SddlFault) (pl : Place) (h : Held) (bs : List ℕ) → is_inside pl ≡ false → answer dm so tw se r pl h bs ≡ judged dm so tw se r pl h (is_paired false bs) [] (parts_of bs)
-unfolding answer judged
-from_outside dm so tw se r place.Before h bs out = refl
-from_outside dm so tw se r (place.Sid p) h bs out = refl
-from_outside dm so tw se r (place.AclFlags w) h bs out = refl
-from_outside dm so tw se r place.AfterAce h bs out = refl
-from_outside dm so tw se r (place.Ace c) h bs out = absurd cc
+from_outside : (dm : Option SecurityId) (so tw : Bool) (se : Seen) (r : Result FieldsRead SddlFault) (pl : State) (h : Held) (bs : List ℕ) → is_inside pl ≡ false → rest_answer dm so tw se r pl h bs ≡ judged dm so tw se r pl h (is_paired false bs) [] (parts_of bs)
+unfolding rest_answer judged
+from_outside dm so tw se r state.Before h bs out = refl
+from_outside dm so tw se r (state.Sid p) h bs out = refl
+from_outside dm so tw se r (state.AclFlags w) h bs out = refl
+from_outside dm so tw se r state.AfterAce h bs out = refl
+from_outside dm so tw se r (state.Ace c) h bs out = absurd cc
 
 headed : (b : ℕ) (p : Head) (bs : List ℕ) → head_of b ≡ Some p → (b == 40) ≡ false
     → parts_of (b ∷ 58 ∷ bs) ≡ record { before = []; parts = record { head = p; body = (parts_of bs).before } ∷ (parts_of bs).parts }
@@ -313,52 +313,52 @@ headed b p bs e e40 = rw (e40, e, no_head (begins_with_colon (pieces_from false 
 paired : (b : ℕ) (bs : List ℕ) → (b == 40) ≡ false → (b == 41) ≡ false → is_paired false (b ∷ 58 ∷ bs) ≡ is_paired false bs
 paired b bs e40 e41 = rw (e40, e41) refl
 
-pub begin : (dm : Option SecurityId) (so tw : Bool) (se : Seen) (r : Result Reading SddlFault) (pl : Place) (h : Held) (b : ℕ) (p : Head) (bs : List ℕ) → is_inside pl ≡ false → IsHeld h → head_of b ≡ Some p
-    → answer dm so (tw || is_seen se p) (with_head se p) (ended_with dm pl h r) (place_of p) no_text bs ≡ answer dm so tw se r pl h (b ∷ 58 ∷ bs)
+pub begin : (dm : Option SecurityId) (so tw : Bool) (se : Seen) (r : Result FieldsRead SddlFault) (pl : State) (h : Held) (b : ℕ) (p : Head) (bs : List ℕ) → is_inside pl ≡ false → IsHeld h → head_of b ≡ Some p
+    → rest_answer dm so (tw || is_seen se p) (with_head se p) (ended_with dm pl h r) (state_of p) no_text bs ≡ rest_answer dm so tw se r pl h (b ∷ 58 ∷ bs)
 unfolding judged
 begin dm so tw se r pl h b p bs out k e =
     let e40 = not_letter b 40 p e refl in
     let e41 = not_letter b 41 p e refl in
-    from_outside dm so (tw || is_seen se p) (with_head se p) (ended_with dm pl h r) (place_of p) no_text bs (outside p)
+    from_outside dm so (tw || is_seen se p) (with_head se p) (ended_with dm pl h r) (state_of p) no_text bs (outside p)
     ∙ sym (from_outside dm so tw se r pl h (b ∷ 58 ∷ bs) out
     ∙ rw (headed b p bs e e40, paired b bs e40 e41, shaped_end pl out, same_body p (parts_of bs).before, mixed tw (is_seen se p) (has_seen se (parts_of bs).parts) (has_head p (parts_of bs).parts) (has_twice (parts_of bs).parts), ← has_seen_with se p (parts_of bs).parts, ends_here dm pl h r (fields_in p (parts_of bs).before ++ fields_of (parts_of bs).parts) k out, same_fields p (parts_of bs).before) refl)
 
 -- after a second head of one letter nothing that is read counts
-twice-any : (dm : Option SecurityId) (so tw : Bool) (se : Seen) (r r' : Result Reading SddlFault) (pl : Place) (h : Held) (bs : List ℕ) → tw ≡ true → answer dm so tw se r pl h bs ≡ answer dm so tw se r' pl h bs
-unfolding answer judged verdict
+twice-any : (dm : Option SecurityId) (so tw : Bool) (se : Seen) (r r' : Result FieldsRead SddlFault) (pl : State) (h : Held) (bs : List ℕ) → tw ≡ true → rest_answer dm so tw se r pl h bs ≡ rest_answer dm so tw se r' pl h bs
+unfolding rest_answer judged verdict
 twice-any dm so tw se r r' pl h bs e = rw e refl
 
-pub begin-noted : (dm : Option SecurityId) (so tw : Bool) (se : Seen) (r : Result Reading SddlFault) (pl : Place) (h : Held) (b : ℕ) (p : Head) (bs : List ℕ) (u : Reading) (fault' : Option SddlFault)
+pub begin-noted : (dm : Option SecurityId) (so tw : Bool) (se : Seen) (r : Result FieldsRead SddlFault) (pl : State) (h : Held) (b : ℕ) (p : Head) (bs : List ℕ) (u : FieldsRead) (fault' : Option SddlFault)
     → is_inside pl ≡ false → IsHeld h → head_of b ≡ Some p → result_or u fault' ≡ ended_with dm pl h r
-    → answer dm so (tw || is_seen se p) (with_head se p) (result_or u (if is_seen se p then Some fault.PartTwice else fault')) (place_of p) no_text bs ≡ answer dm so tw se r pl h (b ∷ 58 ∷ bs)
+    → rest_answer dm so (tw || is_seen se p) (with_head se p) (result_or u (if is_seen se p then Some fault.PartTwice else fault')) (state_of p) no_text bs ≡ rest_answer dm so tw se r pl h (b ∷ 58 ∷ bs)
 begin-noted dm so tw se r pl h b p bs u fault' out k e read = by_seen (is_seen se p) refl
   where
     by_seen : (x : Bool) → is_seen se p ≡ x
-        → answer dm so (tw || is_seen se p) (with_head se p) (result_or u (if x then Some fault.PartTwice else fault')) (place_of p) no_text bs ≡ answer dm so tw se r pl h (b ∷ 58 ∷ bs)
-    by_seen true f = twice-any dm so (tw || is_seen se p) (with_head se p) (Err fault.PartTwice) (ended_with dm pl h r) (place_of p) no_text bs (rw f (or_true tw))
+        → rest_answer dm so (tw || is_seen se p) (with_head se p) (result_or u (if x then Some fault.PartTwice else fault')) (state_of p) no_text bs ≡ rest_answer dm so tw se r pl h (b ∷ 58 ∷ bs)
+    by_seen true f = twice-any dm so (tw || is_seen se p) (with_head se p) (Err fault.PartTwice) (ended_with dm pl h r) (state_of p) no_text bs (rw f (or_true tw))
         ∙ begin dm so tw se r pl h b p bs out k e
-    by_seen false f = ap (λ (x : Result Reading SddlFault). answer dm so (tw || is_seen se p) (with_head se p) x (place_of p) no_text bs) read
+    by_seen false f = ap (λ (x : Result FieldsRead SddlFault). rest_answer dm so (tw || is_seen se p) (with_head se p) x (state_of p) no_text bs) read
         ∙ begin dm so tw se r pl h b p bs out k e
 
 -- 7. The end of the line.
 
-pub finished : (dm : Option SecurityId) (tw : Bool) (se : Seen) (r : Result Reading SddlFault) (pl : Place) (h : Held) → is_inside pl ≡ false → IsHeld h → answer dm true tw se r pl h [] ≡ (if tw then Err fault.PartTwice else ended_with dm pl h r)
+pub finished : (dm : Option SecurityId) (tw : Bool) (se : Seen) (r : Result FieldsRead SddlFault) (pl : State) (h : Held) → is_inside pl ≡ false → IsHeld h → rest_answer dm true tw se r pl h [] ≡ (if tw then Err fault.PartTwice else ended_with dm pl h r)
 unfolding judged verdict
 finished dm tw se r pl h out k = from_outside dm true tw se r pl h [] out ∙ rw (shaped_end pl out, ends_here dm pl h r [] k out, or_false tw) (by_result tw (ended_with dm pl h r))
   where
-    by_result : (tw : Bool) (r : Result Reading SddlFault) → (if tw then Err fault.PartTwice else and_then r (read_fields dm [])) ≡ (if tw then Err fault.PartTwice else r)
+    by_result : (tw : Bool) (r : Result FieldsRead SddlFault) → (if tw then Err fault.PartTwice else and_then r (read_fields dm [])) ≡ (if tw then Err fault.PartTwice else r)
     by_result true r = refl
     by_result false (Ok b) = refl
     by_result false (Err e) = refl
 
-pub unfinished : (dm : Option SecurityId) (so tw : Bool) (se : Seen) (r : Result Reading SddlFault) (c : AceField) (h : Held) → answer dm so tw se r (place.Ace c) h [] ≡ Err fault.Shape
-unfolding answer judged
+pub unfinished : (dm : Option SecurityId) (so tw : Bool) (se : Seen) (r : Result FieldsRead SddlFault) (c : AceField) (h : Held) → rest_answer dm so tw se r (state.Ace c) h [] ≡ Err fault.Shape
+unfolding rest_answer judged
 unfinished dm so tw se r c h = unshaped _ _ _ (no_second so _ refl)
 
 -- 8. The start.
 
-pub started : (dm : Option SecurityId) (h : Held) (text : List ℕ) → answer dm true false (record { owner = false; group = false; dacl = false; sacl = false }) (Ok nothing_read) place.Before h text ≡ reads_as dm text
-unfolding answer judged reads_as
+pub started : (dm : Option SecurityId) (h : Held) (text : List ℕ) → rest_answer dm true false (record { owner = false; group = false; dacl = false; sacl = false }) (Ok nothing_read) state.Before h text ≡ reads_as dm text
+unfolding rest_answer judged reads_as
 started dm h text = rw (nothing_seen (parts_of text).parts) refl
   where
     nothing_seen : (ss : List Section) → has_seen (record { owner = false; group = false; dacl = false; sacl = false }) ss ≡ false
@@ -380,48 +380,48 @@ column_more field.Object n = refl
 column_more field.Inherited n = refl
 column_more field.Sid n = absurd (n refl)
 
--- 9. By place.
+-- 9. By state.
 
-module _ (dm : Option SecurityId) (so tw : Bool) (se : Seen) (r : Result Reading SddlFault) (h : Held) (b : ℕ) (bs : List ℕ) (e40 : (b == 40) ≡ false) (e41 : (b == 41) ≡ false) (none : head_at (byte b) (pieces_from false bs).after ≡ None) where
-  pub outside_text : (pl : Place) (h' : Held) → (b == 58) ≡ false → ((t : List ℕ) → Same (text_with h (b ∷ t)) (text_with h' t))
-      → ((p : SidPart) × (pl ≡ place.Sid p)) ⊎ ((w : Which) × (pl ≡ place.AclFlags w)) → answer dm so tw se r pl h' bs ≡ answer dm so tw se r pl h (b ∷ bs)
+module _ (dm : Option SecurityId) (so tw : Bool) (se : Seen) (r : Result FieldsRead SddlFault) (h : Held) (b : ℕ) (bs : List ℕ) (e40 : (b == 40) ≡ false) (e41 : (b == 41) ≡ false) (none : head_at (byte b) (pieces_from false bs).after ≡ None) where
+  pub outside_text : (pl : State) (h' : Held) → (b == 58) ≡ false → ((t : List ℕ) → Same (text_with h (b ∷ t)) (text_with h' t))
+      → ((p : SidPart) × (pl ≡ state.Sid p)) ⊎ ((w : Which) × (pl ≡ state.AclFlags w)) → rest_answer dm so tw se r pl h' bs ≡ rest_answer dm so tw se r pl h (b ∷ bs)
   outside_text pl h' e58 same (inl w) = rw (w.1) (sid_text dm so tw se r b bs e40 e41 none w.0 h h' e58 same)
   outside_text pl h' e58 same (inr w) = rw (w.1) (control_text dm so tw se r b bs e40 e41 none w.0 h h' e58 same)
 
-  pub outside_blank : (pl : Place) → is_inside pl ≡ false → ((p : SidPart) → pl ≡ place.Sid p → ⊥) → ((w : Which) → pl ≡ place.AclFlags w → ⊥) → is_blank b ≡ true
-      → answer dm so tw se r pl h bs ≡ answer dm so tw se r pl h (b ∷ bs)
-  outside_blank place.Before out ns nc e = before_blank dm so tw se r b bs e40 e41 none h e
-  outside_blank (place.Sid p) out ns nc e = absurd (ns p refl)
-  outside_blank (place.AclFlags w) out ns nc e = absurd (nc w refl)
-  outside_blank place.AfterAce out ns nc e = between_blank dm so tw se r b bs e40 e41 none h e
-  outside_blank (place.Ace c) out ns nc e = absurd cc
+  pub outside_blank : (pl : State) → is_inside pl ≡ false → ((p : SidPart) → pl ≡ state.Sid p → ⊥) → ((w : Which) → pl ≡ state.AclFlags w → ⊥) → is_blank b ≡ true
+      → rest_answer dm so tw se r pl h bs ≡ rest_answer dm so tw se r pl h (b ∷ bs)
+  outside_blank state.Before out ns nc e = before_blank dm so tw se r b bs e40 e41 none h e
+  outside_blank (state.Sid p) out ns nc e = absurd (ns p refl)
+  outside_blank (state.AclFlags w) out ns nc e = absurd (nc w refl)
+  outside_blank state.AfterAce out ns nc e = between_blank dm so tw se r b bs e40 e41 none h e
+  outside_blank (state.Ace c) out ns nc e = absurd cc
 
-  pub outside_other : (pl : Place) → is_inside pl ≡ false → ((p : SidPart) → pl ≡ place.Sid p → ⊥) → ((w : Which) → pl ≡ place.AclFlags w → ⊥) → is_blank b ≡ false
-      → answer dm so tw se r pl h (b ∷ bs) ≡ Err fault.Shape
-  outside_other place.Before out ns nc e = before_other dm so tw se r b bs e40 e41 none h e
-  outside_other (place.Sid p) out ns nc e = absurd (ns p refl)
-  outside_other (place.AclFlags w) out ns nc e = absurd (nc w refl)
-  outside_other place.AfterAce out ns nc e = between_other dm so tw se r b bs e40 e41 none h e
-  outside_other (place.Ace c) out ns nc e = absurd cc
+  pub outside_other : (pl : State) → is_inside pl ≡ false → ((p : SidPart) → pl ≡ state.Sid p → ⊥) → ((w : Which) → pl ≡ state.AclFlags w → ⊥) → is_blank b ≡ false
+      → rest_answer dm so tw se r pl h (b ∷ bs) ≡ Err fault.Shape
+  outside_other state.Before out ns nc e = before_other dm so tw se r b bs e40 e41 none h e
+  outside_other (state.Sid p) out ns nc e = absurd (ns p refl)
+  outside_other (state.AclFlags w) out ns nc e = absurd (nc w refl)
+  outside_other state.AfterAce out ns nc e = between_other dm so tw se r b bs e40 e41 none h e
+  outside_other (state.Ace c) out ns nc e = absurd cc
 
-pub open_nowhere : (dm : Option SecurityId) (so tw : Bool) (se : Seen) (r : Result Reading SddlFault) (h : Held) (bs : List ℕ) (pl : Place) → is_inside pl ≡ false → ((w : Which) → pl ≡ place.AclFlags w → ⊥) → (pl ≡ place.AfterAce → ⊥) → answer dm so tw se r pl h (40 ∷ bs) ≡ Err fault.Shape
-open_nowhere dm so tw se r h bs place.Before out nc nb = open_before dm so tw se r h bs
-open_nowhere dm so tw se r h bs (place.Sid p) out nc nb = open_sid dm so tw se r h bs p
-open_nowhere dm so tw se r h bs (place.AclFlags w) out nc nb = absurd (nc w refl)
-open_nowhere dm so tw se r h bs place.AfterAce out nc nb = absurd (nb refl)
-open_nowhere dm so tw se r h bs (place.Ace c) out nc nb = absurd cc
+pub open_nowhere : (dm : Option SecurityId) (so tw : Bool) (se : Seen) (r : Result FieldsRead SddlFault) (h : Held) (bs : List ℕ) (pl : State) → is_inside pl ≡ false → ((w : Which) → pl ≡ state.AclFlags w → ⊥) → (pl ≡ state.AfterAce → ⊥) → rest_answer dm so tw se r pl h (40 ∷ bs) ≡ Err fault.Shape
+open_nowhere dm so tw se r h bs state.Before out nc nb = open_before dm so tw se r h bs
+open_nowhere dm so tw se r h bs (state.Sid p) out nc nb = open_sid dm so tw se r h bs p
+open_nowhere dm so tw se r h bs (state.AclFlags w) out nc nb = absurd (nc w refl)
+open_nowhere dm so tw se r h bs state.AfterAce out nc nb = absurd (nb refl)
+open_nowhere dm so tw se r h bs (state.Ace c) out nc nb = absurd cc
 
-pub outside_of : (pl : Place) → ((c : AceField) → pl ≡ place.Ace c → ⊥) → is_inside pl ≡ false
-outside_of place.Before n = refl
-outside_of (place.Sid p) n = refl
-outside_of (place.AclFlags w) n = refl
-outside_of place.AfterAce n = refl
-outside_of (place.Ace c) n = absurd (n c refl)
+pub outside_of : (pl : State) → ((c : AceField) → pl ≡ state.Ace c → ⊥) → is_inside pl ≡ false
+outside_of state.Before n = refl
+outside_of (state.Sid p) n = refl
+outside_of (state.AclFlags w) n = refl
+outside_of state.AfterAce n = refl
+outside_of (state.Ace c) n = absurd (n c refl)
 
-pub finished_twice : (dm : Option SecurityId) (tw : Bool) (se : Seen) (r : Result Reading SddlFault) (pl : Place) (h : Held) → is_inside pl ≡ false → IsHeld h → tw ≡ true → answer dm true tw se r pl h [] ≡ Err fault.PartTwice
+pub finished_twice : (dm : Option SecurityId) (tw : Bool) (se : Seen) (r : Result FieldsRead SddlFault) (pl : State) (h : Held) → is_inside pl ≡ false → IsHeld h → tw ≡ true → rest_answer dm true tw se r pl h [] ≡ Err fault.PartTwice
 finished_twice dm true se r pl h out k e = finished dm true se r pl h out k
 finished_twice dm false se r pl h out k e = absurd cc
 
-pub finished_once : (dm : Option SecurityId) (tw : Bool) (se : Seen) (r : Result Reading SddlFault) (pl : Place) (h : Held) → is_inside pl ≡ false → IsHeld h → tw ≡ false → answer dm true tw se r pl h [] ≡ ended_with dm pl h r
+pub finished_once : (dm : Option SecurityId) (tw : Bool) (se : Seen) (r : Result FieldsRead SddlFault) (pl : State) (h : Held) → is_inside pl ≡ false → IsHeld h → tw ≡ false → rest_answer dm true tw se r pl h [] ≡ ended_with dm pl h r
 finished_once dm true se r pl h out k e = absurd cc
 finished_once dm false se r pl h out k e = finished dm false se r pl h out k

@@ -8,8 +8,8 @@ use Rattle.sd_core.specs.Sid.{SecurityId}
 use Rattle.sd_view.specs.Acl.{acl_size, aces_size}
 use Rattle.sd_binary.specs.Builds.{Builds}
 use Rattle.sd_binary.specs.Draft.{IsOpen, IsOpenIn, more_in, open_size, open_size_in, with_ace}
-use Rattle.sd_reader.specs.Inner.FoldedReading.{Reading, ace_of, large_in, with_trustee}
-use Rattle.sd_reader.specs.Inner.Reads.{Holds}
+use Rattle.sd_reader.specs.Inner.FoldedReading.{FieldsRead, ace_of, large_in, with_trustee}
+use Rattle.sd_reader.specs.Inner.Reads.{HasRead}
 use Rattle.sd_reader.specs.declared.reading.FieldReader.{FieldReader}
 use Rattle.sd_binary.specs.declared.builder.Builder.{Builder}
 use Rattle.sd_view.specs.declared.control.Which.{Which}
@@ -50,12 +50,12 @@ no-name : (x : Option (Which × List AccessControlEntry)) → IsOpenIn x → opt
 no-name None o e = o
 no-name (Some p) o e = absurd cc
 
-module _ (r : FieldReader) (buf buf' : List ℕ) (b' : Builder) (t : Reading) (s : SecurityId) (a : AccessControlEntry) (h : Holds r buf t) (none : r.large ≡ None) (is : a ≡ ace_of t.ace s) (o : IsOpen t.parts) where
+module _ (r : FieldReader) (buf buf' : List ℕ) (b' : Builder) (t : FieldsRead) (s : SecurityId) (a : AccessControlEntry) (h : HasRead r buf t) (none : r.large ≡ None) (is : a ≡ ace_of t.ace s) (o : IsOpen t.parts) where
   nothing_large : t.large ≡ None
   nothing_large = sym h.large ∙ none
 
   -- the ACL would pass 65,535 bytes
-  pub holds-large : 2 ^ 16 ≤ open_size t.parts + ace_size a → Holds (record r { builder = b'; large = r.open_acl }) buf' (with_trustee t s)
+  pub holds-large : 2 ^ 16 ≤ open_size t.parts + ace_size a → HasRead (record r { builder = b'; large = r.open_acl }) buf' (with_trustee t s)
   holds-large large = record {
     sacl = h.sacl;
     dacl = h.dacl;
@@ -70,7 +70,7 @@ module _ (r : FieldReader) (buf buf' : List ℕ) (b' : Builder) (t : Reading) (s
       now_large = rw (nothing_large) (large-found t.parts.«open» (ace_of t.ace s) o (rw (is) at large))
 
   -- it has room for the ACE
-  pub holds-more : (2 ^ 16 ≤ open_size t.parts + ace_size a → ⊥) → Builds b' buf' (with_ace a t.parts) → Holds (record r { builder = b' }) buf' (with_trustee t s)
+  pub holds-more : (2 ^ 16 ≤ open_size t.parts + ace_size a → ⊥) → Builds b' buf' (with_ace a t.parts) → HasRead (record r { builder = b' }) buf' (with_trustee t s)
   holds-more fits built = record {
     sacl = h.sacl;
     dacl = h.dacl;
@@ -86,6 +86,6 @@ none-is None e = refl
 none-is (Some x) e = absurd cc
 
 -- two readings that a reader holds have the same ACL open
-pub open-too : (r : FieldReader) (buf : List ℕ) (t u : Reading) → Holds r buf t → Holds r buf u → r.large ≡ None → IsOpen t.parts → IsOpen u.parts
+pub open-too : (r : FieldReader) (buf : List ℕ) (t u : FieldsRead) → HasRead r buf t → HasRead r buf u → r.large ≡ None → IsOpen t.parts → IsOpen u.parts
 open-too r buf t u h k none o =
     is_open_with t.parts.«open» u.parts.«open» (sym (h.open_acl (sym h.large ∙ none)) ∙ k.open_acl (sym k.large ∙ none)) o

@@ -9,13 +9,13 @@ use Rattle.sd_reader.specs.declared.fault.SddlFault.{SddlFault}
 use Rattle.sd_reader.specs.declared.line.AceField.{AceField}
 use Rattle.sd_reader.specs.declared.line.AceField.TheVariants as field
 use Rattle.sd_reader.specs.declared.line.Head.{Head}
-use Rattle.sd_reader.specs.declared.line.Place.TheVariants as place
+use Rattle.sd_reader.specs.declared.line.State.TheVariants as state
 use Rattle.sd_reader.specs.declared.line.Seen.{Seen}
 use Rattle.sd_reader.specs.declared.line.Slot.TheVariants as slot
-use Rattle.sd_reader.specs.Inner.FoldedReading.{Reading, reads_as, take_field}
+use Rattle.sd_reader.specs.Inner.FoldedReading.{FieldsRead, reads_as, take_field}
 use Rattle.sd_reader.specs.Inner.Held.{IsHeld, is_plain_inside, no_text}
 use Rattle.sd_reader.specs.Meaning.{and_then, is_unreadable}
-use Rattle.sd_reader.specs.Inner.Progress.{answer, end_of, place_after}
+use Rattle.sd_reader.specs.Inner.Progress.{rest_answer, end_of, state_after}
 use Rattle.sd_reader.specs.Inner.Reads.{Reads, is_at_front}
 use Rattle.sd_reader.specs.declared.reader.SddlReader.{SddlReader}
 use Rattle.sd_reader.proofs.FieldTexts.{held-readable}
@@ -34,7 +34,7 @@ whole-readable t plain fits =
 
 -- 2. The answer to it.
 
-pub after-no-front : (f : AceField) (h : Head) → is_at_front (place_after f) h ≡ false
+pub after-no-front : (f : AceField) (h : Head) → is_at_front (state_after f) h ≡ false
 after-no-front field.Kind h = refl
 after-no-front field.Flags h = refl
 after-no-front field.Rights h = refl
@@ -42,16 +42,16 @@ after-no-front field.Object h = refl
 after-no-front field.Inherited h = refl
 after-no-front field.Sid h = refl
 
-module _ (dm : Option SecurityId) (so tw : Bool) (se : Seen) (r : Result Reading SddlFault) (t rest : List ℕ) (plain : list_all is_plain_inside t ≡ true) (fits : length t ≤ 183) where
+module _ (dm : Option SecurityId) (so tw : Bool) (se : Seen) (r : Result FieldsRead SddlFault) (t rest : List ℕ) (plain : list_all is_plain_inside t ≡ true) (fits : length t ≤ 183) where
   -- the text goes onto what is held, which is nothing
-  onto-nothing : (f : AceField) (bs : List ℕ) → answer dm so tw se r (place.Ace f) (record { text = t; gap = false; broken = false }) bs
-      ≡ answer dm so tw se r (place.Ace f) no_text (t ++ bs)
+  onto-nothing : (f : AceField) (bs : List ℕ) → rest_answer dm so tw se r (state.Ace f) (record { text = t; gap = false; broken = false }) bs
+      ≡ rest_answer dm so tw se r (state.Ace f) no_text (t ++ bs)
   onto-nothing f bs =
-      ap (λ h. answer dm so tw se r (place.Ace f) h bs) (sym (run-fits [] t (omega arith)))
+      ap (λ h. rest_answer dm so tw se r (state.Ace f) h bs) (sym (run-fits [] t (omega arith)))
       ∙ inside-run dm so tw se r f no_text t bs nothing-held refl plain
 
-  pub whole-field : (f : AceField) → answer dm so tw se (and_then r (λ b. take_field dm b (slot.Ace f) t)) (place_after f) no_text rest
-      ≡ answer dm so tw se r (place.Ace f) no_text (t ++ end_of f ∷ rest)
+  pub whole-field : (f : AceField) → rest_answer dm so tw se (and_then r (λ b. take_field dm b (slot.Ace f) t)) (state_after f) no_text rest
+      ≡ rest_answer dm so tw se r (state.Ace f) no_text (t ++ end_of f ∷ rest)
   whole-field field.Kind = cut dm so tw se r _ rest field.Kind refl ∙ onto-nothing field.Kind (59 ∷ rest)
   whole-field field.Flags = cut dm so tw se r _ rest field.Flags refl ∙ onto-nothing field.Flags (59 ∷ rest)
   whole-field field.Rights = cut dm so tw se r _ rest field.Rights refl ∙ onto-nothing field.Rights (59 ∷ rest)

@@ -34,10 +34,12 @@ abbrev pub flags_after : AclFlags → List ℕ → Option AclFlags
 flags_after f [] = Some f
 flags_after f (a ∷ []) = one_letter f a
 flags_after f (a ∷ b ∷ rest) =
-    option_or (option_and_then (λ g. flags_after g (b ∷ rest)) (one_letter f a)) (option_and_then (λ g. flags_after g rest) (two_letters f a b))
+    option_or (option_and_then (λ g. flags_after g (b ∷ rest)) (one_letter f a))
+    (option_and_then (λ g. flags_after g rest) (two_letters f a b))
 
 abbrev pub ends_with_null : List ℕ → Bool
-ends_with_null text = nat_le 17 (length text) && str_eq_ignore_ascii_case (drop (length text - 17) text) (codes "NO_ACCESS_CONTROL")
+ends_with_null text =
+    nat_le 17 (length text) && str_eq_ignore_ascii_case (drop (length text - 17) text) (codes "NO_ACCESS_CONTROL")
 
 abbrev pub with_null : Bool → Option AclFlags → Option AclFront
 with_null null flags = option_map (λ f. record { flags = f; null = null }) flags

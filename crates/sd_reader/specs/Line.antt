@@ -2,6 +2,7 @@
 -- parts may stand in any order, with blanks around them.
 use Rattle.std.specs.Prelude.{ℕ, Bool, true, false, ◌&&◌, ◌||◌, not, ◌==◌, if◌then◌else◌, List, [], ◌∷◌, length, drop, Option, Some, None}
 use Rattle.std.specs.List.{list_all}
+use Rattle.std.specs.Str.{byte as char}
 use Rattle.sd_view.specs.declared.control.Which.TheVariants as which
 use Rattle.sd_reader.specs.declared.line.SidPart.TheVariants as sid_part
 use Rattle.sd_reader.specs.declared.line.Head.{Head}
@@ -9,17 +10,17 @@ use Rattle.sd_reader.specs.declared.line.Head.TheVariants as head
 
 -- a space or a tab
 abbrev pub is_blank : ℕ → Bool
-is_blank b = b == 32 || b == 9
+is_blank b = b == char " " || b == 9
 
 -- 1. Parentheses.
 
 -- whether a parenthesis is open after a byte
 abbrev pub open_after : Bool → ℕ → Bool
-open_after inside b = if inside then not (b == 41) else b == 40
+open_after inside b = if inside then not (b == char ")") else b == char "("
 
 -- a parenthesis opens only where none is open, and closes only where one is
 abbrev pub fits_in : Bool → ℕ → Bool
-fits_in inside b = if b == 40 then not inside else (if b == 41 then inside else true)
+fits_in inside b = if b == char "(" then not inside else (if b == char ")" then inside else true)
 
 -- each parenthesis closes before the next one opens, and none is left open
 abbrev pub is_paired : Bool → List ℕ → Bool
@@ -38,8 +39,11 @@ pub record Pieces : Type 0 where
 
 -- a byte goes onto what follows it; `inside` says whether a parenthesis is open before it
 abbrev pub with_byte : Bool → ℕ → Pieces → Pieces
-with_byte true b p = if b == 41 then record { held = []; after = p.after } else record { held = b ∷ p.held; after = p.after }
-with_byte false b p = if b == 40 then record { held = []; after = ace p.held ∷ p.after } else record { held = []; after = byte b ∷ p.after }
+with_byte true b p =
+    if b == char ")" then record { held = []; after = p.after } else record { held = b ∷ p.held; after = p.after }
+with_byte false b p =
+    if b == char "(" then record { held = []; after = ace p.held ∷ p.after }
+    else record { held = []; after = byte b ∷ p.after }
 
 -- what a text is cut into, if its parentheses are paired
 abbrev pub pieces_from : Bool → List ℕ → Pieces
@@ -51,13 +55,13 @@ pieces_from inside (b ∷ bs) = with_byte inside b (pieces_from (open_after insi
 -- what a letter announces, in either case
 abbrev pub head_of : ℕ → Option Head
 head_of b =
-    if b == 79 || b == 111 then Some (head.Sid sid_part.Owner)
-    else (if b == 71 || b == 103 then Some (head.Sid sid_part.Group)
-    else (if b == 68 || b == 100 then Some (head.Acl which.Dacl)
-    else (if b == 83 || b == 115 then Some (head.Acl which.Sacl) else None)))
+    if b == char "O" || b == char "o" then Some (head.Sid sid_part.Owner)
+    else (if b == char "G" || b == char "g" then Some (head.Sid sid_part.Group)
+    else (if b == char "D" || b == char "d" then Some (head.Acl which.Dacl)
+    else (if b == char "S" || b == char "s" then Some (head.Acl which.Sacl) else None)))
 
 abbrev pub is_colon : Piece → Bool
-is_colon (byte b) = b == 58
+is_colon (byte b) = b == char ":"
 is_colon (ace a) = false
 
 abbrev pub begins_with_colon : List Piece → Bool
@@ -99,7 +103,9 @@ pub record Cuts : Type 0 where
   pub others : List (List ℕ)
 
 abbrev pub with_cut : ℕ → Cuts → Cuts
-with_cut b c = if b == 59 then record { first = []; others = c.first ∷ c.others } else record { first = b ∷ c.first; others = c.others }
+with_cut b c =
+    if b == char ";" then record { first = []; others = c.first ∷ c.others }
+    else record { first = b ∷ c.first; others = c.others }
 
 abbrev pub cuts : List ℕ → Cuts
 cuts [] = record { first = []; others = [] }
@@ -135,7 +141,8 @@ trim (b ∷ bs) = if is_blank b then trim bs else trim_end (b ∷ bs)
 abbrev pub ace_cuts : List ℕ → List (List ℕ)
 ace_cuts a = (cuts a).first ∷ (cuts a).others
 
--- 4. Shape. A colon outside parentheses that makes no head stays in a body or before the first head, and no shape takes it.
+-- 4. Shape. A colon outside parentheses that makes no head stays in a body or before the first head, and no shape takes
+-- it.
 
 abbrev pub is_blank_piece : Piece → Bool
 is_blank_piece (byte b) = is_blank b
@@ -144,7 +151,7 @@ is_blank_piece (ace a) = false
 -- no parenthesis and no colon
 abbrev pub is_sid_body : List Piece → Bool
 is_sid_body [] = true
-is_sid_body (byte b ∷ ps) = not (b == 58) && is_sid_body ps
+is_sid_body (byte b ∷ ps) = not (b == char ":") && is_sid_body ps
 is_sid_body (ace a ∷ ps) = false
 
 abbrev pub has_six_fields : List ℕ → Bool
@@ -159,7 +166,7 @@ are_aces (ace a ∷ ps) = has_six_fields a && are_aces ps
 -- no colon before the first parenthesis, and from there on ACEs and blanks
 abbrev pub is_acl_body : List Piece → Bool
 is_acl_body [] = true
-is_acl_body (byte b ∷ ps) = not (b == 58) && is_acl_body ps
+is_acl_body (byte b ∷ ps) = not (b == char ":") && is_acl_body ps
 is_acl_body (ace a ∷ ps) = are_aces (ace a ∷ ps)
 
 abbrev pub is_body : Head → List Piece → Bool
@@ -172,7 +179,8 @@ are_shaped (s ∷ ss) = is_body s.head s.body && are_shaped ss
 
 -- pairs of parentheses, nothing but blanks before the first head, and each part in its shape
 abbrev pub is_shaped : List ℕ → Bool
-is_shaped text = is_paired false text && (list_all is_blank_piece (parts_of text).before && are_shaped (parts_of text).parts)
+is_shaped text =
+    is_paired false text && (list_all is_blank_piece (parts_of text).before && are_shaped (parts_of text).parts)
 
 -- 5. Two heads with one letter.
 

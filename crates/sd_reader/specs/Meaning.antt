@@ -105,41 +105,42 @@ section_reads domain s = body_reads domain s.head s.body
 -- 4. The descriptor that sections give, of which no two have one head.
 
 -- the owner or the group, if a section gives it
-abbrev pub sid_of : SidPart → List Said → Option SecurityId
-sid_of p [] = None
-sid_of p (sid_said q s ∷ others) = if same_head (head.Sid p) (head.Sid q) then Some s else sid_of p others
-sid_of p (acl_said w f a ∷ others) = sid_of p others
+abbrev pub picked_sid : SidPart → List Said → Option SecurityId
+picked_sid p [] = None
+picked_sid p (sid_said q s ∷ others) = if same_head (head.Sid p) (head.Sid q) then Some s else picked_sid p others
+picked_sid p (acl_said w f a ∷ others) = picked_sid p others
 
 -- an ACL, which is absent where no section gives it
-abbrev pub acl_of : Which → List Said → AclPart
-acl_of w [] = acl.Absent
-acl_of w (sid_said p s ∷ others) = acl_of w others
-acl_of w (acl_said v f a ∷ others) = if same_head (head.Acl w) (head.Acl v) then a else acl_of w others
+abbrev pub picked_acl : Which → List Said → AclPart
+picked_acl w [] = acl.Absent
+picked_acl w (sid_said p s ∷ others) = picked_acl w others
+picked_acl w (acl_said v f a ∷ others) = if same_head (head.Acl w) (head.Acl v) then a else picked_acl w others
 
 -- its flags
-abbrev pub flags_of : Which → List Said → AclFlags
-flags_of w [] = no_flags
-flags_of w (sid_said p s ∷ others) = flags_of w others
-flags_of w (acl_said v f a ∷ others) = if same_head (head.Acl w) (head.Acl v) then f else flags_of w others
+abbrev pub picked_flags : Which → List Said → AclFlags
+picked_flags w [] = no_flags
+picked_flags w (sid_said p s ∷ others) = picked_flags w others
+picked_flags w (acl_said v f a ∷ others) = if same_head (head.Acl w) (head.Acl v) then f else picked_flags w others
 
 -- the flags of both ACLs in the control word
 abbrev pub control_flags : AclFlags → AclFlags → ℕ
 control_flags sacl dacl = flag_bits which.Sacl sacl + flag_bits which.Dacl dacl
 
 -- the flags that are written, SR, and SP and DP of the ACLs that stand
-abbrev pub control_of : List Said → ℕ
-control_of said =
-    control_flags (flags_of which.Sacl said) (flags_of which.Dacl said) + SELF_RELATIVE
-    + bit_if (is_present (acl_of which.Sacl said)) SACL_PRESENT + bit_if (is_present (acl_of which.Dacl said)) DACL_PRESENT
+abbrev pub picked_control : List Said → ℕ
+picked_control said =
+    control_flags (picked_flags which.Sacl said) (picked_flags which.Dacl said) + SELF_RELATIVE
+    + bit_if (is_present (picked_acl which.Sacl said)) SACL_PRESENT
+    + bit_if (is_present (picked_acl which.Dacl said)) DACL_PRESENT
 
 abbrev pub descriptor_of : List Said → Descriptor
 descriptor_of said = record {
-  control = control_of said;
+  control = picked_control said;
   rm = 0;
-  owner = sid_of sid_part.Owner said;
-  group = sid_of sid_part.Group said;
-  sacl = acl_of which.Sacl said;
-  dacl = acl_of which.Dacl said;
+  owner = picked_sid sid_part.Owner said;
+  group = picked_sid sid_part.Group said;
+  sacl = picked_acl which.Sacl said;
+  dacl = picked_acl which.Dacl said;
 }
 
 -- 5. The line.

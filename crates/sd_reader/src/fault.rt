@@ -1,4 +1,4 @@
-// Why a line is no descriptor.
+//! Why a line is no descriptor.
 
 use sd_binary::Which;
 use sd_core::SidFault;

@@ -1,4 +1,5 @@
-// The text of the field at hand, of at most MOST_FIELD_SIZE bytes.
+//! The text of the field at hand, of at most MOST_FIELD_SIZE bytes.
+
 ghost use Rattle.std.specs.Prelude.{◌≡◌, ◌≤◌, ◌↔◌, ℕ, ◌+◌, ◌++◌, length, take, IsTrue, true};
 ghost use Rattle.sd_rights.specs.Limits.{most_field};
 ghost use Rattle.sd_reader.specs.Inner.Held.{Held, no_text, broken_text, held_with, held_run, held_blank, outer_with, within_with, held_text};
@@ -24,6 +25,7 @@ impl Model for FieldText {
 }
 
 impl FieldText {
+    /// No byte yet.
     pub fn new() -> Self
         ensures { result ≡ no_text }
     {
@@ -35,12 +37,14 @@ impl FieldText {
         }
     }
 
+    /// Whether nothing came yet.
     pub fn is_empty(&self) -> bool
         ensures { result ≡ true → self.now ≡ no_text }
     {
         self.len == 0 && !self.gap && !self.broken
     }
 
+    /// No byte any more.
     pub fn clear(&mut self)
         ensures { self.new ≡ no_text }
     {
@@ -124,12 +128,14 @@ impl FieldText {
         }
     }
 
+    /// Whether it can no longer read.
     pub fn is_broken(&self) -> bool
         ensures { result ≡ self.now.broken }
     {
         self.broken
     }
 
+    /// The bytes, of a text that can read.
     pub fn text(&self) -> &[u8]
         ensures { result.now ≡ self.now.text }
     {

@@ -1,4 +1,5 @@
-// The texts of fields that stand in SDDL alone (MS-DTYP 2.5.1.1).
+//! The texts of fields that stand in SDDL alone (MS-DTYP 2.5.1.1).
+
 ghost use Rattle.std.specs.Prelude.{◌≡◌, ◌≤◌, length, List, ℕ, Some, None, IfSome};
 ghost use Rattle.std.specs.Str.{str_eq_ignore_ascii_case};
 ghost use Rattle.sd_rights.specs.Kinds.{is_object};

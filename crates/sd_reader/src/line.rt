@@ -1,10 +1,11 @@
-// The parts of an SDDL line, and the places in it.
+//! The parts of an SDDL line, and the states of its reader.
+
 ghost use Rattle.std.specs.Prelude.{◌≡◌, ◌≤◌, [], ◌∷◌, length, take, true};
 ghost use Rattle.std.specs.List.{list_all};
 ghost use Rattle.sd_reader.specs.Inner.Held.{is_plain_inside, is_plain_outside};
 ghost use Rattle.sd_reader.specs.Line.{head_of, is_blank};
 ghost use Rattle.sd_reader.specs.Inner.FoldedReading.{next_field};
-ghost use Rattle.sd_reader.specs.Inner.Progress.{end_of, place_after, place_of};
+ghost use Rattle.sd_reader.specs.Inner.Progress.{end_of, state_after, state_of};
 
 use sd_binary::Which;
 
@@ -49,7 +50,7 @@ pub enum Slot {
 
 /// Where in a line the next byte stands.
 #[derive(Clone, Copy)]
-pub enum Place {
+pub enum State {
     /// Before the first head.
     Before,
     /// In the text of an owner or a group.
@@ -114,12 +115,12 @@ pub fn head_of(byte: u8) -> Option<Head>
 }
 
 /// Where the part of a head begins.
-pub fn place_of(head: Head) -> Place
-    ensures { result ≡ place_of head }
+pub fn state_of(head: Head) -> State
+    ensures { result ≡ state_of head }
 {
     match head {
-        Head::Sid(part) => Place::Sid(part),
-        Head::Acl(which) => Place::AclFlags(which),
+        Head::Sid(part) => State::Sid(part),
+        Head::Acl(which) => State::AclFlags(which),
     }
 }
 
@@ -137,12 +138,12 @@ pub fn next_field(field: AceField) -> AceField
 }
 
 /// Where a line goes on after this field of an ACE.
-pub fn place_after(field: AceField) -> Place
-    ensures { result ≡ place_after field }
+pub fn state_after(field: AceField) -> State
+    ensures { result ≡ state_after field }
 {
     match field {
-        AceField::Sid => Place::AfterAce,
-        _ => Place::Ace(next_field(field)),
+        AceField::Sid => State::AfterAce,
+        _ => State::Ace(next_field(field)),
     }
 }
 

@@ -1,4 +1,5 @@
-// A line, read a byte at a time.
+//! A line, read a byte at a time.
+
 ghost use Rattle.std.specs.Prelude.{◌≡◌, ◌≤◌, ◌==◌, ℕ, List, [], ◌∷◌, ◌++◌, length, take, ◌||◌, if◌then◌else◌, true, false, Option, Some, None, Ok, Err, IfOk, IfSome, MatchResult};
 ghost use Rattle.std.specs.List.{list_all};
 ghost use Rattle.std.specs.Option.{option_copied};
@@ -8,16 +9,16 @@ ghost use Rattle.sd_view.specs.Descriptor.{IsDescriptor, Shows};
 ghost use Rattle.sd_binary.specs.Draft.{IsWritten};
 ghost use Rattle.sd_reader.specs.Inner.Held.{IsHeld, is_plain_inside, no_text, held_text};
 ghost use Rattle.sd_reader.specs.Line.{byte, head_at, head_of as head_named, pieces_from};
-ghost use Rattle.sd_reader.specs.Inner.FoldedReading.{Reading, finished, reads_as, take_field};
+ghost use Rattle.sd_reader.specs.Inner.FoldedReading.{FieldsRead, finished, reads_as, take_field};
 ghost use Rattle.sd_reader.specs.Meaning.{and_then, is_unreadable, means};
-ghost use Rattle.sd_reader.specs.Inner.Reads.{CanTake, Holds, Takes};
-ghost use Rattle.sd_reader.specs.Inner.Progress.{end_of, ended_with, is_inside, is_seen, place_after, place_of, result_or, with_head};
+ghost use Rattle.sd_reader.specs.Inner.Reads.{CanTake, HasRead, Takes};
+ghost use Rattle.sd_reader.specs.Inner.Progress.{end_of, ended_with, is_inside, is_seen, state_after, state_of, result_or, with_head};
 
 use crate::fault::SddlFault;
 use crate::field_text::FieldText;
 use crate::line::{
-    AceField, Head, Place, Seen, Slot, ends_field, head_of, is_blank, next_field, place_after,
-    place_of, plain_in_field, plain_inside, plain_outside,
+    AceField, Head, Seen, Slot, State, ends_field, head_of, is_blank, next_field, plain_in_field,
+    plain_inside, plain_outside, state_after, state_of,
 };
 use crate::reading::{FieldReader, fault_of};
 use sd_binary::SdBuf;
@@ -27,7 +28,7 @@ use sd_rights::MOST_FIELD_SIZE;
 /// A reader of one line, a byte at a time, beside the buffer in which the descriptor is built.
 #[derive(Drop)]
 pub struct SddlReader {
-    place: Place,
+    state: State,
     // A letter that is a head if a colon comes next.
     pending: Option<u8>,
     sound: bool,
@@ -41,7 +42,7 @@ pub struct SddlReader {
 }
 
 impl SddlReader {
-    ghost use Rattle.sd_reader.specs.Inner.Reads.{Ends, Holds, Keeps, IsCalm, IsReader, IsText, Reads, Steps, StepsOn, StepsText, answer_at, waiting};
+    ghost use Rattle.sd_reader.specs.Inner.Reads.{Ends, HasRead, LineHasRead, IsCalm, IsReader, IsText, Reads, Steps, StepsOn, StepsText, answer_at, waiting};
 
     /// A reader that was fed nothing.
     pub fn new(domain: Option<Sid>, buf: &mut SdBuf) -> Self
@@ -49,7 +50,7 @@ impl SddlReader {
         ensures read { Reads result buf.new domain [] }
     {
         SddlReader {
-            place: Place::Before,
+            state: State::Before,
             pending: None,
             sound: true,
             twice: false,
@@ -67,9 +68,9 @@ impl SddlReader {
 
     // A byte inside parentheses.
     fn put_inside(&mut self, buf: &mut SdBuf, field: AceField, byte: u8)
-        requires here { self.old.place ≡ Place.Ace field }
+        requires here { self.old.state ≡ State.Ace field }
         requires calm { IsCalm self.old }
-        requires held { (t : Reading) × Keeps self.old buf.old t }
+        requires held { (t : FieldsRead) × LineHasRead self.old buf.old t }
         ensures answers { Steps self.old buf.old (byte ∷ []) self.new buf.new }
         ensures calm { IsCalm self.new }
         ensures pending { self.new.pending ≡ self.old.pending }
@@ -84,9 +85,9 @@ impl SddlReader {
 
     // The parenthesis that ends an ACE.
     fn end_ace(&mut self, buf: &mut SdBuf, field: AceField)
-        requires here { self.old.place ≡ Place.Ace field }
+        requires here { self.old.state ≡ State.Ace field }
         requires calm { IsCalm self.old }
-        requires held { (t : Reading) × Keeps self.old buf.old t }
+        requires held { (t : FieldsRead) × LineHasRead self.old buf.old t }
         ensures answers { Steps self.old buf.old (41 ∷ []) self.new buf.new }
         ensures calm { IsCalm self.new }
         ensures pending { self.new.pending ≡ self.old.pending }
@@ -99,7 +100,7 @@ impl SddlReader {
                 buf,
                 Slot::Ace(field),
             );
-            self.place = Place::AfterAce;
+            self.state = State::AfterAce;
         } else {
             self.sound = false;
         }
@@ -107,9 +108,9 @@ impl SddlReader {
 
     // The semicolon that ends a field of an ACE.
     fn end_ace_field(&mut self, buf: &mut SdBuf, field: AceField)
-        requires here { self.old.place ≡ Place.Ace field }
+        requires here { self.old.state ≡ State.Ace field }
         requires calm { IsCalm self.old }
-        requires held { (t : Reading) × Keeps self.old buf.old t }
+        requires held { (t : FieldsRead) × LineHasRead self.old buf.old t }
         ensures answers { Steps self.old buf.old (59 ∷ []) self.new buf.new }
         ensures calm { IsCalm self.new }
         ensures pending { self.new.pending ≡ self.old.pending }
@@ -124,15 +125,15 @@ impl SddlReader {
                 buf,
                 Slot::Ace(field),
             );
-            self.place = Place::Ace(next_field(field));
+            self.state = State::Ace(next_field(field));
         }
     }
 
     // A byte outside parentheses that begins no head.
     fn put_outside(&mut self, buf: &mut SdBuf, byte: u8)
-        requires here { is_inside self.old.place ≡ false }
+        requires here { is_inside self.old.state ≡ false }
         requires calm { IsCalm self.old }
-        requires held { (t : Reading) × Keeps self.old buf.old t }
+        requires held { (t : FieldsRead) × LineHasRead self.old buf.old t }
         ensures answers { StepsText self.old buf.old byte self.new buf.new }
         ensures calm { IsCalm self.new }
         ensures pending { self.new.pending ≡ self.old.pending }
@@ -146,15 +147,15 @@ impl SddlReader {
 
     // The parenthesis that begins an ACE.
     fn begin_ace(&mut self, buf: &mut SdBuf)
-        requires here { is_inside self.old.place ≡ false }
+        requires here { is_inside self.old.state ≡ false }
         requires calm { IsCalm self.old }
-        requires held { (t : Reading) × Keeps self.old buf.old t }
+        requires held { (t : FieldsRead) × LineHasRead self.old buf.old t }
         ensures answers { Steps self.old buf.old (40 ∷ []) self.new buf.new }
         ensures calm { IsCalm self.new }
         ensures pending { self.new.pending ≡ self.old.pending }
     {
-        match self.place {
-            Place::AclFlags(which) => {
+        match self.state {
+            State::AclFlags(which) => {
                 end_field(
                     &mut self.fault,
                     &mut self.field,
@@ -162,11 +163,11 @@ impl SddlReader {
                     buf,
                     Slot::AclFlags(which, true),
                 );
-                self.place = Place::Ace(AceField::Kind);
+                self.state = State::Ace(AceField::Kind);
             }
-            Place::AfterAce => {
+            State::AfterAce => {
                 self.field.clear();
-                self.place = Place::Ace(AceField::Kind);
+                self.state = State::Ace(AceField::Kind);
             }
             _ => self.sound = false,
         }
@@ -174,17 +175,17 @@ impl SddlReader {
 
     // A byte of a text outside parentheses.
     fn put_text(&mut self, b: u8)
-        requires here { is_inside self.old.place ≡ false }
+        requires here { is_inside self.old.state ≡ false }
         requires calm { IsCalm self.old }
         requires open { (b == 40) ≡ false }
         requires close { (b == 41) ≡ false }
         requires colon { (b == 58) ≡ false }
-        ensures answers { (t : Reading) (rest : List ℕ) → head_at (byte b) (pieces_from false rest).after ≡ None → answer_at self.new t rest ≡ answer_at self.old t (b ∷ rest) }
+        ensures answers { (t : FieldsRead) (rest : List ℕ) → head_at (byte b) (pieces_from false rest).after ≡ None → answer_at self.new t rest ≡ answer_at self.old t (b ∷ rest) }
         ensures calm { IsCalm self.new }
         ensures same { self.new ≡ record self.old { sound = self.new.sound; field = self.new.field } }
     {
-        match self.place {
-            Place::Sid(_) | Place::AclFlags(_) => self.field.push_outer(b),
+        match self.state {
+            State::Sid(_) | State::AclFlags(_) => self.field.push_outer(b),
             _ => {
                 if !is_blank(b) {
                     self.sound = false;
@@ -195,10 +196,10 @@ impl SddlReader {
 
     // A head, of a letter that waited and its colon.
     fn begin_part(&mut self, buf: &mut SdBuf, letter: u8, head: Head)
-        requires here { is_inside self.old.place ≡ false }
+        requires here { is_inside self.old.state ≡ false }
         requires calm { IsCalm self.old }
         requires letter { head_named letter ≡ Some head }
-        requires held { (t : Reading) × Keeps self.old buf.old t }
+        requires held { (t : FieldsRead) × LineHasRead self.old buf.old t }
         ensures answers { Steps self.old buf.old (letter ∷ 58 ∷ []) self.new buf.new }
         ensures calm { IsCalm self.new }
         ensures pending { self.new.pending ≡ self.old.pending }
@@ -209,40 +210,40 @@ impl SddlReader {
 
     // Notes a head. After a second one of its letter nothing counts but the shape, and nothing more is built.
     fn note_head(&mut self, head: Head)
-        ensures place { self.new.place ≡ place_of head }
+        ensures state { self.new.state ≡ state_of head }
         ensures twice { self.new.twice ≡ (self.old.twice || is_seen self.old.seen head) }
         ensures seen { self.new.seen ≡ with_head self.old.seen head }
         ensures fault { self.new.fault ≡ (if is_seen self.old.seen head then Some SddlFault.PartTwice else self.old.fault) }
-        ensures same { self.new ≡ record self.old { place = self.new.place; twice = self.new.twice; seen = self.new.seen; fault = self.new.fault } }
+        ensures same { self.new ≡ record self.old { state = self.new.state; twice = self.new.twice; seen = self.new.seen; fault = self.new.fault } }
     {
         if self.seen.has(head) {
             self.twice = true;
             self.fault = Some(SddlFault::PartTwice);
         }
         self.seen.add(head);
-        self.place = place_of(head);
+        self.state = state_of(head);
     }
 
     // The end of the part at hand, with no ACE since its head or none open.
     fn end_part(&mut self, buf: &mut SdBuf)
-        requires here { is_inside self.old.place ≡ false }
+        requires here { is_inside self.old.state ≡ false }
         requires calm { IsCalm self.old }
-        requires held { (t : Reading) × Keeps self.old buf.old t }
-        ensures read { (t : Reading) → Keeps self.old buf.old t → (u : Reading) × (self.new.fault ≡ None → Holds self.new.fields buf.new u)
-            × (result_or u self.new.fault ≡ ended_with self.old.fields.domain self.old.place self.old.field (result_or t self.old.fault)) }
+        requires held { (t : FieldsRead) × LineHasRead self.old buf.old t }
+        ensures read { (t : FieldsRead) → LineHasRead self.old buf.old t → (u : FieldsRead) × (self.new.fault ≡ None → HasRead self.new.fields buf.new u)
+            × (result_or u self.new.fault ≡ ended_with self.old.fields.domain self.old.state self.old.field (result_or t self.old.fault)) }
         ensures cleared { self.new.field ≡ no_text }
         ensures domain { self.new.fields.domain ≡ self.old.fields.domain }
         ensures same { self.new ≡ record self.old { field = self.new.field; fault = self.new.fault; fields = self.new.fields } }
     {
-        match self.place {
-            Place::Sid(part) => end_field(
+        match self.state {
+            State::Sid(part) => end_field(
                 &mut self.fault,
                 &mut self.field,
                 &mut self.fields,
                 buf,
                 Slot::Sid(part),
             ),
-            Place::AclFlags(which) => end_field(
+            State::AclFlags(which) => end_field(
                 &mut self.fault,
                 &mut self.field,
                 &mut self.fields,
@@ -255,10 +256,10 @@ impl SddlReader {
 
     // A byte outside parentheses with none that waits before it.
     fn feed_alone(&mut self, buf: &mut SdBuf, byte: u8)
-        requires here { is_inside self.old.place ≡ false }
+        requires here { is_inside self.old.state ≡ false }
         requires calm { IsCalm self.old }
         requires pending { self.old.pending ≡ None }
-        requires held { (t : Reading) × Keeps self.old buf.old t }
+        requires held { (t : FieldsRead) × LineHasRead self.old buf.old t }
         ensures answers { StepsOn self.old buf.old (byte ∷ []) self.new buf.new }
         ensures reader { IsReader self.new buf.new }
     {
@@ -271,11 +272,11 @@ impl SddlReader {
 
     // A byte outside parentheses after a letter that waits.
     fn feed_after(&mut self, buf: &mut SdBuf, letter: u8, byte: u8)
-        requires here { is_inside self.old.place ≡ false }
+        requires here { is_inside self.old.state ≡ false }
         requires calm { IsCalm self.old }
         requires pending { self.old.pending ≡ Some letter }
         requires letter { IsText letter }
-        requires held { (t : Reading) × Keeps self.old buf.old t }
+        requires held { (t : FieldsRead) × LineHasRead self.old buf.old t }
         ensures answers { StepsOn self.old buf.old (letter ∷ byte ∷ []) self.new buf.new }
         ensures reader { IsReader self.new buf.new }
     {
@@ -298,7 +299,7 @@ impl SddlReader {
         if !self.sound {
             return;
         }
-        if let Place::Ace(field) = self.place {
+        if let State::Ace(field) = self.state {
             self.put_inside(buf, field, byte);
         } else if let Some(letter) = self.pending {
             self.feed_after(buf, letter, byte);
@@ -349,7 +350,7 @@ impl SddlReader {
         ensures read { (domain : Option SecurityId) (before : List ℕ) → Reads self.old buf.old domain before
             → Reads self.new buf.new domain (before ++ take result text.now) }
     {
-        let Place::Ace(field) = self.place else {
+        let State::Ace(field) = self.state else {
             return 0;
         };
         if !self.sound || !self.field.is_empty() {
@@ -365,13 +366,13 @@ impl SddlReader {
 
     // A field of an ACE and the byte that ends it.
     fn take_field(&mut self, buf: &mut SdBuf, field: AceField, text: &[u8])
-        requires here { self.old.place ≡ Place.Ace field }
+        requires here { self.old.state ≡ State.Ace field }
         requires begins { self.old.field ≡ no_text }
         requires plain { list_all is_plain_inside text.now ≡ true }
         requires fits { length text.now ≤ most_field }
-        requires held { (t : Reading) × Keeps self.old buf.old t }
+        requires held { (t : FieldsRead) × LineHasRead self.old buf.old t }
         ensures answers { Steps self.old buf.old (text.now ++ end_of field ∷ []) self.new buf.new }
-        ensures place { self.new.place ≡ place_after field }
+        ensures state { self.new.state ≡ state_after field }
         ensures field { self.new.field ≡ no_text }
         ensures pending { self.new.pending ≡ self.old.pending }
     {
@@ -382,7 +383,7 @@ impl SddlReader {
             Slot::Ace(field),
             text,
         );
-        self.place = place_after(field);
+        self.state = state_after(field);
     }
 
     // Takes the bytes at the front that only go onto the field at hand, all at once, and says how many they are.
@@ -392,13 +393,13 @@ impl SddlReader {
         ensures read { (buf : List ℕ) (domain : Option SecurityId) (before : List ℕ) → IsReader self.old buf → Reads self.old buf domain before
             → Reads self.new buf domain (before ++ take result text.now) }
     {
-        match self.place {
-            Place::Ace(_) => {
+        match self.state {
+            State::Ace(_) => {
                 let count = plain_inside(text);
                 self.field.push_run(&text[..count]);
                 count
             }
-            Place::Sid(_) if self.pending.is_none() => {
+            State::Sid(_) if self.pending.is_none() => {
                 let count = plain_outside(text);
                 self.field.push_run(&text[..count]);
                 count
@@ -425,11 +426,11 @@ impl SddlReader {
     // The end of a line with no byte that waits.
     fn finish_alone(mut self, buf: &mut SdBuf) -> Result<(), SddlFault>
         requires calm { IsCalm self }
-        requires held { (t : Reading) × Keeps self buf.old t }
-        ensures exact { (t : Reading) → Keeps self buf.old t → MatchResult (finished (answer_at self t []))
+        requires held { (t : FieldsRead) × LineHasRead self buf.old t }
+        ensures exact { (t : FieldsRead) → LineHasRead self buf.old t → MatchResult (finished (answer_at self t []))
             (λ d. (result ≡ Ok tt) × Shows buf.new d)
             (λ e. (result ≡ Err e) × (buf.new ≡ [])) }
-        ensures written { (t : Reading) → Keeps self buf.old t → IfOk (finished (answer_at self t [])) (IsWritten buf.new) }
+        ensures written { (t : FieldsRead) → LineHasRead self buf.old t → IfOk (finished (answer_at self t [])) (IsWritten buf.new) }
     {
         match self.end_line(buf) {
             Ok(()) => Ok(()),
@@ -443,13 +444,13 @@ impl SddlReader {
     // What a line gives that ends here, with no byte that waits.
     fn end_line(mut self, buf: &mut SdBuf) -> Result<(), SddlFault>
         requires calm { IsCalm self }
-        requires held { (t : Reading) × Keeps self buf.old t }
-        ensures { (t : Reading) → Keeps self buf.old t → Ends (finished (answer_at self t [])) result buf.new }
+        requires held { (t : FieldsRead) × LineHasRead self buf.old t }
+        ensures { (t : FieldsRead) → LineHasRead self buf.old t → Ends (finished (answer_at self t [])) result buf.new }
     {
         if !self.sound {
             return Err(SddlFault::Shape);
         }
-        if let Place::Ace(_) = self.place {
+        if let State::Ace(_) = self.state {
             return Err(SddlFault::Shape);
         }
         self.end_part(buf);
@@ -472,8 +473,8 @@ fn end_field(
     slot: Slot,
 )
     requires clean { IsHeld field.old }
-    requires held { (t : Reading) × (fault.old ≡ None → Holds fields.old buf.old t × CanTake slot t) }
-    ensures read { (t : Reading) → (fault.old ≡ None → Holds fields.old buf.old t) → (u : Reading) × (fault.new ≡ None → Holds fields.new buf.new u)
+    requires held { (t : FieldsRead) × (fault.old ≡ None → HasRead fields.old buf.old t × CanTake slot t) }
+    ensures read { (t : FieldsRead) → (fault.old ≡ None → HasRead fields.old buf.old t) → (u : FieldsRead) × (fault.new ≡ None → HasRead fields.new buf.new u)
         × (result_or u fault.new ≡ and_then (result_or t fault.old) (λ r. take_field fields.old.domain r slot (held_text field.old))) }
     ensures cleared { field.new ≡ no_text }
     ensures domain { fields.new.domain ≡ fields.old.domain }
@@ -491,8 +492,8 @@ fn read_held(
     slot: Slot,
 )
     requires clean { IsHeld field.now }
-    requires held { (t : Reading) × (fault.old ≡ None → Holds fields.old buf.old t × CanTake slot t) }
-    ensures read { (t : Reading) → (fault.old ≡ None → Holds fields.old buf.old t) → (u : Reading) × (fault.new ≡ None → Holds fields.new buf.new u)
+    requires held { (t : FieldsRead) × (fault.old ≡ None → HasRead fields.old buf.old t × CanTake slot t) }
+    ensures read { (t : FieldsRead) → (fault.old ≡ None → HasRead fields.old buf.old t) → (u : FieldsRead) × (fault.new ≡ None → HasRead fields.new buf.new u)
         × (result_or u fault.new ≡ and_then (result_or t fault.old) (λ r. take_field fields.old.domain r slot (held_text field.now))) }
     ensures domain { fields.new.domain ≡ fields.old.domain }
 {
@@ -511,8 +512,8 @@ fn take_held(
     field: &FieldText,
 ) -> Result<(), SddlFault>
     requires clean { IsHeld field.now }
-    requires held { (t : Reading) × Holds fields.old buf.old t × CanTake slot t }
-    ensures read { (t : Reading) → Holds fields.old buf.old t → Takes (take_field fields.old.domain t slot (held_text field.now)) result fields.new buf.new }
+    requires held { (t : FieldsRead) × HasRead fields.old buf.old t × CanTake slot t }
+    ensures read { (t : FieldsRead) → HasRead fields.old buf.old t → Takes (take_field fields.old.domain t slot (held_text field.now)) result fields.new buf.new }
     ensures domain { fields.new.domain ≡ fields.old.domain }
 {
     if field.is_broken() {
@@ -531,8 +532,8 @@ fn read_text(
     text: &[u8],
 )
     requires clean { is_unreadable text.now ≡ false }
-    requires held { (t : Reading) × (fault.old ≡ None → Holds fields.old buf.old t × CanTake slot t) }
-    ensures read { (t : Reading) → (fault.old ≡ None → Holds fields.old buf.old t) → (u : Reading) × (fault.new ≡ None → Holds fields.new buf.new u)
+    requires held { (t : FieldsRead) × (fault.old ≡ None → HasRead fields.old buf.old t × CanTake slot t) }
+    ensures read { (t : FieldsRead) → (fault.old ≡ None → HasRead fields.old buf.old t) → (u : FieldsRead) × (fault.new ≡ None → HasRead fields.new buf.new u)
         × (result_or u fault.new ≡ and_then (result_or t fault.old) (λ r. take_field fields.old.domain r slot text.now)) }
     ensures domain { fields.new.domain ≡ fields.old.domain }
 {

@@ -1,8 +1,9 @@
-// The fields of a line, read one after the other.
+//! The fields of a line, read one after the other.
+
 ghost use Rattle.std.specs.Prelude.{◌≡◌, Option, false};
 ghost use Rattle.sd_core.specs.Sid.{SecurityId};
 ghost use Rattle.sd_core.specs.SidText.{sid_reads};
-ghost use Rattle.sd_reader.specs.Inner.FoldedReading.{Reading, ace_fault_of, fault_of, no_fields, take_ace_field, take_field, take_front, with_sid, with_trustee};
+ghost use Rattle.sd_reader.specs.Inner.FoldedReading.{FieldsRead, ace_fault_of, fault_of, no_fields, take_ace_field, take_field, take_front, with_sid, with_trustee};
 ghost use Rattle.sd_reader.specs.Meaning.{control_flags, is_unreadable};
 ghost use Rattle.sd_reader.specs.FieldTexts.{front_reads};
 
@@ -48,12 +49,12 @@ impl FieldReader {
     ghost use Rattle.sd_rights.specs.Kinds.{is_object};
     ghost use Rattle.sd_binary.specs.Draft.{IsOpen, closed};
     ghost use Rattle.sd_reader.specs.declared.line.Head.TheVariants as head;
-    ghost use Rattle.sd_reader.specs.Inner.FoldedReading.{Reading, begun_or_null, finished, nothing_read, with_flags, with_owner_or_group};
-    ghost use Rattle.sd_reader.specs.Inner.Reads.{CanTake, Ends, Holds, Lacks, Takes};
+    ghost use Rattle.sd_reader.specs.Inner.FoldedReading.{FieldsRead, begun_or_null, finished, nothing_read, with_flags, with_owner_or_group};
+    ghost use Rattle.sd_reader.specs.Inner.Reads.{CanTake, Ends, HasRead, Lacks, Takes};
 
     /// A reader that has read nothing.
     pub fn new(domain: Option<Sid>, buf: &mut SdBuf) -> FieldReader
-        ensures held { Holds result buf.new nothing_read }
+        ensures held { HasRead result buf.new nothing_read }
         ensures domain { result.domain ≡ domain }
     {
         FieldReader {
@@ -77,8 +78,8 @@ impl FieldReader {
         text: &[u8],
     ) -> Result<(), SddlFault>
         requires clean { is_unreadable text.now ≡ false }
-        requires held { (t : Reading) × Holds self.old buf.old t × CanTake slot t }
-        ensures read { (t : Reading) → Holds self.old buf.old t → Takes (take_field self.old.domain t slot text.now) result self.new buf.new }
+        requires held { (t : FieldsRead) × HasRead self.old buf.old t × CanTake slot t }
+        ensures read { (t : FieldsRead) → HasRead self.old buf.old t → Takes (take_field self.old.domain t slot text.now) result self.new buf.new }
         ensures domain { self.new.domain ≡ self.old.domain }
     {
         match slot {
@@ -90,8 +91,8 @@ impl FieldReader {
 
     // An owner or a group.
     fn take_sid(&mut self, buf: &mut SdBuf, part: SidPart, text: &[u8]) -> Result<(), SddlFault>
-        requires { (t : Reading) × Holds self.old buf.old t × Lacks (head.Sid part) t }
-        ensures read { (t : Reading) → Holds self.old buf.old t → Takes (with_sid (with_owner_or_group part t) (sid_reads text.now self.old.domain)) result self.new buf.new }
+        requires { (t : FieldsRead) × HasRead self.old buf.old t × Lacks (head.Sid part) t }
+        ensures read { (t : FieldsRead) → HasRead self.old buf.old t → Takes (with_sid (with_owner_or_group part t) (sid_reads text.now self.old.domain)) result self.new buf.new }
         ensures domain { self.new.domain ≡ self.old.domain }
     {
         match Sid::from_text(text, self.domain.as_ref()) {
@@ -104,8 +105,8 @@ impl FieldReader {
     }
 
     fn put_sid(&mut self, buf: &mut SdBuf, part: SidPart, sid: &Sid)
-        requires { (t : Reading) × Holds self.old buf.old t × Lacks (head.Sid part) t }
-        ensures held { (t : Reading) → Holds self.old buf.old t → Holds self.new buf.new (with_owner_or_group part t sid.now) }
+        requires { (t : FieldsRead) × HasRead self.old buf.old t × Lacks (head.Sid part) t }
+        ensures held { (t : FieldsRead) → HasRead self.old buf.old t → HasRead self.new buf.new (with_owner_or_group part t sid.now) }
         ensures domain { self.new.domain ≡ self.old.domain }
     {
         self.close_acl(buf);
@@ -119,8 +120,8 @@ impl FieldReader {
 
     // Ends the ACL at hand, where one is open.
     fn close_acl(&mut self, buf: &mut SdBuf)
-        requires { (t : Reading) × Holds self.old buf.old t }
-        ensures held { (t : Reading) → Holds self.old buf.old t → Holds self.new buf.new (record t { parts = closed t.parts }) }
+        requires { (t : FieldsRead) × HasRead self.old buf.old t }
+        ensures held { (t : FieldsRead) → HasRead self.old buf.old t → HasRead self.new buf.new (record t { parts = closed t.parts }) }
         ensures same { self.new ≡ record self.old { builder = self.new.builder; open_acl = self.new.open_acl } }
     {
         if self.large.is_none() && self.open_acl.is_some() {
@@ -138,8 +139,8 @@ impl FieldReader {
         has_aces: bool,
         text: &[u8],
     ) -> Result<(), SddlFault>
-        requires { (t : Reading) × Holds self.old buf.old t × Lacks (head.Acl which) t }
-        ensures read { (t : Reading) → Holds self.old buf.old t → Takes (take_front which has_aces t (front_reads text.now)) result self.new buf.new }
+        requires { (t : FieldsRead) × HasRead self.old buf.old t × Lacks (head.Acl which) t }
+        ensures read { (t : FieldsRead) → HasRead self.old buf.old t → Takes (take_front which has_aces t (front_reads text.now)) result self.new buf.new }
         ensures domain { self.new.domain ≡ self.old.domain }
     {
         let Some(front) = front_from_text(text) else {
@@ -157,8 +158,8 @@ impl FieldReader {
     }
 
     fn begin_acl(&mut self, buf: &mut SdBuf, which: Which, null: bool)
-        requires { (t : Reading) × Holds self.old buf.old t × Lacks (head.Acl which) t }
-        ensures held { (t : Reading) → Holds self.old buf.old t → Holds self.new buf.new (record t { parts = begun_or_null which null (closed t.parts) }) }
+        requires { (t : FieldsRead) × HasRead self.old buf.old t × Lacks (head.Acl which) t }
+        ensures held { (t : FieldsRead) → HasRead self.old buf.old t → HasRead self.new buf.new (record t { parts = begun_or_null which null (closed t.parts) }) }
         ensures domain { self.new.domain ≡ self.old.domain }
     {
         self.close_acl(buf);
@@ -181,8 +182,8 @@ impl FieldReader {
         field: AceField,
         text: &[u8],
     ) -> Result<(), SddlFault>
-        requires { (t : Reading) × Holds self.old buf.old t × IsOpen t.parts }
-        ensures read { (t : Reading) → Holds self.old buf.old t → Takes (take_ace_field self.old.domain t field text.now) result self.new buf.new }
+        requires { (t : FieldsRead) × HasRead self.old buf.old t × IsOpen t.parts }
+        ensures read { (t : FieldsRead) → HasRead self.old buf.old t → Takes (take_ace_field self.old.domain t field text.now) result self.new buf.new }
         ensures domain { self.new.domain ≡ self.old.domain }
     {
         match field {
@@ -223,8 +224,8 @@ impl FieldReader {
 
     // The SID of the ACE at hand, which ends it.
     fn take_trustee(&mut self, buf: &mut SdBuf, text: &[u8]) -> Result<(), SddlFault>
-        requires { (t : Reading) × Holds self.old buf.old t × IsOpen t.parts }
-        ensures read { (t : Reading) → Holds self.old buf.old t → Takes (with_sid (with_trustee t) (sid_reads text.now self.old.domain)) result self.new buf.new }
+        requires { (t : FieldsRead) × HasRead self.old buf.old t × IsOpen t.parts }
+        ensures read { (t : FieldsRead) → HasRead self.old buf.old t → Takes (with_sid (with_trustee t) (sid_reads text.now self.old.domain)) result self.new buf.new }
         ensures domain { self.new.domain ≡ self.old.domain }
     {
         match Sid::from_text(text, self.domain.as_ref()) {
@@ -238,8 +239,8 @@ impl FieldReader {
 
     // Appends the ACE at hand, unless an ACL is too large already.
     fn put_ace(&mut self, buf: &mut SdBuf, sid: Sid)
-        requires { (t : Reading) × Holds self.old buf.old t × IsOpen t.parts }
-        ensures held { (t : Reading) → Holds self.old buf.old t → Holds self.new buf.new (with_trustee t sid) }
+        requires { (t : FieldsRead) × HasRead self.old buf.old t × IsOpen t.parts }
+        ensures held { (t : FieldsRead) → HasRead self.old buf.old t → HasRead self.new buf.new (with_trustee t sid) }
         ensures domain { self.new.domain ≡ self.old.domain }
     {
         let AceFields {
@@ -263,8 +264,8 @@ impl FieldReader {
     /// Ends the descriptor.
     #[tactic(auto, unfolding(crate::specs::Inner::FoldedReading::finished))]
     pub fn finish(mut self, buf: &mut SdBuf) -> Result<(), SddlFault>
-        requires { (t : Reading) × Holds self buf.old t }
-        ensures { (t : Reading) → Holds self buf.old t → Ends (finished (Ok t)) result buf.new }
+        requires { (t : FieldsRead) × HasRead self buf.old t }
+        ensures { (t : FieldsRead) → HasRead self buf.old t → Ends (finished (Ok t)) result buf.new }
     {
         if let Some(which) = self.large {
             return Err(SddlFault::AclTooLarge(which));
@@ -302,7 +303,7 @@ fn control_flags(sacl: AclFlags, dacl: AclFlags) -> u16
     sacl.bits(Which::Sacl) + dacl.bits(Which::Dacl)
 }
 
-// What a field that does not read is called.
+/// The fault of a field that does not read.
 pub fn fault_of(slot: Slot) -> SddlFault
     ensures { result ≡ fault_of slot }
 {

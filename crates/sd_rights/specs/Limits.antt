@@ -1,7 +1,8 @@
 -- The limits that definitions and clauses cite, each by its name; the code has those that it looks at in limits.rt.
 use Rattle.std.specs.Prelude.{ℕ}
 
--- the bytes of a field of SDDL, and of the longest text of a SID: S-1-, an authority in hex, and 15 times a dash and ten digits
+-- the bytes of a field of SDDL, and of the longest text of a SID: S-1-, an authority in hex, and 15 times a dash and
+-- ten digits
 abbrev pub most_field : ℕ
 most_field = 183
 

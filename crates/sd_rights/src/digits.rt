@@ -1,4 +1,5 @@
-// Numbers in digits.
+//! Numbers in digits.
+
 ghost use Rattle.std.specs.Prelude.{◌≡◌, false, ◌+◌, ◌<◌, ◌≤◌, ◌∷◌, ◌++◌, length, take, drop};
 ghost use Rattle.std.specs.Fmt.{decimal, digit_glyph};
 ghost use Rattle.sd_sink.specs.Print.{Prints};

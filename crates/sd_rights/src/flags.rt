@@ -1,3 +1,5 @@
+//! The flags of an ACE (MS-DTYP 2.4.4.1), and their names.
+
 ghost use Rattle.std.specs.Prelude.{◌≡◌, ◌≤◌, ◌/◌, ◌%◌, length, IfSome, Some};
 ghost use Rattle.sd_rights.specs.Flags.{flags_reads, flags_text};
 ghost use Rattle.sd_sink.specs.Print.{Prints};

@@ -1,4 +1,4 @@
-// The limits that the code looks at; the definitions cite them from specs/Limits.antt.
+//! The limits that the code looks at; the definitions cite them from specs/Limits.antt.
 
 /// The bytes that a field of SDDL has at most, and the longest text of a SID: `S-1-`, an authority in hex, and 15 numbers
 /// of ten digits with a dash.

@@ -1,3 +1,5 @@
+//! Printing access rights (MS-DTYP 2.5.1.1).
+
 ghost use Rattle.std.specs.Prelude.{◌≡◌, ◌≤◌, ◌<◌, ◌==◌, drop, false, length, Some};
 ghost use Rattle.std.specs.Fmt.{digits};
 ghost use Rattle.std.specs.List.{find};

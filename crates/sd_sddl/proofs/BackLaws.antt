@@ -18,7 +18,7 @@ use Rattle.sd_view.specs.declared.control.Which.{Which}
 use Rattle.sd_view.specs.declared.control.Which.TheVariants as which
 use Rattle.sd_view.specs.Control.{acl_flags, bit_if, flag_bits, no_flags, control_of}
 use Rattle.sd_binary.specs.Draft.{is_present, no_parts}
-use Rattle.sd_reader.specs.Inner.FoldedReading.{Field, Reading, described, fields_of, finished, folded, nothing_read, read_fields, reads_as, verdict}
+use Rattle.sd_reader.specs.Inner.FoldedReading.{Field, FieldsRead, described, fields_of, finished, folded, nothing_read, read_fields, reads_as, verdict}
 use Rattle.sd_reader.specs.Line.{Sections, has_twice, is_shaped, parts_of}
 use Rattle.sd_reader.specs.Meaning.{control_flags}
 use Rattle.sd_sddl.specs.Printed.{ace_text, acl_text, dacl_text, group_text, kept_bits, owner_text, plain, sacl_text, sddl, sid_text_of, trustee_text}
@@ -107,7 +107,7 @@ sddl-printed naming d =
 
 -- 2. What is read of them.
 
-two-back : (domain : Option SecurityId) (ps qs : List Part) (r r1 r2 : Reading)
+two-back : (domain : Option SecurityId) (ps qs : List Part) (r r1 r2 : FieldsRead)
     → read_fields domain (flat_map part_fields ps) r ≡ Ok r1 → read_fields domain (flat_map part_fields qs) r1 ≡ Ok r2
     → read_fields domain (flat_map part_fields (ps ++ qs)) r ≡ Ok r2
 two-back domain ps qs r r1 r2 h k =
@@ -115,7 +115,7 @@ two-back domain ps qs r r1 r2 h k =
     ∙ read-on domain (flat_map part_fields ps) (flat_map part_fields qs) r r1 h ∙ k
 
 -- owner and group; then the ACLs
-abbrev with_sids : Option SecurityId → Option SecurityId → Reading
+abbrev with_sids : Option SecurityId → Option SecurityId → FieldsRead
 with_sids owner group = record nothing_read { parts = record no_parts { owner = owner; group = group } }
 
 sids-read : (o g : Option SecurityId) → with_sid_part sid_part.Group g (with_sid_part sid_part.Owner o nothing_read) ≡ with_sids o g
@@ -124,10 +124,10 @@ sids-read None (Some g) = refl
 sids-read (Some o) None = refl
 sids-read (Some o) (Some g) = refl
 
-abbrev whole : Option SecurityId → Option SecurityId → AclFlags → AclPart → AclFlags → AclPart → Reading
+abbrev whole : Option SecurityId → Option SecurityId → AclFlags → AclPart → AclFlags → AclPart → FieldsRead
 whole o g df dacl sf sacl = with_acl_part which.Sacl sf sacl (with_acl_part which.Dacl df dacl (with_sids o g))
 
-abbrev whole_of : Descriptor → Reading
+abbrev whole_of : Descriptor → FieldsRead
 whole_of d = whole d.owner d.group (dacl_of d.control) d.dacl (sacl_of d.control) d.sacl
 
 sids-back : (naming : Naming) (d : Descriptor) → IsDescriptor d
@@ -135,7 +135,7 @@ sids-back : (naming : Naming) (d : Descriptor) → IsDescriptor d
 sids-back naming d h =
     let with_owner = with_sid_part sid_part.Owner d.owner nothing_read in
     let owner = sid-back naming sid_part.Owner d.owner nothing_read h.owner in
-    let group = sid-back naming sid_part.Group d.group with_owner h.group ∙ ap (λ (x : Reading). Ok x) (sids-read d.owner d.group) in
+    let group = sid-back naming sid_part.Group d.group with_owner h.group ∙ ap (λ (x : FieldsRead). Ok x) (sids-read d.owner d.group) in
     two-back naming.domain (owner_part naming d) (group_part naming d) nothing_read with_owner (with_sids d.owner d.group) owner group
 
 acls-back : (naming : Naming) (d : Descriptor) → IsDescriptor d
@@ -155,7 +155,7 @@ printed-back naming d h =
     let acls = dacl_part naming d ++ sacl_part naming d in
     two-back naming.domain sids acls nothing_read (with_sids d.owner d.group) (whole_of d) (sids-back naming d h) (acls-back naming d h)
 
-same-large : (w : Which) (f : AclFlags) (part : AclPart) (r : Reading) → (with_acl_part w f part r).large ≡ r.large
+same-large : (w : Which) (f : AclFlags) (part : AclPart) (r : FieldsRead) → (with_acl_part w f part r).large ≡ r.large
 same-large w f acl.Absent r = refl
 same-large which.Sacl f acl.Null r = refl
 same-large which.Dacl f acl.Null r = refl
@@ -231,12 +231,12 @@ whole-plain d =
 
 -- 4. The whole line.
 
-judged : (shaped twice : Bool) (read : Result Reading SddlFault) (r : Reading) → shaped ≡ true → twice ≡ false → read ≡ Ok r → r.large ≡ None
+judged : (shaped twice : Bool) (read : Result FieldsRead SddlFault) (r : FieldsRead) → shaped ≡ true → twice ≡ false → read ≡ Ok r → r.large ≡ None
     → finished (verdict shaped twice read) ≡ Ok (described r)
 unfolding finished verdict
 judged shaped twice read r s t e l = rw (s, t, e, l) refl
 
-line-means : (domain : Option SecurityId) (text : List ℕ) (r : Reading) → is_shaped text ≡ true → has_twice (parts_of text).parts ≡ false
+line-means : (domain : Option SecurityId) (text : List ℕ) (r : FieldsRead) → is_shaped text ≡ true → has_twice (parts_of text).parts ≡ false
     → read_fields domain (fields_of (parts_of text).parts) nothing_read ≡ Ok r → r.large ≡ None → folded text domain ≡ Ok (described r)
 unfolding folded reads_as
 line-means domain text r s t e l = judged (is_shaped text) (has_twice (parts_of text).parts) _ r s t e l

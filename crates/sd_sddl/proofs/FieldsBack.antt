@@ -23,14 +23,14 @@ use Rattle.sd_reader.specs.declared.line.Slot.{Slot}
 use Rattle.sd_reader.specs.declared.line.Slot.TheVariants as slot
 use Rattle.sd_view.specs.declared.control.AclFlags.{AclFlags}
 use Rattle.sd_view.specs.declared.control.Which.{Which}
-use Rattle.sd_reader.specs.Inner.FoldedReading.{Reading, begun_or_null, no_fields, take_ace_field, take_field, take_front, take_readable, with_flags, with_owner_or_group, with_sid, with_trustee, with_value}
+use Rattle.sd_reader.specs.Inner.FoldedReading.{FieldsRead, begun_or_null, no_fields, take_ace_field, take_field, take_front, take_readable, with_flags, with_owner_or_group, with_sid, with_trustee, with_value}
 use Rattle.sd_reader.specs.FieldTexts.{front_reads, kind_reads, object_reads}
 use Rattle.sd_binary.specs.Draft.{closed}
 use Rattle.sd_sddl.specs.Printed.{acl_flags_text, kind_text, name_or, object_text, trustee_text}
 use Rattle.sd_sddl.proofs.PlainTexts.{IsPlain, acl_flags_text-plain, flags-plain, kind-plain, object-plain, plain-append, plain-readable, rights-plain, trustee-plain}
 use Rattle.sd_sddl.proofs.SizeLaws.{flags-length, kind-length, trustee-length}
 
-readable : (domain : Option SecurityId) (r : Reading) (s : Slot) (text : List ℕ) → IsPlain text → length text ≤ 183
+readable : (domain : Option SecurityId) (r : FieldsRead) (s : Slot) (text : List ℕ) → IsPlain text → length text ≤ 183
     → take_field domain r s text ≡ take_readable domain r s text
 unfolding take_field
 readable domain r s text h short = rw (plain-readable text h short) refl
@@ -41,21 +41,21 @@ kind_back : (kind : AceKind) → kind_reads (kind_text kind) ≡ Some kind
 unfolding kind_reads
 kind_back kind = kind_named-letters kind
 
-pub take-kind : (domain : Option SecurityId) (r : Reading) (kind : AceKind)
+pub take-kind : (domain : Option SecurityId) (r : FieldsRead) (kind : AceKind)
     → take_field domain r (slot.Ace field.Kind) (kind_text kind) ≡ Ok (record r { ace = record no_fields { kind = kind } })
 unfolding take_ace_field
 take-kind domain r kind =
     readable domain r (slot.Ace field.Kind) (kind_text kind) (kind-plain kind) (omega (arith, kind-length kind))
     ∙ ap (with_value fault.Kind (λ (k : AceKind). record r { ace = record no_fields { kind = k } })) (kind_back kind)
 
-pub take-flags : (domain : Option SecurityId) (r : Reading) (f : ℕ) → f < 256 → f / 0x20 % 2 ≡ 0
+pub take-flags : (domain : Option SecurityId) (r : FieldsRead) (f : ℕ) → f < 256 → f / 0x20 % 2 ≡ 0
     → take_field domain r (slot.Ace field.Flags) (flags_text f) ≡ Ok (record r { ace = record r.ace { flags = f } })
 unfolding take_ace_field
 take-flags domain r f small clear =
     readable domain r (slot.Ace field.Flags) (flags_text f) (flags-plain f) (omega (arith, flags_text-length f))
     ∙ ap (with_value fault.Flags (λ (n : ℕ). record r { ace = record r.ace { flags = n } })) (flags_read_back f small clear)
 
-pub take-rights : (domain : Option SecurityId) (r : Reading) (kind : AceKind) (mask : ℕ) → mask < 2 ^ 32
+pub take-rights : (domain : Option SecurityId) (r : FieldsRead) (kind : AceKind) (mask : ℕ) → mask < 2 ^ 32
     → take_field domain r (slot.Ace field.Rights) (rights_text kind mask) ≡ Ok (record r { ace = record r.ace { mask = mask } })
 unfolding take_ace_field
 take-rights domain r kind mask small =
@@ -84,14 +84,14 @@ object-length : (o : Option (List ℕ)) → length (object_text o) ≤ 183
 object-length None = omega arith
 object-length (Some g) = omega (arith, guid_text-length g)
 
-pub take-object : (domain : Option SecurityId) (r : Reading) (o : Option (List ℕ)) → FitsIn r.ace.kind o
+pub take-object : (domain : Option SecurityId) (r : FieldsRead) (o : Option (List ℕ)) → FitsIn r.ace.kind o
     → take_field domain r (slot.Ace field.Object) (object_text o) ≡ Ok (record r { ace = record r.ace { object = o } })
 unfolding take_ace_field
 take-object domain r o h =
     readable domain r (slot.Ace field.Object) (object_text o) (object-plain o) (object-length o)
     ∙ ap (with_value fault.Guid (λ (g : Option (List ℕ)). record r { ace = record r.ace { object = g } })) (object_back r.ace.kind o h)
 
-pub take-inherited : (domain : Option SecurityId) (r : Reading) (o : Option (List ℕ)) → FitsIn r.ace.kind o
+pub take-inherited : (domain : Option SecurityId) (r : FieldsRead) (o : Option (List ℕ)) → FitsIn r.ace.kind o
     → take_field domain r (slot.Ace field.Inherited) (object_text o) ≡ Ok (record r { ace = record r.ace { inherited = o } })
 unfolding take_ace_field
 take-inherited domain r o h =
@@ -116,14 +116,14 @@ sid_back naming s i = by_naming naming.numeric
 trustee-short : (naming : Naming) (s : SecurityId) → IsSid s → length (trustee_text naming s) ≤ 183
 trustee-short naming s i = let count = i.count in omega (arith, count, trustee-length naming s i)
 
-pub take-trustee : (naming : Naming) (r : Reading) (s : SecurityId) → IsSid s
+pub take-trustee : (naming : Naming) (r : FieldsRead) (s : SecurityId) → IsSid s
     → take_field naming.domain r (slot.Ace field.Sid) (trustee_text naming s) ≡ Ok (with_trustee r s)
 unfolding take_ace_field
 take-trustee naming r s i =
     readable naming.domain r (slot.Ace field.Sid) (trustee_text naming s) (trustee-plain naming s i) (trustee-short naming s i)
     ∙ ap (with_sid (with_trustee r)) (sid_back naming s i)
 
-pub take-sid : (naming : Naming) (r : Reading) (p : SidPart) (s : SecurityId) → IsSid s
+pub take-sid : (naming : Naming) (r : FieldsRead) (p : SidPart) (s : SecurityId) → IsSid s
     → take_field naming.domain r (slot.Sid p) (trustee_text naming s) ≡ Ok (with_owner_or_group p r s)
 take-sid naming r p s i =
     readable naming.domain r (slot.Sid p) (trustee_text naming s) (trustee-plain naming s i) (trustee-short naming s i)
@@ -177,7 +177,7 @@ null_front_back f = by_flags f.protected f.auto_inherit_required f.auto_inherite
     by_flags false false true = refl
     by_flags false false false = refl
 
-pub take-list : (domain : Option SecurityId) (r : Reading) (w : Which) (has_aces : Bool) (f : AclFlags)
+pub take-list : (domain : Option SecurityId) (r : FieldsRead) (w : Which) (has_aces : Bool) (f : AclFlags)
     → take_field domain r (slot.AclFlags w has_aces) (front_text f) ≡ Ok (with_flags w f (record r { parts = begun_or_null w false (closed r.parts) }))
 unfolding take_front
 take-list domain r w has_aces f =
@@ -185,7 +185,7 @@ take-list domain r w has_aces f =
     readable domain r (slot.AclFlags w has_aces) (front_text f) (front_text-plain f) (omega (arith, short))
     ∙ ap (take_front w has_aces r) (front_back f)
 
-pub take-null : (domain : Option SecurityId) (r : Reading) (w : Which) (has_aces : Bool) (f : AclFlags) → has_aces ≡ false
+pub take-null : (domain : Option SecurityId) (r : FieldsRead) (w : Which) (has_aces : Bool) (f : AclFlags) → has_aces ≡ false
     → take_field domain r (slot.AclFlags w has_aces) (null_front_text f) ≡ Ok (with_flags w f (record r { parts = begun_or_null w true (closed r.parts) }))
 unfolding take_front
 take-null domain r w has_aces f none =

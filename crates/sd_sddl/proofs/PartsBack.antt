@@ -21,7 +21,7 @@ use Rattle.sd_reader.specs.declared.reading.AceFields.{AceFields}
 use Rattle.sd_view.specs.declared.control.Which.{Which}
 use Rattle.sd_view.specs.declared.control.Which.TheVariants as which
 use Rattle.sd_binary.specs.Draft.{Draft, begun, closed, with_ace, with_acl}
-use Rattle.sd_reader.specs.Inner.FoldedReading.{Field, Reading, ace_fields, grown, large_in, no_fields, read_fields, take_field, with_flags, with_owner_or_group, with_trustee}
+use Rattle.sd_reader.specs.Inner.FoldedReading.{Field, FieldsRead, ace_fields, grown, large_in, no_fields, read_fields, take_field, with_flags, with_owner_or_group, with_trustee}
 use Rattle.sd_reader.specs.Line.{ace, byte, has_aces}
 use Rattle.sd_reader.specs.Meaning.{and_then}
 use Rattle.std.specs.Option.{option_or}
@@ -36,18 +36,18 @@ use Rattle.sd_sddl.proofs.PlainTexts.{trustee-plain}
 -- 1. Fields one after the other.
 
 -- fields that are read, before others
-pub read-on : (domain : Option SecurityId) (fs gs : List Field) (r after : Reading) → read_fields domain fs r ≡ Ok after
+pub read-on : (domain : Option SecurityId) (fs gs : List Field) (r after : FieldsRead) → read_fields domain fs r ≡ Ok after
     → read_fields domain (fs ++ gs) r ≡ read_fields domain gs after
-read-on domain fs gs r after e = read-append domain fs gs r ∙ ap (λ (t : Result Reading SddlFault). and_then t (read_fields domain gs)) e
+read-on domain fs gs r after e = read-append domain fs gs r ∙ ap (λ (t : Result FieldsRead SddlFault). and_then t (read_fields domain gs)) e
 
-Takes : Option SecurityId → Field → Reading → Reading → Type 0
+Takes : Option SecurityId → Field → FieldsRead → FieldsRead → Type 0
 Takes domain f r after = take_field domain r f.slot f.text ≡ Ok after
 
-read-one : (domain : Option SecurityId) (f : Field) (r after : Reading) → Takes domain f r after → read_fields domain (f ∷ []) r ≡ Ok after
+read-one : (domain : Option SecurityId) (f : Field) (r after : FieldsRead) → Takes domain f r after → read_fields domain (f ∷ []) r ≡ Ok after
 unfolding Takes
-read-one domain f r after e = ap (λ (t : Result Reading SddlFault). and_then t (read_fields domain [])) e
+read-one domain f r after e = ap (λ (t : Result FieldsRead SddlFault). and_then t (read_fields domain [])) e
 
-read-six : (domain : Option SecurityId) (k f m o i s : Field) (r0 r1 r2 r3 r4 r5 r6 : Reading)
+read-six : (domain : Option SecurityId) (k f m o i s : Field) (r0 r1 r2 r3 r4 r5 r6 : FieldsRead)
     → Takes domain k r0 r1 → Takes domain f r1 r2 → Takes domain m r2 r3 → Takes domain o r3 r4 → Takes domain i r4 r5 → Takes domain s r5 r6
     → read_fields domain (k ∷ f ∷ m ∷ o ∷ i ∷ s ∷ []) r0 ≡ Ok r6
 unfolding Takes
@@ -69,11 +69,11 @@ inherited-fits false (Some o) (Some g) h k = absurd h
 abbrev fields_of_ace : AccessControlEntry → AceFields
 fields_of_ace a = record { kind = a.kind; flags = a.flags; mask = a.mask; object = a.object; inherited = a.inherited }
 
-abbrev with_fields : AceFields → Reading → Reading
+abbrev with_fields : AceFields → FieldsRead → FieldsRead
 with_fields f r = record r { ace = f }
 
 -- an ACL that is open, with its ACEs so far
-abbrev opened : Which → List AccessControlEntry → Reading → Reading
+abbrev opened : Which → List AccessControlEntry → FieldsRead → FieldsRead
 opened w done r = record r { parts = record r.parts { «open» = Some (w, done) } }
 
 nothing-else : {A : Type 0} (o : Option A) → option_or o None ≡ o
@@ -83,13 +83,13 @@ nothing-else (Some x) = refl
 not-large : (w : Which) (aces : List AccessControlEntry) → acl_size aces < 2 ^ 16 → large_in (Some (w, aces)) ≡ None
 not-large w aces small = let no : nat_lt 65535 (acl_size aces) ≡ false = grind (arith, nat_tests) in rw no refl
 
-grown-open : (w : Which) (done : List AccessControlEntry) (a : AccessControlEntry) (r : Reading) → acl_size (done ++ a ∷ []) < 2 ^ 16
+grown-open : (w : Which) (done : List AccessControlEntry) (a : AccessControlEntry) (r : FieldsRead) → acl_size (done ++ a ∷ []) < 2 ^ 16
     → grown (opened w done r) (with_ace a (opened w done r).parts) ≡ opened w (done ++ a ∷ []) r
 grown-open w done a r small =
     ap (λ (l : Option Which). record (opened w (done ++ a ∷ []) r) { large = l })
     (ap (option_or r.large) (not-large w (done ++ a ∷ []) small) ∙ nothing-else r.large)
 
-ace-back : (naming : Naming) (w : Which) (done : List AccessControlEntry) (a : AccessControlEntry) (r : Reading) → IsAce a → acl_size (done ++ a ∷ []) < 2 ^ 16
+ace-back : (naming : Naming) (w : Which) (done : List AccessControlEntry) (a : AccessControlEntry) (r : FieldsRead) → IsAce a → acl_size (done ++ a ∷ []) < 2 ^ 16
     → read_fields naming.domain (ace_fields (inner_text naming a)) (opened w done r) ≡ Ok (opened w (done ++ a ∷ []) (with_fields (fields_of_ace a) r))
 unfolding Takes
 ace-back naming w done a r h small =
@@ -116,7 +116,7 @@ ace-back naming w done a r h small =
     start (here kind) (here flags) (here mask) (here object) (here whole) end
     to_kind to_flags to_mask to_object to_inherited to_end in
     ap (λ (fs : List Field). read_fields domain fs start) (inner-fields naming a h) ∙ read
-    ∙ ap (λ (x : Reading). Ok x) (grown-open w done a (with_fields whole r) small)
+    ∙ ap (λ (x : FieldsRead). Ok x) (grown-open w done a (with_fields whole r) small)
 
 -- 3. The ACEs of an ACL.
 
@@ -129,7 +129,7 @@ size-append : (xs ys : List AccessControlEntry) → aces_size (xs ++ ys) ≡ ace
 size-append [] ys = omega arith
 size-append (a ∷ others) ys = omega (arith, size-append others ys)
 
-aces-back : (naming : Naming) (w : Which) (done aces : List AccessControlEntry) (r : Reading) → AllByRecursion IsAce aces → acl_size (done ++ aces) < 2 ^ 16
+aces-back : (naming : Naming) (w : Which) (done aces : List AccessControlEntry) (r : FieldsRead) → AllByRecursion IsAce aces → acl_size (done ++ aces) < 2 ^ 16
     → read_fields naming.domain (flat_map ace_fields (map (inner_text naming) aces)) (opened w done r) ≡ Ok (opened w (done ++ aces) (with_fields (last_fields r.ace aces) r))
 aces-back naming w done [] r h small = ap (λ (x : List AccessControlEntry). Ok (opened w x r)) (sym (append-nil done))
 aces-back naming w done (a ∷ others) r h small =
@@ -149,11 +149,11 @@ abbrev pub sid_body : Naming → Option SecurityId → Option Body
 sid_body naming None = None
 sid_body naming (Some s) = Some (record { text = trustee_text naming s; inners = [] })
 
-abbrev pub with_sid_part : SidPart → Option SecurityId → Reading → Reading
+abbrev pub with_sid_part : SidPart → Option SecurityId → FieldsRead → FieldsRead
 with_sid_part p None r = r
 with_sid_part p (Some s) r = with_owner_or_group p r s
 
-pub sid-back : (naming : Naming) (p : SidPart) (o : Option SecurityId) (r : Reading) → IfSome o IsSid
+pub sid-back : (naming : Naming) (p : SidPart) (o : Option SecurityId) (r : FieldsRead) → IfSome o IsSid
     → read_fields naming.domain (flat_map part_fields (listed (head.Sid p) (sid_body naming o))) r ≡ Ok (with_sid_part p o r)
 unfolding Takes
 sid-back naming p None r h = refl
@@ -172,19 +172,19 @@ acl_body naming f acl.Null = Some (record { text = null_front_text f; inners = [
 acl_body naming f (acl.List aces) = Some (record { text = front_text f; inners = map (inner_text naming) aces })
 
 -- an ACL begins, and the one before it is closed
-abbrev begun_acl : Which → AclFlags → Reading → Reading
+abbrev begun_acl : Which → AclFlags → FieldsRead → FieldsRead
 begun_acl w f r = with_flags w f (record r { parts = closed r.parts })
 
-abbrev pub with_acl_part : Which → AclFlags → AclPart → Reading → Reading
+abbrev pub with_acl_part : Which → AclFlags → AclPart → FieldsRead → FieldsRead
 with_acl_part w f acl.Absent r = r
 with_acl_part w f acl.Null r = with_flags w f (record r { parts = with_acl w acl.Null (closed r.parts) })
 with_acl_part w f (acl.List aces) r = opened w aces (with_fields (last_fields (begun_acl w f r).ace aces) (begun_acl w f r))
 
-first-opened : (w : Which) (f : AclFlags) (r : Reading) (t : Draft) → with_flags w f (record r { parts = begun w t }) ≡ opened w [] (with_flags w f (record r { parts = t }))
+first-opened : (w : Which) (f : AclFlags) (r : FieldsRead) (t : Draft) → with_flags w f (record r { parts = begun w t }) ≡ opened w [] (with_flags w f (record r { parts = t }))
 first-opened which.Sacl f r t = refl
 first-opened which.Dacl f r t = refl
 
-pub acl-back : (naming : Naming) (w : Which) (f : AclFlags) (present : Bool) (part : AclPart) (r : Reading) → IsAclPart present part
+pub acl-back : (naming : Naming) (w : Which) (f : AclFlags) (present : Bool) (part : AclPart) (r : FieldsRead) → IsAclPart present part
     → read_fields naming.domain (flat_map part_fields (listed (head.Acl w) (acl_body naming f part))) r ≡ Ok (with_acl_part w f part r)
 unfolding Takes
 acl-back naming w f present acl.Absent r h = refl
@@ -197,7 +197,7 @@ acl-back naming w f present (acl.List aces) r h =
     let has = has_aces (map byte (front_text f) ++ map ace inners) in
     let front : Field = record { slot = slot.AclFlags w has; text = front_text f } in
     let start = opened w [] (begun_acl w f r) in
-    let first = take-list naming.domain r w has f ∙ ap (λ (x : Reading). Ok x) (first-opened w f r (closed r.parts)) in
+    let first = take-list naming.domain r w has f ∙ ap (λ (x : FieldsRead). Ok x) (first-opened w f r (closed r.parts)) in
     ap (λ (fs : List Field). read_fields naming.domain (front ∷ fs) r) (append-nil (flat_map ace_fields inners))
     ∙ read-on naming.domain (front ∷ []) (flat_map ace_fields inners) r start (read-one naming.domain front r start first)
     ∙ aces-back naming w [] aces (begun_acl w f r) h.1.each h.1.fits

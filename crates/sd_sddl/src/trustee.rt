@@ -1,4 +1,5 @@
-// Trustees, owners and groups in SDDL.
+//! Trustees, owners and groups in SDDL.
+
 ghost use Rattle.sd_sink.specs.Print.{Prints};
 ghost use Rattle.sd_sddl.specs.Printed.{trustee_text};
 

@@ -1,3 +1,5 @@
+//! A printer that gathers small texts, and hands them down together.
+
 ghost use Rattle.std.specs.Prelude.{◌≡◌, ◌+◌, ◌≤◌, ◌++◌, List, ℕ, [], length, take, true, false};
 ghost use Rattle.sd_sink.specs.Print.{PrintTold, Prints, Begins};
 
@@ -14,6 +16,7 @@ pub struct Gather<'a, S: Sink> {
 }
 
 impl<'a, S: Sink> Gather<'a, S> {
+    /// Holds nothing yet.
     pub fn new(sink: &'a mut S) -> Gather<'a, S>
         ensures same_reference { result.sink.ghost_name ≡ sink.entry.ghost_name }
         ensures same_sink { result.sink.now ≡ sink.old }

@@ -1,4 +1,5 @@
-// Bytes that are held back.
+//! Bytes that are held back.
+
 ghost use Rattle.std.specs.Prelude.{◌≡◌, ◌+◌, ◌-◌, ◌≤◌, ◌++◌, [], length, take};
 
 use std::marker::Model;
@@ -27,6 +28,7 @@ impl Model for Held {
 }
 
 impl Held {
+    /// Holds nothing.
     pub fn new() -> Held
         ensures { result ≡ [] }
     {
@@ -67,12 +69,14 @@ impl Held {
         self.len += count;
     }
 
+    /// Holds nothing any more.
     pub fn clear(&mut self)
         ensures { self.new ≡ [] }
     {
         self.len = 0;
     }
 
+    /// What is held.
     pub fn as_slice(&self) -> &[u8]
         ensures { result.now ≡ self.now }
     {

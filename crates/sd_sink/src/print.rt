@@ -1,3 +1,5 @@
+//! What prints: straight code above a sink.
+
 ghost use Rattle.std.specs.Prelude.{◌≤◌, length, take};
 ghost use Rattle.sd_sink.specs.Print.{PrintTold, Prints, Finishes};
 

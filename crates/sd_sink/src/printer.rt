@@ -1,3 +1,5 @@
+//! A printer that hands each text down at once.
+
 ghost use Rattle.std.specs.Prelude.{◌≡◌, false};
 ghost use Rattle.sd_sink.specs.Print.{PrintTold, Prints, Begins};
 
@@ -12,6 +14,7 @@ pub struct Printer<'a, S: Sink> {
 }
 
 impl<'a, S: Sink> Printer<'a, S> {
+    /// Prints to a sink.
     pub fn new(sink: &'a mut S) -> Printer<'a, S>
         ensures same_reference { result.sink.ghost_name ≡ sink.entry.ghost_name }
         ensures same_sink { result.sink.now ≡ sink.old }

@@ -1,3 +1,5 @@
+//! Where printed text goes.
+
 ghost use Rattle.sd_sink.specs.Sink.{SinkTold, Puts};
 
 /// The sink did not take all of the bytes.

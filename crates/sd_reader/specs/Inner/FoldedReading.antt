@@ -61,11 +61,12 @@ ace_fields_from f text (t ∷ ts) = record { slot = slot.Ace f; text = text } �
 abbrev pub ace_fields : List ℕ → List Field
 ace_fields a = ace_fields_from field.Kind (cuts a).first (cuts a).others
 
--- the SID; or what stands before the first parenthesis, and the fields of the ACEs; blanks at the ends of both first ones do
--- not count
+-- the SID; or what stands before the first parenthesis, and the fields of the ACEs; blanks at the ends of both first
+-- ones do not count
 abbrev pub fields_in : Head → List Piece → List Field
 fields_in (head.Sid p) body = record { slot = slot.Sid p; text = trim (front body) } ∷ []
-fields_in (head.Acl w) body = record { slot = slot.AclFlags w (has_aces body); text = trim (front body) } ∷ flat_map ace_fields (aces body)
+fields_in (head.Acl w) body =
+    record { slot = slot.AclFlags w (has_aces body); text = trim (front body) } ∷ flat_map ace_fields (aces body)
 
 -- all fields, from the left
 abbrev pub fields_of : List Section → List Field
@@ -74,9 +75,10 @@ fields_of (s ∷ ss) = fields_in s.head s.body ++ fields_of ss
 
 -- 2. The fields, one after the other.
 
--- What the fields so far say. The fields are read one after the other, from the left, so that the first one that does not
--- read is the fault: an ACE's SID, its last field, puts it into the ACL at hand, and a part closes the ACL before it.
-pub record Reading : Type 0 where
+-- What the fields so far say. The fields are read one after the other, from the left, so that the first one that does
+-- not read is the fault: an ACE's SID, its last field, puts it into the ACL at hand, and a part closes the ACL before
+-- it.
+pub record FieldsRead : Type 0 where
   -- the parts, and the ACL at hand with its ACEs
   pub parts : Draft
   -- the flags of the ACLs that stand
@@ -90,24 +92,24 @@ pub record Reading : Type 0 where
 abbrev pub no_fields : AceFields
 no_fields = record { kind = kinds.Allow; flags = 0; mask = 0; object = None; inherited = None }
 
-abbrev pub nothing_read : Reading
+abbrev pub nothing_read : FieldsRead
 nothing_read = record { parts = no_parts; sacl = no_flags; dacl = no_flags; ace = no_fields; large = None }
 
 -- a reading with a value, or the fault where there is none
-abbrev pub with_value : {A : Type 0} → SddlFault → (A → Reading) → Option A → Result Reading SddlFault
+abbrev pub with_value : {A : Type 0} → SddlFault → (A → FieldsRead) → Option A → Result FieldsRead SddlFault
 with_value e with None = Err e
 with_value e with (Some x) = Ok (with x)
 
-abbrev pub with_sid : (SecurityId → Reading) → Result SecurityId SidFault → Result Reading SddlFault
+abbrev pub with_sid : (SecurityId → FieldsRead) → Result SecurityId SidFault → Result FieldsRead SddlFault
 with_sid with (Ok s) = Ok (with s)
 with_sid with (Err e) = Err (fault.Sid e)
 
 -- an owner or a group; the ACL before it is closed
-abbrev pub with_owner_or_group : SidPart → Reading → SecurityId → Reading
+abbrev pub with_owner_or_group : SidPart → FieldsRead → SecurityId → FieldsRead
 with_owner_or_group sid_part.Owner r s = record r { parts = record (closed r.parts) { owner = Some s } }
 with_owner_or_group sid_part.Group r s = record r { parts = record (closed r.parts) { group = Some s } }
 
-abbrev pub with_flags : Which → AclFlags → Reading → Reading
+abbrev pub with_flags : Which → AclFlags → FieldsRead → FieldsRead
 with_flags which.Sacl f r = record r { sacl = f }
 with_flags which.Dacl f r = record r { dacl = f }
 
@@ -116,36 +118,42 @@ begun_or_null w true t = with_acl w acl.Null t
 begun_or_null w false t = begun w t
 
 -- an ACL begins, and the one before it is closed; no ACE stands in a null ACL
-unfoldable pub take_front : Which → Bool → Reading → Option AclFront → Result Reading SddlFault
+unfoldable pub take_front : Which → Bool → FieldsRead → Option AclFront → Result FieldsRead SddlFault
 take_front w has_aces r None = Err fault.Flags
 take_front w has_aces r (Some f) =
     if f.null && has_aces then Err fault.Flags
     else Ok (with_flags w f.flags (record r { parts = begun_or_null w f.null (closed r.parts) }))
 
 abbrev pub ace_of : AceFields → SecurityId → AccessControlEntry
-ace_of f s = record { kind = f.kind; flags = f.flags; mask = f.mask; object = f.object; inherited = f.inherited; sid = s }
+ace_of f s =
+    record { kind = f.kind; flags = f.flags; mask = f.mask; object = f.object; inherited = f.inherited; sid = s }
 
 abbrev pub large_in : Option (Which × List AccessControlEntry) → Option Which
 large_in None = None
 large_in (Some o) = if nat_lt most_acl (acl_size o.1) then Some o.0 else None
 
-abbrev pub grown : Reading → Draft → Reading
+abbrev pub grown : FieldsRead → Draft → FieldsRead
 grown r parts = record r { parts = parts; large = option_or r.large (large_in parts.«open») }
 
 -- the ACE at hand ends with its SID
-abbrev pub with_trustee : Reading → SecurityId → Reading
+abbrev pub with_trustee : FieldsRead → SecurityId → FieldsRead
 with_trustee r s = grown r (with_ace (ace_of r.ace s) r.parts)
 
 -- a field of the ACE at hand
-unfoldable pub take_ace_field : Option SecurityId → Reading → AceField → List ℕ → Result Reading SddlFault
-take_ace_field domain r field.Kind text = with_value fault.Kind (λ kind. record r { ace = record no_fields { kind = kind } }) (kind_reads text)
-take_ace_field domain r field.Flags text = with_value fault.Flags (λ flags. record r { ace = record r.ace { flags = flags } }) (flags_reads text)
-take_ace_field domain r field.Rights text = with_value fault.Rights (λ mask. record r { ace = record r.ace { mask = mask } }) (rights_reads text)
-take_ace_field domain r field.Object text = with_value fault.Guid (λ guid. record r { ace = record r.ace { object = guid } }) (object_reads r.ace.kind text)
-take_ace_field domain r field.Inherited text = with_value fault.Guid (λ guid. record r { ace = record r.ace { inherited = guid } }) (object_reads r.ace.kind text)
+unfoldable pub take_ace_field : Option SecurityId → FieldsRead → AceField → List ℕ → Result FieldsRead SddlFault
+take_ace_field domain r field.Kind text =
+    with_value fault.Kind (λ kind. record r { ace = record no_fields { kind = kind } }) (kind_reads text)
+take_ace_field domain r field.Flags text =
+    with_value fault.Flags (λ flags. record r { ace = record r.ace { flags = flags } }) (flags_reads text)
+take_ace_field domain r field.Rights text =
+    with_value fault.Rights (λ mask. record r { ace = record r.ace { mask = mask } }) (rights_reads text)
+take_ace_field domain r field.Object text =
+    with_value fault.Guid (λ guid. record r { ace = record r.ace { object = guid } }) (object_reads r.ace.kind text)
+take_ace_field domain r field.Inherited text =
+    with_value fault.Guid (λ guid. record r { ace = record r.ace { inherited = guid } }) (object_reads r.ace.kind text)
 take_ace_field domain r field.Sid text = with_sid (with_trustee r) (sid_reads text domain)
 
-abbrev pub take_readable : Option SecurityId → Reading → Slot → List ℕ → Result Reading SddlFault
+abbrev pub take_readable : Option SecurityId → FieldsRead → Slot → List ℕ → Result FieldsRead SddlFault
 take_readable domain r (slot.Sid p) text = with_sid (with_owner_or_group p r) (sid_reads text domain)
 take_readable domain r (slot.AclFlags w has_aces) text = take_front w has_aces r (front_reads text)
 take_readable domain r (slot.Ace f) text = take_ace_field domain r f text
@@ -165,28 +173,30 @@ fault_of (slot.AclFlags w has_aces) = fault.Flags
 fault_of (slot.Ace f) = ace_fault_of f
 
 -- one field more
-unfoldable pub take_field : Option SecurityId → Reading → Slot → List ℕ → Result Reading SddlFault
+unfoldable pub take_field : Option SecurityId → FieldsRead → Slot → List ℕ → Result FieldsRead SddlFault
 take_field domain r s text = if is_unreadable text then Err (fault_of s) else take_readable domain r s text
 
 -- the first field that does not read is the fault
-abbrev pub read_fields : Option SecurityId → List Field → Reading → Result Reading SddlFault
+abbrev pub read_fields : Option SecurityId → List Field → FieldsRead → Result FieldsRead SddlFault
 read_fields domain [] r = Ok r
 read_fields domain (f ∷ fs) r = and_then (take_field domain r f.slot f.text) (read_fields domain fs)
 
 -- 3. The line.
 
 -- shape first, then a part that stands twice, then the fields
-unfoldable pub verdict : Bool → Bool → Result Reading SddlFault → Result Reading SddlFault
+unfoldable pub verdict : Bool → Bool → Result FieldsRead SddlFault → Result FieldsRead SddlFault
 verdict shaped twice read = if shaped then (if twice then Err fault.PartTwice else read) else Err fault.Shape
 
-unfoldable pub reads_as : Option SecurityId → List ℕ → Result Reading SddlFault
-reads_as domain text = verdict (is_shaped text) (has_twice (parts_of text).parts) (read_fields domain (fields_of (parts_of text).parts) nothing_read)
+unfoldable pub reads_as : Option SecurityId → List ℕ → Result FieldsRead SddlFault
+reads_as domain text =
+    verdict (is_shaped text) (has_twice (parts_of text).parts)
+    (read_fields domain (fields_of (parts_of text).parts) nothing_read)
 
-abbrev pub described : Reading → Descriptor
+abbrev pub described : FieldsRead → Descriptor
 described r = built (control_flags r.sacl r.dacl) 0 (closed r.parts)
 
 -- the last fault is an ACL that is too large
-unfoldable pub finished : Result Reading SddlFault → Result Descriptor SddlFault
+unfoldable pub finished : Result FieldsRead SddlFault → Result Descriptor SddlFault
 finished (Err e) = Err e
 finished (Ok r) = unless_large r.large (described r)
 

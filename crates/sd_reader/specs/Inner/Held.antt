@@ -20,7 +20,9 @@ broken_text = record { text = []; gap = false; broken = true }
 
 -- one byte more that is no blank
 abbrev pub held_with : Held → ℕ → Held
-held_with h b = if h.broken || (h.gap || length h.text == most_field) then broken_text else record { text = h.text ++ b ∷ []; gap = false; broken = false }
+held_with h b =
+    if h.broken || (h.gap || length h.text == most_field) then broken_text
+    else record { text = h.text ++ b ∷ []; gap = false; broken = false }
 
 -- a blank where blanks at the ends do not count
 abbrev pub held_blank : Held → Held

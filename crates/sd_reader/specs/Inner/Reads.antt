@@ -10,13 +10,13 @@ use Rattle.sd_binary.specs.Builds.{Builds}
 use Rattle.sd_binary.specs.Draft.{IsOpen, IsWritten, acl_of, closed}
 use Rattle.sd_reader.specs.Inner.Held.{IsHeld}
 use Rattle.sd_reader.specs.Line.{byte, head_at, pieces_from, same_head}
-use Rattle.sd_reader.specs.Inner.FoldedReading.{Reading, reads_as}
-use Rattle.sd_reader.specs.Inner.Progress.{answer, is_inside, is_seen, result_or}
+use Rattle.sd_reader.specs.Inner.FoldedReading.{FieldsRead, reads_as}
+use Rattle.sd_reader.specs.Inner.Progress.{rest_answer, is_inside, is_seen, result_or}
 use Rattle.sd_reader.specs.declared.fault.SddlFault.{SddlFault}
 use Rattle.sd_reader.specs.declared.line.Head.{Head}
 use Rattle.sd_reader.specs.declared.line.Head.TheVariants as head
-use Rattle.sd_reader.specs.declared.line.Place.{Place}
-use Rattle.sd_reader.specs.declared.line.Place.TheVariants as place
+use Rattle.sd_reader.specs.declared.line.State.{State}
+use Rattle.sd_reader.specs.declared.line.State.TheVariants as state
 use Rattle.sd_reader.specs.declared.line.Seen.{Seen}
 use Rattle.sd_reader.specs.declared.line.SidPart.TheVariants as sid_part
 use Rattle.sd_reader.specs.declared.line.Slot.{Slot}
@@ -28,13 +28,13 @@ use Rattle.sd_reader.specs.declared.reader.SddlReader.{SddlReader}
 -- 1. The reader of fields, and the buffer beside it.
 
 -- the part of a head is not given yet
-abbrev pub Lacks : Head → Reading → Type 0
+abbrev pub Lacks : Head → FieldsRead → Type 0
 Lacks (head.Sid sid_part.Owner) r = r.parts.owner ≡ None
 Lacks (head.Sid sid_part.Group) r = r.parts.group ≡ None
 Lacks (head.Acl w) r = acl_of w (closed r.parts) ≡ acl.Absent
 
 -- a field's part is not given yet, or its ACL is open
-abbrev pub CanTake : Slot → Reading → Type 0
+abbrev pub CanTake : Slot → FieldsRead → Type 0
 CanTake (slot.Sid p) r = Lacks (head.Sid p) r
 CanTake (slot.AclFlags w has_aces) r = Lacks (head.Acl w) r
 CanTake (slot.Ace f) r = IsOpen r.parts
@@ -45,7 +45,7 @@ pub record AreAceFields (f : AceFields) : Type 0 where
   pub fit : GuidsFit (is_object f.kind) f.object f.inherited
 
 -- The reader has read this, and as long as no ACL is too large it is in the buffer.
-pub record Holds (r : FieldReader) (buf : List ℕ) (t : Reading) : Type 0 where
+pub record HasRead (r : FieldReader) (buf : List ℕ) (t : FieldsRead) : Type 0 where
   pub sacl : r.sacl ≡ t.sacl
   pub dacl : r.dacl ≡ t.dacl
   pub ace : r.ace ≡ t.ace
@@ -55,8 +55,8 @@ pub record Holds (r : FieldReader) (buf : List ℕ) (t : Reading) : Type 0 where
   pub open_acl : t.large ≡ None → r.open_acl ≡ option_map (λ o. o.0) t.parts.«open»
 
 -- a field was read, or is the fault
-abbrev pub Takes : {X : Type 0} → Result Reading SddlFault → Result X SddlFault → FieldReader → List ℕ → Type 0
-Takes wanted (Ok x) r buf = (u : Reading) × Holds r buf u × (wanted ≡ Ok u)
+abbrev pub Takes : {X : Type 0} → Result FieldsRead SddlFault → Result X SddlFault → FieldReader → List ℕ → Type 0
+Takes wanted (Ok x) r buf = (u : FieldsRead) × HasRead r buf u × (wanted ≡ Ok u)
 Takes wanted (Err e) r buf = wanted ≡ Err e
 
 -- the buffer shows the descriptor in its written form, or is a refusal's
@@ -67,45 +67,48 @@ Ends wanted (Err e) buf = wanted ≡ Err e
 -- 2. The reader of a line.
 
 -- the answer if a text follows, whatever byte waits, where the fields so far say this
-abbrev pub answer_at : SddlReader → Reading → List ℕ → Result Reading SddlFault
-answer_at s t text = answer s.fields.domain s.sound s.twice s.seen (result_or t s.fault) s.place s.field text
+abbrev pub answer_at : SddlReader → FieldsRead → List ℕ → Result FieldsRead SddlFault
+answer_at s t text = rest_answer s.fields.domain s.sound s.twice s.seen (result_or t s.fault) s.state s.field text
 
 -- the part at hand, of which no field was read
-abbrev pub is_at_front : Place → Head → Bool
-is_at_front place.Before h = false
-is_at_front (place.Sid p) h = same_head (head.Sid p) h
-is_at_front (place.AclFlags w) h = same_head (head.Acl w) h
-is_at_front place.AfterAce h = false
-is_at_front (place.Ace f) h = false
+abbrev pub is_at_front : State → Head → Bool
+is_at_front state.Before h = false
+is_at_front (state.Sid p) h = same_head (head.Sid p) h
+is_at_front (state.AclFlags w) h = same_head (head.Acl w) h
+is_at_front state.AfterAce h = false
+is_at_front (state.Ace f) h = false
 
-abbrev pub is_in_acl : Place → Bool
-is_in_acl place.Before = false
-is_in_acl (place.Sid p) = false
-is_in_acl (place.AclFlags w) = false
-is_in_acl place.AfterAce = true
-is_in_acl (place.Ace f) = true
+abbrev pub is_in_acl : State → Bool
+is_in_acl state.Before = false
+is_in_acl (state.Sid p) = false
+is_in_acl (state.AclFlags w) = false
+is_in_acl state.AfterAce = true
+is_in_acl (state.Ace f) = true
 
--- the part at hand was seen, the parts that did not stand in the line so far are not given, and an ACL with ACEs is open
-pub record Fits (p : Place) (seen : Seen) (t : Reading) : Type 0 where
+-- the part at hand was seen, the parts that did not stand in the line so far are not given, and an ACL with ACEs is
+-- open
+pub record Fits (p : State) (seen : Seen) (t : FieldsRead) : Type 0 where
   pub here : (h : Head) → is_at_front p h ≡ true → is_seen seen h ≡ true
   pub lacks : (h : Head) → (not (is_seen seen h) || is_at_front p h) ≡ true → Lacks h t
   pub opened : is_in_acl p ≡ true → IsOpen t.parts
 
 -- as long as there is no fault, what was read is held
-pub record Keeps (s : SddlReader) (buf : List ℕ) (t : Reading) : Type 0 where
-  pub fields : s.fault ≡ None → Holds s.fields buf t
-  pub fits : s.fault ≡ None → Fits s.place s.seen t
+pub record LineHasRead (s : SddlReader) (buf : List ℕ) (t : FieldsRead) : Type 0 where
+  pub fields : s.fault ≡ None → HasRead s.fields buf t
+  pub fits : s.fault ≡ None → Fits s.state s.seen t
 
 -- a step over some bytes: whatever was read before it, something is read after it that gives the same answers
 abbrev pub Steps : SddlReader → List ℕ → List ℕ → SddlReader → List ℕ → Type 0
 Steps old before bytes new after =
-    (t : Reading) → Keeps old before t → (u : Reading) × Keeps new after u × ((rest : List ℕ) → answer_at new u rest ≡ answer_at old t (bytes ++ rest))
+    (t : FieldsRead) → LineHasRead old before t → (u : FieldsRead) × LineHasRead new after u
+    × ((rest : List ℕ) → answer_at new u rest ≡ answer_at old t (bytes ++ rest))
 
 -- the same for a byte outside parentheses that begins no head
 abbrev pub StepsText : SddlReader → List ℕ → ℕ → SddlReader → List ℕ → Type 0
 StepsText old before b new after =
-    (t : Reading) → Keeps old before t → (u : Reading) × Keeps new after u
-    × ((rest : List ℕ) → head_at (byte b) (pieces_from false rest).after ≡ None → answer_at new u rest ≡ answer_at old t (b ∷ rest))
+    (t : FieldsRead) → LineHasRead old before t → (u : FieldsRead) × LineHasRead new after u
+    × ((rest : List ℕ) → head_at (byte b) (pieces_from false rest).after ≡ None
+    → answer_at new u rest ≡ answer_at old t (b ∷ rest))
 
 -- the byte that waits for the next one
 abbrev pub waiting : Option ℕ → List ℕ
@@ -115,12 +118,13 @@ waiting (Some b) = b ∷ []
 -- the same where a byte may wait after it
 abbrev pub StepsOn : SddlReader → List ℕ → List ℕ → SddlReader → List ℕ → Type 0
 StepsOn old before bytes new after =
-    (t : Reading) → Keeps old before t → (u : Reading) × Keeps new after u × ((rest : List ℕ) → answer_at new u (waiting new.pending ++ rest) ≡ answer_at old t (bytes ++ rest))
+    (t : FieldsRead) → LineHasRead old before t → (u : FieldsRead) × LineHasRead new after u
+    × ((rest : List ℕ) → answer_at new u (waiting new.pending ++ rest) ≡ answer_at old t (bytes ++ rest))
 
 -- what is held of a field is clean, and inside parentheses no blank counts as an end
 pub record IsCalm (s : SddlReader) : Type 0 where
   pub held : IsHeld s.field
-  pub gap : is_inside s.place ≡ true → s.field.gap ≡ false
+  pub gap : is_inside s.state ≡ true → s.field.gap ≡ false
 
 -- a byte that waits is no parenthesis and no colon
 pub record IsText (b : ℕ) : Type 0 where
@@ -131,15 +135,15 @@ pub record IsText (b : ℕ) : Type 0 where
 -- what holds between two bytes
 pub record IsReader (s : SddlReader) (buf : List ℕ) : Type 0 where
   pub calm : IsCalm s
-  pub still : is_inside s.place ≡ true → s.pending ≡ None
+  pub still : is_inside s.state ≡ true → s.pending ≡ None
   pub letter : (b : ℕ) → s.pending ≡ Some b → IsText b
   -- something was read
-  pub read : Reading
-  pub held : Keeps s buf read
+  pub read : FieldsRead
+  pub held : LineHasRead s buf read
 
 -- The reader and the buffer beside it have read this text under this domain: whatever follows, the answer is that to
 -- the whole line.
 abbrev pub Reads : SddlReader → List ℕ → Option SecurityId → List ℕ → Type 0
 Reads s buf domain text =
-    (t : Reading) × Keeps s buf t
+    (t : FieldsRead) × LineHasRead s buf t
     × ((rest : List ℕ) → answer_at s t (waiting s.pending ++ rest) ≡ reads_as domain (text ++ rest))

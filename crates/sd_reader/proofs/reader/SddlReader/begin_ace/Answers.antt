@@ -36,8 +36,8 @@ returns-in_default c =
       answers = λ t k. (
         t,
         record { fields = k.fields; fits = k.fits },
-        λ rest. unsound s.fields.domain true s.twice s.seen (result_or t s.fault) s.field rest s.place
-            ∙ sym (open_nowhere s.fields.domain s.sound s.twice s.seen (result_or t s.fault) s.field rest s.place c.requires.here c.in_default.not-AclFlags c.in_default.not-AfterAce),
+        λ rest. unsound s.fields.domain true s.twice s.seen (result_or t s.fault) s.field rest s.state
+            ∙ sym (open_nowhere s.fields.domain s.sound s.twice s.seen (result_or t s.fault) s.field rest s.state c.requires.here c.in_default.not-AclFlags c.in_default.not-AfterAce),
       );
       calm = record { held = c.requires.calm.held; gap = c.requires.calm.gap };
       pending = refl;

@@ -20,13 +20,13 @@ returns-clause-answers c = λ t k.
       record {
         fields = λ none. rw (fields) (e.1 (found none).1);
         fits = λ none.
-            let before = none-ended s.fields.domain s.place s.field s.fault c.end_part.new.self.fault t e.0 e.2 (found none).1 in
+            let before = none-ended s.fields.domain s.state s.field s.fault c.end_part.new.self.fault t e.0 e.2 (found none).1 in
             let unseen : is_seen s.seen c.args.head ≡ false = ap (λ (x : Seen). is_seen x c.args.head) (sym seen) ∙ (found none).0 in
-            rw (c.note_head.ensures.place, c.note_head.ensures.seen, seen)
-            (fits-head s.place s.seen t e.0 c.args.head (lacks-ended s.fields.domain s.place s.seen s.field s.fault c.end_part.new.self.fault t e.0 e.2 (found none).1 (k.fits before)) unseen (k.fits before));
+            rw (c.note_head.ensures.state, c.note_head.ensures.seen, seen)
+            (fits-head s.state s.seen t e.0 c.args.head (lacks-ended s.fields.domain s.state s.seen s.field s.fault c.end_part.new.self.fault t e.0 e.2 (found none).1 (k.fits before)) unseen (k.fits before));
       },
       λ rest. rw (
-        c.note_head.ensures.place,
+        c.note_head.ensures.state,
         c.note_head.ensures.seen,
         c.note_head.ensures.twice,
         c.note_head.ensures.fault,
@@ -39,5 +39,5 @@ returns-clause-answers c = λ t k.
         seen,
         ap (λ (x : SddlReader). x.twice) ended,
       )
-          (begin-noted s.fields.domain s.sound s.twice s.seen (result_or t s.fault) s.place s.field c.args.letter c.args.head rest e.0 c.end_part.new.self.fault c.requires.here c.requires.calm.held c.requires.letter e.2),
+          (begin-noted s.fields.domain s.sound s.twice s.seen (result_or t s.fault) s.state s.field c.args.letter c.args.head rest e.0 c.end_part.new.self.fault c.requires.here c.requires.calm.held c.requires.letter e.2),
     )

@@ -1,6 +1,6 @@
 use Rattle.std.proofs.Common.{true, refl, sym, ◌∙◌, arith}
 use Rattle.sd_reader.specs.declared.line.AceField.TheVariants as field
-use Rattle.sd_reader.specs.declared.line.Place.TheVariants as place
+use Rattle.sd_reader.specs.declared.line.State.TheVariants as state
 use Rattle.sd_reader.specs.Inner.Progress.{result_or}
 use Rattle.sd_reader.proofs.Steps.{column_more, cut, cut_late, unsound}
 use Rattle.sd_reader.proofs.FitLaws.{fits-field, none-before, read-ok}
@@ -11,7 +11,7 @@ returns-in-Sid-clause-answers c = λ t k.
     let s = c.args.self.now in (
       t,
       record { fields = k.fields; fits = k.fits },
-      λ rest. rw (c.requires.here, c.in-Sid.is) (unsound s.fields.domain true s.twice s.seen (result_or t s.fault) s.field rest (place.Ace field.Sid)
+      λ rest. rw (c.requires.here, c.in-Sid.is) (unsound s.fields.domain true s.twice s.seen (result_or t s.fault) s.field rest (state.Ace field.Sid)
           ∙ sym (cut_late s.fields.domain s.sound s.twice s.seen (result_or t s.fault) s.field rest)),
     )
 
@@ -21,7 +21,7 @@ returns-in_default c =
     record {
       answers = λ t k. (let e = c.end_field.ensures.read t k.fields in (
         e.0,
-        record { fields = e.1; fits = λ none. fits-field s.fields.domain c.args.field (place.Ace c.next_field.result) s.seen t e.0 _ (read-ok s.fault _ t e.0 _ e.2 none) (λ h. refl) (rw (c.requires.here) at (k.fits (none-before s.fault _ t e.0 _ e.2 none))) },
+        record { fields = e.1; fits = λ none. fits-field s.fields.domain c.args.field (state.Ace c.next_field.result) s.seen t e.0 _ (read-ok s.fault _ t e.0 _ e.2 none) (λ h. refl) (rw (c.requires.here) at (k.fits (none-before s.fault _ t e.0 _ e.2 none))) },
         λ rest. rw (c.requires.here, c.next_field.ensures, e.2, c.end_field.ensures.cleared, c.end_field.ensures.domain)
             (cut s.fields.domain s.sound s.twice s.seen (result_or t s.fault) s.field rest c.args.field (column_more c.args.field c.in_default.not-Sid)),
       ));

@@ -11,7 +11,7 @@ use Rattle.sd_reader.proofs.reader.SddlReader.feed.Goals as goal
 pub returns-then-not-self-clause-read : goal.returns-then-not-self-clause-read
 returns-then-not-self-clause-read c = λ domain text h.
     let s = c.args.self.now in
-    let lost : (u : List ℕ) → answer_at s h.0 u ≡ Err fault.Shape = λ u. rw (c.if-not-self.true) (unsound s.fields.domain true s.twice s.seen (result_or h.0 s.fault) s.field u s.place) in
+    let lost : (u : List ℕ) → answer_at s h.0 u ≡ Err fault.Shape = λ u. rw (c.if-not-self.true) (unsound s.fields.domain true s.twice s.seen (result_or h.0 s.fault) s.field u s.state) in
     (h.0, h.1, λ rest. lost (waiting s.pending ++ rest) ∙ (sym (lost (waiting s.pending ++ c.args.byte ∷ rest)) ∙ (h.2 (c.args.byte ∷ rest) ∙ rw append_assoc refl)))
 
 -- the line so far, with a byte more

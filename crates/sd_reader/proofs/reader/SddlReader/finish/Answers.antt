@@ -2,8 +2,8 @@ use Rattle.std.proofs.Common.{◌≡◌, ℕ, List, [], refl, ap, ◌∙◌, ◌
 use Rattle.std.specs.Prelude.{Option}
 use Rattle.sd_core.specs.Sid.{SecurityId}
 use Rattle.sd_reader.specs.Meaning.{means}
-use Rattle.sd_reader.specs.Inner.FoldedReading.{Reading, finished, folded, reads_as}
-use Rattle.sd_reader.specs.Inner.Reads.{Keeps, Reads, answer_at, waiting}
+use Rattle.sd_reader.specs.Inner.FoldedReading.{FieldsRead, finished, folded, reads_as}
+use Rattle.sd_reader.specs.Inner.Reads.{LineHasRead, Reads, answer_at, waiting}
 use Rattle.sd_reader.proofs.FieldTexts.{append_nothing}
 use Rattle.sd_reader.proofs.FitLaws.{keeps-same}
 use Rattle.sd_reader.proofs.FoldedMeaning.{folded-means}
@@ -11,8 +11,8 @@ use Rattle.sd_reader.proofs.reader.SddlReader.finish.Goals.{in-Some, in_default}
 use Rattle.sd_reader.proofs.reader.SddlReader.finish.Goals as goal
 
 -- what the last step starts from, and what it gives
-record AtEnd (c : goal.After-finish_alone) (domain : Option SecurityId) (text : List ℕ) (t : Reading) : Type 0 where
-  kept : Keeps c.match-self.self c.args.buf.now t
+record AtEnd (c : goal.After-finish_alone) (domain : Option SecurityId) (text : List ℕ) (t : FieldsRead) : Type 0 where
+  kept : LineHasRead c.match-self.self c.args.buf.now t
   meant : finished (answer_at c.match-self.self t []) ≡ means text domain
 
 at-end : (c : goal.After-finish_alone) (domain : Option SecurityId) (text : List ℕ)
@@ -26,7 +26,7 @@ at-end c domain text h =
       | in-Some w ↦ rw (w.self-is) (w.put_text.ensures.answers h.0 [] refl ∙ (rw (w.in-Some.is) at whole))
       | in_default w ↦ rw (w.self-is) (rw (w.in_default.is) at whole)
     ] in
-    let kept : Keeps c.match-self.self c.args.buf.now h.0 = elim c.match-self.branch [
+    let kept : LineHasRead c.match-self.self c.args.buf.now h.0 = elim c.match-self.branch [
       | in-Some w ↦ rw (w.self-is) (keeps-same s w.put_text.new.self _ _ c.args.buf.now h.0 w.put_text.ensures.same h.1)
       | in_default w ↦ rw (w.self-is) h.1
     ] in

@@ -1,7 +1,7 @@
 use Rattle.std.proofs.Common.{◌≡◌, true, false, refl, sym, ◌∙◌, arith}
 use Rattle.std.specs.Prelude.{◌==◌}
 use Rattle.std.proofs.lemmas.Bool.Decides.{nat_tests}
-use Rattle.sd_reader.specs.declared.line.Place.TheVariants as place
+use Rattle.sd_reader.specs.declared.line.State.TheVariants as state
 use Rattle.sd_reader.specs.Inner.Progress.{result_or}
 use Rattle.sd_reader.proofs.FieldTexts.{same_within}
 use Rattle.sd_reader.proofs.Steps.{entry_text, open_inside, unsound}
@@ -12,7 +12,7 @@ returns-in-40-clause-answers c = λ t k.
     let s = c.args.self.now in (
       t,
       record { fields = k.fields; fits = k.fits },
-      λ rest. rw (c.requires.here, c.in-40.is) (unsound s.fields.domain true s.twice s.seen (result_or t s.fault) s.field rest (place.Ace c.args.field)
+      λ rest. rw (c.requires.here, c.in-40.is) (unsound s.fields.domain true s.twice s.seen (result_or t s.fault) s.field rest (state.Ace c.args.field)
           ∙ sym (open_inside s.fields.domain s.sound s.twice s.seen (result_or t s.fault) s.field rest c.args.field)),
     )
 

@@ -15,10 +15,10 @@ returns-in-41-clause-answers c = λ t k. (
   record { fields = k.fields; fits = k.fits },
   λ rest none.
       let s = c.args.self.now in
-      unsound s.fields.domain true s.twice s.seen (result_or t s.fault) s.field rest s.place
+      unsound s.fields.domain true s.twice s.seen (result_or t s.fault) s.field rest s.state
       ∙ elim c.in-41.is [
-        | inl e ↦ rw e (sym (close_outside s.fields.domain s.sound s.twice s.seen (result_or t s.fault) s.field rest s.place c.requires.here))
-        | inr e ↦ rw e (sym (colon s.fields.domain s.sound s.twice s.seen (result_or t s.fault) s.field rest s.place c.requires.here))
+        | inl e ↦ rw e (sym (close_outside s.fields.domain s.sound s.twice s.seen (result_or t s.fault) s.field rest s.state c.requires.here))
+        | inr e ↦ rw e (sym (colon s.fields.domain s.sound s.twice s.seen (result_or t s.fault) s.field rest s.state c.requires.here))
       ],
 )
 
