@@ -128,15 +128,38 @@ impl fmt::Display for Fault {
     }
 }
 
-fn digit(byte: u8) -> Result<u8, Fault> {
-    match byte {
-        b'0'..=b'9' => Ok(byte - b'0'),
-        b'a'..=b'f' => Ok(byte - b'a' + 10),
-        b'A'..=b'F' => Ok(byte - b'A' + 10),
-        _ => Err(Fault::HexDigit),
+const HEX_DIGITS: &[u8; 16] = b"0123456789abcdef";
+const NO_DIGIT: u8 = 0x80;
+
+/// The value of each byte as a hex digit, in either case.
+static HEX_VALUES: [u8; 256] = {
+    let mut values = [NO_DIGIT; 256];
+    let mut value = 0;
+    while value < HEX_DIGITS.len() {
+        values[HEX_DIGITS[value] as usize] = value as u8;
+        values[HEX_DIGITS[value].to_ascii_uppercase() as usize] = value as u8;
+        value += 1;
     }
+    values
+};
+
+/// The two digits of each byte.
+static HEX_PAIRS: [[u8; 2]; 256] = {
+    let mut pairs = [[0; 2]; 256];
+    let mut byte = 0;
+    while byte < pairs.len() {
+        pairs[byte] = [HEX_DIGITS[byte >> 4], HEX_DIGITS[byte & 15]];
+        byte += 1;
+    }
+    pairs
+};
+
+fn digit(byte: u8) -> Option<u8> {
+    let value = HEX_VALUES[usize::from(byte)];
+    (value != NO_DIGIT).then_some(value)
 }
 
+/// Decodes by tables. No branch waits for a digit: whether one is none is asked at the end.
 fn decode(line: &[u8], bytes: &mut Vec<u8>) -> Result<(), Fault> {
     bytes.clear();
     if line.len() > HEX_LINE_LIMIT {
@@ -145,10 +168,13 @@ fn decode(line: &[u8], bytes: &mut Vec<u8>) -> Result<(), Fault> {
     if line.len() % 2 != 0 {
         return Err(Fault::HexOdd);
     }
-    for pair in line.chunks_exact(2) {
-        bytes.push(digit(pair[0])? << 4 | digit(pair[1])?);
-    }
-    Ok(())
+    let mut seen = 0;
+    bytes.extend(line.chunks_exact(2).map(|pair| {
+        let (high, low) = (HEX_VALUES[usize::from(pair[0])], HEX_VALUES[usize::from(pair[1])]);
+        seen |= high | low;
+        high << 4 | low
+    }));
+    if seen & NO_DIGIT == 0 { Ok(()) } else { Err(Fault::HexDigit) }
 }
 
 const BASE64_SYMBOLS: &[u8; 64] = b"ABCDEFGHIJKLMNOPQRSTUVWXYZabcdefghijklmnopqrstuvwxyz0123456789+/";
@@ -329,10 +355,10 @@ fn convert_descriptor(bytes: &[u8], layout: &mut Vec<u8>) -> Result<(), Fault> {
 }
 
 fn put_hex(bytes: &[u8], text: &mut Vec<u8>) {
-    const DIGITS: &[u8; 16] = b"0123456789abcdef";
-    for byte in bytes {
-        text.push(DIGITS[usize::from(byte >> 4)]);
-        text.push(DIGITS[usize::from(byte & 15)]);
+    let start = text.len();
+    text.resize(start + 2 * bytes.len(), 0);
+    for (pair, byte) in text[start..].chunks_exact_mut(2).zip(bytes) {
+        pair.copy_from_slice(&HEX_PAIRS[usize::from(*byte)]);
     }
 }
 
@@ -980,7 +1006,7 @@ fn sid_of_text(text: &[u8], domain: Option<&Sid>) -> Result<Sid, Fault> {
                 return Err(Fault::SidForm);
             }
             for byte in digits {
-                sid.authority = sid.authority << 4 | u64::from(digit(*byte).map_err(|_| Fault::SidForm)?);
+                sid.authority = sid.authority << 4 | u64::from(digit(*byte).ok_or(Fault::SidForm)?);
             }
         }
         authority => sid.authority = u64::from(decimal(authority, &mut too_large)?),
@@ -1004,7 +1030,7 @@ fn guid_of_text(text: &[u8]) -> Option<[u8; GUID_SIZE]> {
     }
     let mut guid = [0; GUID_SIZE];
     for (byte, at) in guid.iter_mut().zip(GUID_PLACES) {
-        *byte = digit(text[at]).ok()? << 4 | digit(text[at + 1]).ok()?;
+        *byte = digit(text[at])? << 4 | digit(text[at + 1])?;
     }
     Some(guid)
 }
