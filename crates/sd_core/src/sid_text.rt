@@ -6,14 +6,16 @@ ghost use Rattle.std.specs.Option.{option_copied, option_map};
 ghost use Rattle.sd_core.specs.Sid.{IsSid, SecurityId};
 ghost use Rattle.sd_sink.specs.Print.{Prints};
 ghost use Rattle.sd_sink.specs.Sink.{Puts};
-ghost use Rattle.sd_rights.specs.Limits.{most_field, most_subs};
+ghost use Rattle.sd_rights.specs.Limits.{most_subs};
 ghost use Rattle.sd_rights.specs.Numbers.{number};
 ghost use Rattle.sd_core.specs.SidText.{all_pieces, all_read, are_letters, are_numbers, are_subs, authority_reads, authority_text, begins_with_s1, decimal_reads, has_form, is_decimal, is_hex, is_sid_byte, numbers_read, pieces, sid_reads, sid_text, sub_text};
 
 use crate::alias::read_letters;
 use crate::sid::Sid;
 use crate::usual_sid::read_usual;
-use sd_rights::{MOST_FIELD_SIZE, MOST_SUBS, read_number, write_decimal, write_hex};
+use sd_rights::{
+    MOST_FIELD_SIZE, MOST_SUBS, print_decimal, print_decimal_behind, print_hex, read_number,
+};
 use sd_sink::{Print, Printer, Sink, SinkFault};
 
 /// Why a text is no SID.
@@ -34,7 +36,7 @@ const HEX_DIGITS: usize = 12;
 
 impl Sid {
     /// Puts the text: `S-1-`, the authority, and a dash and a number for each sub-authority. Numbers are
-    /// decimal; an authority of 2^32 or more is `0x` and twelve hex digits.
+    /// decimal; an authority of 2^32 or more is `0x` and twelve hex digits. As `S-1-5-32-544`.
     pub fn put_text<S: Sink>(&self, sink: &mut S) -> Result<(), SinkFault>
         ensures put { Puts (S.told sink.old) (S.told sink.new) (sid_text self.now) result }
         // The text reads back, and has letters, digits and dashes alone.
@@ -52,16 +54,16 @@ impl Sid {
         ensures put { Prints (P.told out.old) (P.told out.new) (sid_text self.now) }
         ensures limits { IsSid self.now }
     {
-        let mut text = [0; MOST_FIELD_SIZE];
-        let start = write_sid(self, &mut text);
-        out.put(&text[start..]);
+        out.put(b"S-1-");
+        print_authority(self.authority(), out);
+        print_subs(self.subs(), out);
     }
 
     /// The SID of a text. Two letters are an alias, in either case, some of them under the domain, which
     /// counts as none where it has 15 sub-authorities. Any other text is `S-1-`, the authority in decimal or
     /// as `0x` and twelve hex digits, and at most 15 times a dash and a decimal number: at most 183 bytes,
     /// letters in either case, and numbers of at most ten digits below 2^32. The form is looked at before
-    /// the numbers.
+    /// the numbers. So `BA`, `ba` and `S-1-5-32-544` are one SID.
     #[tactic(auto, unfolding(crate::specs::SidText::sid_reads))]
     pub fn from_text(text: &[u8], domain: Option<&Sid>) -> Result<Sid, SidFault>
         ensures exact { result ≡ sid_reads text.now (option_copied domain.entry) }
@@ -79,49 +81,23 @@ impl Sid {
     }
 }
 
-// Writes the text to the end of the array, and says where it begins; so does each function below.
-fn write_sid(sid: &Sid, text: &mut [u8; MOST_FIELD_SIZE]) -> usize
-    ensures within { result ≤ most_field }
-    ensures written { drop result text.new ≡ sid_text sid.now }
-    ensures limits { IsSid sid.now }
-{
-    let subs = write_subs(sid.subs(), text);
-    let authority = write_authority(sid.authority(), text, subs);
-    let start = authority - 4;
-    text[start..authority].copy_from_slice(b"S-1-");
-    start
-}
-
-fn write_subs(subs: &[u32], text: &mut [u8; MOST_FIELD_SIZE]) -> usize
-    requires { length subs.now ≤ most_subs }
-    ensures room { most_field ≤ result + 11 * length subs.now }
-    ensures within { result ≤ most_field }
-    ensures written { drop result text.new ≡ flat_map sub_text subs.now }
-{
-    let mut at = MOST_FIELD_SIZE;
-    let mut left = subs.len();
-    while left > 0 {
-        left -= 1;
-        at = write_decimal(subs[left], text, at) - 1;
-        text[at] = b'-';
-    }
-    at
-}
-
-fn write_authority(authority: u64, text: &mut [u8; MOST_FIELD_SIZE], end: usize) -> usize
-    requires room { 14 ≤ end }
-    requires within { end ≤ most_field }
-    ensures room { end ≤ result + 14 }
-    ensures before { result ≤ end }
-    ensures written { drop result text.new ≡ authority_text authority ++ drop end text.old }
+// Decimal below 2^32, and else twelve hex digits.
+fn print_authority<P: Print>(authority: u64, out: &mut P)
+    ensures { Prints (P.told out.old) (P.told out.new) (authority_text authority) }
 {
     if authority < 1 << 32 {
-        return write_decimal(authority as u32, text, end);
+        return print_decimal(authority as u32, out);
     }
-    let at = write_hex(HEX_DIGITS, authority, text, end);
-    text[at - 1] = b'x';
-    text[at - 2] = b'0';
-    at - 2
+    out.put(b"0x");
+    print_hex(HEX_DIGITS, authority, out);
+}
+
+fn print_subs<P: Print>(subs: &[u32], out: &mut P)
+    ensures { Prints (P.told out.old) (P.told out.new) (flat_map sub_text subs.now) }
+{
+    for sub in subs {
+        print_decimal_behind(b'-', *sub, out);
+    }
 }
 
 fn are_letters(text: &[u8]) -> bool

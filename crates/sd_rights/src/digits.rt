@@ -1,21 +1,35 @@
 //! Numbers in digits.
 
-ghost use Rattle.std.specs.Prelude.{◌≡◌, false, ◌+◌, ◌<◌, ◌≤◌, ◌++◌, drop};
+ghost use Rattle.std.specs.Prelude.{◌≡◌, false, ◌+◌, ◌<◌, ◌≤◌, ◌∷◌, ◌++◌, length, take, drop};
 ghost use Rattle.std.specs.Fmt.{decimal, digit_glyph};
 ghost use Rattle.sd_sink.specs.Print.{Prints};
-ghost use Rattle.sd_rights.specs.Limits.{most_field};
 ghost use Rattle.sd_rights.specs.Numbers.{hex_digits};
 
-use crate::limits::MOST_FIELD_SIZE;
-use sd_sink::Print;
+use sd_sink::{FRONT, Print};
+
+/// Where the digits of a decimal number end: ten at most, behind a character.
+const DECIMAL_END: usize = 11;
+
+/// A character, a number in decimal, and the cells that printing a few from the front wants.
+const DECIMAL_CELLS: usize = DECIMAL_END + FRONT;
 
 /// Prints a number in decimal, without leading zeros.
 pub fn print_decimal<P: Print>(number: u32, out: &mut P)
     ensures { Prints (P.told out.old) (P.told out.new) (decimal number) }
 {
-    let mut text = [0; MOST_FIELD_SIZE];
-    let start = write_decimal(number, &mut text, MOST_FIELD_SIZE);
-    out.put(&text[start..]);
+    let mut cells = [0; DECIMAL_CELLS];
+    let start = write_decimal(number, &mut cells);
+    out.put_front(&cells[start..], DECIMAL_END - start);
+}
+
+/// Prints a character and a number in decimal.
+pub fn print_decimal_behind<P: Print>(character: u8, number: u32, out: &mut P)
+    ensures { Prints (P.told out.old) (P.told out.new) (character ∷ decimal number) }
+{
+    let mut cells = [0; DECIMAL_CELLS];
+    let start = write_decimal(number, &mut cells) - 1;
+    cells[start] = character;
+    out.put_front(&cells[start..], DECIMAL_END - start);
 }
 
 /// Prints the last hex digits of a number, as many as are asked for, with leading zeros.
@@ -23,28 +37,23 @@ pub fn print_hex<P: Print>(digits: usize, number: u64, out: &mut P)
     requires { digits ≤ 16 }
     ensures { Prints (P.told out.old) (P.told out.new) (hex_digits digits number) }
 {
-    let mut text = [0; MOST_FIELD_SIZE];
-    let start = write_hex(digits, number, &mut text, MOST_FIELD_SIZE);
-    out.put(&text[start..]);
+    let mut cells = [0; FRONT];
+    write_hex(digits, number, &mut cells);
+    out.put_front(&cells, digits);
 }
 
-// Each of the functions below writes to the array up to a place, and says where what it wrote begins.
-
-/// Writes as many hex digits of a number, the last ones.
-pub fn write_hex(digits: usize, number: u64, text: &mut [u8; MOST_FIELD_SIZE], end: usize) -> usize
-    requires room { digits ≤ end }
-    requires within { end ≤ most_field }
-    ensures start { result + digits ≡ end }
-    ensures written { drop result text.new ≡ hex_digits digits number ++ drop end text.old }
+// Writes as many hex digits of a number, the last ones, to the front.
+fn write_hex(digits: usize, number: u64, cells: &mut [u8; FRONT])
+    requires { digits ≤ 16 }
+    ensures { take digits cells.new ≡ hex_digits digits number }
 {
     let mut left = number;
-    let mut at = end;
-    for _ in 0..digits {
+    let mut at = digits;
+    while at > 0 {
         at -= 1;
-        text[at] = hex_digit((left % 16) as u8);
+        cells[at] = hex_digit((left % 16) as u8);
         left /= 16;
     }
-    at
 }
 
 /// The lower-case digit of a value.
@@ -59,22 +68,29 @@ pub(crate) fn hex_digit(value: u8) -> u8
     }
 }
 
-/// Writes a number in decimal.
-pub fn write_decimal(number: u32, text: &mut [u8; MOST_FIELD_SIZE], end: usize) -> usize
-    requires room { 10 ≤ end }
-    requires within { end ≤ most_field }
-    ensures room { end ≤ result + 10 }
-    ensures before { result < end }
-    ensures written { drop result text.new ≡ decimal number ++ drop end text.old }
+// Writes a number in decimal to where decimal numbers end, and says where it begins.
+fn write_decimal(number: u32, cells: &mut [u8; DECIMAL_CELLS]) -> usize
+    ensures begins { result + length (decimal number) ≡ 11 }
+    ensures behind { 1 ≤ result }
+    ensures written { drop result cells.new ≡ decimal number ++ drop 11 cells.old }
 {
     let mut left = number;
-    let mut at = end;
-    while left >= 10 {
-        at -= 1;
-        text[at] = b'0' + (left % 10) as u8;
-        left /= 10;
+    let mut at = DECIMAL_END;
+    // Two digits at a time, since each division waits for the one before.
+    while left >= 100 {
+        let pair = left % 100;
+        cells[at - 1] = b'0' + (pair % 10) as u8;
+        at -= 2;
+        cells[at] = b'0' + (pair / 10) as u8;
+        left /= 100;
     }
-    at -= 1;
-    text[at] = b'0' + left as u8;
+    if left < 10 {
+        at -= 1;
+        cells[at] = b'0' + left as u8;
+        return at;
+    }
+    cells[at - 1] = b'0' + (left % 10) as u8;
+    at -= 2;
+    cells[at] = b'0' + (left / 10) as u8;
     at
 }

@@ -12,7 +12,7 @@ mod rights;
 mod rights_reading;
 mod rights_table;
 
-pub use digits::{print_decimal, print_hex, write_decimal, write_hex};
+pub use digits::{print_decimal, print_decimal_behind, print_hex};
 pub use flags::{flags_from_text, print_flags, put_flags};
 pub use kinds::AceKind;
 pub use limits::{MOST_ENTRIES, MOST_FIELD_SIZE, MOST_SUBS};

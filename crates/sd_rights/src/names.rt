@@ -5,7 +5,7 @@ ghost use Rattle.std.specs.List.{flat_map};
 ghost use Rattle.sd_rights.specs.Names.{bits_named, named_bits, names_of, run_of};
 ghost use Rattle.sd_sink.specs.Print.{Prints};
 
-use sd_sink::Print;
+use sd_sink::{FRONT, Print};
 
 /// A name of two capital letters, and the bits that it stands for.
 #[derive(Clone, Copy)]
@@ -18,29 +18,35 @@ pub struct NamedBits {
 /// The names of the largest table.
 const MOST_NAMES: usize = 17;
 
+/// The cells for all of them.
+const CELLS: usize = 2 * MOST_NAMES;
+
 /// Prints the names of the bits of a mask, in the table's order.
 pub fn print_names<P: Print>(table: &[NamedBits], mask: u32, out: &mut P)
     requires fits { length table.now ≤ 17 }
     ensures { Prints (P.told out.old) (P.told out.new) (names_of table.now mask) }
 {
-    let mut buffer = [0; 2 * MOST_NAMES];
+    let mut buffer = [0; CELLS];
     let end = write_names(table, mask, &mut buffer);
-    out.put(&buffer[..end]);
+    if end <= FRONT {
+        out.put_front(&buffer, end);
+    } else {
+        out.put(&buffer[..end]);
+    }
 }
 
-// Writes the names to the front of the buffer, and answers where they end.
-fn write_names(table: &[NamedBits], mask: u32, buffer: &mut [u8; 2 * MOST_NAMES]) -> usize
+// Writes the names to the front of the buffer, and answers where they end. Each name is written, and stays where its
+// bits are set: so no branch waits for the mask.
+fn write_names(table: &[NamedBits], mask: u32, buffer: &mut [u8; CELLS]) -> usize
     requires fits { length table.now ≤ 17 }
     ensures end { result ≤ 34 }
     ensures names { take result buffer.new ≡ names_of table.now mask }
 {
     let mut end = 0;
     for name in table {
-        if mask & name.bits != 0 {
-            buffer[end] = name.first;
-            buffer[end + 1] = name.second;
-            end += 2;
-        }
+        buffer[end] = name.first;
+        buffer[end + 1] = name.second;
+        end += if mask & name.bits != 0 { 2 } else { 0 };
     }
     end
 }

@@ -1,3 +1,4 @@
+pub mod HeldLemmas
 pub mod PrintLemmas
 pub mod PrintLoops
 pub mod SinkLemmas

@@ -3,7 +3,7 @@
 ghost use Rattle.std.specs.Prelude.{◌≡◌, ◌+◌, ◌≤◌, ◌++◌, List, ℕ, [], length, take, true, false};
 ghost use Rattle.sd_sink.specs.Print.{PrintTold, Prints, Begins};
 
-use crate::held::Held;
+use crate::held::{FRONT, Held};
 use crate::print::Print;
 use crate::sink::{Sink, SinkFault};
 
@@ -73,6 +73,15 @@ impl<'a, S: Sink> Print for Gather<'a, S> {
             self.held.append(text);
         } else {
             self.put_over(text);
+        }
+    }
+
+    #[inline(always)]
+    fn put_front(&mut self, cells: &[u8], count: usize) {
+        if self.held.room() < FRONT {
+            self.put_over(&cells[..count]);
+        } else {
+            self.held.append_front(cells, count);
         }
     }
 

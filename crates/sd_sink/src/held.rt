@@ -1,11 +1,14 @@
 //! Bytes that are held back.
 
-ghost use Rattle.std.specs.Prelude.{◌≡◌, ◌+◌, ◌-◌, ◌≤◌, ◌++◌, [], length};
+ghost use Rattle.std.specs.Prelude.{◌≡◌, ◌+◌, ◌-◌, ◌≤◌, ◌++◌, [], length, take};
 
 use std::marker::Model;
 
 /// The bytes that are held at most.
 const CAPACITY: usize = 512;
+
+/// The cells from which a few bytes are appended: always as many are copied, and so without a loop.
+pub const FRONT: usize = 16;
 
 /// At most 512 bytes.
 #[derive(Drop)]
@@ -51,6 +54,19 @@ impl Held {
         let end = self.len + text.len();
         self.bytes[self.len..end].copy_from_slice(text);
         self.len = end;
+    }
+
+    /// Appends the first few of the cells.
+    #[inline(always)]
+    pub fn append_front(&mut self, cells: &[u8], count: usize)
+        requires room { length self.old + 16 ≤ 512 }
+        requires cells { 16 ≤ length cells.now }
+        requires few { count ≤ 16 }
+        ensures { self.new ≡ self.old ++ take count cells.now }
+    {
+        let end = self.len + FRONT;
+        self.bytes[self.len..end].copy_from_slice(&cells[..FRONT]);
+        self.len += count;
     }
 
     /// Holds nothing any more.

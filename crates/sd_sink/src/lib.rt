@@ -9,6 +9,7 @@ mod printer;
 mod sink;
 
 pub use gather::Gather;
+pub use held::FRONT;
 pub use memory::NoMemory;
 pub use print::Print;
 pub use printer::Printer;

@@ -38,6 +38,10 @@ impl<'a, S: Sink> Print for Printer<'a, S> {
         }
     }
 
+    fn put_front(&mut self, cells: &[u8], count: usize) {
+        self.put(&cells[..count]);
+    }
+
     fn finish(&mut self) -> Result<(), SinkFault> {
         if self.failed { Err(SinkFault) } else { Ok(()) }
     }

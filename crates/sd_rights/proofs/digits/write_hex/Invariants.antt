@@ -1,10 +1,13 @@
-use Rattle.std.proofs.Common.{◌≡◌, ◌+◌, ◌-◌, ◌++◌, length, drop}
+use Rattle.std.proofs.Common.{◌≡◌, ◌≤◌, ◌++◌, length, drop}
 use Rattle.sd_rights.specs.Numbers.{hex_digits}
 use Rattle.sd_rights.proofs.digits.write_hex.Given as goal
 
-abbrev pub invariant-loop : goal.invariant-loop
-invariant-loop l = record {
-  full : length l.text ≡ 183;
-  place : l.at + l.counter ≡ l.fn.end;
-  written : hex_digits (l.digits - l.counter) l.left ++ drop l.at l.text ≡ hex_digits l.digits l.number ++ drop l.fn.end l.fn.text;
+abbrev pub invariant-loop-at : goal.invariant-loop-at
+invariant-loop-at l = record {
+  full : length l.cells ≡ 16;
+  within : l.at ≤ l.digits;
+  written : hex_digits l.at l.left ++ drop l.at l.cells ≡ hex_digits l.digits l.number ++ drop l.digits l.fn.cells;
 }
+
+abbrev pub decreases-loop-at : goal.decreases-loop-at
+decreases-loop-at l = l.at
