@@ -32,7 +32,7 @@ pub fn guid_bytes(guid: &Uuid) -> [u8; 16]
     guid.to_bytes_le()
 }
 
-/// Puts the text of a GUID: 36 characters, in lower case.
+/// Puts the text of a GUID: 36 characters, in lower case, as `bf967aba-0de6-11d0-a285-00aa003049e2`.
 pub fn put_guid<S: Sink>(guid: &Uuid, sink: &mut S) -> Result<(), SinkFault>
     ensures put { Puts (S.told sink.old) (S.told sink.new) (guid_text guid.now) result }
     // The text reads as the GUID.

@@ -6,7 +6,7 @@ ghost use Rattle.std.specs.Option.{option_copied, option_map};
 ghost use Rattle.sd_core.specs.Sid.{IsSid, SecurityId};
 ghost use Rattle.sd_sink.specs.Print.{Prints};
 ghost use Rattle.sd_sink.specs.Sink.{Puts};
-ghost use Rattle.sd_rights.specs.Limits.{most_field, most_subs};
+ghost use Rattle.sd_rights.specs.Limits.{most_subs};
 ghost use Rattle.sd_rights.specs.Numbers.{number};
 ghost use Rattle.sd_core.specs.SidText.{all_pieces, all_read, are_letters, are_numbers, are_subs, authority_reads, authority_text, begins_with_s1, decimal_reads, has_form, is_decimal, is_hex, is_sid_byte, numbers_read, pieces, sid_reads, sid_text, sub_text};
 
@@ -36,7 +36,7 @@ const HEX_DIGITS: usize = 12;
 
 impl Sid {
     /// Puts the text: `S-1-`, the authority, and a dash and a number for each sub-authority. Numbers are
-    /// decimal; an authority of 2^32 or more is `0x` and twelve hex digits.
+    /// decimal; an authority of 2^32 or more is `0x` and twelve hex digits. As `S-1-5-32-544`.
     pub fn put_text<S: Sink>(&self, sink: &mut S) -> Result<(), SinkFault>
         ensures put { Puts (S.told sink.old) (S.told sink.new) (sid_text self.now) result }
         // The text reads back, and has letters, digits and dashes alone.
@@ -63,7 +63,7 @@ impl Sid {
     /// counts as none where it has 15 sub-authorities. Any other text is `S-1-`, the authority in decimal or
     /// as `0x` and twelve hex digits, and at most 15 times a dash and a decimal number: at most 183 bytes,
     /// letters in either case, and numbers of at most ten digits below 2^32. The form is looked at before
-    /// the numbers.
+    /// the numbers. So `BA`, `ba` and `S-1-5-32-544` are one SID.
     #[tactic(auto, unfolding(crate::specs::SidText::sid_reads))]
     pub fn from_text(text: &[u8], domain: Option<&Sid>) -> Result<Sid, SidFault>
         ensures exact { result ≡ sid_reads text.now (option_copied domain.entry) }

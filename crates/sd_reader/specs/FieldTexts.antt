@@ -4,7 +4,7 @@
 use Rattle.std.specs.Prelude.{ℕ, ◌-◌, ◌&&◌, Bool, true, false, ◌==◌, nat_le, if◌then◌else◌, List, [], ◌∷◌, length, take, drop, codes, Option, Some, None}
 use Rattle.std.specs.Char.{to_ascii_uppercase}
 use Rattle.std.specs.Option.{option_and_then, option_map, option_or}
-use Rattle.std.specs.Str.{str_eq_ignore_ascii_case}
+use Rattle.std.specs.Str.{byte as char, str_eq_ignore_ascii_case}
 use Rattle.sd_rights.specs.Kinds.{is_object, kind_named}
 use Rattle.sd_core.specs.GuidText.{guid_reads}
 use Rattle.sd_rights.specs.declared.kinds.AceKind.{AceKind}
@@ -18,16 +18,16 @@ kind_reads text = kind_named text
 
 -- P, beside the flags so far
 abbrev pub one_letter : AclFlags → ℕ → Option AclFlags
-one_letter f a = if to_ascii_uppercase a == 80 then Some (record f { protected = true }) else None
+one_letter f a = if to_ascii_uppercase a == char "P" then Some (record f { protected = true }) else None
 
 -- AR or AI
 abbrev pub after_a : AclFlags → ℕ → Option AclFlags
 after_a f b =
-    if to_ascii_uppercase b == 82 then Some (record f { auto_inherit_required = true })
-    else (if to_ascii_uppercase b == 73 then Some (record f { auto_inherited = true }) else None)
+    if to_ascii_uppercase b == char "R" then Some (record f { auto_inherit_required = true })
+    else (if to_ascii_uppercase b == char "I" then Some (record f { auto_inherited = true }) else None)
 
 abbrev pub two_letters : AclFlags → ℕ → ℕ → Option AclFlags
-two_letters f a b = if to_ascii_uppercase a == 65 then after_a f b else None
+two_letters f a b = if to_ascii_uppercase a == char "A" then after_a f b else None
 
 -- a run of P, AR and AI in any order and in either case, beside the flags so far
 abbrev pub flags_after : AclFlags → List ℕ → Option AclFlags

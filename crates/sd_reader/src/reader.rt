@@ -554,7 +554,7 @@ fn note_limits(domain: Option<&Sid>)
     }
 }
 
-/// Reads a line of SDDL (MS-DTYP 2.5.1), with the aliases of a domain. The buffer holds bytes that show the descriptor that
+/// Reads a line of SDDL (MS-DTYP 2.5.1), as `O:BAD:(A;;FA;;;WD)`, with the aliases of a domain. The buffer holds bytes that show the descriptor that
 /// the line means. After a refusal, by the first fault, it is empty.
 pub fn read_sddl(text: &[u8], domain: Option<&Sid>, buf: &mut SdBuf) -> Result<(), SddlFault>
     ensures exact { MatchResult (means text.now (option_copied domain.entry))

@@ -4,6 +4,7 @@ use Rattle.std.specs.List.{find, list_all}
 use Rattle.std.specs.Char.{is_digit}
 use Rattle.std.specs.Fmt.{digits}
 use Rattle.std.specs.Str.Parse.{digits_value}
+use Rattle.std.specs.Str.{byte as char}
 use Rattle.sd_rights.specs.Limits.{most_field}
 use Rattle.sd_rights.specs.Names.{run_of, names_of, named_bits}
 use Rattle.sd_rights.specs.declared.kinds.AceKind.{AceKind}
@@ -29,13 +30,13 @@ number base text =
 -- what follows a zero: x and hex digits, or octal digits, or nothing
 abbrev pub after_zero : List ℕ → Option ℕ
 after_zero [] = Some 0
-after_zero (c ∷ cs) = if c == 120 || c == 88 then number 16 cs else number 8 (c ∷ cs)
+after_zero (c ∷ cs) = if c == char "x" || c == char "X" then number 16 cs else number 8 (c ∷ cs)
 
 -- nothing, a number, or a run of names
 abbrev pub short_rights_reads : List ℕ → Option ℕ
 short_rights_reads [] = Some 0
 short_rights_reads (c ∷ cs) =
-    if is_digit c 10 then (if c == 48 then after_zero cs else number 10 (c ∷ cs)) else run_of all_rights (c ∷ cs)
+    if is_digit c 10 then (if c == char "0" then after_zero cs else number 10 (c ∷ cs)) else run_of all_rights (c ∷ cs)
 
 -- the mask that the text of a field gives
 unfoldable pub rights_reads : List ℕ → Option ℕ

@@ -48,7 +48,7 @@ pub const FLAGS: [NamedBits; 7] = [
     },
 ];
 
-/// Puts the names of an ACE's flags. Bit 0x20 has no name.
+/// Puts the names of an ACE's flags, as `OICI` for 3. Bit 0x20 has no name.
 pub fn put_flags<S: Sink>(flags: u8, sink: &mut S) -> Result<(), SinkFault>
     ensures put { Puts (S.told sink.old) (S.told sink.new) (flags_text flags) result }
     // The text reads as the flags.
@@ -68,7 +68,7 @@ pub fn print_flags<P: Print>(flags: u8, out: &mut P)
 }
 
 /// The flags of a text of at most 183 bytes (MS-DTYP 2.5.1.1): names of two letters, in either case and any
-/// order, also repeated. None for any other text.
+/// order, also repeated, as `CIOI` for 3. None for any other text.
 #[tactic(auto, unfolding(crate::specs::Flags::flags_reads))]
 pub fn flags_from_text(text: &[u8]) -> Option<u8>
     ensures exact { result ≡ flags_reads text.now }

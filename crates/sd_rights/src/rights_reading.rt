@@ -11,7 +11,7 @@ use crate::rights_table::{COMPOUNDS, LABELS, SINGLES};
 /// The access mask of a text of at most 183 bytes (MS-DTYP 2.5.1.1). No text at all is 0. A text that begins
 /// with a decimal digit is a number below 2^32: hex after `0x` or `0X`, octal after any other zero, and else
 /// decimal. Any other is a run of names of two letters, in either case and any order, also repeated; each
-/// name reads in every kind of ACE. None for a text that is neither.
+/// name reads in every kind of ACE. None for a text that is neither. So `CCDC`, `0x3`, `03` and `3` are one mask.
 #[tactic(auto, unfolding(crate::specs::Rights::rights_reads))]
 pub fn rights_from_text(text: &[u8]) -> Option<u32>
     ensures { result ≡ rights_reads text.now }

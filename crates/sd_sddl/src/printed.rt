@@ -20,7 +20,7 @@ use sd_core::{Gather, Naming, Print, Sid, Sink, SinkFault};
 /// eight characters for each byte of its written layout, and 63. SIDs have their aliases, those of the
 /// domain too, unless numbers alone are asked for; a domain of 15 sub-authorities counts as none. What SDDL
 /// has no letters for is dropped: the resource manager byte, and of the control word all but the present
-/// bits and the flags of ACLs that are not absent.
+/// bits and the flags of ACLs that are not absent. As `O:BAD:(A;;FA;;;WD)`.
 pub fn put_sddl<S: Sink>(
     view: &SdView<'_>,
     domain: Option<&Sid>,

@@ -2,6 +2,7 @@
 use Rattle.std.specs.Prelude.{◌≡◌, ℕ, ◌≤◌, Bool, true, false, ◌||◌, ◌&&◌, not, ◌==◌, if◌then◌else◌, List, [], ◌∷◌, ◌++◌, length}
 use Rattle.std.specs.Option.{is_none}
 use Rattle.std.specs.List.{list_any}
+use Rattle.std.specs.Str.{byte as char}
 use Rattle.sd_rights.specs.Limits.{most_field}
 use Rattle.sd_reader.specs.Line.{head_of, is_blank}
 
@@ -48,11 +49,11 @@ held_run h (b ∷ bs) = held_run (held_with h b) bs
 
 -- a byte that only goes onto the text of a field inside parentheses
 abbrev pub is_plain_inside : ℕ → Bool
-is_plain_inside b = not (b == 40 || (b == 41 || (b == 59 || is_blank b)))
+is_plain_inside b = not (b == char "(" || (b == char ")" || (b == char ";" || is_blank b)))
 
 -- and outside, where a letter may begin a head
 abbrev pub is_plain_outside : ℕ → Bool
-is_plain_outside b = is_plain_inside b && (not (b == 58) && is_none (head_of b))
+is_plain_outside b = is_plain_inside b && (not (b == char ":") && is_none (head_of b))
 
 -- the text of a field that ends here: one that is not kept has a blank, and does not read
 abbrev pub held_text : Held → List ℕ

@@ -1,6 +1,7 @@
 -- The reader of a line: what it has read, and what its buffer holds.
 use Rattle.std.specs.Prelude.{◌≡◌, ℕ, ◌/◌, ◌%◌, Bool, true, false, ◌||◌, not, ◌==◌, List, [], ◌∷◌, ◌++◌, Option, Some, None, Result, Ok, Err}
 use Rattle.std.specs.Option.{option_map}
+use Rattle.std.specs.Str.{byte as char}
 use Rattle.sd_core.specs.Ace.{GuidsFit}
 use Rattle.sd_rights.specs.Kinds.{is_object}
 use Rattle.sd_core.specs.Sid.{SecurityId}
@@ -128,9 +129,9 @@ pub record IsCalm (s : SddlReader) : Type 0 where
 
 -- a byte that waits is no parenthesis and no colon
 pub record IsText (b : ℕ) : Type 0 where
-  pub opens : (b == 40) ≡ false
-  pub closes : (b == 41) ≡ false
-  pub colon : (b == 58) ≡ false
+  pub opens : (b == char "(") ≡ false
+  pub closes : (b == char ")") ≡ false
+  pub colon : (b == char ":") ≡ false
 
 -- what holds between two bytes
 pub record IsReader (s : SddlReader) (buf : List ℕ) : Type 0 where
