@@ -9,6 +9,26 @@ ghost use Rattle.sd_command.specs.CommandLine.{flag_rule, option_rule, required_
 use clap::{Arg, ArgAction, Command};
 use std::alloc::{AllocError, Global};
 
+/// What the program reads and writes: shown below its help.
+const STREAMS: &str = "Each line of standard input is a descriptor, and its answer goes to standard output, in the
+same order. A line that is none is answered by an error line in its place.
+
+Status: 0 where each line was answered, 1 where some answer is an error line, 2 where the words
+do not read, 3 where input or output failed, 4 where there was no memory at the start.";
+
+// Below the help of each command stands an example.
+const CONVERT_EXAMPLE: &str = "Example: echo 'D:(A;;FA;;;WD)' | sdtool convert --from sddl --to hex
+'sdtool --help' says what is read and written.";
+
+const EXPLAIN_EXAMPLE: &str = "Example: echo 'D:(A;;FA;;;WD)' | sdtool explain --from sddl
+'sdtool --help' says what is read and written.";
+
+const CHECK_EXAMPLE: &str = "Example: echo 'D:(A;;FA;;;BU)' | sdtool check --from sddl --token WD,AU,BU --want FR
+'sdtool --help' says what is read and written.";
+
+const DERIVE_EXAMPLE: &str = "Example: echo 'D:(A;OICI;FA;;;CO)' | sdtool derive --from sddl --kind file --owner BA --group SY
+'sdtool --help' says what is read and written.";
+
 /// The command line of the program.
 pub fn command_line<'a>(alloc: Global) -> Result<Command<'a>, AllocError>
     ensures { IfOk result (λ c. app_of c ≡ line) }
@@ -25,6 +45,7 @@ fn bare_line<'a>(alloc: Global) -> Command<'a>
 {
     Command::new(alloc, "sdtool")
         .about("Work on Windows security descriptors, one a line")
+        .after_help(STREAMS)
         .subcommand_required(true)
 }
 
@@ -36,6 +57,7 @@ fn convert_command<'a>(alloc: Global) -> Result<Command<'a>, AllocError>
         alloc,
         "convert",
         "Print each descriptor in a canonical form",
+        CONVERT_EXAMPLE,
     );
     let command = with_arg(command, from_option(alloc))?;
     let command = with_arg(command, to_option(alloc))?;
@@ -51,6 +73,7 @@ fn explain_command<'a>(alloc: Global) -> Result<Command<'a>, AllocError>
         alloc,
         "explain",
         "Say what each descriptor has, on a block of lines",
+        EXPLAIN_EXAMPLE,
     );
     let command = with_arg(command, from_option(alloc))?;
     let command = with_arg(command, domain_option(alloc))?;
@@ -61,7 +84,12 @@ fn check_command<'a>(alloc: Global) -> Result<Command<'a>, AllocError>
     ensures line { IfOk result (λ c. app_of c ≡ check_line) }
     ensures local { IfOk result (λ c. (out-Command c).has_globals ≡ false) }
 {
-    let command = named(alloc, "check", "Say what each descriptor grants to a token");
+    let command = named(
+        alloc,
+        "check",
+        "Say what each descriptor grants to a token",
+        CHECK_EXAMPLE,
+    );
     let command = with_arg(command, from_option(alloc))?;
     let command = with_arg(command, domain_option(alloc))?;
     let command = with_arg(command, token_option(alloc))?;
@@ -95,6 +123,7 @@ fn derive_command<'a>(alloc: Global) -> Result<Command<'a>, AllocError>
         alloc,
         "derive",
         "Print what a new object inherits from each descriptor",
+        DERIVE_EXAMPLE,
     );
     let command = with_arg(command, from_option(alloc))?;
     let command = with_arg(command, to_option(alloc))?;
@@ -202,11 +231,11 @@ fn numeric_flag<'a>(alloc: Global) -> Arg<'a>
     flag(alloc, "numeric", "Print SIDs without aliases")
 }
 
-fn named<'a>(alloc: Global, name: &'a str, about: &'a str) -> Command<'a>
+fn named<'a>(alloc: Global, name: &'a str, about: &'a str, example: &'a str) -> Command<'a>
     ensures app { app_of result ≡ new_app name.entry.now }
     ensures local { (out-Command result).has_globals ≡ false }
 {
-    Command::new(alloc, name).about(about)
+    Command::new(alloc, name).about(about).after_help(example)
 }
 
 fn with_arg<'a>(command: Command<'a>, arg: Arg<'a>) -> Result<Command<'a>, AllocError>

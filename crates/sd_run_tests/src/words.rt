@@ -131,6 +131,12 @@ Commands:
 
 Options:
   -h, --help  Print help
+
+Each line of standard input is a descriptor, and its answer goes to standard output, in the
+same order. A line that is none is answered by an error line in its place.
+
+Status: 0 where each line was answered, 1 where some answer is an error line, 2 where the words
+do not read, 3 where input or output failed, 4 where there was no memory at the start.
 ";
 
 const CONVERT_HELP: &str = "Print each descriptor in a canonical form
@@ -143,6 +149,9 @@ Options:
       --domain <domain>  The SID of the domain whose aliases are read and printed
       --numeric          Print SIDs without aliases
   -h, --help             Print help
+
+Example: echo 'D:(A;;FA;;;WD)' | sdtool convert --from sddl --to hex
+'sdtool --help' says what is read and written.
 ";
 
 const EXPLAIN_HELP: &str = "Say what each descriptor has, on a block of lines
@@ -154,6 +163,9 @@ Options:
       --domain <domain>  The SID of the domain whose aliases are read and printed
       --numeric          Print SIDs without aliases
   -h, --help             Print help
+
+Example: echo 'D:(A;;FA;;;WD)' | sdtool explain --from sddl
+'sdtool --help' says what is read and written.
 ";
 
 const CHECK_HELP: &str = "Say what each descriptor grants to a token
@@ -172,6 +184,9 @@ Options:
       --security         The token holds SeSecurityPrivilege
       --take-ownership   The token holds SeTakeOwnershipPrivilege
   -h, --help             Print help
+
+Example: echo 'D:(A;;FA;;;BU)' | sdtool check --from sddl --token WD,AU,BU --want FR
+'sdtool --help' says what is read and written.
 ";
 
 const DERIVE_HELP: &str = "Print what a new object inherits from each descriptor
@@ -188,6 +203,9 @@ Options:
       --group <group>    The SID of the group of what is made
       --type <type>      The type of object: file, the default, key or ds
   -h, --help             Print help
+
+Example: echo 'D:(A;OICI;FA;;;CO)' | sdtool derive --from sddl --kind file --owner BA --group SY
+'sdtool --help' says what is read and written.
 ";
 
 const HELPS: [(&str, &str); 9] = [
