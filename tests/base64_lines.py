@@ -69,5 +69,6 @@ def any_line(chance, data):
         if chance.random() < 0.5:  # (most faults of the padding are at the end)
             at = max(0, len(text) - chance.randrange(5))
         end = at + chance.choice([0, 1, 1, chance.randrange(5)])
-        text[at:end] = chance.choice([b"", text[at:end] * 2, chance.choices(TELLING_BYTES), chance.choices(SYMBOLS), b"="])
+        others = [b"", b"=", text[at:end] * 2, chance.choices(TELLING_BYTES), chance.choices(SYMBOLS)]
+        text[at:end] = chance.choice(others)
     return bytes(text)

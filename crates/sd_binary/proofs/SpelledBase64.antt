@@ -11,7 +11,8 @@ pub base64-ok : (text bytes : List ℕ) → decode_of standard text ≡ Ok bytes
 unfolding base64_spells
 base64-ok text bytes e = ap or_base64_fault e
 
-pub base64-err : (text : List ℕ) (fault : DecodeError) → decode_of standard text ≡ Err fault → base64_spells text ≡ Err Base64
+pub base64-err : (text : List ℕ) (fault : DecodeError) → decode_of standard text ≡ Err fault
+    → base64_spells text ≡ Err Base64
 unfolding base64_spells
 base64-err text fault e = ap or_base64_fault e
 

@@ -29,4 +29,5 @@ base64_spells text = or_base64_fault (base64_decode_of standard text)
 -- standard alphabet, the bits behind the last byte are zero, as many `=` follow as the last four symbols lack, and
 -- nothing else stands in the text, no blank either.
 abbrev pub IsOneEncoding : List ℕ → Type 0
-IsOneEncoding text = (bytes : List ℕ) → IsBytes bytes → (base64_spells text ≡ Ok bytes) ↔ (text ≡ encode_of standard bytes)
+IsOneEncoding text =
+    (bytes : List ℕ) → IsBytes bytes → (base64_spells text ≡ Ok bytes) ↔ (text ≡ encode_of standard bytes)

@@ -127,8 +127,9 @@ impl SdBuf {
         Ok(())
     }
 
-    /// Replaces the contents by the bytes that a base64 text of at most 174,968 characters spells (RFC 4648,
-    /// section 4), with all of its padding and nothing else in it. After a fault the buffer is empty.
+    /// Replaces the contents by the bytes that a base64 text of at most 174,968 characters spells
+    /// (RFC 4648, section 4), with all of its padding and nothing else in it. After a fault the
+    /// buffer is empty.
     pub fn from_base64(&mut self, text: &[u8]) -> Result<(), TextFault>
         requires { length text.now ≤ 174968 }
         ensures exact { MatchResult (base64_spells text.now)

@@ -102,7 +102,8 @@ module _ (dec : List ℕ) (long : length dec ≡ 256) (table : IsDecodeTable dec
         | inr good ↦ rw good (set-small st.morsels st.morsels_count (slice_index dec b) h (value-small b good))
       ]))
 
-  scan-small : (pad at i : ℕ) (r : Result Leftover DecodeError) (bs : List ℕ) → SmallSoFar r → SmallSoFar (scan_steps dec pad at r i bs)
+  scan-small : (pad at i : ℕ) (r : Result Leftover DecodeError) (bs : List ℕ) → SmallSoFar r
+      → SmallSoFar (scan_steps dec pad at r i bs)
   unfolding scan_steps
   scan-small pad at i (Err e) bs h = tt
   scan-small pad at i (Ok st) [] h = h
