@@ -10,7 +10,8 @@ use clap::{Arg, ArgAction, Command};
 use std::alloc::{AllocError, Global};
 
 /// What the program reads and writes: shown below its help.
-const STREAMS: &str = "Each line of standard input is a descriptor, and its answer goes to standard output, in the
+const STREAMS: &str =
+    "Each line of standard input is a descriptor, and its answer goes to standard output, in the
 same order. A line that is none is answered by an error line in its place.
 
 Status: 0 where each line was answered, 1 where some answer is an error line, 2 where the words
@@ -23,10 +24,12 @@ const CONVERT_EXAMPLE: &str = "Example: echo 'D:(A;;FA;;;WD)' | sdtool convert -
 const EXPLAIN_EXAMPLE: &str = "Example: echo 'D:(A;;FA;;;WD)' | sdtool explain --from sddl
 'sdtool --help' says what is read and written.";
 
-const CHECK_EXAMPLE: &str = "Example: echo 'D:(A;;FA;;;BU)' | sdtool check --from sddl --token WD,AU,BU --want FR
+const CHECK_EXAMPLE: &str =
+    "Example: echo 'D:(A;;FA;;;BU)' | sdtool check --from sddl --token WD,AU,BU --want FR
 'sdtool --help' says what is read and written.";
 
-const DERIVE_EXAMPLE: &str = "Example: echo 'D:(A;OICI;FA;;;CO)' | sdtool derive --from sddl --kind file --owner BA --group SY
+const DERIVE_EXAMPLE: &str =
+    "Example: echo 'D:(A;OICI;FA;;;CO)' | sdtool derive --from sddl --kind file --owner BA --group SY
 'sdtool --help' says what is read and written.";
 
 /// The command line of the program.
