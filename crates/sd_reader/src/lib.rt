@@ -9,4 +9,4 @@ mod reader;
 mod reading;
 
 pub use fault::SddlFault;
-pub use reader::read_sddl;
+pub use reader::{SddlReader, read_sddl};

@@ -15,7 +15,9 @@ mod rights_table;
 pub use digits::{print_decimal, print_decimal_behind, print_hex};
 pub use flags::{flags_from_text, print_flags, put_flags};
 pub use kinds::AceKind;
-pub use limits::{MOST_ENTRIES, MOST_FIELD_SIZE, MOST_SUBS};
+pub use limits::{
+    MOST_BASE64_TEXT, MOST_ENTRIES, MOST_FIELD_SIZE, MOST_HEX_TEXT, MOST_SDDL_TEXT, MOST_SUBS,
+};
 pub use numbers::read_number;
 pub use rights::{print_rights, put_rights};
 pub use rights_reading::rights_from_text;

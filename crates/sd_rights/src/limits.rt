@@ -9,3 +9,12 @@ pub const MOST_SUBS: usize = 15;
 
 /// The entries that a token has at most.
 pub const MOST_ENTRIES: usize = 1024;
+
+/// The hex digits of a line at most: two for each of 131,226 bytes.
+pub const MOST_HEX_TEXT: usize = 262_452;
+
+/// The characters of a line of base64 at most: four for three of 131,226 bytes.
+pub const MOST_BASE64_TEXT: usize = 174_968;
+
+/// The bytes of a line of SDDL at most: eight for each of 131,226 bytes, and 64.
+pub const MOST_SDDL_TEXT: usize = 1_049_872;

@@ -8,4 +8,4 @@ mod trustee;
 
 pub use printed::{print_sddl, put_sddl};
 pub use sd_explain::{print_explain, put_explain};
-pub use sd_reader::{SddlFault, read_sddl};
+pub use sd_reader::{SddlFault, SddlReader, read_sddl};
