@@ -1,6 +1,5 @@
 pub mod CommandLine
 pub mod Inner
-pub mod Mappings
 pub mod Refusing
 pub mod Settings
 pub mod TokenText

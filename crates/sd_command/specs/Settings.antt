@@ -6,7 +6,6 @@ use Rattle.clap.specs.Words.{Row, Text, first_of, subcommand_of}
 use Rattle.sd_core.specs.Sid.{SecurityId}
 use Rattle.sd_core.specs.SidText.{sid_reads}
 use Rattle.sd_core.specs.GuidText.{guid_reads}
-use Rattle.sd_core.specs.Mapping.{GenericMapping}
 use Rattle.sd_core.specs.Token.{Entry}
 use Rattle.sd_core.specs.declared.sid_text.SidFault.{SidFault}
 use Rattle.sd_rights.specs.Rights.{rights_reads}
@@ -15,7 +14,7 @@ use Rattle.sd_access.specs.declared.ask.AskFault.{AskFault}
 use Rattle.sd_inherit.specs.declared.plan.Target.{Target}
 use Rattle.sd_inherit.specs.declared.plan.Target.TheVariants.{File, Container}
 use Rattle.sd_command.specs.CommandLine.{line}
-use Rattle.sd_command.specs.Mappings.{directory_mapping, file_mapping, key_mapping}
+use Rattle.sd_core.specs.Mapping.{GenericMapping, directory_mapping, file_mapping, key_mapping}
 use Rattle.sd_command.specs.TokenText.{entries_read, sid_under}
 use Rattle.sd_command.specs.declared.job.Form.{Form}
 use Rattle.sd_command.specs.declared.job.Form.TheVariants.{Base64, Hex, Sddl}

@@ -1,5 +1,6 @@
 -- Access masks (MS-DTYP 2.4.3), right by right, and what their generic rights mean.
 use Rattle.std.specs.Prelude.{◌<◌, ℕ, ◌/◌, ◌%◌, ◌^◌, ◌==◌, Bool, if◌then◌else◌, bit_or}
+use Rattle.sd_core.specs.declared.mapping.TheConstants.{DS_GENERIC_ALL, DS_GENERIC_EXECUTE, DS_GENERIC_READ, DS_GENERIC_WRITE, FILE_ALL_ACCESS, FILE_GENERIC_EXECUTE, FILE_GENERIC_READ, FILE_GENERIC_WRITE, KEY_ALL_ACCESS, KEY_EXECUTE, KEY_READ, KEY_WRITE}
 
 -- the mask has the right, a bit by its place
 abbrev pub carries : ℕ → ℕ → Bool
@@ -18,6 +19,33 @@ pub record IsMapping (m : GenericMapping) : Type 0 where
   pub write : m.write < 2 ^ 25
   pub execute : m.execute < 2 ^ 25
   pub all : m.all < 2 ^ 25
+
+-- files and folders
+abbrev pub file_mapping : GenericMapping
+file_mapping = record {
+  read = FILE_GENERIC_READ;
+  write = FILE_GENERIC_WRITE;
+  execute = FILE_GENERIC_EXECUTE;
+  all = FILE_ALL_ACCESS;
+}
+
+-- registry keys
+abbrev pub key_mapping : GenericMapping
+key_mapping = record {
+  read = KEY_READ;
+  write = KEY_WRITE;
+  execute = KEY_EXECUTE;
+  all = KEY_ALL_ACCESS;
+}
+
+-- objects of a directory service
+abbrev pub directory_mapping : GenericMapping
+directory_mapping = record {
+  read = DS_GENERIC_READ;
+  write = DS_GENERIC_WRITE;
+  execute = DS_GENERIC_EXECUTE;
+  all = DS_GENERIC_ALL;
+}
 
 abbrev pub mask_if : Bool → ℕ → ℕ
 mask_if carried mask = if carried then mask else 0

@@ -14,6 +14,33 @@ const GENERIC_WRITE: u32 = 30;
 
 const GENERIC_READ: u32 = 31;
 
+// What they stand for on files and folders.
+const FILE_GENERIC_READ: u32 = 0x12_0089;
+
+const FILE_GENERIC_WRITE: u32 = 0x12_0116;
+
+const FILE_GENERIC_EXECUTE: u32 = 0x12_00a0;
+
+const FILE_ALL_ACCESS: u32 = 0x1f_01ff;
+
+// On registry keys.
+const KEY_READ: u32 = 0x2_0019;
+
+const KEY_WRITE: u32 = 0x2_0006;
+
+const KEY_EXECUTE: u32 = 0x2_0019;
+
+const KEY_ALL_ACCESS: u32 = 0xf_003f;
+
+// On objects of a directory service.
+const DS_GENERIC_READ: u32 = 0x2_0094;
+
+const DS_GENERIC_WRITE: u32 = 0x2_0028;
+
+const DS_GENERIC_EXECUTE: u32 = 0x2_0004;
+
+const DS_GENERIC_ALL: u32 = 0xf_01ff;
+
 /// The rights that the four generic rights stand for, on one kind of object. There are these three, and no
 /// other can be made.
 #[derive(Clone, Copy, Debug, PartialEq, Eq)]
@@ -39,26 +66,26 @@ impl Model for Mapping {
 impl Mapping {
     /// Files and folders.
     pub const FILE: Mapping = Mapping {
-        read: 0x12_0089,
-        write: 0x12_0116,
-        execute: 0x12_00a0,
-        all: 0x1f_01ff,
+        read: FILE_GENERIC_READ,
+        write: FILE_GENERIC_WRITE,
+        execute: FILE_GENERIC_EXECUTE,
+        all: FILE_ALL_ACCESS,
     };
 
     /// Registry keys.
     pub const KEY: Mapping = Mapping {
-        read: 0x2_0019,
-        write: 0x2_0006,
-        execute: 0x2_0019,
-        all: 0xf_003f,
+        read: KEY_READ,
+        write: KEY_WRITE,
+        execute: KEY_EXECUTE,
+        all: KEY_ALL_ACCESS,
     };
 
     /// Objects of a directory service.
     pub const DS: Mapping = Mapping {
-        read: 0x2_0094,
-        write: 0x2_0028,
-        execute: 0x2_0004,
-        all: 0xf_01ff,
+        read: DS_GENERIC_READ,
+        write: DS_GENERIC_WRITE,
+        execute: DS_GENERIC_EXECUTE,
+        all: DS_GENERIC_ALL,
     };
 
     /// The rights of GENERIC_READ.
