@@ -16,7 +16,8 @@ use Rattle.sd_explain.specs.Explain.{ace_head, ace_line, ace_rights, ace_trustee
 
 -- `unfolding explained` lets `refl` compute a row
 explained : Unit {0}
-unfolding kind_entry kind_letters explain control_line rm_line sid_line sid_words count_line ace_line ace_head ace_rights ace_trustee alias_of flags_text rights_text guid_text digits
+unfolding kind_entry kind_letters explain control_line rm_line sid_line sid_words count_line ace_line ace_head
+    ace_rights ace_trustee alias_of flags_text rights_text guid_text digits
 explained = tt
 
 named : Naming

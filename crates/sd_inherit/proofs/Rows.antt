@@ -73,7 +73,8 @@ goes_on : copies (plan Container) (ace kinds.Audit 0xc3 0x1 users) ≡ ace kinds
 unfolding computed
 goes_on = refl
 
-label_goes_on : copies (plan Container) (ace kinds.Label 0x3 0x8000_0000 high) ≡ ace kinds.Label 0x13 0x8000_0000 high ∷ []
+label_goes_on : copies (plan Container) (ace kinds.Label 0x3 0x8000_0000 high) ≡ ace kinds.Label 0x13 0x8000_0000
+    high ∷ []
 unfolding computed
 label_goes_on = refl
 
@@ -86,7 +87,8 @@ one_level = refl
 
 -- OI alone: to hand on, unless NP
 
-files_below : copies (plan Container) (ace kinds.Allow 0x1 0xa000_0000 users) ≡ ace kinds.Allow 0x19 0xa000_0000 users ∷ []
+files_below : copies (plan Container) (ace kinds.Allow 0x1 0xa000_0000 users) ≡ ace kinds.Allow 0x19 0xa000_0000
+    users ∷ []
 unfolding computed
 files_below = refl
 
@@ -128,7 +130,8 @@ no_copy_in_the_sacl : derived (parent (acl.List (ace kinds.Label 0x2 0x1 high �
 unfolding computed parent child
 no_copy_in_the_sacl = refl
 
-copy_in_the_sacl : derived (parent (acl.List (ace kinds.Label 0x1 0x1 high ∷ [])) (acl.List (ace kinds.Allow 0x1 0x1 users ∷ [])))
+copy_in_the_sacl : derived
+    (parent (acl.List (ace kinds.Label 0x1 0x1 high ∷ [])) (acl.List (ace kinds.Allow 0x1 0x1 users ∷ [])))
     (plan File)
     ≡ child 0x8c14 (acl.List (ace kinds.Label 0x10 0x1 high ∷ [])) (ace kinds.Allow 0x10 0x1 users ∷ [])
 unfolding computed parent child

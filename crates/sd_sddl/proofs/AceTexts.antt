@@ -23,15 +23,18 @@ abbrev joined : List ℕ → List (List ℕ) → List ℕ
 joined text [] = text
 joined text (t ∷ ts) = text ++ 59 ∷ joined t ts
 
-cuts-before : (text rest : List ℕ) → IsPlain text → cuts (text ++ rest) ≡ record { first = text ++ (cuts rest).first; others = (cuts rest).others }
+cuts-before : (text rest : List ℕ) → IsPlain text
+    → cuts (text ++ rest) ≡ record { first = text ++ (cuts rest).first; others = (cuts rest).others }
 cuts-before [] rest h = refl
 cuts-before (b ∷ bs) rest h =
     let parts = both (is_plain_byte b) _ h in
     ap (with_cut b) (cuts-before bs rest parts.1) ∙ rw (no_mark b parts.0).semicolon refl
 
-joined-cuts : (text : List ℕ) (ts : List (List ℕ)) → IsPlain text → AllByRecursion IsPlain ts → cuts (joined text ts) ≡ record { first = text; others = ts }
+joined-cuts : (text : List ℕ) (ts : List (List ℕ)) → IsPlain text → AllByRecursion IsPlain ts
+    → cuts (joined text ts) ≡ record { first = text; others = ts }
 joined-cuts text [] h k =
-    ap cuts (sym (append-nil text)) ∙ cuts-before text [] h ∙ ap (λ (t : List ℕ). record { first = t; others = [] }) (append-nil text)
+    ap cuts (sym (append-nil text)) ∙ cuts-before text [] h
+    ∙ ap (λ (t : List ℕ). record { first = t; others = [] }) (append-nil text)
 joined-cuts text (t ∷ ts) h k =
     cuts-before text (59 ∷ joined t ts) h
     ∙ ap (λ (c : Cuts). record { first = text ++ []; others = c.first ∷ c.others }) (joined-cuts t ts k.0 k.1)
@@ -41,7 +44,8 @@ text-inner : (text : List ℕ) → IsPlain text → list_all is_inner_byte text 
 text-inner [] h = refl
 text-inner (b ∷ bs) h = let parts = both (is_plain_byte b) _ h in rw (parts.0) (text-inner bs parts.1)
 
-joined-inner : (text : List ℕ) (ts : List (List ℕ)) → IsPlain text → AllByRecursion IsPlain ts → list_all is_inner_byte (joined text ts) ≡ true
+joined-inner : (text : List ℕ) (ts : List (List ℕ)) → IsPlain text → AllByRecursion IsPlain ts
+    → list_all is_inner_byte (joined text ts) ≡ true
 joined-inner text [] h k = text-inner text h
 joined-inner text (t ∷ ts) h k =
     list_all-append is_inner_byte text (59 ∷ joined t ts) ∙ rw (text-inner text h) (joined-inner t ts k.0 k.1)
@@ -49,7 +53,8 @@ joined-inner text (t ∷ ts) h k =
 -- 2. The six fields.
 
 abbrev other_texts : Naming → AccessControlEntry → List (List ℕ)
-other_texts naming a = flags_text a.flags ∷ rights_text a.kind a.mask ∷ object_text a.object ∷ object_text a.inherited ∷ trustee_text naming a.sid ∷ []
+other_texts naming a = flags_text a.flags ∷ rights_text a.kind a.mask ∷ object_text a.object ∷ object_text
+    a.inherited ∷ trustee_text naming a.sid ∷ []
 
 -- what the parentheses hold
 abbrev pub inner_text : Naming → AccessControlEntry → List ℕ
@@ -62,13 +67,15 @@ before_text rest text (t ∷ ts) = text ++ 59 ∷ before_text rest t ts
 
 joined-before : (rest text : List ℕ) (ts : List (List ℕ)) → joined text ts ++ rest ≡ before_text rest text ts
 joined-before rest text [] = refl
-joined-before rest text (t ∷ ts) = append_assoc text (59 ∷ joined t ts) rest ∙ ap (λ (x : List ℕ). text ++ 59 ∷ x) (joined-before rest t ts)
+joined-before rest text (t ∷ ts) = append_assoc text (59 ∷ joined t ts) rest
+    ∙ ap (λ (x : List ℕ). text ++ 59 ∷ x) (joined-before rest t ts)
 
 marked : (text rest : List ℕ) → (text ++ 59 ∷ []) ++ rest ≡ text ++ 59 ∷ rest
 marked text rest = append_assoc text (59 ∷ []) rest
 
 in_one : (k f r o i t : List ℕ)
-    → ((40 ∷ k ++ 59 ∷ []) ++ (f ++ 59 ∷ [])) ++ (((r ++ 59 ∷ []) ++ (o ++ 59 ∷ [])) ++ ((i ++ 59 ∷ []) ++ (t ++ 41 ∷ [])))
+    → ((40 ∷ k ++ 59 ∷ []) ++ (f ++ 59 ∷ []))
+    ++ (((r ++ 59 ∷ []) ++ (o ++ 59 ∷ [])) ++ ((i ++ 59 ∷ []) ++ (t ++ 41 ∷ [])))
     ≡ in_parentheses (joined k (f ∷ r ∷ o ∷ i ∷ t ∷ []))
 in_one k f r o i t =
     let last = (i ++ 59 ∷ []) ++ (t ++ 41 ∷ []) in
@@ -77,20 +84,30 @@ in_one k f r o i t =
     let others = rights ∙ ap (λ (x : List ℕ). r ++ 59 ∷ x) objects in
     append_assoc (40 ∷ k ++ 59 ∷ []) (f ++ 59 ∷ []) (((r ++ 59 ∷ []) ++ (o ++ 59 ∷ [])) ++ last)
     ∙ marked (40 ∷ k) ((f ++ 59 ∷ []) ++ (((r ++ 59 ∷ []) ++ (o ++ 59 ∷ [])) ++ last))
-    ∙ ap (λ (x : List ℕ). 40 ∷ k ++ 59 ∷ x) (marked f (((r ++ 59 ∷ []) ++ (o ++ 59 ∷ [])) ++ last) ∙ ap (λ (x : List ℕ). f ++ 59 ∷ x) others)
+    ∙ ap (λ (x : List ℕ). 40 ∷ k ++ 59 ∷ x)
+    (marked f (((r ++ 59 ∷ []) ++ (o ++ 59 ∷ [])) ++ last) ∙ ap (λ (x : List ℕ). f ++ 59 ∷ x) others)
     ∙ ap (λ (x : List ℕ). 40 ∷ x) (sym (joined-before (41 ∷ []) k (f ∷ r ∷ o ∷ i ∷ t ∷ [])))
 
-pub ace_text-inner : (naming : Naming) (a : AccessControlEntry) → ace_text naming a ≡ in_parentheses (inner_text naming a)
+pub ace_text-inner : (naming : Naming) (a : AccessControlEntry)
+    → ace_text naming a ≡ in_parentheses (inner_text naming a)
 unfolding ace_text kind_field flags_field rights_field object_field trustee_field
 ace_text-inner naming a =
-    in_one (kind_text a.kind) (flags_text a.flags) (rights_text a.kind a.mask) (object_text a.object) (object_text a.inherited) (trustee_text naming a.sid)
+    in_one (kind_text a.kind) (flags_text a.flags) (rights_text a.kind a.mask) (object_text a.object)
+    (object_text a.inherited) (trustee_text naming a.sid)
 
 others-plain : (naming : Naming) (a : AccessControlEntry) → IsAce a → AllByRecursion IsPlain (other_texts naming a)
-others-plain naming a h =
-    (flags-plain a.flags, (rights-plain a.kind a.mask h.mask, (object-plain a.object, (object-plain a.inherited, (trustee-plain naming a.sid h.sid, tt)))))
+others-plain naming a h = (
+  flags-plain a.flags,
+  (
+    rights-plain a.kind a.mask h.mask,
+    (object-plain a.object, (object-plain a.inherited, (trustee-plain naming a.sid h.sid, tt))),
+  ),
+)
 
-inner-cuts : (naming : Naming) (a : AccessControlEntry) → IsAce a → cuts (inner_text naming a) ≡ record { first = kind_text a.kind; others = other_texts naming a }
-inner-cuts naming a h = joined-cuts (kind_text a.kind) (other_texts naming a) (kind-plain a.kind) (others-plain naming a h)
+inner-cuts : (naming : Naming) (a : AccessControlEntry) → IsAce a
+    → cuts (inner_text naming a) ≡ record { first = kind_text a.kind; others = other_texts naming a }
+inner-cuts naming a h = joined-cuts (kind_text a.kind) (other_texts naming a) (kind-plain a.kind)
+    (others-plain naming a h)
 
 pub inner_text-is : (naming : Naming) (a : AccessControlEntry) → IsAce a → IsInner (inner_text naming a)
 inner_text-is naming a h = record {

@@ -54,7 +54,8 @@ sacl_part naming d = listed (head.Acl which.Sacl) (acl_body naming (sacl_of d.co
 printed_parts : Naming → Descriptor → List Part
 printed_parts naming d = (owner_part naming d ++ group_part naming d) ++ (dacl_part naming d ++ sacl_part naming d)
 
-all-append : {X : Type 0} (P : X → Type 0) (xs ys : List X) → AllByRecursion P xs → AllByRecursion P ys → AllByRecursion P (xs ++ ys)
+all-append : {X : Type 0} (P : X → Type 0) (xs ys : List X) → AllByRecursion P xs → AllByRecursion P ys
+    → AllByRecursion P (xs ++ ys)
 all-append P [] ys h k = k
 all-append P (x ∷ xs) ys h k = (h.0, all-append P xs ys h.1 k)
 
@@ -68,31 +69,41 @@ printed_parts-are naming d h =
     all-append IsPart _ _ (all-append IsPart _ _ owner group) (all-append IsPart _ _ dacl sacl)
 
 sid-text : (naming : Naming) (p : SidPart) (o : Option SecurityId)
-    → sid_text_of naming (letter_of (head.Sid p) ∷ 58 ∷ []) o ≡ flat_map part_text (listed (head.Sid p) (sid_body naming o))
+    → sid_text_of naming (letter_of (head.Sid p) ∷ 58 ∷ []) o ≡ flat_map part_text
+    (listed (head.Sid p) (sid_body naming o))
 sid-text naming p None = refl
 sid-text naming p (Some s) =
     ap (λ (x : List ℕ). letter_of (head.Sid p) ∷ 58 ∷ x)
     (sym (append-nil (trustee_text naming s)) ∙ sym (append-nil (trustee_text naming s ++ [])))
 
-aces-text : (naming : Naming) (aces : List AccessControlEntry) → flat_map (ace_text naming) aces ≡ flat_map in_parentheses (map (inner_text naming) aces)
+aces-text : (naming : Naming) (aces : List AccessControlEntry)
+    → flat_map (ace_text naming) aces ≡ flat_map in_parentheses (map (inner_text naming) aces)
 aces-text naming [] = refl
 aces-text naming (a ∷ others) = rw (ace_text-inner naming a, aces-text naming others) refl
 
 acl-text : (naming : Naming) (w : Which) (f : AclFlags) (part : AclPart)
-    → acl_text naming (letter_of (head.Acl w) ∷ 58 ∷ []) (front_text f) part ≡ flat_map part_text (listed (head.Acl w) (acl_body naming f part))
+    → acl_text naming (letter_of (head.Acl w) ∷ 58 ∷ []) (front_text f) part ≡ flat_map part_text
+    (listed (head.Acl w) (acl_body naming f part))
 acl-text naming w f acl.Absent = refl
 acl-text naming w f acl.Null =
     let text = front_text f ++ codes "NO_ACCESS_CONTROL" in
     ap (λ (x : List ℕ). letter_of (head.Acl w) ∷ 58 ∷ x) (sym (append-nil text) ∙ sym (append-nil (text ++ [])))
 acl-text naming w f (acl.List aces) =
     ap (λ (x : List ℕ). letter_of (head.Acl w) ∷ 58 ∷ front_text f ++ x) (aces-text naming aces)
-    ∙ ap (λ (x : List ℕ). letter_of (head.Acl w) ∷ 58 ∷ x) (sym (append-nil (front_text f ++ flat_map in_parentheses (map (inner_text naming) aces))))
+    ∙ ap (λ (x : List ℕ). letter_of (head.Acl w) ∷ 58 ∷ x)
+    (sym (append-nil (front_text f ++ flat_map in_parentheses (map (inner_text naming) aces))))
 
 parts-text : (o g d s : List Part)
-    → flat_map part_text ((o ++ g) ++ (d ++ s)) ≡ (flat_map part_text o ++ flat_map part_text g) ++ (flat_map part_text d ++ flat_map part_text s)
-parts-text o g d s = rw (flat_map-append part_text (o ++ g) (d ++ s), flat_map-append part_text o g, flat_map-append part_text d s) refl
+    → flat_map part_text ((o ++ g) ++ (d ++ s)) ≡ (flat_map part_text o ++ flat_map part_text g)
+    ++ (flat_map part_text d ++ flat_map part_text s)
+parts-text o g d s = rw (
+  flat_map-append part_text (o ++ g) (d ++ s),
+  flat_map-append part_text o g,
+  flat_map-append part_text d s,
+) refl
 
-same-texts : (o g d s o' g' d' s' : List ℕ) → o ≡ o' → g ≡ g' → d ≡ d' → s ≡ s' → (o ++ g) ++ (d ++ s) ≡ (o' ++ g') ++ (d' ++ s')
+same-texts : (o g d s o' g' d' s' : List ℕ) → o ≡ o' → g ≡ g' → d ≡ d' → s ≡ s' → (o ++ g) ++ (d ++ s) ≡ (o' ++ g')
+    ++ (d' ++ s')
 same-texts o g d s o' g' d' s' e f h k = cc
 
 sddl-printed : (naming : Naming) (d : Descriptor) → sddl naming d ≡ flat_map part_text (printed_parts naming d)
@@ -118,7 +129,8 @@ two-back domain ps qs r r1 r2 h k =
 abbrev with_sids : Option SecurityId → Option SecurityId → FieldsRead
 with_sids owner group = record nothing_read { parts = record no_parts { owner = owner; group = group } }
 
-sids-read : (o g : Option SecurityId) → with_sid_part sid_part.Group g (with_sid_part sid_part.Owner o nothing_read) ≡ with_sids o g
+sids-read : (o g : Option SecurityId)
+    → with_sid_part sid_part.Group g (with_sid_part sid_part.Owner o nothing_read) ≡ with_sids o g
 sids-read None None = refl
 sids-read None (Some g) = refl
 sids-read (Some o) None = refl
@@ -131,15 +143,19 @@ abbrev whole_of : Descriptor → FieldsRead
 whole_of d = whole d.owner d.group (dacl_of d.control) d.dacl (sacl_of d.control) d.sacl
 
 sids-back : (naming : Naming) (d : Descriptor) → IsDescriptor d
-    → read_fields naming.domain (flat_map part_fields (owner_part naming d ++ group_part naming d)) nothing_read ≡ Ok (with_sids d.owner d.group)
+    → read_fields naming.domain (flat_map part_fields (owner_part naming d ++ group_part naming d)) nothing_read ≡ Ok
+    (with_sids d.owner d.group)
 sids-back naming d h =
     let with_owner = with_sid_part sid_part.Owner d.owner nothing_read in
     let owner = sid-back naming sid_part.Owner d.owner nothing_read h.owner in
-    let group = sid-back naming sid_part.Group d.group with_owner h.group ∙ ap (λ (x : FieldsRead). Ok x) (sids-read d.owner d.group) in
-    two-back naming.domain (owner_part naming d) (group_part naming d) nothing_read with_owner (with_sids d.owner d.group) owner group
+    let group = sid-back naming sid_part.Group d.group with_owner h.group
+    ∙ ap (λ (x : FieldsRead). Ok x) (sids-read d.owner d.group) in
+    two-back naming.domain (owner_part naming d) (group_part naming d) nothing_read with_owner
+    (with_sids d.owner d.group) owner group
 
 acls-back : (naming : Naming) (d : Descriptor) → IsDescriptor d
-    → read_fields naming.domain (flat_map part_fields (dacl_part naming d ++ sacl_part naming d)) (with_sids d.owner d.group) ≡ Ok (whole_of d)
+    → read_fields naming.domain (flat_map part_fields (dacl_part naming d ++ sacl_part naming d))
+    (with_sids d.owner d.group) ≡ Ok (whole_of d)
 acls-back naming d h =
     let sids = with_sids d.owner d.group in
     let with_dacl = with_acl_part which.Dacl (dacl_of d.control) d.dacl sids in
@@ -153,7 +169,8 @@ unfolding printed_parts
 printed-back naming d h =
     let sids = owner_part naming d ++ group_part naming d in
     let acls = dacl_part naming d ++ sacl_part naming d in
-    two-back naming.domain sids acls nothing_read (with_sids d.owner d.group) (whole_of d) (sids-back naming d h) (acls-back naming d h)
+    two-back naming.domain sids acls nothing_read (with_sids d.owner d.group) (whole_of d) (sids-back naming d h)
+    (acls-back naming d h)
 
 same-large : (w : Which) (f : AclFlags) (part : AclPart) (r : FieldsRead) → (with_acl_part w f part r).large ≡ r.large
 same-large w f acl.Absent r = refl
@@ -212,7 +229,8 @@ sacl-bits c acl.Null f e = rw e (omega arith)
 sacl-bits c (acl.List aces) f e = rw e (omega arith)
 
 abbrev made_control : ℕ → AclPart → AclPart → ℕ
-made_control c dacl sacl = control_of (control_flags (flags_of sacl (sacl_of c)) (flags_of dacl (dacl_of c))) (is_present sacl) (is_present dacl)
+made_control c dacl sacl = control_of (control_flags (flags_of sacl (sacl_of c)) (flags_of dacl (dacl_of c)))
+    (is_present sacl) (is_present dacl)
 
 control-made : (c : ℕ) (dacl sacl : AclPart)
     → made_control c dacl sacl ≡ 0x8000 + kept_bits which.Dacl c dacl + kept_bits which.Sacl c sacl
@@ -227,21 +245,26 @@ control-made c dacl sacl =
 whole-plain : (d : Descriptor) → described (whole_of d) ≡ plain d
 whole-plain d =
     whole-described d.owner d.group (dacl_of d.control) d.dacl (sacl_of d.control) d.sacl
-    ∙ ap (λ (n : ℕ). record { control = n; rm = 0; owner = d.owner; group = d.group; sacl = d.sacl; dacl = d.dacl }) (control-made d.control d.dacl d.sacl)
+    ∙ ap (λ (n : ℕ). record { control = n; rm = 0; owner = d.owner; group = d.group; sacl = d.sacl; dacl = d.dacl })
+    (control-made d.control d.dacl d.sacl)
 
 -- 4. The whole line.
 
-judged : (shaped twice : Bool) (read : Result FieldsRead SddlFault) (r : FieldsRead) → shaped ≡ true → twice ≡ false → read ≡ Ok r → r.large ≡ None
+judged : (shaped twice : Bool) (read : Result FieldsRead SddlFault) (r : FieldsRead) → shaped ≡ true → twice ≡ false
+    → read ≡ Ok r → r.large ≡ None
     → finished (verdict shaped twice read) ≡ Ok (described r)
 unfolding finished verdict
 judged shaped twice read r s t e l = rw (s, t, e, l) refl
 
-line-means : (domain : Option SecurityId) (text : List ℕ) (r : FieldsRead) → is_shaped text ≡ true → has_twice (parts_of text).parts ≡ false
-    → read_fields domain (fields_of (parts_of text).parts) nothing_read ≡ Ok r → r.large ≡ None → folded text domain ≡ Ok (described r)
+line-means : (domain : Option SecurityId) (text : List ℕ) (r : FieldsRead) → is_shaped text ≡ true
+    → has_twice (parts_of text).parts ≡ false
+    → read_fields domain (fields_of (parts_of text).parts) nothing_read ≡ Ok r → r.large ≡ None
+    → folded text domain ≡ Ok (described r)
 unfolding folded reads_as
 line-means domain text r s t e l = judged (is_shaped text) (has_twice (parts_of text).parts) _ r s t e l
 
-once : (naming : Naming) (d : Descriptor) → IsDescriptor d → has_twice (parts_of (flat_map part_text (printed_parts naming d))).parts ≡ false
+once : (naming : Naming) (d : Descriptor) → IsDescriptor d
+    → has_twice (parts_of (flat_map part_text (printed_parts naming d))).parts ≡ false
 unfolding printed_parts
 once naming d h =
     let dacl = acl_body naming (dacl_of d.control) d.dacl in
@@ -250,11 +273,14 @@ once naming d h =
     ∙ never_twice (sid_body naming d.owner) (sid_body naming d.group) dacl sacl
 
 -- what is printed of a descriptor reads as it, without what is dropped
-pub folded-sddl : (naming : Naming) (d : Descriptor) → IsDescriptor d → folded (sddl naming d) naming.domain ≡ Ok (plain d)
+pub folded-sddl : (naming : Naming) (d : Descriptor) → IsDescriptor d
+    → folded (sddl naming d) naming.domain ≡ Ok (plain d)
 folded-sddl naming d h =
     let ps = printed_parts naming d in
     let are = printed_parts-are naming d h in
-    let fields = ap (λ (fs : List Field). read_fields naming.domain fs nothing_read) (line-fields ps are) ∙ printed-back naming d h in
+    let fields = ap (λ (fs : List Field). read_fields naming.domain fs nothing_read) (line-fields ps are)
+    ∙ printed-back naming d h in
     ap (λ (text : List ℕ). folded text naming.domain) (sddl-printed naming d)
-    ∙ line-means naming.domain (flat_map part_text ps) (whole_of d) (line-shaped ps are) (once naming d h) fields (never-large d)
+    ∙ line-means naming.domain (flat_map part_text ps) (whole_of d) (line-shaped ps are) (once naming d h) fields
+    (never-large d)
     ∙ ap (λ (x : Descriptor). Ok x) (whole-plain d)

@@ -42,7 +42,8 @@ unfolding kind_reads
 kind_back kind = kind_named-letters kind
 
 pub take-kind : (domain : Option SecurityId) (r : FieldsRead) (kind : AceKind)
-    → take_field domain r (slot.Ace field.Kind) (kind_text kind) ≡ Ok (record r { ace = record no_fields { kind = kind } })
+    → take_field domain r (slot.Ace field.Kind) (kind_text kind) ≡ Ok
+    (record r { ace = record no_fields { kind = kind } })
 unfolding take_ace_field
 take-kind domain r kind =
     readable domain r (slot.Ace field.Kind) (kind_text kind) (kind-plain kind) (omega (arith, kind-length kind))
@@ -53,14 +54,18 @@ pub take-flags : (domain : Option SecurityId) (r : FieldsRead) (f : ℕ) → f <
 unfolding take_ace_field
 take-flags domain r f small clear =
     readable domain r (slot.Ace field.Flags) (flags_text f) (flags-plain f) (omega (arith, flags_text-length f))
-    ∙ ap (with_value fault.Flags (λ (n : ℕ). record r { ace = record r.ace { flags = n } })) (flags_read_back f small clear)
+    ∙ ap (with_value fault.Flags (λ (n : ℕ). record r { ace = record r.ace { flags = n } }))
+    (flags_read_back f small clear)
 
 pub take-rights : (domain : Option SecurityId) (r : FieldsRead) (kind : AceKind) (mask : ℕ) → mask < 2 ^ 32
-    → take_field domain r (slot.Ace field.Rights) (rights_text kind mask) ≡ Ok (record r { ace = record r.ace { mask = mask } })
+    → take_field domain r (slot.Ace field.Rights) (rights_text kind mask) ≡ Ok
+    (record r { ace = record r.ace { mask = mask } })
 unfolding take_ace_field
 take-rights domain r kind mask small =
-    readable domain r (slot.Ace field.Rights) (rights_text kind mask) (rights-plain kind mask small) (omega (arith, rights_text-length kind mask small))
-    ∙ ap (with_value fault.Rights (λ (n : ℕ). record r { ace = record r.ace { mask = n } })) (rights_read_back kind mask small)
+    readable domain r (slot.Ace field.Rights) (rights_text kind mask) (rights-plain kind mask small)
+    (omega (arith, rights_text-length kind mask small))
+    ∙ ap (with_value fault.Rights (λ (n : ℕ). record r { ace = record r.ace { mask = n } }))
+    (rights_read_back kind mask small)
 
 -- 2. GUIDs.
 
@@ -89,18 +94,22 @@ pub take-object : (domain : Option SecurityId) (r : FieldsRead) (o : Option (Lis
 unfolding take_ace_field
 take-object domain r o h =
     readable domain r (slot.Ace field.Object) (object_text o) (object-plain o) (object-length o)
-    ∙ ap (with_value fault.Guid (λ (g : Option (List ℕ)). record r { ace = record r.ace { object = g } })) (object_back r.ace.kind o h)
+    ∙ ap (with_value fault.Guid (λ (g : Option (List ℕ)). record r { ace = record r.ace { object = g } }))
+    (object_back r.ace.kind o h)
 
 pub take-inherited : (domain : Option SecurityId) (r : FieldsRead) (o : Option (List ℕ)) → FitsIn r.ace.kind o
-    → take_field domain r (slot.Ace field.Inherited) (object_text o) ≡ Ok (record r { ace = record r.ace { inherited = o } })
+    → take_field domain r (slot.Ace field.Inherited) (object_text o) ≡ Ok
+    (record r { ace = record r.ace { inherited = o } })
 unfolding take_ace_field
 take-inherited domain r o h =
     readable domain r (slot.Ace field.Inherited) (object_text o) (object-plain o) (object-length o)
-    ∙ ap (with_value fault.Guid (λ (g : Option (List ℕ)). record r { ace = record r.ace { inherited = g } })) (object_back r.ace.kind o h)
+    ∙ ap (with_value fault.Guid (λ (g : Option (List ℕ)). record r { ace = record r.ace { inherited = g } }))
+    (object_back r.ace.kind o h)
 
 -- 3. SIDs.
 
-named_back : (o : Option (List ℕ)) (s : SecurityId) (domain : Option SecurityId) → IsSid s → IfSome o (λ name. sid_reads name domain ≡ Ok s)
+named_back : (o : Option (List ℕ)) (s : SecurityId) (domain : Option SecurityId) → IsSid s
+    → IfSome o (λ name. sid_reads name domain ≡ Ok s)
     → sid_reads (name_or o (sid_text s)) domain ≡ Ok s
 named_back None s domain i h = sid_text-reads s i domain
 named_back (Some name) s domain i h = h
@@ -109,7 +118,8 @@ sid_back : (naming : Naming) (s : SecurityId) → IsSid s → sid_reads (trustee
 unfolding trustee_text
 sid_back naming s i = by_naming naming.numeric
   where
-    by_naming : (b : Bool) → sid_reads (name_or (if b then None else alias_of s naming.domain) (sid_text s)) naming.domain ≡ Ok s
+    by_naming : (b : Bool)
+        → sid_reads (name_or (if b then None else alias_of s naming.domain) (sid_text s)) naming.domain ≡ Ok s
     by_naming true = sid_text-reads s i naming.domain
     by_naming false = named_back (alias_of s naming.domain) s naming.domain i (alias-back s naming.domain _ refl)
 
@@ -120,7 +130,8 @@ pub take-trustee : (naming : Naming) (r : FieldsRead) (s : SecurityId) → IsSid
     → take_field naming.domain r (slot.Ace field.Sid) (trustee_text naming s) ≡ Ok (with_trustee r s)
 unfolding take_ace_field
 take-trustee naming r s i =
-    readable naming.domain r (slot.Ace field.Sid) (trustee_text naming s) (trustee-plain naming s i) (trustee-short naming s i)
+    readable naming.domain r (slot.Ace field.Sid) (trustee_text naming s) (trustee-plain naming s i)
+    (trustee-short naming s i)
     ∙ ap (with_sid (with_trustee r)) (sid_back naming s i)
 
 pub take-sid : (naming : Naming) (r : FieldsRead) (p : SidPart) (s : SecurityId) → IsSid s
@@ -178,18 +189,22 @@ null_front_back f = by_flags f.protected f.auto_inherit_required f.auto_inherite
     by_flags false false false = refl
 
 pub take-list : (domain : Option SecurityId) (r : FieldsRead) (w : Which) (has_aces : Bool) (f : AclFlags)
-    → take_field domain r (slot.AclFlags w has_aces) (front_text f) ≡ Ok (with_flags w f (record r { parts = begun_or_null w false (closed r.parts) }))
+    → take_field domain r (slot.AclFlags w has_aces) (front_text f) ≡ Ok
+    (with_flags w f (record r { parts = begun_or_null w false (closed r.parts) }))
 unfolding take_front
 take-list domain r w has_aces f =
     let short = flags-length f in
     readable domain r (slot.AclFlags w has_aces) (front_text f) (front_text-plain f) (omega (arith, short))
     ∙ ap (take_front w has_aces r) (front_back f)
 
-pub take-null : (domain : Option SecurityId) (r : FieldsRead) (w : Which) (has_aces : Bool) (f : AclFlags) → has_aces ≡ false
-    → take_field domain r (slot.AclFlags w has_aces) (null_front_text f) ≡ Ok (with_flags w f (record r { parts = begun_or_null w true (closed r.parts) }))
+pub take-null : (domain : Option SecurityId) (r : FieldsRead) (w : Which) (has_aces : Bool) (f : AclFlags)
+    → has_aces ≡ false
+    → take_field domain r (slot.AclFlags w has_aces) (null_front_text f) ≡ Ok
+    (with_flags w f (record r { parts = begun_or_null w true (closed r.parts) }))
 unfolding take_front
 take-null domain r w has_aces f none =
     let short = flags-length f in
     let long = length-append (front_text f) (codes "NO_ACCESS_CONTROL") in
-    readable domain r (slot.AclFlags w has_aces) (null_front_text f) (null_front_text-plain f) (omega (arith, long, short))
+    readable domain r (slot.AclFlags w has_aces) (null_front_text f) (null_front_text-plain f)
+    (omega (arith, long, short))
     ∙ ap (take_front w has_aces r) (null_front_back f) ∙ rw none refl

@@ -93,7 +93,8 @@ no_parenthesis b h = by_kind (is_plain_byte b) (b == 59) refl refl h
   where
     by_kind : (p s : Bool) → is_plain_byte b ≡ p → (b == 59) ≡ s → (p || s) ≡ true → IsNoParenthesis b
     by_kind true s e f g = record { opening = (no_mark b e).opening; closing = (no_mark b e).closing }
-    by_kind false true e f g = let same : b ≡ 59 = eqb-true b 59 f in rw same (record { opening = refl; closing = refl })
+    by_kind false true e f g = let same : b ≡ 59 = eqb-true b 59 f in rw same
+        (record { opening = refl; closing = refl })
     by_kind false false e f g = absurd cc
 
 inner-pieces : (inner rest : List ℕ) → list_all is_inner_byte inner ≡ true
@@ -103,7 +104,8 @@ inner-pieces (b ∷ bs) rest h =
     let parts = both (is_inner_byte b) _ h in
     rw ((no_parenthesis b parts.0).closing, inner-pieces bs rest parts.1) refl
 
-inner-paired : (inner rest : List ℕ) → list_all is_inner_byte inner ≡ true → is_paired true (inner ++ 41 ∷ rest) ≡ is_paired false rest
+inner-paired : (inner rest : List ℕ) → list_all is_inner_byte inner ≡ true
+    → is_paired true (inner ++ 41 ∷ rest) ≡ is_paired false rest
 inner-paired [] rest h = refl
 inner-paired (b ∷ bs) rest h =
     let parts = both (is_inner_byte b) _ h in
@@ -118,9 +120,11 @@ inner-cut inner h = record {
   paired = λ rest. ap (is_paired true) (append_assoc inner (41 ∷ []) rest) ∙ inner-paired inner rest h.bytes;
 }
 
-inners-cut : (inners : List (List ℕ)) → AllByRecursion IsInner inners → IsCutInto (flat_map in_parentheses inners) (map ace inners)
+inners-cut : (inners : List (List ℕ)) → AllByRecursion IsInner inners
+    → IsCutInto (flat_map in_parentheses inners) (map ace inners)
 inners-cut [] h = nothing-cut
-inners-cut (i ∷ is) h = cut-append (in_parentheses i) (flat_map in_parentheses is) (ace i ∷ []) (map ace is) (inner-cut i h.0) (inners-cut is h.1)
+inners-cut (i ∷ is) h = cut-append (in_parentheses i) (flat_map in_parentheses is) (ace i ∷ []) (map ace is)
+    (inner-cut i h.0) (inners-cut is h.1)
 
 abbrev pub body_pieces : Body → List Piece
 body_pieces b = map byte b.text ++ map ace b.inners
@@ -138,14 +142,18 @@ part-cut : (p : Part) → IsPart p → IsCutInto (part_text p) (part_pieces p)
 part-cut p h =
     let text = p.body.text in
     let inners = p.body.inners in
-    let body = cut-append text (flat_map in_parentheses inners) (map byte text) (map ace inners) (text-cut text h.plain) (inners-cut inners h.inners) in
-    cut-append (letter_of p.head ∷ 58 ∷ []) (body_text p.body) (byte (letter_of p.head) ∷ byte 58 ∷ []) (body_pieces p.body) (head-cut p.head) body
+    let body = cut-append text (flat_map in_parentheses inners) (map byte text) (map ace inners)
+    (text-cut text h.plain) (inners-cut inners h.inners) in
+    cut-append (letter_of p.head ∷ 58 ∷ []) (body_text p.body) (byte (letter_of p.head) ∷ byte 58 ∷ [])
+    (body_pieces p.body) (head-cut p.head) body
 
 line-cut : (ps : List Part) → AllByRecursion IsPart ps → IsCutInto (flat_map part_text ps) (flat_map part_pieces ps)
 line-cut [] h = nothing-cut
-line-cut (p ∷ ps) h = cut-append (part_text p) (flat_map part_text ps) (part_pieces p) (flat_map part_pieces ps) (part-cut p h.0) (line-cut ps h.1)
+line-cut (p ∷ ps) h = cut-append (part_text p) (flat_map part_text ps) (part_pieces p) (flat_map part_pieces ps)
+    (part-cut p h.0) (line-cut ps h.1)
 
-line-pieces : (ps : List Part) → AllByRecursion IsPart ps → (pieces_from false (flat_map part_text ps)).after ≡ flat_map part_pieces ps
+line-pieces : (ps : List Part) → AllByRecursion IsPart ps
+    → (pieces_from false (flat_map part_text ps)).after ≡ flat_map part_pieces ps
 line-pieces ps h =
     ap (λ (x : List ℕ). (pieces_from false x).after) (sym (append-nil (flat_map part_text ps)))
     ∙ (line-cut ps h).pieces [] ∙ append-nil (flat_map part_pieces ps)
@@ -155,11 +163,13 @@ line-paired ps h = ap (is_paired false) (sym (append-nil (flat_map part_text ps)
 
 -- 3. Sections.
 
-text-colon : (text : List ℕ) (ps : List Piece) → IsPlain text → begins_with_colon ps ≡ false → begins_with_colon (map byte text ++ ps) ≡ false
+text-colon : (text : List ℕ) (ps : List Piece) → IsPlain text → begins_with_colon ps ≡ false
+    → begins_with_colon (map byte text ++ ps) ≡ false
 text-colon [] ps h e = e
 text-colon (b ∷ bs) ps h e = (no_mark b (both (is_plain_byte b) _ h).0).colon
 
-aces-colon : (inners : List (List ℕ)) (ps : List Piece) → begins_with_colon ps ≡ false → begins_with_colon (map ace inners ++ ps) ≡ false
+aces-colon : (inners : List (List ℕ)) (ps : List Piece) → begins_with_colon ps ≡ false
+    → begins_with_colon (map ace inners ++ ps) ≡ false
 aces-colon [] ps e = e
 aces-colon (i ∷ is) ps e = refl
 
@@ -173,13 +183,16 @@ text-sections (b ∷ bs) ps h e =
     let parts = both (is_plain_byte b) _ h in
     rw (text-colon bs ps parts.1 e, text-sections bs ps parts.1 e) refl
 
-aces-sections : (inners : List (List ℕ)) (ps : List Piece) → sections (map ace inners ++ ps) ≡ after_pieces (map ace inners) (sections ps)
+aces-sections : (inners : List (List ℕ)) (ps : List Piece)
+    → sections (map ace inners ++ ps) ≡ after_pieces (map ace inners) (sections ps)
 aces-sections [] ps = refl
 aces-sections (i ∷ is) ps = rw (aces-sections is ps) refl
 
-body-colon : (b : Body) (ps : List Piece) → IsPlain b.text → begins_with_colon ps ≡ false → begins_with_colon (body_pieces b ++ ps) ≡ false
+body-colon : (b : Body) (ps : List Piece) → IsPlain b.text → begins_with_colon ps ≡ false
+    → begins_with_colon (body_pieces b ++ ps) ≡ false
 body-colon b ps h e =
-    ap begins_with_colon (append_assoc (map byte b.text) (map ace b.inners) ps) ∙ text-colon b.text (map ace b.inners ++ ps) h (aces-colon b.inners ps e)
+    ap begins_with_colon (append_assoc (map byte b.text) (map ace b.inners) ps)
+    ∙ text-colon b.text (map ace b.inners ++ ps) h (aces-colon b.inners ps e)
 
 body-sections : (b : Body) (ps : List Piece) → IsPlain b.text → begins_with_colon ps ≡ false
     → sections (body_pieces b ++ ps) ≡ after_pieces (body_pieces b) (sections ps)
@@ -187,7 +200,8 @@ body-sections b ps h e =
     ap sections (append_assoc (map byte b.text) (map ace b.inners) ps)
     ∙ text-sections b.text (map ace b.inners ++ ps) h (aces-colon b.inners ps e)
     ∙ ap (after_pieces (map byte b.text)) (aces-sections b.inners ps)
-    ∙ ap (λ (x : List Piece). record { before = x; parts = (sections ps).parts }) (sym (append_assoc (map byte b.text) (map ace b.inners) (sections ps).before))
+    ∙ ap (λ (x : List Piece). record { before = x; parts = (sections ps).parts })
+    (sym (append_assoc (map byte b.text) (map ace b.inners) (sections ps).before))
 
 abbrev pub section_of : Part → Section
 section_of p = record { head = p.head; body = body_pieces p.body }
@@ -205,21 +219,28 @@ letter-colon (head.Acl which.Dacl) = refl
 letter-colon (head.Acl which.Sacl) = refl
 
 headed : (h : Head) (ps : List Piece) → begins_with_colon ps ≡ false
-    → sections (byte (letter_of h) ∷ byte 58 ∷ ps) ≡ record { before = []; parts = record { head = h; body = (sections ps).before } ∷ (sections ps).parts }
+    → sections (byte (letter_of h) ∷ byte 58 ∷ ps) ≡ record {
+      before = [];
+      parts = record { head = h; body = (sections ps).before } ∷ (sections ps).parts;
+    }
 headed h ps e = rw (letter-head h, e) refl
 
 line-colon : (ps : List Part) → begins_with_colon (flat_map part_pieces ps) ≡ false
 line-colon [] = refl
 line-colon (p ∷ ps) = letter-colon p.head
 
-line-sections : (ps : List Part) → AllByRecursion IsPart ps → sections (flat_map part_pieces ps) ≡ record { before = []; parts = map section_of ps }
+line-sections : (ps : List Part) → AllByRecursion IsPart ps
+    → sections (flat_map part_pieces ps) ≡ record { before = []; parts = map section_of ps }
 line-sections [] h = refl
 line-sections (p ∷ ps) h =
     let rest = flat_map part_pieces ps in
-    let after = body-sections p.body rest h.0.plain (line-colon ps) ∙ ap (after_pieces (body_pieces p.body)) (line-sections ps h.1) in
+    let after = body-sections p.body rest h.0.plain (line-colon ps)
+    ∙ ap (after_pieces (body_pieces p.body)) (line-sections ps h.1) in
     headed p.head (body_pieces p.body ++ rest) (body-colon p.body rest h.0.plain (line-colon ps))
     ∙ ap (λ (s : Sections). record { before = []; parts = record { head = p.head; body = s.before } ∷ s.parts }) after
-    ∙ ap (λ (x : List Piece). record { before = []; parts = record { head = p.head; body = x } ∷ map section_of ps }) (append-nil (body_pieces p.body))
+    ∙ ap (λ (x : List Piece). record { before = []; parts = record { head = p.head; body = x } ∷ map section_of ps })
+    (append-nil (body_pieces p.body))
 
-pub line-parts : (ps : List Part) → AllByRecursion IsPart ps → parts_of (flat_map part_text ps) ≡ record { before = []; parts = map section_of ps }
+pub line-parts : (ps : List Part) → AllByRecursion IsPart ps
+    → parts_of (flat_map part_text ps) ≡ record { before = []; parts = map section_of ps }
 line-parts ps h = ap sections (line-pieces ps h) ∙ line-sections ps h

@@ -22,13 +22,17 @@ inners-shaped : (inners : List (List ℕ)) → AllByRecursion IsInner inners →
 inners-shaped [] h = refl
 inners-shaped (i ∷ is) h = rw (h.0.six) (inners-shaped is h.1)
 
-acl_body : (text : List ℕ) (inners : List (List ℕ)) → IsPlain text → AllByRecursion IsInner inners → is_acl_body (map byte text ++ map ace inners) ≡ true
+acl_body : (text : List ℕ) (inners : List (List ℕ)) → IsPlain text → AllByRecursion IsInner inners
+    → is_acl_body (map byte text ++ map ace inners) ≡ true
 acl_body [] [] h k = refl
 acl_body [] (i ∷ is) h k = inners-shaped (i ∷ is) k
-acl_body (b ∷ bs) inners h k = let parts = both (is_plain_byte b) _ h in rw (no_mark b parts.0).colon (acl_body bs inners parts.1 k)
+acl_body (b ∷ bs) inners h k = let parts = both (is_plain_byte b) _ h in rw (no_mark b parts.0).colon
+    (acl_body bs inners parts.1 k)
 
-body-shaped : (h : Head) (b : Body) → IsPlain b.text → AllByRecursion IsInner b.inners → MayHold h b.inners → is_body h (body_pieces b) ≡ true
-body-shaped (head.Sid p) b h k m = ap (λ (is : List (List ℕ)). is_sid_body (map byte b.text ++ map ace is)) m ∙ sid_body b.text h
+body-shaped : (h : Head) (b : Body) → IsPlain b.text → AllByRecursion IsInner b.inners → MayHold h b.inners
+    → is_body h (body_pieces b) ≡ true
+body-shaped (head.Sid p) b h k m = ap (λ (is : List (List ℕ)). is_sid_body (map byte b.text ++ map ace is)) m
+    ∙ sid_body b.text h
 body-shaped (head.Acl w) b h k m = acl_body b.text b.inners h k
 
 parts-shaped : (ps : List Part) → AllByRecursion IsPart ps → are_shaped (map section_of ps) ≡ true
@@ -37,8 +41,10 @@ parts-shaped (p ∷ ps) h = rw (body-shaped p.head p.body h.0.plain h.0.inners h
 
 pub line-shaped : (ps : List Part) → AllByRecursion IsPart ps → is_shaped (flat_map part_text ps) ≡ true
 line-shaped ps h =
-    ap (λ (b : Bool). b && (list_all is_blank_piece (parts_of (flat_map part_text ps)).before && are_shaped (parts_of (flat_map part_text ps)).parts)) (line-paired ps h)
-    ∙ ap (λ (s : Sections). list_all is_blank_piece s.before && are_shaped s.parts) (line-parts ps h) ∙ parts-shaped ps h
+    ap (λ (b : Bool). b && (list_all is_blank_piece (parts_of (flat_map part_text ps)).before && are_shaped
+    (parts_of (flat_map part_text ps)).parts)) (line-paired ps h)
+    ∙ ap (λ (s : Sections). list_all is_blank_piece s.before && are_shaped s.parts) (line-parts ps h)
+    ∙ parts-shaped ps h
 
 -- 2. Heads that stand once.
 
@@ -50,7 +56,8 @@ listed h (Some b) = record { head = h; body = b } ∷ []
 -- owner, group, DACL and SACL
 abbrev pub four_parts : Option Body → Option Body → Option Body → Option Body → List Part
 four_parts owner group dacl sacl =
-    (listed (head.Sid sid_part.Owner) owner ++ listed (head.Sid sid_part.Group) group) ++ (listed (head.Acl which.Dacl) dacl ++ listed (head.Acl which.Sacl) sacl)
+    (listed (head.Sid sid_part.Owner) owner ++ listed (head.Sid sid_part.Group) group)
+    ++ (listed (head.Acl which.Dacl) dacl ++ listed (head.Acl which.Sacl) sacl)
 
 pub never_twice : (o g d s : Option Body) → has_twice (map section_of (four_parts o g d s)) ≡ false
 never_twice None None None None = refl
@@ -105,7 +112,8 @@ text-no_aces (b ∷ bs) = text-no_aces bs
 -- the fields of a part
 abbrev pub fields_under : Head → Body → List Field
 fields_under (head.Sid p) b = record { slot = slot.Sid p; text = b.text } ∷ []
-fields_under (head.Acl w) b = record { slot = slot.AclFlags w (has_aces (body_pieces b)); text = b.text } ∷ flat_map ace_fields b.inners
+fields_under (head.Acl w) b = record { slot = slot.AclFlags w (has_aces (body_pieces b)); text = b.text } ∷ flat_map
+    ace_fields b.inners
 
 abbrev pub part_fields : Part → List Field
 part_fields p = fields_under p.head p.body
@@ -118,5 +126,6 @@ parts-fields : (ps : List Part) → AllByRecursion IsPart ps → fields_of (map 
 parts-fields [] h = refl
 parts-fields (p ∷ ps) h = rw (part-fields p.head p.body h.0.plain, parts-fields ps h.1) refl
 
-pub line-fields : (ps : List Part) → AllByRecursion IsPart ps → fields_of (parts_of (flat_map part_text ps)).parts ≡ flat_map part_fields ps
+pub line-fields : (ps : List Part) → AllByRecursion IsPart ps
+    → fields_of (parts_of (flat_map part_text ps)).parts ≡ flat_map part_fields ps
 line-fields ps h = ap (λ (s : Sections). fields_of s.parts) (line-parts ps h) ∙ parts-fields ps h

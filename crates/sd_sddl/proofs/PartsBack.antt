@@ -36,31 +36,37 @@ use Rattle.sd_sddl.proofs.PlainTexts.{trustee-plain}
 -- 1. Fields one after the other.
 
 -- fields that are read, before others
-pub read-on : (domain : Option SecurityId) (fs gs : List Field) (r after : FieldsRead) → read_fields domain fs r ≡ Ok after
+pub read-on : (domain : Option SecurityId) (fs gs : List Field) (r after : FieldsRead)
+    → read_fields domain fs r ≡ Ok after
     → read_fields domain (fs ++ gs) r ≡ read_fields domain gs after
-read-on domain fs gs r after e = read-append domain fs gs r ∙ ap (λ (t : Result FieldsRead SddlFault). and_then t (read_fields domain gs)) e
+read-on domain fs gs r after e = read-append domain fs gs r
+    ∙ ap (λ (t : Result FieldsRead SddlFault). and_then t (read_fields domain gs)) e
 
 Takes : Option SecurityId → Field → FieldsRead → FieldsRead → Type 0
 Takes domain f r after = take_field domain r f.slot f.text ≡ Ok after
 
-read-one : (domain : Option SecurityId) (f : Field) (r after : FieldsRead) → Takes domain f r after → read_fields domain (f ∷ []) r ≡ Ok after
+read-one : (domain : Option SecurityId) (f : Field) (r after : FieldsRead) → Takes domain f r after
+    → read_fields domain (f ∷ []) r ≡ Ok after
 unfolding Takes
 read-one domain f r after e = ap (λ (t : Result FieldsRead SddlFault). and_then t (read_fields domain [])) e
 
 read-six : (domain : Option SecurityId) (k f m o i s : Field) (r0 r1 r2 r3 r4 r5 r6 : FieldsRead)
-    → Takes domain k r0 r1 → Takes domain f r1 r2 → Takes domain m r2 r3 → Takes domain o r3 r4 → Takes domain i r4 r5 → Takes domain s r5 r6
+    → Takes domain k r0 r1 → Takes domain f r1 r2 → Takes domain m r2 r3 → Takes domain o r3 r4 → Takes domain i r4 r5
+    → Takes domain s r5 r6
     → read_fields domain (k ∷ f ∷ m ∷ o ∷ i ∷ s ∷ []) r0 ≡ Ok r6
 unfolding Takes
 read-six domain k f m o i s r0 r1 r2 r3 r4 r5 r6 h1 h2 h3 h4 h5 h6 = rw (h1, h2, h3, h4, h5, h6) refl
 
 -- 2. An ACE.
 
-object-fits : (b : Bool) (o i : Option (List ℕ)) → GuidsFit b o i → IfSome o IsGuid → IfSome o (λ g. (b ≡ true) × IsGuid g)
+object-fits : (b : Bool) (o i : Option (List ℕ)) → GuidsFit b o i → IfSome o IsGuid
+    → IfSome o (λ g. (b ≡ true) × IsGuid g)
 object-fits b None i h k = tt
 object-fits true (Some g) i h k = (refl, k)
 object-fits false (Some g) i h k = absurd h
 
-inherited-fits : (b : Bool) (o i : Option (List ℕ)) → GuidsFit b o i → IfSome i IsGuid → IfSome i (λ g. (b ≡ true) × IsGuid g)
+inherited-fits : (b : Bool) (o i : Option (List ℕ)) → GuidsFit b o i → IfSome i IsGuid
+    → IfSome i (λ g. (b ≡ true) × IsGuid g)
 inherited-fits b o None h k = tt
 inherited-fits true o (Some g) h k = (refl, k)
 inherited-fits false None (Some g) h k = absurd h
@@ -83,14 +89,17 @@ nothing-else (Some x) = refl
 not-large : (w : Which) (aces : List AccessControlEntry) → acl_size aces < 2 ^ 16 → large_in (Some (w, aces)) ≡ None
 not-large w aces small = let no : nat_lt 65535 (acl_size aces) ≡ false = grind (arith, nat_tests) in rw no refl
 
-grown-open : (w : Which) (done : List AccessControlEntry) (a : AccessControlEntry) (r : FieldsRead) → acl_size (done ++ a ∷ []) < 2 ^ 16
+grown-open : (w : Which) (done : List AccessControlEntry) (a : AccessControlEntry) (r : FieldsRead)
+    → acl_size (done ++ a ∷ []) < 2 ^ 16
     → grown (opened w done r) (with_ace a (opened w done r).parts) ≡ opened w (done ++ a ∷ []) r
 grown-open w done a r small =
     ap (λ (l : Option Which). record (opened w (done ++ a ∷ []) r) { large = l })
     (ap (option_or r.large) (not-large w (done ++ a ∷ []) small) ∙ nothing-else r.large)
 
-ace-back : (naming : Naming) (w : Which) (done : List AccessControlEntry) (a : AccessControlEntry) (r : FieldsRead) → IsAce a → acl_size (done ++ a ∷ []) < 2 ^ 16
-    → read_fields naming.domain (ace_fields (inner_text naming a)) (opened w done r) ≡ Ok (opened w (done ++ a ∷ []) (with_fields (fields_of_ace a) r))
+ace-back : (naming : Naming) (w : Which) (done : List AccessControlEntry) (a : AccessControlEntry) (r : FieldsRead)
+    → IsAce a → acl_size (done ++ a ∷ []) < 2 ^ 16
+    → read_fields naming.domain (ace_fields (inner_text naming a)) (opened w done r) ≡ Ok
+    (opened w (done ++ a ∷ []) (with_fields (fields_of_ace a) r))
 unfolding Takes
 ace-back naming w done a r h small =
     let domain = naming.domain in
@@ -108,11 +117,14 @@ ace-back naming w done a r h small =
     let to_kind = take-kind domain start a.kind in
     let to_flags = take-flags domain (here kind) a.flags h.flags h.clear in
     let to_mask = take-rights domain (here flags) a.kind a.mask h.mask in
-    let to_object = take-object domain (here mask) a.object (object-fits (is_object a.kind) a.object a.inherited h.fit h.object) in
-    let to_inherited = take-inherited domain (here object) a.inherited (inherited-fits (is_object a.kind) a.object a.inherited h.fit h.inherited) in
+    let to_object = take-object domain (here mask) a.object
+    (object-fits (is_object a.kind) a.object a.inherited h.fit h.object) in
+    let to_inherited = take-inherited domain (here object) a.inherited
+    (inherited-fits (is_object a.kind) a.object a.inherited h.fit h.inherited) in
     let to_end = take-trustee naming (here whole) a.sid h.sid in
     let read =
-    read-six domain (at field.Kind) (at field.Flags) (at field.Rights) (at field.Object) (at field.Inherited) (at field.Sid)
+    read-six domain (at field.Kind) (at field.Flags) (at field.Rights) (at field.Object) (at field.Inherited)
+    (at field.Sid)
     start (here kind) (here flags) (here mask) (here object) (here whole) end
     to_kind to_flags to_mask to_object to_inherited to_end in
     ap (λ (fs : List Field). read_fields domain fs start) (inner-fields naming a h) ∙ read
@@ -129,8 +141,10 @@ size-append : (xs ys : List AccessControlEntry) → aces_size (xs ++ ys) ≡ ace
 size-append [] ys = omega arith
 size-append (a ∷ others) ys = omega (arith, size-append others ys)
 
-aces-back : (naming : Naming) (w : Which) (done aces : List AccessControlEntry) (r : FieldsRead) → AllByRecursion IsAce aces → acl_size (done ++ aces) < 2 ^ 16
-    → read_fields naming.domain (flat_map ace_fields (map (inner_text naming) aces)) (opened w done r) ≡ Ok (opened w (done ++ aces) (with_fields (last_fields r.ace aces) r))
+aces-back : (naming : Naming) (w : Which) (done aces : List AccessControlEntry) (r : FieldsRead)
+    → AllByRecursion IsAce aces → acl_size (done ++ aces) < 2 ^ 16
+    → read_fields naming.domain (flat_map ace_fields (map (inner_text naming) aces)) (opened w done r) ≡ Ok
+    (opened w (done ++ aces) (with_fields (last_fields r.ace aces) r))
 aces-back naming w done [] r h small = ap (λ (x : List AccessControlEntry). Ok (opened w x r)) (sym (append-nil done))
 aces-back naming w done (a ∷ others) r h small =
     let more = done ++ a ∷ [] in
@@ -154,13 +168,16 @@ with_sid_part p None r = r
 with_sid_part p (Some s) r = with_owner_or_group p r s
 
 pub sid-back : (naming : Naming) (p : SidPart) (o : Option SecurityId) (r : FieldsRead) → IfSome o IsSid
-    → read_fields naming.domain (flat_map part_fields (listed (head.Sid p) (sid_body naming o))) r ≡ Ok (with_sid_part p o r)
+    → read_fields naming.domain (flat_map part_fields (listed (head.Sid p) (sid_body naming o))) r ≡ Ok
+    (with_sid_part p o r)
 unfolding Takes
 sid-back naming p None r h = refl
 sid-back naming p (Some s) r h =
-    read-one naming.domain (record { slot = slot.Sid p; text = trustee_text naming s }) r (with_owner_or_group p r s) (take-sid naming r p s h)
+    read-one naming.domain (record { slot = slot.Sid p; text = trustee_text naming s }) r (with_owner_or_group p r s)
+    (take-sid naming r p s h)
 
-pub sid-is_part : (naming : Naming) (p : SidPart) (o : Option SecurityId) → IfSome o IsSid → AllByRecursion IsPart (listed (head.Sid p) (sid_body naming o))
+pub sid-is_part : (naming : Naming) (p : SidPart) (o : Option SecurityId) → IfSome o IsSid
+    → AllByRecursion IsPart (listed (head.Sid p) (sid_body naming o))
 sid-is_part naming p None h = tt
 sid-is_part naming p (Some s) h = (record { plain = trustee-plain naming s h; inners = tt; place = refl }, tt)
 
@@ -178,36 +195,46 @@ begun_acl w f r = with_flags w f (record r { parts = closed r.parts })
 abbrev pub with_acl_part : Which → AclFlags → AclPart → FieldsRead → FieldsRead
 with_acl_part w f acl.Absent r = r
 with_acl_part w f acl.Null r = with_flags w f (record r { parts = with_acl w acl.Null (closed r.parts) })
-with_acl_part w f (acl.List aces) r = opened w aces (with_fields (last_fields (begun_acl w f r).ace aces) (begun_acl w f r))
+with_acl_part w f (acl.List aces) r = opened w aces
+    (with_fields (last_fields (begun_acl w f r).ace aces) (begun_acl w f r))
 
-first-opened : (w : Which) (f : AclFlags) (r : FieldsRead) (t : Draft) → with_flags w f (record r { parts = begun w t }) ≡ opened w [] (with_flags w f (record r { parts = t }))
+first-opened : (w : Which) (f : AclFlags) (r : FieldsRead) (t : Draft)
+    → with_flags w f (record r { parts = begun w t }) ≡ opened w [] (with_flags w f (record r { parts = t }))
 first-opened which.Sacl f r t = refl
 first-opened which.Dacl f r t = refl
 
-pub acl-back : (naming : Naming) (w : Which) (f : AclFlags) (present : Bool) (part : AclPart) (r : FieldsRead) → IsAclPart present part
-    → read_fields naming.domain (flat_map part_fields (listed (head.Acl w) (acl_body naming f part))) r ≡ Ok (with_acl_part w f part r)
+pub acl-back : (naming : Naming) (w : Which) (f : AclFlags) (present : Bool) (part : AclPart) (r : FieldsRead)
+    → IsAclPart present part
+    → read_fields naming.domain (flat_map part_fields (listed (head.Acl w) (acl_body naming f part))) r ≡ Ok
+    (with_acl_part w f part r)
 unfolding Takes
 acl-back naming w f present acl.Absent r h = refl
 acl-back naming w f present acl.Null r h =
     let has = has_aces (map byte (null_front_text f) ++ []) in
     let front : Field = record { slot = slot.AclFlags w has; text = null_front_text f } in
-    read-one naming.domain front r (with_acl_part w f acl.Null r) (take-null naming.domain r w has f (text-no_aces (null_front_text f)))
+    read-one naming.domain front r (with_acl_part w f acl.Null r)
+    (take-null naming.domain r w has f (text-no_aces (null_front_text f)))
 acl-back naming w f present (acl.List aces) r h =
     let inners = map (inner_text naming) aces in
     let has = has_aces (map byte (front_text f) ++ map ace inners) in
     let front : Field = record { slot = slot.AclFlags w has; text = front_text f } in
     let start = opened w [] (begun_acl w f r) in
-    let first = take-list naming.domain r w has f ∙ ap (λ (x : FieldsRead). Ok x) (first-opened w f r (closed r.parts)) in
+    let first = take-list naming.domain r w has f
+    ∙ ap (λ (x : FieldsRead). Ok x) (first-opened w f r (closed r.parts)) in
     ap (λ (fs : List Field). read_fields naming.domain (front ∷ fs) r) (append-nil (flat_map ace_fields inners))
-    ∙ read-on naming.domain (front ∷ []) (flat_map ace_fields inners) r start (read-one naming.domain front r start first)
+    ∙ read-on naming.domain (front ∷ []) (flat_map ace_fields inners) r start
+    (read-one naming.domain front r start first)
     ∙ aces-back naming w [] aces (begun_acl w f r) h.1.each h.1.fits
 
-inners-are : (naming : Naming) (aces : List AccessControlEntry) → AllByRecursion IsAce aces → AllByRecursion IsInner (map (inner_text naming) aces)
+inners-are : (naming : Naming) (aces : List AccessControlEntry) → AllByRecursion IsAce aces
+    → AllByRecursion IsInner (map (inner_text naming) aces)
 inners-are naming [] h = tt
 inners-are naming (a ∷ others) h = (inner_text-is naming a h.0, inners-are naming others h.1)
 
-pub acl-is_part : (naming : Naming) (w : Which) (f : AclFlags) (present : Bool) (part : AclPart) → IsAclPart present part
+pub acl-is_part : (naming : Naming) (w : Which) (f : AclFlags) (present : Bool) (part : AclPart)
+    → IsAclPart present part
     → AllByRecursion IsPart (listed (head.Acl w) (acl_body naming f part))
 acl-is_part naming w f present acl.Absent h = tt
 acl-is_part naming w f present acl.Null h = (record { plain = null_front_text-plain f; inners = tt; place = tt }, tt)
-acl-is_part naming w f present (acl.List aces) h = (record { plain = front_text-plain f; inners = inners-are naming aces h.1.each; place = tt }, tt)
+acl-is_part naming w f present (acl.List aces)
+    h = (record { plain = front_text-plain f; inners = inners-are naming aces h.1.each; place = tt }, tt)

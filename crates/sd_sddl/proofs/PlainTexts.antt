@@ -72,7 +72,8 @@ pub plain-append : (xs ys : List ℕ) → IsPlain xs → IsPlain ys → IsPlain 
 plain-append xs ys e f = list_all-append is_plain_byte xs ys ∙ rw (e, f) refl
 
 -- a text of bytes that are plain
-plain-more : (p : ℕ → Bool) → ((b : ℕ) → p b ≡ true → is_plain_byte b ≡ true) → (text : List ℕ) → list_all p text ≡ true → IsPlain text
+plain-more : (p : ℕ → Bool) → ((b : ℕ) → p b ≡ true → is_plain_byte b ≡ true) → (text : List ℕ) → list_all p text ≡ true
+    → IsPlain text
 plain-more p h [] e = refl
 plain-more p h (b ∷ bs) e = let parts = both (p b) _ e in rw (h b parts.0) (plain-more p h bs parts.1)
 
@@ -110,7 +111,8 @@ kind-plain kinds.Label = refl
 is_plain_name : NamedBits → Bool
 is_plain_name e = is_plain_byte e.first && is_plain_byte e.second
 
-two_bytes : (e : NamedBits) (text : List ℕ) → is_plain_name e ≡ true → IsPlain text → IsPlain (e.first ∷ e.second ∷ text)
+two_bytes : (e : NamedBits) (text : List ℕ) → is_plain_name e ≡ true → IsPlain text
+    → IsPlain (e.first ∷ e.second ∷ text)
 unfolding is_plain_name
 two_bytes e text h k = let parts = both (is_plain_byte e.first) _ h in rw (parts.0, parts.1) k
 
@@ -136,7 +138,8 @@ names-plain (e ∷ es) mask h =
     let parts = both (is_plain_name e) _ h in
     by_bit (bit_and mask e.bits == 0) parts.0 (names-plain es mask parts.1)
   where
-    by_bit : (b : Bool) → is_plain_name e ≡ true → IsPlain (names_of es mask) → IsPlain (if b then names_of es mask else e.first ∷ e.second ∷ names_of es mask)
+    by_bit : (b : Bool) → is_plain_name e ≡ true → IsPlain (names_of es mask)
+        → IsPlain (if b then names_of es mask else e.first ∷ e.second ∷ names_of es mask)
     by_bit true name others = others
     by_bit false name others = two_bytes e (names_of es mask) name others
 
@@ -156,7 +159,8 @@ hex-plain mask small =
     let numeral = (digits_is_IsNumeral 16 false (omega arith) (omega arith) mask (omega arith)).0 in
     digits-plain (digits 16 false mask) numeral.1
 
-names_or_hex-plain : (es : List NamedBits) (mask : ℕ) → list_all is_plain_name es ≡ true → mask < 2 ^ 32 → IsPlain (names_or_hex es mask)
+names_or_hex-plain : (es : List NamedBits) (mask : ℕ) → list_all is_plain_name es ≡ true → mask < 2 ^ 32
+    → IsPlain (names_or_hex es mask)
 names_or_hex-plain es mask h small = by_bits (named_bits es mask == mask)
   where
     by_bits : (b : Bool) → IsPlain (if b then names_of es mask else hex_text mask)
@@ -180,10 +184,13 @@ unfolding rights_text
 rights-plain kind mask small = by_zero (mask == 0) (is_label kind)
   where
     by_zero : (z label : Bool)
-        → IsPlain (if z then hex_text 0 else (if label then names_or_hex LABELS mask else name_or (find (λ e. e.bits == mask) COMPOUNDS) (names_or_hex SINGLES mask)))
+        → IsPlain (if z then hex_text
+        0 else (if label then names_or_hex LABELS mask else name_or (find (λ e. e.bits == mask) COMPOUNDS)
+        (names_or_hex SINGLES mask)))
     by_zero true label = hex-plain 0 (omega arith)
     by_zero false true = names_or_hex-plain LABELS mask labels_are_plain small
-    by_zero false false = found-plain COMPOUNDS mask (names_or_hex SINGLES mask) compounds_are_plain (names_or_hex-plain SINGLES mask singles_are_plain small)
+    by_zero false false = found-plain COMPOUNDS mask (names_or_hex SINGLES mask) compounds_are_plain
+        (names_or_hex-plain SINGLES mask singles_are_plain small)
 
 -- 5. GUIDs.
 
@@ -197,7 +204,9 @@ hex_digit-plain d small = grind (arith, nat_tests)
 
 pub guid-plain : (g : List ℕ) → IsPlain (guid_text g)
 unfolding guid_text
-guid-plain g = by_index-plain 36 _ (λ k. by_place (hex_digit 97 (nibble g (digit_place k))) (is_hyphen_place k) (hex_digit-plain (nibble g (digit_place k)) (nibble_small g (digit_place k))))
+guid-plain g = by_index-plain 36 _
+    (λ k. by_place (hex_digit 97 (nibble g (digit_place k))) (is_hyphen_place k)
+    (hex_digit-plain (nibble g (digit_place k)) (nibble_small g (digit_place k))))
   where
     by_place : (digit : ℕ) (b : Bool) → is_plain_byte digit ≡ true → is_plain_byte (if b then 45 else digit) ≡ true
     by_place digit true h = refl
@@ -209,7 +218,8 @@ object-plain (Some g) = guid-plain g
 
 -- 6. SIDs.
 
-name-plain : (o : Option (List ℕ)) (text : List ℕ) → IfSome o (λ name. list_all is_ascii_uppercase name ≡ true) → IsPlain text → IsPlain (alias_or o text)
+name-plain : (o : Option (List ℕ)) (text : List ℕ) → IfSome o (λ name. list_all is_ascii_uppercase name ≡ true)
+    → IsPlain text → IsPlain (alias_or o text)
 name-plain None text h k = k
 name-plain (Some name) text h k = plain-more is_ascii_uppercase upper_is_plain name h
 
@@ -222,7 +232,8 @@ trustee-plain naming s i = by_naming naming.numeric
   where
     by_naming : (b : Bool) → IsPlain (alias_or (if b then None else alias_of s naming.domain) (sid_text s))
     by_naming true = sid-plain s i
-    by_naming false = name-plain (alias_of s naming.domain) (sid_text s) (alias-letters s naming.domain _ refl) (sid-plain s i)
+    by_naming false = name-plain (alias_of s naming.domain) (sid_text s) (alias-letters s naming.domain _ refl)
+        (sid-plain s i)
 
 -- 7. The flags of ACLs.
 
@@ -236,5 +247,7 @@ acl_flags_text-plain f =
     let p = f.protected in
     let r = f.auto_inherit_required in
     let i = f.auto_inherited in
-    plain-append (text_if p (codes "P")) (text_if r (codes "AR") ++ text_if i (codes "AI")) (text_if-plain p (codes "P") refl)
-    (plain-append (text_if r (codes "AR")) (text_if i (codes "AI")) (text_if-plain r (codes "AR") refl) (text_if-plain i (codes "AI") refl))
+    plain-append (text_if p (codes "P")) (text_if r (codes "AR") ++ text_if i (codes "AI"))
+    (text_if-plain p (codes "P") refl)
+    (plain-append (text_if r (codes "AR")) (text_if i (codes "AI")) (text_if-plain r (codes "AR") refl)
+    (text_if-plain i (codes "AI") refl))

@@ -16,7 +16,8 @@ use Rattle.sd_sddl.specs.Printed.{ace_text, acl_flags_text, dacl_text, flags_fie
 
 -- `unfolding printed` lets `refl` compute a row
 printed : Unit {0}
-unfolding kind_entry kind_letters sddl owner_text group_text dacl_text sacl_text acl_flags_text ace_text kind_field flags_field rights_field object_field trustee_field trustee_text alias_of flags_text rights_text guid_text digits
+unfolding kind_entry kind_letters sddl owner_text group_text dacl_text sacl_text acl_flags_text ace_text kind_field
+    flags_field rights_field object_field trustee_field trustee_text alias_of flags_text rights_text guid_text digits
 printed = tt
 
 named : Naming
@@ -43,18 +44,28 @@ unfolding printed named shared full_access everyone
 shared_text = refl
 
 -- no part at all
-bare_text : sddl named (record { control = 0x8000; rm = 7; owner = None; group = None; sacl = acl.Absent; dacl = acl.Absent }) ≡ []
+bare_text : sddl named
+    (record { control = 0x8000; rm = 7; owner = None; group = None; sacl = acl.Absent; dacl = acl.Absent }) ≡ []
 unfolding printed named
 bare_text = refl
 
 -- a null DACL with all three flags
-null_text : sddl named (record { control = 0x9504; rm = 0; owner = None; group = None; sacl = acl.Absent; dacl = acl.Null }) ≡ codes "D:PARAINO_ACCESS_CONTROL"
+null_text : sddl named
+    (record { control = 0x9504; rm = 0; owner = None; group = None; sacl = acl.Absent; dacl = acl.Null }) ≡ codes
+    "D:PARAINO_ACCESS_CONTROL"
 unfolding printed named
 null_text = refl
 
 -- a SID of a domain, with and without that domain
 admins : Descriptor
-admins = record { control = 0x8000; rm = 0; owner = Some (record { authority = 5; subs = 21 ∷ 1 ∷ 2 ∷ 3 ∷ 512 ∷ [] }); group = None; sacl = acl.Absent; dacl = acl.Absent }
+admins = record {
+  control = 0x8000;
+  rm = 0;
+  owner = Some (record { authority = 5; subs = 21 ∷ 1 ∷ 2 ∷ 3 ∷ 512 ∷ [] });
+  group = None;
+  sacl = acl.Absent;
+  dacl = acl.Absent;
+}
 
 domain : Option SecurityId
 domain = Some (record { authority = 5; subs = 21 ∷ 1 ∷ 2 ∷ 3 ∷ [] })

@@ -28,17 +28,21 @@ use Rattle.sd_view.specs.declared.control.AclFlags.{AclFlags}
 use Rattle.sd_sddl.specs.Printed.{ace_text, acl_flags_text, acl_text, dacl_text, flags_field, group_text, kind_field, kind_text, name_or, object_field, object_text, owner_text, rights_field, sacl_text, sddl, sid_text_of, text_if, trustee_field, trustee_text}
 
 -- a SID takes at most 18 characters, and 11 for each sub-authority
-name_or-length : (o : Option (List ℕ)) (text : List ℕ) (n : ℕ) → IsName o → 2 ≤ n → length text ≤ n → length (name_or o text) ≤ n
+name_or-length : (o : Option (List ℕ)) (text : List ℕ) (n : ℕ) → IsName o → 2 ≤ n → length text ≤ n
+    → length (name_or o text) ≤ n
 name_or-length None text n h low k = k
 name_or-length (Some name) text n h low k = omega (arith, h)
 
-pub trustee-length : (naming : Naming) (s : SecurityId) → IsSid s → length (trustee_text naming s) ≤ 18 + 11 * length s.subs
+pub trustee-length : (naming : Naming) (s : SecurityId) → IsSid s
+    → length (trustee_text naming s) ≤ 18 + 11 * length s.subs
 unfolding trustee_text
 trustee-length naming s h = by_naming naming.numeric
   where
-    by_naming : (b : Bool) → length (name_or (cond b None (alias_of s naming.domain)) (sid_text s)) ≤ 18 + 11 * length s.subs
+    by_naming : (b : Bool)
+        → length (name_or (cond b None (alias_of s naming.domain)) (sid_text s)) ≤ 18 + 11 * length s.subs
     by_naming true = length-sid_text s h
-    by_naming false = name_or-length (alias_of s naming.domain) (sid_text s) (18 + 11 * length s.subs) (alias_of-IsName s naming.domain) (omega arith) (length-sid_text s h)
+    by_naming false = name_or-length (alias_of s naming.domain) (sid_text s) (18 + 11 * length s.subs)
+        (alias_of-IsName s naming.domain) (omega arith) (length-sid_text s h)
 
 -- an ACE takes at most eight characters a byte
 pub kind-length : (kind : AceKind) → length (kind_text kind) ≤ 2
@@ -55,19 +59,23 @@ kind_field-length kind = let n = kind-length kind in omega (arith, n, length-app
 
 flags_field-length : (flags : ℕ) → length (flags_field flags) ≤ 15
 unfolding flags_field
-flags_field-length flags = let n = flags_text-length flags in omega (arith, n, length-append (flags_text flags) (codes ";"))
+flags_field-length flags = let n = flags_text-length
+    flags in omega (arith, n, length-append (flags_text flags) (codes ";"))
 
 rights_field-length : (kind : AceKind) (mask : ℕ) → mask < 2 ^ 32 → length (rights_field kind mask) ≤ 35
 unfolding rights_field
-rights_field-length kind mask h = let n = rights_text-length kind mask h in omega (arith, n, length-append (rights_text kind mask) (codes ";"))
+rights_field-length kind mask h = let n = rights_text-length kind mask
+    h in omega (arith, n, length-append (rights_text kind mask) (codes ";"))
 
 object_field-length : (o : Option (List ℕ)) → length (object_field o) ≤ 3 * guid_size o + 1
 unfolding object_field
 object_field-length o = let n = object-length o in omega (arith, n, length-append (object_text o) (codes ";"))
 
-trustee_field-length : (naming : Naming) (s : SecurityId) → IsSid s → length (trustee_field naming s) ≤ 19 + 11 * length s.subs
+trustee_field-length : (naming : Naming) (s : SecurityId) → IsSid s
+    → length (trustee_field naming s) ≤ 19 + 11 * length s.subs
 unfolding trustee_field
-trustee_field-length naming s h = let n = trustee-length naming s h in omega (arith, n, length-append (trustee_text naming s) (codes ")"))
+trustee_field-length naming s h = let n = trustee-length naming s
+    h in omega (arith, n, length-append (trustee_text naming s) (codes ")"))
 
 ace-length : (naming : Naming) (a : AccessControlEntry) → IsAce a → length (ace_text naming a) ≤ 8 * ace_size a
 unfolding ace_text
@@ -100,7 +108,8 @@ ace-length naming a h =
       trustee_field-length naming a.sid h.sid,
     )
 
-aces-length : (naming : Naming) (aces : List AccessControlEntry) → AllByRecursion IsAce aces → length (flat_map (ace_text naming) aces) ≤ 8 * aces_size aces
+aces-length : (naming : Naming) (aces : List AccessControlEntry) → AllByRecursion IsAce aces
+    → length (flat_map (ace_text naming) aces) ≤ 8 * aces_size aces
 aces-length naming [] h = omega arith
 aces-length naming (a ∷ others) h =
     let whole = length-append (ace_text naming a) (flat_map (ace_text naming) others) in
@@ -119,9 +128,17 @@ flags-length f =
     let i = f.auto_inherited in
     let back = length-append (text_if r (codes "AR")) (text_if i (codes "AI")) in
     let whole = length-append (text_if p (codes "P")) (text_if r (codes "AR") ++ text_if i (codes "AI")) in
-    omega (arith, back, whole, text_if-length p (codes "P"), text_if-length r (codes "AR"), text_if-length i (codes "AI"))
+    omega (
+      arith,
+      back,
+      whole,
+      text_if-length p (codes "P"),
+      text_if-length r (codes "AR"),
+      text_if-length i (codes "AI"),
+    )
 
-acl-length : (naming : Naming) (head flags : List ℕ) (present : Bool) (p : AclPart) → length head ≡ 2 → length flags ≤ 5 → IsAclPart present p
+acl-length : (naming : Naming) (head flags : List ℕ) (present : Bool) (p : AclPart) → length head ≡ 2 → length flags ≤ 5
+    → IsAclPart present p
     → length (acl_text naming head flags p) ≤ 8 * acl_part_size p + 24
 acl-length naming head flags present acl.Absent h k is = omega arith
 acl-length naming head flags present acl.Null h k is =
@@ -133,7 +150,8 @@ acl-length naming head flags present (acl.List aces) h k is =
     let whole = length-append head (flags ++ flat_map (ace_text naming) aces) in
     omega (arith, back, whole, h, k, aces-length naming aces is.1.each)
 
-sid-length : (naming : Naming) (head : List ℕ) (o : Option SecurityId) → length head ≡ 2 → IfSome o IsSid → length (sid_text_of naming head o) ≤ 8 * sid_part_size o
+sid-length : (naming : Naming) (head : List ℕ) (o : Option SecurityId) → length head ≡ 2 → IfSome o IsSid
+    → length (sid_text_of naming head o) ≤ 8 * sid_part_size o
 sid-length naming head None h is = omega arith
 sid-length naming head (Some s) h is =
     omega (arith, h, length-append head (trustee_text naming s), trustee-length naming s is)

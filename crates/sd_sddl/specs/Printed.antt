@@ -56,7 +56,8 @@ trustee_field naming s = trustee_text naming s ++ codes ")"
 unfoldable pub ace_text : Naming → AccessControlEntry → List ℕ
 ace_text naming a =
     (kind_field a.kind ++ flags_field a.flags)
-    ++ ((rights_field a.kind a.mask ++ object_field a.object) ++ (object_field a.inherited ++ trustee_field naming a.sid))
+    ++ ((rights_field a.kind a.mask ++ object_field a.object)
+    ++ (object_field a.inherited ++ trustee_field naming a.sid))
 
 -- ---- ACLs
 

@@ -4,7 +4,8 @@ use Rattle.std.proofs.Math.Seq.{take-append-add}
 use Rattle.std.proofs.lemmas.List.{length-take-le, take-take}
 
 -- the first of the cells are those that stand there
-pub take-front : {X : Type 0} (n k m : ℕ) (over xs cells : List X) → n ≤ length xs → k ≤ m → take (n + m) over ≡ take n xs ++ take m cells
+pub take-front : {X : Type 0} (n k m : ℕ) (over xs cells : List X) → n ≤ length xs → k ≤ m
+    → take (n + m) over ≡ take n xs ++ take m cells
     → take (n + k) over ≡ take n xs ++ take k cells
 take-front n k m over xs cells within few e =
     let place : length (take n xs) ≡ n = length-take-le n xs within in

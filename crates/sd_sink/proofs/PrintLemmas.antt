@@ -13,18 +13,23 @@ Passes-trans a b c xs ys p q = record {
       ∙ ap (λ l. l ++ ys) p.rest ∙ append_assoc a.held xs ys;
 }
 
-some-after : (a b c : PrintTold) (xs ys : List ℕ) → Passes a b xs → PutSome b.below c.below (b.held ++ ys) → PutSome a.below c.below (a.held ++ (xs ++ ys))
+some-after : (a b c : PrintTold) (xs ys : List ℕ) → Passes a b xs → PutSome b.below c.below (b.held ++ ys)
+    → PutSome a.below c.below (a.held ++ (xs ++ ys))
 some-after a b c xs ys p q =
     let e : p.part ++ (b.held ++ ys) ≡ a.held ++ (xs ++ ys) =
     sym (append_assoc p.part b.held ys) ∙ ap (λ l. l ++ ys) p.rest ∙ append_assoc a.held xs ys in
-    subst (λ (t : List ℕ). PutSome a.below c.below t) e (PutSome-after a.below b.below c.below p.part (b.held ++ ys) p.put q)
+    subst (λ (t : List ℕ). PutSome a.below c.below t) e
+    (PutSome-after a.below b.below c.below p.part (b.held ++ ys) p.put q)
 
-some-more : (a b c : PrintTold) (xs ys : List ℕ) → PutSome a.below b.below (a.held ++ xs) → c.below ≡ b.below → PutSome a.below c.below (a.held ++ (xs ++ ys))
+some-more : (a b c : PrintTold) (xs ys : List ℕ) → PutSome a.below b.below (a.held ++ xs) → c.below ≡ b.below
+    → PutSome a.below c.below (a.held ++ (xs ++ ys))
 some-more a b c xs ys q e =
     subst (λ (t : List ℕ). PutSome a.below c.below t) (append_assoc a.held xs ys)
-    (PutSome-more a.below c.below (a.held ++ xs) ys (subst (λ (w : SinkTold). PutSome a.below w (a.held ++ xs)) (sym e) q))
+    (PutSome-more a.below c.below (a.held ++ xs) ys
+    (subst (λ (w : SinkTold). PutSome a.below w (a.held ++ xs)) (sym e) q))
 
-trans-by : (m : Bool) (a b c : PrintTold) (xs ys : List ℕ) → b.failed ≡ m → Prints a b xs → Prints b c ys → Prints a c (xs ++ ys)
+trans-by : (m : Bool) (a b c : PrintTold) (xs ys : List ℕ) → b.failed ≡ m → Prints a b xs → Prints b c ys
+    → Prints a c (xs ++ ys)
 trans-by true a b c xs ys m p q = record {
   place = q.place ∙ p.place;
   below_place = q.below_place ∙ p.below_place;
@@ -46,23 +51,28 @@ trans-by false a b c xs ys m p q = record {
 pub prints_then : {a b c : PrintTold} {xs ys : List ℕ} → Prints a b xs → Prints b c ys → Prints a c (xs ++ ys)
 prints_then {a} {b} {c} {xs} {ys} p q = trans-by b.failed a b c xs ys refl p q
 
-finished-by : (m : Bool) (a b c : PrintTold) (text : List ℕ) (result : Result (Unit {0}) SinkFault) → b.failed ≡ m → a.failed ≡ false → a.held ≡ []
+finished-by : (m : Bool) (a b c : PrintTold) (text : List ℕ) (result : Result (Unit {0}) SinkFault) → b.failed ≡ m
+    → a.failed ≡ false → a.held ≡ []
     → Prints a b text → Finishes b c result → Puts a.below c.below text result
 finished-by true a b c text result m x e p q =
-    let some : PutSome a.below b.below text = subst (λ (l : List ℕ). PutSome a.below b.below (l ++ text)) e (p.some x m) in
+    let some : PutSome a.below b.below text = subst (λ (l : List ℕ). PutSome a.below b.below (l ++ text)) e
+    (p.some x m) in
     let there : PutSome a.below c.below text = subst (λ (w : SinkTold). PutSome a.below w text) (sym (q.none m)) some in
     subst (λ (r : Result (Unit {0}) SinkFault). Puts a.below c.below text r) (sym (q.fault m)) there
 finished-by false a b c text result m x e p q =
     let whole = p.whole x m in
-    Puts-after a.below b.below c.below whole.part b.held text result (whole.rest ∙ ap (λ l. l ++ text) e) whole.put (q.puts m)
+    Puts-after a.below b.below c.below whole.part b.held text result (whole.rest ∙ ap (λ l. l ++ text) e) whole.put
+    (q.puts m)
 
 -- a printer that began with nothing, and finished
-pub finished : {a b c : PrintTold} {text : List ℕ} {result : Result (Unit {0}) SinkFault} → a.failed ≡ false → a.held ≡ []
+pub finished : {a b c : PrintTold} {text : List ℕ} {result : Result (Unit {0}) SinkFault} → a.failed ≡ false
+    → a.held ≡ []
     → Prints a b text → Finishes b c result → Puts a.below c.below text result
 finished {a} {b} {c} {text} {result} x e p q = finished-by b.failed a b c text result refl x e p q
 
 -- what a caller of the printer sees
-pub printed : {old new : SinkTold} {a b c : PrintTold} {text : List ℕ} {result : Result (Unit {0}) SinkFault} → Begins old a → c.below ≡ new
+pub printed : {old new : SinkTold} {a b c : PrintTold} {text : List ℕ} {result : Result (Unit {0}) SinkFault}
+    → Begins old a → c.below ≡ new
     → Finishes b c result → Prints a b text → Puts old new text result
 printed {old} {new} {a} {b} {c} {text} {result} x last q p =
     subst (λ (w : SinkTold). Puts w new text result) x.below

@@ -39,10 +39,13 @@ PutSome-more a b xs ys q = record {
   beyond = let short = q.beyond in omega (arith, length-append xs ys);
 }
 
-joined : (a b c : SinkTold) (xs ys : List ℕ) (result : Result (Unit {0}) SinkFault) → PutAll a b xs → Puts b c ys result → Puts a c (xs ++ ys) result
+joined : (a b c : SinkTold) (xs ys : List ℕ) (result : Result (Unit {0}) SinkFault) → PutAll a b xs → Puts b c ys result
+    → Puts a c (xs ++ ys) result
 joined a b c xs ys (Ok done) first second = PutAll-trans a b c xs ys first second
 joined a b c xs ys (Err fault) first second = PutSome-after a b c xs ys first second
 
 -- a text that was put whole, and then another: the last call tells how it went
-pub Puts-after : (a b c : SinkTold) (xs ys text : List ℕ) (result : Result (Unit {0}) SinkFault) → xs ++ ys ≡ text → PutAll a b xs → Puts b c ys result → Puts a c text result
-Puts-after a b c xs ys text result e first second = subst (λ (t : List ℕ). Puts a c t result) e (joined a b c xs ys result first second)
+pub Puts-after : (a b c : SinkTold) (xs ys text : List ℕ) (result : Result (Unit {0}) SinkFault) → xs ++ ys ≡ text
+    → PutAll a b xs → Puts b c ys result → Puts a c text result
+Puts-after a b c xs ys text result e first second = subst (λ (t : List ℕ). Puts a c t result) e
+    (joined a b c xs ys result first second)

@@ -32,7 +32,8 @@ unfolding aces_fault
 aces_fault-more n zero left e h = absurd (omega arith)
 aces_fault-more n (suc m) left e h = let same : m ≡ n = omega arith in rw (h, same) refl
 
-pub aces_fault-err : (m : ℕ) (left : List ℕ) (f : AclFault) → 0 < m → ace_fault left ≡ Some f → aces_fault m left ≡ Some f
+pub aces_fault-err : (m : ℕ) (left : List ℕ) (f : AclFault) → 0 < m → ace_fault left ≡ Some f
+    → aces_fault m left ≡ Some f
 unfolding aces_fault
 aces_fault-err zero left f room h = absurd (omega arith)
 aces_fault-err (suc m) left f room h = rw h refl
@@ -45,14 +46,17 @@ aces_fault-none m left e = rw e refl
 pub u16_at-front : (i : ℕ) (xs ys : List ℕ) → i + 2 ≤ length xs → u16_at i (xs ++ ys) ≡ u16_at i xs
 unfolding u16_at
 u16_at-front i xs ys room =
-    ap (little_number 2) (drop-append-le i xs ys (omega arith)) ∙ little_from-append 2 (drop i xs) ys (omega (arith, length-drop i xs))
+    ap (little_number 2) (drop-append-le i xs ys (omega arith))
+    ∙ little_from-append 2 (drop i xs) ys (omega (arith, length-drop i xs))
 
 -- kinds
-known : (code : ℕ) (o : Option AceKind) → kind_of code ≡ o → is_some o ≡ true → code ≡ kind_code (unwrap_or o kinds.Allow)
+known : (code : ℕ) (o : Option AceKind) → kind_of code ≡ o → is_some o ≡ true
+    → code ≡ kind_code (unwrap_or o kinds.Allow)
 known code None e h = absurd (cc)
 known code (Some k) e h = sym (subst (λ (o : Option AceKind). IfSome o (λ k. kind_code k ≡ code)) e (kind_of-some code))
 
-sid_found : (bytes : List ℕ) (o : Option (SecurityId × ℕ)) → AreBytes bytes → sid_at bytes ≡ o → is_some o ≡ true → BeginsWithSid bytes (sid_of bytes)
+sid_found : (bytes : List ℕ) (o : Option (SecurityId × ℕ)) → AreBytes bytes → sid_at bytes ≡ o → is_some o ≡ true
+    → BeginsWithSid bytes (sid_of bytes)
 sid_found bytes None b e h = absurd (cc)
 sid_found bytes (Some (s, n)) b e h =
     subst (λ (t : SecurityId). BeginsWithSid bytes t) (sym (sid_of-at bytes s n e)) (sid_at-found bytes s n b e).0
@@ -94,7 +98,8 @@ sid_offset-low kinds.ObjectAudit o i = omega arith
 sid_offset-low kinds.Label o i = omega arith
 
 -- what a place without a fault shows
-pub place-shows : (place : List ℕ) → AreBytes place → u16_at 2 place ≡ length place → length place % 4 ≡ 0 → place_fault place ≡ None
+pub place-shows : (place : List ℕ) → AreBytes place → u16_at 2 place ≡ length place → length place % 4 ≡ 0
+    → place_fault place ≡ None
     → ShowsAce place (ace_of place)
 unfolding place_fault kind_in object_in inherited_in sid_offset_in
 place-shows place b size aligned e =
@@ -110,8 +115,10 @@ place-shows place b size aligned e =
       aligned = aligned;
       mask = refl;
       object = guid-shows (announces_object (kind_in place) place) (drop 12 place);
-      inherited = guid-shows (announces_inherited (kind_in place) place) (drop (12 + guid_size (object_in place)) place);
-      sid = sid_found (drop (sid_offset_in place) place) (sid_at (drop (sid_offset_in place) place)) (AreBytes-drop (sid_offset_in place) place b) refl sid;
+      inherited = guid-shows (announces_inherited (kind_in place) place)
+          (drop (12 + guid_size (object_in place)) place);
+      sid = sid_found (drop (sid_offset_in place) place) (sid_at (drop (sid_offset_in place) place))
+          (AreBytes-drop (sid_offset_in place) place b) refl sid;
     }
 
 pub shows-kind : (place : List ℕ) (a : AccessControlEntry) → ShowsAce place a → kind_in place ≡ a.kind
@@ -129,11 +136,14 @@ shows-object place a h =
 shows-inherited : (place : List ℕ) (a : AccessControlEntry) → ShowsAce place a → inherited_in place ≡ a.inherited
 unfolding inherited_in
 shows-inherited place a h =
-    ap (λ (k : AceKind). guid_if (announces_inherited k place) (drop (12 + guid_size (object_in place)) place)) (shows-kind place a h)
-    ∙ ap (λ (o : Option (List ℕ)). guid_if (announces_inherited a.kind place) (drop (12 + guid_size o) place)) (shows-object place a h)
+    ap (λ (k : AceKind). guid_if (announces_inherited k place) (drop (12 + guid_size (object_in place)) place))
+    (shows-kind place a h)
+    ∙ ap (λ (o : Option (List ℕ)). guid_if (announces_inherited a.kind place) (drop (12 + guid_size o) place))
+    (shows-object place a h)
     ∙ guid-read (announces_inherited a.kind place) (drop (12 + guid_size a.object) place) a.inherited h.inherited
 
-shows-front : (place : List ℕ) (a : AccessControlEntry) → ShowsAce place a → sid_offset_in place ≡ sid_offset a.kind a.object a.inherited
+shows-front : (place : List ℕ) (a : AccessControlEntry) → ShowsAce place a
+    → sid_offset_in place ≡ sid_offset a.kind a.object a.inherited
 unfolding sid_offset_in
 shows-front place a h =
     ap (λ (k : AceKind). sid_offset k (object_in place) (inherited_in place)) (shows-kind place a h)
@@ -147,16 +157,19 @@ not_below : (n k : ℕ) → k ≤ n → ltb n k ≡ false
 not_below n k h = grind (arith, nat_tests)
 
 -- what is shown has no fault, and is read
-pub shows-place : (place : List ℕ) (a : AccessControlEntry) → ShowsAce place a → (place_fault place ≡ None) × (ace_of place ≡ a)
+pub shows-place : (place : List ℕ) (a : AccessControlEntry) → ShowsAce place a → (place_fault place ≡ None)
+    × (ace_of place ≡ a)
 unfolding place_fault
 shows-place place a h =
     let kind : kind_of (slice_index place 0) ≡ Some a.kind = ap kind_of h.kind ∙ kind_of-code a.kind in
-    let flag : eqb (slice_index place 1 / 32 % 2) 1 ≡ false = flag_clear (slice_index place 1) (ap (λ (f : ℕ). f / 32 % 2) h.flags ∙ h.clear) in
+    let flag : eqb (slice_index place 1 / 32 % 2) 1 ≡ false = flag_clear (slice_index place 1)
+    (ap (λ (f : ℕ). f / 32 % 2) h.flags ∙ h.clear) in
     let n = sid_offset a.kind a.object a.inherited in
     let front : sid_offset_in place ≡ n = shows-front place a h in
     let room : ltb (length place) (n + 8) ≡ false = not_below (length place) (n + 8) (front_room n place a.sid h.sid) in
     let sid = sid_at-bytes (drop n place) a.sid h.sid in
-    let subject : sid_of (drop (sid_offset_in place) place) ≡ a.sid = ap (λ (k : ℕ). sid_of (drop k place)) front ∙ sid_of-at (drop n place) a.sid (sid_size a.sid) sid in (
+    let subject : sid_of (drop (sid_offset_in place) place) ≡ a.sid = ap (λ (k : ℕ). sid_of (drop k place)) front
+    ∙ sid_of-at (drop n place) a.sid (sid_size a.sid) sid in (
       rw (kind, flag, front, room, sid) refl,
       λ i. record {
         kind = shows-kind place a h i;
@@ -187,15 +200,23 @@ ace-shows left b e =
     let n = u16_at 2 left in
     let long : length (take n left) ≡ n = length-take-le n left bounds.1 in
     let same : u16_at 2 (take n left) ≡ n =
-    sym (u16_at-front 2 (take n left) (drop n left) (omega (arith, long, bounds.0))) ∙ ap (u16_at 2) (take-append-drop n left) in
-    let whole : n % 4 ≡ 0 = eqb-true (n % 4) 0 (not_false _ fourth.0) in
-    (place-shows (take n left) (AreBytes-take n left b) (same ∙ sym long) (ap (λ (k : ℕ). k % 4) long ∙ whole) fourth.1, bounds.1)
+    sym (u16_at-front 2 (take n left) (drop n left) (omega (arith, long, bounds.0)))
+    ∙ ap (u16_at 2) (take-append-drop n left) in
+    let whole : n % 4 ≡ 0 = eqb-true (n % 4) 0 (not_false _ fourth.0) in (
+      place-shows (take n left) (AreBytes-take n left b) (same ∙ sym long) (ap (λ (k : ℕ). k % 4) long ∙ whole)
+          fourth.1,
+      bounds.1,
+    )
 
 in_range : (n len : ℕ) → 16 ≤ n → n ≤ len → (ltb n 16 || ltb len n) ≡ false
 in_range n len low high = grind (arith, nat_tests)
 
 sixteen : (place : List ℕ) (a : AccessControlEntry) → ShowsAce place a → 16 ≤ length place
-sixteen place a h = omega (arith, front_room (sid_offset a.kind a.object a.inherited) place a.sid h.sid, sid_offset-low a.kind a.object a.inherited)
+sixteen place a h = omega (
+  arith,
+  front_room (sid_offset a.kind a.object a.inherited) place a.sid h.sid,
+  sid_offset-low a.kind a.object a.inherited,
+)
 
 pub shows-ace : (place rest : List ℕ) (a : AccessControlEntry) → ShowsAce place a
     → (ace_fault (place ++ rest) ≡ None) × (u16_at 2 (place ++ rest) ≡ length place)
@@ -204,7 +225,8 @@ shows-ace place rest a h =
     let long = sixteen place a h in
     let size : u16_at 2 (place ++ rest) ≡ length place = u16_at-front 2 place rest (omega (arith, long)) ∙ h.size in
     let all = length-append place rest in
-    let room : ltb (length (place ++ rest)) 16 ≡ false = not_below (length (place ++ rest)) 16 (omega (arith, all, long)) in
+    let room : ltb (length (place ++ rest)) 16 ≡ false = not_below (length (place ++ rest)) 16
+    (omega (arith, all, long)) in
     let range : (ltb (length place) 16 || ltb (length (place ++ rest)) (length place)) ≡ false =
     in_range (length place) (length (place ++ rest)) long (omega (arith, all)) in
     let fourth : not (eqb (length place % 4) 0) ≡ false = ap (λ (k : ℕ). not (eqb k 0)) h.aligned in
@@ -238,9 +260,11 @@ shows-aces (a ∷ others) left h =
     let head = (shows-place place a h.3).1 in
     let P : List ℕ → Type 0 = λ xs. (first (ace_fault xs) (aces_fault (length others) (drop (u16_at 2 xs) xs)) ≡ None)
     × (ace_of (take (u16_at 2 xs) xs) ∷ aces_of (length others) (drop (u16_at 2 xs) xs) ≡ a ∷ others) in
-    let fault : first (ace_fault (place ++ rest)) (aces_fault (length others) (drop (u16_at 2 (place ++ rest)) (place ++ rest))) ≡ None =
+    let fault : first (ace_fault (place ++ rest))
+    (aces_fault (length others) (drop (u16_at 2 (place ++ rest)) (place ++ rest))) ≡ None =
     rw (head-ace.0, size, back) tail.0 in
-    let items : ace_of (take (u16_at 2 (place ++ rest)) (place ++ rest)) ∷ aces_of (length others) (drop (u16_at 2 (place ++ rest)) (place ++ rest)) ≡ a ∷ others =
+    let items : ace_of (take (u16_at 2 (place ++ rest)) (place ++ rest)) ∷ aces_of (length others)
+    (drop (u16_at 2 (place ++ rest)) (place ++ rest)) ≡ a ∷ others =
     rw (size, front, back, head, tail.1) refl in
     subst P (sym h.2) (fault, items)
 
@@ -269,7 +293,8 @@ revision_test r (inl h) = rw h refl
 revision_test r (inr h) = rw h refl
 
 pub acl-shows : (bytes : List ℕ) → AreBytes bytes → acl_fault bytes ≡ None
-    → ShowsAcl (acl_place bytes) (acl_of (acl_place bytes)) × (u16_at 2 bytes ≤ length bytes) × (aces_fault (u16_at 4 (acl_place bytes)) (drop 8 (acl_place bytes)) ≡ None)
+    → ShowsAcl (acl_place bytes) (acl_of (acl_place bytes)) × (u16_at 2 bytes ≤ length bytes)
+    × (aces_fault (u16_at 4 (acl_place bytes)) (drop 8 (acl_place bytes)) ≡ None)
 unfolding acl_fault
 acl-shows bytes b e =
     let revision = went_on _ _ _ e in
@@ -282,9 +307,11 @@ acl-shows bytes b e =
     sym (u16_at-front 2 (take n bytes) (drop n bytes) (omega (arith, long, bounds.0))) ∙ ap (u16_at 2) whole in
     let count : u16_at 4 (take n bytes) ≡ u16_at 4 bytes =
     sym (u16_at-front 4 (take n bytes) (drop n bytes) (omega (arith, long, bounds.0))) ∙ ap (u16_at 4) whole in
-    let first_byte : slice_index (take n bytes) 0 ≡ slice_index bytes 0 = get_or-take n bytes 0 0 (omega (arith, bounds.0)) in
+    let first_byte : slice_index (take n bytes) 0 ≡ slice_index bytes 0 = get_or-take n bytes 0 0
+    (omega (arith, bounds.0)) in
     let sound : aces_fault (u16_at 4 (take n bytes)) (drop 8 (take n bytes)) ≡ None = rw count range.1 in
-    let aces = aces-shows (u16_at 4 (take n bytes)) (drop 8 (take n bytes)) (AreBytes-drop 8 (take n bytes) (AreBytes-take n bytes b)) sound in (
+    let aces = aces-shows (u16_at 4 (take n bytes)) (drop 8 (take n bytes))
+    (AreBytes-drop 8 (take n bytes) (AreBytes-take n bytes b)) sound in (
       record {
         revision = subst (λ (r : ℕ). (r ≡ 2) ⊎ (r ≡ 4)) (sym first_byte) (revisions (slice_index bytes 0) revision.0);
         header = omega (arith, long, bounds.0);
@@ -301,8 +328,10 @@ pub shows-acl : (place rest : List ℕ) (aces : List AccessControlEntry) → Sho
 unfolding acl_fault
 shows-acl place rest aces h =
     let size : u16_at 2 (place ++ rest) ≡ length place = u16_at-front 2 place rest (omega (arith, h.header)) ∙ h.size in
-    let count : u16_at 4 (place ++ rest) ≡ length aces = u16_at-front 4 place rest (omega (arith, h.header)) ∙ h.count in
-    let first_byte : slice_index (place ++ rest) 0 ≡ slice_index place 0 = get_or_append_left place rest 0 0 (omega (arith, h.header)) in
+    let count : u16_at 4 (place ++ rest) ≡ length aces = u16_at-front 4 place rest (omega (arith, h.header))
+    ∙ h.count in
+    let first_byte : slice_index (place ++ rest) 0 ≡ slice_index place 0 = get_or_append_left place rest 0 0
+    (omega (arith, h.header)) in
     let revision : not (eqb (slice_index (place ++ rest) 0) 2 || eqb (slice_index (place ++ rest) 0) 4) ≡ false =
     ap (λ (r : ℕ). not (eqb r 2 || eqb r 4)) first_byte ∙ revision_test (slice_index place 0) h.revision in
     let range : (ltb (length place) 8 || ltb (length (place ++ rest)) (length place)) ≡ false =
@@ -317,8 +346,14 @@ begins-acl bytes aces h =
     let read = shows-acl h.0 h.1 aces h.3 in
     (ap acl_fault h.2 ∙ read.0, ap (λ (xs : List ℕ). acl_of (acl_place xs)) h.2 ∙ ap acl_of read.1 ∙ read.2)
 
-pub acl-begins : (bytes : List ℕ) → AreBytes bytes → acl_fault bytes ≡ None → BeginsWithAcl bytes (acl_of (acl_place bytes))
-acl-begins bytes b e = (acl_place bytes, drop (u16_at 2 bytes) bytes, sym (take-append-drop (u16_at 2 bytes) bytes), (acl-shows bytes b e).0)
+pub acl-begins : (bytes : List ℕ) → AreBytes bytes → acl_fault bytes ≡ None
+    → BeginsWithAcl bytes (acl_of (acl_place bytes))
+acl-begins bytes b e = (
+  acl_place bytes,
+  drop (u16_at 2 bytes) bytes,
+  sym (take-append-drop (u16_at 2 bytes) bytes),
+  (acl-shows bytes b e).0,
+)
 
 -- what a reader of the aces needs
 pub ace-bounds : (left : List ℕ) → ace_fault left ≡ None
@@ -358,29 +393,41 @@ both_parts false b e = absurd (cc)
 pub object-room : (place : List ℕ) → announces_object (kind_in place) place ≡ true → 28 ≤ sid_offset_in place
 unfolding sid_offset_in object_in guid_if announces_object
 object-room place e =
-    let kind : is_object (kind_in place) ≡ true = both_parts (is_object (kind_in place)) (eqb (u32_at 8 place % 2) 1) e in
+    let kind : is_object (kind_in place) ≡ true = both_parts (is_object (kind_in place))
+    (eqb (u32_at 8 place % 2) 1) e in
     rw (e, kind) (omega arith)
 
 object_room : (b t u : Bool) (xs ys : List ℕ) → b && u ≡ true
-    → 28 + guid_size (guid_if (b && t) xs) ≤ cond b (12 + guid_size (guid_if (b && t) xs) + guid_size (guid_if (b && u) ys)) 8
+    → 28 + guid_size (guid_if (b && t) xs) ≤ cond b
+    (12 + guid_size (guid_if (b && t) xs) + guid_size (guid_if (b && u) ys)) 8
 unfolding guid_if
 object_room true t true xs ys e = omega arith
 object_room true t false xs ys e = absurd (cc)
 object_room false t u xs ys e = absurd (cc)
 
-pub inherited-room : (place : List ℕ) → announces_inherited (kind_in place) place ≡ true → 28 + guid_size (object_in place) ≤ sid_offset_in place
+pub inherited-room : (place : List ℕ) → announces_inherited (kind_in place) place ≡ true
+    → 28 + guid_size (object_in place) ≤ sid_offset_in place
 unfolding sid_offset_in object_in inherited_in announces_object announces_inherited
 inherited-room place e =
-    object_room (is_object (kind_in place)) (eqb (u32_at 8 place % 2) 1) (eqb (u32_at 8 place / 2 % 2) 1) (drop 12 place)
+    object_room (is_object (kind_in place)) (eqb (u32_at 8 place % 2) 1) (eqb (u32_at 8 place / 2 % 2) 1)
+    (drop 12 place)
     (drop (12 + guid_size (object_in place)) place) e
 
-pub object-size : (b : Bool) (place : List ℕ) → b ≡ announces_object (kind_in place) place → guid_size (object_in place) ≡ cond b 16 0
+pub object-size : (b : Bool) (place : List ℕ) → b ≡ announces_object (kind_in place) place
+    → guid_size (object_in place) ≡ cond b 16 0
 unfolding object_in guid_if
 object-size true place e = rw (← e) refl
 object-size false place e = rw (← e) refl
 
-pub sid-room : (n : ℕ) (place : List ℕ) (s : SecurityId) → BeginsWithSid (drop n place) s → n + sid_size s ≤ length place
-sid-room n place s h = omega (arith, length-drop n place, ap (length {A = ℕ}) h.shape, length-append (sid_bytes s) h.rest, length-sid_bytes s)
+pub sid-room : (n : ℕ) (place : List ℕ) (s : SecurityId) → BeginsWithSid (drop n place) s
+    → n + sid_size s ≤ length place
+sid-room n place s h = omega (
+  arith,
+  length-drop n place,
+  ap (length {A = ℕ}) h.shape,
+  length-append (sid_bytes s) h.rest,
+  length-sid_bytes s,
+)
 
 -- an ACE's written size is at most its place
 pub ace-fits : (place : List ℕ) (a : AccessControlEntry) → ShowsAce place a → ace_size a ≤ length place
@@ -410,11 +457,13 @@ swap_fields-bytes xs h = All-from_recursion (λ b. b < 256) (swap_fields xs) (se
 
 guid_fits : (b : Bool) (bytes : List ℕ) (o : Option (List ℕ)) → AreBytes bytes → ShowsGuid b bytes o → IfSome o IsGuid
 guid_fits true bytes None small h = tt
-guid_fits true bytes (Some g) small h = rw h (record { size = refl; bytes = swap_fields-bytes (take 16 bytes) (AreBytes-take 16 bytes small) })
+guid_fits true bytes (Some g) small h = rw h
+    (record { size = refl; bytes = swap_fields-bytes (take 16 bytes) (AreBytes-take 16 bytes small) })
 guid_fits false bytes None small h = tt
 guid_fits false bytes (Some g) small h = absurd h
 
-guids_fit : (b t u : Bool) (xs ys : List ℕ) (o i : Option (List ℕ)) → ShowsGuid (b && t) xs o → ShowsGuid (b && u) ys i → GuidsFit b o i
+guids_fit : (b t u : Bool) (xs ys : List ℕ) (o i : Option (List ℕ)) → ShowsGuid (b && t) xs o → ShowsGuid (b && u) ys i
+    → GuidsFit b o i
 guids_fit true t u xs ys o i h k = tt
 guids_fit false t u xs ys None None h k = tt
 guids_fit false t u xs ys None (Some g) h k = absurd k
@@ -426,7 +475,8 @@ shows-ace-limits place a b h = record {
   flags = omega (arith, b 1, h.flags);
   clear = h.clear;
   mask = omega (arith, u32_at-small 4 place b, h.mask);
-  fit = guids_fit (is_object a.kind) (eqb (u32_at 8 place % 2) 1) (eqb (u32_at 8 place / 2 % 2) 1) _ _ a.object a.inherited h.object h.inherited;
+  fit = guids_fit (is_object a.kind) (eqb (u32_at 8 place % 2) 1) (eqb (u32_at 8 place / 2 % 2) 1) _ _ a.object
+      a.inherited h.object h.inherited;
   object = guid_fits (announces_object a.kind place) (drop 12 place) a.object (AreBytes-drop 12 place b) h.object;
   inherited = guid_fits (announces_inherited a.kind place) (drop (12 + guid_size a.object) place) a.inherited
       (AreBytes-drop (12 + guid_size a.object) place b) h.inherited;
@@ -443,13 +493,15 @@ AreBytes-back xs ys b =
     let back : drop (length xs) (xs ++ ys) ≡ ys = drop_at xs ys (length xs) refl in
     subst AreBytes back (AreBytes-drop (length xs) (xs ++ ys) b)
 
-aces-limits : (aces : List AccessControlEntry) (bytes : List ℕ) → AreBytes bytes → ShowsAces bytes aces → AllByRecursion IsAce aces
+aces-limits : (aces : List AccessControlEntry) (bytes : List ℕ) → AreBytes bytes → ShowsAces bytes aces
+    → AllByRecursion IsAce aces
 aces-limits [] bytes b h = tt
 aces-limits (a ∷ others) bytes b h =
     let c = subst AreBytes h.2 b in
     (shows-ace-limits h.0 a (AreBytes-front h.0 h.1 c) h.3, aces-limits others h.1 (AreBytes-back h.0 h.1 c) h.4)
 
-pub shows-acl-limits : (place : List ℕ) (aces : List AccessControlEntry) → AreBytes place → ShowsAcl place aces → IsAcl aces
+pub shows-acl-limits : (place : List ℕ) (aces : List AccessControlEntry) → AreBytes place → ShowsAcl place aces
+    → IsAcl aces
 shows-acl-limits place aces b h = record {
   each = aces-limits aces (drop 8 place) (AreBytes-drop 8 place b) h.places;
   fits = omega (arith, acl-fits place aces h, h.size, u16_at-small 2 place b);
@@ -489,12 +541,14 @@ ace-place left b e =
       room = omega (arith, long, bounds.0);
       sound = bounds.2;
       front = at_least (length place) (sid_offset_in place + 8) room.0;
-      sid = sid_found (drop (sid_offset_in place) place) (sid_at (drop (sid_offset_in place) place)) (AreBytes-drop (sid_offset_in place) place (AreBytes-take n left b)) refl sid;
+      sid = sid_found (drop (sid_offset_in place) place) (sid_at (drop (sid_offset_in place) place))
+          (AreBytes-drop (sid_offset_in place) place (AreBytes-take n left b)) refl sid;
       limits = shows-ace-limits place (ace_of place) (AreBytes-take n left b) shows.0;
     }
 
 -- the written size of what is read
-pub read-size : (place : List ℕ) (s : SecurityId) (n : ℕ) → sid_at (drop (sid_offset_in place) place) ≡ Some (s, n) → n ≡ sid_size s
+pub read-size : (place : List ℕ) (s : SecurityId) (n : ℕ) → sid_at (drop (sid_offset_in place) place) ≡ Some (s, n)
+    → n ≡ sid_size s
     → sid_offset_in place + n ≡ ace_size (ace_of place)
 unfolding sid_offset_in
 read-size place s n found size =
@@ -507,5 +561,6 @@ pub acl-read : (bytes : List ℕ) (n count : ℕ) → n ≡ u16_at 2 bytes → c
 acl-read bytes n count size e low high =
     let long : length (take n bytes) ≡ n = length-take-le n bytes high in
     let same : u16_at 4 (take n bytes) ≡ u16_at 4 bytes =
-    sym (u16_at-front 4 (take n bytes) (drop n bytes) (omega (arith, long, low))) ∙ ap (u16_at 4) (take-append-drop n bytes) in
+    sym (u16_at-front 4 (take n bytes) (drop n bytes) (omega (arith, long, low)))
+    ∙ ap (u16_at 4) (take-append-drop n bytes) in
     ap (λ (k : ℕ). aces_of k (drop 8 (take n bytes))) (e ∙ sym same) ∙ ap (λ (k : ℕ). acl_of (take k bytes)) size

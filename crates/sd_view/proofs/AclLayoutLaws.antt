@@ -22,12 +22,14 @@ begins s h = record { limits = h; rest = []; shape = sym (append-nil (sid_bytes 
 -- the bytes of an ACE and the place of its SID, by whether its kind is one of objects
 abbrev bytes_by : ℕ → ℕ → ℕ → ℕ → Bool → Option (List ℕ) → Option (List ℕ) → SecurityId → List ℕ
 bytes_by kind flags n mask b object inherited s =
-    (kind ∷ flags ∷ little_bytes 2 n ++ (little_bytes 4 mask ++ object_flags b object inherited)) ++ (guids b object inherited ++ sid_bytes s)
+    (kind ∷ flags ∷ little_bytes 2 n ++ (little_bytes 4 mask ++ object_flags b object inherited))
+    ++ (guids b object inherited ++ sid_bytes s)
 
 abbrev place_by : Bool → Option (List ℕ) → Option (List ℕ) → ℕ
 place_by b object inherited = cond b (12 + guid_size object + guid_size inherited) 8
 
-length-by : (kind flags n mask : ℕ) (b : Bool) (o i : Option (List ℕ)) (s : SecurityId) → length (bytes_by kind flags n mask b o i s) ≡ place_by b o i + sid_size s
+length-by : (kind flags n mask : ℕ) (b : Bool) (o i : Option (List ℕ)) (s : SecurityId)
+    → length (bytes_by kind flags n mask b o i s) ≡ place_by b o i + sid_size s
 length-by kind flags n mask false o i s = omega (arith, length-sid_bytes s)
 length-by kind flags n mask true None None s = omega (arith, length-sid_bytes s)
 length-by kind flags n mask true None (Some x) s = omega (arith, length-sid_bytes s)
@@ -36,10 +38,12 @@ length-by kind flags n mask true (Some x) (Some y) s = omega (arith, length-sid_
 
 -- an ACE has as many bytes as its size says
 pub length-ace_bytes : (a : AccessControlEntry) → length (ace_bytes a) ≡ ace_size a
-length-ace_bytes a = length-by (kind_code a.kind) a.flags (ace_size a) a.mask (is_object a.kind) a.object a.inherited a.sid
+length-ace_bytes a = length-by (kind_code a.kind) a.flags (ace_size a) a.mask (is_object a.kind) a.object
+    a.inherited a.sid
 
 -- that is at least 16 bytes and at most 112, and a multiple of 4
-place-fourth : (b : Bool) (o i : Option (List ℕ)) → (place_by b o i % 4 ≡ 0) × (8 ≤ place_by b o i) × (place_by b o i ≤ 44)
+place-fourth : (b : Bool) (o i : Option (List ℕ)) → (place_by b o i % 4 ≡ 0) × (8 ≤ place_by b o i)
+    × (place_by b o i ≤ 44)
 place-fourth false o i = (refl, omega arith, omega arith)
 place-fourth true None None = (refl, omega arith, omega arith)
 place-fourth true None (Some x) = (refl, omega arith, omega arith)
@@ -59,10 +63,12 @@ ace_size-small a h =
 -- the GUIDs and the SID stand at their places
 abbrev Stand : Bool → Option (List ℕ) → Option (List ℕ) → SecurityId → List ℕ → Type 0
 Stand b o i s place =
-    ShowsGuid (b && eqb (u32_at 8 place % 2) 1) (drop 12 place) o × ShowsGuid (b && eqb (u32_at 8 place / 2 % 2) 1) (drop (12 + guid_size o) place) i
+    ShowsGuid (b && eqb (u32_at 8 place % 2) 1) (drop 12 place) o
+    × ShowsGuid (b && eqb (u32_at 8 place / 2 % 2) 1) (drop (12 + guid_size o) place) i
     × BeginsWithSid (drop (place_by b o i) place) s
 
-stand : (kind flags n mask : ℕ) (b : Bool) (o i : Option (List ℕ)) (s : SecurityId) → GuidsFit b o i → IfSome o IsGuid → IfSome i IsGuid → IsSid s
+stand : (kind flags n mask : ℕ) (b : Bool) (o i : Option (List ℕ)) (s : SecurityId) → GuidsFit b o i → IfSome o IsGuid
+    → IfSome i IsGuid → IsSid s
     → Stand b o i s (bytes_by kind flags n mask b o i s)
 unfolding u32_at
 stand kind flags n mask false None None s fit g h sid = (tt, tt, begins s sid)
@@ -71,7 +77,8 @@ stand kind flags n mask false None (Some x) s fit g h sid = absurd fit
 stand kind flags n mask true None None s fit g h sid = (tt, tt, begins s sid)
 stand kind flags n mask true None (Some x) s fit g h sid = (tt, sym (swap_twice x h.size), begins s sid)
 stand kind flags n mask true (Some x) None s fit g h sid = (sym (swap_twice x g.size), tt, begins s sid)
-stand kind flags n mask true (Some x) (Some y) s fit g h sid = (sym (swap_twice x g.size), sym (swap_twice y h.size), begins s sid)
+stand kind flags n mask true (Some x) (Some y) s fit g h
+    sid = (sym (swap_twice x g.size), sym (swap_twice y h.size), begins s sid)
 
 -- the bytes of an ACE show it
 pub ace_bytes-shows : (a : AccessControlEntry) → IsAce a → ShowsAce (ace_bytes a) a
@@ -80,13 +87,15 @@ ace_bytes-shows a h =
     let b = is_object a.kind in
     let flags = object_flags b a.object a.inherited in
     let body = guids b a.object a.inherited ++ sid_bytes a.sid in
-    let parts = stand (kind_code a.kind) a.flags (ace_size a) a.mask b a.object a.inherited a.sid h.fit h.object h.inherited h.sid in
+    let parts = stand (kind_code a.kind) a.flags (ace_size a) a.mask b a.object a.inherited a.sid h.fit h.object
+    h.inherited h.sid in
     let long = length-ace_bytes a in
     record {
       kind = refl;
       flags = refl;
       clear = h.clear;
-      size = little_number-reads_back 2 (ace_size a) ((little_bytes 4 a.mask ++ flags) ++ body) (ace_size-small a h) ∙ sym long;
+      size = little_number-reads_back 2 (ace_size a) ((little_bytes 4 a.mask ++ flags) ++ body) (ace_size-small a h)
+          ∙ sym long;
       aligned = ap (λ (n : ℕ). n % 4) long ∙ (ace_size-fourth a).0;
       mask = little_number-reads_back 4 a.mask (flags ++ body) h.mask;
       object = parts.0;
@@ -97,7 +106,8 @@ ace_bytes-shows a h =
 -- the same of ACEs one after the other
 pub length-aces : (aces : List AccessControlEntry) → length (flat_map ace_bytes aces) ≡ aces_size aces
 length-aces [] = refl
-length-aces (a ∷ others) = length-append (ace_bytes a) (flat_map ace_bytes others) ∙ omega (arith, length-ace_bytes a, length-aces others)
+length-aces (a ∷ others) = length-append (ace_bytes a) (flat_map ace_bytes others)
+    ∙ omega (arith, length-ace_bytes a, length-aces others)
 
 pub aces-many : (aces : List AccessControlEntry) → (aces_size aces % 4 ≡ 0) × (16 * length aces ≤ aces_size aces)
 aces-many [] = (refl, omega arith)
@@ -135,7 +145,8 @@ acl_bytes-shows aces h =
     record {
       revision = revision-is (has_object aces);
       header = omega (arith, long);
-      size = little_number-reads_back 2 (acl_size aces) (little_bytes 2 (length aces) ++ (0 ∷ 0 ∷ entries)) h.fits ∙ sym long;
+      size = little_number-reads_back 2 (acl_size aces) (little_bytes 2 (length aces) ++ (0 ∷ 0 ∷ entries)) h.fits
+          ∙ sym long;
       count = little_number-reads_back 2 (length aces) (0 ∷ 0 ∷ entries) (omega (arith, all.1, h.fits));
       places = aces-shown aces h.each;
     }

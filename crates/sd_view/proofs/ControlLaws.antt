@@ -74,14 +74,16 @@ bits-same lists.Sacl f others place e none =
     let clear = sacl-clear others e in
     let mask = flag_bits lists.Sacl all_flags in
     ap (λ (b : ℕ). eqb b 1)
-    (put-three f.protected f.auto_inherit_required f.auto_inherited others 13 9 11 place clear.first clear.second clear.third
+    (put-three f.protected f.auto_inherit_required f.auto_inherited others 13 9 11 place clear.first clear.second
+    clear.third
     (λ x. omega (arith, x)) (λ x. omega (arith, x)) (λ x. omega (arith, x)) (elsewhere mask place 13 refl none)
     (elsewhere mask place 9 refl none) (elsewhere mask place 11 refl none))
 bits-same lists.Dacl f others place e none =
     let clear = dacl-clear others e in
     let mask = flag_bits lists.Dacl all_flags in
     ap (λ (b : ℕ). eqb b 1)
-    (put-three f.protected f.auto_inherit_required f.auto_inherited others 12 8 10 place clear.first clear.second clear.third
+    (put-three f.protected f.auto_inherit_required f.auto_inherited others 12 8 10 place clear.first clear.second
+    clear.third
     (λ x. omega (arith, x)) (λ x. omega (arith, x)) (λ x. omega (arith, x)) (elsewhere mask place 12 refl none)
     (elsewhere mask place 8 refl none) (elsewhere mask place 10 refl none))
 

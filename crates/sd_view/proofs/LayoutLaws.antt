@@ -38,34 +38,42 @@ acl_part_size-most present acl.Null h = omega arith
 acl_part_size-most present (acl.List aces) h = acl_size-most aces h.1
 
 -- the fields of a header
-pub header-control : (rm control owner group sacl dacl : ℕ) (rest : List ℕ) → control < 2 ^ 16 → u16_at 2 (header_bytes rm control owner group sacl dacl ++ rest) ≡ control
+pub header-control : (rm control owner group sacl dacl : ℕ) (rest : List ℕ) → control < 2 ^ 16
+    → u16_at 2 (header_bytes rm control owner group sacl dacl ++ rest) ≡ control
 unfolding u16_at header_bytes
 header-control rm control owner group sacl dacl rest h =
-    little_number-reads_back 2 control (little_bytes 4 owner ++ (little_bytes 4 group ++ (little_bytes 4 sacl ++ (little_bytes 4 dacl ++ rest)))) h
+    little_number-reads_back 2 control
+    (little_bytes 4 owner ++ (little_bytes 4 group ++ (little_bytes 4 sacl ++ (little_bytes 4 dacl ++ rest)))) h
 
-pub header-owner : (rm control owner group sacl dacl : ℕ) (rest : List ℕ) → owner < 2 ^ 32 → u32_at 4 (header_bytes rm control owner group sacl dacl ++ rest) ≡ owner
+pub header-owner : (rm control owner group sacl dacl : ℕ) (rest : List ℕ) → owner < 2 ^ 32
+    → u32_at 4 (header_bytes rm control owner group sacl dacl ++ rest) ≡ owner
 unfolding u32_at header_bytes
 header-owner rm control owner group sacl dacl rest h =
     little_number-reads_back 4 owner (little_bytes 4 group ++ (little_bytes 4 sacl ++ (little_bytes 4 dacl ++ rest))) h
 
-pub header-group : (rm control owner group sacl dacl : ℕ) (rest : List ℕ) → group < 2 ^ 32 → u32_at 8 (header_bytes rm control owner group sacl dacl ++ rest) ≡ group
+pub header-group : (rm control owner group sacl dacl : ℕ) (rest : List ℕ) → group < 2 ^ 32
+    → u32_at 8 (header_bytes rm control owner group sacl dacl ++ rest) ≡ group
 unfolding u32_at header_bytes
 header-group rm control owner group sacl dacl rest h =
     little_number-reads_back 4 group (little_bytes 4 sacl ++ (little_bytes 4 dacl ++ rest)) h
 
-pub header-sacl : (rm control owner group sacl dacl : ℕ) (rest : List ℕ) → sacl < 2 ^ 32 → u32_at 12 (header_bytes rm control owner group sacl dacl ++ rest) ≡ sacl
+pub header-sacl : (rm control owner group sacl dacl : ℕ) (rest : List ℕ) → sacl < 2 ^ 32
+    → u32_at 12 (header_bytes rm control owner group sacl dacl ++ rest) ≡ sacl
 unfolding u32_at header_bytes
 header-sacl rm control owner group sacl dacl rest h = little_number-reads_back 4 sacl (little_bytes 4 dacl ++ rest) h
 
-pub header-dacl : (rm control owner group sacl dacl : ℕ) (rest : List ℕ) → dacl < 2 ^ 32 → u32_at 16 (header_bytes rm control owner group sacl dacl ++ rest) ≡ dacl
+pub header-dacl : (rm control owner group sacl dacl : ℕ) (rest : List ℕ) → dacl < 2 ^ 32
+    → u32_at 16 (header_bytes rm control owner group sacl dacl ++ rest) ≡ dacl
 unfolding u32_at header_bytes
 header-dacl rm control owner group sacl dacl rest h = little_number-reads_back 4 dacl rest h
 
-pub header-revision : (rm control owner group sacl dacl : ℕ) (rest : List ℕ) → slice_index (header_bytes rm control owner group sacl dacl ++ rest) 0 ≡ 1
+pub header-revision : (rm control owner group sacl dacl : ℕ) (rest : List ℕ)
+    → slice_index (header_bytes rm control owner group sacl dacl ++ rest) 0 ≡ 1
 unfolding header_bytes
 header-revision rm control owner group sacl dacl rest = refl
 
-pub header-rm : (rm control owner group sacl dacl : ℕ) (rest : List ℕ) → slice_index (header_bytes rm control owner group sacl dacl ++ rest) 1 ≡ rm
+pub header-rm : (rm control owner group sacl dacl : ℕ) (rest : List ℕ)
+    → slice_index (header_bytes rm control owner group sacl dacl ++ rest) 1 ≡ rm
 unfolding header_bytes
 header-rm rm control owner group sacl dacl rest = refl
 
@@ -105,7 +113,12 @@ apart : (p m q n : ℕ) → p + m ≤ q → Apart (extent_if p m) (extent_if q n
 apart p m q n h = cond-apart (m == 0) (n == 0) (p, p + m) (q, q + n) h
 
 parts-apart : (p k l m n : ℕ)
-    → AreApart (record { owner = extent_if p k; group = extent_if (p + k) l; sacl = extent_if (p + k + l) m; dacl = extent_if (p + k + l + m) n })
+    → AreApart (record {
+      owner = extent_if p k;
+      group = extent_if (p + k) l;
+      sacl = extent_if (p + k + l) m;
+      dacl = extent_if (p + k + l + m) n;
+    })
 parts-apart p k l m n = record {
   owner_group = apart p k (p + k) l (omega arith);
   owner_sacl = apart p k (p + k + l) m (omega arith);
@@ -116,11 +129,13 @@ parts-apart p k l m n = record {
 }
 
 -- what stands after a part
-after : (place n : ℕ) (whole part rest : List ℕ) → length part ≡ n → drop place whole ≡ part ++ rest → drop (place + n) whole ≡ rest
+after : (place n : ℕ) (whole part rest : List ℕ) → length part ≡ n → drop place whole ≡ part ++ rest
+    → drop (place + n) whole ≡ rest
 after place n whole part rest len shape = sym (drop-drop n place whole) ∙ ap (drop n) shape ∙ drop_at part rest n len
 
 -- a SID that stands at its place is shown there
-sid-stands : (bytes rest : List ℕ) (offset place : ℕ) (o : Option SecurityId) → offset ≡ offset_if place (sid_part_size o)
+sid-stands : (bytes rest : List ℕ) (offset place : ℕ) (o : Option SecurityId)
+    → offset ≡ offset_if place (sid_part_size o)
     → drop place bytes ≡ sid_part o ++ rest → 20 ≤ place → IfSome o IsSid
     → ShowsSid bytes offset o × (sid_extent offset o ≡ extent_if place (sid_part_size o))
 sid-stands bytes rest offset place None at shape low h = (at, refl)
@@ -132,14 +147,17 @@ sid-stands bytes rest offset place (Some s) at shape low h =
     )
 
 -- an ACL's size field tells its written size
-pub acl_size-read : (bytes rest : List ℕ) (aces : List AccessControlEntry) → IsAcl aces → bytes ≡ acl_bytes aces ++ rest → u16_at 2 bytes ≡ acl_size aces
+pub acl_size-read : (bytes rest : List ℕ) (aces : List AccessControlEntry) → IsAcl aces → bytes ≡ acl_bytes aces ++ rest
+    → u16_at 2 bytes ≡ acl_size aces
 unfolding u16_at
 acl_size-read bytes rest aces h found =
     ap (u16_at 2) found
-    ∙ little_number-reads_back 2 (acl_size aces) (little_bytes 2 (length aces) ++ (0 ∷ 0 ∷ (flat_map ace_bytes aces ++ rest))) h.fits
+    ∙ little_number-reads_back 2 (acl_size aces)
+    (little_bytes 2 (length aces) ++ (0 ∷ 0 ∷ (flat_map ace_bytes aces ++ rest))) h.fits
 
 -- so is an ACL
-acl-stands : (bytes rest : List ℕ) (offset place : ℕ) (present : Bool) (p : AclPart) → offset ≡ offset_if place (acl_part_size p)
+acl-stands : (bytes rest : List ℕ) (offset place : ℕ) (present : Bool) (p : AclPart)
+    → offset ≡ offset_if place (acl_part_size p)
     → drop place bytes ≡ acl_part p ++ rest → 20 ≤ place → IsAclPart present p
     → ShowsAclPart bytes present offset p × (acl_extent bytes offset p ≡ extent_if place (acl_part_size p))
 acl-stands bytes rest offset place present acl.Absent at shape low h = (h, refl)
@@ -163,7 +181,8 @@ size-most d h =
     omega arith
 
 -- five lists in a row
-length-five : (a b c d e : List ℕ) → length (a ++ (b ++ (c ++ (d ++ e)))) ≡ length a + (length b + (length c + (length d + length e)))
+length-five : (a b c d e : List ℕ)
+    → length (a ++ (b ++ (c ++ (d ++ e)))) ≡ length a + (length b + (length c + (length d + length e)))
 length-five a b c d e = simp length-append
 
 -- the layout has as many bytes as its size says
@@ -173,7 +192,8 @@ length-layout d =
     let group = length-sid_part d.group in
     let sacl = length-acl_part d.sacl in
     let dacl = length-acl_part d.dacl in
-    length-five (descriptor_header d) (sid_part d.owner) (sid_part d.group) (acl_part d.sacl) (acl_part d.dacl) ∙ omega (arith, length-header d)
+    length-five (descriptor_header d) (sid_part d.owner) (sid_part d.group) (acl_part d.sacl) (acl_part d.dacl)
+    ∙ omega (arith, length-header d)
 
 -- the fields of the layout's header
 offset-small : (place n : ℕ) → place ≤ 131220 → offset_if place n < 2 ^ 32
@@ -200,10 +220,14 @@ header d h =
       revision = header-revision d.rm d.control owner group sacl dacl rest;
       rm = header-rm d.rm d.control owner group sacl dacl rest;
       control = header-control d.rm d.control owner group sacl dacl rest h.control;
-      owner = header-owner d.rm d.control owner group sacl dacl rest (offset-small 20 (sid_part_size d.owner) (omega arith));
-      group = header-group d.rm d.control owner group sacl dacl rest (offset-small (group_offset d) (sid_part_size d.group) (omega arith));
-      sacl = header-sacl d.rm d.control owner group sacl dacl rest (offset-small (sacl_offset d) (acl_part_size d.sacl) (omega arith));
-      dacl = header-dacl d.rm d.control owner group sacl dacl rest (offset-small (dacl_offset d) (acl_part_size d.dacl) (omega arith));
+      owner = header-owner d.rm d.control owner group sacl dacl rest
+          (offset-small 20 (sid_part_size d.owner) (omega arith));
+      group = header-group d.rm d.control owner group sacl dacl rest
+          (offset-small (group_offset d) (sid_part_size d.group) (omega arith));
+      sacl = header-sacl d.rm d.control owner group sacl dacl rest
+          (offset-small (sacl_offset d) (acl_part_size d.sacl) (omega arith));
+      dacl = header-dacl d.rm d.control owner group sacl dacl rest
+          (offset-small (dacl_offset d) (acl_part_size d.dacl) (omega arith));
     }
 
 -- what stands from the place of each part on
@@ -217,10 +241,14 @@ rests : (d : Descriptor) → IsDescriptor d → Rests d
 rests d h =
     let bytes = layout d in
     let acls = acl_part d.sacl ++ acl_part d.dacl in
-    let owner = after 0 20 bytes (descriptor_header d) (sid_part d.owner ++ (sid_part d.group ++ acls)) (length-header d) refl in
-    let group = after 20 (sid_part_size d.owner) bytes (sid_part d.owner) (sid_part d.group ++ acls) (length-sid_part d.owner) owner in
-    let sacl = after (group_offset d) (sid_part_size d.group) bytes (sid_part d.group) acls (length-sid_part d.group) group in
-    let dacl = after (sacl_offset d) (acl_part_size d.sacl) bytes (acl_part d.sacl) (acl_part d.dacl) (length-acl_part d.sacl) sacl in
+    let owner = after 0 20 bytes (descriptor_header d) (sid_part d.owner ++ (sid_part d.group ++ acls))
+    (length-header d) refl in
+    let group = after 20 (sid_part_size d.owner) bytes (sid_part d.owner) (sid_part d.group ++ acls)
+    (length-sid_part d.owner) owner in
+    let sacl = after (group_offset d) (sid_part_size d.group) bytes (sid_part d.group) acls (length-sid_part d.group)
+    group in
+    let dacl = after (sacl_offset d) (acl_part_size d.sacl) bytes (acl_part d.sacl) (acl_part d.dacl)
+    (length-acl_part d.sacl) sacl in
     record { owner = owner; group = group; sacl = sacl; dacl = dacl ∙ sym (append-nil (acl_part d.dacl)) }
 
 -- the layout of a descriptor shows it
@@ -230,7 +258,8 @@ layout-shows d h =
     let first = header d h in
     let rest = rests d h in
     let owner = sid-stands bytes _ (owner_at bytes) 20 d.owner first.owner rest.owner (omega arith) h.owner in
-    let group = sid-stands bytes _ (group_at bytes) (group_offset d) d.group first.group rest.group (omega arith) h.group in
+    let group = sid-stands bytes _ (group_at bytes) (group_offset d) d.group first.group rest.group (omega arith)
+    h.group in
     let sacl = acl-stands bytes _ (sacl_at bytes) (sacl_offset d) _ d.sacl first.sacl rest.sacl (omega arith) h.sacl in
     let dacl = acl-stands bytes _ (dacl_at bytes) (dacl_offset d) _ d.dacl first.dacl rest.dacl (omega arith) h.dacl in
     record {
@@ -243,5 +272,7 @@ layout-shows d h =
       group = group.0;
       sacl = sacl.0;
       dacl = dacl.0;
-      apart = rw (owner.1, group.1, sacl.1, dacl.1) (parts-apart 20 (sid_part_size d.owner) (sid_part_size d.group) (acl_part_size d.sacl) (acl_part_size d.dacl));
+      apart = rw (owner.1, group.1, sacl.1, dacl.1)
+          (parts-apart 20 (sid_part_size d.owner) (sid_part_size d.group) (acl_part_size d.sacl)
+          (acl_part_size d.dacl));
     }

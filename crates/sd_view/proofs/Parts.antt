@@ -17,7 +17,8 @@ pub no_sid-bytes : (bytes : List ℕ) (offset : ℕ) → offset ≡ 0 → sid_pa
 unfolding sid_shown
 no_sid-bytes bytes offset e = rw e refl
 
-sid_shown-stands : (bytes : List ℕ) (offset : ℕ) → (offset ≡ 0 → ⊥) → sid_stands (drop offset bytes) ≡ true → sid_shown bytes offset ≡ Some (sid_of (drop offset bytes))
+sid_shown-stands : (bytes : List ℕ) (offset : ℕ) → (offset ≡ 0 → ⊥) → sid_stands (drop offset bytes) ≡ true
+    → sid_shown bytes offset ≡ Some (sid_of (drop offset bytes))
 unfolding sid_shown
 sid_shown-stands bytes offset other e =
     let zero_test : eqb offset 0 ≡ false = grind (arith, nat_tests) in
@@ -33,7 +34,8 @@ sid-bytes bytes offset b other h =
     let test = h.stands other in
     let sid = stands-sid place (AreBytes-drop offset bytes b) test in
     let size = length-sid_bytes (sid_of place) ∙ sym sid.1 in
-    ap (take n) sid.0.shape ∙ take_at (sid_bytes (sid_of place)) sid.0.rest n size ∙ ap sid_part (sym (sid_shown-stands bytes offset other test))
+    ap (take n) sid.0.shape ∙ take_at (sid_bytes (sid_of place)) sid.0.rest n size
+    ∙ ap sid_part (sym (sid_shown-stands bytes offset other test))
 
 -- what is kept of an ACL has its written size
 pub written-size : (p : AclPart) → (written_of p).size ≡ acl_part_size p

@@ -55,8 +55,10 @@ none_header bytes h =
     rw (room, revision, h.relative) refl
 
 -- a place that holds a SID
-sid_answer : (part : Part) (bytes : List ℕ) (offset : ℕ) (s : SecurityId) (n : ℕ) → 20 ≤ offset → offset + 8 ≤ length bytes
-    → sid_at (drop offset bytes) ≡ Some (s, n) → (sid_fault part bytes offset ≡ None) × (sid_shown bytes offset ≡ Some s)
+sid_answer : (part : Part) (bytes : List ℕ) (offset : ℕ) (s : SecurityId) (n : ℕ) → 20 ≤ offset
+    → offset + 8 ≤ length bytes
+    → sid_at (drop offset bytes) ≡ Some (s, n) → (sid_fault part bytes offset ≡ None)
+    × (sid_shown bytes offset ≡ Some s)
 unfolding sid_fault sid_shown
 sid_answer part bytes offset s n low room e =
     let zero_test : eqb offset 0 ≡ false = grind (arith, nat_tests) in
@@ -69,7 +71,8 @@ shows-sid : (part : Part) (bytes : List ℕ) (offset : ℕ) (o : Option Security
     → (sid_fault part bytes offset ≡ None) × (sid_shown bytes offset ≡ o)
 unfolding sid_fault sid_shown
 shows-sid part bytes offset None h =
-    let P : ℕ → Type 0 = λ n. (sid_fault part bytes n ≡ None) × (sid_shown bytes n ≡ None) in subst P (sym h) (refl, refl)
+    let P : ℕ → Type 0 = λ n. (sid_fault part bytes n ≡ None)
+    × (sid_shown bytes n ≡ None) in subst P (sym h) (refl, refl)
 shows-sid part bytes offset (Some s) h =
     let size = ap (length {A = ℕ}) h.1.shape in
     let long : offset + 8 ≤ length bytes = omega (arith, length-drop offset bytes, size, h.0) in
@@ -85,12 +88,14 @@ unfolding sid_at
 at-stands bytes e = some_if (sid_stands bytes) (sid_of bytes, 8 + 4 * slice_index bytes 1) e
 
 -- what passes the test is read
-pub stands-at : (bytes : List ℕ) → sid_stands bytes ≡ true → sid_at bytes ≡ Some (sid_of bytes, 8 + 4 * slice_index bytes 1)
+pub stands-at : (bytes : List ℕ) → sid_stands bytes ≡ true
+    → sid_at bytes ≡ Some (sid_of bytes, 8 + 4 * slice_index bytes 1)
 unfolding sid_at
 stands-at bytes e = rw e refl
 
 -- what passes the test begins with the SID that is read
-pub stands-sid : (bytes : List ℕ) → AreBytes bytes → sid_stands bytes ≡ true → BeginsWithSid bytes (sid_of bytes) × (8 + 4 * slice_index bytes 1 ≡ sid_size (sid_of bytes))
+pub stands-sid : (bytes : List ℕ) → AreBytes bytes → sid_stands bytes ≡ true → BeginsWithSid bytes (sid_of bytes)
+    × (8 + 4 * slice_index bytes 1 ≡ sid_size (sid_of bytes))
 stands-sid bytes b e = sid_at-found bytes (sid_of bytes) (8 + 4 * slice_index bytes 1) b (stands-at bytes e)
 
 bounds : (offset len : ℕ) → (ltb offset 20 || ltb len (offset + 8)) ≡ false → (20 ≤ offset) × (offset + 8 ≤ len)
@@ -102,8 +107,10 @@ sid-shows : (part : Part) (bytes : List ℕ) (offset : ℕ) → AreBytes bytes �
 unfolding sid_fault
 sid-shows part bytes offset b e = elim (cases_eq offset 0) [
   | inl z ↦
-      let none = (shows-sid part bytes offset None z).1 in
-      (subst (λ (o : Option SecurityId). ShowsSid bytes offset o) (sym none) z, record { within = omega (arith, z); stands = λ other. absurd (other z) })
+      let none = (shows-sid part bytes offset None z).1 in (
+        subst (λ (o : Option SecurityId). ShowsSid bytes offset o) (sym none) z,
+        record { within = omega (arith, z); stands = λ other. absurd (other z) },
+      )
   | inr z ↦
       let zero_test : eqb offset 0 ≡ false = grind (arith, nat_tests) in
       let range = went_on _ _ _ (otherwise _ _ _ zero_test e) in
@@ -111,8 +118,10 @@ sid-shows part bytes offset b e = elim (cases_eq offset 0) [
       let place = drop offset bytes in
       let test = at-stands place (passed _ _ range.1) in
       let sid = (stands-sid place (AreBytes-drop offset bytes b) test).0 in
-      let some = (shows-sid part bytes offset (Some (sid_of place)) (ends.0, sid)).1 in
-      (subst (λ (o : Option SecurityId). ShowsSid bytes offset o) (sym some) (ends.0, sid), record { within = omega (arith, ends.1); stands = λ _. test })
+      let some = (shows-sid part bytes offset (Some (sid_of place)) (ends.0, sid)).1 in (
+        subst (λ (o : Option SecurityId). ShowsSid bytes offset o) (sym some) (ends.0, sid),
+        record { within = omega (arith, ends.1); stands = λ _. test },
+      )
 ]
 
 -- no fault where none is found
@@ -121,44 +130,60 @@ map_none f None e = refl
 map_none f (Some x) e = absurd (cc)
 
 -- an ACL that stands past the header has no fault, and is read
-acl_answer : (part : Part) (bytes : List ℕ) (offset : ℕ) (aces : List AccessControlEntry) → 20 ≤ offset → offset + 8 ≤ length bytes
-    → BeginsWithAcl (drop offset bytes) aces → (acl_part_fault part bytes true offset ≡ None) × (acl_shown bytes true offset ≡ acl.List aces)
+acl_answer : (part : Part) (bytes : List ℕ) (offset : ℕ) (aces : List AccessControlEntry) → 20 ≤ offset
+    → offset + 8 ≤ length bytes
+    → BeginsWithAcl (drop offset bytes) aces → (acl_part_fault part bytes true offset ≡ None)
+    × (acl_shown bytes true offset ≡ acl.List aces)
 unfolding acl_part_fault acl_shown
 acl_answer part bytes offset aces low room h =
     let read = begins-acl (drop offset bytes) aces h in
     let zero_test : eqb offset 0 ≡ false = grind (arith, nat_tests) in
     let low_test = not_below offset 20 low in
-    let room_test = not_below (length bytes) (offset + 8) room in
-    (rw (zero_test, low_test, room_test, read.0) refl, rw zero_test (ap (λ (as' : List AccessControlEntry). acl.List as') read.1))
+    let room_test = not_below (length bytes) (offset + 8) room in (
+      rw (zero_test, low_test, room_test, read.0) refl,
+      rw zero_test (ap (λ (as' : List AccessControlEntry). acl.List as') read.1),
+    )
 
-acl_room : (bytes : List ℕ) (offset : ℕ) (aces : List AccessControlEntry) → 20 ≤ offset → BeginsWithAcl (drop offset bytes) aces → offset + 8 ≤ length bytes
+acl_room : (bytes : List ℕ) (offset : ℕ) (aces : List AccessControlEntry) → 20 ≤ offset
+    → BeginsWithAcl (drop offset bytes) aces → offset + 8 ≤ length bytes
 acl_room bytes offset aces low h =
     let header = h.3.header in
     let whole = ap (length {A = ℕ}) h.2 in
     omega (arith, header, whole, length-append h.0 h.1, length-drop offset bytes)
 
 -- what an offset shows has no fault, and is read
-shows-acl-part : (part : Part) (bytes : List ℕ) (present : Bool) (offset : ℕ) (p : AclPart) → ShowsAclPart bytes present offset p
+shows-acl-part : (part : Part) (bytes : List ℕ) (present : Bool) (offset : ℕ) (p : AclPart)
+    → ShowsAclPart bytes present offset p
     → (acl_part_fault part bytes present offset ≡ None) × (acl_shown bytes present offset ≡ p)
 unfolding acl_part_fault acl_shown
 shows-acl-part part bytes present offset acl.Absent h =
-    subst (λ (b : Bool). (acl_part_fault part bytes b offset ≡ None) × (acl_shown bytes b offset ≡ acl.Absent)) (sym h) (refl, refl)
+    subst (λ (b : Bool). (acl_part_fault part bytes b offset ≡ None) × (acl_shown bytes b offset ≡ acl.Absent)) (sym h)
+    (refl, refl)
 shows-acl-part part bytes present offset acl.Null h =
     subst (λ (b : Bool). (acl_part_fault part bytes b offset ≡ None) × (acl_shown bytes b offset ≡ acl.Null)) (sym h.0)
-    (subst (λ (n : ℕ). (acl_part_fault part bytes true n ≡ None) × (acl_shown bytes true n ≡ acl.Null)) (sym h.1) (refl, refl))
+    (subst (λ (n : ℕ). (acl_part_fault part bytes true n ≡ None) × (acl_shown bytes true n ≡ acl.Null)) (sym h.1)
+    (refl, refl))
 shows-acl-part part bytes present offset (acl.List aces) h =
-    subst (λ (b : Bool). (acl_part_fault part bytes b offset ≡ None) × (acl_shown bytes b offset ≡ acl.List aces)) (sym h.0)
+    subst (λ (b : Bool). (acl_part_fault part bytes b offset ≡ None) × (acl_shown bytes b offset ≡ acl.List aces))
+    (sym h.0)
     (acl_answer part bytes offset aces h.1 (acl_room bytes offset aces h.1 h.2) h.2)
 
 -- an offset without a fault shows what is read
-acl-part-shows : (part : Part) (bytes : List ℕ) (present : Bool) (offset : ℕ) → AreBytes bytes → acl_part_fault part bytes present offset ≡ None
+acl-part-shows : (part : Part) (bytes : List ℕ) (present : Bool) (offset : ℕ) → AreBytes bytes
+    → acl_part_fault part bytes present offset ≡ None
     → ShowsAclPart bytes present offset (acl_shown bytes present offset) × IsAclAt bytes present offset
 unfolding acl_part_fault acl_shown
-acl-part-shows part bytes false offset b e = (refl, record { within = λ t. absurd (cc); whole = λ t. absurd (cc); place = λ t. absurd (cc) })
+acl-part-shows part bytes false offset b
+    e = (refl, record { within = λ t. absurd (cc); whole = λ t. absurd (cc); place = λ t. absurd (cc) })
 acl-part-shows part bytes true offset b e = elim (cases_eq offset 0) [
   | inl z ↦ (
     subst (λ (n : ℕ). ShowsAclPart bytes true n (acl_shown bytes true n)) (sym z) (refl, refl),
-    record { within = λ t other. absurd (other z); whole = λ t other. absurd (other z); place = λ t other. absurd (other z) },
+    record {
+      within = λ t other. absurd (other z);
+      whole = λ t other. absurd (other z);
+      place = λ t other. absurd
+          (other z);
+    },
   )
   | inr z ↦
       let zero_test : eqb offset 0 ≡ false = grind (arith, nat_tests) in
@@ -168,7 +193,8 @@ acl-part-shows part bytes true offset b e = elim (cases_eq offset 0) [
       let none = map_none (fault_in part) (acl_fault (drop offset bytes)) range.1 in
       let seen : acl_shown bytes true offset ≡ acl.List (acl_of (acl_place (drop offset bytes))) = rw zero_test refl in
       let place = acl-place (drop offset bytes) whole none in (
-        subst (λ (p : AclPart). ShowsAclPart bytes true offset p) (sym seen) (refl, ends.0, acl-begins (drop offset bytes) whole none),
+        subst (λ (p : AclPart). ShowsAclPart bytes true offset p) (sym seen)
+            (refl, ends.0, acl-begins (drop offset bytes) whole none),
         record { within = λ t other. ends.1; whole = λ t other. place.2; place = λ t other. place.0 },
       )
 ]
@@ -235,13 +261,19 @@ sid-limits bytes offset (Some s) h = h.1.limits
 
 front_bytes : (place rest bytes : List ℕ) → bytes ≡ place ++ rest → AreBytes bytes → AreBytes place
 front_bytes place rest bytes e b =
-    let front = ap (take (length place)) e ∙ take_at place rest (length place) refl in subst AreBytes front (AreBytes-take (length place) bytes b)
+    let front = ap (take (length place)) e
+    ∙ take_at place rest (length place) refl in subst AreBytes front (AreBytes-take (length place) bytes b)
 
-acl-part-limits : (bytes : List ℕ) (present : Bool) (offset : ℕ) (p : AclPart) → AreBytes bytes → ShowsAclPart bytes present offset p → IsAclPart present p
+acl-part-limits : (bytes : List ℕ) (present : Bool) (offset : ℕ) (p : AclPart) → AreBytes bytes
+    → ShowsAclPart bytes present offset p → IsAclPart present p
 acl-part-limits bytes present offset acl.Absent b h = h
 acl-part-limits bytes present offset acl.Null b h = h.0
 acl-part-limits bytes present offset (acl.List aces) b h =
-    let place = h.2 in (h.0, shows-acl-limits place.0 aces (front_bytes place.0 place.1 (drop offset bytes) place.2 (AreBytes-drop offset bytes b)) place.3)
+    let place = h.2 in (
+      h.0,
+      shows-acl-limits place.0 aces
+          (front_bytes place.0 place.1 (drop offset bytes) place.2 (AreBytes-drop offset bytes b)) place.3,
+    )
 
 control-small : (bytes : List ℕ) → AreBytes bytes → control_at bytes < 2 ^ 16
 unfolding u16_at
@@ -284,8 +316,18 @@ fault-shows bytes b e =
       sacl = sacl.0;
       dacl = dacl.0;
       apart = overlaps_none (extents_of bytes (shown bytes)) f1.1;
-    } in
-    (shows, record { sound = e; header = head.room; owner = owner.1; group = group.1; sacl = sacl.1; dacl = dacl.1; limits = shows-limits bytes (shown bytes) b shows })
+    } in (
+      shows,
+      record {
+        sound = e;
+        header = head.room;
+        owner = owner.1;
+        group = group.1;
+        sacl = sacl.1;
+        dacl = dacl.1;
+        limits = shows-limits bytes (shown bytes) b shows;
+      },
+    )
 
 -- bytes that show a descriptor have no fault, and it is what is read
 pub shows-fault : (bytes : List ℕ) (d : Descriptor) → Shows bytes d → (fault bytes ≡ None) × (shown bytes ≡ d)
@@ -303,10 +345,19 @@ shows-fault bytes d h =
       revision = h.revision;
       relative = subst (λ (c : ℕ). self_relative c ≡ true) control h.relative;
     }) in
-    let same : shown bytes ≡ d = λ i. record { control = h.control i; rm = h.rm i; owner = owner.1 i; group = group.1 i; sacl = sacl.1 i; dacl = dacl.1 i } in
+    let same : shown bytes ≡ d = λ i.
+    record {
+      control = h.control i;
+      rm = h.rm i;
+      owner = owner.1 i;
+      group = group.1 i;
+      sacl = sacl.1 i;
+      dacl = dacl.1 i;
+    } in
     let apart = subst (λ (t : Descriptor). AreApart (extents_of bytes t)) (sym same) h.apart in (
       none_first _ _ head
-          (none_first _ _ (none_first _ _ owner.0 (none_first _ _ group.0 (none_first _ _ sacl.0 dacl.0))) (none_overlaps (extents_of bytes (shown bytes)) apart)),
+          (none_first _ _ (none_first _ _ owner.0 (none_first _ _ group.0 (none_first _ _ sacl.0 dacl.0)))
+          (none_overlaps (extents_of bytes (shown bytes)) apart)),
       same,
     )
 

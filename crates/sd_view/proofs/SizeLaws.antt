@@ -11,13 +11,17 @@ use Rattle.sd_view.specs.declared.acl.AclPart.TheVariants as acl
 use Rattle.sd_view.proofs.AclLaws.{acl-fits, sid-room, u16_at-front}
 
 -- an ACL's place is as long as its size field says, and at least as long as its written size
-acl-inside : (offset : ℕ) (bytes : List ℕ) (aces : List AccessControlEntry) → 20 ≤ offset → BeginsWithAcl (drop offset bytes) aces
+acl-inside : (offset : ℕ) (bytes : List ℕ) (aces : List AccessControlEntry) → 20 ≤ offset
+    → BeginsWithAcl (drop offset bytes) aces
     → (acl_size aces ≤ u16_at 2 (drop offset bytes)) × (offset + u16_at 2 (drop offset bytes) ≤ length bytes)
 acl-inside offset bytes aces low (place, rest, shape, h) =
-    let field : u16_at 2 (drop offset bytes) ≡ length place = ap (u16_at 2) shape ∙ u16_at-front 2 place rest (omega (arith, h.header)) ∙ h.size in
+    let field : u16_at 2 (drop offset bytes) ≡ length place = ap (u16_at 2) shape
+    ∙ u16_at-front 2 place rest (omega (arith, h.header)) ∙ h.size in
     let whole = ap length shape in
-    let header = h.header in
-    (omega (arith, field, acl-fits place aces h), omega (arith, field, whole, header, length-append place rest, length-drop offset bytes))
+    let header = h.header in (
+      omega (arith, field, acl-fits place aces h),
+      omega (arith, field, whole, header, length-append place rest, length-drop offset bytes),
+    )
 
 -- A part's place: past the header, inside the bytes, and with room for the part. One that does not
 -- stand has the empty place after the header.
@@ -39,7 +43,8 @@ sid-held : (bytes : List ℕ) (offset : ℕ) (o : Option SecurityId) → 20 ≤ 
 sid-held bytes offset None header h = record { low = omega arith; room = omega arith; inside = header }
 sid-held bytes offset (Some s) header h = record { low = h.0; room = omega arith; inside = sid-room offset bytes s h.1 }
 
-acl-held : (bytes : List ℕ) (present : Bool) (offset : ℕ) (p : AclPart) → 20 ≤ length bytes → ShowsAclPart bytes present offset p
+acl-held : (bytes : List ℕ) (present : Bool) (offset : ℕ) (p : AclPart) → 20 ≤ length bytes
+    → ShowsAclPart bytes present offset p
     → Holds (acl_extent bytes offset p) (acl_part_size p) (length bytes)
 acl-held bytes present offset acl.Absent header h = record { low = omega arith; room = omega arith; inside = header }
 acl-held bytes present offset acl.Null header h = record { low = omega arith; room = omega arith; inside = header }
@@ -48,13 +53,15 @@ acl-held bytes present offset (acl.List aces) header h =
     record { low = h.1; room = omega (arith, found.0); inside = found.1 }
 
 -- of two places that share no byte one ends before the other begins
-follows : (e f : Extent) → Apart e f → 20 ≤ first_of e → 20 ≤ first_of f → (end_of e ≤ first_of f) ⊎ (end_of f ≤ first_of e)
+follows : (e f : Extent) → Apart e f → 20 ≤ first_of e → 20 ≤ first_of f → (end_of e ≤ first_of f)
+    ⊎ (end_of f ≤ first_of e)
 follows None f h low high = inl high
 follows (Some p) None h low high = inr low
 follows (Some p) (Some q) h low high = h
 
 -- so four places, of which no two share a byte, have room for four parts one after the other
-four-fit : (e f g h : Extent) (k l m n total : ℕ) → Holds e k total → Holds f l total → Holds g m total → Holds h n total
+four-fit : (e f g h : Extent) (k l m n total : ℕ) → Holds e k total → Holds f l total → Holds g m total
+    → Holds h n total
     → AreApart (record { owner = e; group = f; sacl = g; dacl = h }) → 20 + k + l + m + n ≤ total
 four-fit e f g h k l m n total owner group sacl dacl apart =
     let owner_group = follows e f apart.owner_group owner.low group.low in
@@ -68,7 +75,10 @@ four-fit e f g h k l m n total owner group sacl dacl apart =
 -- bytes that show a descriptor are at least as many as its size says
 pub size-least : (bytes : List ℕ) (d : Descriptor) → Shows bytes d → size d ≤ length bytes
 size-least bytes d h =
-    four-fit _ _ _ _ (sid_part_size d.owner) (sid_part_size d.group) (acl_part_size d.sacl) (acl_part_size d.dacl) (length bytes)
-    (sid-held bytes (owner_at bytes) d.owner h.header h.owner) (sid-held bytes (group_at bytes) d.group h.header h.group)
-    (acl-held bytes (sacl_present d.control) (sacl_at bytes) d.sacl h.header h.sacl) (acl-held bytes (dacl_present d.control) (dacl_at bytes) d.dacl h.header h.dacl)
+    four-fit _ _ _ _ (sid_part_size d.owner) (sid_part_size d.group) (acl_part_size d.sacl) (acl_part_size d.dacl)
+    (length bytes)
+    (sid-held bytes (owner_at bytes) d.owner h.header h.owner)
+    (sid-held bytes (group_at bytes) d.group h.header h.group)
+    (acl-held bytes (sacl_present d.control) (sacl_at bytes) d.sacl h.header h.sacl)
+    (acl-held bytes (dacl_present d.control) (dacl_at bytes) d.dacl h.header h.dacl)
     h.apart

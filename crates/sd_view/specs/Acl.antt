@@ -9,7 +9,8 @@ use Rattle.sd_view.specs.Bytes.{u16_at}
 -- ACE places that follow each other; what stands after the last is free
 abbrev pub ShowsAces : List ℕ → List AccessControlEntry → Type 0
 ShowsAces bytes [] = Unit {0}
-ShowsAces bytes (a ∷ others) = (place rest : List ℕ) × (bytes ≡ place ++ rest) × ShowsAce place a × ShowsAces rest others
+ShowsAces bytes (a ∷ others) = (place rest : List ℕ) × (bytes ≡ place ++ rest) × ShowsAce place a
+    × ShowsAces rest others
 
 -- An ACL's place is as long as its size field says, and has as many ACEs as its count says.
 pub record ShowsAcl (place : List ℕ) (aces : List AccessControlEntry) : Type 0 where

@@ -26,7 +26,8 @@ object_flags true object inherited = little_bytes 4 (flag_if object 1 + flag_if 
 -- type, flags, size, mask, object flags
 abbrev pub ace_front : AccessControlEntry → List ℕ
 ace_front a =
-    kind_code a.kind ∷ a.flags ∷ little_bytes 2 (ace_size a) ++ (little_bytes 4 a.mask ++ object_flags (is_object a.kind) a.object a.inherited)
+    kind_code a.kind ∷ a.flags ∷ little_bytes 2 (ace_size a)
+    ++ (little_bytes 4 a.mask ++ object_flags (is_object a.kind) a.object a.inherited)
 
 -- how many bytes that are
 abbrev pub front_size : AceKind → ℕ
@@ -51,7 +52,8 @@ revision_if false = 2
 
 -- revision, Sbz1, size, count, Sbz2
 abbrev pub acl_header : List AccessControlEntry → List ℕ
-acl_header aces = revision_if (has_object aces) ∷ 0 ∷ little_bytes 2 (acl_size aces) ++ (little_bytes 2 (length aces) ++ (0 ∷ 0 ∷ []))
+acl_header aces = revision_if (has_object aces) ∷ 0 ∷ little_bytes 2 (acl_size aces)
+    ++ (little_bytes 2 (length aces) ++ (0 ∷ 0 ∷ []))
 
 -- the header and the ACEs, one after the other
 abbrev pub acl_bytes : List AccessControlEntry → List ℕ

@@ -54,7 +54,8 @@ ShowsSid bytes offset (Some s) = (20 ≤ offset) × BeginsWithSid (drop offset b
 abbrev pub ShowsAclPart : List ℕ → Bool → ℕ → AclPart → Type 0
 ShowsAclPart bytes present offset acl.Absent = present ≡ false
 ShowsAclPart bytes present offset acl.Null = (present ≡ true) × (offset ≡ 0)
-ShowsAclPart bytes present offset (acl.List aces) = (present ≡ true) × (20 ≤ offset) × BeginsWithAcl (drop offset bytes) aces
+ShowsAclPart bytes present offset (acl.List aces) = (present ≡ true) × (20 ≤ offset)
+    × BeginsWithAcl (drop offset bytes) aces
 
 -- where a part stands, if it does: its first byte, and the first one after it
 abbrev pub Extent : Type 0

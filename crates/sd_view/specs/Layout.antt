@@ -48,11 +48,13 @@ size d = dacl_offset d + acl_part_size d.dacl
 -- revision, resource manager byte, control word, offsets of owner, group, SACL and DACL
 unfoldable pub header_bytes : ℕ → ℕ → ℕ → ℕ → ℕ → ℕ → List ℕ
 header_bytes rm control owner group sacl dacl =
-    1 ∷ rm ∷ little_bytes 2 control ++ little_bytes 4 owner ++ little_bytes 4 group ++ little_bytes 4 sacl ++ little_bytes 4 dacl
+    1 ∷ rm ∷ little_bytes 2 control ++ little_bytes 4 owner ++ little_bytes 4 group ++ little_bytes 4 sacl
+    ++ little_bytes 4 dacl
 
 abbrev pub descriptor_header : Descriptor → List ℕ
 descriptor_header d =
-    header_bytes d.rm d.control (offset_if 20 (sid_part_size d.owner)) (offset_if (group_offset d) (sid_part_size d.group))
+    header_bytes d.rm d.control (offset_if 20 (sid_part_size d.owner))
+    (offset_if (group_offset d) (sid_part_size d.group))
     (offset_if (sacl_offset d) (acl_part_size d.sacl)) (offset_if (dacl_offset d) (acl_part_size d.dacl))
 
 -- the parts that stand, in their order and without gaps

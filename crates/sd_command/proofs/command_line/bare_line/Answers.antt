@@ -7,4 +7,5 @@ pub returns-clause-app : goal.returns-clause-app
 unfolding bare_line
 returns-clause-app c =
     ap app_of_fields c.subcommand_required.ensures
-    ∙ ap (on_top (λ s. record s { subcommand_required = true })) (ap app_of_fields c.after_help.ensures ∙ ap app_of_fields c.about.ensures ∙ c.new.ensures.app)
+    ∙ ap (on_top (λ s. record s { subcommand_required = true }))
+    (ap app_of_fields c.after_help.ensures ∙ ap app_of_fields c.about.ensures ∙ c.new.ensures.app)

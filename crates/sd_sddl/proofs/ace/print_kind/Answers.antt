@@ -20,7 +20,8 @@ two (a ∷ b ∷ c ∷ rest) other some few = absurd (omega arith)
 
 pub returns-then-letters-eq1 : goal.returns-then-letters-eq1
 unfolding kind_field
-returns-then-letters-eq1 g c = prints_as (one _ c.if-letters-eq1.true ∙ ap field c.letters-letters.ensures.value) c.put.ensures
+returns-then-letters-eq1 g c = prints_as (one _ c.if-letters-eq1.true ∙ ap field c.letters-letters.ensures.value)
+    c.put.ensures
 
 pub returns : goal.returns
 unfolding kind_field

@@ -13,6 +13,7 @@ returns-clause-size c =
     let rest = take_rest place c.sid_offset-front.result in
     let found : sid_at (drop (sid_offset_in place) place) ≡ Some (s, c.in-Some.size) =
     ap (λ (k : ℕ). sid_at (drop k place)) (sym front) ∙ ap sid_at (sym rest) ∙ sym c.in-Some.ensures.exact in
-    let whole = sid-room c.sid_offset-front.result place s (subst (λ (xs : List ℕ). BeginsWithSid xs s) rest c.in-Some.ensures.found.0) in
+    let whole = sid-room c.sid_offset-front.result place s
+    (subst (λ (xs : List ℕ). BeginsWithSid xs s) rest c.in-Some.ensures.found.0) in
     let size = c.in-Some.ensures.found.1 in
     (ap (λ (k : ℕ). k + c.in-Some.size) front ∙ read-size place s c.in-Some.size found size, omega (arith, whole, size))

@@ -50,10 +50,13 @@ loop-preserved c =
 pub returns-in_err-ace-clause-fault : goal.returns-in_err-ace-clause-fault
 returns-in_err-ace-clause-fault c =
     let p = err_from_is_err_and c.from_residual.result c.from_residual.ensures.1 in
-    rw (p.1, p.2) (sym c.loop.invariant.0 ∙ aces_fault-err (c.args.count - c.loop.counter) c.loop.left.now c.in_err-ace.field-0.0 (omega arith) c.in_err-ace.ensures.fault)
+    rw (p.1, p.2) (sym c.loop.invariant.0
+    ∙ aces_fault-err (c.args.count - c.loop.counter) c.loop.left.now c.in_err-ace.field-0.0 (omega arith)
+    c.in_err-ace.ensures.fault)
 
 pub returns-clause-fault : goal.returns-clause-fault
-returns-clause-fault c = sym c.loop.invariant.0 ∙ aces_fault-none (c.args.count - c.loop.counter) c.loop.left.now (omega arith)
+returns-clause-fault c = sym c.loop.invariant.0
+    ∙ aces_fault-none (c.args.count - c.loop.counter) c.loop.left.now (omega arith)
 
 pub returns-clause-size : goal.returns-clause-size
 returns-clause-size c =

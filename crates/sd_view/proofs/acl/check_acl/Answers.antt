@@ -13,7 +13,8 @@ returns-clause-size c =
     let long : length place ≡ n = length-take-le n bytes (omega arith) in
     let rest = take_rest place 8 in
     let aces = ap (aces_of c.u16_at-2.result) rest
-    ∙ acl-read bytes n c.u16_at-2.result (c.from-n.ensures ∙ c.u16_at.ensures) c.u16_at-2.ensures (omega arith) (omega arith) in
+    ∙ acl-read bytes n c.u16_at-2.result (c.from-n.ensures ∙ c.u16_at.ensures) c.u16_at-2.ensures (omega arith)
+    (omega arith) in
     let size = c.in_ok-written.ensures.size in
     (size.0 ∙ ap acl_size aces, omega (arith, size.1, ap (length {A = ℕ}) rest, length-drop 8 place, long))
 
@@ -22,5 +23,6 @@ returns-clause-object c =
     let bytes = c.args.bytes.now in
     let n = c.from-n.result in
     let aces = ap (aces_of c.u16_at-2.result) (take_rest (take n bytes) 8)
-    ∙ acl-read bytes n c.u16_at-2.result (c.from-n.ensures ∙ c.u16_at.ensures) c.u16_at-2.ensures (omega arith) (omega arith) in
+    ∙ acl-read bytes n c.u16_at-2.result (c.from-n.ensures ∙ c.u16_at.ensures) c.u16_at-2.ensures (omega arith)
+    (omega arith) in
     c.in_ok-written.ensures.object ∙ ap has_object aces

@@ -6,4 +6,5 @@ use Rattle.sd_view.proofs.acl_layout.print_acl.Goals as goal
 
 pub returns : goal.returns
 returns g c =
-    prints_as (ap (λ (t : List ℕ). t ++ flat_map ace_bytes c.args.acl.now) c.header_of.ensures) (prints_then c.put.ensures c.print_aces.ensures)
+    prints_as (ap (λ (t : List ℕ). t ++ flat_map ace_bytes c.args.acl.now) c.header_of.ensures)
+    (prints_then c.put.ensures c.print_aces.ensures)

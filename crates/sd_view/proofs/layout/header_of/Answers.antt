@@ -11,4 +11,16 @@ returns-clause-value c =
     let group = ap length c.group_place.ensures.value ∙ length-sid_part d.group in
     let sacl = ap (λ (a : Acls). a.sacl.size) c.acls-acls.ensures ∙ written-size d.sacl in
     let dacl = ap (λ (a : Acls). a.dacl.size) c.acls-acls.ensures ∙ written-size d.dacl in
-    rw (c.header.ensures, c.rm.ensures, c.control.ensures.value, c.offset_if.ensures, c.offset_if-2.ensures, c.offset_if-3.ensures, c.offset_if-4.ensures, owner, group, sacl, dacl) refl
+    rw (
+      c.header.ensures,
+      c.rm.ensures,
+      c.control.ensures.value,
+      c.offset_if.ensures,
+      c.offset_if-2.ensures,
+      c.offset_if-3.ensures,
+      c.offset_if-4.ensures,
+      owner,
+      group,
+      sacl,
+      dacl,
+    ) refl

@@ -3,4 +3,10 @@ use Rattle.sd_view.proofs.layout.print_layout.Goals as goal
 
 pub returns-clause-printed : goal.returns-clause-printed
 returns-clause-printed g c =
-    rw (← c.header_of.ensures.value, ← c.owner_place.ensures.value, ← c.group_place.ensures.value, ← c.sacl.ensures, ← c.dacl.ensures) (search prints_then depth 10)
+    rw (
+      ← c.header_of.ensures.value,
+      ← c.owner_place.ensures.value,
+      ← c.group_place.ensures.value,
+      ← c.sacl.ensures,
+      ← c.dacl.ensures,
+    ) (search prints_then depth 10)

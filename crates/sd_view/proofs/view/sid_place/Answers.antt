@@ -11,6 +11,7 @@ returns-clause-value c =
     let bytes = c.args.bytes.now in
     let offset = c.args.offset in
     let place = take_rest bytes offset in
-    let count : c.from.result ≡ slice_index (drop offset bytes) 1 = c.from.ensures ∙ ap (λ (xs : List ℕ). slice_index xs 1) place in
+    let count : c.from.result ≡ slice_index (drop offset bytes) 1 = c.from.ensures
+    ∙ ap (λ (xs : List ℕ). slice_index xs 1) place in
     ap (take (8 + 4 * c.from.result)) place ∙ ap (λ (n : ℕ). take (8 + 4 * n) (drop offset bytes)) count
     ∙ sid-bytes bytes offset (λ i. omega (arith, c.type_inv.bytes i)) c.if-offset-eq0.false c.requires

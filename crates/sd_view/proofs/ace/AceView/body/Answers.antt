@@ -18,7 +18,8 @@ piece : (b : Bool) (n : ℕ) (place : List ℕ) → n + guid_size (guid_if b (dr
     → drop n place ≡ guid_part (guid_if b (drop n place)) ++ drop (n + guid_size (guid_if b (drop n place))) place
 unfolding guid_if
 piece true n place room =
-    let long : length (take 16 (drop n place)) ≡ 16 = length-take-le 16 (drop n place) (omega (arith, length-drop n place)) in
+    let long : length (take 16 (drop n place)) ≡ 16 = length-take-le 16 (drop n place)
+    (omega (arith, length-drop n place)) in
     let back = swap_twice (take 16 (drop n place)) long in
     sym (take-append-drop 16 (drop n place))
     ∙ ap (λ (xs : List ℕ). xs ++ drop 16 (drop n place)) (sym back)
@@ -34,7 +35,8 @@ inherited_at b t u place = guid_size (guid_if (b && u) (drop (12 + object_at b t
 pieces : (b t u : Bool) (place : List ℕ) → cond b (12 + object_at b t place + inherited_at b t u place) 8 ≤ length place
     → drop (cond b 12 8) place
     ≡ guid_part (guid_if (b && t) (drop 12 place))
-    ++ (guid_part (guid_if (b && u) (drop (12 + object_at b t place) place)) ++ drop (cond b (12 + object_at b t place + inherited_at b t u place) 8) place)
+    ++ (guid_part (guid_if (b && u) (drop (12 + object_at b t place) place))
+    ++ drop (cond b (12 + object_at b t place + inherited_at b t u place) 8) place)
 unfolding guid_if
 pieces true t u place room =
     let first = piece t 12 place (omega arith) in
@@ -42,7 +44,9 @@ pieces true t u place room =
     first ∙ ap (λ (xs : List ℕ). guid_part (guid_if t (drop 12 place)) ++ xs) second
 pieces false t u place room = refl
 
-front_sum : (b t u : Bool) (place : List ℕ) → cond b (12 + object_at b t place + inherited_at b t u place) 8 ≡ cond b 12 8 + object_at b t place + inherited_at b t u place
+front_sum : (b t u : Bool) (place : List ℕ)
+    → cond b (12 + object_at b t place + inherited_at b t u place) 8 ≡ cond b 12 8 + object_at b t place + inherited_at
+    b t u place
 unfolding guid_if
 front_sum true t u place = refl
 front_sum false t u place = refl
@@ -79,25 +83,33 @@ front place =
     }
 
 guids_at : (place : List ℕ) → sid_offset_in place ≤ length place
-    → drop (front_size (kind_in place)) place ≡ guid_part (object_in place) ++ (guid_part (inherited_in place) ++ drop (sid_offset_in place) place)
+    → drop (front_size (kind_in place)) place ≡ guid_part (object_in place)
+    ++ (guid_part (inherited_in place) ++ drop (sid_offset_in place) place)
 unfolding sid_offset_in object_in inherited_in announces_object announces_inherited
-guids_at place room = pieces (is_object (kind_in place)) (eqb (u32_at 8 place % 2) 1) (eqb (u32_at 8 place / 2 % 2) 1) place room
+guids_at place room = pieces (is_object (kind_in place)) (eqb (u32_at 8 place % 2) 1) (eqb (u32_at 8 place / 2 % 2) 1)
+    place room
 
-sid_count : (n : ℕ) (place : List ℕ) (s : SecurityId) → BeginsWithSid (drop n place) s → slice_index place (n + 1) ≡ length s.subs
+sid_count : (n : ℕ) (place : List ℕ) (s : SecurityId) → BeginsWithSid (drop n place) s
+    → slice_index place (n + 1) ≡ length s.subs
 sid_count n place s h = sym (get_or-drop n place 1 0) ∙ ap (λ (xs : List ℕ). slice_index xs 1) h.shape
 
-body_by : (b t u : Bool) (place tail : List ℕ) → guids b (guid_if (b && t) (drop 12 place)) (guid_if (b && u) (drop (12 + object_at b t place) place)) ++ tail
-    ≡ guid_part (guid_if (b && t) (drop 12 place)) ++ (guid_part (guid_if (b && u) (drop (12 + object_at b t place) place)) ++ tail)
+body_by : (b t u : Bool) (place tail : List ℕ)
+    → guids b (guid_if (b && t) (drop 12 place)) (guid_if (b && u) (drop (12 + object_at b t place) place)) ++ tail
+    ≡ guid_part (guid_if (b && t) (drop 12 place))
+    ++ (guid_part (guid_if (b && u) (drop (12 + object_at b t place) place)) ++ tail)
 unfolding guid_if
 body_by true t u place tail =
-    append_assoc (guid_part (guid_if t (drop 12 place))) (guid_part (guid_if u (drop (12 + object_at true t place) place))) tail
+    append_assoc (guid_part (guid_if t (drop 12 place)))
+    (guid_part (guid_if u (drop (12 + object_at true t place) place))) tail
 body_by false t u place tail = refl
 
 -- the GUIDs and the SID, one after the other
-body_is : (place : List ℕ) → ace_body (ace_of place) ≡ guid_part (object_in place) ++ (guid_part (inherited_in place) ++ sid_bytes (sid_of (drop (sid_offset_in place) place)))
+body_is : (place : List ℕ) → ace_body (ace_of place) ≡ guid_part (object_in place)
+    ++ (guid_part (inherited_in place) ++ sid_bytes (sid_of (drop (sid_offset_in place) place)))
 unfolding object_in inherited_in announces_object announces_inherited
 body_is place =
-    body_by (is_object (kind_in place)) (eqb (u32_at 8 place % 2) 1) (eqb (u32_at 8 place / 2 % 2) 1) place (sid_bytes (sid_of (drop (sid_offset_in place) place)))
+    body_by (is_object (kind_in place)) (eqb (u32_at 8 place % 2) 1) (eqb (u32_at 8 place / 2 % 2) 1) place
+    (sid_bytes (sid_of (drop (sid_offset_in place) place)))
 
 length_body : (place : List ℕ) → front_size (kind_in place) + length (ace_body (ace_of place)) ≡ ace_size (ace_of place)
 unfolding sid_offset_in
@@ -110,7 +122,8 @@ length_body place =
     let rest = length-append i (sid_bytes s) in
     omega (arith, all, rest, length-sid_bytes s, f.sum, f.object_bytes, f.inherited_bytes)
 
-body_at : (place : List ℕ) (n : ℕ) → IsAcePlace place → n ≡ length (ace_body (ace_of place)) → take n (drop (front_size (kind_in place)) place) ≡ ace_body (ace_of place)
+body_at : (place : List ℕ) (n : ℕ) → IsAcePlace place → n ≡ length (ace_body (ace_of place))
+    → take n (drop (front_size (kind_in place)) place) ≡ ace_body (ace_of place)
 body_at place n h e =
     let o = guid_part (object_in place) in
     let i = guid_part (inherited_in place) in
@@ -132,13 +145,15 @@ record Span (place : List ℕ) (front count head : ℕ) : Type 0 where
   written : front + 8 + 4 * count ≡ ace_size (ace_of place)
   short : front + 8 + 4 * count ≤ head + 100
 
-span : (place : List ℕ) (front_at count head : ℕ) → IsAcePlace place → front_at ≡ sid_offset_in place → count ≡ slice_index place (front_at + 1)
+span : (place : List ℕ) (front_at count head : ℕ) → IsAcePlace place → front_at ≡ sid_offset_in place
+    → count ≡ slice_index place (front_at + 1)
     → head ≡ front_size (kind_in place) → Span place front_at count head
 unfolding sid_offset_in
 span place front_at count head h at same begin =
     let f = front place in
     let s = sid_of (drop (sid_offset_in place) place) in
-    let subs : count ≡ length s.subs = same ∙ ap (λ (k : ℕ). slice_index place (k + 1)) at ∙ sid_count (sid_offset_in place) place s h.sid in
+    let subs : count ≡ length s.subs = same ∙ ap (λ (k : ℕ). slice_index place (k + 1)) at
+    ∙ sid_count (sid_offset_in place) place s h.sid in
     let room = sid-room (sid_offset_in place) place s h.sid in
     let body = length_body place in
     let written : front_at + 8 + 4 * count ≡ ace_size (ace_of place) = omega (arith, at, subs) in
@@ -150,26 +165,32 @@ span place front_at count head h at same begin =
       short = omega (arith, at, begin, subs, f.sum, f.object, f.inherited, h.sid.limits.count);
     }
 
-seen : (place : List ℕ) (a : AccessControlEntry) (head : ℕ) → ace_of place ≡ a → head ≡ front_size a.kind → head ≡ front_size (kind_in place)
+seen : (place : List ℕ) (a : AccessControlEntry) (head : ℕ) → ace_of place ≡ a → head ≡ front_size a.kind
+    → head ≡ front_size (kind_in place)
 seen place a head view e = e ∙ ap (λ (b : AccessControlEntry). front_size b.kind) (sym view)
 
-spans : (c : goal.After-front_size) → Span c.self.inside.place.now c.sid_offset-front.result c.from-count.result c.front_size.result
+spans : (c : goal.After-front_size)
+    → Span c.self.inside.place.now c.sid_offset-front.result c.from-count.result c.front_size.result
 spans c =
-    span c.self.inside.place.now c.sid_offset-front.result c.from-count.result c.front_size.result c.self.invariant c.sid_offset-front.ensures.value c.from-count.ensures
+    span c.self.inside.place.now c.sid_offset-front.result c.from-count.result c.front_size.result c.self.invariant
+    c.sid_offset-front.ensures.value c.from-count.ensures
     (seen c.self.inside.place.now c.args.self.now c.front_size.result c.self.view_is c.front_size.ensures)
 
 pub slice_bounds-result-count : goal.slice_bounds-result-count
 slice_bounds-result-count c = let s = spans c in omega (arith, s.order)
 
 pub slice_bounds-result-start : goal.slice_bounds-result-start
-slice_bounds-result-start c = let s = spans c in let order = s.order in let whole = s.whole in search (rules, arith, order, whole)
+slice_bounds-result-start c = let s = spans c in let order = s.order in let whole = s.whole in search
+    (rules, arith, order, whole)
 
 pub slice_bounds-result-end : goal.slice_bounds-result-end
 slice_bounds-result-end c = let s = spans c in let whole = s.whole in search (rules, arith, whole)
 
-spans_out : (c : goal.After-result-2-1) → Span c.self.inside.place.now c.sid_offset-front.result c.from-count.result c.front_size.result
+spans_out : (c : goal.After-result-2-1)
+    → Span c.self.inside.place.now c.sid_offset-front.result c.from-count.result c.front_size.result
 spans_out c =
-    span c.self.inside.place.now c.sid_offset-front.result c.from-count.result c.front_size.result c.self.invariant c.sid_offset-front.ensures.value c.from-count.ensures
+    span c.self.inside.place.now c.sid_offset-front.result c.from-count.result c.front_size.result c.self.invariant
+    c.sid_offset-front.ensures.value c.from-count.ensures
     (seen c.self.inside.place.now c.args.self.now c.front_size.result c.self.view_is c.front_size.ensures)
 
 pub returns-clause-value : goal.returns-clause-value
@@ -177,7 +198,8 @@ returns-clause-value c =
     let place = c.self.inside.place.now in
     let s = spans_out c in
     let head = seen place c.args.self.now c.front_size.result c.self.view_is c.front_size.ensures in
-    ap (λ (k : ℕ). take (c.sid_offset-front.result + 8 + 4 * c.from-count.result - c.front_size.result) (drop k place)) head
+    ap (λ (k : ℕ). take (c.sid_offset-front.result + 8 + 4 * c.from-count.result - c.front_size.result)
+    (drop k place)) head
     ∙ body_at place _ c.self.invariant s.size
     ∙ ap ace_body c.self.view_is
 
@@ -187,7 +209,8 @@ returns-clause-size c =
     let s = spans_out c in
     let n = c.sid_offset-front.result + 8 + 4 * c.from-count.result - c.front_size.result in
     let long : length (take n (drop c.front_size.result place)) ≡ n =
-    length-take-le n (drop c.front_size.result place) (omega (arith, length-drop c.front_size.result place, s.whole, s.order)) in
+    length-take-le n (drop c.front_size.result place)
+    (omega (arith, length-drop c.front_size.result place, s.whole, s.order)) in
     let size : ace_size (ace_of place) ≡ ace_size c.args.self.now = ap ace_size c.self.view_is in
     omega (arith, long, s.order, s.written, c.front_size.ensures, size)
 
@@ -197,5 +220,6 @@ returns-clause-short c =
     let s = spans_out c in
     let n = c.sid_offset-front.result + 8 + 4 * c.from-count.result - c.front_size.result in
     let long : length (take n (drop c.front_size.result place)) ≡ n =
-    length-take-le n (drop c.front_size.result place) (omega (arith, length-drop c.front_size.result place, s.whole, s.order)) in
+    length-take-le n (drop c.front_size.result place)
+    (omega (arith, length-drop c.front_size.result place, s.whole, s.order)) in
     omega (arith, long, s.short)

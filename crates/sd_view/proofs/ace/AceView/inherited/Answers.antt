@@ -10,7 +10,9 @@ guid_at-requires c =
     let place = c.self.inside.place.now in
     let room = inherited-room place (sym c.has_inherited.ensures ∙ c.if-not-has_inherited.false) in
     let size : c.if-has_object.object ≡ guid_size (object_in place) = elim c.if-has_object.branch [
-      | then-has_object w ↦ let long = object-size _ place (sym w.if-has_object.true ∙ c.has_object.ensures) in omega (arith, long, w.object-is)
-      | else-has_object w ↦ let long = object-size _ place (sym w.if-has_object.false ∙ c.has_object.ensures) in omega (arith, long, w.object-is)
+      | then-has_object w ↦ let long = object-size _ place
+          (sym w.if-has_object.true ∙ c.has_object.ensures) in omega (arith, long, w.object-is)
+      | else-has_object w ↦ let long = object-size _ place
+          (sym w.if-has_object.false ∙ c.has_object.ensures) in omega (arith, long, w.object-is)
     ] in
     omega (arith, room, size, c.self.invariant.front)
