@@ -33,6 +33,7 @@ if "${MAKE:-make}" --no-print-directory program; then
     count tests/tables.py "$program"
     count tests/run_examples.py "$program"
     count tests/system_calls.py "$program"
+    count tests/memory.py "$program"
     count tests/device_faults.py "$program"
 else
     echo "the program is not built, so its tests have not run"

@@ -2,9 +2,9 @@
 """compare.py PROGRAM [--lines N] [--seed S]
 
 Feeds the program thousands of lines, among them broken and hostile ones, and compares each answer with the one of
-the reference: from a file, in random pieces through a pipe, and in many short inputs with all kinds of ends; from hex,
-base64 and SDDL; as hex and base64, and as SDDL or explained, without a domain, under several domains, and with numbers
-alone. What is printed as SDDL, and what is spelled otherwise than it would be printed, is compared with the descriptor
+the reference: from a file, in random pieces through a pipe, in many short inputs with all kinds of ends, and a few
+lines in every cut at two places; from hex, base64 and SDDL; as hex and base64, and as SDDL or explained, without a
+domain, under several domains, and with numbers alone. What is printed as SDDL, and what is spelled otherwise than it would be printed, is compared with the descriptor
 that it was made from.
 Checks ask for what has to do with the descriptors: by tokens of SIDs that stand in them, about rights and object types of
 their ACEs. What is derived comes from descriptors whose ACEs are handed on, for owners and groups that stand in them.
@@ -835,6 +835,31 @@ def compare_short(count, program, maker, number):
         count.run(program, "short input", maker.chance.choice(every_words), Input(data), sizes)
 
 
+# What is given in every cut: a line that reads, with a CR, and such as do not, with CRs where they count and where not.
+CUT = {
+    "hex": [b"01000080" + b"00" * 16 + b"\r\n0z\r\n\r\r\n0", b"0100008014000000" + b"00" * 12 + b"0101000000000005\r"],
+    "base64": [b"AQAAgAAAAAAAAAAAAAAAAAAAAAA=\r\nAR==\n\r\nAQ\r"],
+    "sddl": [b"O:BAD:P(A;CI;FA;;;WD)\r\nd:\r\r\nO", b"G: S-1-1 S:(AU;SA;0x1;;;BG)\n)\nO:BAO:", b"D:(A;;1;;;WD)(A;;\rG:\n\t o:sy\r"],
+}
+
+
+def cuts_in_three(size):
+    """The sizes of all pieces that so many bytes are cut into, at two places; one of the pieces may be the whole."""
+    for first in range(1, size + 1):
+        for second in range(1, size - first + 1):
+            yield [first, second, size - first - second] if first + second < size else [first, second]
+    yield [size]
+
+
+def compare_cuts(count, program):
+    """Each input in every cut at two places."""
+    for source, inputs in CUT.items():
+        for data in inputs:
+            given = Input(data)
+            for sizes in cuts_in_three(len(data)):
+                count.run(program, f"cut into {sizes}", ["convert", "--from", source, "--to", "hex"], given, sizes)
+
+
 def sid_texts(descriptors):
     """The texts of the SIDs of their owners and DACLs."""
     return [sid.text() for one in descriptors for sid in (one.owner, *(ace.sid for ace in (one.dacl.aces if one.dacl else ())))
@@ -927,6 +952,7 @@ def main():
     compare_base64(count, given.program, maker, given.lines)
     compare_sddl(count, given.program, maker, given.lines)
     compare_short(count, given.program, maker, given.lines // 25)
+    compare_cuts(count, given.program)
     compare_checks(count, given.program, maker, given.lines // 20)
     compare_derived(count, given.program, maker, given.lines // 20)
     print(f"{count.passed} passed, {count.failed} failed")
