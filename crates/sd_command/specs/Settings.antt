@@ -1,10 +1,10 @@
 -- What the matches of a command line settle.
-use Rattle.std.specs.Prelude.{◌≡◌, ℕ, Bool, ◌||◌, false, nat_lt, length, if◌then◌else◌}
+use Rattle.std.specs.Prelude.{◌≡◌, ℕ, Bool, ◌||◌, false, if◌then◌else◌}
 use Rattle.std.specs.Prelude.{List, [], Option, Some, None, Result, Ok, Err, codes, option_map}
 use Rattle.std.specs.Str.{bytes_eq}
 use Rattle.clap.specs.Words.{Row, Text, first_of, subcommand_of}
 use Rattle.sd_core.specs.Sid.{SecurityId}
-use Rattle.sd_core.specs.SidText.{sid_reads}
+use Rattle.sd_core.specs.SidText.{sid_reads, usable}
 use Rattle.sd_core.specs.GuidText.{guid_reads}
 use Rattle.sd_core.specs.Token.{Entry}
 use Rattle.sd_core.specs.declared.sid_text.SidFault.{SidFault}
@@ -47,7 +47,7 @@ form_reads text =
 
 abbrev pub with_room : Result SecurityId SidFault → Option SecurityId
 with_room (Err fault) = None
-with_room (Ok domain) = if nat_lt (length domain.subs) 15 then Some domain else None
+with_room (Ok domain) = usable (Some domain)
 
 -- a SID that has room for one more sub-authority, read without a domain
 unfoldable pub domain_reads : Text → Option SecurityId

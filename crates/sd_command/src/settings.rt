@@ -14,6 +14,7 @@ use crate::token_text::sid_under;
 use clap::ArgMatches;
 use sd_access::AskFault;
 use sd_core::{Mapping, Sid, Token};
+use sd_rights::MOST_SUBS;
 
 /// The options whose values are read.
 #[derive(Clone, Copy, Debug, PartialEq, Eq)]
@@ -187,7 +188,7 @@ fn domain_from_text(text: &str) -> Option<Sid>
 {
     match Sid::from_text(text.as_bytes(), None) {
         Ok(domain) => {
-            if domain.subs().len() < 15 {
+            if domain.subs().len() < MOST_SUBS {
                 Some(domain)
             } else {
                 None
