@@ -1,5 +1,5 @@
 #!/usr/bin/env python3
-"""generate.py [--form FORM] [--aces N] [--megabytes N] [--seed S] > FILE
+"""generate.py [--form FORM] [--aces N | --longest] [--megabytes N] [--seed S] > FILE
 
 Writes lines of hex, of base64 or of SDDL, such as an export of a file server and a directory has them. Each descriptor
 has an owner, a group and a DACL of 3 to 10 ACEs, mostly for accounts of a few domains, for groups that each domain has,
@@ -10,6 +10,8 @@ in eight, which has its parts in another order and blanks between them, one in t
 is faulty.
 
 With --aces all lines have a DACL of so many ACEs (at most 1,500), of the same mixture, and none is faulty or unusual.
+With --longest all lines are nearly as long as a line may be: two ACLs of nearly 65,535 bytes, and in SDDL
+most access masks in 183 characters.
 
 Distinct lines are made for a pool, and lines of the pool are written in random order until there are so many megabytes.
 The same seed gives the same lines.
@@ -31,6 +33,9 @@ TOO_LONG = {"hex": ("0" * 262_454, 0.00004), "base64": ("A" * 174_970, 0.00004),
 TOO_LARGE = "D:" + "(A;;FA;;;WD)" * 3_277  # for an ACL
 DISTINCT_LINES = 20_000
 DISTINCT_ACES = 60_000  # in the pool, where each line has very many
+LONGEST_LINES = 5
+MOST_ACL, MOST_ACE = 65_535, 76  # bytes of an ACL, and of the ACEs of the longest lines
+MOST_FIELD = 183  # characters of an access mask in SDDL
 
 WELL_KNOWN = [(1, 0), (3, 0), (3, 1), (3, 4), (5, 9), (5, 11), (5, 18), (5, 19), (5, 20), (5, 32, 544), (5, 32, 545),
               (5, 32, 551)]
@@ -254,6 +259,26 @@ class Generator:
         aces = [self.directory_ace() if self.chance.random() < 0.08 else self.file_ace() for _ in range(count)]
         return self.laid_out(self.some_sid(), self.some_sid(), b"", self.acl(aces))
 
+    def longest_descriptor(self):
+        """Two ACLs with as many ACEs as fit into each."""
+        acls = []
+        for make in (self.file_ace, lambda: self.sacl_aces(False)[0]):
+            aces, size = [], 8
+            while size + MOST_ACE <= MOST_ACL:
+                aces.append(make())
+                size += len(aces[-1])
+            acls.append(self.acl(aces))
+        return self.laid_out(self.some_sid(), self.some_sid(), acls[1], acls[0])
+
+
+def in_longest_fields(line):
+    """SDDL with as many zeros before each access mask as its field has room for, of as many ACEs as the line has."""
+    def longest(match):
+        return f"{match[1]}0x{reference.rights_of_text(match[2].encode()):0{MOST_FIELD - 2}x};"
+
+    room = (reference.LINE_LIMITS["sddl"] - len(line)) // MOST_FIELD
+    return re.sub(r"(\([^;()]*;[^;()]*;)([^;()]*);", longest, line, count=room)
+
 
 def sddl(data):
     """The descriptor as it is printed under one of the domains."""
@@ -264,12 +289,16 @@ def main():
     parser = argparse.ArgumentParser(description="Writes the benchmark's input.")
     parser.add_argument("--form", choices=["hex", "base64", "sddl"], default="hex", help="(%(default)s)")
     parser.add_argument("--aces", type=int, help="the number of ACEs of each line")
+    parser.add_argument("--longest", action="store_true", help="lines that are nearly as long as may be")
     parser.add_argument("--megabytes", type=int, default=150, help="(%(default)s)")
     parser.add_argument("--seed", type=int, default=1, help="(%(default)s)")
     given = parser.parse_args()
     generator = Generator(given.seed)
-    if given.aces:
-        spelled = {"hex": bytes.hex, "base64": reference.to_base64, "sddl": sddl}[given.form]
+    spelled = {"hex": bytes.hex, "base64": reference.to_base64, "sddl": sddl}[given.form]
+    if given.longest:
+        pool = [spelled(generator.longest_descriptor()) for _ in range(LONGEST_LINES)]
+        pool = [in_longest_fields(line) for line in pool] if given.form == "sddl" else pool
+    elif given.aces:
         pool = [spelled(generator.long_descriptor(given.aces)) for _ in range(max(1, DISTINCT_ACES // given.aces))]
     else:
         maker = {"hex": generator.line, "base64": generator.base64_line, "sddl": generator.sddl_line}[given.form]
@@ -278,7 +307,7 @@ def main():
     too_long, chance_of_it = TOO_LONG[given.form]
     size = 0
     while size < given.megabytes * 1_000_000:
-        is_too_long = not given.aces and generator.chance.random() < chance_of_it
+        is_too_long = not (given.aces or given.longest) and generator.chance.random() < chance_of_it
         line = (too_long if is_too_long else generator.chance.choice(pool)) + "\n"
         size += len(line)
         sys.stdout.write(line)

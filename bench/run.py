@@ -3,13 +3,15 @@
 
 Measures the program (crates/sdtool/out/sdtool where none is given) against baseline.rs and cat: on the mixture that
 generate.py makes in hex, base64 and SDDL, to hex, base64 and SDDL and explained under one of its domains, checked, and
-derived from; and on lines of 375 to 1,500 ACEs, which show whether an ACE costs the same in a longer line.
+derived from; on lines of 375 to 1,500 ACEs, which show whether an ACE costs the same in a longer line; and on lines
+that are nearly as long as may be.
 The inputs have the same size and are kept in the folder sdtool-bench among the temporary files.
 
 It checks that program and baseline write the same each time, runs the three in turn, so that what else the machine
 does meets them alike, and prints the medians. Time is processor time, user and system; megabytes are those of the
 input, which comes from a file; the output goes to /dev/null. In one run more of program and baseline it counts their
-reads and writes.
+reads and writes, and in a third of the program, whose input comes through a pipe, it looks at the memory that the
+program had resident at most.
 """
 import argparse
 import filecmp
@@ -24,6 +26,7 @@ import tempfile
 
 sys.dont_write_bytecode = True
 import generate  # noqa: E402  (which finds the folder of the tests)
+import memory  # noqa: E402
 import preload  # noqa: E402
 
 HERE = pathlib.Path(__file__).resolve().parent
@@ -42,6 +45,7 @@ LARGEST_TOKEN = accounts(*range(40_000, 41_024))
 CHECKED, CHECKED_IN_VAIN = (["check", "--want", "FR", "--token", ",".join(token)] for token in (USUAL_TOKEN, LARGEST_TOKEN))
 DERIVED = ["derive", "--kind", "container", "--owner", *accounts(1105), "--group", *accounts(513)]
 TO_HEX, TO_BASE64, TO_SDDL = (["convert", "--to", form] for form in ("hex", "base64", "sddl"))
+LONGEST = "longest"
 # What is measured: the form of the lines, the number of ACEs of each, or None for the mixture, and what is asked.
 MEASURED = {
     "the mixture to hex": ("hex", None, TO_HEX),
@@ -62,6 +66,9 @@ MEASURED = {
     "1,500 ACEs a line explained": ("hex", 1500, ["explain"]),
     "375 ACEs a line from SDDL to hex": ("sddl", 375, TO_HEX),
     "1,500 ACEs a line from SDDL to hex": ("sddl", 1500, TO_HEX),
+    "the longest lines of hex to hex": ("hex", LONGEST, TO_HEX),
+    "the longest lines of base64 to hex": ("base64", LONGEST, TO_HEX),
+    "the longest lines of SDDL to hex": ("sddl", LONGEST, TO_HEX),
     "1,500 ACEs a line checked for a token of 1,024": ("hex", 1500, CHECKED_IN_VAIN),
 }
 
@@ -127,6 +134,11 @@ def lines_in(path):
         return sum(piece.count(b"\n") for piece in iter(lambda: file.read(1 << 20), b""))
 
 
+def blocks_of(path):
+    with open(path, "rb") as file:
+        yield from iter(lambda: file.read(memory.BLOCK), b"")
+
+
 def medians(commands, given, rounds):
     """The median of each command's times."""
     times = {name: [] for name in commands}
@@ -151,7 +163,8 @@ def main():
     baseline, library = build_baseline(folder), preload.build("faults.c", folder)
     inputs, commands = {}, {}
     for name, (source, aces, asked) in MEASURED.items():
-        settings = ["--form", source, "--megabytes", str(wanted.megabytes), *(["--aces", str(aces)] if aces else [])]
+        lines = {None: [], LONGEST: ["--longest"]}.get(aces, ["--aces", str(aces)])
+        settings = ["--form", source, "--megabytes", str(wanted.megabytes), *lines]
         inputs[name], words = input_file(folder, settings), words_of(source, asked)
         commands[name] = {"sdtool": [wanted.program, *words], "baseline": [baseline, *words], "cat": ["cat"]}
     judged = [(given, [commands[name]["sdtool"], commands[name]["baseline"]]) for name, given in inputs.items()]
@@ -169,7 +182,8 @@ def main():
             shown = f"  {command:10}{time:8.3f} s{size / time / 1e6:8.0f} MB/s{lines / time:13,.0f} lines/s"
             if command != "cat":
                 shown += f"{calls(commands[name][command], given, library) / size * 1e6:8.0f} calls a MB"
-            print(shown + (f"{time / lines / aces * 1e9:9.1f} ns an ACE" if aces else ""))
+            print(shown + (f"{time / lines / aces * 1e9:9.1f} ns an ACE" if isinstance(aces, int) else ""))
+        print(f"  sdtool has at most {memory.run(commands[name]['sdtool'], blocks_of(given)).memory:,} KiB resident")
     for name, speed in speeds.items():
         print(f"on {name} sdtool has {speed:.2f} of the baseline's speed")
     return 0

@@ -17,6 +17,7 @@ import sys
 import termios
 import threading
 import time
+from typing import NamedTuple
 
 sys.dont_write_bytecode = True
 import device_faults as faults  # noqa: E402
@@ -31,6 +32,12 @@ LONGEST_SDDL = faults.LONG_SDDL + b"S" + faults.LONG_SDDL[1:]
 HEADER = {"hex": b"01000080" + b"00" * 16, "base64": b"AQAAgAAAAAAAAAAAAAAAAAAAAAA=", "sddl": b" "}
 HEADER_ANSWER = b"01000080" + b"00" * 16 + b"\n"
 TOO_LONG = b"error 1 too-long\n"
+
+
+class Ended(NamedTuple):
+    stdout: bytes
+    status: int
+    memory: int  # KiB
 
 
 def repeated(piece, size):
@@ -64,10 +71,9 @@ def kib_once_read(process):
     return kib_of(process)
 
 
-def run(program, form, blocks):
+def run(words, blocks):
     """What the program wrote, its status, and its memory once it has read all that was given."""
-    with subprocess.Popen([program, "convert", "--from", form, "--to", "hex"], stdin=subprocess.PIPE,
-                          stdout=subprocess.PIPE) as child:
+    with subprocess.Popen(words, stdin=subprocess.PIPE, stdout=subprocess.PIPE) as child:
         written = []
         reader = threading.Thread(target=lambda: written.extend(iter(lambda: child.stdout.read(BLOCK), b"")))
         reader.start()
@@ -78,7 +84,7 @@ def run(program, form, blocks):
         memory = kib_once_read(child)
         child.stdin.close()
         reader.join()
-        return b"".join(written), child.wait(), memory
+        return Ended(b"".join(written), child.wait(), memory)
 
 
 def main():
@@ -87,11 +93,12 @@ def main():
     program = parser.parse_args().program
     count = preload.Count()
     for name, form, blocks, wanted in cases():
-        written, status, memory = run(program, form, blocks)
-        print(f"{name}: {memory:,} KiB")
-        count.add(0 < memory <= MOST_KIB, f"{name}: {memory} KiB")
-        is_right = written == wanted if wanted else written.count(b"\n") == 51 and b"error" not in written
-        count.add(is_right and status == (1 if b"error" in written else 0), f"{name}: {written[:80]} {status}")
+        ended = run([program, "convert", "--from", form, "--to", "hex"], blocks)
+        print(f"{name}: {ended.memory:,} KiB")
+        count.add(0 < ended.memory <= MOST_KIB, f"{name}: {ended.memory} KiB")
+        is_faulty = b"error" in ended.stdout
+        is_right = ended.stdout == wanted if wanted else ended.stdout.count(b"\n") == 51 and not is_faulty
+        count.add(is_right and ended.status == is_faulty, f"{name}: {ended.stdout[:80]} {ended.status}")
     return count.end()
 
 

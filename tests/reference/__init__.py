@@ -22,7 +22,7 @@ from .command_line import Settings, Usage, settings_of
 from .parts import ACE_HEADER, ACL_HEADER, Ace, Acl, Descriptor, Sid
 from .run import LINE_LIMITS, all_shown, answers, lines
 from .sddl_printing import aliases_under, guid_sddl, sddl
-from .sddl_reading import sid_of_text
+from .sddl_reading import rights_of_text, sid_of_text
 from .spelling import HEX_DIGITS, to_base64
 from .tables import (ACE_FLAGS, ACL_FLAGS, COMPOUND_RIGHTS, CONTROL_CODES, EVERY_RIGHT, KINDS, LABEL_RIGHTS, MAPPINGS,
                      OF_THE_DOMAIN, RIGHTS, WELL_KNOWN)
