@@ -2,14 +2,13 @@
 ghost use Rattle.std.specs.Prelude.{◌≡◌, IfOk, IfSome};
 ghost use Rattle.sd_core.specs.Sid.{IsSid};
 ghost use Rattle.sd_filter.specs.Inner.ActLimits.{ActLimits};
-ghost use Rattle.sd_filter.specs.Answers.{line_limit};
 ghost use Rattle.sd_inherit.specs.Inner.Limits.{IsPlan};
 
 use crate::hex_text::GATHERED;
 use crate::line::Line;
 use sd_access::Plan;
 use sd_binary::SdBuf;
-use sd_command::{Act, Form, Job};
+use sd_command::{Act, Job};
 use sd_core::NoMemory;
 use std::alloc::Global;
 use std::marker::Model;
@@ -57,9 +56,8 @@ impl Engine {
     {
         let desk = Desk {
             job,
-            line: Line::new(alloc, line_limit(job.source))?,
+            line: Line::new(alloc)?,
             stores: Stores {
-                read: SdBuf::new(alloc)?,
                 written: SdBuf::new(alloc)?,
                 spelled: [0; GATHERED],
             },
@@ -98,30 +96,17 @@ fn note_plan(plan: &Plan)
     let _ = plan.mapping.read();
 }
 
-// The job, the line in hand, and the buffers.
+// The job, the line in hand, and what its answer is made in.
 #[derive(Drop)]
 pub struct Desk {
     pub job: Job,
     pub line: Line,
     pub stores: Stores,
-    ghost limit: { line.limit ≡ line_limit job.source },
 }
 
-// The bytes of a line's descriptor, those of the one that is printed, and a piece of the text that spells them.
+// The bytes of the descriptor that is printed, and a piece of the text that spells them.
 #[derive(Drop)]
 pub struct Stores {
-    pub read: SdBuf,
     pub written: SdBuf,
     pub spelled: [u8; GATHERED],
-}
-
-// The bytes that a line may have.
-fn line_limit(form: Form) -> usize
-    ensures { result ≡ line_limit form }
-{
-    match form {
-        Form::Hex => 262_452,
-        Form::Base64 => 174_968,
-        Form::Sddl => 1_049_872,
-    }
 }
