@@ -7,7 +7,7 @@ mod builder;
 mod pieces;
 mod written;
 
-pub use buffer::{Full, SdBuf, TextFault};
+pub use buffer::{ByteBuf, Full, SdBuf, TextBuf, TextFault};
 pub use builder::{AclTooLarge, Builder};
 pub use sd_view::{
     AceView, Aces, AclFlags, AclPart, AclView, CONTROL_BITS, ControlBit, Part, SdFault, SdView,
