@@ -1,9 +1,11 @@
 // The buffers that hold the bytes of a descriptor, or the text of a line.
-ghost use Rattle.std.specs.Prelude.{◌≡◌, ◌≤◌, ◌<◌, ◌*◌, take, drop, ◌++◌, ◌∷◌, ◌+◌, ◌-◌, ◌↔◌, [], length, Ok, Err, IfOk, OnOk, OnErr, IsErr, MatchResult};
+ghost use Rattle.std.specs.Prelude.{◌≡◌, ◌≤◌, ◌<◌, ◌*◌, ◌/◌, ◌%◌, take, drop, ◌++◌, ◌∷◌, ◌+◌, ◌-◌, ◌↔◌, [], length, Ok, Err, IfOk, OnOk, OnErr, IsErr, MatchResult};
 ghost use Rattle.base64.specs.Decode.{decoded_estimate};
+ghost use Rattle.sd_rights.specs.Limits.{most_base64_text, most_hex_text};
 ghost use Rattle.sd_binary.specs.Text.{IsOneEncoding, base64_spells, hex_spells};
 ghost use Rattle.sd_view.specs.declared.limits.TheConstants.{CAPACITY};
 
+use crate::hex_reader::HexReader;
 use base64::engine::general_purpose::STANDARD;
 use sd_core::NoMemory;
 use sd_rights::MOST_BASE64_TEXT;
@@ -124,14 +126,29 @@ impl SdBuf {
     /// Replaces the contents by the bytes that a hex text of at most 262,452 characters spells. After a
     /// fault the buffer is empty.
     pub fn from_hex(&mut self, text: &[u8]) -> Result<(), TextFault>
-        requires { length text.now ≤ 262452 }
+        requires { length text.now ≤ most_hex_text }
         ensures { MatchResult (hex_spells text.now)
             (λ bytes. (result ≡ Ok tt) × (self.new ≡ bytes))
             (λ fault. (result ≡ Err fault) × (self.new ≡ [])) }
     {
-        self.clear();
-        let held = decode_hex(text, &mut self.cells)?;
-        self.held = held;
+        let mut reader = HexReader::new(self);
+        reader.feed_all(self, text);
+        reader.finish(self)
+    }
+
+    // Appends the bytes that pairs of hex digits spell. After a fault, which want of room is too, the contents are unchanged.
+    pub(crate) fn append_hex(&mut self, pairs: &[u8]) -> Result<(), TextFault>
+        requires { length pairs.now % 2 ≡ 0 }
+        ensures { 2 * length self.old + length pairs.now ≤ 2 * CAPACITY → MatchResult (hex_spells pairs.now)
+            (λ bytes. (result ≡ Ok tt) × (self.new ≡ self.old ++ bytes))
+            (λ fault. (result ≡ Err fault) × (self.new ≡ self.old)) }
+    {
+        let count = pairs.len() / 2;
+        if count > CAPACITY - self.held {
+            return Err(TextFault::HexDigit);
+        }
+        decode_hex(pairs, &mut self.cells, self.held)?;
+        self.held += count;
         Ok(())
     }
 
@@ -139,7 +156,7 @@ impl SdBuf {
     /// (RFC 4648, section 4), with all of its padding and nothing else in it. After a fault the
     /// buffer is empty.
     pub fn from_base64(&mut self, text: &[u8]) -> Result<(), TextFault>
-        requires { length text.now ≤ 174968 }
+        requires { length text.now ≤ most_base64_text }
         ensures exact { MatchResult (base64_spells text.now)
             (λ bytes. (result ≡ Ok tt) × (self.new ≡ bytes))
             (λ fault. (result ≡ Err fault) × (self.new ≡ [])) }
@@ -161,20 +178,17 @@ fn place(cells: &mut [u8], at: usize, bytes: &[u8])
     cells[at..at + bytes.len()].copy_from_slice(bytes);
 }
 
-// Decodes to the front of the cells, and says how many bytes there are.
-fn decode_hex(text: &[u8], cells: &mut [u8]) -> Result<usize, TextFault>
-    requires { length text.now ≤ 2 * length cells.old }
-    ensures value { MatchResult (hex_spells text.now)
-        (λ bytes. (result ≡ Ok (length bytes)) × (take (length bytes) cells.new ≡ bytes))
+// Decodes pairs of hex digits into the cells from a place on.
+fn decode_hex(pairs: &[u8], cells: &mut [u8], at: usize) -> Result<(), TextFault>
+    requires even { length pairs.now % 2 ≡ 0 }
+    requires room { at + length pairs.now / 2 ≤ length cells.old }
+    ensures value { MatchResult (hex_spells pairs.now)
+        (λ bytes. (result ≡ Ok tt) × (take (at + length pairs.now / 2) cells.new ≡ take at cells.old ++ bytes))
         (λ fault. result ≡ Err fault) }
-    ensures within { IfOk result (λ n. n ≤ length cells.old) }
+    ensures before { take at cells.new ≡ take at cells.old }
 {
-    if text.len() % 2 == 1 {
-        return Err(TextFault::HexOdd);
-    }
-    let count = text.len() / 2;
-    match hex::decode_to_slice(text, &mut cells[..count]) {
-        Ok(()) => Ok(count),
+    match hex::decode_to_slice(pairs, &mut cells[at..at + pairs.len() / 2]) {
+        Ok(()) => Ok(()),
         Err(_) => Err(TextFault::HexDigit),
     }
 }
