@@ -25,7 +25,7 @@ without_cr-push (x ∷ y ∷ raw) b e = ap (λ l. x ∷ l) (without_cr-push (y �
 
 -- nothing came yet
 pub Holds-nil : (job : Job) (line : Line) → form_of line.reader ≡ job.source → line.count ≡ 0 → line.cr ≡ false
-    → HasRead line.reader line.read line.held.items job.domain [] → Holds job line []
+    → HasRead line.reader line.read line.held job.domain [] → Holds job line []
 unfolding without_cr
 Holds-nil job line form none no_cr read = record {
   text = record { form = form; counted = none; whole = λ _. read };

@@ -52,5 +52,5 @@ pub sddl-leaves : (job : Job) (line : Line) (s : SddlReader) (text : List ℕ) (
     → Leaves (text_means job.source job.domain text) x bytes
 sddl-leaves job line s text r x bytes h within is finishes mapped =
     let reads : Reads s line.read job.domain text =
-    subst (λ (q : LineReader). HasRead q line.read line.held.items job.domain text) is (h.whole within) in
+    subst (λ (q : LineReader). HasRead q line.read line.held job.domain text) is (h.whole within) in
     rw (sym h.form, is) (sddl_leaves (means text job.domain) r x bytes (finishes job.domain text reads) mapped)

@@ -7,7 +7,7 @@ ghost use Rattle.sd_inherit.specs.Inner.Limits.{IsPlan};
 use crate::hex_text::GATHERED;
 use crate::line::Line;
 use sd_access::Plan;
-use sd_binary::SdBuf;
+use sd_binary::{SdBuf, TextBuf};
 use sd_command::{Act, Job};
 use sd_core::NoMemory;
 use std::alloc::Global;
@@ -54,15 +54,27 @@ impl Engine {
     pub fn new(alloc: Global, job: Job) -> Result<Engine, NoMemory>
         ensures { IfOk result (λ engine. engine ≡ job) }
     {
-        let desk = Desk {
-            job,
-            line: Line::new(alloc)?,
-            stores: Stores {
-                written: SdBuf::new(alloc)?,
-                spelled: [0; GATHERED],
+        let read = SdBuf::new(alloc)?;
+        let written = SdBuf::new(alloc)?;
+        let held = TextBuf::new(alloc)?;
+        Ok(Engine::over(job, read, written, held))
+    }
+
+    /// An engine over these buffers, whatever they hold: the bytes of a line's descriptor, those of the one that is
+    /// printed, and the text of a line of base64. It takes no memory.
+    pub fn over(job: Job, read: SdBuf, written: SdBuf, held: TextBuf) -> Engine
+        ensures { result ≡ job }
+    {
+        Engine {
+            desk: Desk {
+                job,
+                line: Line::over(read, held),
+                stores: Stores {
+                    written,
+                    spelled: [0; GATHERED],
+                },
             },
-        };
-        Ok(Engine { desk })
+        }
     }
 
     // The limits of the job's domain: its size tells that it keeps them. And those of its act.

@@ -1,22 +1,19 @@
 // The line in hand, whose bytes go into a reader as they come.
-ghost use Rattle.std.specs.Prelude.{◌≡◌, ◌≤◌, ◌<◌, ◌≢◌, ℕ, List, ◌++◌, [], length, false, true, vec_capacity, vec_len, nat_lt};
-ghost use Rattle.sd_rights.specs.Limits.{most_hex_text};
+ghost use Rattle.std.specs.Prelude.{◌≡◌, ◌≤◌, ◌<◌, ◌≢◌, ℕ, List, ◌++◌, [], length, nat_lt, false, true};
 ghost use Rattle.sd_filter.specs.Answers.{line_limit, text_means};
 ghost use Rattle.sd_filter.specs.Inner.Reading.{CanRead, HasRead, form_of};
 
 use crate::fault::LineFault;
-use sd_binary::{SdBuf, SdView, read};
+use sd_binary::{HexReader, SdBuf, SdView, TextBuf, read};
 use sd_command::{Form, Job};
-use sd_core::NoMemory;
 use sd_rights::{MOST_BASE64_TEXT, MOST_HEX_TEXT, MOST_SDDL_TEXT};
 use sd_sddl::SddlReader;
-use std::alloc::Global;
 use std::mem;
 
-/// What reads a line of a form. Hex and base64 are held, and read at the end of the line.
+/// What reads a line of a form. Of base64 the text is held, and read at the end of the line.
 #[derive(Drop)]
 pub enum LineReader {
-    Hex,
+    Hex(HexReader),
     Base64,
     Sddl(SddlReader),
 }
@@ -29,7 +26,7 @@ impl LineReader {
         ensures read { HasRead result read.new [] job.now.domain [] }
     {
         match job.source {
-            Form::Hex => LineReader::Hex,
+            Form::Hex => LineReader::Hex(HexReader::new(read)),
             Form::Base64 => LineReader::Base64,
             Form::Sddl => LineReader::Sddl(SddlReader::new(job.domain, read)),
         }
@@ -40,7 +37,7 @@ impl LineReader {
         ensures { result ≡ line_limit (form_of self.now) }
     {
         match self {
-            LineReader::Hex => MOST_HEX_TEXT,
+            LineReader::Hex(_) => MOST_HEX_TEXT,
             LineReader::Base64 => MOST_BASE64_TEXT,
             LineReader::Sddl(_) => MOST_SDDL_TEXT,
         }
@@ -51,31 +48,26 @@ impl LineReader {
 #[derive(Drop)]
 pub struct Line {
     reader: LineReader,
-    // What was read of the line, and what is held of it.
+    // The bytes of the descriptor that were read so far, and the text that is held.
     read: SdBuf,
-    held: Vec<u8>,
-    // How many bytes the line has, without a CR that waits: no more than its limit of them were read or held.
+    held: TextBuf,
+    // How many bytes the line has, without a CR that waits. Where they pass its limit, those past it were not read.
     count: usize,
     // A CR is the last byte so far. Before an LF it is dropped, and before any other byte it is one of the line.
     cr: bool,
-    ghost room: { most_hex_text ≤ vec_capacity held },
-    ghost fits: { vec_len held ≤ count },
 }
 
 impl Line {
     ghost use Rattle.sd_filter.specs.Inner.Sofar.{Holds, HoldsText, IsReady, Leaves};
 
-    pub fn new(alloc: Global) -> Result<Line, NoMemory> {
-        let read = SdBuf::new(alloc)?;
-        match Vec::with_capacity(alloc, MOST_HEX_TEXT) {
-            Ok(held) => Ok(Line {
-                reader: LineReader::Base64,
-                read,
-                held,
-                count: 0,
-                cr: false,
-            }),
-            Err(_) => Err(NoMemory),
+    /// A line over these buffers, whatever they hold. It is to be started.
+    pub fn over(read: SdBuf, held: TextBuf) -> Line {
+        Line {
+            reader: LineReader::Base64,
+            read,
+            held,
+            count: 0,
+            cr: false,
         }
     }
 
@@ -133,8 +125,9 @@ impl Line {
             return;
         }
         match &mut self.reader {
-            LineReader::Hex | LineReader::Base64 => {
-                let _ = self.held.extend_from_slice(bytes);
+            LineReader::Hex(reader) => reader.feed_all(&mut self.read, bytes),
+            LineReader::Base64 => {
+                let _ = self.held.extend(bytes);
             }
             LineReader::Sddl(reader) => reader.feed_all(&mut self.read, bytes),
         }
@@ -167,8 +160,7 @@ impl Line {
 
     /// The end of a line that is not too long: the descriptor that it means.
     pub fn end(&mut self) -> Result<SdView<'_>, LineFault>
-        requires ready { IsReady self.old }
-        requires within { self.old.count ≤ line_limit (form_of self.old.reader) }
+        requires { IsReady self.old }
         ensures { (job : Job) (text : List ℕ) → HoldsText job self.old text → length text ≤ line_limit job.source
             → result ≡ text_means job.source job.domain text }
     {
@@ -178,14 +170,16 @@ impl Line {
 
     // The bytes of the line's descriptor, in the buffer.
     fn finish(&mut self) -> Result<(), LineFault>
-        requires ready { IsReady self.old }
-        requires within { self.old.count ≤ line_limit (form_of self.old.reader) }
+        requires { IsReady self.old }
         ensures { (job : Job) (text : List ℕ) → HoldsText job self.old text → length text ≤ line_limit job.source
             → Leaves (text_means job.source job.domain text) result self.new.read }
     {
         match mem::replace(&mut self.reader, LineReader::Base64) {
-            LineReader::Hex => self.read.from_hex(&self.held).map_err(LineFault::Text),
-            LineReader::Base64 => self.read.from_base64(&self.held).map_err(LineFault::Text),
+            LineReader::Hex(reader) => reader.finish(&mut self.read).map_err(LineFault::Text),
+            LineReader::Base64 => self
+                .read
+                .from_base64(self.held.bytes())
+                .map_err(LineFault::Text),
             LineReader::Sddl(reader) => reader.finish(&mut self.read).map_err(LineFault::Sddl),
         }
     }
