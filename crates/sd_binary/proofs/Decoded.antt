@@ -1,8 +1,7 @@
--- What the text of a hex line spells, and what decoding it leaves at the front of some cells.
-use Rattle.std.proofs.Common.{◌≡◌, ◌≤◌, ◌/◌, ◌%◌, ℕ, false, eqb, List, length, take, Result, Ok, Err, refl, arith, sym, ap, ◌∙◌}
+-- What the text of a hex line spells, and what decoding pairs of digits leaves in as many cells.
+use Rattle.std.proofs.Common.{◌≡◌, ◌/◌, ◌%◌, ℕ, false, eqb, List, length, Result, Ok, Err, refl, arith, sym, ap, ◌∙◌}
 use Rattle.std.specs.Prelude.{MatchResult}
 use Rattle.std.proofs.lemmas.Bool.Decides.{nat_tests}
-use Rattle.std.proofs.lemmas.List.{length-take-le}
 use Rattle.hex.specs.Hex.{decode_of, decode_sized}
 use Rattle.hex.specs.declared.error.FromHexError.{FromHexError}
 use Rattle.hex.proofs.HexLemmas.{decode_sized-twice}
@@ -14,16 +13,14 @@ pub spells-odd : (text : List ℕ) → length text % 2 ≡ 1 → hex_spells text
 unfolding hex_spells
 spells-odd text odd = rw odd refl
 
-spells-even : (text : List ℕ) → (length text % 2 ≡ 1 → ⊥) → hex_spells text ≡ or_digit_fault (decode_of text)
+pub spells-even : (text : List ℕ) → length text % 2 ≡ 0 → hex_spells text ≡ or_digit_fault (decode_of text)
 unfolding hex_spells
 spells-even text even = let test : eqb (length text % 2) 1 ≡ false = grind (arith, nat_tests) in rw test refl
 
 -- a text of an even length spells what decoding it into as many cells as it has pairs answers
-spells-sized : (text cells : List ℕ) (n : ℕ) → n ≡ length text / 2 → (length text % 2 ≡ 1 → ⊥) → n ≤ length cells
-    → hex_spells text ≡ or_digit_fault (decode_sized text (length (take n cells)))
-spells-sized text cells n half even room =
-    let size = length-take-le n cells room in
-    spells-even text even ∙ ap or_digit_fault (sym (decode_sized-twice text (length (take n cells)) (omega (arith, size, half, even))))
+spells-sized : (text : List ℕ) (n : ℕ) → length text % 2 ≡ 0 → n ≡ length text / 2 → hex_spells text ≡ or_digit_fault (decode_sized text n)
+spells-sized text n even half =
+    spells-even text even ∙ ap or_digit_fault (sym (decode_sized-twice text n (omega (arith, half, even))))
 
 -- a decoding that answers d has answered r, and left these bytes
 abbrev Wrote : Result (List ℕ) FromHexError → List ℕ → Result (Unit {0}) FromHexError → Type 0
@@ -40,15 +37,11 @@ decoded_err (Ok bytes) out f h = absurd (cc)
 decoded_err (Err e) out f h = refl
 
 -- decoding that succeeds leaves the bytes that the text spells
-pub decoded-ok : (text cells out : List ℕ) (n : ℕ) (done : Unit {0}) → n ≡ length text / 2 → (length text % 2 ≡ 1 → ⊥) → n ≤ length cells
-    → length out ≡ length (take n cells) → Wrote (decode_sized text (length (take n cells))) out (Ok done)
-    → (hex_spells text ≡ Ok out) × (n ≡ length out)
-decoded-ok text cells out n done half even room same h =
-    (spells-sized text cells n half even room ∙ decoded_ok (decode_sized text (length (take n cells))) out done h, sym (same ∙ length-take-le n cells room))
+pub decoded-ok : (text out : List ℕ) (n : ℕ) (done : Unit {0}) → length text % 2 ≡ 0 → n ≡ length text / 2
+    → Wrote (decode_sized text n) out (Ok done) → hex_spells text ≡ Ok out
+decoded-ok text out n done even half h = spells-sized text n even half ∙ decoded_ok (decode_sized text n) out done h
 
 -- decoding that fails has found a character that is no digit
-pub decoded-err : (text cells out : List ℕ) (n : ℕ) (f : FromHexError) → n ≡ length text / 2 → (length text % 2 ≡ 1 → ⊥) → n ≤ length cells
-    → Wrote (decode_sized text (length (take n cells))) out (Err f)
-    → hex_spells text ≡ Err HexDigit
-decoded-err text cells out n f half even room h =
-    spells-sized text cells n half even room ∙ decoded_err (decode_sized text (length (take n cells))) out f h
+pub decoded-err : (text out : List ℕ) (n : ℕ) (f : FromHexError) → length text % 2 ≡ 0 → n ≡ length text / 2
+    → Wrote (decode_sized text n) out (Err f) → hex_spells text ≡ Err HexDigit
+decoded-err text out n f even half h = spells-sized text n even half ∙ decoded_err (decode_sized text n) out f h

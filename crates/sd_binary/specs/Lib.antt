@@ -1,4 +1,5 @@
 -- Self-relative security descriptors as bytes.
 pub mod Builds
 pub mod Draft
+pub mod HexReading
 pub mod Text

@@ -1,11 +1,14 @@
-// The buffer that holds the bytes of a descriptor.
-ghost use Rattle.std.specs.Prelude.{◌≡◌, ◌≤◌, ◌<◌, ◌*◌, take, drop, ◌++◌, ◌∷◌, ◌+◌, ◌-◌, ◌↔◌, [], length, Ok, Err, IfOk, OnOk, OnErr, IsErr, MatchResult};
+// The buffers that hold the bytes of a descriptor, or the text of a line.
+ghost use Rattle.std.specs.Prelude.{◌≡◌, ◌≤◌, ◌<◌, ◌*◌, ◌/◌, ◌%◌, take, drop, ◌++◌, ◌∷◌, ◌+◌, ◌-◌, ◌↔◌, [], length, Ok, Err, IfOk, OnOk, OnErr, IsErr, MatchResult};
 ghost use Rattle.base64.specs.Decode.{decoded_estimate};
+ghost use Rattle.sd_rights.specs.Limits.{most_base64_text, most_hex_text};
 ghost use Rattle.sd_binary.specs.Text.{IsOneEncoding, base64_spells, hex_spells};
 ghost use Rattle.sd_view.specs.declared.limits.TheConstants.{CAPACITY};
 
+use crate::hex_reader::HexReader;
 use base64::engine::general_purpose::STANDARD;
 use sd_core::NoMemory;
+use sd_rights::MOST_BASE64_TEXT;
 use sd_view::CAPACITY;
 use std::alloc::Global;
 use std::marker::Model;
@@ -25,42 +28,47 @@ pub enum TextFault {
     Base64,
 }
 
-/// At most 131,226 bytes, in memory that is taken once.
+/// At most `MOST` bytes, in memory that is taken once.
 #[derive(Drop)]
-pub struct SdBuf {
+pub struct ByteBuf<const MOST: usize> {
     cells: Vec<u8>,
     held: usize,
 }
 
-impl Model for SdBuf {
+/// The bytes of a descriptor, at most 131,226.
+pub type SdBuf = ByteBuf<CAPACITY>;
+
+/// A text of at most 174,968 characters: what base64 spells of the largest descriptor.
+pub type TextBuf = ByteBuf<MOST_BASE64_TEXT>;
+
+impl<const MOST: usize> Model for ByteBuf<MOST> {
     ghost use Rattle.std.specs.Prelude.{◌≡◌, ◌≤◌, ℕ, List, length, take};
-    ghost use Rattle.sd_view.specs.declared.limits.TheConstants.{CAPACITY};
 
     ghost Value = { List ℕ };
 
     ghost view = { λ b. take b.held b.cells.items };
 
-    ghost invariant = { λ b. (length b.cells.items ≡ CAPACITY) × (b.held ≤ CAPACITY) };
+    ghost invariant = { λ b. (length b.cells.items ≡ MOST) × (b.held ≤ MOST) };
 }
 
-impl SdBuf {
+impl<const MOST: usize> ByteBuf<MOST> {
     /// An empty buffer, with the memory for all that it may hold.
-    pub fn new(alloc: Global) -> Result<SdBuf, NoMemory>
+    pub fn new(alloc: Global) -> Result<Self, NoMemory>
         ensures { IfOk result (λ b. b ≡ []) }
     {
-        match vec![in alloc; 0; CAPACITY] {
-            Ok(cells) => Ok(SdBuf { cells, held: 0 }),
+        match vec![in alloc; 0; MOST] {
+            Ok(cells) => Ok(ByteBuf { cells, held: 0 }),
             Err(_) => Err(NoMemory),
         }
     }
 
-    /// Appends a byte. Full exactly at 131,226 bytes, and then unchanged.
+    /// Appends a byte. Full exactly where `MOST` bytes are held, and then unchanged.
     pub fn push(&mut self, byte: u8) -> Result<(), Full>
-        ensures full { IsErr result ↔ (length self.old ≡ CAPACITY) }
+        ensures full { IsErr result ↔ (length self.old ≡ MOST) }
         ensures ok { OnOk result (self.new ≡ self.old ++ byte ∷ []) }
         ensures same { OnErr result (self.new ≡ self.old) }
     {
-        if self.held == CAPACITY {
+        if self.held == MOST {
             return Err(Full);
         }
         self.cells[self.held] = byte;
@@ -68,13 +76,13 @@ impl SdBuf {
         Ok(())
     }
 
-    // Appends all of the bytes, or none where there is no room for them.
-    pub(crate) fn extend(&mut self, bytes: &[u8]) -> Result<(), Full>
-        ensures full { IsErr result ↔ (CAPACITY - length self.old < length bytes.now) }
+    /// Appends all of the bytes, or none exactly where there is no room for them.
+    pub fn extend(&mut self, bytes: &[u8]) -> Result<(), Full>
+        ensures full { IsErr result ↔ (MOST - length self.old < length bytes.now) }
         ensures ok { OnOk result (self.new ≡ self.old ++ bytes.now) }
         ensures same { OnErr result (self.new ≡ self.old) }
     {
-        if bytes.len() > CAPACITY - self.held {
+        if bytes.len() > MOST - self.held {
             return Err(Full);
         }
         self.append(bytes);
@@ -83,7 +91,7 @@ impl SdBuf {
 
     // Appends bytes that there is room for.
     pub(crate) fn append(&mut self, bytes: &[u8])
-        requires { length self.old + length bytes.now ≤ CAPACITY }
+        requires { length self.old + length bytes.now ≤ MOST }
         ensures { self.new ≡ self.old ++ bytes.now }
     {
         place(&mut self.cells, self.held, bytes);
@@ -105,25 +113,42 @@ impl SdBuf {
         self.held = 0;
     }
 
-    /// The contents, at most 131,226 bytes.
+    /// The contents, at most `MOST` bytes.
     pub fn bytes(&self) -> &[u8]
         ensures value { result.now ≡ self.now }
-        ensures bound { length self.now ≤ CAPACITY }
+        ensures bound { length self.now ≤ MOST }
     {
         &self.cells[..self.held]
     }
+}
 
+impl SdBuf {
     /// Replaces the contents by the bytes that a hex text of at most 262,452 characters spells. After a
     /// fault the buffer is empty.
     pub fn from_hex(&mut self, text: &[u8]) -> Result<(), TextFault>
-        requires { length text.now ≤ 262452 }
+        requires { length text.now ≤ most_hex_text }
         ensures { MatchResult (hex_spells text.now)
             (λ bytes. (result ≡ Ok tt) × (self.new ≡ bytes))
             (λ fault. (result ≡ Err fault) × (self.new ≡ [])) }
     {
-        self.clear();
-        let held = decode_hex(text, &mut self.cells)?;
-        self.held = held;
+        let mut reader = HexReader::new(self);
+        reader.feed_all(self, text);
+        reader.finish(self)
+    }
+
+    // Appends the bytes that pairs of hex digits spell. After a fault, which want of room is too, the contents are unchanged.
+    pub(crate) fn append_hex(&mut self, pairs: &[u8]) -> Result<(), TextFault>
+        requires { length pairs.now % 2 ≡ 0 }
+        ensures { 2 * length self.old + length pairs.now ≤ 2 * CAPACITY → MatchResult (hex_spells pairs.now)
+            (λ bytes. (result ≡ Ok tt) × (self.new ≡ self.old ++ bytes))
+            (λ fault. (result ≡ Err fault) × (self.new ≡ self.old)) }
+    {
+        let count = pairs.len() / 2;
+        if count > CAPACITY - self.held {
+            return Err(TextFault::HexDigit);
+        }
+        decode_hex(pairs, &mut self.cells, self.held)?;
+        self.held += count;
         Ok(())
     }
 
@@ -131,7 +156,7 @@ impl SdBuf {
     /// (RFC 4648, section 4), with all of its padding and nothing else in it. After a fault the
     /// buffer is empty.
     pub fn from_base64(&mut self, text: &[u8]) -> Result<(), TextFault>
-        requires { length text.now ≤ 174968 }
+        requires { length text.now ≤ most_base64_text }
         ensures exact { MatchResult (base64_spells text.now)
             (λ bytes. (result ≡ Ok tt) × (self.new ≡ bytes))
             (λ fault. (result ≡ Err fault) × (self.new ≡ [])) }
@@ -153,20 +178,17 @@ fn place(cells: &mut [u8], at: usize, bytes: &[u8])
     cells[at..at + bytes.len()].copy_from_slice(bytes);
 }
 
-// Decodes to the front of the cells, and says how many bytes there are.
-fn decode_hex(text: &[u8], cells: &mut [u8]) -> Result<usize, TextFault>
-    requires { length text.now ≤ 2 * length cells.old }
-    ensures value { MatchResult (hex_spells text.now)
-        (λ bytes. (result ≡ Ok (length bytes)) × (take (length bytes) cells.new ≡ bytes))
+// Decodes pairs of hex digits into the cells from a place on.
+fn decode_hex(pairs: &[u8], cells: &mut [u8], at: usize) -> Result<(), TextFault>
+    requires even { length pairs.now % 2 ≡ 0 }
+    requires room { at + length pairs.now / 2 ≤ length cells.old }
+    ensures value { MatchResult (hex_spells pairs.now)
+        (λ bytes. (result ≡ Ok tt) × (take (at + length pairs.now / 2) cells.new ≡ take at cells.old ++ bytes))
         (λ fault. result ≡ Err fault) }
-    ensures within { IfOk result (λ n. n ≤ length cells.old) }
+    ensures before { take at cells.new ≡ take at cells.old }
 {
-    if text.len() % 2 == 1 {
-        return Err(TextFault::HexOdd);
-    }
-    let count = text.len() / 2;
-    match hex::decode_to_slice(text, &mut cells[..count]) {
-        Ok(()) => Ok(count),
+    match hex::decode_to_slice(pairs, &mut cells[at..at + pairs.len() / 2]) {
+        Ok(()) => Ok(()),
         Err(_) => Err(TextFault::HexDigit),
     }
 }

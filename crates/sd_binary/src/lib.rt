@@ -4,11 +4,13 @@
 
 mod buffer;
 mod builder;
+mod hex_reader;
 mod pieces;
 mod written;
 
-pub use buffer::{Full, SdBuf, TextFault};
+pub use buffer::{ByteBuf, Full, SdBuf, TextBuf, TextFault};
 pub use builder::{AclTooLarge, Builder};
+pub use hex_reader::HexReader;
 pub use sd_view::{
     AceView, Aces, AclFlags, AclPart, AclView, CONTROL_BITS, ControlBit, Part, SdFault, SdView,
     Which, print_layout, put_layout, read,

@@ -1,7 +1,9 @@
--- What is held after more bytes.
-use Rattle.std.proofs.Common.{◌≡◌, ℕ, List, [], ◌∷◌, ◌++◌, Bool, true, false, ◌==◌, cond, refl, sym, ◌∙◌, ap, append-nil, append_assoc, length, arith, rules}
+-- What the line in hand has after more bytes.
+use Rattle.std.proofs.Common.{◌≡◌, ℕ, List, [], ◌∷◌, ◌++◌, Bool, true, false, ◌==◌, cond, refl, sym, ap, append-nil, append_assoc, rules}
 use Rattle.sd_filter.specs.Lines.{without_cr}
+use Rattle.sd_filter.specs.Inner.Reading.{HasRead, form_of}
 use Rattle.sd_filter.specs.Inner.Sofar.{HoldsText, Holds}
+use Rattle.sd_command.specs.declared.job.Job.{Job}
 use Rattle.sd_filter.specs.declared.line.Line.{Line}
 
 -- the one CR at the end goes
@@ -21,45 +23,30 @@ without_cr-push [] b e = cond_false (b == 13) [] (b ∷ []) e
 without_cr-push (x ∷ []) b e = ap (λ l. x ∷ l) (cond_false (b == 13) [] (b ∷ []) e)
 without_cr-push (x ∷ y ∷ raw) b e = ap (λ l. x ∷ l) (without_cr-push (y ∷ raw) b e)
 
--- nothing is held
-pub Holds-nil : (line : Line) → line.held.items ≡ [] → line.cr ≡ false → line.over ≡ false → Holds line []
+-- nothing came yet
+pub Holds-nil : (job : Job) (line : Line) → form_of line.reader ≡ job.source → line.count ≡ 0 → line.cr ≡ false
+    → HasRead line.reader line.read line.held job.domain [] → Holds job line []
 unfolding without_cr
-Holds-nil line none no_cr within = record {
-  text = record { whole = λ _. none; beyond = λ over. let bad : false ≡ true = sym within ∙ over in cc };
+Holds-nil job line form none no_cr read = record {
+  text = record { form = form; counted = none; whole = λ _. read };
   waits = rw no_cr refl;
 }
-
--- several bytes, by the last of them: a CR waits
-pub Holds-last_cr : (line : Line) (raw bytes front : List ℕ) (last : ℕ) → bytes ≡ front ++ last ∷ [] → last ≡ 13 → line.cr ≡ true
-    → HoldsText line.limit line.held.items line.over (raw ++ front) → Holds line (raw ++ bytes)
-Holds-last_cr line raw bytes front last e is cr h =
-    let same : raw ++ bytes ≡ (raw ++ front) ++ 13 ∷ [] = rw (e, is) (sym (append_assoc raw front (13 ∷ []))) in
-    let kept : without_cr ((raw ++ front) ++ 13 ∷ []) ≡ raw ++ front = without_cr-push_cr (raw ++ front) in
-    rw same (record { text = rw kept h; waits = rw (kept, cr) refl })
 
 eq_false : (b : ℕ) → (b ≡ 13 → ⊥) → (b == 13) ≡ false
 eq_false b h = search rules
 
--- several bytes, by the last of them: any other byte is a byte of the line
-pub Holds-last : (line : Line) (raw bytes front : List ℕ) (last : ℕ) → bytes ≡ front ++ last ∷ [] → (last ≡ 13 → ⊥) → line.cr ≡ false
-    → HoldsText line.limit line.held.items line.over (raw ++ front ++ last ∷ []) → Holds line (raw ++ bytes)
-Holds-last line raw bytes front last e ne no_cr h =
+-- bytes by the last of them: a CR waits
+pub Holds-last_cr : (job : Job) (line : Line) (raw bytes front : List ℕ) (last : ℕ) → bytes ≡ front ++ last ∷ [] → last ≡ 13
+    → line.cr ≡ true → HoldsText job line (raw ++ front) → Holds job line (raw ++ bytes)
+Holds-last_cr job line raw bytes front last e is cr h =
+    let same : raw ++ bytes ≡ (raw ++ front) ++ 13 ∷ [] = rw (e, is) (sym (append_assoc raw front (13 ∷ []))) in
+    let kept : without_cr ((raw ++ front) ++ 13 ∷ []) ≡ raw ++ front = without_cr-push_cr (raw ++ front) in
+    rw same (record { text = rw kept h; waits = rw (kept, cr) refl })
+
+-- any other byte is one of the line
+pub Holds-last : (job : Job) (line : Line) (raw bytes front : List ℕ) (last : ℕ) → bytes ≡ front ++ last ∷ [] → (last ≡ 13 → ⊥)
+    → line.cr ≡ false → HoldsText job line (raw ++ bytes) → Holds job line (raw ++ bytes)
+Holds-last job line raw bytes front last e ne no_cr h =
     let same : raw ++ bytes ≡ (raw ++ front) ++ last ∷ [] = rw e (sym (append_assoc raw front (last ∷ []))) in
-    let kept : without_cr ((raw ++ front) ++ last ∷ []) ≡ (raw ++ front) ++ last ∷ [] = without_cr-push (raw ++ front) last (eq_false last ne) in
-    rw same (record { text = rw kept h; waits = rw (kept, no_cr) (sym (append-nil _)) })
-
--- a text is held whole where it is at hand
-pub HoldsText-whole : (limit : ℕ) (text line : List ℕ) → text ≡ line → HoldsText limit text false line
-HoldsText-whole limit text line e = record { whole = λ _. e; beyond = λ over. cc }
-
--- bytes by the last of them
-pub without_cr-last_cr : (bytes front : List ℕ) (last : ℕ) → bytes ≡ front ++ last ∷ [] → last ≡ 13 → front ≡ without_cr bytes
-without_cr-last_cr bytes front last e is = rw (e, is) (sym (without_cr-push_cr front))
-
-pub without_cr-last : (bytes front : List ℕ) (last : ℕ) → bytes ≡ front ++ last ∷ [] → (last ≡ 13 → ⊥) → bytes ≡ without_cr bytes
-without_cr-last bytes front last e ne = rw e (sym (without_cr-push front last (eq_false last ne)))
-
-pub without_cr-none : (bytes : List ℕ) → length bytes ≡ 0 → bytes ≡ without_cr bytes
-unfolding without_cr
-without_cr-none [] e = refl
-without_cr-none (b ∷ bytes) e = absurd (omega arith)
+    let kept : without_cr (raw ++ bytes) ≡ raw ++ bytes = rw same (without_cr-push (raw ++ front) last (eq_false last ne)) in
+    record { text = rw kept h; waits = rw (kept, no_cr) (sym (append-nil _)) }

@@ -9,6 +9,7 @@ pub mod LimitLemmas
 pub mod MeaningLemmas
 pub mod PartsLemmas
 pub mod PiecesLemmas
+pub mod ReadingLemmas
 mod Rows
 pub mod RunLemmas
 pub mod ShortLemmas

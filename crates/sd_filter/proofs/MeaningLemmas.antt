@@ -1,18 +1,15 @@
 -- What a line means, case by case, and what is answered to it.
-use Rattle.std.proofs.Common.{◌≡◌, ◌≤◌, ◌<◌, ℕ, List, [], ◌∷◌, Bool, true, false, length, Option, Some, None, Result, Ok, Err, refl, sym, ◌∙◌, ap, arith}
-use Rattle.std.specs.Prelude.{MatchResult}
+use Rattle.std.proofs.Common.{◌≡◌, ◌≢◌, ◌≤◌, ◌<◌, ℕ, List, [], ◌∷◌, Bool, length, Option, Some, Result, Ok, Err, refl, sym, ◌∙◌, ap, arith}
 use Rattle.std.proofs.lemmas.Bool.Decides.{nat_tests}
 use Rattle.sd_core.specs.Sid.{SecurityId}
 use Rattle.sd_core.specs.Token.{Entry, TokenShown}
 use Rattle.sd_sink.specs.Print.{Begins, Finishes, PrintTold}
 use Rattle.sd_sink.specs.Sink.{SinkTold, PutSome}
 use Rattle.sd_sink.specs.declared.sink.SinkFault.{SinkFault}
-use Rattle.sd_view.specs.Descriptor.{Descriptor, Shows}
-use Rattle.sd_view.specs.declared.fault.SdFault.{SdFault}
-use Rattle.sd_reader.specs.declared.fault.SddlFault.{SddlFault}
-use Rattle.sd_filter.specs.Answers.{Meaning, answer, bound, bound_of_meaning, is_error, is_error_of_meaning, line_limit, line_means, meaning, or_sddl_fault, text_means, text_of_meaning}
+use Rattle.sd_view.specs.Descriptor.{Descriptor}
+use Rattle.sd_filter.specs.Answers.{Meaning, answer, bound, bound_of_meaning, is_error, is_error_of_meaning, line_limit, line_means, meaning, text_means, text_of_meaning}
 use Rattle.sd_filter.specs.Outcome.{Compares}
-use Rattle.sd_filter.specs.Inner.Sofar.{HoldsText, PrintsAnswer, PutsAnswer}
+use Rattle.sd_filter.specs.Inner.Sofar.{PrintsAnswer, PutsAnswer}
 use Rattle.sd_sink.proofs.PrintLemmas.{printed}
 use Rattle.sd_filter.specs.declared.fault.LineFault.{LineFault}
 use Rattle.sd_filter.specs.declared.fault.LineFault.TheVariants.{TooLong}
@@ -65,36 +62,13 @@ meaning-some job [] h = absurd (omega arith)
 meaning-some job (b ∷ line) h = refl
 
 -- a line over its limit
-pub meaning-over : (job : Job) (text line : List ℕ) (over : Bool) → over ≡ true → HoldsText (line_limit job.source) text over line → meaning job line ≡ Some (Err TooLong)
-meaning-over job text line over is h =
-    let beyond : line_limit job.source < length line = h.beyond is in
+pub meaning-over : (job : Job) (line : List ℕ) → line_limit job.source < length line → meaning job line ≡ Some (Err TooLong)
+meaning-over job line beyond =
     meaning-some job line (omega arith) ∙ ap (λ (m : Result Descriptor LineFault). Some m) (line_means-over job.source job.domain line beyond)
 
--- an empty line
-pub meaning-empty : (job : Job) (text line : List ℕ) (over : Bool) → over ≡ false → length text ≡ 0 → HoldsText (line_limit job.source) text over line → meaning job line ≡ None
-meaning-empty job [] line over is none h = ap (meaning job) (sym (h.whole is))
-meaning-empty job (b ∷ text) line over is none h = absurd (omega arith)
-
--- any other line
-pub meaning-text : (job : Job) (text line : List ℕ) (over : Bool) (m : Result Descriptor LineFault) → over ≡ false → 0 < length text → length text ≤ line_limit job.source
-    → HoldsText (line_limit job.source) text over line → text_means job.source job.domain text ≡ m → meaning job line ≡ Some m
-meaning-text job text line over m is some within h e =
-    ap (meaning job) (sym (h.whole is)) ∙ meaning-some job text some
-    ∙ ap (λ (m : Result Descriptor LineFault). Some m) (line_means-within job.source job.domain text within ∙ e)
-
--- what a line of SDDL leaves in a buffer, and what is read there
-module _ (m : Result Descriptor SddlFault) (r : Result (Unit {0}) SddlFault) (held : List ℕ) (v : Result Descriptor SdFault)
-    (left : MatchResult m (λ d. (r ≡ Ok tt) × Shows held d) (λ e. (r ≡ Err e) × (held ≡ []))) (done : r ≡ Ok tt) (reads : (d : Descriptor) → Shows held d → v ≡ Ok d) where
-  pub sddl-read : (d : Descriptor) → v ≡ Ok d → Ok d ≡ or_sddl_fault m
-  sddl-read d is = by_meaning m left
-    where
-      by_meaning : (m : Result Descriptor SddlFault) → MatchResult m (λ d. (r ≡ Ok tt) × Shows held d) (λ e. (r ≡ Err e) × (held ≡ [])) → Ok d ≡ or_sddl_fault m
-      by_meaning (Ok x) h = let same : v ≡ Ok x = reads x h.1 in let one : d ≡ x = cc in ap (λ (y : Descriptor). Ok y) one
-      by_meaning (Err e) h = absurd (let no : Err e ≡ Ok tt = sym h.0 ∙ done in cc)
-
-  pub sddl-refused : (f : SdFault) (x : Result Descriptor LineFault) → v ≡ Err f → x ≡ or_sddl_fault m
-  sddl-refused f x is = by_meaning m left
-    where
-      by_meaning : (m : Result Descriptor SddlFault) → MatchResult m (λ d. (r ≡ Ok tt) × Shows held d) (λ e. (r ≡ Err e) × (held ≡ [])) → x ≡ or_sddl_fault m
-      by_meaning (Ok d) h = absurd (let no : Err f ≡ Ok d = sym is ∙ reads d h.1 in cc)
-      by_meaning (Err e) h = absurd (let no : Err e ≡ Ok tt = sym h.0 ∙ done in cc)
+-- any other line that is not empty
+pub meaning-text : (job : Job) (line : List ℕ) (m : Result Descriptor LineFault) → line ≢ [] → length line ≤ line_limit job.source
+    → m ≡ text_means job.source job.domain line → meaning job line ≡ Some m
+meaning-text job [] m some within e = absurd (some refl)
+meaning-text job (b ∷ line) m some within e =
+    ap (λ (m : Result Descriptor LineFault). Some m) (line_means-within job.source job.domain (b ∷ line) within ∙ sym e)

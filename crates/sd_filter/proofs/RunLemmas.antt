@@ -84,7 +84,7 @@ ended-nil = refl
 
 -- before the first read
 pub BeforeRead-start : (token0 : TokenShown) (source0 : SourceTold) (drain0 : DrainTold) (desk : Desk) (report : Report)
-    → Holds desk.line [] → report.lines ≡ 0 → report.faults ≡ 0
+    → Holds desk.job desk.line [] → report.lines ≡ 0 → report.faults ≡ 0
     → BeforeRead 0 token0 source0 drain0 desk token0 source0 drain0 report
 BeforeRead-start token0 source0 drain0 desk report h no_lines no_faults = record {
   got = [];

@@ -1,12 +1,10 @@
 -- A run after one line more, and after more bytes.
-use Rattle.std.proofs.Common.{◌≡◌, ◌≢◌, ℕ, ◌+◌, ◌-◌, ◌<◌, ◌≤◌, List, [], ◌∷◌, ◌++◌, Bool, true, false, cond, length, refl, sym, ◌∙◌, ap, subst, arith, append_assoc, append-nil, take, drop, get_or, Result, Ok, Err}
-use Rattle.std.specs.Prelude.{MatchResult}
+use Rattle.std.proofs.Common.{◌≡◌, ◌≢◌, ℕ, ◌+◌, ◌-◌, ◌<◌, ◌≤◌, List, [], ◌∷◌, ◌++◌, Bool, true, false, cond, length, refl, sym, ◌∙◌, ap, subst, arith, append_assoc, append-nil, take, drop, get_or}
 use Rattle.std.proofs.lemmas.List.{length_push, take_more, take-append-drop, take_rest, length-drop, get_or-drop}
 use Rattle.std.proofs.Math.Seq.{take-add}
 use Rattle.std.proofs.KnownBytes.{Appends-trans}
 use Rattle.sd_core.specs.Token.{Entry, TokenShown}
 use Rattle.sd_sink.specs.Sink.{SinkTold, PutAll, PutSome}
-use Rattle.sd_sink.specs.declared.sink.SinkFault.{SinkFault}
 use Rattle.sd_sink.proofs.SinkLemmas.{PutAll-nil, PutAll-trans}
 use Rattle.sd_filter.specs.Lines.{parts, ended, lines, last_line, without_cr}
 use Rattle.sd_filter.specs.Answers.{answer, answers, bound, bounds, errors, is_error}
@@ -90,7 +88,7 @@ Failed-more job token0 token sink0 sink all more h = record {
 
 -- nothing was read
 pub Sofar-nil : (token0 : TokenShown) (sink0 : SinkTold) (desk : Desk) (report : Report)
-    → Holds desk.line [] → report.lines ≡ 0 → report.faults ≡ 0 → Sofar token0 sink0 [] desk token0 sink0 report
+    → Holds desk.job desk.line [] → report.lines ≡ 0 → report.faults ≡ 0 → Sofar token0 sink0 [] desk token0 sink0 report
 unfolding parts ended answers errors bounds
 Sofar-nil token0 sink0 desk report h no_lines no_faults = record {
   holds = h;
@@ -108,7 +106,7 @@ pub Sofar-more : (token0 token : TokenShown) (sink0 sink : SinkTold) (got bytes 
     → NoLf bytes
     → Sofar token0 sink0 got desk token sink report
     → desk'.job ≡ desk.job
-    → Holds desk'.line ((parts got).rest ++ bytes)
+    → Holds desk'.job desk'.line ((parts got).rest ++ bytes)
     → Sofar token0 sink0 (got ++ bytes) desk' token sink report
 Sofar-more token0 token sink0 sink got bytes desk desk' report none h same holds = record {
   holds = rw (rest-more got bytes none) holds;
@@ -119,7 +117,7 @@ Sofar-more token0 token sink0 sink got bytes desk desk' report none h same holds
 pub Sofar-line : (token0 token : TokenShown) (sink0 sink : SinkTold) (got bytes : List ℕ) (desk : Desk) (report : Report)
     → NoLf bytes
     → Answered desk.job token0 sink0 (ended got ++ without_cr ((parts got).rest ++ bytes) ∷ []) token sink report
-    → Holds desk.line []
+    → Holds desk.job desk.line []
     → Sofar token0 sink0 (got ++ bytes ++ 10 ∷ []) desk token sink report
 Sofar-line token0 token sink0 sink got bytes desk report none h holds = record {
   holds = rw (rest-lf (got ++ bytes)) holds;
@@ -131,20 +129,6 @@ pub Failed-line : (job : Job) (token0 token : TokenShown) (sink0 sink : SinkTold
     → Failed job token0 sink0 (ended got ++ without_cr ((parts got).rest ++ bytes) ∷ []) token sink
     → Failed job token0 sink0 (ended (got ++ bytes ++ 10 ∷ [])) token sink
 Failed-line job token0 token sink0 sink got bytes none h = rw (ended-lf (got ++ bytes), ended-more got bytes none, rest-more got bytes none) h
-
--- a whole line and its LF, where nothing is held
-pub line-whole : (token0 token : TokenShown) (sink0 sink : SinkTold) (got bytes text : List ℕ) (desk : Desk) (report : Report) (r : Result (Unit {0}) SinkFault)
-    → NoLf bytes → (parts got).rest ≡ [] → text ≡ without_cr bytes → Holds desk.line []
-    → MatchResult r
-    (λ _. Answered desk.job token0 sink0 (ended got ++ text ∷ []) token sink report)
-    (λ _. Failed desk.job token0 sink0 (ended got ++ text ∷ []) token sink)
-    → MatchResult r
-    (λ _. Sofar token0 sink0 (got ++ bytes ++ 10 ∷ []) desk token sink report)
-    (λ _. Failed desk.job token0 sink0 (ended (got ++ bytes ++ 10 ∷ [])) token sink)
-line-whole token0 token sink0 sink got bytes text desk report (Ok done) none fresh is holds h =
-    Sofar-line token0 token sink0 sink got bytes desk report none (rw (fresh, ← is) h) holds
-line-whole token0 token sink0 sink got bytes text desk report (Err fault) none fresh is holds h =
-    Failed-line desk.job token0 token sink0 sink got bytes none (rw (fresh, ← is) h)
 
 -- more bytes after a failure
 Failed-bytes : (job : Job) (token0 token : TokenShown) (sink0 sink : SinkTold) (got more : List ℕ)

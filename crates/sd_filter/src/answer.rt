@@ -1,16 +1,13 @@
 // The answer to one line.
-ghost use Rattle.std.specs.Prelude.{◌≡◌, ◌≤◌, ℕ, List, ◌++◌, [], ◌∷◌, length, true, is_some, Ok, Err};
+ghost use Rattle.std.specs.Prelude.{◌≡◌, ℕ, List, ◌++◌, [], ◌∷◌, length, true, is_some, Ok, Err};
 ghost use Rattle.sd_sink.specs.Print.{Prints};
-ghost use Rattle.sd_filter.specs.Answers.{act_bound, act_fault, act_text, answer, as_line_fault, bound, bytes_mean, form_text, is_error, line_limit, naming_of, or_sddl_fault, text_means, unless_fault, verdict_text};
+ghost use Rattle.sd_filter.specs.Answers.{act_bound, act_fault, act_text, answer, as_line_fault, bound, form_text, is_error, naming_of, unless_fault, verdict_text};
 ghost use Rattle.sd_explain.specs.Explain.{explain};
 ghost use Rattle.sd_filter.specs.Faults.{fault_text};
 ghost use Rattle.sd_filter.specs.Outcome.{Compares};
-ghost use Rattle.sd_filter.specs.Inner.Sofar.{HoldsText, PrintsAnswer, PutsAnswer};
+ghost use Rattle.sd_filter.specs.Inner.Sofar.{HoldsText, IsReady, PrintsAnswer, PutsAnswer};
 ghost use Rattle.sd_filter.specs.Told.{sink_of};
 ghost use Rattle.sd_inherit.specs.Derived.{derive_fault, derived};
-ghost use Rattle.std.specs.Option.{option_copied};
-ghost use Rattle.sd_binary.specs.Text.{base64_spells, hex_spells};
-ghost use Rattle.sd_reader.specs.Meaning.{means};
 ghost use Rattle.sd_view.specs.Descriptor.{Descriptor, Shows};
 ghost use Rattle.sd_view.specs.Layout.{layout};
 
@@ -19,80 +16,78 @@ use crate::device::Drain;
 use crate::engine::Stores;
 use crate::fault::{LineFault, print_fault};
 use crate::hex_text::{GATHERED, print_hex};
+use crate::line::Line;
 use crate::sink::DrainSink;
 use sd_access::{Plan, Verdict, check, derive};
 use sd_binary::{SdBuf, SdView, read, write_layout};
 use sd_command::{Act, Form, Job};
 use sd_core::{Gather, Print, Sid, Sink, SinkFault, Token, print_hex as print_hex_digits};
-use sd_sddl::{print_explain, print_sddl, read_sddl};
+use sd_sddl::{print_explain, print_sddl};
 
-/// Puts the answer to a line and its LF, and says whether it is an `error` line. Of a line over its
-/// limit nothing but that is known.
+/// Puts the answer to the line in hand and its LF, and says whether it is an `error` line.
 pub fn put_answer<W: Drain>(
     job: &Job,
-    text: &[u8],
-    over: bool,
+    line: &mut Line,
     stores: &mut Stores,
     token: &mut Token,
     drain: &mut W,
 ) -> Result<bool, SinkFault>
-    requires { length text.now ≤ line_limit job.now.source }
-    ensures put { (line : List ℕ) → HoldsText (line_limit job.now.source) text.now over line
-        → PutsAnswer (sink_of (W.told drain.old)) (sink_of (W.told drain.new)) (answer job.now token.old.entries line) (is_error job.now line) result }
+    requires { IsReady line.old }
+    ensures put { (text : List ℕ) → HoldsText job.now line.old text
+        → PutsAnswer (sink_of (W.told drain.old)) (sink_of (W.told drain.new)) (answer job.now token.old.entries text) (is_error job.now text) result }
     ensures entries { token.new.entries ≡ token.old.entries }
-    ensures compared { (line : List ℕ) → HoldsText (line_limit job.now.source) text.now over line
-        → Compares token.old token.new (bound job.now token.old.entries line) }
+    ensures compared { (text : List ℕ) → HoldsText job.now line.old text
+        → Compares token.old token.new (bound job.now token.old.entries text) }
 {
     let mut sink = DrainSink { drain };
-    put_gathered(job, text, over, stores, token, &mut sink)
+    put_gathered(job, line, stores, token, &mut sink)
 }
 
 // The small texts of an answer are gathered.
 fn put_gathered<S: Sink>(
     job: &Job,
-    text: &[u8],
-    over: bool,
+    line: &mut Line,
     stores: &mut Stores,
     token: &mut Token,
     sink: &mut S,
 ) -> Result<bool, SinkFault>
-    requires { length text.now ≤ line_limit job.now.source }
-    ensures put { (line : List ℕ) → HoldsText (line_limit job.now.source) text.now over line
-        → PutsAnswer (S.told sink.old) (S.told sink.new) (answer job.now token.old.entries line) (is_error job.now line) result }
+    requires { IsReady line.old }
+    ensures put { (text : List ℕ) → HoldsText job.now line.old text
+        → PutsAnswer (S.told sink.old) (S.told sink.new) (answer job.now token.old.entries text) (is_error job.now text) result }
     ensures entries { token.new.entries ≡ token.old.entries }
-    ensures compared { (line : List ℕ) → HoldsText (line_limit job.now.source) text.now over line
-        → Compares token.old token.new (bound job.now token.old.entries line) }
+    ensures compared { (text : List ℕ) → HoldsText job.now line.old text
+        → Compares token.old token.new (bound job.now token.old.entries text) }
 {
     let mut out = Gather::new(sink);
-    let faulty = print_answer(job, text, over, stores, token, &mut out);
+    let faulty = print_answer(job, line, stores, token, &mut out);
     match out.finish() {
         Ok(()) => Ok(faulty),
         Err(sink_fault) => Err(sink_fault),
     }
 }
 
+// Of a line over its limit nothing but that is known.
 fn print_answer<P: Print>(
     job: &Job,
-    text: &[u8],
-    over: bool,
+    line: &mut Line,
     stores: &mut Stores,
     token: &mut Token,
     out: &mut P,
 ) -> bool
-    requires { length text.now ≤ line_limit job.now.source }
-    ensures printed { (line : List ℕ) → HoldsText (line_limit job.now.source) text.now over line
-        → PrintsAnswer (P.told out.old) (P.told out.new) (answer job.now token.old.entries line) (is_error job.now line) result }
+    requires { IsReady line.old }
+    ensures printed { (text : List ℕ) → HoldsText job.now line.old text
+        → PrintsAnswer (P.told out.old) (P.told out.new) (answer job.now token.old.entries text) (is_error job.now text) result }
     ensures entries { token.new.entries ≡ token.old.entries }
-    ensures compared { (line : List ℕ) → HoldsText (line_limit job.now.source) text.now over line
-        → Compares token.old token.new (bound job.now token.old.entries line) }
+    ensures compared { (text : List ℕ) → HoldsText job.now line.old text
+        → Compares token.old token.new (bound job.now token.old.entries text) }
 {
-    if over {
+    if line.is_too_long() {
         return print_error(&LineFault::TooLong, out);
     }
-    if text.is_empty() {
+    if line.is_empty() {
         return print_end(false, out);
     }
-    match view_of(job, text, &mut stores.read) {
+    match line.end() {
         Ok(view) => print_act(
             job,
             &view,
@@ -102,55 +97,6 @@ fn print_answer<P: Print>(
             out,
         ),
         Err(fault) => print_error(&fault, out),
-    }
-}
-
-// What a text means, over its bytes in the buffer.
-fn view_of<'a>(job: &Job, text: &[u8], buf: &'a mut SdBuf) -> Result<SdView<'a>, LineFault>
-    requires { length text.now ≤ line_limit job.now.source }
-    ensures { result ≡ text_means job.now.source job.now.domain text.now }
-{
-    match job.source {
-        Form::Hex => view_of_hex(text, buf),
-        Form::Base64 => view_of_base64(text, buf),
-        Form::Sddl => view_of_sddl(text, job.domain.as_ref(), buf),
-    }
-}
-
-fn view_of_hex<'a>(text: &[u8], buf: &'a mut SdBuf) -> Result<SdView<'a>, LineFault>
-    requires { length text.now ≤ 262452 }
-    ensures { result ≡ bytes_mean (hex_spells text.now) }
-{
-    match buf.from_hex(text) {
-        Ok(()) => read(buf.bytes()).map_err(LineFault::Sd),
-        Err(fault) => Err(LineFault::Text(fault)),
-    }
-}
-
-fn view_of_base64<'a>(text: &[u8], buf: &'a mut SdBuf) -> Result<SdView<'a>, LineFault>
-    requires { length text.now ≤ 174968 }
-    ensures { result ≡ bytes_mean (base64_spells text.now) }
-{
-    match buf.from_base64(text) {
-        Ok(()) => read(buf.bytes()).map_err(LineFault::Sd),
-        Err(fault) => Err(LineFault::Text(fault)),
-    }
-}
-
-fn view_of_sddl<'a>(
-    text: &[u8],
-    domain: Option<&Sid>,
-    buf: &'a mut SdBuf,
-) -> Result<SdView<'a>, LineFault>
-    ensures { result ≡ or_sddl_fault (means text.now (option_copied domain.entry)) }
-{
-    match read_sddl(text, domain, buf) {
-        // Its bytes show a descriptor, so they are read.
-        Ok(()) => match read(buf.bytes()) {
-            Ok(view) => Ok(view),
-            Err(fault) => Err(LineFault::Sd(fault)),
-        },
-        Err(fault) => Err(LineFault::Sddl(fault)),
     }
 }
 

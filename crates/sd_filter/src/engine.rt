@@ -2,14 +2,13 @@
 ghost use Rattle.std.specs.Prelude.{◌≡◌, IfOk, IfSome};
 ghost use Rattle.sd_core.specs.Sid.{IsSid};
 ghost use Rattle.sd_filter.specs.Inner.ActLimits.{ActLimits};
-ghost use Rattle.sd_filter.specs.Answers.{line_limit};
 ghost use Rattle.sd_inherit.specs.Inner.Limits.{IsPlan};
 
 use crate::hex_text::GATHERED;
 use crate::line::Line;
 use sd_access::Plan;
-use sd_binary::SdBuf;
-use sd_command::{Act, Form, Job};
+use sd_binary::{SdBuf, TextBuf};
+use sd_command::{Act, Job};
 use sd_core::NoMemory;
 use std::alloc::Global;
 use std::marker::Model;
@@ -55,16 +54,27 @@ impl Engine {
     pub fn new(alloc: Global, job: Job) -> Result<Engine, NoMemory>
         ensures { IfOk result (λ engine. engine ≡ job) }
     {
-        let desk = Desk {
-            job,
-            line: Line::new(alloc, line_limit(job.source))?,
-            stores: Stores {
-                read: SdBuf::new(alloc)?,
-                written: SdBuf::new(alloc)?,
-                spelled: [0; GATHERED],
+        let read = SdBuf::new(alloc)?;
+        let written = SdBuf::new(alloc)?;
+        let held = TextBuf::new(alloc)?;
+        Ok(Engine::over(job, read, written, held))
+    }
+
+    /// An engine over these buffers, whatever they hold: the bytes of a line's descriptor, those of the one that is
+    /// printed, and the text of a line of base64. It takes no memory.
+    pub fn over(job: Job, read: SdBuf, written: SdBuf, held: TextBuf) -> Engine
+        ensures { result ≡ job }
+    {
+        Engine {
+            desk: Desk {
+                job,
+                line: Line::over(read, held),
+                stores: Stores {
+                    written,
+                    spelled: [0; GATHERED],
+                },
             },
-        };
-        Ok(Engine { desk })
+        }
     }
 
     // The limits of the job's domain: its size tells that it keeps them. And those of its act.
@@ -98,30 +108,17 @@ fn note_plan(plan: &Plan)
     let _ = plan.mapping.read();
 }
 
-// The job, the line in hand, and the buffers.
+// The job, the line in hand, and what its answer is made in.
 #[derive(Drop)]
 pub struct Desk {
     pub job: Job,
     pub line: Line,
     pub stores: Stores,
-    ghost limit: { line.limit ≡ line_limit job.source },
 }
 
-// The bytes of a line's descriptor, those of the one that is printed, and a piece of the text that spells them.
+// The bytes of the descriptor that is printed, and a piece of the text that spells them.
 #[derive(Drop)]
 pub struct Stores {
-    pub read: SdBuf,
     pub written: SdBuf,
     pub spelled: [u8; GATHERED],
-}
-
-// The bytes that a line may have.
-fn line_limit(form: Form) -> usize
-    ensures { result ≡ line_limit form }
-{
-    match form {
-        Form::Hex => 262_452,
-        Form::Base64 => 174_968,
-        Form::Sddl => 1_049_872,
-    }
 }

@@ -6,7 +6,7 @@ ghost use Rattle.sd_filter.specs.Told.{sink_of};
 ghost use Rattle.sd_filter.specs.Answers.{AnswersAreShort};
 ghost use Rattle.sd_filter.specs.Lines.{LinesAreCut, ended, lines};
 ghost use Rattle.sd_filter.specs.Pieces.{AnswersSplit};
-ghost use Rattle.sd_filter.specs.Inner.Sofar.{Answered, Failed, Sofar};
+ghost use Rattle.sd_filter.specs.Inner.Sofar.{Answered, Failed, HasRoom, IsReady, RoseWithin, Sofar};
 ghost use Rattle.sd_filter.specs.Outcome.{Outcome};
 
 use crate::device::{Drain, Source};
@@ -59,7 +59,7 @@ pub(crate) fn run_at_most<R: Source, W: Drain>(
     ensures job { desk.new.job ≡ desk.old.job }
     ensures entries { token.new.entries ≡ token.old.entries }
 {
-    desk.line.start();
+    desk.line.start(&desk.job);
     let mut report = Report {
         lines: 0,
         faults: 0,
@@ -92,17 +92,17 @@ fn answer_piece<W: Drain>(
     drain: &mut W,
     report: &mut Report,
 ) -> Result<(), SinkFault>
-    requires lines_fit { report.old.lines + length piece.now < 2 ^ 64 }
-    requires faults_fit { report.old.faults + length piece.now < 2 ^ 64 }
+    requires ready { IsReady desk.old.line }
+    requires room { HasRoom report.old (length piece.now) }
     ensures fed { (token0 : TokenShown) (sink0 : SinkTold) (got : List ℕ)
         → Sofar token0 sink0 got desk.old token.old (sink_of (W.told drain.old)) report.old
         → MatchResult result
         (λ _. Sofar token0 sink0 (got ++ piece.now) desk.new token.new (sink_of (W.told drain.new)) report.new)
         (λ _. Failed desk.new.job token0 sink0 (ended (got ++ piece.now)) token.new (sink_of (W.told drain.new))) }
     ensures handed_on { IsOk result → ((W.told drain.new ≡ W.told drain.old) × (report.new.lines ≡ report.old.lines)) ⊎ ((W.told drain.new).flushed ≡ true) }
+    ensures ready { IsOk result → IsReady desk.new.line }
     ensures job { desk.new.job ≡ desk.old.job }
-    ensures lines_within { report.new.lines ≤ report.old.lines + length piece.now }
-    ensures faults_within { report.new.faults ≤ report.old.faults + length piece.now }
+    ensures rose { RoseWithin (length piece.now) report.old report.new }
 {
     let a_line_ended = match feed_all(desk, piece, token, drain, report) {
         Ok(a_line_ended) => a_line_ended,
@@ -124,8 +124,8 @@ fn close<W: Drain>(
     drain: &mut W,
     report: &mut Report,
 ) -> Result<(), SinkFault>
-    requires lines_fit { report.old.lines + 1 < 2 ^ 64 }
-    requires faults_fit { report.old.faults + 1 < 2 ^ 64 }
+    requires ready { IsReady desk.old.line }
+    requires room { HasRoom report.old 1 }
     ensures closed { (token0 : TokenShown) (sink0 : SinkTold) (got : List ℕ)
         → Sofar token0 sink0 got desk.old token.old (sink_of (W.told drain.old)) report.old
         → MatchResult result

@@ -1,35 +1,53 @@
 -- A run in the middle: the line in hand, and what stands of the lines before it. Private contracts alone
 -- cite these words; they promise nothing to a caller.
-use Rattle.std.specs.Prelude.{◌≡◌, ◌<◌, ◌≤◌, ℕ, List, [], ◌∷◌, ◌++◌, length, Bool, true, false, Result, Ok, Err}
+use Rattle.std.specs.Prelude.{◌≡◌, ◌<◌, ◌≤◌, ℕ, ◌+◌, ◌-◌, ◌^◌, min, List, [], ◌∷◌, ◌++◌, length, Bool, true, false, Result, Ok, Err}
 use Rattle.std.specs.Io.KnownBytes.{Consumes, Appends}
+use Rattle.sd_filter.specs.Inner.Reading.{CanRead, HasRead, form_of}
 use Rattle.sd_filter.specs.Told.{SourceTold, DrainTold, sink_of}
 use Rattle.sd_core.specs.Token.{TokenShown}
 use Rattle.sd_sink.specs.Print.{PrintTold, Prints}
 use Rattle.sd_sink.specs.Sink.{SinkTold, PutAll, PutSome, IsPrefix}
 use Rattle.sd_sink.specs.declared.sink.SinkFault.{SinkFault}
 use Rattle.sd_sink.specs.Counts.{counted}
+use Rattle.sd_view.specs.Descriptor.{Descriptor}
+use Rattle.sd_view.specs.Reading.{reading}
 use Rattle.sd_filter.specs.Lines.{parts, ended, without_cr}
-use Rattle.sd_filter.specs.Answers.{answers, errors, bounds}
+use Rattle.sd_filter.specs.Answers.{answers, errors, bounds, line_limit, or_byte_fault}
 use Rattle.sd_filter.specs.Outcome.{Compares, HandedOn, RoseBy}
 use Rattle.sd_command.specs.declared.job.Job.{Job}
 use Rattle.sd_filter.specs.declared.engine.Desk.{Desk}
 use Rattle.sd_filter.specs.declared.engine.Report.{Report}
+use Rattle.sd_filter.specs.declared.fault.LineFault.{LineFault}
 use Rattle.sd_filter.specs.declared.line.Line.{Line}
 
--- what is held of a text: all of it, or only that it passes the limit
-pub record HoldsText (limit : ℕ) (held : List ℕ) (over : Bool) (text : List ℕ) : Type 0 where
-  pub whole : over ≡ false → held ≡ text
-  pub beyond : over ≡ true → limit < length text
+-- ---- the line in hand
+
+-- the reader of the line in hand may go on
+abbrev pub IsReady : Line → Type 0
+IsReady line = CanRead line.reader line.read
+
+-- the line in hand has this text: it was read whole, or it passes the limit
+pub record HoldsText (job : Job) (line : Line) (text : List ℕ) : Type 0 where
+  pub form : form_of line.reader ≡ job.source
+  pub counted : line.count ≡ min (length text) (2 ^ 64 - 1)
+  pub whole : length text ≤ line_limit job.source → HasRead line.reader line.read line.held job.domain text
 
 -- a CR that waits for the next byte
 abbrev pub pending : Bool → List ℕ
 pending true = 13 ∷ []
 pending false = []
 
--- what is held of the bytes since the last LF
-pub record Holds (line : Line) (raw : List ℕ) : Type 0 where
-  pub text : HoldsText line.limit line.held.items line.over (without_cr raw)
+-- the line in hand has the bytes since the last LF
+pub record Holds (job : Job) (line : Line) (raw : List ℕ) : Type 0 where
+  pub text : HoldsText job line (without_cr raw)
   pub waits : raw ≡ without_cr raw ++ pending line.cr
+
+-- the end of a line leaves the bytes of what it means, or there is none
+abbrev pub Leaves : Result Descriptor LineFault → Result (Unit {0}) LineFault → List ℕ → Type 0
+Leaves wanted (Ok x) bytes = wanted ≡ or_byte_fault (reading bytes)
+Leaves wanted (Err fault) bytes = wanted ≡ Err fault
+
+-- ---- its answer
 
 -- the answer and its LF were put, with whether it is an error; or a part of it was
 abbrev pub PutsAnswer : SinkTold → SinkTold → List ℕ → Bool → Result Bool SinkFault → Type 0
@@ -39,6 +57,14 @@ PutsAnswer old new text error (Err fault) = PutSome old new text
 -- the answer and its LF were printed, with whether it is an error
 abbrev pub PrintsAnswer : PrintTold → PrintTold → List ℕ → Bool → Bool → Type 0
 PrintsAnswer old new text error faulty = Prints old new text × (faulty ≡ error)
+
+-- n lines and n faults more may be counted
+abbrev pub HasRoom : Report → ℕ → Type 0
+HasRoom report n = (report.lines + n < 2 ^ 64) × (report.faults + n < 2 ^ 64)
+
+-- at most n lines and n faults more were counted
+abbrev pub RoseWithin : ℕ → Report → Report → Type 0
+RoseWithin n old new = (new.lines ≤ old.lines + n) × (new.faults ≤ old.faults + n)
 
 -- all of these lines are answered
 pub record Answered (job : Job) (token0 : TokenShown) (sink0 : SinkTold) (all : List (List ℕ)) (token : TokenShown) (sink : SinkTold) (report : Report) : Type 0 where
@@ -50,7 +76,7 @@ pub record Answered (job : Job) (token0 : TokenShown) (sink0 : SinkTold) (all : 
 
 -- after these bytes, the lines that an LF ended are answered, and what follows is held
 pub record Sofar (token0 : TokenShown) (sink0 : SinkTold) (got : List ℕ) (desk : Desk) (token : TokenShown) (sink : SinkTold) (report : Report) : Type 0 where
-  pub holds : Holds desk.line (parts got).rest
+  pub holds : Holds desk.job desk.line (parts got).rest
   pub answered : Answered desk.job token0 sink0 (ended got) token sink report
 
 -- the sink failed: some of these lines are answered whole, and of the answer to one more, or to none, a part

@@ -1,22 +1,26 @@
-use Rattle.std.proofs.Common.{◌/◌, ℕ, Ok, ap, arith, drop, length, refl}
-use Rattle.std.proofs.lemmas.List.{take_at}
-use Rattle.sd_binary.proofs.Decoded.{decoded-err, decoded-ok, spells-odd}
+use Rattle.std.proofs.Common.{◌≡◌, ◌≤◌, ◌∙◌, ◌+◌, ◌-◌, ◌/◌, ℕ, List, arith, drop, length, length-drop, refl, take}
+use Rattle.std.proofs.lemmas.List.{length-take-le}
+use Rattle.std.proofs.lemmas.Slice.{take-put_mid}
+use Rattle.sd_binary.proofs.Decoded.{decoded-err, decoded-ok}
 use Rattle.sd_binary.proofs.buffer.decode_hex.Goals as goal
 
-pub returns-then-text-eq1-clause-value : goal.returns-then-text-eq1-clause-value
-returns-then-text-eq1-clause-value c = rw (spells-odd c.args.text.now c.if-text-eq1.true) refl
+-- the part that is decoded into has a cell for each pair
+part-size : (at n : ℕ) (cells : List ℕ) → at + n ≤ length cells → length (take ((at + n) - at) (drop at cells)) ≡ n
+part-size at n cells room =
+    let left = length-drop at cells in
+    length-take-le ((at + n) - at) (drop at cells) (omega arith) ∙ omega arith
 
 pub returns-in-Ok-clause-value : goal.returns-in-Ok-clause-value
 returns-in-Ok-clause-value c =
-    let text = c.args.text.now in
-    let cells = c.args.cells.now in
+    let text = c.args.pairs.now in
     let n = length text / 2 in
     let out = c.decode_to_slice.new.out in
-    let done = decoded-ok text cells out n c.in-Ok.field-0 refl c.if-text-eq1.false (omega arith) c.decode_to_slice.auto.out c.in-Ok.ensures.value in
-    rw done.0 (ap (λ (k : ℕ). Ok k) done.1, take_at out (drop n cells) (length out) refl)
+    let size = part-size c.args.at n c.args.cells.now c.requires.room in
+    let done = decoded-ok text out _ c.in-Ok.field-0 c.requires.even size c.in-Ok.ensures.value in
+    rw done
+    (refl, take-put_mid c.args.at _ c.args.cells.now out (c.args.at + n) (omega (arith, size, c.decode_to_slice.auto.out)) (omega arith))
 
 pub returns-in-Err-clause-value : goal.returns-in-Err-clause-value
 returns-in-Err-clause-value c =
-    let text = c.args.text.now in
-    let n = length text / 2 in
-    rw (decoded-err text c.args.cells.now c.decode_to_slice.new.out n c.in-Err.field-0 refl c.if-text-eq1.false (omega arith) c.in-Err.ensures.value) refl
+    let size = part-size c.args.at (length c.args.pairs.now / 2) c.args.cells.now c.requires.room in
+    rw (decoded-err c.args.pairs.now c.decode_to_slice.new.out _ c.in-Err.field-0 c.requires.even size c.in-Err.ensures.value) refl

@@ -9,6 +9,7 @@ loop-turn-init g c = record {
   before = BeforeRead-start _ _ _ _ _ c.start.ensures.empty refl refl;
   job = refl;
   size = search rules;
+  ready = c.start.ensures.ready;
   lines_within = omega arith;
   faults_within = omega arith;
 }
@@ -27,8 +28,9 @@ loop-turn-preserved g c =
           fed (c.in-Ok-answer_piece.ensures.handed_on (search rules));
       job = c.answer_piece.ensures.job ∙ c.loop-turn.invariant.job;
       size = c.read.auto.buf ∙ c.loop-turn.invariant.size;
-      lines_within = omega (arith, c.answer_piece.ensures.lines_within);
-      faults_within = omega (arith, c.answer_piece.ensures.faults_within);
+      ready = c.in-Ok-answer_piece.ensures.ready (search rules);
+      lines_within = omega (arith, c.answer_piece.ensures.rose);
+      faults_within = omega (arith, c.answer_piece.ensures.rose);
     }
 
 pub returns-in-Err-clause-outcome : goal.returns-in-Err-clause-outcome

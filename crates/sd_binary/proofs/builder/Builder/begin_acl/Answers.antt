@@ -1,10 +1,10 @@
-use Rattle.std.proofs.Common.{refl}
+use Rattle.std.proofs.Common.{arith, refl}
 use Rattle.sd_binary.proofs.Building.{begin-builds, begin-room}
 use Rattle.sd_binary.proofs.InOrder.{begin-in-order}
 use Rattle.sd_binary.proofs.builder.Builder.begin_acl.Goals as goal
 
 pub append-requires : goal.append-requires
-append-requires c = begin-room _ _ c.args.which c.requires.0 c.requires.1 c.requires.2
+append-requires c = (omega arith, begin-room _ _ c.args.which c.requires.0 c.requires.1 c.requires.2)
 
 pub returns-clause-value : goal.returns-clause-value
 returns-clause-value c =

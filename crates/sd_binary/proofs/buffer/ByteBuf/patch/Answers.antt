@@ -1,7 +1,7 @@
 use Rattle.std.proofs.Common.{◌≡◌, ◌≤◌, ℕ, ◌+◌, ◌-◌, List, ◌++◌, length, take, drop, sym, ap, ◌∙◌, append_assoc, arith}
 use Rattle.std.proofs.Math.Seq.{take-add}
 use Rattle.std.proofs.lemmas.List.{drop-take, length-take-le, take-take, with_items_is}
-use Rattle.sd_binary.proofs.buffer.SdBuf.patch.Goals as goal
+use Rattle.sd_binary.proofs.buffer.ByteBuf.patch.Goals as goal
 
 -- the first k bytes that follow the place stay
 patched : (at n k : ℕ) (old new bytes : List ℕ) → take (at + n) new ≡ take at old ++ bytes → drop (at + n) new ≡ drop (at + n) old
@@ -19,7 +19,7 @@ held at n m old new bytes room front rest =
     rw e at (patched at n (m - (at + n)) old new bytes front rest)
 
 pub returns : goal.returns
-returns c =
+returns g c =
     let cells = c.self.inside.cells in
     let long : length c.args.self.now ≡ c.self.inside.held = ap length (sym c.self.view_is) ∙ length-take-le _ cells.items (omega arith) in
     let all : length c.place.new.cells ≡ cells.len = c.place.auto.cells ∙ ap length c.deref_mut.ensures.value ∙ sym cells.ok.0 in
