@@ -3,7 +3,7 @@
 //   REFUSE_AT=K            refuses the Kth allocation, and no other
 //   REFUSE_WHEN_READING=1  refuses every allocation from the first read of the standard input on
 //   REFUSE_TELL=FD         where it tells, one letter for each event: 'r' the first read of the standard
-//                          input, 'a' a refused allocation
+//                          input, 'l' an allocation of LARGE bytes or more, 'a' a refused allocation
 //
 // It includes nothing, so that a C compiler is enough to build it: no header of a C library is wanted.
 typedef __SIZE_TYPE__ size_t;
@@ -18,6 +18,7 @@ extern char *getenv(const char *name);
 extern long atol(const char *text);
 
 enum { OUT_OF_MEMORY = 12 };  // ENOMEM on Linux
+enum { LARGE = 131226 };      // the bytes of the largest descriptor
 
 static long refused_one;
 static int refuses_when_reading;
@@ -43,8 +44,10 @@ static void tell(char event) {
         __builtin_trap();
 }
 
-static int is_refused(void) {
+static int is_refused(size_t size) {
     allocations++;
+    if (size >= LARGE)
+        tell('l');
     if (allocations != refused_one && !(refuses_when_reading && is_reading))
         return 0;
     tell('a');
@@ -52,19 +55,19 @@ static int is_refused(void) {
 }
 
 void *malloc(size_t size) {
-    return is_refused() ? 0 : __libc_malloc(size);
+    return is_refused(size) ? 0 : __libc_malloc(size);
 }
 
 void *calloc(size_t count, size_t size) {
-    return is_refused() ? 0 : __libc_calloc(count, size);
+    return is_refused(count * size) ? 0 : __libc_calloc(count, size);
 }
 
 void *realloc(void *block, size_t size) {
-    return is_refused() ? 0 : __libc_realloc(block, size);
+    return is_refused(size) ? 0 : __libc_realloc(block, size);
 }
 
 void *memalign(size_t alignment, size_t size) {
-    return is_refused() ? 0 : __libc_memalign(alignment, size);
+    return is_refused(size) ? 0 : __libc_memalign(alignment, size);
 }
 
 void *aligned_alloc(size_t alignment, size_t size) {

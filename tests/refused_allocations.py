@@ -4,6 +4,7 @@
 Refuses the program's allocations, by a small library (refuse.c) that is preloaded under it.
 First each allocation of a few command lines in turn: the program says `sdtool: no memory`, ends with status 4, and has
 neither read nor written anything. One allocation of each may be dispensable: refused, it changes nothing.
+Where lines are read, three allocations are as large as a descriptor or larger, the engine's buffers: none is dispensable.
 Then every allocation from the first read on: there is none, so nothing changes.
 The last line is 'N passed, M failed'.
 """
@@ -39,6 +40,7 @@ FAULTY_ACLS = [WITH_DACL[:-2], WITH_DACL[:-40] + b"09" + ACE[2:], WITH_DACL[:-40
                b"01001480000000000000000014000000140000000200080000000000"]
 # The list of words is copied to a block that just fits; where there is no such block, it stays where it is.
 DISPENSABLE = 1
+ENGINE_BUFFERS = 3
 COMMAND_LINES = [
     ["convert"],
     ["convert", "--from", "hex", "--to=hex"],
@@ -137,19 +139,22 @@ def refuse_each(count, program, words, library):
     """Each allocation in turn, until there is none any more to refuse."""
     data = EMPTY + b"\n"
     shown = " ".join(["sdtool", *words])
-    plain, _ = run([program, *words], data, library)
-    dispensable = []
+    plain, plainly_told = run([program, *words], data, library)
+    buffers = ENGINE_BUFFERS if b"r" in plainly_told else 0
+    dispensable, large = [], 0
     for number in range(1, ALLOCATIONS):
         ended, told = run([program, *words], data, library, REFUSE_AT=number)
         if b"a" not in told:
             break
-        if ended == plain:
+        large += b"la" in told
+        if ended == plain and b"la" not in told:
             dispensable.append(number)
         else:
             count.add(ended == NO_MEMORY, f"{shown}, allocation {number} refused: {ended}")
     print(f"{shown}: {number - 1} allocations, each refused in turn; dispensable: {dispensable}")
     count.add(number > 1, f"{shown}: no allocation was seen; is the program linked with the C library as a shared one?")
     count.add(len(dispensable) <= DISPENSABLE, f"{shown}: more allocations are dispensable than {DISPENSABLE}")
+    count.add(large == buffers and plainly_told.count(b"l") == buffers, f"{shown}: {large} large allocations, not {buffers}")
     count.add(ended == plain, f"{shown}, none refused: {ended}, not {plain}")
 
 
@@ -160,7 +165,7 @@ def refuse_when_reading(count, program, words, lines, library):
     ended, told = run(command, data, library, REFUSE_WHEN_READING=1)
     count.add(plain.status == 1 and plain.taken == len(data), f"{shown}, plain run: {plain}")
     count.add(ended == plain, f"{shown}, every allocation refused from the first read on: {ended}, not {plain}")
-    count.add(told == b"r", f"{shown}, from the first read on the library told {told[:20]}, not only that read")
+    count.add(told == b"l" * ENGINE_BUFFERS + b"r", f"{shown}, the library told {told[:20]}, not the buffers and the read alone")
 
 
 def main():

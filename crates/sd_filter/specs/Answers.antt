@@ -28,6 +28,7 @@ use Rattle.sd_access.specs.declared.verdict.Verdict.TheVariants.{Denied, Granted
 use Rattle.sd_inherit.specs.Derived.{derive_fault, derived}
 use Rattle.sd_inherit.specs.declared.derivation.DeriveFault.{DeriveFault}
 use Rattle.sd_explain.specs.Explain.{explain}
+use Rattle.sd_rights.specs.Limits.{most_base64_text, most_hex_text, most_sddl_text}
 use Rattle.sd_rights.specs.Numbers.{hex_digits}
 use Rattle.sd_reader.specs.Meaning.{means}
 use Rattle.sd_sddl.specs.Printed.{sddl}
@@ -38,9 +39,9 @@ use Rattle.sd_filter.specs.Faults.{fault_text}
 
 -- the bytes that a line has at most, without its LF and a dropped CR
 abbrev pub line_limit : Form → ℕ
-line_limit form.Hex = 262452
-line_limit form.Base64 = 174968
-line_limit form.Sddl = 1049872
+line_limit form.Hex = most_hex_text
+line_limit form.Base64 = most_base64_text
+line_limit form.Sddl = most_sddl_text
 
 abbrev pub or_byte_fault : Result Descriptor SdFault → Result Descriptor LineFault
 or_byte_fault (Err fault) = Err (Sd fault)

@@ -118,6 +118,7 @@ impl Line {
         requires { IsReady self.old }
         ensures ready { IsReady self.new }
         ensures text { (job : Job) (text : List ℕ) → HoldsText job self.old text → HoldsText job self.new (text ++ bytes.now) }
+        ensures nothing_past { line_limit (form_of self.old.reader) < self.new.count → self.new ≡ record self.old { count = self.new.count } }
         ensures cr { self.new.cr ≡ self.old.cr }
     {
         self.count = self.count.saturating_add(bytes.len());

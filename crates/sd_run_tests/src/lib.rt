@@ -7,6 +7,8 @@ mod acts;
 #[cfg(test)]
 mod devices;
 #[cfg(test)]
+mod engines;
+#[cfg(test)]
 mod flushes;
 #[cfg(test)]
 mod lines;
