@@ -253,13 +253,13 @@ none-if (Some y) false e f = absurd cc
 pub rest-from : (text : List ℕ) (k : ℕ) → take (length text - k) (drop k text) ≡ drop k text
 rest-from text k = grind (arith, common_steps)
 
--- a byte and a run more were taken from what is left
-pub fed-more : (fed whole left after : List ℕ) (b n : ℕ) → left ≡ b ∷ after → fed ++ left ≡ whole
-    → ((fed ++ b ∷ []) ++ take n after) ++ drop n after ≡ whole
-fed-more fed whole left after b n is e =
-    append_assoc (fed ++ b ∷ []) (take n after) (drop n after)
-    ∙ (ap (λ (t : List ℕ). (fed ++ b ∷ []) ++ t) (take-append-drop n after)
-    ∙ (append_assoc fed (b ∷ []) after ∙ (ap (λ (t : List ℕ). fed ++ t) (sym is) ∙ e)))
+-- a byte was taken from what is left, then what ends before a rest, and of that a run
+pub fed-more : (fed next whole left after rest : List ℕ) (b n : ℕ) → left ≡ b ∷ after → fed ++ left ≡ whole
+    → next ++ rest ≡ (fed ++ b ∷ []) ++ after → (next ++ take n rest) ++ drop n rest ≡ whole
+fed-more fed next whole left after rest b n is e more =
+    append_assoc next (take n rest) (drop n rest)
+    ∙ (ap (λ (t : List ℕ). next ++ t) (take-append-drop n rest)
+    ∙ (more ∙ (append_assoc fed (b ∷ []) after ∙ (ap (λ (t : List ℕ). fed ++ t) (sym is) ∙ e))))
 
 pub fed-whole : (fed whole left : List ℕ) → length left ≡ 0 → fed ++ left ≡ whole → fed ≡ whole
 fed-whole fed whole [] is e = sym (append_nothing fed) ∙ e

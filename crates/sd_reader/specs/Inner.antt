@@ -3,3 +3,4 @@ pub mod FoldedReading
 pub mod Held
 pub mod Progress
 pub mod Reads
+pub mod WholeAce

@@ -7,6 +7,7 @@ mod field_texts;
 mod line;
 mod reader;
 mod reading;
+mod whole_ace;
 
 pub use fault::SddlFault;
 pub use reader::{SddlReader, read_sddl};

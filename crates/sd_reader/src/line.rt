@@ -1,16 +1,13 @@
 //! The parts of an SDDL line, and the states of its reader.
 
-ghost use Rattle.std.specs.Prelude.{◌≡◌, ◌≤◌, [], ◌∷◌, length, take, true};
+ghost use Rattle.std.specs.Prelude.{◌≡◌, ◌≤◌, length, take, true};
 ghost use Rattle.std.specs.List.{list_all};
 ghost use Rattle.sd_reader.specs.Inner.Held.{is_plain_inside, is_plain_outside};
 ghost use Rattle.sd_reader.specs.Line.{head_of, is_blank};
 ghost use Rattle.sd_reader.specs.Inner.FoldedReading.{next_field};
-ghost use Rattle.sd_reader.specs.Inner.Progress.{end_of, state_after, state_of};
+ghost use Rattle.sd_reader.specs.Inner.Progress.{state_of};
 
 use sd_binary::Which;
-
-/// The bytes of a text that are looked at at once.
-const BLOCK: usize = 16;
 
 /// A part that is a SID.
 #[derive(Clone, Copy)]
@@ -137,29 +134,6 @@ pub fn next_field(field: AceField) -> AceField
     }
 }
 
-/// Where a line goes on after this field of an ACE.
-pub fn state_after(field: AceField) -> State
-    ensures { result ≡ state_after field }
-{
-    match field {
-        AceField::Sid => State::AfterAce,
-        _ => State::Ace(next_field(field)),
-    }
-}
-
-/// Whether the byte at the front ends this field of an ACE.
-pub fn ends_field(field: AceField, text: &[u8]) -> bool
-    ensures { result ≡ true → take 1 text.now ≡ end_of field ∷ [] }
-{
-    let Some(byte) = text.first() else {
-        return false;
-    };
-    match field {
-        AceField::Sid => *byte == b')',
-        _ => *byte == b';',
-    }
-}
-
 /// A space or a tab.
 pub fn is_blank(byte: u8) -> bool
     ensures { result ≡ is_blank byte }
@@ -192,44 +166,6 @@ pub fn plain_inside(text: &[u8]) -> usize
         }
     }
     text.len()
-}
-
-/// The same at the front of a field of an ACE.
-pub fn plain_in_field(field: AceField, text: &[u8]) -> usize
-    ensures within { result ≤ length text.now }
-    ensures plain { list_all is_plain_inside (take result text.now) ≡ true }
-{
-    match field {
-        AceField::Sid => plain_inside_long(text),
-        _ => plain_inside(text),
-    }
-}
-
-// The same for a text that is long as a rule. Whole blocks are passed over, each in a few instructions.
-fn plain_inside_long(text: &[u8]) -> usize
-    ensures within { result ≤ length text.now }
-    ensures plain { list_all is_plain_inside (take result text.now) ≡ true }
-{
-    let mut start = 0;
-    while text.len() - start >= BLOCK && are_plain_inside(&text[start..start + BLOCK]) {
-        start += BLOCK;
-    }
-    start + plain_inside(&text[start..])
-}
-
-// Whether all bytes are such. It looks at all of them and at each in the same way, and so at several at a time.
-fn are_plain_inside(text: &[u8]) -> bool
-    ensures { result ≡ list_all is_plain_inside text.now }
-{
-    let mut other = false;
-    for byte in text {
-        other |= (*byte == b'(')
-            | (*byte == b')')
-            | (*byte == b';')
-            | (*byte == b' ')
-            | (*byte == b'\t');
-    }
-    !other
 }
 
 /// How many bytes at the front only go onto the text of a field outside parentheses.

@@ -6,24 +6,25 @@ ghost use Rattle.std.specs.Option.{option_copied};
 ghost use Rattle.sd_rights.specs.Limits.{most_field};
 ghost use Rattle.sd_core.specs.Sid.{IsSid, SecurityId};
 ghost use Rattle.sd_view.specs.Descriptor.{IsDescriptor, Shows};
-ghost use Rattle.sd_binary.specs.Draft.{IsWritten};
+ghost use Rattle.sd_binary.specs.Draft.{IsOpen, IsWritten};
 ghost use Rattle.sd_reader.specs.Inner.Held.{IsHeld, is_plain_inside, no_text, held_text};
 ghost use Rattle.sd_reader.specs.Line.{byte, head_at, head_of as head_named, pieces_from};
 ghost use Rattle.sd_reader.specs.Inner.FoldedReading.{FieldsRead, finished, reads_as, take_field};
 ghost use Rattle.sd_reader.specs.Meaning.{and_then, is_unreadable, means};
 ghost use Rattle.sd_reader.specs.Inner.Reads.{CanTake, HasRead, Takes};
-ghost use Rattle.sd_reader.specs.Inner.Progress.{end_of, ended_with, is_inside, is_seen, state_after, state_of, result_or, with_head};
+ghost use Rattle.sd_reader.specs.Inner.WholeAce.{AreWhole, ace_before, with_texts};
+ghost use Rattle.sd_reader.specs.Inner.Progress.{ended_with, is_inside, is_seen, state_of, result_or, with_head};
 
 use crate::fault::SddlFault;
 use crate::field_text::FieldText;
 use crate::line::{
-    AceField, Head, Seen, Slot, State, ends_field, head_of, is_blank, next_field, plain_in_field,
-    plain_inside, plain_outside, state_after, state_of,
+    AceField, Head, Seen, Slot, State, head_of, is_blank, next_field, plain_inside, plain_outside,
+    state_of,
 };
 use crate::reading::{FieldReader, fault_of};
+use crate::whole_ace::{AceTexts, whole_ace};
 use sd_binary::SdBuf;
 use sd_core::Sid;
-use sd_rights::MOST_FIELD_SIZE;
 
 /// A reader of one line, a byte at a time, beside the buffer in which the descriptor is built.
 #[derive(Drop)]
@@ -42,7 +43,7 @@ pub struct SddlReader {
 }
 
 impl SddlReader {
-    ghost use Rattle.sd_reader.specs.Inner.Reads.{Ends, HasRead, LineHasRead, IsCalm, IsReader, IsText, Reads, Steps, StepsOn, StepsText, answer_at, waiting};
+    ghost use Rattle.sd_reader.specs.Inner.Reads.{Ends, FedTo, HasRead, LineHasRead, IsCalm, IsReader, IsText, Reads, Steps, StepsOn, StepsText, answer_at, waiting};
 
     /// A reader that was fed nothing.
     pub fn new(domain: Option<Sid>, buf: &mut SdBuf) -> Self
@@ -317,73 +318,52 @@ impl SddlReader {
         let mut rest = bytes;
         while let Some((byte, after)) = rest.split_first() {
             self.feed(buf, *byte);
-            let fields = self.feed_fields(buf, after);
-            let run = self.feed_run(&after[fields..]);
-            rest = &after[fields + run..];
+            let left = self.feed_aces(buf, after);
+            let run = self.feed_run(left);
+            rest = &left[run..];
         }
     }
 
-    // Takes the fields of an ACE that stand whole at the front of the text, each with the byte that ends it, and says how
-    // many bytes they are.
-    fn feed_fields(&mut self, buf: &mut SdBuf, text: &[u8]) -> usize
+    // Takes the ACEs that stand whole at the front of the text, from behind the first parenthesis of the first one, and
+    // answers what follows them.
+    fn feed_aces<'a>(&mut self, buf: &mut SdBuf, text: &'a [u8]) -> &'a [u8]
         requires { IsReader self.old buf.old }
-        ensures within { result ≤ length text.now }
+        ensures shorter { length result.now ≤ length text.now }
         ensures reader { IsReader self.new buf.new }
         ensures read { (domain : Option SecurityId) (before : List ℕ) → Reads self.old buf.old domain before
-            → Reads self.new buf.new domain (before ++ take result text.now) }
+            → FedTo self.new buf.new domain result.now (before ++ text.now) }
     {
-        let mut count = 0;
-        loop {
-            let more = self.feed_field(buf, &text[count..]);
-            if more == 0 {
-                return count;
-            }
-            count += more;
-        }
-    }
-
-    // Takes one such field, which is read where it stands and not copied. 0 where none stands there whole.
-    fn feed_field(&mut self, buf: &mut SdBuf, text: &[u8]) -> usize
-        requires { IsReader self.old buf.old }
-        ensures within { result ≤ length text.now }
-        ensures reader { IsReader self.new buf.new }
-        ensures read { (domain : Option SecurityId) (before : List ℕ) → Reads self.old buf.old domain before
-            → Reads self.new buf.new domain (before ++ take result text.now) }
-    {
-        let State::Ace(field) = self.state else {
-            return 0;
+        let State::Ace(AceField::Kind) = self.state else {
+            return text;
         };
         if !self.sound || !self.field.is_empty() {
-            return 0;
+            return text;
         }
-        let count = plain_in_field(field, text);
-        if count > MOST_FIELD_SIZE || !ends_field(field, &text[count..]) {
-            return 0;
+        let mut rest = text;
+        while let Some((texts, after)) = whole_ace(rest) {
+            self.take_ace(buf, &texts);
+            match after.split_first() {
+                Some((b'(', next)) => rest = next,
+                _ => return after,
+            }
+            self.state = State::Ace(AceField::Kind);
         }
-        self.take_field(buf, field, &text[..count]);
-        count + 1
+        rest
     }
 
-    // A field of an ACE and the byte that ends it.
-    fn take_field(&mut self, buf: &mut SdBuf, field: AceField, text: &[u8])
-        requires here { self.old.state ≡ State.Ace field }
+    // The fields of an ACE and the parenthesis that ends it.
+    fn take_ace(&mut self, buf: &mut SdBuf, texts: &AceTexts<'_>)
+        requires here { self.old.state ≡ State.Ace AceField.Kind }
         requires begins { self.old.field ≡ no_text }
-        requires plain { list_all is_plain_inside text.now ≡ true }
-        requires fits { length text.now ≤ most_field }
+        requires whole { AreWhole texts.now }
         requires held { (t : FieldsRead) × LineHasRead self.old buf.old t }
-        ensures answers { Steps self.old buf.old (text.now ++ end_of field ∷ []) self.new buf.new }
-        ensures state { self.new.state ≡ state_after field }
+        ensures answers { Steps self.old buf.old (ace_before texts.now []) self.new buf.new }
+        ensures state { self.new.state ≡ State.AfterAce }
         ensures field { self.new.field ≡ no_text }
         ensures pending { self.new.pending ≡ self.old.pending }
     {
-        read_text(
-            &mut self.fault,
-            &mut self.fields,
-            buf,
-            Slot::Ace(field),
-            text,
-        );
-        self.state = state_after(field);
+        read_ace(&mut self.fault, &mut self.fields, buf, texts);
+        self.state = State::AfterAce;
     }
 
     // Takes the bytes at the front that only go onto the field at hand, all at once, and says how many they are.
@@ -523,24 +503,23 @@ fn take_held(
     }
 }
 
-// Reads a field, where each one before it read.
-fn read_text(
+// Reads the fields of an ACE, where each field before them read.
+fn read_ace(
     fault: &mut Option<SddlFault>,
     fields: &mut FieldReader,
     buf: &mut SdBuf,
-    slot: Slot,
-    text: &[u8],
+    texts: &AceTexts<'_>,
 )
-    requires clean { is_unreadable text.now ≡ false }
-    requires held { (t : FieldsRead) × (fault.old ≡ None → HasRead fields.old buf.old t × CanTake slot t) }
+    requires whole { AreWhole texts.now }
+    requires held { (t : FieldsRead) × (fault.old ≡ None → HasRead fields.old buf.old t × IsOpen t.parts) }
     ensures read { (t : FieldsRead) → (fault.old ≡ None → HasRead fields.old buf.old t) → (u : FieldsRead) × (fault.new ≡ None → HasRead fields.new buf.new u)
-        × (result_or u fault.new ≡ and_then (result_or t fault.old) (λ r. take_field fields.old.domain r slot text.now)) }
+        × (result_or u fault.new ≡ with_texts fields.old.domain texts.now (result_or t fault.old)) }
     ensures domain { fields.new.domain ≡ fields.old.domain }
 {
     if fault.is_some() {
         return;
     }
-    if let Err(found) = fields.take_readable(buf, slot, text) {
+    if let Err(found) = fields.take_ace(buf, texts) {
         *fault = Some(found);
     }
 }

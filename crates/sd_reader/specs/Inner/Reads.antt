@@ -148,3 +148,7 @@ abbrev pub Reads : SddlReader → List ℕ → Option SecurityId → List ℕ �
 Reads s buf domain text =
     (t : FieldsRead) × LineHasRead s buf t
     × ((rest : List ℕ) → answer_at s t (waiting s.pending ++ rest) ≡ reads_as domain (text ++ rest))
+
+-- they have read the line but for this rest of it
+abbrev pub FedTo : SddlReader → List ℕ → Option SecurityId → List ℕ → List ℕ → Type 0
+FedTo s buf domain rest line = (fed : List ℕ) × Reads s buf domain fed × (fed ++ rest ≡ line)

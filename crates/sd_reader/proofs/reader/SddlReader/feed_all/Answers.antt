@@ -1,23 +1,21 @@
-use Rattle.std.proofs.Common.{◌+◌, [], ◌∷◌, ◌++◌, take}
+use Rattle.std.proofs.Common.{[], ◌∷◌, ◌++◌, take}
 use Rattle.sd_reader.proofs.Runs.{fed-more, fed-whole, rest-from}
-use Rattle.sd_reader.proofs.WholeFields.{reads-more}
 use Rattle.sd_reader.proofs.reader.SddlReader.feed_all.Goals as goal
 
 pub loop-byte-preserved : goal.loop-byte-preserved
 loop-byte-preserved c = record {
-  reader = c.feed_run-run.ensures.reader _ c.feed_fields-fields.ensures.reader;
+  reader = c.feed_run-run.ensures.reader _ c.feed_aces-left.ensures.reader;
   read = λ domain text h.
       let e = c.loop-byte.invariant.read domain text h in
       let fed = e.0 ++ c.in-Some.byte.now ∷ [] in
-      let after = c.in-Some.after.now in
-      let fields = c.feed_fields-fields.result in
-      let run = c.feed_run-run.result in
-      let f = c.feed_fields-fields.ensures.read domain fed (c.feed.ensures.read domain e.0 e.1) in (
-        fed ++ take (fields + run) after,
-        reads-more _ _ domain fed after fields run
-            (c.feed_run-run.ensures.read _ domain (fed ++ take fields after) c.feed_fields-fields.ensures.reader f),
-        rw (rest-from after (fields + run))
-            (fed-more e.0 _ c.loop-byte.rest.now after c.in-Some.byte.now (fields + run) c.in-Some.ensures.cases.0 e.2),
+      let f = c.feed_aces-left.ensures.read domain fed (c.feed.ensures.read domain e.0 e.1) in
+      let left = c.feed_aces-left.result.now in
+      let run = c.feed_run-run.result in (
+        f.0 ++ take run left,
+        c.feed_run-run.ensures.read _ domain f.0 c.feed_aces-left.ensures.reader f.1,
+        rw (rest-from left run)
+            (fed-more e.0 f.0 _ c.loop-byte.rest.now c.in-Some.after.now left c.in-Some.byte.now run
+            c.in-Some.ensures.cases.0 e.2 f.2),
       );
 }
 

@@ -3,7 +3,7 @@ use Rattle.std.specs.List.{list_all}
 use Rattle.sd_reader.specs.Inner.Held.{is_plain_inside}
 use Rattle.sd_reader.proofs.Runs.{rest-from}
 use Rattle.sd_reader.proofs.WholeFields.{plain-more}
-use Rattle.sd_reader.proofs.line.plain_inside_long.Goals as goal
+use Rattle.sd_reader.proofs.whole_ace.plain_inside_long.Goals as goal
 
 pub loop-start-preserved : goal.loop-start-preserved
 loop-start-preserved c =

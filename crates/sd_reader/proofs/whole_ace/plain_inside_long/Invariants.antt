@@ -1,7 +1,7 @@
 use Rattle.std.proofs.Common.{◌≡◌, ◌≤◌, ◌-◌, length, take, true}
 use Rattle.std.specs.List.{list_all}
 use Rattle.sd_reader.specs.Inner.Held.{is_plain_inside}
-use Rattle.sd_reader.proofs.line.plain_inside_long.Given as goal
+use Rattle.sd_reader.proofs.whole_ace.plain_inside_long.Given as goal
 
 abbrev pub invariant-loop-start : goal.invariant-loop-start
 invariant-loop-start l = record {
