@@ -6,7 +6,7 @@ use Rattle.sd_view.specs.Descriptor.{Descriptor, Shows}
 use Rattle.sd_view.specs.Reading.{reading}
 use Rattle.sd_view.specs.declared.fault.SdFault.{SdFault}
 use Rattle.sd_view.proofs.ReadLaws.{reading-ok, shows-fault}
-use Rattle.sd_reader.specs.Inner.Reads.{Reads}
+use Rattle.sd_reader.specs.SddlReading.{ReadsSddl}
 use Rattle.sd_reader.specs.Meaning.{means}
 use Rattle.sd_reader.specs.declared.fault.SddlFault.{SddlFault}
 use Rattle.sd_reader.specs.declared.reader.SddlReader.{SddlReader}
@@ -46,11 +46,11 @@ sddl_leaves (Err e) (Err f) (Err g) bytes h is = let same = h.0 in cc
 pub sddl-leaves : (job : Job) (line : Line) (s : SddlReader) (text : List ℕ) (r : Result (Unit {0}) SddlFault)
     (x : Result (Unit {0}) LineFault) (bytes : List ℕ) → HoldsText job line text → length text ≤ line_limit job.source
     → line.reader ≡ reader.Sddl s
-    → ((domain : Option SecurityId) (text : List ℕ) → Reads s line.read domain text
+    → ((domain : Option SecurityId) (text : List ℕ) → ReadsSddl s line.read domain text
     → MatchResult (means text domain) (λ d. (r ≡ Ok tt) × Shows bytes d) (λ e. (r ≡ Err e) × (bytes ≡ [])))
     → MatchResult r (λ y. x ≡ Ok y) (λ e. IsErrAnd x (λ f. f ≡ Sddl e))
     → Leaves (text_means job.source job.domain text) x bytes
 sddl-leaves job line s text r x bytes h within is finishes mapped =
-    let reads : Reads s line.read job.domain text =
+    let reads : ReadsSddl s line.read job.domain text =
     subst (λ (q : LineReader). HasRead q line.read line.held job.domain text) is (h.whole within) in
     rw (sym h.form, is) (sddl_leaves (means text job.domain) r x bytes (finishes job.domain text reads) mapped)

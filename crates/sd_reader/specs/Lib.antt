@@ -2,3 +2,4 @@ pub mod FieldTexts
 pub mod Inner
 pub mod Line
 pub mod Meaning
+pub mod SddlReading

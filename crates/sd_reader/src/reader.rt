@@ -43,12 +43,13 @@ pub struct SddlReader {
 }
 
 impl SddlReader {
+    ghost use Rattle.sd_reader.specs.SddlReading.{IsReading, ReadsSddl};
     ghost use Rattle.sd_reader.specs.Inner.Reads.{Ends, FedTo, HasRead, LineHasRead, IsCalm, IsReader, IsText, Reads, Steps, StepsOn, StepsText, answer_at, waiting};
 
     /// A reader that was fed nothing.
     pub fn new(domain: Option<Sid>, buf: &mut SdBuf) -> Self
-        ensures reader { IsReader result buf.new }
-        ensures read { Reads result buf.new domain [] }
+        ensures reader { IsReading result buf.new }
+        ensures read { ReadsSddl result buf.new domain [] }
     {
         SddlReader {
             state: State::Before,
@@ -293,9 +294,9 @@ impl SddlReader {
 
     /// Takes one byte more of the line.
     pub fn feed(&mut self, buf: &mut SdBuf, byte: u8)
-        requires { IsReader self.old buf.old }
-        ensures reader { IsReader self.new buf.new }
-        ensures read { (domain : Option SecurityId) (text : List ℕ) → Reads self.old buf.old domain text → Reads self.new buf.new domain (text ++ byte ∷ []) }
+        requires { IsReading self.old buf.old }
+        ensures reader { IsReading self.new buf.new }
+        ensures read { (domain : Option SecurityId) (text : List ℕ) → ReadsSddl self.old buf.old domain text → ReadsSddl self.new buf.new domain (text ++ byte ∷ []) }
     {
         if !self.sound {
             return;
@@ -311,9 +312,9 @@ impl SddlReader {
 
     /// Takes bytes more of the line.
     pub fn feed_all(&mut self, buf: &mut SdBuf, bytes: &[u8])
-        requires { IsReader self.old buf.old }
-        ensures reader { IsReader self.new buf.new }
-        ensures read { (domain : Option SecurityId) (text : List ℕ) → Reads self.old buf.old domain text → Reads self.new buf.new domain (text ++ bytes.now) }
+        requires { IsReading self.old buf.old }
+        ensures reader { IsReading self.new buf.new }
+        ensures read { (domain : Option SecurityId) (text : List ℕ) → ReadsSddl self.old buf.old domain text → ReadsSddl self.new buf.new domain (text ++ bytes.now) }
     {
         let mut rest = bytes;
         while let Some((byte, after)) = rest.split_first() {
@@ -390,12 +391,12 @@ impl SddlReader {
 
     /// The end of the line: the buffer holds what it means, or nothing where it has a fault.
     pub fn finish(mut self, buf: &mut SdBuf) -> Result<(), SddlFault>
-        requires { IsReader self buf.old }
-        ensures exact { (domain : Option SecurityId) (text : List ℕ) → Reads self buf.old domain text → MatchResult (means text domain)
+        requires { IsReading self buf.old }
+        ensures exact { (domain : Option SecurityId) (text : List ℕ) → ReadsSddl self buf.old domain text → MatchResult (means text domain)
             (λ d. (result ≡ Ok tt) × Shows buf.new d)
             (λ e. (result ≡ Err e) × (buf.new ≡ [])) }
         // Without gaps, and each part in its one written form.
-        ensures written { (domain : Option SecurityId) (text : List ℕ) → Reads self buf.old domain text → IfOk (means text domain) (IsWritten buf.new) }
+        ensures written { (domain : Option SecurityId) (text : List ℕ) → ReadsSddl self buf.old domain text → IfOk (means text domain) (IsWritten buf.new) }
     {
         if let Some(letter) = self.pending {
             self.put_text(letter);

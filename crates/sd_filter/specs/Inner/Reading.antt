@@ -2,7 +2,7 @@
 use Rattle.std.specs.Prelude.{◌≡◌, ℕ, List, Option}
 use Rattle.sd_core.specs.Sid.{SecurityId}
 use Rattle.sd_binary.specs.HexReading.{ReadsHex}
-use Rattle.sd_reader.specs.Inner.Reads.{IsReader, Reads}
+use Rattle.sd_reader.specs.SddlReading.{IsReading, ReadsSddl}
 use Rattle.sd_command.specs.declared.job.Form.{Form}
 use Rattle.sd_command.specs.declared.job.Form.TheVariants as form
 use Rattle.sd_filter.specs.declared.line.LineReader.{LineReader}
@@ -18,10 +18,10 @@ form_of (reader.Sddl r) = form.Sddl
 abbrev pub CanRead : LineReader → List ℕ → Type 0
 CanRead (reader.Hex r) read = Unit {0}
 CanRead reader.Base64 read = Unit {0}
-CanRead (reader.Sddl r) read = IsReader r read
+CanRead (reader.Sddl r) read = IsReading r read
 
 -- a reader and what stands beside it, the buffer and what is held, have read this text
 abbrev pub HasRead : LineReader → List ℕ → List ℕ → Option SecurityId → List ℕ → Type 0
 HasRead (reader.Hex r) read held domain text = ReadsHex r read text
 HasRead reader.Base64 read held domain text = held ≡ text
-HasRead (reader.Sddl r) read held domain text = Reads r read domain text
+HasRead (reader.Sddl r) read held domain text = ReadsSddl r read domain text
