@@ -1,5 +1,6 @@
 -- What the line in hand has after more bytes.
-use Rattle.std.proofs.Common.{◌≡◌, ℕ, List, [], ◌∷◌, ◌++◌, Bool, true, false, ◌==◌, cond, refl, sym, ap, append-nil, append_assoc, rules}
+use Rattle.std.proofs.Common.{◌≡◌, ℕ, List, [], ◌∷◌, ◌++◌, Bool, true, false, ◌==◌, cond, refl, sym, ap, append-nil}
+use Rattle.std.proofs.Common.{append_assoc, rules}
 use Rattle.sd_filter.specs.Lines.{without_cr}
 use Rattle.sd_filter.specs.Inner.Reading.{HasRead, form_of}
 use Rattle.sd_filter.specs.Inner.Sofar.{HoldsText, Holds}
@@ -36,17 +37,18 @@ eq_false : (b : ℕ) → (b ≡ 13 → ⊥) → (b == 13) ≡ false
 eq_false b h = search rules
 
 -- bytes by the last of them: a CR waits
-pub Holds-last_cr : (job : Job) (line : Line) (raw bytes front : List ℕ) (last : ℕ) → bytes ≡ front ++ last ∷ [] → last ≡ 13
-    → line.cr ≡ true → HoldsText job line (raw ++ front) → Holds job line (raw ++ bytes)
+pub Holds-last_cr : (job : Job) (line : Line) (raw bytes front : List ℕ) (last : ℕ) → bytes ≡ front ++ last ∷ []
+    → last ≡ 13 → line.cr ≡ true → HoldsText job line (raw ++ front) → Holds job line (raw ++ bytes)
 Holds-last_cr job line raw bytes front last e is cr h =
     let same : raw ++ bytes ≡ (raw ++ front) ++ 13 ∷ [] = rw (e, is) (sym (append_assoc raw front (13 ∷ []))) in
     let kept : without_cr ((raw ++ front) ++ 13 ∷ []) ≡ raw ++ front = without_cr-push_cr (raw ++ front) in
     rw same (record { text = rw kept h; waits = rw (kept, cr) refl })
 
 -- any other byte is one of the line
-pub Holds-last : (job : Job) (line : Line) (raw bytes front : List ℕ) (last : ℕ) → bytes ≡ front ++ last ∷ [] → (last ≡ 13 → ⊥)
-    → line.cr ≡ false → HoldsText job line (raw ++ bytes) → Holds job line (raw ++ bytes)
+pub Holds-last : (job : Job) (line : Line) (raw bytes front : List ℕ) (last : ℕ) → bytes ≡ front ++ last ∷ []
+    → (last ≡ 13 → ⊥) → line.cr ≡ false → HoldsText job line (raw ++ bytes) → Holds job line (raw ++ bytes)
 Holds-last job line raw bytes front last e ne no_cr h =
     let same : raw ++ bytes ≡ (raw ++ front) ++ last ∷ [] = rw e (sym (append_assoc raw front (last ∷ []))) in
-    let kept : without_cr (raw ++ bytes) ≡ raw ++ bytes = rw same (without_cr-push (raw ++ front) last (eq_false last ne)) in
+    let kept : without_cr (raw ++ bytes) ≡ raw ++ bytes =
+    rw same (without_cr-push (raw ++ front) last (eq_false last ne)) in
     record { text = rw kept h; waits = rw (kept, no_cr) (sym (append-nil _)) }

@@ -1,5 +1,6 @@
 -- What a line means, case by case, and what is answered to it.
-use Rattle.std.proofs.Common.{◌≡◌, ◌≢◌, ◌≤◌, ◌<◌, ℕ, List, [], ◌∷◌, Bool, length, Option, Some, Result, Ok, Err, refl, sym, ◌∙◌, ap, arith}
+use Rattle.std.proofs.Common.{◌≡◌, ◌≢◌, ◌≤◌, ◌<◌, ℕ, List, [], ◌∷◌, Bool, length, Option, Some, Result, Ok, Err, refl}
+use Rattle.std.proofs.Common.{sym, ◌∙◌, ap, arith}
 use Rattle.std.proofs.lemmas.Bool.Decides.{nat_tests}
 use Rattle.sd_core.specs.Sid.{SecurityId}
 use Rattle.sd_core.specs.Token.{Entry, TokenShown}
@@ -7,7 +8,8 @@ use Rattle.sd_sink.specs.Print.{Begins, Finishes, PrintTold}
 use Rattle.sd_sink.specs.Sink.{SinkTold, PutSome}
 use Rattle.sd_sink.specs.declared.sink.SinkFault.{SinkFault}
 use Rattle.sd_view.specs.Descriptor.{Descriptor}
-use Rattle.sd_filter.specs.Answers.{Meaning, answer, bound, bound_of_meaning, is_error, is_error_of_meaning, line_limit, line_means, meaning, text_means, text_of_meaning}
+use Rattle.sd_filter.specs.Answers.{Meaning, answer, bound, bound_of_meaning, is_error, is_error_of_meaning, line_limit}
+use Rattle.sd_filter.specs.Answers.{line_means, meaning, text_means, text_of_meaning}
 use Rattle.sd_filter.specs.Outcome.{Compares}
 use Rattle.sd_filter.specs.Inner.Sofar.{PrintsAnswer, PutsAnswer}
 use Rattle.sd_sink.proofs.PrintLemmas.{printed}
@@ -62,13 +64,17 @@ meaning-some job [] h = absurd (omega arith)
 meaning-some job (b ∷ line) h = refl
 
 -- a line over its limit
-pub meaning-over : (job : Job) (line : List ℕ) → line_limit job.source < length line → meaning job line ≡ Some (Err TooLong)
+pub meaning-over : (job : Job) (line : List ℕ) → line_limit job.source < length line
+    → meaning job line ≡ Some (Err TooLong)
 meaning-over job line beyond =
-    meaning-some job line (omega arith) ∙ ap (λ (m : Result Descriptor LineFault). Some m) (line_means-over job.source job.domain line beyond)
+    meaning-some job line (omega arith)
+    ∙ ap (λ (m : Result Descriptor LineFault). Some m) (line_means-over job.source job.domain line beyond)
 
 -- any other line that is not empty
-pub meaning-text : (job : Job) (line : List ℕ) (m : Result Descriptor LineFault) → line ≢ [] → length line ≤ line_limit job.source
+pub meaning-text : (job : Job) (line : List ℕ) (m : Result Descriptor LineFault) → line ≢ []
+    → length line ≤ line_limit job.source
     → m ≡ text_means job.source job.domain line → meaning job line ≡ Some m
 meaning-text job [] m some within e = absurd (some refl)
 meaning-text job (b ∷ line) m some within e =
-    ap (λ (m : Result Descriptor LineFault). Some m) (line_means-within job.source job.domain (b ∷ line) within ∙ sym e)
+    ap (λ (m : Result Descriptor LineFault). Some m)
+    (line_means-within job.source job.domain (b ∷ line) within ∙ sym e)

@@ -34,7 +34,8 @@ reading-shown bytes d h =
     reading-ok bytes s.0 ∙ ap (λ (x : Descriptor). let r : Result Descriptor SdFault = Ok x in r) s.1
 
 -- what a reader of SDDL leaves
-sddl_leaves : (m : Result Descriptor SddlFault) (r : Result (Unit {0}) SddlFault) (x : Result (Unit {0}) LineFault) (bytes : List ℕ)
+sddl_leaves : (m : Result Descriptor SddlFault) (r : Result (Unit {0}) SddlFault)
+    (x : Result (Unit {0}) LineFault) (bytes : List ℕ)
     → MatchResult m (λ d. (r ≡ Ok tt) × Shows bytes d) (λ e. (r ≡ Err e) × (bytes ≡ []))
     → MatchResult r (λ y. x ≡ Ok y) (λ e. IsErrAnd x (λ f. f ≡ Sddl e)) → Leaves (or_sddl_fault m) x bytes
 sddl_leaves (Ok d) (Ok y) x bytes h is = rw is (sym (ap or_byte_fault (reading-shown bytes d h.1)))

@@ -1,5 +1,6 @@
 -- A run after one line more, and after more bytes.
-use Rattle.std.proofs.Common.{◌≡◌, ◌≢◌, ℕ, ◌+◌, ◌-◌, ◌<◌, ◌≤◌, List, [], ◌∷◌, ◌++◌, Bool, true, false, cond, length, refl, sym, ◌∙◌, ap, subst, arith, append_assoc, append-nil, take, drop, get_or}
+use Rattle.std.proofs.Common.{◌≡◌, ◌≢◌, ℕ, ◌+◌, ◌-◌, ◌<◌, ◌≤◌, List, [], ◌∷◌, ◌++◌, Bool, true, false, cond, length}
+use Rattle.std.proofs.Common.{refl, sym, ◌∙◌, ap, subst, arith, append_assoc, append-nil, take, drop, get_or}
 use Rattle.std.proofs.lemmas.List.{length_push, take_more, take-append-drop, take_rest, length-drop, get_or-drop}
 use Rattle.std.proofs.Math.Seq.{take-add}
 use Rattle.std.proofs.KnownBytes.{Appends-trans}
@@ -88,7 +89,8 @@ Failed-more job token0 token sink0 sink all more h = record {
 
 -- nothing was read
 pub Sofar-nil : (token0 : TokenShown) (sink0 : SinkTold) (desk : Desk) (report : Report)
-    → Holds desk.job desk.line [] → report.lines ≡ 0 → report.faults ≡ 0 → Sofar token0 sink0 [] desk token0 sink0 report
+    → Holds desk.job desk.line [] → report.lines ≡ 0 → report.faults ≡ 0
+    → Sofar token0 sink0 [] desk token0 sink0 report
 unfolding parts ended answers errors bounds
 Sofar-nil token0 sink0 desk report h no_lines no_faults = record {
   holds = h;

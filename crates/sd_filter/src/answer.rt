@@ -1,7 +1,8 @@
 // The answer to one line.
 ghost use Rattle.std.specs.Prelude.{◌≡◌, ℕ, List, ◌++◌, [], ◌∷◌, length, true, is_some, Ok, Err};
 ghost use Rattle.sd_sink.specs.Print.{Prints};
-ghost use Rattle.sd_filter.specs.Answers.{act_bound, act_fault, act_text, answer, as_line_fault, bound, form_text, is_error, naming_of, unless_fault, verdict_text};
+ghost use Rattle.sd_filter.specs.Answers.{act_bound, act_fault, act_text, answer, as_line_fault, bound, form_text};
+ghost use Rattle.sd_filter.specs.Answers.{is_error, naming_of, unless_fault, verdict_text};
 ghost use Rattle.sd_explain.specs.Explain.{explain};
 ghost use Rattle.sd_filter.specs.Faults.{fault_text};
 ghost use Rattle.sd_filter.specs.Outcome.{Compares};
@@ -34,7 +35,8 @@ pub fn put_answer<W: Drain>(
 ) -> Result<bool, SinkFault>
     requires { IsReady line.old }
     ensures put { (text : List ℕ) → HoldsText job.now line.old text
-        → PutsAnswer (sink_of (W.told drain.old)) (sink_of (W.told drain.new)) (answer job.now token.old.entries text) (is_error job.now text) result }
+        → PutsAnswer (sink_of (W.told drain.old)) (sink_of (W.told drain.new))
+        (answer job.now token.old.entries text) (is_error job.now text) result }
     ensures entries { token.new.entries ≡ token.old.entries }
     ensures compared { (text : List ℕ) → HoldsText job.now line.old text
         → Compares token.old token.new (bound job.now token.old.entries text) }
@@ -53,7 +55,8 @@ fn put_gathered<S: Sink>(
 ) -> Result<bool, SinkFault>
     requires { IsReady line.old }
     ensures put { (text : List ℕ) → HoldsText job.now line.old text
-        → PutsAnswer (S.told sink.old) (S.told sink.new) (answer job.now token.old.entries text) (is_error job.now text) result }
+        → PutsAnswer (S.told sink.old) (S.told sink.new)
+        (answer job.now token.old.entries text) (is_error job.now text) result }
     ensures entries { token.new.entries ≡ token.old.entries }
     ensures compared { (text : List ℕ) → HoldsText job.now line.old text
         → Compares token.old token.new (bound job.now token.old.entries text) }
@@ -76,7 +79,8 @@ fn print_answer<P: Print>(
 ) -> bool
     requires { IsReady line.old }
     ensures printed { (text : List ℕ) → HoldsText job.now line.old text
-        → PrintsAnswer (P.told out.old) (P.told out.new) (answer job.now token.old.entries text) (is_error job.now text) result }
+        → PrintsAnswer (P.told out.old) (P.told out.new)
+        (answer job.now token.old.entries text) (is_error job.now text) result }
     ensures entries { token.new.entries ≡ token.old.entries }
     ensures compared { (text : List ℕ) → HoldsText job.now line.old text
         → Compares token.old token.new (bound job.now token.old.entries text) }

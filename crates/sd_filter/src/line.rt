@@ -117,8 +117,10 @@ impl Line {
     fn feed(&mut self, bytes: &[u8])
         requires { IsReady self.old }
         ensures ready { IsReady self.new }
-        ensures text { (job : Job) (text : List ℕ) → HoldsText job self.old text → HoldsText job self.new (text ++ bytes.now) }
-        ensures nothing_past { line_limit (form_of self.old.reader) < self.new.count → self.new ≡ record self.old { count = self.new.count } }
+        ensures text { (job : Job) (text : List ℕ) → HoldsText job self.old text
+            → HoldsText job self.new (text ++ bytes.now) }
+        ensures nothing_past { line_limit (form_of self.old.reader) < self.new.count
+            → self.new ≡ record self.old { count = self.new.count } }
         ensures cr { self.new.cr ≡ self.old.cr }
     {
         self.count = self.count.saturating_add(bytes.len());
@@ -154,7 +156,8 @@ impl Line {
     pub fn is_too_long(&self) -> bool
         ensures value { result ≡ nat_lt (line_limit (form_of self.now.reader)) self.now.count }
         ensures meaning { (job : Job) (text : List ℕ) → HoldsText job self.now text
-            → (result ≡ true → line_limit job.source < length text) × (result ≡ false → length text ≤ line_limit job.source) }
+            → (result ≡ true → line_limit job.source < length text)
+            × (result ≡ false → length text ≤ line_limit job.source) }
     {
         self.count > self.reader.limit()
     }

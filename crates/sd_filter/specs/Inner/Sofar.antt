@@ -1,6 +1,7 @@
 -- A run in the middle: the line in hand, and what stands of the lines before it. Private contracts alone
 -- cite these words; they promise nothing to a caller.
-use Rattle.std.specs.Prelude.{◌≡◌, ◌<◌, ◌≤◌, ℕ, ◌+◌, ◌-◌, ◌^◌, min, List, [], ◌∷◌, ◌++◌, length, Bool, true, false, Result, Ok, Err}
+use Rattle.std.specs.Prelude.{◌≡◌, ◌<◌, ◌≤◌, ℕ, ◌+◌, ◌-◌, ◌^◌, min, List, [], ◌∷◌, ◌++◌, length, Bool, true, false}
+use Rattle.std.specs.Prelude.{Result, Ok, Err}
 use Rattle.std.specs.Io.KnownBytes.{Consumes, Appends}
 use Rattle.sd_filter.specs.Inner.Reading.{CanRead, HasRead, form_of}
 use Rattle.sd_filter.specs.Told.{SourceTold, DrainTold, sink_of}

@@ -2,7 +2,8 @@ use Rattle.std.proofs.Common.{sym, ◌∙◌, arith, refl, ◌+◌, ◌-◌, tak
 use Rattle.std.proofs.lemmas.Grind.{common_steps}
 use Rattle.std.proofs.lemmas.Result.{err_from_is_err_and}
 use Rattle.sd_filter.proofs.PartsLemmas.{NoLf}
-use Rattle.sd_filter.proofs.SofarLemmas.{Failed-in, Failed-line, found_in, Sofar-line, Sofar-more, fed_line, fed_rest, line_in}
+use Rattle.sd_filter.proofs.SofarLemmas.{Failed-in, Failed-line, Sofar-line, Sofar-more}
+use Rattle.sd_filter.proofs.SofarLemmas.{fed_line, fed_rest, found_in, line_in}
 use Rattle.sd_filter.proofs.feed.feed_all.Goals as goal
 
 pub loop-n-preserved : goal.loop-n-preserved
@@ -19,7 +20,9 @@ loop-n-preserved g c =
           let before = c.loop-n.invariant.sofar token0 sink0 got h in
           rw (sym (fed_line got piece start n found.0 found.1), sym (line_in piece start n))
           (Sofar-line token0 _ sink0 _ _ _ _ _ none
-          (rw c.answer_line.ensures.job (c.in_ok-answer_line.ensures.answered token0 sink0 _ _ (c.take.ensures.holds _ _ before.holds).text before.answered))
+          (rw c.answer_line.ensures.job
+          (c.in_ok-answer_line.ensures.answered token0 sink0 _ _ (c.take.ensures.holds _ _ before.holds).text
+          before.answered))
           (rw c.answer_line.ensures.job (c.in_ok-answer_line.ensures.begun refl)));
       quiet = λ none. absurd (omega arith);
       job = c.answer_line.ensures.job ∙ c.loop-n.invariant.job;
@@ -38,10 +41,12 @@ returns-in_err-answer_line-clause-fed g c = λ token0 sink0 got h.
     rw (p.1, c.answer_line.ensures.job)
     (Failed-in _ token0 _ sink0 _ got piece start n found.0 found.1
     (rw (line_in piece start n) at (Failed-line _ token0 _ sink0 _ _ _ none
-    (c.in_err-answer_line.ensures.answered token0 sink0 _ _ (c.take.ensures.holds _ _ before.holds).text before.answered))))
+    (c.in_err-answer_line.ensures.answered token0 sink0 _ _ (c.take.ensures.holds _ _ before.holds).text
+    before.answered))))
 
 pub returns-clause-fed : goal.returns-clause-fed
 returns-clause-fed g c = λ token0 sink0 got h.
     let sofar = c.loop-n.invariant.sofar token0 sink0 got h in
     rw (sym (fed_rest got c.args.piece.now c.loop-n.start))
-    (Sofar-more token0 _ sink0 _ _ _ _ _ _ c.in_default.ensures.before sofar refl (c.take-2.ensures.holds _ _ sofar.holds))
+    (Sofar-more token0 _ sink0 _ _ _ _ _ _ c.in_default.ensures.before sofar refl
+    (c.take-2.ensures.holds _ _ sofar.holds))

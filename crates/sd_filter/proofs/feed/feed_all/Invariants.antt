@@ -12,7 +12,8 @@ invariant-loop-n g l = record {
   sofar : (token0 : TokenShown) (sink0 : SinkTold) (got : List ℕ)
       → Sofar token0 sink0 got l.fn.desk l.fn.token (sink_of (g.W.Drain.told l.fn.drain)) l.fn.report
       → Sofar token0 sink0 (got ++ take l.start l.piece) l.desk l.token (sink_of (g.W.Drain.told l.drain)) l.report;
-  quiet : l.start ≡ 0 → (g.W.Drain.told l.drain ≡ g.W.Drain.told l.fn.drain) × (l.report.lines ≡ l.fn.report.lines);
+  quiet : l.start ≡ 0
+      → (g.W.Drain.told l.drain ≡ g.W.Drain.told l.fn.drain) × (l.report.lines ≡ l.fn.report.lines);
   job : l.desk.job ≡ l.fn.desk.job;
   rose : RoseWithin l.start l.fn.report l.report;
 }
