@@ -1,6 +1,7 @@
 -- A decimal number, digit by digit from the left.
-use Rattle.std.proofs.Common.{◌-◌, drop, lt-ltb, ◌≡◌, ℕ, ◌+◌, ◌*◌, ◌^◌, ◌<◌, ◌≤◌, length, take, get_or, Bool, true, false, ◌&&◌, List, [], ◌∷◌, ◌++◌, Option, Some, None, refl, ap, sym, ◌∙◌, arith}
-use Rattle.std.specs.Prelude.{nat_lt, nat_le, if◌then◌else◌}
+use Rattle.std.proofs.Common.{◌-◌, add-one, drop, lt-ltb, ◌≡◌, ℕ, ◌+◌, ◌*◌, ◌^◌, ◌<◌, ◌≤◌, length, take, get_or, Bool, true, false, ◌&&◌, List, [], ◌∷◌, ◌++◌, Option, Some, None, refl, ap, sym, ◌∙◌, arith}
+use Rattle.std.specs.Prelude.{◌==◌, nat_lt, nat_le, if◌then◌else◌}
+use Rattle.std.proofs.Math.Nat.{pow-suc}
 use Rattle.std.specs.Option.{option_and_then}
 use Rattle.std.specs.Char.{digit_value, is_digit}
 use Rattle.std.specs.List.{list_all}
@@ -55,6 +56,20 @@ all_taken n xs h = grind (arith, common_steps)
 
 pub digit_is : (b c : ℕ) → b ≡ c → digit_value b < 10 → is_digit c 10 ≡ true
 digit_is b c e h = rw (← e) (lt-ltb (digit_value b) 10 h)
+
+-- no digit is a dash
+pub digit_no_dash : (b : ℕ) → is_digit b 10 ≡ true → (b == 45) ≡ false
+digit_no_dash b digit = by_test (b == 45) refl
+  where
+    by_test : (x : Bool) → (b == 45) ≡ x → (b == 45) ≡ false
+    by_test false e = e
+    by_test true e =
+        let is : b ≡ 45 = grind (arith, nat_tests) in
+        absurd (let no : false ≡ true = (rw is at digit) in cc)
+
+-- one digit more
+pub below_more : (i n d : ℕ) → n < 10 ^ i → d < 10 → n * 10 + d < 10 ^ (i + 1)
+below_more i n d small few = rw (add-one, pow-suc 10 i) (omega arith)
 
 -- a text that begins as a SID's, with what is read of the rest of it
 pub usual-is : (text : List ℕ) (r : Option SecurityId) → length text ≤ 183 → begins_with_s1 text ≡ true

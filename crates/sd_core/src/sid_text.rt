@@ -1,5 +1,5 @@
 //! The texts of SIDs (MS-DTYP 2.4.2.1).
-ghost use Rattle.std.specs.Prelude.{◌≡◌, false, true, [], ◌+◌, ◌*◌, ◌<◌, ◌≤◌, ◌^◌, ◌++◌, length, take, drop, IfSome, MatchOption, Option, None, Ok};
+ghost use Rattle.std.specs.Prelude.{◌≡◌, false, true, [], ◌+◌, ◌*◌, ◌<◌, ◌≤◌, ◌^◌, ◌++◌, length, take, drop, if◌then◌else◌, IfSome, MatchOption, Option, None, Ok, Err};
 ghost use Rattle.std.specs.Char.{is_digit};
 ghost use Rattle.std.specs.List.{flat_map, list_all};
 ghost use Rattle.std.specs.Option.{option_copied, option_map};
@@ -8,7 +8,7 @@ ghost use Rattle.sd_sink.specs.Print.{Prints};
 ghost use Rattle.sd_sink.specs.Sink.{Puts};
 ghost use Rattle.sd_rights.specs.Limits.{most_subs};
 ghost use Rattle.sd_rights.specs.Numbers.{number};
-ghost use Rattle.sd_core.specs.SidText.{all_pieces, all_read, are_letters, are_numbers, are_subs, authority_reads, authority_text, begins_with_s1, decimal_reads, has_form, is_decimal, is_hex, is_sid_byte, numbers_read, pieces, sid_reads, sid_text, sub_text};
+ghost use Rattle.sd_core.specs.SidText.{all_pieces, all_read, are_letters, are_numbers, are_subs, authority_reads, authority_text, begins_with_s1, decimal_reads, has_form, is_decimal, is_hex, is_sid_byte, numbers_read, or_number_fault, pieces, sid_reads, sid_text, sub_text};
 
 use crate::alias::read_letters;
 use crate::sid::Sid;
@@ -71,14 +71,22 @@ impl Sid {
         if are_letters(text) {
             return read_letters(text[0], text[1], domain);
         }
-        if let Some(sid) = read_usual(text) {
-            return Ok(sid);
+        match read_usual(text) {
+            Some(sid) => Ok(sid),
+            None => read_any(text),
         }
-        if !has_form(text) {
-            return Err(SidFault::SidForm);
-        }
-        read_numbers(&text[4..]).ok_or(SidFault::Number)
     }
+}
+
+// The SID of a text that is no name, as any may be written. Apart, since few come here, and others need not its room.
+#[inline(never)]
+fn read_any(text: &[u8]) -> Result<Sid, SidFault>
+    ensures { result ≡ (if has_form text.now then or_number_fault (numbers_read (pieces (drop 4 text.now))) else Err SidFault.SidForm) }
+{
+    if !has_form(text) {
+        return Err(SidFault::SidForm);
+    }
+    read_numbers(&text[4..]).ok_or(SidFault::Number)
 }
 
 // Decimal below 2^32, and else twelve hex digits.

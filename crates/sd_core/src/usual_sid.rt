@@ -7,6 +7,9 @@ use crate::sid::Sid;
 use crate::sid_text::begins_with_s1;
 use sd_rights::{MOST_FIELD_SIZE, MOST_SUBS};
 
+/// The digits that a decimal number has at most.
+const MOST_DIGITS: usize = 10;
+
 /// The SID of a text, where its authority and its sub-authorities are decimal and below 2^32. None says nothing of
 /// the text.
 pub(crate) fn read_usual(text: &[u8]) -> Option<Sid>
@@ -59,21 +62,19 @@ fn front_number(text: &[u8]) -> Option<(u32, Option<&[u8]>)>
         (λ rest. pieces text.now ≡ record { first = first; others = all_pieces (pieces rest.now) })) }
     ensures shorter { IfSome result (λ r. MatchOption r.1 (0 ≤ 0) (λ rest. length rest.now < length text.now)) }
 {
+    // No number has more digits, and so no more are looked at.
+    let end = text.len().min(MOST_DIGITS + 1);
     let mut number: u64 = 0;
-    for (i, byte) in text.iter().enumerate() {
-        if *byte == b'-' {
-            if i == 0 || i > 10 {
+    for i in 0..end {
+        let Some(digit) = char::from(text[i]).to_digit(10) else {
+            if text[i] != b'-' || i == 0 || number >= 1 << 32 {
                 return None;
             }
             return Some((number as u32, Some(&text[i + 1..])));
-        }
-        let digit = char::from(*byte).to_digit(10)?;
+        };
         number = number * 10 + u64::from(digit);
-        if number >= 1 << 32 {
-            return None;
-        }
     }
-    if text.is_empty() || text.len() > 10 {
+    if end == 0 || end > MOST_DIGITS || number >= 1 << 32 {
         return None;
     }
     Some((number as u32, None))

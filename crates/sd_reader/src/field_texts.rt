@@ -1,6 +1,7 @@
 //! The texts of fields that stand in SDDL alone (MS-DTYP 2.5.1.1).
 
-ghost use Rattle.std.specs.Prelude.{◌≡◌, ◌≤◌, length, List, ℕ, Some, None, IfSome};
+ghost use Rattle.std.specs.Prelude.{◌≡◌, ◌≤◌, length, if◌then◌else◌, List, ℕ, Some, None, IfSome};
+ghost use Rattle.sd_core.specs.GuidText.{guid_reads};
 ghost use Rattle.std.specs.Str.{str_eq_ignore_ascii_case};
 ghost use Rattle.sd_rights.specs.Kinds.{is_object};
 ghost use Rattle.sd_view.specs.Control.{no_flags};
@@ -31,6 +32,7 @@ fn is_same(first: &[u8], second: &[u8]) -> bool
 
 /// The object type, or the inherited object type, of an ACE of this kind: nothing for an empty text, and else a GUID,
 /// which stands in object kinds alone.
+#[inline(always)]
 #[tactic(auto, unfolding(crate::specs::FieldTexts::object_reads))]
 pub fn object_from_text(kind: AceKind, text: &[u8]) -> Option<Option<Uuid>>
     ensures { result ≡ object_reads kind text.now }
@@ -38,10 +40,18 @@ pub fn object_from_text(kind: AceKind, text: &[u8]) -> Option<Option<Uuid>>
     if text.is_empty() {
         return Some(None);
     }
+    guid_of_kind(kind, text).map(Some)
+}
+
+// The GUID of a text that is not empty. Apart, since most texts are empty.
+#[inline(never)]
+fn guid_of_kind(kind: AceKind, text: &[u8]) -> Option<Uuid>
+    ensures { result ≡ (if is_object kind then guid_reads text.now else None) }
+{
     if !kind.is_object() {
         return None;
     }
-    guid_from_text(text).map(Some)
+    guid_from_text(text)
 }
 
 /// What stands in an ACL before its ACEs: flags, and `NO_ACCESS_CONTROL` where the ACL is null.

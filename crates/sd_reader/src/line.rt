@@ -145,17 +145,26 @@ pub fn is_blank(byte: u8) -> bool
 fn is_plain_inside(byte: u8) -> bool
     ensures { result ≡ is_plain_inside byte }
 {
-    !(byte == b'(' || byte == b')' || byte == b';' || is_blank(byte))
+    // Digits, dashes and letters are told by these two tests.
+    if byte > b')' {
+        return byte != b';';
+    }
+    !(byte == b'(' || byte == b')' || is_blank(byte))
 }
 
 /// A byte that only goes onto the text of a field outside parentheses.
 fn is_plain_outside(byte: u8) -> bool
     ensures { result ≡ is_plain_outside byte }
 {
+    // Of a SID most bytes are digits.
+    if byte.is_ascii_digit() {
+        return true;
+    }
     is_plain_inside(byte) && byte != b':' && head_of(byte).is_none()
 }
 
 /// How many bytes at the front only go onto the text of a field inside parentheses.
+#[inline(never)]
 pub fn plain_inside(text: &[u8]) -> usize
     ensures within { result ≤ length text.now }
     ensures plain { list_all is_plain_inside (take result text.now) ≡ true }

@@ -6,6 +6,6 @@ use Rattle.sd_core.proofs.usual_sid.front_number.Given as goal
 abbrev pub invariant-loop-i : goal.invariant-loop-i
 invariant-loop-i l = record {
   cuts : CutsFrom l.text l.i;
-  small : l.number < 2 ^ 32;
+  small : l.number < 10 ^ l.i;
   digits : number_after 10 0 (take l.i l.text) ≡ Some l.number;
 }
