@@ -38,7 +38,7 @@ pub struct ByteBuf<const MOST: usize> {
 /// The bytes of a descriptor, at most 131,226.
 pub type SdBuf = ByteBuf<CAPACITY>;
 
-/// A text of at most 174,968 characters: what base64 spells of the largest descriptor.
+/// A line of base64, of at most 174,968 characters.
 pub type TextBuf = ByteBuf<MOST_BASE64_TEXT>;
 
 impl<const MOST: usize> Model for ByteBuf<MOST> {
