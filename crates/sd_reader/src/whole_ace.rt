@@ -31,8 +31,8 @@ pub fn whole_ace(text: &[u8]) -> Option<(AceTexts<'_>, &[u8])>
     let (kind, rest) = cut(text, plain_inside(text), b';')?;
     let (flags, rest) = cut(rest, plain_inside(rest), b';')?;
     let (rights, rest) = cut(rest, plain_inside(rest), b';')?;
-    let (object, rest) = cut(rest, plain_inside(rest), b';')?;
-    let (inherited, rest) = cut(rest, plain_inside(rest), b';')?;
+    let (object, rest) = cut_guid(rest)?;
+    let (inherited, rest) = cut_guid(rest)?;
     let (sid, rest) = cut(rest, plain_inside_long(rest), b')')?;
     let texts = AceTexts {
         kind,
@@ -43,6 +43,17 @@ pub fn whole_ace(text: &[u8]) -> Option<(AceTexts<'_>, &[u8])>
         sid,
     };
     Some((texts, rest))
+}
+
+// The field of an object type, and what follows its semicolon. Most have no text, which one byte tells.
+#[inline(always)]
+fn cut_guid(text: &[u8]) -> Option<(&[u8], &[u8])>
+    ensures { IfSome result (λ r. IsWhole r.0.now × (text.now ≡ r.0.now ++ 59 ∷ r.1.now)) }
+{
+    match text.split_first() {
+        Some((b';', after)) => Some((&[], after)),
+        _ => cut(text, plain_inside_long(text), b';'),
+    }
 }
 
 // The field of so many bytes at the front, and what follows the byte that ends it.
