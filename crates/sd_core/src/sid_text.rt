@@ -54,9 +54,18 @@ impl Sid {
         ensures put { Prints (P.told out.old) (P.told out.new) (sid_text self.now) }
         ensures limits { IsSid self.now }
     {
-        out.put(b"S-1-");
-        print_authority(self.authority(), out);
-        print_subs(self.subs(), out);
+        match (self.authority(), self.subs()) {
+            // Most SIDs are of a domain.
+            (5, [21, rest @ ..]) => {
+                out.put(b"S-1-5-21");
+                print_subs(rest, out);
+            }
+            (authority, subs) => {
+                out.put(b"S-1-");
+                print_authority(authority, out);
+                print_subs(subs, out);
+            }
+        }
     }
 
     /// The SID of a text. Two letters are an alias, in either case, some of them under the domain, which

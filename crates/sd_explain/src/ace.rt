@@ -1,7 +1,8 @@
 // The line of an ACE (MS-DTYP 2.4.4).
-ghost use Rattle.std.specs.Prelude.{◌≡◌, ◌/◌, ◌%◌};
+ghost use Rattle.std.specs.Prelude.{◌≡◌, ◌/◌, ◌%◌, ◌++◌, codes};
 ghost use Rattle.sd_sink.specs.Print.{Prints};
 ghost use Rattle.sd_rights.specs.Flags.{flags_text};
+ghost use Rattle.sd_rights.specs.Kinds.{kind_letters};
 ghost use Rattle.sd_explain.specs.Explain.{ace_head, ace_line, ace_rights, ace_trustee, guid_words, or_none};
 
 use crate::sid::print_sid;
@@ -35,8 +36,18 @@ fn print_head<P: Print>(part: &[u8], number: u32, kind: AceKind, out: &mut P)
 {
     out.put(part);
     print_decimal(number, out);
-    out.put(b" ");
-    out.put(kind.letters());
+    print_kind(kind, out);
+}
+
+// A blank and the letters of a kind.
+fn print_kind<P: Print>(kind: AceKind, out: &mut P)
+    ensures { Prints (P.told out.old) (P.told out.new) (codes " " ++ kind_letters kind) }
+{
+    let letters = kind.letters();
+    if letters.len() == 1 {
+        return out.put(&[b' ', letters[0]]);
+    }
+    out.put(&[b' ', letters[0], letters[1]]);
 }
 
 // The flags, and the access mask as a number and as rights.
@@ -63,7 +74,8 @@ fn print_flags_or_none<P: Print>(flags: u8, out: &mut P)
     print_flags(flags, out);
 }
 
-// An object type or an inherited object type behind its name, where there is one.
+// An object type or an inherited object type behind its name, where there is one. Most ACEs have none.
+#[inline(always)]
 fn print_object<P: Print>(name: &[u8], guid: Option<Uuid>, out: &mut P)
     ensures { Prints (P.told out.old) (P.told out.new) (guid_words name.now guid) }
 {

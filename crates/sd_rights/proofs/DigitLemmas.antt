@@ -1,13 +1,13 @@
 -- The texts of numbers, from the last digit to the first.
-use Rattle.std.proofs.Common.{◌≡◌, ◌≤◌, ◌<◌, ℕ, List, suc, false, ◌-◌, ◌+◌, ◌/◌, ◌%◌, ◌^◌, [], ◌∷◌, ◌++◌, length, take, drop, slice_set, ap, sym, refl, ◌∙◌, arith, append_assoc, append-nil, length-append, length-set}
+use Rattle.std.proofs.Common.{◌≡◌, ◌≤◌, ◌<◌, ℕ, List, zero, suc, false, true, Bool, ◌&&◌, get_or, eqb-true, eq-zero-or-pos, inl, inr, ◌-◌, ◌+◌, ◌*◌, ◌/◌, ◌%◌, ◌^◌, [], ◌∷◌, ◌++◌, length, take, drop, slice_set, ap, sym, refl, ◌∙◌, arith, append_assoc, append-nil, length-append}
 use Rattle.std.proofs.Math.Seq.{take-append_seam}
 use Rattle.std.proofs.lemmas.List.{drop-set, take-take}
 use Rattle.std.specs.Fmt.{decimal, digit_glyph}
+use Rattle.std.specs.Prelude.{◌==◌}
+use Rattle.sd_rights.proofs.Bools.{both}
+use Rattle.sd_rights.specs.declared.digits.TheConstants.{PAIRS}
 use Rattle.sd_rights.specs.Numbers.{hex_digits}
 use Rattle.std.proofs.lemmas.Fmt.{decimal_digit, decimal_step}
-
-pub length-decimal-step : (n : ℕ) → 10 ≤ n → n < 2 ^ 64 → length (decimal n) ≡ length (decimal (n / 10)) + 1
-length-decimal-step n large small = ap length (decimal_step n large small) ∙ length-append (decimal (n / 10)) ((48 + n % 10) ∷ [])
 
 pub length-digit : (n : ℕ) → n < 10 → length (decimal n) ≡ 1
 length-digit n small = ap length (decimal_digit n small)
@@ -28,18 +28,46 @@ pub length-decimal-pair : (n : ℕ) → 100 ≤ n → n < 2 ^ 64 → length (dec
 length-decimal-pair n large small =
     ap length (sym (append-nil (decimal n)) ∙ decimal-pair n [] large small) ∙ length-append (decimal (n / 100)) _
 
--- the two cells before a place, when they are written
-pub drop-two : (cells : List ℕ) (at x y : ℕ) → 2 ≤ at → at ≤ length cells
-    → drop (at - 2) (slice_set (slice_set cells (at - 1) y) (at - 2) x) ≡ x ∷ y ∷ drop at cells
-drop-two cells at x y some within =
-    let last : at - 1 + 1 ≡ at = omega arith in
-    let first : at - 2 + 1 ≡ at - 1 = omega arith in
-    rw (
-      drop-set (slice_set cells (at - 1) y) (at - 2) x (omega (arith, length-set cells (at - 1) y)),
-      first,
-      drop-set cells (at - 1) y (omega arith),
-      last,
-    ) refl
+-- the last four digits
+pub decimal-four : (n : ℕ) (rest : List ℕ) → 10000 ≤ n → n < 2 ^ 64
+    → decimal n ++ rest
+    ≡ decimal (n / 10000) ++ (48 + n % 10000 / 100 / 10) ∷ (48 + n % 10000 / 100 % 10)
+    ∷ (48 + n % 10000 % 100 / 10) ∷ (48 + n % 10000 % 100 % 10) ∷ rest
+decimal-four n rest large small =
+    let far : n / 100 / 100 ≡ n / 10000 = omega arith in
+    let high : n / 100 % 100 ≡ n % 10000 / 100 = omega arith in
+    let low : n % 10000 % 100 ≡ n % 100 = omega arith in
+    rw (decimal-pair n rest (omega arith) small, decimal-pair (n / 100) _ (omega arith) (omega arith), far, high, low)
+    refl
+
+pub length-decimal-four : (n : ℕ) → 10000 ≤ n → n < 2 ^ 64 → length (decimal n) ≡ length (decimal (n / 10000)) + 4
+length-decimal-four n large small =
+    ap length (sym (append-nil (decimal n)) ∙ decimal-four n [] large small) ∙ length-append (decimal (n / 10000)) _
+
+pub length-two : (n : ℕ) → 10 ≤ n → n < 100 → length (decimal n) ≡ 2
+length-two n large small = ap length (decimal-two n large small)
+
+-- the table of pairs holds the digits of each number below 100
+are_pairs : ℕ → Bool
+are_pairs zero = true
+are_pairs (suc p) =
+    (get_or PAIRS (2 * p) 0 == 48 + p / 10 && get_or PAIRS (2 * p + 1) 0 == 48 + p % 10) && are_pairs p
+
+below : (n p : ℕ) → are_pairs n ≡ true → p < n
+    → (get_or PAIRS (2 * p) 0 ≡ 48 + p / 10) × (get_or PAIRS (2 * p + 1) 0 ≡ 48 + p % 10)
+unfolding are_pairs
+below zero p all h = absurd (omega arith)
+below (suc n) p all h =
+    let parts = both _ (are_pairs n) all in
+    let here = both (get_or PAIRS (2 * n) 0 == 48 + n / 10) _ parts.0 in
+    elim (eq-zero-or-pos (n - p)) [
+      | inl z ↦ let e : p ≡ n = omega arith in rw e (eqb-true _ _ here.0, eqb-true _ _ here.1)
+      | inr g ↦ below n p parts.1 (omega arith)
+    ]
+
+pub pair-at : (p : ℕ) → p < 100 → (get_or PAIRS (2 * p) 0 ≡ 48 + p / 10) × (get_or PAIRS (2 * p + 1) 0 ≡ 48 + p % 10)
+unfolding are_pairs
+pair-at p small = below 100 p refl small
 
 -- a character that is written before the digits which end at 11
 pub behind : (character start : ℕ) (text cells rest : List ℕ) → 1 ≤ start → start + length text ≡ 11 → start ≤ length cells

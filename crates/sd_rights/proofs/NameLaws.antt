@@ -1,14 +1,16 @@
 -- The bits of a table's names, one entry after another.
-use Rattle.std.proofs.Common.{◌≡◌, ◌≤◌, ℕ, ◌+◌, ◌*◌, ◌<◌, Bool, true, false, List, [], ◌∷◌, ◌++◌, length, drop, get_or, bit_and, bit_or, Some, None, Bor, arith, sym, ap, ◌∙◌, refl, eq-eqb, eqb-true, ne_eqb}
+use Rattle.std.proofs.Common.{◌≡◌, ◌≤◌, ℕ, zero, suc, ◌+◌, ◌*◌, ◌^◌, ◌<◌, Bool, true, false, List, [], ◌∷◌, ◌++◌, length, drop, get_or, bit_and, bit_or, Some, None, Bor, arith, sym, ap, ◌∙◌, refl, eq-eqb, eqb-true, ne_eqb}
 use Rattle.std.specs.Prelude.{Option, IfSome, ◌==◌, ◌&&◌, if◌then◌else◌}
 use Rattle.std.specs.Char.{to_ascii_uppercase}
+use Rattle.std.specs.Int.{bit_at}
 use Rattle.std.specs.List.{flat_map, list_all}
 use Rattle.std.specs.Option.{option_or}
 use Rattle.std.proofs.lemmas.List.{at_drop_more}
-use Rattle.std.proofs.lemmas.Nat.{or_comm}
+use Rattle.std.proofs.lemmas.Nat.{or_comm, pow_pos}
+use Rattle.std.proofs.lemmas.Nat.Bits.{and_pow, bit_at-lt}
 use Rattle.sd_rights.specs.declared.names.NamedBits.{NamedBits}
 use Rattle.sd_rights.specs.Names.{bits_named, joined, run_of, names_of, named_bits}
-use Rattle.sd_rights.proofs.Bits.{or_assoc, or_zero}
+use Rattle.sd_rights.proofs.Bits.{and_or, and_zero, or_assoc, or_zero, zero_or}
 
 with_name : (e : NamedBits) (es : List NamedBits) (mask : ℕ) → (bit_and mask e.bits ≡ 0 → ⊥) → named_bits (e ∷ es) mask ≡ bit_or e.bits (named_bits es mask)
 with_name e es mask h = ap (λ (b : Bool). if b then named_bits es mask else bit_or e.bits (named_bits es mask)) (ne_eqb _ 0 h)
@@ -16,15 +18,39 @@ with_name e es mask h = ap (λ (b : Bool). if b then named_bits es mask else bit
 without_name : (e : NamedBits) (es : List NamedBits) (mask : ℕ) → bit_and mask e.bits ≡ 0 → named_bits (e ∷ es) mask ≡ named_bits es mask
 without_name e es mask h = ap (λ (b : Bool). if b then named_bits es mask else bit_or e.bits (named_bits es mask)) (eq-eqb _ 0 h)
 
-pub named_bits-more : (table : List NamedBits) (mask i bits : ℕ) (d : NamedBits) → i < length table → (bit_and mask (get_or table i d).bits ≡ 0 → ⊥)
-    → bit_or (bit_or bits (get_or table i d).bits) (named_bits (drop (i + 1) table) mask) ≡ bit_or bits (named_bits (drop i table) mask)
-named_bits-more table mask i bits d within h =
-    or_assoc bits (get_or table i d).bits (named_bits (drop (i + 1) table) mask) ∙ ap (bit_or bits) (sym (at_drop_more (λ (t : List NamedBits). named_bits t mask) table i d within ∙ with_name (get_or table i d) (drop (i + 1) table) mask h))
+-- each name stands for one bit
+abbrev pub AreSingle : List NamedBits → Type 0
+AreSingle [] = Unit {0}
+AreSingle (e ∷ es) = ((k : ℕ) × (e.bits ≡ 2 ^ k)) × AreSingle es
 
-pub named_bits-same : (table : List NamedBits) (mask i bits : ℕ) (d : NamedBits) → i < length table → bit_and mask (get_or table i d).bits ≡ 0
-    → bit_or bits (named_bits (drop (i + 1) table) mask) ≡ bit_or bits (named_bits (drop i table) mask)
-named_bits-same table mask i bits d within h =
-    ap (bit_or bits) (sym (at_drop_more (λ (t : List NamedBits). named_bits t mask) table i d within ∙ without_name (get_or table i d) (drop (i + 1) table) mask h))
+abbrev pub all_bits : List NamedBits → ℕ
+all_bits [] = 0
+all_bits (e ∷ es) = bit_or e.bits (all_bits es)
+
+-- then the bits that are named are those that a mask shares with all of them
+pub named_bits-single : (es : List NamedBits) (mask : ℕ) → AreSingle es
+    → named_bits es mask ≡ bit_and mask (all_bits es)
+named_bits-single [] mask h = sym (and_zero mask)
+named_bits-single (e ∷ es) mask h =
+    sym (and_or mask e.bits (all_bits es)
+    ∙ ap (bit_or (bit_and mask e.bits)) (sym (named_bits-single es mask h.1))
+    ∙ by_bit (bit_at mask h.0.0) refl (bit_at-lt mask h.0.0))
+  where
+    shared : bit_and mask e.bits ≡ bit_at mask h.0.0 * e.bits
+    shared = ap (bit_and mask) h.0.1 ∙ and_pow mask h.0.0 ∙ ap (λ (n : ℕ). bit_at mask h.0.0 * n) (sym h.0.1)
+
+    by_bit : (b : ℕ) → bit_at mask h.0.0 ≡ b → b < 2
+        → bit_or (bit_and mask e.bits) (named_bits es mask) ≡ named_bits (e ∷ es) mask
+    by_bit zero at small =
+        let none : bit_and mask e.bits ≡ 0 = shared ∙ ap (λ (n : ℕ). n * e.bits) at ∙ omega arith in
+        ap (λ (n : ℕ). bit_or n (named_bits es mask)) none ∙ zero_or (named_bits es mask)
+        ∙ sym (without_name e es mask none)
+    by_bit (suc zero) at small =
+        let all : bit_and mask e.bits ≡ e.bits = shared ∙ ap (λ (n : ℕ). n * e.bits) at ∙ omega arith in
+        let some : 0 < e.bits = omega (arith, pow_pos h.0.0, h.0.1) in
+        ap (λ (n : ℕ). bit_or n (named_bits es mask)) all
+        ∙ sym (with_name e es mask (λ (none : bit_and mask e.bits ≡ 0). omega arith))
+    by_bit (suc (suc b)) at small = absurd (omega arith)
 
 -- What names read as.
 

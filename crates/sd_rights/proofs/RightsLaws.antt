@@ -11,10 +11,10 @@ use Rattle.sd_rights.specs.Names.{run_of, names_of, named_bits}
 use Rattle.sd_rights.specs.Rights.{all_rights, number, short_rights_reads, rights_reads, is_label, hex_text, names_or_hex, name_or, rights_text}
 use Rattle.sd_rights.specs.declared.kinds.AceKind.{AceKind}
 use Rattle.sd_rights.specs.declared.names.NamedBits.{NamedBits}
-use Rattle.sd_rights.specs.declared.rights_table.TheConstants.{SINGLES, COMPOUNDS, LABELS}
+use Rattle.sd_rights.specs.declared.rights_table.TheConstants.{SINGLES, SINGLE_BITS, COMPOUNDS, LABELS, LABEL_BITS}
 use Rattle.sd_rights.proofs.Bits.{or_zero}
 use Rattle.sd_rights.proofs.HexDigits.{length-digits}
-use Rattle.sd_rights.proofs.NameLaws.{reads_in, reads_in-rule, run-names, length-names, and_first, and_second}
+use Rattle.sd_rights.proofs.NameLaws.{AreSingle, named_bits-single, reads_in, reads_in-rule, run-names, length-names, and_first, and_second}
 
 -- 1. The test of a table, and the rule at its entries.
 
@@ -53,6 +53,56 @@ not_true false e = refl
 no_digit : (e : NamedBits) → is_letter e ≡ true → is_digit e.first 10 ≡ false
 unfolding is_letter
 no_digit e h = not_true _ h
+
+-- each of the names of one bit, and so the bits that a mask shares with all of them have names
+
+singles_single : AreSingle SINGLES
+singles_single = (
+  (0, refl),
+  (
+    (1, refl),
+    (
+      (2, refl),
+      (
+        (3, refl),
+        (
+          (4, refl),
+          (
+            (5, refl),
+            (
+              (6, refl),
+              (
+                (7, refl),
+                (
+                  (8, refl),
+                  (
+                    (16, refl),
+                    (
+                      (17, refl),
+                      (
+                        (18, refl),
+                        (
+                          (19, refl),
+                          ((28, refl), ((29, refl), ((30, refl), ((31, refl), tt)))),
+                        ),
+                      ),
+                    ),
+                  ),
+                ),
+              ),
+            ),
+          ),
+        ),
+      ),
+    ),
+  ),
+)
+
+pub singles_named : (mask : ℕ) → named_bits SINGLES mask ≡ bit_and mask SINGLE_BITS
+singles_named mask = named_bits-single SINGLES mask singles_single
+
+pub labels_named : (mask : ℕ) → named_bits LABELS mask ≡ bit_and mask LABEL_BITS
+labels_named mask = named_bits-single LABELS mask ((0, refl), ((1, refl), ((2, refl), tt)))
 
 -- 2. Names read back.
 

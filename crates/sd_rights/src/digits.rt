@@ -1,6 +1,6 @@
 //! Numbers in digits.
 
-ghost use Rattle.std.specs.Prelude.{◌≡◌, false, ◌+◌, ◌<◌, ◌≤◌, ◌∷◌, ◌++◌, length, take, drop};
+ghost use Rattle.std.specs.Prelude.{◌≡◌, false, ◌+◌, ◌/◌, ◌%◌, ◌<◌, ◌≤◌, ◌∷◌, ◌++◌, length, take, drop};
 ghost use Rattle.std.specs.Fmt.{decimal, digit_glyph};
 ghost use Rattle.sd_sink.specs.Print.{Prints};
 ghost use Rattle.sd_rights.specs.Numbers.{hex_digits};
@@ -13,10 +13,22 @@ const DECIMAL_END: usize = 11;
 /// A character, a number in decimal, and the cells that printing a few from the front wants.
 const DECIMAL_CELLS: usize = DECIMAL_END + FRONT;
 
+/// Both digits of each number below 100.
+static PAIRS: [u8; 200] =
+    *b"0001020304050607080910111213141516171819202122232425262728293031323334353637383940414243444546474849\
+    5051525354555657585960616263646566676869707172737475767778798081828384858687888990919293949596979899";
+
+/// The hex digits in lower case.
+static HEX_DIGITS: [u8; 16] = *b"0123456789abcdef";
+
 /// Prints a number in decimal, without leading zeros.
 pub fn print_decimal<P: Print>(number: u32, out: &mut P)
     ensures { Prints (P.told out.old) (P.told out.new) (decimal number) }
 {
+    // Most of these numbers have one digit.
+    if number < 10 {
+        return out.put(&[b'0' + number as u8]);
+    }
     let mut cells = [0; DECIMAL_CELLS];
     let start = write_decimal(number, &mut cells);
     out.put_front(&cells[start..], DECIMAL_END - start);
@@ -57,18 +69,16 @@ fn write_hex(digits: usize, number: u64, cells: &mut [u8; FRONT])
 }
 
 /// The lower-case digit of a value.
+#[inline(always)]
 pub(crate) fn hex_digit(value: u8) -> u8
     requires { value < 16 }
     ensures { result ≡ digit_glyph false value }
 {
-    if value < 10 {
-        b'0' + value
-    } else {
-        b'a' - 10 + value
-    }
+    HEX_DIGITS[usize::from(value)]
 }
 
 // Writes a number in decimal to where decimal numbers end, and says where it begins.
+#[inline(always)]
 fn write_decimal(number: u32, cells: &mut [u8; DECIMAL_CELLS]) -> usize
     ensures begins { result + length (decimal number) ≡ 11 }
     ensures behind { 1 ≤ result }
@@ -76,21 +86,59 @@ fn write_decimal(number: u32, cells: &mut [u8; DECIMAL_CELLS]) -> usize
 {
     let mut left = number;
     let mut at = DECIMAL_END;
-    // Two digits at a time, since each division waits for the one before.
-    while left >= 100 {
-        let pair = left % 100;
-        cells[at - 1] = b'0' + (pair % 10) as u8;
-        at -= 2;
-        cells[at] = b'0' + (pair / 10) as u8;
-        left /= 100;
+    // Four digits at a time, since each division waits for the one before.
+    while left >= 10_000 {
+        let four = left % 10_000;
+        left /= 10_000;
+        write_pair(four % 100, cells, at - 2);
+        write_pair(four / 100, cells, at - 4);
+        at -= 4;
     }
-    if left < 10 {
-        at -= 1;
-        cells[at] = b'0' + left as u8;
-        return at;
+    write_short(left, cells, at)
+}
+
+// Writes a number of at most four digits before a place, and says where it begins.
+#[inline(always)]
+fn write_short(number: u32, cells: &mut [u8; DECIMAL_CELLS], end: usize) -> usize
+    requires short { number < 10000 }
+    requires room { length (decimal number) ≤ end }
+    requires within { end ≤ 27 }
+    ensures begins { result + length (decimal number) ≡ end }
+    ensures written { drop result cells.new ≡ decimal number ++ drop end cells.old }
+{
+    if number < 100 {
+        return write_first(number, cells, end);
     }
-    cells[at - 1] = b'0' + (left % 10) as u8;
-    at -= 2;
-    cells[at] = b'0' + (left / 10) as u8;
-    at
+    write_pair(number % 100, cells, end - 2);
+    write_first(number / 100, cells, end - 2)
+}
+
+// The same for one or two digits.
+#[inline(always)]
+fn write_first(number: u32, cells: &mut [u8; DECIMAL_CELLS], end: usize) -> usize
+    requires short { number < 100 }
+    requires room { length (decimal number) ≤ end }
+    requires within { end ≤ 27 }
+    ensures begins { result + length (decimal number) ≡ end }
+    ensures written { drop result cells.new ≡ decimal number ++ drop end cells.old }
+{
+    if number < 10 {
+        cells[end - 1] = b'0' + number as u8;
+        return end - 1;
+    }
+    write_pair(number, cells, end - 2);
+    end - 2
+}
+
+// Writes both digits of a number below 100.
+#[inline(always)]
+fn write_pair(pair: u32, cells: &mut [u8; DECIMAL_CELLS], at: usize)
+    requires pair { pair < 100 }
+    requires within { at + 2 ≤ 27 }
+    ensures { drop at cells.new ≡ (48 + pair / 10) ∷ (48 + pair % 10) ∷ drop (at + 2) cells.old }
+{
+    let from = 2 * pair as usize;
+    let (tens, ones) = (PAIRS[from], PAIRS[from + 1]);
+    cells[at] = tens;
+    cells[at + 1] = ones;
 }

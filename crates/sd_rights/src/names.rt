@@ -2,7 +2,7 @@
 
 ghost use Rattle.std.specs.Prelude.{◌≡◌, ◌≤◌, length, take};
 ghost use Rattle.std.specs.List.{flat_map};
-ghost use Rattle.sd_rights.specs.Names.{bits_named, named_bits, names_of, run_of};
+ghost use Rattle.sd_rights.specs.Names.{bits_named, names_of, run_of};
 ghost use Rattle.sd_sink.specs.Print.{Prints};
 
 use sd_sink::{FRONT, Print};
@@ -49,19 +49,6 @@ fn write_names(table: &[NamedBits], mask: u32, buffer: &mut [u8; CELLS]) -> usiz
         end += if mask & name.bits != 0 { 2 } else { 0 };
     }
     end
-}
-
-/// The bits of a mask that have names in a table.
-pub fn named_bits(table: &[NamedBits], mask: u32) -> u32
-    ensures { result ≡ named_bits table.now mask }
-{
-    let mut named = 0;
-    for name in table {
-        if mask & name.bits != 0 {
-            named |= name.bits;
-        }
-    }
-    named
 }
 
 /// The bits of a run of names of the tables, each in either case and as often as it likes. None where

@@ -1,17 +1,18 @@
 //! Printing access rights (MS-DTYP 2.5.1.1).
 
-ghost use Rattle.std.specs.Prelude.{◌≡◌, ◌≤◌, ◌<◌, ◌==◌, drop, false, length, Some};
+ghost use Rattle.std.specs.Prelude.{◌≡◌, ◌≤◌, ◌<◌, ◌==◌, bit_and, drop, false, length, Some};
 ghost use Rattle.std.specs.Fmt.{digits};
 ghost use Rattle.std.specs.List.{find};
 ghost use Rattle.sd_sink.specs.Print.{Prints};
+ghost use Rattle.sd_rights.specs.Names.{named_bits};
 ghost use Rattle.sd_rights.specs.Rights.{hex_text, is_label, names_or_hex, rights_reads, rights_text};
 ghost use Rattle.sd_sink.specs.Sink.{Puts};
 ghost use Rattle.sd_rights.specs.declared.rights_table.TheConstants.{COMPOUNDS};
 
 use crate::digits::hex_digit;
 use crate::kinds::AceKind;
-use crate::names::{NamedBits, named_bits, print_names};
-use crate::rights_table::{COMPOUNDS, LABELS, SINGLES};
+use crate::names::{NamedBits, print_names};
+use crate::rights_table::{COMPOUNDS, LABEL_BITS, LABELS, SINGLE_BITS, SINGLES};
 use sd_sink::{Print, Printer, Sink, SinkFault};
 
 /// `0x` and the eight digits of the largest mask.
@@ -39,11 +40,11 @@ pub fn print_rights<P: Print>(kind: AceKind, mask: u32, out: &mut P)
         return print_hex(mask, out);
     }
     if is_label(kind) {
-        return print_names_or_hex(&LABELS, mask, out);
+        return print_names_or_hex(&LABELS, LABEL_BITS, mask, out);
     }
     match whole_name(mask) {
         Some(name) => out.put(&[name.first, name.second]),
-        None => print_names_or_hex(&SINGLES, mask, out),
+        None => print_names_or_hex(&SINGLES, SINGLE_BITS, mask, out),
     }
 }
 
@@ -60,11 +61,13 @@ fn whole_name(mask: u32) -> Option<NamedBits>
     COMPOUNDS.iter().copied().find(|name| name.bits == mask)
 }
 
-fn print_names_or_hex<P: Print>(table: &[NamedBits], mask: u32, out: &mut P)
+// The names of a table that has a name for each of the bits alone.
+fn print_names_or_hex<P: Print>(table: &[NamedBits], bits: u32, mask: u32, out: &mut P)
     requires fits { length table.now ≤ 17 }
+    requires bits { named_bits table.now mask ≡ bit_and mask bits }
     ensures put { Prints (P.told out.old) (P.told out.new) (names_or_hex table.now mask) }
 {
-    if named_bits(table, mask) == mask {
+    if mask & bits == mask {
         print_names(table, mask, out);
     } else {
         print_hex(mask, out);

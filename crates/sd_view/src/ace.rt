@@ -200,7 +200,7 @@ impl<'a> AceView<'a> {
     pub fn sid(&self) -> Sid
         ensures { result ≡ self.now.sid }
     {
-        Sid::read(&self.place[sid_offset(self.place)..]).unwrap().0
+        Sid::at_front(&self.place[sid_offset(self.place)..])
     }
 
     /// The written size in bytes, without what stands after the SID: at most 112.

@@ -1,0 +1,27 @@
+use Rattle.std.proofs.Common.{◌≡◌, ◌≤◌, ℕ, List, [], ◌∷◌, ◌++◌, length, slice_index, codes, refl, ap, ◌∙◌, arith}
+use Rattle.sd_sink.proofs.PrintLemmas.{prints_as}
+use Rattle.sd_explain.proofs.ace.print_kind.Goals as goal
+
+one : (text : List ℕ) → length text ≡ 1 → 32 ∷ slice_index text 0 ∷ [] ≡ codes " " ++ text
+one [] e = absurd (omega arith)
+one (a ∷ []) e = refl
+one (a ∷ b ∷ rest) e = absurd (omega arith)
+
+two : (text : List ℕ) → (length text ≡ 1 → ⊥) → 1 ≤ length text → length text ≤ 2
+    → 32 ∷ slice_index text 0 ∷ slice_index text 1 ∷ [] ≡ codes " " ++ text
+two [] other some few = absurd (omega arith)
+two (a ∷ []) other some few = absurd (other refl)
+two (a ∷ b ∷ []) other some few = refl
+two (a ∷ b ∷ c ∷ rest) other some few = absurd (omega arith)
+
+pub returns-then-letters-eq1 : goal.returns-then-letters-eq1
+returns-then-letters-eq1 g c =
+    prints_as (one _ c.if-letters-eq1.true ∙ ap (λ (t : List ℕ). codes " " ++ t) c.letters-letters.ensures.value)
+    c.put.ensures
+
+pub returns : goal.returns
+returns g c =
+    let letters = c.letters-letters.ensures in
+    prints_as (two _ c.if-letters-eq1.false letters.some letters.short
+    ∙ ap (λ (t : List ℕ). codes " " ++ t) letters.value)
+    c.put-2.ensures

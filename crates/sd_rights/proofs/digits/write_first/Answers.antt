@@ -1,0 +1,47 @@
+use Rattle.std.proofs.Common.{◌≡◌, ◌+◌, ◌-◌, arith}
+use Rattle.std.proofs.lemmas.Fmt.{decimal_digit}
+use Rattle.std.proofs.lemmas.List.{drop-set}
+use Rattle.sd_rights.proofs.DigitLemmas.{decimal-two, length-digit, length-two}
+use Rattle.sd_rights.proofs.digits.write_first.Goals as goal
+
+pub overflow_sub-cells : goal.overflow_sub-cells
+overflow_sub-cells c = omega (arith, length-digit c.args.number c.if-number-lt10.true)
+
+pub bounds-cells-end : goal.bounds-cells-end
+bounds-cells-end c = omega (arith, length-digit c.args.number c.if-number-lt10.true)
+
+pub overflow_sub-result : goal.overflow_sub-result
+overflow_sub-result c = omega (arith, length-digit c.args.number c.if-number-lt10.true)
+
+pub returns-then-number-lt10-clause-begins : goal.returns-then-number-lt10-clause-begins
+returns-then-number-lt10-clause-begins c = omega (arith, length-digit c.args.number c.if-number-lt10.true)
+
+pub returns-then-number-lt10-clause-written : goal.returns-then-number-lt10-clause-written
+returns-then-number-lt10-clause-written c =
+    let long = length-digit c.args.number c.if-number-lt10.true in
+    let same : c.args.end - 1 + 1 ≡ c.args.end = omega arith in
+    rw (
+      drop-set c.args.cells.now (c.args.end - 1) _ (omega (arith, c.told-cells)),
+      same,
+      decimal_digit c.args.number c.if-number-lt10.true,
+    )
+
+pub overflow_sub-end : goal.overflow_sub-end
+overflow_sub-end c = omega (arith, length-two c.args.number c.if-number-lt10.false c.requires.short)
+
+pub write_pair-requires : goal.write_pair-requires
+write_pair-requires c =
+    let long = length-two c.args.number c.if-number-lt10.false c.requires.short in
+    record { pair = omega arith; within = omega arith }
+
+pub overflow_sub-result-2 : goal.overflow_sub-result-2
+overflow_sub-result-2 c = omega (arith, length-two c.args.number c.if-number-lt10.false c.requires.short)
+
+pub returns-clause-begins : goal.returns-clause-begins
+returns-clause-begins c = omega (arith, length-two c.args.number c.if-number-lt10.false c.requires.short)
+
+pub returns-clause-written : goal.returns-clause-written
+returns-clause-written c =
+    let long = length-two c.args.number c.if-number-lt10.false c.requires.short in
+    let same : c.args.end - 2 + 2 ≡ c.args.end = omega arith in
+    rw (c.write_pair.ensures, same, decimal-two c.args.number c.if-number-lt10.false c.requires.short)
