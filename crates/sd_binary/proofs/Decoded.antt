@@ -18,7 +18,8 @@ unfolding hex_spells
 spells-even text even = let test : eqb (length text % 2) 1 ≡ false = grind (arith, nat_tests) in rw test refl
 
 -- a text of an even length spells what decoding it into as many cells as it has pairs answers
-spells-sized : (text : List ℕ) (n : ℕ) → length text % 2 ≡ 0 → n ≡ length text / 2 → hex_spells text ≡ or_digit_fault (decode_sized text n)
+spells-sized : (text : List ℕ) (n : ℕ) → length text % 2 ≡ 0 → n ≡ length text / 2
+    → hex_spells text ≡ or_digit_fault (decode_sized text n)
 spells-sized text n even half =
     spells-even text even ∙ ap or_digit_fault (sym (decode_sized-twice text n (omega (arith, half, even))))
 

@@ -80,9 +80,11 @@ decoded-ok (Ok xs) bytes e = let same : xs ≡ bytes = cc in ap (λ (b : List �
 decoded-ok (Err f) bytes e = absurd (cc)
 
 -- two characters for each byte
-pub spells-length : (text bytes : List ℕ) → length text % 2 ≡ 0 → hex_spells text ≡ Ok bytes → length text ≡ 2 * length bytes
+pub spells-length : (text bytes : List ℕ) → length text % 2 ≡ 0 → hex_spells text ≡ Ok bytes
+    → length text ≡ 2 * length bytes
 spells-length text bytes even e =
-    (decode_pairs-ok 0 text bytes (decoded-ok _ bytes (sym (spells-even text even ∙ ap or_digit_fault (decode_of-even text even)) ∙ e))).1
+    let pairs = spells-even text even ∙ ap or_digit_fault (decode_of-even text even) in
+    (decode_pairs-ok 0 text bytes (decoded-ok _ bytes (sym pairs ∙ e))).1
 
 -- a text without a character spells no bytes
 pub spells-nil : hex_spells [] ≡ Ok []

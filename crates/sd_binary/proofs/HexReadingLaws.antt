@@ -7,6 +7,7 @@ use Rattle.std.proofs.lemmas.List.{append-nil}
 use Rattle.sd_binary.specs.declared.buffer.TextFault.{TextFault}
 use Rattle.sd_binary.specs.declared.buffer.TextFault.TheVariants.{HexOdd}
 use Rattle.sd_binary.specs.declared.hex_reader.HexReader.{HexReader}
+use Rattle.sd_rights.specs.Limits.{most_hex_text}
 use Rattle.sd_binary.specs.Text.{hex_spells}
 use Rattle.sd_binary.specs.HexReading.{ReadsHex, spelled_so_far, waiting}
 use Rattle.sd_binary.proofs.Decoded.{spells-odd}
@@ -53,8 +54,9 @@ whole-hex r bytes text none even spelled =
     record { pairs = text; even = even; shape = rw none (sym (append-nil text)); spelled = spelled }
 
 -- a character is wrong already
-pub hex-stays : (r s : HexReader) (bytes new text pairs : List ℕ) → ReadsHex r bytes text → r.pending ≡ None → s.pending ≡ None
-    → length pairs % 2 ≡ 0 → r.wrong ≡ true → s.wrong ≡ true → ReadsHex s new (text ++ pairs)
+pub hex-stays : (r s : HexReader) (bytes new text pairs : List ℕ) → ReadsHex r bytes text
+    → r.pending ≡ None → s.pending ≡ None → length pairs % 2 ≡ 0 → r.wrong ≡ true → s.wrong ≡ true
+    → ReadsHex s new (text ++ pairs)
 hex-stays r s bytes new text pairs h none still even was is =
     let whole = hex-whole r bytes text h none in
     whole-hex s new (text ++ pairs) still (omega (arith, length-append text pairs, whole.0))
@@ -65,24 +67,27 @@ abbrev pub Appended : Result (List ℕ) TextFault → List ℕ → Result (Unit 
 Appended spelled old result new =
     MatchResult spelled (λ bytes. (result ≡ Ok tt) × (new ≡ old ++ bytes)) (λ fault. (result ≡ Err fault) × (new ≡ old))
 
-appended : (pairs old new : List ℕ) (spelled : Result (List ℕ) TextFault) (result : Result (Unit {0}) TextFault) → length pairs % 2 ≡ 0
-    → hex_spells pairs ≡ spelled → Appended spelled old result new → joined (Ok old) spelled ≡ spelled_so_far (is_err result) new
+appended : (pairs old new : List ℕ) (spelled : Result (List ℕ) TextFault) (result : Result (Unit {0}) TextFault)
+    → length pairs % 2 ≡ 0 → hex_spells pairs ≡ spelled → Appended spelled old result new
+    → joined (Ok old) spelled ≡ spelled_so_far (is_err result) new
 appended pairs old new (Ok bytes) result even e h = rw (h.0, h.1) refl
 appended pairs old new (Err f) result even e h =
     let digit = pairs-fault pairs f even e in
     rw (h.0, digit) refl
 
 -- where no character is wrong yet, the bytes of pairs are appended, for which there is room
-pub hex-appends : (r s : HexReader) (bytes new text pairs : List ℕ) (result : Result (Unit {0}) TextFault) → ReadsHex r bytes text
-    → r.pending ≡ None → s.pending ≡ None → length pairs % 2 ≡ 0 → r.wrong ≡ false → s.wrong ≡ is_err result
-    → length text + length pairs ≤ 262452
-    → (2 * length bytes + length pairs ≤ 262452 → Appended (hex_spells pairs) bytes result new) → ReadsHex s new (text ++ pairs)
+pub hex-appends : (r s : HexReader) (bytes new text pairs : List ℕ) (result : Result (Unit {0}) TextFault)
+    → ReadsHex r bytes text → r.pending ≡ None → s.pending ≡ None → length pairs % 2 ≡ 0 → r.wrong ≡ false
+    → s.wrong ≡ is_err result → length text + length pairs ≤ most_hex_text
+    → (2 * length bytes + length pairs ≤ most_hex_text → Appended (hex_spells pairs) bytes result new)
+    → ReadsHex s new (text ++ pairs)
 hex-appends r s bytes new text pairs result h none still even was is room call =
     let whole = hex-whole r bytes text h none in
     let spelled : hex_spells text ≡ Ok bytes = whole.1 ∙ rw was refl in
     let long = spells-length text bytes whole.0 spelled in
+    let more = appended pairs bytes new (hex_spells pairs) result even refl (call (omega arith)) in
     whole-hex s new (text ++ pairs) still (omega (arith, length-append text pairs, whole.0))
-    (spells-append text pairs whole.0 even ∙ rw (spelled, is) (appended pairs bytes new _ result even refl (call (omega arith))))
+    (spells-append text pairs whole.0 even ∙ rw (spelled, is) more)
 
 -- what the line spells, by what the reader has kept
 pub hex-odd : (r : HexReader) (bytes text : List ℕ) (c : ℕ) → ReadsHex r bytes text → r.pending ≡ Some c

@@ -38,7 +38,7 @@ pub struct ByteBuf<const MOST: usize> {
 /// The bytes of a descriptor, at most 131,226.
 pub type SdBuf = ByteBuf<CAPACITY>;
 
-/// A text of at most 174,968 characters: what base64 spells of the largest descriptor.
+/// A line of base64, of at most 174,968 characters.
 pub type TextBuf = ByteBuf<MOST_BASE64_TEXT>;
 
 impl<const MOST: usize> Model for ByteBuf<MOST> {
@@ -136,7 +136,8 @@ impl SdBuf {
         reader.finish(self)
     }
 
-    // Appends the bytes that pairs of hex digits spell. After a fault, which want of room is too, the contents are unchanged.
+    // Appends the bytes that pairs of hex digits spell. After a fault the contents are unchanged. Want of room is one
+    // too, but a line within its limit has room.
     pub(crate) fn append_hex(&mut self, pairs: &[u8]) -> Result<(), TextFault>
         requires { length pairs.now % 2 ≡ 0 }
         ensures { 2 * length self.old + length pairs.now ≤ 2 * CAPACITY → MatchResult (hex_spells pairs.now)

@@ -5,8 +5,8 @@ ghost use Rattle.sd_binary.specs.Text.{hex_spells};
 
 use crate::buffer::{SdBuf, TextFault};
 
-/// A reader of one line of hex, in pieces that are cut anywhere, beside the buffer in which its bytes stand. Each call takes
-/// the buffer as the reader's last call left it.
+/// A reader of one line of hex, in pieces that are cut anywhere, beside the buffer into which its bytes go. Each call
+/// takes the buffer as the reader's last call left it.
 #[derive(Drop)]
 pub struct HexReader {
     // The first character of a pair whose second has not come; it is judged with its pair.
@@ -72,16 +72,16 @@ impl HexReader {
     fn feed_pairs(&mut self, buf: &mut SdBuf, pairs: &[u8])
         requires even { length pairs.now % 2 ≡ 0 }
         requires none_waits { self.old.pending ≡ None }
-        ensures value { (text : List ℕ) → ReadsHex self.old buf.old text → length text + length pairs.now ≤ most_hex_text
-            → ReadsHex self.new buf.new (text ++ pairs.now) }
+        ensures value { (text : List ℕ) → ReadsHex self.old buf.old text
+            → length text + length pairs.now ≤ most_hex_text → ReadsHex self.new buf.new (text ++ pairs.now) }
         ensures none_waits { self.new.pending ≡ None }
     {
         // After a wrong character the bytes no longer count.
         self.wrong = self.wrong || buf.append_hex(pairs).is_err();
     }
 
-    /// Ends the line: 3 where the number of its characters is odd, else 2 where one is no digit. After a fault the buffer is
-    /// empty.
+    /// Ends the line: 3 where the number of its characters is odd, else 2 where one is no digit. After a fault the
+    /// buffer is empty.
     pub fn finish(self, buf: &mut SdBuf) -> Result<(), TextFault>
         ensures { (text : List ℕ) → ReadsHex self buf.old text → MatchResult (hex_spells text)
             (λ bytes. (result ≡ Ok tt) × (buf.new ≡ bytes))

@@ -1,7 +1,8 @@
 //! Buffers of bytes.
 ghost use Rattle.std.specs.Prelude.{◌≤◌, length};
+ghost use Rattle.sd_rights.specs.Limits.{most_base64_text};
 
-use sd_binary::{SdBuf, TextFault};
+use sd_binary::{Full, SdBuf, TextBuf, TextFault};
 use std::process::Abort;
 
 #[test]
@@ -12,8 +13,28 @@ fn makes_an_empty_buffer(rt: HostRuntime) {
     assert!(rt; buf.bytes() == [1].as_slice());
 }
 
+// 174,968 characters: four for three bytes, of 131,226 bytes.
+#[test]
+fn holds_the_longest_line_of_base64(rt: HostRuntime) {
+    let mut text = TextBuf::new(rt.alloc()).expect(&rt, "memory for a text");
+    for _ in 0..174_968 {
+        assert!(rt; text.push(b'A') == Ok(()));
+    }
+    assert!(rt; text.push(b'B') == Err(Full));
+    assert!(rt; text.bytes().len() == 174_968);
+    assert!(rt; text.bytes().iter().all(|byte| *byte == b'A'));
+}
+
+#[test]
+fn extends_a_text_by_all_bytes_or_none(rt: HostRuntime) {
+    let mut text = TextBuf::new(rt.alloc()).expect(&rt, "memory for a text");
+    assert!(rt; text.extend(b"Zm9v") == Ok(()));
+    assert!(rt; text.extend(&[b'A'; 174_965]) == Err(Full));
+    assert!(rt; text.bytes() == b"Zm9v".as_slice());
+}
+
 fn expect_spelled(rt: &impl Abort, buf: &mut SdBuf, text: &str, bytes: &str)
-    requires { length text.now ≤ 174968 }
+    requires { length text.now ≤ most_base64_text }
 {
     assert!(rt; buf.from_base64(text.as_bytes()) == Ok(()));
     assert!(rt; buf.bytes() == bytes.as_bytes());
@@ -33,7 +54,7 @@ fn decodes_base64(rt: HostRuntime) {
 }
 
 fn expect_no_base64(rt: &impl Abort, buf: &mut SdBuf, text: &str)
-    requires { length text.now ≤ 174968 }
+    requires { length text.now ≤ most_base64_text }
 {
     let _ = buf.push(7);
     assert!(rt; buf.from_base64(text.as_bytes()) == Err(TextFault::Base64));

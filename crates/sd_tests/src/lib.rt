@@ -15,6 +15,8 @@ mod flags;
 #[cfg(test)]
 mod guid;
 #[cfg(test)]
+mod hex_reader;
+#[cfg(test)]
 mod inheritance;
 #[cfg(test)]
 mod rights;

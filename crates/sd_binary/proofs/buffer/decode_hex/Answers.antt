@@ -17,10 +17,13 @@ returns-in-Ok-clause-value c =
     let out = c.decode_to_slice.new.out in
     let size = part-size c.args.at n c.args.cells.now c.requires.room in
     let done = decoded-ok text out _ c.in-Ok.field-0 c.requires.even size c.in-Ok.ensures.value in
+    let long = c.decode_to_slice.auto.out in
     rw done
-    (refl, take-put_mid c.args.at _ c.args.cells.now out (c.args.at + n) (omega (arith, size, c.decode_to_slice.auto.out)) (omega arith))
+    (refl, take-put_mid c.args.at _ c.args.cells.now out (c.args.at + n) (omega (arith, size, long)) (omega arith))
 
 pub returns-in-Err-clause-value : goal.returns-in-Err-clause-value
 returns-in-Err-clause-value c =
-    let size = part-size c.args.at (length c.args.pairs.now / 2) c.args.cells.now c.requires.room in
-    rw (decoded-err c.args.pairs.now c.decode_to_slice.new.out _ c.in-Err.field-0 c.requires.even size c.in-Err.ensures.value) refl
+    let text = c.args.pairs.now in
+    let out = c.decode_to_slice.new.out in
+    let size = part-size c.args.at (length text / 2) c.args.cells.now c.requires.room in
+    rw (decoded-err text out _ c.in-Err.field-0 c.requires.even size c.in-Err.ensures.value) refl

@@ -4,11 +4,14 @@ use Rattle.sd_binary.proofs.hex_reader.HexReader.feed.Goals as goal
 
 pub returns-in-None : goal.returns-in-None
 returns-in-None c =
-    λ text h room. hex-waits c.args.self.now _ c.args.buf.now text (Some c.args.byte) h (sym c.in-None.ensures.value) refl refl
+    λ text h room.
+    let next = Some c.args.byte in
+    hex-waits c.args.self.now _ c.args.buf.now text next h (sym c.in-None.ensures.value) refl refl
 
 pub returns-in-Some : goal.returns-in-Some
 returns-in-Some c =
     λ text h room.
-    let before = hex-before c.args.self.now _ c.args.buf.now text c.in-Some.first h (sym c.in-Some.ensures.value) c.in-Some.ensures.after refl in
+    let was = c.in-Some.ensures in
+    let before = hex-before c.args.self.now _ c.args.buf.now text c.in-Some.first h (sym was.value) was.after refl in
     let long = ap length before.1 ∙ length-append before.0 (c.in-Some.first ∷ []) in
     rw (before.1, append_assoc) (c.feed_pairs.ensures.value before.0 before.2 (omega arith))

@@ -11,9 +11,14 @@ returns c =
     let pairs = c.split_at.result.0.now in
     let last = c.split_at.result.1.now in
     let next = c.copied-self.result in
-    let whole : pairs ++ last ≡ bytes = rw (c.split_at.ensures.front, c.split_at.ensures.back) (take-append-drop (length bytes / 2 * 2) bytes) in
-    let waits = one-waits last next (omega (arith, c.split_at.ensures.back_len)) (c.copied-self.ensures ∙ c.first.ensures.value) in
-    let read = c.feed_pairs.ensures.value text h (omega (arith, c.split_at.ensures.front_len)) in
+    let split = c.split_at.ensures in
+    let whole : pairs ++ last ≡ bytes = rw (split.front, split.back) (take-append-drop (length bytes / 2 * 2) bytes) in
+    let first = c.copied-self.ensures ∙ c.first.ensures.value in
+    let waits = one-waits last next (omega (arith, split.back_len)) first in
+    let read = c.feed_pairs.ensures.value text h (omega (arith, split.front_len)) in
     let same : text ++ bytes ≡ (text ++ pairs) ++ waiting next =
-    ap (λ (xs : List ℕ). text ++ xs) (sym whole) ∙ ap (λ (xs : List ℕ). text ++ (pairs ++ xs)) waits ∙ sym (append_assoc text pairs (waiting next)) in
-    rw same (hex-waits c.feed_pairs.new.self _ c.feed_pairs.new.buf _ next read c.feed_pairs.ensures.none_waits refl refl)
+    ap (λ (xs : List ℕ). text ++ xs) (sym whole)
+    ∙ ap (λ (xs : List ℕ). text ++ (pairs ++ xs)) waits
+    ∙ sym (append_assoc text pairs (waiting next)) in
+    let none = c.feed_pairs.ensures.none_waits in
+    rw same (hex-waits c.feed_pairs.new.self _ c.feed_pairs.new.buf _ next read none refl refl)

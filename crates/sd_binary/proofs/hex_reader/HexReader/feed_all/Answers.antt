@@ -8,8 +8,8 @@ returns-in-Some-take c =
     let first = c.in-Some-take.first in
     let second = c.in-Some.second.now in
     let rest = c.in-Some.rest.now in
-    let before =
-    hex-before c.args.self.now _ c.args.buf.now text first h (sym c.in-Some-take.ensures.value) c.in-Some-take.ensures.after refl in
+    let was = c.in-Some-take.ensures in
+    let before = hex-before c.args.self.now _ c.args.buf.now text first h (sym was.value) was.after refl in
     let long = ap length before.1 ∙ length-append before.0 (first ∷ []) in
     let paired = c.feed_pairs.ensures.value before.0 before.2 (omega (arith, c.in-Some.ensures.cases.1)) in
     let read =

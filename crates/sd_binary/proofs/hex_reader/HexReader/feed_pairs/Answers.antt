@@ -6,13 +6,18 @@ use Rattle.sd_binary.proofs.hex_reader.HexReader.feed_pairs.Goals.{then-self, el
 pub returns-clause-value : goal.returns-clause-value
 returns-clause-value c =
     λ text h room.
+    let reader = c.args.self.now in
+    let bytes = c.args.buf.now in
+    let pairs = c.args.pairs.now in
     let none = c.requires.none_waits in
     let even = c.requires.even in
     elim c.if-self.branch [
       | then-self w ↦
-          hex-stays c.args.self.now _ c.args.buf.now _ text c.args.pairs.now h none none even w.if-self.true (w.self-is ∙ w.if-self.true)
+          let wrong = w.if-self.true in
+          hex-stays reader _ bytes _ text pairs h none none even wrong (w.self-is ∙ wrong)
       | else-self w ↦
-          rw w.buf-is
-          (hex-appends c.args.self.now _ c.args.buf.now _ text c.args.pairs.now w.append_hex.result h none none even w.if-self.false
-          (w.self-is ∙ w.is_err-self.ensures.value) room w.append_hex.ensures)
+          let right = w.if-self.false in
+          let is = w.self-is ∙ w.is_err-self.ensures.value in
+          let call = w.append_hex.ensures in
+          rw w.buf-is (hex-appends reader _ bytes _ text pairs w.append_hex.result h none none even right is room call)
     ]
