@@ -1,4 +1,5 @@
--- How each call of a builder goes on with what was built. A call's condition speaks of one draft; what the builder keeps
+-- How each call of a builder goes on with what was built. A call's condition speaks of one draft; what the builder
+-- keeps
 -- shows that the condition then holds of each draft that it was given.
 use Rattle.std.proofs.Common.{◌≡◌, ◌≤◌, ◌<◌, ℕ, ◌+◌, ◌^◌, ◌||◌, Bool, true, false, List, [], ◌∷◌, ◌++◌, length, take, drop, Option, Some, None, refl, sym, ap, subst, ◌∙◌, append_assoc, arith, length-append}
 use Rattle.std.specs.Prelude.{IsSome}
@@ -45,12 +46,14 @@ given-acl bytes None acl.Null h e = absurd h
 given-acl bytes None (acl.List aces) h e = absurd h
 given-acl bytes (Some offset) p h e = absurd (cc)
 
-open-given : (front tail : List ℕ) (o : Option OpenAcl) (u : Option (Which × List AccessControlEntry)) → OpenStands front tail o u → u ≡ None → o ≡ None
+open-given : (front tail : List ℕ) (o : Option OpenAcl) (u : Option (Which × List AccessControlEntry))
+    → OpenStands front tail o u → u ≡ None → o ≡ None
 open-given front tail None u h e = refl
 open-given front tail (Some o) None h e = absurd h
 open-given front tail (Some o) (Some u) h e = absurd (cc)
 
-given-open : (front tail : List ℕ) (o : Option OpenAcl) (u : Option (Which × List AccessControlEntry)) → OpenStands front tail o u → o ≡ None
+given-open : (front tail : List ℕ) (o : Option OpenAcl) (u : Option (Which × List AccessControlEntry))
+    → OpenStands front tail o u → o ≡ None
     → (u ≡ None) × (tail ≡ [])
 given-open front tail None None h e = (refl, h)
 given-open front tail None (Some u) h e = absurd h
@@ -68,10 +71,12 @@ is_closed b bytes t h e =
     let whole : bytes ≡ h.closed = h.shape ∙ ap (λ (r : List ℕ). h.closed ++ r) o.1 ∙ append-nil h.closed in
     record { parts = subst (λ (r : List ℕ). PartsStand r b t) (sym whole) h.parts; kept = e; given = o.0 }
 
-pub closed-from : (b : Builder) (bytes : List ℕ) (t0 t : Draft) → Building b bytes t0 → t0.«open» ≡ None → Building b bytes t → IsClosed b bytes t
+pub closed-from : (b : Builder) (bytes : List ℕ) (t0 t : Draft) → Building b bytes t0 → t0.«open» ≡ None
+    → Building b bytes t → IsClosed b bytes t
 closed-from b bytes t0 t h0 e h = is_closed b bytes t h (open-given h0.closed h0.tail b.open t0.«open» h0.«open» e)
 
-no_open : (bytes : List ℕ) (o : Option OpenAcl) (u : Option (Which × List AccessControlEntry)) → o ≡ None → u ≡ None → OpenStands bytes [] o u
+no_open : (bytes : List ℕ) (o : Option OpenAcl) (u : Option (Which × List AccessControlEntry)) → o ≡ None → u ≡ None
+    → OpenStands bytes [] o u
 no_open bytes None None e f = refl
 no_open bytes None (Some u) e f = absurd (cc)
 no_open bytes (Some o) u e f = absurd (cc)
@@ -80,7 +85,8 @@ no_free : (u : Option (Which × List AccessControlEntry)) (t : Draft) → u ≡ 
 no_free None t e = tt
 no_free (Some u) t e = absurd (cc)
 
-building : (b : Builder) (bytes : List ℕ) (t : Draft) → PartsStand bytes b t → b.open ≡ None → t.«open» ≡ None → Building b bytes t
+building : (b : Builder) (bytes : List ℕ) (t : Draft) → PartsStand bytes b t → b.open ≡ None → t.«open» ≡ None
+    → Building b bytes t
 building b bytes t parts kept given = record {
   closed = bytes;
   tail = [];
@@ -91,9 +97,11 @@ building b bytes t parts kept given = record {
 }
 
 -- which ACL is open, and how far, is no matter of the parts
-reopened : (bytes : List ℕ) (b : Builder) (t : Draft) (o : Option OpenAcl) (u : Option (Which × List AccessControlEntry)) → PartsStand bytes b t
+reopened : (bytes : List ℕ) (b : Builder) (t : Draft) (o : Option OpenAcl)
+    (u : Option (Which × List AccessControlEntry)) → PartsStand bytes b t
     → PartsStand bytes (record b { «open» = o }) (record t { «open» = u })
-reopened bytes b t o u h = record { owner = h.owner; group = h.group; sacl = h.sacl; dacl = h.dacl; apart = h.apart; size = h.size }
+reopened bytes b t o u
+    h = record { owner = h.owner; group = h.group; sacl = h.sacl; dacl = h.dacl; apart = h.apart; size = h.size }
 
 acl_of-open : (w : Which) (t : Draft) (u : Option (Which × List AccessControlEntry))
     → acl_of w (record t { «open» = u }) ≡ acl_of w t
@@ -101,7 +109,8 @@ acl_of-open lists.Sacl t u = refl
 acl_of-open lists.Dacl t u = refl
 
 -- new
-pub new-builds : (bytes : List ℕ) → length bytes ≡ 20 → Builds (record { owner = 0; group = 0; sacl = None; dacl = None; «open» = None }) bytes no_parts
+pub new-builds : (bytes : List ℕ) → length bytes ≡ 20
+    → Builds (record { owner = 0; group = 0; sacl = None; dacl = None; «open» = None }) bytes no_parts
 unfolding Builds
 new-builds bytes long =
     building _ bytes no_parts
@@ -110,7 +119,14 @@ new-builds bytes long =
       group = refl;
       sacl = tt;
       dacl = tt;
-      apart = record { owner_group = tt; owner_sacl = tt; owner_dacl = tt; group_sacl = tt; group_dacl = tt; sacl_dacl = tt };
+      apart = record {
+        owner_group = tt;
+        owner_sacl = tt;
+        owner_dacl = tt;
+        group_sacl = tt;
+        group_dacl = tt;
+        sacl_dacl = tt;
+      };
       size = long;
     })
     refl refl
@@ -118,13 +134,16 @@ new-builds bytes long =
 -- owner
 pub owner-free : (b : Builder) (bytes : List ℕ) (t0 t : Draft) → IsClosed b bytes t0 → t0.owner ≡ None
     → IsClosed b bytes t → t.owner ≡ None
-owner-free b bytes t0 t h0 e h = given-sid bytes b.owner t.owner h.parts.owner (sid-given bytes b.owner t0.owner h0.parts.owner e)
+owner-free b bytes t0 t h0 e h = given-sid bytes b.owner t.owner h.parts.owner
+    (sid-given bytes b.owner t0.owner h0.parts.owner e)
 
-pub owner-room : (b : Builder) (bytes : List ℕ) (t : Draft) → Builds b bytes t → t.owner ≡ None → t.«open» ≡ None → length bytes + 68 ≤ 131226
+pub owner-room : (b : Builder) (bytes : List ℕ) (t : Draft) → Builds b bytes t → t.owner ≡ None → t.«open» ≡ None
+    → length bytes + 68 ≤ 131226
 unfolding Builds
 owner-room b bytes t h free e = (room bytes b t (closed-from b bytes t t h e h).parts).owner free
 
-pub owner-builds : (b : Builder) (bytes : List ℕ) (t0 t : Draft) (s : SecurityId) → Builds b bytes t0 → t0.owner ≡ None → t0.«open» ≡ None → IsSid s
+pub owner-builds : (b : Builder) (bytes : List ℕ) (t0 t : Draft) (s : SecurityId) → Builds b bytes t0 → t0.owner ≡ None
+    → t0.«open» ≡ None → IsSid s
     → Builds b bytes t → Builds (record b { owner = length bytes }) (bytes ++ sid_bytes s) (record t { owner = Some s })
 unfolding Builds
 owner-builds b bytes t0 t s h0 free e limits h =
@@ -135,13 +154,16 @@ owner-builds b bytes t0 t s h0 free e limits h =
 -- group
 pub group-free : (b : Builder) (bytes : List ℕ) (t0 t : Draft) → IsClosed b bytes t0 → t0.group ≡ None
     → IsClosed b bytes t → t.group ≡ None
-group-free b bytes t0 t h0 e h = given-sid bytes b.group t.group h.parts.group (sid-given bytes b.group t0.group h0.parts.group e)
+group-free b bytes t0 t h0 e h = given-sid bytes b.group t.group h.parts.group
+    (sid-given bytes b.group t0.group h0.parts.group e)
 
-pub group-room : (b : Builder) (bytes : List ℕ) (t : Draft) → Builds b bytes t → t.group ≡ None → t.«open» ≡ None → length bytes + 68 ≤ 131226
+pub group-room : (b : Builder) (bytes : List ℕ) (t : Draft) → Builds b bytes t → t.group ≡ None → t.«open» ≡ None
+    → length bytes + 68 ≤ 131226
 unfolding Builds
 group-room b bytes t h free e = (room bytes b t (closed-from b bytes t t h e h).parts).group free
 
-pub group-builds : (b : Builder) (bytes : List ℕ) (t0 t : Draft) (s : SecurityId) → Builds b bytes t0 → t0.group ≡ None → t0.«open» ≡ None → IsSid s
+pub group-builds : (b : Builder) (bytes : List ℕ) (t0 t : Draft) (s : SecurityId) → Builds b bytes t0 → t0.group ≡ None
+    → t0.«open» ≡ None → IsSid s
     → Builds b bytes t → Builds (record b { group = length bytes }) (bytes ++ sid_bytes s) (record t { group = Some s })
 unfolding Builds
 group-builds b bytes t0 t s h0 free e limits h =
@@ -152,19 +174,25 @@ group-builds b bytes t0 t s h0 free e limits h =
 -- an ACL that is not given yet
 pub acl-free : (b : Builder) (bytes : List ℕ) (w : Which) (t0 t : Draft) → IsClosed b bytes t0
     → acl_of w t0 ≡ acl.Absent → IsClosed b bytes t → acl_of w t ≡ acl.Absent
-acl-free b bytes lists.Sacl t0 t h0 e h = given-acl bytes b.sacl t.sacl h.parts.sacl (acl-given bytes b.sacl t0.sacl h0.parts.sacl e)
-acl-free b bytes lists.Dacl t0 t h0 e h = given-acl bytes b.dacl t.dacl h.parts.dacl (acl-given bytes b.dacl t0.dacl h0.parts.dacl e)
+acl-free b bytes lists.Sacl t0 t h0 e h = given-acl bytes b.sacl t.sacl h.parts.sacl
+    (acl-given bytes b.sacl t0.sacl h0.parts.sacl e)
+acl-free b bytes lists.Dacl t0 t h0 e h = given-acl bytes b.dacl t.dacl h.parts.dacl
+    (acl-given bytes b.dacl t0.dacl h0.parts.dacl e)
 
-acl-left : (b : Builder) (bytes : List ℕ) (w : Which) (t : Draft) → PartsStand bytes b t → acl_of w t ≡ acl.Absent → length bytes + 65535 ≤ 131226
+acl-left : (b : Builder) (bytes : List ℕ) (w : Which) (t : Draft) → PartsStand bytes b t → acl_of w t ≡ acl.Absent
+    → length bytes + 65535 ≤ 131226
 acl-left b bytes lists.Sacl t h e = (room bytes b t h).sacl e
 acl-left b bytes lists.Dacl t h e = (room bytes b t h).dacl e
 
-pub begin-room : (b : Builder) (bytes : List ℕ) (w : Which) (t : Draft) → Builds b bytes t → CanBegin w t → length bytes + 8 ≤ 131226
+pub begin-room : (b : Builder) (bytes : List ℕ) (w : Which) (t : Draft) → Builds b bytes t → CanBegin w t
+    → length bytes + 8 ≤ 131226
 unfolding Builds
 begin-room b bytes w t h can = omega (arith, acl-left b bytes w t (closed-from b bytes t t h can.0 h).parts can.1)
 
-pub begin-builds : (b : Builder) (bytes front : List ℕ) (w : Which) (t0 t : Draft) → Builds b bytes t0 → CanBegin w t0 → length front ≡ 8 → Builds b bytes t
-    → Builds (record b { «open» = Some (record { «which» = w; start = length bytes; count = 0; object = false }) }) (bytes ++ front) (begun w t)
+pub begin-builds : (b : Builder) (bytes front : List ℕ) (w : Which) (t0 t : Draft) → Builds b bytes t0 → CanBegin w t0
+    → length front ≡ 8 → Builds b bytes t
+    → Builds (record b { «open» = Some (record { «which» = w; start = length bytes; count = 0; object = false }) })
+    (bytes ++ front) (begun w t)
 unfolding Builds
 begin-builds b bytes front w t0 t h0 can eight h =
     let was = closed-from b bytes t0 t0 h0 can.0 h0 in
@@ -187,17 +215,20 @@ begin-builds b bytes front w t0 t h0 can eight h =
       free = acl_of-open w t (Some (w, [])) ∙ acl-free b bytes w t0 t was can.1 now;
     }
 
-pub null-builds : (b : Builder) (bytes : List ℕ) (w : Which) (t0 t : Draft) → Builds b bytes t0 → CanBegin w t0 → Builds b bytes t
+pub null-builds : (b : Builder) (bytes : List ℕ) (w : Which) (t0 t : Draft) → Builds b bytes t0 → CanBegin w t0
+    → Builds b bytes t
     → Builds (placed w 0 b) bytes (with_acl w acl.Null t)
 unfolding Builds
 null-builds b bytes lists.Sacl t0 t h0 can h =
     let was = closed-from b bytes t0 t0 h0 can.0 h0 in
     let now = closed-from b bytes t0 t h0 can.0 h in
-    building _ bytes _ (null-stands bytes b t lists.Sacl (acl-free b bytes lists.Sacl t0 t was can.1 now) now.parts) now.kept now.given
+    building _ bytes _ (null-stands bytes b t lists.Sacl (acl-free b bytes lists.Sacl t0 t was can.1 now) now.parts)
+    now.kept now.given
 null-builds b bytes lists.Dacl t0 t h0 can h =
     let was = closed-from b bytes t0 t0 h0 can.0 h0 in
     let now = closed-from b bytes t0 t h0 can.0 h in
-    building _ bytes _ (null-stands bytes b t lists.Dacl (acl-free b bytes lists.Dacl t0 t was can.1 now) now.parts) now.kept now.given
+    building _ bytes _ (null-stands bytes b t lists.Dacl (acl-free b bytes lists.Dacl t0 t was can.1 now) now.parts)
+    now.kept now.given
 
 -- the ACL that is open
 pub record IsBegun (b : Builder) (bytes : List ℕ) (t : Draft) (o : OpenAcl) : Type 0 where
@@ -211,15 +242,18 @@ pub record IsBegun (b : Builder) (bytes : List ℕ) (t : Draft) (o : OpenAcl) : 
   pub at : OpenAt closed tail o which aces
   pub free : acl_of which t ≡ acl.Absent
 
-begun-at : (t : Draft) (front tail : List ℕ) (o : OpenAcl) (u : Option (Which × List AccessControlEntry)) → OpenStands front tail (Some o) u → OpenIsFree u t
-    → (w : Which) × ((aces : List AccessControlEntry) × ((u ≡ Some (w, aces)) × OpenAt front tail o w aces × (acl_of w t ≡ acl.Absent)))
+begun-at : (t : Draft) (front tail : List ℕ) (o : OpenAcl) (u : Option (Which × List AccessControlEntry))
+    → OpenStands front tail (Some o) u → OpenIsFree u t
+    → (w : Which) × ((aces : List AccessControlEntry)
+    × ((u ≡ Some (w, aces)) × OpenAt front tail o w aces × (acl_of w t ≡ acl.Absent)))
 begun-at t front tail o None h free = absurd h
 begun-at t front tail o (Some u) h free = (u.0, (u.1, (refl, h, free)))
 
 pub is_begun : (b : Builder) (bytes : List ℕ) (t : Draft) (o : OpenAcl) → Building b bytes t → b.open ≡ Some o
     → IsBegun b bytes t o
 is_begun b bytes t o h e =
-    let found = begun-at t h.closed h.tail o t.«open» (subst (λ (x : Option OpenAcl). OpenStands h.closed h.tail x t.«open») e h.«open») h.free in
+    let found = begun-at t h.closed h.tail o t.«open»
+    (subst (λ (x : Option OpenAcl). OpenStands h.closed h.tail x t.«open») e h.«open») h.free in
     record {
       which = found.0;
       aces = found.1.0;
@@ -232,7 +266,8 @@ is_begun b bytes t o h e =
       free = found.1.1.2;
     }
 
-some-open : (front tail : List ℕ) (o : Option OpenAcl) (u : Option (Which × List AccessControlEntry)) → OpenStands front tail o u → IsOpenIn u → IsSome o
+some-open : (front tail : List ℕ) (o : Option OpenAcl) (u : Option (Which × List AccessControlEntry))
+    → OpenStands front tail o u → IsOpenIn u → IsSome o
 some-open front tail None None h is = absurd is
 some-open front tail None (Some u) h is = absurd h
 some-open front tail (Some o) u h is = refl
@@ -252,7 +287,8 @@ sized : (b : Builder) (bytes : List ℕ) (t : Draft) (o : OpenAcl) → IsBegun b
 sized b bytes t o h =
     let open_is : open_size t ≡ acl_size h.aces = ap open_size_in h.given in
     let long : length h.tail ≡ acl_size h.aces =
-    ap length h.at.shape ∙ length-append h.at.front (flat_map ace_bytes h.aces) ∙ omega (arith, h.at.eight, length-aces h.aces) in
+    ap length h.at.shape ∙ length-append h.at.front (flat_map ace_bytes h.aces)
+    ∙ omega (arith, h.at.eight, length-aces h.aces) in
     let whole : length bytes ≡ length h.closed + length h.tail = ap length h.shape ∙ length-append h.closed h.tail in
     let many = aces-many h.aces in
     record {
@@ -262,7 +298,8 @@ sized b bytes t o h =
       room = omega (arith, h.at.start, acl-left b h.closed h.which t h.parts h.free);
     }
 
-pub open-size : (b : Builder) (bytes : List ℕ) (t : Draft) (o : OpenAcl) → Builds b bytes t → b.open ≡ Some o → o.start + open_size t ≡ length bytes
+pub open-size : (b : Builder) (bytes : List ℕ) (t : Draft) (o : OpenAcl) → Builds b bytes t → b.open ≡ Some o
+    → o.start + open_size t ≡ length bytes
 unfolding Builds
 open-size b bytes t o h e = (sized b bytes t o (is_begun b bytes t o h e)).size
 
@@ -273,7 +310,8 @@ pub record IsRoomy (bytes : List ℕ) (o : OpenAcl) : Type 0 where
   pub count : o.count ≤ 4096
   pub room : o.start + 65535 ≤ 131226
 
-pub open-roomy : (b : Builder) (bytes : List ℕ) (t : Draft) (o : OpenAcl) → Builds b bytes t → b.open ≡ Some o → IsRoomy bytes o
+pub open-roomy : (b : Builder) (bytes : List ℕ) (t : Draft) (o : OpenAcl) → Builds b bytes t → b.open ≡ Some o
+    → IsRoomy bytes o
 unfolding Builds
 open-roomy b bytes t o h e =
     let found = is_begun b bytes t o h e in
@@ -287,11 +325,13 @@ open-roomy b bytes t o h e =
     }
 
 -- an ACE more
-all-more : (aces : List AccessControlEntry) (a : AccessControlEntry) → AllByRecursion IsAce aces → IsAce a → AllByRecursion IsAce (aces ++ a ∷ [])
+all-more : (aces : List AccessControlEntry) (a : AccessControlEntry) → AllByRecursion IsAce aces → IsAce a
+    → AllByRecursion IsAce (aces ++ a ∷ [])
 all-more [] a h more = (more, tt)
 all-more (x ∷ others) a h more = (h.0, all-more others a h.1 more)
 
-size-more : (aces : List AccessControlEntry) (a : AccessControlEntry) → aces_size (aces ++ a ∷ []) ≡ aces_size aces + ace_size a
+size-more : (aces : List AccessControlEntry) (a : AccessControlEntry)
+    → aces_size (aces ++ a ∷ []) ≡ aces_size aces + ace_size a
 size-more [] a = omega arith
 size-more (x ∷ others) a = omega (arith, size-more others a)
 
@@ -299,15 +339,25 @@ any-one : (x : Bool) → (x || false) ≡ x
 any-one true = refl
 any-one false = refl
 
-object-more : (aces : List AccessControlEntry) (a : AccessControlEntry) → has_object (aces ++ a ∷ []) ≡ (has_object aces || is_object a.kind)
-object-more aces a = list_any-append (λ x. is_object x.kind) aces (a ∷ []) ∙ ap (λ (x : Bool). has_object aces || x) (any-one (is_object a.kind))
+object-more : (aces : List AccessControlEntry) (a : AccessControlEntry)
+    → has_object (aces ++ a ∷ []) ≡ (has_object aces || is_object a.kind)
+object-more aces a = list_any-append (λ x. is_object x.kind) aces (a ∷ [])
+    ∙ ap (λ (x : Bool). has_object aces || x) (any-one (is_object a.kind))
 
 -- the ACL with one ACE more
 abbrev pub with_more : OpenAcl → AccessControlEntry → OpenAcl
-with_more o a = record { «which» = o.which; start = o.start; count = o.count + 1; object = o.object || is_object a.kind }
+with_more o a = record {
+  «which» = o.which;
+  start = o.start;
+  count = o.count + 1;
+  object = o.object || is_object
+      a.kind;
+}
 
-open-more : (front tail : List ℕ) (o : OpenAcl) (w : Which) (aces : List AccessControlEntry) (a : AccessControlEntry) → OpenAt front tail o w aces
-    → IsAce a → acl_size aces + ace_size a < 2 ^ 16 → OpenAt front (tail ++ ace_bytes a) (with_more o a) w (aces ++ a ∷ [])
+open-more : (front tail : List ℕ) (o : OpenAcl) (w : Which) (aces : List AccessControlEntry) (a : AccessControlEntry)
+    → OpenAt front tail o w aces
+    → IsAce a → acl_size aces + ace_size a < 2 ^ 16
+    → OpenAt front (tail ++ ace_bytes a) (with_more o a) w (aces ++ a ∷ [])
 open-more front tail o w aces a h limits fits = record {
   list = h.list;
   start = h.start;
@@ -317,7 +367,9 @@ open-more front tail o w aces a h limits fits = record {
   front = h.front;
   eight = h.eight;
   shape = ap (λ (r : List ℕ). r ++ ace_bytes a) h.shape ∙ append_assoc h.front (flat_map ace_bytes aces) (ace_bytes a)
-      ∙ ap (λ (r : List ℕ). h.front ++ r) (ap (λ (r : List ℕ). flat_map ace_bytes aces ++ r) (sym (append-nil (ace_bytes a))) ∙ sym (flat_map-append ace_bytes aces (a ∷ [])));
+      ∙ ap (λ (r : List ℕ). h.front ++ r)
+      (ap (λ (r : List ℕ). flat_map ace_bytes aces ++ r) (sym (append-nil (ace_bytes a)))
+      ∙ sym (flat_map-append ace_bytes aces (a ∷ [])));
 }
 
 given-more : (a : AccessControlEntry) (w : Which) (aces : List AccessControlEntry) (t : Draft)
@@ -325,7 +377,8 @@ given-more : (a : AccessControlEntry) (w : Which) (aces : List AccessControlEntr
     → with_ace a t ≡ record t { «open» = Some (w, aces ++ a ∷ []) }
 given-more a w aces t e = rw e refl
 
-pub ace-builds : (b : Builder) (bytes : List ℕ) (t : Draft) (o : OpenAcl) (a : AccessControlEntry) → b.open ≡ Some o → IsAce a
+pub ace-builds : (b : Builder) (bytes : List ℕ) (t : Draft) (o : OpenAcl) (a : AccessControlEntry) → b.open ≡ Some o
+    → IsAce a
     → open_size t + ace_size a < 2 ^ 16 → Builds b bytes t
     → Builds (record b { «open» = Some (with_more o a) }) (bytes ++ ace_bytes a) (with_ace a t)
 unfolding Builds
@@ -333,26 +386,30 @@ ace-builds b bytes t o a e limits fits h =
     let found = is_begun b bytes t o h e in
     let open_is : open_size t ≡ acl_size found.aces = ap open_size_in found.given in
     let u : Option (Which × List AccessControlEntry) = Some (found.which, found.aces ++ a ∷ []) in
-    subst (λ (x : Draft). Building (record b { «open» = Some (with_more o a) }) (bytes ++ ace_bytes a) x) (sym (given-more a found.which found.aces t found.given))
+    subst (λ (x : Draft). Building (record b { «open» = Some (with_more o a) }) (bytes ++ ace_bytes a) x)
+    (sym (given-more a found.which found.aces t found.given))
     (record {
       closed = found.closed;
       tail = found.tail ++ ace_bytes a;
       shape = ap (λ (r : List ℕ). r ++ ace_bytes a) found.shape ∙ append_assoc found.closed found.tail (ace_bytes a);
       parts = reopened found.closed b t _ _ found.parts;
-      «open» = open-more found.closed found.tail o found.which found.aces a found.at limits (omega (arith, open_is, fits));
+      «open» = open-more found.closed found.tail o found.which found.aces a found.at limits
+          (omega (arith, open_is, fits));
       free = acl_of-open found.which t u ∙ found.free;
     })
 
 -- the open ACL with its header written over the bytes before its ACEs
 header-written : (front header eight aces : List ℕ) → length eight ≡ 8
-    → take (length front) (front ++ (eight ++ aces)) ++ (header ++ drop (length front + 8) (front ++ (eight ++ aces))) ≡ front ++ (header ++ aces)
+    → take (length front) (front ++ (eight ++ aces))
+    ++ (header ++ drop (length front + 8) (front ++ (eight ++ aces))) ≡ front ++ (header ++ aces)
 header-written front header eight aces long =
     let before = take_at front (eight ++ aces) (length front) refl in
     let after = drop-append-add front (eight ++ aces) 8 ∙ drop_at eight aces 8 long in
     rw (before, after) refl
 
 -- the ACL ended
-placed-open : (b : Builder) (w : Which) (n : ℕ) → placed w n (record b { «open» = None }) ≡ record (placed w n b) { «open» = None }
+placed-open : (b : Builder) (w : Which) (n : ℕ)
+    → placed w n (record b { «open» = None }) ≡ record (placed w n b) { «open» = None }
 placed-open b lists.Sacl n = refl
 placed-open b lists.Dacl n = refl
 
@@ -360,19 +417,22 @@ pub kept-is : (b : Builder) (o : OpenAcl) (w : Which) (n : ℕ) → o.which ≡ 
     → placed o.which o.start (record b { «open» = None }) ≡ record (placed w n b) { «open» = None }
 kept-is b o w n e f = rw (e, f) (placed-open b w n)
 
-closed-open : (t : Draft) (w : Which) (p : AclPart) → with_acl w p (record t { «open» = None }) ≡ record (with_acl w p t) { «open» = None }
+closed-open : (t : Draft) (w : Which) (p : AclPart)
+    → with_acl w p (record t { «open» = None }) ≡ record (with_acl w p t) { «open» = None }
 closed-open t lists.Sacl p = refl
 closed-open t lists.Dacl p = refl
 
 pub given-closed : (w : Which) (aces : List AccessControlEntry) (t : Draft) → t.«open» ≡ Some (w, aces)
     → closed t ≡ record (with_acl w (acl.List aces) t) { «open» = None }
-given-closed w aces t e = ap (λ (u : Option (Which × List AccessControlEntry)). closed_in u t) e ∙ closed-open t w (acl.List aces)
+given-closed w aces t e = ap (λ (u : Option (Which × List AccessControlEntry)). closed_in u t) e
+    ∙ closed-open t w (acl.List aces)
 
 -- the header of an ACL, by what is kept of it
 abbrev pub header_by : Bool → ℕ → ℕ → List ℕ
 header_by object size count = revision_if object ∷ 0 ∷ little_bytes 2 size ++ (little_bytes 2 count ++ (0 ∷ 0 ∷ []))
 
-header-is : (object : Bool) (size count : ℕ) (aces : List AccessControlEntry) → object ≡ has_object aces → size ≡ acl_size aces → count ≡ length aces
+header-is : (object : Bool) (size count : ℕ) (aces : List AccessControlEntry) → object ≡ has_object aces
+    → size ≡ acl_size aces → count ≡ length aces
     → header_by object size count ≡ acl_header aces
 header-is object size count aces e f g = rw (e, f, g) refl
 
@@ -386,15 +446,20 @@ end-bytes b bytes t o size header found total e =
     let s = sized b bytes t o found in
     let open_is : open_size t ≡ acl_size found.aces = ap open_size_in found.given in
     let eight : length header ≡ 8 = ap length e in
-    let filled : header ≡ acl_header found.aces = e ∙ header-is o.object size o.count found.aces found.at.object (omega (arith, total, s.size, open_is)) found.at.count in
-    let whole : bytes ≡ front ++ (found.at.front ++ aces) = found.shape ∙ ap (λ (r : List ℕ). front ++ r) found.at.shape in
+    let filled : header ≡ acl_header found.aces = e
+    ∙ header-is o.object size o.count found.aces found.at.object (omega (arith, total, s.size, open_is))
+    found.at.count in
+    let whole : bytes ≡ front ++ (found.at.front ++ aces) = found.shape
+    ∙ ap (λ (r : List ℕ). front ++ r) found.at.shape in
     let place : o.start ≡ length front = found.at.start in
     let there = header-written front (acl_header found.aces) found.at.front aces found.at.eight in
     rw (eight, place, whole, filled) there
 
-pub end-builds : (b : Builder) (bytes : List ℕ) (t : Draft) (o : OpenAcl) (size : ℕ) (header : List ℕ) → b.open ≡ Some o → o.start + size ≡ length bytes
+pub end-builds : (b : Builder) (bytes : List ℕ) (t : Draft) (o : OpenAcl) (size : ℕ) (header : List ℕ) → b.open ≡ Some o
+    → o.start + size ≡ length bytes
     → header ≡ header_by o.object size o.count → Builds b bytes t
-    → Builds (placed o.which o.start (record b { «open» = None })) (take o.start bytes ++ (header ++ drop (o.start + length header) bytes)) (closed t)
+    → Builds (placed o.which o.start (record b { «open» = None }))
+    (take o.start bytes ++ (header ++ drop (o.start + length header) bytes)) (closed t)
 unfolding Builds
 end-builds b bytes t o size header e total front h =
     let found = is_begun b bytes t o h e in
@@ -404,4 +469,5 @@ end-builds b bytes t o size header e total front h =
     let kept = kept-is b o w n found.at.list found.at.start in
     let given = given-closed w found.aces t found.given in
     let there = end-bytes b bytes t o size header found total front in
-    rw (kept, given, there) (building _ _ _ (reopened _ (placed w n b) (with_acl w (acl.List found.aces) t) None None stands) refl refl)
+    rw (kept, given, there)
+    (building _ _ _ (reopened _ (placed w n b) (with_acl w (acl.List found.aces) t) None None stands) refl refl)

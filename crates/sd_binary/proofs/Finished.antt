@@ -24,10 +24,14 @@ record ControlBits (word : ℕ) (s d : Bool) : Type 0 where
   dacl : word / 0x4 % 2 ≡ bit_if d 1
 
 control-bits : (flags : ℕ) (sacl dacl : Bool) → flags < 2 ^ 16 → ControlBits (control_of flags sacl dacl) sacl dacl
-control-bits flags true true h = record { small = omega arith; relative = omega arith; sacl = omega arith; dacl = omega arith }
-control-bits flags true false h = record { small = omega arith; relative = omega arith; sacl = omega arith; dacl = omega arith }
-control-bits flags false true h = record { small = omega arith; relative = omega arith; sacl = omega arith; dacl = omega arith }
-control-bits flags false false h = record { small = omega arith; relative = omega arith; sacl = omega arith; dacl = omega arith }
+control-bits flags true true
+    h = record { small = omega arith; relative = omega arith; sacl = omega arith; dacl = omega arith }
+control-bits flags true false
+    h = record { small = omega arith; relative = omega arith; sacl = omega arith; dacl = omega arith }
+control-bits flags false true
+    h = record { small = omega arith; relative = omega arith; sacl = omega arith; dacl = omega arith }
+control-bits flags false false
+    h = record { small = omega arith; relative = omega arith; sacl = omega arith; dacl = omega arith }
 
 bit-test : (n : ℕ) (x : Bool) → n ≡ bit_if x 1 → eqb n 1 ≡ x
 bit-test n true e = rw e refl
@@ -39,7 +43,8 @@ sid-shown bytes offset None h = h
 sid-shown bytes offset (Some s) h = (h.1.low, record { limits = h.0; rest = h.1.rest; shape = h.1.shape })
 
 acl-shown : (bytes : List ℕ) (place : Option ℕ) (p : AclPart) → AclStands bytes place p
-    → ShowsAclPart bytes (is_present p) (unwrap_or place 0) p × (acl_extent bytes (unwrap_or place 0) p ≡ acl_extent_of place p)
+    → ShowsAclPart bytes (is_present p) (unwrap_or place 0) p
+    × (acl_extent bytes (unwrap_or place 0) p ≡ acl_extent_of place p)
 acl-shown bytes None acl.Absent h = (refl, refl)
 acl-shown bytes None acl.Null h = absurd h
 acl-shown bytes None (acl.List aces) h = absurd h
@@ -51,13 +56,15 @@ acl-shown bytes (Some offset) (acl.List aces) h =
       ap (λ (n : ℕ). Some (offset, offset + n)) long,
     )
 
-acl-small : (bytes : List ℕ) (place : Option ℕ) (p : AclPart) → AclStands bytes place p → length bytes ≤ 131226 → unwrap_or place 0 < 2 ^ 32
+acl-small : (bytes : List ℕ) (place : Option ℕ) (p : AclPart) → AclStands bytes place p → length bytes ≤ 131226
+    → unwrap_or place 0 < 2 ^ 32
 acl-small bytes None p h room = omega arith
 acl-small bytes (Some offset) acl.Absent h room = absurd h
 acl-small bytes (Some offset) acl.Null h room = omega (arith, h)
 acl-small bytes (Some offset) (acl.List aces) h room = omega (arith, h.1.inside, room)
 
-pub acl-present : (bytes : List ℕ) (place : Option ℕ) (p : AclPart) → AclStands bytes place p → is_some place ≡ is_present p
+pub acl-present : (bytes : List ℕ) (place : Option ℕ) (p : AclPart) → AclStands bytes place p
+    → is_some place ≡ is_present p
 acl-present bytes None acl.Absent h = refl
 acl-present bytes None acl.Null h = absurd h
 acl-present bytes None (acl.List aces) h = absurd h
@@ -66,10 +73,12 @@ acl-present bytes (Some offset) acl.Null h = refl
 acl-present bytes (Some offset) (acl.List aces) h = refl
 
 -- the same under fields that are read from the bytes
-sid-read : (bytes : List ℕ) (offset field : ℕ) (o : Option SecurityId) → field ≡ offset → ShowsSid bytes offset o → ShowsSid bytes field o
+sid-read : (bytes : List ℕ) (offset field : ℕ) (o : Option SecurityId) → field ≡ offset → ShowsSid bytes offset o
+    → ShowsSid bytes field o
 sid-read bytes offset field o e h = subst (λ (n : ℕ). ShowsSid bytes n o) (sym e) h
 
-acl-read : (bytes : List ℕ) (present bit : Bool) (offset field : ℕ) (p : AclPart) → bit ≡ present → field ≡ offset → ShowsAclPart bytes present offset p
+acl-read : (bytes : List ℕ) (present bit : Bool) (offset field : ℕ) (p : AclPart) → bit ≡ present → field ≡ offset
+    → ShowsAclPart bytes present offset p
     → ShowsAclPart bytes bit field p
 acl-read bytes present bit offset field p e f h = rw (e, f) h
 
@@ -82,7 +91,8 @@ unfolding header_bytes
 length-header_for rm control b = refl
 
 shows : (b : Builder) (bytes : List ℕ) (t : Draft) (flags rm : ℕ) → flags < 2 ^ 16 → PartsStand bytes b t
-    → Shows (header_for rm (control_of flags (is_present t.sacl) (is_present t.dacl)) b ++ drop 20 bytes) (built flags rm t)
+    → Shows (header_for rm (control_of flags (is_present t.sacl) (is_present t.dacl)) b ++ drop 20 bytes)
+    (built flags rm t)
 shows b bytes t flags rm small h =
     let word = control_of flags (is_present t.sacl) (is_present t.dacl) in
     let bits = control-bits flags (is_present t.sacl) (is_present t.dacl) small in
@@ -99,23 +109,30 @@ shows b bytes t flags rm small h =
     let dacl = header-dacl rm word b.owner b.group s d rest (acl-small bytes b.dacl t.dacl h.dacl room) in
     let sacl_stands = acl-shown new b.sacl t.sacl (acl-kept bytes new b.sacl t.sacl keep h.sacl) in
     let dacl_stands = acl-shown new b.dacl t.dacl (acl-kept bytes new b.dacl t.dacl keep h.dacl) in
-    let sacl_place : acl_extent new (sacl_at new) t.sacl ≡ acl_extent_of b.sacl t.sacl = ap (λ (n : ℕ). acl_extent new n t.sacl) sacl ∙ sacl_stands.1 in
-    let dacl_place : acl_extent new (dacl_at new) t.dacl ≡ acl_extent_of b.dacl t.dacl = ap (λ (n : ℕ). acl_extent new n t.dacl) dacl ∙ dacl_stands.1 in
+    let sacl_place : acl_extent new (sacl_at new) t.sacl ≡ acl_extent_of b.sacl
+    t.sacl = ap (λ (n : ℕ). acl_extent new n t.sacl) sacl ∙ sacl_stands.1 in
+    let dacl_place : acl_extent new (dacl_at new) t.dacl ≡ acl_extent_of b.dacl
+    t.dacl = ap (λ (n : ℕ). acl_extent new n t.dacl) dacl ∙ dacl_stands.1 in
     record {
       header = omega (arith, length-append header rest, length-header_for rm word b);
       revision = header-revision rm word b.owner b.group s d rest;
       rm = header-rm rm word b.owner b.group s d rest;
       control = header-control rm word b.owner b.group s d rest bits.small;
       relative = bit-test _ true bits.relative;
-      owner = sid-read new b.owner (owner_at new) t.owner owner (sid-shown new b.owner t.owner (sid-kept bytes new b.owner t.owner keep h.owner));
-      group = sid-read new b.group (group_at new) t.group group (sid-shown new b.group t.group (sid-kept bytes new b.group t.group keep h.group));
-      sacl = acl-read new (is_present t.sacl) _ s (sacl_at new) t.sacl (bit-test _ (is_present t.sacl) bits.sacl) sacl sacl_stands.0;
-      dacl = acl-read new (is_present t.dacl) _ d (dacl_at new) t.dacl (bit-test _ (is_present t.dacl) bits.dacl) dacl dacl_stands.0;
+      owner = sid-read new b.owner (owner_at new) t.owner owner
+          (sid-shown new b.owner t.owner (sid-kept bytes new b.owner t.owner keep h.owner));
+      group = sid-read new b.group (group_at new) t.group group
+          (sid-shown new b.group t.group (sid-kept bytes new b.group t.group keep h.group));
+      sacl = acl-read new (is_present t.sacl) _ s (sacl_at new) t.sacl (bit-test _ (is_present t.sacl) bits.sacl) sacl
+          sacl_stands.0;
+      dacl = acl-read new (is_present t.dacl) _ d (dacl_at new) t.dacl (bit-test _ (is_present t.dacl) bits.dacl) dacl
+          dacl_stands.0;
       apart = rw (owner, group, sacl_place, dacl_place) h.apart;
     }
 
 -- each ACL stands in its written form, and nothing else stands
-acl-written : (bytes : List ℕ) (place : Option ℕ) (field : ℕ) (p : AclPart) → field ≡ unwrap_or place 0 → AclStands bytes place p → AclIsWritten bytes field p
+acl-written : (bytes : List ℕ) (place : Option ℕ) (field : ℕ) (p : AclPart) → field ≡ unwrap_or place 0
+    → AclStands bytes place p → AclIsWritten bytes field p
 acl-written bytes None field acl.Absent e h = e
 acl-written bytes (Some offset) field acl.Absent e h = absurd h
 acl-written bytes None field acl.Null e h = absurd h
@@ -147,18 +164,23 @@ pub finish-room : (b : Builder) (bytes : List ℕ) (t : Draft) → Builds b byte
 unfolding Builds
 finish-room b bytes t h e = (room bytes b t (closed-from b bytes t t h e h).parts).low
 
-pub finish-shows : (b : Builder) (bytes : List ℕ) (t0 t : Draft) (flags rm : ℕ) → Builds b bytes t0 → t0.«open» ≡ None → flags < 2 ^ 16 → Builds b bytes t
+pub finish-shows : (b : Builder) (bytes : List ℕ) (t0 t : Draft) (flags rm : ℕ) → Builds b bytes t0 → t0.«open» ≡ None
+    → flags < 2 ^ 16 → Builds b bytes t
     → Shows (header_for rm (control_of flags (is_some b.sacl) (is_some b.dacl)) b ++ drop 20 bytes) (built flags rm t)
 unfolding Builds
 finish-shows b bytes t0 t flags rm h0 e small h =
     let parts = (closed-from b bytes t0 t h0 e h).parts in
     let sacl = acl-present bytes b.sacl t.sacl parts.sacl in
     let dacl = acl-present bytes b.dacl t.dacl parts.dacl in
-    subst (λ (x : Bool). Shows (header_for rm (control_of flags x (is_some b.dacl)) b ++ drop 20 bytes) (built flags rm t)) (sym sacl)
-    (subst (λ (x : Bool). Shows (header_for rm (control_of flags (is_present t.sacl) x) b ++ drop 20 bytes) (built flags rm t)) (sym dacl)
+    subst (λ (x : Bool). Shows (header_for rm (control_of flags x (is_some b.dacl)) b ++ drop 20 bytes)
+    (built flags rm t)) (sym sacl)
+    (subst (λ (x : Bool). Shows (header_for rm (control_of flags (is_present t.sacl) x) b ++ drop 20 bytes)
+    (built flags rm t)) (sym dacl)
     (shows b bytes t flags rm small parts))
 
-pub finish-written : (b : Builder) (bytes : List ℕ) (t0 t : Draft) (flags rm word : ℕ) → Builds b bytes t0 → t0.«open» ≡ None → Builds b bytes t
+pub finish-written : (b : Builder) (bytes : List ℕ) (t0 t : Draft) (flags rm word : ℕ) → Builds b bytes t0
+    → t0.«open» ≡ None → Builds b bytes t
     → IsWritten (header_for rm word b ++ drop 20 bytes) (built flags rm t)
 unfolding Builds
-finish-written b bytes t0 t flags rm word h0 e h = is-written b bytes t flags rm word (closed-from b bytes t0 t h0 e h).parts
+finish-written b bytes t0 t flags rm word h0 e h = is-written b bytes t flags rm word
+    (closed-from b bytes t0 t h0 e h).parts

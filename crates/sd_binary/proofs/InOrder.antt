@@ -46,7 +46,14 @@ length-parts t =
     let whole : length (parts_given t)
     ≡ length (sid_part t.owner) + (length (sid_part t.group) + (length (acl_part t.sacl) + length (acl_part t.dacl))) =
     simp length-append in
-    omega (arith, whole, length-sid_part t.owner, length-sid_part t.group, length-acl_part t.sacl, length-acl_part t.dacl)
+    omega (
+      arith,
+      whole,
+      length-sid_part t.owner,
+      length-sid_part t.group,
+      length-acl_part t.sacl,
+      length-acl_part t.dacl,
+    )
 
 -- so they are all that stands after the header, up to the ACL that is open
 closed-parts : (bytes front tail : List ℕ) (b : Builder) (t : Draft) → PartsStand front b t → bytes ≡ front ++ tail
@@ -277,7 +284,8 @@ group-in-order b bytes t0 t s h0 free e limits h none =
 pub begin-in-order : (b : Builder) (bytes front : List ℕ) (w : Which) (t0 t : Draft) → Builds b bytes t0
     → CanBegin w t0 → length front ≡ 8
     → BuildsInOrder b bytes t → bytes_after (part_of w) t ≡ []
-    → BuildsInOrder (record b { «open» = Some (record { «which» = w; start = length bytes; count = 0; object = false }) })
+    → BuildsInOrder (record b
+    { «open» = Some (record { «which» = w; start = length bytes; count = 0; object = false }) })
     (bytes ++ front) (begun w t)
 unfolding Builds BuildsInOrder
 begin-in-order b bytes front w t0 t h0 can eight h none =

@@ -1,4 +1,5 @@
--- Parts that stand in a builder's buffer: they stay where they are when more is appended, and when the header is written.
+-- Parts that stand in a builder's buffer: they stay where they are when more is appended, and when the header is
+-- written.
 use Rattle.std.proofs.Common.{◌≡◌, ◌≤◌, ◌<◌, inl, inr, ℕ, ◌+◌, ◌^◌, List, [], ◌++◌, length, drop, Option, Some, None, refl, sym, ap, ◌∙◌, append_assoc, arith, length-append, length-drop}
 use Rattle.std.proofs.lemmas.List.{append-nil, drop-append-le}
 use Rattle.std.proofs.lemmas.Slice.{drop-append-drop}
@@ -28,7 +29,8 @@ appended bytes more offset part h = record {
   low = h.low;
   inside = omega (arith, h.inside, length-append bytes more);
   rest = h.rest ++ more;
-  shape = drop-append-le offset bytes more (omega (arith, h.inside)) ∙ ap (λ (r : List ℕ). r ++ more) h.shape ∙ append_assoc part h.rest more;
+  shape = drop-append-le offset bytes more (omega (arith, h.inside)) ∙ ap (λ (r : List ℕ). r ++ more) h.shape
+      ∙ append_assoc part h.rest more;
 }
 
 pub headed : (bytes header : List ℕ) → length header ≡ 20 → Kept bytes (header ++ drop 20 bytes)
@@ -48,11 +50,13 @@ stands-last bytes part h = record {
   shape = drop-append_seam bytes part ∙ sym (append-nil part);
 }
 
-pub sid-kept : (bytes new : List ℕ) (offset : ℕ) (o : Option SecurityId) → Kept bytes new → SidStands bytes offset o → SidStands new offset o
+pub sid-kept : (bytes new : List ℕ) (offset : ℕ) (o : Option SecurityId) → Kept bytes new → SidStands bytes offset o
+    → SidStands new offset o
 sid-kept bytes new offset None k h = h
 sid-kept bytes new offset (Some s) k h = (h.0, k offset (sid_bytes s) h.1)
 
-pub acl-kept : (bytes new : List ℕ) (place : Option ℕ) (p : AclPart) → Kept bytes new → AclStands bytes place p → AclStands new place p
+pub acl-kept : (bytes new : List ℕ) (place : Option ℕ) (p : AclPart) → Kept bytes new → AclStands bytes place p
+    → AclStands new place p
 acl-kept bytes new None acl.Absent k h = tt
 acl-kept bytes new None acl.Null k h = h
 acl-kept bytes new None (acl.List aces) k h = h
@@ -65,11 +69,13 @@ abbrev Ends : Extent → ℕ → Type 0
 Ends None n = Unit {0}
 Ends (Some p) n = p.1 ≤ n
 
-sid-ends : (bytes : List ℕ) (offset : ℕ) (o : Option SecurityId) → SidStands bytes offset o → Ends (sid_extent offset o) (length bytes)
+sid-ends : (bytes : List ℕ) (offset : ℕ) (o : Option SecurityId) → SidStands bytes offset o
+    → Ends (sid_extent offset o) (length bytes)
 sid-ends bytes offset None h = tt
 sid-ends bytes offset (Some s) h = omega (arith, h.1.inside, length-sid_bytes s)
 
-acl-ends : (bytes : List ℕ) (place : Option ℕ) (p : AclPart) → AclStands bytes place p → Ends (acl_extent_of place p) (length bytes)
+acl-ends : (bytes : List ℕ) (place : Option ℕ) (p : AclPart) → AclStands bytes place p
+    → Ends (acl_extent_of place p) (length bytes)
 acl-ends bytes None p h = tt
 acl-ends bytes (Some offset) acl.Absent h = tt
 acl-ends bytes (Some offset) acl.Null h = tt
@@ -89,7 +95,8 @@ apart-none None = tt
 apart-none (Some p) = tt
 
 -- the offsets and the number of the bytes are small
-pub sid-small : (bytes : List ℕ) (offset : ℕ) (o : Option SecurityId) → SidStands bytes offset o → length bytes ≤ 131226 → offset < 2 ^ 32
+pub sid-small : (bytes : List ℕ) (offset : ℕ) (o : Option SecurityId) → SidStands bytes offset o → length bytes ≤ 131226
+    → offset < 2 ^ 32
 sid-small bytes offset None h room = omega arith
 sid-small bytes offset (Some s) h room = omega (arith, h.1.inside, room)
 
@@ -133,12 +140,14 @@ room bytes b t h =
     }
 
 -- an owner more
-pub owner-stands : (bytes : List ℕ) (b : Builder) (t : Draft) (s : SecurityId) → t.owner ≡ None → IsSid s → PartsStand bytes b t
+pub owner-stands : (bytes : List ℕ) (b : Builder) (t : Draft) (s : SecurityId) → t.owner ≡ None → IsSid s
+    → PartsStand bytes b t
     → PartsStand (bytes ++ sid_bytes s) (record b { owner = length bytes }) (record t { owner = Some s })
 owner-stands bytes b t s free limits h =
     let new = bytes ++ sid_bytes s in
     let keep = appended bytes (sid_bytes s) in
-    let long : length new ≡ length bytes + sid_size s = length-append bytes (sid_bytes s) ∙ ap (λ (n : ℕ). length bytes + n) (length-sid_bytes s) in
+    let long : length new ≡ length bytes + sid_size s = length-append bytes (sid_bytes s)
+    ∙ ap (λ (n : ℕ). length bytes + n) (length-sid_bytes s) in
     let left : sid_part_size t.owner ≡ 0 = ap sid_part_size free in
     record {
       owner = (limits, stands-last bytes (sid_bytes s) (low bytes b t h));
@@ -157,12 +166,14 @@ owner-stands bytes b t s free limits h =
     }
 
 -- a group more
-pub group-stands : (bytes : List ℕ) (b : Builder) (t : Draft) (s : SecurityId) → t.group ≡ None → IsSid s → PartsStand bytes b t
+pub group-stands : (bytes : List ℕ) (b : Builder) (t : Draft) (s : SecurityId) → t.group ≡ None → IsSid s
+    → PartsStand bytes b t
     → PartsStand (bytes ++ sid_bytes s) (record b { group = length bytes }) (record t { group = Some s })
 group-stands bytes b t s free limits h =
     let new = bytes ++ sid_bytes s in
     let keep = appended bytes (sid_bytes s) in
-    let long : length new ≡ length bytes + sid_size s = length-append bytes (sid_bytes s) ∙ ap (λ (n : ℕ). length bytes + n) (length-sid_bytes s) in
+    let long : length new ≡ length bytes + sid_size s = length-append bytes (sid_bytes s)
+    ∙ ap (λ (n : ℕ). length bytes + n) (length-sid_bytes s) in
     let left : sid_part_size t.group ≡ 0 = ap sid_part_size free in
     record {
       owner = sid-kept bytes new b.owner t.owner keep h.owner;
@@ -181,12 +192,15 @@ group-stands bytes b t s free limits h =
     }
 
 -- an ACL more
-pub list-stands : (bytes : List ℕ) (b : Builder) (t : Draft) (w : Which) (aces : List AccessControlEntry) → acl_of w t ≡ acl.Absent → IsAcl aces
-    → PartsStand bytes b t → PartsStand (bytes ++ acl_bytes aces) (placed w (length bytes) b) (with_acl w (acl.List aces) t)
+pub list-stands : (bytes : List ℕ) (b : Builder) (t : Draft) (w : Which) (aces : List AccessControlEntry)
+    → acl_of w t ≡ acl.Absent → IsAcl aces
+    → PartsStand bytes b t
+    → PartsStand (bytes ++ acl_bytes aces) (placed w (length bytes) b) (with_acl w (acl.List aces) t)
 list-stands bytes b t lists.Sacl aces free limits h =
     let new = bytes ++ acl_bytes aces in
     let keep = appended bytes (acl_bytes aces) in
-    let long : length new ≡ length bytes + acl_size aces = length-append bytes (acl_bytes aces) ∙ ap (λ (n : ℕ). length bytes + n) (length-acl_bytes aces) in
+    let long : length new ≡ length bytes + acl_size aces = length-append bytes (acl_bytes aces)
+    ∙ ap (λ (n : ℕ). length bytes + n) (length-acl_bytes aces) in
     let left : acl_part_size t.sacl ≡ 0 = ap acl_part_size free in
     record {
       owner = sid-kept bytes new b.owner t.owner keep h.owner;
@@ -206,7 +220,8 @@ list-stands bytes b t lists.Sacl aces free limits h =
 list-stands bytes b t lists.Dacl aces free limits h =
     let new = bytes ++ acl_bytes aces in
     let keep = appended bytes (acl_bytes aces) in
-    let long : length new ≡ length bytes + acl_size aces = length-append bytes (acl_bytes aces) ∙ ap (λ (n : ℕ). length bytes + n) (length-acl_bytes aces) in
+    let long : length new ≡ length bytes + acl_size aces = length-append bytes (acl_bytes aces)
+    ∙ ap (λ (n : ℕ). length bytes + n) (length-acl_bytes aces) in
     let left : acl_part_size t.dacl ≡ 0 = ap acl_part_size free in
     record {
       owner = sid-kept bytes new b.owner t.owner keep h.owner;
@@ -225,7 +240,8 @@ list-stands bytes b t lists.Dacl aces free limits h =
     }
 
 -- a null ACL more
-pub null-stands : (bytes : List ℕ) (b : Builder) (t : Draft) (w : Which) → acl_of w t ≡ acl.Absent → PartsStand bytes b t → PartsStand bytes (placed w 0 b) (with_acl w acl.Null t)
+pub null-stands : (bytes : List ℕ) (b : Builder) (t : Draft) (w : Which) → acl_of w t ≡ acl.Absent
+    → PartsStand bytes b t → PartsStand bytes (placed w 0 b) (with_acl w acl.Null t)
 null-stands bytes b t lists.Sacl free h =
     let left : acl_part_size t.sacl ≡ 0 = ap acl_part_size free in record {
       owner = h.owner;

@@ -71,7 +71,8 @@ open_size_in (Some o) = acl_size o.1
 abbrev pub open_size : Draft → ℕ
 open_size t = open_size_in t.«open»
 
-abbrev pub more_in : AccessControlEntry → Option (Which × List AccessControlEntry) → Option (Which × List AccessControlEntry)
+abbrev pub more_in : AccessControlEntry → Option (Which × List AccessControlEntry)
+    → Option (Which × List AccessControlEntry)
 more_in a None = None
 more_in a (Some o) = Some (o.0, o.1 ++ a ∷ [])
 

@@ -93,7 +93,8 @@ module _ (dec : List ℕ) (long : length dec ≡ 256) (table : IsDecodeTable dec
   chosen-small true x y h k = h
   chosen-small false x y h k = k
 
-  push-small : (pad at : ℕ) (st : Leftover) (i b : ℕ) → AreSmall st.morsels → SmallSoFar (push_leftover dec pad at st i b)
+  push-small : (pad at : ℕ) (st : Leftover) (i b : ℕ) → AreSmall st.morsels
+      → SmallSoFar (push_leftover dec pad at st i b)
   push-small pad at st i b h =
       chosen-small (b == pad) _ _ (chosen-small (nat_lt i 2) _ _ tt h)
       (chosen-small (nat_lt 0 st.padding_count) _ _ tt
@@ -107,7 +108,8 @@ module _ (dec : List ℕ) (long : length dec ≡ 256) (table : IsDecodeTable dec
   unfolding scan_steps
   scan-small pad at i (Err e) bs h = tt
   scan-small pad at i (Ok st) [] h = h
-  scan-small pad at i (Ok st) (b ∷ bs) h = scan-small pad at (i + 1) (push_leftover dec pad at st i b) bs (push-small pad at st i b h)
+  scan-small pad at i (Ok st) (b ∷ bs) h = scan-small pad at (i + 1) (push_leftover dec pad at st i b) bs
+      (push-small pad at st i b h)
 
   left-bytes : (r : Result Leftover DecodeError) → SmallSoFar r → AreBytes (scan_bytes r)
   left-bytes (Ok st) h = AreBytes-take _ _ (group-bytes _ _ _ _ (h 0) (h 1) (h 2) (h 3))
@@ -121,22 +123,26 @@ module _ (dec : List ℕ) (long : length dec ≡ 256) (table : IsDecodeTable dec
   start-small (suc (suc (suc (suc i)))) = omega arith
 
   last-bytes : (pad at : ℕ) (s : List ℕ) → AreBytes (suffix_bytes dec pad at s)
-  last-bytes pad at s = left-bytes (scan_last dec pad at s) (scan-small pad at 0 (Ok no_leftover) (drop at s) start-small)
+  last-bytes pad at s = left-bytes (scan_last dec pad at s)
+      (scan-small pad at 0 (Ok no_leftover) (drop at s) start-small)
 
 outcome-ok : (x : Option DecodeError) (d b : List ℕ) → decode_outcome x d ≡ Ok b → (x ≡ None) × (d ≡ b)
 outcome-ok None d b h = (refl, cc h)
 outcome-ok (Some e) d b h = cc h
 
-decoded-bytes : (e : GeneralPurpose) (text bytes : List ℕ) → length e.decode_table ≡ 256 → decode_of e text ≡ Ok bytes → AreBytes bytes
+decoded-bytes : (e : GeneralPurpose) (text bytes : List ℕ) → length e.decode_table ≡ 256 → decode_of e text ≡ Ok bytes
+    → AreBytes bytes
 decoded-bytes e text bytes long h =
     let dec = e.decode_table in
     let pad = e.padding.value in
-    let table : IsDecodeTable dec = IsDecodeTable_from e.encode_table dec (are_tables_inverse e.encode_table dec pad e.tables) in
+    let table : IsDecodeTable dec = IsDecodeTable_from e.encode_table dec
+    (are_tables_inverse e.encode_table dec pad e.tables) in
     let q = groups_before_last (length text) in
     let parts = outcome-ok _ _ bytes h in
     let none = or_else-none dec long table _ _ parts.0 in
     let whole = or_else-none dec long table (groups_error dec text q) _ none.1 in
-    subst AreBytes parts.1 (AreBytes-append _ _ (groups-bytes dec long table text q whole.0) (last-bytes dec long table pad (4 * q) text))
+    subst AreBytes parts.1
+    (AreBytes-append _ _ (groups-bytes dec long table text q whole.0) (last-bytes dec long table pad (4 * q) text))
 
 -- what a text spells is bytes
 pub spelled-base64 : (text bytes : List ℕ) → base64_spells text ≡ Ok bytes → AreBytes bytes
@@ -154,7 +160,11 @@ symbols-short t (a ∷ b ∷ c ∷ rest) = let more = symbols-short t rest in om
 encode-short : (t m : List ℕ) (pad : ℕ) → length (encode t pad true m) ≤ 2 * length m + 2
 encode-short t m pad =
     let symbols = symbols-short t m in
-    omega (arith, length-append (encode_symbols t m) (replicate (padding_len (length m)) pad), length-replicate (padding_len (length m)) pad)
+    omega (
+      arith,
+      length-append (encode_symbols t m) (replicate (padding_len (length m)) pad),
+      length-replicate (padding_len (length m)) pad,
+    )
 
 -- at most two characters a byte, and two
 pub base64-short : (m : List ℕ) → length (encode_of standard m) ≤ 2 * length m + 2
@@ -169,7 +179,8 @@ encode-piece e bytes at n within whole =
 -- a piece more, where those before it are of a multiple of three bytes
 pub Prints-base64 : (a b c : PrintTold) (bytes text : List ℕ) (at n : ℕ) → at ≤ length bytes → at % 3 ≡ 0
     → text ≡ encode_of standard (take (at + n - at) (drop at bytes))
-    → Prints a b (encode_of standard (take at bytes)) → Prints b c text → Prints a c (encode_of standard (take (at + n) bytes))
+    → Prints a b (encode_of standard (take at bytes)) → Prints b c text
+    → Prints a c (encode_of standard (take (at + n) bytes))
 Prints-base64 a b c bytes text at n within whole is p q =
     let piece : at + n - at ≡ n = omega arith in
     let same : text ≡ encode_of standard (take n (drop at bytes)) = rw piece at is in

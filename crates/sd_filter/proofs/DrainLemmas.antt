@@ -14,12 +14,14 @@ Appends-Keeps (Some x) None h = absurd h
 Appends-Keeps (Some x) (Some y) h = h ∙ sym (append-nil x)
 
 -- a write that takes nothing of some bytes counts as failed
-pub failed-nothing : {E : Type 0} (r : Result ℕ E) (bytes : List ℕ) (failures : ℕ) → r ≡ Ok 0 → 0 < length bytes → failed_writes_after r bytes failures ≡ counted failures
+pub failed-nothing : {E : Type 0} (r : Result ℕ E) (bytes : List ℕ) (failures : ℕ) → r ≡ Ok 0 → 0 < length bytes
+    → failed_writes_after r bytes failures ≡ counted failures
 failed-nothing {E} r [] failures e h = absurd (omega arith)
 failed-nothing {E} r (b ∷ bytes) failures e h = rw e
 
 -- a write that takes some bytes does not fail
-pub failed-some : {E : Type 0} (r : Result ℕ E) (bytes : List ℕ) (n failures : ℕ) → r ≡ Ok n → 0 < n → failed_writes_after r bytes failures ≡ failures
+pub failed-some : {E : Type 0} (r : Result ℕ E) (bytes : List ℕ) (n failures : ℕ) → r ≡ Ok n → 0 < n
+    → failed_writes_after r bytes failures ≡ failures
 failed-some {E} r bytes zero failures e h = absurd (omega arith)
 failed-some {E} r bytes (suc n) failures e h = rw e
 
@@ -31,7 +33,10 @@ pub PutSome-stopped : (old mid new : DrainTold) (bytes : List ℕ) (at : ℕ)
 PutSome-stopped old mid new bytes at so_far same none failed beyond = record {
   place = refl;
   part = take at bytes ++ [];
-  is_prefix = (drop at bytes, sym (ap (λ l. l ++ drop at bytes) (append-nil (take at bytes)) ∙ take-append-drop at bytes));
+  is_prefix = (
+    drop at bytes,
+    sym (ap (λ l. l ++ drop at bytes) (append-nil (take at bytes)) ∙ take-append-drop at bytes),
+  );
   appended = Appends-trans old.taken mid.taken new.taken _ _ so_far none;
   failed = omega arith;
   beyond = beyond;
@@ -41,8 +46,11 @@ PutSome-stopped old mid new bytes at so_far same none failed beyond = record {
 take_both : (bytes : List ℕ) (at n : ℕ) → take at bytes ++ take n (drop at bytes) ≡ take (at + n) bytes
 take_both bytes at n =
     let le : at ≤ at + n = omega arith in
-    ap (λ l. take at bytes ++ l) (sym (drop-take at n bytes)) ∙ ap (λ l. l ++ drop at (take (at + n) bytes)) (sym (take-take at (at + n) bytes le)) ∙ take-append-drop at (take (at + n) bytes)
+    ap (λ l. take at bytes ++ l) (sym (drop-take at n bytes))
+    ∙ ap (λ l. l ++ drop at (take (at + n) bytes)) (sym (take-take at (at + n) bytes le))
+    ∙ take-append-drop at (take (at + n) bytes)
 
 -- one write more
-pub Appends-more : (a b c : Option (List ℕ)) (bytes : List ℕ) (at n : ℕ) → Appends a b (take at bytes) → Appends b c (take n (drop at bytes)) → Appends a c (take (at + n) bytes)
+pub Appends-more : (a b c : Option (List ℕ)) (bytes : List ℕ) (at n : ℕ) → Appends a b (take at bytes)
+    → Appends b c (take n (drop at bytes)) → Appends a c (take (at + n) bytes)
 Appends-more a b c bytes at n p q = subst (Appends a c) (take_both bytes at n) (Appends-trans a b c _ _ p q)

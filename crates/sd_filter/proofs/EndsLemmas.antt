@@ -8,11 +8,15 @@ use Rattle.sd_command.specs.declared.settings.UsageFault.{UsageFault}
 use Rattle.sd_filter.specs.declared.program.Prepared.{Prepared}
 
 -- an ending by the job that the words settle is an ending of words that are taken
-pub taken-run : (words : List Text) (prepared : Prepared) (told told' : Told) (status : ℕ) → PreparesBy words (Ok prepared) → EndsRun (of prepared) told told' status
+pub taken-run : (words : List Text) (prepared : Prepared) (told told' : Told) (status : ℕ)
+    → PreparesBy words (Ok prepared) → EndsRun (of prepared) told told' status
     → EndsTaken words told told' status
-taken-run words prepared told told' status p run = inr (subst (λ (s : Result Settings UsageFault). EndsSettled s told told' status) (sym p.1) run)
+taken-run words prepared told told' status p run = inr
+    (subst (λ (s : Result Settings UsageFault). EndsSettled s told told' status) (sym p.1) run)
 
 -- and one by the kinds of fault in them, of which there are none
-pub by-run : (words : List Text) (prepared : Prepared) (told told' : Told) (status : ℕ) → PreparesBy words (Ok prepared) → EndsRun (of prepared) told told' status
+pub by-run : (words : List Text) (prepared : Prepared) (told told' : Told) (status : ℕ) → PreparesBy words (Ok prepared)
+    → EndsRun (of prepared) told told' status
     → EndsBy words told told' status
-by-run words prepared told told' status p run = settled p.0 (subst (λ (s : Result Settings UsageFault). EndsSettled s told told' status) (sym p.1) run)
+by-run words prepared told told' status p run = settled p.0
+    (subst (λ (s : Result Settings UsageFault). EndsSettled s told told' status) (sym p.1) run)

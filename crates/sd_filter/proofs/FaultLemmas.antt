@@ -47,7 +47,8 @@ part-short (Some part.Sacl) = lit≤ tt
 part-short (Some part.Dacl) = lit≤ tt
 
 parts-short : (p : NamedParts) → length (parts_text p) ≤ 12
-parts-short p = let first = part-short p.0 in let second = part-short p.1 in omega (arith, length-append (part_text p.0) (part_text p.1))
+parts-short p = let first = part-short p.0 in let second = part-short
+    p.1 in omega (arith, length-append (part_text p.0) (part_text p.1))
 
 pub fault_text-short : (fault : LineFault) → length (fault_text fault) < 64
 unfolding fault_text

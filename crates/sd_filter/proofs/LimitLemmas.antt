@@ -39,7 +39,8 @@ spelled-bytes text bytes e =
     let pairs = decoded (decode_of text) bytes (not_chosen _ _ _ bytes e) in
     (decode_pairs-ok 0 text bytes (not_chosen (eqb (length text % 2) 1) OddLength (decode_pairs 0 text) bytes pairs)).2
 
-read_by : (f : Option SdFault) (bytes : List ℕ) (d : Descriptor) → AreBytes bytes → fault bytes ≡ f → unless f (shown bytes) ≡ Ok d → IsDescriptor d
+read_by : (f : Option SdFault) (bytes : List ℕ) (d : Descriptor) → AreBytes bytes → fault bytes ≡ f
+    → unless f (shown bytes) ≡ Ok d → IsDescriptor d
 read_by None bytes d b e h = let same : shown bytes ≡ d = cc in subst IsDescriptor same (fault-shows bytes b e).1.limits
 read_by (Some f) bytes d b e h = absurd (cc)
 
@@ -52,19 +53,23 @@ abbrev pub Limits : Result Descriptor LineFault → Type 0
 Limits (Err fault) = Unit {0}
 Limits (Ok d) = IsDescriptor d
 
-read_limits : (r : Result Descriptor SdFault) → ((d : Descriptor) → r ≡ Ok d → IsDescriptor d) → Limits (or_byte_fault r)
+read_limits : (r : Result Descriptor SdFault) → ((d : Descriptor) → r ≡ Ok d → IsDescriptor d)
+    → Limits (or_byte_fault r)
 read_limits (Err fault) h = tt
 read_limits (Ok d) h = h d refl
 
-bytes_limits : (r : Result (List ℕ) TextFault) → ((bytes : List ℕ) → r ≡ Ok bytes → AreBytes bytes) → Limits (bytes_mean r)
+bytes_limits : (r : Result (List ℕ) TextFault) → ((bytes : List ℕ) → r ≡ Ok bytes → AreBytes bytes)
+    → Limits (bytes_mean r)
 bytes_limits (Err fault) h = tt
 bytes_limits (Ok bytes) h = read_limits (reading bytes) (λ d e. read-limits bytes d (h bytes refl) e)
 
-sddl_limits : (r : Result Descriptor SddlFault) → ((d : Descriptor) → r ≡ Ok d → IsDescriptor d) → Limits (or_sddl_fault r)
+sddl_limits : (r : Result Descriptor SddlFault) → ((d : Descriptor) → r ≡ Ok d → IsDescriptor d)
+    → Limits (or_sddl_fault r)
 sddl_limits (Err fault) h = tt
 sddl_limits (Ok d) h = h d refl
 
-text_limits : (form : Form) (domain : Option SecurityId) (text : List ℕ) → IfSome domain IsSid → Limits (text_means form domain text)
+text_limits : (form : Form) (domain : Option SecurityId) (text : List ℕ) → IfSome domain IsSid
+    → Limits (text_means form domain text)
 text_limits form.Hex domain text k = bytes_limits (hex_spells text) (spelled-bytes text)
 text_limits form.Base64 domain text k = bytes_limits (base64_spells text) (spelled-base64 text)
 text_limits form.Sddl domain text k = sddl_limits (means text domain) (λ d e. means-limits text domain d k e)
@@ -77,9 +82,11 @@ abbrev pub MeansLimits : Meaning → Type 0
 MeansLimits None = Unit {0}
 MeansLimits (Some r) = Limits r
 
-line_limits : (form : Form) (domain : Option SecurityId) (line : List ℕ) → IfSome domain IsSid → Limits (line_means form domain line)
+line_limits : (form : Form) (domain : Option SecurityId) (line : List ℕ) → IfSome domain IsSid
+    → Limits (line_means form domain line)
 unfolding line_means
-line_limits form domain line k = chosen_limits (nat_lt (line_limit form) (length line)) (text_means form domain line) (text_limits form domain line k)
+line_limits form domain line k = chosen_limits (nat_lt (line_limit form) (length line)) (text_means form domain line)
+    (text_limits form domain line k)
 
 pub meaning-limits : (job : Job) (line : List ℕ) → IfSome job.domain IsSid → MeansLimits (meaning job line)
 meaning-limits job [] k = tt

@@ -10,10 +10,15 @@ front c b p = cond c (record { ended = [] ∷ p.ended; rest = p.rest }) (onto_fi
 
 -- one byte in front of a cut
 front-cut : (c : Bool) (b : ℕ) (ended : List (List ℕ)) (rest bytes : List ℕ) → (b == 10) ≡ c
-    → IsCut bytes (record { ended = ended; rest = rest }) → IsCut (b ∷ bytes) (front c b (record { ended = ended; rest = rest }))
+    → IsCut bytes (record { ended = ended; rest = rest })
+    → IsCut (b ∷ bytes) (front c b (record { ended = ended; rest = rest }))
 front-cut true b ended rest bytes is h =
     let lf : b ≡ 10 = search rules in
-    record { joined = rw lf (ap (λ l. 10 ∷ l) h.joined); ended_without = h.ended_without; rest_without = h.rest_without }
+    record {
+      joined = rw lf (ap (λ l. 10 ∷ l) h.joined);
+      ended_without = h.ended_without;
+      rest_without = h.rest_without;
+    }
 front-cut false b [] rest bytes is h =
     record { joined = ap (λ l. b ∷ l) h.joined; ended_without = refl; rest_without = rw is h.rest_without }
 front-cut false b (p ∷ ps) rest bytes is h =
@@ -33,12 +38,16 @@ closed p = record { ended = p.ended ++ p.rest ∷ []; rest = [] }
 abbrev grown : ℕ → Parts → Parts
 grown b p = record { ended = p.ended; rest = p.rest ++ b ∷ [] }
 
-front-closed : (c : Bool) (x : ℕ) (ended : List (List ℕ)) (rest : List ℕ) → front c x (closed (record { ended = ended; rest = rest })) ≡ closed (front c x (record { ended = ended; rest = rest }))
+front-closed : (c : Bool) (x : ℕ) (ended : List (List ℕ)) (rest : List ℕ)
+    → front c x (closed (record { ended = ended; rest = rest })) ≡ closed
+    (front c x (record { ended = ended; rest = rest }))
 front-closed true x ended rest = refl
 front-closed false x [] rest = refl
 front-closed false x (p ∷ ps) rest = refl
 
-front-grown : (c : Bool) (x b : ℕ) (ended : List (List ℕ)) (rest : List ℕ) → front c x (grown b (record { ended = ended; rest = rest })) ≡ grown b (front c x (record { ended = ended; rest = rest }))
+front-grown : (c : Bool) (x b : ℕ) (ended : List (List ℕ)) (rest : List ℕ)
+    → front c x (grown b (record { ended = ended; rest = rest })) ≡ grown b
+    (front c x (record { ended = ended; rest = rest }))
 front-grown true x b ended rest = refl
 front-grown false x b [] rest = refl
 front-grown false x b (p ∷ ps) rest = refl
@@ -48,13 +57,15 @@ unfolding parts
 parts-lf [] = refl
 parts-lf (x ∷ xs) = ap (front (x == 10) x) (parts-lf xs) ∙ front-closed (x == 10) x (parts xs).ended (parts xs).rest
 
-alone : (c : Bool) (b : ℕ) → c ≡ false → front c b (record { ended = []; rest = [] }) ≡ record { ended = []; rest = b ∷ [] }
+alone : (c : Bool) (b : ℕ) → c ≡ false
+    → front c b (record { ended = []; rest = [] }) ≡ record { ended = []; rest = b ∷ [] }
 alone c b e = rw e
 
 pub parts-other : (xs : List ℕ) (b : ℕ) → (b == 10) ≡ false → parts (xs ++ b ∷ []) ≡ grown b (parts xs)
 unfolding parts
 parts-other [] b e = alone (b == 10) b e
-parts-other (x ∷ xs) b e = ap (front (x == 10) x) (parts-other xs b e) ∙ front-grown (x == 10) x b (parts xs).ended (parts xs).rest
+parts-other (x ∷ xs) b e = ap (front (x == 10) x) (parts-other xs b e)
+    ∙ front-grown (x == 10) x b (parts xs).ended (parts xs).rest
 
 pub ended-lf : (xs : List ℕ) → ended (xs ++ 10 ∷ []) ≡ ended xs ++ without_cr (parts xs).rest ∷ []
 unfolding ended
@@ -71,7 +82,8 @@ pub rest-other : (xs : List ℕ) (b : ℕ) → (b == 10) ≡ false → (parts (x
 rest-other xs b e = ap (λ p. p.rest) (parts-other xs b e)
 
 -- more bytes end more lines
-ended-append_from : (b : Bool) (xs : List ℕ) (x : ℕ) → (x == 10) ≡ b → (more : List (List ℕ)) × (ended (xs ++ x ∷ []) ≡ ended xs ++ more)
+ended-append_from : (b : Bool) (xs : List ℕ) (x : ℕ) → (x == 10) ≡ b → (more : List (List ℕ))
+    × (ended (xs ++ x ∷ []) ≡ ended xs ++ more)
 ended-append_from true xs x e = let is : x ≡ 10 = search rules in (without_cr (parts xs).rest ∷ [], rw is (ended-lf xs))
 ended-append_from false xs x e = ([], ended-other xs x e ∙ sym (append-nil (ended xs)))
 
@@ -79,8 +91,11 @@ pub ended-append : (xs ys : List ℕ) → (more : List (List ℕ)) × (ended (xs
 ended-append xs [] = ([], ap ended (append-nil xs) ∙ sym (append-nil (ended xs)))
 ended-append xs (y ∷ ys) =
     let one = ended-append_from (y == 10) xs y refl in
-    let all = ended-append (xs ++ y ∷ []) ys in
-    (one.0 ++ all.0, ap ended (sym (append_assoc xs (y ∷ []) ys)) ∙ all.1 ∙ ap (λ l. l ++ all.0) one.1 ∙ append_assoc (ended xs) one.0 all.0)
+    let all = ended-append (xs ++ y ∷ []) ys in (
+      one.0 ++ all.0,
+      ap ended (sym (append_assoc xs (y ∷ []) ys)) ∙ all.1 ∙ ap (λ l. l ++ all.0) one.1
+          ∙ append_assoc (ended xs) one.0 all.0,
+    )
 
 -- no byte is an LF
 abbrev pub NoLf : List ℕ → Type 0
@@ -89,14 +104,17 @@ NoLf bytes = (k : ℕ) → k < length bytes → get_or bytes k 0 ≡ 10 → ⊥
 eq_false : (y : ℕ) → (y ≡ 10 → ⊥) → (y == 10) ≡ false
 eq_false y h = search rules
 
-pub parts-more : (xs ys : List ℕ) → NoLf ys → parts (xs ++ ys) ≡ record { ended = (parts xs).ended; rest = (parts xs).rest ++ ys }
-parts-more xs [] h = ap parts (append-nil xs) ∙ ap (λ r. let p : Parts = record { ended = (parts xs).ended; rest = r } in p) (sym (append-nil (parts xs).rest))
+pub parts-more : (xs ys : List ℕ) → NoLf ys
+    → parts (xs ++ ys) ≡ record { ended = (parts xs).ended; rest = (parts xs).rest ++ ys }
+parts-more xs [] h = ap parts (append-nil xs)
+    ∙ ap (λ r. let p : Parts = record { ended = (parts xs).ended; rest = r } in p) (sym (append-nil (parts xs).rest))
 parts-more xs (y ∷ ys) h =
     let one : (parts (xs ++ y ∷ [])) ≡ grown y (parts xs) = parts-other xs y (eq_false y (h 0 (omega arith))) in
     let all = parts-more (xs ++ y ∷ []) ys (λ k l e. h (suc k) (omega arith) e) in
     ap parts (sym (append_assoc xs (y ∷ []) ys)) ∙ all
     ∙ ap (λ p. let q : Parts = record { ended = p.ended; rest = p.rest ++ ys } in q) one
-    ∙ ap (λ r. let p : Parts = record { ended = (parts xs).ended; rest = r } in p) (append_assoc (parts xs).rest (y ∷ []) ys)
+    ∙ ap (λ r. let p : Parts = record { ended = (parts xs).ended; rest = r } in p)
+    (append_assoc (parts xs).rest (y ∷ []) ys)
 
 pub ended-more : (xs ys : List ℕ) → NoLf ys → ended (xs ++ ys) ≡ ended xs
 unfolding ended
@@ -113,12 +131,15 @@ pub length-part : (bytes : List ℕ) (start m : ℕ) → start + m ≤ length by
 length-part bytes start m room = length-take-le m (drop start bytes) (omega (arith, length-drop start bytes))
 
 -- a search that goes on in the bytes from a place on
-pub NoLfBelow-more : (bytes : List ℕ) (start m n : ℕ) → n ≤ m → NoLfBelow bytes start → NoLfBelow (take m (drop start bytes)) n → NoLfBelow bytes (start + n)
+pub NoLfBelow-more : (bytes : List ℕ) (start m n : ℕ) → n ≤ m → NoLfBelow bytes start
+    → NoLfBelow (take m (drop start bytes)) n → NoLfBelow bytes (start + n)
 NoLfBelow-more bytes start m n le before after k low e = elim (cases_lt k start) [
   | inl h ↦ before k h e
   | inr h ↦
       let within : k - start < n = omega arith in
       let shorter : k - start < m = omega arith in
       let place : start + (k - start) ≡ k = omega arith in
-      after (k - start) within (get_or-take m (drop start bytes) (k - start) 0 shorter ∙ get_or-drop start bytes (k - start) 0 ∙ ap (λ (i : ℕ). get_or bytes i 0) place ∙ e)
+      after (k - start) within
+      (get_or-take m (drop start bytes) (k - start) 0 shorter ∙ get_or-drop start bytes (k - start) 0
+      ∙ ap (λ (i : ℕ). get_or bytes i 0) place ∙ e)
 ]

@@ -13,7 +13,8 @@ abbrev after : List (List ℕ) → List ℕ → Parts → Parts
 after ended last more = record { ended = (ended ++ last ∷ []) ++ more.ended; rest = more.rest }
 
 front-after : (c : Bool) (b : ℕ) (ended : List (List ℕ)) (last : List ℕ) (more : Parts)
-    → front c b (after ended last more) ≡ after (front c b (record { ended = ended; rest = last })).ended (front c b (record { ended = ended; rest = last })).rest more
+    → front c b (after ended last more) ≡ after (front c b (record { ended = ended; rest = last })).ended
+    (front c b (record { ended = ended; rest = last })).rest more
 front-after true b ended last more = refl
 front-after false b [] last more = refl
 front-after false b (p ∷ ps) last more = refl
@@ -21,7 +22,8 @@ front-after false b (p ∷ ps) last more = refl
 parts-after : (xs ys : List ℕ) → parts (xs ++ 10 ∷ ys) ≡ after (parts xs).ended (parts xs).rest (parts ys)
 unfolding parts
 parts-after [] ys = refl
-parts-after (x ∷ xs) ys = ap (front (x == 10) x) (parts-after xs ys) ∙ front-after (x == 10) x (parts xs).ended (parts xs).rest (parts ys)
+parts-after (x ∷ xs) ys = ap (front (x == 10) x) (parts-after xs ys)
+    ∙ front-after (x == 10) x (parts xs).ended (parts xs).rest (parts ys)
 
 ended-after : (xs ys : List ℕ) → ended (xs ++ 10 ∷ ys) ≡ ended (xs ++ 10 ∷ []) ++ ended ys
 unfolding ended

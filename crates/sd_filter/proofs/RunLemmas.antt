@@ -27,11 +27,19 @@ Consumes-none : (a b c : Option (List ℕ)) (xs : List ℕ) → Consumes a b xs 
 Consumes-none a b c xs p q = rw append-nil at (Consumes-trans a b c xs [] p q)
 
 -- a flush after the last answer
-pub Answered-flush : (job : Job) (token0 token : TokenShown) (sink0 : SinkTold) (drain drain' : DrainTold) (all : List (List ℕ)) (report : Report)
-    → Answered job token0 sink0 all token (sink_of drain) report → Keeps drain.taken drain'.taken → drain'.failures ≡ drain.failures
+pub Answered-flush : (job : Job) (token0 token : TokenShown) (sink0 : SinkTold) (drain drain' : DrainTold)
+    (all : List (List ℕ)) (report : Report)
+    → Answered job token0 sink0 all token (sink_of drain) report → Keeps drain.taken drain'.taken
+    → drain'.failures ≡ drain.failures
     → Answered job token0 sink0 all token (sink_of drain') report
 Answered-flush job token0 token sink0 drain drain' all report h keeps same = record {
-  put = record { place = h.put.place; appended = Appends-kept _ _ _ _ h.put.appended keeps; no_failure = same ∙ h.put.no_failure; room = h.put.room };
+  put = record {
+    place = h.put.place;
+    appended = Appends-kept _ _ _ _ h.put.appended keeps;
+    no_failure = same
+        ∙ h.put.no_failure;
+    room = h.put.room;
+  };
   lines_counted = h.lines_counted;
   faults_counted = h.faults_counted;
   same_entries = h.same_entries;
@@ -39,8 +47,10 @@ Answered-flush job token0 token sink0 drain drain' all report h keeps same = rec
 }
 
 -- the same in the middle of a run
-pub Sofar-flush : (token0 token : TokenShown) (sink0 : SinkTold) (drain drain' : DrainTold) (got : List ℕ) (desk : Desk) (report : Report)
-    → Sofar token0 sink0 got desk token (sink_of drain) report → Keeps drain.taken drain'.taken → drain'.failures ≡ drain.failures
+pub Sofar-flush : (token0 token : TokenShown) (sink0 : SinkTold) (drain drain' : DrainTold) (got : List ℕ)
+    (desk : Desk) (report : Report)
+    → Sofar token0 sink0 got desk token (sink_of drain) report → Keeps drain.taken drain'.taken
+    → drain'.failures ≡ drain.failures
     → Sofar token0 sink0 got desk token (sink_of drain') report
 Sofar-flush token0 token sink0 drain drain' got desk report h keeps same = record {
   holds = h.holds;
@@ -52,7 +62,8 @@ none_ended [] none = refl
 none_ended (x ∷ xs) none = absurd (omega arith)
 
 -- a piece more: no line ended in it and nothing was put, or the last call was a flush
-HandedOn-more : (got got' : List ℕ) (a b c : DrainTold) (lines lines' : ℕ) → HandedOn got a b → lines ≡ length (ended got) → lines' ≡ length (ended got')
+HandedOn-more : (got got' : List ℕ) (a b c : DrainTold) (lines lines' : ℕ) → HandedOn got a b
+    → lines ≡ length (ended got) → lines' ≡ length (ended got')
     → ((c ≡ b) × (lines' ≡ lines)) ⊎ (c.flushed ≡ true) → HandedOn got' a c
 HandedOn-more got got' a b c lines lines' p counted counted' (inr flushed) = inr flushed
 HandedOn-more got got' a b c lines lines' (inl quiet) counted counted' (inl (still, same)) =
@@ -61,8 +72,10 @@ HandedOn-more got got' a b c lines lines' (inr flushed) counted counted' (inl (s
     inr (ap (λ (d : DrainTold). d.flushed) still ∙ flushed)
 
 -- a flush that fails
-pub Failed-flush : (job : Job) (token0 token : TokenShown) (sink0 : SinkTold) (drain drain' : DrainTold) (all : List (List ℕ)) (report : Report)
-    → Answered job token0 sink0 all token (sink_of drain) report → Keeps drain.taken drain'.taken → drain'.failures ≡ counted drain.failures
+pub Failed-flush : (job : Job) (token0 token : TokenShown) (sink0 : SinkTold) (drain drain' : DrainTold)
+    (all : List (List ℕ)) (report : Report)
+    → Answered job token0 sink0 all token (sink_of drain) report → Keeps drain.taken drain'.taken
+    → drain'.failures ≡ counted drain.failures
     → Failed job token0 sink0 all token (sink_of drain')
 Failed-flush job token0 token sink0 drain drain' all report h keeps failed = record {
   whole = all;
@@ -97,21 +110,25 @@ BeforeRead-start token0 source0 drain0 desk report h no_lines no_faults = record
 }
 
 -- the answers to some lines, and a part of the answer to one more, are a prefix of the answers to all
-written-prefix : (job : Job) (token0 token : TokenShown) (sink0 sink : SinkTold) (all : List (List ℕ)) (h : Failed job token0 sink0 all token sink)
+written-prefix : (job : Job) (token0 token : TokenShown) (sink0 sink : SinkTold) (all : List (List ℕ))
+    (h : Failed job token0 sink0 all token sink)
     → IsPrefix (answers job token0.entries h.whole ++ h.part) (answers job token0.entries all)
 written-prefix job token0 token sink0 sink all h =
     let a = answers job token0.entries in (
       h.is_prefix.0 ++ a h.more,
       ap a h.split ∙ answers-append job token0.entries (h.whole ++ h.broken) h.more
-          ∙ ap (λ (t : List ℕ). t ++ a h.more) (answers-append job token0.entries h.whole h.broken ∙ ap (λ (t : List ℕ). a h.whole ++ t) h.is_prefix.1)
+          ∙ ap (λ (t : List ℕ). t ++ a h.more)
+          (answers-append job token0.entries h.whole h.broken ∙ ap (λ (t : List ℕ). a h.whole ++ t) h.is_prefix.1)
           ∙ simp append_assoc,
     )
 
-module _ (most turn : ℕ) (token0 token : TokenShown) (source0 source source' : SourceTold) (drain0 drain : DrainTold) (desk : Desk) (report : Report)
+module _ (most turn : ℕ) (token0 token : TokenShown) (source0 source source' : SourceTold) (drain0 drain : DrainTold)
+    (desk : Desk) (report : Report)
     (r : BeforeRead turn token0 source0 drain0 desk token source drain report) (low : turn < most) where
   -- a piece was read and its lines are answered
   pub BeforeRead-more : (piece : List ℕ) (token' : TokenShown) (drain' : DrainTold) (desk' : Desk) (report' : Report)
-      → Consumes source.left source'.left piece → source'.reads ≡ counted source.reads → source'.ends ≡ source.ends → source'.failures ≡ source.failures
+      → Consumes source.left source'.left piece → source'.reads ≡ counted source.reads → source'.ends ≡ source.ends
+      → source'.failures ≡ source.failures
       → Sofar token0 (sink_of drain0) (r.got ++ piece) desk' token' (sink_of drain') report'
       → ((drain' ≡ drain) × (report'.lines ≡ report.lines)) ⊎ (drain'.flushed ≡ true)
       → BeforeRead (turn + 1) token0 source0 drain0 desk' token' source' drain' report'
@@ -119,7 +136,8 @@ module _ (most turn : ℕ) (token0 token : TokenShown) (source0 source source' :
     got = r.got ++ piece;
     read = Consumes-trans _ _ _ _ _ r.read consumed;
     sofar = sofar;
-    handed_on = HandedOn-more r.got (r.got ++ piece) drain0 drain drain' _ _ r.handed_on r.sofar.answered.lines_counted sofar.answered.lines_counted handed;
+    handed_on = HandedOn-more r.got (r.got ++ piece) drain0 drain drain' _ _ r.handed_on r.sofar.answered.lines_counted
+        sofar.answered.lines_counted handed;
     reads = record {
       at_least = let before = r.reads.at_least in omega arith;
       at_most = let before = r.reads.at_most in omega arith;
@@ -129,7 +147,8 @@ module _ (most turn : ℕ) (token0 token : TokenShown) (source0 source source' :
   }
 
   -- a read failed
-  pub broken-read : Keeps source.left source'.left → source'.reads ≡ counted source.reads → source'.ends ≡ source.ends → source'.failures ≡ counted source.failures
+  pub broken-read : Keeps source.left source'.left → source'.reads ≡ counted source.reads → source'.ends ≡ source.ends
+      → source'.failures ≡ counted source.failures
       → FaultSays most desk.job token0 token source0 source' drain0 drain Read
   broken-read keeps reads ends failed = (
     record {
@@ -223,7 +242,8 @@ module _ (most turn : ℕ) (token0 token : TokenShown) (source0 source source' :
   }
 
 -- the reads are used up
-pub broken-most : (most : ℕ) (token0 token : TokenShown) (source0 source : SourceTold) (drain0 drain : DrainTold) (desk : Desk) (report : Report)
+pub broken-most : (most : ℕ) (token0 token : TokenShown) (source0 source : SourceTold) (drain0 drain : DrainTold)
+    (desk : Desk) (report : Report)
     → BeforeRead most token0 source0 drain0 desk token source drain report
     → FaultSays most desk.job token0 token source0 source drain0 drain TooManyReads
 broken-most most token0 token source0 source drain0 drain desk report r = (
@@ -246,15 +266,18 @@ pub reads-some : (buf : List ℕ) (reads : ℕ) → 0 < length buf → reads_aft
 reads-some [] reads room = absurd (omega arith)
 reads-some (b ∷ buf) reads room = refl
 
-pub ends-zero : {E : Type 0} (r : Result ℕ E) (buf : List ℕ) (n ends : ℕ) → r ≡ Ok n → n ≡ 0 → 0 < length buf → ends_after r buf ends ≡ counted ends
+pub ends-zero : {E : Type 0} (r : Result ℕ E) (buf : List ℕ) (n ends : ℕ) → r ≡ Ok n → n ≡ 0 → 0 < length buf
+    → ends_after r buf ends ≡ counted ends
 ends-zero {E} r [] n ends e z room = absurd (omega arith)
 ends-zero {E} r (b ∷ buf) n ends e z room = rw (e, z)
 
-pub ends-some : {E : Type 0} (r : Result ℕ E) (buf : List ℕ) (n ends : ℕ) → r ≡ Ok n → (n ≡ 0 → ⊥) → ends_after r buf ends ≡ ends
+pub ends-some : {E : Type 0} (r : Result ℕ E) (buf : List ℕ) (n ends : ℕ) → r ≡ Ok n → (n ≡ 0 → ⊥)
+    → ends_after r buf ends ≡ ends
 ends-some {E} r buf zero ends e z = absurd (z refl)
 ends-some {E} r buf (suc n) ends e z = rw e
 
-pub ends-failed : {E : Type 0} (r : Result ℕ E) (buf : List ℕ) (e : E) (ends : ℕ) → r ≡ Err e → ends_after r buf ends ≡ ends
+pub ends-failed : {E : Type 0} (r : Result ℕ E) (buf : List ℕ) (e : E) (ends : ℕ) → r ≡ Err e
+    → ends_after r buf ends ≡ ends
 ends-failed {E} r buf e ends is = rw is
 
 pub failures-ok : {E : Type 0} (r : Result ℕ E) (n failures : ℕ) → r ≡ Ok n → failed_reads_after r failures ≡ failures

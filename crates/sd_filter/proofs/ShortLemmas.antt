@@ -33,7 +33,8 @@ use Rattle.sd_command.specs.declared.job.Form.TheVariants as form
 use Rattle.sd_command.specs.declared.job.Job.{Job}
 
 -- two characters a byte, of base64 two more at most, or those of the SDDL; and the LF
-form-short : (job : Job) (form : Form) (d : Descriptor) → IsDescriptor d → length (form_text job form d) ≤ 8 * size d + 63
+form-short : (job : Job) (form : Form) (d : Descriptor) → IsDescriptor d
+    → length (form_text job form d) ≤ 8 * size d + 63
 unfolding form_text
 form-short job form.Hex d h = omega (arith, length-encode_with lower_digits (layout d), length-layout d)
 form-short job form.Base64 d h = let short = base64-short (layout d) in omega (arith, short, length-layout d)

@@ -28,7 +28,8 @@ Compares-more token0 token token' n more h further =
     record { goes_on = omega arith; at_most = omega arith }
 
 -- one line more is answered
-pub Answered-push : (job : Job) (token0 token token' : TokenShown) (sink0 sink sink' : SinkTold) (all : List (List ℕ)) (text : List ℕ) (report report' : Report)
+pub Answered-push : (job : Job) (token0 token token' : TokenShown) (sink0 sink sink' : SinkTold) (all : List (List ℕ))
+    (text : List ℕ) (report report' : Report)
     → Answered job token0 sink0 all token sink report
     → PutAll sink sink' (answer job token.entries text)
     → token'.entries ≡ token.entries
@@ -36,26 +37,31 @@ pub Answered-push : (job : Job) (token0 token token' : TokenShown) (sink0 sink s
     → report'.lines ≡ report.lines + 1
     → report'.faults ≡ report.faults + cond (is_error job text) 1 0
     → Answered job token0 sink0 (all ++ text ∷ []) token' sink' report'
-Answered-push job token0 token token' sink0 sink sink' all text report report' h put same further more_lines more_faults =
-    let put0 : PutAll sink sink' (answer job token0.entries text) = subst (λ (e : List Entry). PutAll sink sink' (answer job e text)) h.same_entries put in
+Answered-push job token0 token token' sink0 sink sink' all text report report' h put same further more_lines
+    more_faults =
+    let put0 : PutAll sink sink' (answer job token0.entries text) = subst
+    (λ (e : List Entry). PutAll sink sink' (answer job e text)) h.same_entries put in
     record {
       put = rw (answers-push job token0.entries all text) (PutAll-trans _ _ _ _ _ h.put put0);
       lines_counted = more_lines ∙ ap (λ n. n + 1) h.lines_counted ∙ sym (length_push all text);
-      faults_counted = more_faults ∙ ap (λ n. n + cond (is_error job text) 1 0) h.faults_counted ∙ sym (errors-push job all text);
+      faults_counted = more_faults ∙ ap (λ n. n + cond (is_error job text) 1 0) h.faults_counted
+          ∙ sym (errors-push job all text);
       same_entries = same ∙ h.same_entries;
       compared = rw (bounds-push job token0.entries all text) (Compares-more token0 token token' _ _ h.compared
           (subst (λ (e : List Entry). Compares token token' (bound job e text)) h.same_entries further));
     }
 
 -- the answer to one line more breaks off
-pub Failed-push : (job : Job) (token0 token token' : TokenShown) (sink0 sink sink' : SinkTold) (all : List (List ℕ)) (text : List ℕ) (report : Report)
+pub Failed-push : (job : Job) (token0 token token' : TokenShown) (sink0 sink sink' : SinkTold) (all : List (List ℕ))
+    (text : List ℕ) (report : Report)
     → Answered job token0 sink0 all token sink report
     → PutSome sink sink' (answer job token.entries text)
     → token'.entries ≡ token.entries
     → Compares token token' (bound job token.entries text)
     → Failed job token0 sink0 (all ++ text ∷ []) token' sink'
 Failed-push job token0 token token' sink0 sink sink' all text report h put same further =
-    let put0 : PutSome sink sink' (answer job token0.entries text) = subst (λ (e : List Entry). PutSome sink sink' (answer job e text)) h.same_entries put in
+    let put0 : PutSome sink sink' (answer job token0.entries text) = subst
+    (λ (e : List Entry). PutSome sink sink' (answer job e text)) h.same_entries put in
     record {
       whole = all;
       broken = text ∷ [];
@@ -72,7 +78,8 @@ Failed-push job token0 token token' sink0 sink sink' all text report h put same 
     }
 
 -- further lines are not answered either
-Failed-more : (job : Job) (token0 token : TokenShown) (sink0 sink : SinkTold) (all more : List (List ℕ)) → Failed job token0 sink0 all token sink → Failed job token0 sink0 (all ++ more) token sink
+Failed-more : (job : Job) (token0 token : TokenShown) (sink0 sink : SinkTold) (all more : List (List ℕ))
+    → Failed job token0 sink0 all token sink → Failed job token0 sink0 (all ++ more) token sink
 Failed-more job token0 token sink0 sink all more h = record {
   whole = h.whole;
   broken = h.broken;
@@ -104,7 +111,8 @@ Sofar-nil token0 sink0 desk report h no_lines no_faults = record {
 }
 
 -- bytes that are no LF
-pub Sofar-more : (token0 token : TokenShown) (sink0 sink : SinkTold) (got bytes : List ℕ) (desk desk' : Desk) (report : Report)
+pub Sofar-more : (token0 token : TokenShown) (sink0 sink : SinkTold) (got bytes : List ℕ) (desk desk' : Desk)
+    (report : Report)
     → NoLf bytes
     → Sofar token0 sink0 got desk token sink report
     → desk'.job ≡ desk.job
@@ -116,7 +124,8 @@ Sofar-more token0 token sink0 sink got bytes desk desk' report none h same holds
 }
 
 -- the rest of a line, and its LF
-pub Sofar-line : (token0 token : TokenShown) (sink0 sink : SinkTold) (got bytes : List ℕ) (desk : Desk) (report : Report)
+pub Sofar-line : (token0 token : TokenShown) (sink0 sink : SinkTold) (got bytes : List ℕ) (desk : Desk)
+    (report : Report)
     → NoLf bytes
     → Answered desk.job token0 sink0 (ended got ++ without_cr ((parts got).rest ++ bytes) ∷ []) token sink report
     → Holds desk.job desk.line []
@@ -130,7 +139,8 @@ pub Failed-line : (job : Job) (token0 token : TokenShown) (sink0 sink : SinkTold
     → NoLf bytes
     → Failed job token0 sink0 (ended got ++ without_cr ((parts got).rest ++ bytes) ∷ []) token sink
     → Failed job token0 sink0 (ended (got ++ bytes ++ 10 ∷ [])) token sink
-Failed-line job token0 token sink0 sink got bytes none h = rw (ended-lf (got ++ bytes), ended-more got bytes none, rest-more got bytes none) h
+Failed-line job token0 token sink0 sink got bytes none
+    h = rw (ended-lf (got ++ bytes), ended-more got bytes none, rest-more got bytes none) h
 
 -- more bytes after a failure
 Failed-bytes : (job : Job) (token0 token : TokenShown) (sink0 sink : SinkTold) (got more : List ℕ)
@@ -164,22 +174,30 @@ piece_line : (piece : List ℕ) (start n : ℕ) → start + n < length piece →
     → take (start + (n + 1)) piece ≡ take start piece ++ take n (drop start piece) ++ 10 ∷ []
 piece_line piece start n h e =
     let same : start + (n + 1) ≡ start + n + 1 = omega arith in
-    ap (λ k. take k piece) same ∙ take_more piece (start + n) 0 h ∙ ap (λ x. take (start + n) piece ++ x ∷ []) e ∙ ap (λ l. l ++ 10 ∷ []) (take-add start n piece)
+    ap (λ k. take k piece) same ∙ take_more piece (start + n) 0 h ∙ ap (λ x. take (start + n) piece ++ x ∷ []) e
+    ∙ ap (λ l. l ++ 10 ∷ []) (take-add start n piece)
 
-pub Failed-in : (job : Job) (token0 token : TokenShown) (sink0 sink : SinkTold) (got piece : List ℕ) (start n : ℕ) → start + n < length piece → get_or piece (start + n) 0 ≡ 10
-    → Failed job token0 sink0 (ended (got ++ take start piece ++ take n (drop start piece) ++ 10 ∷ [])) token sink → Failed job token0 sink0 (ended (got ++ piece)) token sink
+pub Failed-in : (job : Job) (token0 token : TokenShown) (sink0 sink : SinkTold) (got piece : List ℕ) (start n : ℕ)
+    → start + n < length piece → get_or piece (start + n) 0 ≡ 10
+    → Failed job token0 sink0 (ended (got ++ take start piece ++ take n (drop start piece) ++ 10 ∷ [])) token sink
+    → Failed job token0 sink0 (ended (got ++ piece)) token sink
 Failed-in job token0 token sink0 sink got piece start n h e f =
-    let whole : got ++ piece ≡ got ++ take start piece ++ take n (drop start piece) ++ 10 ∷ [] ++ drop (start + (n + 1)) piece =
-    ap (λ l. got ++ l) (sym (take-append-drop (start + (n + 1)) piece) ∙ ap (λ l. l ++ drop (start + (n + 1)) piece) (piece_line piece start n h e))
+    let whole : got ++ piece ≡ got ++ take start piece ++ take n (drop start piece) ++ 10 ∷ []
+    ++ drop (start + (n + 1)) piece =
+    ap (λ l. got ++ l) (sym (take-append-drop (start + (n + 1)) piece)
+    ∙ ap (λ l. l ++ drop (start + (n + 1)) piece) (piece_line piece start n h e))
     ∙ (simp append_assoc) in
-    subst (λ (l : List ℕ). Failed job token0 sink0 (ended l) token sink) (sym whole) (Failed-bytes job token0 token sink0 sink _ (drop (start + (n + 1)) piece) f)
+    subst (λ (l : List ℕ). Failed job token0 sink0 (ended l) token sink) (sym whole)
+    (Failed-bytes job token0 token sink0 sink _ (drop (start + (n + 1)) piece) f)
 
 pub fed_line : (got piece : List ℕ) (start n : ℕ) → start + n < length piece → get_or piece (start + n) 0 ≡ 10
     → got ++ take start piece ++ take n (drop start piece) ++ 10 ∷ [] ≡ got ++ take (start + (n + 1)) piece
 fed_line got piece start n h e = rw (piece_line piece start n h e) (simp append_assoc)
 
 -- the LF that a search from a place in a piece found
-pub found_in : (piece : List ℕ) (start n : ℕ) → start ≤ length piece → n < length (take (length piece - start) (drop start piece)) → get_or (take (length piece - start) (drop start piece)) n 0 ≡ 10
+pub found_in : (piece : List ℕ) (start n : ℕ) → start ≤ length piece
+    → n < length (take (length piece - start) (drop start piece))
+    → get_or (take (length piece - start) (drop start piece)) n 0 ≡ 10
     → (start + n < length piece) × (get_or piece (start + n) 0 ≡ 10)
 found_in piece start n within low e =
     let rest : take (length piece - start) (drop start piece) ≡ drop start piece = take_rest piece start in
@@ -187,7 +205,8 @@ found_in piece start n within low e =
     let is : get_or (drop start piece) n 0 ≡ 10 = rw rest at e in
     (omega arith, sym (get_or-drop start piece n 0) ∙ is)
 
-pub fed_rest : (got piece : List ℕ) (start : ℕ) → got ++ take start piece ++ take (length piece - start) (drop start piece) ≡ got ++ piece
+pub fed_rest : (got piece : List ℕ) (start : ℕ) → got ++ take start piece
+    ++ take (length piece - start) (drop start piece) ≡ got ++ piece
 fed_rest got piece start = rw (take_rest piece start, append_assoc, take-append-drop) refl
 
 pub line_in : (piece : List ℕ) (start n : ℕ) → take (start + n - start) (drop start piece) ≡ take n (drop start piece)

@@ -64,7 +64,8 @@ text_means form.Sddl domain text = or_sddl_fault (means text domain)
 
 -- a line over its limit is too long, whatever else is wrong with it
 unfoldable pub line_means : Form → Option SecurityId → List ℕ → Result Descriptor LineFault
-line_means form domain line = if nat_lt (line_limit form) (length line) then Err TooLong else text_means form domain line
+line_means form domain line =
+    if nat_lt (line_limit form) (length line) then Err TooLong else text_means form domain line
 
 -- an empty line means nothing, in every job
 abbrev pub Meaning : Type 0
@@ -192,4 +193,5 @@ printed_size (Some d) = size d
 
 -- each answer has at most eight characters a byte of the descriptor that it prints, and 64
 abbrev pub AnswersAreShort : Job → List Entry → Type 0
-AnswersAreShort job entries = (line : List ℕ) → length (answer job entries line) ≤ 8 * printed_size (printed job line) + 64
+AnswersAreShort job entries = (line : List ℕ)
+    → length (answer job entries line) ≤ 8 * printed_size (printed job line) + 64

@@ -37,7 +37,8 @@ IsIdle source source' output output' = (source' ≡ source) × (output' ≡ outp
 -- ---- a run
 
 -- the outcome of a run for what the words settle: their job, and a token with their entries
-pub record RunOf (settings : Settings) (source source' : SourceTold) (output output' : DrainTold) (result : Result Report RunFault) : Type 0 where
+pub record RunOf (settings : Settings) (source source' : SourceTold) (output output' : DrainTold)
+    (result : Result Report RunFault) : Type 0 where
   pub token : TokenShown
   pub token' : TokenShown
   pub entries : token.entries ≡ settings.entries
@@ -55,7 +56,8 @@ pub record Told : Type 0 where
 -- the status, with a line on the fault stream and nothing else
 abbrev pub EndsIdle : ℕ → Text → Told → Told → ℕ → Type 0
 EndsIdle expected text told told' status =
-    (status ≡ expected) × (IsIdle told.source told'.source told.output told'.output) × (Says text told.faults told'.faults)
+    (status ≡ expected) × (IsIdle told.source told'.source told.output told'.output)
+    × (Says text told.faults told'.faults)
 
 abbrev pub EndsWithoutMemory : Told → Told → ℕ → Type 0
 EndsWithoutMemory = EndsIdle 4 (fault_line (codes "no memory"))
@@ -96,9 +98,12 @@ EndsTaken words told told' status =
 -- any words, by the kinds of fault that `clap` finds in them
 pub data EndsBy (words : List Text) (told told' : Told) (status : ℕ) : Type 0 where
   without_memory : EndsWithoutMemory told told' status → EndsBy words told told' status
-  refused : list_any is_mistake (fault_of line words) ≡ true → EndsRefused told told' status → EndsBy words told told' status
-  helped : IsAmong kind.DisplayHelp (fault_of line words) → EndsWithHelp told told' status → EndsBy words told told' status
-  settled : fault_of line words ≡ [] → EndsSettled (settings_of words) told told' status → EndsBy words told told' status
+  refused : list_any is_mistake (fault_of line words) ≡ true → EndsRefused told told' status
+      → EndsBy words told told' status
+  helped : IsAmong kind.DisplayHelp (fault_of line words) → EndsWithHelp told told' status
+      → EndsBy words told told' status
+  settled : fault_of line words ≡ [] → EndsSettled (settings_of words) told told' status
+      → EndsBy words told told' status
 
 -- at 2 and 4 nothing was read, and nothing was written on the output
 abbrev pub IsIdleAt : ℕ → Told → Told → Type 0

@@ -37,8 +37,8 @@ last_line (b ∷ bytes) = (b ∷ bytes) ∷ []
 unfoldable pub lines : List ℕ → List (List ℕ)
 lines bytes = ended bytes ++ last_line (parts bytes).rest
 
--- What fixes the cut by itself: the bytes are the ended parts, each with its LF, and then the rest, and no LF stands in any
--- of these.
+-- What fixes the cut by itself: the bytes are the ended parts, each with its LF, and then the rest, and no LF stands in
+-- any of these.
 
 abbrev pub has_lf : List ℕ → Bool
 has_lf bytes = list_any (λ b. b == 10) bytes

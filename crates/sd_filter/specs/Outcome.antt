@@ -23,7 +23,8 @@ pub record RoseBy (n old new : ℕ) : Type 0 where
   pub at_most : new ≤ old + n
 
 -- the whole input was answered
-pub record Finished (most : ℕ) (job : Job) (token token' : TokenShown) (source source' : SourceTold) (drain drain' : DrainTold) (report : Report) : Type 0 where
+pub record Finished (most : ℕ) (job : Job) (token token' : TokenShown) (source source' : SourceTold)
+    (drain drain' : DrainTold) (report : Report) : Type 0 where
   -- the bytes that left the source in this run
   pub got : List ℕ
   pub read : Consumes source.left source'.left got
@@ -39,13 +40,14 @@ pub record Finished (most : ℕ) (job : Job) (token token' : TokenShown) (source
   pub faults_counted : report.faults ≡ errors job (lines got)
   pub compared : Compares token token' (bounds job token.entries (lines got))
 
--- No line had ended and the output is as it was, or its last call was a flush that succeeded: whoever waits for the answers
--- to the lines that had ended has them.
+-- No line had ended and the output is as it was, or its last call was a flush that succeeded: whoever waits for the
+-- answers to the lines that had ended has them.
 abbrev pub HandedOn : List ℕ → DrainTold → DrainTold → Type 0
 HandedOn got drain drain' = ((ended got ≡ []) × (drain' ≡ drain)) ⊎ (drain'.flushed ≡ true)
 
 -- no read answered 0: the lines that an LF ended were answered, whole, and the answers handed on
-pub record Stopped (most : ℕ) (job : Job) (token token' : TokenShown) (source source' : SourceTold) (drain drain' : DrainTold) : Type 0 where
+pub record Stopped (most : ℕ) (job : Job) (token token' : TokenShown) (source source' : SourceTold)
+    (drain drain' : DrainTold) : Type 0 where
   pub got : List ℕ
   pub read : Consumes source.left source'.left got
   pub reads : source'.reads ≤ source.reads + most
@@ -57,14 +59,16 @@ pub record Stopped (most : ℕ) (job : Job) (token token' : TokenShown) (source 
 
 -- a write or a flush failed, and a prefix of the answers was written: those of some lines whole, and
 -- a part of the answer to one more, or to none where a flush failed
-pub record WriteFailed (most : ℕ) (job : Job) (token token' : TokenShown) (source source' : SourceTold) (drain drain' : DrainTold) : Type 0 where
+pub record WriteFailed (most : ℕ) (job : Job) (token token' : TokenShown) (source source' : SourceTold)
+    (drain drain' : DrainTold) : Type 0 where
   pub got : List ℕ
   pub read : Consumes source.left source'.left got
   pub reads : source'.reads ≤ source.reads + most
   pub no_failed_read : source'.failures ≡ source.failures
   -- all lines where the end was read, else those that an LF ended
   pub all : List (List ℕ)
-  pub these : ((source'.ends ≡ counted source.ends) × (all ≡ lines got)) ⊎ ((source'.ends ≡ source.ends) × (all ≡ ended got))
+  pub these : ((source'.ends ≡ counted source.ends) × (all ≡ lines got))
+      ⊎ ((source'.ends ≡ source.ends) × (all ≡ ended got))
   pub written : List ℕ
   pub wrote : Appends drain.taken drain'.taken written
   pub is_prefix : IsPrefix written (answers job token.entries all)
@@ -81,14 +85,20 @@ pub record WriteFailed (most : ℕ) (job : Job) (token token' : TokenShown) (sou
   pub compared : Compares token token' (bounds job token.entries (whole ++ broken))
 
 -- what each fault says: of a run of at most `most` reads, which the first failed read ends
-abbrev pub FaultSays : ℕ → Job → TokenShown → TokenShown → SourceTold → SourceTold → DrainTold → DrainTold → RunFault → Type 0
+abbrev pub FaultSays : ℕ → Job → TokenShown → TokenShown → SourceTold → SourceTold → DrainTold → DrainTold → RunFault
+    → Type 0
 FaultSays most job token token' source source' drain drain' Read =
     Stopped most job token token' source source' drain drain' × (source'.failures ≡ counted source.failures)
 FaultSays most job token token' source source' drain drain' TooManyReads =
-    Stopped most job token token' source source' drain drain' × RoseBy most source.reads source'.reads × (source'.failures ≡ source.failures)
-FaultSays most job token token' source source' drain drain' Write = WriteFailed most job token token' source source' drain drain'
+    Stopped most job token token' source source' drain drain' × RoseBy most source.reads source'.reads
+    × (source'.failures ≡ source.failures)
+FaultSays most job token token' source source' drain drain' Write =
+    WriteFailed most job token token' source source' drain drain'
 
 -- what each return says of what was read and written
-abbrev pub Outcome : ℕ → Job → TokenShown → TokenShown → SourceTold → SourceTold → DrainTold → DrainTold → Result Report RunFault → Type 0
-Outcome most job token token' source source' drain drain' (Ok report) = Finished most job token token' source source' drain drain' report
-Outcome most job token token' source source' drain drain' (Err fault) = FaultSays most job token token' source source' drain drain' fault
+abbrev pub Outcome : ℕ → Job → TokenShown → TokenShown → SourceTold → SourceTold → DrainTold → DrainTold
+    → Result Report RunFault → Type 0
+Outcome most job token token' source source' drain drain' (Ok report) =
+    Finished most job token token' source source' drain drain' report
+Outcome most job token token' source source' drain drain' (Err fault) =
+    FaultSays most job token token' source source' drain drain' fault

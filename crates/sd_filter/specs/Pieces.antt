@@ -11,7 +11,8 @@ pub record Splits (job : Job) (entries : List Entry) (front back : List ℕ) : T
   pub answered : answers job entries (lines (front ++ 10 ∷ back))
       ≡ answers job entries (lines (front ++ 10 ∷ [])) ++ answers job entries (lines back)
   pub line_count : length (lines (front ++ 10 ∷ back)) ≡ length (lines (front ++ 10 ∷ [])) + length (lines back)
-  pub error_count : errors job (lines (front ++ 10 ∷ back)) ≡ errors job (lines (front ++ 10 ∷ [])) + errors job (lines back)
+  pub error_count : errors job (lines (front ++ 10 ∷ back))
+      ≡ errors job (lines (front ++ 10 ∷ [])) + errors job (lines back)
 
 abbrev pub AnswersSplit : Job → List Entry → Type 0
 AnswersSplit job entries = (front back : List ℕ) → Splits job entries front back

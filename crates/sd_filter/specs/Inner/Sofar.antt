@@ -68,7 +68,8 @@ abbrev pub RoseWithin : ℕ → Report → Report → Type 0
 RoseWithin n old new = (new.lines ≤ old.lines + n) × (new.faults ≤ old.faults + n)
 
 -- all of these lines are answered
-pub record Answered (job : Job) (token0 : TokenShown) (sink0 : SinkTold) (all : List (List ℕ)) (token : TokenShown) (sink : SinkTold) (report : Report) : Type 0 where
+pub record Answered (job : Job) (token0 : TokenShown) (sink0 : SinkTold) (all : List (List ℕ)) (token : TokenShown)
+    (sink : SinkTold) (report : Report) : Type 0 where
   pub put : PutAll sink0 sink (answers job token0.entries all)
   pub lines_counted : report.lines ≡ length all
   pub faults_counted : report.faults ≡ errors job all
@@ -76,12 +77,14 @@ pub record Answered (job : Job) (token0 : TokenShown) (sink0 : SinkTold) (all : 
   pub compared : Compares token0 token (bounds job token0.entries all)
 
 -- after these bytes, the lines that an LF ended are answered, and what follows is held
-pub record Sofar (token0 : TokenShown) (sink0 : SinkTold) (got : List ℕ) (desk : Desk) (token : TokenShown) (sink : SinkTold) (report : Report) : Type 0 where
+pub record Sofar (token0 : TokenShown) (sink0 : SinkTold) (got : List ℕ) (desk : Desk) (token : TokenShown)
+    (sink : SinkTold) (report : Report) : Type 0 where
   pub holds : Holds desk.job desk.line (parts got).rest
   pub answered : Answered desk.job token0 sink0 (ended got) token sink report
 
 -- the sink failed: some of these lines are answered whole, and of the answer to one more, or to none, a part
-pub record Failed (job : Job) (token0 : TokenShown) (sink0 : SinkTold) (all : List (List ℕ)) (token : TokenShown) (sink : SinkTold) : Type 0 where
+pub record Failed (job : Job) (token0 : TokenShown) (sink0 : SinkTold) (all : List (List ℕ)) (token : TokenShown)
+    (sink : SinkTold) : Type 0 where
   pub whole : List (List ℕ)
   pub broken : List (List ℕ)
   pub more : List (List ℕ)
@@ -95,7 +98,8 @@ pub record Failed (job : Job) (token0 : TokenShown) (sink0 : SinkTold) (all : Li
   pub compared : Compares token0 token (bounds job token0.entries (whole ++ broken))
 
 -- a run before its next read
-pub record BeforeRead (turn : ℕ) (token0 : TokenShown) (source0 : SourceTold) (drain0 : DrainTold) (desk : Desk) (token : TokenShown) (source : SourceTold) (drain : DrainTold) (report : Report) : Type 0 where
+pub record BeforeRead (turn : ℕ) (token0 : TokenShown) (source0 : SourceTold) (drain0 : DrainTold) (desk : Desk)
+    (token : TokenShown) (source : SourceTold) (drain : DrainTold) (report : Report) : Type 0 where
   -- the bytes that left the source
   pub got : List ℕ
   pub read : Consumes source0.left source.left got

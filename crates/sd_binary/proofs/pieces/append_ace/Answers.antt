@@ -24,7 +24,8 @@ length-guid (Some g) = refl
 length-front : (a : AccessControlEntry) → length (ace_front a) ≡ front_size a.kind
 length-front a = omega (arith, length-flags (is_object a.kind) a.object a.inherited)
 
-offsets : (b : Bool) (o i : Option (List ℕ)) → GuidsFit b o i → cond b (12 + guid_size o + guid_size i) 8 ≡ cond b 12 8 + guid_size o + guid_size i
+offsets : (b : Bool) (o i : Option (List ℕ)) → GuidsFit b o i
+    → cond b (12 + guid_size o + guid_size i) 8 ≡ cond b 12 8 + guid_size o + guid_size i
 offsets true o i h = refl
 offsets false None None h = refl
 offsets false None (Some x) h = absurd h
@@ -34,9 +35,11 @@ offsets false (Some x) i h = absurd h
 record Room (a : AccessControlEntry) (n most : ℕ) : Type 0 where
   object : (n + front_size a.kind) + length (guid_part a.object) ≤ most
   inherited : ((n + front_size a.kind) + length (guid_part a.object)) + length (guid_part a.inherited) ≤ most
-  sid : (((n + front_size a.kind) + length (guid_part a.object)) + length (guid_part a.inherited)) + sid_size a.sid ≤ most
+  sid : (((n + front_size a.kind) + length (guid_part a.object)) + length (guid_part a.inherited)) + sid_size
+      a.sid ≤ most
 
-room : (a : AccessControlEntry) (n most : ℕ) → GuidsFit (is_object a.kind) a.object a.inherited → n + ace_size a ≤ most → Room a n most
+room : (a : AccessControlEntry) (n most : ℕ) → GuidsFit (is_object a.kind) a.object a.inherited → n + ace_size a ≤ most
+    → Room a n most
 room a n most fit h =
     let place = offsets (is_object a.kind) a.object a.inherited fit in
     let object = length-guid a.object in
@@ -55,14 +58,23 @@ append_guid-requires-2 c =
     let a = c.args.ace.now in
     let r = room a (length c.args.buf.now) 131226 c.append_front.ensures.limits.fit c.requires in
     let front = length-front a in
-    simp (c.append_guid.ensures, c.append_front.ensures.value, c.object.ensures, c.inherited.ensures, length-append) (omega (arith, r.inherited, front))
+    simp (c.append_guid.ensures, c.append_front.ensures.value, c.object.ensures, c.inherited.ensures, length-append)
+    (omega (arith, r.inherited, front))
 
 pub append_sid-requires : goal.append_sid-requires
 append_sid-requires c =
     let a = c.args.ace.now in
     let r = room a (length c.args.buf.now) 131226 c.append_front.ensures.limits.fit c.requires in
     let front = length-front a in
-    simp (c.append_guid-2.ensures, c.append_guid.ensures, c.append_front.ensures.value, c.object.ensures, c.inherited.ensures, c.sid.ensures, length-append)
+    simp (
+      c.append_guid-2.ensures,
+      c.append_guid.ensures,
+      c.append_front.ensures.value,
+      c.object.ensures,
+      c.inherited.ensures,
+      c.sid.ensures,
+      length-append,
+    )
     (omega (arith, r.sid, front))
 
 -- the pieces in a row
@@ -73,7 +85,16 @@ pub returns : goal.returns
 returns c =
     let a = c.args.ace.now in
     let fit = guids-fit (is_object a.kind) a.object a.inherited c.append_front.ensures.limits.fit in
-    let whole : c.append_sid.new.buf ≡ (((c.args.buf.now ++ ace_front a) ++ guid_part a.object) ++ guid_part a.inherited) ++ sid_bytes a.sid =
-    simp (c.append_sid.ensures, c.append_guid-2.ensures, c.append_guid.ensures, c.append_front.ensures.value, c.object.ensures, c.inherited.ensures, c.sid.ensures) in
+    let whole : c.append_sid.new.buf ≡ (((c.args.buf.now ++ ace_front a) ++ guid_part a.object)
+    ++ guid_part a.inherited) ++ sid_bytes a.sid =
+    simp (
+      c.append_sid.ensures,
+      c.append_guid-2.ensures,
+      c.append_guid.ensures,
+      c.append_front.ensures.value,
+      c.object.ensures,
+      c.inherited.ensures,
+      c.sid.ensures,
+    ) in
     whole ∙ in_row c.args.buf.now (ace_front a) (guid_part a.object) (guid_part a.inherited) (sid_bytes a.sid)
     ∙ ap (λ (g : List ℕ). c.args.buf.now ++ (ace_front a ++ (g ++ sid_bytes a.sid))) (sym fit)

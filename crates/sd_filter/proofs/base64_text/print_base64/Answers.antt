@@ -19,5 +19,6 @@ loop-at-preserved g c = record {
   whole = λ more. omega (arith, c.loop-at.invariant.whole (c.loop-at-test.true));
   cells = c.encode_base64-characters.auto.cells ∙ c.loop-at.invariant.cells;
   printed = Prints-base64 _ _ _ c.args.bytes.now _ c.loop-at.at c.min-n.result c.loop-at.invariant.within
-      (c.loop-at.invariant.whole c.loop-at-test.true) c.encode_base64-characters.ensures.characters c.loop-at.invariant.printed c.put.ensures;
+      (c.loop-at.invariant.whole c.loop-at-test.true) c.encode_base64-characters.ensures.characters
+      c.loop-at.invariant.printed c.put.ensures;
 }

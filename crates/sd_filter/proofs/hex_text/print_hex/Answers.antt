@@ -16,5 +16,6 @@ pub loop-at-preserved : goal.loop-at-preserved
 loop-at-preserved g c = record {
   within = omega arith;
   cells = c.encode_hex-digits.auto.cells ∙ c.loop-at.invariant.cells;
-  printed = Prints-piece _ _ _ c.args.bytes.now _ c.loop-at.at c.min-n.result c.encode_hex-digits.ensures.digits c.loop-at.invariant.printed c.put.ensures;
+  printed = Prints-piece _ _ _ c.args.bytes.now _ c.loop-at.at c.min-n.result c.encode_hex-digits.ensures.digits
+      c.loop-at.invariant.printed c.put.ensures;
 }

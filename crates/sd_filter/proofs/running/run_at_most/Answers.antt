@@ -18,10 +18,13 @@ pub loop-turn-preserved : goal.loop-turn-preserved
 loop-turn-preserved g c =
     let r = c.loop-turn.invariant.before in
     let room : 0 < length c.read.new.buf = omega (arith, c.loop-turn.invariant.size, c.read.auto.buf) in
-    let fed = c.in-Ok-answer_piece.ensures.fed c.args.token.now (sink_of (g.W.Drain.told c.args.drain.now)) r.got r.sofar in
-    let piece : length (take c.in-Ok.n c.read.new.buf) ≤ 8192 = simp length-take (omega (arith, c.loop-turn.invariant.size, c.read.auto.buf)) in
+    let fed = c.in-Ok-answer_piece.ensures.fed c.args.token.now (sink_of (g.W.Drain.told c.args.drain.now)) r.got
+    r.sofar in
+    let piece : length (take c.in-Ok.n c.read.new.buf) ≤ 8192 = simp length-take
+    (omega (arith, c.loop-turn.invariant.size, c.read.auto.buf)) in
     record {
-      before = BeforeRead-more c.args.most c.loop-turn.turn _ _ _ _ _ _ _ _ _ r (omega arith) (take c.in-Ok.n c.read.new.buf) _ _ _ _
+      before = BeforeRead-more c.args.most c.loop-turn.turn _ _ _ _ _ _ _ _ _ r (omega arith)
+          (take c.in-Ok.n c.read.new.buf) _ _ _ _
           c.in-Ok.ensures.bytes.0 (c.read.ensures.reads ∙ reads-some _ _ room)
           (c.read.ensures.ends ∙ ends-some c.read.result _ c.in-Ok.n _ c.in-Ok.is (search rules))
           (c.read.ensures.failures ∙ failures-ok c.read.result c.in-Ok.n _ c.in-Ok.is)
@@ -38,13 +41,15 @@ returns-in-Err-clause-outcome g c =
     let room : 0 < length c.read.new.buf = omega (arith, c.loop-turn.invariant.size, c.read.auto.buf) in
     rw (← c.loop-turn.invariant.job)
     (broken-read c.args.most c.loop-turn.turn _ _ _ _ _ _ _ _ _ c.loop-turn.invariant.before (omega arith)
-    c.in-Err.ensures.bytes (c.read.ensures.reads ∙ reads-some _ _ room) (c.read.ensures.ends ∙ ends-failed c.read.result _ _ _ c.in-Err.is) c.in-Err.ensures.failures)
+    c.in-Err.ensures.bytes (c.read.ensures.reads ∙ reads-some _ _ room)
+    (c.read.ensures.ends ∙ ends-failed c.read.result _ _ _ c.in-Err.is) c.in-Err.ensures.failures)
 
 pub returns-in-Ok-close-clause-outcome : goal.returns-in-Ok-close-clause-outcome
 returns-in-Ok-close-clause-outcome g c =
     let r = c.loop-turn.invariant.before in
     let room : 0 < length c.read.new.buf = omega (arith, c.loop-turn.invariant.size, c.read.auto.buf) in
-    let closed = c.in-Ok-close.ensures.closed c.args.token.now (sink_of (g.W.Drain.told c.args.drain.now)) r.got r.sofar in
+    let closed = c.in-Ok-close.ensures.closed c.args.token.now (sink_of (g.W.Drain.told c.args.drain.now)) r.got
+    r.sofar in
     let z : c.in-Ok.n ≡ 0 = search rules in
     rw (← c.loop-turn.invariant.job)
     (finished c.args.most c.loop-turn.turn _ _ _ _ _ _ _ _ _ r (omega arith) _ _ _
@@ -57,7 +62,8 @@ pub returns-in-Err-close-clause-outcome : goal.returns-in-Err-close-clause-outco
 returns-in-Err-close-clause-outcome g c =
     let r = c.loop-turn.invariant.before in
     let room : 0 < length c.read.new.buf = omega (arith, c.loop-turn.invariant.size, c.read.auto.buf) in
-    let closed = c.in-Err-close.ensures.closed c.args.token.now (sink_of (g.W.Drain.told c.args.drain.now)) r.got r.sofar in
+    let closed = c.in-Err-close.ensures.closed c.args.token.now (sink_of (g.W.Drain.told c.args.drain.now)) r.got
+    r.sofar in
     let z : c.in-Ok.n ≡ 0 = search rules in
     rw (← c.loop-turn.invariant.job)
     (broken-close c.args.most c.loop-turn.turn _ _ _ _ _ _ _ _ _ r (omega arith) _ _
@@ -70,7 +76,8 @@ pub returns-in-Err-answer_piece-clause-outcome : goal.returns-in-Err-answer_piec
 returns-in-Err-answer_piece-clause-outcome g c =
     let r = c.loop-turn.invariant.before in
     let room : 0 < length c.read.new.buf = omega (arith, c.loop-turn.invariant.size, c.read.auto.buf) in
-    let fed = c.in-Err-answer_piece.ensures.fed c.args.token.now (sink_of (g.W.Drain.told c.args.drain.now)) r.got r.sofar in
+    let fed = c.in-Err-answer_piece.ensures.fed c.args.token.now (sink_of (g.W.Drain.told c.args.drain.now)) r.got
+    r.sofar in
     rw (← c.loop-turn.invariant.job)
     (broken-write c.args.most c.loop-turn.turn _ _ _ _ _ _ _ _ _ r (omega arith) (take c.in-Ok.n c.read.new.buf) _ _
     c.in-Ok.ensures.bytes.0 (c.read.ensures.reads ∙ reads-some _ _ room)
@@ -86,14 +93,17 @@ returns-clause-outcome g c =
 pub returns-in-Ok-close-clause-entries : goal.returns-in-Ok-close-clause-entries
 returns-in-Ok-close-clause-entries g c =
     let r = c.loop-turn.invariant.before in
-    (c.in-Ok-close.ensures.closed c.args.token.now (sink_of (g.W.Drain.told c.args.drain.now)) r.got r.sofar).0.same_entries
+    (c.in-Ok-close.ensures.closed c.args.token.now (sink_of (g.W.Drain.told c.args.drain.now)) r.got
+    r.sofar).0.same_entries
 
 pub returns-in-Err-close-clause-entries : goal.returns-in-Err-close-clause-entries
 returns-in-Err-close-clause-entries g c =
     let r = c.loop-turn.invariant.before in
-    (c.in-Err-close.ensures.closed c.args.token.now (sink_of (g.W.Drain.told c.args.drain.now)) r.got r.sofar).same_entries
+    (c.in-Err-close.ensures.closed c.args.token.now (sink_of (g.W.Drain.told c.args.drain.now)) r.got
+    r.sofar).same_entries
 
 pub returns-in-Err-answer_piece-clause-entries : goal.returns-in-Err-answer_piece-clause-entries
 returns-in-Err-answer_piece-clause-entries g c =
     let r = c.loop-turn.invariant.before in
-    (c.in-Err-answer_piece.ensures.fed c.args.token.now (sink_of (g.W.Drain.told c.args.drain.now)) r.got r.sofar).same_entries
+    (c.in-Err-answer_piece.ensures.fed c.args.token.now (sink_of (g.W.Drain.told c.args.drain.now)) r.got
+    r.sofar).same_entries

@@ -4,7 +4,8 @@ use Rattle.sd_filter.proofs.running.run_at_most.Given as goal
 
 abbrev pub invariant-loop-turn : goal.invariant-loop-turn
 invariant-loop-turn g l = record {
-  before : BeforeRead l.turn l.fn.token (g.R.Source.told l.fn.source) (g.W.Drain.told l.fn.drain) l.desk l.token (g.R.Source.told l.source) (g.W.Drain.told l.drain) l.report;
+  before : BeforeRead l.turn l.fn.token (g.R.Source.told l.fn.source) (g.W.Drain.told l.fn.drain) l.desk l.token
+      (g.R.Source.told l.source) (g.W.Drain.told l.drain) l.report;
   job : l.desk.job ≡ l.fn.desk.job;
   size : length l.buf ≡ 8192;
   ready : IsReady l.desk.line;

@@ -11,7 +11,8 @@ pub unwrap-open-requires : goal.unwrap-open-requires
 unwrap-open-requires c = is-open _ _ c.requires.0 c.requires.1 c.requires.2
 
 pub overflow_sub-size : goal.overflow_sub-size
-overflow_sub-size c = let r = open-roomy _ _ c.requires.0 _ c.requires.1 c.unwrap-open.ensures in omega (arith, r.start, ap length c.bytes.ensures.value)
+overflow_sub-size c = let r = open-roomy _ _ c.requires.0 _ c.requires.1
+    c.unwrap-open.ensures in omega (arith, r.start, ap length c.bytes.ensures.value)
 
 pub returns-then-size-gt-MOST_ACL_SIZE-clause-full : goal.returns-then-size-gt-MOST_ACL_SIZE-clause-full
 returns-then-size-gt-MOST_ACL_SIZE-clause-full c =
@@ -43,7 +44,8 @@ returns-clause-ok c =
     let object : c.if-open.self ≡ (o.object || is_object a.kind) =
     elim c.if-open.branch [
       | then-open w ↦ w.self-is ∙ w.if-open.true ∙ ap (λ (x : Bool). x || is_object a.kind) (sym w.if-open.true)
-      | else-open w ↦ w.self-is ∙ w.is_object.ensures ∙ ap is_object w.kind.ensures ∙ ap (λ (x : Bool). x || is_object a.kind) (sym w.if-open.false)
+      | else-open w ↦ w.self-is ∙ w.is_object.ensures ∙ ap is_object w.kind.ensures
+          ∙ ap (λ (x : Bool). x || is_object a.kind) (sym w.if-open.false)
     ] in
     rw (c.append_ace.ensures, object) (ace-builds _ _ t o a c.unwrap-open.ensures c.size.ensures.limits fits h)
 

@@ -9,7 +9,8 @@ append-requires c = (omega arith, begin-room _ _ c.args.which c.requires.0 c.req
 pub returns-clause-value : goal.returns-clause-value
 returns-clause-value c =
     λ t h.
-    rw (c.append.ensures, c.bytes.ensures.value) (begin-builds _ _ _ c.args.which c.requires.0 t c.requires.1 c.requires.2 refl h)
+    rw (c.append.ensures, c.bytes.ensures.value)
+    (begin-builds _ _ _ c.args.which c.requires.0 t c.requires.1 c.requires.2 refl h)
 
 pub returns-clause-in_order : goal.returns-clause-in_order
 returns-clause-in_order c =
