@@ -61,7 +61,9 @@ fn whole_name(mask: u32) -> Option<NamedBits>
     COMPOUNDS.iter().copied().find(|name| name.bits == mask)
 }
 
-// The names of a table that has a name for each of the bits alone.
+// The names of a table that has a name for each of the bits alone. Inlined, since without a loop the names of a known
+// table take fewer steps.
+#[inline(always)]
 fn print_names_or_hex<P: Print>(table: &[NamedBits], bits: u32, mask: u32, out: &mut P)
     requires fits { length table.now ≤ 17 }
     requires bits { named_bits table.now mask ≡ bit_and mask bits }
