@@ -90,7 +90,8 @@ impl Sid {
 // The SID of a text that is no name, as any may be written. Apart, since few come here, and others need not its room.
 #[inline(never)]
 fn read_any(text: &[u8]) -> Result<Sid, SidFault>
-    ensures { result ≡ (if has_form text.now then or_number_fault (numbers_read (pieces (drop 4 text.now))) else Err SidFault.SidForm) }
+    ensures { result ≡ (if has_form text.now then or_number_fault (numbers_read (pieces (drop 4 text.now)))
+        else Err SidFault.SidForm) }
 {
     if !has_form(text) {
         return Err(SidFault::SidForm);

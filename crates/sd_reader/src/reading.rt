@@ -229,7 +229,8 @@ impl FieldReader {
     pub fn take_ace(&mut self, buf: &mut SdBuf, texts: &AceTexts<'_>) -> Result<(), SddlFault>
         requires whole { AreWhole texts.now }
         requires held { (t : FieldsRead) × HasRead self.old buf.old t × IsOpen t.parts }
-        ensures read { (t : FieldsRead) → HasRead self.old buf.old t → Takes (with_texts self.old.domain texts.now (Ok t)) result self.new buf.new }
+        ensures read { (t : FieldsRead) → HasRead self.old buf.old t
+            → Takes (with_texts self.old.domain texts.now (Ok t)) result self.new buf.new }
         ensures domain { self.new.domain ≡ self.old.domain }
     {
         match ace_fields(texts) {

@@ -38,7 +38,8 @@ ace_before a rest =
     ∷ (a.sid.now ++ 41 ∷ rest)))))
 
 -- one field more
-abbrev pub with_field : Option SecurityId → AceField → List ℕ → Result FieldsRead SddlFault → Result FieldsRead SddlFault
+abbrev pub with_field : Option SecurityId → AceField → List ℕ → Result FieldsRead SddlFault
+    → Result FieldsRead SddlFault
 with_field domain f text read = and_then read (λ r. take_field domain r (slot.Ace f) text)
 
 -- all fields of an ACE

@@ -14,7 +14,8 @@ loop-i-preserved c =
     let i = c.loop-i.i in
     let h : i < length text = omega arith in
     let few : c.from-in-loop-i.result < 10 = omega (arith, c.in-Some.ensures.value.0, c.in-Some.ensures.value.1) in
-    let digit : is_digit (get_or text i 0) 10 ≡ true = digit_is c.from.result _ c.from.ensures c.in-Some.ensures.value.0 in
+    let digit : is_digit (get_or text i 0) 10 ≡ true =
+    digit_is c.from.result _ c.from.ensures c.in-Some.ensures.value.0 in
     let value : c.from-in-loop-i.result ≡ digit_value (get_or text i 0) =
     c.from-in-loop-i.ensures ∙ (c.in-Some.ensures.value.1 ∙ ap digit_value c.from.ensures) in
     record {
