@@ -37,7 +37,10 @@ hex text = spelled (hex_spells (codes text))
 
 -- `unfolding computed` lets `refl` compute a row
 computed : Unit {0}
-unfolding spelled hex hex_spells decode_pairs u16_at u32_at sid_at sid_shown header_fault sid_fault parts_fault overlap_fault overlaps_fault fault reading header_bytes acl_part_fault acl_shown acl_fault aces_fault aces_of ace_fault place_fault kind_code kind_entry kind_of kind_in object_in inherited_in sid_offset_in guid_if announces_object announces_inherited
+unfolding spelled hex hex_spells decode_pairs u16_at u32_at sid_at sid_shown header_fault sid_fault parts_fault
+    overlap_fault overlaps_fault fault reading header_bytes acl_part_fault acl_shown acl_fault aces_fault aces_of
+    ace_fault place_fault kind_code kind_entry kind_of kind_in object_in inherited_in sid_offset_in guid_if
+    announces_object announces_inherited
 computed = tt
 
 system : SecurityId
@@ -121,13 +124,22 @@ bare_is_laid_out = refl
 -- an owner behind its group, with a gap between them
 
 moved : Descriptor
-moved = record { control = 0x8000; rm = 0; owner = Some system; group = Some everyone; sacl = acl.Absent; dacl = acl.Absent }
+moved = record {
+  control = 0x8000;
+  rm = 0;
+  owner = Some system;
+  group = Some everyone;
+  sacl = acl.Absent;
+  dacl = acl.Absent;
+}
 
-moved_is_read : reading (hex "0100008021000000140000000000000000000000010100000000000100000000aa010100000000000512000000") ≡ Ok moved
+moved_is_read : reading
+    (hex "0100008021000000140000000000000000000000010100000000000100000000aa010100000000000512000000") ≡ Ok moved
 unfolding computed moved system everyone
 moved_is_read = refl
 
-moved_is_laid_out : layout moved ≡ hex "0100008014000000200000000000000000000000010100000000000512000000010100000000000100000000"
+moved_is_laid_out : layout moved ≡ hex
+    "0100008014000000200000000000000000000000010100000000000512000000010100000000000100000000"
 unfolding computed moved system everyone
 moved_is_laid_out = refl
 
@@ -138,7 +150,14 @@ moved_size = refl
 -- an owner alone, which has no sub-authority and an authority that needs its high bytes
 
 without_subs : Descriptor
-without_subs = record { control = 0x8000; rm = 0; owner = Some (record { authority = 0x1_0000_0000; subs = [] }); group = None; sacl = acl.Absent; dacl = acl.Absent }
+without_subs = record {
+  control = 0x8000;
+  rm = 0;
+  owner = Some (record { authority = 0x1_0000_0000; subs = [] });
+  group = None;
+  sacl = acl.Absent;
+  dacl = acl.Absent;
+}
 
 without_subs_is_read : reading (hex "01000080140000000000000000000000000000000100000100000000") ≡ Ok without_subs
 unfolding computed without_subs
@@ -153,14 +172,22 @@ without_subs_is_laid_out = refl
 widest : SecurityId
 widest = record { authority = 0; subs = replicate 15 0 }
 
-largest_size : size (record { control = 0x8000; rm = 0; owner = Some widest; group = Some widest; sacl = acl.Absent; dacl = acl.Absent }) ≡ 156
+largest_size : size (record
+    { control = 0x8000; rm = 0; owner = Some widest; group = Some widest; sacl = acl.Absent; dacl = acl.Absent }) ≡ 156
 unfolding widest
 largest_size = refl
 
 -- a group alone, under a resource manager byte and every other control bit; what follows is dropped
 
 marked : Descriptor
-marked = record { control = 0xffeb; rm = 0x7f; owner = None; group = Some everyone; sacl = acl.Absent; dacl = acl.Absent }
+marked = record {
+  control = 0xffeb;
+  rm = 0x7f;
+  owner = None;
+  group = Some everyone;
+  sacl = acl.Absent;
+  dacl = acl.Absent;
+}
 
 marked_is_read : reading (hex "017febff0000000014000000ffffffffffffffff010100000000000100000000beef") ≡ Ok marked
 unfolding computed marked everyone
@@ -188,11 +215,13 @@ not_self_relative : reading (hex "0100000000000000000000000000000000000000") ≡
 unfolding computed
 not_self_relative = refl
 
-largest_offset : reading (hex "01000080ffffffff000000000000000000000000010100000000000512000000") ≡ Err (faults.Offset Owner)
+largest_offset : reading (hex "01000080ffffffff000000000000000000000000010100000000000512000000") ≡ Err
+    (faults.Offset Owner)
 unfolding computed
 largest_offset = refl
 
-inside_header : reading (hex "0100008013000000140000000000000000000000010100000000000512000000") ≡ Err (faults.Offset Owner)
+inside_header : reading (hex "0100008013000000140000000000000000000000010100000000000512000000") ≡ Err
+    (faults.Offset Owner)
 unfolding computed
 inside_header = refl
 
@@ -208,11 +237,13 @@ cut_short : reading (hex "010000800000000014000000000000000000000001010000000000
 unfolding computed
 cut_short = refl
 
-owner_before_group : reading (hex "0100008014000000150000000000000000000000020100000000000512000000") ≡ Err (faults.Sid Owner)
+owner_before_group : reading (hex "0100008014000000150000000000000000000000020100000000000512000000") ≡ Err
+    (faults.Sid Owner)
 unfolding computed
 owner_before_group = refl
 
-shared_place : reading (hex "0100008014000000140000000000000000000000010100000000000512000000") ≡ Err (faults.Overlap Owner Group)
+shared_place : reading (hex "0100008014000000140000000000000000000000010100000000000512000000") ≡ Err
+    (faults.Overlap Owner Group)
 unfolding computed
 shared_place = refl
 
@@ -226,13 +257,22 @@ full_access : AccessControlEntry
 full_access = record { kind = kinds.Allow; flags = 0; mask = 0x1f01ff; object = None; inherited = None; sid = everyone }
 
 with_dacl : Descriptor
-with_dacl = record { control = 0x8004; rm = 0; owner = Some administrators; group = Some system; sacl = acl.Absent; dacl = acl.List (full_access ∷ []) }
+with_dacl = record {
+  control = 0x8004;
+  rm = 0;
+  owner = Some administrators;
+  group = Some system;
+  sacl = acl.Absent;
+  dacl = acl.List (full_access ∷ []);
+}
 
-with_dacl_is_read : reading (hex "0100048040000000500000000000000015000000aa020028000100000000001400ff011f00010100000000000100000000bbbbbbbbbbbbbbbbbbbbbbbbcccccc01020000000000052000000020020000010100000000000512000000") ≡ Ok with_dacl
+with_dacl_is_read : reading
+    (hex "0100048040000000500000000000000015000000aa020028000100000000001400ff011f00010100000000000100000000bbbbbbbbbbbbbbbbbbbbbbbbcccccc01020000000000052000000020020000010100000000000512000000") ≡ Ok with_dacl
 unfolding computed with_dacl full_access administrators system everyone
 with_dacl_is_read = refl
 
-with_dacl_is_laid_out : layout with_dacl ≡ hex "01000480140000002400000000000000300000000102000000000005200000002002000001010000000000051200000002001c000100000000001400ff011f00010100000000000100000000"
+with_dacl_is_laid_out : layout with_dacl ≡ hex
+    "01000480140000002400000000000000300000000102000000000005200000002002000001010000000000051200000002001c000100000000001400ff011f00010100000000000100000000"
 unfolding computed with_dacl full_access administrators system everyone
 with_dacl_is_laid_out = refl
 
@@ -245,33 +285,60 @@ user_class : List ℕ
 user_class = 0xbf ∷ 0x96 ∷ 0x7a ∷ 0xba ∷ 0x0d ∷ 0xe6 ∷ 0x11 ∷ 0xd0 ∷ 0xa2 ∷ 0x85 ∷ 0x00 ∷ 0xaa ∷ 0x00 ∷ 0x30 ∷ 0x49 ∷ 0xe2 ∷ []
 
 read_property : AccessControlEntry
-read_property = record { kind = kinds.ObjectAllow; flags = 2; mask = 0x10; object = Some user_class; inherited = None; sid = authenticated }
+read_property = record {
+  kind = kinds.ObjectAllow;
+  flags = 2;
+  mask = 0x10;
+  object = Some user_class;
+  inherited = None;
+  sid = authenticated;
+}
 
 with_object : Descriptor
-with_object = record { control = 0x8004; rm = 0; owner = None; group = None; sacl = acl.Absent; dacl = acl.List (read_property ∷ []) }
+with_object = record {
+  control = 0x8004;
+  rm = 0;
+  owner = None;
+  group = None;
+  sacl = acl.Absent;
+  dacl = acl.List
+      (read_property ∷ []);
+}
 
 -- under revision 2, and with a bit among the object flags that means nothing
-with_object_is_read : reading (hex "01000480000000000000000000000000140000000200300001000000050228001000000005000000ba7a96bfe60dd011a28500aa003049e201010000000000050b000000") ≡ Ok with_object
+with_object_is_read : reading
+    (hex "01000480000000000000000000000000140000000200300001000000050228001000000005000000ba7a96bfe60dd011a28500aa003049e201010000000000050b000000") ≡ Ok with_object
 unfolding computed with_object read_property user_class authenticated
 with_object_is_read = refl
 
-with_object_is_laid_out : layout with_object ≡ hex "01000480000000000000000000000000140000000400300001000000050228001000000001000000ba7a96bfe60dd011a28500aa003049e201010000000000050b000000"
+with_object_is_laid_out : layout with_object ≡ hex
+    "01000480000000000000000000000000140000000400300001000000050228001000000001000000ba7a96bfe60dd011a28500aa003049e201010000000000050b000000"
 unfolding computed with_object read_property user_class authenticated
 with_object_is_laid_out = refl
 
 -- a null SACL and an empty DACL with spare bytes
-null_and_empty : reading (hex "01001480000000000000000000000000140000000200100000000000ffffffffffffffff") ≡ Ok (record { control = 0x8014; rm = 0; owner = None; group = None; sacl = acl.Null; dacl = acl.List [] })
+null_and_empty : reading (hex "01001480000000000000000000000000140000000200100000000000ffffffffffffffff") ≡ Ok
+    (record { control = 0x8014; rm = 0; owner = None; group = None; sacl = acl.Null; dacl = acl.List [] })
 unfolding computed
 null_and_empty = refl
 
 label : AccessControlEntry
-label = record { kind = kinds.Label; flags = 0; mask = 1; object = None; inherited = None; sid = record { authority = 16; subs = 8192 ∷ [] } }
+label = record {
+  kind = kinds.Label;
+  flags = 0;
+  mask = 1;
+  object = None;
+  inherited = None;
+  sid = record { authority = 16; subs = 8192 ∷ [] };
+}
 
-label_in_sacl : reading (hex "010010800000000000000000140000000000000002001c0001000000110014000100000001010000000000100020000000000000") ≡ Ok (record { control = 0x8010; rm = 0; owner = None; group = None; sacl = acl.List (label ∷ []); dacl = acl.Absent })
+label_in_sacl : reading
+    (hex "010010800000000000000000140000000000000002001c0001000000110014000100000001010000000000100020000000000000") ≡ Ok (record { control = 0x8010; rm = 0; owner = None; group = None; sacl = acl.List (label ∷ []); dacl = acl.Absent })
 unfolding computed label
 label_in_sacl = refl
 
-acl_of_another_revision : reading (hex "0100048000000000000000000000000014000000030008000000000000000000") ≡ Err (faults.Acl Dacl)
+acl_of_another_revision : reading (hex "0100048000000000000000000000000014000000030008000000000000000000") ≡ Err
+    (faults.Acl Dacl)
 unfolding computed
 acl_of_another_revision = refl
 
@@ -279,19 +346,27 @@ one_ace_too_many : reading (hex "01000480000000000000000000000000140000000200080
 unfolding computed
 one_ace_too_many = refl
 
-ace_of_another_type : reading (hex "0100048000000000000000000000000014000000020018000100000009001000000000000100000000000000") ≡ Err (faults.AceType Dacl)
+ace_of_another_type : reading
+    (hex "0100048000000000000000000000000014000000020018000100000009001000000000000100000000000000") ≡ Err
+    (faults.AceType Dacl)
 unfolding computed
 ace_of_another_type = refl
 
-ace_with_the_unused_flag : reading (hex "0100108000000000000000001400000000000000020018000100000000201000000000000100000000000000") ≡ Err (faults.AceFlags Sacl)
+ace_with_the_unused_flag : reading
+    (hex "0100108000000000000000001400000000000000020018000100000000201000000000000100000000000000") ≡ Err
+    (faults.AceFlags Sacl)
 unfolding computed
 ace_with_the_unused_flag = refl
 
-guids_past_the_ace : reading (hex "0100048000000000000000000000000014000000020018000100000005001000000000000100000000000000") ≡ Err (faults.AceSize Dacl)
+guids_past_the_ace : reading
+    (hex "0100048000000000000000000000000014000000020018000100000005001000000000000100000000000000") ≡ Err
+    (faults.AceSize Dacl)
 unfolding computed
 guids_past_the_ace = refl
 
-sid_past_the_ace : reading (hex "0100048000000000000000000000000014000000020018000100000000001000000000000101000000000000") ≡ Err (faults.Sid Dacl)
+sid_past_the_ace : reading
+    (hex "0100048000000000000000000000000014000000020018000100000000001000000000000101000000000000") ≡ Err
+    (faults.Sid Dacl)
 unfolding computed
 sid_past_the_ace = refl
 
@@ -299,7 +374,8 @@ shared_acls : reading (hex "0100148000000000000000001400000014000000020008000000
 unfolding computed
 shared_acls = refl
 
-shared_owner_and_acl : reading (hex "010004801400000000000000000000001c00000001020000000000050200080000000000") ≡ Err (faults.Overlap Owner Dacl)
+shared_owner_and_acl : reading (hex "010004801400000000000000000000001c00000001020000000000050200080000000000") ≡ Err
+    (faults.Overlap Owner Dacl)
 unfolding computed
 shared_owner_and_acl = refl
 

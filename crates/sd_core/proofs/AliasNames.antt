@@ -23,4 +23,5 @@ under s (Some d) = mapped _ _ (λ e. refl)
 
 pub alias_of-IsName : (s : SecurityId) (domain : Option SecurityId) → IsName (alias_of s domain)
 unfolding alias_of
-alias_of-IsName s domain = first_name (known_alias s) (option_and_then (relative_alias s) (usable domain)) (mapped _ _ (λ e. refl)) (under s (usable domain))
+alias_of-IsName s domain = first_name (known_alias s) (option_and_then (relative_alias s) (usable domain))
+    (mapped _ _ (λ e. refl)) (under s (usable domain))

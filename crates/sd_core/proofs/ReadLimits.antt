@@ -29,13 +29,15 @@ found p q (y ∷ ys) all =
     let parts = both (q y) _ all in
     by_test (p y) parts.0 (found p q ys parts.1)
   where
-    by_test : (b : Bool) → q y ≡ true → IfSome (find p ys) (λ x. q x ≡ true) → IfSome (if b then Some y else find p ys) (λ x. q x ≡ true)
+    by_test : (b : Bool) → q y ≡ true → IfSome (find p ys) (λ x. q x ≡ true)
+        → IfSome (if b then Some y else find p ys) (λ x. q x ≡ true)
     by_test true h more = h
     by_test false h more = more
 
 -- 1. Numbers.
 
-below : (limit : ℕ) (o : Option ℕ) → IfSome (option_and_then (λ n. if nat_lt n limit then Some n else None) o) (λ n. n < limit)
+below : (limit : ℕ) (o : Option ℕ)
+    → IfSome (option_and_then (λ n. if nat_lt n limit then Some n else None) o) (λ n. n < limit)
 below limit None = tt
 below limit (Some n) = by_test (nat_lt n limit) refl
   where
@@ -60,7 +62,8 @@ larger (Some n) h = omega arith
 authority-limit : (text : List ℕ) → IfSome (authority_reads text) (λ n. n < 2 ^ 48)
 authority-limit text = by_test (is_hex text)
   where
-    by_test : (b : Bool) → IfSome (if b then number_below 16 (2 ^ 48) (drop 2 text) else decimal_reads text) (λ n. n < 2 ^ 48)
+    by_test : (b : Bool) → IfSome (if b then number_below 16 (2 ^ 48) (drop 2 text) else decimal_reads text)
+        (λ n. n < 2 ^ 48)
     by_test true = number-limit 16 (2 ^ 48) (drop 2 text)
     by_test false = larger (decimal_reads text) (decimal-limit text)
 
@@ -96,23 +99,27 @@ unfolding AreRead
 all-limits [] = (refl, no_words)
 all-limits (t ∷ ts) = joined (decimal_reads t) (all_read ts) (decimal-limit t) (all-limits ts)
   where
-    joined : (o : Option ℕ) (p : Option (List ℕ)) → IfSome o (λ n. n < 2 ^ 32) → IfSome p (AreRead (length ts)) → IfSome (also o p) (AreRead (length (t ∷ ts)))
+    joined : (o : Option ℕ) (p : Option (List ℕ)) → IfSome o (λ n. n < 2 ^ 32) → IfSome p (AreRead (length ts))
+        → IfSome (also o p) (AreRead (length (t ∷ ts)))
     joined None p h k = tt
     joined (Some n) None h k = tt
     joined (Some n) (Some ns) h k = (ap suc k.0, words-more n ns h k.1)
 
 numbers-limits : (p : Pieces) → length p.others ≤ 15 → IfSome (numbers_read p) IsSid
 unfolding numbers_read AreRead
-numbers-limits p few = joined (authority_reads p.first) (all_read p.others) (authority-limit p.first) (all-limits p.others)
+numbers-limits p few = joined (authority_reads p.first) (all_read p.others) (authority-limit p.first)
+    (all-limits p.others)
   where
-    joined : (o : Option ℕ) (q : Option (List ℕ)) → IfSome o (λ n. n < 2 ^ 48) → IfSome q (AreRead (length p.others)) → IfSome (sid_of_numbers o q) IsSid
+    joined : (o : Option ℕ) (q : Option (List ℕ)) → IfSome o (λ n. n < 2 ^ 48) → IfSome q (AreRead (length p.others))
+        → IfSome (sid_of_numbers o q) IsSid
     joined None q h k = tt
     joined (Some a) None h k = tt
     joined (Some a) (Some ns) h k = let count = k.0 in record { authority = h; count = omega arith; subs = k.1 }
 
 -- the limits of an entry
 known_fits : WellKnown → Bool
-known_fits e = nat_lt e.authority (2 ^ 48) && (nat_le (length (take e.count e.subs)) 15 && list_all (λ n. nat_lt n (2 ^ 32)) (take e.count e.subs))
+known_fits e = nat_lt e.authority
+    (2 ^ 48) && (nat_le (length (take e.count e.subs)) 15 && list_all (λ n. nat_lt n (2 ^ 32)) (take e.count e.subs))
 
 known_all : list_all known_fits WELL_KNOWN ≡ true
 unfolding known_fits
@@ -148,18 +155,24 @@ unfolding HasRoom
 relative-limits d e h t =
     let small : e.last < 2 ^ 32 = grind (arith, nat_tests) in
     let room = h.1 in
-    record { authority = h.0.authority; count = omega (arith, length-append d.subs (e.last ∷ []), room); subs = words-push d.subs e.last h.0.subs small }
+    record {
+      authority = h.0.authority;
+      count = omega (arith, length-append d.subs (e.last ∷ []), room);
+      subs = words-push d.subs e.last h.0.subs small;
+    }
 
 letters-limits : (a b : ℕ) (domain : Option SecurityId) → IfSome domain IsSid → IfOk (letters_read a b domain) IsSid
 unfolding letters_read
 letters-limits a b domain h =
     by_known (known_named a b) (relative_named a b) (usable domain)
     (found (λ e. e.first == to_ascii_uppercase a && e.second == to_ascii_uppercase b) known_fits WELL_KNOWN known_all)
-    (found (λ e. e.first == to_ascii_uppercase a && e.second == to_ascii_uppercase b) (λ e. nat_lt e.last (2 ^ 32)) DOMAIN_RELATIVE relative_all)
+    (found (λ e. e.first == to_ascii_uppercase a && e.second == to_ascii_uppercase b) (λ e. nat_lt e.last (2 ^ 32))
+    DOMAIN_RELATIVE relative_all)
     (usable-limits domain h)
   where
     by_known : (o : Option WellKnown) (r : Option DomainRelative) (u : Option SecurityId)
-        → IfSome o (λ e. known_fits e ≡ true) → IfSome r (λ e. nat_lt e.last (2 ^ 32) ≡ true) → IfSome u HasRoom → IfOk (name_reads o r u) IsSid
+        → IfSome o (λ e. known_fits e ≡ true) → IfSome r (λ e. nat_lt e.last (2 ^ 32) ≡ true) → IfSome u HasRoom
+        → IfOk (name_reads o r u) IsSid
     by_known (Some e) r u k l m = known-limits e k
     by_known None (Some e) None k l m = tt
     by_known None (Some e) (Some d) k l m = relative-limits d e m l
@@ -186,13 +199,15 @@ text-limits text domain h =
 
     by_letters : (t f : Bool) → IfOk (letters_read (slice_index text 0) (slice_index text 1) domain) IsSid
         → (f ≡ true → IfOk (or_number_fault (numbers_read (pieces (drop 4 text)))) IsSid)
-        → IfOk (if t then letters_read (slice_index text 0) (slice_index text 1) domain else (if f then or_number_fault (numbers_read (pieces (drop 4 text))) else Err faults.SidForm)) IsSid
+        → IfOk (if t then letters_read (slice_index text 0) (slice_index text 1)
+        domain else (if f then or_number_fault (numbers_read (pieces (drop 4 text))) else Err faults.SidForm)) IsSid
     by_letters true f k l = k
     by_letters false true k l = l refl
     by_letters false false k l = tt
 
 -- under a SID of a domain, or none
-pub sid-limits : (text : List ℕ) (domain : Option SecurityId) (s : SecurityId) → IfSome domain IsSid → sid_reads text domain ≡ Ok s → IsSid s
+pub sid-limits : (text : List ℕ) (domain : Option SecurityId) (s : SecurityId) → IfSome domain IsSid
+    → sid_reads text domain ≡ Ok s → IsSid s
 sid-limits text domain s h e = subst (λ (x : Result SecurityId SidFault). IfOk x IsSid) e (text-limits text domain h)
 
 -- 3. GUIDs.
@@ -200,12 +215,14 @@ sid-limits text domain s h e = subst (λ (x : Result SecurityId SidFault). IfOk 
 hex-value : (c : ℕ) → is_hex_digit c ≡ true → value_of c < 16
 hex-value c h = grind (arith, nat_tests)
 
-digit-at : (hex : List ℕ) (k : ℕ) → k < length hex → list_all is_hex_digit hex ≡ true → is_hex_digit (slice_index hex k) ≡ true
+digit-at : (hex : List ℕ) (k : ℕ) → k < length hex → list_all is_hex_digit hex ≡ true
+    → is_hex_digit (slice_index hex k) ≡ true
 digit-at [] k within e = absurd (omega arith)
 digit-at (c ∷ cs) zero within e = (both (is_hex_digit c) _ e).0
 digit-at (c ∷ cs) (suc k) within e = digit-at cs k (omega arith) (both (is_hex_digit c) _ e).1
 
-byte-limit : (hex : List ℕ) (j : ℕ) → length hex ≡ 32 → list_all is_hex_digit hex ≡ true → j < 16 → byte_of_digits hex j < 256
+byte-limit : (hex : List ℕ) (j : ℕ) → length hex ≡ 32 → list_all is_hex_digit hex ≡ true → j < 16
+    → byte_of_digits hex j < 256
 byte-limit hex j size e within =
     let high = hex-value (slice_index hex (2 * j)) (digit-at hex (2 * j) (omega arith) e) in
     let low = hex-value (slice_index hex (2 * j + 1)) (digit-at hex (2 * j + 1) (omega arith) e) in
@@ -220,10 +237,12 @@ simple-limits hex = by_test (length hex == 32) refl (list_all is_hex_digit hex) 
         record {
           size = long;
           bytes = All-from_get_or (λ b. b < 256) (by_index 16 (byte_of_digits hex)) 0
-              (λ i within. rw (by_index_at 16 (byte_of_digits hex) i 0 (omega arith)) (byte-limit hex i size e (omega arith)));
+              (λ i within. rw (by_index_at 16 (byte_of_digits hex) i 0 (omega arith))
+              (byte-limit hex i size e (omega arith)));
         }
 
-    by_test : (s : Bool) → (length hex == 32) ≡ s → (d : Bool) → list_all is_hex_digit hex ≡ d → IfSome (if s && d then Some (by_index 16 (byte_of_digits hex)) else None) IsGuid
+    by_test : (s : Bool) → (length hex == 32) ≡ s → (d : Bool) → list_all is_hex_digit hex ≡ d
+        → IfSome (if s && d then Some (by_index 16 (byte_of_digits hex)) else None) IsGuid
     by_test true f true e = guid (eqb-true _ 32 f) e
     by_test true f false e = tt
     by_test false f d e = tt

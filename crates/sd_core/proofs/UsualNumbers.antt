@@ -14,26 +14,37 @@ use Rattle.sd_core.proofs.FormLemmas.{form_is}
 use Rattle.sd_core.specs.SidText.{begins_with_s1, has_form, are_numbers, numbers_read, are_numbers, decimal_reads, is_decimal, numbers_read, pieces}
 use Rattle.sd_rights.specs.Numbers.{number_after}
 
-one_more : (base n b : ℕ) (xs : List ℕ) → number_after base n (xs ++ b ∷ []) ≡ option_and_then (λ m. if is_digit b base then Some (m * base + digit_value b) else None) (number_after base n xs)
+one_more : (base n b : ℕ) (xs : List ℕ)
+    → number_after base n (xs ++ b ∷ []) ≡ option_and_then
+    (λ m. if is_digit b base then Some (m * base + digit_value b) else None) (number_after base n xs)
 one_more base n b [] = refl
 one_more base n b (x ∷ xs) = by_digit (is_digit x base) (one_more base (n * base + digit_value x) b xs)
   where
-    by_digit : (d : Bool) → number_after base (n * base + digit_value x) (xs ++ b ∷ []) ≡ option_and_then (λ m. if is_digit b base then Some (m * base + digit_value b) else None) (number_after base (n * base + digit_value x) xs)
-        → (if d then number_after base (n * base + digit_value x) (xs ++ b ∷ []) else None) ≡ option_and_then (λ m. if is_digit b base then Some (m * base + digit_value b) else None) (if d then number_after base (n * base + digit_value x) xs else None)
+    by_digit : (d : Bool)
+        → number_after base (n * base + digit_value x) (xs ++ b ∷ []) ≡ option_and_then
+        (λ m. if is_digit b base then Some (m * base + digit_value b) else None)
+        (number_after base (n * base + digit_value x) xs)
+        → (if d then number_after base (n * base + digit_value x) (xs ++ b ∷ []) else None) ≡ option_and_then
+        (λ m. if is_digit b base then Some (m * base + digit_value b) else None)
+        (if d then number_after base (n * base + digit_value x) xs else None)
     by_digit true e = e
     by_digit false e = refl
 
 -- the number so far and one digit more
-pub digit_more : (text : List ℕ) (i n d : ℕ) → i < length text → number_after 10 0 (take i text) ≡ Some n → is_digit (get_or text i 0) 10 ≡ true → d ≡ digit_value (get_or text i 0)
+pub digit_more : (text : List ℕ) (i n d : ℕ) → i < length text → number_after 10 0 (take i text) ≡ Some n
+    → is_digit (get_or text i 0) 10 ≡ true → d ≡ digit_value (get_or text i 0)
     → number_after 10 0 (take (i + 1) text) ≡ Some (n * 10 + d)
-digit_more text i n d h e digit is = rw (take_more text i 0 h, one_more 10 0 (get_or text i 0) (take i text), e, digit, is) refl
+digit_more text i n d h e digit
+    is = rw (take_more text i 0 h, one_more 10 0 (get_or text i 0) (take i text), e, digit, is) refl
 
 digits : (n m : ℕ) (text : List ℕ) → number_after 10 n text ≡ Some m → list_all (λ b. is_digit b 10) text ≡ true
 digits n m [] e = refl
 digits n m (c ∷ cs) e = by_digit (is_digit c 10) (digits (n * 10 + digit_value c) m cs) e
   where
-    by_digit : (d : Bool) → (number_after 10 (n * 10 + digit_value c) cs ≡ Some m → list_all (λ b. is_digit b 10) cs ≡ true)
-        → (if d then number_after 10 (n * 10 + digit_value c) cs else None) ≡ Some m → (d && list_all (λ b. is_digit b 10) cs) ≡ true
+    by_digit : (d : Bool)
+        → (number_after 10 (n * 10 + digit_value c) cs ≡ Some m → list_all (λ b. is_digit b 10) cs ≡ true)
+        → (if d then number_after 10 (n * 10 + digit_value c) cs else None) ≡ Some m
+        → (d && list_all (λ b. is_digit b 10) cs) ≡ true
     by_digit true f e = f e
     by_digit false f e = absurd cc
 
@@ -42,7 +53,8 @@ decimal_is m text some e =
     let l : nat_lt 0 (length text) ≡ true = grind (arith, nat_tests) in
     rw (l, digits 0 m text e) refl
 
-pub reads_is : (m : ℕ) (text : List ℕ) → length text ≤ 10 → m < 2 ^ 32 → number_after 10 0 text ≡ Some m → decimal_reads text ≡ Some m
+pub reads_is : (m : ℕ) (text : List ℕ) → length text ≤ 10 → m < 2 ^ 32 → number_after 10 0 text ≡ Some m
+    → decimal_reads text ≡ Some m
 reads_is m text short small e =
     let l : nat_le (length text) 10 ≡ true = grind (arith, nat_tests) in
     let s : nat_lt m (2 ^ 32) ≡ true = grind (arith, nat_tests) in
@@ -73,7 +85,8 @@ below_more i n d small few = rw (add-one, pow-suc 10 i) (omega arith)
 
 -- a text that begins as a SID's, with what is read of the rest of it
 pub usual-is : (text : List ℕ) (r : Option SecurityId) → length text ≤ 183 → begins_with_s1 text ≡ true
-    → IfSome r (λ s. (are_numbers (pieces (take (length text - 4) (drop 4 text))) ≡ true) × (numbers_read (pieces (take (length text - 4) (drop 4 text))) ≡ Some s))
+    → IfSome r (λ s. (are_numbers (pieces (take (length text - 4) (drop 4 text))) ≡ true)
+    × (numbers_read (pieces (take (length text - 4) (drop 4 text))) ≡ Some s))
     → IfSome r (λ s. (has_form text ≡ true) × (numbers_read (pieces (drop 4 text)) ≡ Some s))
 usual-is text None short front h = h
 usual-is text (Some s) short front h = (

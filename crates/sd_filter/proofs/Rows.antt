@@ -18,7 +18,8 @@ use Rattle.sd_filter.specs.Faults.{fault_text}
 use Rattle.sd_filter.specs.Lines.{ended, lines, parts, without_cr}
 
 -- "a" CR LF, LF, "b" CR CR LF, "c" CR: the CR at the very end stays
-pub four_lines : lines (97 ∷ 13 ∷ 10 ∷ 10 ∷ 98 ∷ 13 ∷ 13 ∷ 10 ∷ 99 ∷ 13 ∷ []) ≡ (97 ∷ []) ∷ [] ∷ (98 ∷ 13 ∷ []) ∷ (99 ∷ 13 ∷ []) ∷ []
+pub four_lines : lines
+    (97 ∷ 13 ∷ 10 ∷ 10 ∷ 98 ∷ 13 ∷ 13 ∷ 10 ∷ 99 ∷ 13 ∷ []) ≡ (97 ∷ []) ∷ [] ∷ (98 ∷ 13 ∷ []) ∷ (99 ∷ 13 ∷ []) ∷ []
 unfolding lines ended parts without_cr
 four_lines = refl
 
@@ -41,24 +42,32 @@ pub short_answer : answer hex_to_hex [] (codes "0100048014") ≡ codes "error 5 
 unfolding answer line_means hex_spells hex_on_literals reading fault header_fault fault_text
 short_answer = refl
 
-pub sid_answer : answer hex_to_hex [] (codes "01000080140000000000000000000000000000000110000000000005") ≡ codes "error 9 sid owner" ++ 10 ∷ []
-unfolding answer line_means hex_spells hex_on_literals reading fault header_fault parts_fault sid_fault sid_at u16_at u32_at fault_text
+pub sid_answer : answer hex_to_hex [] (codes "01000080140000000000000000000000000000000110000000000005") ≡ codes
+    "error 9 sid owner" ++ 10 ∷ []
+unfolding answer line_means hex_spells hex_on_literals reading fault header_fault parts_fault sid_fault sid_at u16_at
+    u32_at fault_text
 sid_answer = refl
 
-pub header_answer : answer hex_to_hex [] (codes "01FF008000000000000000000000000000000000") ≡ codes "01ff008000000000000000000000000000000000" ++ 10 ∷ []
-unfolding answer line_means form_text hex_spells hex_on_literals reading fault header_fault parts_fault sid_fault sid_shown acl_part_fault acl_shown overlaps_fault overlap_fault u16_at u32_at header_bytes
+pub header_answer : answer hex_to_hex [] (codes "01FF008000000000000000000000000000000000") ≡ codes
+    "01ff008000000000000000000000000000000000" ++ 10 ∷ []
+unfolding answer line_means form_text hex_spells hex_on_literals reading fault header_fault parts_fault sid_fault
+    sid_shown acl_part_fault acl_shown overlaps_fault overlap_fault u16_at u32_at header_bytes
 header_answer = refl
 
 abbrev base64_to_hex : Job
 base64_to_hex = record { source = Base64; act = Convert Hex; domain = None; numeric = false }
 
-pub base64_answer : answer base64_to_hex [] (codes "Af8AgAAAAAAAAAAAAAAAAAAAAAA=") ≡ codes "01ff008000000000000000000000000000000000" ++ 10 ∷ []
-unfolding answer line_means form_text base64_spells base64_on_literals hex_on_literals reading fault header_fault parts_fault sid_fault sid_shown acl_part_fault acl_shown overlaps_fault overlap_fault u16_at u32_at header_bytes
+pub base64_answer : answer base64_to_hex [] (codes "Af8AgAAAAAAAAAAAAAAAAAAAAAA=") ≡ codes
+    "01ff008000000000000000000000000000000000" ++ 10 ∷ []
+unfolding answer line_means form_text base64_spells base64_on_literals hex_on_literals reading fault header_fault
+    parts_fault sid_fault sid_shown acl_part_fault acl_shown overlaps_fault overlap_fault u16_at u32_at header_bytes
 base64_answer = refl
 
 abbrev hex_to_base64 : Job
 hex_to_base64 = record { source = Hex; act = Convert Base64; domain = None; numeric = false }
 
-pub answer_in_base64 : answer hex_to_base64 [] (codes "01FF008000000000000000000000000000000000") ≡ codes "Af8AgAAAAAAAAAAAAAAAAAAAAAA=" ++ 10 ∷ []
-unfolding answer line_means form_text hex_spells base64_on_literals hex_on_literals reading fault header_fault parts_fault sid_fault sid_shown acl_part_fault acl_shown overlaps_fault overlap_fault u16_at u32_at header_bytes
+pub answer_in_base64 : answer hex_to_base64 [] (codes "01FF008000000000000000000000000000000000") ≡ codes
+    "Af8AgAAAAAAAAAAAAAAAAAAAAAA=" ++ 10 ∷ []
+unfolding answer line_means form_text hex_spells base64_on_literals hex_on_literals reading fault header_fault
+    parts_fault sid_fault sid_shown acl_part_fault acl_shown overlaps_fault overlap_fault u16_at u32_at header_bytes
 answer_in_base64 = refl

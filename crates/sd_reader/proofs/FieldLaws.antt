@@ -19,13 +19,37 @@ use Rattle.sd_reader.specs.declared.reading.FieldReader.{FieldReader}
 
 module _ (r : FieldReader) (buf : List ℕ) (t : FieldsRead) (h : HasRead r buf t) where
   pub holds-sacl : (f : AclFlags) → HasRead (record r { sacl = f }) buf (record t { sacl = f })
-  holds-sacl f = record { sacl = refl; dacl = h.dacl; ace = h.ace; large = h.large; sound = h.sound; builds = h.builds; open_acl = h.open_acl }
+  holds-sacl f = record {
+    sacl = refl;
+    dacl = h.dacl;
+    ace = h.ace;
+    large = h.large;
+    sound = h.sound;
+    builds = h.builds;
+    open_acl = h.open_acl;
+  }
 
   pub holds-dacl : (f : AclFlags) → HasRead (record r { dacl = f }) buf (record t { dacl = f })
-  holds-dacl f = record { sacl = h.sacl; dacl = refl; ace = h.ace; large = h.large; sound = h.sound; builds = h.builds; open_acl = h.open_acl }
+  holds-dacl f = record {
+    sacl = h.sacl;
+    dacl = refl;
+    ace = h.ace;
+    large = h.large;
+    sound = h.sound;
+    builds = h.builds;
+    open_acl = h.open_acl;
+  }
 
   pub holds-ace : (a : AceFields) → AreAceFields a → HasRead (record r { ace = a }) buf (record t { ace = a })
-  holds-ace a sound = record { sacl = h.sacl; dacl = h.dacl; ace = refl; large = h.large; sound = sound; builds = h.builds; open_acl = h.open_acl }
+  holds-ace a sound = record {
+    sacl = h.sacl;
+    dacl = h.dacl;
+    ace = refl;
+    large = h.large;
+    sound = sound;
+    builds = h.builds;
+    open_acl = h.open_acl;
+  }
 
 pub sound-kind : (kind : AceKind) → AreAceFields (record no_fields { kind = kind })
 sound-kind kind = record { clear = refl; fit = none (is_object kind) }
@@ -34,14 +58,16 @@ sound-kind kind = record { clear = refl; fit = none (is_object kind) }
     none true = tt
     none false = tt
 
-pub sound-flags : (f : AceFields) (flags : ℕ) → AreAceFields f → flags / 0x20 % 2 ≡ 0 → AreAceFields (record f { flags = flags })
+pub sound-flags : (f : AceFields) (flags : ℕ) → AreAceFields f → flags / 0x20 % 2 ≡ 0
+    → AreAceFields (record f { flags = flags })
 sound-flags f flags s clear = record { clear = clear; fit = s.fit }
 
 pub sound-mask : (f : AceFields) (mask : ℕ) → AreAceFields f → AreAceFields (record f { mask = mask })
 sound-mask f mask s = record { clear = s.clear; fit = s.fit }
 
 -- a GUID stands in object kinds alone
-guid_stands : (kind : AceKind) (text : List ℕ) (g : List ℕ) → object_reads kind text ≡ Some (Some g) → is_object kind ≡ true
+guid_stands : (kind : AceKind) (text : List ℕ) (g : List ℕ) → object_reads kind text ≡ Some (Some g)
+    → is_object kind ≡ true
 unfolding object_reads
 guid_stands kind [] g e = absurd cc
 guid_stands kind (b ∷ bs) g e = by_kind (is_object kind) refl
@@ -50,7 +76,8 @@ guid_stands kind (b ∷ bs) g e = by_kind (is_object kind) refl
     by_kind true f = f
     by_kind false f = absurd (let e' : None ≡ Some (Some g) = (rw f at e) in cc)
 
-pub sound-object : (f : AceFields) (text : List ℕ) (object : Option (List ℕ)) → AreAceFields f → object_reads f.kind text ≡ Some object → AreAceFields (record f { object = object })
+pub sound-object : (f : AceFields) (text : List ℕ) (object : Option (List ℕ)) → AreAceFields f
+    → object_reads f.kind text ≡ Some object → AreAceFields (record f { object = object })
 sound-object f text object s e = record { clear = s.clear; fit = by_object object e }
   where
     without : (o : Bool) (x y : Option (List ℕ)) → GuidsFit o x y → GuidsFit o None y
@@ -67,7 +94,8 @@ sound-object f text object s e = record { clear = s.clear; fit = by_object objec
     by_object None e = without (is_object f.kind) f.object f.inherited s.fit
     by_object (Some g) e = any (is_object f.kind) (Some g) f.inherited (guid_stands f.kind text g e)
 
-pub sound-inherited : (f : AceFields) (text : List ℕ) (object : Option (List ℕ)) → AreAceFields f → object_reads f.kind text ≡ Some object → AreAceFields (record f { inherited = object })
+pub sound-inherited : (f : AceFields) (text : List ℕ) (object : Option (List ℕ)) → AreAceFields f
+    → object_reads f.kind text ≡ Some object → AreAceFields (record f { inherited = object })
 sound-inherited f text object s e = record { clear = s.clear; fit = by_object object e }
   where
     without : (o : Bool) (x y : Option (List ℕ)) → GuidsFit o x y → GuidsFit o x None
@@ -90,19 +118,28 @@ some-of None e y h = absurd cc
 some-of (Some x) e y h = cc
 
 -- an ACL begins
-front-taken : (w : Which) (has_aces : Bool) (t : FieldsRead) (f : AclFront) (found : Option AclFront) → found ≡ Some f → (f.null && has_aces) ≡ false
-    → take_front w has_aces t found ≡ Ok (with_flags w f.flags (record t { parts = begun_or_null w f.null (closed t.parts) }))
+front-taken : (w : Which) (has_aces : Bool) (t : FieldsRead) (f : AclFront) (found : Option AclFront) → found ≡ Some f
+    → (f.null && has_aces) ≡ false
+    → take_front w has_aces t found ≡ Ok
+    (with_flags w f.flags (record t { parts = begun_or_null w f.null (closed t.parts) }))
 unfolding take_front
 front-taken w has_aces t f found is e = rw (is, e) refl
 
-module _ (w : Which) (has_aces : Bool) (t : FieldsRead) (f : AclFront) (found : Option AclFront) (is : found ≡ Some f) (e : (f.null && has_aces) ≡ false) where
-  pub sacl-taken : w ≡ which.Sacl → take_front w has_aces t found ≡ Ok (record t { parts = begun_or_null w f.null (closed t.parts); sacl = f.flags })
+module _ (w : Which) (has_aces : Bool) (t : FieldsRead) (f : AclFront) (found : Option AclFront) (is : found ≡ Some f)
+    (e : (f.null && has_aces) ≡ false) where
+  pub sacl-taken : w ≡ which.Sacl
+      → take_front w has_aces t found ≡ Ok
+      (record t { parts = begun_or_null w f.null (closed t.parts); sacl = f.flags })
   sacl-taken same = front-taken w has_aces t f found is e
-      ∙ ap (λ (v : Which). Ok (with_flags v f.flags (record t { parts = begun_or_null w f.null (closed t.parts) }))) same
+      ∙ ap (λ (v : Which). Ok
+      (with_flags v f.flags (record t { parts = begun_or_null w f.null (closed t.parts) }))) same
 
-  pub dacl-taken : w ≡ which.Dacl → take_front w has_aces t found ≡ Ok (record t { parts = begun_or_null w f.null (closed t.parts); dacl = f.flags })
+  pub dacl-taken : w ≡ which.Dacl
+      → take_front w has_aces t found ≡ Ok
+      (record t { parts = begun_or_null w f.null (closed t.parts); dacl = f.flags })
   dacl-taken same = front-taken w has_aces t f found is e
-      ∙ ap (λ (v : Which). Ok (with_flags v f.flags (record t { parts = begun_or_null w f.null (closed t.parts) }))) same
+      ∙ ap (λ (v : Which). Ok
+      (with_flags v f.flags (record t { parts = begun_or_null w f.null (closed t.parts) }))) same
 
 pub not-both : (x y : Bool) → y ≡ false → (x && y) ≡ false
 not-both true y e = e

@@ -38,7 +38,8 @@ use Rattle.sd_view.specs.declared.control.Which.{Which}
 use Rattle.sd_view.specs.declared.control.Which.TheVariants as which
 
 -- 1. Where no fault is found, none was there, and the field was read.
-pub taken : (fault : Option SddlFault) (t u : FieldsRead) (next : FieldsRead → Result FieldsRead SddlFault) → Ok u ≡ and_then (result_or t fault) next
+pub taken : (fault : Option SddlFault) (t u : FieldsRead) (next : FieldsRead → Result FieldsRead SddlFault)
+    → Ok u ≡ and_then (result_or t fault) next
     → (fault ≡ None) × (next t ≡ Ok u)
 taken None t u next e = (refl, sym e)
 taken (Some f) t u next e = absurd cc
@@ -59,7 +60,8 @@ module _ (p : Draft) (s : SecurityId) where
   acl-beside-owner v = cases p.«open» v
     where
       listed : (w : Which) (aces : List AccessControlEntry) (v : Which)
-          → acl_of v (closed (record (closed (acl_in p (Some (w, aces)))) { owner = Some s })) ≡ acl_of v (closed (acl_in p (Some (w, aces))))
+          → acl_of v (closed (record (closed (acl_in p (Some (w, aces)))) { owner = Some s })) ≡ acl_of v
+          (closed (acl_in p (Some (w, aces))))
       listed which.Sacl aces which.Sacl = refl
       listed which.Sacl aces which.Dacl = refl
       listed which.Dacl aces which.Sacl = refl
@@ -75,7 +77,8 @@ module _ (p : Draft) (s : SecurityId) where
   acl-beside-group v = cases p.«open» v
     where
       listed : (w : Which) (aces : List AccessControlEntry) (v : Which)
-          → acl_of v (closed (record (closed (acl_in p (Some (w, aces)))) { group = Some s })) ≡ acl_of v (closed (acl_in p (Some (w, aces))))
+          → acl_of v (closed (record (closed (acl_in p (Some (w, aces)))) { group = Some s })) ≡ acl_of v
+          (closed (acl_in p (Some (w, aces))))
       listed which.Sacl aces which.Sacl = refl
       listed which.Sacl aces which.Dacl = refl
       listed which.Dacl aces which.Sacl = refl
@@ -114,8 +117,10 @@ acl-beside-acl : (p : Draft) (w : Which) (null : Bool) (v : Which) → same_head
     → acl_of v (closed (begun_or_null w null (closed p))) ≡ acl_of v (closed p)
 acl-beside-acl p w null v e = cases p.«open» w null v e
   where
-    listed : (x : Which) (aces : List AccessControlEntry) (w : Which) (null : Bool) (v : Which) → same_head (head.Acl w) (head.Acl v) ≡ false
-        → acl_of v (closed (begun_or_null w null (closed (acl_in p (Some (x, aces)))))) ≡ acl_of v (closed (acl_in p (Some (x, aces))))
+    listed : (x : Which) (aces : List AccessControlEntry) (w : Which) (null : Bool) (v : Which)
+        → same_head (head.Acl w) (head.Acl v) ≡ false
+        → acl_of v (closed (begun_or_null w null (closed (acl_in p (Some (x, aces)))))) ≡ acl_of v
+        (closed (acl_in p (Some (x, aces))))
     listed x aces which.Sacl null which.Sacl e = absurd cc
     listed x aces which.Dacl null which.Dacl e = absurd cc
     listed which.Sacl aces which.Sacl true which.Dacl e = refl
@@ -127,7 +132,8 @@ acl-beside-acl p w null v e = cases p.«open» w null v e
     listed which.Dacl aces which.Dacl true which.Sacl e = refl
     listed which.Dacl aces which.Dacl false which.Sacl e = refl
 
-    cases : (o : Option (Which × List AccessControlEntry)) (w : Which) (null : Bool) (v : Which) → same_head (head.Acl w) (head.Acl v) ≡ false
+    cases : (o : Option (Which × List AccessControlEntry)) (w : Which) (null : Bool) (v : Which)
+        → same_head (head.Acl w) (head.Acl v) ≡ false
         → acl_of v (closed (begun_or_null w null (closed (acl_in p o)))) ≡ acl_of v (closed (acl_in p o))
     cases None which.Sacl null which.Sacl e = absurd cc
     cases None which.Dacl null which.Dacl e = absurd cc
@@ -148,17 +154,20 @@ group-begun p which.Sacl true = refl
 group-begun p which.Dacl true = refl
 
 -- one ACE more in the ACL at hand
-absent-with_ace : (p : Draft) (a : AccessControlEntry) (v : Which) → acl_of v (closed p) ≡ acl.Absent → acl_of v (closed (with_ace a p)) ≡ acl.Absent
+absent-with_ace : (p : Draft) (a : AccessControlEntry) (v : Which) → acl_of v (closed p) ≡ acl.Absent
+    → acl_of v (closed (with_ace a p)) ≡ acl.Absent
 absent-with_ace p a v e = cases p.«open» v e
   where
-    listed : (w : Which) (aces : List AccessControlEntry) (v : Which) → acl_of v (closed (acl_in p (Some (w, aces)))) ≡ acl.Absent
+    listed : (w : Which) (aces : List AccessControlEntry) (v : Which)
+        → acl_of v (closed (acl_in p (Some (w, aces)))) ≡ acl.Absent
         → acl_of v (closed (with_ace a (acl_in p (Some (w, aces))))) ≡ acl.Absent
     listed which.Sacl aces which.Sacl e = absurd cc
     listed which.Sacl aces which.Dacl e = e
     listed which.Dacl aces which.Sacl e = e
     listed which.Dacl aces which.Dacl e = absurd cc
 
-    cases : (o : Option (Which × List AccessControlEntry)) (v : Which) → acl_of v (closed (acl_in p o)) ≡ acl.Absent → acl_of v (closed (with_ace a (acl_in p o))) ≡ acl.Absent
+    cases : (o : Option (Which × List AccessControlEntry)) (v : Which) → acl_of v (closed (acl_in p o)) ≡ acl.Absent
+        → acl_of v (closed (with_ace a (acl_in p o))) ≡ acl.Absent
     cases None v e = e
     cases (Some o) v e = listed o.0 o.1 v e
 
@@ -177,7 +186,8 @@ gives (slot.Sid p) h = same_head (head.Sid p) h
 gives (slot.AclFlags w has_aces) h = same_head (head.Acl w) h
 gives (slot.Ace f) h = false
 
-lacks-sid : (r : FieldsRead) (p : SidPart) (s : SecurityId) (h : Head) → same_head (head.Sid p) h ≡ false → Lacks h r → Lacks h (with_owner_or_group p r s)
+lacks-sid : (r : FieldsRead) (p : SidPart) (s : SecurityId) (h : Head) → same_head (head.Sid p) h ≡ false → Lacks h r
+    → Lacks h (with_owner_or_group p r s)
 lacks-sid r sid_part.Owner s (head.Sid sid_part.Owner) e l = absurd cc
 lacks-sid r sid_part.Owner s (head.Sid sid_part.Group) e l = group-closed r.parts ∙ l
 lacks-sid r sid_part.Owner s (head.Acl v) e l = acl-beside-owner r.parts s v ∙ l
@@ -187,11 +197,15 @@ lacks-sid r sid_part.Group s (head.Acl v) e l = acl-beside-group r.parts s v ∙
 
 lacks-front : (r : FieldsRead) (w : Which) (f : AclFront) (h : Head) → same_head (head.Acl w) h ≡ false → Lacks h r
     → Lacks h (with_flags w f.flags (record r { parts = begun_or_null w f.null (closed r.parts) }))
-lacks-front r which.Sacl f (head.Sid sid_part.Owner) e l = owner-begun (closed r.parts) which.Sacl f.null ∙ (owner-closed r.parts ∙ l)
-lacks-front r which.Sacl f (head.Sid sid_part.Group) e l = group-begun (closed r.parts) which.Sacl f.null ∙ (group-closed r.parts ∙ l)
+lacks-front r which.Sacl f (head.Sid sid_part.Owner) e l = owner-begun (closed r.parts) which.Sacl f.null
+    ∙ (owner-closed r.parts ∙ l)
+lacks-front r which.Sacl f (head.Sid sid_part.Group) e l = group-begun (closed r.parts) which.Sacl f.null
+    ∙ (group-closed r.parts ∙ l)
 lacks-front r which.Sacl f (head.Acl v) e l = acl-beside-acl r.parts which.Sacl f.null v e ∙ l
-lacks-front r which.Dacl f (head.Sid sid_part.Owner) e l = owner-begun (closed r.parts) which.Dacl f.null ∙ (owner-closed r.parts ∙ l)
-lacks-front r which.Dacl f (head.Sid sid_part.Group) e l = group-begun (closed r.parts) which.Dacl f.null ∙ (group-closed r.parts ∙ l)
+lacks-front r which.Dacl f (head.Sid sid_part.Owner) e l = owner-begun (closed r.parts) which.Dacl f.null
+    ∙ (owner-closed r.parts ∙ l)
+lacks-front r which.Dacl f (head.Sid sid_part.Group) e l = group-begun (closed r.parts) which.Dacl f.null
+    ∙ (group-closed r.parts ∙ l)
 lacks-front r which.Dacl f (head.Acl v) e l = acl-beside-acl r.parts which.Dacl f.null v e ∙ l
 
 lacks-trustee : (r : FieldsRead) (s : SecurityId) (h : Head) → Lacks h r → Lacks h (with_trustee r s)
@@ -204,14 +218,16 @@ module _ (P : FieldsRead → Type 0) (u : FieldsRead) where
   if-ok : (x : Result FieldsRead SddlFault) → IfOk x P → x ≡ Ok u → P u
   if-ok x k e = subst (λ (y : Result FieldsRead SddlFault). IfOk y P) e k
 
-  if-sid : (with : SecurityId → FieldsRead) (x : Result SecurityId SidFault) → ((s : SecurityId) → P (with s)) → with_sid with x ≡ Ok u → P u
+  if-sid : (with : SecurityId → FieldsRead) (x : Result SecurityId SidFault) → ((s : SecurityId) → P (with s))
+      → with_sid with x ≡ Ok u → P u
   if-sid with x k e = if-ok (with_sid with x) (cases x) e
     where
       cases : (x : Result SecurityId SidFault) → IfOk (with_sid with x) P
       cases (Ok s) = k s
       cases (Err f) = tt
 
-  if-value : {A : Type 0} (f : SddlFault) (with : A → FieldsRead) (x : Option A) → ((y : A) → P (with y)) → with_value f with x ≡ Ok u → P u
+  if-value : {A : Type 0} (f : SddlFault) (with : A → FieldsRead) (x : Option A) → ((y : A) → P (with y))
+      → with_value f with x ≡ Ok u → P u
   if-value {A} f with x k e = if-ok (with_value f with x) (cases x) e
     where
       cases : (x : Option A) → IfOk (with_value f with x) P
@@ -219,12 +235,15 @@ module _ (P : FieldsRead → Type 0) (u : FieldsRead) where
       cases (Some y) = k y
 
   if-front : (w : Which) (has_aces : Bool) (r : FieldsRead) (x : Option AclFront)
-      → ((f : AclFront) → (f.null && has_aces) ≡ false → P (with_flags w f.flags (record r { parts = begun_or_null w f.null (closed r.parts) }))) → take_front w has_aces r x ≡ Ok u → P u
+      → ((f : AclFront) → (f.null && has_aces) ≡ false
+      → P (with_flags w f.flags (record r { parts = begun_or_null w f.null (closed r.parts) })))
+      → take_front w has_aces r x ≡ Ok u → P u
   unfolding take_front
   if-front w has_aces r x k e = if-ok (take_front w has_aces r x) (cases x) e
     where
       by_test : (f : AclFront) (b : Bool) → (f.null && has_aces) ≡ b
-          → IfOk (if b then Err fault.Flags else Ok (with_flags w f.flags (record r { parts = begun_or_null w f.null (closed r.parts) }))) P
+          → IfOk (if b then Err fault.Flags else Ok
+          (with_flags w f.flags (record r { parts = begun_or_null w f.null (closed r.parts) }))) P
       by_test f true e = tt
       by_test f false e = k f e
 
@@ -232,7 +251,8 @@ module _ (P : FieldsRead → Type 0) (u : FieldsRead) where
       cases None = tt
       cases (Some f) = by_test f (f.null && has_aces) refl
 
-readable : (domain : Option SecurityId) (r u : FieldsRead) (s : Slot) (text : List ℕ) → take_field domain r s text ≡ Ok u → take_readable domain r s text ≡ Ok u
+readable : (domain : Option SecurityId) (r u : FieldsRead) (s : Slot) (text : List ℕ)
+    → take_field domain r s text ≡ Ok u → take_readable domain r s text ≡ Ok u
 unfolding take_field
 readable domain r u s text e = by_test (is_unreadable text) refl
   where
@@ -241,7 +261,8 @@ readable domain r u s text e = by_test (is_unreadable text) refl
     by_test false f = (rw f at e)
 
 ace_field : (P : FieldsRead → Type 0) (domain : Option SecurityId) (r u : FieldsRead) (f : AceField) (text : List ℕ)
-    → ((a : AceFields) → P (record r { ace = a })) → ((s : SecurityId) → P (with_trustee r s)) → take_ace_field domain r f text ≡ Ok u → P u
+    → ((a : AceFields) → P (record r { ace = a })) → ((s : SecurityId) → P (with_trustee r s))
+    → take_ace_field domain r f text ≡ Ok u → P u
 unfolding take_ace_field
 ace_field P domain r u field.Kind text k l e = if-value P u _ _ (kind_reads text) (λ x. k _) e
 ace_field P domain r u field.Flags text k l e = if-value P u _ _ (flags_reads text) (λ x. k _) e
@@ -250,13 +271,17 @@ ace_field P domain r u field.Object text k l e = if-value P u _ _ (object_reads 
 ace_field P domain r u field.Inherited text k l e = if-value P u _ _ (object_reads r.ace.kind text) (λ x. k _) e
 ace_field P domain r u field.Sid text k l e = if-sid P u _ (sid_reads text domain) l e
 
-lacks-taken : (domain : Option SecurityId) (r u : FieldsRead) (s : Slot) (text : List ℕ) (h : Head) → take_field domain r s text ≡ Ok u → gives s h ≡ false → Lacks h r → Lacks h u
+lacks-taken : (domain : Option SecurityId) (r u : FieldsRead) (s : Slot) (text : List ℕ) (h : Head)
+    → take_field domain r s text ≡ Ok u → gives s h ≡ false → Lacks h r → Lacks h u
 lacks-taken domain r u (slot.Sid p) text h e g l =
-    if-sid (λ x. Lacks h x) u (with_owner_or_group p r) (sid_reads text domain) (λ s. lacks-sid r p s h g l) (readable domain r u (slot.Sid p) text e)
+    if-sid (λ x. Lacks h x) u (with_owner_or_group p r) (sid_reads text domain) (λ s. lacks-sid r p s h g l)
+    (readable domain r u (slot.Sid p) text e)
 lacks-taken domain r u (slot.AclFlags w has_aces) text h e g l =
-    if-front (λ x. Lacks h x) u w has_aces r (front_reads text) (λ f _. lacks-front r w f h g l) (readable domain r u (slot.AclFlags w has_aces) text e)
+    if-front (λ x. Lacks h x) u w has_aces r (front_reads text) (λ f _. lacks-front r w f h g l)
+    (readable domain r u (slot.AclFlags w has_aces) text e)
 lacks-taken domain r u (slot.Ace f) text h e g l =
-    ace_field (λ x. Lacks h x) domain r u f text (λ a. same a h l) (λ s. lacks-trustee r s h l) (readable domain r u (slot.Ace f) text e)
+    ace_field (λ x. Lacks h x) domain r u f text (λ a. same a h l) (λ s. lacks-trustee r s h l)
+    (readable domain r u (slot.Ace f) text e)
   where
     same : (a : AceFields) (h : Head) → Lacks h r → Lacks h (record r { ace = a })
     same a (head.Sid sid_part.Owner) l = l
@@ -264,22 +289,28 @@ lacks-taken domain r u (slot.Ace f) text h e g l =
     same a (head.Acl v) l = l
 
 -- an ACL whose first parenthesis comes is open
-open-front : (domain : Option SecurityId) (r u : FieldsRead) (w : Which) (text : List ℕ) → take_field domain r (slot.AclFlags w true) text ≡ Ok u → IsOpen u.parts
+open-front : (domain : Option SecurityId) (r u : FieldsRead) (w : Which) (text : List ℕ)
+    → take_field domain r (slot.AclFlags w true) text ≡ Ok u → IsOpen u.parts
 open-front domain r u w text e =
-    if-front (λ x. IsOpen x.parts) u w true r (front_reads text) (λ f n. begins f.null f.flags n) (readable domain r u (slot.AclFlags w true) text e)
+    if-front (λ x. IsOpen x.parts) u w true r (front_reads text) (λ f n. begins f.null f.flags n)
+    (readable domain r u (slot.AclFlags w true) text e)
   where
-    with_w : (w : Which) (flags : AclFlags) (p : Draft) → IsOpen p → IsOpen (with_flags w flags (record r { parts = p })).parts
+    with_w : (w : Which) (flags : AclFlags) (p : Draft) → IsOpen p
+        → IsOpen (with_flags w flags (record r { parts = p })).parts
     with_w which.Sacl flags p o = o
     with_w which.Dacl flags p o = o
 
-    begins : (null : Bool) (flags : AclFlags) → (null && true) ≡ false → IsOpen (with_flags w flags (record r { parts = begun_or_null w null (closed r.parts) })).parts
+    begins : (null : Bool) (flags : AclFlags) → (null && true) ≡ false
+        → IsOpen (with_flags w flags (record r { parts = begun_or_null w null (closed r.parts) })).parts
     begins true flags n = absurd cc
     begins false flags n = with_w w flags _ tt
 
 -- and stays so within its ACEs
-open-taken : (domain : Option SecurityId) (r u : FieldsRead) (f : AceField) (text : List ℕ) → take_field domain r (slot.Ace f) text ≡ Ok u → IsOpen r.parts → IsOpen u.parts
+open-taken : (domain : Option SecurityId) (r u : FieldsRead) (f : AceField) (text : List ℕ)
+    → take_field domain r (slot.Ace f) text ≡ Ok u → IsOpen r.parts → IsOpen u.parts
 open-taken domain r u f text e o =
-    ace_field (λ x. IsOpen x.parts) domain r u f text (λ a. o) (λ s. open-with_ace r.parts (ace_of r.ace s) o) (readable domain r u (slot.Ace f) text e)
+    ace_field (λ x. IsOpen x.parts) domain r u f text (λ a. o) (λ s. open-with_ace r.parts (ace_of r.ace s) o)
+    (readable domain r u (slot.Ace f) text e)
 
 -- 4. Places.
 
@@ -294,7 +325,8 @@ not_false : (x : Bool) → x ≡ false → not x ≡ true
 not_false x e = rw e refl
 
 -- a part that was not seen is not at hand
-not-here : (p : State) (seen : Seen) (t : FieldsRead) → Fits p seen t → (h : Head) → is_seen seen h ≡ false → is_at_front p h ≡ false
+not-here : (p : State) (seen : Seen) (t : FieldsRead) → Fits p seen t → (h : Head) → is_seen seen h ≡ false
+    → is_at_front p h ≡ false
 not-here p seen t k h e = by_front (is_at_front p h) refl
   where
     by_front : (b : Bool) → is_at_front p h ≡ b → is_at_front p h ≡ false
@@ -306,13 +338,15 @@ not_or_false true e = absurd cc
 not_or_false false e = refl
 
 -- an ACL's first parenthesis
-pub fits-first : (domain : Option SecurityId) (w : Which) (seen : Seen) (t u : FieldsRead) (text : List ℕ) → take_field domain t (slot.AclFlags w true) text ≡ Ok u
+pub fits-first : (domain : Option SecurityId) (w : Which) (seen : Seen) (t u : FieldsRead) (text : List ℕ)
+    → take_field domain t (slot.AclFlags w true) text ≡ Ok u
     → Fits (state.AclFlags w) seen t → Fits (state.Ace field.Kind) seen u
 fits-first domain w seen t u text e k = record {
   here = λ h f. absurd cc;
   lacks = λ h f.
       let unseen = not_or_false (is_seen seen h) f in
-      lacks-taken domain t u (slot.AclFlags w true) text h e (not-here (state.AclFlags w) seen t k h unseen) (k.lacks h (or_left (not (is_seen seen h)) _ (not_false (is_seen seen h) unseen)));
+      lacks-taken domain t u (slot.AclFlags w true) text h e (not-here (state.AclFlags w) seen t k h unseen)
+      (k.lacks h (or_left (not (is_seen seen h)) _ (not_false (is_seen seen h) unseen)));
   opened = λ _. open-front domain t u w text e;
 }
 
@@ -321,19 +355,22 @@ pub fits-next : (seen : Seen) (t : FieldsRead) → Fits state.AfterAce seen t �
 fits-next seen t k = record { here = λ h f. absurd cc; lacks = k.lacks; opened = λ _. k.opened refl }
 
 -- a field of an ACE
-pub fits-field : (domain : Option SecurityId) (f : AceField) (p : State) (seen : Seen) (t u : FieldsRead) (text : List ℕ) → take_field domain t (slot.Ace f) text ≡ Ok u
+pub fits-field : (domain : Option SecurityId) (f : AceField) (p : State) (seen : Seen) (t u : FieldsRead)
+    (text : List ℕ) → take_field domain t (slot.Ace f) text ≡ Ok u
     → ((h : Head) → is_at_front p h ≡ false) → Fits (state.Ace f) seen t → Fits p seen u
 fits-field domain f p seen t u text e none k = record {
   here = λ h g. absurd (true≢false (sym g ∙ none h));
   lacks = λ h g.
       let unseen = not_or_false (is_seen seen h) (sym (ap (λ b. not (is_seen seen h) || b) (none h)) ∙ g) in
-      lacks-taken domain t u (slot.Ace f) text h e refl (k.lacks h (or_left (not (is_seen seen h)) _ (not_false (is_seen seen h) unseen)));
+      lacks-taken domain t u (slot.Ace f) text h e refl
+      (k.lacks h (or_left (not (is_seen seen h)) _ (not_false (is_seen seen h) unseen)));
   opened = λ _. open-taken domain t u f text e (k.opened refl);
 }
 
 -- 5. What a reader keeps.
 
-module _ (fault fault' : Option SddlFault) (t u : FieldsRead) (next : FieldsRead → Result FieldsRead SddlFault) (e : result_or u fault' ≡ and_then (result_or t fault) next) where
+module _ (fault fault' : Option SddlFault) (t u : FieldsRead) (next : FieldsRead → Result FieldsRead SddlFault)
+    (e : result_or u fault' ≡ and_then (result_or t fault) next) where
   -- where no fault is found, none was there, and the field was read
   pub none-before : fault' ≡ None → fault ≡ None
   none-before none = (taken fault t u next (rw none at e)).0
@@ -383,7 +420,8 @@ not_or true y e f = absurd (let g : (false || y) ≡ true = e in true≢false (s
 not_or false y e f = refl
 
 -- a head that was not seen begins a part that is not given
-pub fits-head : (p : State) (seen : Seen) (t u : FieldsRead) (h : Head) → ((k : Head) → is_seen seen k ≡ false → Lacks k t → Lacks k u) → is_seen seen h ≡ false
+pub fits-head : (p : State) (seen : Seen) (t u : FieldsRead) (h : Head)
+    → ((k : Head) → is_seen seen k ≡ false → Lacks k t → Lacks k u) → is_seen seen h ≡ false
     → Fits p seen t → Fits (state_of h) (with_head seen h) u
 fits-head p seen t u h keeps unseen k = record {
   here = λ x f. seen_with seen h x ∙ or_right (is_seen seen x) _ (sym (front-of h x) ∙ f);
@@ -394,7 +432,8 @@ fits-head p seen t u h keeps unseen k = record {
     lacking : (x : Head) → is_seen seen x ≡ false → Lacks x u
     lacking x e = keeps x e (k.lacks x (or_left (not (is_seen seen x)) _ (not_false (is_seen seen x) e)))
 
-    by_same : (x : Head) (b : Bool) → same_head h x ≡ b → (not (is_seen seen x || same_head h x) || same_head h x) ≡ true → Lacks x u
+    by_same : (x : Head) (b : Bool) → same_head h x ≡ b
+        → (not (is_seen seen x || same_head h x) || same_head h x) ≡ true → Lacks x u
     by_same x true e f = subst (λ (y : Head). Lacks y u) (same-head h x e) (lacking h unseen)
     by_same x false e f = lacking x (not_or (is_seen seen x) (same_head h x) f e)
 
@@ -406,28 +445,35 @@ lacks-same h f t u e l = if-ok (λ y. Lacks h y) u (result_or t f) (by_fault f) 
     by_fault (Some g) = tt
 
 -- what a part gives that ends here
-pub lacks-ended : (domain : Option SecurityId) (p : State) (seen : Seen) (x : Held) (fault fault' : Option SddlFault) (t u : FieldsRead)
-    → result_or u fault' ≡ ended_with domain p x (result_or t fault) → fault' ≡ None → Fits p seen t → (k : Head) → is_seen seen k ≡ false → Lacks k t → Lacks k u
+pub lacks-ended : (domain : Option SecurityId) (p : State) (seen : Seen) (x : Held) (fault fault' : Option SddlFault)
+    (t u : FieldsRead)
+    → result_or u fault' ≡ ended_with domain p x (result_or t fault) → fault' ≡ None → Fits p seen t → (k : Head)
+    → is_seen seen k ≡ false → Lacks k t → Lacks k u
 lacks-ended domain state.Before seen x fault fault' t u e none k h n l = lacks-same h fault t u (rw none at e) l
 lacks-ended domain (state.Sid p) seen x fault fault' t u e none k h n l =
-    lacks-taken domain t u (slot.Sid p) (held_text x) h (read-ok fault fault' t u _ e none) (not-here (state.Sid p) seen t k h n) l
+    lacks-taken domain t u (slot.Sid p) (held_text x) h (read-ok fault fault' t u _ e none)
+    (not-here (state.Sid p) seen t k h n) l
 lacks-ended domain (state.AclFlags w) seen x fault fault' t u e none k h n l =
-    lacks-taken domain t u (slot.AclFlags w false) (held_text x) h (read-ok fault fault' t u _ e none) (not-here (state.AclFlags w) seen t k h n) l
+    lacks-taken domain t u (slot.AclFlags w false) (held_text x) h (read-ok fault fault' t u _ e none)
+    (not-here (state.AclFlags w) seen t k h n) l
 lacks-ended domain state.AfterAce seen x fault fault' t u e none k h n l = lacks-same h fault t u (rw none at e) l
 lacks-ended domain (state.Ace f) seen x fault fault' t u e none k h n l = lacks-same h fault t u (rw none at e) l
 
 -- where no fault is found at the end of a part, none was there
-pub none-ended : (domain : Option SecurityId) (p : State) (x : Held) (fault fault' : Option SddlFault) (t u : FieldsRead)
+pub none-ended : (domain : Option SecurityId) (p : State) (x : Held) (fault fault' : Option SddlFault)
+    (t u : FieldsRead)
     → result_or u fault' ≡ ended_with domain p x (result_or t fault) → fault' ≡ None → fault ≡ None
 none-ended domain p x None fault' t u e none = refl
 none-ended domain state.Before x (Some f) fault' t u e none = absurd (let no : Ok u ≡ Err f = (rw none at e) in cc)
 none-ended domain (state.Sid p) x (Some f) fault' t u e none = absurd (let no : Ok u ≡ Err f = (rw none at e) in cc)
-none-ended domain (state.AclFlags w) x (Some f) fault' t u e none = absurd (let no : Ok u ≡ Err f = (rw none at e) in cc)
+none-ended domain (state.AclFlags w) x (Some f) fault' t u e none = absurd
+    (let no : Ok u ≡ Err f = (rw none at e) in cc)
 none-ended domain state.AfterAce x (Some f) fault' t u e none = absurd (let no : Ok u ≡ Err f = (rw none at e) in cc)
 none-ended domain (state.Ace a) x (Some f) fault' t u e none = absurd (let no : Ok u ≡ Err f = (rw none at e) in cc)
 
 -- the fault of a head: one where it was seen
-pub unseen-head : (seen : Bool) (f : SddlFault) (fault : Option SddlFault) → (if seen then Some f else fault) ≡ None → (seen ≡ false) × (fault ≡ None)
+pub unseen-head : (seen : Bool) (f : SddlFault) (fault : Option SddlFault) → (if seen then Some f else fault) ≡ None
+    → (seen ≡ false) × (fault ≡ None)
 unseen-head true f fault e = absurd cc
 unseen-head false f fault e = (refl, e)
 
@@ -444,5 +490,6 @@ fits-start = record { here = λ h e. absurd cc; lacks = λ h e. nothing h; opene
 
 -- 8. A step that changes the text of the field at hand alone, or finds that the shape fails.
 
-pub keeps-same : (s s' : SddlReader) (sound : Bool) (field' : Held) (buf : List ℕ) (t : FieldsRead) → s' ≡ record s { sound = sound; field = field' } → LineHasRead s buf t → LineHasRead s' buf t
+pub keeps-same : (s s' : SddlReader) (sound : Bool) (field' : Held) (buf : List ℕ) (t : FieldsRead)
+    → s' ≡ record s { sound = sound; field = field' } → LineHasRead s buf t → LineHasRead s' buf t
 keeps-same s s' sound field' buf t same k = rw same (record { fields = k.fields; fits = k.fits })

@@ -20,6 +20,7 @@ run-p f a rest text is e = rw is (by_rest rest)
     by_rest (b ∷ rest) = rw e (sym (or-none (flags_after (record f { protected = true }) (b ∷ rest))))
 
 -- AR or AI
-pub run-pair : (f g : AclFlags) (a b : ℕ) (tail rest text : List ℕ) → text ≡ a ∷ tail → tail ≡ b ∷ rest → (to_ascii_uppercase a == 80) ≡ false → Some g ≡ two_letters f a b
+pub run-pair : (f g : AclFlags) (a b : ℕ) (tail rest text : List ℕ) → text ≡ a ∷ tail → tail ≡ b ∷ rest
+    → (to_ascii_uppercase a == 80) ≡ false → Some g ≡ two_letters f a b
     → flags_after g rest ≡ flags_after f text
 run-pair f g a b tail rest text is more e p = rw (is, more, e, ← p) refl

@@ -38,8 +38,11 @@ pub read-append : (domain : Option SecurityId) (fs gs : List Field) (r : FieldsR
 read-append domain [] gs r = refl
 read-append domain (f ∷ fs) gs r = by_first (take_field domain r f.slot f.text) (λ x. read-append domain fs gs x)
   where
-    by_first : (t : Result FieldsRead SddlFault) → ((x : FieldsRead) → read_fields domain (fs ++ gs) x ≡ and_then (read_fields domain fs x) (read_fields domain gs))
-        → and_then t (read_fields domain (fs ++ gs)) ≡ and_then (and_then t (read_fields domain fs)) (read_fields domain gs)
+    by_first : (t : Result FieldsRead SddlFault)
+        → ((x : FieldsRead) → read_fields domain (fs ++ gs) x ≡ and_then (read_fields domain fs x)
+        (read_fields domain gs))
+        → and_then t (read_fields domain (fs ++ gs)) ≡ and_then (and_then t (read_fields domain fs))
+        (read_fields domain gs)
     by_first (Ok x) more = more x
     by_first (Err e) more = refl
 
@@ -67,7 +70,8 @@ sid-step with false (Err e) next body last h = refl
 sid-step with false (Ok s) next body last h = h s
 
 -- a step, and then the others of a list
-each-step : {A : Type 0} (x : Found A) (xs : Found (List A)) (first : A → FieldsRead) (next : FieldsRead → Found FieldsRead)
+each-step : {A : Type 0} (x : Found A) (xs : Found (List A)) (first : A → FieldsRead)
+    (next : FieldsRead → Found FieldsRead)
     (last : List A → FieldsRead) → ((a : A) → next (first a) ≡ and_then xs (λ l. Ok (last (a ∷ l))))
     → and_then (and_then x (λ a. Ok (first a))) next
     ≡ and_then (and_then x (λ a. and_then xs (λ l. Ok (a ∷ l)))) (λ l. Ok (last l))

@@ -24,7 +24,8 @@ use Rattle.sd_reader.specs.declared.fault.SddlFault.TheVariants as fault
 
 -- `unfolding read` lets `refl` compute a row
 read_but_guids : Unit {0}
-unfolding kind_entry kind_letters kind_named means body_reads entries_read ace_reads front_reads kind_reads object_reads flags_reads rights_reads run_of
+unfolding kind_entry kind_letters kind_named means body_reads entries_read ace_reads front_reads kind_reads
+    object_reads flags_reads rights_reads run_of
 read_but_guids = tt
 
 read_sids : Unit {0}

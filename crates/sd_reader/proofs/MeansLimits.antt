@@ -92,7 +92,8 @@ sids-closed t (Some o) h = listed o.0
     listed which.Sacl = record { owner = h.owner; group = h.group }
     listed which.Dacl = record { owner = h.owner; group = h.group }
 
-acls-closed : (t : Draft) (o : Option (Which × List AccessControlEntry)) → AreAcls t → IsOpened o → AreAcls (closed_in o t)
+acls-closed : (t : Draft) (o : Option (Which × List AccessControlEntry)) → AreAcls t → IsOpened o
+    → AreAcls (closed_in o t)
 acls-closed t None h k = h
 acls-closed t (Some o) h k = listed o.0
   where
@@ -118,7 +119,8 @@ acls-begun w false t h = record { sacl = h.sacl; dacl = h.dacl; opened = no_aces
 
 -- 3. Steps.
 
-owner_or_group-keeps : (p : SidPart) (r : FieldsRead) (s : SecurityId) → IsSid s → IsReading r → IsReading (with_owner_or_group p r s)
+owner_or_group-keeps : (p : SidPart) (r : FieldsRead) (s : SecurityId) → IsSid s → IsReading r
+    → IsReading (with_owner_or_group p r s)
 owner_or_group-keeps sid_part.Owner r s i h =
     let others = closed-sids r.parts h.sids in
     record {
@@ -138,26 +140,39 @@ flags-keep : (w : Which) (f : AclFlags) (r : FieldsRead) → IsReading r → IsR
 flags-keep which.Sacl f r h = record { sids = h.sids; ace = h.ace; acls = h.acls }
 flags-keep which.Dacl f r h = record { sids = h.sids; ace = h.ace; acls = h.acls }
 
-begun-keeps : (w : Which) (null : Bool) (r : FieldsRead) → IsReading r → IsReading (record r { parts = begun_or_null w null (closed r.parts) })
+begun-keeps : (w : Which) (null : Bool) (r : FieldsRead) → IsReading r
+    → IsReading (record r { parts = begun_or_null w null (closed r.parts) })
 begun-keeps w null r h = record {
   sids = sids-begun w null (closed r.parts) (closed-sids r.parts h.sids);
   ace = h.ace;
   acls = λ e. acls-begun w null (closed r.parts) (closed-acls r.parts (h.acls e));
 }
 
-front-keeps : (w : Which) (has_aces : Bool) (r : FieldsRead) (o : Option AclFront) → IsReading r → IfOk (take_front w has_aces r o) IsReading
+front-keeps : (w : Which) (has_aces : Bool) (r : FieldsRead) (o : Option AclFront) → IsReading r
+    → IfOk (take_front w has_aces r o) IsReading
 unfolding take_front
 front-keeps w has_aces r None h = tt
 front-keeps w has_aces r (Some f) h = by_test (f.null && has_aces)
   where
-    by_test : (b : Bool) → IfOk (if b then Err fault.Flags else Ok (with_flags w f.flags (record r { parts = begun_or_null w f.null (closed r.parts) }))) IsReading
+    by_test : (b : Bool) → IfOk
+        (if b then Err fault.Flags else Ok
+        (with_flags w f.flags (record r { parts = begun_or_null w f.null (closed r.parts) }))) IsReading
     by_test true = tt
     by_test false = flags-keep w f.flags _ (begun-keeps w f.null r h)
 
 is-ace : (f : AceFields) (s : SecurityId) → AreFields f → IsSid s → IsAce (ace_of f s)
-is-ace f s h i = record { flags = h.flags; clear = h.sound.clear; mask = h.mask; fit = h.sound.fit; object = h.object; inherited = h.inherited; sid = i }
+is-ace f s h i = record {
+  flags = h.flags;
+  clear = h.sound.clear;
+  mask = h.mask;
+  fit = h.sound.fit;
+  object = h.object;
+  inherited = h.inherited;
+  sid = i;
+}
 
-each-more : (aces : List AccessControlEntry) (a : AccessControlEntry) → AllByRecursion IsAce aces → IsAce a → AllByRecursion IsAce (aces ++ a ∷ [])
+each-more : (aces : List AccessControlEntry) (a : AccessControlEntry) → AllByRecursion IsAce aces → IsAce a
+    → AllByRecursion IsAce (aces ++ a ∷ [])
 each-more [] a h k = (k, tt)
 each-more (b ∷ others) a h k = (h.0, each-more others a h.1 k)
 
@@ -168,11 +183,13 @@ neither (Some w) y e = absurd cc
 fits-still : (w : Which) (aces : List AccessControlEntry) → large_in (Some (w, aces)) ≡ None → acl_size aces < 2 ^ 16
 fits-still w aces e = by_test (nat_lt 65535 (acl_size aces)) refl e
   where
-    by_test : (b : Bool) → nat_lt 65535 (acl_size aces) ≡ b → (if b then Some w else None) ≡ None → acl_size aces < 2 ^ 16
+    by_test : (b : Bool) → nat_lt 65535 (acl_size aces) ≡ b → (if b then Some w else None) ≡ None
+        → acl_size aces < 2 ^ 16
     by_test true f g = absurd cc
     by_test false f g = grind (arith, nat_tests)
 
-open-more : (a : AccessControlEntry) (o : Option (Which × List AccessControlEntry)) → IsAce a → IsOpened o → large_in (more_in a o) ≡ None → IsOpened (more_in a o)
+open-more : (a : AccessControlEntry) (o : Option (Which × List AccessControlEntry)) → IsAce a → IsOpened o
+    → large_in (more_in a o) ≡ None → IsOpened (more_in a o)
 open-more a None k h e = tt
 open-more a (Some o) k h e = record { each = each-more o.1 a h.each k; fits = fits-still o.0 (o.1 ++ a ∷ []) e }
 
@@ -183,7 +200,12 @@ trustee-keeps r s i h = record {
   acls = λ e.
       let parts = neither r.large (large_in (more_in (ace_of r.ace s) r.parts.«open»)) e in
       let before = h.acls parts.0 in
-      record { sacl = before.sacl; dacl = before.dacl; opened = open-more (ace_of r.ace s) r.parts.«open» (is-ace r.ace s h.ace i) before.opened parts.1 };
+      record {
+        sacl = before.sacl;
+        dacl = before.dacl;
+        opened = open-more (ace_of r.ace s) r.parts.«open»
+            (is-ace r.ace s h.ace i) before.opened parts.1;
+      };
 }
 
 ace-keeps : (f : AceFields) (r : FieldsRead) → AreFields f → IsReading r → IsReading (record r { ace = f })
@@ -192,16 +214,36 @@ ace-keeps f r k h = record { sids = h.sids; ace = k; acls = h.acls }
 -- 4. The fields of an ACE.
 
 kind-fields : (kind : AceKind) → AreFields (record no_fields { kind = kind })
-kind-fields kind = record { flags = omega arith; mask = omega arith; sound = sound-kind kind; object = tt; inherited = tt }
+kind-fields kind = record {
+  flags = omega arith;
+  mask = omega arith;
+  sound = sound-kind kind;
+  object = tt;
+  inherited = tt;
+}
 
-flags-fields : (f : AceFields) (text : List ℕ) (flags : ℕ) → AreFields f → flags_reads text ≡ Some flags → AreFields (record f { flags = flags })
+flags-fields : (f : AceFields) (text : List ℕ) (flags : ℕ) → AreFields f → flags_reads text ≡ Some flags
+    → AreFields (record f { flags = flags })
 flags-fields f text flags h e =
     let limits = flags-limits text flags e in
-    record { flags = limits.0; mask = h.mask; sound = sound-flags f flags h.sound limits.1; object = h.object; inherited = h.inherited }
+    record {
+      flags = limits.0;
+      mask = h.mask;
+      sound = sound-flags f flags h.sound limits.1;
+      object = h.object;
+      inherited = h.inherited;
+    }
 
-mask-fields : (f : AceFields) (text : List ℕ) (mask : ℕ) → AreFields f → rights_reads text ≡ Some mask → AreFields (record f { mask = mask })
+mask-fields : (f : AceFields) (text : List ℕ) (mask : ℕ) → AreFields f → rights_reads text ≡ Some mask
+    → AreFields (record f { mask = mask })
 mask-fields f text mask h e =
-    record { flags = h.flags; mask = rights-limit text mask e; sound = sound-mask f mask h.sound; object = h.object; inherited = h.inherited }
+    record {
+      flags = h.flags;
+      mask = rights-limit text mask e;
+      sound = sound-mask f mask h.sound;
+      object = h.object;
+      inherited = h.inherited;
+    }
 
 object-limits : (kind : AceKind) (text : List ℕ) → IfSome (object_reads kind text) (λ o. IfSome o IsGuid)
 unfolding object_reads
@@ -212,44 +254,71 @@ object-limits kind (b ∷ bs) = by_kind (is_object kind)
     guid None e = tt
     guid (Some g) e = guid-limits (b ∷ bs) g e
 
-    by_kind : (o : Bool) → IfSome (if o then option_map (λ g. Some g) (guid_reads (b ∷ bs)) else None) (λ x. IfSome x IsGuid)
+    by_kind : (o : Bool) → IfSome (if o then option_map (λ g. Some g) (guid_reads (b ∷ bs)) else None)
+        (λ x. IfSome x IsGuid)
     by_kind true = guid (guid_reads (b ∷ bs)) refl
     by_kind false = tt
 
 guid-read : (kind : AceKind) (text : List ℕ) (o : Option (List ℕ)) → object_reads kind text ≡ Some o → IfSome o IsGuid
-guid-read kind text o e = subst (λ (x : Option (Option (List ℕ))). IfSome x (λ y. IfSome y IsGuid)) e (object-limits kind text)
+guid-read kind text o e = subst (λ (x : Option (Option (List ℕ))). IfSome x (λ y. IfSome y IsGuid)) e
+    (object-limits kind text)
 
-object-fields : (f : AceFields) (text : List ℕ) (o : Option (List ℕ)) → AreFields f → object_reads f.kind text ≡ Some o → AreFields (record f { object = o })
+object-fields : (f : AceFields) (text : List ℕ) (o : Option (List ℕ)) → AreFields f → object_reads f.kind text ≡ Some o
+    → AreFields (record f { object = o })
 object-fields f text o h e =
-    record { flags = h.flags; mask = h.mask; sound = sound-object f text o h.sound e; object = guid-read f.kind text o e; inherited = h.inherited }
+    record {
+      flags = h.flags;
+      mask = h.mask;
+      sound = sound-object f text o h.sound e;
+      object = guid-read f.kind text o
+          e;
+      inherited = h.inherited;
+    }
 
-inherited-fields : (f : AceFields) (text : List ℕ) (o : Option (List ℕ)) → AreFields f → object_reads f.kind text ≡ Some o → AreFields (record f { inherited = o })
+inherited-fields : (f : AceFields) (text : List ℕ) (o : Option (List ℕ)) → AreFields f
+    → object_reads f.kind text ≡ Some o → AreFields (record f { inherited = o })
 inherited-fields f text o h e =
-    record { flags = h.flags; mask = h.mask; sound = sound-inherited f text o h.sound e; object = h.object; inherited = guid-read f.kind text o e }
+    record {
+      flags = h.flags;
+      mask = h.mask;
+      sound = sound-inherited f text o h.sound e;
+      object = h.object;
+      inherited = guid-read f.kind text o e;
+    }
 
 -- 5. Each field keeps the limits.
 
-value-keeps : {A : Type 0} (e : SddlFault) (with : A → FieldsRead) (o : Option A) → ((x : A) → o ≡ Some x → IsReading (with x)) → IfOk (with_value e with o) IsReading
+value-keeps : {A : Type 0} (e : SddlFault) (with : A → FieldsRead) (o : Option A)
+    → ((x : A) → o ≡ Some x → IsReading (with x)) → IfOk (with_value e with o) IsReading
 value-keeps e with None h = tt
 value-keeps e with (Some x) h = h x refl
 
-sid-keeps : (with : SecurityId → FieldsRead) (x : Result SecurityId SidFault) → ((s : SecurityId) → x ≡ Ok s → IsReading (with s)) → IfOk (with_sid with x) IsReading
+sid-keeps : (with : SecurityId → FieldsRead) (x : Result SecurityId SidFault)
+    → ((s : SecurityId) → x ≡ Ok s → IsReading (with s)) → IfOk (with_sid with x) IsReading
 sid-keeps with (Ok s) h = h s refl
 sid-keeps with (Err e) h = tt
 
 module _ (domain : Option SecurityId) (is : IfSome domain IsSid) where
-  ace_field-keeps : (r : FieldsRead) (f : AceField) (text : List ℕ) → IsReading r → IfOk (take_ace_field domain r f text) IsReading
+  ace_field-keeps : (r : FieldsRead) (f : AceField) (text : List ℕ) → IsReading r
+      → IfOk (take_ace_field domain r f text) IsReading
   unfolding take_ace_field
   ace_field-keeps r field.Kind text h = value-keeps _ _ (kind_reads text) (λ kind e. ace-keeps _ r (kind-fields kind) h)
-  ace_field-keeps r field.Flags text h = value-keeps _ _ (flags_reads text) (λ flags e. ace-keeps _ r (flags-fields r.ace text flags h.ace e) h)
-  ace_field-keeps r field.Rights text h = value-keeps _ _ (rights_reads text) (λ mask e. ace-keeps _ r (mask-fields r.ace text mask h.ace e) h)
-  ace_field-keeps r field.Object text h = value-keeps _ _ (object_reads r.ace.kind text) (λ o e. ace-keeps _ r (object-fields r.ace text o h.ace e) h)
-  ace_field-keeps r field.Inherited text h = value-keeps _ _ (object_reads r.ace.kind text) (λ o e. ace-keeps _ r (inherited-fields r.ace text o h.ace e) h)
-  ace_field-keeps r field.Sid text h = sid-keeps (with_trustee r) (sid_reads text domain) (λ s e. trustee-keeps r s (sid-limits text domain s is e) h)
+  ace_field-keeps r field.Flags text h = value-keeps _ _ (flags_reads text)
+      (λ flags e. ace-keeps _ r (flags-fields r.ace text flags h.ace e) h)
+  ace_field-keeps r field.Rights text h = value-keeps _ _ (rights_reads text)
+      (λ mask e. ace-keeps _ r (mask-fields r.ace text mask h.ace e) h)
+  ace_field-keeps r field.Object text h = value-keeps _ _ (object_reads r.ace.kind text)
+      (λ o e. ace-keeps _ r (object-fields r.ace text o h.ace e) h)
+  ace_field-keeps r field.Inherited text h = value-keeps _ _ (object_reads r.ace.kind text)
+      (λ o e. ace-keeps _ r (inherited-fields r.ace text o h.ace e) h)
+  ace_field-keeps r field.Sid text h = sid-keeps (with_trustee r) (sid_reads text domain)
+      (λ s e. trustee-keeps r s (sid-limits text domain s is e) h)
 
-  readable-keeps : (r : FieldsRead) (s : Slot) (text : List ℕ) → IsReading r → IfOk (take_readable domain r s text) IsReading
+  readable-keeps : (r : FieldsRead) (s : Slot) (text : List ℕ) → IsReading r
+      → IfOk (take_readable domain r s text) IsReading
   readable-keeps r (slot.Sid p) text h =
-      sid-keeps (with_owner_or_group p r) (sid_reads text domain) (λ s e. owner_or_group-keeps p r s (sid-limits text domain s is e) h)
+      sid-keeps (with_owner_or_group p r) (sid_reads text domain)
+      (λ s e. owner_or_group-keeps p r s (sid-limits text domain s is e) h)
   readable-keeps r (slot.AclFlags w has_aces) text h = front-keeps w has_aces r (front_reads text) h
   readable-keeps r (slot.Ace f) text h = ace_field-keeps r f text h
 
@@ -263,9 +332,11 @@ module _ (domain : Option SecurityId) (is : IfSome domain IsSid) where
 
   fields-keep : (fs : List Field) (r : FieldsRead) → IsReading r → IfOk (read_fields domain fs r) IsReading
   fields-keep [] r h = h
-  fields-keep (f ∷ fs) r h = by_first (take_field domain r f.slot f.text) (field-keeps r f.slot f.text h) (λ x k. fields-keep fs x k)
+  fields-keep (f ∷ fs) r h = by_first (take_field domain r f.slot f.text) (field-keeps r f.slot f.text h)
+      (λ x k. fields-keep fs x k)
     where
-      by_first : (t : Result FieldsRead SddlFault) → IfOk t IsReading → ((x : FieldsRead) → IsReading x → IfOk (read_fields domain fs x) IsReading)
+      by_first : (t : Result FieldsRead SddlFault) → IfOk t IsReading
+          → ((x : FieldsRead) → IsReading x → IfOk (read_fields domain fs x) IsReading)
           → IfOk (and_then t (read_fields domain fs)) IsReading
       by_first (Ok x) k more = more x k
       by_first (Err e) k more = tt
@@ -288,10 +359,34 @@ record IsControl (control : ℕ) (sacl dacl : Bool) : Type 0 where
 
 word : (n k : ℕ) (sacl dacl : Bool) → k < 128 → n ≡ 256 * k
     → IsControl (n + 0x8000 + bit_if sacl 0x10 + bit_if dacl 0x4) sacl dacl
-word n k true true small e = record { small = omega arith; relative = grind (arith, nat_tests); with_sacl = grind (arith, nat_tests); with_dacl = grind (arith, nat_tests) }
-word n k true false small e = record { small = omega arith; relative = grind (arith, nat_tests); with_sacl = grind (arith, nat_tests); with_dacl = grind (arith, nat_tests) }
-word n k false true small e = record { small = omega arith; relative = grind (arith, nat_tests); with_sacl = grind (arith, nat_tests); with_dacl = grind (arith, nat_tests) }
-word n k false false small e = record { small = omega arith; relative = grind (arith, nat_tests); with_sacl = grind (arith, nat_tests); with_dacl = grind (arith, nat_tests) }
+word n k true true small
+    e = record {
+      small = omega arith;
+      relative = grind (arith, nat_tests);
+      with_sacl = grind (arith, nat_tests);
+      with_dacl = grind (arith, nat_tests);
+    }
+word n k true false small
+    e = record {
+      small = omega arith;
+      relative = grind (arith, nat_tests);
+      with_sacl = grind (arith, nat_tests);
+      with_dacl = grind (arith, nat_tests);
+    }
+word n k false true small
+    e = record {
+      small = omega arith;
+      relative = grind (arith, nat_tests);
+      with_sacl = grind (arith, nat_tests);
+      with_dacl = grind (arith, nat_tests);
+    }
+word n k false false small
+    e = record {
+      small = omega arith;
+      relative = grind (arith, nat_tests);
+      with_sacl = grind (arith, nat_tests);
+      with_dacl = grind (arith, nat_tests);
+    }
 
 control-limits : (sacl dacl : AclFlags) (s d : Bool) → IsControl (control_of (control_flags sacl dacl) s d) s d
 control-limits sacl dacl s d = let upper = control-upper sacl dacl in word _ upper.0 s d upper.1 upper.2
@@ -326,7 +421,8 @@ finished-limits (Ok r) h = by_large r.large refl
     by_large None e = described-limits r h e
     by_large (Some w) e = tt
 
-verdict-keeps : (shaped twice : Bool) (read : Result FieldsRead SddlFault) → IfOk read IsReading → IfOk (verdict shaped twice read) IsReading
+verdict-keeps : (shaped twice : Bool) (read : Result FieldsRead SddlFault) → IfOk read IsReading
+    → IfOk (verdict shaped twice read) IsReading
 unfolding verdict
 verdict-keeps true true read h = tt
 verdict-keeps true false read h = h
@@ -336,7 +432,8 @@ folded-limits : (text : List ℕ) (domain : Option SecurityId) → IfSome domain
     → IfOk (folded text domain) IsDescriptor
 unfolding folded reads_as
 folded-limits text domain is =
-    finished-limits _ (verdict-keeps (is_shaped text) (has_twice (parts_of text).parts) _ (fields-keep domain is (fields_of (parts_of text).parts) nothing_read nothing-is))
+    finished-limits _ (verdict-keeps (is_shaped text) (has_twice (parts_of text).parts) _
+    (fields-keep domain is (fields_of (parts_of text).parts) nothing_read nothing-is))
 
 -- what a line means under a SID of a domain, or none
 pub line-limits : (text : List ℕ) (domain : Option SecurityId) → IfSome domain IsSid
@@ -345,5 +442,7 @@ line-limits text domain is =
     subst (λ (x : Result Descriptor SddlFault). IfOk x IsDescriptor) (folded-means text domain)
     (folded-limits text domain is)
 
-pub means-limits : (text : List ℕ) (domain : Option SecurityId) (d : Descriptor) → IfSome domain IsSid → means text domain ≡ Ok d → IsDescriptor d
-means-limits text domain d is e = subst (λ (x : Result Descriptor SddlFault). IfOk x IsDescriptor) e (line-limits text domain is)
+pub means-limits : (text : List ℕ) (domain : Option SecurityId) (d : Descriptor) → IfSome domain IsSid
+    → means text domain ≡ Ok d → IsDescriptor d
+means-limits text domain d is e = subst (λ (x : Result Descriptor SddlFault). IfOk x IsDescriptor) e
+    (line-limits text domain is)

@@ -170,7 +170,8 @@ outside-held h (b ∷ bs) k e =
 module _ (dm : Option SecurityId) (so tw : Bool) (se : Seen) (r : Result FieldsRead SddlFault) where
   pub inside-run : (c : AceField) (h : Held) (bs rest : List ℕ) → IsHeld h → h.gap ≡ false
       → list_all is_plain_inside bs ≡ true
-      → rest_answer dm so tw se r (state.Ace c) (held_run h bs) rest ≡ rest_answer dm so tw se r (state.Ace c) h (bs ++ rest)
+      → rest_answer dm so tw se r (state.Ace c) (held_run h bs) rest ≡ rest_answer dm so tw se r (state.Ace c) h
+      (bs ++ rest)
   inside-run c h [] rest k n e = refl
   inside-run c h (b ∷ bs) rest k n e =
       let p = both_parts (is_plain_inside b) _ e in
@@ -180,7 +181,8 @@ module _ (dm : Option SecurityId) (so tw : Bool) (se : Seen) (r : Result FieldsR
       (λ u. same_inner h b u k n l.blank)
 
   pub outside-run : (p : SidPart) (h : Held) (bs rest : List ℕ) → IsHeld h → list_all is_plain_outside bs ≡ true
-      → rest_answer dm so tw se r (state.Sid p) (held_run h bs) rest ≡ rest_answer dm so tw se r (state.Sid p) h (bs ++ rest)
+      → rest_answer dm so tw se r (state.Sid p) (held_run h bs) rest ≡ rest_answer dm so tw se r (state.Sid p) h
+      (bs ++ rest)
   outside-run p h [] rest k e = refl
   outside-run p h (b ∷ bs) rest k e =
       let o = outside_parts b bs e in

@@ -14,12 +14,14 @@ use Rattle.sd_reader.specs.declared.reading.FieldReader.{FieldReader}
 use Rattle.sd_binary.specs.declared.builder.Builder.{Builder}
 use Rattle.sd_view.specs.declared.control.Which.{Which}
 
-aces_size-more : (aces : List AccessControlEntry) (a : AccessControlEntry) → aces_size (aces ++ a ∷ []) ≡ aces_size aces + ace_size a
+aces_size-more : (aces : List AccessControlEntry) (a : AccessControlEntry)
+    → aces_size (aces ++ a ∷ []) ≡ aces_size aces + ace_size a
 aces_size-more [] a = omega arith
 aces_size-more (x ∷ aces) a = let h = aces_size-more aces a in omega (arith, h)
 
 -- the ACL that is open is the same one, where one is
-is_open_with : (x y : Option (Which × List AccessControlEntry)) → option_map (λ o. o.0) x ≡ option_map (λ o. o.0) y → IsOpenIn x → IsOpenIn y
+is_open_with : (x y : Option (Which × List AccessControlEntry)) → option_map (λ o. o.0) x ≡ option_map (λ o. o.0) y
+    → IsOpenIn x → IsOpenIn y
 is_open_with None y e o = absurd o
 is_open_with (Some p) None e o = absurd cc
 is_open_with (Some p) (Some q) e o = tt
@@ -34,15 +36,20 @@ fits-test n k w fits is = by_test (nat_lt 65535 k) refl
     by_test true e = absurd (fits (grind (arith, nat_tests)))
     by_test false e = refl
 
-large-found : (x : Option (Which × List AccessControlEntry)) (a : AccessControlEntry) → IsOpenIn x → 2 ^ 16 ≤ open_size_in x + ace_size a → large_in (more_in a x) ≡ option_map (λ o. o.0) x
+large-found : (x : Option (Which × List AccessControlEntry)) (a : AccessControlEntry) → IsOpenIn x
+    → 2 ^ 16 ≤ open_size_in x + ace_size a → large_in (more_in a x) ≡ option_map (λ o. o.0) x
 large-found None a o large = absurd o
-large-found (Some p) a o large = large-test (acl_size p.1 + ace_size a) _ p.0 large (let h = aces_size-more p.1 a in omega (arith, h))
+large-found (Some p) a o large = large-test (acl_size p.1 + ace_size a) _ p.0 large
+    (let h = aces_size-more p.1 a in omega (arith, h))
 
-fits-found : (x : Option (Which × List AccessControlEntry)) (a : AccessControlEntry) → IsOpenIn x → (2 ^ 16 ≤ open_size_in x + ace_size a → ⊥) → large_in (more_in a x) ≡ None
+fits-found : (x : Option (Which × List AccessControlEntry)) (a : AccessControlEntry) → IsOpenIn x
+    → (2 ^ 16 ≤ open_size_in x + ace_size a → ⊥) → large_in (more_in a x) ≡ None
 fits-found None a o fits = absurd o
-fits-found (Some p) a o fits = fits-test (acl_size p.1 + ace_size a) _ p.0 fits (let h = aces_size-more p.1 a in omega (arith, h))
+fits-found (Some p) a o fits = fits-test (acl_size p.1 + ace_size a) _ p.0 fits
+    (let h = aces_size-more p.1 a in omega (arith, h))
 
-open-same : (x : Option (Which × List AccessControlEntry)) (a : AccessControlEntry) → option_map (λ o. o.0) (more_in a x) ≡ option_map (λ o. o.0) x
+open-same : (x : Option (Which × List AccessControlEntry)) (a : AccessControlEntry)
+    → option_map (λ o. o.0) (more_in a x) ≡ option_map (λ o. o.0) x
 open-same None a = refl
 open-same (Some p) a = refl
 
@@ -50,12 +57,15 @@ no-name : (x : Option (Which × List AccessControlEntry)) → IsOpenIn x → opt
 no-name None o e = o
 no-name (Some p) o e = absurd cc
 
-module _ (r : FieldReader) (buf buf' : List ℕ) (b' : Builder) (t : FieldsRead) (s : SecurityId) (a : AccessControlEntry) (h : HasRead r buf t) (none : r.large ≡ None) (is : a ≡ ace_of t.ace s) (o : IsOpen t.parts) where
+module _ (r : FieldReader) (buf buf' : List ℕ) (b' : Builder) (t : FieldsRead) (s : SecurityId)
+    (a : AccessControlEntry) (h : HasRead r buf t) (none : r.large ≡ None) (is : a ≡ ace_of t.ace s)
+    (o : IsOpen t.parts) where
   nothing_large : t.large ≡ None
   nothing_large = sym h.large ∙ none
 
   -- the ACL would pass 65,535 bytes
-  pub holds-large : 2 ^ 16 ≤ open_size t.parts + ace_size a → HasRead (record r { builder = b'; large = r.open_acl }) buf' (with_trustee t s)
+  pub holds-large : 2 ^ 16 ≤ open_size t.parts + ace_size a
+      → HasRead (record r { builder = b'; large = r.open_acl }) buf' (with_trustee t s)
   holds-large large = record {
     sacl = h.sacl;
     dacl = h.dacl;
@@ -70,7 +80,8 @@ module _ (r : FieldReader) (buf buf' : List ℕ) (b' : Builder) (t : FieldsRead)
       now_large = rw (nothing_large) (large-found t.parts.«open» (ace_of t.ace s) o (rw (is) at large))
 
   -- it has room for the ACE
-  pub holds-more : (2 ^ 16 ≤ open_size t.parts + ace_size a → ⊥) → Builds b' buf' (with_ace a t.parts) → HasRead (record r { builder = b' }) buf' (with_trustee t s)
+  pub holds-more : (2 ^ 16 ≤ open_size t.parts + ace_size a → ⊥) → Builds b' buf' (with_ace a t.parts)
+      → HasRead (record r { builder = b' }) buf' (with_trustee t s)
   holds-more fits built = record {
     sacl = h.sacl;
     dacl = h.dacl;
@@ -86,6 +97,8 @@ none-is None e = refl
 none-is (Some x) e = absurd cc
 
 -- two readings that a reader holds have the same ACL open
-pub open-too : (r : FieldReader) (buf : List ℕ) (t u : FieldsRead) → HasRead r buf t → HasRead r buf u → r.large ≡ None → IsOpen t.parts → IsOpen u.parts
+pub open-too : (r : FieldReader) (buf : List ℕ) (t u : FieldsRead) → HasRead r buf t → HasRead r buf u → r.large ≡ None
+    → IsOpen t.parts → IsOpen u.parts
 open-too r buf t u h k none o =
-    is_open_with t.parts.«open» u.parts.«open» (sym (h.open_acl (sym h.large ∙ none)) ∙ k.open_acl (sym k.large ∙ none)) o
+    is_open_with t.parts.«open» u.parts.«open»
+    (sym (h.open_acl (sym h.large ∙ none)) ∙ k.open_acl (sym k.large ∙ none)) o

@@ -45,15 +45,18 @@ whole-readable t plain fits =
 
 -- 2. The answer to a field.
 
-module _ (dm : Option SecurityId) (so tw : Bool) (se : Seen) (r : Result FieldsRead SddlFault) (t rest : List ℕ) (plain : list_all is_plain_inside t ≡ true) (fits : length t ≤ 183) where
+module _ (dm : Option SecurityId) (so tw : Bool) (se : Seen) (r : Result FieldsRead SddlFault) (t rest : List ℕ)
+    (plain : list_all is_plain_inside t ≡ true) (fits : length t ≤ 183) where
   -- the text goes onto what is held, which is nothing
-  onto-nothing : (f : AceField) (bs : List ℕ) → rest_answer dm so tw se r (state.Ace f) (record { text = t; gap = false; broken = false }) bs
+  onto-nothing : (f : AceField) (bs : List ℕ)
+      → rest_answer dm so tw se r (state.Ace f) (record { text = t; gap = false; broken = false }) bs
       ≡ rest_answer dm so tw se r (state.Ace f) no_text (t ++ bs)
   onto-nothing f bs =
       ap (λ h. rest_answer dm so tw se r (state.Ace f) h bs) (sym (run-fits [] t (omega arith)))
       ∙ inside-run dm so tw se r f no_text t bs nothing-held refl plain
 
-  pub whole-field : (f : AceField) → rest_answer dm so tw se (and_then r (λ b. take_field dm b (slot.Ace f) t)) (state_after f) no_text rest
+  pub whole-field : (f : AceField)
+      → rest_answer dm so tw se (and_then r (λ b. take_field dm b (slot.Ace f) t)) (state_after f) no_text rest
       ≡ rest_answer dm so tw se r (state.Ace f) no_text (t ++ end_of f ∷ rest)
   whole-field field.Kind = cut dm so tw se r _ rest field.Kind refl ∙ onto-nothing field.Kind (59 ∷ rest)
   whole-field field.Flags = cut dm so tw se r _ rest field.Flags refl ∙ onto-nothing field.Flags (59 ∷ rest)

@@ -19,7 +19,15 @@ decimal-pair n rest large small =
     let tens : n / 10 % 10 ≡ n % 100 / 10 = omega arith in
     let ones : n % 10 ≡ n % 100 % 10 = omega arith in
     let hundreds : n / 10 / 10 ≡ n / 100 = omega arith in
-    rw (decimal_step n (omega arith) small, append_assoc, decimal_step (n / 10) (omega arith) (omega arith), append_assoc, hundreds, tens, ones) refl
+    rw (
+      decimal_step n (omega arith) small,
+      append_assoc,
+      decimal_step (n / 10) (omega arith) (omega arith),
+      append_assoc,
+      hundreds,
+      tens,
+      ones,
+    ) refl
 
 pub decimal-two : (n : ℕ) → 10 ≤ n → n < 100 → decimal n ≡ (48 + n / 10) ∷ (48 + n % 10) ∷ []
 decimal-two n large small = rw (decimal_step n large (omega arith), decimal_digit (n / 10) (omega arith)) refl
@@ -70,14 +78,19 @@ unfolding are_pairs
 pair-at p small = below 100 p refl small
 
 -- a character that is written before the digits which end at 11
-pub behind : (character start : ℕ) (text cells rest : List ℕ) → 1 ≤ start → start + length text ≡ 11 → start ≤ length cells
-    → drop start cells ≡ text ++ rest → take (11 - (start - 1)) (take (27 - (start - 1)) (drop (start - 1) (slice_set cells (start - 1) character))) ≡ character ∷ text
+pub behind : (character start : ℕ) (text cells rest : List ℕ) → 1 ≤ start → start + length text ≡ 11
+    → start ≤ length cells
+    → drop start cells ≡ text ++ rest
+    → take (11 - (start - 1))
+    (take (27 - (start - 1)) (drop (start - 1) (slice_set cells (start - 1) character))) ≡ character ∷ text
 behind character start text cells rest some ends within written =
     let next : start - 1 + 1 ≡ start = omega arith in
     let count : 11 - (start - 1) ≡ suc (length text) = omega arith in
     take-take (11 - (start - 1)) (27 - (start - 1)) _ (omega arith)
-    ∙ rw (drop-set cells (start - 1) character (omega arith), next, count, written) (ap (λ (t : List ℕ). character ∷ t) (take-append_seam text rest))
+    ∙ rw (drop-set cells (start - 1) character (omega arith), next, count, written)
+    (ap (λ (t : List ℕ). character ∷ t) (take-append_seam text rest))
 
 -- one hex digit of k more
-pub hex_digits-step : (k i n : ℕ) → i < k → hex_digits (k - i) n ≡ hex_digits (k - (i + 1)) (n / 16) ++ digit_glyph false (n % 16) ∷ []
+pub hex_digits-step : (k i n : ℕ) → i < k → hex_digits (k - i) n ≡ hex_digits (k - (i + 1)) (n / 16)
+    ++ digit_glyph false (n % 16) ∷ []
 hex_digits-step k i n h = let more : k - i ≡ suc (k - (i + 1)) = omega arith in ap (λ (j : ℕ). hex_digits j n) more

@@ -45,7 +45,8 @@ flags_text-length f = length-names FLAGS f
 pub flags_read_back : (f : ℕ) → f < 256 → f / 0x20 % 2 ≡ 0 → flags_reads (flags_text f) ≡ Some f
 unfolding flags_reads flags_text
 flags_read_back f small clear =
-    let short : nat_lt 183 (length (names_of FLAGS f)) ≡ false = let l = length-names FLAGS f in grind (arith, nat_tests) in
+    let short : nat_lt 183 (length (names_of FLAGS f)) ≡ false = let l = length-names FLAGS f in grind
+    (arith, nat_tests) in
     rw short (run-names FLAGS FLAGS f flags_read ∙ ap Some (named f clear (at_below 256 all_named f small every_named)))
 
 -- No name has bit 0x20.
@@ -66,6 +67,7 @@ clear f h k = grind (arith, nat_tests)
 
 pub flags-clear : (text : List ℕ) (f : ℕ) → Some f ≡ run_of FLAGS text → (f < 256) × (f / 0x20 % 2 ≡ 0)
 flags-clear text f e =
-    let h : among 0xdf f ≡ true = subst (λ (o : Option ℕ). IfSome o (λ n. among 0xdf n ≡ true)) (sym e) (run-among 0xdf FLAGS text all_among) in
+    let h : among 0xdf f ≡ true = subst (λ (o : Option ℕ). IfSome o (λ n. among 0xdf n ≡ true)) (sym e)
+    (run-among 0xdf FLAGS text all_among) in
     let small : f < 256 = omega (arith, le_or_l f 0xdf, eqb-true _ 0xdf h) in
     (small, clear f h (at_below 256 clear_among f small every_clear))

@@ -31,7 +31,8 @@ all_have_codes : list_all has_code KINDS ≡ true
 unfolding has_code kind_code kind_entry
 all_have_codes = refl
 
-pub found_code : (code : ℕ) (o : Option KindEntry) → find (λ e. e.code == code) KINDS ≡ o → IfSome (option_map (λ e. e.kind) o) (λ k. kind_code k ≡ code)
+pub found_code : (code : ℕ) (o : Option KindEntry) → find (λ e. e.code == code) KINDS ≡ o
+    → IfSome (option_map (λ e. e.kind) o) (λ k. kind_code k ≡ code)
 unfolding has_code
 found_code code None e = tt
 found_code code (Some x) e =
@@ -62,16 +63,19 @@ all_have_letters : list_all has_letters KINDS ≡ true
 unfolding has_letters kind_letters kind_entry
 all_have_letters = refl
 
-pub found_letters : (text : List ℕ) (o : Option KindEntry) → find (λ e. str_eq_ignore_ascii_case (letters_of e) text) KINDS ≡ o
+pub found_letters : (text : List ℕ) (o : Option KindEntry)
+    → find (λ e. str_eq_ignore_ascii_case (letters_of e) text) KINDS ≡ o
     → IfSome (option_map (λ e. e.kind) o) (λ k. str_eq_ignore_ascii_case (kind_letters k) text ≡ true)
 unfolding has_letters
 found_letters text None e = tt
 found_letters text (Some x) e =
-    let passes = find-passes (λ e. str_eq_ignore_ascii_case (letters_of e) text) has_letters KINDS x e all_have_letters in
+    let passes = find-passes (λ e. str_eq_ignore_ascii_case (letters_of e) text) has_letters KINDS x e
+    all_have_letters in
     ap (λ (l : List ℕ). str_eq_ignore_ascii_case l text) (same_text _ _ (sym passes.1)) ∙ passes.0
 
 -- a text that reads as a kind is its letters, in either case
-pub kind_named-some : (text : List ℕ) → IfSome (kind_named text) (λ k. str_eq_ignore_ascii_case (kind_letters k) text ≡ true)
+pub kind_named-some : (text : List ℕ)
+    → IfSome (kind_named text) (λ k. str_eq_ignore_ascii_case (kind_letters k) text ≡ true)
 unfolding kind_named
 kind_named-some text = found_letters text _ refl
 

@@ -21,30 +21,43 @@ not_below limit n h = grind (arith, nat_tests)
 grows : (base n d limit : ℕ) → 1 ≤ base → limit ≤ n → limit ≤ n * base + d
 grows base n d limit b h = omega (arith, mul-le-mul_left n b)
 
-pub too_big : (base limit n : ℕ) (bs : List ℕ) → 1 ≤ base → limit ≤ n → option_and_then (λ m. if nat_lt m limit then Some m else None) (number_after base n bs) ≡ None
+pub too_big : (base limit n : ℕ) (bs : List ℕ) → 1 ≤ base → limit ≤ n
+    → option_and_then (λ m. if nat_lt m limit then Some m else None) (number_after base n bs) ≡ None
 too_big base limit n [] b h = rw (not_below limit n h) refl
-too_big base limit n (c ∷ cs) b h = by_digit (is_digit c base) (too_big base limit (n * base + digit_value c) cs b (grows base n (digit_value c) limit b h))
+too_big base limit n (c ∷ cs) b h = by_digit (is_digit c base)
+    (too_big base limit (n * base + digit_value c) cs b (grows base n (digit_value c) limit b h))
   where
-    by_digit : (x : Bool) → option_and_then (λ m. if nat_lt m limit then Some m else None) (number_after base (n * base + digit_value c) cs) ≡ None
-        → option_and_then (λ m. if nat_lt m limit then Some m else None) (if x then number_after base (n * base + digit_value c) cs else None) ≡ None
+    by_digit : (x : Bool)
+        → option_and_then (λ m. if nat_lt m limit then Some m else None)
+        (number_after base (n * base + digit_value c) cs) ≡ None
+        → option_and_then (λ m. if nat_lt m limit then Some m else None)
+        (if x then number_after base (n * base + digit_value c) cs else None) ≡ None
     by_digit true e = e
     by_digit false e = refl
 
 -- 2. One digit or more write the same number in a SID and in rights.
 
-after_is : (base n : ℕ) (text : List ℕ) → number_after base n text ≡ (if list_all (λ c. is_digit c base) text then Some (digits_value_after base n text) else None)
+after_is : (base n : ℕ) (text : List ℕ)
+    → number_after base n
+    text ≡ (if list_all (λ c. is_digit c base) text then Some (digits_value_after base n text) else None)
 after_is base n [] = refl
 after_is base n (c ∷ cs) = by_digit (is_digit c base) (after_is base (n * base + digit_value c) cs)
   where
-    by_digit : (x : Bool) → number_after base (n * base + digit_value c) cs ≡ (if list_all (λ b. is_digit b base) cs then Some (digits_value_after base (n * base + digit_value c) cs) else None)
-        → (if x then number_after base (n * base + digit_value c) cs else None) ≡ (if x && list_all (λ b. is_digit b base) cs then Some (digits_value_after base (n * base + digit_value c) cs) else None)
+    by_digit : (x : Bool)
+        → number_after base (n * base + digit_value c)
+        cs ≡ (if list_all (λ b. is_digit b base) cs then Some
+        (digits_value_after base (n * base + digit_value c) cs) else None)
+        → (if x then number_after base (n * base + digit_value c) cs else None) ≡ (if x && list_all
+        (λ b. is_digit b base) cs then Some (digits_value_after base (n * base + digit_value c) cs) else None)
     by_digit true e = e
     by_digit false e = refl
 
-tested : (a : Bool) (n : ℕ) → option_and_then (below (2 ^ 32)) (if a then Some n else None) ≡ (if a && nat_lt n (2 ^ 32) then Some n else None)
+tested : (a : Bool) (n : ℕ)
+    → option_and_then (below (2 ^ 32)) (if a then Some n else None) ≡ (if a && nat_lt n (2 ^ 32) then Some n else None)
 tested true n = refl
 tested false n = refl
 
 pub number_is : (base : ℕ) (text : List ℕ) → 0 < length text → number_below base (2 ^ 32) text ≡ number base text
 number_is base text some =
-    rw (after_is base 0 text, lt-ltb 0 (length text) some) (tested (list_all (λ b. is_digit b base) text) (digits_value_after base 0 text))
+    rw (after_is base 0 text, lt-ltb 0 (length text) some)
+    (tested (list_all (λ b. is_digit b base) text) (digits_value_after base 0 text))

@@ -33,9 +33,11 @@ run-limit text = cases (run_of all_rights text) (run-among 0xffffffff all_rights
     cases (Some n) h = among-word n h
 
 numeral-limit : (base : ℕ) (text : List ℕ) → IfSome (number base text) (λ n. n < 2 ^ 32)
-numeral-limit base text = by_test (list_all (λ c. is_digit c base) text) (nat_lt 0 (length text)) (nat_lt (digits_value base text) (2 ^ 32)) refl
+numeral-limit base text = by_test (list_all (λ c. is_digit c base) text) (nat_lt 0 (length text))
+    (nat_lt (digits_value base text) (2 ^ 32)) refl
   where
-    by_test : (d s b : Bool) → nat_lt (digits_value base text) (2 ^ 32) ≡ b → IfSome (if (s && d) && b then Some (digits_value base text) else None) (λ n. n < 2 ^ 32)
+    by_test : (d s b : Bool) → nat_lt (digits_value base text) (2 ^ 32) ≡ b
+        → IfSome (if (s && d) && b then Some (digits_value base text) else None) (λ n. n < 2 ^ 32)
     by_test true true true e = grind (arith, nat_tests)
     by_test true true false e = tt
     by_test true false b e = tt
@@ -54,7 +56,9 @@ short-limit : (text : List ℕ) → IfSome (short_rights_reads text) (λ n. n < 
 short-limit [] = omega arith
 short-limit (c ∷ cs) = by_test (is_digit c 10) (c == 48)
   where
-    by_test : (d z : Bool) → IfSome (if d then (if z then after_zero cs else number 10 (c ∷ cs)) else run_of all_rights (c ∷ cs)) (λ n. n < 2 ^ 32)
+    by_test : (d z : Bool)
+        → IfSome (if d then (if z then after_zero cs else number 10 (c ∷ cs)) else run_of all_rights (c ∷ cs))
+        (λ n. n < 2 ^ 32)
     by_test true true = zero-limit cs
     by_test true false = numeral-limit 10 (c ∷ cs)
     by_test false z = run-limit (c ∷ cs)

@@ -106,13 +106,16 @@ labels_named mask = named_bits-single LABELS mask ((0, refl), ((1, refl), ((2, r
 
 -- 2. Names read back.
 
-starts_as_names : (es : List NamedBits) (mask : ℕ) → list_all is_letter es ≡ true → short_rights_reads (names_of es mask) ≡ run_of all_rights (names_of es mask)
+starts_as_names : (es : List NamedBits) (mask : ℕ) → list_all is_letter es ≡ true
+    → short_rights_reads (names_of es mask) ≡ run_of all_rights (names_of es mask)
 unfolding run_of
 starts_as_names [] mask h = refl
-starts_as_names (e ∷ es) mask h = by_bit (bit_and mask e.bits == 0) (starts_as_names es mask (and_second (is_letter e) _ h))
+starts_as_names (e ∷ es) mask h = by_bit (bit_and mask e.bits == 0)
+    (starts_as_names es mask (and_second (is_letter e) _ h))
   where
     by_bit : (b : Bool) → short_rights_reads (names_of es mask) ≡ run_of all_rights (names_of es mask)
-        → short_rights_reads (if b then names_of es mask else e.first ∷ e.second ∷ names_of es mask) ≡ run_of all_rights (if b then names_of es mask else e.first ∷ e.second ∷ names_of es mask)
+        → short_rights_reads (if b then names_of es mask else e.first ∷ e.second ∷ names_of es mask) ≡ run_of
+        all_rights (if b then names_of es mask else e.first ∷ e.second ∷ names_of es mask)
     by_bit true p = p
     by_bit false p = rw (no_digit e (and_first (is_letter e) _ h)) refl
 
@@ -120,14 +123,18 @@ not_long : (text : List ℕ) → length text ≤ 183 → rights_reads text ≡ s
 unfolding rights_reads
 not_long text h = let e : nat_lt 183 (length text) ≡ false = grind (arith, nat_tests) in rw e refl
 
-names_read : (es : List NamedBits) (mask : ℕ) → list_all (reads_in all_rights) es ≡ true → list_all is_letter es ≡ true → length es ≤ 17 → named_bits es mask ≡ mask
+names_read : (es : List NamedBits) (mask : ℕ) → list_all (reads_in all_rights) es ≡ true → list_all is_letter es ≡ true
+    → length es ≤ 17 → named_bits es mask ≡ mask
     → rights_reads (names_of es mask) ≡ Some mask
 names_read es mask h letters few e =
-    not_long (names_of es mask) (omega (arith, length-names es mask)) ∙ (starts_as_names es mask letters ∙ (run-names all_rights es mask h ∙ ap Some e))
+    not_long (names_of es mask) (omega (arith, length-names es mask))
+    ∙ (starts_as_names es mask letters ∙ (run-names all_rights es mask h ∙ ap Some e))
 
-one_name : (e : NamedBits) → reads_in all_rights e ≡ true → is_letter e ≡ true → rights_reads (e.first ∷ e.second ∷ []) ≡ Some e.bits
+one_name : (e : NamedBits) → reads_in all_rights e ≡ true → is_letter e ≡ true
+    → rights_reads (e.first ∷ e.second ∷ []) ≡ Some e.bits
 unfolding run_of
-one_name e h letter = not_long (e.first ∷ e.second ∷ []) (omega arith) ∙ rw (no_digit e letter, reads_in-rule all_rights e h) (ap Some (or_zero e.bits))
+one_name e h letter = not_long (e.first ∷ e.second ∷ []) (omega arith)
+    ∙ rw (no_digit e letter, reads_in-rule all_rights e h) (ap Some (or_zero e.bits))
 
 -- 3. Hex digits read back.
 
@@ -135,7 +142,8 @@ all_digits : (base : ℕ) (text : List ℕ) → AllDigits base text → list_all
 all_digits base [] a = refl
 all_digits base (c ∷ cs) a = rw (lt-ltb (digit_value c) base a.0) (all_digits base cs a.1)
 
-number-reads : (base n : ℕ) (text : List ℕ) → IsNumeral base text → digits_value base text ≡ n → n < 2 ^ 32 → number base text ≡ Some n
+number-reads : (base n : ℕ) (text : List ℕ) → IsNumeral base text → digits_value base text ≡ n → n < 2 ^ 32
+    → number base text ≡ Some n
 number-reads base n text i v s = rw (lt-ltb 0 (length text) i.0, all_digits base text i.1, v, lt-ltb n (2 ^ 32) s) refl
 
 length-hex : (mask : ℕ) → mask < 2 ^ 32 → length (hex_text mask) ≤ 10
@@ -148,23 +156,29 @@ hex_reads mask s =
 
 -- 4. Every text.
 
-names_or_hex-reads : (es : List NamedBits) (mask : ℕ) → list_all (reads_in all_rights) es ≡ true → list_all is_letter es ≡ true → length es ≤ 17 → mask < 2 ^ 32
+names_or_hex-reads : (es : List NamedBits) (mask : ℕ) → list_all (reads_in all_rights) es ≡ true
+    → list_all is_letter es ≡ true → length es ≤ 17 → mask < 2 ^ 32
     → rights_reads (names_or_hex es mask) ≡ Some mask
 names_or_hex-reads es mask h letters few s = by_bits (named_bits es mask == mask) refl
   where
-    by_bits : (b : Bool) → (named_bits es mask == mask) ≡ b → rights_reads (if b then names_of es mask else hex_text mask) ≡ Some mask
+    by_bits : (b : Bool) → (named_bits es mask == mask) ≡ b
+        → rights_reads (if b then names_of es mask else hex_text mask) ≡ Some mask
     by_bits true e = names_read es mask h letters few (eqb-true _ mask e)
     by_bits false e = hex_reads mask s
 
-whole-reads : (es : List NamedBits) (mask : ℕ) (other : List ℕ) → list_all (reads_in all_rights) es ≡ true → list_all is_letter es ≡ true → rights_reads other ≡ Some mask
+whole-reads : (es : List NamedBits) (mask : ℕ) (other : List ℕ) → list_all (reads_in all_rights) es ≡ true
+    → list_all is_letter es ≡ true → rights_reads other ≡ Some mask
     → rights_reads (name_or (find (λ e. e.bits == mask) es) other) ≡ Some mask
 whole-reads [] mask other h letters r = r
 whole-reads (e ∷ es) mask other h letters r =
-    by_bits (e.bits == mask) refl (whole-reads es mask other (and_second (reads_in all_rights e) _ h) (and_second (is_letter e) _ letters) r)
+    by_bits (e.bits == mask) refl
+    (whole-reads es mask other (and_second (reads_in all_rights e) _ h) (and_second (is_letter e) _ letters) r)
   where
-    by_bits : (b : Bool) → (e.bits == mask) ≡ b → rights_reads (name_or (find (λ n. n.bits == mask) es) other) ≡ Some mask
+    by_bits : (b : Bool) → (e.bits == mask) ≡ b
+        → rights_reads (name_or (find (λ n. n.bits == mask) es) other) ≡ Some mask
         → rights_reads (name_or (if b then Some e else find (λ n. n.bits == mask) es) other) ≡ Some mask
-    by_bits true same more = one_name e (and_first (reads_in all_rights e) _ h) (and_first (is_letter e) _ letters) ∙ ap Some (eqb-true e.bits mask same)
+    by_bits true same more = one_name e (and_first (reads_in all_rights e) _ h) (and_first (is_letter e) _ letters)
+        ∙ ap Some (eqb-true e.bits mask same)
     by_bits false same more = more
 
 pub rights_read_back : (kind : AceKind) (mask : ℕ) → mask < 2 ^ 32 → rights_reads (rights_text kind mask) ≡ Some mask
@@ -172,14 +186,18 @@ unfolding rights_text
 rights_read_back kind mask s = by_zero (mask == 0) refl (is_label kind)
   where
     by_zero : (z : Bool) → (mask == 0) ≡ z → (label : Bool)
-        → rights_reads (if z then hex_text 0 else (if label then names_or_hex LABELS mask else name_or (find (λ e. e.bits == mask) COMPOUNDS) (names_or_hex SINGLES mask))) ≡ Some mask
+        → rights_reads (if z then hex_text
+        0 else (if label then names_or_hex LABELS mask else name_or (find (λ e. e.bits == mask) COMPOUNDS)
+        (names_or_hex SINGLES mask))) ≡ Some mask
     by_zero true e label = hex_reads 0 (omega arith) ∙ ap Some (sym (eqb-true mask 0 e))
     by_zero false e true = names_or_hex-reads LABELS mask labels_read labels_letters (omega arith) s
-    by_zero false e false = whole-reads COMPOUNDS mask (names_or_hex SINGLES mask) compounds_read compounds_letters (names_or_hex-reads SINGLES mask singles_read singles_letters (omega arith) s)
+    by_zero false e false = whole-reads COMPOUNDS mask (names_or_hex SINGLES mask) compounds_read compounds_letters
+        (names_or_hex-reads SINGLES mask singles_read singles_letters (omega arith) s)
 
 -- 5. How long they are.
 
-names_or_hex-length : (es : List NamedBits) (mask : ℕ) → length es ≤ 17 → mask < 2 ^ 32 → length (names_or_hex es mask) ≤ 34
+names_or_hex-length : (es : List NamedBits) (mask : ℕ) → length es ≤ 17 → mask < 2 ^ 32
+    → length (names_or_hex es mask) ≤ 34
 names_or_hex-length es mask few s = by_bits (named_bits es mask == mask)
   where
     by_bits : (b : Bool) → length (if b then names_of es mask else hex_text mask) ≤ 34
@@ -195,7 +213,10 @@ unfolding rights_text
 rights_text-length kind mask s = by_zero (mask == 0) (is_label kind)
   where
     by_zero : (z label : Bool)
-        → length (if z then hex_text 0 else (if label then names_or_hex LABELS mask else name_or (find (λ e. e.bits == mask) COMPOUNDS) (names_or_hex SINGLES mask))) ≤ 34
+        → length (if z then hex_text
+        0 else (if label then names_or_hex LABELS mask else name_or (find (λ e. e.bits == mask) COMPOUNDS)
+        (names_or_hex SINGLES mask))) ≤ 34
     by_zero true label = omega (arith, length-hex 0 (omega arith))
     by_zero false true = names_or_hex-length LABELS mask (omega arith) s
-    by_zero false false = name_or-length (find (λ e. e.bits == mask) COMPOUNDS) (names_or_hex SINGLES mask) (names_or_hex-length SINGLES mask (omega arith) s)
+    by_zero false false = name_or-length (find (λ e. e.bits == mask) COMPOUNDS) (names_or_hex SINGLES mask)
+        (names_or_hex-length SINGLES mask (omega arith) s)

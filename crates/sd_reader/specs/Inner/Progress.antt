@@ -88,7 +88,8 @@ result_or r None = Ok r
 result_or r (Some e) = Err e
 
 -- the verdict on what was read before, and a rest in pieces
-unfoldable pub judged : Option SecurityId → Bool → Bool → Seen → Result FieldsRead SddlFault → State → Held → Bool → List ℕ
+unfoldable pub judged : Option SecurityId → Bool → Bool → Seen → Result FieldsRead SddlFault → State → Held → Bool
+    → List ℕ
     → Sections → Result FieldsRead SddlFault
 judged domain sound twice seen read state h paired held ss =
     verdict (sound && (paired && (is_shaped_here state held ss.before && are_shaped ss.parts)))

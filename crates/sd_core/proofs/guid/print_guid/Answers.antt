@@ -8,7 +8,8 @@ use Rattle.sd_core.proofs.guid.print_guid.Goals as goal
 pub returns-clause-put : goal.returns-clause-put
 unfolding guid_text
 returns-clause-put g c =
-    let same = c.as_bytes.ensures.value ∙ (c.encode_lower-text.ensures.text ∙ ap (hyphenated_text lower) c.hyphenated.ensures) in
+    let same = c.as_bytes.ensures.value
+    ∙ (c.encode_lower-text.ensures.text ∙ ap (hyphenated_text lower) c.hyphenated.ensures) in
     subst (λ (t : List ℕ). Prints (g.P.Print.told c.args.out.now) (g.P.Print.told c.put.new.self) t) same c.put.ensures
 
 pub returns-clause-back : goal.returns-clause-back

@@ -8,5 +8,6 @@ use Rattle.sd_core.proofs.sid_text.print_authority.Goals as goal
 pub returns : goal.returns
 returns g c =
     let a = c.args.authority in
-    prints_as (ap (λ b. if b then decimal a else codes "0x" ++ hex_digits 12 a) (sym (le-ltb a (2 ^ 32) c.if-authority.false)))
+    prints_as (ap (λ b. if b then decimal a else codes "0x" ++ hex_digits 12 a)
+    (sym (le-ltb a (2 ^ 32) c.if-authority.false)))
     (prints_then c.put.ensures c.print_hex.ensures)

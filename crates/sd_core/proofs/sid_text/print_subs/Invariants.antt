@@ -5,4 +5,5 @@ use Rattle.sd_core.specs.SidText.{sub_text}
 use Rattle.sd_core.proofs.sid_text.print_subs.Given as goal
 
 abbrev pub invariant-loop-sub : goal.invariant-loop-sub
-invariant-loop-sub g l = Prints (g.P.Print.told l.fn.out) (g.P.Print.told l.out) (flat_map sub_text (take l.sub-index l.subs))
+invariant-loop-sub g l = Prints (g.P.Print.told l.fn.out) (g.P.Print.told l.out)
+    (flat_map sub_text (take l.sub-index l.subs))

@@ -8,7 +8,8 @@ invariant-loop-rest l = record {
   count : length l.sid.subs ≤ 15;
   authority : l.sid.authority ≡ l.initial.sid.authority;
   form : are_subs (length l.sid.subs) (all_pieces (pieces l.rest)) ≡ are_subs 0 (all_pieces (pieces l.text));
-  rest : option_map (λ ns. l.sid.subs ++ ns) (all_read (all_pieces (pieces l.rest))) ≡ all_read (all_pieces (pieces l.text));
+  rest : option_map (λ ns. l.sid.subs ++ ns) (all_read (all_pieces (pieces l.rest))) ≡ all_read
+      (all_pieces (pieces l.text));
 }
 
 abbrev pub decreases-loop-rest : goal.decreases-loop-rest

@@ -9,4 +9,6 @@ pub returns : goal.returns
 returns c =
     let text = c.args.text.now in
     let long : nat_le 17 (length text) ≡ true = let h = c.if-text.false in grind (arith, nat_tests) in
-    rw (long) ((rw (c.as_bytes.ensures.value) at c.is_same.ensures) ∙ ap (λ (t : List ℕ). str_eq_ignore_ascii_case t (codes "NO_ACCESS_CONTROL")) (take_rest text (length text - 17)))
+    rw (long) ((rw (c.as_bytes.ensures.value) at c.is_same.ensures)
+    ∙ ap (λ (t : List ℕ). str_eq_ignore_ascii_case t (codes "NO_ACCESS_CONTROL"))
+    (take_rest text (length text - 17)))

@@ -23,4 +23,5 @@ returns-clause-plain c =
     let text = c.args.text.now in
     let start = c.loop-start.start in
     plain-more text start c.plain_inside.result c.loop-start.invariant.plain
-    (subst (λ t. list_all is_plain_inside (take c.plain_inside.result t) ≡ true) (rest-from text start) c.plain_inside.ensures.plain)
+    (subst (λ t. list_all is_plain_inside (take c.plain_inside.result t) ≡ true) (rest-from text start)
+    c.plain_inside.ensures.plain)

@@ -7,4 +7,5 @@ use Rattle.sd_rights.proofs.digits.print_decimal_behind.Goals as goal
 pub returns : goal.returns
 returns g c =
     let w = c.write_decimal-start in
-    prints_as (behind c.args.character w.result (decimal c.args.number) w.new.cells _ w.ensures.behind w.ensures.begins (omega arith) w.ensures.written) c.put_front.ensures
+    prints_as (behind c.args.character w.result (decimal c.args.number) w.new.cells _ w.ensures.behind w.ensures.begins
+    (omega arith) w.ensures.written) c.put_front.ensures

@@ -4,4 +4,5 @@ use Rattle.sd_rights.specs.Names.{bits_named}
 use Rattle.sd_rights.proofs.names.find_bits.Given as goal
 
 abbrev pub invariant-loop-table : goal.invariant-loop-table
-invariant-loop-table l = bits_named (flat_map (λ t. t.now) (drop l.table-index l.tables)) l.first l.second ≡ bits_named (flat_map (λ t. t.now) l.tables) l.first l.second
+invariant-loop-table l = bits_named (flat_map (λ t. t.now) (drop l.table-index l.tables)) l.first l.second ≡ bits_named
+    (flat_map (λ t. t.now) l.tables) l.first l.second

@@ -11,5 +11,6 @@ returns-then-number-limit-clause-value c =
     let base = c.args.base in
     let n = c.loop-byte.number * c.from-in-loop-byte.result + c.from-in-loop-byte-2.result in
     let left = drop (c.loop-byte.byte-index + 1) c.args.text.now in
-    let none : option_and_then (λ m. if nat_lt m c.args.limit then Some m else None) (number_after base n left) ≡ None = too_big base c.args.limit n left (omega arith) (omega arith) in
+    let none : option_and_then (λ m. if nat_lt m c.args.limit then Some m else None)
+    (number_after base n left) ≡ None = too_big base c.args.limit n left (omega arith) (omega arith) in
     grind (arith, common_steps)

@@ -6,4 +6,5 @@ use Rattle.sd_view.specs.declared.control.Which.TheVariants.{Sacl}
 use Rattle.sd_tests.proofs.builder.takes_an_acl_of_65528_bytes.Given as goal
 
 abbrev pub invariant-loop : goal.invariant-loop
-invariant-loop g l = (aces : List AccessControlEntry) × Builds l.builder l.buf (record no_parts { «open» = Some (Sacl, aces) })
+invariant-loop g l = (aces : List AccessControlEntry)
+    × Builds l.builder l.buf (record no_parts { «open» = Some (Sacl, aces) })

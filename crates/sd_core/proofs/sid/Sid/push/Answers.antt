@@ -7,7 +7,8 @@ pub invariant_of-self : goal.invariant_of-self
 invariant_of-self c =
     let sid = c.self.inside in
     let i = c.self.invariant in
-    let kept : length c.args.self.now.subs ≡ sid.count = rw (← c.self.view_is) (length-take-le sid.count sid.subs (omega arith)) in
+    let kept : length c.args.self.now.subs ≡ sid.count = rw (← c.self.view_is)
+    (length-take-le sid.count sid.subs (omega arith)) in
     let room : sid.count < 15 = omega (arith, kept, c.requires) in (
       i.0,
       omega arith,

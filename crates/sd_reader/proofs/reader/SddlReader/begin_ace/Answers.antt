@@ -8,16 +8,32 @@ use Rattle.sd_reader.proofs.reader.SddlReader.begin_ace.Goals as goal
 pub end_field-requires : goal.end_field-requires
 end_field-requires c =
     let k = c.requires.held.1 in
-    record { clean = c.requires.calm.held; held = (c.requires.held.0, λ none. (k.fields none, (rw (c.in-AclFlags.is) at (k.fits none)).lacks (head.Acl c.in-AclFlags.which) (itself-or _ (head.Acl c.in-AclFlags.which)))) }
+    record {
+      clean = c.requires.calm.held;
+      held = (
+        c.requires.held.0,
+        λ none. (
+          k.fields none,
+          (rw (c.in-AclFlags.is) at (k.fits none)).lacks (head.Acl c.in-AclFlags.which)
+              (itself-or _ (head.Acl c.in-AclFlags.which)),
+        ),
+      );
+    }
 
 pub returns-in-AclFlags-clause-answers : goal.returns-in-AclFlags-clause-answers
 returns-in-AclFlags-clause-answers c = λ t k.
     let s = c.args.self.now in
     let e = c.end_field.ensures.read t k.fields in (
       e.0,
-      record { fields = e.1; fits = λ none. fits-first s.fields.domain c.in-AclFlags.which s.seen t e.0 _ (read-ok s.fault _ t e.0 _ e.2 none) (rw (c.in-AclFlags.is) at (k.fits (none-before s.fault _ t e.0 _ e.2 none))) },
+      record {
+        fields = e.1;
+        fits = λ none. fits-first s.fields.domain c.in-AclFlags.which s.seen t e.0 _
+            (read-ok s.fault _ t e.0 _ e.2 none)
+            (rw (c.in-AclFlags.is) at (k.fits (none-before s.fault _ t e.0 _ e.2 none)));
+      },
       λ rest. rw (c.in-AclFlags.is, e.2, c.end_field.ensures.cleared, c.end_field.ensures.domain)
-          (open_first s.fields.domain s.sound s.twice s.seen (result_or t s.fault) s.field rest c.in-AclFlags.which c.requires.calm.held),
+          (open_first s.fields.domain s.sound s.twice s.seen (result_or t s.fault) s.field rest c.in-AclFlags.which
+          c.requires.calm.held),
     )
 
 pub returns-in-AfterAce-clause-answers : goal.returns-in-AfterAce-clause-answers
@@ -37,7 +53,8 @@ returns-in_default c =
         t,
         record { fields = k.fields; fits = k.fits },
         λ rest. unsound s.fields.domain true s.twice s.seen (result_or t s.fault) s.field rest s.state
-            ∙ sym (open_nowhere s.fields.domain s.sound s.twice s.seen (result_or t s.fault) s.field rest s.state c.requires.here c.in_default.not-AclFlags c.in_default.not-AfterAce),
+            ∙ sym (open_nowhere s.fields.domain s.sound s.twice s.seen (result_or t s.fault) s.field rest s.state
+            c.requires.here c.in_default.not-AclFlags c.in_default.not-AfterAce),
       );
       calm = record { held = c.requires.calm.held; gap = c.requires.calm.gap };
       pending = refl;

@@ -14,16 +14,21 @@ returns-clause-answers c = λ t k.
     let e = c.end_part.ensures.read t k in
     let seen = ap (λ (x : SddlReader). x.seen) ended in
     let fields = ap (λ (x : SddlReader). x.fields) noted in
-    let found : c.note_head.new.self.fault ≡ None → (is_seen c.end_part.new.self.seen c.args.head ≡ false) × (c.end_part.new.self.fault ≡ None) =
+    let found : c.note_head.new.self.fault ≡ None → (is_seen c.end_part.new.self.seen c.args.head ≡ false)
+    × (c.end_part.new.self.fault ≡ None) =
     λ none. unseen-head _ _ _ (sym c.note_head.ensures.fault ∙ none) in (
       e.0,
       record {
         fields = λ none. rw (fields) (e.1 (found none).1);
         fits = λ none.
-            let before = none-ended s.fields.domain s.state s.field s.fault c.end_part.new.self.fault t e.0 e.2 (found none).1 in
-            let unseen : is_seen s.seen c.args.head ≡ false = ap (λ (x : Seen). is_seen x c.args.head) (sym seen) ∙ (found none).0 in
+            let before = none-ended s.fields.domain s.state s.field s.fault c.end_part.new.self.fault t e.0 e.2
+            (found none).1 in
+            let unseen : is_seen s.seen c.args.head ≡ false = ap (λ (x : Seen). is_seen x c.args.head) (sym seen)
+            ∙ (found none).0 in
             rw (c.note_head.ensures.state, c.note_head.ensures.seen, seen)
-            (fits-head s.state s.seen t e.0 c.args.head (lacks-ended s.fields.domain s.state s.seen s.field s.fault c.end_part.new.self.fault t e.0 e.2 (found none).1 (k.fits before)) unseen (k.fits before));
+            (fits-head s.state s.seen t e.0 c.args.head
+            (lacks-ended s.fields.domain s.state s.seen s.field s.fault c.end_part.new.self.fault t e.0 e.2
+            (found none).1 (k.fits before)) unseen (k.fits before));
       },
       λ rest. rw (
         c.note_head.ensures.state,
@@ -39,5 +44,7 @@ returns-clause-answers c = λ t k.
         seen,
         ap (λ (x : SddlReader). x.twice) ended,
       )
-          (begin-noted s.fields.domain s.sound s.twice s.seen (result_or t s.fault) s.state s.field c.args.letter c.args.head rest e.0 c.end_part.new.self.fault c.requires.here c.requires.calm.held c.requires.letter e.2),
+          (begin-noted s.fields.domain s.sound s.twice s.seen (result_or t s.fault) s.state s.field c.args.letter
+          c.args.head rest e.0 c.end_part.new.self.fault c.requires.here c.requires.calm.held
+          c.requires.letter e.2),
     )

@@ -10,7 +10,12 @@ returns-in-Sid-clause-answers c = λ t k.
     let s = c.args.self.now in
     let e = c.end_field.ensures.read t k.fields in (
       e.0,
-      record { fields = e.1; fits = λ none. fits-field s.fields.domain c.args.field state.AfterAce s.seen t e.0 _ (read-ok s.fault _ t e.0 _ e.2 none) (λ h. refl) (rw (c.requires.here) at (k.fits (none-before s.fault _ t e.0 _ e.2 none))) },
+      record {
+        fields = e.1;
+        fits = λ none. fits-field s.fields.domain c.args.field state.AfterAce s.seen t e.0 _
+            (read-ok s.fault _ t e.0 _ e.2 none) (λ h. refl)
+            (rw (c.requires.here) at (k.fits (none-before s.fault _ t e.0 _ e.2 none)));
+      },
       λ rest. rw (c.requires.here, e.2, c.end_field.ensures.cleared, c.in-Sid.is, c.end_field.ensures.domain)
           (close_last s.fields.domain s.sound s.twice s.seen (result_or t s.fault) s.field rest),
     )
@@ -22,8 +27,10 @@ returns-in_default c =
       answers = λ t k. (
         t,
         record { fields = k.fields; fits = k.fits },
-        λ rest. rw (c.requires.here) (unsound s.fields.domain true s.twice s.seen (result_or t s.fault) s.field rest (state.Ace c.args.field)
-            ∙ sym (close_early s.fields.domain s.sound s.twice s.seen (result_or t s.fault) s.field rest c.args.field (column_more c.args.field c.in_default.not-Sid))),
+        λ rest. rw (c.requires.here)
+            (unsound s.fields.domain true s.twice s.seen (result_or t s.fault) s.field rest (state.Ace c.args.field)
+            ∙ sym (close_early s.fields.domain s.sound s.twice s.seen (result_or t s.fault) s.field rest c.args.field
+            (column_more c.args.field c.in_default.not-Sid))),
       );
       calm = record { held = c.requires.calm.held; gap = c.requires.calm.gap };
       pending = refl;

@@ -11,7 +11,8 @@ returns-in-Sid-clause-answers c = λ t k.
     let s = c.args.self.now in (
       t,
       record { fields = k.fields; fits = k.fits },
-      λ rest. rw (c.requires.here, c.in-Sid.is) (unsound s.fields.domain true s.twice s.seen (result_or t s.fault) s.field rest (state.Ace field.Sid)
+      λ rest. rw (c.requires.here, c.in-Sid.is)
+          (unsound s.fields.domain true s.twice s.seen (result_or t s.fault) s.field rest (state.Ace field.Sid)
           ∙ sym (cut_late s.fields.domain s.sound s.twice s.seen (result_or t s.fault) s.field rest)),
     )
 
@@ -21,10 +22,20 @@ returns-in_default c =
     record {
       answers = λ t k. (let e = c.end_field.ensures.read t k.fields in (
         e.0,
-        record { fields = e.1; fits = λ none. fits-field s.fields.domain c.args.field (state.Ace c.next_field.result) s.seen t e.0 _ (read-ok s.fault _ t e.0 _ e.2 none) (λ h. refl) (rw (c.requires.here) at (k.fits (none-before s.fault _ t e.0 _ e.2 none))) },
+        record {
+          fields = e.1;
+          fits = λ none. fits-field s.fields.domain c.args.field (state.Ace c.next_field.result)
+              s.seen t e.0 _ (read-ok s.fault _ t e.0 _ e.2 none) (λ h. refl)
+              (rw (c.requires.here) at (k.fits (none-before s.fault _ t e.0 _ e.2 none)));
+        },
         λ rest. rw (c.requires.here, c.next_field.ensures, e.2, c.end_field.ensures.cleared, c.end_field.ensures.domain)
-            (cut s.fields.domain s.sound s.twice s.seen (result_or t s.fault) s.field rest c.args.field (column_more c.args.field c.in_default.not-Sid)),
+            (cut s.fields.domain s.sound s.twice s.seen (result_or t s.fault) s.field rest c.args.field
+            (column_more c.args.field c.in_default.not-Sid)),
       ));
-      calm = record { held = rw (c.end_field.ensures.cleared) (record { clean = refl; fits = omega arith }); gap = λ _. rw (c.end_field.ensures.cleared) refl };
+      calm = record {
+        held = rw (c.end_field.ensures.cleared) (record { clean = refl; fits = omega arith });
+        gap = λ _.
+            rw (c.end_field.ensures.cleared) refl;
+      };
       pending = refl;
     }

@@ -13,14 +13,16 @@ pub returns-then-not-self : goal.returns-then-not-self
 unfolding finished
 returns-then-not-self c = λ t k.
     let s = c.args.self in
-    let lost : answer_at s t [] ≡ Err fault.Shape = rw (c.if-not-self.true) (unsound s.fields.domain true s.twice s.seen (result_or t s.fault) s.field [] s.state) in
+    let lost : answer_at s t [] ≡ Err fault.Shape = rw (c.if-not-self.true)
+    (unsound s.fields.domain true s.twice s.seen (result_or t s.fault) s.field [] s.state) in
     ap finished lost
 
 pub returns-in-Ace : goal.returns-in-Ace
 unfolding finished
 returns-in-Ace c = λ t k.
     let s = c.args.self in
-    let lost : answer_at s t [] ≡ Err fault.Shape = rw (c.in-Ace.is) (unfinished s.fields.domain s.sound s.twice s.seen (result_or t s.fault) _ s.field) in
+    let lost : answer_at s t [] ≡ Err fault.Shape = rw (c.in-Ace.is)
+    (unfinished s.fields.domain s.sound s.twice s.seen (result_or t s.fault) _ s.field) in
     ap finished lost
 
 pub returns-then-self : goal.returns-then-self
@@ -29,7 +31,9 @@ returns-then-self c = λ t k.
     let s = c.args.self in
     let twice : s.twice ≡ true = sym (ap (λ (x : SddlReader). x.twice) c.end_part.ensures.same) ∙ c.if-self.true in
     let lost : answer_at s t [] ≡ Err fault.PartTwice =
-    rw (c.if-not-self.false) (finished_twice s.fields.domain s.twice s.seen (result_or t s.fault) s.state s.field (outside_of s.state c.in_default.not-Ace) c.requires.calm.held twice) in
+    rw (c.if-not-self.false)
+    (finished_twice s.fields.domain s.twice s.seen (result_or t s.fault) s.state s.field
+    (outside_of s.state c.in_default.not-Ace) c.requires.calm.held twice) in
     ap finished lost
 
 pub returns-in-Some : goal.returns-in-Some
@@ -39,7 +43,9 @@ returns-in-Some c = λ t k.
     let once : s.twice ≡ false = sym (ap (λ (x : SddlReader). x.twice) c.end_part.ensures.same) ∙ c.if-self.false in
     let e = c.end_part.ensures.read t k in
     let read : answer_at s t [] ≡ result_or e.0 c.end_part.new.self.fault =
-    rw (c.if-not-self.false) (finished_once s.fields.domain s.twice s.seen (result_or t s.fault) s.state s.field (outside_of s.state c.in_default.not-Ace) c.requires.calm.held once ∙ sym e.2) in
+    rw (c.if-not-self.false)
+    (finished_once s.fields.domain s.twice s.seen (result_or t s.fault) s.state s.field
+    (outside_of s.state c.in_default.not-Ace) c.requires.calm.held once ∙ sym e.2) in
     ap finished (read ∙ ap (result_or e.0) c.in-Some.is)
 
 pub returns-in-None : goal.returns-in-None
@@ -48,6 +54,9 @@ returns-in-None c = λ t k.
     let once : s.twice ≡ false = sym (ap (λ (x : SddlReader). x.twice) c.end_part.ensures.same) ∙ c.if-self.false in
     let e = c.end_part.ensures.read t k in
     let read : answer_at s t [] ≡ result_or e.0 c.end_part.new.self.fault =
-    rw (c.if-not-self.false) (finished_once s.fields.domain s.twice s.seen (result_or t s.fault) s.state s.field (outside_of s.state c.in_default.not-Ace) c.requires.calm.held once ∙ sym e.2) in
+    rw (c.if-not-self.false)
+    (finished_once s.fields.domain s.twice s.seen (result_or t s.fault) s.state s.field
+    (outside_of s.state c.in_default.not-Ace) c.requires.calm.held once ∙ sym e.2) in
     let whole : answer_at s t [] ≡ Ok e.0 = read ∙ ap (result_or e.0) c.in-None.is in
-    subst (λ (x : Result FieldsRead SddlFault). Ends (finished x) c.finish.result c.finish.new.buf) (sym whole) (c.finish.ensures e.0 (e.1 c.in-None.is))
+    subst (λ (x : Result FieldsRead SddlFault). Ends (finished x) c.finish.result c.finish.new.buf) (sym whole)
+    (c.finish.ensures e.0 (e.1 c.in-None.is))

@@ -5,7 +5,17 @@ use Rattle.sd_reader.proofs.reader.SddlReader.end_part.Goals as goal
 pub end_field-requires-in-AclFlags : goal.end_field-requires-in-AclFlags
 end_field-requires-in-AclFlags c =
     let k = c.requires.held.1 in
-    record { clean = c.requires.calm.held; held = (c.requires.held.0, λ none. (k.fields none, (rw (c.in-AclFlags.is) at (k.fits none)).lacks (head.Acl c.in-AclFlags.which) (itself-or _ (head.Acl c.in-AclFlags.which)))) }
+    record {
+      clean = c.requires.calm.held;
+      held = (
+        c.requires.held.0,
+        λ none. (
+          k.fields none,
+          (rw (c.in-AclFlags.is) at (k.fits none)).lacks (head.Acl c.in-AclFlags.which)
+              (itself-or _ (head.Acl c.in-AclFlags.which)),
+        ),
+      );
+    }
 
 pub returns-in-Sid-clause-read : goal.returns-in-Sid-clause-read
 returns-in-Sid-clause-read c = λ t k.

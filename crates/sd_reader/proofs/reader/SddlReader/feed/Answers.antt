@@ -11,11 +11,18 @@ use Rattle.sd_reader.proofs.reader.SddlReader.feed.Goals as goal
 pub returns-then-not-self-clause-read : goal.returns-then-not-self-clause-read
 returns-then-not-self-clause-read c = λ domain text h.
     let s = c.args.self.now in
-    let lost : (u : List ℕ) → answer_at s h.0 u ≡ Err fault.Shape = λ u. rw (c.if-not-self.true) (unsound s.fields.domain true s.twice s.seen (result_or h.0 s.fault) s.field u s.state) in
-    (h.0, h.1, λ rest. lost (waiting s.pending ++ rest) ∙ (sym (lost (waiting s.pending ++ c.args.byte ∷ rest)) ∙ (h.2 (c.args.byte ∷ rest) ∙ rw append_assoc refl)))
+    let lost : (u : List ℕ)
+    → answer_at s h.0 u ≡ Err fault.Shape = λ u. rw (c.if-not-self.true)
+    (unsound s.fields.domain true s.twice s.seen (result_or h.0 s.fault) s.field u s.state) in (
+      h.0,
+      h.1,
+      λ rest. lost (waiting s.pending ++ rest)
+          ∙ (sym (lost (waiting s.pending ++ c.args.byte ∷ rest)) ∙ (h.2 (c.args.byte ∷ rest) ∙ rw append_assoc refl)),
+    )
 
 -- the line so far, with a byte more
-next : (d : Option SecurityId) (text rest : List ℕ) (b : ℕ) → reads_as d (text ++ b ∷ rest) ≡ reads_as d ((text ++ b ∷ []) ++ rest)
+next : (d : Option SecurityId) (text rest : List ℕ) (b : ℕ)
+    → reads_as d (text ++ b ∷ rest) ≡ reads_as d ((text ++ b ∷ []) ++ rest)
 next d text rest b = rw append_assoc refl
 
 pub returns-in-Ace-clause-read : goal.returns-in-Ace-clause-read
@@ -34,14 +41,22 @@ pub returns-in-Some : goal.returns-in-Some
 returns-in-Some c = record {
   reader = c.feed_after.ensures.reader;
   read = λ domain text h.
-      let e = c.feed_after.ensures.answers h.0 h.1 in
-      (e.0, e.1, λ rest. e.2 rest ∙ ((rw (c.in-Some.is) at h.2 (c.args.byte ∷ rest)) ∙ next domain text rest c.args.byte));
+      let e = c.feed_after.ensures.answers h.0 h.1 in (
+        e.0,
+        e.1,
+        λ rest. e.2 rest
+            ∙ ((rw (c.in-Some.is) at h.2 (c.args.byte ∷ rest)) ∙ next domain text rest c.args.byte),
+      );
 }
 
 pub returns-in_default-pending : goal.returns-in_default-pending
 returns-in_default-pending c = record {
   reader = c.feed_alone.ensures.reader;
   read = λ domain text h.
-      let e = c.feed_alone.ensures.answers h.0 h.1 in
-      (e.0, e.1, λ rest. e.2 rest ∙ ((rw (c.in_default-pending.is) at h.2 (c.args.byte ∷ rest)) ∙ next domain text rest c.args.byte));
+      let e = c.feed_alone.ensures.answers h.0 h.1 in (
+        e.0,
+        e.1,
+        λ rest. e.2 rest
+            ∙ ((rw (c.in_default-pending.is) at h.2 (c.args.byte ∷ rest)) ∙ next domain text rest c.args.byte),
+      );
 }

@@ -24,13 +24,15 @@ returns-in-Some-clause-reader c =
 
 pub returns-in_default-clause-answers : goal.returns-in_default-clause-answers
 returns-in_default-clause-answers c = λ t k.
-    let kept = keeps-same (record c.args.self.now { pending = None }) c.put_text.new.self _ _ c.args.buf.now t c.put_text.ensures.same (record { fields = k.fields; fits = k.fits }) in
+    let kept = keeps-same (record c.args.self.now { pending = None }) c.put_text.new.self _ _ c.args.buf.now t
+    c.put_text.ensures.same (record { fields = k.fields; fits = k.fits }) in
     let e = c.feed_alone.ensures.answers t kept in (
       e.0,
       e.1,
       λ rest.
           e.2 rest ∙ c.put_text.ensures.answers t (c.args.byte ∷ rest) (elim c.in_default.branch [
-            | in_default-via-in-Some+else-byte-eq58 w ↦ no-colon c.args.byte rest _ (let n = w.if-byte-eq58.false in grind (arith, nat_tests))
+            | in_default-via-in-Some+else-byte-eq58 w ↦ no-colon c.args.byte rest _
+                (let n = w.if-byte-eq58.false in grind (arith, nat_tests))
             | in_default-via-in_default w ↦ no_head _ _ (sym c.head_of.ensures ∙ w.in_default.is)
           ]),
     )

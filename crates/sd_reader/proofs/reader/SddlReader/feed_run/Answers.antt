@@ -12,7 +12,8 @@ pub returns-in-Ace-clause-read : goal.returns-in-Ace-clause-read
 returns-in-Ace-clause-read c = λ buf domain before r.
     rw (c.push_run.ensures)
     ((inside-goes c.args.self.now c.in-Ace.«field-0»
-    (take c.plain_inside-count.result c.args.text.now) c.in-Ace.is c.plain_inside-count.ensures.plain buf r).1 domain before)
+    (take c.plain_inside-count.result c.args.text.now) c.in-Ace.is c.plain_inside-count.ensures.plain buf r).1
+    domain before)
 
 pub returns-in-Sid-clause-reader : goal.returns-in-Sid-clause-reader
 returns-in-Sid-clause-reader c = λ buf r.

@@ -12,7 +12,8 @@ returns-in-40-clause-answers c = λ t k.
     let s = c.args.self.now in (
       t,
       record { fields = k.fields; fits = k.fits },
-      λ rest. rw (c.requires.here, c.in-40.is) (unsound s.fields.domain true s.twice s.seen (result_or t s.fault) s.field rest (state.Ace c.args.field)
+      λ rest. rw (c.requires.here, c.in-40.is)
+          (unsound s.fields.domain true s.twice s.seen (result_or t s.fault) s.field rest (state.Ace c.args.field)
           ∙ sym (open_inside s.fields.domain s.sound s.twice s.seen (result_or t s.fault) s.field rest c.args.field)),
     )
 
@@ -33,5 +34,6 @@ returns-in_default-clause-answers c = λ t k.
       t,
       record { fields = k.fields; fits = k.fits },
       λ rest. rw (c.requires.here, c.push_within.ensures)
-          (entry_text s.fields.domain s.sound s.twice s.seen (result_or t s.fault) s.field rest c.args.field _ c.args.byte e40 e41 e59 (λ u. same_within s.field c.args.byte u c.requires.calm.held calm)),
+          (entry_text s.fields.domain s.sound s.twice s.seen (result_or t s.fault) s.field rest c.args.field _
+          c.args.byte e40 e41 e59 (λ u. same_within s.field c.args.byte u c.requires.calm.held calm)),
     )

@@ -17,11 +17,16 @@ returns-in-41-clause-answers c = λ t k. (
       let s = c.args.self.now in
       unsound s.fields.domain true s.twice s.seen (result_or t s.fault) s.field rest s.state
       ∙ elim c.in-41.is [
-        | inl e ↦ rw e (sym (close_outside s.fields.domain s.sound s.twice s.seen (result_or t s.fault) s.field rest s.state c.requires.here))
-        | inr e ↦ rw e (sym (colon s.fields.domain s.sound s.twice s.seen (result_or t s.fault) s.field rest s.state c.requires.here))
+        | inl e ↦ rw e (sym (close_outside s.fields.domain s.sound s.twice s.seen (result_or t s.fault) s.field rest
+            s.state c.requires.here))
+        | inr e ↦ rw e (sym (colon s.fields.domain s.sound s.twice s.seen (result_or t s.fault) s.field rest s.state
+            c.requires.here))
       ],
 )
 
 pub returns-in_default-clause-answers : goal.returns-in_default-clause-answers
-returns-in_default-clause-answers c = λ t k.
-    (t, keeps-same c.args.self.now c.put_text.new.self _ _ c.args.buf.now t c.put_text.ensures.same k, λ rest none. c.put_text.ensures.answers t rest none)
+returns-in_default-clause-answers c = λ t k. (
+  t,
+  keeps-same c.args.self.now c.put_text.new.self _ _ c.args.buf.now t c.put_text.ensures.same k,
+  λ rest none. c.put_text.ensures.answers t rest none,
+)

@@ -11,8 +11,11 @@ returns-in-Sacl-clause-read c = λ t h.
     let may : (f.null && c.args.has_aces) ≡ false = elim c.else-front.branch [
       | else-front-via-then-front+else-has_aces w ↦ not-both f.null c.args.has_aces w.if-has_aces.false
       | else-front-via-else-front w ↦ not-first f.null c.args.has_aces w.if-front.false
-    ] in
-    (_, holds-sacl _ _ _ k f.flags, sacl-taken c.args.which c.args.has_aces t f _ (sym c.front_from_text.ensures ∙ c.in-Some.is) may c.in-Sacl.is)
+    ] in (
+      _,
+      holds-sacl _ _ _ k f.flags,
+      sacl-taken c.args.which c.args.has_aces t f _ (sym c.front_from_text.ensures ∙ c.in-Some.is) may c.in-Sacl.is,
+    )
 
 pub returns-in-Dacl-clause-read : goal.returns-in-Dacl-clause-read
 returns-in-Dacl-clause-read c = λ t h.
@@ -21,5 +24,8 @@ returns-in-Dacl-clause-read c = λ t h.
     let may : (f.null && c.args.has_aces) ≡ false = elim c.else-front.branch [
       | else-front-via-then-front+else-has_aces w ↦ not-both f.null c.args.has_aces w.if-has_aces.false
       | else-front-via-else-front w ↦ not-first f.null c.args.has_aces w.if-front.false
-    ] in
-    (_, holds-dacl _ _ _ k f.flags, dacl-taken c.args.which c.args.has_aces t f _ (sym c.front_from_text.ensures ∙ c.in-Some.is) may c.in-Dacl.is)
+    ] in (
+      _,
+      holds-dacl _ _ _ k f.flags,
+      dacl-taken c.args.which c.args.has_aces t f _ (sym c.front_from_text.ensures ∙ c.in-Some.is) may c.in-Dacl.is,
+    )

@@ -8,5 +8,6 @@ use Rattle.sd_rights.proofs.kinds.AceKind.from_text.Goals as goal
 
 pub returns-clause-back : goal.returns-clause-back
 returns-clause-back c =
-    let found : find (λ e. str_eq_ignore_ascii_case (letters_of e) c.args.text.now) KINDS ≡ Some c.in_ok-entry.entry = sym c.with_letters.ensures ∙ c.in_ok-entry.was in
+    let found : find (λ e. str_eq_ignore_ascii_case (letters_of e) c.args.text.now) KINDS ≡ Some
+    c.in_ok-entry.entry = sym c.with_letters.ensures ∙ c.in_ok-entry.was in
     found_letters c.args.text.now (Some c.in_ok-entry.entry) found

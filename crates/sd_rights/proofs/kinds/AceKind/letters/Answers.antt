@@ -5,7 +5,8 @@ use Rattle.sd_rights.specs.declared.kinds.KindEntry.{KindEntry}
 use Rattle.sd_rights.proofs.KindLaws.{kind_named-letters, letters-few}
 use Rattle.sd_rights.proofs.kinds.AceKind.letters.Goals as goal
 
-few : (k : AceKind) (e : KindEntry) (text : List ℕ) → text ≡ letters_of e → e ≡ kind_entry k → (1 ≤ length text) × (length text ≤ 2)
+few : (k : AceKind) (e : KindEntry) (text : List ℕ) → text ≡ letters_of e → e ≡ kind_entry k → (1 ≤ length text)
+    × (length text ≤ 2)
 unfolding kind_letters
 few k e text is of =
     let size = letters-few k in
