@@ -31,7 +31,7 @@ pub PutSome-stopped : (old mid new : DrainTold) (bytes : List ℕ) (at : ℕ)
     → Appends mid.taken new.taken [] → new.failures ≡ counted mid.failures → 0 < length bytes
     → PutSome (sink_of old) (sink_of new) bytes
 PutSome-stopped old mid new bytes at so_far same none failed beyond = record {
-  place = refl;
+  identity = refl;
   part = take at bytes ++ [];
   is_prefix = (
     drop at bytes,

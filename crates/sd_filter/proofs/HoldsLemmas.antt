@@ -3,7 +3,7 @@ use Rattle.std.proofs.Common.{◌≡◌, ℕ, List, [], ◌∷◌, ◌++◌, Boo
 use Rattle.std.proofs.Common.{append_assoc, rules}
 use Rattle.sd_filter.specs.Lines.{without_cr}
 use Rattle.sd_filter.specs.Inner.Reading.{HasRead, form_of}
-use Rattle.sd_filter.specs.Inner.Sofar.{HoldsText, Holds}
+use Rattle.sd_filter.specs.Inner.Running.{HoldsText, Holds}
 use Rattle.sd_command.specs.declared.job.Job.{Job}
 use Rattle.sd_filter.specs.declared.line.Line.{Line}
 

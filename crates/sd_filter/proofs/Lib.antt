@@ -1,3 +1,4 @@
+pub mod AfterBytesLemmas
 pub mod AnswersLemmas
 pub mod Base64Lemmas
 pub mod DrainLemmas
@@ -13,4 +14,3 @@ pub mod ReadingLemmas
 mod Rows
 pub mod RunLemmas
 pub mod ShortLemmas
-pub mod SofarLemmas

@@ -11,7 +11,7 @@ use Rattle.sd_view.specs.Descriptor.{Descriptor}
 use Rattle.sd_filter.specs.Answers.{Meaning, answer, bound, bound_of_meaning, is_error, is_error_of_meaning, line_limit}
 use Rattle.sd_filter.specs.Answers.{line_means, meaning, text_means, text_of_meaning}
 use Rattle.sd_filter.specs.Outcome.{Compares}
-use Rattle.sd_filter.specs.Inner.Sofar.{PrintsAnswer, PutsAnswer}
+use Rattle.sd_filter.specs.Inner.Running.{PrintsAnswer, PutsAnswer}
 use Rattle.sd_sink.proofs.PrintLemmas.{printed}
 use Rattle.sd_filter.specs.declared.fault.LineFault.{LineFault}
 use Rattle.sd_filter.specs.declared.fault.LineFault.TheVariants.{TooLong}
@@ -49,13 +49,13 @@ pub broken : {old new : SinkTold} {a b c : PrintTold} {text : List ℕ} {error f
 broken fault x last q p = printed x last q p.0
 
 -- the same of a sink that holds a reference to the drain
-pub unplaced : (m n : ℕ) (a b : SinkTold) (text : List ℕ) (error : Bool) (r : Result Bool SinkFault) → b.place ≡ a.place
-    → PutsAnswer (record a { place = m }) (record b { place = n }) text error r → PutsAnswer a b text error r
+pub unplaced : (m n : ℕ) (a b : SinkTold) (text : List ℕ) (error : Bool) (r : Result Bool SinkFault) → b.identity ≡ a.identity
+    → PutsAnswer (record a { identity = m }) (record b { identity = n }) text error r → PutsAnswer a b text error r
 unplaced m n a b text error (Ok faulty) e p =
-    (record { place = e; appended = p.0.appended; no_failure = p.0.no_failure; room = p.0.room }, p.1)
+    (record { identity = e; appended = p.0.appended; no_failure = p.0.no_failure; room = p.0.room }, p.1)
 unplaced m n a b text error (Err fault) e p =
     record {
-      place = e;
+      identity = e;
       part = p.part;
       is_prefix = p.is_prefix;
       appended = p.appended;

@@ -12,7 +12,7 @@ use Rattle.sd_reader.specs.declared.fault.SddlFault.{SddlFault}
 use Rattle.sd_reader.specs.declared.reader.SddlReader.{SddlReader}
 use Rattle.sd_filter.specs.Answers.{line_limit, or_byte_fault, or_sddl_fault, text_means}
 use Rattle.sd_filter.specs.Inner.Reading.{HasRead}
-use Rattle.sd_filter.specs.Inner.Sofar.{HoldsText, Leaves}
+use Rattle.sd_filter.specs.Inner.Running.{HoldsText, Leaves}
 use Rattle.sd_filter.specs.declared.fault.LineFault.{LineFault}
 use Rattle.sd_filter.specs.declared.fault.LineFault.TheVariants.{Sd, Sddl}
 use Rattle.sd_filter.specs.declared.line.Line.{Line}

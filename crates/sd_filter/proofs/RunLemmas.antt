@@ -8,14 +8,14 @@ use Rattle.sd_sink.specs.Sink.{SinkTold, IsPrefix}
 use Rattle.sd_filter.specs.Told.{SourceTold, DrainTold, sink_of, reads_after, ends_after, failed_reads_after}
 use Rattle.sd_filter.specs.Lines.{ended, lines, parts}
 use Rattle.sd_filter.specs.Answers.{answers}
-use Rattle.sd_filter.specs.Inner.Sofar.{Holds, Answered, Failed, Sofar, BeforeRead}
+use Rattle.sd_filter.specs.Inner.Running.{Holds, Answered, Failed, AfterBytes, BeforeRead}
 use Rattle.sd_filter.specs.Outcome.{Finished, FaultSays, HandedOn}
 use Rattle.sd_command.specs.declared.job.Job.{Job}
-use Rattle.sd_filter.specs.declared.engine.Desk.{Desk}
+use Rattle.sd_filter.specs.declared.engine.RunState.{RunState}
 use Rattle.sd_filter.specs.declared.engine.Report.{Report}
 use Rattle.sd_filter.specs.declared.engine.RunFault.TheVariants.{Read, Write, TooManyReads}
 use Rattle.sd_filter.proofs.AnswersLemmas.{answers-append}
-use Rattle.sd_filter.proofs.SofarLemmas.{Sofar-nil}
+use Rattle.sd_filter.proofs.AfterBytesLemmas.{AfterBytes-nil}
 
 Appends-kept : (a b c : Option (List ℕ)) (xs : List ℕ) → Appends a b xs → Keeps b c → Appends a c xs
 Appends-kept None b c xs p q = tt
@@ -34,7 +34,7 @@ pub Answered-flush : (job : Job) (token0 token : TokenShown) (sink0 : SinkTold) 
     → Answered job token0 sink0 all token (sink_of drain') report
 Answered-flush job token0 token sink0 drain drain' all report h keeps same = record {
   put = record {
-    place = h.put.place;
+    identity = h.put.identity;
     appended = Appends-kept _ _ _ _ h.put.appended keeps;
     no_failure = same
         ∙ h.put.no_failure;
@@ -47,12 +47,12 @@ Answered-flush job token0 token sink0 drain drain' all report h keeps same = rec
 }
 
 -- the same in the middle of a run
-pub Sofar-flush : (token0 token : TokenShown) (sink0 : SinkTold) (drain drain' : DrainTold) (got : List ℕ)
-    (desk : Desk) (report : Report)
-    → Sofar token0 sink0 got desk token (sink_of drain) report → Keeps drain.taken drain'.taken
+pub AfterBytes-flush : (token0 token : TokenShown) (sink0 : SinkTold) (drain drain' : DrainTold) (got : List ℕ)
+    (state : RunState) (report : Report)
+    → AfterBytes token0 sink0 got state token (sink_of drain) report → Keeps drain.taken drain'.taken
     → drain'.failures ≡ drain.failures
-    → Sofar token0 sink0 got desk token (sink_of drain') report
-Sofar-flush token0 token sink0 drain drain' got desk report h keeps same = record {
+    → AfterBytes token0 sink0 got state token (sink_of drain') report
+AfterBytes-flush token0 token sink0 drain drain' got state report h keeps same = record {
   holds = h.holds;
   answered = Answered-flush _ token0 token sink0 drain drain' _ report h.answered keeps same;
 }
@@ -96,13 +96,13 @@ unfolding ended parts
 ended-nil = refl
 
 -- before the first read
-pub BeforeRead-start : (token0 : TokenShown) (source0 : SourceTold) (drain0 : DrainTold) (desk : Desk) (report : Report)
-    → Holds desk.job desk.line [] → report.lines ≡ 0 → report.faults ≡ 0
-    → BeforeRead 0 token0 source0 drain0 desk token0 source0 drain0 report
-BeforeRead-start token0 source0 drain0 desk report h no_lines no_faults = record {
+pub BeforeRead-start : (token0 : TokenShown) (source0 : SourceTold) (drain0 : DrainTold) (state : RunState) (report : Report)
+    → Holds state.job state.line [] → report.lines ≡ 0 → report.faults ≡ 0
+    → BeforeRead 0 token0 source0 drain0 state token0 source0 drain0 report
+BeforeRead-start token0 source0 drain0 state report h no_lines no_faults = record {
   got = [];
   read = Consumes-nil source0.left;
-  sofar = Sofar-nil token0 (sink_of drain0) desk report h no_lines no_faults;
+  after = AfterBytes-nil token0 (sink_of drain0) state report h no_lines no_faults;
   handed_on = inl (ended-nil, refl);
   reads = record { at_least = omega arith; at_most = omega arith };
   ends = refl;
@@ -123,21 +123,21 @@ written-prefix job token0 token sink0 sink all h =
     )
 
 module _ (most turn : ℕ) (token0 token : TokenShown) (source0 source source' : SourceTold) (drain0 drain : DrainTold)
-    (desk : Desk) (report : Report)
-    (r : BeforeRead turn token0 source0 drain0 desk token source drain report) (low : turn < most) where
+    (state : RunState) (report : Report)
+    (r : BeforeRead turn token0 source0 drain0 state token source drain report) (low : turn < most) where
   -- a piece was read and its lines are answered
-  pub BeforeRead-more : (piece : List ℕ) (token' : TokenShown) (drain' : DrainTold) (desk' : Desk) (report' : Report)
+  pub BeforeRead-more : (piece : List ℕ) (token' : TokenShown) (drain' : DrainTold) (state' : RunState) (report' : Report)
       → Consumes source.left source'.left piece → source'.reads ≡ counted source.reads → source'.ends ≡ source.ends
       → source'.failures ≡ source.failures
-      → Sofar token0 (sink_of drain0) (r.got ++ piece) desk' token' (sink_of drain') report'
+      → AfterBytes token0 (sink_of drain0) (r.got ++ piece) state' token' (sink_of drain') report'
       → ((drain' ≡ drain) × (report'.lines ≡ report.lines)) ⊎ (drain'.flushed ≡ true)
-      → BeforeRead (turn + 1) token0 source0 drain0 desk' token' source' drain' report'
-  BeforeRead-more piece token' drain' desk' report' consumed reads ends failures sofar handed = record {
+      → BeforeRead (turn + 1) token0 source0 drain0 state' token' source' drain' report'
+  BeforeRead-more piece token' drain' state' report' consumed reads ends failures after handed = record {
     got = r.got ++ piece;
     read = Consumes-trans _ _ _ _ _ r.read consumed;
-    sofar = sofar;
-    handed_on = HandedOn-more r.got (r.got ++ piece) drain0 drain drain' _ _ r.handed_on r.sofar.answered.lines_counted
-        sofar.answered.lines_counted handed;
+    after = after;
+    handed_on = HandedOn-more r.got (r.got ++ piece) drain0 drain drain' _ _ r.handed_on r.after.answered.lines_counted
+        after.answered.lines_counted handed;
     reads = record {
       at_least = let before = r.reads.at_least in omega arith;
       at_most = let before = r.reads.at_most in omega arith;
@@ -149,17 +149,17 @@ module _ (most turn : ℕ) (token0 token : TokenShown) (source0 source source' :
   -- a read failed
   pub broken-read : Keeps source.left source'.left → source'.reads ≡ counted source.reads → source'.ends ≡ source.ends
       → source'.failures ≡ counted source.failures
-      → FaultSays most desk.job token0 token source0 source' drain0 drain Read
+      → FaultSays most state.job token0 token source0 source' drain0 drain Read
   broken-read keeps reads ends failed = (
     record {
       got = r.got;
       read = Consumes-kept _ _ _ _ r.read keeps;
       reads = let before = r.reads.at_most in omega arith;
       no_end = ends ∙ r.ends;
-      written = r.sofar.answered.put.appended;
+      written = r.after.answered.put.appended;
       handed_on = r.handed_on;
-      no_failed_write = r.sofar.answered.put.no_failure;
-      compared = r.sofar.answered.compared;
+      no_failed_write = r.after.answered.put.no_failure;
+      compared = r.after.answered.compared;
     },
     failed ∙ ap counted r.failures,
   )
@@ -168,8 +168,8 @@ module _ (most turn : ℕ) (token0 token : TokenShown) (source0 source source' :
   pub finished : (token' : TokenShown) (drain' : DrainTold) (report' : Report)
       → Consumes source.left source'.left [] → IsAtEnd source'.left
       → source'.reads ≡ counted source.reads → source'.ends ≡ counted source.ends → source'.failures ≡ source.failures
-      → Answered desk.job token0 (sink_of drain0) (lines r.got) token' (sink_of drain') report' → drain'.flushed ≡ true
-      → Finished most desk.job token0 token' source0 source' drain0 drain' report'
+      → Answered state.job token0 (sink_of drain0) (lines r.got) token' (sink_of drain') report' → drain'.flushed ≡ true
+      → Finished most state.job token0 token' source0 source' drain0 drain' report'
   finished token' drain' report' consumed none reads ends failures answered flushed = record {
     got = r.got;
     read = Consumes-none _ _ _ _ r.read consumed;
@@ -189,8 +189,8 @@ module _ (most turn : ℕ) (token0 token : TokenShown) (source0 source source' :
   pub broken-close : (token' : TokenShown) (drain' : DrainTold)
       → Consumes source.left source'.left []
       → source'.reads ≡ counted source.reads → source'.ends ≡ counted source.ends → source'.failures ≡ source.failures
-      → Failed desk.job token0 (sink_of drain0) (lines r.got) token' (sink_of drain')
-      → FaultSays most desk.job token0 token' source0 source' drain0 drain' Write
+      → Failed state.job token0 (sink_of drain0) (lines r.got) token' (sink_of drain')
+      → FaultSays most state.job token0 token' source0 source' drain0 drain' Write
   broken-close token' drain' consumed reads ends failures failed = record {
     got = r.got;
     read = Consumes-none _ _ _ _ r.read consumed;
@@ -198,7 +198,7 @@ module _ (most turn : ℕ) (token0 token : TokenShown) (source0 source source' :
     no_failed_read = failures ∙ r.failures;
     all = lines r.got;
     these = inl (ends ∙ ap counted r.ends, refl);
-    written = answers desk.job token0.entries failed.whole ++ failed.part;
+    written = answers state.job token0.entries failed.whole ++ failed.part;
     wrote = failed.appended;
     is_prefix = written-prefix _ _ _ _ _ _ failed;
     failed = failed.failed;
@@ -217,8 +217,8 @@ module _ (most turn : ℕ) (token0 token : TokenShown) (source0 source source' :
   pub broken-write : (piece : List ℕ) (token' : TokenShown) (drain' : DrainTold)
       → Consumes source.left source'.left piece
       → source'.reads ≡ counted source.reads → source'.ends ≡ source.ends → source'.failures ≡ source.failures
-      → Failed desk.job token0 (sink_of drain0) (ended (r.got ++ piece)) token' (sink_of drain')
-      → FaultSays most desk.job token0 token' source0 source' drain0 drain' Write
+      → Failed state.job token0 (sink_of drain0) (ended (r.got ++ piece)) token' (sink_of drain')
+      → FaultSays most state.job token0 token' source0 source' drain0 drain' Write
   broken-write piece token' drain' consumed reads ends failures failed = record {
     got = r.got ++ piece;
     read = Consumes-trans _ _ _ _ _ r.read consumed;
@@ -226,7 +226,7 @@ module _ (most turn : ℕ) (token0 token : TokenShown) (source0 source source' :
     no_failed_read = failures ∙ r.failures;
     all = ended (r.got ++ piece);
     these = inr (ends ∙ r.ends, refl);
-    written = answers desk.job token0.entries failed.whole ++ failed.part;
+    written = answers state.job token0.entries failed.whole ++ failed.part;
     wrote = failed.appended;
     is_prefix = written-prefix _ _ _ _ _ _ failed;
     failed = failed.failed;
@@ -243,19 +243,19 @@ module _ (most turn : ℕ) (token0 token : TokenShown) (source0 source source' :
 
 -- the reads are used up
 pub broken-most : (most : ℕ) (token0 token : TokenShown) (source0 source : SourceTold) (drain0 drain : DrainTold)
-    (desk : Desk) (report : Report)
-    → BeforeRead most token0 source0 drain0 desk token source drain report
-    → FaultSays most desk.job token0 token source0 source drain0 drain TooManyReads
-broken-most most token0 token source0 source drain0 drain desk report r = (
+    (state : RunState) (report : Report)
+    → BeforeRead most token0 source0 drain0 state token source drain report
+    → FaultSays most state.job token0 token source0 source drain0 drain TooManyReads
+broken-most most token0 token source0 source drain0 drain state report r = (
   record {
     got = r.got;
     read = r.read;
     reads = r.reads.at_most;
     no_end = r.ends;
-    written = r.sofar.answered.put.appended;
+    written = r.after.answered.put.appended;
     handed_on = r.handed_on;
-    no_failed_write = r.sofar.answered.put.no_failure;
-    compared = r.sofar.answered.compared;
+    no_failed_write = r.after.answered.put.no_failure;
+    compared = r.after.answered.compared;
   },
   r.reads,
   r.failures,

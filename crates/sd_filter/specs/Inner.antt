@@ -2,4 +2,4 @@
 pub mod ActLimits
 pub mod Preparing
 pub mod Reading
-pub mod Sofar
+pub mod Running

@@ -51,4 +51,4 @@ is_flush (Err e) = false
 
 -- a drain as a sink, apart from the reference that leads to it: it takes no byte for certain
 abbrev pub sink_of : DrainTold → SinkTold
-sink_of drain = record { place = 0; contents = drain.taken; failures = drain.failures; room = 0 }
+sink_of drain = record { identity = 0; contents = drain.taken; failures = drain.failures; room = 0 }

@@ -6,7 +6,7 @@ ghost use Rattle.sd_filter.specs.Answers.{is_error, naming_of, unless_fault, ver
 ghost use Rattle.sd_explain.specs.Explain.{explain};
 ghost use Rattle.sd_filter.specs.Faults.{fault_text};
 ghost use Rattle.sd_filter.specs.Outcome.{Compares};
-ghost use Rattle.sd_filter.specs.Inner.Sofar.{HoldsText, IsReady, PrintsAnswer, PutsAnswer};
+ghost use Rattle.sd_filter.specs.Inner.Running.{HoldsText, IsReady, PrintsAnswer, PutsAnswer};
 ghost use Rattle.sd_filter.specs.Told.{sink_of};
 ghost use Rattle.sd_inherit.specs.Derived.{derive_fault, derived};
 ghost use Rattle.sd_view.specs.Descriptor.{Descriptor, Shows};

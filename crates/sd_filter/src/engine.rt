@@ -38,7 +38,7 @@ pub enum RunFault {
 /// What a run works with: its job, and memory that was taken before the first read.
 #[derive(Drop)]
 pub struct Engine {
-    pub(crate) desk: Desk,
+    pub(crate) state: RunState,
 }
 
 impl Model for Engine {
@@ -46,7 +46,7 @@ impl Model for Engine {
 
     ghost Value = { Job };
 
-    ghost view = { λ e. e.desk.job };
+    ghost view = { λ e. e.state.job };
 }
 
 impl Engine {
@@ -66,7 +66,7 @@ impl Engine {
         ensures { result ≡ job }
     {
         Engine {
-            desk: Desk {
+            state: RunState {
                 job,
                 line: Line::over(read, held),
                 stores: Stores {
@@ -82,10 +82,10 @@ impl Engine {
         ensures domain { IfSome self.now.domain IsSid }
         ensures act { ActLimits self.now.act }
     {
-        if let Some(domain) = &self.desk.job.domain {
+        if let Some(domain) = &self.state.job.domain {
             let _ = domain.size();
         }
-        note_act(&self.desk.job.act);
+        note_act(&self.state.job.act);
     }
 }
 
@@ -110,7 +110,7 @@ fn note_plan(plan: &Plan)
 
 // The job, the line in hand, and what its answer is made in.
 #[derive(Drop)]
-pub struct Desk {
+pub struct RunState {
     pub job: Job,
     pub line: Line,
     pub stores: Stores,

@@ -4,12 +4,12 @@ ghost use Rattle.std.specs.Prelude.{MatchResult, IsOk, Ok, false, unwrap_or, IfS
 ghost use Rattle.sd_sink.specs.Sink.{SinkTold};
 ghost use Rattle.sd_core.specs.Token.{TokenShown};
 ghost use Rattle.sd_filter.specs.Lines.{ended, lines};
-ghost use Rattle.sd_filter.specs.Inner.Sofar.{Answered, Failed, HasRoom, Holds, HoldsText, IsReady, RoseWithin, Sofar};
+ghost use Rattle.sd_filter.specs.Inner.Running.{Answered, Failed, HasRoom, Holds, HoldsText, IsReady, RoseWithin, AfterBytes};
 ghost use Rattle.sd_filter.specs.Told.{sink_of};
 
 use crate::answer::put_answer;
 use crate::device::Drain;
-use crate::engine::{Desk, Report};
+use crate::engine::{RunState, Report};
 use sd_core::{SinkFault, Token};
 
 /// The bytes that are searched for an LF at once.
@@ -17,26 +17,26 @@ const BLOCK: usize = 32;
 
 // Answers the line in hand, counts it, and begins the next.
 fn answer_line<W: Drain>(
-    desk: &mut Desk,
+    state: &mut RunState,
     token: &mut Token,
     drain: &mut W,
     report: &mut Report,
 ) -> Result<(), SinkFault>
-    requires ready { IsReady desk.old.line }
+    requires ready { IsReady state.old.line }
     requires room { HasRoom report.old 1 }
     ensures answered { (token0 : TokenShown) (sink0 : SinkTold) (all : List (List ℕ)) (line : List ℕ)
-        → HoldsText desk.old.job desk.old.line line
-        → Answered desk.old.job token0 sink0 all token.old (sink_of (W.told drain.old)) report.old
+        → HoldsText state.old.job state.old.line line
+        → Answered state.old.job token0 sink0 all token.old (sink_of (W.told drain.old)) report.old
         → MatchResult result
-        (λ _. Answered desk.old.job token0 sink0 (all ++ line ∷ []) token.new (sink_of (W.told drain.new)) report.new)
-        (λ _. Failed desk.old.job token0 sink0 (all ++ line ∷ []) token.new (sink_of (W.told drain.new))) }
-    ensures begun { IsOk result → Holds desk.old.job desk.new.line [] }
-    ensures ready { IsOk result → IsReady desk.new.line }
-    ensures job { desk.new.job ≡ desk.old.job }
+        (λ _. Answered state.old.job token0 sink0 (all ++ line ∷ []) token.new (sink_of (W.told drain.new)) report.new)
+        (λ _. Failed state.old.job token0 sink0 (all ++ line ∷ []) token.new (sink_of (W.told drain.new))) }
+    ensures begun { IsOk result → Holds state.old.job state.new.line [] }
+    ensures ready { IsOk result → IsReady state.new.line }
+    ensures job { state.new.job ≡ state.old.job }
     ensures rose { RoseWithin 1 report.old report.new }
 {
-    let faulty = put_answer(&desk.job, &mut desk.line, &mut desk.stores, token, drain)?;
-    desk.line.start(&desk.job);
+    let faulty = put_answer(&state.job, &mut state.line, &mut state.stores, token, drain)?;
+    state.line.start(&state.job);
     report.lines += 1;
     if faulty {
         report.faults += 1;
@@ -46,31 +46,31 @@ fn answer_line<W: Drain>(
 
 /// A piece more, however the input is cut. The result says whether a line ended in it; where none did, nothing was put.
 pub fn feed_all<W: Drain>(
-    desk: &mut Desk,
+    state: &mut RunState,
     piece: &[u8],
     token: &mut Token,
     drain: &mut W,
     report: &mut Report,
 ) -> Result<bool, SinkFault>
-    requires ready { IsReady desk.old.line }
+    requires ready { IsReady state.old.line }
     requires room { HasRoom report.old (length piece.now) }
     ensures fed { (token0 : TokenShown) (sink0 : SinkTold) (got : List ℕ)
-        → Sofar token0 sink0 got desk.old token.old (sink_of (W.told drain.old)) report.old
+        → AfterBytes token0 sink0 got state.old token.old (sink_of (W.told drain.old)) report.old
         → MatchResult result
-        (λ _. Sofar token0 sink0 (got ++ piece.now) desk.new token.new (sink_of (W.told drain.new)) report.new)
-        (λ _. Failed desk.new.job token0 sink0 (ended (got ++ piece.now)) token.new (sink_of (W.told drain.new))) }
+        (λ _. AfterBytes token0 sink0 (got ++ piece.now) state.new token.new (sink_of (W.told drain.new)) report.new)
+        (λ _. Failed state.new.job token0 sink0 (ended (got ++ piece.now)) token.new (sink_of (W.told drain.new))) }
     ensures quiet { result ≡ Ok false → (W.told drain.new ≡ W.told drain.old) × (report.new.lines ≡ report.old.lines) }
-    ensures ready { IsOk result → IsReady desk.new.line }
-    ensures job { desk.new.job ≡ desk.old.job }
+    ensures ready { IsOk result → IsReady state.new.line }
+    ensures job { state.new.job ≡ state.old.job }
     ensures rose { RoseWithin (length piece.now) report.old report.new }
 {
     let mut start = 0;
     while let Some(n) = line_end(&piece[start..]) {
-        desk.line.take(&piece[start..start + n]);
-        answer_line(desk, token, drain, report)?;
+        state.line.take(&piece[start..start + n]);
+        answer_line(state, token, drain, report)?;
         start += n + 1;
     }
-    desk.line.take(&piece[start..]);
+    state.line.take(&piece[start..]);
     Ok(start > 0)
 }
 
@@ -109,23 +109,23 @@ fn has_lf(bytes: &[u8]) -> bool
 
 /// The end of the input: what follows the last LF is a line where it is not empty.
 pub fn finish<W: Drain>(
-    desk: &mut Desk,
+    state: &mut RunState,
     token: &mut Token,
     drain: &mut W,
     report: &mut Report,
 ) -> Result<(), SinkFault>
-    requires ready { IsReady desk.old.line }
+    requires ready { IsReady state.old.line }
     requires room { HasRoom report.old 1 }
     ensures finished { (token0 : TokenShown) (sink0 : SinkTold) (got : List ℕ)
-        → Sofar token0 sink0 got desk.old token.old (sink_of (W.told drain.old)) report.old
+        → AfterBytes token0 sink0 got state.old token.old (sink_of (W.told drain.old)) report.old
         → MatchResult result
-        (λ _. Answered desk.new.job token0 sink0 (lines got) token.new (sink_of (W.told drain.new)) report.new)
-        (λ _. Failed desk.new.job token0 sink0 (lines got) token.new (sink_of (W.told drain.new))) }
-    ensures job { desk.new.job ≡ desk.old.job }
+        (λ _. Answered state.new.job token0 sink0 (lines got) token.new (sink_of (W.told drain.new)) report.new)
+        (λ _. Failed state.new.job token0 sink0 (lines got) token.new (sink_of (W.told drain.new))) }
+    ensures job { state.new.job ≡ state.old.job }
 {
-    if desk.line.is_untouched() {
+    if state.line.is_untouched() {
         return Ok(());
     }
-    desk.line.settle();
-    answer_line(desk, token, drain, report)
+    state.line.settle();
+    answer_line(state, token, drain, report)
 }

@@ -58,7 +58,7 @@ pub struct Line {
 }
 
 impl Line {
-    ghost use Rattle.sd_filter.specs.Inner.Sofar.{Holds, HoldsText, IsReady, Leaves};
+    ghost use Rattle.sd_filter.specs.Inner.Running.{Holds, HoldsText, IsReady, Leaves};
 
     /// A line over these buffers, whatever they hold. It is to be started.
     pub fn over(read: SdBuf, held: TextBuf) -> Line {

@@ -6,11 +6,11 @@ ghost use Rattle.sd_filter.specs.Told.{sink_of};
 ghost use Rattle.sd_filter.specs.Answers.{AnswersAreShort};
 ghost use Rattle.sd_filter.specs.Lines.{LinesAreCut, ended, lines};
 ghost use Rattle.sd_filter.specs.Pieces.{AnswersSplit};
-ghost use Rattle.sd_filter.specs.Inner.Sofar.{Answered, Failed, HasRoom, IsReady, RoseWithin, Sofar};
+ghost use Rattle.sd_filter.specs.Inner.Running.{Answered, Failed, HasRoom, IsReady, RoseWithin, AfterBytes};
 ghost use Rattle.sd_filter.specs.Outcome.{Outcome};
 
 use crate::device::{Drain, Source};
-use crate::engine::{Desk, Engine, Report, RunFault};
+use crate::engine::{RunState, Engine, Report, RunFault};
 use crate::feed::{feed_all, finish};
 use sd_core::{SinkFault, Token};
 
@@ -43,23 +43,23 @@ pub fn run<R: Source, W: Drain>(
     ensures entries { token.new.entries ≡ token.old.entries }
 {
     engine.note_limits();
-    run_at_most(&mut engine.desk, token, source, drain, MOST_READS)
+    run_at_most(&mut engine.state, token, source, drain, MOST_READS)
 }
 
 // The same for any number of reads, so that a test can reach it.
 pub(crate) fn run_at_most<R: Source, W: Drain>(
-    desk: &mut Desk,
+    state: &mut RunState,
     token: &mut Token,
     source: &mut R,
     drain: &mut W,
     most: u64,
 ) -> Result<Report, RunFault>
     requires { most ≤ 2 ^ 40 }
-    ensures outcome { Outcome most desk.old.job token.old token.new (R.told source.old) (R.told source.new) (W.told drain.old) (W.told drain.new) result }
-    ensures job { desk.new.job ≡ desk.old.job }
+    ensures outcome { Outcome most state.old.job token.old token.new (R.told source.old) (R.told source.new) (W.told drain.old) (W.told drain.new) result }
+    ensures job { state.new.job ≡ state.old.job }
     ensures entries { token.new.entries ≡ token.old.entries }
 {
-    desk.line.start(&desk.job);
+    state.line.start(&state.job);
     let mut report = Report {
         lines: 0,
         faults: 0,
@@ -71,12 +71,12 @@ pub(crate) fn run_at_most<R: Source, W: Drain>(
             Err(_) => return Err(RunFault::Read),
         };
         if n == 0 {
-            return match close(desk, token, drain, &mut report) {
+            return match close(state, token, drain, &mut report) {
                 Ok(()) => Ok(report),
                 Err(_) => Err(RunFault::Write),
             };
         }
-        match answer_piece(desk, &buf[..n], token, drain, &mut report) {
+        match answer_piece(state, &buf[..n], token, drain, &mut report) {
             Ok(()) => {}
             Err(_) => return Err(RunFault::Write),
         }
@@ -86,25 +86,25 @@ pub(crate) fn run_at_most<R: Source, W: Drain>(
 
 // Answers the lines that end in a piece, and hands their answers on, so that they are out before more is read.
 fn answer_piece<W: Drain>(
-    desk: &mut Desk,
+    state: &mut RunState,
     piece: &[u8],
     token: &mut Token,
     drain: &mut W,
     report: &mut Report,
 ) -> Result<(), SinkFault>
-    requires ready { IsReady desk.old.line }
+    requires ready { IsReady state.old.line }
     requires room { HasRoom report.old (length piece.now) }
     ensures fed { (token0 : TokenShown) (sink0 : SinkTold) (got : List ℕ)
-        → Sofar token0 sink0 got desk.old token.old (sink_of (W.told drain.old)) report.old
+        → AfterBytes token0 sink0 got state.old token.old (sink_of (W.told drain.old)) report.old
         → MatchResult result
-        (λ _. Sofar token0 sink0 (got ++ piece.now) desk.new token.new (sink_of (W.told drain.new)) report.new)
-        (λ _. Failed desk.new.job token0 sink0 (ended (got ++ piece.now)) token.new (sink_of (W.told drain.new))) }
+        (λ _. AfterBytes token0 sink0 (got ++ piece.now) state.new token.new (sink_of (W.told drain.new)) report.new)
+        (λ _. Failed state.new.job token0 sink0 (ended (got ++ piece.now)) token.new (sink_of (W.told drain.new))) }
     ensures handed_on { IsOk result → ((W.told drain.new ≡ W.told drain.old) × (report.new.lines ≡ report.old.lines)) ⊎ ((W.told drain.new).flushed ≡ true) }
-    ensures ready { IsOk result → IsReady desk.new.line }
-    ensures job { desk.new.job ≡ desk.old.job }
+    ensures ready { IsOk result → IsReady state.new.line }
+    ensures job { state.new.job ≡ state.old.job }
     ensures rose { RoseWithin (length piece.now) report.old report.new }
 {
-    let a_line_ended = match feed_all(desk, piece, token, drain, report) {
+    let a_line_ended = match feed_all(state, piece, token, drain, report) {
         Ok(a_line_ended) => a_line_ended,
         Err(sink_fault) => return Err(sink_fault),
     };
@@ -119,22 +119,22 @@ fn answer_piece<W: Drain>(
 
 // The end of the input.
 fn close<W: Drain>(
-    desk: &mut Desk,
+    state: &mut RunState,
     token: &mut Token,
     drain: &mut W,
     report: &mut Report,
 ) -> Result<(), SinkFault>
-    requires ready { IsReady desk.old.line }
+    requires ready { IsReady state.old.line }
     requires room { HasRoom report.old 1 }
     ensures closed { (token0 : TokenShown) (sink0 : SinkTold) (got : List ℕ)
-        → Sofar token0 sink0 got desk.old token.old (sink_of (W.told drain.old)) report.old
+        → AfterBytes token0 sink0 got state.old token.old (sink_of (W.told drain.old)) report.old
         → MatchResult result
-        (λ _. Answered desk.new.job token0 sink0 (lines got) token.new (sink_of (W.told drain.new)) report.new
+        (λ _. Answered state.new.job token0 sink0 (lines got) token.new (sink_of (W.told drain.new)) report.new
         × ((W.told drain.new).flushed ≡ true))
-        (λ _. Failed desk.new.job token0 sink0 (lines got) token.new (sink_of (W.told drain.new))) }
-    ensures job { desk.new.job ≡ desk.old.job }
+        (λ _. Failed state.new.job token0 sink0 (lines got) token.new (sink_of (W.told drain.new))) }
+    ensures job { state.new.job ≡ state.old.job }
 {
-    match finish(desk, token, drain, report) {
+    match finish(state, token, drain, report) {
         Ok(()) => {}
         Err(sink_fault) => return Err(sink_fault),
     }

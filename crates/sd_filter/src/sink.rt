@@ -13,7 +13,7 @@ pub struct DrainSink<'a, W: Drain> {
 }
 
 impl<'a, W: Drain> Sink for DrainSink<'a, W> {
-    ghost told = { λ s. record (sink_of (W.told s.drain.now)) { place = s.drain.ghost_name } };
+    ghost told = { λ s. record (sink_of (W.told s.drain.now)) { identity = s.drain.ghost_name } };
 
     fn put(&mut self, bytes: &[u8]) -> Result<(), SinkFault> {
         write_whole(self.drain, bytes)

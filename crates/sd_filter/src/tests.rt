@@ -74,7 +74,7 @@ fn gives_up_a_source_without_an_end(rt: HostRuntime) {
     ] {
         let mut output = Kept::new(rt.alloc());
         let got = run_at_most(
-            &mut engine.desk,
+            &mut engine.state,
             &mut token,
             &mut FromRead::new(ByteByByte(text.as_bytes())),
             &mut ToWrite::new(&mut output),

@@ -52,7 +52,7 @@ MayHold (head.Acl w) inners = Unit {0}
 pub record IsPart (p : Part) : Type 0 where
   pub plain : IsPlain p.body.text
   pub inners : AllByRecursion IsInner p.body.inners
-  pub place : MayHold p.head p.body.inners
+  pub may_hold : MayHold p.head p.body.inners
 
 -- 2. Pieces.
 

@@ -37,7 +37,7 @@ body-shaped (head.Acl w) b h k m = acl_body b.text b.inners h k
 
 parts-shaped : (ps : List Part) → AllByRecursion IsPart ps → are_shaped (map section_of ps) ≡ true
 parts-shaped [] h = refl
-parts-shaped (p ∷ ps) h = rw (body-shaped p.head p.body h.0.plain h.0.inners h.0.place, parts-shaped ps h.1) refl
+parts-shaped (p ∷ ps) h = rw (body-shaped p.head p.body h.0.plain h.0.inners h.0.may_hold, parts-shaped ps h.1) refl
 
 pub line-shaped : (ps : List Part) → AllByRecursion IsPart ps → is_shaped (flat_map part_text ps) ≡ true
 line-shaped ps h =

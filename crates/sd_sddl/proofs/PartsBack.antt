@@ -179,7 +179,7 @@ sid-back naming p (Some s) r h =
 pub sid-is_part : (naming : Naming) (p : SidPart) (o : Option SecurityId) → IfSome o IsSid
     → AllByRecursion IsPart (listed (head.Sid p) (sid_body naming o))
 sid-is_part naming p None h = tt
-sid-is_part naming p (Some s) h = (record { plain = trustee-plain naming s h; inners = tt; place = refl }, tt)
+sid-is_part naming p (Some s) h = (record { plain = trustee-plain naming s h; inners = tt; may_hold = refl }, tt)
 
 -- 5. ACLs.
 
@@ -235,6 +235,6 @@ pub acl-is_part : (naming : Naming) (w : Which) (f : AclFlags) (present : Bool) 
     → IsAclPart present part
     → AllByRecursion IsPart (listed (head.Acl w) (acl_body naming f part))
 acl-is_part naming w f present acl.Absent h = tt
-acl-is_part naming w f present acl.Null h = (record { plain = null_front_text-plain f; inners = tt; place = tt }, tt)
+acl-is_part naming w f present acl.Null h = (record { plain = null_front_text-plain f; inners = tt; may_hold = tt }, tt)
 acl-is_part naming w f present (acl.List aces)
-    h = (record { plain = front_text-plain f; inners = inners-are naming aces h.1.each; place = tt }, tt)
+    h = (record { plain = front_text-plain f; inners = inners-are naming aces h.1.each; may_hold = tt }, tt)

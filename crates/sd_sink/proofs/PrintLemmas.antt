@@ -31,16 +31,16 @@ some-more a b c xs ys q e =
 trans-by : (m : Bool) (a b c : PrintTold) (xs ys : List ℕ) → b.failed ≡ m → Prints a b xs → Prints b c ys
     → Prints a c (xs ++ ys)
 trans-by true a b c xs ys m p q = record {
-  place = q.place ∙ p.place;
-  below_place = q.below_place ∙ p.below_place;
+  identity = q.identity ∙ p.identity;
+  below_identity = q.below_identity ∙ p.below_identity;
   whole = λ x y. absurd (cc (q.stays m));
   some = λ x y. some-more a b c xs ys (p.some x m) (q.none m);
   stays = λ x. q.stays m;
   none = λ x. q.none m ∙ p.none x;
 }
 trans-by false a b c xs ys m p q = record {
-  place = q.place ∙ p.place;
-  below_place = q.below_place ∙ p.below_place;
+  identity = q.identity ∙ p.identity;
+  below_identity = q.below_identity ∙ p.below_identity;
   whole = λ x y. Passes-trans a b c xs ys (p.whole x m) (q.whole m y);
   some = λ x y. some-after a b c xs ys (p.whole x m) (q.some m y);
   stays = λ x. absurd (cc (p.stays x));
@@ -85,8 +85,8 @@ prints_as {a} {b} e p = subst (λ (t : List ℕ). Prints a b t) e p
 -- nothing is printed
 pub prints_nothing : (a : PrintTold) → Prints a a []
 prints_nothing a = record {
-  place = refl;
-  below_place = refl;
+  identity = refl;
+  below_identity = refl;
   whole = λ x y. record { part = []; put = PutAll-nil a.below; rest = sym (append-nil a.held) };
   some = λ x y. absurd (cc (x, y));
   stays = λ x. x;

@@ -6,12 +6,12 @@ use Rattle.sd_sink.specs.declared.sink.SinkFault.{SinkFault}
 
 -- nothing was put
 pub PutAll-nil : (a : SinkTold) → PutAll a a []
-PutAll-nil a = record { place = refl; appended = Appends-nil a.contents; no_failure = refl; room = omega arith }
+PutAll-nil a = record { identity = refl; appended = Appends-nil a.contents; no_failure = refl; room = omega arith }
 
 -- a text and then another
 pub PutAll-trans : (a b c : SinkTold) (xs ys : List ℕ) → PutAll a b xs → PutAll b c ys → PutAll a c (xs ++ ys)
 PutAll-trans a b c xs ys p q = record {
-  place = q.place ∙ p.place;
+  identity = q.identity ∙ p.identity;
   appended = Appends-trans a.contents b.contents c.contents xs ys p.appended q.appended;
   no_failure = q.no_failure ∙ p.no_failure;
   room = let first = p.room in let second = q.room in omega (arith, length-append xs ys);
@@ -20,7 +20,7 @@ PutAll-trans a b c xs ys p q = record {
 -- a text, and a part of another
 pub PutSome-after : (a b c : SinkTold) (xs ys : List ℕ) → PutAll a b xs → PutSome b c ys → PutSome a c (xs ++ ys)
 PutSome-after a b c xs ys p q = record {
-  place = q.place ∙ p.place;
+  identity = q.identity ∙ p.identity;
   part = xs ++ q.part;
   is_prefix = (q.is_prefix.0, ap (λ l. xs ++ l) q.is_prefix.1 ∙ sym (append_assoc xs q.part q.is_prefix.0));
   appended = Appends-trans a.contents b.contents c.contents xs q.part p.appended q.appended;
@@ -31,7 +31,7 @@ PutSome-after a b c xs ys p q = record {
 -- a part of a text is a part of a longer one
 pub PutSome-more : (a b : SinkTold) (xs ys : List ℕ) → PutSome a b xs → PutSome a b (xs ++ ys)
 PutSome-more a b xs ys q = record {
-  place = q.place;
+  identity = q.identity;
   part = q.part;
   is_prefix = (q.is_prefix.0 ++ ys, ap (λ l. l ++ ys) q.is_prefix.1 ∙ append_assoc q.part q.is_prefix.0 ys);
   appended = q.appended;

@@ -5,7 +5,7 @@ use Rattle.sd_sink.specs.declared.sink.SinkFault.{SinkFault}
 
 pub record PrintTold : Type 0 where
   -- which reference it prints through: no call replaces it
-  pub place : ℕ
+  pub identity : ℕ
   -- a call failed: from then on nothing is handed down
   pub failed : Bool
   -- what the sink below tells
@@ -21,8 +21,8 @@ pub record Passes (old new : PrintTold) (text : List ℕ) : Type 0 where
 
 -- a text was printed: handed down or held, or a prefix of it and of what was held went down and a call failed
 pub record Prints (old new : PrintTold) (text : List ℕ) : Type 0 where
-  pub place : new.place ≡ old.place
-  pub below_place : new.below.place ≡ old.below.place
+  pub identity : new.identity ≡ old.identity
+  pub below_identity : new.below.identity ≡ old.below.identity
   pub whole : old.failed ≡ false → new.failed ≡ false → Passes old new text
   pub some : old.failed ≡ false → new.failed ≡ true → PutSome old.below new.below (old.held ++ text)
   pub stays : old.failed ≡ true → new.failed ≡ true
@@ -34,8 +34,8 @@ failed_of (Err fault) = true
 
 -- what is held went down, and the result says whether all of the calls went well
 pub record Finishes (old new : PrintTold) (result : Result (Unit {0}) SinkFault) : Type 0 where
-  pub place : new.place ≡ old.place
-  pub below_place : new.below.place ≡ old.below.place
+  pub identity : new.identity ≡ old.identity
+  pub below_identity : new.below.identity ≡ old.below.identity
   pub puts : old.failed ≡ false → Puts old.below new.below old.held result
   pub none : old.failed ≡ true → new.below ≡ old.below
   pub fault : old.failed ≡ true → result ≡ Err (record {})

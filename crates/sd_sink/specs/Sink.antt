@@ -6,7 +6,7 @@ use Rattle.sd_sink.specs.declared.sink.SinkFault.{SinkFault}
 
 pub record SinkTold : Type 0 where
   -- which reference it writes through, for a sink that holds one (else 0): no call replaces it
-  pub place : ℕ
+  pub identity : ℕ
   -- the bytes that were appended so far, where they are known
   pub contents : Option (List ℕ)
   -- how many calls failed
@@ -20,14 +20,14 @@ IsPrefix part all = (rest : List ℕ) × (all ≡ part ++ rest)
 
 -- all of a text was appended
 pub record PutAll (old new : SinkTold) (text : List ℕ) : Type 0 where
-  pub place : new.place ≡ old.place
+  pub identity : new.identity ≡ old.identity
   pub appended : Appends old.contents new.contents text
   pub no_failure : new.failures ≡ old.failures
   pub room : new.room ≡ old.room - length text
 
 -- a prefix of a text was appended, and one call failed; the text has more bytes than there was room for
 pub record PutSome (old new : SinkTold) (text : List ℕ) : Type 0 where
-  pub place : new.place ≡ old.place
+  pub identity : new.identity ≡ old.identity
   pub part : List ℕ
   pub is_prefix : IsPrefix part text
   pub appended : Appends old.contents new.contents part

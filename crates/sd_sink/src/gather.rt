@@ -64,7 +64,7 @@ impl<'a, S: Sink> Gather<'a, S> {
 }
 
 impl<'a, S: Sink> Print for Gather<'a, S> {
-    ghost told = { λ s. record { place = s.sink.ghost_name; failed = s.failed; below = S.told s.sink.now; held = s.held } };
+    ghost told = { λ s. record { identity = s.sink.ghost_name; failed = s.failed; below = S.told s.sink.now; held = s.held } };
 
     // Where a text is known when the program is built, its few bytes are then written at once.
     #[inline(always)]

@@ -2,8 +2,8 @@ use Rattle.std.proofs.Common.{sym, ◌∙◌, arith, refl, ◌+◌, ◌-◌, tak
 use Rattle.std.proofs.lemmas.Grind.{common_steps}
 use Rattle.std.proofs.lemmas.Result.{err_from_is_err_and}
 use Rattle.sd_filter.proofs.PartsLemmas.{NoLf}
-use Rattle.sd_filter.proofs.SofarLemmas.{Failed-in, Failed-line, Sofar-line, Sofar-more}
-use Rattle.sd_filter.proofs.SofarLemmas.{fed_line, fed_rest, found_in, line_in}
+use Rattle.sd_filter.proofs.AfterBytesLemmas.{Failed-in, Failed-line, AfterBytes-line, AfterBytes-more}
+use Rattle.sd_filter.proofs.AfterBytesLemmas.{fed_line, fed_rest, found_in, line_in}
 use Rattle.sd_filter.proofs.feed.feed_all.Goals as goal
 
 pub loop-n-preserved : goal.loop-n-preserved
@@ -16,10 +16,10 @@ loop-n-preserved g c =
     record {
       within = omega (arith, found.0);
       ready = c.in_ok-answer_line.ensures.ready refl;
-      sofar = λ token0 sink0 got h.
-          let before = c.loop-n.invariant.sofar token0 sink0 got h in
+      after = λ token0 sink0 got h.
+          let before = c.loop-n.invariant.after token0 sink0 got h in
           rw (sym (fed_line got piece start n found.0 found.1), sym (line_in piece start n))
-          (Sofar-line token0 _ sink0 _ _ _ _ _ none
+          (AfterBytes-line token0 _ sink0 _ _ _ _ _ none
           (rw c.answer_line.ensures.job
           (c.in_ok-answer_line.ensures.answered token0 sink0 _ _ (c.take.ensures.holds _ _ before.holds).text
           before.answered))
@@ -37,7 +37,7 @@ returns-in_err-answer_line-clause-fed g c = λ token0 sink0 got h.
     let p = err_from_is_err_and c.from_residual.result c.from_residual.ensures.1 in
     let found = found_in piece start n c.loop-n.invariant.within c.in-Some.ensures.found.0 c.in-Some.ensures.found.1 in
     let none : NoLf (take (start + n - start) (drop start piece)) = grind (arith, common_steps) in
-    let before = c.loop-n.invariant.sofar token0 sink0 got h in
+    let before = c.loop-n.invariant.after token0 sink0 got h in
     rw (p.1, c.answer_line.ensures.job)
     (Failed-in _ token0 _ sink0 _ got piece start n found.0 found.1
     (rw (line_in piece start n) at (Failed-line _ token0 _ sink0 _ _ _ none
@@ -46,7 +46,7 @@ returns-in_err-answer_line-clause-fed g c = λ token0 sink0 got h.
 
 pub returns-clause-fed : goal.returns-clause-fed
 returns-clause-fed g c = λ token0 sink0 got h.
-    let sofar = c.loop-n.invariant.sofar token0 sink0 got h in
+    let after = c.loop-n.invariant.after token0 sink0 got h in
     rw (sym (fed_rest got c.args.piece.now c.loop-n.start))
-    (Sofar-more token0 _ sink0 _ _ _ _ _ _ c.in_default.ensures.before sofar refl
-    (c.take-2.ensures.holds _ _ sofar.holds))
+    (AfterBytes-more token0 _ sink0 _ _ _ _ _ _ c.in_default.ensures.before after refl
+    (c.take-2.ensures.holds _ _ after.holds))

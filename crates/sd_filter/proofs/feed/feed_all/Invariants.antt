@@ -1,20 +1,20 @@
 use Rattle.std.proofs.Common.{◌≡◌, ◌≤◌, ◌-◌, ℕ, List, ◌++◌, length, take}
 use Rattle.sd_core.specs.Token.{TokenShown}
 use Rattle.sd_sink.specs.Sink.{SinkTold}
-use Rattle.sd_filter.specs.Inner.Sofar.{IsReady, RoseWithin, Sofar}
+use Rattle.sd_filter.specs.Inner.Running.{IsReady, RoseWithin, AfterBytes}
 use Rattle.sd_filter.specs.Told.{sink_of}
 use Rattle.sd_filter.proofs.feed.feed_all.Given as goal
 
 abbrev pub invariant-loop-n : goal.invariant-loop-n
 invariant-loop-n g l = record {
   within : l.start ≤ length l.piece;
-  ready : IsReady l.desk.line;
-  sofar : (token0 : TokenShown) (sink0 : SinkTold) (got : List ℕ)
-      → Sofar token0 sink0 got l.fn.desk l.fn.token (sink_of (g.W.Drain.told l.fn.drain)) l.fn.report
-      → Sofar token0 sink0 (got ++ take l.start l.piece) l.desk l.token (sink_of (g.W.Drain.told l.drain)) l.report;
+  ready : IsReady l.state.line;
+  after : (token0 : TokenShown) (sink0 : SinkTold) (got : List ℕ)
+      → AfterBytes token0 sink0 got l.fn.state l.fn.token (sink_of (g.W.Drain.told l.fn.drain)) l.fn.report
+      → AfterBytes token0 sink0 (got ++ take l.start l.piece) l.state l.token (sink_of (g.W.Drain.told l.drain)) l.report;
   quiet : l.start ≡ 0
       → (g.W.Drain.told l.drain ≡ g.W.Drain.told l.fn.drain) × (l.report.lines ≡ l.fn.report.lines);
-  job : l.desk.job ≡ l.fn.desk.job;
+  job : l.state.job ≡ l.fn.state.job;
   rose : RoseWithin l.start l.fn.report l.report;
 }
 

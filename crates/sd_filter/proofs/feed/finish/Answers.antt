@@ -1,4 +1,4 @@
-use Rattle.sd_filter.proofs.SofarLemmas.{lines-empty, lines-last}
+use Rattle.sd_filter.proofs.AfterBytesLemmas.{lines-empty, lines-last}
 use Rattle.sd_filter.proofs.feed.finish.Goals as goal
 
 pub returns-then-is_untouched-clause-finished : goal.returns-then-is_untouched-clause-finished

@@ -19,7 +19,7 @@ loop-turn-preserved g c =
     let r = c.loop-turn.invariant.before in
     let room : 0 < length c.read.new.buf = omega (arith, c.loop-turn.invariant.size, c.read.auto.buf) in
     let fed = c.in-Ok-answer_piece.ensures.fed c.args.token.now (sink_of (g.W.Drain.told c.args.drain.now)) r.got
-    r.sofar in
+    r.after in
     let piece : length (take c.in-Ok.n c.read.new.buf) ≤ 8192 = simp length-take
     (omega (arith, c.loop-turn.invariant.size, c.read.auto.buf)) in
     record {
@@ -49,7 +49,7 @@ returns-in-Ok-close-clause-outcome g c =
     let r = c.loop-turn.invariant.before in
     let room : 0 < length c.read.new.buf = omega (arith, c.loop-turn.invariant.size, c.read.auto.buf) in
     let closed = c.in-Ok-close.ensures.closed c.args.token.now (sink_of (g.W.Drain.told c.args.drain.now)) r.got
-    r.sofar in
+    r.after in
     let z : c.in-Ok.n ≡ 0 = search rules in
     rw (← c.loop-turn.invariant.job)
     (finished c.args.most c.loop-turn.turn _ _ _ _ _ _ _ _ _ r (omega arith) _ _ _
@@ -63,7 +63,7 @@ returns-in-Err-close-clause-outcome g c =
     let r = c.loop-turn.invariant.before in
     let room : 0 < length c.read.new.buf = omega (arith, c.loop-turn.invariant.size, c.read.auto.buf) in
     let closed = c.in-Err-close.ensures.closed c.args.token.now (sink_of (g.W.Drain.told c.args.drain.now)) r.got
-    r.sofar in
+    r.after in
     let z : c.in-Ok.n ≡ 0 = search rules in
     rw (← c.loop-turn.invariant.job)
     (broken-close c.args.most c.loop-turn.turn _ _ _ _ _ _ _ _ _ r (omega arith) _ _
@@ -77,7 +77,7 @@ returns-in-Err-answer_piece-clause-outcome g c =
     let r = c.loop-turn.invariant.before in
     let room : 0 < length c.read.new.buf = omega (arith, c.loop-turn.invariant.size, c.read.auto.buf) in
     let fed = c.in-Err-answer_piece.ensures.fed c.args.token.now (sink_of (g.W.Drain.told c.args.drain.now)) r.got
-    r.sofar in
+    r.after in
     rw (← c.loop-turn.invariant.job)
     (broken-write c.args.most c.loop-turn.turn _ _ _ _ _ _ _ _ _ r (omega arith) (take c.in-Ok.n c.read.new.buf) _ _
     c.in-Ok.ensures.bytes.0 (c.read.ensures.reads ∙ reads-some _ _ room)
@@ -94,16 +94,16 @@ pub returns-in-Ok-close-clause-entries : goal.returns-in-Ok-close-clause-entries
 returns-in-Ok-close-clause-entries g c =
     let r = c.loop-turn.invariant.before in
     (c.in-Ok-close.ensures.closed c.args.token.now (sink_of (g.W.Drain.told c.args.drain.now)) r.got
-    r.sofar).0.same_entries
+    r.after).0.same_entries
 
 pub returns-in-Err-close-clause-entries : goal.returns-in-Err-close-clause-entries
 returns-in-Err-close-clause-entries g c =
     let r = c.loop-turn.invariant.before in
     (c.in-Err-close.ensures.closed c.args.token.now (sink_of (g.W.Drain.told c.args.drain.now)) r.got
-    r.sofar).same_entries
+    r.after).same_entries
 
 pub returns-in-Err-answer_piece-clause-entries : goal.returns-in-Err-answer_piece-clause-entries
 returns-in-Err-answer_piece-clause-entries g c =
     let r = c.loop-turn.invariant.before in
     (c.in-Err-answer_piece.ensures.fed c.args.token.now (sink_of (g.W.Drain.told c.args.drain.now)) r.got
-    r.sofar).same_entries
+    r.after).same_entries

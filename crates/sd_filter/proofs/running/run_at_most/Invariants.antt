@@ -1,14 +1,14 @@
 use Rattle.std.proofs.Common.{◌≡◌, ◌≤◌, ◌*◌, length}
-use Rattle.sd_filter.specs.Inner.Sofar.{BeforeRead, IsReady}
+use Rattle.sd_filter.specs.Inner.Running.{BeforeRead, IsReady}
 use Rattle.sd_filter.proofs.running.run_at_most.Given as goal
 
 abbrev pub invariant-loop-turn : goal.invariant-loop-turn
 invariant-loop-turn g l = record {
-  before : BeforeRead l.turn l.fn.token (g.R.Source.told l.fn.source) (g.W.Drain.told l.fn.drain) l.desk l.token
+  before : BeforeRead l.turn l.fn.token (g.R.Source.told l.fn.source) (g.W.Drain.told l.fn.drain) l.state l.token
       (g.R.Source.told l.source) (g.W.Drain.told l.drain) l.report;
-  job : l.desk.job ≡ l.fn.desk.job;
+  job : l.state.job ≡ l.fn.state.job;
   size : length l.buf ≡ 8192;
-  ready : IsReady l.desk.line;
+  ready : IsReady l.state.line;
   lines_within : l.report.lines ≤ 8192 * l.turn;
   faults_within : l.report.faults ≤ 8192 * l.turn;
 }

@@ -16,7 +16,7 @@ use Rattle.sd_filter.specs.Lines.{parts, ended, without_cr}
 use Rattle.sd_filter.specs.Answers.{answers, errors, bounds, line_limit, or_byte_fault}
 use Rattle.sd_filter.specs.Outcome.{Compares, HandedOn, RoseBy}
 use Rattle.sd_command.specs.declared.job.Job.{Job}
-use Rattle.sd_filter.specs.declared.engine.Desk.{Desk}
+use Rattle.sd_filter.specs.declared.engine.RunState.{RunState}
 use Rattle.sd_filter.specs.declared.engine.Report.{Report}
 use Rattle.sd_filter.specs.declared.fault.LineFault.{LineFault}
 use Rattle.sd_filter.specs.declared.line.Line.{Line}
@@ -77,10 +77,10 @@ pub record Answered (job : Job) (token0 : TokenShown) (sink0 : SinkTold) (all : 
   pub compared : Compares token0 token (bounds job token0.entries all)
 
 -- after these bytes, the lines that an LF ended are answered, and what follows is held
-pub record Sofar (token0 : TokenShown) (sink0 : SinkTold) (got : List ℕ) (desk : Desk) (token : TokenShown)
+pub record AfterBytes (token0 : TokenShown) (sink0 : SinkTold) (got : List ℕ) (state : RunState) (token : TokenShown)
     (sink : SinkTold) (report : Report) : Type 0 where
-  pub holds : Holds desk.job desk.line (parts got).rest
-  pub answered : Answered desk.job token0 sink0 (ended got) token sink report
+  pub holds : Holds state.job state.line (parts got).rest
+  pub answered : Answered state.job token0 sink0 (ended got) token sink report
 
 -- the sink failed: some of these lines are answered whole, and of the answer to one more, or to none, a part
 pub record Failed (job : Job) (token0 : TokenShown) (sink0 : SinkTold) (all : List (List ℕ)) (token : TokenShown)
@@ -98,12 +98,12 @@ pub record Failed (job : Job) (token0 : TokenShown) (sink0 : SinkTold) (all : Li
   pub compared : Compares token0 token (bounds job token0.entries (whole ++ broken))
 
 -- a run before its next read
-pub record BeforeRead (turn : ℕ) (token0 : TokenShown) (source0 : SourceTold) (drain0 : DrainTold) (desk : Desk)
+pub record BeforeRead (turn : ℕ) (token0 : TokenShown) (source0 : SourceTold) (drain0 : DrainTold) (state : RunState)
     (token : TokenShown) (source : SourceTold) (drain : DrainTold) (report : Report) : Type 0 where
   -- the bytes that left the source
   pub got : List ℕ
   pub read : Consumes source0.left source.left got
-  pub sofar : Sofar token0 (sink_of drain0) got desk token (sink_of drain) report
+  pub after : AfterBytes token0 (sink_of drain0) got state token (sink_of drain) report
   pub handed_on : HandedOn got drain0 drain
   pub reads : RoseBy turn source0.reads source.reads
   pub ends : source.ends ≡ source0.ends

@@ -10,9 +10,9 @@ use Rattle.sd_sink.proofs.SinkLemmas.{PutAll-nil, PutAll-trans}
 use Rattle.sd_filter.specs.Lines.{parts, ended, lines, last_line, without_cr}
 use Rattle.sd_filter.specs.Answers.{answer, answers, bound, bounds, errors, is_error}
 use Rattle.sd_filter.specs.Outcome.{Compares}
-use Rattle.sd_filter.specs.Inner.Sofar.{Holds, Answered, Failed, Sofar}
+use Rattle.sd_filter.specs.Inner.Running.{Holds, Answered, Failed, AfterBytes}
 use Rattle.sd_command.specs.declared.job.Job.{Job}
-use Rattle.sd_filter.specs.declared.engine.Desk.{Desk}
+use Rattle.sd_filter.specs.declared.engine.RunState.{RunState}
 use Rattle.sd_filter.specs.declared.engine.Report.{Report}
 use Rattle.sd_filter.proofs.PartsLemmas.{NoLf, ended-more, rest-more, ended-lf, rest-lf, ended-append}
 use Rattle.sd_filter.proofs.AnswersLemmas.{answers-one, answers-push, errors-push, bounds-push}
@@ -95,11 +95,11 @@ Failed-more job token0 token sink0 sink all more h = record {
 }
 
 -- nothing was read
-pub Sofar-nil : (token0 : TokenShown) (sink0 : SinkTold) (desk : Desk) (report : Report)
-    → Holds desk.job desk.line [] → report.lines ≡ 0 → report.faults ≡ 0
-    → Sofar token0 sink0 [] desk token0 sink0 report
+pub AfterBytes-nil : (token0 : TokenShown) (sink0 : SinkTold) (state : RunState) (report : Report)
+    → Holds state.job state.line [] → report.lines ≡ 0 → report.faults ≡ 0
+    → AfterBytes token0 sink0 [] state token0 sink0 report
 unfolding parts ended answers errors bounds
-Sofar-nil token0 sink0 desk report h no_lines no_faults = record {
+AfterBytes-nil token0 sink0 state report h no_lines no_faults = record {
   holds = h;
   answered = record {
     put = PutAll-nil sink0;
@@ -111,26 +111,26 @@ Sofar-nil token0 sink0 desk report h no_lines no_faults = record {
 }
 
 -- bytes that are no LF
-pub Sofar-more : (token0 token : TokenShown) (sink0 sink : SinkTold) (got bytes : List ℕ) (desk desk' : Desk)
+pub AfterBytes-more : (token0 token : TokenShown) (sink0 sink : SinkTold) (got bytes : List ℕ) (state state' : RunState)
     (report : Report)
     → NoLf bytes
-    → Sofar token0 sink0 got desk token sink report
-    → desk'.job ≡ desk.job
-    → Holds desk'.job desk'.line ((parts got).rest ++ bytes)
-    → Sofar token0 sink0 (got ++ bytes) desk' token sink report
-Sofar-more token0 token sink0 sink got bytes desk desk' report none h same holds = record {
+    → AfterBytes token0 sink0 got state token sink report
+    → state'.job ≡ state.job
+    → Holds state'.job state'.line ((parts got).rest ++ bytes)
+    → AfterBytes token0 sink0 (got ++ bytes) state' token sink report
+AfterBytes-more token0 token sink0 sink got bytes state state' report none h same holds = record {
   holds = rw (rest-more got bytes none) holds;
   answered = rw (same, ended-more got bytes none) h.answered;
 }
 
 -- the rest of a line, and its LF
-pub Sofar-line : (token0 token : TokenShown) (sink0 sink : SinkTold) (got bytes : List ℕ) (desk : Desk)
+pub AfterBytes-line : (token0 token : TokenShown) (sink0 sink : SinkTold) (got bytes : List ℕ) (state : RunState)
     (report : Report)
     → NoLf bytes
-    → Answered desk.job token0 sink0 (ended got ++ without_cr ((parts got).rest ++ bytes) ∷ []) token sink report
-    → Holds desk.job desk.line []
-    → Sofar token0 sink0 (got ++ bytes ++ 10 ∷ []) desk token sink report
-Sofar-line token0 token sink0 sink got bytes desk report none h holds = record {
+    → Answered state.job token0 sink0 (ended got ++ without_cr ((parts got).rest ++ bytes) ∷ []) token sink report
+    → Holds state.job state.line []
+    → AfterBytes token0 sink0 (got ++ bytes ++ 10 ∷ []) state token sink report
+AfterBytes-line token0 token sink0 sink got bytes state report none h holds = record {
   holds = rw (rest-lf (got ++ bytes)) holds;
   answered = rw (ended-lf (got ++ bytes), ended-more got bytes none, rest-more got bytes none) h;
 }
