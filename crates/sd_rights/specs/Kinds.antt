@@ -19,21 +19,21 @@ is_object other = false
 
 -- 2. The entry of a kind: they stand in the order of the variants.
 
-abbrev pub kind_place : AceKind → ℕ
-kind_place kinds.Allow = 0
-kind_place kinds.Deny = 1
-kind_place kinds.Audit = 2
-kind_place kinds.ObjectAllow = 3
-kind_place kinds.ObjectDeny = 4
-kind_place kinds.ObjectAudit = 5
-kind_place kinds.Label = 6
+abbrev pub kind_index : AceKind → ℕ
+kind_index kinds.Allow = 0
+kind_index kinds.Deny = 1
+kind_index kinds.Audit = 2
+kind_index kinds.ObjectAllow = 3
+kind_index kinds.ObjectDeny = 4
+kind_index kinds.ObjectAudit = 5
+kind_index kinds.Label = 6
 
 -- what no kind has
 abbrev pub no_entry : KindEntry
 no_entry = record { kind = kinds.Allow; code = 0; letters = []; count = 0 }
 
 unfoldable pub kind_entry : AceKind → KindEntry
-kind_entry kind = get_or KINDS (kind_place kind) no_entry
+kind_entry kind = get_or KINDS (kind_index kind) no_entry
 
 -- 3. Type bytes (2.4.4.1).
 

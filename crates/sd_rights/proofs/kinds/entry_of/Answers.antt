@@ -6,14 +6,14 @@ use Rattle.sd_rights.specs.contracts.kinds.AceKind.{as_values}
 use Rattle.sd_rights.specs.declared.kinds.AceKind.{AceKind}
 use Rattle.sd_rights.specs.declared.kinds.AceKind.TheVariants as kinds
 use Rattle.sd_rights.specs.declared.kinds.TheConstants.{KINDS}
-use Rattle.sd_rights.specs.Kinds.{kind_entry, kind_place, no_entry}
+use Rattle.sd_rights.specs.Kinds.{kind_entry, kind_index, no_entry}
 use Rattle.sd_rights.proofs.kinds.entry_of.Goals as goal
 
 abbrev parts : List (List Field)
 parts = [] ∷ [] ∷ [] ∷ [] ∷ [] ∷ [] ∷ [] ∷ []
 
 -- the number of a variant
-place : (k : AceKind) → tag (rowss parts) (intoss parts (as_values k)) ≡ kind_place k
+place : (k : AceKind) → tag (rowss parts) (intoss parts (as_values k)) ≡ kind_index k
 place kinds.Allow = refl
 place kinds.Deny = refl
 place kinds.Audit = refl
