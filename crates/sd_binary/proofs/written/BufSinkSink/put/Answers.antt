@@ -5,7 +5,7 @@ use Rattle.sd_binary.proofs.written.BufSinkSink.put.Goals as goal
 pub returns-in-Err : goal.returns-in-Err
 returns-in-Err c =
     record {
-      place = refl;
+      identity = refl;
       part = [];
       is_prefix = (c.args.bytes.now, refl);
       appended = rw c.in-Err.ensures.same (Appends-nil (Some c.args.self.now.buf.now));
