@@ -9,6 +9,7 @@ pub mod GuidTexts
 pub mod Numbers
 pub mod ReadLimits
 pub mod SidLaws
+pub mod SidFronts
 mod SidRows
 pub mod TextLaws
 pub mod TextLemmas

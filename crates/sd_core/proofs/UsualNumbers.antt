@@ -1,17 +1,15 @@
 -- A decimal number, digit by digit from the left.
-use Rattle.std.proofs.Common.{◌-◌, add-one, drop, lt-ltb, ◌≡◌, ℕ, ◌+◌, ◌*◌, ◌^◌, ◌<◌, ◌≤◌, length, take, get_or, Bool, true, false, ◌&&◌, List, [], ◌∷◌, ◌++◌, Option, Some, None, refl, ap, sym, ◌∙◌, arith}
-use Rattle.std.specs.Prelude.{◌==◌, nat_lt, nat_le, if◌then◌else◌}
+use Rattle.std.proofs.Common.{◌-◌, add-one, lt-ltb, ◌≡◌, ℕ, ◌+◌, ◌*◌, ◌^◌, ◌<◌, ◌≤◌, length, take, get_or, Bool, true, false, ◌&&◌, List, [], ◌∷◌, ◌++◌, Some, None, refl, arith}
+use Rattle.std.specs.Prelude.{nat_lt, nat_le, if◌then◌else◌}
 use Rattle.std.proofs.Math.Nat.{pow-suc}
 use Rattle.std.specs.Option.{option_and_then}
 use Rattle.std.specs.Char.{digit_value, is_digit}
 use Rattle.std.specs.List.{list_all}
 use Rattle.std.proofs.lemmas.Bool.Decides.{nat_tests}
 use Rattle.std.proofs.lemmas.Grind.{common_steps}
-use Rattle.std.proofs.lemmas.List.{take_more, take_rest}
-use Rattle.std.specs.Prelude.{IfSome}
-use Rattle.sd_core.specs.Sid.{SecurityId}
-use Rattle.sd_core.proofs.FormLemmas.{form_is}
-use Rattle.sd_core.specs.SidText.{begins_with_s1, has_form, are_numbers, numbers_read, are_numbers, decimal_reads, is_decimal, numbers_read, pieces}
+use Rattle.std.proofs.lemmas.List.{take_more}
+use Rattle.std.proofs.lemmas.Str.{digit_value_digit}
+use Rattle.sd_core.specs.SidText.{decimal_reads, is_decimal}
 use Rattle.sd_rights.specs.Numbers.{number_after}
 
 one_more : (base n b : ℕ) (xs : List ℕ)
@@ -37,7 +35,7 @@ pub digit_more : (text : List ℕ) (i n d : ℕ) → i < length text → number_
 digit_more text i n d h e digit
     is = rw (take_more text i 0 h, one_more 10 0 (get_or text i 0) (take i text), e, digit, is) refl
 
-digits : (n m : ℕ) (text : List ℕ) → number_after 10 n text ≡ Some m → list_all (λ b. is_digit b 10) text ≡ true
+pub digits : (n m : ℕ) (text : List ℕ) → number_after 10 n text ≡ Some m → list_all (λ b. is_digit b 10) text ≡ true
 digits n m [] e = refl
 digits n m (c ∷ cs) e = by_digit (is_digit c 10) (digits (n * 10 + digit_value c) m cs) e
   where
@@ -63,33 +61,15 @@ reads_is m text short small e =
 pub taken : (n : ℕ) (xs : List ℕ) → n ≤ length xs → length (take n xs) ≡ n
 taken n xs h = grind (arith, common_steps)
 
-pub all_taken : (n : ℕ) (xs : List ℕ) → length xs ≤ n → take n xs ≡ xs
-all_taken n xs h = grind (arith, common_steps)
-
-pub digit_is : (b c : ℕ) → b ≡ c → digit_value b < 10 → is_digit c 10 ≡ true
-digit_is b c e h = rw (← e) (lt-ltb (digit_value b) 10 h)
-
--- no digit is a dash
-pub digit_no_dash : (b : ℕ) → is_digit b 10 ≡ true → (b == 45) ≡ false
-digit_no_dash b digit = by_test (b == 45) refl
-  where
-    by_test : (x : Bool) → (b == 45) ≡ x → (b == 45) ≡ false
-    by_test false e = e
-    by_test true e =
-        let is : b ≡ 45 = grind (arith, nat_tests) in
-        absurd (let no : false ≡ true = (rw is at digit) in cc)
+-- the bytes of the ten digits
+pub plain_digit : (b : ℕ) → 48 ≤ b → b ≤ 57 → (is_digit b 10 ≡ true) × (b - 48 ≡ digit_value b)
+plain_digit b low high =
+    let value : digit_value b + 48 ≡ b = digit_value_digit b (low, high) in
+    (lt-ltb (digit_value b) 10 (omega arith), omega arith)
 
 -- one digit more
 pub below_more : (i n d : ℕ) → n < 10 ^ i → d < 10 → n * 10 + d < 10 ^ (i + 1)
 below_more i n d small few = rw (add-one, pow-suc 10 i) (omega arith)
 
--- a text that begins as a SID's, with what is read of the rest of it
-pub usual-is : (text : List ℕ) (r : Option SecurityId) → length text ≤ 183 → begins_with_s1 text ≡ true
-    → IfSome r (λ s. (are_numbers (pieces (take (length text - 4) (drop 4 text))) ≡ true)
-    × (numbers_read (pieces (take (length text - 4) (drop 4 text))) ≡ Some s))
-    → IfSome r (λ s. (has_form text ≡ true) × (numbers_read (pieces (drop 4 text)) ≡ Some s))
-usual-is text None short front h = h
-usual-is text (Some s) short front h = (
-  sym (form_is text true short front (sym h.0)),
-  ap (λ (t : List ℕ). numbers_read (pieces t)) (sym (take_rest text 4)) ∙ h.1,
-)
+pub taken-again : (i n : ℕ) (xs : List ℕ) → i ≤ length (take n xs) → take i (take n xs) ≡ take i xs
+taken-again i n xs h = grind (arith, common_steps)

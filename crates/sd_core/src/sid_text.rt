@@ -1,5 +1,5 @@
 //! The texts of SIDs (MS-DTYP 2.4.2.1).
-ghost use Rattle.std.specs.Prelude.{◌≡◌, false, true, [], ◌+◌, ◌*◌, ◌<◌, ◌≤◌, ◌^◌, ◌++◌, length, take, drop, if◌then◌else◌, IfSome, MatchOption, Option, None, Ok, Err};
+ghost use Rattle.std.specs.Prelude.{◌≡◌, false, true, ◌+◌, ◌*◌, ◌<◌, ◌≤◌, ◌^◌, [], ◌∷◌, ◌++◌, length, take, drop, slice_index, nat_lt, if◌then◌else◌, IfSome, MatchOption, Option, None, Ok, Err};
 ghost use Rattle.std.specs.Char.{is_digit};
 ghost use Rattle.std.specs.List.{flat_map, list_all};
 ghost use Rattle.std.specs.Option.{option_copied, option_map};
@@ -8,7 +8,7 @@ ghost use Rattle.sd_sink.specs.Print.{Prints};
 ghost use Rattle.sd_sink.specs.Sink.{Puts};
 ghost use Rattle.sd_rights.specs.Limits.{most_subs};
 ghost use Rattle.sd_rights.specs.Numbers.{number};
-ghost use Rattle.sd_core.specs.SidText.{all_pieces, all_read, are_letters, are_numbers, are_subs, authority_reads, authority_text, begins_with_s1, decimal_reads, has_form, is_decimal, is_hex, is_sid_byte, numbers_read, or_number_fault, pieces, sid_reads, sid_text, sub_text};
+ghost use Rattle.sd_core.specs.SidText.{all_pieces, all_read, are_letters, are_numbers, are_subs, authority_reads, authority_text, begins_with_s1, decimal_reads, has_form, is_decimal, is_hex, is_sid_byte, numbers_read, or_number_fault, pieces, sid_front, sid_reads, sid_text, sub_text};
 
 use crate::alias::read_letters;
 use crate::sid::Sid;
@@ -80,11 +80,85 @@ impl Sid {
         if are_letters(text) {
             return read_letters(text[0], text[1], domain);
         }
-        match read_usual(text) {
-            Some(sid) => Ok(sid),
-            None => read_any(text),
+        let mut sid = Sid::blank();
+        match read_usual(text, &mut sid) {
+            Some(size) if size == text.len() => Ok(sid),
+            _ => read_any(text),
         }
     }
+
+    /// The SID that the letters, digits and dashes at the front of a text write, as `from_text` reads them, and how
+    /// many these are. So of `S-1-5-32-544)` it is that of `BA`, and 12.
+    #[tactic(auto, unfolding(crate::specs::SidText::sid_reads))]
+    pub fn front_text(text: &[u8], domain: Option<&Sid>) -> (Result<Sid, SidFault>, usize)
+        ensures exact { result.0 ≡ sid_reads (sid_front text.now) (option_copied domain.entry) }
+        ensures size { result.1 ≡ length (sid_front text.now) }
+        // What was read, and where the rest begins.
+        ensures front { take result.1 text.now ≡ sid_front text.now }
+        ensures within { result.1 ≤ length text.now }
+    {
+        if front_is_letters(text) {
+            return (read_letters(text[0], text[1], domain), 2);
+        }
+        let mut sid = Sid::blank();
+        match read_usual(text, &mut sid) {
+            Some(size) => (Ok(sid), size),
+            None => read_any_front(text),
+        }
+    }
+}
+
+// The SID of the letters, digits and dashes at the front that are no name, as any may be written, and how many these
+// are. Apart, since few come here.
+#[inline(never)]
+fn read_any_front(text: &[u8]) -> (Result<Sid, SidFault>, usize)
+    ensures front { take result.1 text.now ≡ sid_front text.now }
+    ensures within { result.1 ≤ length text.now }
+    ensures value { result.0 ≡ (if has_form (sid_front text.now) then or_number_fault
+        (numbers_read (pieces (drop 4 (sid_front text.now)))) else Err SidFault.SidForm) }
+{
+    let size = front_size(text);
+    (read_any(&text[..size]), size)
+}
+
+fn front_size(text: &[u8]) -> usize
+    ensures front { take result text.now ≡ sid_front text.now }
+    ensures within { result ≤ length text.now }
+{
+    for (i, byte) in text.iter().enumerate() {
+        if !is_sid_byte(*byte) {
+            return i;
+        }
+    }
+    text.len()
+}
+
+pub(crate) fn is_sid_byte(byte: u8) -> bool
+    ensures { result ≡ is_sid_byte byte }
+{
+    // Most texts end before a byte that the first test tells.
+    b'-' <= byte && (byte == b'-' || byte.is_ascii_alphanumeric())
+}
+
+fn begins_as_sid(text: &[u8]) -> bool
+    ensures { result ≡ nat_lt 0 (length (sid_front text.now)) }
+{
+    match text.first() {
+        Some(byte) => is_sid_byte(*byte),
+        None => false,
+    }
+}
+
+// Whether what stands at the front is two letters.
+fn front_is_letters(text: &[u8]) -> bool
+    ensures letters { result ≡ are_letters (sid_front text.now) }
+    ensures two { result ≡ true → sid_front text.now ≡ slice_index text.now 0 ∷ slice_index text.now 1 ∷ [] }
+    ensures long { result ≡ true → 2 ≤ length text.now }
+{
+    if text.len() < 2 || !text[0].is_ascii_alphabetic() || !text[1].is_ascii_alphabetic() {
+        return false;
+    }
+    !begins_as_sid(&text[2..])
 }
 
 // The SID of a text that is no name, as any may be written. Apart, since few come here, and others need not its room.
@@ -142,7 +216,7 @@ pub(crate) fn begins_with_s1(text: &[u8]) -> bool
     if text.len() < 4 {
         return false;
     }
-    text[0].to_ascii_uppercase() == b'S' && text[1] == b'-' && text[2] == b'1' && text[3] == b'-'
+    (text[0] == b'S' || text[0] == b's') && text[1] == b'-' && text[2] == b'1' && text[3] == b'-'
 }
 
 // Whether an authority and then at most 15 numbers stand between the dashes.

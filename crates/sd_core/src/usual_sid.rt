@@ -1,81 +1,143 @@
-//! The usual text of a SID, with decimal numbers alone, read in one pass.
+//! The usual text of a SID, with decimal numbers alone, read in one pass from the front of a longer text.
 
-ghost use Rattle.std.specs.Prelude.{◌≡◌, ◌≤◌, ◌<◌, ◌^◌, [], List, ℕ, length, take, drop, true, IfSome, MatchOption, Some};
-ghost use Rattle.sd_core.specs.SidText.{all_pieces, all_read, are_numbers, are_subs, decimal_reads, has_form, is_decimal, numbers_read, pieces};
+ghost use Rattle.std.specs.Prelude.{◌≡◌, ◌≤◌, ◌<◌, ◌+◌, ◌^◌, [], List, ℕ, length, take, drop, true, IfSome, MatchOption, Some};
+ghost use Rattle.sd_rights.specs.Numbers.{number_after};
+ghost use Rattle.sd_core.specs.SidText.{all_pieces, all_read, are_numbers, are_subs, decimal_reads, has_form, is_decimal, numbers_read, pieces, sid_front};
 
 use crate::sid::Sid;
-use crate::sid_text::begins_with_s1;
+use crate::sid_text::{begins_with_s1, is_sid_byte};
 use sd_rights::{MOST_FIELD_SIZE, MOST_SUBS};
 
 /// The digits that a decimal number has at most.
 const MOST_DIGITS: usize = 10;
 
-/// The SID of a text, where its authority and its sub-authorities are decimal and below 2^32. None says nothing of
-/// the text.
-pub(crate) fn read_usual(text: &[u8]) -> Option<Sid>
-    ensures { IfSome result (λ s. (has_form text.now ≡ true) × (numbers_read (pieces (drop 4 text.now)) ≡ Some s)) }
+/// Fills in the SID that the letters, digits and dashes at the front write, and says how many these are, where its
+/// authority and its sub-authorities are decimal and below 2^32. None says nothing of the text.
+#[inline(always)]
+pub(crate) fn read_usual(text: &[u8], sid: &mut Sid) -> Option<usize>
+    requires none { sid.old.subs ≡ [] }
+    ensures size { IfSome result (λ n. n ≡ length (sid_front text.now)) }
+    ensures form { IfSome result (λ _. has_form (sid_front text.now) ≡ true) }
+    ensures numbers { IfSome result (λ _. numbers_read (pieces (drop 4 (sid_front text.now))) ≡ Some sid.new) }
 {
-    if MOST_FIELD_SIZE < text.len() || !begins_with_s1(text) {
+    if !begins_with_s1(text) {
         return None;
     }
-    usual_numbers(&text[4..])
+    let size = usual_numbers(&text[4..], sid)?;
+    if size > MOST_FIELD_SIZE - 4 {
+        return None;
+    }
+    Some(size + 4)
 }
 
 // The same for what follows `S-1-`.
+#[inline(always)]
 #[tactic(auto, unfolding(crate::specs::SidText::numbers_read))]
-fn usual_numbers(text: &[u8]) -> Option<Sid>
-    ensures { IfSome result (λ s. (are_numbers (pieces text.now) ≡ true) × (numbers_read (pieces text.now) ≡ Some s)) }
+fn usual_numbers(text: &[u8], sid: &mut Sid) -> Option<usize>
+    requires none { sid.old.subs ≡ [] }
+    ensures size { IfSome result (λ n. n ≡ length (sid_front text.now)) }
+    ensures form { IfSome result (λ _. are_numbers (pieces (sid_front text.now)) ≡ true) }
+    ensures numbers { IfSome result (λ _. numbers_read (pieces (sid_front text.now)) ≡ Some sid.new) }
 {
-    let (authority, rest) = front_number(text)?;
-    let mut sid = Sid::of_authority(authority);
-    if let Some(rest) = rest {
-        usual_subs(rest, &mut sid)?;
-    }
-    Some(sid)
+    let (authority, after) = front_number(text)?;
+    sid.set_authority(authority);
+    let rest = usual_subs(after, sid)?;
+    Some(text.len() - rest.len())
 }
 
-// Appends the numbers to a SID that has none.
-fn usual_subs(text: &[u8], sid: &mut Sid) -> Option<()>
-    requires { sid.old.subs ≡ [] }
-    ensures form { IfSome result (λ _. are_subs 0 (all_pieces (pieces text.now)) ≡ true) }
-    ensures numbers { IfSome result (λ _. all_read (all_pieces (pieces text.now)) ≡ Some sid.new.subs) }
+// Appends the numbers that stand behind dashes to a SID that has none, and gives what follows them.
+#[inline(always)]
+fn usual_subs<'a>(text: &'a [u8], sid: &mut Sid) -> Option<&'a [u8]>
+    requires none { sid.old.subs ≡ [] }
+    requires ends { (pieces (sid_front text.now)).first ≡ [] }
+    ensures form { IfSome result (λ _. are_subs 0 (pieces (sid_front text.now)).others ≡ true) }
+    ensures numbers { IfSome result (λ _. all_read (pieces (sid_front text.now)).others ≡ Some sid.new.subs) }
+    ensures size { IfSome result (λ r. length (sid_front text.now) + length r.now ≡ length text.now) }
     ensures authority { sid.new.authority ≡ sid.old.authority }
 {
     let mut rest = text;
-    loop {
+    while let Some(next) = behind_dash(rest) {
         if sid.subs().len() == MOST_SUBS {
             return None;
         }
-        let (number, after) = front_number(rest)?;
+        let (number, after) = front_number(next)?;
         sid.push(number);
-        match after {
-            None => return Some(()),
-            Some(after) => rest = after,
-        }
+        rest = after;
+    }
+    Some(rest)
+}
+
+// What follows the dash at the front. None where nothing of a SID stands there.
+#[inline(always)]
+fn behind_dash(text: &[u8]) -> Option<&[u8]>
+    requires ends { (pieces (sid_front text.now)).first ≡ [] }
+    ensures cut { MatchOption result (sid_front text.now ≡ []) (λ next. pieces (sid_front text.now)
+        ≡ record { first = []; others = all_pieces (pieces (sid_front next.now)) }) }
+    ensures size { IfSome result (λ next. length (sid_front text.now) + length next.now
+        ≡ length (sid_front next.now) + length text.now) }
+{
+    match text.split_first() {
+        Some((b'-', next)) => Some(next),
+        _ => None,
     }
 }
 
-// The number before the first dash, and what follows that.
-fn front_number(text: &[u8]) -> Option<(u32, Option<&[u8]>)>
+// The number at the front, and what follows its digits: a dash, or what is of no SID.
+#[inline(always)]
+fn front_number(text: &[u8]) -> Option<(u32, &[u8])>
     ensures number { IfSome result (λ r. (first : List ℕ) × (is_decimal first ≡ true) × (decimal_reads first ≡ Some r.0)
-        × MatchOption r.1 (pieces text.now ≡ record { first = first; others = [] })
-        (λ rest. pieces text.now ≡ record { first = first; others = all_pieces (pieces rest.now) })) }
-    ensures shorter { IfSome result (λ r. MatchOption r.1 (0 ≤ 0) (λ rest. length rest.now < length text.now)) }
+        × (pieces (sid_front text.now) ≡ record { first = first; others = (pieces (sid_front r.1.now)).others })) }
+    ensures ends { IfSome result (λ r. (pieces (sid_front r.1.now)).first ≡ []) }
+    ensures size { IfSome result (λ r. length (sid_front text.now) + length r.1.now
+        ≡ length (sid_front r.1.now) + length text.now) }
 {
-    // No number has more digits, and so no more are looked at.
-    let end = text.len().min(MOST_DIGITS + 1);
-    let mut number: u64 = 0;
-    for i in 0..end {
-        let Some(digit) = char::from(text[i]).to_digit(10) else {
-            if text[i] != b'-' || i == 0 || number >= 1 << 32 {
-                return None;
-            }
-            return Some((number as u32, Some(&text[i + 1..])));
-        };
-        number = number * 10 + u64::from(digit);
-    }
-    if end == 0 || end > MOST_DIGITS || number >= 1 << 32 {
+    let (number, count) = front_digits(text);
+    let after = &text[count..];
+    if count == 0 || number >= 1 << 32 || !ends_number(after) {
         return None;
     }
-    Some((number as u32, None))
+    Some((number as u32, after))
+}
+
+// Whether a dash stands at the front, or what is of no SID.
+#[inline(always)]
+fn ends_number(text: &[u8]) -> bool
+    ensures { result ≡ true → (pieces (sid_front text.now)).first ≡ [] }
+{
+    match text.split_first() {
+        Some((byte, _)) => *byte == b'-' || !is_sid_byte(*byte),
+        None => true,
+    }
+}
+
+// The number that the digits at the front write, ten of them at most, and how many these are.
+#[inline(always)]
+fn front_digits(text: &[u8]) -> (u64, usize)
+    ensures few { result.1 ≤ 10 }
+    ensures within { result.1 ≤ length text.now }
+    ensures number { number_after 10 0 (take result.1 text.now) ≡ Some result.0 }
+{
+    // Where ten bytes are there, nobody has to look for their end.
+    if text.len() >= MOST_DIGITS {
+        few_digits(&text[..MOST_DIGITS])
+    } else {
+        few_digits(text)
+    }
+}
+
+#[inline(always)]
+fn few_digits(text: &[u8]) -> (u64, usize)
+    requires few { length text.now ≤ 10 }
+    ensures within { result.1 ≤ length text.now }
+    ensures number { number_after 10 0 (take result.1 text.now) ≡ Some result.0 }
+{
+    let mut number: u64 = 0;
+    for (i, byte) in text.iter().enumerate() {
+        let byte = u64::from(*byte);
+        if byte < 48 || 57 < byte {
+            return (number, i);
+        }
+        number = number * 10 + (byte - 48);
+    }
+    (number, text.len())
 }

@@ -1,8 +1,6 @@
 -- What a reader of fields holds, after one field more.
 use Rattle.std.proofs.Common.{◌≡◌, ℕ, ◌/◌, ◌%◌, List, [], ◌∷◌, Option, Some, None, Bool, true, false, refl, ap, ◌∙◌}
 use Rattle.std.specs.Prelude.{◌&&◌, Ok}
-use Rattle.std.specs.Option.{ok_or}
-use Rattle.sd_reader.specs.declared.fault.SddlFault.{SddlFault}
 use Rattle.sd_core.specs.Ace.{GuidsFit}
 use Rattle.sd_rights.specs.Kinds.{is_object}
 use Rattle.sd_rights.specs.declared.kinds.AceKind.{AceKind}
@@ -111,11 +109,6 @@ sound-inherited f text object s e = record { clear = s.clear; fit = by_object ob
     by_object : (x : Option (List ℕ)) → object_reads f.kind text ≡ Some x → GuidsFit (is_object f.kind) f.object x
     by_object None e = without (is_object f.kind) f.object f.inherited s.fit
     by_object (Some g) e = any (is_object f.kind) f.object (Some g) (guid_stands f.kind text g e)
-
--- what a fault stands beside where there is nothing, is something where there is none
-pub some-of : {A : Type 0} (x : Option A) (e : SddlFault) (y : A) → ok_or x e ≡ Ok y → x ≡ Some y
-some-of None e y h = absurd cc
-some-of (Some x) e y h = cc
 
 -- an ACL begins
 front-taken : (w : Which) (has_aces : Bool) (t : FieldsRead) (f : AclFront) (found : Option AclFront) → found ≡ Some f

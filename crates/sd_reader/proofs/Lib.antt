@@ -7,6 +7,7 @@ pub mod FoldedMeaning
 pub mod FoldedSections
 mod LineRows
 pub mod MeansLimits
+pub mod PlainFields
 pub mod Runs
 pub mod Steps
 pub mod TrusteeLaws

@@ -1,33 +1,27 @@
 -- An ACE that stands whole in what comes, read where it stands.
-use Rattle.std.proofs.Common.{◌≡◌, ℕ, ◌+◌, ◌≤◌, Bool, true, false, List, [], ◌∷◌, ◌++◌, length, take, drop, Ok, Err, Some, None, refl, ap, sym, ◌∙◌, subst, arith, append_assoc, length-append}
+use Rattle.std.proofs.Common.{◌≡◌, ℕ, ◌+◌, ◌/◌, ◌%◌, ◌≤◌, Bool, true, false, List, [], ◌∷◌, ◌++◌, length, take, drop, Ok, Err, Some, None, refl, ap, sym, ◌∙◌, subst, arith, append_assoc, ◌<◌, ◌-◌, get_or}
 use Rattle.std.specs.Prelude.{Result, Option}
-use Rattle.std.specs.Option.{ok_or}
 use Rattle.std.proofs.lemmas.List.{take-append-drop, take-take, drop-take}
 use Rattle.std.proofs.lemmas.List.Folds.{list_all-append}
+use Rattle.std.proofs.lemmas.Grind.{common_steps}
 use Rattle.std.specs.List.{list_all}
 use Rattle.sd_core.specs.Sid.{SecurityId}
-use Rattle.sd_core.specs.SidText.{sid_reads}
-use Rattle.sd_core.specs.declared.sid_text.SidFault.{SidFault}
-use Rattle.sd_rights.specs.Flags.{flags_reads}
-use Rattle.sd_rights.specs.Rights.{rights_reads}
-use Rattle.sd_rights.specs.declared.kinds.AceKind.{AceKind}
-use Rattle.sd_reader.specs.FieldTexts.{kind_reads, object_reads}
 use Rattle.sd_reader.specs.declared.fault.SddlFault.{SddlFault}
-use Rattle.sd_reader.specs.declared.fault.SddlFault.TheVariants as fault
 use Rattle.sd_reader.specs.declared.line.AceField.{AceField}
 use Rattle.sd_reader.specs.declared.line.AceField.TheVariants as field
 use Rattle.sd_reader.specs.declared.line.State.TheVariants as state
 use Rattle.sd_reader.specs.declared.line.Seen.{Seen}
 use Rattle.sd_reader.specs.declared.line.Slot.TheVariants as slot
 use Rattle.sd_reader.specs.declared.reading.AceFields.{AceFields}
-use Rattle.sd_reader.specs.declared.whole_ace.AceTexts.{AceTexts}
-use Rattle.sd_reader.specs.Inner.FoldedReading.{FieldsRead, no_fields, take_ace_field, take_field, with_sid, with_trustee, with_value}
+use Rattle.sd_reader.specs.declared.reading.FieldReader.{FieldReader}
+use Rattle.sd_reader.specs.Inner.FoldedReading.{FieldsRead, no_fields, take_ace_field, take_field, with_trustee}
 use Rattle.sd_reader.specs.Inner.Held.{IsHeld, is_plain_inside, no_text}
 use Rattle.sd_reader.specs.Inner.Progress.{rest_answer, end_of, result_or, state_after}
-use Rattle.sd_reader.specs.Inner.Reads.{FedTo, Fits, IsReader, LineHasRead, Steps}
+use Rattle.sd_reader.specs.Inner.Reads.{AreAceFields, FedTo, Fits, HasRead, IsReader, LineHasRead, Steps}
 use Rattle.sd_reader.specs.declared.reader.SddlReader.{SddlReader}
-use Rattle.sd_reader.specs.Inner.WholeAce.{AreWhole, ace_before, ace_fields_read, with_field, with_texts}
-use Rattle.sd_reader.specs.Meaning.{and_then, is_unreadable, ◌>>=◌}
+use Rattle.sd_reader.specs.Inner.WholeAce.{AceAt, AceTexts, AreWhole, FieldsAt, StepsOver, TakesAce, ace_before, with_field, with_texts}
+use Rattle.sd_reader.specs.Meaning.{and_then, is_unreadable}
+use Rattle.sd_reader.proofs.FieldLaws.{sound-flags, sound-inherited, sound-kind, sound-mask, sound-object}
 use Rattle.sd_reader.proofs.FieldTexts.{held-readable}
 use Rattle.sd_reader.proofs.FitLaws.{fits-field, fits-next}
 use Rattle.sd_reader.proofs.Runs.{inside-held, inside-run, run-fits}
@@ -72,17 +66,17 @@ module _ (dm : Option SecurityId) (so tw : Bool) (se : Seen) (a : AceTexts) (w :
       → rest_answer dm so tw se (with_texts dm a r) state.AfterAce no_text rest
       ≡ rest_answer dm so tw se r (state.Ace field.Kind) no_text (ace_before a rest)
   whole-ace r rest =
-      let with1 = with_field dm field.Kind a.kind.now r in
-      let with2 = with_field dm field.Flags a.flags.now with1 in
-      let with3 = with_field dm field.Rights a.rights.now with2 in
-      let with4 = with_field dm field.Object a.object.now with3 in
-      let with5 = with_field dm field.Inherited a.inherited.now with4 in
-      whole-field dm so tw se with5 a.sid.now rest w.sid.plain w.sid.fits field.Sid
-      ∙ whole-field dm so tw se with4 a.inherited.now _ w.inherited.plain w.inherited.fits field.Inherited
-      ∙ whole-field dm so tw se with3 a.object.now _ w.object.plain w.object.fits field.Object
-      ∙ whole-field dm so tw se with2 a.rights.now _ w.rights.plain w.rights.fits field.Rights
-      ∙ whole-field dm so tw se with1 a.flags.now _ w.flags.plain w.flags.fits field.Flags
-      ∙ whole-field dm so tw se r a.kind.now _ w.kind.plain w.kind.fits field.Kind
+      let with1 = with_field dm field.Kind a.kind r in
+      let with2 = with_field dm field.Flags a.flags with1 in
+      let with3 = with_field dm field.Rights a.rights with2 in
+      let with4 = with_field dm field.Object a.object with3 in
+      let with5 = with_field dm field.Inherited a.inherited with4 in
+      whole-field dm so tw se with5 a.sid rest w.sid.plain w.sid.fits field.Sid
+      ∙ whole-field dm so tw se with4 a.inherited _ w.inherited.plain w.inherited.fits field.Inherited
+      ∙ whole-field dm so tw se with3 a.object _ w.object.plain w.object.fits field.Object
+      ∙ whole-field dm so tw se with2 a.rights _ w.rights.plain w.rights.fits field.Rights
+      ∙ whole-field dm so tw se with1 a.flags _ w.flags.plain w.flags.fits field.Flags
+      ∙ whole-field dm so tw se r a.kind _ w.kind.plain w.kind.fits field.Kind
 
 -- what stands before something that reads, reads
 ok-parts : (x : Result FieldsRead SddlFault) (next : FieldsRead → Result FieldsRead SddlFault) (u : FieldsRead)
@@ -93,16 +87,16 @@ ok-parts (Err f) next u e = absurd cc
 pub fits-ace : (dm : Option SecurityId) (a : AceTexts) (seen : Seen) (t u : FieldsRead) → with_texts dm a (Ok t) ≡ Ok u
     → Fits (state.Ace field.Kind) seen t → Fits state.AfterAce seen u
 fits-ace dm a seen t u e k =
-    let with1 = with_field dm field.Kind a.kind.now (Ok t) in
-    let with2 = with_field dm field.Flags a.flags.now with1 in
-    let with3 = with_field dm field.Rights a.rights.now with2 in
-    let with4 = with_field dm field.Object a.object.now with3 in
-    let with5 = with_field dm field.Inherited a.inherited.now with4 in
-    let x5 = ok-parts with5 (λ r. take_field dm r (slot.Ace field.Sid) a.sid.now) u e in
-    let x4 = ok-parts with4 (λ r. take_field dm r (slot.Ace field.Inherited) a.inherited.now) x5.0 x5.1 in
-    let x3 = ok-parts with3 (λ r. take_field dm r (slot.Ace field.Object) a.object.now) x4.0 x4.1 in
-    let x2 = ok-parts with2 (λ r. take_field dm r (slot.Ace field.Rights) a.rights.now) x3.0 x3.1 in
-    let x1 = ok-parts with1 (λ r. take_field dm r (slot.Ace field.Flags) a.flags.now) x2.0 x2.1 in
+    let with1 = with_field dm field.Kind a.kind (Ok t) in
+    let with2 = with_field dm field.Flags a.flags with1 in
+    let with3 = with_field dm field.Rights a.rights with2 in
+    let with4 = with_field dm field.Object a.object with3 in
+    let with5 = with_field dm field.Inherited a.inherited with4 in
+    let x5 = ok-parts with5 (λ r. take_field dm r (slot.Ace field.Sid) a.sid) u e in
+    let x4 = ok-parts with4 (λ r. take_field dm r (slot.Ace field.Inherited) a.inherited) x5.0 x5.1 in
+    let x3 = ok-parts with3 (λ r. take_field dm r (slot.Ace field.Object) a.object) x4.0 x4.1 in
+    let x2 = ok-parts with2 (λ r. take_field dm r (slot.Ace field.Rights) a.rights) x3.0 x3.1 in
+    let x1 = ok-parts with1 (λ r. take_field dm r (slot.Ace field.Flags) a.flags) x2.0 x2.1 in
     fits-field dm field.Sid state.AfterAce seen x5.0 u _ x5.2 (λ h. refl)
     (fits-field dm field.Inherited (state.Ace field.Sid) seen x4.0 x5.0 _ x4.2 (λ h. refl)
     (fits-field dm field.Object (state.Ace field.Inherited) seen x3.0 x4.0 _ x3.2 (λ h. refl)
@@ -110,87 +104,124 @@ fits-ace dm a seen t u e k =
     (fits-field dm field.Flags (state.Ace field.Rights) seen x1.0 x2.0 _ x1.2 (λ h. refl)
     (fits-field dm field.Kind (state.Ace field.Flags) seen t x1.0 _ x1.1 (λ h. refl) k)))))
 
--- where no fault is found, none was there, and the fields were read
-pub no-fault : (dm : Option SecurityId) (a : AceTexts) (fault fault' : Option SddlFault) (t u : FieldsRead)
-    → result_or u fault' ≡ with_texts dm a (result_or t fault) → fault' ≡ None
-    → (fault ≡ None) × (with_texts dm a (Ok t) ≡ Ok u)
-no-fault dm a None fault' t u e none = (refl, sym (rw none at e))
-no-fault dm a (Some f) fault' t u e none = absurd (let no : Ok u ≡ Err f = (rw none at e) in cc)
+-- 4. What stands at the front of a text.
 
-pub read-none : (dm : Option SecurityId) (a : AceTexts) (fault : Option SddlFault) (t u : FieldsRead) → fault ≡ None
-    → with_texts dm a (Ok t) ≡ Ok u → result_or u fault ≡ with_texts dm a (result_or t fault)
-read-none dm a None t u none e = sym e
-read-none dm a (Some f) t u none e = absurd cc
+module _ (dm : Option SecurityId) (text rest : List ℕ) (f : AceFields) (s : SecurityId) (h : AceAt dm text f s rest) where
+  texts_at : AceTexts
+  texts_at = record {
+    kind = h.fields.kind.field;
+    flags = h.fields.flags.field;
+    rights = h.fields.rights.field;
+    object = h.fields.objects.first.field;
+    inherited = h.fields.objects.second.field;
+    sid = h.sid.field;
+  }
 
--- 4. What its fields read as, by themselves and one after the other.
+  whole_at : AreWhole texts_at
+  unfolding texts_at
+  whole_at = record {
+    kind = h.fields.kind.whole;
+    flags = h.fields.flags.whole;
+    rights = h.fields.rights.whole;
+    object = h.fields.objects.first.whole;
+    inherited = h.fields.objects.second.whole;
+    sid = h.sid.whole;
+  }
 
-abbrev read_in_turn : Option AceKind → Option ℕ → Option ℕ → (AceKind → Option (Option (List ℕ)))
-    → (AceKind → Option (Option (List ℕ))) → Result AceFields SddlFault
-read_in_turn kind flags rights object inherited = do
-  k ← ok_or kind fault.Kind
-  f ← ok_or flags fault.Flags
-  m ← ok_or rights fault.Rights
-  o ← ok_or (object k) fault.Guid
-  i ← ok_or (inherited k) fault.Guid
-  Ok (record { kind = k; flags = f; mask = m; object = o; inherited = i })
+  stands_at : text ≡ ace_before texts_at rest
+  unfolding texts_at
+  stands_at =
+      rw (
+        ← h.sid.stands,
+        ← h.fields.objects.second.stands,
+        ← h.fields.objects.first.stands,
+        ← h.fields.rights.stands,
+        ← h.fields.flags.stands,
+      )
+      (h.fields.kind.stands)
 
-module _ (t : FieldsRead) (sid : Result SecurityId SidFault) where
-  -- the fields onto what was read, one by one
-  abbrev folded_in_turn : Option AceKind → Option ℕ → Option ℕ → (AceKind → Option (Option (List ℕ)))
-      → (AceKind → Option (Option (List ℕ))) → Result FieldsRead SddlFault
-  folded_in_turn kind flags rights object inherited =
-      and_then
-      (and_then
-      (and_then
-      (and_then
-      (and_then (with_value fault.Kind (λ k. record t { ace = record no_fields { kind = k } }) kind)
-      (λ r. with_value fault.Flags (λ f. record r { ace = record r.ace { flags = f } }) flags))
-      (λ r. with_value fault.Rights (λ m. record r { ace = record r.ace { mask = m } }) rights))
-      (λ r. with_value fault.Guid (λ o. record r { ace = record r.ace { object = o } }) (object r.ace.kind)))
-      (λ r. with_value fault.Guid (λ i. record r { ace = record r.ace { inherited = i } }) (inherited r.ace.kind)))
-      (λ r. with_sid (with_trustee r) sid)
+  taken_at : (t : FieldsRead) → with_texts dm texts_at (Ok t) ≡ Ok (with_trustee (record t { ace = f }) s)
+  unfolding take_field take_ace_field texts_at
+  taken_at t =
+      rw (
+        whole-readable _ h.fields.kind.whole.plain h.fields.kind.whole.fits,
+        h.fields.kind.reads,
+        whole-readable _ h.fields.flags.whole.plain h.fields.flags.whole.fits,
+        h.fields.flags.reads,
+        whole-readable _ h.fields.rights.whole.plain h.fields.rights.whole.fits,
+        h.fields.rights.reads,
+        whole-readable _ h.fields.objects.first.whole.plain h.fields.objects.first.whole.fits,
+        h.fields.objects.first.reads,
+        whole-readable _ h.fields.objects.second.whole.plain h.fields.objects.second.whole.fits,
+        h.fields.objects.second.reads,
+        whole-readable _ h.sid.whole.plain h.sid.whole.fits,
+        h.sid.reads,
+      )
+      refl
 
-  guids-in-turn : (k : AceKind) (f m : ℕ) (object inherited : AceKind → Option (Option (List ℕ)))
-      → (o i : Option (Option (List ℕ))) → object k ≡ o → inherited k ≡ i
-      → folded_in_turn (Some k) (Some f) (Some m) object inherited
-      ≡ and_then (read_in_turn (Some k) (Some f) (Some m) object inherited)
-      (λ a. with_sid (with_trustee (record t { ace = a })) sid)
-  guids-in-turn k f m object inherited None i d e = rw d refl
-  guids-in-turn k f m object inherited (Some o) None d e = rw (d, e) refl
-  guids-in-turn k f m object inherited (Some o) (Some i) d e = rw (d, e) refl
+  -- a reader that now holds the ACE took it
+  pub takes-ace : (old new : FieldReader) (before after : List ℕ) → old.domain ≡ dm
+      → ((t : FieldsRead) → HasRead old before t → HasRead new after (with_trustee (record t { ace = f }) s))
+      → TakesAce old before text new after rest
+  takes-ace old new before after same held = (
+    texts_at,
+    whole_at,
+    stands_at,
+    λ t k. (
+      with_trustee (record t { ace = f }) s,
+      held t k,
+      rw same (taken_at t),
+    ),
+  )
 
-  in-turn : (kind : Option AceKind) (flags rights : Option ℕ) (object inherited : AceKind → Option (Option (List ℕ)))
-      → folded_in_turn kind flags rights object inherited
-      ≡ and_then (read_in_turn kind flags rights object inherited)
-      (λ a. with_sid (with_trustee (record t { ace = a })) sid)
-  in-turn None flags rights object inherited = refl
-  in-turn (Some k) None rights object inherited = refl
-  in-turn (Some k) (Some f) None object inherited = refl
-  in-turn (Some k) (Some f) (Some m) object inherited =
-      guids-in-turn k f m object inherited (object k) (inherited k) refl refl
+-- the fields that are read so are those of an ACE
+pub sound-at : (text : List ℕ) (f : AceFields) (rest : List ℕ) → FieldsAt text f rest → f.flags / 0x20 % 2 ≡ 0
+    → AreAceFields f
+sound-at text f rest h clear =
+    sound-inherited (record f { inherited = None }) h.objects.second.field f.inherited
+    (sound-object (record f { object = None; inherited = None }) h.objects.first.field f.object
+    (sound-mask (record f { mask = 0; object = None; inherited = None }) f.mask
+    (sound-flags (record no_fields { kind = f.kind }) f.flags (sound-kind f.kind) clear))
+    h.objects.first.reads)
+    h.objects.second.reads
 
-pub texts-taken : (dm : Option SecurityId) (a : AceTexts) (t : FieldsRead) → AreWhole a → with_texts dm a (Ok t)
-    ≡ and_then (ace_fields_read a) (λ f. with_sid (with_trustee (record t { ace = f })) (sid_reads a.sid.now dm))
-unfolding take_field take_ace_field ace_fields_read
-texts-taken dm a t w =
-    rw (
-      whole-readable _ w.kind.plain w.kind.fits,
-      whole-readable _ w.flags.plain w.flags.fits,
-      whole-readable _ w.rights.plain w.rights.fits,
-      whole-readable _ w.object.plain w.object.fits,
-      whole-readable _ w.inherited.plain w.inherited.fits,
-      whole-readable _ w.sid.plain w.sid.fits,
-    )
-    (in-turn t (sid_reads a.sid.now dm) (kind_reads a.kind.now) (flags_reads a.flags.now) (rights_reads a.rights.now)
-    (λ k. object_reads k a.object.now) (λ k. object_reads k a.inherited.now))
+-- a field that ends at this place
+pub cut-at : (text : List ℕ) (place end : ℕ) → place < length text → get_or text place 0 ≡ end
+    → text ≡ take place text ++ end ∷ take (length text - (place + 1)) (drop (place + 1) text)
+cut-at text place end within is = grind (arith, common_steps)
 
 -- 5. The reader after an ACE.
 
 pub ace-then : (a : AceTexts) (rest : List ℕ) → ace_before a [] ++ rest ≡ ace_before a rest
 ace-then a rest = simp append_assoc
 
-pub ace-size : (a : AceTexts) (rest : List ℕ) → length rest + 6 ≤ length (ace_before a rest)
-ace-size a rest = simp length-append (omega arith)
+-- a step over an ACE that was taken where no field before it was wrong
+pub steps-over : (s s' : SddlReader) (buf buf' text rest : List ℕ) → s.state ≡ state.Ace field.Kind → s.field ≡ no_text
+    → s.fault ≡ None → s'.fields.domain ≡ s.fields.domain
+    → s' ≡ record s { state = state.AfterAce; fields = s'.fields }
+    → TakesAce s.fields buf text s'.fields buf' rest → StepsOver s buf text s' buf' rest
+steps-over s s' buf buf' text rest here begins clear domain is h =
+    let a = h.0 in
+    record {
+      bytes = ace_before a [];
+      stands = h.2 ∙ sym (ace-then a rest);
+      steps = λ t k.
+          let e = h.3 t (k.fields clear) in (
+            e.0,
+            record {
+              fields = λ _. e.1;
+              fits = λ _. rw is (fits-ace s.fields.domain a s.seen t e.0 e.2 (rw here at (k.fits clear)));
+            },
+            λ more. rw (is, ace-then a more, here, begins, clear, domain)
+                (ap (λ (r : Result FieldsRead SddlFault). rest_answer s.fields.domain s.sound s.twice s.seen r
+                state.AfterAce no_text more) (sym e.2)
+                ∙ whole-ace s.fields.domain s.sound s.twice s.seen a h.1 (Ok t) more),
+          );
+      state = ap (λ (x : SddlReader). x.state) is;
+      field = ap (λ (x : SddlReader). x.field) is ∙ begins;
+      pending = ap (λ (x : SddlReader). x.pending) is;
+      fault = ap (λ (x : SddlReader). x.fault) is ∙ clear;
+    }
 
 pub reader-at : (s : SddlReader) (buf : List ℕ) → s.field ≡ no_text → s.pending ≡ None → (t : FieldsRead)
     → LineHasRead s buf t → IsReader s buf

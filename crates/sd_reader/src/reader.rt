@@ -1,6 +1,6 @@
 //! A line, read a byte at a time.
 
-ghost use Rattle.std.specs.Prelude.{◌≡◌, ◌≤◌, ◌==◌, ℕ, List, [], ◌∷◌, ◌++◌, length, take, ◌||◌, if◌then◌else◌, true, false, Option, Some, None, Ok, Err, IfOk, IfSome, MatchResult};
+ghost use Rattle.std.specs.Prelude.{◌≡◌, ◌≤◌, ◌==◌, ℕ, List, [], ◌∷◌, ◌++◌, length, take, ◌||◌, if◌then◌else◌, true, false, Option, Some, None, Ok, Err, IfOk, IfSome, MatchOption, MatchResult};
 ghost use Rattle.std.specs.List.{list_all};
 ghost use Rattle.std.specs.Option.{option_copied};
 ghost use Rattle.sd_rights.specs.Limits.{most_field};
@@ -12,7 +12,7 @@ ghost use Rattle.sd_reader.specs.Line.{byte, head_at, head_of as head_named, pie
 ghost use Rattle.sd_reader.specs.Inner.FoldedReading.{FieldsRead, finished, reads_as, take_field};
 ghost use Rattle.sd_reader.specs.Meaning.{and_then, is_unreadable, means};
 ghost use Rattle.sd_reader.specs.Inner.Reads.{CanTake, HasRead, Takes};
-ghost use Rattle.sd_reader.specs.Inner.WholeAce.{AreWhole, ace_before, with_texts};
+ghost use Rattle.sd_reader.specs.Inner.WholeAce.{StepsOver};
 ghost use Rattle.sd_reader.specs.Inner.Progress.{ended_with, is_inside, is_seen, state_of, result_or, with_head};
 
 use crate::fault::SddlFault;
@@ -22,7 +22,6 @@ use crate::line::{
     state_of,
 };
 use crate::reading::{FieldReader, fault_of};
-use crate::whole_ace::{AceTexts, whole_ace};
 use sd_binary::SdBuf;
 use sd_core::Sid;
 
@@ -337,12 +336,12 @@ impl SddlReader {
         let State::Ace(AceField::Kind) = self.state else {
             return text;
         };
-        if !self.sound || !self.field.is_empty() {
+        // Where a field did not read, no further one is looked at.
+        if !self.sound || self.fault.is_some() || !self.field.is_empty() {
             return text;
         }
         let mut rest = text;
-        while let Some((texts, after)) = whole_ace(rest) {
-            self.take_ace(buf, &texts);
+        while let Some(after) = self.take_ace(buf, rest) {
             match after.split_first() {
                 Some((b'(', next)) => rest = next,
                 _ => return after,
@@ -352,19 +351,24 @@ impl SddlReader {
         rest
     }
 
-    // The fields of an ACE and the parenthesis that ends it.
-    fn take_ace(&mut self, buf: &mut SdBuf, texts: &AceTexts<'_>)
+    // Takes the ACE that stands whole at the front of the text and the parenthesis that ends it, and answers what follows
+    // it. None where there is none whose fields read: the way byte by byte finds out what stands there.
+    #[inline(always)]
+    fn take_ace<'a>(&mut self, buf: &mut SdBuf, text: &'a [u8]) -> Option<&'a [u8]>
         requires here { self.old.state ≡ State.Ace AceField.Kind }
         requires begins { self.old.field ≡ no_text }
-        requires whole { AreWhole texts.now }
+        requires clear { self.old.fault ≡ None }
         requires held { (t : FieldsRead) × LineHasRead self.old buf.old t }
-        ensures answers { Steps self.old buf.old (ace_before texts.now []) self.new buf.new }
-        ensures state { self.new.state ≡ State.AfterAce }
-        ensures field { self.new.field ≡ no_text }
-        ensures pending { self.new.pending ≡ self.old.pending }
+        ensures read { MatchOption result ((self.new ≡ self.old) × (buf.new ≡ buf.old))
+            (λ rest. StepsOver self.old buf.old text.now self.new buf.new rest.now) }
     {
-        read_ace(&mut self.fault, &mut self.fields, buf, texts);
-        self.state = State::AfterAce;
+        match self.fields.take_ace(buf, text) {
+            Some(after) => {
+                self.state = State::AfterAce;
+                Some(after)
+            }
+            None => None,
+        }
     }
 
     // Takes the bytes at the front that only go onto the field at hand, all at once, and says how many they are.
@@ -501,27 +505,6 @@ fn take_held(
         Err(fault_of(slot))
     } else {
         fields.take_readable(buf, slot, field.text())
-    }
-}
-
-// Reads the fields of an ACE, where each field before them read.
-fn read_ace(
-    fault: &mut Option<SddlFault>,
-    fields: &mut FieldReader,
-    buf: &mut SdBuf,
-    texts: &AceTexts<'_>,
-)
-    requires whole { AreWhole texts.now }
-    requires held { (t : FieldsRead) × (fault.old ≡ None → HasRead fields.old buf.old t × IsOpen t.parts) }
-    ensures read { (t : FieldsRead) → (fault.old ≡ None → HasRead fields.old buf.old t) → (u : FieldsRead) × (fault.new ≡ None → HasRead fields.new buf.new u)
-        × (result_or u fault.new ≡ with_texts fields.old.domain texts.now (result_or t fault.old)) }
-    ensures domain { fields.new.domain ≡ fields.old.domain }
-{
-    if fault.is_some() {
-        return;
-    }
-    if let Err(found) = fields.take_ace(buf, texts) {
-        *fault = Some(found);
     }
 }
 

@@ -1,18 +1,17 @@
 //! The fields of a line, read one after the other.
 
-ghost use Rattle.std.specs.Prelude.{◌≡◌, Option, Ok, false, IfOk};
+ghost use Rattle.std.specs.Prelude.{◌≡◌, Option, Ok, false, MatchOption};
 ghost use Rattle.sd_core.specs.Sid.{SecurityId};
 ghost use Rattle.sd_core.specs.SidText.{sid_reads};
 ghost use Rattle.sd_reader.specs.Inner.FoldedReading.{FieldsRead, ace_fault_of, fault_of, no_fields, take_ace_field, take_field, take_front, with_sid, with_trustee};
 ghost use Rattle.sd_reader.specs.Meaning.{control_flags, is_unreadable};
 ghost use Rattle.sd_reader.specs.FieldTexts.{front_reads};
-ghost use Rattle.sd_reader.specs.Inner.Reads.{AreAceFields};
-ghost use Rattle.sd_reader.specs.Inner.WholeAce.{AreWhole, ace_fields_read, with_texts};
+ghost use Rattle.sd_reader.specs.Inner.WholeAce.{TakesAce};
 
 use crate::fault::SddlFault;
 use crate::field_texts::{front_from_text, kind_from_text, object_from_text};
 use crate::line::{AceField, SidPart, Slot};
-use crate::whole_ace::AceTexts;
+use crate::whole_ace::{front_fields, front_sid_text};
 use sd_binary::{AclFlags, Builder, SdBuf, Which};
 use sd_core::{Ace, AceKind, Sid, SidFault, flags_from_text, rights_from_text};
 use uuid::Uuid;
@@ -225,19 +224,26 @@ impl FieldReader {
         Ok(())
     }
 
-    /// Reads the fields of an ACE, and appends it.
-    pub fn take_ace(&mut self, buf: &mut SdBuf, texts: &AceTexts<'_>) -> Result<(), SddlFault>
-        requires whole { AreWhole texts.now }
+    /// Reads the ACE at the front of the text, from behind its first parenthesis, appends it, and answers what follows its
+    /// last one. None where none stands there whole, or where a field does not read: then nothing has changed.
+    pub fn take_ace<'a>(&mut self, buf: &mut SdBuf, text: &'a [u8]) -> Option<&'a [u8]>
         requires held { (t : FieldsRead) × HasRead self.old buf.old t × IsOpen t.parts }
-        ensures read { (t : FieldsRead) → HasRead self.old buf.old t
-            → Takes (with_texts self.old.domain texts.now (Ok t)) result self.new buf.new }
+        ensures read { MatchOption result ((self.new ≡ self.old) × (buf.new ≡ buf.old))
+            (λ rest. TakesAce self.old buf.old text.now self.new buf.new rest.now) }
         ensures domain { self.new.domain ≡ self.old.domain }
     {
-        match ace_fields(texts) {
-            Ok(fields) => self.ace = fields,
-            Err(fault) => return Err(fault),
+        let Some((fields, rest)) = front_fields(text) else {
+            return None;
+        };
+        let (text, after) = front_sid_text(rest)?;
+        match Sid::from_text(text, self.domain.as_ref()) {
+            Ok(sid) => {
+                self.ace = fields;
+                self.put_ace(buf, sid);
+                Some(after)
+            }
+            Err(_) => None,
         }
-        self.take_trustee(buf, texts.sid)
     }
 
     // The SID of the ACE at hand, which ends it.
@@ -256,6 +262,7 @@ impl FieldReader {
     }
 
     // Appends the ACE at hand, unless an ACL is too large already.
+    #[inline(always)]
     fn put_ace(&mut self, buf: &mut SdBuf, sid: Sid)
         requires { (t : FieldsRead) × HasRead self.old buf.old t × IsOpen t.parts }
         ensures held { (t : FieldsRead) → HasRead self.old buf.old t → HasRead self.new buf.new (with_trustee t sid) }
@@ -300,26 +307,6 @@ const NO_FLAGS: AclFlags = AclFlags {
     auto_inherit_required: false,
     auto_inherited: false,
 };
-
-// The fields of an ACE before its SID.
-#[tactic(auto, unfolding(crate::specs::Inner::WholeAce::ace_fields_read))]
-fn ace_fields(texts: &AceTexts<'_>) -> Result<AceFields, SddlFault>
-    ensures value { result ≡ ace_fields_read texts.now }
-    ensures sound { IfOk result AreAceFields }
-{
-    let kind = kind_from_text(texts.kind).ok_or(SddlFault::Kind)?;
-    let flags = flags_from_text(texts.flags).ok_or(SddlFault::Flags)?;
-    let mask = rights_from_text(texts.rights).ok_or(SddlFault::Rights)?;
-    let object = object_from_text(kind, texts.object).ok_or(SddlFault::Guid)?;
-    let inherited = object_from_text(kind, texts.inherited).ok_or(SddlFault::Guid)?;
-    Ok(AceFields {
-        kind,
-        flags,
-        mask,
-        object,
-        inherited,
-    })
-}
 
 // The fields of an ACE of which the kind was read.
 fn no_fields(kind: AceKind) -> AceFields

@@ -1,73 +1,162 @@
-//! An ACE that stands whole in a text, which is read where it stands and not copied.
+//! The fields of an ACE that stands whole in a text, read where they stand and not copied.
 
-ghost use Rattle.std.specs.Prelude.{◌≡◌, ◌≤◌, ◌∷◌, ◌++◌, length, take, true, IfSome};
+ghost use Rattle.std.specs.Prelude.{◌≡◌, ◌≤◌, ◌/◌, ◌%◌, ◌∷◌, ◌++◌, length, take, true, IfSome, Some};
 ghost use Rattle.std.specs.List.{list_all};
-ghost use Rattle.sd_rights.specs.Limits.{most_field};
+ghost use Rattle.sd_rights.specs.Flags.{flags_reads};
+ghost use Rattle.sd_rights.specs.Rights.{rights_reads};
+ghost use Rattle.sd_reader.specs.FieldTexts.{kind_reads, object_reads};
 ghost use Rattle.sd_reader.specs.Inner.Held.{is_plain_inside};
-ghost use Rattle.sd_reader.specs.Inner.WholeAce.{AreWhole, IsWhole, ace_before};
+ghost use Rattle.sd_reader.specs.Inner.Reads.{AreAceFields};
+ghost use Rattle.sd_reader.specs.Inner.WholeAce.{FieldAt, FieldsAt, IsWhole, ObjectsAt};
 
+use crate::field_texts::{kind_from_text, object_from_text};
 use crate::line::plain_inside;
+use crate::reading::AceFields;
+use sd_core::{AceKind, flags_from_text, rights_from_text};
 use sd_rights::MOST_FIELD_SIZE;
+use uuid::Uuid;
 
 /// The bytes of a text that are looked at at once.
 const BLOCK: usize = 16;
 
-/// The texts of the fields of an ACE.
-#[derive(Clone, Copy)]
-pub struct AceTexts<'a> {
-    pub kind: &'a [u8],
-    pub flags: &'a [u8],
-    pub rights: &'a [u8],
-    pub object: &'a [u8],
-    pub inherited: &'a [u8],
-    pub sid: &'a [u8],
-}
+/// The characters of a GUID.
+const GUID_TEXT_SIZE: usize = 36;
 
-/// The fields of the ACE at the front of a text, from behind its first parenthesis, and what follows its last one. None
-/// where no ACE stands there whole, or where a field has a blank or more than 183 bytes.
-pub fn whole_ace(text: &[u8]) -> Option<(AceTexts<'_>, &[u8])>
-    ensures { IfSome result (λ r. AreWhole r.0 × (text.now ≡ ace_before r.0 r.1.now)) }
+/// The fields before the SID of the ACE at the front of a text, from behind its first parenthesis, and what follows
+/// them. None where one of them does not read, or does not stand there whole.
+#[inline(always)]
+pub fn front_fields(text: &[u8]) -> Option<(AceFields, &[u8])>
+    ensures found { IfSome result (λ r. FieldsAt text.now r.0 r.1.now) }
+    ensures sound { IfSome result (λ r. AreAceFields r.0) }
 {
-    let (kind, rest) = cut(text, plain_inside(text), b';')?;
-    let (flags, rest) = cut(rest, plain_inside(rest), b';')?;
-    let (rights, rest) = cut(rest, plain_inside(rest), b';')?;
-    let (object, rest) = cut_guid(rest)?;
-    let (inherited, rest) = cut_guid(rest)?;
-    let (sid, rest) = cut(rest, plain_inside_long(rest), b')')?;
-    let texts = AceTexts {
+    let (kind, rest) = front_kind(text)?;
+    let (flags, rest) = front_flags(rest)?;
+    let (mask, rest) = front_rights(rest)?;
+    let Some((object, inherited, rest)) = front_objects(kind, rest) else {
+        return None;
+    };
+    let fields = AceFields {
         kind,
         flags,
-        rights,
+        mask,
         object,
         inherited,
-        sid,
     };
-    Some((texts, rest))
+    Some((fields, rest))
 }
 
-// The field of an object type, and what follows its semicolon. Most have no text, which one byte tells.
+// The kind, and what follows its semicolon.
 #[inline(always)]
-fn cut_guid(text: &[u8]) -> Option<(&[u8], &[u8])>
-    ensures { IfSome result (λ r. IsWhole r.0.now × (text.now ≡ r.0.now ++ 59 ∷ r.1.now)) }
+fn front_kind(text: &[u8]) -> Option<(AceKind, &[u8])>
+    ensures { IfSome result (λ r. FieldAt (λ t. kind_reads t ≡ Some r.0) 59 text.now r.1.now) }
 {
-    match text.split_first() {
-        Some((b';', after)) => Some((&[], after)),
-        _ => cut(text, plain_inside_long(text), b';'),
+    // Most ACEs allow.
+    if text.len() > 1 && text[0] == b'A' && text[1] == b';' {
+        return Some((AceKind::Allow, &text[2..]));
     }
+    let (field, rest) = cut(text, 1)?;
+    let kind = kind_from_text(field)?;
+    Some((kind, rest))
 }
 
-// The field of so many bytes at the front, and what follows the byte that ends it.
-fn cut(text: &[u8], count: usize, end: u8) -> Option<(&[u8], &[u8])>
-    requires within { count ≤ length text.now }
-    requires plain { list_all is_plain_inside (take count text.now) ≡ true }
-    ensures { IfSome result (λ r. IsWhole r.0.now × (text.now ≡ r.0.now ++ end ∷ r.1.now)) }
+// The flags, and what follows their semicolon. Flags that read are names of two letters: so the semicolon stands at an
+// even place.
+#[inline(always)]
+fn front_flags(text: &[u8]) -> Option<(u8, &[u8])>
+    ensures found { IfSome result (λ r. FieldAt (λ t. flags_reads t ≡ Some r.0) 59 text.now r.1.now) }
+    ensures clear { IfSome result (λ r. r.0 / 0x20 % 2 ≡ 0) }
 {
+    let (field, rest) = cut(text, 2)?;
+    let flags = flags_from_text(field)?;
+    Some((flags, rest))
+}
+
+// The access mask, and what follows its semicolon.
+#[inline(always)]
+fn front_rights(text: &[u8]) -> Option<(u32, &[u8])>
+    ensures { IfSome result (λ r. FieldAt (λ t. rights_reads t ≡ Some r.0) 59 text.now r.1.now) }
+{
+    let (field, rest) = cut(text, 1)?;
+    let mask = rights_from_text(field)?;
+    Some((mask, rest))
+}
+
+// The object type, the inherited object type, and what follows the semicolon of the second.
+#[inline(always)]
+fn front_objects(kind: AceKind, text: &[u8]) -> Option<(Option<Uuid>, Option<Uuid>, &[u8])>
+    ensures { IfSome result (λ r. ObjectsAt kind r.0 r.1 text.now r.2.now) }
+{
+    // Most ACEs have none.
+    if text.len() > 1 && text[0] == b';' && text[1] == b';' {
+        return Some((None, None, &text[2..]));
+    }
+    front_guids(kind, text)
+}
+
+// The same, where at least one of the two may stand.
+#[inline(never)]
+fn front_guids(kind: AceKind, text: &[u8]) -> Option<(Option<Uuid>, Option<Uuid>, &[u8])>
+    ensures { IfSome result (λ r. ObjectsAt kind r.0 r.1 text.now r.2.now) }
+{
+    let Some((object, rest)) = front_object(kind, text) else {
+        return None;
+    };
+    let Some((inherited, rest)) = front_object(kind, rest) else {
+        return None;
+    };
+    Some((object, inherited, rest))
+}
+
+// An object type, and what follows its semicolon: nothing, or a GUID.
+fn front_object(kind: AceKind, text: &[u8]) -> Option<(Option<Uuid>, &[u8])>
+    ensures { IfSome result (λ r. FieldAt (λ t. object_reads kind t ≡ Some r.0) 59 text.now r.1.now) }
+{
+    let size = if text.len() > 0 && text[0] == b';' {
+        0
+    } else {
+        GUID_TEXT_SIZE
+    };
+    if text.len() <= size || text[size] != b';' {
+        return None;
+    }
+    let Some(object) = object_from_text(kind, &text[..size]) else {
+        return None;
+    };
+    Some((object, &text[size + 1..]))
+}
+
+// What stands before the first semicolon at a place that the step divides, and what follows it. None where it
+// stands behind the places of a field.
+#[inline(always)]
+fn cut(text: &[u8], step: usize) -> Option<(&[u8], &[u8])>
+    requires least { 1 ≤ step }
+    requires most { step ≤ 2 }
+    ensures { IfSome result (λ r. text.now ≡ r.0.now ++ 59 ∷ r.1.now) }
+{
+    let end = text.len().min(MOST_FIELD_SIZE + 1);
+    let mut place = 0;
+    while place < end {
+        if text[place] == b';' {
+            return Some((&text[..place], &text[place + 1..]));
+        }
+        place += step;
+    }
+    None
+}
+
+/// The text of a SID at the front, and what follows the parenthesis behind it. None where none stands there, or where
+/// it has a byte that is not plain or more than 183 bytes.
+#[inline(always)]
+pub fn front_sid_text(text: &[u8]) -> Option<(&[u8], &[u8])>
+    ensures { IfSome result (λ r. IsWhole r.0.now × (text.now ≡ r.0.now ++ 41 ∷ r.1.now)) }
+{
+    let count = plain_inside_long(text);
     if count > MOST_FIELD_SIZE {
         return None;
     }
     let (field, rest) = text.split_at(count);
     match rest.split_first() {
-        Some((byte, after)) if *byte == end => Some((field, after)),
+        Some((b')', after)) => Some((field, after)),
         _ => None,
     }
 }

@@ -267,3 +267,112 @@ fn refuses(rt: HostRuntime) {
         );
     }
 }
+
+// A text, what stands at its front up to the first byte that is no letter, digit or dash, and the SID or the fault.
+fn check_front(
+    rt: &(impl Abort + AllocGlobal),
+    text: &str,
+    front: &str,
+    expected: Result<Sid, SidFault>,
+) {
+    let domain = domain(rt);
+    let (read, size) = Sid::front_text(text.as_bytes(), Some(&domain));
+    assert!(rt; size == front.len(), "at {text}");
+    assert!(rt; read == expected, "at {text}");
+}
+
+#[test]
+fn reads_the_front(rt: HostRuntime) {
+    let administrators = Sid::new(5, &[32, 544]);
+    let everyone = Sid::new(1, &[0]);
+    let account = Sid::new(5, &[21, 3_445_702_192, 4_294_967_295, 0, 1_001]);
+    let longest = Sid::new(5, &[0, 1, 2, 3, 4, 5, 6, 7, 8, 9, 10, 11, 12, 13, 14]);
+    for (text, front, sid) in [
+        ("S-1-5-32-544)(A;;GA;;;WD)", "S-1-5-32-544", administrators),
+        ("S-1-5-32-544", "S-1-5-32-544", administrators),
+        (
+            "s-1-0x000000000005-032-544;",
+            "s-1-0x000000000005-032-544",
+            administrators,
+        ),
+        ("BA)", "BA", administrators),
+        ("ba", "ba", administrators),
+        ("wD S-1-5-32-544", "wD", everyone),
+        ("S-1-1-0_", "S-1-1-0", everyone),
+        (
+            "S-1-5-21-3445702192-4294967295-0-1001)",
+            "S-1-5-21-3445702192-4294967295-0-1001",
+            account,
+        ),
+        (
+            "S-1-5-0-1-2-3-4-5-6-7-8-9-10-11-12-13-14)",
+            "S-1-5-0-1-2-3-4-5-6-7-8-9-10-11-12-13-14",
+            longest,
+        ),
+        (
+            "S-1-4294967295\t-1",
+            "S-1-4294967295",
+            Sid::new(4_294_967_295, &[]),
+        ),
+        (
+            "S-1-0x000100000000:",
+            "S-1-0x000100000000",
+            Sid::new(0x1_0000_0000, &[]),
+        ),
+        ("DU)", "DU", Sid::new(5, &[21, 1, 2, 3, 513])),
+    ] {
+        check_front(&rt, text, front, Ok(sid.expect(&rt, "a SID")));
+    }
+}
+
+#[test]
+fn refuses_the_front(rt: HostRuntime) {
+    for (text, front, fault) in [
+        ("", "", SidFault::SidForm),
+        (")", "", SidFault::SidForm),
+        ("B)A", "B", SidFault::SidForm),
+        ("BAD)", "BAD", SidFault::SidForm),
+        ("BA1", "BA1", SidFault::SidForm),
+        ("BA-)", "BA-", SidFault::SidForm),
+        ("ZZ)", "ZZ", SidFault::Alias),
+        ("S-1)", "S-1", SidFault::SidForm),
+        ("S-1-)", "S-1-", SidFault::SidForm),
+        ("S-1-5-)", "S-1-5-", SidFault::SidForm),
+        ("S-1-5--1)", "S-1-5--1", SidFault::SidForm),
+        ("S-1-5x)", "S-1-5x", SidFault::SidForm),
+        ("S-1-5-32x-1)", "S-1-5-32x-1", SidFault::SidForm),
+        ("S-1-5-32-544Z", "S-1-5-32-544Z", SidFault::SidForm),
+        ("S-1-4294967296)", "S-1-4294967296", SidFault::Number),
+        ("S-1-5-4294967296)", "S-1-5-4294967296", SidFault::Number),
+        ("S-1-5-00000000001)", "S-1-5-00000000001", SidFault::Number),
+        (
+            "S-1-5-00000000001x)",
+            "S-1-5-00000000001x",
+            SidFault::SidForm,
+        ),
+        (
+            "S-1-5-0-1-2-3-4-5-6-7-8-9-10-11-12-13-14-15)",
+            "S-1-5-0-1-2-3-4-5-6-7-8-9-10-11-12-13-14-15",
+            SidFault::SidForm,
+        ),
+    ] {
+        check_front(&rt, text, front, Err(fault));
+    }
+}
+
+// The longest text that may be read, and one with a byte more.
+#[test]
+fn reads_a_long_front(rt: HostRuntime) {
+    let longest =
+        "S-1-0xabcdef012345-4294967295-4294967295-4294967295-4294967295-4294967295-4294967295-4294967295-4294967295-4294967295-4294967295-4294967295-4294967295-4294967295-4294967295-4294967295";
+    assert!(rt; longest.len() == 183);
+    let sid = Sid::new(0xabcd_ef01_2345, &[u32::MAX; 15]);
+    let (read, size) = Sid::front_text(longest.as_bytes(), None);
+    assert!(rt; size == 183);
+    assert!(rt; read.ok() == sid);
+    // A number of too many digits, which is looked at only in a text that is short enough.
+    let mut text = [b'0'; 184];
+    text[..6].copy_from_slice(b"S-1-5-");
+    assert!(rt; Sid::front_text(&text[..183], None) == (Err(SidFault::Number), 183));
+    assert!(rt; Sid::front_text(&text, None) == (Err(SidFault::SidForm), 184));
+}

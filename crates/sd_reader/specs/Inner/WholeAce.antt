@@ -1,41 +1,54 @@
 -- An ACE that stands whole in what comes of a line: the texts of its fields, and what they read as.
-use Rattle.std.specs.Prelude.{◌≡◌, ℕ, ◌≤◌, true, List, ◌∷◌, ◌++◌, length, Option, Result, Ok}
+use Rattle.std.specs.Prelude.{◌≡◌, ℕ, ◌≤◌, true, List, ◌∷◌, ◌++◌, length, Option, Some, None, Result, Ok}
 use Rattle.std.specs.List.{list_all}
-use Rattle.std.specs.Option.{ok_or}
 use Rattle.sd_core.specs.Sid.{SecurityId}
+use Rattle.sd_core.specs.SidText.{sid_reads}
 use Rattle.sd_rights.specs.Flags.{flags_reads}
 use Rattle.sd_rights.specs.Limits.{most_field}
 use Rattle.sd_rights.specs.Rights.{rights_reads}
+use Rattle.sd_rights.specs.declared.kinds.AceKind.{AceKind}
 use Rattle.sd_reader.specs.FieldTexts.{kind_reads, object_reads}
 use Rattle.sd_reader.specs.Inner.FoldedReading.{FieldsRead, take_field}
-use Rattle.sd_reader.specs.Inner.Held.{is_plain_inside}
-use Rattle.sd_reader.specs.Meaning.{and_then, ◌>>=◌}
+use Rattle.sd_reader.specs.Inner.Held.{is_plain_inside, no_text}
+use Rattle.sd_reader.specs.Inner.Reads.{HasRead, Steps}
+use Rattle.sd_reader.specs.Meaning.{and_then}
 use Rattle.sd_reader.specs.declared.fault.SddlFault.{SddlFault}
-use Rattle.sd_reader.specs.declared.fault.SddlFault.TheVariants as fault
 use Rattle.sd_reader.specs.declared.line.AceField.{AceField}
 use Rattle.sd_reader.specs.declared.line.AceField.TheVariants as field
 use Rattle.sd_reader.specs.declared.line.Slot.TheVariants as slot
 use Rattle.sd_reader.specs.declared.reading.AceFields.{AceFields}
-use Rattle.sd_reader.specs.declared.whole_ace.AceTexts.{AceTexts}
+use Rattle.sd_reader.specs.declared.reading.FieldReader.{FieldReader}
+use Rattle.sd_reader.specs.declared.line.State.TheVariants as state
+use Rattle.sd_reader.specs.declared.reader.SddlReader.{SddlReader}
+
+-- 1. The texts.
 
 -- a field's text with no blank, and not too long
 pub record IsWhole (text : List ℕ) : Type 0 where
   pub plain : list_all is_plain_inside text ≡ true
   pub fits : length text ≤ most_field
 
+-- the texts of the fields of an ACE
+pub record AceTexts : Type 0 where
+  pub kind : List ℕ
+  pub flags : List ℕ
+  pub rights : List ℕ
+  pub object : List ℕ
+  pub inherited : List ℕ
+  pub sid : List ℕ
+
 pub record AreWhole (a : AceTexts) : Type 0 where
-  pub kind : IsWhole a.kind.now
-  pub flags : IsWhole a.flags.now
-  pub rights : IsWhole a.rights.now
-  pub object : IsWhole a.object.now
-  pub inherited : IsWhole a.inherited.now
-  pub sid : IsWhole a.sid.now
+  pub kind : IsWhole a.kind
+  pub flags : IsWhole a.flags
+  pub rights : IsWhole a.rights
+  pub object : IsWhole a.object
+  pub inherited : IsWhole a.inherited
+  pub sid : IsWhole a.sid
 
 -- the fields, each with the byte that ends it, and what follows them
 abbrev pub ace_before : AceTexts → List ℕ → List ℕ
 ace_before a rest =
-    a.kind.now ++ 59 ∷ (a.flags.now ++ 59 ∷ (a.rights.now ++ 59 ∷ (a.object.now ++ 59 ∷ (a.inherited.now ++ 59
-    ∷ (a.sid.now ++ 41 ∷ rest)))))
+    a.kind ++ 59 ∷ (a.flags ++ 59 ∷ (a.rights ++ 59 ∷ (a.object ++ 59 ∷ (a.inherited ++ 59 ∷ (a.sid ++ 41 ∷ rest)))))
 
 -- one field more
 abbrev pub with_field : Option SecurityId → AceField → List ℕ → Result FieldsRead SddlFault
@@ -45,19 +58,60 @@ with_field domain f text read = and_then read (λ r. take_field domain r (slot.A
 -- all fields of an ACE
 abbrev pub with_texts : Option SecurityId → AceTexts → Result FieldsRead SddlFault → Result FieldsRead SddlFault
 with_texts domain a read =
-    with_field domain field.Sid a.sid.now
-    (with_field domain field.Inherited a.inherited.now
-    (with_field domain field.Object a.object.now
-    (with_field domain field.Rights a.rights.now
-    (with_field domain field.Flags a.flags.now
-    (with_field domain field.Kind a.kind.now read)))))
+    with_field domain field.Sid a.sid
+    (with_field domain field.Inherited a.inherited
+    (with_field domain field.Object a.object
+    (with_field domain field.Rights a.rights
+    (with_field domain field.Flags a.flags
+    (with_field domain field.Kind a.kind read)))))
 
--- those before the SID, by themselves
-unfoldable pub ace_fields_read : AceTexts → Result AceFields SddlFault
-ace_fields_read a = do
-  k ← ok_or (kind_reads a.kind.now) fault.Kind
-  f ← ok_or (flags_reads a.flags.now) fault.Flags
-  m ← ok_or (rights_reads a.rights.now) fault.Rights
-  o ← ok_or (object_reads k a.object.now) fault.Guid
-  i ← ok_or (object_reads k a.inherited.now) fault.Guid
-  Ok (record { kind = k; flags = f; mask = m; object = o; inherited = i })
+-- 2. What stands at the front of a text.
+
+-- a field of which this holds, the byte that ends it, and a rest
+pub record FieldAt (Reads : List ℕ → Type 0) (end : ℕ) (text rest : List ℕ) : Type 0 where
+  pub field : List ℕ
+  pub whole : IsWhole field
+  pub stands : text ≡ field ++ end ∷ rest
+  pub reads : Reads field
+
+-- the object type and the inherited object type
+pub record ObjectsAt (kind : AceKind) (object inherited : Option (List ℕ)) (text rest : List ℕ) : Type 0 where
+  pub between : List ℕ
+  pub first : FieldAt (λ t. object_reads kind t ≡ Some object) 59 text between
+  pub second : FieldAt (λ t. object_reads kind t ≡ Some inherited) 59 between rest
+
+-- the fields of an ACE before its SID, which read as these
+pub record FieldsAt (text : List ℕ) (f : AceFields) (rest : List ℕ) : Type 0 where
+  pub kind_rest : List ℕ
+  pub flags_rest : List ℕ
+  pub rights_rest : List ℕ
+  pub kind : FieldAt (λ t. kind_reads t ≡ Some f.kind) 59 text kind_rest
+  pub flags : FieldAt (λ t. flags_reads t ≡ Some f.flags) 59 kind_rest flags_rest
+  pub rights : FieldAt (λ t. rights_reads t ≡ Some f.mask) 59 flags_rest rights_rest
+  pub objects : ObjectsAt f.kind f.object f.inherited rights_rest rest
+
+-- the same and its SID
+pub record AceAt (domain : Option SecurityId) (text : List ℕ) (f : AceFields) (s : SecurityId) (rest : List ℕ)
+    : Type 0 where
+  pub before : List ℕ
+  pub fields : FieldsAt text f before
+  pub sid : FieldAt (λ t. sid_reads t domain ≡ Ok s) 41 before rest
+
+-- 3. A step over an ACE that reads.
+
+-- an ACE stands there, and it was read
+abbrev pub TakesAce : FieldReader → List ℕ → List ℕ → FieldReader → List ℕ → List ℕ → Type 0
+TakesAce old before text new after rest =
+    (a : AceTexts) × AreWhole a × (text ≡ ace_before a rest)
+    × ((t : FieldsRead) → HasRead old before t → (u : FieldsRead) × HasRead new after u
+    × (with_texts old.domain a (Ok t) ≡ Ok u))
+
+-- the same of the reader of a line, which then stands behind the ACE
+pub record StepsOver (old : SddlReader) (before text : List ℕ) (new : SddlReader) (after rest : List ℕ) : Type 0 where
+  pub bytes : List ℕ
+  pub stands : text ≡ bytes ++ rest
+  pub steps : Steps old before bytes new after
+  pub state : new.state ≡ state.AfterAce
+  pub field : new.field ≡ no_text
+  pub pending : new.pending ≡ old.pending
+  pub fault : new.fault ≡ None

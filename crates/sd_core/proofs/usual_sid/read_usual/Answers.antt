@@ -1,7 +1,29 @@
-use Rattle.std.proofs.Common.{arith, sym, ◌∙◌}
-use Rattle.sd_core.proofs.UsualNumbers.{usual-is}
+use Rattle.std.proofs.Common.{ap, arith, drop, length, sym, ◌≡◌, ◌∙◌}
+use Rattle.std.proofs.lemmas.List.{take_rest}
+use Rattle.sd_core.specs.SidText.{numbers_read, pieces, sid_front}
+use Rattle.sd_core.proofs.SidFronts.{s1-behind, s1-form, s1-size}
 use Rattle.sd_core.proofs.usual_sid.read_usual.Goals as goal
 
-pub returns : goal.returns
-returns c = usual-is c.args.text.now _ (omega arith)
-    (sym c.begins_with_s1.ensures.value ∙ c.if-not-begins_with_s1.false) c.usual_numbers.ensures
+pub returns-clause-size : goal.returns-clause-size
+returns-clause-size c =
+    let text = c.args.text.now in
+    let front = sym c.begins_with_s1.ensures.value ∙ c.if-not-begins_with_s1.false in
+    let long = c.begins_with_s1.ensures.long c.if-not-begins_with_s1.false in
+    let size : c.in_ok-size.size ≡ length (sid_front (drop 4 text)) = rw (take_rest text 4) at c.in_ok-size.ensures.size in
+    omega (arith, size, s1-size text front long)
+
+pub returns-clause-form : goal.returns-clause-form
+returns-clause-form c =
+    let text = c.args.text.now in
+    let front = sym c.begins_with_s1.ensures.value ∙ c.if-not-begins_with_s1.false in
+    let long = c.begins_with_s1.ensures.long c.if-not-begins_with_s1.false in
+    let size : c.in_ok-size.size ≡ length (sid_front (drop 4 text)) = rw (take_rest text 4) at c.in_ok-size.ensures.size in
+    s1-form text front long (omega (arith, size, c.if-size.false)) (rw (take_rest text 4) at c.in_ok-size.ensures.form)
+
+pub returns-clause-numbers : goal.returns-clause-numbers
+returns-clause-numbers c =
+    let text = c.args.text.now in
+    let front = sym c.begins_with_s1.ensures.value ∙ c.if-not-begins_with_s1.false in
+    let long = c.begins_with_s1.ensures.long c.if-not-begins_with_s1.false in
+    ap (λ t. numbers_read (pieces t)) (s1-behind text front long)
+    ∙ (rw (take_rest text 4) at c.in_ok-size.ensures.numbers)

@@ -1,16 +1,18 @@
-use Rattle.std.proofs.Common.{◌≡◌, ◌≤◌, ◌++◌, length, ◌-◌}
+use Rattle.std.proofs.Common.{◌≡◌, ◌≤◌, ◌+◌, ◌++◌, [], length, ◌-◌}
 use Rattle.std.specs.Option.{option_map}
-use Rattle.sd_core.specs.SidText.{all_pieces, all_read, are_subs, pieces}
+use Rattle.sd_core.specs.SidText.{all_read, are_subs, pieces, sid_front}
 use Rattle.sd_core.proofs.usual_sid.usual_subs.Given as goal
 
-abbrev pub invariant-loop-rest : goal.invariant-loop-rest
-invariant-loop-rest l = record {
+abbrev pub invariant-loop-next : goal.invariant-loop-next
+invariant-loop-next l = record {
   count : length l.sid.subs ≤ 15;
   authority : l.sid.authority ≡ l.initial.sid.authority;
-  form : are_subs (length l.sid.subs) (all_pieces (pieces l.rest)) ≡ are_subs 0 (all_pieces (pieces l.text));
-  rest : option_map (λ ns. l.sid.subs ++ ns) (all_read (all_pieces (pieces l.rest))) ≡ all_read
-      (all_pieces (pieces l.text));
+  ends : (pieces (sid_front l.rest)).first ≡ [];
+  form : are_subs (length l.sid.subs) (pieces (sid_front l.rest)).others ≡ are_subs 0 (pieces (sid_front l.text)).others;
+  numbers : option_map (λ ns. l.sid.subs ++ ns) (all_read (pieces (sid_front l.rest)).others) ≡ all_read
+      (pieces (sid_front l.text)).others;
+  size : length (sid_front l.text) + length l.rest ≡ length (sid_front l.rest) + length l.text;
 }
 
-abbrev pub decreases-loop-rest : goal.decreases-loop-rest
-decreases-loop-rest l = 15 - length l.sid.subs
+abbrev pub decreases-loop-next : goal.decreases-loop-next
+decreases-loop-next l = 15 - length l.sid.subs

@@ -1,20 +1,25 @@
-use Rattle.std.proofs.Common.{refl, sym, ◌∙◌}
+use Rattle.std.proofs.Common.{sym, ◌∙◌, refl}
 use Rattle.sd_reader.proofs.FieldLaws.{holds-ace}
-use Rattle.sd_reader.proofs.WholeFields.{texts-taken}
+use Rattle.sd_reader.proofs.WholeFields.{takes-ace}
 use Rattle.sd_reader.proofs.reading.FieldReader.take_ace.Goals as goal
 
-pub returns-in-Err-clause-read : goal.returns-in-Err-clause-read
-returns-in-Err-clause-read c = λ t h.
-    let read = sym c.ace_fields.ensures.value ∙ c.in-Err.is in
-    texts-taken c.args.self.now.domain c.args.texts.now t c.requires.whole ∙ rw read refl
-
-pub take_trustee-requires : goal.take_trustee-requires
-take_trustee-requires c =
+pub put_ace-requires : goal.put_ace-requires
+put_ace-requires c =
     let h = c.requires.held in
-    (_, holds-ace _ _ _ h.1 c.in-Ok.fields c.in-Ok.ensures.sound, h.2)
+    (_, holds-ace _ _ _ h.1 c.in-Some.fields c.in-Some.ensures.sound, h.2)
 
-pub returns-clause-read : goal.returns-clause-read
-returns-clause-read c = λ t h.
-    let read = sym c.ace_fields.ensures.value ∙ c.in-Ok.is in
-    rw (texts-taken c.args.self.now.domain c.args.texts.now t c.requires.whole, read)
-    (c.take_trustee.ensures.read _ (holds-ace _ _ _ h c.in-Ok.fields c.in-Ok.ensures.sound))
+pub returns-in-Ok-clause-read : goal.returns-in-Ok-clause-read
+returns-in-Ok-clause-read c =
+    takes-ace c.args.self.now.domain c.args.text.now c.in_ok-text.after.now c.in-Some.fields c.in-Ok.sid
+    (record {
+      before = c.in-Some.rest.now;
+      fields = c.in-Some.ensures.found;
+      sid = record {
+        field = _;
+        whole = c.in_ok-text.ensures.0;
+        stands = c.in_ok-text.ensures.1;
+        reads = rw (← c.as_ref.ensures.value) (sym c.from_text.ensures.exact ∙ c.in-Ok.is);
+      };
+    })
+    c.args.self.now c.put_ace.new.self c.args.buf.now c.put_ace.new.buf refl
+    (λ t h. c.put_ace.ensures.held _ (holds-ace _ _ _ h c.in-Some.fields c.in-Some.ensures.sound))
