@@ -84,7 +84,7 @@ pub(crate) fn append_ace(buf: &mut SdBuf, ace: &Ace)
     append_front(buf, ace);
     append_guid(buf, &ace.object());
     append_guid(buf, &ace.inherited());
-    append_sid(buf, &ace.sid());
+    append_sid(buf, ace.trustee());
 }
 
 // Appends what stands before the GUIDs.

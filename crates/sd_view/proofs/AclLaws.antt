@@ -433,7 +433,7 @@ sid-room n place s h = omega (
 pub ace-fits : (place : List ℕ) (a : AccessControlEntry) → ShowsAce place a → ace_size a ≤ length place
 ace-fits place a h = sid-room (sid_offset a.kind a.object a.inherited) place a.sid h.sid
 
-aces-fit : (aces : List AccessControlEntry) (bytes : List ℕ) → ShowsAces bytes aces → aces_size aces ≤ length bytes
+pub aces-fit : (aces : List AccessControlEntry) (bytes : List ℕ) → ShowsAces bytes aces → aces_size aces ≤ length bytes
 aces-fit [] bytes h = omega arith
 aces-fit (a ∷ others) bytes h =
     let head = ace-fits h.0 a h.3 in
@@ -517,6 +517,7 @@ acl-place bytes b e =
       record {
         room = shows.0.header;
         small = omega (arith, small, shows.0.size);
+        size = shows.0.size;
         sound = shows.2;
         limits = shows-acl-limits (acl_place bytes) (acl_of (acl_place bytes)) are shows.0;
       },

@@ -97,5 +97,6 @@ pub record IsAcePlace (place : List ℕ) : Type 0 where
 pub record IsAclPlace (place : List ℕ) : Type 0 where
   pub room : 8 ≤ length place
   pub small : length place ≤ 65535
+  pub size : u16_at 2 place ≡ length place
   pub sound : aces_fault (u16_at 4 place) (drop 8 place) ≡ None
   pub limits : IsAcl (acl_of place)
