@@ -20,7 +20,7 @@ use Rattle.sd_view.specs.declared.control.TheConstants.{CONTROL_BITS}
 use Rattle.sd_view.specs.Descriptor.{Descriptor}
 use Rattle.sd_view.specs.Layout.{header_bytes, layout, size}
 use Rattle.sd_view.specs.Ace.{announces_inherited, announces_object}
-use Rattle.sd_view.specs.AclReading.{ace_fault, aces_fault, aces_of, acl_fault, guid_if, inherited_in, kind_in, object_in, place_fault, sid_offset_in}
+use Rattle.sd_view.specs.AclReading.{ace_fault, aces_fault, aces_of, acl_fault, guid_if, inherited_in, kind_in, object_in, extent_fault, sid_offset_in}
 use Rattle.sd_view.specs.declared.acl.AclPart.TheVariants as acl
 use Rattle.sd_core.specs.Ace.{AccessControlEntry}
 use Rattle.sd_rights.specs.declared.kinds.AceKind.TheVariants as kinds
@@ -39,7 +39,7 @@ hex text = spelled (hex_spells (codes text))
 computed : Unit {0}
 unfolding spelled hex hex_spells decode_pairs u16_at u32_at sid_at sid_shown header_fault sid_fault parts_fault
     overlap_fault overlaps_fault fault reading header_bytes acl_part_fault acl_shown acl_fault aces_fault aces_of
-    ace_fault place_fault kind_code kind_entry kind_of kind_in object_in inherited_in sid_offset_in guid_if
+    ace_fault extent_fault kind_code kind_entry kind_of kind_in object_in inherited_in sid_offset_in guid_if
     announces_object announces_inherited
 computed = tt
 
@@ -242,10 +242,10 @@ owner_before_group : reading (hex "010000801400000015000000000000000000000002010
 unfolding computed
 owner_before_group = refl
 
-shared_place : reading (hex "0100008014000000140000000000000000000000010100000000000512000000") ≡ Err
+shared_extent : reading (hex "0100008014000000140000000000000000000000010100000000000512000000") ≡ Err
     (faults.Overlap Owner Group)
 unfolding computed
-shared_place = refl
+shared_extent = refl
 
 -- ---- ACLs
 

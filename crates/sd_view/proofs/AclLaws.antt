@@ -1,4 +1,4 @@
--- A place shows an ACL exactly where it has no fault, and then it is the one that reading gives.
+-- An extent shows an ACL exactly where it has no fault, and then it is the one that reading gives.
 use Rattle.std.proofs.Common.{◌≡◌, ◌≤◌, ◌<◌, ◌⊎◌, inl, inr, ℕ, zero, suc, ◌+◌, ◌/◌, ◌%◌, ◌^◌, ◌||◌, ◌&&◌, Bool, true, false, not, cond, eqb, ltb, List, [], ◌∷◌, ◌++◌, length, take, drop, slice_index, Option, Some, None, IfSome, refl, sym, ap, ◌∙◌, subst, rules, arith, length-append, length-drop}
 use Rattle.std.specs.Prelude.{is_some, unwrap_or}
 use Rattle.std.specs.List.{All, AllByRecursion}
@@ -22,7 +22,7 @@ use Rattle.sd_view.specs.declared.fault.AclFault.{AclFault}
 use Rattle.sd_view.specs.declared.fault.AclFault.TheVariants as faults
 use Rattle.sd_view.specs.Ace.{ShowsAce, ShowsGuid, announces_inherited, announces_object}
 use Rattle.sd_view.specs.Acl.{BeginsWithAcl, IsAcl, ShowsAces, ShowsAcl, acl_size, aces_size}
-use Rattle.sd_view.specs.AclReading.{IsAcePlace, IsAclPlace, ace_fault, ace_of, aces_fault, aces_of, acl_fault, acl_of, acl_place, first, guid_if, inherited_in, kind_in, object_in, place_fault, sid_offset_in}
+use Rattle.sd_view.specs.AclReading.{IsReadableAce, IsReadableAcl, ace_fault, ace_of, aces_fault, aces_of, acl_fault, acl_of, acl_at_front, first, guid_if, inherited_in, kind_in, object_in, extent_fault, sid_offset_in}
 use Rattle.sd_view.proofs.FirstFault.{first_none, went_on, passed}
 
 -- one ACE of the count read
@@ -97,86 +97,86 @@ sid_offset-low kinds.ObjectDeny o i = omega arith
 sid_offset-low kinds.ObjectAudit o i = omega arith
 sid_offset-low kinds.Label o i = omega arith
 
--- what a place without a fault shows
-pub place-shows : (place : List ℕ) → AreBytes place → u16_at 2 place ≡ length place → length place % 4 ≡ 0
-    → place_fault place ≡ None
-    → ShowsAce place (ace_of place)
-unfolding place_fault kind_in object_in inherited_in sid_offset_in
-place-shows place b size aligned e =
+-- what an extent without a fault shows
+pub extent-shows : (extent : List ℕ) → AreBytes extent → u16_at 2 extent ≡ length extent → length extent % 4 ≡ 0
+    → extent_fault extent ≡ None
+    → ShowsAce extent (ace_of extent)
+unfolding extent_fault kind_in object_in inherited_in sid_offset_in
+extent-shows extent b size aligned e =
     let kind = went_on _ _ _ e in
     let flag = went_on _ _ _ kind.1 in
     let room = went_on _ _ _ flag.1 in
     let sid = passed _ _ room.1 in
     record {
-      kind = known (slice_index place 0) (kind_of (slice_index place 0)) refl (not_false _ kind.0);
+      kind = known (slice_index extent 0) (kind_of (slice_index extent 0)) refl (not_false _ kind.0);
       flags = refl;
-      clear = clear_flag (slice_index place 1) flag.0;
+      clear = clear_flag (slice_index extent 1) flag.0;
       size = size;
       aligned = aligned;
       mask = refl;
-      object = guid-shows (announces_object (kind_in place) place) (drop 12 place);
-      inherited = guid-shows (announces_inherited (kind_in place) place)
-          (drop (12 + guid_size (object_in place)) place);
-      sid = sid_found (drop (sid_offset_in place) place) (sid_at (drop (sid_offset_in place) place))
-          (AreBytes-drop (sid_offset_in place) place b) refl sid;
+      object = guid-shows (announces_object (kind_in extent) extent) (drop 12 extent);
+      inherited = guid-shows (announces_inherited (kind_in extent) extent)
+          (drop (12 + guid_size (object_in extent)) extent);
+      sid = sid_found (drop (sid_offset_in extent) extent) (sid_at (drop (sid_offset_in extent) extent))
+          (AreBytes-drop (sid_offset_in extent) extent b) refl sid;
     }
 
-pub shows-kind : (place : List ℕ) (a : AccessControlEntry) → ShowsAce place a → kind_in place ≡ a.kind
+pub shows-kind : (extent : List ℕ) (a : AccessControlEntry) → ShowsAce extent a → kind_in extent ≡ a.kind
 unfolding kind_in
-shows-kind place a h =
-    let kind : kind_of (slice_index place 0) ≡ Some a.kind = ap kind_of h.kind ∙ kind_of-code a.kind in
+shows-kind extent a h =
+    let kind : kind_of (slice_index extent 0) ≡ Some a.kind = ap kind_of h.kind ∙ kind_of-code a.kind in
     ap (λ (o : Option AceKind). unwrap_or o kinds.Allow) kind
 
-shows-object : (place : List ℕ) (a : AccessControlEntry) → ShowsAce place a → object_in place ≡ a.object
+shows-object : (extent : List ℕ) (a : AccessControlEntry) → ShowsAce extent a → object_in extent ≡ a.object
 unfolding object_in
-shows-object place a h =
-    ap (λ (k : AceKind). guid_if (announces_object k place) (drop 12 place)) (shows-kind place a h)
-    ∙ guid-read (announces_object a.kind place) (drop 12 place) a.object h.object
+shows-object extent a h =
+    ap (λ (k : AceKind). guid_if (announces_object k extent) (drop 12 extent)) (shows-kind extent a h)
+    ∙ guid-read (announces_object a.kind extent) (drop 12 extent) a.object h.object
 
-shows-inherited : (place : List ℕ) (a : AccessControlEntry) → ShowsAce place a → inherited_in place ≡ a.inherited
+shows-inherited : (extent : List ℕ) (a : AccessControlEntry) → ShowsAce extent a → inherited_in extent ≡ a.inherited
 unfolding inherited_in
-shows-inherited place a h =
-    ap (λ (k : AceKind). guid_if (announces_inherited k place) (drop (12 + guid_size (object_in place)) place))
-    (shows-kind place a h)
-    ∙ ap (λ (o : Option (List ℕ)). guid_if (announces_inherited a.kind place) (drop (12 + guid_size o) place))
-    (shows-object place a h)
-    ∙ guid-read (announces_inherited a.kind place) (drop (12 + guid_size a.object) place) a.inherited h.inherited
+shows-inherited extent a h =
+    ap (λ (k : AceKind). guid_if (announces_inherited k extent) (drop (12 + guid_size (object_in extent)) extent))
+    (shows-kind extent a h)
+    ∙ ap (λ (o : Option (List ℕ)). guid_if (announces_inherited a.kind extent) (drop (12 + guid_size o) extent))
+    (shows-object extent a h)
+    ∙ guid-read (announces_inherited a.kind extent) (drop (12 + guid_size a.object) extent) a.inherited h.inherited
 
-shows-front : (place : List ℕ) (a : AccessControlEntry) → ShowsAce place a
-    → sid_offset_in place ≡ sid_offset a.kind a.object a.inherited
+shows-front : (extent : List ℕ) (a : AccessControlEntry) → ShowsAce extent a
+    → sid_offset_in extent ≡ sid_offset a.kind a.object a.inherited
 unfolding sid_offset_in
-shows-front place a h =
-    ap (λ (k : AceKind). sid_offset k (object_in place) (inherited_in place)) (shows-kind place a h)
-    ∙ ap (λ (o : Option (List ℕ)). sid_offset a.kind o (inherited_in place)) (shows-object place a h)
-    ∙ ap (λ (o : Option (List ℕ)). sid_offset a.kind a.object o) (shows-inherited place a h)
+shows-front extent a h =
+    ap (λ (k : AceKind). sid_offset k (object_in extent) (inherited_in extent)) (shows-kind extent a h)
+    ∙ ap (λ (o : Option (List ℕ)). sid_offset a.kind o (inherited_in extent)) (shows-object extent a h)
+    ∙ ap (λ (o : Option (List ℕ)). sid_offset a.kind a.object o) (shows-inherited extent a h)
 
-front_room : (n : ℕ) (place : List ℕ) (s : SecurityId) → BeginsWithSid (drop n place) s → n + 8 ≤ length place
-front_room n place s h = omega (arith, length-drop n place, ap (length {A = ℕ}) h.shape)
+front_room : (n : ℕ) (extent : List ℕ) (s : SecurityId) → BeginsWithSid (drop n extent) s → n + 8 ≤ length extent
+front_room n extent s h = omega (arith, length-drop n extent, ap (length {A = ℕ}) h.shape)
 
 not_below : (n k : ℕ) → k ≤ n → ltb n k ≡ false
 not_below n k h = grind (arith, nat_tests)
 
 -- what is shown has no fault, and is read
-pub shows-place : (place : List ℕ) (a : AccessControlEntry) → ShowsAce place a → (place_fault place ≡ None)
-    × (ace_of place ≡ a)
-unfolding place_fault
-shows-place place a h =
-    let kind : kind_of (slice_index place 0) ≡ Some a.kind = ap kind_of h.kind ∙ kind_of-code a.kind in
-    let flag : eqb (slice_index place 1 / 32 % 2) 1 ≡ false = flag_clear (slice_index place 1)
+pub shows-extent : (extent : List ℕ) (a : AccessControlEntry) → ShowsAce extent a → (extent_fault extent ≡ None)
+    × (ace_of extent ≡ a)
+unfolding extent_fault
+shows-extent extent a h =
+    let kind : kind_of (slice_index extent 0) ≡ Some a.kind = ap kind_of h.kind ∙ kind_of-code a.kind in
+    let flag : eqb (slice_index extent 1 / 32 % 2) 1 ≡ false = flag_clear (slice_index extent 1)
     (ap (λ (f : ℕ). f / 32 % 2) h.flags ∙ h.clear) in
     let n = sid_offset a.kind a.object a.inherited in
-    let front : sid_offset_in place ≡ n = shows-front place a h in
-    let room : ltb (length place) (n + 8) ≡ false = not_below (length place) (n + 8) (front_room n place a.sid h.sid) in
-    let sid = sid_at-bytes (drop n place) a.sid h.sid in
-    let subject : sid_of (drop (sid_offset_in place) place) ≡ a.sid = ap (λ (k : ℕ). sid_of (drop k place)) front
-    ∙ sid_of-at (drop n place) a.sid (sid_size a.sid) sid in (
+    let front : sid_offset_in extent ≡ n = shows-front extent a h in
+    let room : ltb (length extent) (n + 8) ≡ false = not_below (length extent) (n + 8) (front_room n extent a.sid h.sid) in
+    let sid = sid_at-bytes (drop n extent) a.sid h.sid in
+    let subject : sid_of (drop (sid_offset_in extent) extent) ≡ a.sid = ap (λ (k : ℕ). sid_of (drop k extent)) front
+    ∙ sid_of-at (drop n extent) a.sid (sid_size a.sid) sid in (
       rw (kind, flag, front, room, sid) refl,
       λ i. record {
-        kind = shows-kind place a h i;
+        kind = shows-kind extent a h i;
         flags = h.flags i;
         mask = h.mask i;
-        object = shows-object place a h i;
-        inherited = shows-inherited place a h i;
+        object = shows-object extent a h i;
+        inherited = shows-inherited extent a h i;
         sid = subject i;
       },
     )
@@ -203,7 +203,7 @@ ace-shows left b e =
     sym (u16_at-front 2 (take n left) (drop n left) (omega (arith, long, bounds.0)))
     ∙ ap (u16_at 2) (take-append-drop n left) in
     let whole : n % 4 ≡ 0 = eqb-true (n % 4) 0 (not_false _ fourth.0) in (
-      place-shows (take n left) (AreBytes-take n left b) (same ∙ sym long) (ap (λ (k : ℕ). k % 4) long ∙ whole)
+      extent-shows (take n left) (AreBytes-take n left b) (same ∙ sym long) (ap (λ (k : ℕ). k % 4) long ∙ whole)
           fourth.1,
       bounds.1,
     )
@@ -211,27 +211,27 @@ ace-shows left b e =
 in_range : (n len : ℕ) → 16 ≤ n → n ≤ len → (ltb n 16 || ltb len n) ≡ false
 in_range n len low high = grind (arith, nat_tests)
 
-sixteen : (place : List ℕ) (a : AccessControlEntry) → ShowsAce place a → 16 ≤ length place
-sixteen place a h = omega (
+sixteen : (extent : List ℕ) (a : AccessControlEntry) → ShowsAce extent a → 16 ≤ length extent
+sixteen extent a h = omega (
   arith,
-  front_room (sid_offset a.kind a.object a.inherited) place a.sid h.sid,
+  front_room (sid_offset a.kind a.object a.inherited) extent a.sid h.sid,
   sid_offset-low a.kind a.object a.inherited,
 )
 
-pub shows-ace : (place rest : List ℕ) (a : AccessControlEntry) → ShowsAce place a
-    → (ace_fault (place ++ rest) ≡ None) × (u16_at 2 (place ++ rest) ≡ length place)
+pub shows-ace : (extent rest : List ℕ) (a : AccessControlEntry) → ShowsAce extent a
+    → (ace_fault (extent ++ rest) ≡ None) × (u16_at 2 (extent ++ rest) ≡ length extent)
 unfolding ace_fault
-shows-ace place rest a h =
-    let long = sixteen place a h in
-    let size : u16_at 2 (place ++ rest) ≡ length place = u16_at-front 2 place rest (omega (arith, long)) ∙ h.size in
-    let all = length-append place rest in
-    let room : ltb (length (place ++ rest)) 16 ≡ false = not_below (length (place ++ rest)) 16
+shows-ace extent rest a h =
+    let long = sixteen extent a h in
+    let size : u16_at 2 (extent ++ rest) ≡ length extent = u16_at-front 2 extent rest (omega (arith, long)) ∙ h.size in
+    let all = length-append extent rest in
+    let room : ltb (length (extent ++ rest)) 16 ≡ false = not_below (length (extent ++ rest)) 16
     (omega (arith, all, long)) in
-    let range : (ltb (length place) 16 || ltb (length (place ++ rest)) (length place)) ≡ false =
-    in_range (length place) (length (place ++ rest)) long (omega (arith, all)) in
-    let fourth : not (eqb (length place % 4) 0) ≡ false = ap (λ (k : ℕ). not (eqb k 0)) h.aligned in
-    let front : take (length place) (place ++ rest) ≡ place = take_at place rest (length place) refl in
-    (rw (room, size, range, fourth, front) (shows-place place a h).0, size)
+    let range : (ltb (length extent) 16 || ltb (length (extent ++ rest)) (length extent)) ≡ false =
+    in_range (length extent) (length (extent ++ rest)) long (omega (arith, all)) in
+    let fourth : not (eqb (length extent % 4) 0) ≡ false = ap (λ (k : ℕ). not (eqb k 0)) h.aligned in
+    let front : take (length extent) (extent ++ rest) ≡ extent = take_at extent rest (length extent) refl in
+    (rw (room, size, range, fourth, front) (shows-extent extent a h).0, size)
 
 -- as many ACEs as are counted
 pub aces-shows : (n : ℕ) (left : List ℕ) → AreBytes left → aces_fault n left ≡ None
@@ -250,21 +250,21 @@ pub shows-aces : (aces : List AccessControlEntry) (left : List ℕ) → ShowsAce
 unfolding aces_fault aces_of
 shows-aces [] left h = (refl, refl)
 shows-aces (a ∷ others) left h =
-    let place = h.0 in
+    let extent = h.0 in
     let rest = h.1 in
-    let head-ace = shows-ace place rest a h.3 in
+    let head-ace = shows-ace extent rest a h.3 in
     let size = head-ace.1 in
     let tail = shows-aces others rest h.4 in
-    let front : take (length place) (place ++ rest) ≡ place = take_at place rest (length place) refl in
-    let back : drop (length place) (place ++ rest) ≡ rest = drop_at place rest (length place) refl in
-    let head = (shows-place place a h.3).1 in
+    let front : take (length extent) (extent ++ rest) ≡ extent = take_at extent rest (length extent) refl in
+    let back : drop (length extent) (extent ++ rest) ≡ rest = drop_at extent rest (length extent) refl in
+    let head = (shows-extent extent a h.3).1 in
     let P : List ℕ → Type 0 = λ xs. (first (ace_fault xs) (aces_fault (length others) (drop (u16_at 2 xs) xs)) ≡ None)
     × (ace_of (take (u16_at 2 xs) xs) ∷ aces_of (length others) (drop (u16_at 2 xs) xs) ≡ a ∷ others) in
-    let fault : first (ace_fault (place ++ rest))
-    (aces_fault (length others) (drop (u16_at 2 (place ++ rest)) (place ++ rest))) ≡ None =
+    let fault : first (ace_fault (extent ++ rest))
+    (aces_fault (length others) (drop (u16_at 2 (extent ++ rest)) (extent ++ rest))) ≡ None =
     rw (head-ace.0, size, back) tail.0 in
-    let items : ace_of (take (u16_at 2 (place ++ rest)) (place ++ rest)) ∷ aces_of (length others)
-    (drop (u16_at 2 (place ++ rest)) (place ++ rest)) ≡ a ∷ others =
+    let items : ace_of (take (u16_at 2 (extent ++ rest)) (extent ++ rest)) ∷ aces_of (length others)
+    (drop (u16_at 2 (extent ++ rest)) (extent ++ rest)) ≡ a ∷ others =
     rw (size, front, back, head, tail.1) refl in
     subst P (sym h.2) (fault, items)
 
@@ -293,8 +293,8 @@ revision_test r (inl h) = rw h refl
 revision_test r (inr h) = rw h refl
 
 pub acl-shows : (bytes : List ℕ) → AreBytes bytes → acl_fault bytes ≡ None
-    → ShowsAcl (acl_place bytes) (acl_of (acl_place bytes)) × (u16_at 2 bytes ≤ length bytes)
-    × (aces_fault (u16_at 4 (acl_place bytes)) (drop 8 (acl_place bytes)) ≡ None)
+    → ShowsAcl (acl_at_front bytes) (acl_of (acl_at_front bytes)) × (u16_at 2 bytes ≤ length bytes)
+    × (aces_fault (u16_at 4 (acl_at_front bytes)) (drop 8 (acl_at_front bytes)) ≡ None)
 unfolding acl_fault
 acl-shows bytes b e =
     let revision = went_on _ _ _ e in
@@ -317,39 +317,39 @@ acl-shows bytes b e =
         header = omega (arith, long, bounds.0);
         size = size ∙ sym long;
         count = sym aces.1;
-        places = aces.0;
+        extents = aces.0;
       },
       bounds.1,
       sound,
     )
 
-pub shows-acl : (place rest : List ℕ) (aces : List AccessControlEntry) → ShowsAcl place aces
-    → (acl_fault (place ++ rest) ≡ None) × (acl_place (place ++ rest) ≡ place) × (acl_of place ≡ aces)
+pub shows-acl : (extent rest : List ℕ) (aces : List AccessControlEntry) → ShowsAcl extent aces
+    → (acl_fault (extent ++ rest) ≡ None) × (acl_at_front (extent ++ rest) ≡ extent) × (acl_of extent ≡ aces)
 unfolding acl_fault
-shows-acl place rest aces h =
-    let size : u16_at 2 (place ++ rest) ≡ length place = u16_at-front 2 place rest (omega (arith, h.header)) ∙ h.size in
-    let count : u16_at 4 (place ++ rest) ≡ length aces = u16_at-front 4 place rest (omega (arith, h.header))
+shows-acl extent rest aces h =
+    let size : u16_at 2 (extent ++ rest) ≡ length extent = u16_at-front 2 extent rest (omega (arith, h.header)) ∙ h.size in
+    let count : u16_at 4 (extent ++ rest) ≡ length aces = u16_at-front 4 extent rest (omega (arith, h.header))
     ∙ h.count in
-    let first_byte : slice_index (place ++ rest) 0 ≡ slice_index place 0 = get_or_append_left place rest 0 0
+    let first_byte : slice_index (extent ++ rest) 0 ≡ slice_index extent 0 = get_or_append_left extent rest 0 0
     (omega (arith, h.header)) in
-    let revision : not (eqb (slice_index (place ++ rest) 0) 2 || eqb (slice_index (place ++ rest) 0) 4) ≡ false =
-    ap (λ (r : ℕ). not (eqb r 2 || eqb r 4)) first_byte ∙ revision_test (slice_index place 0) h.revision in
-    let range : (ltb (length place) 8 || ltb (length (place ++ rest)) (length place)) ≡ false =
-    in_header (length place) (length (place ++ rest)) h.header (omega (arith, length-append place rest)) in
-    let front : take (length place) (place ++ rest) ≡ place = take_at place rest (length place) refl in
-    let inner = shows-aces aces (drop 8 place) h.places in
+    let revision : not (eqb (slice_index (extent ++ rest) 0) 2 || eqb (slice_index (extent ++ rest) 0) 4) ≡ false =
+    ap (λ (r : ℕ). not (eqb r 2 || eqb r 4)) first_byte ∙ revision_test (slice_index extent 0) h.revision in
+    let range : (ltb (length extent) 8 || ltb (length (extent ++ rest)) (length extent)) ≡ false =
+    in_header (length extent) (length (extent ++ rest)) h.header (omega (arith, length-append extent rest)) in
+    let front : take (length extent) (extent ++ rest) ≡ extent = take_at extent rest (length extent) refl in
+    let inner = shows-aces aces (drop 8 extent) h.extents in
     (rw (revision, size, range, count, front) inner.0, rw size front, rw h.count inner.1)
 
 pub begins-acl : (bytes : List ℕ) (aces : List AccessControlEntry) → BeginsWithAcl bytes aces
-    → (acl_fault bytes ≡ None) × (acl_of (acl_place bytes) ≡ aces)
+    → (acl_fault bytes ≡ None) × (acl_of (acl_at_front bytes) ≡ aces)
 begins-acl bytes aces h =
     let read = shows-acl h.0 h.1 aces h.3 in
-    (ap acl_fault h.2 ∙ read.0, ap (λ (xs : List ℕ). acl_of (acl_place xs)) h.2 ∙ ap acl_of read.1 ∙ read.2)
+    (ap acl_fault h.2 ∙ read.0, ap (λ (xs : List ℕ). acl_of (acl_at_front xs)) h.2 ∙ ap acl_of read.1 ∙ read.2)
 
 pub acl-begins : (bytes : List ℕ) → AreBytes bytes → acl_fault bytes ≡ None
-    → BeginsWithAcl bytes (acl_of (acl_place bytes))
+    → BeginsWithAcl bytes (acl_of (acl_at_front bytes))
 acl-begins bytes b e = (
-  acl_place bytes,
+  acl_at_front bytes,
   drop (u16_at 2 bytes) bytes,
   sym (take-append-drop (u16_at 2 bytes) bytes),
   (acl-shows bytes b e).0,
@@ -357,7 +357,7 @@ acl-begins bytes b e = (
 
 -- what a reader of the aces needs
 pub ace-bounds : (left : List ℕ) → ace_fault left ≡ None
-    → (16 ≤ u16_at 2 left) × (u16_at 2 left ≤ length left) × (place_fault (take (u16_at 2 left) left) ≡ None)
+    → (16 ≤ u16_at 2 left) × (u16_at 2 left ≤ length left) × (extent_fault (take (u16_at 2 left) left) ≡ None)
 unfolding ace_fault
 ace-bounds left e =
     let room = went_on _ _ _ e in
@@ -390,11 +390,11 @@ both_parts true b e = refl
 both_parts false b e = absurd (cc)
 
 -- a GUID that is announced has its room before the SID
-pub object-room : (place : List ℕ) → announces_object (kind_in place) place ≡ true → 28 ≤ sid_offset_in place
+pub object-room : (extent : List ℕ) → announces_object (kind_in extent) extent ≡ true → 28 ≤ sid_offset_in extent
 unfolding sid_offset_in object_in guid_if announces_object
-object-room place e =
-    let kind : is_object (kind_in place) ≡ true = both_parts (is_object (kind_in place))
-    (eqb (u32_at 8 place % 2) 1) e in
+object-room extent e =
+    let kind : is_object (kind_in extent) ≡ true = both_parts (is_object (kind_in extent))
+    (eqb (u32_at 8 extent % 2) 1) e in
     rw (e, kind) (omega arith)
 
 object_room : (b t u : Bool) (xs ys : List ℕ) → b && u ≡ true
@@ -405,33 +405,33 @@ object_room true t true xs ys e = omega arith
 object_room true t false xs ys e = absurd (cc)
 object_room false t u xs ys e = absurd (cc)
 
-pub inherited-room : (place : List ℕ) → announces_inherited (kind_in place) place ≡ true
-    → 28 + guid_size (object_in place) ≤ sid_offset_in place
+pub inherited-room : (extent : List ℕ) → announces_inherited (kind_in extent) extent ≡ true
+    → 28 + guid_size (object_in extent) ≤ sid_offset_in extent
 unfolding sid_offset_in object_in inherited_in announces_object announces_inherited
-inherited-room place e =
-    object_room (is_object (kind_in place)) (eqb (u32_at 8 place % 2) 1) (eqb (u32_at 8 place / 2 % 2) 1)
-    (drop 12 place)
-    (drop (12 + guid_size (object_in place)) place) e
+inherited-room extent e =
+    object_room (is_object (kind_in extent)) (eqb (u32_at 8 extent % 2) 1) (eqb (u32_at 8 extent / 2 % 2) 1)
+    (drop 12 extent)
+    (drop (12 + guid_size (object_in extent)) extent) e
 
-pub object-size : (b : Bool) (place : List ℕ) → b ≡ announces_object (kind_in place) place
-    → guid_size (object_in place) ≡ cond b 16 0
+pub object-size : (b : Bool) (extent : List ℕ) → b ≡ announces_object (kind_in extent) extent
+    → guid_size (object_in extent) ≡ cond b 16 0
 unfolding object_in guid_if
-object-size true place e = rw (← e) refl
-object-size false place e = rw (← e) refl
+object-size true extent e = rw (← e) refl
+object-size false extent e = rw (← e) refl
 
-pub sid-room : (n : ℕ) (place : List ℕ) (s : SecurityId) → BeginsWithSid (drop n place) s
-    → n + sid_size s ≤ length place
-sid-room n place s h = omega (
+pub sid-room : (n : ℕ) (extent : List ℕ) (s : SecurityId) → BeginsWithSid (drop n extent) s
+    → n + sid_size s ≤ length extent
+sid-room n extent s h = omega (
   arith,
-  length-drop n place,
+  length-drop n extent,
   ap (length {A = ℕ}) h.shape,
   length-append (sid_bytes s) h.rest,
   length-sid_bytes s,
 )
 
--- an ACE's written size is at most its place
-pub ace-fits : (place : List ℕ) (a : AccessControlEntry) → ShowsAce place a → ace_size a ≤ length place
-ace-fits place a h = sid-room (sid_offset a.kind a.object a.inherited) place a.sid h.sid
+-- an ACE's written size is at most its extent
+pub ace-fits : (extent : List ℕ) (a : AccessControlEntry) → ShowsAce extent a → ace_size a ≤ length extent
+ace-fits extent a h = sid-room (sid_offset a.kind a.object a.inherited) extent a.sid h.sid
 
 pub aces-fit : (aces : List AccessControlEntry) (bytes : List ℕ) → ShowsAces bytes aces → aces_size aces ≤ length bytes
 aces-fit [] bytes h = omega arith
@@ -440,8 +440,8 @@ aces-fit (a ∷ others) bytes h =
     let tail = aces-fit others h.1 h.4 in
     omega (arith, head, tail, ap (length {A = ℕ}) h.2, length-append h.0 h.1)
 
-pub acl-fits : (place : List ℕ) (aces : List AccessControlEntry) → ShowsAcl place aces → acl_size aces ≤ length place
-acl-fits place aces h = omega (arith, aces-fit aces (drop 8 place) h.places, length-drop 8 place, h.header)
+pub acl-fits : (extent : List ℕ) (aces : List AccessControlEntry) → ShowsAcl extent aces → acl_size aces ≤ length extent
+acl-fits extent aces h = omega (arith, aces-fit aces (drop 8 extent) h.extents, length-drop 8 extent, h.header)
 
 pub u16_at-small : (i : ℕ) (bytes : List ℕ) → AreBytes bytes → u16_at i bytes < 2 ^ 16
 unfolding u16_at
@@ -469,17 +469,17 @@ guids_fit false t u xs ys None None h k = tt
 guids_fit false t u xs ys None (Some g) h k = absurd k
 guids_fit false t u xs ys (Some g) i h k = absurd h
 
-pub shows-ace-limits : (place : List ℕ) (a : AccessControlEntry) → AreBytes place → ShowsAce place a → IsAce a
+pub shows-ace-limits : (extent : List ℕ) (a : AccessControlEntry) → AreBytes extent → ShowsAce extent a → IsAce a
 unfolding announces_object announces_inherited
-shows-ace-limits place a b h = record {
+shows-ace-limits extent a b h = record {
   flags = omega (arith, b 1, h.flags);
   clear = h.clear;
-  mask = omega (arith, u32_at-small 4 place b, h.mask);
-  fit = guids_fit (is_object a.kind) (eqb (u32_at 8 place % 2) 1) (eqb (u32_at 8 place / 2 % 2) 1) _ _ a.object
+  mask = omega (arith, u32_at-small 4 extent b, h.mask);
+  fit = guids_fit (is_object a.kind) (eqb (u32_at 8 extent % 2) 1) (eqb (u32_at 8 extent / 2 % 2) 1) _ _ a.object
       a.inherited h.object h.inherited;
-  object = guid_fits (announces_object a.kind place) (drop 12 place) a.object (AreBytes-drop 12 place b) h.object;
-  inherited = guid_fits (announces_inherited a.kind place) (drop (12 + guid_size a.object) place) a.inherited
-      (AreBytes-drop (12 + guid_size a.object) place b) h.inherited;
+  object = guid_fits (announces_object a.kind extent) (drop 12 extent) a.object (AreBytes-drop 12 extent b) h.object;
+  inherited = guid_fits (announces_inherited a.kind extent) (drop (12 + guid_size a.object) extent) a.inherited
+      (AreBytes-drop (12 + guid_size a.object) extent b) h.inherited;
   sid = h.sid.limits;
 }
 
@@ -500,65 +500,65 @@ aces-limits (a ∷ others) bytes b h =
     let c = subst AreBytes h.2 b in
     (shows-ace-limits h.0 a (AreBytes-front h.0 h.1 c) h.3, aces-limits others h.1 (AreBytes-back h.0 h.1 c) h.4)
 
-pub shows-acl-limits : (place : List ℕ) (aces : List AccessControlEntry) → AreBytes place → ShowsAcl place aces
+pub shows-acl-limits : (extent : List ℕ) (aces : List AccessControlEntry) → AreBytes extent → ShowsAcl extent aces
     → IsAcl aces
-shows-acl-limits place aces b h = record {
-  each = aces-limits aces (drop 8 place) (AreBytes-drop 8 place b) h.places;
-  fits = omega (arith, acl-fits place aces h, h.size, u16_at-small 2 place b);
+shows-acl-limits extent aces b h = record {
+  each = aces-limits aces (drop 8 extent) (AreBytes-drop 8 extent b) h.extents;
+  fits = omega (arith, acl-fits extent aces h, h.size, u16_at-small 2 extent b);
 }
 
 -- what a reader of the ACL needs
-pub acl-place : (bytes : List ℕ) → AreBytes bytes → acl_fault bytes ≡ None
-    → IsAclPlace (acl_place bytes) × (8 ≤ length (acl_place bytes)) × (u16_at 2 bytes ≤ length bytes)
-acl-place bytes b e =
+pub acl-readable : (bytes : List ℕ) → AreBytes bytes → acl_fault bytes ≡ None
+    → IsReadableAcl (acl_at_front bytes) × (8 ≤ length (acl_at_front bytes)) × (u16_at 2 bytes ≤ length bytes)
+acl-readable bytes b e =
     let shows = acl-shows bytes b e in
     let are = AreBytes-take (u16_at 2 bytes) bytes b in
-    let small = u16_at-small 2 (acl_place bytes) are in (
+    let small = u16_at-small 2 (acl_at_front bytes) are in (
       record {
         room = shows.0.header;
         small = omega (arith, small, shows.0.size);
         size = shows.0.size;
         sound = shows.2;
-        limits = shows-acl-limits (acl_place bytes) (acl_of (acl_place bytes)) are shows.0;
+        limits = shows-acl-limits (acl_at_front bytes) (acl_of (acl_at_front bytes)) are shows.0;
       },
       shows.0.header,
       shows.1,
     )
 
 -- what a reader of the ACE at the front needs
-pub ace-place : (left : List ℕ) → AreBytes left → ace_fault left ≡ None → IsAcePlace (take (u16_at 2 left) left)
-unfolding place_fault
-ace-place left b e =
+pub ace-readable : (left : List ℕ) → AreBytes left → ace_fault left ≡ None → IsReadableAce (take (u16_at 2 left) left)
+unfolding extent_fault
+ace-readable left b e =
     let n = u16_at 2 left in
-    let place = take n left in
+    let extent = take n left in
     let shows = ace-shows left b e in
     let bounds = ace-bounds left e in
-    let long : length place ≡ n = length-take-le n left bounds.1 in
-    let kind = went_on (not (is_some (kind_of (slice_index place 0)))) faults.AceType _ bounds.2 in
-    let flag = went_on (eqb (slice_index place 1 / 0x20 % 2) 1) faults.AceFlags _ kind.1 in
-    let room = went_on (ltb (length place) (sid_offset_in place + 8)) faults.AceSize _ flag.1 in
-    let sid = passed (is_some (sid_at (drop (sid_offset_in place) place))) faults.Sid room.1 in
+    let long : length extent ≡ n = length-take-le n left bounds.1 in
+    let kind = went_on (not (is_some (kind_of (slice_index extent 0)))) faults.AceType _ bounds.2 in
+    let flag = went_on (eqb (slice_index extent 1 / 0x20 % 2) 1) faults.AceFlags _ kind.1 in
+    let room = went_on (ltb (length extent) (sid_offset_in extent + 8)) faults.AceSize _ flag.1 in
+    let sid = passed (is_some (sid_at (drop (sid_offset_in extent) extent))) faults.Sid room.1 in
     record {
       room = omega (arith, long, bounds.0);
       sound = bounds.2;
-      front = at_least (length place) (sid_offset_in place + 8) room.0;
-      sid = sid_found (drop (sid_offset_in place) place) (sid_at (drop (sid_offset_in place) place))
-          (AreBytes-drop (sid_offset_in place) place (AreBytes-take n left b)) refl sid;
-      limits = shows-ace-limits place (ace_of place) (AreBytes-take n left b) shows.0;
+      front = at_least (length extent) (sid_offset_in extent + 8) room.0;
+      sid = sid_found (drop (sid_offset_in extent) extent) (sid_at (drop (sid_offset_in extent) extent))
+          (AreBytes-drop (sid_offset_in extent) extent (AreBytes-take n left b)) refl sid;
+      limits = shows-ace-limits extent (ace_of extent) (AreBytes-take n left b) shows.0;
     }
 
 -- the written size of what is read
-pub read-size : (place : List ℕ) (s : SecurityId) (n : ℕ) → sid_at (drop (sid_offset_in place) place) ≡ Some (s, n)
+pub read-size : (extent : List ℕ) (s : SecurityId) (n : ℕ) → sid_at (drop (sid_offset_in extent) extent) ≡ Some (s, n)
     → n ≡ sid_size s
-    → sid_offset_in place + n ≡ ace_size (ace_of place)
+    → sid_offset_in extent + n ≡ ace_size (ace_of extent)
 unfolding sid_offset_in
-read-size place s n found size =
-    let same = sid_of-at (drop (sid_offset_in place) place) s n found in
-    ap (λ (k : ℕ). sid_offset_in place + k) (size ∙ ap sid_size (sym same))
+read-size extent s n found size =
+    let same = sid_of-at (drop (sid_offset_in extent) extent) s n found in
+    ap (λ (k : ℕ). sid_offset_in extent + k) (size ∙ ap sid_size (sym same))
 
--- the ACEs that are checked are those of the place
+-- the ACEs that are checked are those of the extent
 pub acl-read : (bytes : List ℕ) (n count : ℕ) → n ≡ u16_at 2 bytes → count ≡ u16_at 4 bytes → 8 ≤ n → n ≤ length bytes
-    → aces_of count (drop 8 (take n bytes)) ≡ acl_of (acl_place bytes)
+    → aces_of count (drop 8 (take n bytes)) ≡ acl_of (acl_at_front bytes)
 acl-read bytes n count size e low high =
     let long : length (take n bytes) ≡ n = length-take-le n bytes high in
     let same : u16_at 4 (take n bytes) ≡ u16_at 4 bytes =

@@ -19,17 +19,17 @@ use Rattle.sd_view.specs.Bytes.{u16_at, u32_at}
 begins : (s : SecurityId) → IsSid s → BeginsWithSid (sid_bytes s) s
 begins s h = record { limits = h; rest = []; shape = sym (append-nil (sid_bytes s)) }
 
--- the bytes of an ACE and the place of its SID, by whether its kind is one of objects
+-- the bytes of an ACE and the offset of its SID, by whether its kind is one of objects
 abbrev bytes_by : ℕ → ℕ → ℕ → ℕ → Bool → Option (List ℕ) → Option (List ℕ) → SecurityId → List ℕ
 bytes_by kind flags n mask b object inherited s =
     (kind ∷ flags ∷ little_bytes 2 n ++ (little_bytes 4 mask ++ object_flags b object inherited))
     ++ (guids b object inherited ++ sid_bytes s)
 
-abbrev place_by : Bool → Option (List ℕ) → Option (List ℕ) → ℕ
-place_by b object inherited = cond b (12 + guid_size object + guid_size inherited) 8
+abbrev front_by : Bool → Option (List ℕ) → Option (List ℕ) → ℕ
+front_by b object inherited = cond b (12 + guid_size object + guid_size inherited) 8
 
 length-by : (kind flags n mask : ℕ) (b : Bool) (o i : Option (List ℕ)) (s : SecurityId)
-    → length (bytes_by kind flags n mask b o i s) ≡ place_by b o i + sid_size s
+    → length (bytes_by kind flags n mask b o i s) ≡ front_by b o i + sid_size s
 length-by kind flags n mask false o i s = omega (arith, length-sid_bytes s)
 length-by kind flags n mask true None None s = omega (arith, length-sid_bytes s)
 length-by kind flags n mask true None (Some x) s = omega (arith, length-sid_bytes s)
@@ -42,30 +42,30 @@ length-ace_bytes a = length-by (kind_code a.kind) a.flags (ace_size a) a.mask (i
     a.inherited a.sid
 
 -- that is at least 16 bytes and at most 112, and a multiple of 4
-place-fourth : (b : Bool) (o i : Option (List ℕ)) → (place_by b o i % 4 ≡ 0) × (8 ≤ place_by b o i)
-    × (place_by b o i ≤ 44)
-place-fourth false o i = (refl, omega arith, omega arith)
-place-fourth true None None = (refl, omega arith, omega arith)
-place-fourth true None (Some x) = (refl, omega arith, omega arith)
-place-fourth true (Some x) None = (refl, omega arith, omega arith)
-place-fourth true (Some x) (Some y) = (refl, omega arith, omega arith)
+front-fourth : (b : Bool) (o i : Option (List ℕ)) → (front_by b o i % 4 ≡ 0) × (8 ≤ front_by b o i)
+    × (front_by b o i ≤ 44)
+front-fourth false o i = (refl, omega arith, omega arith)
+front-fourth true None None = (refl, omega arith, omega arith)
+front-fourth true None (Some x) = (refl, omega arith, omega arith)
+front-fourth true (Some x) None = (refl, omega arith, omega arith)
+front-fourth true (Some x) (Some y) = (refl, omega arith, omega arith)
 
 ace_size-fourth : (a : AccessControlEntry) → (ace_size a % 4 ≡ 0) × (16 ≤ ace_size a)
 ace_size-fourth a =
-    let place = place-fourth (is_object a.kind) a.object a.inherited in
-    (omega (arith, place.0), omega (arith, place.1))
+    let front = front-fourth (is_object a.kind) a.object a.inherited in
+    (omega (arith, front.0), omega (arith, front.1))
 
 pub ace_size-small : (a : AccessControlEntry) → IsAce a → ace_size a < 2 ^ 16
 ace_size-small a h =
-    let place = place-fourth (is_object a.kind) a.object a.inherited in
-    omega (arith, place.2, h.sid.count)
+    let front = front-fourth (is_object a.kind) a.object a.inherited in
+    omega (arith, front.2, h.sid.count)
 
--- the GUIDs and the SID stand at their places
+-- the GUIDs and the SID stand at their offsets
 abbrev Stand : Bool → Option (List ℕ) → Option (List ℕ) → SecurityId → List ℕ → Type 0
-Stand b o i s place =
-    ShowsGuid (b && eqb (u32_at 8 place % 2) 1) (drop 12 place) o
-    × ShowsGuid (b && eqb (u32_at 8 place / 2 % 2) 1) (drop (12 + guid_size o) place) i
-    × BeginsWithSid (drop (place_by b o i) place) s
+Stand b o i s extent =
+    ShowsGuid (b && eqb (u32_at 8 extent % 2) 1) (drop 12 extent) o
+    × ShowsGuid (b && eqb (u32_at 8 extent / 2 % 2) 1) (drop (12 + guid_size o) extent) i
+    × BeginsWithSid (drop (front_by b o i) extent) s
 
 stand : (kind flags n mask : ℕ) (b : Bool) (o i : Option (List ℕ)) (s : SecurityId) → GuidsFit b o i → IfSome o IsGuid
     → IfSome i IsGuid → IsSid s
@@ -148,5 +148,5 @@ acl_bytes-shows aces h =
       size = little_number-reads_back 2 (acl_size aces) (little_bytes 2 (length aces) ++ (0 ∷ 0 ∷ entries)) h.fits
           ∙ sym long;
       count = little_number-reads_back 2 (length aces) (0 ∷ 0 ∷ entries) (omega (arith, all.1, h.fits));
-      places = aces-shown aces h.each;
+      extents = aces-shown aces h.each;
     }

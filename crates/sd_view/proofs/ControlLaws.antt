@@ -59,33 +59,33 @@ dacl-clear n e = record {
   third = clear-bit (bit_at n 10) (omega arith) (ap (λ (f : AclFlags). f.auto_inherited) e);
 }
 
--- a place is not one of those where a word has its bits
-elsewhere : (word place k : ℕ) → has_bit (2 ^ k) word ≡ true → has_bit (2 ^ place) word ≡ false → place ≡ k → ⊥
-elsewhere word place k e none at =
-    let same : has_bit (2 ^ place) word ≡ has_bit (2 ^ k) word = ap (λ (p : ℕ). has_bit (2 ^ p) word) at in
+-- a bit is not one of those that a word has
+elsewhere : (word bit k : ℕ) → has_bit (2 ^ k) word ≡ true → has_bit (2 ^ bit) word ≡ false → bit ≡ k → ⊥
+elsewhere word bit k e none at =
+    let same : has_bit (2 ^ bit) word ≡ has_bit (2 ^ k) word = ap (λ (p : ℕ). has_bit (2 ^ p) word) at in
     let no : true ≡ false = sym e ∙ sym same ∙ none in
     cc
 
 -- the other bits are as they were
-pub bits-same : (w : Which) (f : AclFlags) (others place : ℕ) → acl_flags w others ≡ no_flags
-    → has_bit (2 ^ place) (flag_bits w all_flags) ≡ false
-    → has_bit (2 ^ place) (others + flag_bits w f) ≡ has_bit (2 ^ place) others
-bits-same lists.Sacl f others place e none =
+pub bits-same : (w : Which) (f : AclFlags) (others bit : ℕ) → acl_flags w others ≡ no_flags
+    → has_bit (2 ^ bit) (flag_bits w all_flags) ≡ false
+    → has_bit (2 ^ bit) (others + flag_bits w f) ≡ has_bit (2 ^ bit) others
+bits-same lists.Sacl f others bit e none =
     let clear = sacl-clear others e in
     let mask = flag_bits lists.Sacl all_flags in
     ap (λ (b : ℕ). eqb b 1)
-    (put-three f.protected f.auto_inherit_required f.auto_inherited others 13 9 11 place clear.first clear.second
+    (put-three f.protected f.auto_inherit_required f.auto_inherited others 13 9 11 bit clear.first clear.second
     clear.third
-    (λ x. omega (arith, x)) (λ x. omega (arith, x)) (λ x. omega (arith, x)) (elsewhere mask place 13 refl none)
-    (elsewhere mask place 9 refl none) (elsewhere mask place 11 refl none))
-bits-same lists.Dacl f others place e none =
+    (λ x. omega (arith, x)) (λ x. omega (arith, x)) (λ x. omega (arith, x)) (elsewhere mask bit 13 refl none)
+    (elsewhere mask bit 9 refl none) (elsewhere mask bit 11 refl none))
+bits-same lists.Dacl f others bit e none =
     let clear = dacl-clear others e in
     let mask = flag_bits lists.Dacl all_flags in
     ap (λ (b : ℕ). eqb b 1)
-    (put-three f.protected f.auto_inherit_required f.auto_inherited others 12 8 10 place clear.first clear.second
+    (put-three f.protected f.auto_inherit_required f.auto_inherited others 12 8 10 bit clear.first clear.second
     clear.third
-    (λ x. omega (arith, x)) (λ x. omega (arith, x)) (λ x. omega (arith, x)) (elsewhere mask place 12 refl none)
-    (elsewhere mask place 8 refl none) (elsewhere mask place 10 refl none))
+    (λ x. omega (arith, x)) (λ x. omega (arith, x)) (λ x. omega (arith, x)) (elsewhere mask bit 12 refl none)
+    (elsewhere mask bit 8 refl none) (elsewhere mask bit 10 refl none))
 
 abbrev flags : Bool → Bool → Bool → AclFlags
 flags p r i = record { protected = p; auto_inherit_required = r; auto_inherited = i }

@@ -90,18 +90,18 @@ cond-most : (b : Bool) (n : ℕ) → cond b 0 n ≤ n
 cond-most true n = omega arith
 cond-most false n = omega arith
 
--- where a part of a size stands that begins at a place
+-- where a part of a size stands that begins at an offset
 abbrev extent_if : ℕ → ℕ → Extent
-extent_if place n = if n == 0 then None else Some (place, place + n)
+extent_if start n = if n == 0 then None else Some (start, start + n)
 
-offset-most : (place n : ℕ) → offset_if place n ≤ place
-offset-most place n = cond-most (n == 0) place
+offset-most : (start n : ℕ) → offset_if start n ≤ start
+offset-most start n = cond-most (n == 0) start
 
-pub offset-stands : (place n : ℕ) → 0 < n → offset_if place n ≡ place
-offset-stands place n h = rw (not-zero n h) refl
+pub offset-stands : (start n : ℕ) → 0 < n → offset_if start n ≡ start
+offset-stands start n h = rw (not-zero n h) refl
 
-extent-stands : (place n : ℕ) → 0 < n → extent_if place n ≡ Some (place, place + n)
-extent-stands place n h = rw (not-zero n h) refl
+extent-stands : (start n : ℕ) → 0 < n → extent_if start n ≡ Some (start, start + n)
+extent-stands start n h = rw (not-zero n h) refl
 
 -- parts that follow each other share no byte
 cond-apart : (b c : Bool) (p q : ℕ × ℕ) → p.1 ≤ q.0 → Apart (cond b None (Some p)) (cond c None (Some q))
@@ -129,19 +129,19 @@ parts-apart p k l m n = record {
 }
 
 -- what stands after a part
-after : (place n : ℕ) (whole part rest : List ℕ) → length part ≡ n → drop place whole ≡ part ++ rest
-    → drop (place + n) whole ≡ rest
-after place n whole part rest len shape = sym (drop-drop n place whole) ∙ ap (drop n) shape ∙ drop_at part rest n len
+after : (start n : ℕ) (whole part rest : List ℕ) → length part ≡ n → drop start whole ≡ part ++ rest
+    → drop (start + n) whole ≡ rest
+after start n whole part rest len shape = sym (drop-drop n start whole) ∙ ap (drop n) shape ∙ drop_at part rest n len
 
--- a SID that stands at its place is shown there
-sid-stands : (bytes rest : List ℕ) (offset place : ℕ) (o : Option SecurityId)
-    → offset ≡ offset_if place (sid_part_size o)
-    → drop place bytes ≡ sid_part o ++ rest → 20 ≤ place → IfSome o IsSid
-    → ShowsSid bytes offset o × (sid_extent offset o ≡ extent_if place (sid_part_size o))
-sid-stands bytes rest offset place None at shape low h = (at, refl)
-sid-stands bytes rest offset place (Some s) at shape low h =
-    let same : offset ≡ place = at ∙ offset-stands place (sid_size s) (omega arith) in
-    let extent = extent-stands place (sid_size s) (omega arith) in (
+-- a SID that stands where it begins is shown there
+sid-stands : (bytes rest : List ℕ) (offset start : ℕ) (o : Option SecurityId)
+    → offset ≡ offset_if start (sid_part_size o)
+    → drop start bytes ≡ sid_part o ++ rest → 20 ≤ start → IfSome o IsSid
+    → ShowsSid bytes offset o × (sid_extent offset o ≡ extent_if start (sid_part_size o))
+sid-stands bytes rest offset start None at shape low h = (at, refl)
+sid-stands bytes rest offset start (Some s) at shape low h =
+    let same : offset ≡ start = at ∙ offset-stands start (sid_size s) (omega arith) in
+    let extent = extent-stands start (sid_size s) (omega arith) in (
       (omega (arith, same, low), record { limits = h; rest = rest; shape = ap (λ (n : ℕ). drop n bytes) same ∙ shape }),
       ap (λ (n : ℕ). sid_extent n (Some s)) same ∙ sym extent,
     )
@@ -156,15 +156,15 @@ acl_size-read bytes rest aces h found =
     (little_bytes 2 (length aces) ++ (0 ∷ 0 ∷ (flat_map ace_bytes aces ++ rest))) h.fits
 
 -- so is an ACL
-acl-stands : (bytes rest : List ℕ) (offset place : ℕ) (present : Bool) (p : AclPart)
-    → offset ≡ offset_if place (acl_part_size p)
-    → drop place bytes ≡ acl_part p ++ rest → 20 ≤ place → IsAclPart present p
-    → ShowsAclPart bytes present offset p × (acl_extent bytes offset p ≡ extent_if place (acl_part_size p))
-acl-stands bytes rest offset place present acl.Absent at shape low h = (h, refl)
-acl-stands bytes rest offset place present acl.Null at shape low h = ((h, at), refl)
-acl-stands bytes rest offset place present (acl.List aces) at shape low h =
-    let same : offset ≡ place = at ∙ offset-stands place (acl_size aces) (omega arith) in
-    let extent = extent-stands place (acl_size aces) (omega arith) in
+acl-stands : (bytes rest : List ℕ) (offset start : ℕ) (present : Bool) (p : AclPart)
+    → offset ≡ offset_if start (acl_part_size p)
+    → drop start bytes ≡ acl_part p ++ rest → 20 ≤ start → IsAclPart present p
+    → ShowsAclPart bytes present offset p × (acl_extent bytes offset p ≡ extent_if start (acl_part_size p))
+acl-stands bytes rest offset start present acl.Absent at shape low h = (h, refl)
+acl-stands bytes rest offset start present acl.Null at shape low h = ((h, at), refl)
+acl-stands bytes rest offset start present (acl.List aces) at shape low h =
+    let same : offset ≡ start = at ∙ offset-stands start (acl_size aces) (omega arith) in
+    let extent = extent-stands start (acl_size aces) (omega arith) in
     let found : drop offset bytes ≡ acl_bytes aces ++ rest = ap (λ (n : ℕ). drop n bytes) same ∙ shape in
     let long = acl_size-read (drop offset bytes) rest aces h.1 found in (
       (h.0, omega (arith, same, low), (acl_bytes aces, rest, found, acl_bytes-shows aces h.1)),
@@ -196,8 +196,8 @@ length-layout d =
     ∙ omega (arith, length-header d)
 
 -- the fields of the layout's header
-offset-small : (place n : ℕ) → place ≤ 131220 → offset_if place n < 2 ^ 32
-offset-small place n h = omega (arith, offset-most place n)
+offset-small : (start n : ℕ) → start ≤ 131220 → offset_if start n < 2 ^ 32
+offset-small start n h = omega (arith, offset-most start n)
 
 record Header (d : Descriptor) : Type 0 where
   revision : slice_index (layout d) 0 ≡ 1
@@ -230,7 +230,7 @@ header d h =
           (offset-small (dacl_offset d) (acl_part_size d.dacl) (omega arith));
     }
 
--- what stands from the place of each part on
+-- what stands from the first byte of each part on
 record Rests (d : Descriptor) : Type 0 where
   owner : drop 20 (layout d) ≡ sid_part d.owner ++ (sid_part d.group ++ (acl_part d.sacl ++ acl_part d.dacl))
   group : drop (group_offset d) (layout d) ≡ sid_part d.group ++ (acl_part d.sacl ++ acl_part d.dacl)

@@ -25,16 +25,16 @@ sid_shown-stands bytes offset other e =
     let found = stands-at (drop offset bytes) e in
     rw (zero_test, found) refl
 
--- the bytes of the SID that is shown stand at its place, as many as its count says
+-- the bytes of the SID that is shown stand at its offset, as many as its count says
 pub sid-bytes : (bytes : List ℕ) (offset : ℕ) → AreBytes bytes → (offset ≡ 0 → ⊥) → IsSidAt bytes offset
     → take (8 + 4 * slice_index (drop offset bytes) 1) (drop offset bytes) ≡ sid_part (sid_shown bytes offset)
 sid-bytes bytes offset b other h =
-    let place = drop offset bytes in
-    let n = 8 + 4 * slice_index place 1 in
+    let rest = drop offset bytes in
+    let n = 8 + 4 * slice_index rest 1 in
     let test = h.stands other in
-    let sid = stands-sid place (AreBytes-drop offset bytes b) test in
-    let size = length-sid_bytes (sid_of place) ∙ sym sid.1 in
-    ap (take n) sid.0.shape ∙ take_at (sid_bytes (sid_of place)) sid.0.rest n size
+    let sid = stands-sid rest (AreBytes-drop offset bytes b) test in
+    let size = length-sid_bytes (sid_of rest) ∙ sym sid.1 in
+    ap (take n) sid.0.shape ∙ take_at (sid_bytes (sid_of rest)) sid.0.rest n size
     ∙ ap sid_part (sym (sid_shown-stands bytes offset other test))
 
 -- what is kept of an ACL has its written size

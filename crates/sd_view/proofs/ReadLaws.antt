@@ -17,10 +17,10 @@ use Rattle.sd_view.specs.declared.acl.AclPart.{AclPart}
 use Rattle.sd_view.specs.declared.acl.AclPart.TheVariants as acl
 use Rattle.sd_core.specs.Ace.{AccessControlEntry}
 use Rattle.sd_view.specs.Acl.{BeginsWithAcl}
-use Rattle.sd_view.specs.AclReading.{acl_fault, acl_of, acl_place}
+use Rattle.sd_view.specs.AclReading.{acl_fault, acl_of, acl_at_front}
 use Rattle.sd_view.specs.Descriptor.{Apart, AreApart, Descriptor, Extent, Extents, IsAclPart, IsDescriptor, Shows, ShowsAclPart, ShowsSid, control_at, dacl_at, dacl_present, extents_of, group_at, owner_at, sacl_at, sacl_present, self_relative}
 use Rattle.sd_view.specs.Reading.{IsAclAt, IsSidAt, Readable, acl_part_fault, acl_shown, fault, fault_in, header_fault, overlap_fault, overlaps_fault, parts_fault, reading, share_a_byte, shown, sid_fault, sid_shown}
-use Rattle.sd_view.proofs.AclLaws.{acl-begins, acl-place, begins-acl, shows-acl-limits}
+use Rattle.sd_view.proofs.AclLaws.{acl-begins, acl-readable, begins-acl, shows-acl-limits}
 use Rattle.sd_view.proofs.FirstFault.{first_none, none_first, otherwise, passed, went_on}
 
 -- a header without a fault
@@ -54,7 +54,7 @@ none_header bytes h =
     let revision = eq-eqb (slice_index bytes 0) 1 h.revision in
     rw (room, revision, h.relative) refl
 
--- a place that holds a SID
+-- an offset where a SID stands
 sid_answer : (part : Part) (bytes : List ℕ) (offset : ℕ) (s : SecurityId) (n : ℕ) → 20 ≤ offset
     → offset + 8 ≤ length bytes
     → sid_at (drop offset bytes) ≡ Some (s, n) → (sid_fault part bytes offset ≡ None)
@@ -115,10 +115,10 @@ sid-shows part bytes offset b e = elim (cases_eq offset 0) [
       let zero_test : eqb offset 0 ≡ false = grind (arith, nat_tests) in
       let range = went_on _ _ _ (otherwise _ _ _ zero_test e) in
       let ends = bounds offset (length bytes) range.0 in
-      let place = drop offset bytes in
-      let test = at-stands place (passed _ _ range.1) in
-      let sid = (stands-sid place (AreBytes-drop offset bytes b) test).0 in
-      let some = (shows-sid part bytes offset (Some (sid_of place)) (ends.0, sid)).1 in (
+      let rest = drop offset bytes in
+      let test = at-stands rest (passed _ _ range.1) in
+      let sid = (stands-sid rest (AreBytes-drop offset bytes b) test).0 in
+      let some = (shows-sid part bytes offset (Some (sid_of rest)) (ends.0, sid)).1 in (
         subst (λ (o : Option SecurityId). ShowsSid bytes offset o) (sym some) (ends.0, sid),
         record { within = omega (arith, ends.1); stands = λ _. test },
       )
@@ -174,14 +174,14 @@ acl-part-shows : (part : Part) (bytes : List ℕ) (present : Bool) (offset : ℕ
     → ShowsAclPart bytes present offset (acl_shown bytes present offset) × IsAclAt bytes present offset
 unfolding acl_part_fault acl_shown
 acl-part-shows part bytes false offset b
-    e = (refl, record { within = λ t. absurd (cc); whole = λ t. absurd (cc); place = λ t. absurd (cc) })
+    e = (refl, record { within = λ t. absurd (cc); whole = λ t. absurd (cc); extent = λ t. absurd (cc) })
 acl-part-shows part bytes true offset b e = elim (cases_eq offset 0) [
   | inl z ↦ (
     subst (λ (n : ℕ). ShowsAclPart bytes true n (acl_shown bytes true n)) (sym z) (refl, refl),
     record {
       within = λ t other. absurd (other z);
       whole = λ t other. absurd (other z);
-      place = λ t other. absurd
+      extent = λ t other. absurd
           (other z);
     },
   )
@@ -191,11 +191,11 @@ acl-part-shows part bytes true offset b e = elim (cases_eq offset 0) [
       let ends = bounds offset (length bytes) range.0 in
       let whole = AreBytes-drop offset bytes b in
       let none = map_none (fault_in part) (acl_fault (drop offset bytes)) range.1 in
-      let seen : acl_shown bytes true offset ≡ acl.List (acl_of (acl_place (drop offset bytes))) = rw zero_test refl in
-      let place = acl-place (drop offset bytes) whole none in (
+      let seen : acl_shown bytes true offset ≡ acl.List (acl_of (acl_at_front (drop offset bytes))) = rw zero_test refl in
+      let extent = acl-readable (drop offset bytes) whole none in (
         subst (λ (p : AclPart). ShowsAclPart bytes true offset p) (sym seen)
             (refl, ends.0, acl-begins (drop offset bytes) whole none),
-        record { within = λ t other. ends.1; whole = λ t other. place.2; place = λ t other. place.0 },
+        record { within = λ t other. ends.1; whole = λ t other. extent.2; extent = λ t other. extent.0 },
       )
 ]
 
@@ -259,20 +259,20 @@ sid-limits : (bytes : List ℕ) (offset : ℕ) (o : Option SecurityId) → Shows
 sid-limits bytes offset None h = tt
 sid-limits bytes offset (Some s) h = h.1.limits
 
-front_bytes : (place rest bytes : List ℕ) → bytes ≡ place ++ rest → AreBytes bytes → AreBytes place
-front_bytes place rest bytes e b =
-    let front = ap (take (length place)) e
-    ∙ take_at place rest (length place) refl in subst AreBytes front (AreBytes-take (length place) bytes b)
+front_bytes : (extent rest bytes : List ℕ) → bytes ≡ extent ++ rest → AreBytes bytes → AreBytes extent
+front_bytes extent rest bytes e b =
+    let front = ap (take (length extent)) e
+    ∙ take_at extent rest (length extent) refl in subst AreBytes front (AreBytes-take (length extent) bytes b)
 
 acl-part-limits : (bytes : List ℕ) (present : Bool) (offset : ℕ) (p : AclPart) → AreBytes bytes
     → ShowsAclPart bytes present offset p → IsAclPart present p
 acl-part-limits bytes present offset acl.Absent b h = h
 acl-part-limits bytes present offset acl.Null b h = h.0
 acl-part-limits bytes present offset (acl.List aces) b h =
-    let place = h.2 in (
+    let extent = h.2 in (
       h.0,
-      shows-acl-limits place.0 aces
-          (front_bytes place.0 place.1 (drop offset bytes) place.2 (AreBytes-drop offset bytes b)) place.3,
+      shows-acl-limits extent.0 aces
+          (front_bytes extent.0 extent.1 (drop offset bytes) extent.2 (AreBytes-drop offset bytes b)) extent.3,
     )
 
 control-small : (bytes : List ℕ) → AreBytes bytes → control_at bytes < 2 ^ 16

@@ -10,21 +10,21 @@ use Rattle.sd_view.specs.declared.acl.AclPart.{AclPart}
 use Rattle.sd_view.specs.declared.acl.AclPart.TheVariants as acl
 use Rattle.sd_view.proofs.AclLaws.{acl-fits, sid-room, u16_at-front}
 
--- an ACL's place is as long as its size field says, and at least as long as its written size
+-- an ACL's extent is as long as its size field says, and at least as long as its written size
 acl-inside : (offset : ℕ) (bytes : List ℕ) (aces : List AccessControlEntry) → 20 ≤ offset
     → BeginsWithAcl (drop offset bytes) aces
     → (acl_size aces ≤ u16_at 2 (drop offset bytes)) × (offset + u16_at 2 (drop offset bytes) ≤ length bytes)
-acl-inside offset bytes aces low (place, rest, shape, h) =
-    let field : u16_at 2 (drop offset bytes) ≡ length place = ap (u16_at 2) shape
-    ∙ u16_at-front 2 place rest (omega (arith, h.header)) ∙ h.size in
+acl-inside offset bytes aces low (extent, rest, shape, h) =
+    let field : u16_at 2 (drop offset bytes) ≡ length extent = ap (u16_at 2) shape
+    ∙ u16_at-front 2 extent rest (omega (arith, h.header)) ∙ h.size in
     let whole = ap length shape in
     let header = h.header in (
-      omega (arith, field, acl-fits place aces h),
-      omega (arith, field, whole, header, length-append place rest, length-drop offset bytes),
+      omega (arith, field, acl-fits extent aces h),
+      omega (arith, field, whole, header, length-append extent rest, length-drop offset bytes),
     )
 
--- A part's place: past the header, inside the bytes, and with room for the part. One that does not
--- stand has the empty place after the header.
+-- A part's extent: past the header, inside the bytes, and with room for the part. One that does not
+-- stand has the empty extent after the header.
 abbrev first_of : Extent → ℕ
 first_of None = 20
 first_of (Some p) = p.0
@@ -52,14 +52,14 @@ acl-held bytes present offset (acl.List aces) header h =
     let found = acl-inside offset bytes aces h.1 h.2 in
     record { low = h.1; room = omega (arith, found.0); inside = found.1 }
 
--- of two places that share no byte one ends before the other begins
+-- of two extents that share no byte one ends before the other begins
 follows : (e f : Extent) → Apart e f → 20 ≤ first_of e → 20 ≤ first_of f → (end_of e ≤ first_of f)
     ⊎ (end_of f ≤ first_of e)
 follows None f h low high = inl high
 follows (Some p) None h low high = inr low
 follows (Some p) (Some q) h low high = h
 
--- so four places, of which no two share a byte, have room for four parts one after the other
+-- so four extents, of which no two share a byte, have room for four parts one after the other
 four-fit : (e f g h : Extent) (k l m n total : ℕ) → Holds e k total → Holds f l total → Holds g m total
     → Holds h n total
     → AreApart (record { owner = e; group = f; sacl = g; dacl = h }) → 20 + k + l + m + n ≤ total

@@ -13,9 +13,9 @@ use Rattle.sd_view.specs.Bytes.{u16_at, u32_at}
 use Rattle.sd_view.specs.Ace.{ShowsAce, announces_inherited, announces_object}
 use Rattle.sd_view.specs.Acl.{acl_size, aces_size, has_object}
 use Rattle.sd_view.specs.AclLayout.{ace_body, ace_bytes, ace_front, acl_bytes, acl_header, flag_if, front_size, object_flags}
-use Rattle.sd_view.specs.AclReading.{IsAcePlace, IsAclPlace, ace_of, aces_fault, aces_of, acl_of, guid_if, inherited_in, kind_in, object_in}
+use Rattle.sd_view.specs.AclReading.{IsReadableAce, IsReadableAcl, ace_of, aces_fault, aces_of, acl_of, guid_if, inherited_in, kind_in, object_in}
 use Rattle.sd_view.specs.Inner.Written.{all_named_flags, named_flags}
-use Rattle.sd_view.proofs.AclLaws.{ace-fits, ace-place, ace-shows, aces-fit, aces-shows, u16_at-front}
+use Rattle.sd_view.proofs.AclLaws.{ace-fits, ace-readable, ace-shows, aces-fit, aces-shows, u16_at-front}
 use Rattle.sd_view.proofs.BodyLaws.{body_at, length_body}
 use Rattle.sd_view.proofs.FirstFault.{first_none}
 
@@ -52,60 +52,60 @@ flags_by true t u n xs ys h e f =
     rw (flag_by t xs 1, flag_by u ys 2, e, f) (two_bits n (grind (arith, nat_tests))) in
     ap (little_bytes 4) sum
 
-flags-written : (place : List ℕ) → AreBytes place → 12 ≤ length place → named_flags place ≡ true
-    → object_flags (is_object (kind_in place)) (object_in place) (inherited_in place) ≡ cond (is_object (kind_in place))
-    (take 4 (drop 8 place)) []
+flags-written : (extent : List ℕ) → AreBytes extent → 12 ≤ length extent → named_flags extent ≡ true
+    → object_flags (is_object (kind_in extent)) (object_in extent) (inherited_in extent) ≡ cond (is_object (kind_in extent))
+    (take 4 (drop 8 extent)) []
 unfolding object_in inherited_in announces_object announces_inherited
-flags-written place b room named =
-    flags_by (is_object (kind_in place)) (eqb (u32_at 8 place % 2) 1) (eqb (u32_at 8 place / 2 % 2) 1) (u32_at 8 place)
-    (drop 12 place) (drop (12 + guid_size (object_in place)) place) named refl refl
-    ∙ ap (λ (xs : List ℕ). cond (is_object (kind_in place)) xs []) (long_word 8 place b (omega arith))
+flags-written extent b room named =
+    flags_by (is_object (kind_in extent)) (eqb (u32_at 8 extent % 2) 1) (eqb (u32_at 8 extent / 2 % 2) 1) (u32_at 8 extent)
+    (drop 12 extent) (drop (12 + guid_size (object_in extent)) extent) named refl refl
+    ∙ ap (λ (xs : List ℕ). cond (is_object (kind_in extent)) xs []) (long_word 8 extent b (omega arith))
 
--- the front of a place, cut into its fields
-eight : (place : List ℕ) → 8 ≤ length place
-    → take 8 place ≡ slice_index place 0 ∷ slice_index place 1 ∷ take 2 (drop 2 place) ++ take 4 (drop 4 place)
+-- the front of an extent, cut into its fields
+eight : (extent : List ℕ) → 8 ≤ length extent
+    → take 8 extent ≡ slice_index extent 0 ∷ slice_index extent 1 ∷ take 2 (drop 2 extent) ++ take 4 (drop 4 extent)
 eight [] room = absurd (omega arith)
 eight (x ∷ []) room = absurd (omega arith)
 eight (x ∷ (y ∷ rest)) room = ap (λ (xs : List ℕ). x ∷ y ∷ xs) (take-add 2 4 rest)
 
-cut : (b : Bool) (place : List ℕ) → take (cond b 12 8) place ≡ take 8 place ++ cond b (take 4 (drop 8 place)) []
-cut true place = take-add 8 4 place
-cut false place = sym (append-nil (take 8 place))
+cut : (b : Bool) (extent : List ℕ) → take (cond b 12 8) extent ≡ take 8 extent ++ cond b (take 4 (drop 8 extent)) []
+cut true extent = take-add 8 4 extent
+cut false extent = sym (append-nil (take 8 extent))
 
 join : (kind flags first : ℕ) (size mask object xs ys zs : List ℕ) → first ≡ kind → size ≡ xs → mask ≡ ys → object ≡ zs
     → (first ∷ flags ∷ xs ++ ys) ++ zs ≡ kind ∷ flags ∷ size ++ (mask ++ object)
 join kind flags first size mask object xs ys zs e f g h =
     rw (e, f, g, h) (ap (λ (rest : List ℕ). kind ∷ flags ∷ rest) (append_assoc xs ys zs))
 
-front-written : (place : List ℕ) → AreBytes place → 16 ≤ length place → ShowsAce place (ace_of place)
-    → ace_size (ace_of place) ≡ length place
-    → named_flags place ≡ true
-    → take (front_size (kind_in place)) place ≡ ace_front (ace_of place)
-front-written place b room shows whole named =
-    let size : little_bytes 2 (ace_size (ace_of place)) ≡ take 2 (drop 2 place) =
-    ap (little_bytes 2) (whole ∙ sym shows.size) ∙ word 2 place b (omega arith) in
-    cut (is_object (kind_in place)) place
-    ∙ ap (λ (xs : List ℕ). xs ++ cond (is_object (kind_in place)) (take 4 (drop 8 place)) [])
-    (eight place (omega arith))
-    ∙ join (kind_code (kind_in place)) (slice_index place 1) (slice_index place 0) _ _ _ _ _ _ shows.kind size
-    (long_word 4 place b (omega arith))
-    (flags-written place b (omega arith) named)
+front-written : (extent : List ℕ) → AreBytes extent → 16 ≤ length extent → ShowsAce extent (ace_of extent)
+    → ace_size (ace_of extent) ≡ length extent
+    → named_flags extent ≡ true
+    → take (front_size (kind_in extent)) extent ≡ ace_front (ace_of extent)
+front-written extent b room shows whole named =
+    let size : little_bytes 2 (ace_size (ace_of extent)) ≡ take 2 (drop 2 extent) =
+    ap (little_bytes 2) (whole ∙ sym shows.size) ∙ word 2 extent b (omega arith) in
+    cut (is_object (kind_in extent)) extent
+    ∙ ap (λ (xs : List ℕ). xs ++ cond (is_object (kind_in extent)) (take 4 (drop 8 extent)) [])
+    (eight extent (omega arith))
+    ∙ join (kind_code (kind_in extent)) (slice_index extent 1) (slice_index extent 0) _ _ _ _ _ _ shows.kind size
+    (long_word 4 extent b (omega arith))
+    (flags-written extent b (omega arith) named)
 
 -- an ACE without spare bytes
-ace-written : (place : List ℕ) → AreBytes place → IsAcePlace place → ShowsAce place (ace_of place)
-    → ace_size (ace_of place) ≡ length place
-    → named_flags place ≡ true
-    → ace_bytes (ace_of place) ≡ place
-ace-written place b h shows whole named =
-    let n = front_size (kind_in place) in
-    let body = ace_body (ace_of place) in
-    let sum = length_body place in
-    let back : drop n place ≡ body =
-    sym (take_all (length body) (drop n place) (omega (arith, sum, whole, length-drop n place)))
-    ∙ body_at place (length body) h refl in
-    let front = front-written place b h.room shows whole named in
-    ap (λ (xs : List ℕ). xs ++ body) (sym front) ∙ ap (λ (xs : List ℕ). take n place ++ xs) (sym back)
-    ∙ take-append-drop n place
+ace-written : (extent : List ℕ) → AreBytes extent → IsReadableAce extent → ShowsAce extent (ace_of extent)
+    → ace_size (ace_of extent) ≡ length extent
+    → named_flags extent ≡ true
+    → ace_bytes (ace_of extent) ≡ extent
+ace-written extent b h shows whole named =
+    let n = front_size (kind_in extent) in
+    let body = ace_body (ace_of extent) in
+    let sum = length_body extent in
+    let back : drop n extent ≡ body =
+    sym (take_all (length body) (drop n extent) (omega (arith, sum, whole, length-drop n extent)))
+    ∙ body_at extent (length body) h refl in
+    let front = front-written extent b h.room shows whole named in
+    ap (λ (xs : List ℕ). xs ++ body) (sym front) ∙ ap (λ (xs : List ℕ). take n extent ++ xs) (sym back)
+    ∙ take-append-drop n extent
 
 both : (a b : Bool) → (a && b) ≡ true → (a ≡ true) × (b ≡ true)
 both true b e = (refl, e)
@@ -124,55 +124,55 @@ unfolding aces_fault aces_of all_named_flags
 aces-written zero left b e whole named = none left whole
 aces-written (suc n) left b e whole named =
     let size = u16_at 2 left in
-    let place = take size left in
+    let extent = take size left in
     let rest = drop size left in
     let sound = first_none _ _ e in
-    let names = both (named_flags place) (all_named_flags n rest) named in
+    let names = both (named_flags extent) (all_named_flags n rest) named in
     let shows = ace-shows left b sound.0 in
     let rest_bytes = AreBytes-drop size left b in
-    let fits = ace-fits place (ace_of place) shows.0 in
+    let fits = ace-fits extent (ace_of extent) shows.0 in
     let rest_fits = aces-fit (aces_of n rest) rest (aces-shows n rest rest_bytes sound.1).0 in
-    let long : length place ≡ size = length-take-le size left shows.1 in
+    let long : length extent ≡ size = length-take-le size left shows.1 in
     let more = length-drop size left in
-    let first = ace-written place (AreBytes-take size left b) (ace-place left b sound.0) shows.0
+    let first = ace-written extent (AreBytes-take size left b) (ace-readable left b sound.0) shows.0
     (omega (arith, fits, rest_fits, long, more, whole, shows.1)) names.0 in
     let others = aces-written n rest rest_bytes sound.1 (omega (arith, fits, rest_fits, long, more, whole, shows.1))
     names.1 in
-    ap (λ (xs : List ℕ). xs ++ flat_map ace_bytes (aces_of n rest)) first ∙ ap (λ (xs : List ℕ). place ++ xs) others
+    ap (λ (xs : List ℕ). xs ++ flat_map ace_bytes (aces_of n rest)) first ∙ ap (λ (xs : List ℕ). extent ++ xs) others
     ∙ take-append-drop size left
 
--- a place that begins with the header of the written form has no more bytes than that
-header-size : (place : List ℕ) → IsAclPlace place → take 8 place ≡ acl_header (acl_of place)
-    → length place ≡ acl_size (acl_of place)
+-- an extent that begins with the header of the written form has no more bytes than that
+header-size : (extent : List ℕ) → IsReadableAcl extent → take 8 extent ≡ acl_header (acl_of extent)
+    → length extent ≡ acl_size (acl_of extent)
 unfolding u16_at
-header-size place h front =
-    let aces = acl_of place in
-    let room : 8 ≤ length (take 8 place) = omega (arith, length-take-le 8 place h.room) in
+header-size extent h front =
+    let aces = acl_of extent in
+    let room : 8 ≤ length (take 8 extent) = omega (arith, length-take-le 8 extent h.room) in
     sym h.size
-    ∙ ap (u16_at 2) (sym (take-append-drop 8 place))
-    ∙ u16_at-front 2 (take 8 place) (drop 8 place) (omega arith)
+    ∙ ap (u16_at 2) (sym (take-append-drop 8 extent))
+    ∙ u16_at-front 2 (take 8 extent) (drop 8 extent) (omega arith)
     ∙ ap (u16_at 2) front
     ∙ little_number-reads_back 2 (acl_size aces) (little_bytes 2 (length aces) ++ (0 ∷ 0 ∷ [])) h.limits.fits
 
 -- an ACL that has the header of its written form
-pub acl-written : (place header : List ℕ) → AreBytes place → AreBytes header → IsAclPlace place
-    → header ≡ acl_header (acl_of place)
-    → little_number 8 place ≡ little_number 8 header
-    → all_named_flags (u16_at 4 place) (drop 8 place) ≡ true
-    → acl_bytes (acl_of place) ≡ place
-acl-written place header b k h written same named =
+pub acl-written : (extent header : List ℕ) → AreBytes extent → AreBytes header → IsReadableAcl extent
+    → header ≡ acl_header (acl_of extent)
+    → little_number 8 extent ≡ little_number 8 header
+    → all_named_flags (u16_at 4 extent) (drop 8 extent) ≡ true
+    → acl_bytes (acl_of extent) ≡ extent
+acl-written extent header b k h written same named =
     let long : length header ≡ 8 = ap (length {A = ℕ}) written in
-    let front : take 8 place ≡ acl_header (acl_of place) =
-    sym (bytes_low_first-little_from 8 place (omega (arith, h.room)) b) ∙ ap (little_bytes 8) same
+    let front : take 8 extent ≡ acl_header (acl_of extent) =
+    sym (bytes_low_first-little_from 8 extent (omega (arith, h.room)) b) ∙ ap (little_bytes 8) same
     ∙ bytes_low_first-little_from 8 header (omega (arith, long)) k
     ∙ take_all 8 header (omega (arith, long))
     ∙ written in
-    let size = header-size place h front in
-    let entries = aces-written (u16_at 4 place) (drop 8 place) (AreBytes-drop 8 place b) h.sound
-    (omega (arith, size, length-drop 8 place, h.room)) named in
-    ap (λ (xs : List ℕ). xs ++ flat_map ace_bytes (acl_of place)) (sym front)
-    ∙ ap (λ (xs : List ℕ). take 8 place ++ xs) entries
-    ∙ take-append-drop 8 place
+    let size = header-size extent h front in
+    let entries = aces-written (u16_at 4 extent) (drop 8 extent) (AreBytes-drop 8 extent b) h.sound
+    (omega (arith, size, length-drop 8 extent, h.room)) named in
+    ap (λ (xs : List ℕ). xs ++ flat_map ace_bytes (acl_of extent)) (sym front)
+    ∙ ap (λ (xs : List ℕ). take 8 extent ++ xs) entries
+    ∙ take-append-drop 8 extent
 
 -- where no object ACE stands, no flags stand
 neither : (a b : Bool) → (a || b) ≡ false → (a ≡ false) × (b ≡ false)
@@ -183,9 +183,9 @@ pub plain-named : (n : ℕ) (left : List ℕ) → has_object (aces_of n left) �
 unfolding aces_of all_named_flags
 plain-named zero left e = refl
 plain-named (suc n) left e =
-    let place = take (u16_at 2 left) left in
+    let extent = take (u16_at 2 left) left in
     let rest = drop (u16_at 2 left) left in
-    let parts = neither (is_object (kind_in place)) (has_object (aces_of n rest)) e in
+    let parts = neither (is_object (kind_in extent)) (has_object (aces_of n rest)) e in
     let plain = parts.0 in
     rw plain (plain-named n rest parts.1)
 

@@ -1,4 +1,4 @@
--- Access control lists as bytes (MS-DTYP 2.4.5): which place shows which.
+-- Access control lists as bytes (MS-DTYP 2.4.5): which extent shows which.
 use Rattle.std.specs.Prelude.{◌≡◌, ◌≤◌, ◌<◌, ℕ, ◌+◌, ◌^◌, ◌⊎◌, Bool, List, [], ◌∷◌, ◌++◌, length, drop, slice_index}
 use Rattle.std.specs.List.{list_any, AllByRecursion}
 use Rattle.sd_core.specs.Ace.{AccessControlEntry, IsAce, ace_size}
@@ -6,23 +6,23 @@ use Rattle.sd_rights.specs.Kinds.{is_object}
 use Rattle.sd_view.specs.Ace.{ShowsAce}
 use Rattle.sd_view.specs.Bytes.{u16_at}
 
--- ACE places that follow each other; what stands after the last is free
+-- ACE extents that follow each other; what stands after the last is free
 abbrev pub ShowsAces : List ℕ → List AccessControlEntry → Type 0
 ShowsAces bytes [] = Unit {0}
-ShowsAces bytes (a ∷ others) = (place rest : List ℕ) × (bytes ≡ place ++ rest) × ShowsAce place a
+ShowsAces bytes (a ∷ others) = (extent rest : List ℕ) × (bytes ≡ extent ++ rest) × ShowsAce extent a
     × ShowsAces rest others
 
--- An ACL's place is as long as its size field says, and has as many ACEs as its count says.
-pub record ShowsAcl (place : List ℕ) (aces : List AccessControlEntry) : Type 0 where
-  pub revision : (slice_index place 0 ≡ 2) ⊎ (slice_index place 0 ≡ 4)
-  pub header : 8 ≤ length place
-  pub size : u16_at 2 place ≡ length place
-  pub count : u16_at 4 place ≡ length aces
-  pub places : ShowsAces (drop 8 place) aces
+-- An ACL's extent is as long as its size field says, and has as many ACEs as its count says.
+pub record ShowsAcl (extent : List ℕ) (aces : List AccessControlEntry) : Type 0 where
+  pub revision : (slice_index extent 0 ≡ 2) ⊎ (slice_index extent 0 ≡ 4)
+  pub header : 8 ≤ length extent
+  pub size : u16_at 2 extent ≡ length extent
+  pub count : u16_at 4 extent ≡ length aces
+  pub extents : ShowsAces (drop 8 extent) aces
 
 -- an ACL stands at the front of the bytes
 abbrev pub BeginsWithAcl : List ℕ → List AccessControlEntry → Type 0
-BeginsWithAcl bytes aces = (place rest : List ℕ) × (bytes ≡ place ++ rest) × ShowsAcl place aces
+BeginsWithAcl bytes aces = (extent rest : List ℕ) × (bytes ≡ extent ++ rest) × ShowsAcl extent aces
 
 -- the written size
 abbrev pub aces_size : List AccessControlEntry → ℕ

@@ -18,49 +18,49 @@ abbrev pub first : {F : Type 0} → Option F → Option F → Option F
 first (Some f) later = Some f
 first None later = later
 
--- the fields of an ACE's place, which count only where the place has no fault
+-- the fields of an ACE's extent, which count only where the extent has no fault
 unfoldable pub kind_in : List ℕ → AceKind
-kind_in place = unwrap_or (kind_of (slice_index place 0)) kinds.Allow
+kind_in extent = unwrap_or (kind_of (slice_index extent 0)) kinds.Allow
 
 unfoldable pub guid_if : Bool → List ℕ → Option (List ℕ)
 guid_if announced bytes = if announced then Some (swap_fields (take 16 bytes)) else None
 
 unfoldable pub object_in : List ℕ → Option (List ℕ)
-object_in place = guid_if (announces_object (kind_in place) place) (drop 12 place)
+object_in extent = guid_if (announces_object (kind_in extent) extent) (drop 12 extent)
 
 unfoldable pub inherited_in : List ℕ → Option (List ℕ)
-inherited_in place = guid_if (announces_inherited (kind_in place) place) (drop (12 + guid_size (object_in place)) place)
+inherited_in extent = guid_if (announces_inherited (kind_in extent) extent) (drop (12 + guid_size (object_in extent)) extent)
 
 unfoldable pub sid_offset_in : List ℕ → ℕ
-sid_offset_in place = sid_offset (kind_in place) (object_in place) (inherited_in place)
+sid_offset_in extent = sid_offset (kind_in extent) (object_in extent) (inherited_in extent)
 
--- the ACE of a place
+-- the ACE of an extent
 abbrev pub ace_of : List ℕ → AccessControlEntry
-ace_of place = record {
-  kind = kind_in place;
-  flags = slice_index place 1;
-  mask = u32_at 4 place;
-  object = object_in place;
-  inherited = inherited_in place;
-  sid = sid_of (drop (sid_offset_in place) place);
+ace_of extent = record {
+  kind = kind_in extent;
+  flags = slice_index extent 1;
+  mask = u32_at 4 extent;
+  object = object_in extent;
+  inherited = inherited_in extent;
+  sid = sid_of (drop (sid_offset_in extent) extent);
 }
 
--- the first fault inside an ACE's place: 12, 13, 11 and 9
-unfoldable pub place_fault : List ℕ → Option AclFault
-place_fault place =
-    if not (is_some (kind_of (slice_index place 0))) then Some faults.AceType
-    else if slice_index place 1 / 0x20 % 2 == 1 then Some faults.AceFlags
-    else if nat_lt (length place) (sid_offset_in place + 8) then Some faults.AceSize
-    else if is_some (sid_at (drop (sid_offset_in place) place)) then None
+-- the first fault inside an ACE's extent: 12, 13, 11 and 9
+unfoldable pub extent_fault : List ℕ → Option AclFault
+extent_fault extent =
+    if not (is_some (kind_of (slice_index extent 0))) then Some faults.AceType
+    else if slice_index extent 1 / 0x20 % 2 == 1 then Some faults.AceFlags
+    else if nat_lt (length extent) (sid_offset_in extent + 8) then Some faults.AceSize
+    else if is_some (sid_at (drop (sid_offset_in extent) extent)) then None
     else Some faults.Sid
 
--- the first fault of the ACE at the front of what is left of an ACL: 11, and those inside its place
+-- the first fault of the ACE at the front of what is left of an ACL: 11, and those inside its extent
 unfoldable pub ace_fault : List ℕ → Option AclFault
 ace_fault left =
     if nat_lt (length left) 16 then Some faults.AceSize
     else if nat_lt (u16_at 2 left) 16 || nat_lt (length left) (u16_at 2 left) then Some faults.AceSize
     else if not (u16_at 2 left % 4 == 0) then Some faults.AceSize
-    else place_fault (take (u16_at 2 left) left)
+    else extent_fault (take (u16_at 2 left) left)
 
 -- the first fault of as many ACEs as are counted
 unfoldable pub aces_fault : ℕ → List ℕ → Option AclFault
@@ -71,32 +71,32 @@ unfoldable pub aces_of : ℕ → List ℕ → List AccessControlEntry
 aces_of zero left = []
 aces_of (suc n) left = ace_of (take (u16_at 2 left) left) ∷ aces_of n (drop (u16_at 2 left) left)
 
--- the place of the ACL at the front of the bytes
-abbrev pub acl_place : List ℕ → List ℕ
-acl_place bytes = take (u16_at 2 bytes) bytes
+-- the extent of the ACL at the front of the bytes
+abbrev pub acl_at_front : List ℕ → List ℕ
+acl_at_front bytes = take (u16_at 2 bytes) bytes
 
 -- the first fault of the ACL at the front of the bytes: 10, and those of its ACEs
 unfoldable pub acl_fault : List ℕ → Option AclFault
 acl_fault bytes =
     if not (slice_index bytes 0 == 2 || slice_index bytes 0 == 4) then Some faults.Acl
     else if nat_lt (u16_at 2 bytes) 8 || nat_lt (length bytes) (u16_at 2 bytes) then Some faults.Acl
-    else aces_fault (u16_at 4 bytes) (drop 8 (acl_place bytes))
+    else aces_fault (u16_at 4 bytes) (drop 8 (acl_at_front bytes))
 
--- the ACEs of an ACL's place
+-- the ACEs of an ACL's extent
 abbrev pub acl_of : List ℕ → List AccessControlEntry
-acl_of place = aces_of (u16_at 4 place) (drop 8 place)
+acl_of extent = aces_of (u16_at 4 extent) (drop 8 extent)
 
--- what a reader of an ACE's place needs, and of an ACL's
-pub record IsAcePlace (place : List ℕ) : Type 0 where
-  pub room : 16 ≤ length place
-  pub sound : place_fault place ≡ None
-  pub front : sid_offset_in place + 8 ≤ length place
-  pub sid : BeginsWithSid (drop (sid_offset_in place) place) (sid_of (drop (sid_offset_in place) place))
-  pub limits : IsAce (ace_of place)
+-- what a reader of an ACE's extent needs, and of an ACL's
+pub record IsReadableAce (extent : List ℕ) : Type 0 where
+  pub room : 16 ≤ length extent
+  pub sound : extent_fault extent ≡ None
+  pub front : sid_offset_in extent + 8 ≤ length extent
+  pub sid : BeginsWithSid (drop (sid_offset_in extent) extent) (sid_of (drop (sid_offset_in extent) extent))
+  pub limits : IsAce (ace_of extent)
 
-pub record IsAclPlace (place : List ℕ) : Type 0 where
-  pub room : 8 ≤ length place
-  pub small : length place ≤ 65535
-  pub size : u16_at 2 place ≡ length place
-  pub sound : aces_fault (u16_at 4 place) (drop 8 place) ≡ None
-  pub limits : IsAcl (acl_of place)
+pub record IsReadableAcl (extent : List ℕ) : Type 0 where
+  pub room : 8 ≤ length extent
+  pub small : length extent ≤ 65535
+  pub size : u16_at 2 extent ≡ length extent
+  pub sound : aces_fault (u16_at 4 extent) (drop 8 extent) ≡ None
+  pub limits : IsAcl (acl_of extent)

@@ -10,7 +10,7 @@ use Rattle.sd_view.specs.declared.control.TheConstants.{DACL_AUTO_INHERITED, DAC
 abbrev pub has_bit : ℕ → ℕ → Bool
 has_bit bit control = control / bit % 2 == 1
 
--- a bit of a word, at its place
+-- a bit of a word, by its number
 abbrev pub bit_of : ℕ → ℕ → ℕ
 bit_of bit word = word / bit % 2 * bit
 

@@ -71,7 +71,7 @@ acl_extent bytes offset acl.Absent = None
 acl_extent bytes offset acl.Null = None
 acl_extent bytes offset (acl.List aces) = Some (offset, offset + u16_at 2 (drop offset bytes))
 
--- the places of the parts
+-- the extents of the parts
 pub record Extents : Type 0 where
   pub owner : Extent
   pub group : Extent
@@ -92,7 +92,7 @@ Apart None other = Unit {0}
 Apart (Some a) None = Unit {0}
 Apart (Some a) (Some b) = (a.1 ≤ b.0) ⊎ (b.1 ≤ a.0)
 
--- no two places share a byte
+-- no two extents share a byte
 pub record AreApart (e : Extents) : Type 0 where
   pub owner_group : Apart e.owner e.group
   pub owner_sacl : Apart e.owner e.sacl
@@ -101,8 +101,8 @@ pub record AreApart (e : Extents) : Type 0 where
   pub group_dacl : Apart e.group e.dacl
   pub sacl_dacl : Apart e.sacl e.dacl
 
--- The bytes show the descriptor: each of its parts stands at the place that the header names, and
--- what stands between and after the places is free.
+-- The bytes show the descriptor: each of its parts stands at the offset that the header names, and
+-- what stands between and after them is free.
 pub record Shows (bytes : List ℕ) (d : Descriptor) : Type 0 where
   pub header : 20 ≤ length bytes
   pub revision : slice_index bytes 0 ≡ 1

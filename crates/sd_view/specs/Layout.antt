@@ -27,9 +27,9 @@ acl_part_size acl.Absent = 0
 acl_part_size acl.Null = 0
 acl_part_size (acl.List aces) = acl_size aces
 
--- the offset of a part of this size that stands at this place, and 0 where there is none: no part is empty
+-- the offset of a part of this size that begins there, and 0 where there is none: no part is empty
 abbrev pub offset_if : ℕ → ℕ → ℕ
-offset_if place size = if size == 0 then 0 else place
+offset_if start size = if size == 0 then 0 else start
 
 -- where the parts stand
 abbrev pub group_offset : Descriptor → ℕ

@@ -10,7 +10,7 @@ use Rattle.sd_view.specs.declared.fault.AclFault.{AclFault}
 use Rattle.sd_view.specs.declared.fault.AclFault.TheVariants as lists
 use Rattle.sd_view.specs.declared.acl.AclPart.{AclPart}
 use Rattle.sd_view.specs.declared.acl.AclPart.TheVariants as acl
-use Rattle.sd_view.specs.AclReading.{IsAclPlace, acl_fault, acl_of, acl_place, first}
+use Rattle.sd_view.specs.AclReading.{IsReadableAcl, acl_fault, acl_of, acl_at_front, first}
 use Rattle.sd_view.specs.Bytes.{u16_at}
 use Rattle.sd_view.specs.Descriptor.{Descriptor, Extent, Extents, IsDescriptor, control_at, dacl_at, dacl_present, extents_of, group_at, owner_at, sacl_at, sacl_present, self_relative}
 
@@ -23,7 +23,7 @@ unfoldable pub acl_shown : List ℕ → Bool → ℕ → AclPart
 acl_shown bytes present offset =
     if not present then acl.Absent
     else if offset == 0 then acl.Null
-    else acl.List (acl_of (acl_place (drop offset bytes)))
+    else acl.List (acl_of (acl_at_front (drop offset bytes)))
 
 -- the descriptor that bytes without a fault show
 abbrev pub shown : List ℕ → Descriptor
@@ -75,7 +75,7 @@ parts_fault bytes =
     (first (acl_part_fault Sacl bytes (sacl_present (control_at bytes)) (sacl_at bytes))
     (acl_part_fault Dacl bytes (dacl_present (control_at bytes)) (dacl_at bytes))))
 
--- whether two places share a byte
+-- whether two extents share a byte
 abbrev pub share_a_byte : Extent → Extent → Bool
 share_a_byte None other = false
 share_a_byte (Some a) None = false
@@ -115,7 +115,7 @@ pub record IsSidAt (bytes : List ℕ) (offset : ℕ) : Type 0 where
 pub record IsAclAt (bytes : List ℕ) (present : Bool) (offset : ℕ) : Type 0 where
   pub within : present ≡ true → (offset ≡ 0 → ⊥) → offset + 8 ≤ length bytes
   pub whole : present ≡ true → (offset ≡ 0 → ⊥) → u16_at 2 (drop offset bytes) ≤ length (drop offset bytes)
-  pub place : present ≡ true → (offset ≡ 0 → ⊥) → IsAclPlace (acl_place (drop offset bytes))
+  pub extent : present ≡ true → (offset ≡ 0 → ⊥) → IsReadableAcl (acl_at_front (drop offset bytes))
 
 -- bytes without a fault, with what a reader of their parts needs
 pub record Readable (bytes : List ℕ) : Type 0 where

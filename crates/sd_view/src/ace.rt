@@ -5,7 +5,7 @@ ghost use Rattle.sd_core.specs.Ace.{IsAce, ace_size};
 ghost use Rattle.sd_rights.specs.Kinds.{is_object};
 ghost use Rattle.sd_view.specs.Ace.{announces_inherited, announces_object};
 ghost use Rattle.sd_view.specs.AclLayout.{ace_body, ace_bytes, flag_if, front_size};
-ghost use Rattle.sd_view.specs.AclReading.{IsAcePlace, ace_fault, ace_of, kind_in, place_fault, sid_offset_in};
+ghost use Rattle.sd_view.specs.AclReading.{IsReadableAce, ace_fault, ace_of, kind_in, extent_fault, sid_offset_in};
 ghost use Rattle.sd_view.specs.Bytes.{u16_at as u16_of};
 ghost use Rattle.sd_view.specs.Inner.Written.{named_flags};
 
@@ -36,70 +36,70 @@ const NAMED_OBJECT_FLAGS: u32 = 3;
 /// size, and whether it is an object ACE.
 #[derive(Clone, Copy)]
 pub struct Checked {
-    pub place: usize,
+    pub taken: usize,
     pub size: usize,
     pub object: bool,
 }
 
 #[tactic(auto, unfolding(crate::specs::AclReading::kind_in))]
-fn kind_at(place: &[u8]) -> AceKind
-    requires { 16 ≤ length place.now }
-    ensures { result ≡ kind_in place.now }
+fn kind_at(extent: &[u8]) -> AceKind
+    requires { 16 ≤ length extent.now }
+    ensures { result ≡ kind_in extent.now }
 {
-    AceKind::from_code(place[0]).unwrap_or(AceKind::Allow)
+    AceKind::from_code(extent[0]).unwrap_or(AceKind::Allow)
 }
 
-// Whether the object type's GUID stands in the place.
+// Whether the object type's GUID stands in the extent.
 #[tactic(auto, unfolding(crate::specs::Ace::announces_object))]
-fn has_object(place: &[u8]) -> bool
-    requires { 16 ≤ length place.now }
-    ensures { result ≡ announces_object (kind_in place.now) place.now }
+fn has_object(extent: &[u8]) -> bool
+    requires { 16 ≤ length extent.now }
+    ensures { result ≡ announces_object (kind_in extent.now) extent.now }
 {
-    kind_at(place).is_object() && u32_at(place, 8) % 2 == 1
+    kind_at(extent).is_object() && u32_at(extent, 8) % 2 == 1
 }
 
-// Whether the inherited object type's GUID stands in the place.
+// Whether the inherited object type's GUID stands in the extent.
 #[tactic(auto, unfolding(crate::specs::Ace::announces_inherited))]
-fn has_inherited(place: &[u8]) -> bool
-    requires { 16 ≤ length place.now }
-    ensures { result ≡ announces_inherited (kind_in place.now) place.now }
+fn has_inherited(extent: &[u8]) -> bool
+    requires { 16 ≤ length extent.now }
+    ensures { result ≡ announces_inherited (kind_in extent.now) extent.now }
 {
-    kind_at(place).is_object() && u32_at(place, 8) / 2 % 2 == 1
+    kind_at(extent).is_object() && u32_at(extent, 8) / 2 % 2 == 1
 }
 
-// Where the SID stands in the place.
+// Where the SID stands in the extent.
 #[tactic(auto, unfolding(crate::specs::AclReading::sid_offset_in, crate::specs::AclReading::object_in, crate::specs::AclReading::inherited_in, crate::specs::AclReading::guid_if))]
-fn sid_offset(place: &[u8]) -> usize
-    requires { 16 ≤ length place.now }
-    ensures value { result ≡ sid_offset_in place.now }
+fn sid_offset(extent: &[u8]) -> usize
+    requires { 16 ≤ length extent.now }
+    ensures value { result ≡ sid_offset_in extent.now }
     ensures bound { result ≤ 44 }
 {
-    if !kind_at(place).is_object() {
+    if !kind_at(extent).is_object() {
         return FRONT_SIZE;
     }
-    let object = if has_object(place) { GUID_SIZE } else { 0 };
-    let inherited = if has_inherited(place) { GUID_SIZE } else { 0 };
+    let object = if has_object(extent) { GUID_SIZE } else { 0 };
+    let inherited = if has_inherited(extent) { GUID_SIZE } else { 0 };
     OBJECT_FRONT_SIZE + object + inherited
 }
 
-// The written size of the ACE in the place.
-#[tactic(auto, unfolding(crate::specs::AclReading::place_fault))]
-fn check_place(place: &[u8]) -> Result<usize, AclFault>
-    requires { 16 ≤ length place.now }
-    ensures fault { MatchResult result (λ _. place_fault place.now ≡ None) (λ f. place_fault place.now ≡ Some f) }
-    ensures size { IfOk result (λ n. (n ≡ ace_size (ace_of place.now)) × (n ≤ length place.now)) }
+// The written size of the ACE in the extent.
+#[tactic(auto, unfolding(crate::specs::AclReading::extent_fault))]
+fn check_extent(extent: &[u8]) -> Result<usize, AclFault>
+    requires { 16 ≤ length extent.now }
+    ensures fault { MatchResult result (λ _. extent_fault extent.now ≡ None) (λ f. extent_fault extent.now ≡ Some f) }
+    ensures size { IfOk result (λ n. (n ≡ ace_size (ace_of extent.now)) × (n ≤ length extent.now)) }
 {
-    if AceKind::from_code(place[0]).is_none() {
+    if AceKind::from_code(extent[0]).is_none() {
         return Err(AclFault::AceType);
     }
-    if place[1] / UNUSED_FLAG % 2 == 1 {
+    if extent[1] / UNUSED_FLAG % 2 == 1 {
         return Err(AclFault::AceFlags);
     }
-    let front = sid_offset(place);
-    if place.len() < front + 8 {
+    let front = sid_offset(extent);
+    if extent.len() < front + 8 {
         return Err(AclFault::AceSize);
     }
-    let Some((_, size)) = Sid::read(&place[front..]) else {
+    let Some((_, size)) = Sid::read(&extent[front..]) else {
         return Err(AclFault::Sid);
     };
     Ok(front + size)
@@ -109,8 +109,8 @@ fn check_place(place: &[u8]) -> Result<usize, AclFault>
 #[tactic(auto, unfolding(crate::specs::AclReading::ace_fault))]
 pub(crate) fn check_ace(left: &[u8]) -> Result<Checked, AclFault>
     ensures fault { MatchResult result (λ _. ace_fault left.now ≡ None) (λ f. ace_fault left.now ≡ Some f) }
-    ensures place { IfOk result (λ c. (c.place ≡ u16_of 2 left.now) × (c.place ≤ length left.now)) }
-    ensures size { IfOk result (λ c. (c.size ≡ ace_size (ace_of (take (u16_of 2 left.now) left.now))) × (c.size ≤ c.place)) }
+    ensures taken { IfOk result (λ c. (c.taken ≡ u16_of 2 left.now) × (c.taken ≤ length left.now)) }
+    ensures size { IfOk result (λ c. (c.size ≡ ace_size (ace_of (take (u16_of 2 left.now) left.now))) × (c.size ≤ c.taken)) }
     ensures object { IfOk result (λ c. c.object ≡ is_object (kind_in (take (u16_of 2 left.now) left.now))) }
 {
     if left.len() < LEAST_SIZE {
@@ -120,46 +120,46 @@ pub(crate) fn check_ace(left: &[u8]) -> Result<Checked, AclFault>
     if n < LEAST_SIZE || left.len() < n || n % 4 != 0 {
         return Err(AclFault::AceSize);
     }
-    let place = &left[..n];
-    let size = check_place(place)?;
+    let extent = &left[..n];
+    let size = check_extent(extent)?;
     Ok(Checked {
-        place: n,
+        taken: n,
         size,
-        object: kind_at(place).is_object(),
+        object: kind_at(extent).is_object(),
     })
 }
 
-// Whether the place has no object flags but those that MS-DTYP 2.4.4.3 names.
-pub(crate) fn has_named_flags(place: &[u8]) -> bool
-    requires { 16 ≤ length place.now }
-    ensures { result ≡ named_flags place.now }
+// Whether the extent has no object flags but those that MS-DTYP 2.4.4.3 names.
+pub(crate) fn has_named_flags(extent: &[u8]) -> bool
+    requires { 16 ≤ length extent.now }
+    ensures { result ≡ named_flags extent.now }
 {
-    !kind_at(place).is_object() || u32_at(place, 8) <= NAMED_OBJECT_FLAGS
+    !kind_at(extent).is_object() || u32_at(extent, 8) <= NAMED_OBJECT_FLAGS
 }
 
 /// An ACE in the bytes that show it (MS-DTYP 2.4.4).
 #[derive(Drop)]
 pub struct AceView<'a> {
-    place: &'a [u8],
+    extent: &'a [u8],
 }
 
 impl<'a> Model for AceView<'a> {
     ghost use Rattle.sd_core.specs.Ace.{AccessControlEntry};
-    ghost use Rattle.sd_view.specs.AclReading.{IsAcePlace, ace_of};
+    ghost use Rattle.sd_view.specs.AclReading.{IsReadableAce, ace_of};
 
     ghost Value = { AccessControlEntry };
 
-    ghost view = { λ v. ace_of v.place.now };
+    ghost view = { λ v. ace_of v.extent.now };
 
-    ghost invariant = { λ v. IsAcePlace v.place.now };
+    ghost invariant = { λ v. IsReadableAce v.extent.now };
 }
 
-// The view of a place that was checked.
-pub(crate) fn ace_view(place: &[u8]) -> AceView<'_>
-    requires { IsAcePlace place.now }
-    ensures { result ≡ ace_of place.now }
+// The view of an extent that was checked.
+pub(crate) fn ace_view(extent: &[u8]) -> AceView<'_>
+    requires { IsReadableAce extent.now }
+    ensures { result ≡ ace_of extent.now }
 {
-    AceView { place }
+    AceView { extent }
 }
 
 impl<'a> AceView<'a> {
@@ -168,21 +168,21 @@ impl<'a> AceView<'a> {
         ensures value { result ≡ self.now.kind }
         ensures limits { IsAce self.now }
     {
-        kind_at(self.place)
+        kind_at(self.extent)
     }
 
     /// Its flags (MS-DTYP 2.4.4.1). Bit 0x20 is clear.
     pub fn flags(&self) -> u8
         ensures { result ≡ self.now.flags }
     {
-        self.place[1]
+        self.extent[1]
     }
 
     /// The access mask (MS-DTYP 2.4.3).
     pub fn mask(&self) -> u32
         ensures { result ≡ self.now.mask }
     {
-        u32_at(self.place, 4)
+        u32_at(self.extent, 4)
     }
 
     /// The GUID of the object type, if there is one: in object kinds alone.
@@ -190,10 +190,10 @@ impl<'a> AceView<'a> {
     pub fn object(&self) -> Option<Uuid>
         ensures { result ≡ self.now.object }
     {
-        if !has_object(self.place) {
+        if !has_object(self.extent) {
             return None;
         }
-        guid_at(self.place, OBJECT_FRONT_SIZE)
+        guid_at(self.extent, OBJECT_FRONT_SIZE)
     }
 
     /// The GUID of the inherited object type, if there is one: in object kinds alone.
@@ -201,18 +201,18 @@ impl<'a> AceView<'a> {
     pub fn inherited(&self) -> Option<Uuid>
         ensures { result ≡ self.now.inherited }
     {
-        if !has_inherited(self.place) {
+        if !has_inherited(self.extent) {
             return None;
         }
-        let object = if has_object(self.place) { GUID_SIZE } else { 0 };
-        guid_at(self.place, OBJECT_FRONT_SIZE + object)
+        let object = if has_object(self.extent) { GUID_SIZE } else { 0 };
+        guid_at(self.extent, OBJECT_FRONT_SIZE + object)
     }
 
     /// The SID of the trustee.
     pub fn sid(&self) -> Sid
         ensures { result ≡ self.now.sid }
     {
-        Sid::at_front(&self.place[sid_offset(self.place)..])
+        Sid::at_front(&self.extent[sid_offset(self.extent)..])
     }
 
     /// The written size in bytes, without what stands after the SID: at most 112.
@@ -245,20 +245,20 @@ impl<'a> AceView<'a> {
     pub(crate) fn front_size(&self) -> usize
         ensures { result ≡ front_size self.now.kind }
     {
-        if kind_at(self.place).is_object() {
+        if kind_at(self.extent).is_object() {
             OBJECT_FRONT_SIZE
         } else {
             FRONT_SIZE
         }
     }
 
-    // Which GUIDs stand in the place (MS-DTYP 2.4.4.3).
+    // Which GUIDs stand in the extent (MS-DTYP 2.4.4.3).
     #[tactic(auto, unfolding(crate::specs::AclReading::inherited_in, crate::specs::AclReading::object_in, crate::specs::AclReading::guid_if))]
     pub(crate) fn object_flags(&self) -> u8
         ensures { result ≡ flag_if self.now.object 1 + flag_if self.now.inherited 2 }
     {
-        let object = if has_object(self.place) { 1 } else { 0 };
-        let inherited = if has_inherited(self.place) { 2 } else { 0 };
+        let object = if has_object(self.extent) { 1 } else { 0 };
+        let inherited = if has_inherited(self.extent) { 2 } else { 0 };
         object + inherited
     }
 
@@ -268,18 +268,18 @@ impl<'a> AceView<'a> {
         ensures size { front_size self.now.kind + length result.now ≡ ace_size self.now }
         ensures short { length result.now ≤ 100 }
     {
-        let front = sid_offset(self.place);
-        let count = usize::from(self.place[front + 1]);
-        &self.place[self.front_size()..front + 8 + 4 * count]
+        let front = sid_offset(self.extent);
+        let count = usize::from(self.extent[front + 1]);
+        &self.extent[self.front_size()..front + 8 + 4 * count]
     }
 }
 
-// The GUID at a place (MS-DTYP 2.3.4.2).
-fn guid_at(bytes: &[u8], place: usize) -> Option<Uuid>
-    requires { place + 16 ≤ length bytes.now }
-    ensures { result ≡ Some (swap_fields (take 16 (drop place bytes.now))) }
+// The GUID at an offset (MS-DTYP 2.3.4.2).
+fn guid_at(bytes: &[u8], offset: usize) -> Option<Uuid>
+    requires { offset + 16 ≤ length bytes.now }
+    ensures { result ≡ Some (swap_fields (take 16 (drop offset bytes.now))) }
 {
     let mut guid = [0; GUID_SIZE];
-    guid.copy_from_slice(&bytes[place..place + GUID_SIZE]);
+    guid.copy_from_slice(&bytes[offset..offset + GUID_SIZE]);
     Some(guid_read(&guid))
 }

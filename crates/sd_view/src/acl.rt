@@ -2,7 +2,7 @@
 ghost use Rattle.std.specs.Prelude.{◌≡◌, ◌≤◌, ◌<◌, ◌+◌, ◌^◌, length, take, drop, None, IfOk, MatchResult};
 ghost use Rattle.std.specs.Iterator.{YieldsFirst, item_count};
 ghost use Rattle.sd_view.specs.Acl.{IsAcl, acl_size, aces_size, has_object};
-ghost use Rattle.sd_view.specs.AclReading.{IsAclPlace, ace_fault, ace_of, acl_fault, acl_of, acl_place, aces_fault, aces_of};
+ghost use Rattle.sd_view.specs.AclReading.{IsReadableAcl, ace_fault, ace_of, acl_fault, acl_of, acl_at_front, aces_fault, aces_of};
 ghost use Rattle.sd_view.specs.Bytes.{u16_at as u16_of};
 
 use crate::ace::{AceView, ace_view, check_ace};
@@ -30,7 +30,7 @@ fn check_aces(count: u16, bytes: &[u8]) -> Result<Written, AclFault>
     let mut object = false;
     for _ in 0..count {
         let ace = check_ace(left)?;
-        left = &left[ace.place..];
+        left = &left[ace.taken..];
         size += ace.size;
         object = object || ace.object;
     }
@@ -42,9 +42,9 @@ fn check_aces(count: u16, bytes: &[u8]) -> Result<Written, AclFault>
 pub(crate) fn check_acl(bytes: &[u8]) -> Result<(usize, Written), AclFault>
     requires { 8 ≤ length bytes.now }
     ensures fault { MatchResult result (λ _. acl_fault bytes.now ≡ None) (λ f. acl_fault bytes.now ≡ Some f) }
-    ensures place { IfOk result (λ r. (r.0 ≡ u16_of 2 bytes.now) × (r.0 ≤ length bytes.now) × (8 ≤ r.0)) }
-    ensures size { IfOk result (λ r. (r.1.size ≡ acl_size (acl_of (acl_place bytes.now))) × (r.1.size ≤ r.0)) }
-    ensures object { IfOk result (λ r. r.1.object ≡ has_object (acl_of (acl_place bytes.now))) }
+    ensures taken { IfOk result (λ r. (r.0 ≡ u16_of 2 bytes.now) × (r.0 ≤ length bytes.now) × (8 ≤ r.0)) }
+    ensures size { IfOk result (λ r. (r.1.size ≡ acl_size (acl_of (acl_at_front bytes.now))) × (r.1.size ≤ r.0)) }
+    ensures object { IfOk result (λ r. r.1.object ≡ has_object (acl_of (acl_at_front bytes.now))) }
 {
     if bytes[0] != ACL_REVISION && bytes[0] != ACL_REVISION_DS {
         return Err(AclFault::Acl);
@@ -70,7 +70,7 @@ pub enum AclPart<'a> {
 /// An ACL in the bytes that show it (MS-DTYP 2.4.5).
 #[derive(Drop)]
 pub struct AclView<'a> {
-    place: &'a [u8],
+    extent: &'a [u8],
     written: Written,
 }
 
@@ -78,23 +78,23 @@ impl<'a> Model for AclView<'a> {
     ghost use Rattle.std.specs.Prelude.{◌≡◌, List};
     ghost use Rattle.sd_core.specs.Ace.{AccessControlEntry};
     ghost use Rattle.sd_view.specs.Acl.{acl_size, has_object};
-    ghost use Rattle.sd_view.specs.AclReading.{IsAclPlace, acl_of};
+    ghost use Rattle.sd_view.specs.AclReading.{IsReadableAcl, acl_of};
 
     ghost Value = { List AccessControlEntry };
 
-    ghost view = { λ v. acl_of v.place.now };
+    ghost view = { λ v. acl_of v.extent.now };
 
-    ghost invariant = { λ v. IsAclPlace v.place.now × (v.written.size ≡ acl_size (acl_of v.place.now)) × (v.written.object ≡ has_object (acl_of v.place.now)) };
+    ghost invariant = { λ v. IsReadableAcl v.extent.now × (v.written.size ≡ acl_size (acl_of v.extent.now)) × (v.written.object ≡ has_object (acl_of v.extent.now)) };
 }
 
-// The view of a place that was checked.
-pub(crate) fn acl_view(place: &[u8], written: Written) -> AclView<'_>
-    requires place { IsAclPlace place.now }
-    requires size { written.size ≡ acl_size (acl_of place.now) }
-    requires object { written.object ≡ has_object (acl_of place.now) }
-    ensures { result ≡ acl_of place.now }
+// The view of an extent that was checked.
+pub(crate) fn acl_view(extent: &[u8], written: Written) -> AclView<'_>
+    requires extent { IsReadableAcl extent.now }
+    requires size { written.size ≡ acl_size (acl_of extent.now) }
+    requires object { written.object ≡ has_object (acl_of extent.now) }
+    ensures { result ≡ acl_of extent.now }
 {
-    AclView { place, written }
+    AclView { extent, written }
 }
 
 impl<'a> AclView<'a> {
@@ -102,7 +102,7 @@ impl<'a> AclView<'a> {
     pub fn count(&self) -> u16
         ensures { result ≡ length self.now }
     {
-        u16_at(self.place, 4)
+        u16_at(self.extent, 4)
     }
 
     /// Its ACEs, in order.
@@ -112,17 +112,17 @@ impl<'a> AclView<'a> {
         ensures count { length self.now < 2 ^ 16 }
     {
         Aces {
-            left: &self.place[ACL_HEADER_SIZE..],
+            left: &self.extent[ACL_HEADER_SIZE..],
             count: self.count(),
         }
     }
 
     // Its bytes as they stand.
-    pub(crate) fn place(&self) -> &'a [u8]
+    pub(crate) fn extent(&self) -> &'a [u8]
         ensures value { acl_of result.now ≡ self.now }
-        ensures limits { IsAclPlace result.now }
+        ensures limits { IsReadableAcl result.now }
     {
-        self.place
+        self.extent
     }
 
     // What the check found for its written form.
@@ -159,8 +159,8 @@ fn split_ace(left: &[u8]) -> (AceView<'_>, &[u8])
     ensures ace { result.0 ≡ ace_of (take (u16_of 2 left.now) left.now) }
     ensures rest { result.1.now ≡ drop (u16_of 2 left.now) left.now }
 {
-    let (place, rest) = left.split_at(usize::from(u16_at(left, 2)));
-    (ace_view(place), rest)
+    let (extent, rest) = left.split_at(usize::from(u16_at(left, 2)));
+    (ace_view(extent), rest)
 }
 
 impl<'a> Iterator for Aces<'a> {

@@ -4,7 +4,7 @@ ghost use Rattle.std.specs.List.{flat_map};
 ghost use Rattle.byteorder.specs.Endian.{little_bytes};
 ghost use Rattle.sd_sink.specs.Print.{Prints};
 ghost use Rattle.sd_view.specs.Acl.{has_object};
-ghost use Rattle.sd_view.specs.AclReading.{IsAclPlace, aces_fault, acl_of};
+ghost use Rattle.sd_view.specs.AclReading.{IsReadableAcl, aces_fault, acl_of};
 ghost use Rattle.sd_view.specs.Inner.Written.{all_named_flags};
 ghost use Rattle.sd_view.specs.AclLayout.{ace_bytes, ace_front, acl_bytes, acl_header as header_bytes, front_size, revision_if};
 
@@ -20,9 +20,9 @@ pub(crate) fn print_acl<P: Print>(acl: &AclView<'_>, out: &mut P)
     ensures { Prints (P.told out.old) (P.told out.new) (acl_bytes acl.now) }
 {
     let header = header_of(acl);
-    let place = acl.place();
-    if is_written(place, acl.written().object, &header) {
-        out.put(place);
+    let extent = acl.extent();
+    if is_written(extent, acl.written().object, &header) {
+        out.put(extent);
     } else {
         out.put(&header);
         print_aces(acl, out);
@@ -31,17 +31,17 @@ pub(crate) fn print_acl<P: Print>(acl: &AclView<'_>, out: &mut P)
 
 // Whether an ACL stands in its written form: it has this header, and so no spare bytes, and its object flags are all
 // named.
-fn is_written(place: &[u8], object: bool, header: &[u8]) -> bool
-    requires place { IsAclPlace place.now }
-    requires object { object ≡ has_object (acl_of place.now) }
-    requires header { header.now ≡ header_bytes (acl_of place.now) }
-    ensures { result ≡ true → acl_bytes (acl_of place.now) ≡ place.now }
+fn is_written(extent: &[u8], object: bool, header: &[u8]) -> bool
+    requires extent { IsReadableAcl extent.now }
+    requires object { object ≡ has_object (acl_of extent.now) }
+    requires header { header.now ≡ header_bytes (acl_of extent.now) }
+    ensures { result ≡ true → acl_bytes (acl_of extent.now) ≡ extent.now }
 {
-    if LittleEndian::read_u64(place) != LittleEndian::read_u64(header) {
+    if LittleEndian::read_u64(extent) != LittleEndian::read_u64(header) {
         return false;
     }
     // Without an object ACE there are no object flags.
-    !object || have_named_flags(u16_at(place, 4), &place[ACL_HEADER_SIZE..])
+    !object || have_named_flags(u16_at(extent, 4), &extent[ACL_HEADER_SIZE..])
 }
 
 // Whether the ACEs have no object flags but those that are named.
@@ -51,8 +51,8 @@ fn have_named_flags(count: u16, bytes: &[u8]) -> bool
 {
     let mut left = bytes;
     for _ in 0..count {
-        let (place, rest) = left.split_at(usize::from(u16_at(left, 2)));
-        if !has_named_flags(place) {
+        let (extent, rest) = left.split_at(usize::from(u16_at(left, 2)));
+        if !has_named_flags(extent) {
             return false;
         }
         left = rest;

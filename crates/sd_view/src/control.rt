@@ -179,8 +179,8 @@ impl AclFlags {
         ensures apart { (others : ℕ) → acl_flags which others ≡ no_flags
             → acl_flags (other_acl which) (others + flag_bits which self) ≡ acl_flags (other_acl which) others }
         // and so is each bit that is no flag of this ACL.
-        ensures same { (others place : ℕ) → acl_flags which others ≡ no_flags → has_bit (2 ^ place) (flag_bits which all_flags) ≡ false
-            → has_bit (2 ^ place) (others + flag_bits which self) ≡ has_bit (2 ^ place) others }
+        ensures same { (others bit : ℕ) → acl_flags which others ≡ no_flags → has_bit (2 ^ bit) (flag_bits which all_flags) ≡ false
+            → has_bit (2 ^ bit) (others + flag_bits which self) ≡ has_bit (2 ^ bit) others }
     {
         match which {
             Which::Sacl => {
@@ -211,7 +211,7 @@ fn bit_if(stands: bool, bit: u16) -> u16
     if stands { bit } else { 0 }
 }
 
-// A bit of a word, at its place.
+// A bit of a word, by its number.
 #[inline(always)]
 fn bit_of(bit: u16, word: u16) -> u16
     requires { 0 < bit }

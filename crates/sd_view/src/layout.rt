@@ -34,8 +34,8 @@ pub fn print_layout<P: Print>(view: &SdView<'_>, out: &mut P)
     ensures limits { IsDescriptor view.now }
 {
     out.put(&header_of(view));
-    out.put(view.owner_place());
-    out.put(view.group_place());
+    out.put(view.owner_bytes());
+    out.put(view.group_bytes());
     print_acl_part(&view.sacl(), out);
     print_acl_part(&view.dacl(), out);
 }
@@ -53,8 +53,8 @@ fn header_of(view: &SdView<'_>) -> [u8; HEADER_SIZE]
     ensures limits { IsDescriptor view.now }
 {
     let first = HEADER_SIZE as u32;
-    let owner = view.owner_place().len() as u32;
-    let group = view.group_place().len() as u32;
+    let owner = view.owner_bytes().len() as u32;
+    let group = view.group_bytes().len() as u32;
     let acls = view.acls();
     let sacl = acls.sacl.size as u32;
     let dacl = acls.dacl.size as u32;
@@ -68,11 +68,11 @@ fn header_of(view: &SdView<'_>) -> [u8; HEADER_SIZE]
     )
 }
 
-// The offset of a part of this size that stands at this place.
-fn offset_if(place: u32, size: u32) -> u32
-    ensures { result ≡ offset_if place size }
+// The offset of a part of this size that begins there.
+fn offset_if(start: u32, size: u32) -> u32
+    ensures { result ≡ offset_if start size }
 {
-    if size == 0 { 0 } else { place }
+    if size == 0 { 0 } else { start }
 }
 
 /// A header of these fields.

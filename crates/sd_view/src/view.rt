@@ -50,7 +50,7 @@ pub struct Acls {
 
 /// Where the parts stand: the first byte, and the first one after the part.
 #[derive(Drop)]
-pub struct Places {
+pub struct PartExtents {
     pub owner: Option<(u64, u64)>,
     pub group: Option<(u64, u64)>,
     pub sacl: Option<(u64, u64)>,
@@ -80,8 +80,8 @@ fn check(bytes: &[u8]) -> Result<Acls, SdFault>
     ensures acls { IfOk result (λ a. a ≡ shown_written (shown bytes.now)) }
 {
     check_header(bytes)?;
-    let (places, acls) = check_parts(bytes)?;
-    check_overlaps(&places)?;
+    let (extents, acls) = check_parts(bytes)?;
+    check_overlaps(&extents)?;
     Ok(acls)
 }
 
@@ -105,10 +105,10 @@ fn check_header(bytes: &[u8]) -> Result<(), SdFault>
 
 // The first fault of the parts, or where they stand and what the written form of the ACLs needs.
 #[tactic(auto, unfolding(crate::specs::Reading::parts_fault))]
-fn check_parts(bytes: &[u8]) -> Result<(Places, Acls), SdFault>
+fn check_parts(bytes: &[u8]) -> Result<(PartExtents, Acls), SdFault>
     requires { HEADER_SIZE ≤ length bytes.now }
     ensures fault { MatchResult result (λ _. parts_fault bytes.now ≡ None) (λ f. parts_fault bytes.now ≡ Some f) }
-    ensures places { IfOk result (λ r. extents_seen r.0 ≡ extents_of bytes.now (shown bytes.now)) }
+    ensures extents { IfOk result (λ r. extents_seen r.0 ≡ extents_of bytes.now (shown bytes.now)) }
     ensures acls { IfOk result (λ r. r.1 ≡ shown_written (shown bytes.now)) }
 {
     let control = u16_at(bytes, 2);
@@ -128,7 +128,7 @@ fn check_parts(bytes: &[u8]) -> Result<(Places, Acls), SdFault>
         dacl_is_present,
         u32_at(bytes, 16),
     )?;
-    let places = Places {
+    let extents = PartExtents {
         owner,
         group,
         sacl,
@@ -138,7 +138,7 @@ fn check_parts(bytes: &[u8]) -> Result<(Places, Acls), SdFault>
         sacl: sacl_written,
         dacl: dacl_written,
     };
-    Ok((places, acls))
+    Ok((extents, acls))
 }
 
 // The extent of the SID at an offset, where one is meant.
@@ -151,11 +151,11 @@ fn check_sid(part: Part, bytes: &[u8], offset: u32) -> Result<Option<(u64, u64)>
     if offset == 0 {
         return Ok(None);
     }
-    let place = offset as usize;
-    if place < HEADER_SIZE || bytes.len() < place + 8 {
+    let start = offset as usize;
+    if start < HEADER_SIZE || bytes.len() < start + 8 {
         return Err(SdFault::Offset(part));
     }
-    let Some((_, size)) = Sid::read(&bytes[place..]) else {
+    let Some((_, size)) = Sid::read(&bytes[start..]) else {
         return Err(SdFault::Sid(part));
     };
     Ok(Some((u64::from(offset), u64::from(offset) + size as u64)))
@@ -170,17 +170,17 @@ fn check_acl_part(
     offset: u32,
 ) -> Result<(Option<(u64, u64)>, Written), SdFault>
     ensures fault { MatchResult result (λ _. acl_part_fault part bytes.now present offset ≡ None) (λ f. acl_part_fault part bytes.now present offset ≡ Some f) }
-    ensures place { IfOk result (λ r. r.0 ≡ acl_extent bytes.now offset (acl_shown bytes.now present offset)) }
+    ensures extent { IfOk result (λ r. r.0 ≡ acl_extent bytes.now offset (acl_shown bytes.now present offset)) }
     ensures written { IfOk result (λ r. r.1 ≡ written_of (acl_shown bytes.now present offset)) }
 {
     if !present || offset == 0 {
         return Ok((None, NOTHING));
     }
-    let place = offset as usize;
-    if place < HEADER_SIZE || place + 8 > bytes.len() {
+    let start = offset as usize;
+    if start < HEADER_SIZE || start + 8 > bytes.len() {
         return Err(SdFault::Offset(part));
     }
-    match check_acl(&bytes[place..]) {
+    match check_acl(&bytes[start..]) {
         Ok((size, written)) => Ok((
             Some((u64::from(offset), u64::from(offset) + size as u64)),
             written,
@@ -204,15 +204,15 @@ fn fault_in(part: Part, fault: AclFault) -> SdFault
 
 // The first pair of parts that shares a byte.
 #[tactic(auto, unfolding(crate::specs::Reading::overlaps_fault))]
-fn check_overlaps(places: &Places) -> Result<(), SdFault>
-    ensures { MatchResult result (λ _. overlaps_fault (extents_seen places.now) ≡ None) (λ f. overlaps_fault (extents_seen places.now) ≡ Some f) }
+fn check_overlaps(extents: &PartExtents) -> Result<(), SdFault>
+    ensures { MatchResult result (λ _. overlaps_fault (extents_seen extents.now) ≡ None) (λ f. overlaps_fault (extents_seen extents.now) ≡ Some f) }
 {
-    check_apart(Part::Owner, places.owner, Part::Group, places.group)?;
-    check_apart(Part::Owner, places.owner, Part::Sacl, places.sacl)?;
-    check_apart(Part::Owner, places.owner, Part::Dacl, places.dacl)?;
-    check_apart(Part::Group, places.group, Part::Sacl, places.sacl)?;
-    check_apart(Part::Group, places.group, Part::Dacl, places.dacl)?;
-    check_apart(Part::Sacl, places.sacl, Part::Dacl, places.dacl)
+    check_apart(Part::Owner, extents.owner, Part::Group, extents.group)?;
+    check_apart(Part::Owner, extents.owner, Part::Sacl, extents.sacl)?;
+    check_apart(Part::Owner, extents.owner, Part::Dacl, extents.dacl)?;
+    check_apart(Part::Group, extents.group, Part::Sacl, extents.sacl)?;
+    check_apart(Part::Group, extents.group, Part::Dacl, extents.dacl)?;
+    check_apart(Part::Sacl, extents.sacl, Part::Dacl, extents.dacl)
 }
 
 // Whether two extents share a byte.
@@ -295,7 +295,7 @@ impl<'a> SdView<'a> {
         // No bytes that show the descriptor are fewer.
         ensures least { (bytes : List ℕ) → Shows bytes self.now → size self.now ≤ length bytes }
     {
-        let sids = self.owner_place().len() + self.group_place().len();
+        let sids = self.owner_bytes().len() + self.group_bytes().len();
         (HEADER_SIZE + sids + self.acls.sacl.size + self.acls.dacl.size) as u32
     }
 
@@ -307,20 +307,20 @@ impl<'a> SdView<'a> {
     }
 
     // The owner's bytes, and none where there is no owner.
-    pub(crate) fn owner_place(&self) -> &'a [u8]
+    pub(crate) fn owner_bytes(&self) -> &'a [u8]
         ensures value { result.now ≡ sid_part self.now.owner }
         ensures short { length result.now ≤ MOST_SID_SIZE }
         ensures limits { IsDescriptor self.now }
     {
-        sid_place(self.bytes, u32_at(self.bytes, 4))
+        sid_bytes_at(self.bytes, u32_at(self.bytes, 4))
     }
 
     // The group's bytes, and none where there is no group.
-    pub(crate) fn group_place(&self) -> &'a [u8]
+    pub(crate) fn group_bytes(&self) -> &'a [u8]
         ensures value { result.now ≡ sid_part self.now.group }
         ensures short { length result.now ≤ MOST_SID_SIZE }
     {
-        sid_place(self.bytes, u32_at(self.bytes, 8))
+        sid_bytes_at(self.bytes, u32_at(self.bytes, 8))
     }
 }
 
@@ -337,7 +337,7 @@ fn sid_in(bytes: &[u8], offset: u32) -> Option<Sid>
 }
 
 // The bytes of the SID at an offset that was checked.
-fn sid_place(bytes: &[u8], offset: u32) -> &[u8]
+fn sid_bytes_at(bytes: &[u8], offset: u32) -> &[u8]
     requires { IsSidAt bytes.now offset }
     ensures value { result.now ≡ sid_part (sid_shown bytes.now offset) }
     ensures short { length result.now ≤ MOST_SID_SIZE }
@@ -345,14 +345,14 @@ fn sid_place(bytes: &[u8], offset: u32) -> &[u8]
     if offset == 0 {
         return &[];
     }
-    let place = &bytes[offset as usize..];
-    &place[..8 + 4 * usize::from(place[1])]
+    let rest = &bytes[offset as usize..];
+    &rest[..8 + 4 * usize::from(rest[1])]
 }
 
 // The ACL at an offset that was checked.
 #[tactic(auto, unfolding(crate::specs::Reading::acl_shown))]
 fn acl_in(bytes: &[u8], present: bool, offset: u32, written: Written) -> AclPart<'_>
-    requires place { IsAclAt bytes.now present offset }
+    requires extent { IsAclAt bytes.now present offset }
     requires written { written ≡ written_of (acl_shown bytes.now present offset) }
     ensures { result ≡ acl_shown bytes.now present offset }
 {

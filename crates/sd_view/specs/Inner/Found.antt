@@ -6,7 +6,7 @@ use Rattle.sd_view.specs.declared.acl.AclPart.{AclPart}
 use Rattle.sd_view.specs.declared.acl.AclPart.TheVariants as acl
 use Rattle.sd_view.specs.declared.acl.Written.{Written}
 use Rattle.sd_view.specs.declared.view.Acls.{Acls}
-use Rattle.sd_view.specs.declared.view.Places.{Places}
+use Rattle.sd_view.specs.declared.view.PartExtents.{PartExtents}
 
 -- what the front of a written ACL is made from, besides the count: its size, and whether an object ACE
 -- stands in it
@@ -18,5 +18,5 @@ written_of (acl.List aces) = record { size = acl_size aces; object = has_object 
 abbrev pub shown_written : Descriptor → Acls
 shown_written d = record { sacl = written_of d.sacl; dacl = written_of d.dacl }
 
-abbrev pub extents_seen : Places → Extents
+abbrev pub extents_seen : PartExtents → Extents
 extents_seen p = record { owner = p.owner; group = p.group; sacl = p.sacl; dacl = p.dacl }

@@ -4,9 +4,9 @@ use Rattle.sd_rights.specs.Kinds.{is_object}
 use Rattle.sd_view.specs.AclReading.{kind_in}
 use Rattle.sd_view.specs.Bytes.{u16_at, u32_at}
 
--- 2.4.4.3: whether a place has no object flags but the two that are named
+-- 2.4.4.3: whether an extent has no object flags but the two that are named
 abbrev pub named_flags : List ℕ → Bool
-named_flags place = not (is_object (kind_in place)) || nat_le (u32_at 8 place) 3
+named_flags extent = not (is_object (kind_in extent)) || nat_le (u32_at 8 extent) 3
 
 -- the same of as many ACEs as are counted
 unfoldable pub all_named_flags : ℕ → List ℕ → Bool

@@ -25,13 +25,13 @@ loop-preserved c =
     let n = c.args.count - (c.loop.counter + 1) in
     let m = c.args.count - c.loop.counter in
     let ace = c.in_ok-ace.ace in
-    let place = c.in_ok-ace.ensures.place in
+    let taken = c.in_ok-ace.ensures.taken in
     let size = c.in_ok-ace.ensures.size in
     let kind = c.in_ok-ace.ensures.object in
     let more = aces_fault-more n m left (omega arith) c.in_ok-ace.ensures.fault in
     let all = aces_of-more n m left (omega arith) in
-    let rest = take_rest left ace.place ∙ ap (λ (k : ℕ). drop k left) place.0 in
-    let long = ap (length {A = ℕ}) (take_rest left ace.place) in
+    let rest = take_rest left ace.taken ∙ ap (λ (k : ℕ). drop k left) taken.0 in
+    let long = ap (length {A = ℕ}) (take_rest left ace.taken) in
     let sizes = ap aces_size all in
     let tail = ap (λ (xs : List ℕ). aces_size (aces_of n xs)) rest in
     let object : c.if-object.object ≡ (c.loop.object || ace.object) = elim c.if-object.branch [
@@ -44,7 +44,7 @@ loop-preserved c =
           ∙ seen_so_far c.loop.object c.if-object.object _ (has_object (aces_of n (drop (u16_at 2 left) left))) _
           (object ∙ ap (λ (k : Bool). c.loop.object || k) kind)
           (ap (λ (k : Bool). c.loop.object || k) (sym (ap has_object all)) ∙ c.loop.invariant.2),
-      omega (arith, long, length-drop ace.place left, size.1, place.1, c.loop.invariant.3),
+      omega (arith, long, length-drop ace.taken left, size.1, taken.1, c.loop.invariant.3),
     )
 
 pub returns-in_err-ace-clause-fault : goal.returns-in_err-ace-clause-fault

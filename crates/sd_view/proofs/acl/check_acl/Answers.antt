@@ -9,14 +9,14 @@ pub returns-clause-size : goal.returns-clause-size
 returns-clause-size c =
     let bytes = c.args.bytes.now in
     let n = c.from-n.result in
-    let place = take n bytes in
-    let long : length place ≡ n = length-take-le n bytes (omega arith) in
-    let rest = take_rest place 8 in
+    let extent = take n bytes in
+    let long : length extent ≡ n = length-take-le n bytes (omega arith) in
+    let rest = take_rest extent 8 in
     let aces = ap (aces_of c.u16_at-2.result) rest
     ∙ acl-read bytes n c.u16_at-2.result (c.from-n.ensures ∙ c.u16_at.ensures) c.u16_at-2.ensures (omega arith)
     (omega arith) in
     let size = c.in_ok-written.ensures.size in
-    (size.0 ∙ ap acl_size aces, omega (arith, size.1, ap (length {A = ℕ}) rest, length-drop 8 place, long))
+    (size.0 ∙ ap acl_size aces, omega (arith, size.1, ap (length {A = ℕ}) rest, length-drop 8 extent, long))
 
 pub returns-clause-object : goal.returns-clause-object
 returns-clause-object c =

@@ -1,7 +1,7 @@
 use Rattle.std.proofs.Common.{◌≡◌, ℕ, take, sym, ap, ◌∙◌, subst, arith}
 use Rattle.sd_view.specs.Bytes.{u16_at}
-use Rattle.sd_view.specs.AclReading.{IsAcePlace}
-use Rattle.sd_view.proofs.AclLaws.{ace-bounds, ace-place}
+use Rattle.sd_view.specs.AclReading.{IsReadableAce}
+use Rattle.sd_view.proofs.AclLaws.{ace-bounds, ace-readable}
 use Rattle.sd_view.proofs.acl.split_ace.Goals as goal
 
 pub u16_at-requires : goal.u16_at-requires
@@ -15,6 +15,6 @@ pub ace_view-requires : goal.ace_view-requires
 ace_view-requires c =
     let left = c.args.left.now in
     let size = c.from.ensures ∙ c.u16_at.ensures in
-    let place : c.split_at.result.0.now ≡ take (u16_at 2 left) left = c.split_at.ensures.front
+    let extent : c.split_at.result.0.now ≡ take (u16_at 2 left) left = c.split_at.ensures.front
     ∙ ap (λ (k : ℕ). take k left) size in
-    subst IsAcePlace (sym place) (ace-place left (λ i. omega (arith, c.type_inv.left i)) c.requires)
+    subst IsReadableAce (sym extent) (ace-readable left (λ i. omega (arith, c.type_inv.left i)) c.requires)

@@ -52,10 +52,10 @@ returns-then-not-has_named_flags c =
     let left = c.loop.left.now in
     let s = step (c.args.count - (c.loop.counter + 1)) (c.args.count - c.loop.counter) left (omega arith)
     c.loop.invariant.sound in
-    let place : c.split_at.result.0.now ≡ take (u16_at 2 left) left = c.split_at.ensures.front
+    let extent : c.split_at.result.0.now ≡ take (u16_at 2 left) left = c.split_at.ensures.front
     ∙ ap (λ (k : ℕ). take k left) (c.from.ensures ∙ c.u16_at.ensures) in
     failed _ _ _
-    (sym (ap named_flags place) ∙ sym c.has_named_flags.ensures ∙ c.if-not-has_named_flags.true)
+    (sym (ap named_flags extent) ∙ sym c.has_named_flags.ensures ∙ c.if-not-has_named_flags.true)
     (sym c.loop.invariant.named ∙ s.more)
 
 pub loop-preserved : goal.loop-preserved
@@ -64,14 +64,14 @@ loop-preserved c =
     let n = c.args.count - (c.loop.counter + 1) in
     let s = step n (c.args.count - c.loop.counter) left (omega arith) c.loop.invariant.sound in
     let size : c.from.result ≡ u16_at 2 left = c.from.ensures ∙ c.u16_at.ensures in
-    let place : c.split_at.result.0.now ≡ take (u16_at 2 left) left = c.split_at.ensures.front
+    let extent : c.split_at.result.0.now ≡ take (u16_at 2 left) left = c.split_at.ensures.front
     ∙ ap (λ (k : ℕ). take k left) size in
     let rest : c.split_at.result.1.now ≡ drop (u16_at 2 left) left = c.split_at.ensures.back
     ∙ ap (λ (k : ℕ). drop k left) size in
     record {
       sound = ap (aces_fault n) rest ∙ s.sound;
       named = ap (all_named_flags n) rest
-          ∙ passed _ _ _ (sym (ap named_flags place) ∙ sym c.has_named_flags.ensures ∙ c.if-not-has_named_flags.false)
+          ∙ passed _ _ _ (sym (ap named_flags extent) ∙ sym c.has_named_flags.ensures ∙ c.if-not-has_named_flags.false)
           (sym c.loop.invariant.named ∙ s.more);
     }
 

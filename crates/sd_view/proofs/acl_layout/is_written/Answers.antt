@@ -12,22 +12,22 @@ off false e = refl
 pub returns-then-not-object : goal.returns-then-not-object
 returns-then-not-object c =
     λ e.
-    let place = c.args.place.now in
-    acl-written place c.args.header.now (λ i. omega (arith, c.type_inv.place i))
+    let extent = c.args.extent.now in
+    acl-written extent c.args.header.now (λ i. omega (arith, c.type_inv.extent i))
     (λ i. omega (arith, c.type_inv.header i))
-    c.requires.place
+    c.requires.extent
     c.requires.header
     (sym c.read_u64.ensures ∙ c.if-read_u64.false ∙ c.read_u64-2.ensures)
-    (plain-named (u16_at 4 place) (drop 8 place) (sym c.requires.object ∙ off c.args.object e))
+    (plain-named (u16_at 4 extent) (drop 8 extent) (sym c.requires.object ∙ off c.args.object e))
 
 pub returns-else-not-object : goal.returns-else-not-object
 returns-else-not-object c =
     λ e.
-    let place = c.args.place.now in
-    acl-written place c.args.header.now (λ i. omega (arith, c.type_inv.place i))
+    let extent = c.args.extent.now in
+    acl-written extent c.args.header.now (λ i. omega (arith, c.type_inv.extent i))
     (λ i. omega (arith, c.type_inv.header i))
-    c.requires.place
+    c.requires.extent
     c.requires.header
     (sym c.read_u64.ensures ∙ c.if-read_u64.false ∙ c.read_u64-2.ensures)
-    (sym (ap (λ (n : ℕ). all_named_flags n (drop 8 place)) c.u16_at.ensures)
-    ∙ ap (all_named_flags c.u16_at.result) (sym (take_rest place 8)) ∙ sym c.have_named_flags.ensures ∙ e)
+    (sym (ap (λ (n : ℕ). all_named_flags n (drop 8 extent)) c.u16_at.ensures)
+    ∙ ap (all_named_flags c.u16_at.result) (sym (take_rest extent 8)) ∙ sym c.have_named_flags.ensures ∙ e)

@@ -7,8 +7,8 @@ use Rattle.sd_view.proofs.layout.header_of.Goals as goal
 pub returns-clause-value : goal.returns-clause-value
 returns-clause-value c =
     let d = c.args.view.now in
-    let owner = ap length c.owner_place.ensures.value ∙ length-sid_part d.owner in
-    let group = ap length c.group_place.ensures.value ∙ length-sid_part d.group in
+    let owner = ap length c.owner_bytes.ensures.value ∙ length-sid_part d.owner in
+    let group = ap length c.group_bytes.ensures.value ∙ length-sid_part d.group in
     let sacl = ap (λ (a : Acls). a.sacl.size) c.acls-acls.ensures ∙ written-size d.sacl in
     let dacl = ap (λ (a : Acls). a.dacl.size) c.acls-acls.ensures ∙ written-size d.dacl in
     rw (

@@ -5,8 +5,8 @@ pub returns-clause-printed : goal.returns-clause-printed
 returns-clause-printed g c =
     rw (
       ← c.header_of.ensures.value,
-      ← c.owner_place.ensures.value,
-      ← c.group_place.ensures.value,
+      ← c.owner_bytes.ensures.value,
+      ← c.group_bytes.ensures.value,
       ← c.sacl.ensures,
       ← c.dacl.ensures,
     ) (search prints_then depth 10)

@@ -4,5 +4,5 @@ use Rattle.sd_view.proofs.ace.AceView.object.Goals as goal
 
 pub guid_at-requires : goal.guid_at-requires
 guid_at-requires c =
-    let room = object-room c.self.inside.place.now (sym c.has_object.ensures ∙ c.if-not-has_object.false) in
+    let room = object-room c.self.inside.extent.now (sym c.has_object.ensures ∙ c.if-not-has_object.false) in
     omega (arith, room, c.self.invariant.front)

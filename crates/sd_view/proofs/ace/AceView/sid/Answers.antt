@@ -7,13 +7,13 @@ use Rattle.sd_view.proofs.ace.AceView.sid.Goals as goal
 
 pub at_front-requires : goal.at_front-requires
 at_front-requires c =
-    let place = c.self.inside.place.now in
-    let rest = take_rest place c.sid_offset.result ∙ ap (λ (k : ℕ). drop k place) c.sid_offset.ensures.value in
+    let extent = c.self.inside.extent.now in
+    let rest = take_rest extent c.sid_offset.result ∙ ap (λ (k : ℕ). drop k extent) c.sid_offset.ensures.value in
     let stands = subst (λ (xs : List ℕ). Stands xs) (sym rest) (begins-Stands _ _ c.self.invariant.sid) in
     record { count = stands.count; whole = stands.whole }
 
 pub returns : goal.returns
 returns c =
-    let place = c.self.inside.place.now in
-    let rest = take_rest place c.sid_offset.result ∙ ap (λ (k : ℕ). drop k place) c.sid_offset.ensures.value in
+    let extent = c.self.inside.extent.now in
+    let rest = take_rest extent c.sid_offset.result ∙ ap (λ (k : ℕ). drop k extent) c.sid_offset.ensures.value in
     c.at_front.ensures.exact ∙ ap sid_of rest ∙ ap (λ (a : AccessControlEntry). a.sid) c.self.view_is

@@ -6,6 +6,6 @@ use Rattle.sd_view.proofs.acl.AclView.count.Goals as goal
 
 pub returns : goal.returns
 returns c =
-    let place = c.self.inside.place.now in
-    c.u16_at.ensures ∙ sym (length-aces_of (u16_at 4 place) (drop 8 place))
+    let extent = c.self.inside.extent.now in
+    c.u16_at.ensures ∙ sym (length-aces_of (u16_at 4 extent) (drop 8 extent))
     ∙ ap (length {A = AccessControlEntry}) c.self.view_is

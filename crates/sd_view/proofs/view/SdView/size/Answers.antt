@@ -10,8 +10,8 @@ use Rattle.sd_view.proofs.view.SdView.size.Goals as goal
 pub returns-clause-value : goal.returns-clause-value
 returns-clause-value c =
     let d = c.args.self.now in
-    let owner = ap length c.owner_place.ensures.value ∙ length-sid_part d.owner in
-    let group = ap length c.group_place.ensures.value ∙ length-sid_part d.group in
+    let owner = ap length c.owner_bytes.ensures.value ∙ length-sid_part d.owner in
+    let group = ap length c.group_bytes.ensures.value ∙ length-sid_part d.group in
     let kept = c.self.invariant.1 ∙ ap (λ (t : Descriptor). shown_written t) c.self.view_is in
     let sacl = ap (λ (a : Acls). a.sacl.size) kept ∙ written-size d.sacl in
     let dacl = ap (λ (a : Acls). a.dacl.size) kept ∙ written-size d.dacl in
