@@ -89,7 +89,9 @@ impl<const MOST: usize> ByteBuf<MOST> {
         Ok(())
     }
 
-    // Appends bytes that there is room for.
+    // Appends bytes that there is room for. Where their number is known when the program is built, they are then copied
+    // at once.
+    #[inline(always)]
     pub(crate) fn append(&mut self, bytes: &[u8])
         requires { length self.old + length bytes.now ≤ MOST }
         ensures { self.new ≡ self.old ++ bytes.now }

@@ -1,5 +1,7 @@
 // SIDs and ACEs appended to a buffer.
-ghost use Rattle.std.specs.Prelude.{◌≡◌, ◌≤◌, ◌+◌, ◌++◌, length, take};
+ghost use Rattle.std.specs.Prelude.{◌≡◌, ◌≤◌, ◌+◌, ◌*◌, ◌++◌, ◌∷◌, length, take};
+ghost use Rattle.std.specs.List.{flat_map};
+ghost use Rattle.byteorder.specs.Endian.{big_bytes, little_bytes};
 ghost use Rattle.sd_core.specs.Ace.{IsAce, ace_size};
 ghost use Rattle.sd_core.specs.Sid.{IsSid, sid_bytes, sid_size};
 ghost use Rattle.sd_view.specs.AclLayout.{ace_bytes, ace_front as front_bytes, flag_if, front_size, guid_part};
@@ -8,16 +10,56 @@ ghost use Rattle.sd_view.specs.declared.limits.TheConstants.{CAPACITY, MOST_SID_
 use crate::buffer::SdBuf;
 use byteorder::{BigEndian, ByteOrder, LittleEndian};
 use sd_core::{Ace, Sid, guid_bytes};
-use sd_view::{FRONT_SIZE, MOST_SID_SIZE, OBJECT_FRONT_SIZE, SID_HEADER_SIZE};
+use sd_view::{FRONT_SIZE, OBJECT_FRONT_SIZE, SID_HEADER_SIZE};
 use uuid::Uuid;
+
+// The sub-authorities of an account of a domain: most SIDs have as many.
+const ACCOUNT_SUBS: usize = 5;
 
 // Appends a SID (MS-DTYP 2.4.2.2).
 pub(crate) fn append_sid(buf: &mut SdBuf, sid: &Sid)
     requires { length buf.old + sid_size sid.now ≤ CAPACITY }
     ensures { buf.new ≡ buf.old ++ sid_bytes sid.now }
 {
-    let bytes = sid_front(sid);
-    buf.append(&bytes[..sid.size()]);
+    let subs = sid.subs();
+    buf.append(&sid_front(sid));
+    if subs.len() == ACCOUNT_SUBS {
+        buf.append(&account_subs(subs));
+    } else {
+        append_subs(buf, subs);
+    }
+}
+
+// The bytes of a SID before its sub-authorities.
+fn sid_front(sid: &Sid) -> [u8; SID_HEADER_SIZE]
+    ensures { result ≡ 1 ∷ length sid.now.subs ∷ big_bytes 6 sid.now.authority }
+{
+    let mut front = [0; SID_HEADER_SIZE];
+    front[0] = 1;
+    front[1] = sid.subs().len() as u8;
+    BigEndian::write_u48(&mut front[2..], sid.authority());
+    front
+}
+
+// The bytes of as many sub-authorities as an account of a domain has. Their number is known when the program is built,
+// so they are copied at once.
+fn account_subs(subs: &[u32]) -> [u8; 4 * ACCOUNT_SUBS]
+    requires { length subs.now ≡ ACCOUNT_SUBS }
+    ensures { result ≡ flat_map (little_bytes 4) subs.now }
+{
+    let mut bytes = [0; 4 * ACCOUNT_SUBS];
+    LittleEndian::write_u32_into(&subs[..ACCOUNT_SUBS], &mut bytes);
+    bytes
+}
+
+// Appends sub-authorities one after the other.
+fn append_subs(buf: &mut SdBuf, subs: &[u32])
+    requires { length buf.old + 4 * length subs.now ≤ CAPACITY }
+    ensures { buf.new ≡ buf.old ++ flat_map (little_bytes 4) subs.now }
+{
+    for sub in subs {
+        buf.append(&sub.to_le_bytes());
+    }
 }
 
 // Appends a SID, and tells where it stands.
@@ -34,22 +76,6 @@ pub(crate) fn place_sid(buf: &mut SdBuf, sid: &Sid) -> u32
     place
 }
 
-// The bytes of a SID, and what is left of the largest one.
-fn sid_front(sid: &Sid) -> [u8; 68]
-    ensures { take (sid_size sid.now) result ≡ sid_bytes sid.now }
-{
-    let subs = sid.subs();
-    let mut bytes = [0; MOST_SID_SIZE];
-    bytes[0] = 1;
-    bytes[1] = subs.len() as u8;
-    BigEndian::write_u48(&mut bytes[2..], sid.authority());
-    LittleEndian::write_u32_into(
-        subs,
-        &mut bytes[SID_HEADER_SIZE..SID_HEADER_SIZE + 4 * subs.len()],
-    );
-    bytes
-}
-
 // Appends an ACE (MS-DTYP 2.4.4).
 pub(crate) fn append_ace(buf: &mut SdBuf, ace: &Ace)
     requires { length buf.old + ace_size ace.now ≤ CAPACITY }
@@ -58,7 +84,7 @@ pub(crate) fn append_ace(buf: &mut SdBuf, ace: &Ace)
     append_front(buf, ace);
     append_guid(buf, &ace.object());
     append_guid(buf, &ace.inherited());
-    append_sid(buf, &ace.sid());
+    append_sid(buf, ace.trustee());
 }
 
 // Appends what stands before the GUIDs.

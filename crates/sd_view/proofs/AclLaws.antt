@@ -435,7 +435,7 @@ sid-room n extent s h = omega (
 pub ace-fits : (extent : List ℕ) (a : AccessControlEntry) → ShowsAce extent a → ace_size a ≤ length extent
 ace-fits extent a h = sid-room (sid_offset a.kind a.object a.inherited) extent a.sid h.sid
 
-aces-fit : (aces : List AccessControlEntry) (bytes : List ℕ) → ShowsAces bytes aces → aces_size aces ≤ length bytes
+pub aces-fit : (aces : List AccessControlEntry) (bytes : List ℕ) → ShowsAces bytes aces → aces_size aces ≤ length bytes
 aces-fit [] bytes h = omega arith
 aces-fit (a ∷ others) bytes h =
     let head = ace-fits h.0 a h.3 in
@@ -519,6 +519,7 @@ acl-readable bytes b e =
       record {
         room = shows.0.header;
         small = omega (arith, small, shows.0.size);
+        size = shows.0.size;
         sound = shows.2;
         limits = shows-acl-limits (acl_at_front bytes) (acl_of (acl_at_front bytes)) are shows.0;
       },

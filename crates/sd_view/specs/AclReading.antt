@@ -98,5 +98,6 @@ pub record IsReadableAce (extent : List ℕ) : Type 0 where
 pub record IsReadableAcl (extent : List ℕ) : Type 0 where
   pub room : 8 ≤ length extent
   pub small : length extent ≤ 65535
+  pub size : u16_at 2 extent ≡ length extent
   pub sound : aces_fault (u16_at 4 extent) (drop 8 extent) ≡ None
   pub limits : IsAcl (acl_of extent)

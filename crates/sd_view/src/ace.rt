@@ -7,6 +7,7 @@ ghost use Rattle.sd_view.specs.Ace.{announces_inherited, announces_object};
 ghost use Rattle.sd_view.specs.AclLayout.{ace_body, ace_bytes, flag_if, front_size};
 ghost use Rattle.sd_view.specs.AclReading.{IsReadableAce, ace_fault, ace_of, kind_in, extent_fault, sid_offset_in};
 ghost use Rattle.sd_view.specs.Bytes.{u16_at as u16_of};
+ghost use Rattle.sd_view.specs.Inner.Written.{named_flags};
 
 use crate::bytes::{u16_at, u32_at};
 use crate::fault::AclFault;
@@ -27,6 +28,9 @@ const GUID_SIZE: usize = 16;
 
 /// The flag that MS-DTYP 2.4.4.1 does not name, and that no ACE has here.
 const UNUSED_FLAG: u8 = 0x20;
+
+/// The object flags that MS-DTYP 2.4.4.3 names.
+const NAMED_OBJECT_FLAGS: u32 = 3;
 
 /// What a check finds of the ACE at the front of some bytes: the bytes that it takes there, its written
 /// size, and whether it is an object ACE.
@@ -123,6 +127,14 @@ pub(crate) fn check_ace(left: &[u8]) -> Result<Checked, AclFault>
         size,
         object: kind_at(extent).is_object(),
     })
+}
+
+// Whether the extent has no object flags but those that MS-DTYP 2.4.4.3 names.
+pub(crate) fn has_named_flags(extent: &[u8]) -> bool
+    requires { 16 ≤ length extent.now }
+    ensures { result ≡ named_flags extent.now }
+{
+    !kind_at(extent).is_object() || u32_at(extent, 8) <= NAMED_OBJECT_FLAGS
 }
 
 /// An ACE in the bytes that show it (MS-DTYP 2.4.4).

@@ -117,6 +117,14 @@ impl<'a> AclView<'a> {
         }
     }
 
+    // Its bytes as they stand.
+    pub(crate) fn extent(&self) -> &'a [u8]
+        ensures value { acl_of result.now ≡ self.now }
+        ensures limits { IsReadableAcl result.now }
+    {
+        self.extent
+    }
+
     // What the check found for its written form.
     pub(crate) fn written(&self) -> Written
         ensures size { (result.size ≡ acl_size self.now) × (acl_size self.now < 2 ^ 16) }

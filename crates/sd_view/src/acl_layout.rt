@@ -1,21 +1,63 @@
 // The written form of an ACL.
-ghost use Rattle.std.specs.Prelude.{◌≡◌, ◌++◌, ◌∷◌, [], take};
+ghost use Rattle.std.specs.Prelude.{◌≡◌, ◌++◌, ◌∷◌, [], take, None, true};
 ghost use Rattle.std.specs.List.{flat_map};
 ghost use Rattle.byteorder.specs.Endian.{little_bytes};
 ghost use Rattle.sd_sink.specs.Print.{Prints};
+ghost use Rattle.sd_view.specs.Acl.{has_object};
+ghost use Rattle.sd_view.specs.AclReading.{IsReadableAcl, aces_fault, acl_of};
+ghost use Rattle.sd_view.specs.Inner.Written.{all_named_flags};
 ghost use Rattle.sd_view.specs.AclLayout.{ace_bytes, ace_front, acl_bytes, acl_header as header_bytes, front_size, revision_if};
 
-use crate::ace::AceView;
+use crate::ace::{AceView, has_named_flags};
 use crate::acl::AclView;
-use crate::limits::{ACL_REVISION, ACL_REVISION_DS};
+use crate::bytes::u16_at;
+use crate::limits::{ACL_HEADER_SIZE, ACL_REVISION, ACL_REVISION_DS};
+use byteorder::{ByteOrder, LittleEndian};
 use sd_core::Print;
 
-/// Prints an ACL: its header, and its ACEs one after the other.
+/// Prints an ACL: its header, and its ACEs one after the other; where it stands in this form, at once.
 pub(crate) fn print_acl<P: Print>(acl: &AclView<'_>, out: &mut P)
     ensures { Prints (P.told out.old) (P.told out.new) (acl_bytes acl.now) }
 {
-    out.put(&header_of(acl));
-    print_aces(acl, out);
+    let header = header_of(acl);
+    let extent = acl.extent();
+    if is_written(extent, acl.written().object, &header) {
+        out.put(extent);
+    } else {
+        out.put(&header);
+        print_aces(acl, out);
+    }
+}
+
+// Whether an ACL stands in its written form: it has this header, and so no spare bytes, and its object flags are all
+// named.
+fn is_written(extent: &[u8], object: bool, header: &[u8]) -> bool
+    requires extent { IsReadableAcl extent.now }
+    requires object { object ≡ has_object (acl_of extent.now) }
+    requires header { header.now ≡ header_bytes (acl_of extent.now) }
+    ensures { result ≡ true → acl_bytes (acl_of extent.now) ≡ extent.now }
+{
+    if LittleEndian::read_u64(extent) != LittleEndian::read_u64(header) {
+        return false;
+    }
+    // Without an object ACE there are no object flags.
+    !object || have_named_flags(u16_at(extent, 4), &extent[ACL_HEADER_SIZE..])
+}
+
+// Whether the ACEs have no object flags but those that are named.
+fn have_named_flags(count: u16, bytes: &[u8]) -> bool
+    requires { aces_fault count bytes.now ≡ None }
+    ensures { result ≡ all_named_flags count bytes.now }
+{
+    let mut left = bytes;
+    for _ in 0..count {
+        let (extent, rest) = left.split_at(usize::from(u16_at(left, 2)));
+        if !has_named_flags(extent) {
+            return false;
+        }
+        left = rest;
+    }
+    true
 }
 
 fn header_of(acl: &AclView<'_>) -> [u8; 8]

@@ -72,7 +72,7 @@ append_sid-requires c =
       c.append_front.ensures.value,
       c.object.ensures,
       c.inherited.ensures,
-      c.sid.ensures,
+      c.trustee.ensures,
       length-append,
     )
     (omega (arith, r.sid, front))
@@ -94,7 +94,7 @@ returns c =
       c.append_front.ensures.value,
       c.object.ensures,
       c.inherited.ensures,
-      c.sid.ensures,
+      c.trustee.ensures,
     ) in
     whole ∙ in_row c.args.buf.now (ace_front a) (guid_part a.object) (guid_part a.inherited) (sid_bytes a.sid)
     ∙ ap (λ (g : List ℕ). c.args.buf.now ++ (ace_front a ++ (g ++ sid_bytes a.sid))) (sym fit)

@@ -4,7 +4,7 @@ use Rattle.sd_sink.proofs.PrintLemmas.{prints_as, prints_then}
 use Rattle.sd_view.specs.AclLayout.{ace_bytes}
 use Rattle.sd_view.proofs.acl_layout.print_acl.Goals as goal
 
-pub returns : goal.returns
-returns g c =
-    prints_as (ap (λ (t : List ℕ). t ++ flat_map ace_bytes c.args.acl.now) c.header_of.ensures)
-    (prints_then c.put.ensures c.print_aces.ensures)
+pub returns-else-is_written : goal.returns-else-is_written
+returns-else-is_written g c =
+    prints_as (ap (λ (t : List ℕ). t ++ flat_map ace_bytes c.args.acl.now) c.header_of-header.ensures)
+    (prints_then c.put-else-is_written.ensures c.print_aces.ensures)
