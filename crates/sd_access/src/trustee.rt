@@ -9,14 +9,17 @@ use sd_binary::SdView;
 use sd_core::{Sid, Token};
 
 /// Whether an entry of the token meets the SID. Entries are looked at up to the first that does.
-fn meets_any(token: &mut Token, sid: &Sid, deny: bool) -> bool
-    ensures value { result ≡ meets sid.now deny token.old.entries }
+// On its own, so that its few steps have the registers that they need; and with a copy of the SID, which is seen to stay
+// as it is while looks are counted.
+#[inline(never)]
+fn meets_any(token: &mut Token, sid: Sid, deny: bool) -> bool
+    ensures value { result ≡ meets sid deny token.old.entries }
     ensures entries { token.new.entries ≡ token.old.entries }
     ensures goes_on { token.old.compared ≤ token.new.compared }
     ensures count { token.new.compared ≤ token.old.compared + length token.old.entries }
 {
     for i in 0..token.len() {
-        if token.meets(i, sid, deny) {
+        if token.meets(i, &sid, deny) {
             return true;
         }
     }
@@ -32,7 +35,7 @@ pub fn some_meets(token: &mut Token, sid: Option<Sid>, deny: bool) -> bool
 {
     match sid {
         None => false,
-        Some(sid) => meets_any(token, &sid, deny),
+        Some(sid) => meets_any(token, sid, deny),
     }
 }
 

@@ -1,2 +1,3 @@
--- Lemmas that a type's own laws need. No definition rests on these files.
+-- What a type's own invariant and laws need. No definition rests on these files.
 pub mod SidFields
+pub mod TokenKeys
