@@ -1,11 +1,11 @@
 -- What reads as a kind, as flags or as access rights consists of letters and digits, and is not too long: so no byte in
 -- it ends a field.
-use Rattle.std.proofs.Common.{get_or, ◌<◌, ◌∙◌, true≢false, ◌≡◌, ℕ, ◌^◌, ◌≤◌, Bool, true, false, ◌&&◌, ◌||◌, List, [], ◌∷◌, length, map, Option, Some, None, refl, ap, sym, subst, arith}
+use Rattle.std.proofs.Common.{get_or, ◌<◌, ◌∙◌, true≢false, ◌≡◌, ℕ, ◌^◌, ◌≤◌, Bool, true, false, ◌&&◌, ◌||◌, List, [], ◌∷◌, length, map, Option, Some, None, refl, ap, sym, subst, arith, cond, take, ◌+◌}
 use Rattle.std.specs.Option.{option_map}
 use Rattle.std.specs.Prelude.{slice_index, suc, ◌==◌, nat_le, nat_lt, if◌then◌else◌, IfSome}
 use Rattle.std.specs.Char.{is_digit, to_ascii_lowercase, to_ascii_uppercase}
 use Rattle.std.specs.Cmp.Lexicographic.{same_text}
-use Rattle.std.specs.List.{list_all}
+use Rattle.std.specs.List.{list_all, prefix_len}
 use Rattle.std.specs.Str.{str_eq_ignore_ascii_case}
 use Rattle.std.specs.Str.Parse.{digits_value}
 use Rattle.std.proofs.lemmas.Bool.Decides.{nat_tests}
@@ -20,6 +20,7 @@ use Rattle.sd_rights.specs.declared.names.NamedBits.{NamedBits}
 use Rattle.sd_rights.proofs.Bools.{both}
 use Rattle.sd_rights.proofs.KindLaws.{kind_named-some, letters-few}
 use Rattle.sd_core.specs.GuidText.{guid_reads}
+use Rattle.sd_core.specs.SidText.{is_sid_byte, sid_front}
 use Rattle.uuid.specs.Text.{by_index, byte_of_digits, digit_place, digits_of, has_hyphens, hyphen_place, is_hex_digit, is_hyphen_place, parsed_hyphenated}
 use Rattle.uuid.proofs.TextLemmas.{by_index_at, by_index_length}
 use Rattle.std.proofs.lemmas.List.Folds.{list_all_at}
@@ -303,3 +304,23 @@ object-whole kind (b ∷ bs) object is = by_test (is_object kind) (parsed_hyphen
         record { plain = found.0; fits = omega (arith, found.1) }
     by_test true None e f = absurd cc
     by_test false x e f = absurd cc
+
+-- 7. SIDs.
+
+sid-byte-plain : (b : ℕ) → is_sid_byte b ≡ true → is_plain_inside b ≡ true
+sid-byte-plain b is = grind (arith, nat_tests)
+
+sid-front-plain : (text : List ℕ) → list_all is_plain_inside (sid_front text) ≡ true
+sid-front-plain [] = refl
+sid-front-plain (b ∷ bs) = by_test (is_sid_byte b) refl (sid-front-plain bs)
+  where
+    by_test : (x : Bool) → is_sid_byte b ≡ x → list_all is_plain_inside (sid_front bs) ≡ true
+        → list_all is_plain_inside (take (cond x (1 + prefix_len is_sid_byte bs) 0) (b ∷ bs)) ≡ true
+    by_test false e later = refl
+    by_test true e later =
+        let one : 1 + prefix_len is_sid_byte bs ≡ suc (prefix_len is_sid_byte bs) = omega arith in
+        rw (one, sid-byte-plain b e) later
+
+-- the text of a SID at the front
+pub sid-front-whole : (text : List ℕ) (size : ℕ) → size ≡ length (sid_front text) → size ≤ 183 → IsWhole (sid_front text)
+sid-front-whole text size is fits = record { plain = sid-front-plain text; fits = omega (arith, is) }

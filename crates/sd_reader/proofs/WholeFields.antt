@@ -1,8 +1,6 @@
 -- An ACE that stands whole in what comes, read where it stands.
 use Rattle.std.proofs.Common.{◌≡◌, ℕ, ◌+◌, ◌/◌, ◌%◌, ◌≤◌, Bool, true, false, List, [], ◌∷◌, ◌++◌, length, take, drop, Ok, Err, Some, None, refl, ap, sym, ◌∙◌, subst, arith, append_assoc, ◌<◌, ◌-◌, get_or}
 use Rattle.std.specs.Prelude.{Result, Option}
-use Rattle.std.proofs.lemmas.List.{take-append-drop, take-take, drop-take}
-use Rattle.std.proofs.lemmas.List.Folds.{list_all-append}
 use Rattle.std.proofs.lemmas.Grind.{common_steps}
 use Rattle.std.specs.List.{list_all}
 use Rattle.sd_core.specs.Sid.{SecurityId}
@@ -252,17 +250,3 @@ fed-on s s' buf buf' dm bytes after rest line none none' steps is h =
       (e.0, e.1, λ more. rw none' (e.2 more ∙ (rw none at h.1.2 (bytes ++ more)) ∙ rw append_assoc refl)),
       append_assoc h.0 bytes after ∙ ap (λ (t : List ℕ). h.0 ++ t) (sym is) ∙ h.2,
     )
-
--- 6. Bytes that only go onto a text, counted in two steps.
-
-take-more : (n m : ℕ) (xs : List ℕ) → take (n + m) xs ≡ take n xs ++ take m (drop n xs)
-take-more n m xs =
-    sym (ap (λ (t : List ℕ). take n xs ++ t) (sym (drop-take n m xs))
-    ∙ (ap (λ (t : List ℕ). t ++ drop n (take (n + m) xs)) (sym (take-take n (n + m) xs (omega arith)))
-    ∙ take-append-drop n (take (n + m) xs)))
-
-pub plain-more : (text : List ℕ) (n m : ℕ) → list_all is_plain_inside (take n text) ≡ true
-    → list_all is_plain_inside (take m (drop n text)) ≡ true → list_all is_plain_inside (take (n + m) text) ≡ true
-plain-more text n m first next =
-    ap (list_all is_plain_inside) (take-more n m text)
-    ∙ (list_all-append is_plain_inside (take n text) (take m (drop n text)) ∙ rw (first, next) refl)

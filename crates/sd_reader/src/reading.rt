@@ -11,7 +11,7 @@ ghost use Rattle.sd_reader.specs.Inner.WholeAce.{TakesAce};
 use crate::fault::SddlFault;
 use crate::field_texts::{front_from_text, kind_from_text, object_from_text};
 use crate::line::{AceField, SidPart, Slot};
-use crate::whole_ace::{front_fields, front_sid_text};
+use crate::whole_ace::{behind, front_fields};
 use sd_binary::{AclFlags, Builder, SdBuf, Which};
 use sd_core::{Ace, AceKind, Sid, SidFault, flags_from_text, rights_from_text};
 use uuid::Uuid;
@@ -235,8 +235,9 @@ impl FieldReader {
         let Some((fields, rest)) = front_fields(text) else {
             return None;
         };
-        let (text, after) = front_sid_text(rest)?;
-        match Sid::from_text(text, self.domain.as_ref()) {
+        let (read, size) = Sid::front_text(rest, self.domain.as_ref());
+        let after = behind(rest, size)?;
+        match read {
             Ok(sid) => {
                 self.ace = fields;
                 self.put_ace(buf, sid);

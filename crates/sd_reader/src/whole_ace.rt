@@ -3,6 +3,7 @@
 ghost use Rattle.std.specs.Prelude.{◌≡◌, ◌≤◌, ◌/◌, ◌%◌, ◌∷◌, ◌++◌, length, take, true, IfSome, Some};
 ghost use Rattle.std.specs.List.{list_all};
 ghost use Rattle.sd_rights.specs.Flags.{flags_reads};
+ghost use Rattle.sd_rights.specs.Limits.{most_field};
 ghost use Rattle.sd_rights.specs.Rights.{rights_reads};
 ghost use Rattle.sd_reader.specs.FieldTexts.{kind_reads, object_reads};
 ghost use Rattle.sd_reader.specs.Inner.Held.{is_plain_inside};
@@ -10,14 +11,10 @@ ghost use Rattle.sd_reader.specs.Inner.Reads.{AreAceFields};
 ghost use Rattle.sd_reader.specs.Inner.WholeAce.{FieldAt, FieldsAt, IsWhole, ObjectsAt};
 
 use crate::field_texts::{kind_from_text, object_from_text};
-use crate::line::plain_inside;
 use crate::reading::AceFields;
 use sd_core::{AceKind, flags_from_text, rights_from_text};
 use sd_rights::MOST_FIELD_SIZE;
 use uuid::Uuid;
-
-/// The bytes of a text that are looked at at once.
-const BLOCK: usize = 16;
 
 /// The characters of a GUID.
 const GUID_TEXT_SIZE: usize = 36;
@@ -144,46 +141,14 @@ fn cut(text: &[u8], step: usize) -> Option<(&[u8], &[u8])>
     None
 }
 
-/// The text of a SID at the front, and what follows the parenthesis behind it. None where none stands there, or where
-/// it has a byte that is not plain or more than 183 bytes.
+/// What follows the parenthesis behind so many bytes at the front. None where there is none, or where these are more than
+/// a field has.
 #[inline(always)]
-pub fn front_sid_text(text: &[u8]) -> Option<(&[u8], &[u8])>
-    ensures { IfSome result (λ r. IsWhole r.0.now × (text.now ≡ r.0.now ++ 41 ∷ r.1.now)) }
+pub fn behind(text: &[u8], size: usize) -> Option<&[u8]>
+    ensures { IfSome result (λ r. (size ≤ most_field) × (text.now ≡ take size text.now ++ 41 ∷ r.now)) }
 {
-    let count = plain_inside_long(text);
-    if count > MOST_FIELD_SIZE {
+    if size > MOST_FIELD_SIZE || text.len() <= size || text[size] != b')' {
         return None;
     }
-    let (field, rest) = text.split_at(count);
-    match rest.split_first() {
-        Some((b')', after)) => Some((field, after)),
-        _ => None,
-    }
-}
-
-// As `plain_inside`, for a text that is long as a rule. Whole blocks are passed over, each in a few instructions.
-fn plain_inside_long(text: &[u8]) -> usize
-    ensures within { result ≤ length text.now }
-    ensures plain { list_all is_plain_inside (take result text.now) ≡ true }
-{
-    let mut start = 0;
-    while text.len() - start >= BLOCK && are_plain_inside(&text[start..start + BLOCK]) {
-        start += BLOCK;
-    }
-    start + plain_inside(&text[start..])
-}
-
-// Whether all bytes are such. It looks at all of them and at each in the same way, and so at several at a time.
-fn are_plain_inside(text: &[u8]) -> bool
-    ensures { result ≡ list_all is_plain_inside text.now }
-{
-    let mut other = false;
-    for byte in text {
-        other |= (*byte == b'(')
-            | (*byte == b')')
-            | (*byte == b';')
-            | (*byte == b' ')
-            | (*byte == b'\t');
-    }
-    !other
+    Some(&text[size + 1..])
 }

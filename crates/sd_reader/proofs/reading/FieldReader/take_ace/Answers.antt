@@ -1,5 +1,7 @@
 use Rattle.std.proofs.Common.{sym, ◌∙◌, refl}
 use Rattle.sd_reader.proofs.FieldLaws.{holds-ace}
+use Rattle.sd_core.specs.SidText.{sid_front}
+use Rattle.sd_reader.proofs.PlainFields.{sid-front-whole}
 use Rattle.sd_reader.proofs.WholeFields.{takes-ace}
 use Rattle.sd_reader.proofs.reading.FieldReader.take_ace.Goals as goal
 
@@ -10,15 +12,15 @@ put_ace-requires c =
 
 pub returns-in-Ok-clause-read : goal.returns-in-Ok-clause-read
 returns-in-Ok-clause-read c =
-    takes-ace c.args.self.now.domain c.args.text.now c.in_ok-text.after.now c.in-Some.fields c.in-Ok.sid
+    takes-ace c.args.self.now.domain c.args.text.now c.in_ok-after.after.now c.in-Some.fields c.in-Ok.sid
     (record {
       before = c.in-Some.rest.now;
       fields = c.in-Some.ensures.found;
       sid = record {
-        field = _;
-        whole = c.in_ok-text.ensures.0;
-        stands = c.in_ok-text.ensures.1;
-        reads = rw (← c.as_ref.ensures.value) (sym c.from_text.ensures.exact ∙ c.in-Ok.is);
+        field = sid_front c.in-Some.rest.now;
+        whole = sid-front-whole c.in-Some.rest.now _ c.front_text-read.ensures.size c.in_ok-after.ensures.0;
+        stands = rw (← c.front_text-read.ensures.front) c.in_ok-after.ensures.1;
+        reads = rw (← c.as_ref.ensures.value) (sym c.front_text-read.ensures.exact ∙ c.in-Ok.is);
       };
     })
     c.args.self.now c.put_ace.new.self c.args.buf.now c.put_ace.new.buf refl
