@@ -81,10 +81,10 @@ impl Sid {
             return read_letters(text[0], text[1], domain);
         }
         let mut sid = Sid::blank();
-        match read_usual(text, &mut sid) {
-            Some(size) if size == text.len() => Ok(sid),
-            _ => read_any(text),
+        if read_usual(text, &mut sid) == Some(text.len()) {
+            return Ok(sid);
         }
+        read_any(text)
     }
 
     /// The SID that the letters, digits and dashes at the front of a text write, as `from_text` reads them, and how
@@ -101,10 +101,10 @@ impl Sid {
             return (read_letters(text[0], text[1], domain), 2);
         }
         let mut sid = Sid::blank();
-        match read_usual(text, &mut sid) {
-            Some(size) => (Ok(sid), size),
-            None => read_any_front(text),
+        if let Some(size) = read_usual(text, &mut sid) {
+            return (Ok(sid), size);
         }
+        read_any_front(text)
     }
 }
 
