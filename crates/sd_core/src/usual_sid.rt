@@ -1,6 +1,8 @@
 //! The usual text of a SID, with decimal numbers alone, read in one pass from the front of a longer text.
 
 ghost use Rattle.std.specs.Prelude.{◌≡◌, ◌≤◌, ◌<◌, ◌+◌, ◌^◌, [], List, ℕ, length, take, drop, true, IfSome, MatchOption, Some};
+ghost use Rattle.std.specs.Char.{is_digit};
+ghost use Rattle.std.specs.List.{list_all};
 ghost use Rattle.sd_rights.specs.Numbers.{number_after};
 ghost use Rattle.sd_core.specs.SidText.{all_pieces, all_read, are_numbers, are_subs, decimal_reads, has_form, is_decimal, numbers_read, pieces, sid_front};
 
@@ -10,6 +12,9 @@ use sd_rights::{MOST_FIELD_SIZE, MOST_SUBS};
 
 /// The digits that a decimal number has at most.
 const MOST_DIGITS: usize = 10;
+
+/// The digits that are read at once, where as many stand there.
+const BLOCK: usize = 8;
 
 /// Fills in the SID that the letters, digits and dashes at the front write, and says how many these are, where its
 /// authority and its sub-authorities are decimal and below 2^32. None says nothing of the text.
@@ -117,21 +122,54 @@ fn front_digits(text: &[u8]) -> (u64, usize)
     ensures within { result.1 ≤ length text.now }
     ensures number { number_after 10 0 (take result.1 text.now) ≡ Some result.0 }
 {
-    // Where ten bytes are there, nobody has to look for their end.
-    if text.len() >= MOST_DIGITS {
-        few_digits(&text[..MOST_DIGITS])
-    } else {
-        few_digits(text)
+    if text.len() < MOST_DIGITS {
+        return few_digits(0, text);
     }
+    // Most sub-authorities of a domain have eight digits or more.
+    let block = &text[..BLOCK];
+    if !are_digits(block) {
+        return few_digits(0, block);
+    }
+    let (number, count) = few_digits(block_number(block), &text[BLOCK..MOST_DIGITS]);
+    (number, BLOCK + count)
 }
 
+// Whether all bytes are digits. It looks at all of them and at each in the same way, and so at several at a time.
 #[inline(always)]
-fn few_digits(text: &[u8]) -> (u64, usize)
-    requires few { length text.now ≤ 10 }
-    ensures within { result.1 ≤ length text.now }
-    ensures number { number_after 10 0 (take result.1 text.now) ≡ Some result.0 }
+fn are_digits(text: &[u8]) -> bool
+    ensures { result ≡ list_all (λ b. is_digit b 10) text.now }
+{
+    let mut other = false;
+    for byte in text {
+        other |= (*byte < b'0') | (b'9' < *byte);
+    }
+    !other
+}
+
+// The number that a block of digits writes.
+#[inline(always)]
+fn block_number(block: &[u8]) -> u64
+    requires size { length block.now ≡ 8 }
+    requires digits { list_all (λ b. is_digit b 10) block.now ≡ true }
+    ensures number { number_after 10 0 block.now ≡ Some result }
+    ensures small { result < 10 ^ 8 }
 {
     let mut number: u64 = 0;
+    for byte in block {
+        number = number * 10 + (u64::from(*byte) - 48);
+    }
+    number
+}
+
+// The number that the digits at the front write behind those of another, and how many these are.
+#[inline(always)]
+fn few_digits(before: u64, text: &[u8]) -> (u64, usize)
+    requires before { before < 10 ^ 8 }
+    requires few { length text.now ≤ 10 }
+    ensures within { result.1 ≤ length text.now }
+    ensures number { number_after 10 before (take result.1 text.now) ≡ Some result.0 }
+{
+    let mut number = before;
     for (i, byte) in text.iter().enumerate() {
         let byte = u64::from(*byte);
         if byte < 48 || 57 < byte {

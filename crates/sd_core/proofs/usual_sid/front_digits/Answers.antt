@@ -1,9 +1,15 @@
-use Rattle.std.proofs.Common.{ap, arith, sym, ◌∙◌}
+use Rattle.std.proofs.Common.{sym, ap, ◌∙◌}
 use Rattle.sd_rights.specs.Numbers.{number_after}
-use Rattle.sd_core.proofs.UsualNumbers.{taken-again}
+use Rattle.sd_core.proofs.UsualNumbers.{behind_block, taken-again}
 use Rattle.sd_core.proofs.usual_sid.front_digits.Goals as goal
 
-pub returns-then-text-ge-MOST_DIGITS-clause-number : goal.returns-then-text-ge-MOST_DIGITS-clause-number
-returns-then-text-ge-MOST_DIGITS-clause-number c =
-    ap (number_after 10 0) (sym (taken-again c.few_digits.result.1 10 c.args.text.now (omega (arith, c.few_digits.ensures.within))))
-    ∙ c.few_digits.ensures.number
+pub returns-then-not-are_digits-clause-number : goal.returns-then-not-are_digits-clause-number
+returns-then-not-are_digits-clause-number c =
+    let read = c.few_digits-then-not-are_digits in
+    ap (number_after 10 0) (sym (taken-again read.result.1 8 c.args.text.now read.ensures.within)) ∙ read.ensures.number
+
+pub returns-clause-number : goal.returns-clause-number
+returns-clause-number c =
+    let read = c.few_digits-number in
+    behind_block c.args.text.now read.result.1 c.block_number.result read.result.0 read.ensures.within
+    c.block_number.ensures.number read.ensures.number

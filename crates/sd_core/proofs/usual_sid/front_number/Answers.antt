@@ -15,7 +15,7 @@ returns-clause-number c =
     let ends : (pieces (sid_front (drop count text))).first ≡ [] =
     rw (rest_is text count) at (c.ends_number.ensures c.if-not-ends_number.false) in (
       take count text,
-      decimal_is n (take count text) (omega (arith, c.if-count-eq0.false)) digits,
+      decimal_is n (take count text) (omega arith) digits,
       reads_is n (take count text) (omega (arith, c.front_digits-number.ensures.few)) (omega (arith, c.if-number.false)) digits,
       rw (rest_is text count) (number-pieces text count n digits ends),
     )
