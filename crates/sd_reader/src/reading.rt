@@ -235,15 +235,14 @@ impl FieldReader {
         let Some((fields, rest)) = front_fields(text) else {
             return None;
         };
-        let (read, size) = Sid::front_text(rest, self.domain.as_ref());
-        let after = behind(rest, size)?;
-        match read {
-            Ok(sid) => {
+        match Sid::front_text(rest, self.domain.as_ref()) {
+            (Ok(sid), size) => {
+                let after = behind(rest, size)?;
                 self.ace = fields;
                 self.put_ace(buf, sid);
                 Some(after)
             }
-            Err(_) => None,
+            _ => None,
         }
     }
 

@@ -63,9 +63,50 @@ fn front_flags(text: &[u8]) -> Option<(u8, &[u8])>
     ensures found { IfSome result (λ r. FieldAt (λ t. flags_reads t ≡ Some r.0) 59 text.now r.1.now) }
     ensures clear { IfSome result (λ r. r.0 / 0x20 % 2 ≡ 0) }
 {
+    if let Some(usual) = usual_flags(text) {
+        return Some(usual);
+    }
     let (field, rest) = cut(text, 2)?;
     let flags = flags_from_text(field)?;
     Some((flags, rest))
+}
+
+// The same, for the flags that most ACEs have: none, ID, or OICI with IO, ID or both behind it.
+#[inline(always)]
+fn usual_flags(text: &[u8]) -> Option<(u8, &[u8])>
+    ensures found { IfSome result (λ r. FieldAt (λ t. flags_reads t ≡ Some r.0) 59 text.now r.1.now) }
+    ensures clear { IfSome result (λ r. r.0 / 0x20 % 2 ≡ 0) }
+{
+    if let Some(rest) = after(text, b";") {
+        return Some((0, rest));
+    }
+    if let Some(rest) = after(text, b"ID;") {
+        return Some((0x10, rest));
+    }
+    let containers = after(text, b"OICI")?;
+    if let Some(rest) = after(containers, b";") {
+        return Some((0x03, rest));
+    }
+    if let Some(rest) = after(containers, b"ID;") {
+        return Some((0x13, rest));
+    }
+    let children = after(containers, b"IO")?;
+    if let Some(rest) = after(children, b";") {
+        return Some((0x0b, rest));
+    }
+    let rest = after(children, b"ID;")?;
+    Some((0x1b, rest))
+}
+
+// What follows this text at the front.
+#[inline(always)]
+fn after<'a>(text: &'a [u8], front: &[u8]) -> Option<&'a [u8]>
+    ensures { IfSome result (λ r. text.now ≡ front.now ++ r.now) }
+{
+    match text.strip_prefix(front) {
+        Some(rest) => Some(rest),
+        None => None,
+    }
 }
 
 // The access mask, and what follows its semicolon.

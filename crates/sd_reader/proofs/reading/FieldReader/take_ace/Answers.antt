@@ -10,17 +10,17 @@ put_ace-requires c =
     let h = c.requires.held in
     (_, holds-ace _ _ _ h.1 c.in-Some.fields c.in-Some.ensures.sound, h.2)
 
-pub returns-in-Ok-clause-read : goal.returns-in-Ok-clause-read
-returns-in-Ok-clause-read c =
-    takes-ace c.args.self.now.domain c.args.text.now c.in_ok-after.after.now c.in-Some.fields c.in-Ok.sid
+pub returns-in_ok-after-in-Ok-default-clause-read : goal.returns-in_ok-after-in-Ok-default-clause-read
+returns-in_ok-after-in-Ok-default-clause-read c =
+    takes-ace c.args.self.now.domain c.args.text.now c.in_ok-after-in-Ok-default.after.now c.in-Some.fields c.in-Ok-default.sid
     (record {
       before = c.in-Some.rest.now;
       fields = c.in-Some.ensures.found;
       sid = record {
         field = sid_front c.in-Some.rest.now;
-        whole = sid-front-whole c.in-Some.rest.now _ c.front_text-read.ensures.size c.in_ok-after.ensures.0;
-        stands = rw (← c.front_text-read.ensures.front) c.in_ok-after.ensures.1;
-        reads = rw (← c.as_ref.ensures.value) (sym c.front_text-read.ensures.exact ∙ c.in-Ok.is);
+        whole = sid-front-whole c.in-Some.rest.now _ c.front_text.ensures.size c.in_ok-after-in-Ok-default.ensures.0;
+        stands = rw (← c.front_text.ensures.front) c.in_ok-after-in-Ok-default.ensures.1;
+        reads = rw (← c.as_ref.ensures.value) (sym c.front_text.ensures.exact ∙ c.in-Ok-default.is-0);
       };
     })
     c.args.self.now c.put_ace.new.self c.args.buf.now c.put_ace.new.buf refl
