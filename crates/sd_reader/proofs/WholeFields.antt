@@ -1,5 +1,5 @@
 -- An ACE that stands whole in what comes, read where it stands.
-use Rattle.std.proofs.Common.{◌≡◌, ℕ, ◌+◌, ◌/◌, ◌%◌, ◌≤◌, Bool, true, false, List, [], ◌∷◌, ◌++◌, length, take, drop, Ok, Err, Some, None, refl, ap, sym, ◌∙◌, subst, arith, append_assoc, ◌<◌, ◌-◌, get_or}
+use Rattle.std.proofs.Common.{◌≡◌, ℕ, ◌+◌, ◌≤◌, Bool, true, false, List, [], ◌∷◌, ◌++◌, length, take, drop, Ok, Err, Some, None, refl, ap, sym, ◌∙◌, subst, arith, append_assoc, ◌<◌, ◌-◌, get_or}
 use Rattle.std.specs.Prelude.{Result, Option}
 use Rattle.std.proofs.lemmas.Grind.{common_steps}
 use Rattle.std.specs.List.{list_all}
@@ -12,14 +12,14 @@ use Rattle.sd_reader.specs.declared.line.Seen.{Seen}
 use Rattle.sd_reader.specs.declared.line.Slot.TheVariants as slot
 use Rattle.sd_reader.specs.declared.reading.AceFields.{AceFields}
 use Rattle.sd_reader.specs.declared.reading.FieldReader.{FieldReader}
-use Rattle.sd_reader.specs.Inner.FoldedReading.{FieldsRead, no_fields, take_ace_field, take_field, with_trustee}
+use Rattle.sd_reader.specs.Inner.FoldedReading.{FieldsRead, take_ace_field, take_field, with_trustee}
 use Rattle.sd_reader.specs.Inner.Held.{IsHeld, is_plain_inside, no_text}
 use Rattle.sd_reader.specs.Inner.Progress.{rest_answer, end_of, result_or, state_after}
-use Rattle.sd_reader.specs.Inner.Reads.{AreAceFields, FedTo, Fits, HasRead, IsReader, LineHasRead, Steps}
+use Rattle.sd_reader.specs.Inner.Reads.{AreAceFields, FedTo, Fits, IsReader, LineHasRead, Steps}
 use Rattle.sd_reader.specs.declared.reader.SddlReader.{SddlReader}
-use Rattle.sd_reader.specs.Inner.WholeAce.{AceAt, AceTexts, AreWhole, FieldsAt, StepsOver, TakesAce, ace_before, with_field, with_texts}
+use Rattle.sd_reader.specs.Inner.WholeAce.{AceAt, AceTexts, EndsAce, ObjectsAt, AreWhole, FieldsAt, StepsOver, TakesAce, ace_before, with_field, with_texts}
 use Rattle.sd_reader.specs.Meaning.{and_then, is_unreadable}
-use Rattle.sd_reader.proofs.FieldLaws.{sound-flags, sound-inherited, sound-kind, sound-mask, sound-object}
+use Rattle.sd_reader.proofs.FieldLaws.{sound-inherited, sound-object}
 use Rattle.sd_reader.proofs.FieldTexts.{held-readable}
 use Rattle.sd_reader.proofs.FitLaws.{fits-field, fits-next}
 use Rattle.sd_reader.proofs.Runs.{inside-held, inside-run, run-fits}
@@ -157,31 +157,28 @@ module _ (dm : Option SecurityId) (text rest : List ℕ) (f : AceFields) (s : Se
       )
       refl
 
-  -- a reader that now holds the ACE took it
-  pub takes-ace : (old new : FieldReader) (before after : List ℕ) → old.domain ≡ dm
-      → ((t : FieldsRead) → HasRead old before t → HasRead new after (with_trustee (record t { ace = f }) s))
-      → TakesAce old before text new after rest
-  takes-ace old new before after same held = (
-    texts_at,
-    whole_at,
-    stands_at,
-    λ t k. (
-      with_trustee (record t { ace = f }) s,
-      held t k,
-      rw same (taken_at t),
-    ),
-  )
+-- what ends the ACE of these fields took all of it
+pub takes-ace : (old new : FieldReader) (buf buf' text between rest : List ℕ) (f : AceFields) → FieldsAt text f between
+    → EndsAce old buf f between new buf' rest → TakesAce old buf text new buf' rest
+takes-ace old new buf buf' text between rest f h e =
+    let a : AceAt old.domain text f e.trustee rest = record { before = between; fields = h; sid = e.sid } in (
+      texts_at old.domain text rest f e.trustee a,
+      whole_at old.domain text rest f e.trustee a,
+      stands_at old.domain text rest f e.trustee a,
+      λ t k. (
+        with_trustee (record t { ace = f }) e.trustee,
+        e.held t k,
+        taken_at old.domain text rest f e.trustee a t,
+      ),
+    )
 
--- the fields that are read so are those of an ACE
-pub sound-at : (text : List ℕ) (f : AceFields) (rest : List ℕ) → FieldsAt text f rest → f.flags / 0x20 % 2 ≡ 0
-    → AreAceFields f
-sound-at text f rest h clear =
-    sound-inherited (record f { inherited = None }) h.objects.second.field f.inherited
-    (sound-object (record f { object = None; inherited = None }) h.objects.first.field f.object
-    (sound-mask (record f { mask = 0; object = None; inherited = None }) f.mask
-    (sound-flags (record no_fields { kind = f.kind }) f.flags (sound-kind f.kind) clear))
-    h.objects.first.reads)
-    h.objects.second.reads
+-- object types that read are those of an ACE of the kind
+pub sound-objects : (f : AceFields) (object inherited : Option (List ℕ)) (text rest : List ℕ) → AreAceFields f
+    → ObjectsAt f.kind object inherited text rest → AreAceFields (record f { object = object; inherited = inherited })
+sound-objects f object inherited text rest sound h =
+    sound-inherited (record f { object = object }) h.second.field inherited
+    (sound-object f h.first.field object sound h.first.reads)
+    h.second.reads
 
 -- a field that ends at this place
 pub cut-at : (text : List ℕ) (place end : ℕ) → place < length text → get_or text place 0 ≡ end

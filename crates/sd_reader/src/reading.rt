@@ -6,12 +6,14 @@ ghost use Rattle.sd_core.specs.SidText.{sid_reads};
 ghost use Rattle.sd_reader.specs.Inner.FoldedReading.{FieldsRead, ace_fault_of, fault_of, no_fields, take_ace_field, take_field, take_front, with_sid, with_trustee};
 ghost use Rattle.sd_reader.specs.Meaning.{control_flags, is_unreadable};
 ghost use Rattle.sd_reader.specs.FieldTexts.{front_reads};
-ghost use Rattle.sd_reader.specs.Inner.WholeAce.{TakesAce};
+ghost use Rattle.sd_reader.specs.Inner.WholeAce.{EndsAce, EndsWithObjects, TakesAce};
 
 use crate::fault::SddlFault;
 use crate::field_texts::{front_from_text, kind_from_text, object_from_text};
 use crate::line::{AceField, SidPart, Slot};
-use crate::whole_ace::{behind, front_fields};
+use crate::whole_ace::{
+    behind, behind_no_objects, front_flags, front_kind, front_objects, front_rights,
+};
 use sd_binary::{AclFlags, Builder, SdBuf, Which};
 use sd_core::{Ace, AceKind, Sid, SidFault, flags_from_text, rights_from_text};
 use uuid::Uuid;
@@ -52,7 +54,7 @@ impl FieldReader {
     ghost use Rattle.sd_binary.specs.Draft.{IsOpen, closed};
     ghost use Rattle.sd_reader.specs.declared.line.Head.TheVariants as head;
     ghost use Rattle.sd_reader.specs.Inner.FoldedReading.{FieldsRead, begun_or_null, finished, nothing_read, with_flags, with_owner_or_group};
-    ghost use Rattle.sd_reader.specs.Inner.Reads.{CanTake, Ends, HasRead, Lacks, Takes};
+    ghost use Rattle.sd_reader.specs.Inner.Reads.{AreAceFields, CanTake, Ends, HasRead, Lacks, Takes};
 
     /// A reader that has read nothing.
     pub fn new(domain: Option<Sid>, buf: &mut SdBuf) -> FieldReader
@@ -232,18 +234,72 @@ impl FieldReader {
             (λ rest. TakesAce self.old buf.old text.now self.new buf.new rest.now) }
         ensures domain { self.new.domain ≡ self.old.domain }
     {
-        let Some((fields, rest)) = front_fields(text) else {
+        let (kind, rest) = front_kind(text)?;
+        let (flags, rest) = front_flags(rest)?;
+        let (mask, rest) = front_rights(rest)?;
+        let start = AceFields {
+            kind,
+            flags,
+            mask,
+            object: None,
+            inherited: None,
+        };
+        if let Some(rest) = behind_no_objects(kind, rest) {
+            let after = self.end_ace(buf, start, rest)?;
+            return Some(after);
+        }
+        let after = self.end_object_ace(buf, start, rest)?;
+        Some(after)
+    }
+
+    // Reads the object types and the SID of an ACE that begins so, and appends it. Apart, since few ACEs have them.
+    #[inline(never)]
+    fn end_object_ace<'a>(
+        &mut self,
+        buf: &mut SdBuf,
+        start: AceFields,
+        text: &'a [u8],
+    ) -> Option<&'a [u8]>
+        requires sound { AreAceFields start }
+        requires held { (t : FieldsRead) × HasRead self.old buf.old t × IsOpen t.parts }
+        ensures read { MatchOption result ((self.new ≡ self.old) × (buf.new ≡ buf.old))
+            (λ rest. EndsWithObjects self.old buf.old start text.now self.new buf.new rest.now) }
+        ensures domain { self.new.domain ≡ self.old.domain }
+    {
+        let Some((object, inherited, rest)) = front_objects(start.kind, text) else {
             return None;
         };
-        let (read, size) = Sid::front_text(rest, self.domain.as_ref());
-        let after = behind(rest, size)?;
-        match read {
-            Ok(sid) => {
+        let fields = AceFields {
+            object,
+            inherited,
+            ..start
+        };
+        let after = self.end_ace(buf, fields, rest)?;
+        Some(after)
+    }
+
+    // Reads the SID of an ACE that has these fields, and appends it.
+    #[inline(always)]
+    fn end_ace<'a>(
+        &mut self,
+        buf: &mut SdBuf,
+        fields: AceFields,
+        text: &'a [u8],
+    ) -> Option<&'a [u8]>
+        requires sound { AreAceFields fields }
+        requires held { (t : FieldsRead) × HasRead self.old buf.old t × IsOpen t.parts }
+        ensures read { MatchOption result ((self.new ≡ self.old) × (buf.new ≡ buf.old))
+            (λ rest. EndsAce self.old buf.old fields text.now self.new buf.new rest.now) }
+        ensures domain { self.new.domain ≡ self.old.domain }
+    {
+        match Sid::front_text(text, self.domain.as_ref()) {
+            (Ok(sid), size) => {
+                let after = behind(text, size)?;
                 self.ace = fields;
                 self.put_ace(buf, sid);
                 Some(after)
             }
-            Err(_) => None,
+            _ => None,
         }
     }
 

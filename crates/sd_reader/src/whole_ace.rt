@@ -1,17 +1,15 @@
-//! The fields of an ACE that stands whole in a text, read where they stand and not copied.
+//! The fields of an ACE that stands whole at the front of a text, read where they stand and not copied.
 
-ghost use Rattle.std.specs.Prelude.{◌≡◌, ◌≤◌, ◌/◌, ◌%◌, ◌∷◌, ◌++◌, length, take, true, IfSome, Some};
+ghost use Rattle.std.specs.Prelude.{◌≡◌, ◌≤◌, ◌/◌, ◌%◌, ◌∷◌, ◌++◌, length, take, true, IfSome, Some, None};
 ghost use Rattle.std.specs.List.{list_all};
 ghost use Rattle.sd_rights.specs.Flags.{flags_reads};
 ghost use Rattle.sd_rights.specs.Limits.{most_field};
 ghost use Rattle.sd_rights.specs.Rights.{rights_reads};
 ghost use Rattle.sd_reader.specs.FieldTexts.{kind_reads, object_reads};
 ghost use Rattle.sd_reader.specs.Inner.Held.{is_plain_inside};
-ghost use Rattle.sd_reader.specs.Inner.Reads.{AreAceFields};
-ghost use Rattle.sd_reader.specs.Inner.WholeAce.{FieldAt, FieldsAt, IsWhole, ObjectsAt};
+ghost use Rattle.sd_reader.specs.Inner.WholeAce.{FieldAt, ObjectsAt};
 
 use crate::field_texts::{kind_from_text, object_from_text};
-use crate::reading::AceFields;
 use sd_core::{AceKind, flags_from_text, rights_from_text};
 use sd_rights::MOST_FIELD_SIZE;
 use uuid::Uuid;
@@ -19,32 +17,9 @@ use uuid::Uuid;
 /// The characters of a GUID.
 const GUID_TEXT_SIZE: usize = 36;
 
-/// The fields before the SID of the ACE at the front of a text, from behind its first parenthesis, and what follows
-/// them. None where one of them does not read, or does not stand there whole.
+/// The kind at the front of a text, and what follows its semicolon. None where there is none.
 #[inline(always)]
-pub fn front_fields(text: &[u8]) -> Option<(AceFields, &[u8])>
-    ensures found { IfSome result (λ r. FieldsAt text.now r.0 r.1.now) }
-    ensures sound { IfSome result (λ r. AreAceFields r.0) }
-{
-    let (kind, rest) = front_kind(text)?;
-    let (flags, rest) = front_flags(rest)?;
-    let (mask, rest) = front_rights(rest)?;
-    let Some((object, inherited, rest)) = front_objects(kind, rest) else {
-        return None;
-    };
-    let fields = AceFields {
-        kind,
-        flags,
-        mask,
-        object,
-        inherited,
-    };
-    Some((fields, rest))
-}
-
-// The kind, and what follows its semicolon.
-#[inline(always)]
-fn front_kind(text: &[u8]) -> Option<(AceKind, &[u8])>
+pub fn front_kind(text: &[u8]) -> Option<(AceKind, &[u8])>
     ensures { IfSome result (λ r. FieldAt (λ t. kind_reads t ≡ Some r.0) 59 text.now r.1.now) }
 {
     // Most ACEs allow.
@@ -56,21 +31,62 @@ fn front_kind(text: &[u8]) -> Option<(AceKind, &[u8])>
     Some((kind, rest))
 }
 
-// The flags, and what follows their semicolon. Flags that read are names of two letters: so the semicolon stands at an
-// even place.
+/// The flags, and what follows their semicolon. Flags that read are names of two letters: so the semicolon stands at an
+/// even place.
 #[inline(always)]
-fn front_flags(text: &[u8]) -> Option<(u8, &[u8])>
+pub fn front_flags(text: &[u8]) -> Option<(u8, &[u8])>
     ensures found { IfSome result (λ r. FieldAt (λ t. flags_reads t ≡ Some r.0) 59 text.now r.1.now) }
     ensures clear { IfSome result (λ r. r.0 / 0x20 % 2 ≡ 0) }
 {
+    if let Some(usual) = usual_flags(text) {
+        return Some(usual);
+    }
     let (field, rest) = cut(text, 2)?;
     let flags = flags_from_text(field)?;
     Some((flags, rest))
 }
 
-// The access mask, and what follows its semicolon.
+// The same, for the flags that most ACEs have: none, ID, or OICI with IO, ID or both behind it.
 #[inline(always)]
-fn front_rights(text: &[u8]) -> Option<(u32, &[u8])>
+fn usual_flags(text: &[u8]) -> Option<(u8, &[u8])>
+    ensures found { IfSome result (λ r. FieldAt (λ t. flags_reads t ≡ Some r.0) 59 text.now r.1.now) }
+    ensures clear { IfSome result (λ r. r.0 / 0x20 % 2 ≡ 0) }
+{
+    if let Some(rest) = after(text, b";") {
+        return Some((0, rest));
+    }
+    if let Some(rest) = after(text, b"ID;") {
+        return Some((0x10, rest));
+    }
+    let containers = after(text, b"OICI")?;
+    if let Some(rest) = after(containers, b";") {
+        return Some((0x03, rest));
+    }
+    if let Some(rest) = after(containers, b"ID;") {
+        return Some((0x13, rest));
+    }
+    let children = after(containers, b"IO")?;
+    if let Some(rest) = after(children, b";") {
+        return Some((0x0b, rest));
+    }
+    let rest = after(children, b"ID;")?;
+    Some((0x1b, rest))
+}
+
+// What follows this text at the front.
+#[inline(always)]
+fn after<'a>(text: &'a [u8], front: &[u8]) -> Option<&'a [u8]>
+    ensures { IfSome result (λ r. text.now ≡ front.now ++ r.now) }
+{
+    match text.strip_prefix(front) {
+        Some(rest) => Some(rest),
+        None => None,
+    }
+}
+
+/// The access mask, and what follows its semicolon.
+#[inline(always)]
+pub fn front_rights(text: &[u8]) -> Option<(u32, &[u8])>
     ensures { IfSome result (λ r. FieldAt (λ t. rights_reads t ≡ Some r.0) 59 text.now r.1.now) }
 {
     let (field, rest) = cut(text, 1)?;
@@ -78,21 +94,17 @@ fn front_rights(text: &[u8]) -> Option<(u32, &[u8])>
     Some((mask, rest))
 }
 
-// The object type, the inherited object type, and what follows the semicolon of the second.
+/// What follows the semicolons of two object types that have no text. Most ACEs have none.
 #[inline(always)]
-fn front_objects(kind: AceKind, text: &[u8]) -> Option<(Option<Uuid>, Option<Uuid>, &[u8])>
-    ensures { IfSome result (λ r. ObjectsAt kind r.0 r.1 text.now r.2.now) }
+pub fn behind_no_objects(kind: AceKind, text: &[u8]) -> Option<&[u8]>
+    ensures { IfSome result (λ r. ObjectsAt kind None None text.now r.now) }
 {
-    // Most ACEs have none.
-    if text.len() > 1 && text[0] == b';' && text[1] == b';' {
-        return Some((None, None, &text[2..]));
-    }
-    front_guids(kind, text)
+    let rest = after(text, b";;")?;
+    Some(rest)
 }
 
-// The same, where at least one of the two may stand.
-#[inline(never)]
-fn front_guids(kind: AceKind, text: &[u8]) -> Option<(Option<Uuid>, Option<Uuid>, &[u8])>
+/// The object type, the inherited object type, and what follows the semicolon of the second.
+pub fn front_objects(kind: AceKind, text: &[u8]) -> Option<(Option<Uuid>, Option<Uuid>, &[u8])>
     ensures { IfSome result (λ r. ObjectsAt kind r.0 r.1 text.now r.2.now) }
 {
     let Some((object, rest)) = front_object(kind, text) else {

@@ -8,7 +8,7 @@ use Rattle.sd_rights.specs.Limits.{most_field}
 use Rattle.sd_rights.specs.Rights.{rights_reads}
 use Rattle.sd_rights.specs.declared.kinds.AceKind.{AceKind}
 use Rattle.sd_reader.specs.FieldTexts.{kind_reads, object_reads}
-use Rattle.sd_reader.specs.Inner.FoldedReading.{FieldsRead, take_field}
+use Rattle.sd_reader.specs.Inner.FoldedReading.{FieldsRead, take_field, with_trustee}
 use Rattle.sd_reader.specs.Inner.Held.{is_plain_inside, no_text}
 use Rattle.sd_reader.specs.Inner.Reads.{HasRead, Steps}
 use Rattle.sd_reader.specs.Meaning.{and_then}
@@ -98,6 +98,22 @@ pub record AceAt (domain : Option SecurityId) (text : List ℕ) (f : AceFields) 
   pub sid : FieldAt (λ t. sid_reads t domain ≡ Ok s) 41 before rest
 
 -- 3. A step over an ACE that reads.
+
+-- a SID ends the ACE of these fields, which was read
+pub record EndsAce (old : FieldReader) (before : List ℕ) (f : AceFields) (text : List ℕ) (new : FieldReader)
+    (after rest : List ℕ) : Type 0 where
+  pub trustee : SecurityId
+  pub sid : FieldAt (λ t. sid_reads t old.domain ≡ Ok trustee) 41 text rest
+  pub held : (t : FieldsRead) → HasRead old before t → HasRead new after (with_trustee (record t { ace = f }) trustee)
+
+-- the same, with object types before it
+pub record EndsWithObjects (old : FieldReader) (before : List ℕ) (f : AceFields) (text : List ℕ) (new : FieldReader)
+    (after rest : List ℕ) : Type 0 where
+  pub object : Option (List ℕ)
+  pub inherited : Option (List ℕ)
+  pub between : List ℕ
+  pub objects : ObjectsAt f.kind object inherited text between
+  pub ends : EndsAce old before (record f { object = object; inherited = inherited }) between new after rest
 
 -- an ACE stands there, and it was read
 abbrev pub TakesAce : FieldReader → List ℕ → List ℕ → FieldReader → List ℕ → List ℕ → Type 0

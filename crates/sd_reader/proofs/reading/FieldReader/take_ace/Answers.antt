@@ -1,27 +1,29 @@
-use Rattle.std.proofs.Common.{sym, ◌∙◌, refl}
-use Rattle.sd_reader.proofs.FieldLaws.{holds-ace}
-use Rattle.sd_core.specs.SidText.{sid_front}
-use Rattle.sd_reader.proofs.PlainFields.{sid-front-whole}
 use Rattle.sd_reader.proofs.WholeFields.{takes-ace}
 use Rattle.sd_reader.proofs.reading.FieldReader.take_ace.Goals as goal
 
-pub put_ace-requires : goal.put_ace-requires
-put_ace-requires c =
-    let h = c.requires.held in
-    (_, holds-ace _ _ _ h.1 c.in-Some.fields c.in-Some.ensures.sound, h.2)
-
-pub returns-in-Ok-clause-read : goal.returns-in-Ok-clause-read
-returns-in-Ok-clause-read c =
-    takes-ace c.args.self.now.domain c.args.text.now c.in_ok-after.after.now c.in-Some.fields c.in-Ok.sid
-    (record {
-      before = c.in-Some.rest.now;
-      fields = c.in-Some.ensures.found;
-      sid = record {
-        field = sid_front c.in-Some.rest.now;
-        whole = sid-front-whole c.in-Some.rest.now _ c.front_text-read.ensures.size c.in_ok-after.ensures.0;
-        stands = rw (← c.front_text-read.ensures.front) c.in_ok-after.ensures.1;
-        reads = rw (← c.as_ref.ensures.value) (sym c.front_text-read.ensures.exact ∙ c.in-Ok.is);
-      };
+pub returns-in-Some-clause-read : goal.returns-in-Some-clause-read
+returns-in-Some-clause-read c =
+    takes-ace _ _ _ _ _ _ _ _ (record {
+      kind_rest = c.in_ok-kind.rest.now;
+      flags_rest = c.in_ok-flags.rest.now;
+      rights_rest = c.in_ok-mask.rest.now;
+      kind = c.in_ok-kind.ensures;
+      flags = c.in_ok-flags.ensures.found;
+      rights = c.in_ok-mask.ensures;
+      objects = c.in-Some.ensures;
     })
-    c.args.self.now c.put_ace.new.self c.args.buf.now c.put_ace.new.buf refl
-    (λ t h. c.put_ace.ensures.held _ (holds-ace _ _ _ h c.in-Some.fields c.in-Some.ensures.sound))
+    c.in_ok-after.ensures.read
+
+pub returns-clause-read : goal.returns-clause-read
+returns-clause-read c =
+    let e = c.in_ok-after-2.ensures.read in
+    takes-ace _ _ _ _ _ _ _ _ (record {
+      kind_rest = c.in_ok-kind.rest.now;
+      flags_rest = c.in_ok-flags.rest.now;
+      rights_rest = c.in_ok-mask.rest.now;
+      kind = c.in_ok-kind.ensures;
+      flags = c.in_ok-flags.ensures.found;
+      rights = c.in_ok-mask.ensures;
+      objects = e.objects;
+    })
+    e.ends
