@@ -1,4 +1,5 @@
 pub mod Flags
+pub mod Inner
 pub mod Kinds
 pub mod Limits
 pub mod Names

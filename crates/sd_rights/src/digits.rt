@@ -4,6 +4,7 @@ ghost use Rattle.std.specs.Prelude.{◌≡◌, false, ◌+◌, ◌/◌, ◌%◌,
 ghost use Rattle.std.specs.Fmt.{decimal, digit_glyph};
 ghost use Rattle.sd_sink.specs.Print.{Prints};
 ghost use Rattle.sd_rights.specs.Numbers.{hex_digits};
+ghost use Rattle.sd_rights.specs.Inner.Digits.{FitsBefore, StandsBefore};
 
 use sd_sink::{FRONT, Print};
 
@@ -80,9 +81,8 @@ pub(crate) fn hex_digit(value: u8) -> u8
 // Writes a number in decimal to where decimal numbers end, and says where it begins.
 #[inline(always)]
 fn write_decimal(number: u32, cells: &mut [u8; DECIMAL_CELLS]) -> usize
-    ensures begins { result + length (decimal number) ≡ 11 }
+    ensures stands { StandsBefore 11 number result cells.old cells.new }
     ensures behind { 1 ≤ result }
-    ensures written { drop result cells.new ≡ decimal number ++ drop 11 cells.old }
 {
     let mut left = number;
     let mut at = DECIMAL_END;
@@ -101,10 +101,8 @@ fn write_decimal(number: u32, cells: &mut [u8; DECIMAL_CELLS]) -> usize
 #[inline(always)]
 fn write_short(number: u32, cells: &mut [u8; DECIMAL_CELLS], end: usize) -> usize
     requires short { number < 10000 }
-    requires room { length (decimal number) ≤ end }
-    requires within { end ≤ 27 }
-    ensures begins { result + length (decimal number) ≡ end }
-    ensures written { drop result cells.new ≡ decimal number ++ drop end cells.old }
+    requires fits { FitsBefore end number }
+    ensures { StandsBefore end number result cells.old cells.new }
 {
     if number < 100 {
         return write_first(number, cells, end);
@@ -117,10 +115,8 @@ fn write_short(number: u32, cells: &mut [u8; DECIMAL_CELLS], end: usize) -> usiz
 #[inline(always)]
 fn write_first(number: u32, cells: &mut [u8; DECIMAL_CELLS], end: usize) -> usize
     requires short { number < 100 }
-    requires room { length (decimal number) ≤ end }
-    requires within { end ≤ 27 }
-    ensures begins { result + length (decimal number) ≡ end }
-    ensures written { drop result cells.new ≡ decimal number ++ drop end cells.old }
+    requires fits { FitsBefore end number }
+    ensures { StandsBefore end number result cells.old cells.new }
 {
     if number < 10 {
         cells[end - 1] = b'0' + number as u8;

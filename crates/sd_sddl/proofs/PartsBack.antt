@@ -236,5 +236,5 @@ pub acl-is_part : (naming : Naming) (w : Which) (f : AclFlags) (present : Bool) 
     → AllByRecursion IsPart (listed (head.Acl w) (acl_body naming f part))
 acl-is_part naming w f present acl.Absent h = tt
 acl-is_part naming w f present acl.Null h = (record { plain = null_front_text-plain f; inners = tt; may_hold = tt }, tt)
-acl-is_part naming w f present (acl.List aces)
-    h = (record { plain = front_text-plain f; inners = inners-are naming aces h.1.each; may_hold = tt }, tt)
+acl-is_part naming w f present (acl.List aces) h =
+    (record { plain = front_text-plain f; inners = inners-are naming aces h.1.each; may_hold = tt }, tt)

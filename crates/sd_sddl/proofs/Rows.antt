@@ -51,8 +51,8 @@ bare_text = refl
 
 -- a null DACL with all three flags
 null_text : sddl named
-    (record { control = 0x9504; rm = 0; owner = None; group = None; sacl = acl.Absent; dacl = acl.Null }) ≡ codes
-    "D:PARAINO_ACCESS_CONTROL"
+    (record { control = 0x9504; rm = 0; owner = None; group = None; sacl = acl.Absent; dacl = acl.Null })
+    ≡ codes "D:PARAINO_ACCESS_CONTROL"
 unfolding printed named
 null_text = refl
 

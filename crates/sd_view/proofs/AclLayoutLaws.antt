@@ -77,8 +77,8 @@ stand kind flags n mask false None (Some x) s fit g h sid = absurd fit
 stand kind flags n mask true None None s fit g h sid = (tt, tt, begins s sid)
 stand kind flags n mask true None (Some x) s fit g h sid = (tt, sym (swap_twice x h.size), begins s sid)
 stand kind flags n mask true (Some x) None s fit g h sid = (sym (swap_twice x g.size), tt, begins s sid)
-stand kind flags n mask true (Some x) (Some y) s fit g h
-    sid = (sym (swap_twice x g.size), sym (swap_twice y h.size), begins s sid)
+stand kind flags n mask true (Some x) (Some y) s fit g h sid =
+    (sym (swap_twice x g.size), sym (swap_twice y h.size), begins s sid)
 
 -- the bytes of an ACE show it
 pub ace_bytes-shows : (a : AccessControlEntry) → IsAce a → ShowsAce (ace_bytes a) a

@@ -173,8 +173,8 @@ acl-part-shows : (part : Part) (bytes : List ℕ) (present : Bool) (offset : ℕ
     → acl_part_fault part bytes present offset ≡ None
     → ShowsAclPart bytes present offset (acl_shown bytes present offset) × IsAclAt bytes present offset
 unfolding acl_part_fault acl_shown
-acl-part-shows part bytes false offset b
-    e = (refl, record { within = λ t. absurd (cc); whole = λ t. absurd (cc); extent = λ t. absurd (cc) })
+acl-part-shows part bytes false offset b e =
+    (refl, record { within = λ t. absurd (cc); whole = λ t. absurd (cc); extent = λ t. absurd (cc) })
 acl-part-shows part bytes true offset b e = elim (cases_eq offset 0) [
   | inl z ↦ (
     subst (λ (n : ℕ). ShowsAclPart bytes true n (acl_shown bytes true n)) (sym z) (refl, refl),

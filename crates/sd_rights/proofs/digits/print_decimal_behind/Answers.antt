@@ -7,5 +7,7 @@ use Rattle.sd_rights.proofs.digits.print_decimal_behind.Goals as goal
 pub returns : goal.returns
 returns g c =
     let w = c.write_decimal-start in
-    prints_as (behind c.args.character w.result (decimal c.args.number) w.new.cells _ w.ensures.behind w.ensures.begins
-    (omega arith) w.ensures.written) c.put_front.ensures
+    let stands = w.ensures.stands in
+    let text = behind c.args.character w.result (decimal c.args.number) w.new.cells _ w.ensures.behind stands.begins
+    (omega arith) stands.written in
+    prints_as text c.put_front.ensures

@@ -1,4 +1,4 @@
-use Rattle.std.proofs.Common.{◌≡◌, ◌+◌, ◌-◌, arith}
+use Rattle.std.proofs.Common.{◌≡◌, ◌<◌, ◌+◌, ◌-◌, length, arith}
 use Rattle.std.proofs.lemmas.Fmt.{decimal_digit}
 use Rattle.std.proofs.lemmas.List.{drop-set}
 use Rattle.sd_rights.proofs.DigitLemmas.{decimal-two, length-digit, length-two}
@@ -13,18 +13,13 @@ bounds-cells-end c = omega (arith, length-digit c.args.number c.if-number-lt10.t
 pub overflow_sub-result : goal.overflow_sub-result
 overflow_sub-result c = omega (arith, length-digit c.args.number c.if-number-lt10.true)
 
-pub returns-then-number-lt10-clause-begins : goal.returns-then-number-lt10-clause-begins
-returns-then-number-lt10-clause-begins c = omega (arith, length-digit c.args.number c.if-number-lt10.true)
-
-pub returns-then-number-lt10-clause-written : goal.returns-then-number-lt10-clause-written
-returns-then-number-lt10-clause-written c =
+pub returns-then-number-lt10 : goal.returns-then-number-lt10
+returns-then-number-lt10 c =
+    let digit = decimal_digit c.args.number c.if-number-lt10.true in
     let long = length-digit c.args.number c.if-number-lt10.true in
     let same : c.args.end - 1 + 1 ≡ c.args.end = omega arith in
-    rw (
-      drop-set c.args.cells.now (c.args.end - 1) _ (omega (arith, c.told-cells)),
-      same,
-      decimal_digit c.args.number c.if-number-lt10.true,
-    )
+    let within : c.args.end - 1 < length c.args.cells.now = omega (arith, c.told-cells) in
+    record { begins = omega arith; written = rw (drop-set c.args.cells.now (c.args.end - 1) _ within, same, digit) }
 
 pub overflow_sub-end : goal.overflow_sub-end
 overflow_sub-end c = omega (arith, length-two c.args.number c.if-number-lt10.false c.requires.short)
@@ -37,11 +32,9 @@ write_pair-requires c =
 pub overflow_sub-result-2 : goal.overflow_sub-result-2
 overflow_sub-result-2 c = omega (arith, length-two c.args.number c.if-number-lt10.false c.requires.short)
 
-pub returns-clause-begins : goal.returns-clause-begins
-returns-clause-begins c = omega (arith, length-two c.args.number c.if-number-lt10.false c.requires.short)
-
-pub returns-clause-written : goal.returns-clause-written
-returns-clause-written c =
+pub returns : goal.returns
+returns c =
     let long = length-two c.args.number c.if-number-lt10.false c.requires.short in
     let same : c.args.end - 2 + 2 ≡ c.args.end = omega arith in
-    rw (c.write_pair.ensures, same, decimal-two c.args.number c.if-number-lt10.false c.requires.short)
+    let digits = decimal-two c.args.number c.if-number-lt10.false c.requires.short in
+    record { begins = omega arith; written = rw (c.write_pair.ensures, same, digits) }

@@ -16,17 +16,15 @@ overflow_sub-end-2 c = omega (arith, length-decimal-pair c.args.number c.if-numb
 pub write_first-requires-2 : goal.write_first-requires-2
 write_first-requires-2 c =
     let long = length-decimal-pair c.args.number c.if-number-lt100.false (omega arith) in
-    record { short = omega arith; room = omega arith; within = omega arith }
+    record { short = omega arith; fits = record { room = omega arith; within = omega arith } }
 
-pub returns-clause-begins : goal.returns-clause-begins
-returns-clause-begins c =
-    let long = length-decimal-pair c.args.number c.if-number-lt100.false (omega arith) in
-    let begins = c.write_first-2.ensures.begins in
-    omega arith
-
-pub returns-clause-written : goal.returns-clause-written
-returns-clause-written c =
+pub returns : goal.returns
+returns c =
+    let stands = c.write_first-2.ensures in
     let long = length-decimal-pair c.args.number c.if-number-lt100.false (omega arith) in
     let same : c.args.end - 2 + 2 ≡ c.args.end = omega arith in
-    rw (c.write_first-2.ensures.written, c.write_pair.ensures, same)
-    (sym (decimal-pair c.args.number _ c.if-number-lt100.false (omega arith)))
+    let digits = decimal-pair c.args.number _ c.if-number-lt100.false (omega arith) in
+    record {
+      begins = omega (arith, stands.begins);
+      written = rw (stands.written, c.write_pair.ensures, same) (sym digits);
+    }

@@ -24,8 +24,8 @@ invariant_of-result c = (
 )
 
 pub returns-clause-found : goal.returns-clause-found
-returns-clause-found
-    c = (fault-shows c.args.bytes.now (λ i. omega (arith, c.type_inv.bytes i)) c.in_ok-acls.ensures.fault).0
+returns-clause-found c =
+    (fault-shows c.args.bytes.now (λ i. omega (arith, c.type_inv.bytes i)) c.in_ok-acls.ensures.fault).0
 
 pub returns-clause-only : goal.returns-clause-only
 returns-clause-only c = λ d h. ap (λ (t : Descriptor). Ok t) (shows-fault c.args.bytes.now d h).1
@@ -34,5 +34,5 @@ pub returns-clause-exact : goal.returns-clause-exact
 returns-clause-exact c = sym (reading-ok c.args.bytes.now c.in_ok-acls.ensures.fault)
 
 pub returns-clause-limits : goal.returns-clause-limits
-returns-clause-limits
-    c = (fault-shows c.args.bytes.now (λ i. omega (arith, c.type_inv.bytes i)) c.in_ok-acls.ensures.fault).1.limits
+returns-clause-limits c =
+    (fault-shows c.args.bytes.now (λ i. omega (arith, c.type_inv.bytes i)) c.in_ok-acls.ensures.fault).1.limits
