@@ -1,5 +1,5 @@
 // Descriptors built part by part in a buffer.
-ghost use Rattle.std.specs.Prelude.{◌≡◌, ◌≤◌, ◌<◌, ◌+◌, ◌^◌, ◌↔◌, [], Some, None, IsErr, OnOk, OnErr};
+ghost use Rattle.std.specs.Prelude.{◌≡◌, ◌≤◌, ◌<◌, ◌+◌, ◌^◌, ◌↔◌, ◌||◌, [], Some, None, IsErr, OnOk, OnErr};
 ghost use Rattle.sd_core.specs.Ace.{ace_size};
 ghost use Rattle.sd_binary.specs.Builds.{Builds, BuildsInOrder, placed};
 ghost use Rattle.sd_view.specs.Descriptor.{Shows};
@@ -39,6 +39,17 @@ pub struct OpenAcl {
     // The number of its ACEs, and whether an object ACE is among them.
     count: u16,
     object: bool,
+}
+
+impl OpenAcl {
+    // Counts one more ACE.
+    fn add(&mut self, object: bool)
+        requires { self.old.count + 1 < 2 ^ 16 }
+        ensures { self.new ≡ record self.old { count = self.old.count + 1; object = self.old.object || object } }
+    {
+        self.count += 1;
+        self.object = self.object || object;
+    }
 }
 
 impl Builder {
@@ -112,12 +123,9 @@ impl Builder {
             return Err(AclTooLarge);
         }
         append_ace(buf, ace);
-        self.open = Some(OpenAcl {
-            which: open.which,
-            start: open.start,
-            count: open.count + 1,
-            object: open.object || ace.kind().is_object(),
-        });
+        if let Some(open) = &mut self.open {
+            open.add(ace.kind().is_object());
+        }
         Ok(())
     }
 

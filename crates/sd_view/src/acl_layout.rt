@@ -16,6 +16,7 @@ use byteorder::{ByteOrder, LittleEndian};
 use sd_core::Print;
 
 /// Prints an ACL: its header, and its ACEs one after the other; where it stands in this form, at once.
+#[inline(always)]
 pub(crate) fn print_acl<P: Print>(acl: &AclView<'_>, out: &mut P)
     ensures { Prints (P.told out.old) (P.told out.new) (acl_bytes acl.now) }
 {
@@ -81,6 +82,7 @@ pub fn acl_header(object: bool, size: u16, count: u16) -> [u8; 8]
     [revision, 0, s[0], s[1], c[0], c[1], 0, 0]
 }
 
+#[inline(never)]
 fn print_aces<P: Print>(acl: &AclView<'_>, out: &mut P)
     ensures { Prints (P.told out.old) (P.told out.new) (flat_map ace_bytes acl.now) }
 {

@@ -40,6 +40,7 @@ pub fn print_layout<P: Print>(view: &SdView<'_>, out: &mut P)
     print_acl_part(&view.dacl(), out);
 }
 
+#[inline(always)]
 fn print_acl_part<P: Print>(part: &AclPart<'_>, out: &mut P)
     ensures { Prints (P.told out.old) (P.told out.new) (acl_part part.now) }
 {
