@@ -4,7 +4,7 @@ use Rattle.std.specs.Int.{bit_at, bit_not, w32}
 use Rattle.std.proofs.lemmas.Bool.{cases_lt}
 use Rattle.std.proofs.lemmas.Bool.Decides.{nat_tests}
 use Rattle.std.proofs.lemmas.Nat.Bits.{bit_at_and, bit_at_or, bit_at_not, bit_at-lt, bit_at-zero, bit_at_above, same_from_bits, bit_at_cat_low, bit_at_cat_high}
-use Rattle.sd_core.specs.Mapping.{carries, mask_if}
+use Rattle.sd_rights.specs.Mapping.{carries, mask_if}
 use Rattle.sd_access.specs.Verdict.{rights_below}
 
 min_one : (x y : ℕ) → x < 2 → y < 2 → eqb (min x y) 1 ≡ (eqb x 1 && eqb y 1)

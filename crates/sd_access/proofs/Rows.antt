@@ -1,7 +1,7 @@
 -- Worked rows, computed: verdicts and the ACEs that they need.
 use Rattle.std.proofs.Common.{◌≡◌, ℕ, Bool, true, false, List, [], ◌∷◌, Option, Some, None, refl}
 use Rattle.sd_core.specs.Ace.{AccessControlEntry}
-use Rattle.sd_core.specs.Mapping.{GenericMapping, mapped}
+use Rattle.sd_rights.specs.Mapping.{GenericMapping, mapped}
 use Rattle.sd_core.specs.Sid.{SecurityId}
 use Rattle.sd_core.specs.Token.{Entry}
 use Rattle.sd_rights.specs.declared.kinds.AceKind.{AceKind}

@@ -5,7 +5,7 @@ use Rattle.std.proofs.lemmas.Bool.{cases_lt, false_from_ne_true}
 use Rattle.std.proofs.lemmas.List.Folds.{list_any-append}
 use Rattle.std.proofs.lemmas.Nat.{mul-le}
 use Rattle.sd_core.specs.Ace.{AccessControlEntry}
-use Rattle.sd_core.specs.Mapping.{carries, mapped}
+use Rattle.sd_rights.specs.Mapping.{carries, mapped}
 use Rattle.sd_core.specs.Token.{Entry}
 use Rattle.sd_view.specs.Descriptor.{Descriptor}
 use Rattle.sd_access.specs.Applies.{applies, is_allow}

@@ -1,6 +1,6 @@
 -- What is asked of a descriptor (MS-DTYP 2.5.3): the rights that are wanted, on what, and for whom.
 use Rattle.std.specs.Prelude.{◌<◌, ℕ, ◌%◌, ◌^◌, ◌==◌, Bool, not, ◌&&◌, ◌||◌, if◌then◌else◌, List, Option, Some, None}
-use Rattle.sd_core.specs.Mapping.{GenericMapping, carries, mapped}
+use Rattle.sd_rights.specs.Mapping.{GenericMapping, carries, mapped}
 use Rattle.sd_core.specs.Sid.{SecurityId}
 use Rattle.sd_access.specs.declared.ask.AskFault.{AskFault}
 use Rattle.sd_access.specs.declared.ask.AskFault.TheVariants.{EmptyRequest, ReservedBits}

@@ -2,7 +2,7 @@
 use Rattle.std.specs.Prelude.{ℕ, zero, suc, ◌+◌, ◌*◌, ◌==◌, Bool, true, not, ◌&&◌, ◌||◌, if◌then◌else◌, List, length, take}
 use Rattle.std.specs.List.{list_any}
 use Rattle.sd_core.specs.Ace.{AccessControlEntry}
-use Rattle.sd_core.specs.Mapping.{carries}
+use Rattle.sd_rights.specs.Mapping.{carries}
 use Rattle.sd_core.specs.Token.{Entry}
 use Rattle.sd_view.specs.Descriptor.{Descriptor}
 use Rattle.sd_access.specs.Ask.{Asked}

@@ -1,6 +1,6 @@
 -- The verdict of a check (MS-DTYP 2.5.3.2): the rights that are granted, or those that are missing.
 use Rattle.std.specs.Prelude.{ℕ, zero, suc, ◌+◌, ◌*◌, ◌^◌, ◌==◌, Bool, not, ◌&&◌, ◌||◌, if◌then◌else◌, List}
-use Rattle.sd_core.specs.Mapping.{carries}
+use Rattle.sd_rights.specs.Mapping.{carries}
 use Rattle.sd_core.specs.Token.{Entry}
 use Rattle.sd_view.specs.Descriptor.{Descriptor}
 use Rattle.sd_access.specs.Ask.{Asked}

@@ -1,7 +1,7 @@
 //! The rights that are granted without an ACE.
 
 ghost use Rattle.std.specs.Prelude.{◌≡◌, ◌≤◌, ◌+◌, length};
-ghost use Rattle.sd_core.specs.Mapping.{mask_if};
+ghost use Rattle.sd_rights.specs.Mapping.{mask_if};
 ghost use Rattle.sd_access.specs.Granted.{is_for_owner_rights, is_open, is_owned, names_owner_rights};
 ghost use Rattle.sd_access.specs.Inner.Scan.{given_mask};
 

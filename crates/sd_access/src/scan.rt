@@ -2,7 +2,7 @@
 
 ghost use Rattle.std.specs.Prelude.{◌≡◌, ◌<◌, ◌≤◌, ◌+◌, ◌*◌, ◌^◌, ◌&&◌, ℕ, bit_and, length};
 ghost use Rattle.std.specs.List.{find};
-ghost use Rattle.sd_core.specs.Mapping.{carries, mapped};
+ghost use Rattle.sd_rights.specs.Mapping.{carries, mapped};
 ghost use Rattle.sd_access.specs.Granted.{aces_of, allows, decides, is_allowed};
 ghost use Rattle.sd_access.specs.Inner.Scan.{scan_need};
 

@@ -1,7 +1,7 @@
 //! The verdict of a check.
 
 ghost use Rattle.std.specs.Prelude.{◌≡◌, ◌≤◌, ◌+◌, ◌*◌, ◌^◌, ◌-◌, bit_and, bit_or, length};
-ghost use Rattle.sd_core.specs.Mapping.{mask_if as mask_if_of};
+ghost use Rattle.sd_rights.specs.Mapping.{mask_if as mask_if_of};
 ghost use Rattle.sd_access.specs.Ask.{AreRights};
 ghost use Rattle.sd_access.specs.Need.{bound, need};
 ghost use Rattle.sd_access.specs.Inner.Scan.{HasGranted, question_of};

@@ -13,7 +13,7 @@ use Rattle.sd_command.specs.CommandLine.{bare_line, check_line, convert_line, de
 use Rattle.sd_command.specs.Settings.{convert_settings, derive_settings, explain_settings, settings_of}
 use Rattle.sd_command.specs.Settings.{given_domain, given_kind, given_mapping, given_source, given_target}
 use Rattle.sd_command.specs.Settings.{is_set, needed_sid}
-use Rattle.sd_core.specs.Mapping.{file_mapping}
+use Rattle.sd_rights.specs.Mapping.{file_mapping}
 
 abbrev hex_to_hex : Job
 hex_to_hex = record { source = Hex; act = Convert Hex; domain = None; numeric = false }

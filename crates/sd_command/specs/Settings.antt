@@ -14,7 +14,7 @@ use Rattle.sd_access.specs.declared.ask.AskFault.{AskFault}
 use Rattle.sd_inherit.specs.declared.plan.Target.{Target}
 use Rattle.sd_inherit.specs.declared.plan.Target.TheVariants.{File, Container}
 use Rattle.sd_command.specs.CommandLine.{line}
-use Rattle.sd_core.specs.Mapping.{GenericMapping, directory_mapping, file_mapping, key_mapping}
+use Rattle.sd_rights.specs.Mapping.{GenericMapping, directory_mapping, file_mapping, key_mapping}
 use Rattle.sd_command.specs.TokenText.{entries_read, sid_under}
 use Rattle.sd_command.specs.declared.job.Form.{Form}
 use Rattle.sd_command.specs.declared.job.Form.TheVariants.{Base64, Hex, Sddl}

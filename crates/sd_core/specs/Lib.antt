@@ -1,7 +1,6 @@
 pub mod Ace
 pub mod GuidText
 pub mod Inner
-pub mod Mapping
 pub mod Naming
 pub mod Sid
 pub mod SidText

@@ -5,7 +5,6 @@
 mod ace;
 mod alias;
 mod guid;
-mod mapping;
 mod naming;
 mod sid;
 mod sid_text;
@@ -14,11 +13,10 @@ mod usual_sid;
 
 pub use ace::Ace;
 pub use guid::{guid_bytes, guid_from_text, guid_read, print_guid, put_guid};
-pub use mapping::{Mapping, carries};
 pub use naming::Naming;
 pub use sd_rights::{
-    AceKind, flags_from_text, print_decimal, print_flags, print_hex, print_rights, put_flags,
-    put_rights, rights_from_text,
+    AceKind, Mapping, carries, flags_from_text, print_decimal, print_flags, print_hex,
+    print_rights, put_flags, put_rights, rights_from_text,
 };
 pub use sd_sink::{Gather, NoMemory, Print, Printer, Sink, SinkFault};
 pub use sid::Sid;

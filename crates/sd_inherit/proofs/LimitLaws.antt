@@ -4,7 +4,7 @@ use Rattle.std.proofs.lemmas.Bool.Decides.{nat_tests}
 use Rattle.std.proofs.lemmas.Nat.{or_lt}
 use Rattle.std.specs.List.{AllByRecursion, flat_map}
 use Rattle.sd_core.specs.Ace.{AccessControlEntry, IsAce}
-use Rattle.sd_core.specs.Mapping.{GenericMapping, IsMapping, carries, mapped, mask_if}
+use Rattle.sd_rights.specs.Mapping.{GenericMapping, IsMapping, carries, mapped, mask_if}
 use Rattle.sd_core.specs.Sid.{IsSid, SecurityId}
 use Rattle.sd_core.specs.SidText.{same_sid}
 use Rattle.sd_rights.specs.Rights.{is_label}

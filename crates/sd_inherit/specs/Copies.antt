@@ -1,7 +1,7 @@
 -- What a new object gets from one ACE of its container (MS-DTYP 2.5.3.4), by the flags of 2.4.4.1.
 use Rattle.std.specs.Prelude.{ℕ, ◌+◌, Bool, not, ◌&&◌, ◌||◌, if◌then◌else◌, List, [], ◌∷◌}
 use Rattle.sd_core.specs.Ace.{AccessControlEntry}
-use Rattle.sd_core.specs.Mapping.{carries, mapped}
+use Rattle.sd_rights.specs.Mapping.{carries, mapped}
 use Rattle.sd_rights.specs.Rights.{is_label}
 use Rattle.sd_core.specs.Sid.{SecurityId}
 use Rattle.sd_core.specs.SidText.{same_sid}

@@ -1,11 +1,12 @@
-//! The kinds of access control entries, their flags and their access rights: tables, codes and texts; and the
-//! texts of numbers.
+//! The kinds of access control entries, their flags and their access rights: tables, codes and texts; what the
+//! generic rights mean; and the texts of numbers.
 #![tactic(auto)]
 
 mod digits;
 mod flags;
 mod kinds;
 mod limits;
+mod mapping;
 mod names;
 mod numbers;
 mod rights;
@@ -18,6 +19,7 @@ pub use kinds::AceKind;
 pub use limits::{
     MOST_BASE64_TEXT, MOST_ENTRIES, MOST_FIELD_SIZE, MOST_HEX_TEXT, MOST_SDDL_TEXT, MOST_SUBS,
 };
+pub use mapping::{Mapping, carries};
 pub use numbers::read_number;
 pub use rights::{print_rights, put_rights};
 pub use rights_reading::rights_from_text;

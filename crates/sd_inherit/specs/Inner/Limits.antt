@@ -1,5 +1,5 @@
 -- The limits of a plan.
-use Rattle.sd_core.specs.Mapping.{IsMapping}
+use Rattle.sd_rights.specs.Mapping.{IsMapping}
 use Rattle.sd_core.specs.Sid.{IsSid}
 use Rattle.sd_inherit.specs.declared.plan.Plan.{Plan}
 

@@ -1,5 +1,5 @@
 use Rattle.std.proofs.Common.{◌≡◌, sym, ◌∙◌, rules}
-use Rattle.sd_core.specs.Mapping.{mapped}
+use Rattle.sd_rights.specs.Mapping.{mapped}
 use Rattle.sd_access.proofs.ScanLaws.{decided-applies, decided-nothing}
 use Rattle.sd_access.proofs.scan.decided.Goals as goal
 use Rattle.sd_access.proofs.scan.decided.Goals.{After-map}

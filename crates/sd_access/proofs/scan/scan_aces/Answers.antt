@@ -1,5 +1,5 @@
 use Rattle.std.proofs.Common.{◌≡◌, ◌∷◌, ◌++◌, ◌&&◌, ℕ, List, length, ap, ◌∙◌, arith, rules}
-use Rattle.sd_core.specs.Mapping.{carries}
+use Rattle.sd_rights.specs.Mapping.{carries}
 use Rattle.sd_core.specs.Token.{Entry}
 use Rattle.sd_access.specs.Granted.{decides}
 use Rattle.sd_access.proofs.ScanLaws.{IsDecided, count_step, not_decided, parts_step, passed_step, rights_allow, rights_deny, scan_bound, undecided_step}

@@ -1,6 +1,6 @@
 use Rattle.std.proofs.Common.{◌≡◌, ◌≤◌, ◌<◌, ◌+◌, ◌*◌, ◌++◌, ℕ, take, length, false, not, ◌&&◌, ◌||◌}
 use Rattle.std.specs.List.{find, list_any}
-use Rattle.sd_core.specs.Mapping.{carries}
+use Rattle.sd_rights.specs.Mapping.{carries}
 use Rattle.sd_access.specs.Granted.{allows, decides}
 use Rattle.sd_access.specs.Inner.Scan.{are_decided}
 use Rattle.sd_access.proofs.scan.scan_aces.Given as goal

@@ -1,6 +1,6 @@
 use Rattle.std.proofs.Common.{rules, ◌≡◌, Err, ◌∙◌}
 use Rattle.sd_command.specs.Settings as specs
-use Rattle.sd_core.specs.Mapping.{file_mapping}
+use Rattle.sd_rights.specs.Mapping.{file_mapping}
 use Rattle.sd_command.proofs.GivenLemmas.{given-or-is, given-or-fault}
 use Rattle.sd_command.proofs.settings.given_mapping.Goals as goal
 

@@ -1,6 +1,6 @@
 use Rattle.std.proofs.Common.{◌<◌, ◌^◌, ◌%◌, arith}
 use Rattle.std.proofs.lemmas.Nat.{or_lt}
-use Rattle.sd_core.proofs.mapping.Mapping.map.Goals as goal
+use Rattle.sd_rights.proofs.mapping.Mapping.map.Goals as goal
 
 pub returns-clause-specific : goal.returns-clause-specific
 returns-clause-specific c =

@@ -1,11 +1,11 @@
 //! What the generic rights of a mask mean (MS-DTYP 2.4.3).
 
 ghost use Rattle.std.specs.Prelude.{◌≡◌, ◌≤◌, ◌<◌, ◌^◌};
-ghost use Rattle.sd_core.specs.Mapping.{IsMapping, carries, mapped, mask_if};
+ghost use Rattle.sd_rights.specs.Mapping.{IsMapping, carries, mapped, mask_if};
 
 use std::marker::Model;
 
-/// The places of the generic rights.
+/// The numbers of the generic rights.
 const GENERIC_ALL: u32 = 28;
 
 const GENERIC_EXECUTE: u32 = 29;
@@ -52,7 +52,7 @@ pub struct Mapping {
 }
 
 impl Model for Mapping {
-    ghost use Rattle.sd_core.specs.Mapping.{GenericMapping, IsMapping};
+    ghost use Rattle.sd_rights.specs.Mapping.{GenericMapping, IsMapping};
 
     ghost Value = { GenericMapping };
 
@@ -134,7 +134,7 @@ impl Mapping {
     }
 }
 
-/// Whether a mask has the right at a place.
+/// Whether a mask has the right of a number.
 pub fn carries(mask: u32, right: u32) -> bool
     requires { right < 32 }
     ensures { result ≡ carries mask right }

@@ -1,8 +1,8 @@
 -- Access masks (MS-DTYP 2.4.3), right by right, and what their generic rights mean.
 use Rattle.std.specs.Prelude.{◌<◌, ℕ, ◌/◌, ◌%◌, ◌^◌, ◌==◌, Bool, if◌then◌else◌, bit_or}
-use Rattle.sd_core.specs.declared.mapping.TheConstants.{DS_GENERIC_ALL, DS_GENERIC_EXECUTE, DS_GENERIC_READ, DS_GENERIC_WRITE, FILE_ALL_ACCESS, FILE_GENERIC_EXECUTE, FILE_GENERIC_READ, FILE_GENERIC_WRITE, KEY_ALL_ACCESS, KEY_EXECUTE, KEY_READ, KEY_WRITE}
+use Rattle.sd_rights.specs.declared.mapping.TheConstants.{DS_GENERIC_ALL, DS_GENERIC_EXECUTE, DS_GENERIC_READ, DS_GENERIC_WRITE, FILE_ALL_ACCESS, FILE_GENERIC_EXECUTE, FILE_GENERIC_READ, FILE_GENERIC_WRITE, KEY_ALL_ACCESS, KEY_EXECUTE, KEY_READ, KEY_WRITE}
 
--- the mask has the right, a bit by its place
+-- the mask has the right, a bit by its number
 abbrev pub carries : ℕ → ℕ → Bool
 carries mask right = mask / 2 ^ right % 2 == 1
 
@@ -13,7 +13,7 @@ pub record GenericMapping : Type 0 where
   pub execute : ℕ
   pub all : ℕ
 
--- they have rights of the places 0 to 24 alone
+-- they have the rights 0 to 24 alone
 pub record IsMapping (m : GenericMapping) : Type 0 where
   pub read : m.read < 2 ^ 25
   pub write : m.write < 2 ^ 25
