@@ -13,6 +13,10 @@ use sd_rights::{MOST_FIELD_SIZE, MOST_SUBS};
 /// The digits that a decimal number has at most.
 const MOST_DIGITS: usize = 10;
 
+const ZERO: u64 = b'0' as u64;
+
+const NINE: u64 = b'9' as u64;
+
 /// The digits that are read at once, where as many stand there.
 const BLOCK: usize = 8;
 
@@ -156,7 +160,7 @@ fn block_number(block: &[u8]) -> u64
 {
     let mut number: u64 = 0;
     for byte in block {
-        number = number * 10 + (u64::from(*byte) - 48);
+        number = number * 10 + (u64::from(*byte) - ZERO);
     }
     number
 }
@@ -172,10 +176,10 @@ fn few_digits(before: u64, text: &[u8]) -> (u64, usize)
     let mut number = before;
     for (i, byte) in text.iter().enumerate() {
         let byte = u64::from(*byte);
-        if byte < 48 || 57 < byte {
+        if byte < ZERO || NINE < byte {
             return (number, i);
         }
-        number = number * 10 + (byte - 48);
+        number = number * 10 + (byte - ZERO);
     }
     (number, text.len())
 }

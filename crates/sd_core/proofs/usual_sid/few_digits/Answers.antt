@@ -7,11 +7,11 @@ loop-i-preserved c =
     let text = c.args.text.now in
     let i = c.loop-i.i in
     let byte = c.from-byte.result in
-    let low : 48 ≤ get_or text i 0 = subst (λ b. 48 ≤ b) c.from-byte.ensures c.if-byte-lt48.false in
-    let high : get_or text i 0 ≤ 57 = subst (λ b. b ≤ 57) c.from-byte.ensures c.if-byte-gt57.false in
+    let low : 48 ≤ get_or text i 0 = subst (λ b. 48 ≤ b) c.from-byte.ensures c.if-byte-lt-ZERO.false in
+    let high : get_or text i 0 ≤ 57 = subst (λ b. b ≤ 57) c.from-byte.ensures c.if-byte-gt-NINE.false in
     let digit = plain_digit (get_or text i 0) low high in
     record {
-      small = below_more_behind i c.loop-i.number (byte - 48) c.loop-i.invariant.small (omega (arith, c.if-byte-gt57.false));
+      small = below_more_behind i c.loop-i.number (byte - 48) c.loop-i.invariant.small (omega (arith, c.if-byte-gt-NINE.false));
       digits =
           digit_more c.args.before text i c.loop-i.number (byte - 48) (omega arith) c.loop-i.invariant.digits digit.0
           (ap (λ b. b - 48) c.from-byte.ensures ∙ digit.1);
@@ -26,5 +26,5 @@ pub overflow_add-number : goal.overflow_add-number
 overflow_add-number c =
     let byte = c.from-byte.result in
     let fits = fits-behind c.loop-i.i c.loop-i.number (byte - 48) c.loop-i.invariant.small (omega arith)
-    (omega (arith, c.if-byte-gt57.false)) in
+    (omega (arith, c.if-byte-gt-NINE.false)) in
     omega (arith, fits)
