@@ -34,13 +34,15 @@ given-sid : (bytes : List ℕ) (offset : ℕ) (o : Option SecurityId) → SidSta
 given-sid bytes offset None h e = refl
 given-sid bytes offset (Some s) h e = absurd (omega (arith, e, h.1.low))
 
-acl-given : (bytes : List ℕ) (place : Option ℕ) (p : AclPart) → AclStands bytes place p → p ≡ acl.Absent → place ≡ None
+acl-given : (bytes : List ℕ) (offset : Option ℕ) (p : AclPart) → AclStands bytes offset p → p ≡ acl.Absent
+    → offset ≡ None
 acl-given bytes None p h e = refl
 acl-given bytes (Some offset) acl.Absent h e = absurd h
 acl-given bytes (Some offset) acl.Null h e = absurd (cc)
 acl-given bytes (Some offset) (acl.List aces) h e = absurd (cc)
 
-given-acl : (bytes : List ℕ) (place : Option ℕ) (p : AclPart) → AclStands bytes place p → place ≡ None → p ≡ acl.Absent
+given-acl : (bytes : List ℕ) (offset : Option ℕ) (p : AclPart) → AclStands bytes offset p → offset ≡ None
+    → p ≡ acl.Absent
 given-acl bytes None acl.Absent h e = refl
 given-acl bytes None acl.Null h e = absurd h
 given-acl bytes None (acl.List aces) h e = absurd h
@@ -451,9 +453,9 @@ end-bytes b bytes t o size header found total e =
     found.at.count in
     let whole : bytes ≡ front ++ (found.at.front ++ aces) = found.shape
     ∙ ap (λ (r : List ℕ). front ++ r) found.at.shape in
-    let place : o.start ≡ length front = found.at.start in
+    let at_end : o.start ≡ length front = found.at.start in
     let there = header-written front (acl_header found.aces) found.at.front aces found.at.eight in
-    rw (eight, place, whole, filled) there
+    rw (eight, at_end, whole, filled) there
 
 pub end-builds : (b : Builder) (bytes : List ℕ) (t : Draft) (o : OpenAcl) (size : ℕ) (header : List ℕ) → b.open ≡ Some o
     → o.start + size ≡ length bytes

@@ -42,9 +42,9 @@ sid-shown : (bytes : List ℕ) (offset : ℕ) (o : Option SecurityId) → SidSta
 sid-shown bytes offset None h = h
 sid-shown bytes offset (Some s) h = (h.1.low, record { limits = h.0; rest = h.1.rest; shape = h.1.shape })
 
-acl-shown : (bytes : List ℕ) (place : Option ℕ) (p : AclPart) → AclStands bytes place p
-    → ShowsAclPart bytes (is_present p) (unwrap_or place 0) p
-    × (acl_extent bytes (unwrap_or place 0) p ≡ acl_extent_of place p)
+acl-shown : (bytes : List ℕ) (offset : Option ℕ) (p : AclPart) → AclStands bytes offset p
+    → ShowsAclPart bytes (is_present p) (unwrap_or offset 0) p
+    × (acl_extent bytes (unwrap_or offset 0) p ≡ acl_extent_of offset p)
 acl-shown bytes None acl.Absent h = (refl, refl)
 acl-shown bytes None acl.Null h = absurd h
 acl-shown bytes None (acl.List aces) h = absurd h
@@ -56,15 +56,15 @@ acl-shown bytes (Some offset) (acl.List aces) h =
       ap (λ (n : ℕ). Some (offset, offset + n)) long,
     )
 
-acl-small : (bytes : List ℕ) (place : Option ℕ) (p : AclPart) → AclStands bytes place p → length bytes ≤ 131226
-    → unwrap_or place 0 < 2 ^ 32
+acl-small : (bytes : List ℕ) (offset : Option ℕ) (p : AclPart) → AclStands bytes offset p → length bytes ≤ 131226
+    → unwrap_or offset 0 < 2 ^ 32
 acl-small bytes None p h room = omega arith
 acl-small bytes (Some offset) acl.Absent h room = absurd h
 acl-small bytes (Some offset) acl.Null h room = omega (arith, h)
 acl-small bytes (Some offset) (acl.List aces) h room = omega (arith, h.1.inside, room)
 
-pub acl-present : (bytes : List ℕ) (place : Option ℕ) (p : AclPart) → AclStands bytes place p
-    → is_some place ≡ is_present p
+pub acl-present : (bytes : List ℕ) (offset : Option ℕ) (p : AclPart) → AclStands bytes offset p
+    → is_some offset ≡ is_present p
 acl-present bytes None acl.Absent h = refl
 acl-present bytes None acl.Null h = absurd h
 acl-present bytes None (acl.List aces) h = absurd h
@@ -109,9 +109,9 @@ shows b bytes t flags rm small h =
     let dacl = header-dacl rm word b.owner b.group s d rest (acl-small bytes b.dacl t.dacl h.dacl room) in
     let sacl_stands = acl-shown new b.sacl t.sacl (acl-kept bytes new b.sacl t.sacl keep h.sacl) in
     let dacl_stands = acl-shown new b.dacl t.dacl (acl-kept bytes new b.dacl t.dacl keep h.dacl) in
-    let sacl_place : acl_extent new (sacl_at new) t.sacl ≡ acl_extent_of b.sacl
+    let sacl_extent : acl_extent new (sacl_at new) t.sacl ≡ acl_extent_of b.sacl
     t.sacl = ap (λ (n : ℕ). acl_extent new n t.sacl) sacl ∙ sacl_stands.1 in
-    let dacl_place : acl_extent new (dacl_at new) t.dacl ≡ acl_extent_of b.dacl
+    let dacl_extent : acl_extent new (dacl_at new) t.dacl ≡ acl_extent_of b.dacl
     t.dacl = ap (λ (n : ℕ). acl_extent new n t.dacl) dacl ∙ dacl_stands.1 in
     record {
       header = omega (arith, length-append header rest, length-header_for rm word b);
@@ -127,12 +127,12 @@ shows b bytes t flags rm small h =
           sacl_stands.0;
       dacl = acl-read new (is_present t.dacl) _ d (dacl_at new) t.dacl (bit-test _ (is_present t.dacl) bits.dacl) dacl
           dacl_stands.0;
-      apart = rw (owner, group, sacl_place, dacl_place) h.apart;
+      apart = rw (owner, group, sacl_extent, dacl_extent) h.apart;
     }
 
 -- each ACL stands in its written form, and nothing else stands
-acl-written : (bytes : List ℕ) (place : Option ℕ) (field : ℕ) (p : AclPart) → field ≡ unwrap_or place 0
-    → AclStands bytes place p → AclIsWritten bytes field p
+acl-written : (bytes : List ℕ) (offset : Option ℕ) (field : ℕ) (p : AclPart) → field ≡ unwrap_or offset 0
+    → AclStands bytes offset p → AclIsWritten bytes field p
 acl-written bytes None field acl.Absent e h = e
 acl-written bytes (Some offset) field acl.Absent e h = absurd h
 acl-written bytes None field acl.Null e h = absurd h

@@ -21,7 +21,7 @@ spelled [] = Ok []
 spelled (c ∷ []) = Err HexDigit
 spelled (a ∷ b ∷ rest) = with_pair (hex_digit_value a) (hex_digit_value b) (spelled rest)
 
--- a decoding step, whose fault names a place, and the same without
+-- a decoding step, whose fault names an offset, and the same without
 pair-step : (a b i : ℕ) (high low : Option ℕ) (rest : Result (List ℕ) FromHexError)
     → or_digit_fault ((digit_or_error a i high >>= (λ h. digit_or_error b (i + 1) low >>= (λ l. Ok (h * 16 + l))))
     >>= (λ byte. rest >>= (λ bytes. Ok (byte ∷ bytes))))

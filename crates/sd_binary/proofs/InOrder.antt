@@ -97,15 +97,15 @@ no-sid o e = sym (length-sid_part o) ∙ ap length e
 no-acl : (p : AclPart) → acl_part p ≡ [] → acl_part_size p ≡ 0
 no-acl p e = sym (length-acl_part p) ∙ ap length e
 
--- a part without bytes has no place
+-- a part without bytes has no offset
 moved : (offset p q n : ℕ) → n ≡ 0 → offset ≡ offset_if p n → offset ≡ offset_if q n
 moved offset p q n e h = h ∙ rw e refl
 
-same-place : (offset p q n : ℕ) → p ≡ q → offset ≡ offset_if p n → offset ≡ offset_if q n
-same-place offset p q n e h = h ∙ rw e refl
+same-offset : (offset p q n : ℕ) → p ≡ q → offset ≡ offset_if p n → offset ≡ offset_if q n
+same-offset offset p q n e h = h ∙ rw e refl
 
-put-at : (offset place n : ℕ) → 0 < n → offset ≡ place → offset ≡ offset_if place n
-put-at offset place n h e = e ∙ sym (offset-stands place n h)
+put-at : (offset start n : ℕ) → 0 < n → offset ≡ start → offset ≡ offset_if start n
+put-at offset start n h e = e ∙ sym (offset-stands start n h)
 
 owner-offsets : (n : ℕ) (b : Builder) (t : Draft) (s : SecurityId) → t.owner ≡ None → bytes_after part.Owner t ≡ []
     → n ≡ closed_size t → HasLayoutOffsets b t
@@ -172,7 +172,7 @@ null-offsets b t lists.Sacl free h =
       owner = h.owner;
       group = h.group;
       sacl = refl;
-      dacl = same-place (unwrap_or b.dacl 0) _ _ (acl_part_size t.dacl) (omega (arith, sacl)) h.dacl;
+      dacl = same-offset (unwrap_or b.dacl 0) _ _ (acl_part_size t.dacl) (omega (arith, sacl)) h.dacl;
     }
 null-offsets b t lists.Dacl free h = record { owner = h.owner; group = h.group; sacl = h.sacl; dacl = refl }
 

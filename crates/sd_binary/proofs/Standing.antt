@@ -55,8 +55,8 @@ pub sid-kept : (bytes new : List ℕ) (offset : ℕ) (o : Option SecurityId) →
 sid-kept bytes new offset None k h = h
 sid-kept bytes new offset (Some s) k h = (h.0, k offset (sid_bytes s) h.1)
 
-pub acl-kept : (bytes new : List ℕ) (place : Option ℕ) (p : AclPart) → Kept bytes new → AclStands bytes place p
-    → AclStands new place p
+pub acl-kept : (bytes new : List ℕ) (offset : Option ℕ) (p : AclPart) → Kept bytes new → AclStands bytes offset p
+    → AclStands new offset p
 acl-kept bytes new None acl.Absent k h = tt
 acl-kept bytes new None acl.Null k h = h
 acl-kept bytes new None (acl.List aces) k h = h
@@ -64,7 +64,7 @@ acl-kept bytes new (Some offset) acl.Absent k h = h
 acl-kept bytes new (Some offset) acl.Null k h = h
 acl-kept bytes new (Some offset) (acl.List aces) k h = (h.0, k offset (acl_bytes aces) h.1)
 
--- each place ends within the bytes
+-- each extent ends within the bytes
 abbrev Ends : Extent → ℕ → Type 0
 Ends None n = Unit {0}
 Ends (Some p) n = p.1 ≤ n
@@ -74,14 +74,14 @@ sid-ends : (bytes : List ℕ) (offset : ℕ) (o : Option SecurityId) → SidStan
 sid-ends bytes offset None h = tt
 sid-ends bytes offset (Some s) h = omega (arith, h.1.inside, length-sid_bytes s)
 
-acl-ends : (bytes : List ℕ) (place : Option ℕ) (p : AclPart) → AclStands bytes place p
-    → Ends (acl_extent_of place p) (length bytes)
+acl-ends : (bytes : List ℕ) (offset : Option ℕ) (p : AclPart) → AclStands bytes offset p
+    → Ends (acl_extent_of offset p) (length bytes)
 acl-ends bytes None p h = tt
 acl-ends bytes (Some offset) acl.Absent h = tt
 acl-ends bytes (Some offset) acl.Null h = tt
 acl-ends bytes (Some offset) (acl.List aces) h = omega (arith, h.1.inside, length-acl_bytes aces)
 
--- so a place at the end of the bytes shares none with another
+-- so an extent at the end of the bytes shares none with another
 last-apart : (e : Extent) (n m : ℕ) → Ends e n → Apart (Some (n, m)) e
 last-apart None n m h = tt
 last-apart (Some p) n m h = inr h
@@ -108,7 +108,7 @@ sid-most : (bytes : List ℕ) (offset : ℕ) (o : Option SecurityId) → SidStan
 sid-most bytes offset None h = omega arith
 sid-most bytes offset (Some s) h = omega (arith, h.0.count)
 
-acl-most : (bytes : List ℕ) (place : Option ℕ) (p : AclPart) → AclStands bytes place p → acl_part_size p ≤ 65535
+acl-most : (bytes : List ℕ) (offset : Option ℕ) (p : AclPart) → AclStands bytes offset p → acl_part_size p ≤ 65535
 acl-most bytes None acl.Absent h = omega arith
 acl-most bytes None acl.Null h = omega arith
 acl-most bytes None (acl.List aces) h = absurd h

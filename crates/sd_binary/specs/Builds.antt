@@ -1,5 +1,5 @@
--- What a builder's buffer holds between its calls: the parts that are closed, at the places that the builder keeps, and
--- after them the ACL that is open. Callers of a builder never look inside `Builds`.
+-- What a builder's buffer holds between its calls: the parts that are closed, at the offsets that the builder keeps,
+-- and after them the ACL that is open. Callers of a builder never look inside `Builds`.
 use Rattle.std.specs.Prelude.{◌≡◌, ◌≤◌, ℕ, ◌+◌, List, [], length, drop, take, ◌++◌, Option, Some, None, unwrap_or}
 use Rattle.std.specs.List.{flat_map}
 use Rattle.sd_core.specs.Ace.{AccessControlEntry}
@@ -42,7 +42,7 @@ abbrev pub placed : Which → ℕ → Builder → Builder
 placed which.Sacl offset b = record b { sacl = Some offset }
 placed which.Dacl offset b = record b { dacl = Some offset }
 
--- the places of the parts
+-- the extents of the parts
 abbrev pub acl_extent_of : Option ℕ → AclPart → Extent
 acl_extent_of None p = None
 acl_extent_of (Some offset) acl.Absent = None

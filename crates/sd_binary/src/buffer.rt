@@ -96,16 +96,16 @@ impl<const MOST: usize> ByteBuf<MOST> {
         requires { length self.old + length bytes.now ≤ MOST }
         ensures { self.new ≡ self.old ++ bytes.now }
     {
-        place(&mut self.cells, self.held, bytes);
+        write_at(&mut self.cells, self.held, bytes);
         self.held += bytes.len();
     }
 
-    // Writes bytes over those that stand from a place on.
+    // Writes bytes over those that stand from an offset on.
     pub(crate) fn patch(&mut self, at: usize, bytes: &[u8])
         requires { at + length bytes.now ≤ length self.old }
         ensures { self.new ≡ take at self.old ++ (bytes.now ++ drop (at + length bytes.now) self.old) }
     {
-        place(&mut self.cells, at, bytes);
+        write_at(&mut self.cells, at, bytes);
     }
 
     /// Drops the contents.
@@ -172,8 +172,8 @@ impl SdBuf {
     }
 }
 
-// Copies the bytes into the cells from a place on.
-fn place(cells: &mut [u8], at: usize, bytes: &[u8])
+// Copies the bytes into the cells from an offset on.
+fn write_at(cells: &mut [u8], at: usize, bytes: &[u8])
     requires { at + length bytes.now ≤ length cells.old }
     ensures front { take (at + length bytes.now) cells.new ≡ take at cells.old ++ bytes.now }
     ensures rest { drop (at + length bytes.now) cells.new ≡ drop (at + length bytes.now) cells.old }
@@ -181,7 +181,7 @@ fn place(cells: &mut [u8], at: usize, bytes: &[u8])
     cells[at..at + bytes.len()].copy_from_slice(bytes);
 }
 
-// Decodes pairs of hex digits into the cells from a place on.
+// Decodes pairs of hex digits into the cells from an offset on.
 fn decode_hex(pairs: &[u8], cells: &mut [u8], at: usize) -> Result<(), TextFault>
     requires even { length pairs.now % 2 ≡ 0 }
     requires room { at + length pairs.now / 2 ≤ length cells.old }

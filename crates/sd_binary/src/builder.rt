@@ -9,7 +9,7 @@ ghost use Rattle.sd_view.specs.declared.acl.AclPart.TheVariants as acl;
 ghost use Rattle.sd_view.specs.declared.fault.Part.TheVariants as part;
 
 use crate::buffer::SdBuf;
-use crate::pieces::{append_ace, place_sid};
+use crate::pieces::{append_ace, append_sid_at};
 use sd_core::{Ace, Sid};
 use sd_view::{ACL_HEADER_SIZE, HEADER_SIZE, MOST_ACL_SIZE, Which, acl_header, control_of, header};
 
@@ -77,7 +77,7 @@ impl Builder {
         ensures in_order { (t : Draft) → BuildsInOrder self.old buf.old t → bytes_after part.Owner t ≡ []
             → BuildsInOrder self.new buf.new (record t { owner = Some sid.now }) }
     {
-        self.owner = place_sid(buf, sid);
+        self.owner = append_sid_at(buf, sid);
     }
 
     /// Appends the SID of the primary group (MS-DTYP 2.4.2).
@@ -87,7 +87,7 @@ impl Builder {
         ensures in_order { (t : Draft) → BuildsInOrder self.old buf.old t → bytes_after part.Group t ≡ []
             → BuildsInOrder self.new buf.new (record t { group = Some sid.now }) }
     {
-        self.group = place_sid(buf, sid);
+        self.group = append_sid_at(buf, sid);
     }
 
     /// Begins an ACL (MS-DTYP 2.4.5), to which `ace` appends, until `end_acl`.

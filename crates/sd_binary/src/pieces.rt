@@ -63,17 +63,17 @@ fn append_subs(buf: &mut SdBuf, subs: &[u32])
 }
 
 // Appends a SID, and tells where it stands.
-pub(crate) fn place_sid(buf: &mut SdBuf, sid: &Sid) -> u32
+pub(crate) fn append_sid_at(buf: &mut SdBuf, sid: &Sid) -> u32
     requires { length buf.old + MOST_SID_SIZE ≤ CAPACITY }
-    ensures place { result ≡ length buf.old }
+    ensures offset { result ≡ length buf.old }
     ensures value { buf.new ≡ buf.old ++ sid_bytes sid.now }
     ensures limits { IsSid sid.now }
 {
-    let place = buf.bytes().len() as u32;
+    let offset = buf.bytes().len() as u32;
     // Its size tells that it has at most 15 sub-authorities.
     let _ = sid.size();
     append_sid(buf, sid);
-    place
+    offset
 }
 
 // Appends an ACE (MS-DTYP 2.4.4).

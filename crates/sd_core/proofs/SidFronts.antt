@@ -105,8 +105,7 @@ s1-behind text e long = ap (drop 4) (s1-front text e long) ∙ behind text (sid_
 pub s1-size : (text : List ℕ) → begins_with_s1 text ≡ true → 4 ≤ length text
     → length (sid_front text) ≡ length (sid_front (drop 4 text)) + 4
 s1-size text e long =
-    let parts : length (take 4 text ++ sid_front (drop 4 text)) ≡ length (take 4 text) + length (sid_front (drop 4 text)) =
-    length-append (take 4 text) (sid_front (drop 4 text)) in
+    let parts = length-append (take 4 text) (sid_front (drop 4 text)) in
     let four : length (take 4 text) ≡ 4 = length-take-le 4 text long in
     let whole = ap length (s1-front text e long) in
     omega arith
@@ -124,7 +123,8 @@ letters-front : (text : List ℕ) → 2 ≤ length text → is_ascii_alphabetic 
     → is_ascii_alphabetic (get_or text 1 0) ≡ true
     → sid_front text ≡ get_or text 0 0 ∷ get_or text 1 0 ∷ sid_front (drop 2 text)
 letters-front (a ∷ b ∷ rest) long first second =
-    front-more a (b ∷ rest) (letter_byte a first) ∙ ap (λ (t : List ℕ). a ∷ t) (front-more b rest (letter_byte b second))
+    front-more a (b ∷ rest) (letter_byte a first)
+    ∙ ap (λ (t : List ℕ). a ∷ t) (front-more b rest (letter_byte b second))
 letters-front (a ∷ []) long first second = absurd (omega arith)
 letters-front [] long first second = absurd (omega arith)
 

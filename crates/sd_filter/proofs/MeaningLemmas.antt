@@ -49,7 +49,8 @@ pub broken : {old new : SinkTold} {a b c : PrintTold} {text : List ℕ} {error f
 broken fault x last q p = printed x last q p.0
 
 -- the same of a sink that holds a reference to the drain
-pub unplaced : (m n : ℕ) (a b : SinkTold) (text : List ℕ) (error : Bool) (r : Result Bool SinkFault) → b.identity ≡ a.identity
+pub unplaced : (m n : ℕ) (a b : SinkTold) (text : List ℕ) (error : Bool) (r : Result Bool SinkFault)
+    → b.identity ≡ a.identity
     → PutsAnswer (record a { identity = m }) (record b { identity = n }) text error r → PutsAnswer a b text error r
 unplaced m n a b text error (Ok faulty) e p =
     (record { identity = e; appended = p.0.appended; no_failure = p.0.no_failure; room = p.0.room }, p.1)

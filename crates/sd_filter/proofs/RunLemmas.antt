@@ -96,7 +96,8 @@ unfolding ended parts
 ended-nil = refl
 
 -- before the first read
-pub BeforeRead-start : (token0 : TokenShown) (source0 : SourceTold) (drain0 : DrainTold) (state : RunState) (report : Report)
+pub BeforeRead-start :
+    (token0 : TokenShown) (source0 : SourceTold) (drain0 : DrainTold) (state : RunState) (report : Report)
     → Holds state.job state.line [] → report.lines ≡ 0 → report.faults ≡ 0
     → BeforeRead 0 token0 source0 drain0 state token0 source0 drain0 report
 BeforeRead-start token0 source0 drain0 state report h no_lines no_faults = record {
@@ -126,7 +127,8 @@ module _ (most turn : ℕ) (token0 token : TokenShown) (source0 source source' :
     (state : RunState) (report : Report)
     (r : BeforeRead turn token0 source0 drain0 state token source drain report) (low : turn < most) where
   -- a piece was read and its lines are answered
-  pub BeforeRead-more : (piece : List ℕ) (token' : TokenShown) (drain' : DrainTold) (state' : RunState) (report' : Report)
+  pub BeforeRead-more :
+      (piece : List ℕ) (token' : TokenShown) (drain' : DrainTold) (state' : RunState) (report' : Report)
       → Consumes source.left source'.left piece → source'.reads ≡ counted source.reads → source'.ends ≡ source.ends
       → source'.failures ≡ source.failures
       → AfterBytes token0 (sink_of drain0) (r.got ++ piece) state' token' (sink_of drain') report'

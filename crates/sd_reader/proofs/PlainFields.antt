@@ -184,7 +184,8 @@ short-plain (c ∷ cs) n is = by_test (is_digit c 10) (c == 48) refl refl is
 
 -- 5. What reads is whole.
 
-short-enough : {A : Type 0} (text : List ℕ) (o : Option A) (x : A) → (if nat_lt 183 (length text) then None else o) ≡ Some x
+short-enough : {A : Type 0} (text : List ℕ) (o : Option A) (x : A)
+    → (if nat_lt 183 (length text) then None else o) ≡ Some x
     → (o ≡ Some x) × (length text ≤ 183)
 short-enough text o x is = by_test (nat_lt 183 (length text)) refl is
   where
@@ -239,7 +240,8 @@ module _ (s : List ℕ) (hyphens : has_hyphens s ≡ true) (digits : list_all is
       let long : length (digits_of s) ≡ 32 = by_index_length 32 _ in
       let digit : is_hex_digit (get_or (digits_of s) i 0) ≡ true =
       at-place is_hex_digit (digits_of s) i (omega (arith, long)) digits in
-      hex-plain (get_or s (hyphen_place i) 0) (rw (by_index_at 32 (λ j. slice_index s (hyphen_place j)) i 0 within) at digit)
+      hex-plain (get_or s (hyphen_place i) 0)
+      (rw (by_index_at 32 (λ j. slice_index s (hyphen_place j)) i 0 within) at digit)
 
   is-hyphen : (k n : ℕ) → (k == n) ≡ true → (slice_index s n == 45) ≡ true → is_plain_inside (get_or s k 0) ≡ true
   is-hyphen k n here hyphen =
@@ -255,7 +257,8 @@ module _ (s : List ℕ) (hyphens : has_hyphens s ≡ true) (digits : list_all is
       by_place two.0 two.1 three.1 four.1 (k == 8) (k == 13) (k == 18) (k == 23) refl refl refl refl
     where
       by_place : (slice_index s 8 == 45) ≡ true → (slice_index s 13 == 45) ≡ true → (slice_index s 18 == 45) ≡ true
-          → (slice_index s 23 == 45) ≡ true → (a b c d : Bool) → (k == 8) ≡ a → (k == 13) ≡ b → (k == 18) ≡ c → (k == 23) ≡ d
+          → (slice_index s 23 == 45) ≡ true
+          → (a b c d : Bool) → (k == 8) ≡ a → (k == 13) ≡ b → (k == 18) ≡ c → (k == 23) ≡ d
           → is_plain_inside (get_or s k 0) ≡ true
       by_place p q r t true b c d e f g h = is-hyphen k 8 e p
       by_place p q r t false true c d e f g h = is-hyphen k 13 f q
@@ -281,8 +284,8 @@ guid-plain : (s g : List ℕ) → parsed_hyphenated s ≡ Some g → (list_all i
 guid-plain s g is = by_test (length s == 36) (has_hyphens s) (list_all is_hex_digit (digits_of s)) refl refl refl is
   where
     by_test : (l h d : Bool) → (length s == 36) ≡ l → has_hyphens s ≡ h → list_all is_hex_digit (digits_of s) ≡ d
-        → (if l && h then (if (length (digits_of s) == 32) && d then Some (by_index 16 (byte_of_digits (digits_of s))) else None) else None)
-        ≡ Some g
+        → (if l && h then (if (length (digits_of s) == 32) && d
+        then Some (by_index 16 (byte_of_digits (digits_of s))) else None) else None) ≡ Some g
         → (list_all is_plain_inside s ≡ true) × (length s ≡ 36)
     by_test true true true l h d e =
         let size : length s ≡ 36 = grind (arith, nat_tests) in
@@ -322,5 +325,6 @@ sid-front-plain (b ∷ bs) = by_test (is_sid_byte b) refl (sid-front-plain bs)
         rw (one, sid-byte-plain b e) later
 
 -- the text of a SID at the front
-pub sid-front-whole : (text : List ℕ) (size : ℕ) → size ≡ length (sid_front text) → size ≤ 183 → IsWhole (sid_front text)
+pub sid-front-whole : (text : List ℕ) (size : ℕ) → size ≡ length (sid_front text) → size ≤ 183
+    → IsWhole (sid_front text)
 sid-front-whole text size is fits = record { plain = sid-front-plain text; fits = omega (arith, is) }

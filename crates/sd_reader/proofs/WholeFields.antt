@@ -104,7 +104,8 @@ fits-ace dm a seen t u e k =
 
 -- 4. What stands at the front of a text.
 
-module _ (dm : Option SecurityId) (text rest : List ℕ) (f : AceFields) (s : SecurityId) (h : AceAt dm text f s rest) where
+module _ (dm : Option SecurityId) (text rest : List ℕ) (f : AceFields) (s : SecurityId)
+    (h : AceAt dm text f s rest) where
   texts_at : AceTexts
   texts_at = record {
     kind = h.fields.kind.field;

@@ -53,12 +53,12 @@ flags_by true t u n xs ys h e f =
     ap (little_bytes 4) sum
 
 flags-written : (extent : List ℕ) → AreBytes extent → 12 ≤ length extent → named_flags extent ≡ true
-    → object_flags (is_object (kind_in extent)) (object_in extent) (inherited_in extent) ≡ cond (is_object (kind_in extent))
-    (take 4 (drop 8 extent)) []
+    → object_flags (is_object (kind_in extent)) (object_in extent) (inherited_in extent)
+    ≡ cond (is_object (kind_in extent)) (take 4 (drop 8 extent)) []
 unfolding object_in inherited_in announces_object announces_inherited
 flags-written extent b room named =
-    flags_by (is_object (kind_in extent)) (eqb (u32_at 8 extent % 2) 1) (eqb (u32_at 8 extent / 2 % 2) 1) (u32_at 8 extent)
-    (drop 12 extent) (drop (12 + guid_size (object_in extent)) extent) named refl refl
+    flags_by (is_object (kind_in extent)) (eqb (u32_at 8 extent % 2) 1) (eqb (u32_at 8 extent / 2 % 2) 1)
+    (u32_at 8 extent) (drop 12 extent) (drop (12 + guid_size (object_in extent)) extent) named refl refl
     ∙ ap (λ (xs : List ℕ). cond (is_object (kind_in extent)) xs []) (long_word 8 extent b (omega arith))
 
 -- the front of an extent, cut into its fields

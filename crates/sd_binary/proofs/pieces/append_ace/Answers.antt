@@ -41,7 +41,7 @@ record Room (a : AccessControlEntry) (n most : ℕ) : Type 0 where
 room : (a : AccessControlEntry) (n most : ℕ) → GuidsFit (is_object a.kind) a.object a.inherited → n + ace_size a ≤ most
     → Room a n most
 room a n most fit h =
-    let place = offsets (is_object a.kind) a.object a.inherited fit in
+    let offset = offsets (is_object a.kind) a.object a.inherited fit in
     let object = length-guid a.object in
     let inherited = length-guid a.inherited in
     record { object = omega arith; inherited = omega arith; sid = omega arith }

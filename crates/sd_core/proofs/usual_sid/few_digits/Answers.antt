@@ -11,7 +11,9 @@ loop-i-preserved c =
     let high : get_or text i 0 ≤ 57 = subst (λ b. b ≤ 57) c.from-byte.ensures c.if-byte-gt-NINE.false in
     let digit = plain_digit (get_or text i 0) low high in
     record {
-      small = below_more_behind i c.loop-i.number (byte - 48) c.loop-i.invariant.small (omega (arith, c.if-byte-gt-NINE.false));
+      small =
+          below_more_behind i c.loop-i.number (byte - 48) c.loop-i.invariant.small
+          (omega (arith, c.if-byte-gt-NINE.false));
       digits =
           digit_more c.args.before text i c.loop-i.number (byte - 48) (omega arith) c.loop-i.invariant.digits digit.0
           (ap (λ b. b - 48) c.from-byte.ensures ∙ digit.1);

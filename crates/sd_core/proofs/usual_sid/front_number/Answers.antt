@@ -16,7 +16,8 @@ returns-clause-number c =
     rw (rest_is text count) at (c.ends_number.ensures c.if-not-ends_number.false) in (
       take count text,
       decimal_is n (take count text) (omega arith) digits,
-      reads_is n (take count text) (omega (arith, c.front_digits-number.ensures.few)) (omega (arith, c.if-number.false)) digits,
+      reads_is n (take count text) (omega (arith, c.front_digits-number.ensures.few)) (omega (arith, c.if-number.false))
+      digits,
       rw (rest_is text count) (number-pieces text count n digits ends),
     )
 

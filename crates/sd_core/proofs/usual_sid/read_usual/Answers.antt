@@ -9,7 +9,8 @@ returns-clause-size c =
     let text = c.args.text.now in
     let front = sym c.begins_with_s1.ensures.value ∙ c.if-not-begins_with_s1.false in
     let long = c.begins_with_s1.ensures.long c.if-not-begins_with_s1.false in
-    let size : c.in_ok-size.size ≡ length (sid_front (drop 4 text)) = rw (take_rest text 4) at c.in_ok-size.ensures.size in
+    let size : c.in_ok-size.size ≡ length (sid_front (drop 4 text)) =
+    rw (take_rest text 4) at c.in_ok-size.ensures.size in
     omega (arith, size, s1-size text front long)
 
 pub returns-clause-form : goal.returns-clause-form
@@ -17,7 +18,8 @@ returns-clause-form c =
     let text = c.args.text.now in
     let front = sym c.begins_with_s1.ensures.value ∙ c.if-not-begins_with_s1.false in
     let long = c.begins_with_s1.ensures.long c.if-not-begins_with_s1.false in
-    let size : c.in_ok-size.size ≡ length (sid_front (drop 4 text)) = rw (take_rest text 4) at c.in_ok-size.ensures.size in
+    let size : c.in_ok-size.size ≡ length (sid_front (drop 4 text)) =
+    rw (take_rest text 4) at c.in_ok-size.ensures.size in
     s1-form text front long (omega (arith, size, c.if-size.false)) (rw (take_rest text 4) at c.in_ok-size.ensures.form)
 
 pub returns-clause-numbers : goal.returns-clause-numbers

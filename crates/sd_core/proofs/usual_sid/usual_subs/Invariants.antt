@@ -8,7 +8,8 @@ invariant-loop-next l = record {
   count : length l.sid.subs ≤ 15;
   authority : l.sid.authority ≡ l.initial.sid.authority;
   ends : (pieces (sid_front l.rest)).first ≡ [];
-  form : are_subs (length l.sid.subs) (pieces (sid_front l.rest)).others ≡ are_subs 0 (pieces (sid_front l.text)).others;
+  form : are_subs (length l.sid.subs) (pieces (sid_front l.rest)).others
+      ≡ are_subs 0 (pieces (sid_front l.text)).others;
   numbers : option_map (λ ns. l.sid.subs ++ ns) (all_read (pieces (sid_front l.rest)).others) ≡ all_read
       (pieces (sid_front l.text)).others;
   size : length (sid_front l.text) + length l.rest ≡ length (sid_front l.rest) + length l.text;

@@ -11,7 +11,8 @@ invariant-loop-n g l = record {
   ready : IsReady l.state.line;
   after : (token0 : TokenShown) (sink0 : SinkTold) (got : List ℕ)
       → AfterBytes token0 sink0 got l.fn.state l.fn.token (sink_of (g.W.Drain.told l.fn.drain)) l.fn.report
-      → AfterBytes token0 sink0 (got ++ take l.start l.piece) l.state l.token (sink_of (g.W.Drain.told l.drain)) l.report;
+      → AfterBytes token0 sink0 (got ++ take l.start l.piece) l.state l.token (sink_of (g.W.Drain.told l.drain))
+      l.report;
   quiet : l.start ≡ 0
       → (g.W.Drain.told l.drain ≡ g.W.Drain.told l.fn.drain) × (l.report.lines ≡ l.fn.report.lines);
   job : l.state.job ≡ l.fn.state.job;

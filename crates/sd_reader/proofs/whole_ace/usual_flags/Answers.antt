@@ -31,21 +31,25 @@ returns-in-Some-after-clause-found c =
 pub returns-in-Some-after-2-clause-found : goal.returns-in-Some-after-2-clause-found
 unfolding flags_reads run_of
 returns-in-Some-after-2-clause-found c =
-    flags-at (79 ∷ 73 ∷ 67 ∷ 73 ∷ []) _ _ _ (behind-first (79 ∷ 73 ∷ 67 ∷ 73 ∷ []) _ _ _ c.in_ok-containers.ensures c.in-Some-after-2.ensures) refl
+    flags-at (79 ∷ 73 ∷ 67 ∷ 73 ∷ []) _ _ _
+    (behind-first (79 ∷ 73 ∷ 67 ∷ 73 ∷ []) _ _ _ c.in_ok-containers.ensures c.in-Some-after-2.ensures) refl
 
 pub returns-in-Some-after-3-clause-found : goal.returns-in-Some-after-3-clause-found
 unfolding flags_reads run_of
 returns-in-Some-after-3-clause-found c =
-    flags-at (79 ∷ 73 ∷ 67 ∷ 73 ∷ 73 ∷ 68 ∷ []) _ _ _ (behind-first (79 ∷ 73 ∷ 67 ∷ 73 ∷ []) _ _ _ c.in_ok-containers.ensures c.in-Some-after-3.ensures) refl
+    flags-at (79 ∷ 73 ∷ 67 ∷ 73 ∷ 73 ∷ 68 ∷ []) _ _ _
+    (behind-first (79 ∷ 73 ∷ 67 ∷ 73 ∷ []) _ _ _ c.in_ok-containers.ensures c.in-Some-after-3.ensures) refl
 
 pub returns-in-Some-after-4-clause-found : goal.returns-in-Some-after-4-clause-found
 unfolding flags_reads run_of
 returns-in-Some-after-4-clause-found c =
-    flags-at (79 ∷ 73 ∷ 67 ∷ 73 ∷ 73 ∷ 79 ∷ []) _ _ _ (behind-first (79 ∷ 73 ∷ 67 ∷ 73 ∷ []) _ _ _ c.in_ok-containers.ensures
+    flags-at (79 ∷ 73 ∷ 67 ∷ 73 ∷ 73 ∷ 79 ∷ []) _ _ _
+    (behind-first (79 ∷ 73 ∷ 67 ∷ 73 ∷ []) _ _ _ c.in_ok-containers.ensures
     (behind-first (73 ∷ 79 ∷ []) _ _ _ c.in_ok-children.ensures c.in-Some-after-4.ensures)) refl
 
 pub returns-clause-found : goal.returns-clause-found
 unfolding flags_reads run_of
 returns-clause-found c =
-    flags-at (79 ∷ 73 ∷ 67 ∷ 73 ∷ 73 ∷ 79 ∷ 73 ∷ 68 ∷ []) _ _ _ (behind-first (79 ∷ 73 ∷ 67 ∷ 73 ∷ []) _ _ _ c.in_ok-containers.ensures
+    flags-at (79 ∷ 73 ∷ 67 ∷ 73 ∷ 73 ∷ 79 ∷ 73 ∷ 68 ∷ []) _ _ _
+    (behind-first (79 ∷ 73 ∷ 67 ∷ 73 ∷ []) _ _ _ c.in_ok-containers.ensures
     (behind-first (73 ∷ 79 ∷ []) _ _ _ c.in_ok-children.ensures c.in_ok-rest.ensures)) refl

@@ -3,7 +3,7 @@ use Rattle.std.proofs.Math.Seq.{take-add}
 use Rattle.std.proofs.lemmas.List.{drop-take, length-take-le, take-take, with_items_is}
 use Rattle.sd_binary.proofs.buffer.ByteBuf.patch.Goals as goal
 
--- the first k bytes that follow the place stay
+-- the first k bytes that follow the offset stay
 patched : (at n k : ℕ) (old new bytes : List ℕ) → take (at + n) new ≡ take at old ++ bytes
     → drop (at + n) new ≡ drop (at + n) old
     → take ((at + n) + k) new ≡ take at (take ((at + n) + k) old) ++ (bytes ++ drop (at + n) (take ((at + n) + k) old))
@@ -26,10 +26,10 @@ returns g c =
     let cells = c.self.inside.cells in
     let long : length c.args.self.now ≡ c.self.inside.held = ap length (sym c.self.view_is)
     ∙ length-take-le _ cells.items (omega arith) in
-    let all : length c.place.new.cells ≡ cells.len = c.place.auto.cells ∙ ap length c.deref_mut.ensures.value
+    let all : length c.write_at.new.cells ≡ cells.len = c.write_at.auto.cells ∙ ap length c.deref_mut.ensures.value
     ∙ sym cells.ok.0 in
-    let same = with_items_is cells c.place.new.cells all in
+    let same = with_items_is cells c.write_at.new.cells all in
     ap (λ (xs : List ℕ). take c.self.inside.held xs) same
-    ∙ rw c.self.view_is at (held c.args.at (length c.args.bytes.now) c.self.inside.held cells.items c.place.new.cells
-    c.args.bytes.now (omega arith) (rw c.deref_mut.ensures.value at c.place.ensures.front)
-    (rw c.deref_mut.ensures.value at c.place.ensures.rest))
+    ∙ rw c.self.view_is at (held c.args.at (length c.args.bytes.now) c.self.inside.held cells.items c.write_at.new.cells
+    c.args.bytes.now (omega arith) (rw c.deref_mut.ensures.value at c.write_at.ensures.front)
+    (rw c.deref_mut.ensures.value at c.write_at.ensures.rest))

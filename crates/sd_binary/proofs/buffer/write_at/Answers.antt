@@ -1,6 +1,6 @@
 use Rattle.std.proofs.Common.{arith}
 use Rattle.std.proofs.lemmas.Slice.{drop-put_mid}
-use Rattle.sd_binary.proofs.buffer.place.Goals as goal
+use Rattle.sd_binary.proofs.buffer.write_at.Goals as goal
 
 pub returns-clause-rest : goal.returns-clause-rest
 returns-clause-rest c =
