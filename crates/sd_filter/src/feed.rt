@@ -9,7 +9,7 @@ ghost use Rattle.sd_filter.specs.Told.{sink_of};
 
 use crate::answer::put_answer;
 use crate::device::Drain;
-use crate::engine::{RunState, Report};
+use crate::engine::{Report, RunState};
 use sd_core::{SinkFault, Token};
 
 /// The bytes that are searched for an LF at once.

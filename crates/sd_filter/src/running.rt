@@ -10,7 +10,7 @@ ghost use Rattle.sd_filter.specs.Inner.Running.{Answered, Failed, HasRoom, IsRea
 ghost use Rattle.sd_filter.specs.Outcome.{Outcome};
 
 use crate::device::{Drain, Source};
-use crate::engine::{RunState, Engine, Report, RunFault};
+use crate::engine::{Engine, Report, RunFault, RunState};
 use crate::feed::{feed_all, finish};
 use sd_core::{SinkFault, Token};
 

@@ -17,7 +17,7 @@ returns-clause-number c =
       take count text,
       decimal_is n (take count text) (omega arith) digits,
       reads_is n (take count text) (omega (arith, c.front_digits-number.ensures.few)) (omega (arith, c.if-number.false))
-      digits,
+          digits,
       rw (rest_is text count) (number-pieces text count n digits ends),
     )
 
