@@ -4,6 +4,10 @@ use Rattle.std.specs.Prelude.{Result, Option}
 use Rattle.std.proofs.lemmas.Grind.{common_steps}
 use Rattle.std.specs.List.{list_all}
 use Rattle.sd_core.specs.Sid.{SecurityId}
+use Rattle.sd_core.specs.SidText.{sid_reads}
+use Rattle.sd_rights.specs.Flags.{flags_reads}
+use Rattle.sd_rights.specs.Rights.{rights_reads}
+use Rattle.sd_reader.specs.FieldTexts.{kind_reads}
 use Rattle.sd_reader.specs.declared.fault.SddlFault.{SddlFault}
 use Rattle.sd_reader.specs.declared.line.AceField.{AceField}
 use Rattle.sd_reader.specs.declared.line.AceField.TheVariants as field
@@ -17,7 +21,7 @@ use Rattle.sd_reader.specs.Inner.Held.{IsHeld, is_plain_inside, no_text}
 use Rattle.sd_reader.specs.Inner.Progress.{rest_answer, end_of, result_or, state_after}
 use Rattle.sd_reader.specs.Inner.Reads.{AreAceFields, FedTo, Fits, IsReader, LineHasRead, Steps}
 use Rattle.sd_reader.specs.declared.reader.SddlReader.{SddlReader}
-use Rattle.sd_reader.specs.Inner.WholeAce.{AceAt, AceTexts, EndsAce, ObjectsAt, AreWhole, FieldsAt, StepsOver, TakesAce, ace_before, with_field, with_texts}
+use Rattle.sd_reader.specs.Inner.WholeAce.{AceTexts, EndsAce, FieldAt, ObjectsAt, AreWhole, TakesAce, ace_before, with_field, with_texts}
 use Rattle.sd_reader.specs.Meaning.{and_then, is_unreadable}
 use Rattle.sd_reader.proofs.FieldLaws.{sound-inherited, sound-object}
 use Rattle.sd_reader.proofs.FieldTexts.{held-readable}
@@ -103,6 +107,23 @@ fits-ace dm a seen t u e k =
     (fits-field dm field.Kind (state.Ace field.Flags) seen t x1.0 _ x1.1 (λ h. refl) k)))))
 
 -- 4. What stands at the front of a text.
+
+-- the fields of an ACE before its SID, which read as these
+pub record FieldsAt (text : List ℕ) (f : AceFields) (rest : List ℕ) : Type 0 where
+  pub kind_rest : List ℕ
+  pub flags_rest : List ℕ
+  pub rights_rest : List ℕ
+  pub kind : FieldAt (λ t. kind_reads t ≡ Some f.kind) 59 text kind_rest
+  pub flags : FieldAt (λ t. flags_reads t ≡ Some f.flags) 59 kind_rest flags_rest
+  pub rights : FieldAt (λ t. rights_reads t ≡ Some f.mask) 59 flags_rest rights_rest
+  pub objects : ObjectsAt f.kind f.object f.inherited rights_rest rest
+
+-- the same and its SID
+pub record AceAt (domain : Option SecurityId) (text : List ℕ) (f : AceFields) (s : SecurityId) (rest : List ℕ)
+    : Type 0 where
+  pub before : List ℕ
+  pub fields : FieldsAt text f before
+  pub sid : FieldAt (λ t. sid_reads t domain ≡ Ok s) 41 before rest
 
 module _ (dm : Option SecurityId) (text rest : List ℕ) (f : AceFields) (s : SecurityId)
     (h : AceAt dm text f s rest) where
@@ -190,6 +211,16 @@ cut-at text place end within is = grind (arith, common_steps)
 
 pub ace-then : (a : AceTexts) (rest : List ℕ) → ace_before a [] ++ rest ≡ ace_before a rest
 ace-then a rest = simp append_assoc
+
+-- an ACE was read, and the reader of a line stands behind it
+pub record StepsOver (old : SddlReader) (before text : List ℕ) (new : SddlReader) (after rest : List ℕ) : Type 0 where
+  pub bytes : List ℕ
+  pub stands : text ≡ bytes ++ rest
+  pub steps : Steps old before bytes new after
+  pub state : new.state ≡ state.AfterAce
+  pub field : new.field ≡ no_text
+  pub pending : new.pending ≡ old.pending
+  pub fault : new.fault ≡ None
 
 -- a step over an ACE that was taken where no field before it was wrong
 pub steps-over : (s s' : SddlReader) (buf buf' text rest : List ℕ) → s.state ≡ state.Ace field.Kind → s.field ≡ no_text

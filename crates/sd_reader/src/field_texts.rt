@@ -1,11 +1,9 @@
 //! The texts of fields that stand in SDDL alone (MS-DTYP 2.5.1.1).
 
 ghost use Rattle.std.specs.Prelude.{◌≡◌, ◌≤◌, length, if◌then◌else◌, List, ℕ, Some, None, IfSome};
-ghost use Rattle.sd_core.specs.GuidText.{guid_reads};
 ghost use Rattle.std.specs.Str.{str_eq_ignore_ascii_case};
-ghost use Rattle.sd_rights.specs.Kinds.{is_object};
 ghost use Rattle.sd_view.specs.Control.{no_flags};
-ghost use Rattle.sd_reader.specs.FieldTexts.{after_a, ends_with_null, flags_after, front_reads, kind_reads, object_reads, one_letter, two_letters};
+ghost use Rattle.sd_reader.specs.FieldTexts.{after_a, ends_with_null, flags_after, front_reads, object_reads, one_letter, two_letters};
 
 use crate::reading::AclFront;
 use sd_binary::AclFlags;
@@ -15,13 +13,12 @@ use uuid::Uuid;
 /// What stands in an ACL that is null.
 const NULL_NAME: &str = "NO_ACCESS_CONTROL";
 
-/// The kind of this text, in either case.
-#[tactic(auto, unfolding(crate::specs::FieldTexts::kind_reads))]
-pub fn kind_from_text(text: &[u8]) -> Option<AceKind>
-    ensures { result ≡ kind_reads text.now }
-{
-    AceKind::from_text(text)
-}
+/// No flag of an ACL.
+pub const NO_FLAGS: AclFlags = AclFlags {
+    protected: false,
+    auto_inherit_required: false,
+    auto_inherited: false,
+};
 
 // Two texts that differ in the case of letters at most.
 fn is_same(first: &[u8], second: &[u8]) -> bool
@@ -32,7 +29,6 @@ fn is_same(first: &[u8], second: &[u8]) -> bool
 
 /// The object type, or the inherited object type, of an ACE of this kind: nothing for an empty text, and else a GUID,
 /// which stands in object kinds alone.
-#[inline(always)]
 #[tactic(auto, unfolding(crate::specs::FieldTexts::object_reads))]
 pub fn object_from_text(kind: AceKind, text: &[u8]) -> Option<Option<Uuid>>
     ensures { result ≡ object_reads kind text.now }
@@ -40,18 +36,10 @@ pub fn object_from_text(kind: AceKind, text: &[u8]) -> Option<Option<Uuid>>
     if text.is_empty() {
         return Some(None);
     }
-    guid_of_kind(kind, text).map(Some)
-}
-
-// The GUID of a text that is not empty. Apart, since most texts are empty.
-#[inline(never)]
-fn guid_of_kind(kind: AceKind, text: &[u8]) -> Option<Uuid>
-    ensures { result ≡ (if is_object kind then guid_reads text.now else None) }
-{
     if !kind.is_object() {
         return None;
     }
-    guid_from_text(text)
+    guid_from_text(text).map(Some)
 }
 
 /// What stands in an ACL before its ACEs: flags, and `NO_ACCESS_CONTROL` where the ACL is null.
@@ -82,11 +70,7 @@ fn ends_with_null(text: &[u8]) -> bool
 fn flags_from_run(text: &[u8]) -> Option<AclFlags>
     ensures { result ≡ flags_after no_flags text.now }
 {
-    let mut flags = AclFlags {
-        protected: false,
-        auto_inherit_required: false,
-        auto_inherited: false,
-    };
+    let mut flags = NO_FLAGS;
     let mut rest = text;
     while let Some((first, tail)) = rest.split_first() {
         if first.to_ascii_uppercase() == b'P' {

@@ -1,18 +1,15 @@
 //! A line, read a byte at a time.
 
-ghost use Rattle.std.specs.Prelude.{◌≡◌, ◌≤◌, ◌==◌, ℕ, List, [], ◌∷◌, ◌++◌, length, take, ◌||◌, if◌then◌else◌, true, false, Option, Some, None, Ok, Err, IfOk, IfSome, MatchOption, MatchResult};
-ghost use Rattle.std.specs.List.{list_all};
+ghost use Rattle.std.specs.Prelude.{◌≡◌, ◌≤◌, ◌==◌, ℕ, List, [], ◌∷◌, ◌++◌, length, take, ◌||◌, if◌then◌else◌, true, false, Option, Some, None, Ok, Err, IfOk, IfSome, MatchResult};
 ghost use Rattle.std.specs.Option.{option_copied};
-ghost use Rattle.sd_rights.specs.Limits.{most_field};
 ghost use Rattle.sd_core.specs.Sid.{IsSid, SecurityId};
 ghost use Rattle.sd_view.specs.Descriptor.{IsDescriptor, Shows};
-ghost use Rattle.sd_binary.specs.Draft.{IsOpen, IsWritten};
-ghost use Rattle.sd_reader.specs.Inner.Held.{IsHeld, is_plain_inside, no_text, held_text};
+ghost use Rattle.sd_binary.specs.Draft.{IsWritten};
+ghost use Rattle.sd_reader.specs.Inner.Held.{IsHeld, no_text, held_text};
 ghost use Rattle.sd_reader.specs.Line.{byte, head_at, head_of as head_named, pieces_from};
 ghost use Rattle.sd_reader.specs.Inner.FoldedReading.{FieldsRead, finished, reads_as, take_field};
-ghost use Rattle.sd_reader.specs.Meaning.{and_then, is_unreadable, means};
+ghost use Rattle.sd_reader.specs.Meaning.{and_then, means};
 ghost use Rattle.sd_reader.specs.Inner.Reads.{CanTake, HasRead, Takes};
-ghost use Rattle.sd_reader.specs.Inner.WholeAce.{StepsOver};
 ghost use Rattle.sd_reader.specs.Inner.Progress.{ended_with, is_inside, is_seen, state_of, result_or, with_head};
 
 use crate::fault::SddlFault;
@@ -336,12 +333,12 @@ impl SddlReader {
         let State::Ace(AceField::Kind) = self.state else {
             return text;
         };
-        // Where a field did not read, no further one is looked at.
         if !self.sound || self.fault.is_some() || !self.field.is_empty() {
             return text;
         }
         let mut rest = text;
-        while let Some(after) = self.take_ace(buf, rest) {
+        while let Some(after) = self.fields.take_ace(buf, rest) {
+            self.state = State::AfterAce;
             match after.split_first() {
                 Some((b'(', next)) => rest = next,
                 _ => return after,
@@ -349,26 +346,6 @@ impl SddlReader {
             self.state = State::Ace(AceField::Kind);
         }
         rest
-    }
-
-    // Takes the ACE that stands whole at the front of the text and the parenthesis that ends it, and answers what follows
-    // it. None where there is none whose fields read: the way byte by byte finds out what stands there.
-    #[inline(always)]
-    fn take_ace<'a>(&mut self, buf: &mut SdBuf, text: &'a [u8]) -> Option<&'a [u8]>
-        requires here { self.old.state ≡ State.Ace AceField.Kind }
-        requires begins { self.old.field ≡ no_text }
-        requires clear { self.old.fault ≡ None }
-        requires held { (t : FieldsRead) × LineHasRead self.old buf.old t }
-        ensures read { MatchOption result ((self.new ≡ self.old) × (buf.new ≡ buf.old))
-            (λ rest. StepsOver self.old buf.old text.now self.new buf.new rest.now) }
-    {
-        match self.fields.take_ace(buf, text) {
-            Some(after) => {
-                self.state = State::AfterAce;
-                Some(after)
-            }
-            None => None,
-        }
     }
 
     // Takes the bytes at the front that only go onto the field at hand, all at once, and says how many they are.

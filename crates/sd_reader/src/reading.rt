@@ -1,7 +1,6 @@
 //! The fields of a line, read one after the other.
 
 ghost use Rattle.std.specs.Prelude.{◌≡◌, Option, Ok, false, MatchOption};
-ghost use Rattle.sd_core.specs.Sid.{SecurityId};
 ghost use Rattle.sd_core.specs.SidText.{sid_reads};
 ghost use Rattle.sd_reader.specs.Inner.FoldedReading.{FieldsRead, ace_fault_of, fault_of, no_fields, take_ace_field, take_field, take_front, with_sid, with_trustee};
 ghost use Rattle.sd_reader.specs.Meaning.{control_flags, is_unreadable};
@@ -9,11 +8,9 @@ ghost use Rattle.sd_reader.specs.FieldTexts.{front_reads};
 ghost use Rattle.sd_reader.specs.Inner.WholeAce.{EndsAce, EndsWithObjects, TakesAce};
 
 use crate::fault::SddlFault;
-use crate::field_texts::{front_from_text, kind_from_text, object_from_text};
+use crate::field_texts::{NO_FLAGS, front_from_text, object_from_text};
 use crate::line::{AceField, SidPart, Slot};
-use crate::whole_ace::{
-    behind, behind_no_objects, front_flags, front_kind, front_objects, front_rights,
-};
+use crate::whole_ace::{after, behind, cut, front_flags, front_kind, front_objects};
 use sd_binary::{AclFlags, Builder, SdBuf, Which};
 use sd_core::{Ace, AceKind, Sid, SidFault, flags_from_text, rights_from_text};
 use uuid::Uuid;
@@ -49,8 +46,6 @@ pub struct FieldReader {
 
 impl FieldReader {
     ghost use Rattle.std.specs.Prelude.{◌≡◌, ◌/◌, ◌%◌, Ok, Err, Some, None, Option};
-    ghost use Rattle.sd_core.specs.Ace.{AccessControlEntry, GuidsFit};
-    ghost use Rattle.sd_rights.specs.Kinds.{is_object};
     ghost use Rattle.sd_binary.specs.Draft.{IsOpen, closed};
     ghost use Rattle.sd_reader.specs.declared.line.Head.TheVariants as head;
     ghost use Rattle.sd_reader.specs.Inner.FoldedReading.{FieldsRead, begun_or_null, finished, nothing_read, with_flags, with_owner_or_group};
@@ -179,7 +174,7 @@ impl FieldReader {
     }
 
     // A field of the ACE at hand.
-    #[tactic(auto, unfolding(crate::specs::Inner::FoldedReading::take_ace_field))]
+    #[tactic(auto, unfolding(crate::specs::Inner::FoldedReading::take_ace_field, crate::specs::FieldTexts::kind_reads))]
     fn take_ace_field(
         &mut self,
         buf: &mut SdBuf,
@@ -192,7 +187,7 @@ impl FieldReader {
     {
         match field {
             AceField::Kind => {
-                let Some(kind) = kind_from_text(text) else {
+                let Some(kind) = AceKind::from_text(text) else {
                     return Err(SddlFault::Kind);
                 };
                 self.ace = no_fields(kind);
@@ -236,43 +231,38 @@ impl FieldReader {
     {
         let (kind, rest) = front_kind(text)?;
         let (flags, rest) = front_flags(rest)?;
-        let (mask, rest) = front_rights(rest)?;
+        let (text, rest) = cut(rest)?;
+        let mask = rights_from_text(text)?;
         let start = AceFields {
-            kind,
             flags,
             mask,
-            object: None,
-            inherited: None,
+            ..no_fields(kind)
         };
-        if let Some(rest) = behind_no_objects(kind, rest) {
+        // Most ACEs have no object types.
+        if let Some(rest) = after(rest, b";;") {
             let after = self.end_ace(buf, start, rest)?;
             return Some(after);
         }
-        let after = self.end_object_ace(buf, start, rest)?;
+        let after = self.end_guids(buf, start, rest)?;
         Some(after)
     }
 
     // Reads the object types and the SID of an ACE that begins so, and appends it. Apart, since few ACEs have them.
     #[inline(never)]
-    fn end_object_ace<'a>(
-        &mut self,
-        buf: &mut SdBuf,
-        start: AceFields,
-        text: &'a [u8],
-    ) -> Option<&'a [u8]>
-        requires sound { AreAceFields start }
+    fn end_guids<'a>(&mut self, buf: &mut SdBuf, ace: AceFields, text: &'a [u8]) -> Option<&'a [u8]>
+        requires sound { AreAceFields ace }
         requires held { (t : FieldsRead) × HasRead self.old buf.old t × IsOpen t.parts }
         ensures read { MatchOption result ((self.new ≡ self.old) × (buf.new ≡ buf.old))
-            (λ rest. EndsWithObjects self.old buf.old start text.now self.new buf.new rest.now) }
+            (λ rest. EndsWithObjects self.old buf.old ace text.now self.new buf.new rest.now) }
         ensures domain { self.new.domain ≡ self.old.domain }
     {
-        let Some((object, inherited, rest)) = front_objects(start.kind, text) else {
+        let Some((object, inherited, rest)) = front_objects(ace.kind, text) else {
             return None;
         };
         let fields = AceFields {
             object,
             inherited,
-            ..start
+            ..ace
         };
         let after = self.end_ace(buf, fields, rest)?;
         Some(after)
@@ -280,22 +270,17 @@ impl FieldReader {
 
     // Reads the SID of an ACE that has these fields, and appends it.
     #[inline(always)]
-    fn end_ace<'a>(
-        &mut self,
-        buf: &mut SdBuf,
-        fields: AceFields,
-        text: &'a [u8],
-    ) -> Option<&'a [u8]>
-        requires sound { AreAceFields fields }
+    fn end_ace<'a>(&mut self, buf: &mut SdBuf, ace: AceFields, text: &'a [u8]) -> Option<&'a [u8]>
+        requires sound { AreAceFields ace }
         requires held { (t : FieldsRead) × HasRead self.old buf.old t × IsOpen t.parts }
         ensures read { MatchOption result ((self.new ≡ self.old) × (buf.new ≡ buf.old))
-            (λ rest. EndsAce self.old buf.old fields text.now self.new buf.new rest.now) }
+            (λ rest. EndsAce self.old buf.old ace text.now self.new buf.new rest.now) }
         ensures domain { self.new.domain ≡ self.old.domain }
     {
         match Sid::front_text(text, self.domain.as_ref()) {
             (Ok(sid), size) => {
                 let after = behind(text, size)?;
-                self.ace = fields;
+                self.ace = ace;
                 self.put_ace(buf, sid);
                 Some(after)
             }
@@ -325,18 +310,12 @@ impl FieldReader {
         ensures held { (t : FieldsRead) → HasRead self.old buf.old t → HasRead self.new buf.new (with_trustee t sid) }
         ensures domain { self.new.domain ≡ self.old.domain }
     {
-        let AceFields {
-            kind,
-            flags,
-            mask,
-            object,
-            inherited,
-        } = self.ace;
         if self.large.is_some() {
             return;
         }
+        let f = self.ace;
         // Each field was read as one of an ACE.
-        if let Some(ace) = Ace::new(kind, flags, mask, object, inherited, sid) {
+        if let Some(ace) = Ace::new(f.kind, f.flags, f.mask, f.object, f.inherited, sid) {
             if let Err(_) = self.builder.ace(buf, &ace) {
                 self.large = self.open_acl;
             }
@@ -358,12 +337,6 @@ impl FieldReader {
         Ok(())
     }
 }
-
-const NO_FLAGS: AclFlags = AclFlags {
-    protected: false,
-    auto_inherit_required: false,
-    auto_inherited: false,
-};
 
 // The fields of an ACE of which the kind was read.
 fn no_fields(kind: AceKind) -> AceFields

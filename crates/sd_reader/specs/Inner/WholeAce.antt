@@ -1,16 +1,14 @@
 -- An ACE that stands whole in what comes of a line: the texts of its fields, and what they read as.
-use Rattle.std.specs.Prelude.{◌≡◌, ℕ, ◌≤◌, true, List, ◌∷◌, ◌++◌, length, Option, Some, None, Result, Ok}
+use Rattle.std.specs.Prelude.{◌≡◌, ℕ, ◌≤◌, true, List, ◌∷◌, ◌++◌, length, Option, Some, Result, Ok}
 use Rattle.std.specs.List.{list_all}
 use Rattle.sd_core.specs.Sid.{SecurityId}
 use Rattle.sd_core.specs.SidText.{sid_reads}
-use Rattle.sd_rights.specs.Flags.{flags_reads}
 use Rattle.sd_rights.specs.Limits.{most_field}
-use Rattle.sd_rights.specs.Rights.{rights_reads}
 use Rattle.sd_rights.specs.declared.kinds.AceKind.{AceKind}
-use Rattle.sd_reader.specs.FieldTexts.{kind_reads, object_reads}
+use Rattle.sd_reader.specs.FieldTexts.{object_reads}
 use Rattle.sd_reader.specs.Inner.FoldedReading.{FieldsRead, take_field, with_trustee}
-use Rattle.sd_reader.specs.Inner.Held.{is_plain_inside, no_text}
-use Rattle.sd_reader.specs.Inner.Reads.{HasRead, Steps}
+use Rattle.sd_reader.specs.Inner.Held.{is_plain_inside}
+use Rattle.sd_reader.specs.Inner.Reads.{HasRead}
 use Rattle.sd_reader.specs.Meaning.{and_then}
 use Rattle.sd_reader.specs.declared.fault.SddlFault.{SddlFault}
 use Rattle.sd_reader.specs.declared.line.AceField.{AceField}
@@ -18,8 +16,6 @@ use Rattle.sd_reader.specs.declared.line.AceField.TheVariants as field
 use Rattle.sd_reader.specs.declared.line.Slot.TheVariants as slot
 use Rattle.sd_reader.specs.declared.reading.AceFields.{AceFields}
 use Rattle.sd_reader.specs.declared.reading.FieldReader.{FieldReader}
-use Rattle.sd_reader.specs.declared.line.State.TheVariants as state
-use Rattle.sd_reader.specs.declared.reader.SddlReader.{SddlReader}
 
 -- 1. The texts.
 
@@ -80,23 +76,6 @@ pub record ObjectsAt (kind : AceKind) (object inherited : Option (List ℕ)) (te
   pub first : FieldAt (λ t. object_reads kind t ≡ Some object) 59 text between
   pub second : FieldAt (λ t. object_reads kind t ≡ Some inherited) 59 between rest
 
--- the fields of an ACE before its SID, which read as these
-pub record FieldsAt (text : List ℕ) (f : AceFields) (rest : List ℕ) : Type 0 where
-  pub kind_rest : List ℕ
-  pub flags_rest : List ℕ
-  pub rights_rest : List ℕ
-  pub kind : FieldAt (λ t. kind_reads t ≡ Some f.kind) 59 text kind_rest
-  pub flags : FieldAt (λ t. flags_reads t ≡ Some f.flags) 59 kind_rest flags_rest
-  pub rights : FieldAt (λ t. rights_reads t ≡ Some f.mask) 59 flags_rest rights_rest
-  pub objects : ObjectsAt f.kind f.object f.inherited rights_rest rest
-
--- the same and its SID
-pub record AceAt (domain : Option SecurityId) (text : List ℕ) (f : AceFields) (s : SecurityId) (rest : List ℕ)
-    : Type 0 where
-  pub before : List ℕ
-  pub fields : FieldsAt text f before
-  pub sid : FieldAt (λ t. sid_reads t domain ≡ Ok s) 41 before rest
-
 -- 3. A step over an ACE that reads.
 
 -- a SID ends the ACE of these fields, which was read
@@ -121,13 +100,3 @@ TakesAce old before text new after rest =
     (a : AceTexts) × AreWhole a × (text ≡ ace_before a rest)
     × ((t : FieldsRead) → HasRead old before t → (u : FieldsRead) × HasRead new after u
     × (with_texts old.domain a (Ok t) ≡ Ok u))
-
--- the same of the reader of a line, which then stands behind the ACE
-pub record StepsOver (old : SddlReader) (before text : List ℕ) (new : SddlReader) (after rest : List ℕ) : Type 0 where
-  pub bytes : List ℕ
-  pub stands : text ≡ bytes ++ rest
-  pub steps : Steps old before bytes new after
-  pub state : new.state ≡ state.AfterAce
-  pub field : new.field ≡ no_text
-  pub pending : new.pending ≡ old.pending
-  pub fault : new.fault ≡ None

@@ -22,6 +22,7 @@ returns-then-text-eq59 c = record {
 }
 
 pub returns : goal.returns
+unfolding kind_reads
 returns c =
-    let read = sym c.kind_from_text.ensures ∙ c.in_ok-kind.was in
+    let read = sym c.from_text.ensures.exact ∙ c.in_ok-kind.was in
     record { field = _; whole = kind-whole _ _ read; stands = c.in_ok-field.ensures; reads = read }

@@ -7,8 +7,8 @@ pub returns : goal.returns
 returns c =
     let read = sym c.object_from_text.ensures ∙ c.in-Some.is in
     record {
-      field = take c.if-text-gt0.size c.args.text.now;
+      field = take c.if-empty.size c.args.text.now;
       whole = object-whole _ _ _ read;
-      stands = cut-at c.args.text.now c.if-text-gt0.size 59 c.if-text-size.false c.if-text-size-ne59.false;
+      stands = cut-at c.args.text.now c.if-empty.size 59 c.if-text-size.false c.if-text-size-ne59.false;
       reads = read;
     }

@@ -7,7 +7,7 @@ use Rattle.sd_reader.proofs.reading.FieldReader.end_ace.Goals as goal
 pub put_ace-requires : goal.put_ace-requires
 put_ace-requires c =
     let h = c.requires.held in
-    (_, holds-ace _ _ _ h.1 c.args.fields c.requires.sound, h.2)
+    (_, holds-ace _ _ _ h.1 c.args.ace c.requires.sound, h.2)
 
 pub returns-in_ok-after-in-Ok-default-clause-read : goal.returns-in_ok-after-in-Ok-default-clause-read
 returns-in_ok-after-in-Ok-default-clause-read c = record {
@@ -18,5 +18,5 @@ returns-in_ok-after-in-Ok-default-clause-read c = record {
     stands = rw (← c.front_text.ensures.front) c.in_ok-after-in-Ok-default.ensures.1;
     reads = rw (← c.as_ref.ensures.value) (sym c.front_text.ensures.exact ∙ c.in-Ok-default.is-0);
   };
-  held = λ t h. c.put_ace.ensures.held _ (holds-ace _ _ _ h c.args.fields c.requires.sound);
+  held = λ t h. c.put_ace.ensures.held _ (holds-ace _ _ _ h c.args.ace c.requires.sound);
 }

@@ -1,14 +1,15 @@
 use Rattle.std.proofs.Common.{sym, ◌∙◌, refl}
+use Rattle.sd_reader.specs.FieldTexts.{kind_reads}
 use Rattle.sd_reader.specs.Inner.FoldedReading.{take_ace_field}
 use Rattle.sd_reader.proofs.FieldLaws.{holds-ace, sound-flags, sound-inherited, sound-kind, sound-mask, sound-object}
 use Rattle.sd_reader.proofs.reading.FieldReader.take_ace_field.Goals as goal
 
 pub returns-in-Some-clause-read : goal.returns-in-Some-clause-read
-unfolding take_ace_field
+unfolding take_ace_field kind_reads
 returns-in-Some-clause-read c = λ t h. (
   _,
   holds-ace _ _ _ h _ (rw (c.no_fields-self.ensures) (sound-kind c.in-Some.kind)),
-  rw (c.in-Kind.is, ← c.kind_from_text.ensures, c.in-Some.is, c.no_fields-self.ensures) refl,
+  rw (c.in-Kind.is, ← c.from_text.ensures.exact, c.in-Some.is, c.no_fields-self.ensures) refl,
 )
 
 pub returns-in-Some-flags_from_text-clause-read : goal.returns-in-Some-flags_from_text-clause-read

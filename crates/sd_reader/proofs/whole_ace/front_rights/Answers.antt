@@ -1,8 +1,0 @@
-use Rattle.std.proofs.Common.{sym, ◌∙◌}
-use Rattle.sd_reader.proofs.PlainFields.{rights-whole}
-use Rattle.sd_reader.proofs.whole_ace.front_rights.Goals as goal
-
-pub returns : goal.returns
-returns c =
-    let read = sym c.rights_from_text.ensures ∙ c.in_ok-mask.was in
-    record { field = _; whole = rights-whole _ _ read; stands = c.in_ok-field.ensures; reads = read }
