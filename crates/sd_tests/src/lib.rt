@@ -1,5 +1,5 @@
-//! The tests, over public calls alone, of what no clause says and no row shows: values stand in `tests/rows/`, data that
-//! the built program is run on. A crate with tests is proved twice, so no other has any that can stand here.
+//! The tests, over public calls alone, of what no clause says and no row shows: values stand in `tests/rows/`, data
+//! that the built program is run on. A crate with tests is proved twice, so no other has any that can stand here.
 #![tactic(auto)]
 
 #[cfg(test)]

@@ -51,8 +51,8 @@ impl Failing {
     }
 }
 
-/// Gives its bytes, and then the end, as often as it is asked. No read goes past a bar, which is not given: two in a row
-/// are an end in between.
+/// Gives its bytes, and then the end, as often as it is asked. No read goes past a bar, which is not given: two in a
+/// row are an end in between.
 #[derive(Drop)]
 pub struct Input<'a> {
     pub bytes: &'a [u8],
@@ -138,8 +138,8 @@ impl Write for Output {
     }
 }
 
-// A stream whose calls are noted in their order, among those of others, each by its letter: `r`, `w` or `f`. Writes in a
-// row have one.
+// A stream whose calls are noted in their order, among those of others, each by its letter: `r`, `w` or `f`. Writes in
+// a row have one.
 #[derive(Drop)]
 struct Noted<'a, S: Drop> {
     stream: S,
