@@ -10,8 +10,8 @@ to say the same.
 With --only it takes the rows whose id has one of the texts in it.
 The last line is 'N passed, M failed'.
 
-A row has the program's words, its standard input, and what has to come of them: stdout (or stdout_has,
-texts that have to stand in it), stderr and status, which are empty and 0 where they are left out.
+A row has the program's words, its standard input, and what has to come of them: stdout, stderr and status, which are
+empty and 0 where they are left out. Help tells the program's name: it is called sdtool, whatever its file is.
 A text is a string of characters below 256, each of which stands for one byte, or a list of texts, or
 {"repeat": TEXT, "times": N}, or {"numbered": [BEFORE, AFTER], "times": N}: the numbers from 1 to N, each between two
 texts. Where the standard streams are not to be files, a row has one of these:
@@ -49,6 +49,7 @@ import reference  # noqa: E402
 SECONDS = 60  # for one run: a program that hangs fails its row
 ASKED_WRONGLY = ("sdtool: usage: ", "sdtool: error 50 ", "sdtool: error 51 ")  # what the reference says of words
 SECONDS_TO_END = 10  # once its output takes nothing more
+HELP = ("help", "--help", "-h")
 
 
 class Ended(NamedTuple):
@@ -143,6 +144,10 @@ def bytes_of(fd):
         return file.read()
 
 
+def started(command, **streams):
+    return subprocess.Popen(["sdtool", *command[1:]], executable=command[0], **streams)
+
+
 def execute(command, data, given="file", output="file", faults="file", takes=None):
     """Runs the command; with takes, an output that takes so many bytes and then fails."""
     closed = [fd for fd, kind in enumerate((given, output, faults)) if kind == "closed"]
@@ -160,7 +165,7 @@ def execute(command, data, given="file", output="file", faults="file", takes=Non
     stdout = open_output(output)
     # (a pipe, which the size limit does not bind)
     stderr = subprocess.PIPE if faults == "file" else open_output(faults)
-    child = subprocess.Popen(command, stdin=stdin, stdout=stdout, stderr=stderr, preexec_fn=in_child)
+    child = started(command, stdin=stdin, stdout=stdout, stderr=stderr, preexec_fn=in_child)
     if feeder:
         os.close(stdin)
         feeder.start()
@@ -199,7 +204,7 @@ def next_line(fd):
 
 def converse(command, data, answers):
     """Says one line at a time and waits for its answer; the answers that came before the wrong one, and it."""
-    child = subprocess.Popen(command, stdin=subprocess.PIPE, stdout=subprocess.PIPE, stderr=subprocess.PIPE)
+    child = started(command, stdin=subprocess.PIPE, stdout=subprocess.PIPE, stderr=subprocess.PIPE)
     heard = b""
     for line, answer in zip(lines_of(data), lines_of(answers)):
         try:
@@ -238,7 +243,7 @@ def outlast(command, data, answers, output):
     """Says a line for each of the answers, and one more once the output takes nothing more; the input stays open."""
     reading, writing = os.pipe()
     stdout = open_output("full") if output == "full" else writing
-    child = subprocess.Popen(command, stdin=subprocess.PIPE, stdout=stdout, stderr=subprocess.PIPE)
+    child = started(command, stdin=subprocess.PIPE, stdout=stdout, stderr=subprocess.PIPE)
     heard, filled, lines = b"", 0, iter(lines_of(data))
     for _ in lines_of(answers):
         child.stdin.write(next(lines))
@@ -275,13 +280,11 @@ def short(data, most=100):
 def differences(row, ended, stdout):
     """What is not as the row wants it, each in a few words."""
     wanted = [("status", row.get("status", 0), ended.status),
-              ("stderr", text(row.get("stderr", "")), ended.stderr)]
-    if "stdout_has" not in row:
-        wanted.append(("stdout", stdout, ended.stdout))
-    if row.get("status") == 2:
+              ("stderr", text(row.get("stderr", "")), ended.stderr),
+              ("stdout", stdout, ended.stdout)]
+    if row.get("status") == 2 or is_for_help(row):
         wanted.append(("has read", False, ended.has_read))
-    found = [f"{what} {short(got)}, not {short(want)}" for what, want, got in wanted if got != want]
-    return found + [f"stdout has no {part!r}" for part in row.get("stdout_has", []) if text(part) not in ended.stdout]
+    return [f"{what} {short(got)}, not {short(want)}" for what, want, got in wanted if got != want]
 
 
 def runs(program, row, one_byte):
@@ -312,10 +315,14 @@ def is_for_files(row):
     return not {"talk", "input", "output", "faults"} & row.keys()
 
 
+def is_for_help(row):
+    return any(word in HELP for word in row["words"])
+
+
 def is_for_reference(row):
     """Whether the reference says what has to come of the row: it knows neither help nor which words are no options."""
     is_known = row.get("status", 0) < 2 or row.get("stderr", "").startswith(ASKED_WRONGLY)
-    return is_for_files(row) and "stdout_has" not in row and is_known
+    return is_for_files(row) and not is_for_help(row) and is_known
 
 
 def asked_of_reference(row):

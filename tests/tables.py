@@ -5,7 +5,8 @@ The program's tables, over the whole range of their keys: what is listed has its
 The values are those of the reference, from MS-DTYP 2.4.2.4, 2.4.3, 2.4.4.1 and 2.5.1.
 
   read      every text of two letters in each case, as an alias under a domain and under none, as rights, as flags and
-            as a kind, by itself and beside a listed one; every single letter as a kind
+            as a kind, by itself and beside a listed one; every single letter as a kind; every text of one or two
+            letters as the name of a part, and as the flags of either ACL, by itself and beside a listed one
   printed   SIDs beside one another under each authority and domain; masks of at most three bits, of all choices of the
             named ones, and near the compound ones, in each kind of ACE; each byte of flags and each byte of a type
   explained every control word, every resource manager byte, and each byte of flags in each kind of ACE
@@ -33,13 +34,14 @@ EVERYONE = Sid(1, (0,))
 EXPLAIN = ["explain"]  # all other words follow `convert`
 NO_ALIAS, NEEDS_DOMAIN, NO_FLAGS, NO_RIGHTS, NO_KIND = \
     "error 22 alias", "error 23 needs-domain", "error 26 flags", "error 27 rights", "error 29 kind"
+NO_SHAPE, NO_SID = "error 20 shape", "error 25 sid-form"
 DOMAIN = Sid(5, (21, 1004336348, 1177238915, 682003330))
 # The usual one, the shortest one, one of the builtin groups', the one of a label, and the longest one.
 DOMAINS = [DOMAIN, Sid(5, ()), Sid(5, (32,)), Sid(16, ()), Sid(0xfedc_ba98_7654, (4_294_967_295,) * 14)]
 OTHER_DOMAINS = [Sid(5, (21, 1004336348, 1177238915, 682003331)), Sid(5, (21, 1004336348, 1177238915)),
                  Sid(5, (*DOMAIN.sub_authorities, 0)), Sid(4, DOMAIN.sub_authorities)]
 LAST_SUB_AUTHORITIES = range(1201)
-LABELS = range(20_001)  # all labels that have an alias are below it
+FAR_SUB_AUTHORITIES = range(20_001)  # the last ones of labels that have an alias are below it, too
 
 
 def in_each_case(pair):
@@ -132,13 +134,47 @@ def kinds_read():
     yield ["--from", "sddl", "--to", "hex"], lines
 
 
+def parts_read():
+    """Each text of one or two letters as the name of a part."""
+    sacl = Descriptor(reference.SELF_RELATIVE | reference.SACL_PRESENT, 0, None, None, Acl(()), None)
+    listed, lines = {"O": NO_SID, "G": NO_SID, "D": hex_of(dacl_of()), "S": hex_of(sacl)}, []
+    for name in [*string.ascii_uppercase, *PAIRS]:
+        lines += ((f"{spelled}:", listed.get(name, NO_SHAPE)) for spelled in in_each_case(name))
+    yield ["--from", "sddl", "--to", "hex"], lines
+
+
+def acl_flags_read():
+    """Each text of one or two letters as the flags of an ACL, by itself, after a listed one and before one."""
+    lines = []
+    for letter, (present, listed) in reference.ACL_FLAGS.items():
+        known = {**listed, "PP": listed["P"]}
+        for name, text in itertools.product(["", *listed], [*string.ascii_uppercase, *PAIRS]):
+            acls = (Acl(()), None) if letter == "S" else (None, Acl(()))
+            control = reference.SELF_RELATIVE | present | listed.get(name, 0) | known.get(text, 0)
+            wanted = hex_of(Descriptor(control, 0, None, None, *acls)) if text in known else NO_FLAGS
+            for spelled in in_each_case(text):
+                lines += ((f"{letter}:{flags}", wanted) for flags in (name + spelled, spelled + name))
+    yield ["--from", "sddl", "--to", "hex"], lines
+
+
+def fronts():
+    """The authorities and first sub-authorities of all SIDs that have an alias, and of some that have none."""
+    known = {(authority, tuple(subs[:-1])) for authority, *subs in reference.WELL_KNOWN.values()}
+    return sorted(known | {tuple(domain) for domain in (*DOMAINS, *OTHER_DOMAINS)})
+
+
+def sids_far_on():
+    """Under each of these fronts, and under some beside them, all last sub-authorities far beyond the largest."""
+    beside = [(authority, ()) for authority in (0, 2, 4, 15, 17, 19)]
+    beside += [(5, (21,)), (5, (31,)), (5, (80,)), (15, (3,)), (5, (*DOMAIN.sub_authorities, 512))]
+    return (Sid(authority, (*subs, last)) for authority, subs in (*fronts(), *beside) for last in FAR_SUB_AUTHORITIES)
+
+
 def sids_beside_one_another():
     """Under each authority and each domain that has aliases, all last sub-authorities up to the largest and beyond."""
     known = [Sid(authority, tuple(subs)) for authority, *subs in reference.WELL_KNOWN.values()]
-    fronts = {(sid.authority, sid.sub_authorities[:-1]) for sid in known}
-    fronts |= {tuple(domain) for domain in (*DOMAINS, *OTHER_DOMAINS)}
-    for authority, subs in sorted(fronts):
-        numbers = LABELS if (authority, subs) == (16, ()) else LAST_SUB_AUTHORITIES
+    for authority, subs in fronts():
+        numbers = FAR_SUB_AUTHORITIES if (authority, subs) == (16, ()) else LAST_SUB_AUTHORITIES
         yield from (Sid(authority, (*subs, last)) for last in numbers)
     for authority, last in itertools.product(range(64), range(64)):
         for subs in ((last,), (last, last), (32, 544 + last), (2, last), (84, 0, 0, 0, 0, last)):
@@ -160,6 +196,9 @@ def aliases_printed():
             lines = [(f"O:{sid.text()}", text) for sid, (_, text) in zip(sids, printed)]
             yield ["--from", "sddl", *domain_words(under)], lines
     yield ["--numeric", *domain_words(DOMAIN)], [(hex_of(owner_alone(sid)), f"O:{sid.text()}") for sid in sids]
+    names = {sid: alias for alias, sid in with_sids(DOMAIN).items()}
+    far = ((hex_of(owner_alone(sid)), f"O:{names.get(sid) or sid.text()}") for sid in sids_far_on())
+    yield domain_words(DOMAIN), far
 
 
 def some_masks():
@@ -283,8 +322,8 @@ def main():
     parser.add_argument("program", type=os.path.abspath)
     program = parser.parse_args().program
     count = preload.Count()
-    for part in (aliases_read, fields_read, kinds_read, aliases_printed, fields_printed, types_printed,
-                 words_explained, flags_explained, of_base64):
+    for part in (aliases_read, fields_read, kinds_read, parts_read, acl_flags_read, aliases_printed, fields_printed,
+                 types_printed, words_explained, flags_explained, of_base64):
         before = count.passed
         for words, lines in part():
             judge(count, program, words, lines)

@@ -1,28 +1,26 @@
-//! The tests of the library, over its public calls alone: values from outside, and what no clause says. They stand in
-//! a crate of their own, since a crate with tests is proved twice.
+//! The tests, over public calls alone, of what no clause says and no row shows: values stand in `tests/rows/`, data
+//! that the built program is run on. A crate with tests is proved twice, so no other has any that can stand here.
 #![tactic(auto)]
 
 #[cfg(test)]
-mod ace;
-#[cfg(test)]
-mod buffer;
+mod buffers;
 #[cfg(test)]
 mod builder;
 #[cfg(test)]
-mod faults;
+mod check;
 #[cfg(test)]
-mod flags;
+mod devices;
 #[cfg(test)]
-mod guid;
+mod engines;
 #[cfg(test)]
-mod hex_reader;
+mod memory;
 #[cfg(test)]
-mod inheritance;
-#[cfg(test)]
-mod rights;
-#[cfg(test)]
-mod sddl;
+mod plain_check;
 #[cfg(test)]
 mod sid;
 #[cfg(test)]
-mod text_sink;
+mod streams;
+#[cfg(test)]
+mod token;
+#[cfg(test)]
+mod values;

@@ -1,0 +1,216 @@
+//! The access check: how often it compares an entry of the token, and beside a plain program that tells the definition.
+//! Many verdicts stand in `tests/rows/access_check.json`.
+
+ghost use Rattle.std.specs.Prelude.{◌<◌, length};
+
+use crate::plain_check::Question;
+use sd_access::{Ask, Privileges, check};
+use sd_binary::{SdBuf, read};
+use sd_core::{EntryKind, Mapping, Sid, Token, rights_from_text};
+use sd_sddl::read_sddl;
+use std::process::Abort;
+use uuid::Uuid;
+
+// Checks a line, and gives how often an entry of the token was compared: at most once for the owner, and once for each
+// ACE that is needed. The verdict is that of the definition, and the token stays as it is.
+fn compared(
+    rt: &(impl Abort + AllocGlobal),
+    buf: &mut SdBuf,
+    line: &str,
+    question: &Question<'_>,
+) -> u64 {
+    let mut token = Token::new(rt.alloc()).expect(rt, "memory for a token");
+    for (sid, kind) in question.entries {
+        assert!(rt; token.add(*sid, *kind) == Ok(()));
+    }
+    let ask = Ask::new(
+        question.desired,
+        question.maximum,
+        question.mapping,
+        question.object,
+        question.principal_self,
+        question.privileges,
+    )
+    .expect(rt, "a request");
+    assert!(rt; read_sddl(line.as_bytes(), None, buf) == Ok(()), "{line}");
+    let view = read(buf.bytes()).expect(rt, "a descriptor");
+    let (verdict, need) = question.verdict(&view);
+    assert!(rt; check(&view, &mut token, &ask) == verdict, "{line}");
+    let entries = question.entries.len();
+    let most = need.saturating_add(1).saturating_mul(entries as u64);
+    assert!(rt; token.compared() <= most, "{line}");
+    assert!(rt; token.len() == entries, "{line}");
+    token.compared()
+}
+
+fn entry_of(rt: &impl Abort, text: &str) -> (Sid, EntryKind) {
+    let (rest, kind) = match text.strip_prefix('!') {
+        Some(rest) => (rest, EntryKind::DenyOnly),
+        None => (text, EntryKind::Enabled),
+    };
+    let sid = Sid::from_text(rest.as_bytes(), None).expect(rt, "a SID");
+    (sid, kind)
+}
+
+// Of a file: the most comparisons, what is wanted, or 0 for all that is granted, the token, in which `!` marks what is
+// deny-only, and the line.
+const COUNTS: [&str; 19] = [
+    "4 0x120089 S-1-5-21-1-2-3-1001,!BA D:(A;;FA;;;BA)",
+    "6 0 !BA,WD D:(D;;FW;;;BA)(A;;FA;;;WD)",
+    "6 0 !BA,WD D:(A;;FA;;;WD)(D;;FW;;;BA)",
+    // MAXIMUM_ALLOWED
+    "6 0x2000000 !BA,WD D:(A;;FA;;;WD)(D;;FW;;;BA)",
+    "1 0x60000 S-1-5-21-1-2-3-1001 O:S-1-5-21-1-2-3-1001D:",
+    "2 0 S-1-5-21-1-2-3-1001 O:S-1-5-21-1-2-3-1001D:(A;;RC;;;OW)",
+    "1 0 WD D:NO_ACCESS_CONTROL",
+    "1 0x1000000 WD D:NO_ACCESS_CONTROL",
+    "1 0 WD D:",
+    "3 0x3 WD D:(D;;CC;;;WD)(D;;DC;;;WD)",
+    "2 0x1f01ff WD D:(A;;FR;;;SY)",
+    "2 0x20000 WD O:WDD:(D;;RC;;;WD)",
+    // One ACE is enough.
+    "2 0x120089 WD D:(A;;FA;;;WD)(A;;FA;;;BA)(A;;FA;;;SY)",
+    "2 0x80000000 WD D:(A;;GA;;;WD)",
+    // An ACE that has none of the rights is compared with nobody.
+    "0 0x100 WD,BA D:(A;;CC;;;WD)(D;;DC;;;WD)(A;;LC;;;WD)",
+    "1 0x60000 WD O:WDD:(A;CIIO;CC;;;OW)(AU;SA;CC;;;OW)",
+    "1 0x20000 !WD O:WDD:",
+    "1 0x1 PS D:(A;;CC;;;PS)",
+    // OWNER RIGHTS stands for nobody where there is no owner.
+    "0 0x1 OW D:(A;;CC;;;OW)",
+];
+
+#[test]
+fn compares_no_more_than_it_needs(rt: HostRuntime) {
+    let mut buf = SdBuf::new(rt.alloc()).expect(&rt, "memory for a buffer");
+    for row in COUNTS {
+        let mut words = row.splitn(4, ' ');
+        let most: Option<u64> = words.next().unwrap_or("").parse().ok();
+        let rights = words.next().unwrap_or("");
+        let desired = rights_from_text(rights.as_bytes()).expect(&rt, "rights");
+        let mut entries = Vec::new(rt.alloc());
+        for text in words.next().unwrap_or("").split(',') {
+            assert!(rt; entries.push(entry_of(&rt, text)).is_ok());
+        }
+        let question = Question {
+            entries: &entries,
+            desired,
+            maximum: desired == 0,
+            mapping: Mapping::FILE,
+            object: None,
+            principal_self: None,
+            privileges: Privileges {
+                security: false,
+                take_ownership: false,
+            },
+        };
+        let line = words.next().unwrap_or("");
+        let compared = compared(&rt, &mut buf, line, &question);
+        assert!(rt; Some(compared) <= most, "{row}");
+    }
+}
+
+// Numbers that look random, and are the same in each run.
+#[derive(Drop)]
+struct Numbers {
+    state: u64,
+}
+
+impl Numbers {
+    fn below(&mut self, limit: usize) -> usize
+        requires { 0 < limit }
+        ensures { result < limit }
+    {
+        let next = self.state.wrapping_mul(6364136223846793005);
+        self.state = next.wrapping_add(1442695040888963407);
+        (self.state >> 33) as usize % limit
+    }
+
+    fn one_of<T: Copy>(&mut self, choices: &[T]) -> T
+        requires { 0 < length choices.now }
+    {
+        choices[self.below(choices.len())]
+    }
+
+    // Of words between blanks.
+    fn word_of<'a>(&mut self, words: &'a str) -> &'a str {
+        let at = self.below(words.split(' ').count().max(1));
+        words.split(' ').nth(at).unwrap_or("")
+    }
+}
+
+const TRUSTEES: &str = "WD BA SY AU PS OW S-1-5-21-1-2-3-1001";
+
+const KINDS: &str = "A D A D OA OD AU ML";
+
+const FLAGS: &str = "  ID IO OICIIO";
+
+const RIGHTS: &str = " CC DC CCDCLC RC WD RCWDWO CR FR FW FA GA GR GW GX 0x11f01ff";
+
+const DACLS: &str = " D:NO_ACCESS_CONTROL D: D: D: D: D: D: D: D: D: D:";
+
+const TYPES: &str = " bf967aba-0de6-11d0-a285-00aa003049e2 bf967a86-0de6-11d0-a285-00aa003049e2";
+
+// 0 asks for the maximum, and so does 0x2000000.
+const DESIRED: [u32; 13] = [
+    0, 0, 0x1, 0x2, 0x3, 0x60000, 0x120089, 0x1f01ff, 0x80000000, 0x40000001, 0x10000000,
+    0x1080000, 0x2000000,
+];
+
+fn some_ace(rt: &(impl Abort + AllocGlobal), numbers: &mut Numbers) -> String {
+    let kind = numbers.word_of(KINDS);
+    let flags = numbers.word_of(FLAGS);
+    let rights = numbers.word_of(RIGHTS);
+    let types = if kind.starts_with('O') { TYPES } else { "" };
+    let (object, inherited) = (numbers.word_of(types), numbers.word_of(types));
+    let trustee = numbers.word_of(TRUSTEES);
+    let text = format!(in rt.alloc(); "({kind};{flags};{rights};{object};{inherited};{trustee})");
+    text.expect(rt, "memory for an ACE")
+}
+
+fn some_line(rt: &(impl Abort + AllocGlobal), numbers: &mut Numbers) -> String {
+    let (part, owner) = match numbers.below(3) {
+        0 => ("", ""),
+        _ => ("O:", numbers.word_of(TRUSTEES)),
+    };
+    let dacl = numbers.word_of(DACLS);
+    let line = format!(in rt.alloc(); "{part}{owner}{dacl}");
+    let mut line = line.expect(rt, "memory for a line");
+    if dacl == "D:" {
+        for _ in 0..numbers.below(9) {
+            let ace = some_ace(rt, numbers);
+            line.push_str(&ace).expect(rt, "memory for an ACE");
+        }
+    }
+    line
+}
+
+#[test]
+fn agrees_with_the_definition(rt: HostRuntime) {
+    let mut buf = SdBuf::new(rt.alloc()).expect(&rt, "memory for a buffer");
+    let mut numbers = Numbers { state: 1 };
+    for _ in 0..10_000 {
+        let line = some_line(&rt, &mut numbers);
+        let mut entries = Vec::new(rt.alloc());
+        for _ in 0..numbers.below(5) {
+            let (sid, enabled) = entry_of(&rt, numbers.word_of(TRUSTEES));
+            let kind = numbers.one_of(&[EntryKind::DenyOnly, enabled, enabled, enabled]);
+            assert!(rt; entries.push((sid, kind)).is_ok());
+        }
+        let desired = numbers.one_of(&DESIRED) | numbers.one_of(&[0, 0, 0, 0, 0, 0x2000000]);
+        let (principal, _) = entry_of(&rt, numbers.word_of(TRUSTEES));
+        let question = Question {
+            entries: &entries,
+            desired,
+            maximum: desired == 0 || numbers.below(4) == 0,
+            mapping: numbers.one_of(&[Mapping::FILE, Mapping::KEY, Mapping::DS]),
+            object: Uuid::parse_str(numbers.word_of(TYPES)).ok(),
+            principal_self: numbers.one_of(&[None, Some(principal)]),
+            privileges: Privileges {
+                security: numbers.below(4) == 0,
+                take_ownership: numbers.below(4) == 0,
+            },
+        };
+        compared(&rt, &mut buf, &line, &question);
+    }
+}

@@ -1,0 +1,138 @@
+//! Engines: over given buffers, whatever these hold, and over memory that is taken for them; and the token of a run.
+
+use crate::memory::{Failing, Input, Output};
+use sd_access::{Ask, Plan, Privileges, Target};
+use sd_binary::{SdBuf, TextBuf};
+use sd_core::{EntryKind, Mapping, Sid, Token};
+use sd_filter::{Act, Engine, Form, FromRead, Job, Report, RunFault, ToWrite, run};
+use std::process::Abort;
+
+const FORMS: [Form; 3] = [Form::Hex, Form::Base64, Form::Sddl];
+
+// One descriptor in each of them; its base64 is that of another program.
+const LINES: [&str; 3] = [
+    "01000480140000002400000000000000300000000102000000000005200000002002000001010000000000051200000002001c000100000000001400ff011f00010100000000000100000000\n",
+    "AQAEgBQAAAAkAAAAAAAAADAAAAABAgAAAAAABSAAAAAgAgAAAQEAAAAAAAUSAAAAAgAcAAEAAAAAABQA/wEfAAEBAAAAAAABAAAAAA==\n",
+    "O:BAG:SYD:(A;;FA;;;WD)\n",
+];
+
+fn job(source: Form, act: Act) -> Job {
+    Job {
+        source,
+        act,
+        domain: None,
+        numeric: false,
+    }
+}
+
+// A buffer that holds a descriptor of another line.
+fn used(rt: &(impl Abort + AllocGlobal)) -> SdBuf {
+    let mut buf = SdBuf::new(rt.alloc()).expect(rt, "memory for a buffer");
+    let read = buf.from_hex(b"0100008000000000000000000000000000000000");
+    assert!(rt; read == Ok(()));
+    buf
+}
+
+// Over such buffers, and a text that is no base64.
+fn used_engine(rt: &(impl Abort + AllocGlobal), source: Form, target: Form) -> Engine {
+    let mut text = TextBuf::new(rt.alloc()).expect(rt, "memory for a text");
+    assert!(rt; text.extend(b"AQAE!").is_ok());
+    Engine::over(job(source, Act::Convert(target)), used(rt), used(rt), text)
+}
+
+// What is answered to an input, in reads of at most so many bytes: a line for each of its lines.
+fn expect_answers(
+    rt: &(impl Abort + AllocGlobal),
+    engine: &mut Engine,
+    token: &mut Token,
+    most: usize,
+    input: &str,
+    answers: &str,
+) {
+    let mut source = Input::slow(input.as_bytes(), most, Failing::never());
+    let mut output = Output::new(rt.alloc());
+    let mut drain = ToWrite::new(&mut output);
+    let report = Report {
+        lines: answers.lines().count() as u64,
+        faults: answers.matches("error").count() as u64,
+    };
+    assert!(rt; run(engine, token, &mut FromRead::new(&mut source), &mut drain) == Ok(report));
+    assert!(rt; output.taken.as_slice() == answers.as_bytes());
+}
+
+#[test]
+fn runs_over_used_buffers(rt: HostRuntime) {
+    let mut token = Token::new(rt.alloc()).expect(&rt, "memory for a token");
+    for (source, line) in FORMS.into_iter().zip(LINES) {
+        for (target, answer) in FORMS.into_iter().zip(LINES) {
+            let mut engine = used_engine(&rt, source, target);
+            for most in [usize::MAX, 1] {
+                expect_answers(&rt, &mut engine, &mut token, most, line, answer);
+            }
+        }
+    }
+}
+
+// The longest line of hex, of two SIDs and two ACLs of the largest size: whole, with a CR before its LF, and with two
+// digits more.
+#[test]
+fn runs_the_longest_line_over_used_buffers(rt: HostRuntime) {
+    let (sid, acl, rest) = ("010f000000000005", "0200ffff00000000", "");
+    let line = format!(in rt.alloc();
+        "0100148014000000580000009c0000009b000100{sid:0<136}{sid:0<136}{acl:0<65535}{rest:0<65535}{acl:0<65535}{rest:0<65535}"
+    ).expect(&rt, "memory for a line");
+    assert!(rt; line.len() == 262_452);
+    let [last, _, _] = LINES;
+    let input = format!(in rt.alloc(); "{line}\n{line}\r\n{line}00\n{last}").expect(&rt, "memory");
+    let answers = "O:S-1-5-0-0-0-0-0-0-0-0-0-0-0-0-0-0-0G:S-1-5-0-0-0-0-0-0-0-0-0-0-0-0-0-0-0D:S:\n\
+         O:S-1-5-0-0-0-0-0-0-0-0-0-0-0-0-0-0-0G:S-1-5-0-0-0-0-0-0-0-0-0-0-0-0-0-0-0D:S:\n\
+         error 1 too-long\nO:BAG:SYD:(A;;FA;;;WD)\n";
+    let mut token = Token::new(rt.alloc()).expect(&rt, "memory for a token");
+    let mut engine = used_engine(&rt, Form::Hex, Form::Sddl);
+    for most in [usize::MAX, 1] {
+        expect_answers(&rt, &mut engine, &mut token, most, &input, answers);
+    }
+}
+
+// A run that checks leaves the token's entries as they are, and compares each at most once for an ACE; one that derives
+// compares none.
+#[test]
+fn looks_at_the_token(rt: HostRuntime) {
+    let sid_of = |text: &str| Sid::from_text(text.as_bytes(), None).expect(&rt, "a SID");
+    let mut token = Token::new(rt.alloc()).expect(&rt, "memory for a token");
+    assert!(rt; token.add(sid_of("WD"), EntryKind::Enabled) == Ok(()));
+    assert!(rt; token.add(sid_of("BA"), EntryKind::DenyOnly) == Ok(()));
+    let plan = Plan {
+        target: Target::Container,
+        owner: sid_of("BA"),
+        group: sid_of("SY"),
+        mapping: Mapping::FILE,
+    };
+    let act = Act::Derive(plan, Form::Sddl);
+    let mut engine = Engine::new(rt.alloc(), job(Form::Sddl, act)).expect(&rt, "memory");
+    let lines = "D:(A;;FA;;;BA)\nD:(A;OI;FA;;;WD)\n\nD:(\n";
+    let answers = "O:BAG:SYD:AI\nO:BAG:SYD:AI(A;OIIOID;FA;;;WD)\n\nerror 20 shape\n";
+    expect_answers(&rt, &mut engine, &mut token, 1, lines, answers);
+    assert!(rt; token.compared() == 0);
+    let privileges = Privileges {
+        security: false,
+        take_ownership: false,
+    };
+    let ask = Ask::new(0x120089, false, Mapping::FILE, None, None, privileges);
+    let act = Act::Check(ask.expect(&rt, "a request"));
+    let mut engine = Engine::new(rt.alloc(), job(Form::Sddl, act)).expect(&rt, "memory");
+    let answers = "denied 0x00120089\ngranted 0x00120089\n\nerror 20 shape\n";
+    expect_answers(&rt, &mut engine, &mut token, 1, lines, answers);
+    assert!(rt; token.len() == 2);
+    assert!(rt; token.compared() <= 8);
+}
+
+// No run of a test makes so many.
+#[test]
+fn names_too_many_reads(rt: HostRuntime) {
+    let text = format!(in rt.alloc(); "{}", RunFault::TooManyReads).expect(
+        &rt,
+        "memory for a text",
+    );
+    assert!(rt; text.as_str() == "62 too-many-reads");
+}

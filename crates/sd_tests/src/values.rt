@@ -1,0 +1,46 @@
+//! ACEs and masks as values.
+
+use sd_core::{Ace, AceKind, Mapping, Sid, carries};
+use uuid::Uuid;
+
+// Header, mask and the SID S-1-1-0 take 20 bytes, object flags 4 and a GUID 16 (MS-DTYP 2.4.4.2 and 2.4.4.3). The GUIDs
+// are object classes of Active Directory.
+#[test]
+fn keeps_its_parts_and_counts_its_bytes(rt: HostRuntime) {
+    let everyone = Sid::new(1, &[0]).expect(&rt, "a SID");
+    let user = Uuid::parse_str("bf967aba-0de6-11d0-a285-00aa003049e2").ok();
+    let group = Uuid::parse_str("bf967a9c-0de6-11d0-a285-00aa003049e2").ok();
+    assert!(rt; user.is_some() && group.is_some() && user != group);
+    for (kind, object, inherited, size) in [
+        (AceKind::Allow, None, None, 20),
+        (AceKind::ObjectDeny, None, None, 24),
+        (AceKind::ObjectAudit, None, group, 40),
+        (AceKind::ObjectAllow, user, group, 56),
+    ] {
+        let ace = Ace::new(kind, 0xdf, 0x10, object, inherited, everyone).expect(&rt, "an ACE");
+        assert!(rt; ace.size() == size);
+        assert!(rt; ace.kind() == kind);
+        assert!(rt; ace.flags() == 0xdf);
+        assert!(rt; ace.mask() == 0x10);
+        assert!(rt; ace.object() == object);
+        assert!(rt; ace.inherited() == inherited);
+        assert!(rt; ace.sid() == everyone);
+    }
+    assert!(rt; Ace::new(AceKind::Allow, 0x20, 1, None, None, everyone) == None);
+    assert!(rt; Ace::new(AceKind::Label, 0, 1, user, None, everyone) == None);
+    assert!(rt; Ace::new(AceKind::Deny, 0, 1, None, group, everyone) == None);
+}
+
+// Of bits that no request may have, too. What generic rights mean stands in `tests/rows/access_check.json`.
+#[test]
+fn maps_generic_rights_alone(rt: HostRuntime) {
+    for mapping in [Mapping::FILE, Mapping::KEY, Mapping::DS] {
+        assert!(rt; mapping.map(0xfffffff) == 0xfffffff);
+        let generic = mapping.read() | mapping.write() | mapping.execute() | mapping.all();
+        assert!(rt; mapping.map(0xffffffff) == 0xfffffff | generic);
+    }
+    for right in 0..32 {
+        assert!(rt; carries(1 << right, right));
+        assert!(rt; !carries(!(1 << right), right));
+    }
+}
