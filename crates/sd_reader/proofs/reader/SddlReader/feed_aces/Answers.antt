@@ -8,20 +8,22 @@ returns-in_default-split_first-clause-read c = λ domain before h.
     let s = c.loop-after.self in
     let none : s.pending ≡ None = c.loop-after.invariant.reader.still (rw (c.loop-after.invariant.here) refl) in
     let i = c.loop-after.invariant in
-    let over = steps-over s (record s { state = state.AfterAce; fields = c.take_ace.new.self }) c.loop-after.buf c.take_ace.new.buf c.loop-after.rest.now c.in-Some.after.now i.here i.begins
-    i.clear c.take_ace.ensures.domain refl c.in-Some.ensures.read in
-    fed-on s (record s { state = state.AfterAce; fields = c.take_ace.new.self }) c.loop-after.buf c.take_ace.new.buf domain over.bytes _ _ _
-    none (over.pending ∙ none) over.steps over.stands (c.loop-after.invariant.read domain before h)
+    let t = record s { state = state.AfterAce; fields = c.take_ace.new.self } in
+    let over = steps-over s t c.loop-after.buf c.take_ace.new.buf c.loop-after.rest.now c.in-Some.after.now i.here
+    i.begins i.clear c.take_ace.ensures.domain refl c.in-Some.ensures.read in
+    fed-on s t c.loop-after.buf c.take_ace.new.buf domain over.bytes _ _ _ none
+    (over.pending ∙ none) over.steps over.stands (c.loop-after.invariant.read domain before h)
 
 pub returns-in_default-split_first-2-clause-read : goal.returns-in_default-split_first-2-clause-read
 returns-in_default-split_first-2-clause-read c = λ domain before h.
     let s = c.loop-after.self in
     let none : s.pending ≡ None = c.loop-after.invariant.reader.still (rw (c.loop-after.invariant.here) refl) in
     let i = c.loop-after.invariant in
-    let over = steps-over s (record s { state = state.AfterAce; fields = c.take_ace.new.self }) c.loop-after.buf c.take_ace.new.buf c.loop-after.rest.now c.in-Some.after.now i.here i.begins
-    i.clear c.take_ace.ensures.domain refl c.in-Some.ensures.read in
-    fed-on s (record s { state = state.AfterAce; fields = c.take_ace.new.self }) c.loop-after.buf c.take_ace.new.buf domain over.bytes _ _ _
-    none (over.pending ∙ none) over.steps over.stands (c.loop-after.invariant.read domain before h)
+    let t = record s { state = state.AfterAce; fields = c.take_ace.new.self } in
+    let over = steps-over s t c.loop-after.buf c.take_ace.new.buf c.loop-after.rest.now c.in-Some.after.now i.here
+    i.begins i.clear c.take_ace.ensures.domain refl c.in-Some.ensures.read in
+    fed-on s t c.loop-after.buf c.take_ace.new.buf domain over.bytes _ _ _ none
+    (over.pending ∙ none) over.steps over.stands (c.loop-after.invariant.read domain before h)
 
 pub loop-after-preserved : goal.loop-after-preserved
 loop-after-preserved c =
@@ -29,8 +31,8 @@ loop-after-preserved c =
     let t = record s { state = state.AfterAce; fields = c.take_ace.new.self } in
     let none : s.pending ≡ None = c.loop-after.invariant.reader.still (rw (c.loop-after.invariant.here) refl) in
     let i = c.loop-after.invariant in
-    let over = steps-over s (record s { state = state.AfterAce; fields = c.take_ace.new.self }) c.loop-after.buf c.take_ace.new.buf c.loop-after.rest.now c.in-Some.after.now i.here i.begins
-    i.clear c.take_ace.ensures.domain refl c.in-Some.ensures.read in
+    let over = steps-over s t c.loop-after.buf c.take_ace.new.buf c.loop-after.rest.now c.in-Some.after.now i.here
+    i.begins i.clear c.take_ace.ensures.domain refl c.in-Some.ensures.read in
     let still : t.pending ≡ None = over.pending ∙ none in
     let opens = steps-open t c.take_ace.new.buf over.state over.field in
     let e = over.steps c.loop-after.invariant.reader.read c.loop-after.invariant.reader.held in
