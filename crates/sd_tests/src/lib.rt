@@ -17,8 +17,6 @@ mod memory;
 #[cfg(test)]
 mod plain_check;
 #[cfg(test)]
-mod sid;
-#[cfg(test)]
 mod streams;
 #[cfg(test)]
 mod token;

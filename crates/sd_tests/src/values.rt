@@ -1,7 +1,23 @@
-//! ACEs and masks as values.
+//! SIDs, ACEs and masks as values. The texts of SIDs and their aliases stand in `tests/rows/` and `tests/tables.py`.
 
 use sd_core::{Ace, AceKind, Mapping, Sid, carries};
 use uuid::Uuid;
+
+// The SIDs and their bytes are those of MS-DTYP 2.4.2.4 and of well-known Windows accounts.
+#[test]
+fn reads_well_known_sids(rt: HostRuntime) {
+    let administrators = [1, 2, 0, 0, 0, 0, 0, 5, 32, 0, 0, 0, 32, 2, 0, 0, 0xff];
+    assert!(rt; Sid::read(&administrators) == Sid::new(5, &[32, 544]).map(|sid| (sid, 16)));
+    assert!(rt; Sid::read(&administrators[..15]) == None);
+    let everyone = [1, 1, 0, 0, 0, 0, 0, 1, 0, 0, 0, 0];
+    assert!(rt; Sid::read(&everyone) == Sid::new(1, &[0]).map(|sid| (sid, 12)));
+    let (sid, size) = Sid::read(&everyone).expect(&rt, "a SID");
+    assert!(rt; size == sid.size());
+    assert!(rt; sid.authority() == 1);
+    assert!(rt; sid.subs() == [0].as_slice());
+    assert!(rt; Sid::new(1 << 48, &[]) == None);
+    assert!(rt; Sid::new(5, &[0; 16]) == None);
+}
 
 // Header, mask and the SID S-1-1-0 take 20 bytes, object flags 4 and a GUID 16 (MS-DTYP 2.4.4.2 and 2.4.4.3). The GUIDs
 // are object classes of Active Directory.
