@@ -27,7 +27,7 @@ pub enum RunFault {
     /// 60: a read failed.
     #[error("60 read")]
     Read,
-    /// 61: a write or the flush at the end failed.
+    /// 61: a write or a flush failed.
     #[error("61 write")]
     Write,
     /// 62: 2^40 reads brought no end.

@@ -1,4 +1,4 @@
-//! A line, read a byte at a time.
+//! A line, read as it comes: byte by byte, and together what stands whole in a piece.
 
 ghost use Rattle.std.specs.Prelude.{◌≡◌, ◌≤◌, ◌==◌, ℕ, List, [], ◌∷◌, ◌++◌, length, take, ◌||◌, if◌then◌else◌, true, false, Option, Some, None, Ok, Err, IfOk, IfSome, MatchResult};
 ghost use Rattle.std.specs.Option.{option_copied};
@@ -22,7 +22,7 @@ use crate::reading::{FieldReader, fault_of};
 use sd_binary::SdBuf;
 use sd_core::Sid;
 
-/// A reader of one line, a byte at a time, beside the buffer in which the descriptor is built.
+/// A reader of one line, by bytes or pieces, beside the buffer in which the descriptor is built.
 #[derive(Drop)]
 pub struct SddlReader {
     state: State,
