@@ -63,10 +63,11 @@ bench: program
 	bench/run.py $(PROGRAM)
 
 install: program
-	install -d '$(DESTDIR)$(PREFIX)/bin' '$(DESTDIR)$(PREFIX)/share/man/man1' '$(DESTDIR)$(DOCUMENTS)'
+	install -d '$(DESTDIR)$(PREFIX)/bin' '$(DESTDIR)$(PREFIX)/share/man/man1' '$(DESTDIR)$(DOCUMENTS)/docs'
 	install -m 755 $(PROGRAM) '$(DESTDIR)$(PREFIX)/bin/sdtool'
 	install -m 644 docs/sdtool.1 '$(DESTDIR)$(PREFIX)/share/man/man1/sdtool.1'
-	install -m 644 README.md LICENSE docs/FORMAT.md docs/COOKBOOK.md '$(DESTDIR)$(DOCUMENTS)'
+	install -m 644 README.md CONTRIBUTING.md LICENSE '$(DESTDIR)$(DOCUMENTS)'
+	install -m 644 docs/*.md '$(DESTDIR)$(DOCUMENTS)/docs'
 	cp -R examples '$(DESTDIR)$(DOCUMENTS)'
 
 uninstall:
