@@ -15,7 +15,7 @@ need_toolchain = $(if $(shell command -v rt 2>&1),,$(error the Rattle toolchain 
 help:
 	@echo 'make run               builds the program and shows the examples, each with its answer (10 minutes, then seconds)'
 	@echo 'make program           builds the program alone: crates/sdtool/out/sdtool'
-	@echo 'make quick             builds the program without a proof, and gives it rows and random lines (40 seconds)'
+	@echo 'make quick             builds the program without a proof, and gives it rows and random lines (a minute)'
 	@echo 'make check CRATE=NAME  proves a crate, over the work that earlier checks kept (seconds to 2 minutes)'
 	@echo 'make rows ID=WORD      the rows whose names have the word, on the built program (seconds; ID= for all)'
 	@echo 'make test              the gate and all tests of the built program (30 minutes); ends with N passed, M failed'

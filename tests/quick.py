@@ -1,10 +1,10 @@
 #!/usr/bin/env python3
 """quick.py
 
-What can be looked at without a proof, in less than a minute: `rt try` builds the program from its sources as they
+What can be looked at without a proof, in about a minute: `rt try` builds the program from its sources as they
 stand, proves nothing and keeps no file. It is given the lines of worked rows (rows/) but for very long ones, all with
-the same words in one run where there are two rows or more, and random lines of compare.py, whose answers are those of
-the reference. It stops too where an index is out of bounds, a number overflows or memory is used wrongly.
+the same words in one run where there are two rows or more, or help is asked for, and random lines of compare.py, whose
+answers are those of the reference. It stops too where an index is out of bounds, a number overflows or memory is used wrongly.
 The reference is compared with the rows first. The last line is 'N passed, M failed'.
 """
 import collections
@@ -26,6 +26,7 @@ RANDOM_LINES = 200  # of either form
 WORDS = [compare.UNDER[0], compare.EXPLAINED[0], compare.CHECKED[1]]
 WORDS_FROM_SDDL = [compare.EVERY_WORDS_FROM_SDDL[3]]
 MOST_BYTES = 20_000  # of a row: such a build is slow, and of more than 1 MiB of output it judges none
+HELP = {"help", "--help", "-h"}
 ENDED = re.compile(rb"case=.* run=ended status=(\d+) .*\boutput=expected\b")
 
 
@@ -42,11 +43,13 @@ def of_rows():
     rows_of = collections.defaultdict(list)
     for row in filter(run_rows.is_for_files, run_rows.all_rows()):
         given, stdout = run_rows.text(row["stdin"]), run_rows.text(row.get("stdout", ""))
+        words = tuple(run_rows.text(word).decode("latin-1") for word in row["words"])
+        if HELP.intersection(words):
+            stdout = stdout.replace(b"Usage: sdtool", b"Usage: program")  # the name that `rt try` gives it
         if row.get("status", 0) < 2 and given.endswith(b"\n") and len(given + stdout) <= MOST_BYTES:
-            words = tuple(run_rows.text(word).decode("latin-1") for word in row["words"])
             rows_of[words].append((given, stdout, row.get("status", 0)))
     for words, rows in rows_of.items():
-        if len(rows) > 1:
+        if len(rows) > 1 or HELP.intersection(words):
             given, stdout, statuses = zip(*rows)
             yield Run(words, b"".join(given), b"".join(stdout), max(statuses), f"{len(rows)} rows")
 
