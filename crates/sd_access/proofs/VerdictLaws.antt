@@ -7,8 +7,8 @@ use Rattle.sd_rights.specs.Mapping.{carries, mask_if}
 use Rattle.sd_core.specs.Token.{Entry}
 use Rattle.sd_view.specs.Descriptor.{Descriptor}
 use Rattle.sd_access.specs.Ask.{AreRights, Asked}
-use Rattle.sd_access.specs.Granted.{aces_of, decides, granted, is_allowed, is_open, is_owned, needs_no_ace}
-use Rattle.sd_access.specs.Need.{bound, in_question, least, need}
+use Rattle.sd_access.specs.Granted.{listed_aces, decides, granted, is_allowed, is_open, is_owned, needs_no_ace}
+use Rattle.sd_access.specs.Need.{check_bound, in_question, least, need}
 use Rattle.sd_access.specs.Inner.Scan.{HasGranted, given_mask, question_of, scan_need, undecided_of}
 use Rattle.sd_access.specs.Verdict.{missing, verdict, won}
 use Rattle.sd_access.specs.declared.verdict.Verdict.TheVariants.{Granted, Denied}
@@ -195,20 +195,20 @@ settle true false security false decided = refl
 
 -- the scan stops where every right in question is settled
 scan_need-is : (d : Descriptor) (t : List Entry) (ask : Asked) → AreRights ask
-    → scan_need (undecided_of d t ask) d t ask (aces_of d.dacl) ≡ need d t ask
+    → scan_need (undecided_of d t ask) d t ask (listed_aces d.dacl) ≡ need d t ask
 unfolding scan_need need
 scan_need-is d t ask narrow =
-    least_same (length (aces_of d.dacl)) _ _ (λ k. all_below_same 25 _ _ (λ i below.
+    least_same (length (listed_aces d.dacl)) _ _ (λ k. all_below_same 25 _ _ (λ i below.
     rw (carries-undecided d t ask narrow i below)
     (settle (in_question i ask) (eqb i 24) ask.security (needs_no_ace i d t ask)
-    (list_any (decides i d t ask) (take k (aces_of d.dacl))))))
+    (list_any (decides i d t ask) (take k (listed_aces d.dacl))))))
 
 pub count_all : (d : Descriptor) (t : List Entry) (ask : Asked) (q old mid new : ℕ) → AreRights ask
     → q ≡ undecided_of d t ask → mid ≤ old + length t
-    → new ≤ mid + scan_need q d t ask (aces_of d.dacl) * length t → new ≤ old + (need d t ask + 1) * length t
+    → new ≤ mid + scan_need q d t ask (listed_aces d.dacl) * length t → new ≤ old + (need d t ask + 1) * length t
 count_all d t ask q old mid new narrow is first_pass scan_pass =
-    let same : scan_need q d t ask (aces_of d.dacl) ≡ need d t ask =
-    ap (λ (n : ℕ). scan_need n d t ask (aces_of d.dacl)) is ∙ scan_need-is d t ask narrow in
+    let same : scan_need q d t ask (listed_aces d.dacl) ≡ need d t ask =
+    ap (λ (n : ℕ). scan_need n d t ask (listed_aces d.dacl)) is ∙ scan_need-is d t ask narrow in
     let most = rw same at scan_pass in
     omega arith
 
@@ -224,12 +224,12 @@ least_le (suc n) test =
 
 -- no more ACEs are needed than there are
 pub bound_from_need : (d : Descriptor) (t : List Entry) (ask : Asked) (old new : ℕ)
-    → new ≤ old + (need d t ask + 1) * length t → new ≤ old + bound d (length t)
+    → new ≤ old + (need d t ask + 1) * length t → new ≤ old + check_bound d (length t)
 unfolding need
 bound_from_need d t ask old new h =
-    let most : need d t ask ≤ length (aces_of d.dacl) = least_le (length (aces_of d.dacl)) _ in
+    let most : need d t ask ≤ length (listed_aces d.dacl) = least_le (length (listed_aces d.dacl)) _ in
     omega (
       arith,
-      mul-le (need d t ask + 1) (length t) (length (aces_of d.dacl) + 1) (length t) (omega arith)
+      mul-le (need d t ask + 1) (length t) (length (listed_aces d.dacl) + 1) (length t) (omega arith)
           (omega arith),
     )

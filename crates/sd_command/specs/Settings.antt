@@ -150,14 +150,14 @@ asked mapping want object principal rows =
 
 -- ---- what `derive` makes, and for whom
 
-abbrev pub kind_reads : Text → Option Target
-kind_reads text =
+abbrev pub target_reads : Text → Option Target
+target_reads text =
     if bytes_eq text (codes "file") then Some File
     else if bytes_eq text (codes "container") then Some Container
     else None
 
 unfoldable pub given_kind : List Row → Result Target UsageFault
-given_kind rows = given name.Kind (value_needed kind_reads (first_of (codes "kind") rows))
+given_kind rows = given name.Kind (value_needed target_reads (first_of (codes "kind") rows))
 
 -- the owner or the group of what is made, a SID that may not be left out
 unfoldable pub needed_sid : OptionName → Option SecurityId → List Row → Result SecurityId UsageFault

@@ -12,8 +12,8 @@ use Rattle.sd_core.specs.declared.token.EntryKind.{EntryKind}
 use Rattle.sd_core.specs.declared.token.EntryKind.TheVariants.{Enabled, DenyOnly}
 
 -- what the commas part
-abbrev pub pieces : Text → List Text
-pieces text = slice_split (λ c. c == 44) text
+abbrev pub cut_at_commas : Text → List Text
+cut_at_commas text = slice_split (λ c. c == 44) text
 
 abbrev pub sid_if : Result SecurityId SidFault → Option SecurityId
 sid_if (Ok sid) = Some sid
@@ -44,4 +44,5 @@ all_read domain (p ∷ ps) = also (entry_reads domain p) (all_read domain ps)
 
 -- the entries of a text of at most 1,024 pieces
 unfoldable pub entries_read : Option SecurityId → Text → Option (List Entry)
-entries_read domain text = if nat_lt most_entries (length (pieces text)) then None else all_read domain (pieces text)
+entries_read domain text = if nat_lt most_entries (length (cut_at_commas text))
+    then None else all_read domain (cut_at_commas text)

@@ -11,9 +11,9 @@ use Rattle.uuid.proofs.TextLemmas.{by_index_at, by_index_length}
 use Rattle.sd_core.specs.Ace.{IsGuid}
 use Rattle.sd_core.specs.GuidText.{guid_reads}
 use Rattle.sd_core.specs.Sid.{AreWords, IsSid, SecurityId}
-use Rattle.sd_core.specs.SidText.{all_read, also, are_letters, are_numbers, are_subs, authority_reads, begins_with_s1, decimal_reads, has_form, is_decimal, is_hex, known_named, known_sid, letters_read, name_reads, numbers_read, or_number_fault, pieces, relative_named, sid_in, sid_of_numbers, sid_reads, usable}
+use Rattle.sd_core.specs.SidText.{all_read, also, are_letters, are_numbers, are_subs, authority_reads, begins_with_s1, decimal_reads, has_form, is_decimal, is_hex, known_named, known_sid, letters_read, name_reads, numbers_read, or_number_fault, cut_at_dashes, relative_named, sid_in, sid_of_numbers, sid_reads, usable}
 use Rattle.sd_rights.specs.Numbers.{number_after, number as number_below}
-use Rattle.sd_core.specs.SidText.{Pieces}
+use Rattle.sd_core.specs.SidText.{Cuts}
 use Rattle.sd_core.specs.declared.alias.WellKnown.{WellKnown}
 use Rattle.sd_core.specs.declared.alias.DomainRelative.{DomainRelative}
 use Rattle.sd_core.specs.declared.alias.TheConstants.{WELL_KNOWN, DOMAIN_RELATIVE}
@@ -105,7 +105,7 @@ all-limits (t ∷ ts) = joined (decimal_reads t) (all_read ts) (decimal-limit t)
     joined (Some n) None h k = tt
     joined (Some n) (Some ns) h k = (ap suc k.0, words-more n ns h k.1)
 
-numbers-limits : (p : Pieces) → length p.others ≤ 15 → IfSome (numbers_read p) IsSid
+numbers-limits : (p : Cuts) → length p.others ≤ 15 → IfSome (numbers_read p) IsSid
 unfolding numbers_read AreRead
 numbers-limits p few = joined (authority_reads p.first) (all_read p.others) (authority-limit p.first)
     (all-limits p.others)
@@ -178,10 +178,10 @@ letters-limits a b domain h =
     by_known None (Some e) (Some d) k l m = relative-limits d e m l
     by_known None None u k l m = tt
 
-form-few : (text : List ℕ) → has_form text ≡ true → length (pieces (drop 4 text)).others ≤ 15
+form-few : (text : List ℕ) → has_form text ≡ true → length (cut_at_dashes (drop 4 text)).others ≤ 15
 unfolding has_form
 form-few text e =
-    let p = pieces (drop 4 text) in
+    let p = cut_at_dashes (drop 4 text) in
     let numbers = (both (nat_le (length text) 183 && begins_with_s1 text) (are_numbers p) e).1 in
     let subs = (both (is_hex p.first || is_decimal p.first) (are_subs 0 p.others) numbers).1 in
     let few = (both (nat_le (0 + length p.others) 15) _ subs).0 in
@@ -191,16 +191,18 @@ text-limits : (text : List ℕ) (domain : Option SecurityId) → IfSome domain I
 unfolding sid_reads
 text-limits text domain h =
     by_letters (are_letters text) (has_form text) (letters-limits (slice_index text 0) (slice_index text 1) domain h)
-    (λ e. numbers (numbers_read (pieces (drop 4 text))) (numbers-limits (pieces (drop 4 text)) (form-few text e)))
+    (λ e. numbers (numbers_read (cut_at_dashes (drop 4 text)))
+    (numbers-limits (cut_at_dashes (drop 4 text)) (form-few text e)))
   where
     numbers : (o : Option SecurityId) → IfSome o IsSid → IfOk (or_number_fault o) IsSid
     numbers None k = tt
     numbers (Some s) k = k
 
     by_letters : (t f : Bool) → IfOk (letters_read (slice_index text 0) (slice_index text 1) domain) IsSid
-        → (f ≡ true → IfOk (or_number_fault (numbers_read (pieces (drop 4 text)))) IsSid)
+        → (f ≡ true → IfOk (or_number_fault (numbers_read (cut_at_dashes (drop 4 text)))) IsSid)
         → IfOk (if t then letters_read (slice_index text 0) (slice_index text 1)
-        domain else (if f then or_number_fault (numbers_read (pieces (drop 4 text))) else Err faults.SidForm)) IsSid
+        domain else (if f then or_number_fault (numbers_read (cut_at_dashes (drop 4 text)))
+        else Err faults.SidForm)) IsSid
     by_letters true f k l = k
     by_letters false true k l = l refl
     by_letters false false k l = tt

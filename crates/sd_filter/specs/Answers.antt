@@ -21,7 +21,7 @@ use Rattle.sd_command.specs.declared.job.Form.{Form}
 use Rattle.sd_command.specs.declared.job.Form.TheVariants as form
 use Rattle.sd_command.specs.declared.job.Job.{Job}
 use Rattle.sd_core.specs.declared.naming.Naming.{Naming}
-use Rattle.sd_access.specs.Need.{bound as check_bound}
+use Rattle.sd_access.specs.Need.{check_bound}
 use Rattle.sd_access.specs.Verdict.{verdict}
 use Rattle.sd_access.specs.declared.verdict.Verdict.{Verdict}
 use Rattle.sd_access.specs.declared.verdict.Verdict.TheVariants.{Denied, Granted}

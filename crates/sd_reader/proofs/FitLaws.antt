@@ -8,9 +8,9 @@ use Rattle.sd_rights.specs.Rights.{rights_reads}
 use Rattle.sd_core.specs.SidText.{sid_reads}
 use Rattle.sd_core.specs.declared.sid_text.SidFault.{SidFault}
 use Rattle.sd_view.specs.declared.acl.AclPart.TheVariants as acl
-use Rattle.sd_binary.specs.Draft.{Draft, IsOpen, IsOpenIn, acl_of, closed, more_in, with_ace}
+use Rattle.sd_binary.specs.Draft.{Draft, IsOpen, IsOpenIn, draft_acl, closed, more_in, with_ace}
 use Rattle.sd_reader.specs.Line.{same_head}
-use Rattle.sd_reader.specs.Inner.FoldedReading.{FieldsRead, ace_of, begun_or_null, fault_of, nothing_read, take_ace_field, take_field, take_front, take_readable, with_flags, with_owner_or_group, with_sid, with_trustee, with_value}
+use Rattle.sd_reader.specs.Inner.FoldedReading.{FieldsRead, ace_of_fields, begun_or_null, fault_of, nothing_read, take_ace_field, take_field, take_front, take_readable, with_flags, with_owner_or_group, with_sid, with_trustee, with_value}
 use Rattle.sd_reader.specs.Meaning.{and_then, is_unreadable}
 use Rattle.sd_reader.specs.FieldTexts.{front_reads, kind_reads, object_reads}
 use Rattle.sd_reader.specs.Inner.Held.{Held, held_text}
@@ -56,11 +56,11 @@ acl_in p o = record p { «open» = o }
 
 -- an owner or a group
 module _ (p : Draft) (s : SecurityId) where
-  acl-beside-owner : (v : Which) → acl_of v (closed (record (closed p) { owner = Some s })) ≡ acl_of v (closed p)
+  acl-beside-owner : (v : Which) → draft_acl v (closed (record (closed p) { owner = Some s })) ≡ draft_acl v (closed p)
   acl-beside-owner v = cases p.«open» v
     where
       listed : (w : Which) (aces : List AccessControlEntry) (v : Which)
-          → acl_of v (closed (record (closed (acl_in p (Some (w, aces)))) { owner = Some s })) ≡ acl_of v
+          → draft_acl v (closed (record (closed (acl_in p (Some (w, aces)))) { owner = Some s })) ≡ draft_acl v
           (closed (acl_in p (Some (w, aces))))
       listed which.Sacl aces which.Sacl = refl
       listed which.Sacl aces which.Dacl = refl
@@ -68,16 +68,16 @@ module _ (p : Draft) (s : SecurityId) where
       listed which.Dacl aces which.Dacl = refl
 
       cases : (o : Option (Which × List AccessControlEntry)) (v : Which)
-          → acl_of v (closed (record (closed (acl_in p o)) { owner = Some s })) ≡ acl_of v (closed (acl_in p o))
+          → draft_acl v (closed (record (closed (acl_in p o)) { owner = Some s })) ≡ draft_acl v (closed (acl_in p o))
       cases None which.Sacl = refl
       cases None which.Dacl = refl
       cases (Some o) v = listed o.0 o.1 v
 
-  acl-beside-group : (v : Which) → acl_of v (closed (record (closed p) { group = Some s })) ≡ acl_of v (closed p)
+  acl-beside-group : (v : Which) → draft_acl v (closed (record (closed p) { group = Some s })) ≡ draft_acl v (closed p)
   acl-beside-group v = cases p.«open» v
     where
       listed : (w : Which) (aces : List AccessControlEntry) (v : Which)
-          → acl_of v (closed (record (closed (acl_in p (Some (w, aces)))) { group = Some s })) ≡ acl_of v
+          → draft_acl v (closed (record (closed (acl_in p (Some (w, aces)))) { group = Some s })) ≡ draft_acl v
           (closed (acl_in p (Some (w, aces))))
       listed which.Sacl aces which.Sacl = refl
       listed which.Sacl aces which.Dacl = refl
@@ -85,7 +85,7 @@ module _ (p : Draft) (s : SecurityId) where
       listed which.Dacl aces which.Dacl = refl
 
       cases : (o : Option (Which × List AccessControlEntry)) (v : Which)
-          → acl_of v (closed (record (closed (acl_in p o)) { group = Some s })) ≡ acl_of v (closed (acl_in p o))
+          → draft_acl v (closed (record (closed (acl_in p o)) { group = Some s })) ≡ draft_acl v (closed (acl_in p o))
       cases None which.Sacl = refl
       cases None which.Dacl = refl
       cases (Some o) v = listed o.0 o.1 v
@@ -114,12 +114,12 @@ group-closed p = cases p.«open»
 
 -- an ACL that begins
 acl-beside-acl : (p : Draft) (w : Which) (null : Bool) (v : Which) → same_head (head.Acl w) (head.Acl v) ≡ false
-    → acl_of v (closed (begun_or_null w null (closed p))) ≡ acl_of v (closed p)
+    → draft_acl v (closed (begun_or_null w null (closed p))) ≡ draft_acl v (closed p)
 acl-beside-acl p w null v e = cases p.«open» w null v e
   where
     listed : (x : Which) (aces : List AccessControlEntry) (w : Which) (null : Bool) (v : Which)
         → same_head (head.Acl w) (head.Acl v) ≡ false
-        → acl_of v (closed (begun_or_null w null (closed (acl_in p (Some (x, aces)))))) ≡ acl_of v
+        → draft_acl v (closed (begun_or_null w null (closed (acl_in p (Some (x, aces)))))) ≡ draft_acl v
         (closed (acl_in p (Some (x, aces))))
     listed x aces which.Sacl null which.Sacl e = absurd cc
     listed x aces which.Dacl null which.Dacl e = absurd cc
@@ -134,7 +134,7 @@ acl-beside-acl p w null v e = cases p.«open» w null v e
 
     cases : (o : Option (Which × List AccessControlEntry)) (w : Which) (null : Bool) (v : Which)
         → same_head (head.Acl w) (head.Acl v) ≡ false
-        → acl_of v (closed (begun_or_null w null (closed (acl_in p o)))) ≡ acl_of v (closed (acl_in p o))
+        → draft_acl v (closed (begun_or_null w null (closed (acl_in p o)))) ≡ draft_acl v (closed (acl_in p o))
     cases None which.Sacl null which.Sacl e = absurd cc
     cases None which.Dacl null which.Dacl e = absurd cc
     cases None which.Sacl true which.Dacl e = refl
@@ -154,20 +154,20 @@ group-begun p which.Sacl true = refl
 group-begun p which.Dacl true = refl
 
 -- one ACE more in the ACL at hand
-absent-with_ace : (p : Draft) (a : AccessControlEntry) (v : Which) → acl_of v (closed p) ≡ acl.Absent
-    → acl_of v (closed (with_ace a p)) ≡ acl.Absent
+absent-with_ace : (p : Draft) (a : AccessControlEntry) (v : Which) → draft_acl v (closed p) ≡ acl.Absent
+    → draft_acl v (closed (with_ace a p)) ≡ acl.Absent
 absent-with_ace p a v e = cases p.«open» v e
   where
     listed : (w : Which) (aces : List AccessControlEntry) (v : Which)
-        → acl_of v (closed (acl_in p (Some (w, aces)))) ≡ acl.Absent
-        → acl_of v (closed (with_ace a (acl_in p (Some (w, aces))))) ≡ acl.Absent
+        → draft_acl v (closed (acl_in p (Some (w, aces)))) ≡ acl.Absent
+        → draft_acl v (closed (with_ace a (acl_in p (Some (w, aces))))) ≡ acl.Absent
     listed which.Sacl aces which.Sacl e = absurd cc
     listed which.Sacl aces which.Dacl e = e
     listed which.Dacl aces which.Sacl e = e
     listed which.Dacl aces which.Dacl e = absurd cc
 
-    cases : (o : Option (Which × List AccessControlEntry)) (v : Which) → acl_of v (closed (acl_in p o)) ≡ acl.Absent
-        → acl_of v (closed (with_ace a (acl_in p o))) ≡ acl.Absent
+    cases : (o : Option (Which × List AccessControlEntry)) (v : Which) → draft_acl v (closed (acl_in p o)) ≡ acl.Absent
+        → draft_acl v (closed (with_ace a (acl_in p o))) ≡ acl.Absent
     cases None v e = e
     cases (Some o) v e = listed o.0 o.1 v e
 
@@ -211,7 +211,7 @@ lacks-front r which.Dacl f (head.Acl v) e l = acl-beside-acl r.parts which.Dacl 
 lacks-trustee : (r : FieldsRead) (s : SecurityId) (h : Head) → Lacks h r → Lacks h (with_trustee r s)
 lacks-trustee r s (head.Sid sid_part.Owner) l = l
 lacks-trustee r s (head.Sid sid_part.Group) l = l
-lacks-trustee r s (head.Acl v) l = absent-with_ace r.parts (ace_of r.ace s) v l
+lacks-trustee r s (head.Acl v) l = absent-with_ace r.parts (ace_of_fields r.ace s) v l
 
 -- what holds of each reading with a value holds of the one that is found
 module _ (P : FieldsRead → Type 0) (u : FieldsRead) where
@@ -309,7 +309,7 @@ open-front domain r u w text e =
 open-taken : (domain : Option SecurityId) (r u : FieldsRead) (f : AceField) (text : List ℕ)
     → take_field domain r (slot.Ace f) text ≡ Ok u → IsOpen r.parts → IsOpen u.parts
 open-taken domain r u f text e o =
-    ace_field (λ x. IsOpen x.parts) domain r u f text (λ a. o) (λ s. open-with_ace r.parts (ace_of r.ace s) o)
+    ace_field (λ x. IsOpen x.parts) domain r u f text (λ a. o) (λ s. open-with_ace r.parts (ace_of_fields r.ace s) o)
     (readable domain r u (slot.Ace f) text e)
 
 -- 4. Places.

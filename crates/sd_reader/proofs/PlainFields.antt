@@ -12,7 +12,7 @@ use Rattle.std.proofs.lemmas.Bool.Decides.{nat_tests}
 use Rattle.sd_rights.specs.Flags.{flags_reads}
 use Rattle.sd_rights.specs.Kinds.{kind_entry, kind_letters}
 use Rattle.sd_rights.specs.Names.{bits_named, joined, run_of}
-use Rattle.sd_rights.specs.Rights.{after_zero, all_rights, number, rights_reads, short_rights_reads}
+use Rattle.sd_rights.specs.Rights.{after_zero, all_rights, mask_reads, rights_reads, short_rights_reads}
 use Rattle.sd_rights.specs.declared.flags.TheConstants.{FLAGS}
 use Rattle.sd_rights.specs.declared.kinds.AceKind.{AceKind}
 use Rattle.sd_rights.specs.declared.kinds.AceKind.TheVariants as kinds
@@ -149,7 +149,7 @@ rights-letters = refl
 
 -- 4. Access rights.
 
-number-plain : (base : ℕ) (text : List ℕ) (n : ℕ) → base ≤ 36 → number base text ≡ Some n
+number-plain : (base : ℕ) (text : List ℕ) (n : ℕ) → base ≤ 36 → mask_reads base text ≡ Some n
     → list_all is_plain_inside text ≡ true
 number-plain base text n most is =
     by_test (nat_lt 0 (length text)) (list_all (λ c. is_digit c base) text) (nat_lt (digits_value base text) (2 ^ 32))
@@ -166,7 +166,7 @@ after-zero-plain : (text : List ℕ) (n : ℕ) → after_zero text ≡ Some n �
 after-zero-plain [] n is = refl
 after-zero-plain (c ∷ cs) n is = by_test (c == 120 || c == 88) refl is
   where
-    by_test : (x : Bool) → (c == 120 || c == 88) ≡ x → (if x then number 16 cs else number 8 (c ∷ cs)) ≡ Some n
+    by_test : (x : Bool) → (c == 120 || c == 88) ≡ x → (if x then mask_reads 16 cs else mask_reads 8 (c ∷ cs)) ≡ Some n
         → list_all is_plain_inside (c ∷ cs) ≡ true
     by_test true e f = rw (plain-letter c (grind (arith, nat_tests))) (number-plain 16 cs n (omega arith) f)
     by_test false e f = number-plain 8 (c ∷ cs) n (omega arith) f
@@ -176,7 +176,7 @@ short-plain [] n is = refl
 short-plain (c ∷ cs) n is = by_test (is_digit c 10) (c == 48) refl refl is
   where
     by_test : (d z : Bool) → is_digit c 10 ≡ d → (c == 48) ≡ z
-        → (if d then (if z then after_zero cs else number 10 (c ∷ cs)) else run_of all_rights (c ∷ cs)) ≡ Some n
+        → (if d then (if z then after_zero cs else mask_reads 10 (c ∷ cs)) else run_of all_rights (c ∷ cs)) ≡ Some n
         → list_all is_plain_inside (c ∷ cs) ≡ true
     by_test true true d z f = rw (digit-plain c 10 (omega arith) d) (after-zero-plain cs n f)
     by_test true false d z f = number-plain 10 (c ∷ cs) n (omega arith) f

@@ -8,8 +8,8 @@ use Rattle.sd_core.specs.Sid.{SecurityId}
 use Rattle.sd_view.specs.Acl.{acl_size, aces_size}
 use Rattle.sd_binary.specs.Builds.{Builds}
 use Rattle.sd_binary.specs.Draft.{IsOpen, IsOpenIn, more_in, open_size, open_size_in, with_ace}
-use Rattle.sd_reader.specs.Inner.FoldedReading.{FieldsRead, ace_of, large_in, with_trustee}
-use Rattle.sd_reader.specs.Inner.Reads.{HasRead}
+use Rattle.sd_reader.specs.Inner.FoldedReading.{FieldsRead, ace_of_fields, large_in, with_trustee}
+use Rattle.sd_reader.specs.Inner.Reads.{HasReadFields}
 use Rattle.sd_reader.specs.declared.reading.FieldReader.{FieldReader}
 use Rattle.sd_binary.specs.declared.builder.Builder.{Builder}
 use Rattle.sd_view.specs.declared.control.Which.{Which}
@@ -58,14 +58,14 @@ no-name None o e = o
 no-name (Some p) o e = absurd cc
 
 module _ (r : FieldReader) (buf buf' : List ℕ) (b' : Builder) (t : FieldsRead) (s : SecurityId)
-    (a : AccessControlEntry) (h : HasRead r buf t) (none : r.large ≡ None) (is : a ≡ ace_of t.ace s)
+    (a : AccessControlEntry) (h : HasReadFields r buf t) (none : r.large ≡ None) (is : a ≡ ace_of_fields t.ace s)
     (o : IsOpen t.parts) where
   nothing_large : t.large ≡ None
   nothing_large = sym h.large ∙ none
 
   -- the ACL would pass 65,535 bytes
   pub holds-large : 2 ^ 16 ≤ open_size t.parts + ace_size a
-      → HasRead (record r { builder = b'; large = r.open_acl }) buf' (with_trustee t s)
+      → HasReadFields (record r { builder = b'; large = r.open_acl }) buf' (with_trustee t s)
   holds-large large = record {
     sacl = h.sacl;
     dacl = h.dacl;
@@ -77,19 +77,19 @@ module _ (r : FieldReader) (buf buf' : List ℕ) (b' : Builder) (t : FieldsRead)
   }
     where
       now_large : (with_trustee t s).large ≡ option_map (λ p. p.0) t.parts.«open»
-      now_large = rw (nothing_large) (large-found t.parts.«open» (ace_of t.ace s) o (rw (is) at large))
+      now_large = rw (nothing_large) (large-found t.parts.«open» (ace_of_fields t.ace s) o (rw (is) at large))
 
   -- it has room for the ACE
   pub holds-more : (2 ^ 16 ≤ open_size t.parts + ace_size a → ⊥) → Builds b' buf' (with_ace a t.parts)
-      → HasRead (record r { builder = b' }) buf' (with_trustee t s)
+      → HasReadFields (record r { builder = b' }) buf' (with_trustee t s)
   holds-more fits built = record {
     sacl = h.sacl;
     dacl = h.dacl;
     ace = h.ace;
-    large = none ∙ sym (rw (nothing_large) (fits-found t.parts.«open» (ace_of t.ace s) o (rw (is) at fits)));
+    large = none ∙ sym (rw (nothing_large) (fits-found t.parts.«open» (ace_of_fields t.ace s) o (rw (is) at fits)));
     sound = h.sound;
     builds = λ e. (rw (is) at built);
-    open_acl = λ e. h.open_acl nothing_large ∙ sym (open-same t.parts.«open» (ace_of t.ace s));
+    open_acl = λ e. h.open_acl nothing_large ∙ sym (open-same t.parts.«open» (ace_of_fields t.ace s));
   }
 
 pub none-is : {A : Type 0} (x : Option A) → is_some x ≡ false → x ≡ None
@@ -97,7 +97,8 @@ none-is None e = refl
 none-is (Some x) e = absurd cc
 
 -- two readings that a reader holds have the same ACL open
-pub open-too : (r : FieldReader) (buf : List ℕ) (t u : FieldsRead) → HasRead r buf t → HasRead r buf u → r.large ≡ None
+pub open-too : (r : FieldReader) (buf : List ℕ) (t u : FieldsRead) → HasReadFields r buf t → HasReadFields r buf u
+    → r.large ≡ None
     → IsOpen t.parts → IsOpen u.parts
 open-too r buf t u h k none o =
     is_open_with t.parts.«open» u.parts.«open»

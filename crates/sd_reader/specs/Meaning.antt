@@ -21,7 +21,7 @@ use Rattle.sd_view.specs.declared.control.Which.TheVariants as which
 use Rattle.sd_view.specs.declared.control.AclFlags.{AclFlags}
 use Rattle.sd_view.specs.declared.control.TheConstants.{DACL_PRESENT, SACL_PRESENT, SELF_RELATIVE}
 use Rattle.sd_reader.specs.FieldTexts.{front_reads, kind_reads, object_reads}
-use Rattle.sd_reader.specs.Line.{Piece, Section, ace_cuts, aces, front, has_aces, has_twice, is_blank, is_shaped, parts_of, same_head, trim}
+use Rattle.sd_reader.specs.Line.{Piece, Section, ace_cuts, aces, front, has_aces, has_twice, is_blank, is_shaped, sections_of, same_head, trim}
 use Rattle.sd_reader.specs.declared.fault.SddlFault.{SddlFault}
 use Rattle.sd_reader.specs.declared.fault.SddlFault.TheVariants as fault
 use Rattle.sd_reader.specs.declared.line.Head.{Head}
@@ -83,9 +83,9 @@ pub data Said : Type 0 where
   acl_said : Which → AclFlags → AclPart → Said
 
 -- no ACE stands in a null ACL
-unfoldable pub entries_read : Option SecurityId → Bool → List Piece → Result AclPart SddlFault
-entries_read domain true body = if has_aces body then Err fault.Flags else Ok acl.Null
-entries_read domain false body = do
+unfoldable pub acl_part_reads : Option SecurityId → Bool → List Piece → Result AclPart SddlFault
+acl_part_reads domain true body = if has_aces body then Err fault.Flags else Ok acl.Null
+acl_part_reads domain false body = do
   entries ← each (λ a. ace_reads domain (ace_cuts a)) (aces body)
   Ok (acl.List entries)
 
@@ -96,7 +96,7 @@ body_reads domain (head.Sid p) body = do
   Ok (sid_said p s)
 body_reads domain (head.Acl w) body = do
   f ← field_reads fault.Flags front_reads (trim (front body))
-  entries ← entries_read domain f.null body
+  entries ← acl_part_reads domain f.null body
   Ok (acl_said w f.flags entries)
 
 abbrev pub section_reads : Option SecurityId → Section → Result Said SddlFault
@@ -165,5 +165,5 @@ sections_mean domain sections = do
 unfoldable pub means : List ℕ → Option SecurityId → Result Descriptor SddlFault
 means text domain =
     if not (is_shaped text) then Err fault.Shape
-    else (if has_twice (parts_of text).parts then Err fault.PartTwice
-    else sections_mean domain (parts_of text).parts)
+    else (if has_twice (sections_of text).parts then Err fault.PartTwice
+    else sections_mean domain (sections_of text).parts)

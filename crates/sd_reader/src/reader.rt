@@ -9,7 +9,7 @@ ghost use Rattle.sd_reader.specs.Inner.Held.{IsHeld, no_text, held_text};
 ghost use Rattle.sd_reader.specs.Line.{byte, head_at, head_of as head_named, pieces_from};
 ghost use Rattle.sd_reader.specs.Inner.FoldedReading.{FieldsRead, finished, reads_as, take_field};
 ghost use Rattle.sd_reader.specs.Meaning.{and_then, means};
-ghost use Rattle.sd_reader.specs.Inner.Reads.{CanTake, HasRead, Takes};
+ghost use Rattle.sd_reader.specs.Inner.Reads.{CanTake, HasReadFields, Takes};
 ghost use Rattle.sd_reader.specs.Inner.Progress.{ended_with, is_inside, is_seen, state_of, result_or, with_head};
 
 use crate::fault::SddlFault;
@@ -40,7 +40,7 @@ pub struct SddlReader {
 
 impl SddlReader {
     ghost use Rattle.sd_reader.specs.SddlReading.{IsReading, ReadsSddl};
-    ghost use Rattle.sd_reader.specs.Inner.Reads.{Ends, FedTo, HasRead, LineHasRead, IsCalm, IsReader, IsText, Reads, Steps, StepsOn, StepsText, answer_at, waiting};
+    ghost use Rattle.sd_reader.specs.Inner.Reads.{Ends, FedTo, HasReadFields, LineHasRead, IsCalm, IsReader, IsText, Reads, Steps, StepsOn, StepsText, answer_at, waiting};
 
     /// A reader that was fed nothing.
     pub fn new(domain: Option<Sid>, buf: &mut SdBuf) -> Self
@@ -227,7 +227,7 @@ impl SddlReader {
         requires here { is_inside self.old.state ≡ false }
         requires calm { IsCalm self.old }
         requires held { (t : FieldsRead) × LineHasRead self.old buf.old t }
-        ensures read { (t : FieldsRead) → LineHasRead self.old buf.old t → (u : FieldsRead) × (self.new.fault ≡ None → HasRead self.new.fields buf.new u)
+        ensures read { (t : FieldsRead) → LineHasRead self.old buf.old t → (u : FieldsRead) × (self.new.fault ≡ None → HasReadFields self.new.fields buf.new u)
             × (result_or u self.new.fault ≡ ended_with self.old.fields.domain self.old.state self.old.field (result_or t self.old.fault)) }
         ensures cleared { self.new.field ≡ no_text }
         ensures domain { self.new.fields.domain ≡ self.old.fields.domain }
@@ -435,8 +435,8 @@ fn end_field(
     slot: Slot,
 )
     requires clean { IsHeld field.old }
-    requires held { (t : FieldsRead) × (fault.old ≡ None → HasRead fields.old buf.old t × CanTake slot t) }
-    ensures read { (t : FieldsRead) → (fault.old ≡ None → HasRead fields.old buf.old t) → (u : FieldsRead) × (fault.new ≡ None → HasRead fields.new buf.new u)
+    requires held { (t : FieldsRead) × (fault.old ≡ None → HasReadFields fields.old buf.old t × CanTake slot t) }
+    ensures read { (t : FieldsRead) → (fault.old ≡ None → HasReadFields fields.old buf.old t) → (u : FieldsRead) × (fault.new ≡ None → HasReadFields fields.new buf.new u)
         × (result_or u fault.new ≡ and_then (result_or t fault.old) (λ r. take_field fields.old.domain r slot (held_text field.old))) }
     ensures cleared { field.new ≡ no_text }
     ensures domain { fields.new.domain ≡ fields.old.domain }
@@ -454,8 +454,8 @@ fn read_held(
     slot: Slot,
 )
     requires clean { IsHeld field.now }
-    requires held { (t : FieldsRead) × (fault.old ≡ None → HasRead fields.old buf.old t × CanTake slot t) }
-    ensures read { (t : FieldsRead) → (fault.old ≡ None → HasRead fields.old buf.old t) → (u : FieldsRead) × (fault.new ≡ None → HasRead fields.new buf.new u)
+    requires held { (t : FieldsRead) × (fault.old ≡ None → HasReadFields fields.old buf.old t × CanTake slot t) }
+    ensures read { (t : FieldsRead) → (fault.old ≡ None → HasReadFields fields.old buf.old t) → (u : FieldsRead) × (fault.new ≡ None → HasReadFields fields.new buf.new u)
         × (result_or u fault.new ≡ and_then (result_or t fault.old) (λ r. take_field fields.old.domain r slot (held_text field.now))) }
     ensures domain { fields.new.domain ≡ fields.old.domain }
 {
@@ -474,8 +474,8 @@ fn take_held(
     field: &FieldText,
 ) -> Result<(), SddlFault>
     requires clean { IsHeld field.now }
-    requires held { (t : FieldsRead) × HasRead fields.old buf.old t × CanTake slot t }
-    ensures read { (t : FieldsRead) → HasRead fields.old buf.old t → Takes (take_field fields.old.domain t slot (held_text field.now)) result fields.new buf.new }
+    requires held { (t : FieldsRead) × HasReadFields fields.old buf.old t × CanTake slot t }
+    ensures read { (t : FieldsRead) → HasReadFields fields.old buf.old t → Takes (take_field fields.old.domain t slot (held_text field.now)) result fields.new buf.new }
     ensures domain { fields.new.domain ≡ fields.old.domain }
 {
     if field.is_broken() {

@@ -8,7 +8,7 @@ use Rattle.std.specs.Str.Parse.{AllDigits, IsNumeral, digits_value}
 use Rattle.std.proofs.lemmas.Fmt.{digits_is_IsNumeral}
 use Rattle.std.proofs.lemmas.Bool.Decides.{nat_tests}
 use Rattle.sd_rights.specs.Names.{run_of, names_of, named_bits}
-use Rattle.sd_rights.specs.Rights.{all_rights, number, short_rights_reads, rights_reads, is_label, hex_text, names_or_hex, name_or, rights_text}
+use Rattle.sd_rights.specs.Rights.{all_rights, mask_reads, short_rights_reads, rights_reads, is_label, hex_text, names_or_hex, name_or, rights_text}
 use Rattle.sd_rights.specs.declared.kinds.AceKind.{AceKind}
 use Rattle.sd_rights.specs.declared.names.NamedBits.{NamedBits}
 use Rattle.sd_rights.specs.declared.rights_table.TheConstants.{SINGLES, SINGLE_BITS, COMPOUNDS, LABELS, LABEL_BITS}
@@ -143,7 +143,7 @@ all_digits base [] a = refl
 all_digits base (c ∷ cs) a = rw (lt-ltb (digit_value c) base a.0) (all_digits base cs a.1)
 
 number-reads : (base n : ℕ) (text : List ℕ) → IsNumeral base text → digits_value base text ≡ n → n < 2 ^ 32
-    → number base text ≡ Some n
+    → mask_reads base text ≡ Some n
 number-reads base n text i v s = rw (lt-ltb 0 (length text) i.0, all_digits base text i.1, v, lt-ltb n (2 ^ 32) s) refl
 
 length-hex : (mask : ℕ) → mask < 2 ^ 32 → length (hex_text mask) ≤ 10

@@ -23,20 +23,21 @@ abbrev pub is_numeral : ℕ → List ℕ → Bool
 is_numeral base text = nat_lt 0 (length text) && list_all (λ c. is_digit c base) text
 
 -- the number below 2 ^ 32 that the digits of a base write
-abbrev pub number : ℕ → List ℕ → Option ℕ
-number base text =
+abbrev pub mask_reads : ℕ → List ℕ → Option ℕ
+mask_reads base text =
     if is_numeral base text && nat_lt (digits_value base text) (2 ^ 32) then Some (digits_value base text) else None
 
 -- what follows a zero: x and hex digits, or octal digits, or nothing
 abbrev pub after_zero : List ℕ → Option ℕ
 after_zero [] = Some 0
-after_zero (c ∷ cs) = if c == char "x" || c == char "X" then number 16 cs else number 8 (c ∷ cs)
+after_zero (c ∷ cs) = if c == char "x" || c == char "X" then mask_reads 16 cs else mask_reads 8 (c ∷ cs)
 
 -- nothing, a number, or a run of names
 abbrev pub short_rights_reads : List ℕ → Option ℕ
 short_rights_reads [] = Some 0
 short_rights_reads (c ∷ cs) =
-    if is_digit c 10 then (if c == char "0" then after_zero cs else number 10 (c ∷ cs)) else run_of all_rights (c ∷ cs)
+    if is_digit c 10 then (if c == char "0" then after_zero cs else mask_reads 10 (c ∷ cs))
+    else run_of all_rights (c ∷ cs)
 
 -- the mask that the text of a field gives
 unfoldable pub rights_reads : List ℕ → Option ℕ

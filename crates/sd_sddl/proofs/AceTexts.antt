@@ -11,7 +11,7 @@ use Rattle.sd_core.specs.declared.naming.Naming.{Naming}
 use Rattle.sd_reader.specs.declared.line.AceField.{AceField}
 use Rattle.sd_reader.specs.declared.line.AceField.TheVariants as field
 use Rattle.sd_reader.specs.declared.line.Slot.TheVariants as slot
-use Rattle.sd_reader.specs.Line.{Cuts, cuts, with_cut}
+use Rattle.sd_reader.specs.Line.{Cuts, cut_at_semicolons, with_cut}
 use Rattle.sd_reader.specs.Inner.FoldedReading.{Field, ace_fields, ace_fields_from}
 use Rattle.sd_sddl.specs.Printed.{ace_text, flags_field, kind_field, kind_text, object_field, object_text, rights_field, trustee_field, trustee_text}
 use Rattle.sd_sddl.proofs.LineCuts.{IsInner, in_parentheses, is_inner_byte}
@@ -24,16 +24,17 @@ joined text [] = text
 joined text (t ∷ ts) = text ++ 59 ∷ joined t ts
 
 cuts-before : (text rest : List ℕ) → IsPlain text
-    → cuts (text ++ rest) ≡ record { first = text ++ (cuts rest).first; others = (cuts rest).others }
+    → cut_at_semicolons (text ++ rest)
+    ≡ record { first = text ++ (cut_at_semicolons rest).first; others = (cut_at_semicolons rest).others }
 cuts-before [] rest h = refl
 cuts-before (b ∷ bs) rest h =
     let parts = both (is_plain_byte b) _ h in
     ap (with_cut b) (cuts-before bs rest parts.1) ∙ rw (no_mark b parts.0).semicolon refl
 
 joined-cuts : (text : List ℕ) (ts : List (List ℕ)) → IsPlain text → AllByRecursion IsPlain ts
-    → cuts (joined text ts) ≡ record { first = text; others = ts }
+    → cut_at_semicolons (joined text ts) ≡ record { first = text; others = ts }
 joined-cuts text [] h k =
-    ap cuts (sym (append-nil text)) ∙ cuts-before text [] h
+    ap cut_at_semicolons (sym (append-nil text)) ∙ cuts-before text [] h
     ∙ ap (λ (t : List ℕ). record { first = t; others = [] }) (append-nil text)
 joined-cuts text (t ∷ ts) h k =
     cuts-before text (59 ∷ joined t ts) h
@@ -105,7 +106,7 @@ others-plain naming a h = (
 )
 
 inner-cuts : (naming : Naming) (a : AccessControlEntry) → IsAce a
-    → cuts (inner_text naming a) ≡ record { first = kind_text a.kind; others = other_texts naming a }
+    → cut_at_semicolons (inner_text naming a) ≡ record { first = kind_text a.kind; others = other_texts naming a }
 inner-cuts naming a h = joined-cuts (kind_text a.kind) (other_texts naming a) (kind-plain a.kind)
     (others-plain naming a h)
 

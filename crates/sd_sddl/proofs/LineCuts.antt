@@ -7,7 +7,7 @@ use Rattle.sd_view.specs.declared.control.Which.TheVariants as which
 use Rattle.sd_reader.specs.declared.line.Head.{Head}
 use Rattle.sd_reader.specs.declared.line.Head.TheVariants as head
 use Rattle.sd_reader.specs.declared.line.SidPart.TheVariants as sid_part
-use Rattle.sd_reader.specs.Line.{Piece, Pieces, Section, Sections, ace, begins_with_colon, byte, has_six_fields, head_of, is_paired, parts_of, pieces_from, sections}
+use Rattle.sd_reader.specs.Line.{Piece, LinePieces, Section, Sections, ace, begins_with_colon, byte, has_six_fields, head_of, is_paired, sections_of, pieces_from, sections}
 use Rattle.sd_sddl.proofs.PlainTexts.{IsPlain, is_plain_byte, no_mark}
 
 -- 1. The parts of a line as they are printed.
@@ -116,7 +116,7 @@ inner-cut : (inner : List ℕ) → IsInner inner → IsCutInto (in_parentheses i
 inner-cut inner h = record {
   pieces = λ rest.
       ap (λ (x : List ℕ). (pieces_from false (40 ∷ x)).after) (append_assoc inner (41 ∷ []) rest)
-      ∙ ap (λ (p : Pieces). ace p.held ∷ p.after) (inner-pieces inner rest h.bytes);
+      ∙ ap (λ (p : LinePieces). ace p.held ∷ p.after) (inner-pieces inner rest h.bytes);
   paired = λ rest. ap (is_paired true) (append_assoc inner (41 ∷ []) rest) ∙ inner-paired inner rest h.bytes;
 }
 
@@ -242,5 +242,5 @@ line-sections (p ∷ ps) h =
     (append-nil (body_pieces p.body))
 
 pub line-parts : (ps : List Part) → AllByRecursion IsPart ps
-    → parts_of (flat_map part_text ps) ≡ record { before = []; parts = map section_of ps }
+    → sections_of (flat_map part_text ps) ≡ record { before = []; parts = map section_of ps }
 line-parts ps h = ap sections (line-pieces ps h) ∙ line-sections ps h

@@ -8,7 +8,7 @@ use Rattle.sd_reader.specs.declared.line.Head.TheVariants as head
 use Rattle.sd_reader.specs.declared.line.SidPart.TheVariants as sid_part
 use Rattle.sd_reader.specs.declared.line.Slot.TheVariants as slot
 use Rattle.sd_reader.specs.Inner.FoldedReading.{Field, ace_fields, fields_in, fields_of}
-use Rattle.sd_reader.specs.Line.{Sections, ace, aces, are_aces, are_shaped, byte, front, has_aces, has_twice, is_acl_body, is_blank_piece, is_body, is_shaped, is_sid_body, parts_of, trim, trim_end}
+use Rattle.sd_reader.specs.Line.{Sections, ace, aces, are_aces, are_shaped, byte, front, has_aces, has_twice, is_acl_body, is_blank_piece, is_body, is_shaped, is_sid_body, sections_of, trim, trim_end}
 use Rattle.sd_sddl.proofs.LineCuts.{Body, IsInner, IsPart, MayHold, Part, body_pieces, line-paired, line-parts, part_text, section_of}
 use Rattle.sd_sddl.proofs.PlainTexts.{IsPlain, is_plain_byte, no_mark}
 
@@ -41,8 +41,8 @@ parts-shaped (p ∷ ps) h = rw (body-shaped p.head p.body h.0.plain h.0.inners h
 
 pub line-shaped : (ps : List Part) → AllByRecursion IsPart ps → is_shaped (flat_map part_text ps) ≡ true
 line-shaped ps h =
-    ap (λ (b : Bool). b && (list_all is_blank_piece (parts_of (flat_map part_text ps)).before && are_shaped
-    (parts_of (flat_map part_text ps)).parts)) (line-paired ps h)
+    ap (λ (b : Bool). b && (list_all is_blank_piece (sections_of (flat_map part_text ps)).before && are_shaped
+    (sections_of (flat_map part_text ps)).parts)) (line-paired ps h)
     ∙ ap (λ (s : Sections). list_all is_blank_piece s.before && are_shaped s.parts) (line-parts ps h)
     ∙ parts-shaped ps h
 
@@ -127,5 +127,5 @@ parts-fields [] h = refl
 parts-fields (p ∷ ps) h = rw (part-fields p.head p.body h.0.plain, parts-fields ps h.1) refl
 
 pub line-fields : (ps : List Part) → AllByRecursion IsPart ps
-    → fields_of (parts_of (flat_map part_text ps)).parts ≡ flat_map part_fields ps
+    → fields_of (sections_of (flat_map part_text ps)).parts ≡ flat_map part_fields ps
 line-fields ps h = ap (λ (s : Sections). fields_of s.parts) (line-parts ps h) ∙ parts-fields ps h

@@ -4,8 +4,8 @@ use Rattle.std.specs.List.{list_all, flat_map}
 use Rattle.sd_core.specs.Sid.{SecurityId}
 use Rattle.sd_view.specs.declared.control.Which.TheVariants as which
 use Rattle.sd_reader.specs.Inner.Held.{Held, held_text}
-use Rattle.sd_reader.specs.Inner.FoldedReading.{Field, FieldsRead, ace_fields, ace_fields_from, fields_of, read_fields, take_field, verdict}
-use Rattle.sd_reader.specs.Line.{Piece, Section, Sections, aces, are_aces, are_shaped, cuts, front, has_aces, has_twice, is_acl_body, is_blank, is_blank_piece, is_paired, is_sid_body, pieces_from, sections, trim}
+use Rattle.sd_reader.specs.Inner.FoldedReading.{Field, FieldsRead, ace_fields, ace_fields_from, fields_of, read_fields, take_field, if_shaped}
+use Rattle.sd_reader.specs.Line.{Piece, Section, Sections, aces, are_aces, are_shaped, cut_at_semicolons, front, has_aces, has_twice, is_acl_body, is_blank, is_blank_piece, is_paired, is_sid_body, pieces_from, sections, trim}
 use Rattle.sd_reader.specs.Meaning.{and_then}
 use Rattle.sd_reader.specs.declared.fault.SddlFault.{SddlFault}
 use Rattle.sd_reader.specs.declared.line.AceField.{AceField}
@@ -40,7 +40,7 @@ is_shaped_here state.Before held ps = list_all is_blank_piece ps
 is_shaped_here (state.Sid p) held ps = is_sid_body ps
 is_shaped_here (state.AclFlags w) held ps = is_acl_body ps
 is_shaped_here state.AfterAce held ps = are_aces ps
-is_shaped_here (state.Ace f) held ps = length (cuts held).others == fields_left f && are_aces ps
+is_shaped_here (state.Ace f) held ps = length (cut_at_semicolons held).others == fields_left f && are_aces ps
 
 -- a text that does not read
 abbrev pub unreadable : List ℕ
@@ -64,7 +64,8 @@ fields_here (state.AclFlags w) h held ps =
     record { slot = slot.AclFlags w (has_aces ps); text = text_with h (front ps) } ∷ flat_map ace_fields (aces ps)
 fields_here state.AfterAce h held ps = flat_map ace_fields (aces ps)
 fields_here (state.Ace f) h held ps =
-    ace_fields_from f (inner_with h (cuts held).first) (cuts held).others ++ flat_map ace_fields (aces ps)
+    ace_fields_from f (inner_with h (cut_at_semicolons held).first) (cut_at_semicolons held).others
+    ++ flat_map ace_fields (aces ps)
 
 abbrev pub is_seen : Seen → Head → Bool
 is_seen s (head.Sid sid_part.Owner) = s.owner
@@ -92,7 +93,7 @@ unfoldable pub judged : Option SecurityId → Bool → Bool → Seen → Result 
     → List ℕ
     → Sections → Result FieldsRead SddlFault
 judged domain sound twice seen read state h paired held ss =
-    verdict (sound && (paired && (is_shaped_here state held ss.before && are_shaped ss.parts)))
+    if_shaped (sound && (paired && (is_shaped_here state held ss.before && are_shaped ss.parts)))
     (twice || (has_seen seen ss.parts || has_twice ss.parts))
     (and_then read (read_fields domain (fields_here state h held ss.before ++ fields_of ss.parts)))
 

@@ -8,7 +8,7 @@ use Rattle.sd_core.specs.Sid.{SecurityId}
 use Rattle.sd_view.specs.Descriptor.{Descriptor, Shows}
 use Rattle.sd_view.specs.declared.acl.AclPart.TheVariants as acl
 use Rattle.sd_binary.specs.Builds.{Builds}
-use Rattle.sd_binary.specs.Draft.{IsOpen, IsWritten, acl_of, closed}
+use Rattle.sd_binary.specs.Draft.{IsOpen, IsWritten, draft_acl, closed}
 use Rattle.sd_reader.specs.Inner.Held.{IsHeld}
 use Rattle.sd_reader.specs.Line.{byte, head_at, pieces_from, same_head}
 use Rattle.sd_reader.specs.Inner.FoldedReading.{FieldsRead, reads_as}
@@ -32,7 +32,7 @@ use Rattle.sd_reader.specs.declared.reader.SddlReader.{SddlReader}
 abbrev pub Lacks : Head → FieldsRead → Type 0
 Lacks (head.Sid sid_part.Owner) r = r.parts.owner ≡ None
 Lacks (head.Sid sid_part.Group) r = r.parts.group ≡ None
-Lacks (head.Acl w) r = acl_of w (closed r.parts) ≡ acl.Absent
+Lacks (head.Acl w) r = draft_acl w (closed r.parts) ≡ acl.Absent
 
 -- a field's part is not given yet, or its ACL is open
 abbrev pub CanTake : Slot → FieldsRead → Type 0
@@ -46,7 +46,7 @@ pub record AreAceFields (f : AceFields) : Type 0 where
   pub fit : GuidsFit (is_object f.kind) f.object f.inherited
 
 -- The reader has read this, and as long as no ACL is too large it is in the buffer.
-pub record HasRead (r : FieldReader) (buf : List ℕ) (t : FieldsRead) : Type 0 where
+pub record HasReadFields (r : FieldReader) (buf : List ℕ) (t : FieldsRead) : Type 0 where
   pub sacl : r.sacl ≡ t.sacl
   pub dacl : r.dacl ≡ t.dacl
   pub ace : r.ace ≡ t.ace
@@ -57,7 +57,7 @@ pub record HasRead (r : FieldReader) (buf : List ℕ) (t : FieldsRead) : Type 0 
 
 -- a field was read, or is the fault
 abbrev pub Takes : {X : Type 0} → Result FieldsRead SddlFault → Result X SddlFault → FieldReader → List ℕ → Type 0
-Takes wanted (Ok x) r buf = (u : FieldsRead) × HasRead r buf u × (wanted ≡ Ok u)
+Takes wanted (Ok x) r buf = (u : FieldsRead) × HasReadFields r buf u × (wanted ≡ Ok u)
 Takes wanted (Err e) r buf = wanted ≡ Err e
 
 -- the buffer shows the descriptor in its written form, or is a refusal's
@@ -95,7 +95,7 @@ pub record Fits (p : State) (seen : Seen) (t : FieldsRead) : Type 0 where
 
 -- as long as there is no fault, what was read is held
 pub record LineHasRead (s : SddlReader) (buf : List ℕ) (t : FieldsRead) : Type 0 where
-  pub fields : s.fault ≡ None → HasRead s.fields buf t
+  pub fields : s.fault ≡ None → HasReadFields s.fields buf t
   pub fits : s.fault ≡ None → Fits s.state s.seen t
 
 -- a step over some bytes: whatever was read before it, something is read after it that gives the same answers

@@ -8,7 +8,7 @@ use Rattle.sd_rights.specs.declared.kinds.AceKind.{AceKind}
 use Rattle.sd_reader.specs.FieldTexts.{object_reads}
 use Rattle.sd_reader.specs.Inner.FoldedReading.{FieldsRead, take_field, with_trustee}
 use Rattle.sd_reader.specs.Inner.Held.{is_plain_inside}
-use Rattle.sd_reader.specs.Inner.Reads.{HasRead}
+use Rattle.sd_reader.specs.Inner.Reads.{HasReadFields}
 use Rattle.sd_reader.specs.Meaning.{and_then}
 use Rattle.sd_reader.specs.declared.fault.SddlFault.{SddlFault}
 use Rattle.sd_reader.specs.declared.line.AceField.{AceField}
@@ -83,7 +83,8 @@ pub record EndsAce (old : FieldReader) (before : List ℕ) (f : AceFields) (text
     (after rest : List ℕ) : Type 0 where
   pub trustee : SecurityId
   pub sid : FieldAt (λ t. sid_reads t old.domain ≡ Ok trustee) 41 text rest
-  pub held : (t : FieldsRead) → HasRead old before t → HasRead new after (with_trustee (record t { ace = f }) trustee)
+  pub held : (t : FieldsRead) → HasReadFields old before t
+      → HasReadFields new after (with_trustee (record t { ace = f }) trustee)
 
 -- the same, with object types before it
 pub record EndsWithObjects (old : FieldReader) (before : List ℕ) (f : AceFields) (text : List ℕ) (new : FieldReader)
@@ -98,5 +99,5 @@ pub record EndsWithObjects (old : FieldReader) (before : List ℕ) (f : AceField
 abbrev pub TakesAce : FieldReader → List ℕ → List ℕ → FieldReader → List ℕ → List ℕ → Type 0
 TakesAce old before text new after rest =
     (a : AceTexts) × AreWhole a × (text ≡ ace_before a rest)
-    × ((t : FieldsRead) → HasRead old before t → (u : FieldsRead) × HasRead new after u
+    × ((t : FieldsRead) → HasReadFields old before t → (u : FieldsRead) × HasReadFields new after u
     × (with_texts old.domain a (Ok t) ≡ Ok u))
