@@ -3,7 +3,7 @@ use Rattle.std.proofs.Common.{◌≡◌, ◌≤◌, ◌<◌, ℕ, zero, suc, ◌
 use Rattle.std.specs.Prelude.{◌==◌, nat_lt, nat_le, if◌then◌else◌}
 use Rattle.std.specs.Char.{to_ascii_uppercase}
 use Rattle.std.specs.List.{find, list_all}
-use Rattle.std.specs.Option.{option_and_then}
+use Rattle.std.specs.Option.{option_and_then, option_map}
 use Rattle.std.proofs.lemmas.Bool.Decides.{nat_tests}
 use Rattle.std.proofs.lemmas.List.Elements.{All-from_get_or}
 use Rattle.uuid.specs.Text.{by_index, byte_of_digits, digits_of, has_hyphens, is_hex_digit, parsed_simple, value_of}
@@ -11,9 +11,9 @@ use Rattle.uuid.proofs.TextLemmas.{by_index_at, by_index_length}
 use Rattle.sd_core.specs.Ace.{IsGuid}
 use Rattle.sd_core.specs.GuidText.{guid_reads}
 use Rattle.sd_core.specs.Sid.{AreWords, IsSid, SecurityId}
-use Rattle.sd_core.specs.SidText.{all_read, also, are_letters, are_numbers, are_subs, authority_reads, begins_with_s1, decimal_reads, has_form, is_decimal, is_hex, known_named, known_sid, letters_read, name_reads, numbers_read, or_number_fault, cut_at_dashes, relative_named, sid_in, sid_of_numbers, sid_reads, usable}
+use Rattle.sd_core.specs.SidText.{decimals_read, are_letters, are_numbers, are_subs, authority_reads, begins_with_s1, decimal_reads, has_form, is_decimal, is_hex, known_named, known_sid, letters_read, name_reads, numbers_read, or_number_fault, cut_at_dashes, relative_named, sid_in, sid_of_numbers, sid_reads, usable}
 use Rattle.sd_rights.specs.Numbers.{number_after, number as number_below}
-use Rattle.sd_core.specs.SidText.{Cuts}
+use Rattle.sd_rights.specs.Cuts.{Cuts}
 use Rattle.sd_core.specs.declared.alias.WellKnown.{WellKnown}
 use Rattle.sd_core.specs.declared.alias.DomainRelative.{DomainRelative}
 use Rattle.sd_core.specs.declared.alias.TheConstants.{WELL_KNOWN, DOMAIN_RELATIVE}
@@ -94,20 +94,20 @@ tested-words (n ∷ ns) e =
 AreRead : ℕ → List ℕ → Type 0
 AreRead count ns = (length ns ≡ count) × AreWords ns
 
-all-limits : (texts : List (List ℕ)) → IfSome (all_read texts) (AreRead (length texts))
+all-limits : (texts : List (List ℕ)) → IfSome (decimals_read texts) (AreRead (length texts))
 unfolding AreRead
 all-limits [] = (refl, no_words)
-all-limits (t ∷ ts) = joined (decimal_reads t) (all_read ts) (decimal-limit t) (all-limits ts)
+all-limits (t ∷ ts) = joined (decimal_reads t) (decimals_read ts) (decimal-limit t) (all-limits ts)
   where
     joined : (o : Option ℕ) (p : Option (List ℕ)) → IfSome o (λ n. n < 2 ^ 32) → IfSome p (AreRead (length ts))
-        → IfSome (also o p) (AreRead (length (t ∷ ts)))
+        → IfSome (option_and_then (λ n. option_map (λ ns. n ∷ ns) p) o) (AreRead (length (t ∷ ts)))
     joined None p h k = tt
     joined (Some n) None h k = tt
     joined (Some n) (Some ns) h k = (ap suc k.0, words-more n ns h k.1)
 
 numbers-limits : (p : Cuts) → length p.others ≤ 15 → IfSome (numbers_read p) IsSid
 unfolding numbers_read AreRead
-numbers-limits p few = joined (authority_reads p.first) (all_read p.others) (authority-limit p.first)
+numbers-limits p few = joined (authority_reads p.first) (decimals_read p.others) (authority-limit p.first)
     (all-limits p.others)
   where
     joined : (o : Option ℕ) (q : Option (List ℕ)) → IfSome o (λ n. n < 2 ^ 48) → IfSome q (AreRead (length p.others))

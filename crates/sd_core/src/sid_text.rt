@@ -8,7 +8,8 @@ ghost use Rattle.sd_sink.specs.Print.{Prints};
 ghost use Rattle.sd_sink.specs.Sink.{Puts};
 ghost use Rattle.sd_rights.specs.Limits.{most_subs};
 ghost use Rattle.sd_rights.specs.Numbers.{number};
-ghost use Rattle.sd_core.specs.SidText.{all_cuts, all_read, are_letters, are_numbers, are_subs, authority_reads, authority_text, begins_with_s1, decimal_reads, has_form, is_decimal, is_hex, is_sid_byte, numbers_read, or_number_fault, cut_at_dashes, sid_front, sid_reads, sid_text, sub_text};
+ghost use Rattle.sd_rights.specs.Cuts.{all_cuts};
+ghost use Rattle.sd_core.specs.SidText.{decimals_read, are_letters, are_numbers, are_subs, authority_reads, authority_text, begins_with_s1, decimal_reads, has_form, is_decimal, is_hex, is_sid_byte, numbers_read, or_number_fault, cut_at_dashes, sid_front, sid_reads, sid_text, sub_text};
 
 use crate::alias::read_letters;
 use crate::sid::Sid;
@@ -322,7 +323,7 @@ fn read_authority(text: &[u8]) -> Option<u64>
 fn read_subs(text: &[u8], subs: &mut [u32; MOST_SUBS]) -> Option<usize>
     requires { length (all_cuts (cut_at_dashes text.now)) ≤ most_subs }
     ensures count { IfSome result (λ n. n ≤ most_subs) }
-    ensures numbers { option_map (λ n. take n subs.new) result ≡ all_read (all_cuts (cut_at_dashes text.now)) }
+    ensures numbers { option_map (λ n. take n subs.new) result ≡ decimals_read (all_cuts (cut_at_dashes text.now)) }
 {
     let mut rest = text;
     let mut count = 0;

@@ -4,7 +4,8 @@ ghost use Rattle.std.specs.Prelude.{◌≡◌, ◌≤◌, ◌<◌, ◌+◌, ◌^
 ghost use Rattle.std.specs.Char.{is_digit};
 ghost use Rattle.std.specs.List.{list_all};
 ghost use Rattle.sd_rights.specs.Numbers.{number_after};
-ghost use Rattle.sd_core.specs.SidText.{all_cuts, all_read, are_numbers, are_subs, decimal_reads, has_form, is_decimal, numbers_read, cut_at_dashes, sid_front};
+ghost use Rattle.sd_rights.specs.Cuts.{all_cuts};
+ghost use Rattle.sd_core.specs.SidText.{decimals_read, are_numbers, are_subs, decimal_reads, has_form, is_decimal, numbers_read, cut_at_dashes, sid_front};
 
 use crate::sid::Sid;
 use crate::sid_text::{begins_with_s1, is_sid_byte};
@@ -60,7 +61,7 @@ fn usual_subs<'a>(text: &'a [u8], sid: &mut Sid) -> Option<&'a [u8]>
     requires none { sid.old.subs ≡ [] }
     requires ends { (cut_at_dashes (sid_front text.now)).first ≡ [] }
     ensures form { IfSome result (λ _. are_subs 0 (cut_at_dashes (sid_front text.now)).others ≡ true) }
-    ensures numbers { IfSome result (λ _. all_read (cut_at_dashes (sid_front text.now)).others ≡ Some sid.new.subs) }
+    ensures numbers { IfSome result (λ _. decimals_read (cut_at_dashes (sid_front text.now)).others ≡ Some sid.new.subs) }
     ensures size { IfSome result (λ r. length (sid_front text.now) + length r.now ≡ length text.now) }
     ensures authority { sid.new.authority ≡ sid.old.authority }
 {

@@ -1,5 +1,5 @@
 -- The texts of access rights (MS-DTYP 2.5.1.1, ace-rights).
-use Rattle.std.specs.Prelude.{ℕ, ◌^◌, Bool, true, false, ◌&&◌, ◌||◌, ◌==◌, nat_lt, if◌then◌else◌, List, [], ◌∷◌, ◌++◌, length, Option, Some, None}
+use Rattle.std.specs.Prelude.{ℕ, ◌^◌, Bool, true, false, ◌&&◌, ◌||◌, ◌==◌, nat_lt, if◌then◌else◌, List, [], ◌∷◌, ◌++◌, length, codes, Option, Some, None, option_map, unwrap_or}
 use Rattle.std.specs.List.{find, list_all}
 use Rattle.std.specs.Char.{is_digit}
 use Rattle.std.specs.Fmt.{digits}
@@ -50,19 +50,18 @@ is_label kinds.Label = true
 is_label other = false
 
 abbrev pub hex_text : ℕ → List ℕ
-hex_text mask = 48 ∷ 120 ∷ digits 16 false mask
+hex_text mask = codes "0x" ++ digits 16 false mask
 
 -- the names of a mask that is made of bits with names, and else its hex text
 abbrev pub names_or_hex : List NamedBits → ℕ → List ℕ
 names_or_hex table mask = if named_bits table mask == mask then names_of table mask else hex_text mask
 
--- the name, or else another text
-abbrev pub name_or : Option NamedBits → List ℕ → List ℕ
-name_or None other = other
-name_or (Some e) other = e.first ∷ e.second ∷ []
+-- the two letters of a name
+abbrev pub name_letters : NamedBits → List ℕ
+name_letters e = e.first ∷ e.second ∷ []
 
 unfoldable pub rights_text : AceKind → ℕ → List ℕ
 rights_text kind mask =
     if mask == 0 then hex_text 0
     else (if is_label kind then names_or_hex LABELS mask
-    else name_or (find (λ e. e.bits == mask) COMPOUNDS) (names_or_hex SINGLES mask))
+    else unwrap_or (option_map name_letters (find (λ e. e.bits == mask) COMPOUNDS)) (names_or_hex SINGLES mask))

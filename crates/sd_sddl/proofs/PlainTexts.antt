@@ -14,7 +14,7 @@ use Rattle.sd_rights.specs.Flags.{flags_text}
 use Rattle.sd_core.specs.GuidText.{guid_text}
 use Rattle.sd_rights.specs.Kinds.{kind_entry, kind_letters}
 use Rattle.sd_rights.specs.Names.{named_bits, names_of}
-use Rattle.sd_rights.specs.Rights.{hex_text, is_label, name_or, names_or_hex, rights_text}
+use Rattle.sd_rights.specs.Rights.{hex_text, is_label, names_or_hex, rights_text, name_letters}
 use Rattle.sd_core.specs.Sid.{IsSid, SecurityId}
 use Rattle.sd_core.specs.SidText.{alias_of, is_sid_byte, sid_text}
 use Rattle.sd_rights.specs.declared.kinds.AceKind.{AceKind}
@@ -30,7 +30,6 @@ use Rattle.sd_reader.specs.Line.{is_blank}
 use Rattle.sd_reader.specs.Meaning.{is_unreadable}
 use Rattle.sd_view.specs.declared.control.AclFlags.{AclFlags}
 use Rattle.sd_sddl.specs.Printed.{acl_flags_text, kind_text, object_text, text_if, trustee_text}
-use Rattle.sd_sddl.specs.Printed.{name_or as alias_or}
 
 -- 1. Plain bytes.
 
@@ -168,14 +167,14 @@ names_or_hex-plain es mask h small = by_bits (named_bits es mask == mask)
     by_bits false = hex-plain mask small
 
 found-plain : (es : List NamedBits) (mask : ℕ) (other : List ℕ) → list_all is_plain_name es ≡ true → IsPlain other
-    → IsPlain (name_or (find (λ e. e.bits == mask) es) other)
+    → IsPlain (unwrap_or (option_map name_letters (find (λ e. e.bits == mask) es)) other)
 found-plain [] mask other h k = k
 found-plain (e ∷ es) mask other h k =
     let parts = both (is_plain_name e) _ h in
     by_bits (e.bits == mask) parts.0 (found-plain es mask other parts.1 k)
   where
-    by_bits : (b : Bool) → is_plain_name e ≡ true → IsPlain (name_or (find (λ n. n.bits == mask) es) other)
-        → IsPlain (name_or (if b then Some e else find (λ n. n.bits == mask) es) other)
+    by_bits : (b : Bool) → is_plain_name e ≡ true → IsPlain (unwrap_or (option_map name_letters (find (λ n. n.bits == mask) es)) other)
+        → IsPlain (unwrap_or (option_map name_letters (if b then Some e else find (λ n. n.bits == mask) es)) other)
     by_bits true name others = two_bytes e [] name refl
     by_bits false name others = others
 
@@ -185,7 +184,7 @@ rights-plain kind mask small = by_zero (mask == 0) (is_label kind)
   where
     by_zero : (z label : Bool)
         → IsPlain (if z then hex_text
-        0 else (if label then names_or_hex LABELS mask else name_or (find (λ e. e.bits == mask) COMPOUNDS)
+        0 else (if label then names_or_hex LABELS mask else unwrap_or (option_map name_letters (find (λ e. e.bits == mask) COMPOUNDS))
         (names_or_hex SINGLES mask)))
     by_zero true label = hex-plain 0 (omega arith)
     by_zero false true = names_or_hex-plain LABELS mask labels_are_plain small
