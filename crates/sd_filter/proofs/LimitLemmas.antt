@@ -11,7 +11,8 @@ use Rattle.sd_reader.specs.Meaning.{means}
 use Rattle.sd_reader.specs.declared.fault.SddlFault.{SddlFault}
 use Rattle.sd_reader.proofs.MeansLimits.{means-limits}
 use Rattle.sd_view.specs.Descriptor.{Descriptor, IsDescriptor}
-use Rattle.sd_view.specs.Reading.{fault, reading, shown, unless}
+use Rattle.sd_rights.specs.Chains.{unless}
+use Rattle.sd_view.specs.Reading.{fault, reading, shown}
 use Rattle.sd_binary.specs.Text.{base64_spells, hex_spells, or_digit_fault}
 use Rattle.sd_binary.specs.declared.buffer.TextFault.{TextFault}
 use Rattle.sd_view.specs.declared.fault.SdFault.{SdFault}

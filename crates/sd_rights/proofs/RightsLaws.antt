@@ -176,7 +176,8 @@ whole-reads (e ∷ es) mask other h letters r =
   where
     by_bits : (b : Bool) → (e.bits == mask) ≡ b
         → rights_reads (unwrap_or (option_map name_letters (find (λ n. n.bits == mask) es)) other) ≡ Some mask
-        → rights_reads (unwrap_or (option_map name_letters (if b then Some e else find (λ n. n.bits == mask) es)) other) ≡ Some mask
+        → rights_reads (unwrap_or (option_map name_letters (if b then Some e else find (λ n. n.bits == mask) es)) other)
+        ≡ Some mask
     by_bits true same more = one_name e (and_first (reads_in all_rights e) _ h) (and_first (is_letter e) _ letters)
         ∙ ap Some (eqb-true e.bits mask same)
     by_bits false same more = more
@@ -186,9 +187,8 @@ unfolding rights_text
 rights_read_back kind mask s = by_zero (mask == 0) refl (is_label kind)
   where
     by_zero : (z : Bool) → (mask == 0) ≡ z → (label : Bool)
-        → rights_reads (if z then hex_text
-        0 else (if label then names_or_hex LABELS mask else unwrap_or (option_map name_letters (find (λ e. e.bits == mask) COMPOUNDS))
-        (names_or_hex SINGLES mask))) ≡ Some mask
+        → rights_reads (if z then hex_text 0 else (if label then names_or_hex LABELS mask
+        else unwrap_or (option_map name_letters (find (λ e. e.bits == mask) COMPOUNDS)) (names_or_hex SINGLES mask))) ≡ Some mask
     by_zero true e label = hex_reads 0 (omega arith) ∙ ap Some (sym (eqb-true mask 0 e))
     by_zero false e true = names_or_hex-reads LABELS mask labels_read labels_letters (omega arith) s
     by_zero false e false = whole-reads COMPOUNDS mask (names_or_hex SINGLES mask) compounds_read compounds_letters
@@ -214,9 +214,8 @@ unfolding rights_text
 rights_text-length kind mask s = by_zero (mask == 0) (is_label kind)
   where
     by_zero : (z label : Bool)
-        → length (if z then hex_text
-        0 else (if label then names_or_hex LABELS mask else unwrap_or (option_map name_letters (find (λ e. e.bits == mask) COMPOUNDS))
-        (names_or_hex SINGLES mask))) ≤ 34
+        → length (if z then hex_text 0 else (if label then names_or_hex LABELS mask
+        else unwrap_or (option_map name_letters (find (λ e. e.bits == mask) COMPOUNDS)) (names_or_hex SINGLES mask))) ≤ 34
     by_zero true label = omega (arith, length-hex 0 (omega arith))
     by_zero false true = names_or_hex-length LABELS mask (omega arith) s
     by_zero false false = letters-length (find (λ e. e.bits == mask) COMPOUNDS) (names_or_hex SINGLES mask)

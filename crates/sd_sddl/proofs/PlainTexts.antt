@@ -173,7 +173,8 @@ found-plain (e ∷ es) mask other h k =
     let parts = both (is_plain_name e) _ h in
     by_bits (e.bits == mask) parts.0 (found-plain es mask other parts.1 k)
   where
-    by_bits : (b : Bool) → is_plain_name e ≡ true → IsPlain (unwrap_or (option_map name_letters (find (λ n. n.bits == mask) es)) other)
+    by_bits : (b : Bool) → is_plain_name e ≡ true
+        → IsPlain (unwrap_or (option_map name_letters (find (λ n. n.bits == mask) es)) other)
         → IsPlain (unwrap_or (option_map name_letters (if b then Some e else find (λ n. n.bits == mask) es)) other)
     by_bits true name others = two_bytes e [] name refl
     by_bits false name others = others
@@ -183,9 +184,8 @@ unfolding rights_text
 rights-plain kind mask small = by_zero (mask == 0) (is_label kind)
   where
     by_zero : (z label : Bool)
-        → IsPlain (if z then hex_text
-        0 else (if label then names_or_hex LABELS mask else unwrap_or (option_map name_letters (find (λ e. e.bits == mask) COMPOUNDS))
-        (names_or_hex SINGLES mask)))
+        → IsPlain (if z then hex_text 0 else (if label then names_or_hex LABELS mask
+        else unwrap_or (option_map name_letters (find (λ e. e.bits == mask) COMPOUNDS)) (names_or_hex SINGLES mask)))
     by_zero true label = hex-plain 0 (omega arith)
     by_zero false true = names_or_hex-plain LABELS mask labels_are_plain small
     by_zero false false = found-plain COMPOUNDS mask (names_or_hex SINGLES mask) compounds_are_plain

@@ -22,7 +22,8 @@ use Rattle.sd_view.specs.declared.fault.AclFault.{AclFault}
 use Rattle.sd_view.specs.declared.fault.AclFault.TheVariants as faults
 use Rattle.sd_view.specs.Ace.{ShowsAce, ShowsGuid, announces_inherited, announces_object}
 use Rattle.sd_view.specs.Acl.{BeginsWithAcl, IsAcl, ShowsAces, ShowsAcl, acl_size, aces_size}
-use Rattle.sd_view.specs.AclReading.{IsReadableAce, IsReadableAcl, ace_fault, ace_of, aces_fault, aces_of, acl_fault, acl_of, acl_at_front, first, guid_if, inherited_in, kind_in, object_in, extent_fault, sid_offset_in}
+use Rattle.std.specs.Option.{option_or}
+use Rattle.sd_view.specs.AclReading.{IsReadableAce, IsReadableAcl, ace_fault, ace_of, aces_fault, aces_of, acl_fault, acl_of, acl_at_front, guid_if, inherited_in, kind_in, object_in, extent_fault, sid_offset_in}
 use Rattle.sd_view.proofs.FirstFault.{first_none, went_on, passed}
 
 -- one ACE of the count read
@@ -259,9 +260,10 @@ shows-aces (a ∷ others) left h =
     let front : take (length extent) (extent ++ rest) ≡ extent = take_at extent rest (length extent) refl in
     let back : drop (length extent) (extent ++ rest) ≡ rest = drop_at extent rest (length extent) refl in
     let head = (shows-extent extent a h.3).1 in
-    let P : List ℕ → Type 0 = λ xs. (first (ace_fault xs) (aces_fault (length others) (drop (u16_at 2 xs) xs)) ≡ None)
+    let P : List ℕ → Type 0 =
+    λ xs. (option_or (ace_fault xs) (aces_fault (length others) (drop (u16_at 2 xs) xs)) ≡ None)
     × (ace_of (take (u16_at 2 xs) xs) ∷ aces_of (length others) (drop (u16_at 2 xs) xs) ≡ a ∷ others) in
-    let fault : first (ace_fault (extent ++ rest))
+    let fault : option_or (ace_fault (extent ++ rest))
     (aces_fault (length others) (drop (u16_at 2 (extent ++ rest)) (extent ++ rest))) ≡ None =
     rw (head-ace.0, size, back) tail.0 in
     let items : ace_of (take (u16_at 2 (extent ++ rest)) (extent ++ rest)) ∷ aces_of (length others)

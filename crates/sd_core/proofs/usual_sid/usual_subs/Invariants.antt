@@ -10,8 +10,8 @@ invariant-loop-next l = record {
   ends : (cut_at_dashes (sid_front l.rest)).first ≡ [];
   form : are_subs (length l.sid.subs) (cut_at_dashes (sid_front l.rest)).others
       ≡ are_subs 0 (cut_at_dashes (sid_front l.text)).others;
-  numbers : option_map (λ ns. l.sid.subs ++ ns) (decimals_read (cut_at_dashes (sid_front l.rest)).others) ≡ decimals_read
-      (cut_at_dashes (sid_front l.text)).others;
+  numbers : option_map (λ ns. l.sid.subs ++ ns) (decimals_read (cut_at_dashes (sid_front l.rest)).others)
+      ≡ decimals_read (cut_at_dashes (sid_front l.text)).others;
   size : length (sid_front l.text) + length l.rest ≡ length (sid_front l.rest) + length l.text;
 }
 
