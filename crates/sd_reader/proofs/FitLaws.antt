@@ -11,10 +11,11 @@ use Rattle.sd_view.specs.declared.acl.AclPart.TheVariants as acl
 use Rattle.sd_binary.specs.Draft.{Draft, IsOpen, IsOpenIn, draft_acl, closed, more_in, with_ace}
 use Rattle.sd_reader.specs.Line.{same_head}
 use Rattle.sd_reader.specs.Inner.FoldedReading.{FieldsRead, ace_of_fields, begun_or_null, fault_of, nothing_read, take_ace_field, take_field, take_front, take_readable, with_flags, with_owner_or_group, with_sid, with_trustee, with_value}
-use Rattle.sd_reader.specs.Meaning.{and_then, is_unreadable}
+use Rattle.sd_rights.specs.Chains.{and_then, unless}
+use Rattle.sd_reader.specs.Meaning.{is_unreadable}
 use Rattle.sd_reader.specs.FieldTexts.{front_reads, kind_reads, object_reads}
 use Rattle.sd_reader.specs.Inner.Held.{Held, held_text}
-use Rattle.sd_reader.specs.Inner.Progress.{ended_with, is_seen, state_of, result_or, with_head}
+use Rattle.sd_reader.specs.Inner.Progress.{ended_with, is_seen, state_of, with_head}
 use Rattle.sd_reader.proofs.Steps.{seen_with}
 use Rattle.sd_reader.specs.Inner.Reads.{Fits, LineHasRead, Lacks, is_at_front, is_in_acl}
 use Rattle.sd_view.specs.declared.control.AclFlags.{AclFlags}
@@ -39,7 +40,7 @@ use Rattle.sd_view.specs.declared.control.Which.TheVariants as which
 
 -- 1. Where no fault is found, none was there, and the field was read.
 pub taken : (fault : Option SddlFault) (t u : FieldsRead) (next : FieldsRead → Result FieldsRead SddlFault)
-    → Ok u ≡ and_then (result_or t fault) next
+    → Ok u ≡ and_then (unless fault t) next
     → (fault ≡ None) × (next t ≡ Ok u)
 taken None t u next e = (refl, sym e)
 taken (Some f) t u next e = absurd cc
@@ -370,7 +371,7 @@ fits-field domain f p seen t u text e none k = record {
 -- 5. What a reader keeps.
 
 module _ (fault fault' : Option SddlFault) (t u : FieldsRead) (next : FieldsRead → Result FieldsRead SddlFault)
-    (e : result_or u fault' ≡ and_then (result_or t fault) next) where
+    (e : unless fault' u ≡ and_then (unless fault t) next) where
   -- where no fault is found, none was there, and the field was read
   pub none-before : fault' ≡ None → fault ≡ None
   none-before none = (taken fault t u next (rw none at e)).0
@@ -437,17 +438,17 @@ fits-head p seen t u h keeps unseen k = record {
     by_same x true e f = subst (λ (y : Head). Lacks y u) (same-head h x e) (lacking h unseen)
     by_same x false e f = lacking x (not_or (is_seen seen x) (same_head h x) f e)
 
-lacks-same : (h : Head) (f : Option SddlFault) (t u : FieldsRead) → Ok u ≡ result_or t f → Lacks h t → Lacks h u
-lacks-same h f t u e l = if-ok (λ y. Lacks h y) u (result_or t f) (by_fault f) (sym e)
+lacks-same : (h : Head) (f : Option SddlFault) (t u : FieldsRead) → Ok u ≡ unless f t → Lacks h t → Lacks h u
+lacks-same h f t u e l = if-ok (λ y. Lacks h y) u (unless f t) (by_fault f) (sym e)
   where
-    by_fault : (f : Option SddlFault) → IfOk (result_or t f) (λ y. Lacks h y)
+    by_fault : (f : Option SddlFault) → IfOk (unless f t) (λ y. Lacks h y)
     by_fault None = l
     by_fault (Some g) = tt
 
 -- what a part gives that ends here
 pub lacks-ended : (domain : Option SecurityId) (p : State) (seen : Seen) (x : Held) (fault fault' : Option SddlFault)
     (t u : FieldsRead)
-    → result_or u fault' ≡ ended_with domain p x (result_or t fault) → fault' ≡ None → Fits p seen t → (k : Head)
+    → unless fault' u ≡ ended_with domain p x (unless fault t) → fault' ≡ None → Fits p seen t → (k : Head)
     → is_seen seen k ≡ false → Lacks k t → Lacks k u
 lacks-ended domain state.Before seen x fault fault' t u e none k h n l = lacks-same h fault t u (rw none at e) l
 lacks-ended domain (state.Sid p) seen x fault fault' t u e none k h n l =
@@ -462,7 +463,7 @@ lacks-ended domain (state.Ace f) seen x fault fault' t u e none k h n l = lacks-
 -- where no fault is found at the end of a part, none was there
 pub none-ended : (domain : Option SecurityId) (p : State) (x : Held) (fault fault' : Option SddlFault)
     (t u : FieldsRead)
-    → result_or u fault' ≡ ended_with domain p x (result_or t fault) → fault' ≡ None → fault ≡ None
+    → unless fault' u ≡ ended_with domain p x (unless fault t) → fault' ≡ None → fault ≡ None
 none-ended domain p x None fault' t u e none = refl
 none-ended domain state.Before x (Some f) fault' t u e none = absurd (let no : Ok u ≡ Err f = (rw none at e) in cc)
 none-ended domain (state.Sid p) x (Some f) fault' t u e none = absurd (let no : Ok u ≡ Err f = (rw none at e) in cc)

@@ -18,7 +18,8 @@ use Rattle.std.specs.Option.{option_or}
 use Rattle.sd_reader.specs.FieldTexts.{front_reads}
 use Rattle.sd_reader.specs.Inner.FoldedReading.{FieldsRead, described, fields_of, finished, folded, large_in, nothing_read, read_fields, reads_as, if_shaped}
 use Rattle.sd_reader.specs.Line.{Piece, Section, are_shaped, front, has_head, has_twice, is_blank_piece, is_paired, is_shaped, sections_of, same_head, trim}
-use Rattle.sd_reader.specs.Meaning.{Said, acl_said, and_then, body_reads, control_flags, descriptor_of, each, acl_part_reads, field_reads, first_large, means, section_reads, sections_mean, sid_field_reads, sid_said, unless_large, picked_acl, picked_flags, picked_sid}
+use Rattle.sd_rights.specs.Chains.{and_then}
+use Rattle.sd_reader.specs.Meaning.{Said, acl_said, body_reads, control_flags, descriptor_of, each, acl_part_reads, field_reads, first_large, means, section_reads, sections_mean, sid_field_reads, sid_said, unless_large, picked_acl, picked_flags, picked_sid}
 use Rattle.sd_view.specs.Control.{bit_if}
 use Rattle.sd_view.specs.declared.control.AclFlags.{AclFlags}
 use Rattle.sd_reader.specs.declared.fault.SddlFault.TheVariants as fault

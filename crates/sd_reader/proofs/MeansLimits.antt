@@ -25,7 +25,8 @@ use Rattle.sd_view.specs.declared.control.Which.{Which}
 use Rattle.sd_view.specs.declared.control.Which.TheVariants as which
 use Rattle.sd_reader.specs.Inner.FoldedReading.{Field, FieldsRead, ace_of_fields, begun_or_null, described, fault_of, fields_of, finished, folded, large_in, no_fields, nothing_read, read_fields, reads_as, take_ace_field, take_field, take_front, take_readable, if_shaped, with_flags, with_owner_or_group, with_sid, with_trustee, with_value}
 use Rattle.sd_reader.specs.Line.{has_twice, is_shaped, sections_of}
-use Rattle.sd_reader.specs.Meaning.{and_then, control_flags, is_unreadable, means, unless_large}
+use Rattle.sd_rights.specs.Chains.{and_then}
+use Rattle.sd_reader.specs.Meaning.{control_flags, is_unreadable, means, unless_large}
 use Rattle.sd_reader.specs.FieldTexts.{front_reads, kind_reads, object_reads}
 use Rattle.sd_reader.specs.Inner.Reads.{AreAceFields}
 use Rattle.sd_view.specs.declared.control.AclFlags.{AclFlags}

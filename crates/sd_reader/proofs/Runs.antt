@@ -15,7 +15,8 @@ use Rattle.sd_reader.specs.declared.line.SidPart.{SidPart}
 use Rattle.sd_reader.specs.Inner.Held.{Held, IsHeld, broken_text, held_run, held_with, is_plain_inside, is_plain_outside}
 use Rattle.sd_reader.specs.Line.{head_of, is_blank}
 use Rattle.sd_reader.specs.Inner.FoldedReading.{FieldsRead}
-use Rattle.sd_reader.specs.Inner.Progress.{rest_answer, result_or}
+use Rattle.sd_rights.specs.Chains.{unless}
+use Rattle.sd_reader.specs.Inner.Progress.{rest_answer}
 use Rattle.sd_reader.specs.Inner.Reads.{IsReader, Reads, answer_at}
 use Rattle.sd_reader.specs.declared.reader.SddlReader.{SddlReader}
 use Rattle.sd_reader.proofs.FieldTexts.{append_nothing, same_inner, same_text, with_held}
@@ -223,7 +224,7 @@ inside-goes s c bs here plain buf r =
       },
       λ domain before h. goes-on s bs buf domain before (r.still (rw here refl))
           (λ t rest. rw here (inside-run s.fields.domain s.sound s.twice s.seen
-          (result_or t s.fault) c s.field bs rest r.calm.held gap plain)) h,
+          (unless s.fault t) c s.field bs rest r.calm.held gap plain)) h,
     )
 
 pub outside-goes : (s : SddlReader) (p : SidPart) (bs : List ℕ) → s.state ≡ state.Sid p → s.pending ≡ None
@@ -242,7 +243,7 @@ outside-goes s p bs here none plain buf r = (
   },
   λ domain before h. goes-on s bs buf domain before none
       (λ t rest. rw here (outside-run s.fields.domain s.sound s.twice s.seen
-      (result_or t s.fault) p s.field bs rest r.calm.held plain)) h,
+      (unless s.fault t) p s.field bs rest r.calm.held plain)) h,
 )
 
 -- 5. A text fed in runs.

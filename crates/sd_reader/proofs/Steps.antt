@@ -23,8 +23,8 @@ use Rattle.sd_reader.specs.declared.line.Slot.TheVariants as slot
 use Rattle.sd_reader.specs.Inner.Held.{Held, IsHeld, no_text, held_text}
 use Rattle.sd_reader.specs.Line.{is_blank, is_paired, Piece, byte, ace, pieces_from, sections, Section, Sections, is_sid_body, are_aces, is_acl_body, are_shaped, cut_at_semicolons, front, aces, has_aces, has_twice, has_head, head_at, head_of, sections_of, begins_with_colon, same_head, is_body}
 use Rattle.sd_reader.specs.Inner.FoldedReading.{Field, FieldsRead, ace_fields, ace_fields_from, fields_in, fields_of, next_field, nothing_read, read_fields, reads_as, take_field, if_shaped}
-use Rattle.sd_reader.specs.Meaning.{and_then}
-use Rattle.sd_reader.specs.Inner.Progress.{is_inside, fields_left, is_shaped_here, text_with, inner_with, fields_here, is_seen, result_or, with_head, has_seen, judged, rest_answer, state_of, ended_with}
+use Rattle.sd_rights.specs.Chains.{and_then, unless}
+use Rattle.sd_reader.specs.Inner.Progress.{is_inside, fields_left, is_shaped_here, text_with, inner_with, fields_here, is_seen, with_head, has_seen, judged, rest_answer, state_of, ended_with}
 use Rattle.sd_reader.proofs.FieldTexts.{Same, same_reads, text_ended, inner_ended}
 
 -- 1. Small facts.
@@ -423,15 +423,15 @@ twice-any dm so tw se r r' pl h bs e = rw e refl
 
 pub begin-noted : (dm : Option SecurityId) (so tw : Bool) (se : Seen) (r : Result FieldsRead SddlFault) (pl : State)
     (h : Held) (b : ℕ) (p : Head) (bs : List ℕ) (u : FieldsRead) (fault' : Option SddlFault)
-    → is_inside pl ≡ false → IsHeld h → head_of b ≡ Some p → result_or u fault' ≡ ended_with dm pl h r
+    → is_inside pl ≡ false → IsHeld h → head_of b ≡ Some p → unless fault' u ≡ ended_with dm pl h r
     → rest_answer dm so (tw || is_seen se p) (with_head se p)
-    (result_or u (if is_seen se p then Some fault.PartTwice else fault')) (state_of p) no_text bs ≡ rest_answer dm
+    (unless (if is_seen se p then Some fault.PartTwice else fault') u) (state_of p) no_text bs ≡ rest_answer dm
     so tw se r pl h (b ∷ 58 ∷ bs)
 begin-noted dm so tw se r pl h b p bs u fault' out k e read = by_seen (is_seen se p) refl
   where
     by_seen : (x : Bool) → is_seen se p ≡ x
         → rest_answer dm so (tw || is_seen se p) (with_head se p)
-        (result_or u (if x then Some fault.PartTwice else fault')) (state_of p) no_text bs ≡ rest_answer dm so tw
+        (unless (if x then Some fault.PartTwice else fault') u) (state_of p) no_text bs ≡ rest_answer dm so tw
         se r pl h (b ∷ 58 ∷ bs)
     by_seen true f = twice-any dm so (tw || is_seen se p) (with_head se p) (Err fault.PartTwice) (ended_with dm pl h r)
         (state_of p) no_text bs (rw f (or_true tw))

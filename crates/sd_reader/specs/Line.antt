@@ -3,6 +3,7 @@
 use Rattle.std.specs.Prelude.{ℕ, Bool, true, false, ◌&&◌, ◌||◌, not, ◌==◌, if◌then◌else◌, List, [], ◌∷◌, length, drop, Option, Some, None}
 use Rattle.std.specs.List.{list_all}
 use Rattle.std.specs.Str.{byte as char}
+use Rattle.sd_rights.specs.Cuts.{Cuts, all_cuts, cut_at}
 use Rattle.sd_view.specs.declared.control.Which.TheVariants as which
 use Rattle.sd_reader.specs.declared.line.SidPart.TheVariants as sid_part
 use Rattle.sd_reader.specs.declared.line.Head.{Head}
@@ -10,7 +11,7 @@ use Rattle.sd_reader.specs.declared.line.Head.TheVariants as head
 
 -- a space or a tab
 abbrev pub is_blank : ℕ → Bool
-is_blank b = b == char " " || b == 9
+is_blank b = b == char " " || b == char "\t"
 
 -- 1. Parentheses.
 
@@ -97,19 +98,8 @@ sections_of text = sections (pieces_from false text).after
 
 -- 3. Fields.
 
--- a text cut at its semicolons: the first cut, and the others
-pub record Cuts : Type 0 where
-  pub first : List ℕ
-  pub others : List (List ℕ)
-
-abbrev pub with_cut : ℕ → Cuts → Cuts
-with_cut b c =
-    if b == char ";" then record { first = []; others = c.first ∷ c.others }
-    else record { first = b ∷ c.first; others = c.others }
-
 abbrev pub cut_at_semicolons : List ℕ → Cuts
-cut_at_semicolons [] = record { first = []; others = [] }
-cut_at_semicolons (b ∷ bs) = with_cut b (cut_at_semicolons bs)
+cut_at_semicolons text = cut_at (char ";") text
 
 -- the bytes before the first parenthesis
 abbrev pub front : List Piece → List ℕ
@@ -139,7 +129,7 @@ trim (b ∷ bs) = if is_blank b then trim bs else trim_end (b ∷ bs)
 
 -- the text of an ACE cut at its semicolons
 abbrev pub ace_cuts : List ℕ → List (List ℕ)
-ace_cuts a = (cut_at_semicolons a).first ∷ (cut_at_semicolons a).others
+ace_cuts a = all_cuts (cut_at_semicolons a)
 
 -- 4. Shape. A colon outside parentheses that makes no head stays in a body or before the first head, and no shape takes
 -- it.

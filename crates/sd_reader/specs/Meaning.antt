@@ -1,7 +1,8 @@
 -- What a line of SDDL means (MS-DTYP 2.5.1): the descriptor that its parts give, or the first fault.
 use Rattle.std.specs.Prelude.{ℕ, ◌+◌, ◌||◌, not, Bool, true, false, nat_lt, if◌then◌else◌, List, [], ◌∷◌, length, Option, Some, None, Result, Ok, Err}
 use Rattle.std.specs.List.{list_any}
-use Rattle.std.specs.Option.{ok_or}
+use Rattle.std.specs.Option.{ok_or, option_map}
+use Rattle.sd_rights.specs.Chains.{◌>>=◌, unless}
 use Rattle.sd_core.specs.Ace.{AccessControlEntry}
 use Rattle.sd_rights.specs.Flags.{flags_reads}
 use Rattle.sd_rights.specs.Limits.{most_acl, most_field}
@@ -29,15 +30,7 @@ use Rattle.sd_reader.specs.declared.line.Head.TheVariants as head
 use Rattle.sd_reader.specs.declared.line.SidPart.{SidPart}
 use Rattle.sd_reader.specs.declared.line.SidPart.TheVariants as sid_part
 
--- One after the other: the first fault is the answer. `x ← read` goes on with what was read.
-abbrev pub and_then : {A B : Type 0} → Result A SddlFault → (A → Result B SddlFault) → Result B SddlFault
-and_then (Ok x) next = next x
-and_then (Err e) next = Err e
-
-abbrev pub ◌>>=◌ : {A B : Type 0} → Result A SddlFault → (A → Result B SddlFault) → Result B SddlFault
-◌>>=◌ read next = and_then read next
-
--- each one of a list, from the left
+-- each one of a list, from the left: the first fault is the answer
 abbrev pub each : {A B : Type 0} → (A → Result B SddlFault) → List A → Result (List B) SddlFault
 each reads [] = Ok []
 each reads (x ∷ others) = do
@@ -152,8 +145,7 @@ first_large (sid_said p s ∷ others) = first_large others
 first_large (acl_said w f a ∷ others) = if nat_lt most_acl (acl_part_size a) then Some w else first_large others
 
 abbrev pub unless_large : Option Which → Descriptor → Result Descriptor SddlFault
-unless_large None d = Ok d
-unless_large (Some w) d = Err (fault.AclTooLarge w)
+unless_large large d = unless (option_map fault.AclTooLarge large) d
 
 abbrev pub sections_mean : Option SecurityId → List Section → Result Descriptor SddlFault
 sections_mean domain sections = do

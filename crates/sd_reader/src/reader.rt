@@ -1,16 +1,17 @@
 //! A line, read a byte at a time.
 
 ghost use Rattle.std.specs.Prelude.{◌≡◌, ◌≤◌, ◌==◌, ℕ, List, [], ◌∷◌, ◌++◌, length, take, ◌||◌, if◌then◌else◌, true, false, Option, Some, None, Ok, Err, IfOk, IfSome, MatchResult};
-ghost use Rattle.std.specs.Option.{option_copied};
+ghost use Rattle.std.specs.Option.{option_copied, option_to_list};
 ghost use Rattle.sd_core.specs.Sid.{IsSid, SecurityId};
 ghost use Rattle.sd_view.specs.Descriptor.{IsDescriptor, Shows};
 ghost use Rattle.sd_binary.specs.Draft.{IsWritten};
 ghost use Rattle.sd_reader.specs.Inner.Held.{IsHeld, no_text, held_text};
 ghost use Rattle.sd_reader.specs.Line.{byte, head_at, head_of as head_named, pieces_from};
 ghost use Rattle.sd_reader.specs.Inner.FoldedReading.{FieldsRead, finished, reads_as, take_field};
-ghost use Rattle.sd_reader.specs.Meaning.{and_then, means};
+ghost use Rattle.sd_rights.specs.Chains.{and_then, unless};
+ghost use Rattle.sd_reader.specs.Meaning.{means};
 ghost use Rattle.sd_reader.specs.Inner.Reads.{CanTake, HasReadFields, Takes};
-ghost use Rattle.sd_reader.specs.Inner.Progress.{ended_with, is_inside, is_seen, state_of, result_or, with_head};
+ghost use Rattle.sd_reader.specs.Inner.Progress.{ended_with, is_inside, is_seen, state_of, with_head};
 
 use crate::fault::SddlFault;
 use crate::field_text::FieldText;
@@ -40,7 +41,7 @@ pub struct SddlReader {
 
 impl SddlReader {
     ghost use Rattle.sd_reader.specs.SddlReading.{IsReading, ReadsSddl};
-    ghost use Rattle.sd_reader.specs.Inner.Reads.{Ends, FedTo, HasReadFields, LineHasRead, IsCalm, IsReader, IsText, Reads, Steps, StepsOn, StepsText, answer_at, waiting};
+    ghost use Rattle.sd_reader.specs.Inner.Reads.{Ends, FedTo, HasReadFields, LineHasRead, IsCalm, IsReader, IsText, Reads, Steps, StepsOn, StepsText, answer_at};
 
     /// A reader that was fed nothing.
     pub fn new(domain: Option<Sid>, buf: &mut SdBuf) -> Self
@@ -228,7 +229,7 @@ impl SddlReader {
         requires calm { IsCalm self.old }
         requires held { (t : FieldsRead) × LineHasRead self.old buf.old t }
         ensures read { (t : FieldsRead) → LineHasRead self.old buf.old t → (u : FieldsRead) × (self.new.fault ≡ None → HasReadFields self.new.fields buf.new u)
-            × (result_or u self.new.fault ≡ ended_with self.old.fields.domain self.old.state self.old.field (result_or t self.old.fault)) }
+            × (unless self.new.fault u ≡ ended_with self.old.fields.domain self.old.state self.old.field (unless self.old.fault t)) }
         ensures cleared { self.new.field ≡ no_text }
         ensures domain { self.new.fields.domain ≡ self.old.fields.domain }
         ensures same { self.new ≡ record self.old { field = self.new.field; fault = self.new.fault; fields = self.new.fields } }
@@ -437,7 +438,7 @@ fn end_field(
     requires clean { IsHeld field.old }
     requires held { (t : FieldsRead) × (fault.old ≡ None → HasReadFields fields.old buf.old t × CanTake slot t) }
     ensures read { (t : FieldsRead) → (fault.old ≡ None → HasReadFields fields.old buf.old t) → (u : FieldsRead) × (fault.new ≡ None → HasReadFields fields.new buf.new u)
-        × (result_or u fault.new ≡ and_then (result_or t fault.old) (λ r. take_field fields.old.domain r slot (held_text field.old))) }
+        × (unless fault.new u ≡ and_then (unless fault.old t) (λ r. take_field fields.old.domain r slot (held_text field.old))) }
     ensures cleared { field.new ≡ no_text }
     ensures domain { fields.new.domain ≡ fields.old.domain }
 {
@@ -456,7 +457,7 @@ fn read_held(
     requires clean { IsHeld field.now }
     requires held { (t : FieldsRead) × (fault.old ≡ None → HasReadFields fields.old buf.old t × CanTake slot t) }
     ensures read { (t : FieldsRead) → (fault.old ≡ None → HasReadFields fields.old buf.old t) → (u : FieldsRead) × (fault.new ≡ None → HasReadFields fields.new buf.new u)
-        × (result_or u fault.new ≡ and_then (result_or t fault.old) (λ r. take_field fields.old.domain r slot (held_text field.now))) }
+        × (unless fault.new u ≡ and_then (unless fault.old t) (λ r. take_field fields.old.domain r slot (held_text field.now))) }
     ensures domain { fields.new.domain ≡ fields.old.domain }
 {
     if fault.is_some() {

@@ -11,7 +11,8 @@ use Rattle.sd_core.specs.declared.naming.Naming.{Naming}
 use Rattle.sd_reader.specs.declared.line.AceField.{AceField}
 use Rattle.sd_reader.specs.declared.line.AceField.TheVariants as field
 use Rattle.sd_reader.specs.declared.line.Slot.TheVariants as slot
-use Rattle.sd_reader.specs.Line.{Cuts, cut_at_semicolons, with_cut}
+use Rattle.sd_rights.specs.Cuts.{Cuts, with_byte}
+use Rattle.sd_reader.specs.Line.{cut_at_semicolons}
 use Rattle.sd_reader.specs.Inner.FoldedReading.{Field, ace_fields, ace_fields_from}
 use Rattle.sd_sddl.specs.Printed.{ace_text, flags_field, kind_field, kind_text, object_field, object_text, rights_field, trustee_field, trustee_text}
 use Rattle.sd_sddl.proofs.LineCuts.{IsInner, in_parentheses, is_inner_byte}
@@ -29,7 +30,7 @@ cuts-before : (text rest : List ℕ) → IsPlain text
 cuts-before [] rest h = refl
 cuts-before (b ∷ bs) rest h =
     let parts = both (is_plain_byte b) _ h in
-    ap (with_cut b) (cuts-before bs rest parts.1) ∙ rw (no_mark b parts.0).semicolon refl
+    ap (with_byte 59 b) (cuts-before bs rest parts.1) ∙ rw (no_mark b parts.0).semicolon refl
 
 joined-cuts : (text : List ℕ) (ts : List (List ℕ)) → IsPlain text → AllByRecursion IsPlain ts
     → cut_at_semicolons (joined text ts) ≡ record { first = text; others = ts }

@@ -23,7 +23,7 @@ use Rattle.sd_view.specs.declared.control.Which.TheVariants as which
 use Rattle.sd_binary.specs.Draft.{Draft, begun, closed, with_ace, with_acl}
 use Rattle.sd_reader.specs.Inner.FoldedReading.{Field, FieldsRead, ace_fields, grown, large_in, no_fields, read_fields, take_field, with_flags, with_owner_or_group, with_trustee}
 use Rattle.sd_reader.specs.Line.{ace, byte, has_aces}
-use Rattle.sd_reader.specs.Meaning.{and_then}
+use Rattle.sd_rights.specs.Chains.{and_then}
 use Rattle.std.specs.Option.{option_or}
 use Rattle.sd_sddl.specs.Printed.{trustee_text}
 use Rattle.sd_reader.proofs.FoldedSections.{read-append}

@@ -8,6 +8,7 @@ use Rattle.std.specs.Str.Parse.{AllDigits}
 use Rattle.std.proofs.lemmas.Bool.Decides.{nat_tests}
 use Rattle.std.proofs.lemmas.Fmt.{digits_is_IsNumeral}
 use Rattle.std.proofs.lemmas.List.Folds.{list_all-append}
+use Rattle.std.specs.Option.{option_map, unwrap_or}
 use Rattle.uuid.specs.Text.{by_index, digit_place, hex_digit, is_hyphen_place, nibble}
 use Rattle.uuid.proofs.TextLemmas.{nibble_small}
 use Rattle.sd_rights.specs.Flags.{flags_text}
@@ -218,7 +219,7 @@ object-plain (Some g) = guid-plain g
 -- 6. SIDs.
 
 name-plain : (o : Option (List ℕ)) (text : List ℕ) → IfSome o (λ name. list_all is_ascii_uppercase name ≡ true)
-    → IsPlain text → IsPlain (alias_or o text)
+    → IsPlain text → IsPlain (unwrap_or o text)
 name-plain None text h k = k
 name-plain (Some name) text h k = plain-more is_ascii_uppercase upper_is_plain name h
 
@@ -229,7 +230,7 @@ pub trustee-plain : (naming : Naming) (s : SecurityId) → IsSid s → IsPlain (
 unfolding trustee_text
 trustee-plain naming s i = by_naming naming.numeric
   where
-    by_naming : (b : Bool) → IsPlain (alias_or (if b then None else alias_of s naming.domain) (sid_text s))
+    by_naming : (b : Bool) → IsPlain (unwrap_or (if b then None else alias_of s naming.domain) (sid_text s))
     by_naming true = sid-plain s i
     by_naming false = name-plain (alias_of s naming.domain) (sid_text s) (alias-letters s naming.domain _ refl)
         (sid-plain s i)

@@ -23,7 +23,8 @@ use Rattle.sd_view.specs.declared.control.AclFlags.{AclFlags}
 use Rattle.std.specs.Option.{option_or}
 use Rattle.sd_reader.specs.FieldTexts.{front_reads, kind_reads, object_reads}
 use Rattle.sd_reader.specs.Line.{Piece, Section, aces, cut_at_semicolons, front, has_aces, has_twice, is_shaped, sections_of, trim}
-use Rattle.sd_reader.specs.Meaning.{and_then, control_flags, is_unreadable, unless_large}
+use Rattle.sd_rights.specs.Chains.{and_then}
+use Rattle.sd_reader.specs.Meaning.{control_flags, is_unreadable, unless_large}
 use Rattle.sd_reader.specs.declared.fault.SddlFault.{SddlFault}
 use Rattle.sd_reader.specs.declared.fault.SddlFault.TheVariants as fault
 use Rattle.sd_reader.specs.declared.line.AceField.{AceField}

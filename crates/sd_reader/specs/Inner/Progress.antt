@@ -6,7 +6,7 @@ use Rattle.sd_view.specs.declared.control.Which.TheVariants as which
 use Rattle.sd_reader.specs.Inner.Held.{Held, held_text}
 use Rattle.sd_reader.specs.Inner.FoldedReading.{Field, FieldsRead, ace_fields, ace_fields_from, fields_of, read_fields, take_field, if_shaped}
 use Rattle.sd_reader.specs.Line.{Piece, Section, Sections, aces, are_aces, are_shaped, cut_at_semicolons, front, has_aces, has_twice, is_acl_body, is_blank, is_blank_piece, is_paired, is_sid_body, pieces_from, sections, trim}
-use Rattle.sd_reader.specs.Meaning.{and_then}
+use Rattle.sd_rights.specs.Chains.{and_then}
 use Rattle.sd_reader.specs.declared.fault.SddlFault.{SddlFault}
 use Rattle.sd_reader.specs.declared.line.AceField.{AceField}
 use Rattle.sd_reader.specs.declared.line.AceField.TheVariants as field
@@ -82,11 +82,6 @@ with_head s (head.Acl which.Dacl) = record s { dacl = true }
 abbrev pub has_seen : Seen → List Section → Bool
 has_seen seen [] = false
 has_seen seen (s ∷ ss) = is_seen seen s.head || has_seen seen ss
-
--- the first fault, or what was read
-abbrev pub result_or : FieldsRead → Option SddlFault → Result FieldsRead SddlFault
-result_or r None = Ok r
-result_or r (Some e) = Err e
 
 -- the verdict on what was read before, and a rest in pieces
 unfoldable pub judged : Option SecurityId → Bool → Bool → Seen → Result FieldsRead SddlFault → State → Held → Bool

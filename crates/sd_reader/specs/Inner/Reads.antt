@@ -1,6 +1,6 @@
 -- The reader of a line: what it has read, and what its buffer holds.
 use Rattle.std.specs.Prelude.{◌≡◌, ℕ, ◌/◌, ◌%◌, Bool, true, false, ◌||◌, not, ◌==◌, List, [], ◌∷◌, ◌++◌, Option, Some, None, Result, Ok, Err}
-use Rattle.std.specs.Option.{option_map}
+use Rattle.std.specs.Option.{option_map, option_to_list}
 use Rattle.std.specs.Str.{byte as char}
 use Rattle.sd_core.specs.Ace.{GuidsFit}
 use Rattle.sd_rights.specs.Kinds.{is_object}
@@ -12,7 +12,8 @@ use Rattle.sd_binary.specs.Draft.{IsOpen, IsWritten, draft_acl, closed}
 use Rattle.sd_reader.specs.Inner.Held.{IsHeld}
 use Rattle.sd_reader.specs.Line.{byte, head_at, pieces_from, same_head}
 use Rattle.sd_reader.specs.Inner.FoldedReading.{FieldsRead, reads_as}
-use Rattle.sd_reader.specs.Inner.Progress.{rest_answer, is_inside, is_seen, result_or}
+use Rattle.sd_rights.specs.Chains.{unless}
+use Rattle.sd_reader.specs.Inner.Progress.{rest_answer, is_inside, is_seen}
 use Rattle.sd_reader.specs.declared.fault.SddlFault.{SddlFault}
 use Rattle.sd_reader.specs.declared.line.Head.{Head}
 use Rattle.sd_reader.specs.declared.line.Head.TheVariants as head
@@ -69,7 +70,7 @@ Ends wanted (Err e) buf = wanted ≡ Err e
 
 -- the answer if a text follows, whatever byte waits, where the fields so far say this
 abbrev pub answer_at : SddlReader → FieldsRead → List ℕ → Result FieldsRead SddlFault
-answer_at s t text = rest_answer s.fields.domain s.sound s.twice s.seen (result_or t s.fault) s.state s.field text
+answer_at s t text = rest_answer s.fields.domain s.sound s.twice s.seen (unless s.fault t) s.state s.field text
 
 -- the part at hand, of which no field was read
 abbrev pub is_at_front : State → Head → Bool
@@ -111,16 +112,11 @@ StepsText old before b new after =
     × ((rest : List ℕ) → head_at (byte b) (pieces_from false rest).after ≡ None
     → answer_at new u rest ≡ answer_at old t (b ∷ rest))
 
--- the byte that waits for the next one
-abbrev pub waiting : Option ℕ → List ℕ
-waiting None = []
-waiting (Some b) = b ∷ []
-
--- the same where a byte may wait after it
+-- the same where a byte may wait for the next one after it
 abbrev pub StepsOn : SddlReader → List ℕ → List ℕ → SddlReader → List ℕ → Type 0
 StepsOn old before bytes new after =
     (t : FieldsRead) → LineHasRead old before t → (u : FieldsRead) × LineHasRead new after u
-    × ((rest : List ℕ) → answer_at new u (waiting new.pending ++ rest) ≡ answer_at old t (bytes ++ rest))
+    × ((rest : List ℕ) → answer_at new u (option_to_list new.pending ++ rest) ≡ answer_at old t (bytes ++ rest))
 
 -- what is held of a field is clean, and inside parentheses no blank counts as an end
 pub record IsCalm (s : SddlReader) : Type 0 where
@@ -147,7 +143,7 @@ pub record IsReader (s : SddlReader) (buf : List ℕ) : Type 0 where
 abbrev pub Reads : SddlReader → List ℕ → Option SecurityId → List ℕ → Type 0
 Reads s buf domain text =
     (t : FieldsRead) × LineHasRead s buf t
-    × ((rest : List ℕ) → answer_at s t (waiting s.pending ++ rest) ≡ reads_as domain (text ++ rest))
+    × ((rest : List ℕ) → answer_at s t (option_to_list s.pending ++ rest) ≡ reads_as domain (text ++ rest))
 
 -- they have read the line but for this rest of it
 abbrev pub FedTo : SddlReader → List ℕ → Option SecurityId → List ℕ → List ℕ → Type 0

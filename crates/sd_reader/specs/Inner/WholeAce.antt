@@ -9,7 +9,7 @@ use Rattle.sd_reader.specs.FieldTexts.{object_reads}
 use Rattle.sd_reader.specs.Inner.FoldedReading.{FieldsRead, take_field, with_trustee}
 use Rattle.sd_reader.specs.Inner.Held.{is_plain_inside}
 use Rattle.sd_reader.specs.Inner.Reads.{HasReadFields}
-use Rattle.sd_reader.specs.Meaning.{and_then}
+use Rattle.sd_rights.specs.Chains.{and_then}
 use Rattle.sd_reader.specs.declared.fault.SddlFault.{SddlFault}
 use Rattle.sd_reader.specs.declared.line.AceField.{AceField}
 use Rattle.sd_reader.specs.declared.line.AceField.TheVariants as field
