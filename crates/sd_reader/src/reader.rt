@@ -1,7 +1,8 @@
 //! A line, read a byte at a time.
 
-ghost use Rattle.std.specs.Prelude.{◌≡◌, ◌≤◌, ◌==◌, ℕ, List, [], ◌∷◌, ◌++◌, length, take, ◌||◌, if◌then◌else◌, true, false, Option, Some, None, Ok, Err, IfOk, IfSome, MatchResult};
+ghost use Rattle.std.specs.Prelude.{◌≡◌, ◌≤◌, ◌==◌, ℕ, List, [], ◌∷◌, ◌++◌, codes, length, take, ◌||◌, if◌then◌else◌, true, false, Option, Some, None, Ok, Err, IfOk, IfSome, MatchResult};
 ghost use Rattle.std.specs.Option.{option_copied, option_to_list};
+ghost use Rattle.std.specs.Str.{byte as char};
 ghost use Rattle.sd_core.specs.Sid.{IsSid, SecurityId};
 ghost use Rattle.sd_view.specs.Descriptor.{IsDescriptor, Shows};
 ghost use Rattle.sd_binary.specs.Draft.{IsWritten};
@@ -87,7 +88,7 @@ impl SddlReader {
         requires here { self.old.state ≡ State.Ace field }
         requires calm { IsCalm self.old }
         requires held { (t : FieldsRead) × LineHasRead self.old buf.old t }
-        ensures answers { Steps self.old buf.old (41 ∷ []) self.new buf.new }
+        ensures answers { Steps self.old buf.old (codes ")") self.new buf.new }
         ensures calm { IsCalm self.new }
         ensures pending { self.new.pending ≡ self.old.pending }
     {
@@ -110,7 +111,7 @@ impl SddlReader {
         requires here { self.old.state ≡ State.Ace field }
         requires calm { IsCalm self.old }
         requires held { (t : FieldsRead) × LineHasRead self.old buf.old t }
-        ensures answers { Steps self.old buf.old (59 ∷ []) self.new buf.new }
+        ensures answers { Steps self.old buf.old (codes ";") self.new buf.new }
         ensures calm { IsCalm self.new }
         ensures pending { self.new.pending ≡ self.old.pending }
     {
@@ -149,7 +150,7 @@ impl SddlReader {
         requires here { is_inside self.old.state ≡ false }
         requires calm { IsCalm self.old }
         requires held { (t : FieldsRead) × LineHasRead self.old buf.old t }
-        ensures answers { Steps self.old buf.old (40 ∷ []) self.new buf.new }
+        ensures answers { Steps self.old buf.old (codes "(") self.new buf.new }
         ensures calm { IsCalm self.new }
         ensures pending { self.new.pending ≡ self.old.pending }
     {
@@ -176,9 +177,9 @@ impl SddlReader {
     fn put_text(&mut self, b: u8)
         requires here { is_inside self.old.state ≡ false }
         requires calm { IsCalm self.old }
-        requires open { (b == 40) ≡ false }
-        requires close { (b == 41) ≡ false }
-        requires colon { (b == 58) ≡ false }
+        requires open { (b == char "(") ≡ false }
+        requires close { (b == char ")") ≡ false }
+        requires colon { (b == char ":") ≡ false }
         ensures answers { (t : FieldsRead) (rest : List ℕ) → head_at (byte b) (pieces_from false rest).after ≡ None → answer_at self.new t rest ≡ answer_at self.old t (b ∷ rest) }
         ensures calm { IsCalm self.new }
         ensures same { self.new ≡ record self.old { sound = self.new.sound; field = self.new.field } }
@@ -199,7 +200,7 @@ impl SddlReader {
         requires calm { IsCalm self.old }
         requires letter { head_named letter ≡ Some head }
         requires held { (t : FieldsRead) × LineHasRead self.old buf.old t }
-        ensures answers { Steps self.old buf.old (letter ∷ 58 ∷ []) self.new buf.new }
+        ensures answers { Steps self.old buf.old (letter ∷ codes ":") self.new buf.new }
         ensures calm { IsCalm self.new }
         ensures pending { self.new.pending ≡ self.old.pending }
     {

@@ -1,6 +1,7 @@
 -- A reader in the middle of a line: what it answers if the line goes on by a text and ends there.
-use Rattle.std.specs.Prelude.{ℕ, Bool, true, false, ◌&&◌, ◌||◌, ◌==◌, if◌then◌else◌, List, [], ◌∷◌, ◌++◌, length, Option, Some, None, Result, Ok, Err}
+use Rattle.std.specs.Prelude.{ℕ, Bool, true, false, ◌&&◌, ◌||◌, ◌==◌, if◌then◌else◌, List, [], ◌∷◌, ◌++◌, codes, length, Option, Result}
 use Rattle.std.specs.List.{list_all, flat_map}
+use Rattle.std.specs.Str.{byte as char}
 use Rattle.sd_core.specs.Sid.{SecurityId}
 use Rattle.sd_view.specs.declared.control.Which.TheVariants as which
 use Rattle.sd_reader.specs.Inner.Held.{Held, held_text}
@@ -44,7 +45,7 @@ is_shaped_here (state.Ace f) held ps = length (cut_at_semicolons held).others ==
 
 -- a text that does not read
 abbrev pub unreadable : List ℕ
-unreadable = 32 ∷ []
+unreadable = codes " "
 
 -- the text of a field where blanks at the ends do not count: what is held of it, and the rest
 abbrev pub text_with : Held → List ℕ → List ℕ
@@ -105,12 +106,12 @@ state_of (head.Acl w) = state.AclFlags w
 
 -- the byte that ends a field of an ACE, and where the line goes on after it
 abbrev pub end_of : AceField → ℕ
-end_of field.Kind = 59
-end_of field.Flags = 59
-end_of field.Rights = 59
-end_of field.Object = 59
-end_of field.Inherited = 59
-end_of field.Sid = 41
+end_of field.Kind = char ";"
+end_of field.Flags = char ";"
+end_of field.Rights = char ";"
+end_of field.Object = char ";"
+end_of field.Inherited = char ";"
+end_of field.Sid = char ")"
 
 abbrev pub state_after : AceField → State
 state_after field.Kind = state.Ace field.Flags
