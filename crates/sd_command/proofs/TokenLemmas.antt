@@ -14,7 +14,8 @@ use Rattle.clap.specs.Words.{Text}
 use Rattle.sd_core.specs.Sid.{SecurityId}
 use Rattle.sd_core.specs.Token.{Entry}
 use Rattle.sd_command.specs.Inner.Adding.{with_entry, with_pieces}
-use Rattle.sd_command.specs.TokenText.{all_read, also, entries_read, entry_reads, cut_at_commas}
+use Rattle.sd_rights.specs.Chains.{all_read}
+use Rattle.sd_command.specs.TokenText.{entries_read, entry_reads, cut_at_commas}
 
 -- ---- where the text is cut
 
@@ -35,24 +36,26 @@ cut-last text h =
 -- ---- the entries so far
 
 joined : (entries : List Entry) (e : Entry) (o : Option (List Entry))
-    → option_map (λ es. (entries ++ e ∷ []) ++ es) o ≡ option_map (λ es. entries ++ es) (also (Some e) o)
+    → option_map (λ es. (entries ++ e ∷ []) ++ es) o
+    ≡ option_map (λ es. entries ++ es) (option_map (λ es. e ∷ es) o)
 joined entries e None = refl
 joined entries e (Some es) = ap (λ (xs : List Entry). Some xs) (append_assoc entries (e ∷ []) es)
 
 one-more : (domain : Option SecurityId) (ps : List Text) (entries : List Entry) (e : Option Entry)
     → length entries < 1024
     → ((f : Entry) → with_pieces domain ps (entries ++ f ∷ [])
-    ≡ option_map (λ es. (entries ++ f ∷ []) ++ es) (all_read domain ps))
+    ≡ option_map (λ es. (entries ++ f ∷ []) ++ es) (all_read (entry_reads domain) ps))
     → option_and_then (with_pieces domain ps) (with_entry entries e)
-    ≡ option_map (λ es. entries ++ es) (also e (all_read domain ps))
+    ≡ option_map (λ es. entries ++ es) (option_and_then (λ f. option_map (λ es. f ∷ es)
+    (all_read (entry_reads domain) ps)) e)
 one-more domain ps entries None h more = refl
 one-more domain ps entries (Some e) h more =
     let room : nat_lt (length entries) 1024 ≡ true = grind (arith, nat_tests) in
-    rw room (more e ∙ joined entries e (all_read domain ps))
+    rw room (more e ∙ joined entries e (all_read (entry_reads domain) ps))
 
 -- where there is room for all
 pub added : (domain : Option SecurityId) (ps : List Text) (entries : List Entry) → length entries + length ps ≤ 1024
-    → with_pieces domain ps entries ≡ option_map (λ es. entries ++ es) (all_read domain ps)
+    → with_pieces domain ps entries ≡ option_map (λ es. entries ++ es) (all_read (entry_reads domain) ps)
 added domain [] entries h = ap (λ (xs : List Entry). Some xs) (sym (append-nil entries))
 added domain (p ∷ ps) entries h =
     one-more domain ps entries (entry_reads domain p) (omega arith) (λ f.
@@ -85,11 +88,12 @@ unfolding entries_read
 all-added domain text = by_test (nat_lt 1024 (length (cut_at_commas text))) refl
   where
     by_test : (b : Bool) → nat_lt 1024 (length (cut_at_commas text)) ≡ b
-        → with_pieces domain (cut_at_commas text) [] ≡ (if b then None else all_read domain (cut_at_commas text))
+        → with_pieces domain (cut_at_commas text) []
+        ≡ (if b then None else all_read (entry_reads domain) (cut_at_commas text))
     by_test true t = full domain (cut_at_commas text) [] (omega arith) (grind (arith, nat_tests))
     by_test false t =
         added domain (cut_at_commas text) [] (grind (arith, nat_tests))
-        ∙ option_map_id (all_read domain (cut_at_commas text))
+        ∙ option_map_id (all_read (entry_reads domain) (cut_at_commas text))
 
 -- ---- from one piece to the next
 

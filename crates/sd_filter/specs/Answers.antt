@@ -1,6 +1,7 @@
 -- The answer to each line, which rests on that line alone.
 use Rattle.std.specs.Prelude.{◌≤◌, ℕ, ◌+◌, ◌*◌, List, [], ◌∷◌, ◌++◌, if◌then◌else◌, nat_lt, length, Bool, true, false, Option, Some, None, is_some, Result, Ok, Err, count_by, sum_by, codes}
 use Rattle.std.specs.List.{flat_map}
+use Rattle.sd_filter.specs.Lines.{line_feed}
 use Rattle.base64.specs.Engines.{standard}
 use Rattle.base64.specs.GeneralPurpose.{encode_of}
 use Rattle.hex.specs.Hex.{encode_lower}
@@ -105,22 +106,22 @@ act_fault (act.Derive plan form) d = as_line_fault (derive_fault d plan)
 -- an `error` line stands in the place of the answer
 abbrev pub unless_fault : Option LineFault → List ℕ → List ℕ
 unless_fault None text = text
-unless_fault (Some fault) text = fault_text fault ++ 10 ∷ []
+unless_fault (Some fault) text = fault_text fault ++ line_feed ∷ []
 
 -- what is answered where the act has no fault, with its LF; each line of an explanation has its own already
 abbrev pub done_text : Job → Act → List Entry → Descriptor → List ℕ
-done_text job (Convert form) entries d = form_text job form d ++ 10 ∷ []
+done_text job (Convert form) entries d = form_text job form d ++ line_feed ∷ []
 done_text job Explain entries d = explain (naming_of job) d
-done_text job (Check ask) entries d = verdict_text (verdict d entries ask) ++ 10 ∷ []
-done_text job (act.Derive plan form) entries d = form_text job form (derived d plan) ++ 10 ∷ []
+done_text job (Check ask) entries d = verdict_text (verdict d entries ask) ++ line_feed ∷ []
+done_text job (act.Derive plan form) entries d = form_text job form (derived d plan) ++ line_feed ∷ []
 
 -- what is answered to a descriptor
 abbrev pub act_text : Job → Act → List Entry → Descriptor → List ℕ
 act_text job act entries d = unless_fault (act_fault act d) (done_text job act entries d)
 
 abbrev pub text_of_meaning : Job → List Entry → Meaning → List ℕ
-text_of_meaning job entries None = 10 ∷ []
-text_of_meaning job entries (Some (Err fault)) = fault_text fault ++ 10 ∷ []
+text_of_meaning job entries None = line_feed ∷ []
+text_of_meaning job entries (Some (Err fault)) = fault_text fault ++ line_feed ∷ []
 text_of_meaning job entries (Some (Ok d)) = act_text job job.act entries d
 
 -- the answer, with its LF

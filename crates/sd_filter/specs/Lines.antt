@@ -1,6 +1,13 @@
 -- The lines of some bytes.
 use Rattle.std.specs.Prelude.{◌≡◌, ℕ, Bool, false, List, [], ◌∷◌, ◌++◌, ◌==◌, if◌then◌else◌, map}
 use Rattle.std.specs.List.{flat_map, list_any}
+use Rattle.std.specs.Str.{byte as char}
+
+abbrev pub line_feed : ℕ
+line_feed = char "\n"
+
+abbrev pub carriage_return : ℕ
+carriage_return = char "\r"
 
 -- the parts that an LF ends, in order, and what follows the last LF
 pub record LineCut : Type 0 where
@@ -15,14 +22,14 @@ onto_first_line b (part ∷ cut_at_line_feeds) rest = record { ended = (b ∷ pa
 unfoldable pub cut_at_line_feeds : List ℕ → LineCut
 cut_at_line_feeds [] = record { ended = []; rest = [] }
 cut_at_line_feeds (b ∷ bytes) =
-    if b == 10
+    if b == line_feed
     then record { ended = [] ∷ (cut_at_line_feeds bytes).ended; rest = (cut_at_line_feeds bytes).rest }
     else onto_first_line b (cut_at_line_feeds bytes).ended (cut_at_line_feeds bytes).rest
 
 -- a part without the one CR at its end, if it has one
 unfoldable pub without_cr : List ℕ → List ℕ
 without_cr [] = []
-without_cr (b ∷ []) = if b == 13 then [] else b ∷ []
+without_cr (b ∷ []) = if b == carriage_return then [] else b ∷ []
 without_cr (b ∷ c ∷ bytes) = b ∷ without_cr (c ∷ bytes)
 
 -- the lines that an LF ended
@@ -41,10 +48,10 @@ lines bytes = ended bytes ++ last_line (cut_at_line_feeds bytes).rest
 -- any of these.
 
 abbrev pub has_lf : List ℕ → Bool
-has_lf bytes = list_any (λ b. b == 10) bytes
+has_lf bytes = list_any (λ b. b == line_feed) bytes
 
 pub record IsCut (bytes : List ℕ) (p : LineCut) : Type 0 where
-  pub joined : flat_map (λ part. part ++ 10 ∷ []) p.ended ++ p.rest ≡ bytes
+  pub joined : flat_map (λ part. part ++ line_feed ∷ []) p.ended ++ p.rest ≡ bytes
   pub ended_without : list_any has_lf p.ended ≡ false
   pub rest_without : has_lf p.rest ≡ false
 
