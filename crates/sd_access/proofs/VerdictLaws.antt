@@ -1,7 +1,7 @@
 -- The masks of a check are those of the verdict.
 use Rattle.std.proofs.Common.{◌≡◌, ◌<◌, ◌≤◌, ℕ, zero, suc, ◌+◌, ◌-◌, ◌*◌, ◌^◌, Bool, true, false, not, ◌&&◌, ◌||◌, cond, eqb, List, length, take, refl, sym, ap, ◌∙◌, arith, lit<, bit_and, bit_or}
 use Rattle.std.specs.List.{list_any}
-use Rattle.std.proofs.lemmas.Bool.{agree_below, agree_below_at, eq-eqb, ne_eqb}
+use Rattle.std.proofs.lemmas.Bool.{agree_below, agree_below_at, eq-eqb, ne_eqb, or_left, or_right}
 use Rattle.std.proofs.lemmas.Nat.{and_le_l, mul-le, or_lt, pow_pos}
 use Rattle.sd_rights.specs.Mapping.{carries, mask_if}
 use Rattle.sd_core.specs.Token.{Entry}
@@ -129,13 +129,6 @@ granted_bit d t ask m narrow scanned right below asked =
 and_when : (p g h : Bool) → (p ≡ true → g ≡ h) → (p && g) ≡ (p && h)
 and_when true g h e = e refl
 and_when false g h e = refl
-
-or_left : (p q : Bool) → p ≡ true → (p || q) ≡ true
-or_left p q h = rw h refl
-
-or_right : (p q : Bool) → q ≡ true → (p || q) ≡ true
-or_right true q h = refl
-or_right false q h = h
 
 pub missing_is : (d : Descriptor) (t : List Entry) (ask : Asked) (m : ℕ) → AreRights ask → m < 2 ^ 32
     → HasGranted d t ask m → bit_and ask.wanted (2 ^ 32 - 1 - m) ≡ missing d t ask

@@ -1,13 +1,14 @@
 -- How each call of a builder goes on with what was built. A call's condition speaks of one draft; what the builder
 -- keeps
 -- shows that the condition then holds of each draft that it was given.
-use Rattle.std.proofs.Common.{◌≡◌, ◌≤◌, ◌<◌, ℕ, ◌+◌, ◌^◌, ◌||◌, Bool, true, false, List, [], ◌∷◌, ◌++◌, length, take, drop, Option, Some, None, refl, sym, ap, subst, ◌∙◌, append_assoc, arith, length-append}
+use Rattle.std.proofs.Common.{◌≡◌, ◌≤◌, ◌<◌, ℕ, ◌+◌, ◌^◌, ◌||◌, Bool, false, List, [], ◌∷◌, ◌++◌, length, take, drop, Option, Some, None, refl, sym, ap, subst, ◌∙◌, append_assoc, arith, length-append}
 use Rattle.std.specs.Prelude.{IsSome}
 use Rattle.std.specs.List.{flat_map, AllByRecursion}
 use Rattle.std.proofs.lemmas.Grind.{flat_map-append}
 use Rattle.std.proofs.lemmas.List.{append-nil, drop_at, take_at}
 use Rattle.std.proofs.lemmas.List.Folds.{list_any-append}
 use Rattle.std.proofs.Math.Seq.{drop-append-add}
+use Rattle.std.proofs.Math.Bool.{or-false}
 use Rattle.byteorder.specs.Endian.{little_bytes}
 use Rattle.sd_core.specs.Ace.{AccessControlEntry, IsAce, ace_size}
 use Rattle.sd_rights.specs.Kinds.{is_object}
@@ -327,24 +328,20 @@ open-roomy b bytes t o h e =
     }
 
 -- an ACE more
-all-more : (aces : List AccessControlEntry) (a : AccessControlEntry) → AllByRecursion IsAce aces → IsAce a
+pub all-more : (aces : List AccessControlEntry) (a : AccessControlEntry) → AllByRecursion IsAce aces → IsAce a
     → AllByRecursion IsAce (aces ++ a ∷ [])
 all-more [] a h more = (more, tt)
 all-more (x ∷ others) a h more = (h.0, all-more others a h.1 more)
 
-size-more : (aces : List AccessControlEntry) (a : AccessControlEntry)
+pub size-more : (aces : List AccessControlEntry) (a : AccessControlEntry)
     → aces_size (aces ++ a ∷ []) ≡ aces_size aces + ace_size a
 size-more [] a = omega arith
 size-more (x ∷ others) a = omega (arith, size-more others a)
 
-any-one : (x : Bool) → (x || false) ≡ x
-any-one true = refl
-any-one false = refl
-
 object-more : (aces : List AccessControlEntry) (a : AccessControlEntry)
     → has_object (aces ++ a ∷ []) ≡ (has_object aces || is_object a.kind)
 object-more aces a = list_any-append (λ x. is_object x.kind) aces (a ∷ [])
-    ∙ ap (λ (x : Bool). has_object aces || x) (any-one (is_object a.kind))
+    ∙ ap (λ (x : Bool). has_object aces || x) (or-false (is_object a.kind))
 
 -- the ACL with one ACE more
 abbrev pub with_more : OpenAcl → AccessControlEntry → OpenAcl

@@ -1,5 +1,5 @@
 -- What a hex reader has read between its calls. Callers never look inside `ReadsHex`.
-use Rattle.std.specs.Prelude.{◌≡◌, ℕ, ◌%◌, Bool, true, false, List, [], ◌∷◌, ◌++◌, length, Option, Some, None, Result, Ok, Err}
+use Rattle.std.specs.Prelude.{◌≡◌, ℕ, ◌%◌, Bool, true, false, List, ◌++◌, length, Result, Ok, Err}
 use Rattle.std.specs.Option.{option_to_list}
 use Rattle.sd_binary.specs.Text.{hex_spells}
 use Rattle.sd_binary.specs.declared.buffer.TextFault.{TextFault}

@@ -19,14 +19,15 @@ use Rattle.sd_core.specs.declared.alias.DomainRelative.{DomainRelative}
 use Rattle.sd_core.specs.declared.alias.TheConstants.{WELL_KNOWN, DOMAIN_RELATIVE}
 use Rattle.sd_core.specs.declared.sid_text.SidFault.{SidFault}
 use Rattle.sd_core.specs.declared.sid_text.SidFault.TheVariants as faults
-use Rattle.sd_rights.proofs.Bools.{both}
+use Rattle.std.proofs.lemmas.Bool.{and_parts}
+use Rattle.sd_core.proofs.TextLaws.{AreWords-rest}
 use Rattle.sd_rights.proofs.ReadLimits.{some-is}
 
 -- what holds of each entry of a table holds of the one that is found
 found : {X : Type 0} (p q : X → Bool) (xs : List X) → list_all q xs ≡ true → IfSome (find p xs) (λ x. q x ≡ true)
 found p q [] all = tt
 found p q (y ∷ ys) all =
-    let parts = both (q y) _ all in
+    let parts = and_parts (q y) _ all in
     by_test (p y) parts.0 (found p q ys parts.1)
   where
     by_test : (b : Bool) → q y ≡ true → IfSome (find p ys) (λ x. q x ≡ true)
@@ -76,17 +77,14 @@ words-more : (n : ℕ) (ns : List ℕ) → n < 2 ^ 32 → AreWords ns → AreWor
 words-more n ns small h zero = small
 words-more n ns small h (suc i) = h i
 
-words-rest : (n : ℕ) (ns : List ℕ) → AreWords (n ∷ ns) → AreWords ns
-words-rest n ns h i = h (suc i)
-
 words-push : (ns : List ℕ) (n : ℕ) → AreWords ns → n < 2 ^ 32 → AreWords (ns ++ n ∷ [])
 words-push [] n h small = words-more n [] small no_words
-words-push (m ∷ ns) n h small = words-more m (ns ++ n ∷ []) (h 0) (words-push ns n (words-rest m ns h) small)
+words-push (m ∷ ns) n h small = words-more m (ns ++ n ∷ []) (h 0) (words-push ns n (AreWords-rest m ns h) small)
 
 tested-words : (ns : List ℕ) → list_all (λ n. nat_lt n (2 ^ 32)) ns ≡ true → AreWords ns
 tested-words [] e = no_words
 tested-words (n ∷ ns) e =
-    let parts = both (nat_lt n (2 ^ 32)) _ e in
+    let parts = and_parts (nat_lt n (2 ^ 32)) _ e in
     let small : n < 2 ^ 32 = let t = parts.0 in grind (arith, nat_tests) in
     words-more n ns small (tested-words ns parts.1)
 
@@ -131,8 +129,8 @@ relative_all = refl
 known-limits : (e : WellKnown) → known_fits e ≡ true → IsSid (known_sid e)
 unfolding known_fits
 known-limits e h =
-    let first = both (nat_lt e.authority (2 ^ 48)) _ h in
-    let second = both (nat_le (length (take e.count e.subs)) 15) _ first.1 in
+    let first = and_parts (nat_lt e.authority (2 ^ 48)) _ h in
+    let second = and_parts (nat_le (length (take e.count e.subs)) 15) _ first.1 in
     let small : e.authority < 2 ^ 48 = let t = first.0 in grind (arith, nat_tests) in
     let few : length (take e.count e.subs) ≤ 15 = let t = second.0 in grind (arith, nat_tests) in
     record { authority = small; count = few; subs = tested-words (take e.count e.subs) second.1 }
@@ -182,9 +180,9 @@ form-few : (text : List ℕ) → has_form text ≡ true → length (cut_at_dashe
 unfolding has_form
 form-few text e =
     let p = cut_at_dashes (drop 4 text) in
-    let numbers = (both (nat_le (length text) 183 && begins_with_s1 text) (are_numbers p) e).1 in
-    let subs = (both (is_hex p.first || is_decimal p.first) (are_subs 0 p.others) numbers).1 in
-    let few = (both (nat_le (0 + length p.others) 15) _ subs).0 in
+    let numbers = (and_parts (nat_le (length text) 183 && begins_with_s1 text) (are_numbers p) e).1 in
+    let subs = (and_parts (is_hex p.first || is_decimal p.first) (are_subs 0 p.others) numbers).1 in
+    let few = (and_parts (nat_le (0 + length p.others) 15) _ subs).0 in
     grind (arith, nat_tests)
 
 text-limits : (text : List ℕ) (domain : Option SecurityId) → IfSome domain IsSid → IfOk (sid_reads text domain) IsSid
@@ -220,8 +218,8 @@ hex-value c h = grind (arith, nat_tests)
 digit-at : (hex : List ℕ) (k : ℕ) → k < length hex → list_all is_hex_digit hex ≡ true
     → is_hex_digit (slice_index hex k) ≡ true
 digit-at [] k within e = absurd (omega arith)
-digit-at (c ∷ cs) zero within e = (both (is_hex_digit c) _ e).0
-digit-at (c ∷ cs) (suc k) within e = digit-at cs k (omega arith) (both (is_hex_digit c) _ e).1
+digit-at (c ∷ cs) zero within e = (and_parts (is_hex_digit c) _ e).0
+digit-at (c ∷ cs) (suc k) within e = digit-at cs k (omega arith) (and_parts (is_hex_digit c) _ e).1
 
 byte-limit : (hex : List ℕ) (j : ℕ) → length hex ≡ 32 → list_all is_hex_digit hex ≡ true → j < 16
     → byte_of_digits hex j < 256

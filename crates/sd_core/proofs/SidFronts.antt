@@ -6,7 +6,7 @@ use Rattle.std.specs.Char.{is_ascii_alphabetic, is_digit, to_ascii_uppercase}
 use Rattle.std.specs.List.{list_all}
 use Rattle.std.proofs.lemmas.Bool.Decides.{nat_tests}
 use Rattle.std.proofs.lemmas.List.Sums.{take_while-cons}
-use Rattle.sd_rights.proofs.Bools.{both}
+use Rattle.std.proofs.lemmas.Bool.{and_parts}
 use Rattle.sd_core.specs.SidText.{are_letters, are_numbers, begins_with_s1, has_form, is_sid_byte, cut_at_dashes, sid_front}
 use Rattle.sd_rights.specs.Numbers.{number_after}
 use Rattle.sd_core.proofs.TextLaws.{cut-digits}
@@ -22,7 +22,7 @@ front-digits : (ds rest : List ℕ) → list_all (λ b. is_digit b 10) ds ≡ tr
     → sid_front (ds ++ rest) ≡ ds ++ sid_front rest
 front-digits [] rest e = refl
 front-digits (d ∷ ds) rest e =
-    let parts = both (is_digit d 10) _ e in
+    let parts = and_parts (is_digit d 10) _ e in
     front-more d (ds ++ rest) (digit_byte d parts.0) ∙ ap (λ (t : List ℕ). d ∷ t) (front-digits ds rest parts.1)
 
 -- a number, and the pieces that follow it
@@ -69,9 +69,9 @@ byte_is b n e = grind (arith, nat_tests)
 s1-front : (text : List ℕ) → begins_with_s1 text ≡ true → 4 ≤ length text
     → sid_front text ≡ take 4 text ++ sid_front (drop 4 text)
 s1-front (a ∷ b ∷ c ∷ d ∷ rest) e long =
-    let three = both (to_ascii_uppercase a == 83 && b == 45 && c == 49) (d == 45) e in
-    let two = both (to_ascii_uppercase a == 83 && b == 45) (c == 49) three.0 in
-    let one = both (to_ascii_uppercase a == 83) (b == 45) two.0 in
+    let three = and_parts (to_ascii_uppercase a == 83 && b == 45 && c == 49) (d == 45) e in
+    let two = and_parts (to_ascii_uppercase a == 83 && b == 45) (c == 49) three.0 in
+    let one = and_parts (to_ascii_uppercase a == 83) (b == 45) two.0 in
     rw (byte_is b 45 one.1, byte_is c 49 two.1, byte_is d 45 three.1) (
     front-more a (45 ∷ 49 ∷ 45 ∷ rest) (s_byte a one.0)
     ∙ ap (λ (t : List ℕ). a ∷ t) (front-more 45 (49 ∷ 45 ∷ rest) refl)

@@ -9,15 +9,15 @@ line_feed = char "\n"
 abbrev pub carriage_return : ℕ
 carriage_return = char "\r"
 
--- the parts that an LF ends, in order, and what follows the last LF
+-- what each LF ends, in order, and what follows the last LF
 pub record LineCut : Type 0 where
   pub ended : List (List ℕ)
   pub rest : List ℕ
 
--- a byte goes onto the first part of what follows it
+-- a byte goes onto the first line of what follows it
 abbrev pub onto_first_line : ℕ → List (List ℕ) → List ℕ → LineCut
 onto_first_line b [] rest = record { ended = []; rest = b ∷ rest }
-onto_first_line b (part ∷ cut_at_line_feeds) rest = record { ended = (b ∷ part) ∷ cut_at_line_feeds; rest = rest }
+onto_first_line b (line ∷ others) rest = record { ended = (b ∷ line) ∷ others; rest = rest }
 
 unfoldable pub cut_at_line_feeds : List ℕ → LineCut
 cut_at_line_feeds [] = record { ended = []; rest = [] }
@@ -26,7 +26,7 @@ cut_at_line_feeds (b ∷ bytes) =
     then record { ended = [] ∷ (cut_at_line_feeds bytes).ended; rest = (cut_at_line_feeds bytes).rest }
     else onto_first_line b (cut_at_line_feeds bytes).ended (cut_at_line_feeds bytes).rest
 
--- a part without the one CR at its end, if it has one
+-- a line without the one CR at its end, if it has one
 unfoldable pub without_cr : List ℕ → List ℕ
 without_cr [] = []
 without_cr (b ∷ []) = if b == carriage_return then [] else b ∷ []
@@ -44,14 +44,14 @@ last_line (b ∷ bytes) = (b ∷ bytes) ∷ []
 unfoldable pub lines : List ℕ → List (List ℕ)
 lines bytes = ended bytes ++ last_line (cut_at_line_feeds bytes).rest
 
--- What fixes the cut by itself: the bytes are the ended parts, each with its LF, and then the rest, and no LF stands in
+-- What fixes the cut by itself: the bytes are the ended lines, each with its LF, and then the rest, and no LF stands in
 -- any of these.
 
 abbrev pub has_lf : List ℕ → Bool
 has_lf bytes = list_any (λ b. b == line_feed) bytes
 
 pub record IsCut (bytes : List ℕ) (p : LineCut) : Type 0 where
-  pub joined : flat_map (λ part. part ++ line_feed ∷ []) p.ended ++ p.rest ≡ bytes
+  pub joined : flat_map (λ line. line ++ line_feed ∷ []) p.ended ++ p.rest ≡ bytes
   pub ended_without : list_any has_lf p.ended ≡ false
   pub rest_without : has_lf p.rest ≡ false
 

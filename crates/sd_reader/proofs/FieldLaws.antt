@@ -133,10 +133,3 @@ module _ (w : Which) (has_aces : Bool) (t : FieldsRead) (f : AclFront) (found : 
   dacl-taken same = front-taken w has_aces t f found is e
       ∙ ap (λ (v : Which). Ok
       (with_flags v f.flags (record t { parts = begun_or_null w f.null (closed t.parts) }))) same
-
-pub not-both : (x y : Bool) → y ≡ false → (x && y) ≡ false
-not-both true y e = e
-not-both false y e = refl
-
-pub not-first : (x y : Bool) → x ≡ false → (x && y) ≡ false
-not-first x y e = rw e refl

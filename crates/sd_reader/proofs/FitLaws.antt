@@ -1,6 +1,7 @@
 -- Which parts are given, and which ACL is open, after one field more.
 use Rattle.std.proofs.Common.{◌≡◌, ℕ, List, Option, Some, None, Bool, true, false, refl, sym, ap, ◌∙◌, subst, true≢false}
 use Rattle.std.specs.Prelude.{if◌then◌else◌, is_some, ◌&&◌, ◌||◌, not, IfOk, Result, Ok, Err}
+use Rattle.std.proofs.lemmas.Bool.{or_left, or_right, not_from_false}
 use Rattle.sd_core.specs.Ace.{AccessControlEntry}
 use Rattle.sd_core.specs.Sid.{SecurityId}
 use Rattle.sd_rights.specs.Flags.{flags_reads}
@@ -315,16 +316,6 @@ open-taken domain r u f text e o =
 
 -- 4. Places.
 
-or_left : (x y : Bool) → x ≡ true → (x || y) ≡ true
-or_left x y e = rw e refl
-
-or_right : (x y : Bool) → y ≡ true → (x || y) ≡ true
-or_right true y e = refl
-or_right false y e = e
-
-not_false : (x : Bool) → x ≡ false → not x ≡ true
-not_false x e = rw e refl
-
 -- a part that was not seen is not at hand
 not-here : (p : State) (seen : Seen) (t : FieldsRead) → Fits p seen t → (h : Head) → is_seen seen h ≡ false
     → is_at_front p h ≡ false
@@ -347,7 +338,7 @@ fits-first domain w seen t u text e k = record {
   lacks = λ h f.
       let unseen = not_or_false (is_seen seen h) f in
       lacks-taken domain t u (slot.AclFlags w true) text h e (not-here (state.AclFlags w) seen t k h unseen)
-      (k.lacks h (or_left (not (is_seen seen h)) _ (not_false (is_seen seen h) unseen)));
+      (k.lacks h (or_left (not (is_seen seen h)) _ (not_from_false (is_seen seen h) unseen)));
   opened = λ _. open-front domain t u w text e;
 }
 
@@ -364,7 +355,7 @@ fits-field domain f p seen t u text e none k = record {
   lacks = λ h g.
       let unseen = not_or_false (is_seen seen h) (sym (ap (λ b. not (is_seen seen h) || b) (none h)) ∙ g) in
       lacks-taken domain t u (slot.Ace f) text h e refl
-      (k.lacks h (or_left (not (is_seen seen h)) _ (not_false (is_seen seen h) unseen)));
+      (k.lacks h (or_left (not (is_seen seen h)) _ (not_from_false (is_seen seen h) unseen)));
   opened = λ _. open-taken domain t u f text e (k.opened refl);
 }
 
@@ -431,7 +422,7 @@ fits-head p seen t u h keeps unseen k = record {
 }
   where
     lacking : (x : Head) → is_seen seen x ≡ false → Lacks x u
-    lacking x e = keeps x e (k.lacks x (or_left (not (is_seen seen x)) _ (not_false (is_seen seen x) e)))
+    lacking x e = keeps x e (k.lacks x (or_left (not (is_seen seen x)) _ (not_from_false (is_seen seen x) e)))
 
     by_same : (x : Head) (b : Bool) → same_head h x ≡ b
         → (not (is_seen seen x || same_head h x) || same_head h x) ≡ true → Lacks x u

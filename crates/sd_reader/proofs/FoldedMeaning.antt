@@ -3,7 +3,7 @@ use Rattle.std.proofs.Common.{◌≡◌, ◌≤◌, ℕ, ◌+◌, Bool, true, fa
 use Rattle.std.specs.Prelude.{nat_lt, not, if◌then◌else◌}
 use Rattle.std.specs.List.{list_all}
 use Rattle.std.proofs.lemmas.Bool.Decides.{nat_tests}
-use Rattle.sd_rights.proofs.Bools.{both}
+use Rattle.std.proofs.lemmas.Bool.{and_parts, or_parts}
 use Rattle.sd_core.specs.Ace.{AccessControlEntry}
 use Rattle.sd_core.specs.Sid.{SecurityId}
 use Rattle.sd_view.specs.Acl.{acl_size, aces_size}
@@ -227,17 +227,13 @@ swapped (acl_said which.Dacl f a) (sid_said sid_part.Group t) g e = refl
 swapped (acl_said which.Dacl f a) (acl_said which.Sacl k b) g e = refl
 swapped (acl_said which.Dacl f a) (acl_said which.Dacl k b) g e = absurd cc
 
-neither : (x y : Bool) → (x || y) ≡ false → (x ≡ false) × (y ≡ false)
-neither false y e = (refl, e)
-neither true y e = absurd cc
-
 -- the first one may be put last
 put-last : (xs : List Said) (x : Said) (g : Gathered) → is_said (head_said x) xs ≡ false
     → with_those xs (with_one x g) ≡ with_one x (with_those xs g)
 unfolding with_those
 put-last [] x g e = refl
 put-last (y ∷ ys) x g e =
-    let parts = neither (same_head (head_said x) (head_said y)) _ e in
+    let parts = or_parts (same_head (head_said x) (head_said y)) _ e in
     ap (with_those ys) (swapped x y g parts.0) ∙ put-last ys x (with_one y g) parts.1
 
 abbrev picked : List Said → Gathered
@@ -260,7 +256,7 @@ all-picked : (xs : List Said) → is_twice xs ≡ false → with_those xs (picke
 unfolding with_those
 all-picked [] e = refl
 all-picked (x ∷ xs) e =
-    let parts = neither (is_said (head_said x) xs) _ e in
+    let parts = or_parts (is_said (head_said x) xs) _ e in
     put-last xs x (picked []) parts.0 ∙ ap (with_one x) (all-picked xs parts.1) ∙ picked-one x xs
 
 -- what is said has the heads of the sections
@@ -357,7 +353,8 @@ sections-finished domain ss shaped once =
     by_said (Err f) e = refl
 
 line-shaped : (text : List ℕ) → is_shaped text ≡ true → are_shaped (sections_of text).parts ≡ true
-line-shaped text e = (both (list_all is_blank_piece (sections_of text).before) _ (both (is_paired false text) _ e).1).1
+line-shaped text e =
+    (and_parts (list_all is_blank_piece (sections_of text).before) _ (and_parts (is_paired false text) _ e).1).1
 
 pub folded-means : (text : List ℕ) (domain : Option SecurityId) → folded text domain ≡ means text domain
 unfolding folded means reads_as if_shaped finished

@@ -4,7 +4,7 @@ use Rattle.std.specs.Prelude.{◌==◌, if◌then◌else◌}
 use Rattle.std.specs.List.{AllByRecursion, flat_map}
 use Rattle.std.specs.Option.{ok_or}
 use Rattle.std.proofs.lemmas.Bool.Decides.{nat_tests}
-use Rattle.sd_rights.proofs.Bools.{both}
+use Rattle.std.proofs.lemmas.Bool.{and_parts}
 use Rattle.sd_core.specs.Ace.{AccessControlEntry}
 use Rattle.sd_rights.specs.Flags.{flags_reads}
 use Rattle.sd_rights.specs.Rights.{rights_reads}
@@ -293,12 +293,12 @@ module _ (domain : Option SecurityId) (w : Which) (body : List Piece) (r : Field
 
 aces-six : (body : List Piece) → are_aces body ≡ true → HaveSix (aces body)
 aces-six [] h = tt
-aces-six (byte b ∷ ps) h = aces-six ps (both (is_blank b) _ h).1
-aces-six (ace a ∷ ps) h = let parts = both (has_six_fields a) _ h in (parts.0, aces-six ps parts.1)
+aces-six (byte b ∷ ps) h = aces-six ps (and_parts (is_blank b) _ h).1
+aces-six (ace a ∷ ps) h = let parts = and_parts (has_six_fields a) _ h in (parts.0, aces-six ps parts.1)
 
 acl-six : (body : List Piece) → is_acl_body body ≡ true → HaveSix (aces body)
 acl-six [] h = tt
-acl-six (byte b ∷ ps) h = acl-six ps (both _ (is_acl_body ps) h).1
+acl-six (byte b ∷ ps) h = acl-six ps (and_parts _ (is_acl_body ps) h).1
 acl-six (ace a ∷ ps) h = aces-six (ace a ∷ ps) h
 
 section-read : (domain : Option SecurityId) (r : FieldsRead) (h : Head) (body : List Piece) → is_body h body ≡ true
@@ -323,7 +323,7 @@ pub sections-read : (domain : Option SecurityId) (r : FieldsRead) (ss : List Sec
 unfolding with_all
 sections-read domain r [] h = refl
 sections-read domain r (s ∷ ss) h =
-    let parts = both (is_body s.head s.body) _ h in
+    let parts = and_parts (is_body s.head s.body) _ h in
     read-append domain (fields_in s.head s.body) (fields_of ss) r
     ∙ ap (λ (x : Found FieldsRead). and_then x (read_fields domain (fields_of ss)))
     (section-read domain r s.head s.body parts.0)

@@ -1,9 +1,9 @@
 -- A descriptor that a line means keeps the limits of a descriptor's fields.
 use Rattle.std.proofs.Common.{◌≡◌, ◌<◌, ℕ, ◌+◌, ◌*◌, ◌^◌, List, [], ◌∷◌, ◌++◌, Option, Some, None, IfSome, Result, Ok, Err, IfOk, Bool, true, false, refl, subst, arith}
 use Rattle.std.specs.Prelude.{◌&&◌, nat_lt, if◌then◌else◌}
-use Rattle.std.specs.List.{AllByRecursion}
 use Rattle.std.specs.Option.{option_map, option_or}
 use Rattle.std.proofs.lemmas.Bool.Decides.{nat_tests}
+use Rattle.sd_binary.proofs.Building.{all-more}
 use Rattle.sd_core.specs.Ace.{AccessControlEntry, IsAce, IsGuid}
 use Rattle.sd_rights.specs.Kinds.{is_object}
 use Rattle.sd_rights.specs.Flags.{flags_reads}
@@ -172,11 +172,6 @@ is-ace f s h i = record {
   sid = i;
 }
 
-each-more : (aces : List AccessControlEntry) (a : AccessControlEntry) → AllByRecursion IsAce aces → IsAce a
-    → AllByRecursion IsAce (aces ++ a ∷ [])
-each-more [] a h k = (k, tt)
-each-more (b ∷ others) a h k = (h.0, each-more others a h.1 k)
-
 neither : (x y : Option Which) → option_or x y ≡ None → (x ≡ None) × (y ≡ None)
 neither None y e = (refl, e)
 neither (Some w) y e = absurd cc
@@ -192,7 +187,7 @@ fits-still w aces e = by_test (nat_lt 65535 (acl_size aces)) refl e
 open-more : (a : AccessControlEntry) (o : Option (Which × List AccessControlEntry)) → IsAce a → IsOpened o
     → large_in (more_in a o) ≡ None → IsOpened (more_in a o)
 open-more a None k h e = tt
-open-more a (Some o) k h e = record { each = each-more o.1 a h.each k; fits = fits-still o.0 (o.1 ++ a ∷ []) e }
+open-more a (Some o) k h e = record { each = all-more o.1 a h.each k; fits = fits-still o.0 (o.1 ++ a ∷ []) e }
 
 trustee-keeps : (r : FieldsRead) (s : SecurityId) → IsSid s → IsReading r → IsReading (with_trustee r s)
 trustee-keeps r s i h = record {

@@ -4,6 +4,8 @@ use Rattle.std.specs.Prelude.{◌==◌, if◌then◌else◌, Result, Ok, Err, Op
 use Rattle.std.specs.List.{flat_map}
 use Rattle.std.proofs.Math.Dec.{eqb-suc-zero}
 use Rattle.std.proofs.lemmas.Bool.Decides.{nat_tests, eqb_tells}
+use Rattle.std.proofs.lemmas.Bool.{and_right}
+use Rattle.std.proofs.Math.Bool.{or-true, or-false}
 use Rattle.sd_core.specs.Sid.{SecurityId}
 use Rattle.sd_view.specs.declared.control.Which.{Which}
 use Rattle.sd_view.specs.declared.control.Which.TheVariants as which
@@ -33,10 +35,6 @@ no_both : (x y z : Bool) → z ≡ false → (x && (y && z)) ≡ false
 no_both true true z e = e
 no_both true false z e = refl
 no_both false y z e = refl
-
-no_second : (x y : Bool) → y ≡ false → (x && y) ≡ false
-no_second true y e = e
-no_second false y e = refl
 
 -- a shape that fails
 unshaped : (x t : Bool) (r : Result FieldsRead SddlFault) → x ≡ false → if_shaped x t r ≡ Err fault.Shape
@@ -143,12 +141,12 @@ module _ (dm : Option SecurityId) (so tw : Bool) (se : Seen) (r : Result FieldsR
   -- a parenthesis that closes where none is open
   pub close_outside : (pl : State) → is_inside pl ≡ false → rest_answer dm so tw se r pl h (41 ∷ bs) ≡ Err fault.Shape
   unfolding rest_answer judged
-  close_outside pl out = rw out (unshaped _ _ _ (no_second so _ refl))
+  close_outside pl out = rw out (unshaped _ _ _ (and_right so _ refl))
 
   -- a parenthesis in a parenthesis
   pub open_inside : (c : AceField) → rest_answer dm so tw se r (state.Ace c) h (40 ∷ bs) ≡ Err fault.Shape
   unfolding rest_answer judged
-  open_inside c = unshaped _ _ _ (no_second so _ refl)
+  open_inside c = unshaped _ _ _ (and_right so _ refl)
 
   -- a colon with no letter before it
   pub colon : (pl : State) → is_inside pl ≡ false → rest_answer dm so tw se r pl h (58 ∷ bs) ≡ Err fault.Shape
@@ -311,14 +309,6 @@ shaped_end (state.AclFlags w) out = refl
 shaped_end state.AfterAce out = refl
 shaped_end (state.Ace c) out = absurd cc
 
-or_true : (x : Bool) → (x || true) ≡ true
-or_true true = refl
-or_true false = refl
-
-or_false : (x : Bool) → (x || false) ≡ x
-or_false true = refl
-or_false false = refl
-
 mixed : (x u v y z : Bool) → (x || ((u || v) || (y || z))) ≡ ((x || u) || ((v || y) || z))
 mixed true u v y z = refl
 mixed false true v y z = refl
@@ -326,26 +316,26 @@ mixed false false true y z = refl
 mixed false false false y z = refl
 
 pub seen_with : (se : Seen) (p q : Head) → is_seen (with_head se p) q ≡ (is_seen se q || same_head p q)
-seen_with se (head.Sid sid_part.Owner) (head.Sid sid_part.Owner) = rw or_true refl
-seen_with se (head.Sid sid_part.Owner) (head.Sid sid_part.Group) = rw or_false refl
-seen_with se (head.Sid sid_part.Owner) (head.Acl which.Sacl) = rw or_false refl
-seen_with se (head.Sid sid_part.Owner) (head.Acl which.Dacl) = rw or_false refl
-seen_with se (head.Sid sid_part.Group) (head.Sid sid_part.Owner) = rw or_false refl
-seen_with se (head.Sid sid_part.Group) (head.Sid sid_part.Group) = rw or_true refl
-seen_with se (head.Sid sid_part.Group) (head.Acl which.Sacl) = rw or_false refl
-seen_with se (head.Sid sid_part.Group) (head.Acl which.Dacl) = rw or_false refl
-seen_with se (head.Acl which.Sacl) (head.Sid sid_part.Owner) = rw or_false refl
-seen_with se (head.Acl which.Sacl) (head.Sid sid_part.Group) = rw or_false refl
-seen_with se (head.Acl which.Sacl) (head.Acl which.Sacl) = rw or_true refl
-seen_with se (head.Acl which.Sacl) (head.Acl which.Dacl) = rw or_false refl
-seen_with se (head.Acl which.Dacl) (head.Sid sid_part.Owner) = rw or_false refl
-seen_with se (head.Acl which.Dacl) (head.Sid sid_part.Group) = rw or_false refl
-seen_with se (head.Acl which.Dacl) (head.Acl which.Sacl) = rw or_false refl
-seen_with se (head.Acl which.Dacl) (head.Acl which.Dacl) = rw or_true refl
+seen_with se (head.Sid sid_part.Owner) (head.Sid sid_part.Owner) = rw or-true refl
+seen_with se (head.Sid sid_part.Owner) (head.Sid sid_part.Group) = rw or-false refl
+seen_with se (head.Sid sid_part.Owner) (head.Acl which.Sacl) = rw or-false refl
+seen_with se (head.Sid sid_part.Owner) (head.Acl which.Dacl) = rw or-false refl
+seen_with se (head.Sid sid_part.Group) (head.Sid sid_part.Owner) = rw or-false refl
+seen_with se (head.Sid sid_part.Group) (head.Sid sid_part.Group) = rw or-true refl
+seen_with se (head.Sid sid_part.Group) (head.Acl which.Sacl) = rw or-false refl
+seen_with se (head.Sid sid_part.Group) (head.Acl which.Dacl) = rw or-false refl
+seen_with se (head.Acl which.Sacl) (head.Sid sid_part.Owner) = rw or-false refl
+seen_with se (head.Acl which.Sacl) (head.Sid sid_part.Group) = rw or-false refl
+seen_with se (head.Acl which.Sacl) (head.Acl which.Sacl) = rw or-true refl
+seen_with se (head.Acl which.Sacl) (head.Acl which.Dacl) = rw or-false refl
+seen_with se (head.Acl which.Dacl) (head.Sid sid_part.Owner) = rw or-false refl
+seen_with se (head.Acl which.Dacl) (head.Sid sid_part.Group) = rw or-false refl
+seen_with se (head.Acl which.Dacl) (head.Acl which.Sacl) = rw or-false refl
+seen_with se (head.Acl which.Dacl) (head.Acl which.Dacl) = rw or-true refl
 
 four : (a b c d : Bool) → ((a || b) || (c || d)) ≡ ((a || c) || (b || d))
 four true b c d = refl
-four false b true d = or_true b
+four false b true d = or-true b
 four false true false d = refl
 four false false false d = refl
 
@@ -434,7 +424,7 @@ begin-noted dm so tw se r pl h b p bs u fault' out k e read = by_seen (is_seen s
         (unless (if x then Some fault.PartTwice else fault') u) (state_of p) no_text bs ≡ rest_answer dm so tw
         se r pl h (b ∷ 58 ∷ bs)
     by_seen true f = twice-any dm so (tw || is_seen se p) (with_head se p) (Err fault.PartTwice) (ended_with dm pl h r)
-        (state_of p) no_text bs (rw f (or_true tw))
+        (state_of p) no_text bs (rw f (or-true tw))
         ∙ begin dm so tw se r pl h b p bs out k e
     by_seen false f = ap (λ (x : Result FieldsRead SddlFault). rest_answer dm so (tw || is_seen se p) (with_head se p)
         x (state_of p) no_text bs) read
@@ -447,7 +437,7 @@ pub finished : (dm : Option SecurityId) (tw : Bool) (se : Seen) (r : Result Fiel
     → rest_answer dm true tw se r pl h [] ≡ (if tw then Err fault.PartTwice else ended_with dm pl h r)
 unfolding judged if_shaped
 finished dm tw se r pl h out k = from_outside dm true tw se r pl h [] out
-    ∙ rw (shaped_end pl out, ends_here dm pl h r [] k out, or_false tw) (by_result tw (ended_with dm pl h r))
+    ∙ rw (shaped_end pl out, ends_here dm pl h r [] k out, or-false tw) (by_result tw (ended_with dm pl h r))
   where
     by_result : (tw : Bool) (r : Result FieldsRead SddlFault)
         → (if tw then Err fault.PartTwice else and_then r (read_fields dm [])) ≡ (if tw then Err fault.PartTwice else r)
@@ -458,7 +448,7 @@ finished dm tw se r pl h out k = from_outside dm true tw se r pl h [] out
 pub unfinished : (dm : Option SecurityId) (so tw : Bool) (se : Seen) (r : Result FieldsRead SddlFault) (c : AceField)
     (h : Held) → rest_answer dm so tw se r (state.Ace c) h [] ≡ Err fault.Shape
 unfolding rest_answer judged
-unfinished dm so tw se r c h = unshaped _ _ _ (no_second so _ refl)
+unfinished dm so tw se r c h = unshaped _ _ _ (and_right so _ refl)
 
 -- 8. The start.
 

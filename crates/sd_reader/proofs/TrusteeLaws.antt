@@ -1,11 +1,12 @@
 -- An ACE that ends with its SID: the ACL at hand grows by it, or is too large.
-use Rattle.std.proofs.Common.{◌≡◌, ℕ, ◌+◌, ◌≤◌, ◌^◌, List, [], ◌∷◌, ◌++◌, Option, Some, None, Bool, true, false, refl, sym, ◌∙◌, arith}
+use Rattle.std.proofs.Common.{◌≡◌, ℕ, ◌+◌, ◌≤◌, ◌^◌, List, Option, Some, None, Bool, true, false, refl, sym, ◌∙◌, arith}
 use Rattle.std.specs.Prelude.{if◌then◌else◌, is_some, nat_lt}
 use Rattle.std.specs.Option.{option_map}
 use Rattle.std.proofs.lemmas.Bool.Decides.{nat_tests}
+use Rattle.sd_binary.proofs.Building.{size-more}
 use Rattle.sd_core.specs.Ace.{AccessControlEntry, ace_size}
 use Rattle.sd_core.specs.Sid.{SecurityId}
-use Rattle.sd_view.specs.Acl.{acl_size, aces_size}
+use Rattle.sd_view.specs.Acl.{acl_size}
 use Rattle.sd_binary.specs.Builds.{Builds}
 use Rattle.sd_binary.specs.Draft.{IsOpen, IsOpenIn, more_in, open_size, open_size_in, with_ace}
 use Rattle.sd_reader.specs.Inner.FoldedReading.{FieldsRead, ace_of_fields, large_in, with_trustee}
@@ -13,11 +14,6 @@ use Rattle.sd_reader.specs.Inner.Reads.{HasReadFields}
 use Rattle.sd_reader.specs.declared.reading.FieldReader.{FieldReader}
 use Rattle.sd_binary.specs.declared.builder.Builder.{Builder}
 use Rattle.sd_view.specs.declared.control.Which.{Which}
-
-aces_size-more : (aces : List AccessControlEntry) (a : AccessControlEntry)
-    → aces_size (aces ++ a ∷ []) ≡ aces_size aces + ace_size a
-aces_size-more [] a = omega arith
-aces_size-more (x ∷ aces) a = let h = aces_size-more aces a in omega (arith, h)
 
 -- the ACL that is open is the same one, where one is
 is_open_with : (x y : Option (Which × List AccessControlEntry)) → option_map (λ o. o.0) x ≡ option_map (λ o. o.0) y
@@ -40,13 +36,13 @@ large-found : (x : Option (Which × List AccessControlEntry)) (a : AccessControl
     → 2 ^ 16 ≤ open_size_in x + ace_size a → large_in (more_in a x) ≡ option_map (λ o. o.0) x
 large-found None a o large = absurd o
 large-found (Some p) a o large = large-test (acl_size p.1 + ace_size a) _ p.0 large
-    (let h = aces_size-more p.1 a in omega (arith, h))
+    (let h = size-more p.1 a in omega (arith, h))
 
 fits-found : (x : Option (Which × List AccessControlEntry)) (a : AccessControlEntry) → IsOpenIn x
     → (2 ^ 16 ≤ open_size_in x + ace_size a → ⊥) → large_in (more_in a x) ≡ None
 fits-found None a o fits = absurd o
 fits-found (Some p) a o fits = fits-test (acl_size p.1 + ace_size a) _ p.0 fits
-    (let h = aces_size-more p.1 a in omega (arith, h))
+    (let h = size-more p.1 a in omega (arith, h))
 
 open-same : (x : Option (Which × List AccessControlEntry)) (a : AccessControlEntry)
     → option_map (λ o. o.0) (more_in a x) ≡ option_map (λ o. o.0) x

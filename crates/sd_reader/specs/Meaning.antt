@@ -79,8 +79,8 @@ pub data Said : Type 0 where
 unfoldable pub acl_part_reads : Option SecurityId → Bool → List Piece → Result AclPart SddlFault
 acl_part_reads domain true body = if has_aces body then Err fault.Flags else Ok acl.Null
 acl_part_reads domain false body = do
-  entries ← each (λ a. ace_reads domain (ace_cuts a)) (aces body)
-  Ok (acl.List entries)
+  list ← each (λ a. ace_reads domain (ace_cuts a)) (aces body)
+  Ok (acl.List list)
 
 -- blanks at the ends of the SID, and of what stands before the first ACE, do not count
 unfoldable pub body_reads : Option SecurityId → Head → List Piece → Result Said SddlFault
@@ -89,8 +89,8 @@ body_reads domain (head.Sid p) body = do
   Ok (sid_said p s)
 body_reads domain (head.Acl w) body = do
   f ← field_reads fault.Flags front_reads (trim (front body))
-  entries ← acl_part_reads domain f.null body
-  Ok (acl_said w f.flags entries)
+  part ← acl_part_reads domain f.null body
+  Ok (acl_said w f.flags part)
 
 abbrev pub section_reads : Option SecurityId → Section → Result Said SddlFault
 section_reads domain s = body_reads domain s.head s.body

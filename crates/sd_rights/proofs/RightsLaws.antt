@@ -7,6 +7,7 @@ use Rattle.std.specs.Fmt.{digits}
 use Rattle.std.specs.Str.Parse.{AllDigits, IsNumeral, digits_value}
 use Rattle.std.proofs.lemmas.Fmt.{digits_is_IsNumeral}
 use Rattle.std.proofs.lemmas.Bool.Decides.{nat_tests}
+use Rattle.std.proofs.lemmas.Bool.{not-true}
 use Rattle.sd_rights.specs.Names.{run_of, names_of, named_bits}
 use Rattle.sd_rights.specs.Rights.{all_rights, mask_reads, short_rights_reads, rights_reads, is_label, hex_text, names_or_hex, rights_text, name_letters}
 use Rattle.sd_rights.specs.declared.kinds.AceKind.{AceKind}
@@ -46,13 +47,9 @@ labels_letters : list_all is_letter LABELS ≡ true
 unfolding is_letter
 labels_letters = refl
 
-not_true : (b : Bool) → not b ≡ true → b ≡ false
-not_true true e = absurd cc
-not_true false e = refl
-
 no_digit : (e : NamedBits) → is_letter e ≡ true → is_digit e.first 10 ≡ false
 unfolding is_letter
-no_digit e h = not_true _ h
+no_digit e h = not-true _ h
 
 -- each of the names of one bit, and so the bits that a mask shares with all of them have names
 
@@ -138,7 +135,7 @@ one_name e h letter = not_long (e.first ∷ e.second ∷ []) (omega arith)
 
 -- 3. Hex digits read back.
 
-all_digits : (base : ℕ) (text : List ℕ) → AllDigits base text → list_all (λ c. is_digit c base) text ≡ true
+pub all_digits : (base : ℕ) (text : List ℕ) → AllDigits base text → list_all (λ c. is_digit c base) text ≡ true
 all_digits base [] a = refl
 all_digits base (c ∷ cs) a = rw (lt-ltb (digit_value c) base a.0) (all_digits base cs a.1)
 
@@ -188,7 +185,8 @@ rights_read_back kind mask s = by_zero (mask == 0) refl (is_label kind)
   where
     by_zero : (z : Bool) → (mask == 0) ≡ z → (label : Bool)
         → rights_reads (if z then hex_text 0 else (if label then names_or_hex LABELS mask
-        else unwrap_or (option_map name_letters (find (λ e. e.bits == mask) COMPOUNDS)) (names_or_hex SINGLES mask))) ≡ Some mask
+        else unwrap_or (option_map name_letters (find (λ e. e.bits == mask) COMPOUNDS))
+        (names_or_hex SINGLES mask))) ≡ Some mask
     by_zero true e label = hex_reads 0 (omega arith) ∙ ap Some (sym (eqb-true mask 0 e))
     by_zero false e true = names_or_hex-reads LABELS mask labels_read labels_letters (omega arith) s
     by_zero false e false = whole-reads COMPOUNDS mask (names_or_hex SINGLES mask) compounds_read compounds_letters
@@ -215,7 +213,8 @@ rights_text-length kind mask s = by_zero (mask == 0) (is_label kind)
   where
     by_zero : (z label : Bool)
         → length (if z then hex_text 0 else (if label then names_or_hex LABELS mask
-        else unwrap_or (option_map name_letters (find (λ e. e.bits == mask) COMPOUNDS)) (names_or_hex SINGLES mask))) ≤ 34
+        else unwrap_or (option_map name_letters (find (λ e. e.bits == mask) COMPOUNDS))
+        (names_or_hex SINGLES mask))) ≤ 34
     by_zero true label = omega (arith, length-hex 0 (omega arith))
     by_zero false true = names_or_hex-length LABELS mask (omega arith) s
     by_zero false false = letters-length (find (λ e. e.bits == mask) COMPOUNDS) (names_or_hex SINGLES mask)

@@ -6,7 +6,7 @@ use Rattle.std.proofs.lemmas.List.Folds.{list_all-append}
 use Rattle.sd_core.specs.Ace.{AccessControlEntry, IsAce}
 use Rattle.sd_rights.specs.Flags.{flags_text}
 use Rattle.sd_rights.specs.Rights.{rights_text}
-use Rattle.sd_rights.proofs.Bools.{both}
+use Rattle.std.proofs.lemmas.Bool.{and_parts}
 use Rattle.sd_core.specs.declared.naming.Naming.{Naming}
 use Rattle.sd_reader.specs.declared.line.AceField.{AceField}
 use Rattle.sd_reader.specs.declared.line.AceField.TheVariants as field
@@ -29,7 +29,7 @@ cuts-before : (text rest : List ℕ) → IsPlain text
     ≡ record { first = text ++ (cut_at_semicolons rest).first; others = (cut_at_semicolons rest).others }
 cuts-before [] rest h = refl
 cuts-before (b ∷ bs) rest h =
-    let parts = both (is_plain_byte b) _ h in
+    let parts = and_parts (is_plain_byte b) _ h in
     ap (with_byte 59 b) (cuts-before bs rest parts.1) ∙ rw (no_mark b parts.0).semicolon refl
 
 joined-cuts : (text : List ℕ) (ts : List (List ℕ)) → IsPlain text → AllByRecursion IsPlain ts
@@ -44,7 +44,7 @@ joined-cuts text (t ∷ ts) h k =
 
 text-inner : (text : List ℕ) → IsPlain text → list_all is_inner_byte text ≡ true
 text-inner [] h = refl
-text-inner (b ∷ bs) h = let parts = both (is_plain_byte b) _ h in rw (parts.0) (text-inner bs parts.1)
+text-inner (b ∷ bs) h = let parts = and_parts (is_plain_byte b) _ h in rw (parts.0) (text-inner bs parts.1)
 
 joined-inner : (text : List ℕ) (ts : List (List ℕ)) → IsPlain text → AllByRecursion IsPlain ts
     → list_all is_inner_byte (joined text ts) ≡ true

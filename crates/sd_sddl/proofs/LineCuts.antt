@@ -2,7 +2,7 @@
 use Rattle.std.proofs.Common.{◌≡◌, ℕ, Bool, true, false, ◌||◌, List, [], ◌∷◌, ◌++◌, map, Some, refl, ap, sym, ◌∙◌, append-nil, append_assoc, eqb-true}
 use Rattle.std.specs.Prelude.{◌==◌}
 use Rattle.std.specs.List.{AllByRecursion, flat_map, list_all}
-use Rattle.sd_rights.proofs.Bools.{both}
+use Rattle.std.proofs.lemmas.Bool.{and_parts}
 use Rattle.sd_view.specs.declared.control.Which.TheVariants as which
 use Rattle.sd_reader.specs.declared.line.Head.{Head}
 use Rattle.sd_reader.specs.declared.line.Head.TheVariants as head
@@ -80,7 +80,7 @@ byte-cut b h =
 text-cut : (text : List ℕ) → IsPlain text → IsCutInto text (map byte text)
 text-cut [] h = nothing-cut
 text-cut (b ∷ bs) h =
-    let parts = both (is_plain_byte b) _ h in
+    let parts = and_parts (is_plain_byte b) _ h in
     cut-append (b ∷ []) bs (byte b ∷ []) (map byte bs) (byte-cut b parts.0) (text-cut bs parts.1)
 
 -- within parentheses
@@ -101,14 +101,14 @@ inner-pieces : (inner rest : List ℕ) → list_all is_inner_byte inner ≡ true
     → pieces_from true (inner ++ 41 ∷ rest) ≡ record { held = inner; after = (pieces_from false rest).after }
 inner-pieces [] rest h = refl
 inner-pieces (b ∷ bs) rest h =
-    let parts = both (is_inner_byte b) _ h in
+    let parts = and_parts (is_inner_byte b) _ h in
     rw ((no_parenthesis b parts.0).closing, inner-pieces bs rest parts.1) refl
 
 inner-paired : (inner rest : List ℕ) → list_all is_inner_byte inner ≡ true
     → is_paired true (inner ++ 41 ∷ rest) ≡ is_paired false rest
 inner-paired [] rest h = refl
 inner-paired (b ∷ bs) rest h =
-    let parts = both (is_inner_byte b) _ h in
+    let parts = and_parts (is_inner_byte b) _ h in
     let mark = no_parenthesis b parts.0 in
     rw (mark.opening, mark.closing) (inner-paired bs rest parts.1)
 
@@ -166,7 +166,7 @@ line-paired ps h = ap (is_paired false) (sym (append-nil (flat_map part_text ps)
 text-colon : (text : List ℕ) (ps : List Piece) → IsPlain text → begins_with_colon ps ≡ false
     → begins_with_colon (map byte text ++ ps) ≡ false
 text-colon [] ps h e = e
-text-colon (b ∷ bs) ps h e = (no_mark b (both (is_plain_byte b) _ h).0).colon
+text-colon (b ∷ bs) ps h e = (no_mark b (and_parts (is_plain_byte b) _ h).0).colon
 
 aces-colon : (inners : List (List ℕ)) (ps : List Piece) → begins_with_colon ps ≡ false
     → begins_with_colon (map ace inners ++ ps) ≡ false
@@ -180,7 +180,7 @@ text-sections : (text : List ℕ) (ps : List Piece) → IsPlain text → begins_
     → sections (map byte text ++ ps) ≡ after_pieces (map byte text) (sections ps)
 text-sections [] ps h e = refl
 text-sections (b ∷ bs) ps h e =
-    let parts = both (is_plain_byte b) _ h in
+    let parts = and_parts (is_plain_byte b) _ h in
     rw (text-colon bs ps parts.1 e, text-sections bs ps parts.1 e) refl
 
 aces-sections : (inners : List (List ℕ)) (ps : List Piece)

@@ -24,7 +24,7 @@ use Rattle.sd_rights.specs.declared.flags.TheConstants.{FLAGS}
 use Rattle.sd_rights.specs.declared.names.NamedBits.{NamedBits}
 use Rattle.sd_rights.specs.declared.rights_table.TheConstants.{COMPOUNDS, LABELS, SINGLES}
 use Rattle.sd_core.proofs.AliasLaws.{alias-letters}
-use Rattle.sd_rights.proofs.Bools.{both}
+use Rattle.std.proofs.lemmas.Bool.{and_parts}
 use Rattle.sd_core.proofs.TextLaws.{sid_text-bytes}
 use Rattle.sd_core.specs.declared.naming.Naming.{Naming}
 use Rattle.sd_reader.specs.Line.{is_blank}
@@ -75,7 +75,7 @@ plain-append xs ys e f = list_all-append is_plain_byte xs ys ∙ rw (e, f) refl
 plain-more : (p : ℕ → Bool) → ((b : ℕ) → p b ≡ true → is_plain_byte b ≡ true) → (text : List ℕ) → list_all p text ≡ true
     → IsPlain text
 plain-more p h [] e = refl
-plain-more p h (b ∷ bs) e = let parts = both (p b) _ e in rw (h b parts.0) (plain-more p h bs parts.1)
+plain-more p h (b ∷ bs) e = let parts = and_parts (p b) _ e in rw (h b parts.0) (plain-more p h bs parts.1)
 
 upper_is_plain : (b : ℕ) → is_ascii_uppercase b ≡ true → is_plain_byte b ≡ true
 upper_is_plain b e = grind (arith, nat_tests)
@@ -87,7 +87,8 @@ sid_byte_is_plain b e = rw e refl
 
 no_blanks : (text : List ℕ) → IsPlain text → list_any is_blank text ≡ false
 no_blanks [] h = refl
-no_blanks (b ∷ bs) h = let parts = both (is_plain_byte b) _ h in rw (no_mark b parts.0).blank (no_blanks bs parts.1)
+no_blanks (b ∷ bs) h =
+    let parts = and_parts (is_plain_byte b) _ h in rw (no_mark b parts.0).blank (no_blanks bs parts.1)
 
 pub plain-readable : (text : List ℕ) → IsPlain text → length text ≤ 183 → is_unreadable text ≡ false
 plain-readable text h short =
@@ -114,7 +115,7 @@ is_plain_name e = is_plain_byte e.first && is_plain_byte e.second
 two_bytes : (e : NamedBits) (text : List ℕ) → is_plain_name e ≡ true → IsPlain text
     → IsPlain (e.first ∷ e.second ∷ text)
 unfolding is_plain_name
-two_bytes e text h k = let parts = both (is_plain_byte e.first) _ h in rw (parts.0, parts.1) k
+two_bytes e text h k = let parts = and_parts (is_plain_byte e.first) _ h in rw (parts.0, parts.1) k
 
 flags_are_plain : list_all is_plain_name FLAGS ≡ true
 unfolding is_plain_name
@@ -135,7 +136,7 @@ labels_are_plain = refl
 names-plain : (es : List NamedBits) (mask : ℕ) → list_all is_plain_name es ≡ true → IsPlain (names_of es mask)
 names-plain [] mask h = refl
 names-plain (e ∷ es) mask h =
-    let parts = both (is_plain_name e) _ h in
+    let parts = and_parts (is_plain_name e) _ h in
     by_bit (bit_and mask e.bits == 0) parts.0 (names-plain es mask parts.1)
   where
     by_bit : (b : Bool) → is_plain_name e ≡ true → IsPlain (names_of es mask)
@@ -171,7 +172,7 @@ found-plain : (es : List NamedBits) (mask : ℕ) (other : List ℕ) → list_all
     → IsPlain (unwrap_or (option_map name_letters (find (λ e. e.bits == mask) es)) other)
 found-plain [] mask other h k = k
 found-plain (e ∷ es) mask other h k =
-    let parts = both (is_plain_name e) _ h in
+    let parts = and_parts (is_plain_name e) _ h in
     by_bits (e.bits == mask) parts.0 (found-plain es mask other parts.1 k)
   where
     by_bits : (b : Bool) → is_plain_name e ≡ true
@@ -186,7 +187,8 @@ rights-plain kind mask small = by_zero (mask == 0) (is_label kind)
   where
     by_zero : (z label : Bool)
         → IsPlain (if z then hex_text 0 else (if label then names_or_hex LABELS mask
-        else unwrap_or (option_map name_letters (find (λ e. e.bits == mask) COMPOUNDS)) (names_or_hex SINGLES mask)))
+        else unwrap_or (option_map name_letters (find (λ e. e.bits == mask) COMPOUNDS))
+        (names_or_hex SINGLES mask)))
     by_zero true label = hex-plain 0 (omega arith)
     by_zero false true = names_or_hex-plain LABELS mask labels_are_plain small
     by_zero false false = found-plain COMPOUNDS mask (names_or_hex SINGLES mask) compounds_are_plain

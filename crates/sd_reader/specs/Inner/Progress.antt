@@ -84,7 +84,7 @@ abbrev pub has_seen : Seen → List Section → Bool
 has_seen seen [] = false
 has_seen seen (s ∷ ss) = is_seen seen s.head || has_seen seen ss
 
--- the verdict on what was read before, and a rest in pieces
+-- the answer to what was read before and to a rest in pieces
 unfoldable pub judged : Option SecurityId → Bool → Bool → Seen → Result FieldsRead SddlFault → State → Held → Bool
     → List ℕ
     → Sections → Result FieldsRead SddlFault

@@ -45,8 +45,8 @@ pub record AreWhole (a : AceTexts) : Type 0 where
 -- the fields, each with the byte that ends it, and what follows them
 abbrev pub ace_before : AceTexts → List ℕ → List ℕ
 ace_before a rest =
-    a.kind ++ char ";" ∷ (a.flags ++ char ";" ∷ (a.rights ++ char ";" ∷ (a.object ++ char ";" ∷ (a.inherited ++ char ";" ∷
-    (a.sid ++ char ")" ∷ rest)))))
+    a.kind ++ char ";" ∷ (a.flags ++ char ";" ∷ (a.rights ++ char ";" ∷ (a.object ++ char ";" ∷
+    (a.inherited ++ char ";" ∷ (a.sid ++ char ")" ∷ rest)))))
 
 -- one field more
 abbrev pub with_field : Option SecurityId → AceField → List ℕ → Result FieldsRead SddlFault

@@ -18,7 +18,8 @@ returns-then-not-self-clause-read c = λ domain text h.
       h.0,
       h.1,
       λ rest. lost (option_to_list s.pending ++ rest)
-          ∙ (sym (lost (option_to_list s.pending ++ c.args.byte ∷ rest)) ∙ (h.2 (c.args.byte ∷ rest) ∙ rw append_assoc refl)),
+          ∙ (sym (lost (option_to_list s.pending ++ c.args.byte ∷ rest))
+          ∙ (h.2 (c.args.byte ∷ rest) ∙ rw append_assoc refl)),
     )
 
 -- the line so far, with a byte more
