@@ -1,5 +1,5 @@
 -- The command line is one of which `clap` says all, and what its refusals say of the words.
-use Rattle.std.proofs.Common.{◌≡◌, inl, inr, [], ◌∷◌, true, false, refl, sym, ◌∙◌, ap, subst, Bool, ◌||◌}
+use Rattle.std.proofs.Common.{◌≡◌, inl, inr, [], ◌∷◌, true, false, refl, sym, ◌∙◌, ap, subst}
 use Rattle.std.specs.List.{list_any}
 use Rattle.std.proofs.lemmas.Bool.{or_left, or_right}
 use Rattle.clap.specs.Words.{is_simple, is_simple_and_free, Kinds, IsAmong, HasKind, kind_of}

@@ -1,5 +1,5 @@
 -- The hex text of some bytes, piece by piece.
-use Rattle.std.proofs.Common.{◌≡◌, ℕ, ◌+◌, ◌-◌, ◌/◌, ◌%◌, ◌∷◌, slice_index, List, [], ◌++◌, take, drop, refl, ◌∙◌, ap, arith}
+use Rattle.std.proofs.Common.{◌≡◌, ℕ, ◌+◌, ◌-◌, ◌/◌, ◌%◌, ◌∷◌, slice_index, List, [], ◌++◌, take, drop, refl, ◌∙◌, ap}
 use Rattle.std.proofs.Math.Seq.{take-add}
 use Rattle.sd_filter.proofs.AfterBytesLemmas.{line_in}
 use Rattle.hex.specs.Hex.{encode_with, encode_lower, lower_digits}

@@ -1,9 +1,8 @@
 -- What a line means has the limits of a descriptor.
-use Rattle.std.proofs.Common.{◌≡◌, ℕ, Bool, true, false, cond, eqb, List, [], ◌∷◌, length, ◌%◌, Option, Some, None, Result, Ok, Err, refl, ap, subst}
+use Rattle.std.proofs.Common.{◌≡◌, ℕ, Bool, true, false, cond, eqb, List, [], ◌∷◌, length, ◌%◌, Option, Some, None, Result, Ok, Err, refl, subst}
 use Rattle.std.specs.Prelude.{IfSome, nat_lt}
 use Rattle.sd_binary.proofs.HexPairs.{decoded-ok}
 use Rattle.hex.specs.Hex.{decode_of, decode_pairs}
-use Rattle.hex.specs.declared.error.FromHexError.{FromHexError}
 use Rattle.hex.specs.declared.error.FromHexError.TheVariants.{OddLength}
 use Rattle.hex.proofs.HexLemmas.{decode_pairs-ok}
 use Rattle.sd_core.proofs.Numbers.{AreBytes}
@@ -14,7 +13,7 @@ use Rattle.sd_reader.proofs.MeansLimits.{means-limits}
 use Rattle.sd_view.specs.Descriptor.{Descriptor, IsDescriptor}
 use Rattle.sd_rights.specs.Chains.{unless}
 use Rattle.sd_view.specs.Reading.{fault, reading, shown}
-use Rattle.sd_binary.specs.Text.{base64_spells, hex_spells, or_digit_fault}
+use Rattle.sd_binary.specs.Text.{base64_spells, hex_spells}
 use Rattle.sd_binary.specs.declared.buffer.TextFault.{TextFault}
 use Rattle.sd_view.specs.declared.fault.SdFault.{SdFault}
 use Rattle.sd_view.proofs.ReadLaws.{fault-shows}
