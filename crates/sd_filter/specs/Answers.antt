@@ -1,6 +1,9 @@
 -- The answer to each line, which rests on that line alone.
 use Rattle.std.specs.Prelude.{◌≤◌, ℕ, ◌+◌, ◌*◌, List, [], ◌∷◌, ◌++◌, if◌then◌else◌, nat_lt, length, Bool, true, false, Option, Some, None, is_some, Result, Ok, Err, count_by, sum_by, codes}
 use Rattle.std.specs.List.{flat_map}
+use Rattle.std.specs.Option.{option_map}
+use Rattle.std.specs.Result.{result_ok}
+use Rattle.sd_rights.specs.Chains.{◌>>=◌, fault_as, unless}
 use Rattle.sd_filter.specs.Lines.{line_feed}
 use Rattle.base64.specs.Engines.{standard}
 use Rattle.base64.specs.GeneralPurpose.{encode_of}
@@ -45,16 +48,15 @@ line_limit form.Base64 = most_base64_text
 line_limit form.Sddl = most_sddl_text
 
 abbrev pub or_byte_fault : Result Descriptor SdFault → Result Descriptor LineFault
-or_byte_fault (Err fault) = Err (Sd fault)
-or_byte_fault (Ok d) = Ok d
+or_byte_fault read = fault_as Sd read
 
 abbrev pub bytes_mean : Result (List ℕ) TextFault → Result Descriptor LineFault
-bytes_mean (Err fault) = Err (Text fault)
-bytes_mean (Ok bytes) = or_byte_fault (reading bytes)
+bytes_mean spelled = do
+  bytes ← fault_as Text spelled
+  or_byte_fault (reading bytes)
 
 abbrev pub or_sddl_fault : Result Descriptor SddlFault → Result Descriptor LineFault
-or_sddl_fault (Err fault) = Err (Sddl fault)
-or_sddl_fault (Ok d) = Ok d
+or_sddl_fault read = fault_as Sddl read
 
 -- What a text means in a form, under a domain. Hex and base64: its text spells no bytes, its bytes do not read, or the
 -- descriptor that its bytes show. SDDL: its first fault, or the descriptor that it means.
@@ -93,8 +95,7 @@ verdict_text (Granted mask) = codes "granted 0x" ++ hex_digits 8 mask
 verdict_text (Denied mask) = codes "denied 0x" ++ hex_digits 8 mask
 
 abbrev pub as_line_fault : Option DeriveFault → Option LineFault
-as_line_fault None = None
-as_line_fault (Some fault) = Some (Derive fault)
+as_line_fault fault = option_map Derive fault
 
 -- the fault of an act at a descriptor: to derive alone may have one
 abbrev pub act_fault : Act → Descriptor → Option LineFault
@@ -168,8 +169,7 @@ bounds job entries lines = sum_by (bound job entries) lines
 -- ---- how much is printed
 
 abbrev pub unless_refused : Option DeriveFault → Descriptor → Option Descriptor
-unless_refused None d = Some d
-unless_refused (Some fault) d = None
+unless_refused fault d = result_ok (unless fault d)
 
 -- the descriptor that is printed for one that was read: a conversion prints that one, and so does an explanation; a
 -- verdict prints none; to derive prints the derived one, unless there is none

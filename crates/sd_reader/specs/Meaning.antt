@@ -2,7 +2,7 @@
 use Rattle.std.specs.Prelude.{ℕ, ◌+◌, ◌||◌, not, Bool, true, false, nat_lt, if◌then◌else◌, List, [], ◌∷◌, length, Option, Some, None, Result, Ok, Err}
 use Rattle.std.specs.List.{list_any}
 use Rattle.std.specs.Option.{ok_or, option_map}
-use Rattle.sd_rights.specs.Chains.{◌>>=◌, unless}
+use Rattle.sd_rights.specs.Chains.{◌>>=◌, unless, fault_as}
 use Rattle.sd_core.specs.Ace.{AccessControlEntry}
 use Rattle.sd_rights.specs.Flags.{flags_reads}
 use Rattle.sd_rights.specs.Limits.{most_acl, most_field}
@@ -49,8 +49,7 @@ abbrev pub field_reads : {A : Type 0} → SddlFault → (List ℕ → Option A) 
 field_reads unread reads text = if is_unreadable text then Err unread else ok_or (reads text) unread
 
 abbrev pub sid_or_fault : Result SecurityId SidFault → Result SecurityId SddlFault
-sid_or_fault (Ok s) = Ok s
-sid_or_fault (Err e) = Err (fault.Sid e)
+sid_or_fault read = fault_as fault.Sid read
 
 abbrev pub sid_field_reads : Option SecurityId → List ℕ → Result SecurityId SddlFault
 sid_field_reads domain text =

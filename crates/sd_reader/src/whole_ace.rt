@@ -9,20 +9,11 @@ ghost use Rattle.sd_reader.specs.Inner.WholeAce.{FieldAt, ObjectsAt};
 
 use crate::field_texts::object_from_text;
 use sd_core::{AceKind, flags_from_text};
-use sd_rights::MOST_FIELD_SIZE;
+use sd_rights::{INHERIT_ONLY, INHERITED, MOST_FIELD_SIZE, ONWARD};
 use uuid::Uuid;
 
 /// The characters of a GUID.
 const GUID_TEXT_SIZE: usize = 36;
-
-/// OBJECT_INHERIT_ACE and CONTAINER_INHERIT_ACE, which stand as OICI.
-const TO_CHILDREN: u8 = 0x3;
-
-/// INHERIT_ONLY_ACE, IO.
-const INHERIT_ONLY: u8 = 0x8;
-
-/// INHERITED_ACE, ID.
-const INHERITED: u8 = 0x10;
 
 /// The kind at the front of a text, and what follows its semicolon. None where there is none.
 #[inline(always)]
@@ -66,17 +57,17 @@ fn usual_flags(text: &[u8]) -> Option<(u8, &[u8])>
     }
     let containers = after(text, b"OICI")?;
     if let Some(rest) = after(containers, b";") {
-        return Some((TO_CHILDREN, rest));
+        return Some((ONWARD, rest));
     }
     if let Some(rest) = after(containers, b"ID;") {
-        return Some((TO_CHILDREN + INHERITED, rest));
+        return Some((ONWARD + INHERITED, rest));
     }
     let children = after(containers, b"IO")?;
     if let Some(rest) = after(children, b";") {
-        return Some((TO_CHILDREN + INHERIT_ONLY, rest));
+        return Some((ONWARD + INHERIT_ONLY, rest));
     }
     let rest = after(children, b"ID;")?;
-    Some((TO_CHILDREN + INHERIT_ONLY + INHERITED, rest))
+    Some((ONWARD + INHERIT_ONLY + INHERITED, rest))
 }
 
 /// What follows this text at the front.

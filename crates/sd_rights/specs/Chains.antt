@@ -16,6 +16,11 @@ abbrev pub unless : {A F : Type 0} → Option F → A → Result A F
 unless (Some fault) value = Err fault
 unless None value = Ok value
 
+-- a fault by the name that it has further up
+abbrev pub fault_as : {A E F : Type 0} → (E → F) → Result A E → Result A F
+fault_as name (Ok value) = Ok value
+fault_as name (Err fault) = Err (name fault)
+
 -- what each one of a list reads as, in order, if all of them do
 abbrev pub all_read : {A B : Type 0} → (A → Option B) → List A → Option (List B)
 all_read reads [] = Some []
