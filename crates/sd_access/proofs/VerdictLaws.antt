@@ -1,14 +1,14 @@
 -- The masks of a check are those of the verdict.
 use Rattle.std.proofs.Common.{◌≡◌, ◌<◌, ◌≤◌, ℕ, zero, suc, ◌+◌, ◌-◌, ◌*◌, ◌^◌, Bool, true, false, not, ◌&&◌, ◌||◌, cond, eqb, List, length, take, refl, sym, ap, ◌∙◌, arith, lit<, bit_and, bit_or}
 use Rattle.std.specs.List.{list_any}
-use Rattle.std.proofs.lemmas.Bool.{agree_below, agree_below_at, eq-eqb, ne_eqb}
+use Rattle.std.proofs.lemmas.Bool.{agree_below, agree_below_at, eq-eqb, ne_eqb, or_left, or_right}
 use Rattle.std.proofs.lemmas.Nat.{and_le_l, mul-le, or_lt, pow_pos}
 use Rattle.sd_rights.specs.Mapping.{carries, mask_if}
 use Rattle.sd_core.specs.Token.{Entry}
 use Rattle.sd_view.specs.Descriptor.{Descriptor}
 use Rattle.sd_access.specs.Ask.{AreRights, Asked}
-use Rattle.sd_access.specs.Granted.{aces_of, decides, granted, is_allowed, is_open, is_owned, needs_no_ace}
-use Rattle.sd_access.specs.Need.{bound, in_question, least, need}
+use Rattle.sd_access.specs.Granted.{listed_aces, decides, granted, is_allowed, is_open, is_owned, needs_no_ace}
+use Rattle.sd_access.specs.Need.{check_bound, in_question, least, need}
 use Rattle.sd_access.specs.Inner.Scan.{HasGranted, given_mask, question_of, scan_need, undecided_of}
 use Rattle.sd_access.specs.Verdict.{missing, verdict, won}
 use Rattle.sd_access.specs.declared.verdict.Verdict.TheVariants.{Granted, Denied}
@@ -130,13 +130,6 @@ and_when : (p g h : Bool) → (p ≡ true → g ≡ h) → (p && g) ≡ (p && h)
 and_when true g h e = e refl
 and_when false g h e = refl
 
-or_left : (p q : Bool) → p ≡ true → (p || q) ≡ true
-or_left p q h = rw h refl
-
-or_right : (p q : Bool) → q ≡ true → (p || q) ≡ true
-or_right true q h = refl
-or_right false q h = h
-
 pub missing_is : (d : Descriptor) (t : List Entry) (ask : Asked) (m : ℕ) → AreRights ask → m < 2 ^ 32
     → HasGranted d t ask m → bit_and ask.wanted (2 ^ 32 - 1 - m) ≡ missing d t ask
 unfolding missing
@@ -195,20 +188,20 @@ settle true false security false decided = refl
 
 -- the scan stops where every right in question is settled
 scan_need-is : (d : Descriptor) (t : List Entry) (ask : Asked) → AreRights ask
-    → scan_need (undecided_of d t ask) d t ask (aces_of d.dacl) ≡ need d t ask
+    → scan_need (undecided_of d t ask) d t ask (listed_aces d.dacl) ≡ need d t ask
 unfolding scan_need need
 scan_need-is d t ask narrow =
-    least_same (length (aces_of d.dacl)) _ _ (λ k. all_below_same 25 _ _ (λ i below.
+    least_same (length (listed_aces d.dacl)) _ _ (λ k. all_below_same 25 _ _ (λ i below.
     rw (carries-undecided d t ask narrow i below)
     (settle (in_question i ask) (eqb i 24) ask.security (needs_no_ace i d t ask)
-    (list_any (decides i d t ask) (take k (aces_of d.dacl))))))
+    (list_any (decides i d t ask) (take k (listed_aces d.dacl))))))
 
 pub count_all : (d : Descriptor) (t : List Entry) (ask : Asked) (q old mid new : ℕ) → AreRights ask
     → q ≡ undecided_of d t ask → mid ≤ old + length t
-    → new ≤ mid + scan_need q d t ask (aces_of d.dacl) * length t → new ≤ old + (need d t ask + 1) * length t
+    → new ≤ mid + scan_need q d t ask (listed_aces d.dacl) * length t → new ≤ old + (need d t ask + 1) * length t
 count_all d t ask q old mid new narrow is first_pass scan_pass =
-    let same : scan_need q d t ask (aces_of d.dacl) ≡ need d t ask =
-    ap (λ (n : ℕ). scan_need n d t ask (aces_of d.dacl)) is ∙ scan_need-is d t ask narrow in
+    let same : scan_need q d t ask (listed_aces d.dacl) ≡ need d t ask =
+    ap (λ (n : ℕ). scan_need n d t ask (listed_aces d.dacl)) is ∙ scan_need-is d t ask narrow in
     let most = rw same at scan_pass in
     omega arith
 
@@ -224,12 +217,12 @@ least_le (suc n) test =
 
 -- no more ACEs are needed than there are
 pub bound_from_need : (d : Descriptor) (t : List Entry) (ask : Asked) (old new : ℕ)
-    → new ≤ old + (need d t ask + 1) * length t → new ≤ old + bound d (length t)
+    → new ≤ old + (need d t ask + 1) * length t → new ≤ old + check_bound d (length t)
 unfolding need
 bound_from_need d t ask old new h =
-    let most : need d t ask ≤ length (aces_of d.dacl) = least_le (length (aces_of d.dacl)) _ in
+    let most : need d t ask ≤ length (listed_aces d.dacl) = least_le (length (listed_aces d.dacl)) _ in
     omega (
       arith,
-      mul-le (need d t ask + 1) (length t) (length (aces_of d.dacl) + 1) (length t) (omega arith)
+      mul-le (need d t ask + 1) (length t) (length (listed_aces d.dacl) + 1) (length t) (omega arith)
           (omega arith),
     )

@@ -26,10 +26,10 @@ system_security = 24
 
 -- 1. Without an ACE.
 
-abbrev pub aces_of : AclPart → List AccessControlEntry
-aces_of acl.Absent = []
-aces_of acl.Null = []
-aces_of (acl.List aces) = aces
+abbrev pub listed_aces : AclPart → List AccessControlEntry
+listed_aces acl.Absent = []
+listed_aces acl.Null = []
+listed_aces (acl.List aces) = aces
 
 -- the DACL is null or absent
 abbrev pub is_open : AclPart → Bool
@@ -46,7 +46,7 @@ names_owner_rights aces = list_any is_for_owner_rights aces
 
 -- the owner equals an enabled entry, and no ACE says what an owner may do
 abbrev pub is_owned : Descriptor → List Entry → Bool
-is_owned d token = some_meets d.owner false token && not (names_owner_rights (aces_of d.dacl))
+is_owned d token = some_meets d.owner false token && not (names_owner_rights (listed_aces d.dacl))
 
 -- the right is granted whatever the ACEs say: by a DACL that is null or absent, to the owner, or by the privilege to
 -- take ownership
@@ -69,7 +69,7 @@ allows (Some a) = is_allow a.kind
 
 -- the first ACE that decides the right allows it
 abbrev pub is_allowed : ℕ → Descriptor → List Entry → Asked → Bool
-is_allowed right d token ask = allows (find (decides right d token ask) (aces_of d.dacl))
+is_allowed right d token ask = allows (find (decides right d token ask) (listed_aces d.dacl))
 
 -- 3. The right is granted. ACCESS_SYSTEM_SECURITY is, by the privilege, and by nothing else.
 

@@ -6,11 +6,11 @@ use Rattle.sd_rights.specs.Mapping.{carries}
 use Rattle.sd_core.specs.Token.{Entry}
 use Rattle.sd_view.specs.Descriptor.{Descriptor}
 use Rattle.sd_access.specs.Ask.{Asked}
-use Rattle.sd_access.specs.Granted.{aces_of, decides, needs_no_ace, system_security}
+use Rattle.sd_access.specs.Granted.{listed_aces, decides, needs_no_ace, system_security}
 
 -- each ACE of the DACL, and the owner, against each entry of the token
-abbrev pub bound : Descriptor → ℕ → ℕ
-bound d entries = (length (aces_of d.dacl) + 1) * entries
+abbrev pub check_bound : Descriptor → ℕ → ℕ
+check_bound d entries = (length (listed_aces d.dacl) + 1) * entries
 
 -- the right is wanted or, with maximum, one of the mapping's
 abbrev pub in_question : ℕ → Asked → Bool
@@ -38,4 +38,4 @@ least test (suc n) = if test zero then zero else suc (least (λ k. test (suc k))
 
 -- the least number of the DACL's first ACEs that settle each right in question, or else all of them
 unfoldable pub need : Descriptor → List Entry → Asked → ℕ
-need d token ask = least (λ n. are_settled d token ask (take n (aces_of d.dacl))) (length (aces_of d.dacl))
+need d token ask = least (λ n. are_settled d token ask (take n (listed_aces d.dacl))) (length (listed_aces d.dacl))

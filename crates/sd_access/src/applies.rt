@@ -10,7 +10,7 @@ use sd_core::{AceKind, Token, carries};
 use uuid::Uuid;
 
 /// The place of the flag that leaves an ACE to those who inherit it (MS-DTYP 2.4.4.1).
-const INHERIT_ONLY: u32 = 3;
+const INHERIT_ONLY_PLACE: u32 = 3;
 
 /// Whether the ACE speaks of the token, and of the object that is asked for.
 #[tactic(auto, unfolding(crate::specs::Applies::applies))]
@@ -33,7 +33,7 @@ pub fn applies(ace: &AceView, view: &SdView, token: &mut Token, ask: &Ask) -> bo
 pub fn is_effective(ace: &AceView) -> bool
     ensures { result ≡ is_effective ace.now }
 {
-    is_access(ace.kind()) && !carries(u32::from(ace.flags()), INHERIT_ONLY)
+    is_access(ace.kind()) && !carries(u32::from(ace.flags()), INHERIT_ONLY_PLACE)
 }
 
 /// Whether what it decides is granted.

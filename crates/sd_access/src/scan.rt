@@ -3,7 +3,7 @@
 ghost use Rattle.std.specs.Prelude.{◌≡◌, ◌<◌, ◌≤◌, ◌+◌, ◌*◌, ◌^◌, ◌&&◌, ℕ, bit_and, length};
 ghost use Rattle.std.specs.List.{find};
 ghost use Rattle.sd_rights.specs.Mapping.{carries, mapped};
-ghost use Rattle.sd_access.specs.Granted.{aces_of, allows, decides, is_allowed};
+ghost use Rattle.sd_access.specs.Granted.{listed_aces, allows, decides, is_allowed};
 ghost use Rattle.sd_access.specs.Inner.Scan.{scan_need};
 
 use crate::applies::{applies, is_allow};
@@ -17,7 +17,7 @@ pub fn scan(view: &SdView, token: &mut Token, ask: &Ask, question: u32) -> u32
     ensures rights { (right : ℕ) → carries result right ≡ (carries question right && is_allowed right view.now token.old.entries ask.now) }
     ensures entries { token.new.entries ≡ token.old.entries }
     ensures goes_on { token.old.compared ≤ token.new.compared }
-    ensures count { token.new.compared ≤ token.old.compared + scan_need question view.now token.old.entries ask.now (aces_of view.now.dacl) * length token.old.entries }
+    ensures count { token.new.compared ≤ token.old.compared + scan_need question view.now token.old.entries ask.now (listed_aces view.now.dacl) * length token.old.entries }
 {
     match view.dacl() {
         AclPart::List(acl) => scan_aces(&acl, view, token, ask, question),

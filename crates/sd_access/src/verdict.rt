@@ -3,7 +3,7 @@
 ghost use Rattle.std.specs.Prelude.{◌≡◌, ◌≤◌, ◌+◌, ◌*◌, ◌^◌, ◌-◌, bit_and, bit_or, length};
 ghost use Rattle.sd_rights.specs.Mapping.{mask_if as mask_if_of};
 ghost use Rattle.sd_access.specs.Ask.{AreRights};
-ghost use Rattle.sd_access.specs.Need.{bound, need};
+ghost use Rattle.sd_access.specs.Need.{check_bound, need};
 ghost use Rattle.sd_access.specs.Inner.Scan.{HasGranted, question_of};
 ghost use Rattle.sd_access.specs.Verdict.{verdict};
 
@@ -31,7 +31,7 @@ pub fn check(view: &SdView, token: &mut Token, ask: &Ask) -> Verdict
     ensures goes_on { token.old.compared ≤ token.new.compared }
     // Each entry is looked at once for the owner, and once for each ACE that is needed.
     ensures needed { token.new.compared ≤ token.old.compared + (need view.now token.old.entries ask.now + 1) * length token.old.entries }
-    ensures bound { token.new.compared ≤ token.old.compared + bound view.now (length token.old.entries) }
+    ensures bound { token.new.compared ≤ token.old.compared + check_bound view.now (length token.old.entries) }
 {
     let granted = granted(view, token, ask);
     let missing = ask.wanted() & !granted;

@@ -1,13 +1,14 @@
 -- How each call of a builder goes on with what was built. A call's condition speaks of one draft; what the builder
 -- keeps
 -- shows that the condition then holds of each draft that it was given.
-use Rattle.std.proofs.Common.{◌≡◌, ◌≤◌, ◌<◌, ℕ, ◌+◌, ◌^◌, ◌||◌, Bool, true, false, List, [], ◌∷◌, ◌++◌, length, take, drop, Option, Some, None, refl, sym, ap, subst, ◌∙◌, append_assoc, arith, length-append}
+use Rattle.std.proofs.Common.{◌≡◌, ◌≤◌, ◌<◌, ℕ, ◌+◌, ◌^◌, ◌||◌, Bool, false, List, [], ◌∷◌, ◌++◌, length, take, drop, Option, Some, None, refl, sym, ap, subst, ◌∙◌, append_assoc, arith, length-append}
 use Rattle.std.specs.Prelude.{IsSome}
 use Rattle.std.specs.List.{flat_map, AllByRecursion}
 use Rattle.std.proofs.lemmas.Grind.{flat_map-append}
 use Rattle.std.proofs.lemmas.List.{append-nil, drop_at, take_at}
 use Rattle.std.proofs.lemmas.List.Folds.{list_any-append}
 use Rattle.std.proofs.Math.Seq.{drop-append-add}
+use Rattle.std.proofs.Math.Bool.{or-false}
 use Rattle.byteorder.specs.Endian.{little_bytes}
 use Rattle.sd_core.specs.Ace.{AccessControlEntry, IsAce, ace_size}
 use Rattle.sd_rights.specs.Kinds.{is_object}
@@ -15,7 +16,7 @@ use Rattle.sd_core.specs.Sid.{SecurityId, IsSid, sid_bytes}
 use Rattle.sd_view.specs.Acl.{aces_size, acl_size, has_object}
 use Rattle.sd_view.specs.AclLayout.{ace_bytes, acl_bytes, acl_header, revision_if}
 use Rattle.sd_binary.specs.Builds.{AclStands, Building, Builds, OpenAt, OpenIsFree, OpenStands, PartsStand, SidStands, placed}
-use Rattle.sd_binary.specs.Draft.{CanBegin, Draft, IsOpen, IsOpenIn, acl_of, begun, closed, closed_in, no_parts, open_size, open_size_in, with_ace, with_acl}
+use Rattle.sd_binary.specs.Draft.{CanBegin, Draft, IsOpen, IsOpenIn, draft_acl, begun, closed, closed_in, no_parts, open_size, open_size_in, with_ace, with_acl}
 use Rattle.sd_view.specs.declared.acl.AclPart.{AclPart}
 use Rattle.sd_view.specs.declared.acl.AclPart.TheVariants as acl
 use Rattle.sd_binary.specs.declared.builder.Builder.{Builder}
@@ -105,10 +106,10 @@ reopened : (bytes : List ℕ) (b : Builder) (t : Draft) (o : Option OpenAcl)
 reopened bytes b t o u
     h = record { owner = h.owner; group = h.group; sacl = h.sacl; dacl = h.dacl; apart = h.apart; size = h.size }
 
-acl_of-open : (w : Which) (t : Draft) (u : Option (Which × List AccessControlEntry))
-    → acl_of w (record t { «open» = u }) ≡ acl_of w t
-acl_of-open lists.Sacl t u = refl
-acl_of-open lists.Dacl t u = refl
+draft_acl-open : (w : Which) (t : Draft) (u : Option (Which × List AccessControlEntry))
+    → draft_acl w (record t { «open» = u }) ≡ draft_acl w t
+draft_acl-open lists.Sacl t u = refl
+draft_acl-open lists.Dacl t u = refl
 
 -- new
 pub new-builds : (bytes : List ℕ) → length bytes ≡ 20
@@ -175,13 +176,13 @@ group-builds b bytes t0 t s h0 free e limits h =
 
 -- an ACL that is not given yet
 pub acl-free : (b : Builder) (bytes : List ℕ) (w : Which) (t0 t : Draft) → IsClosed b bytes t0
-    → acl_of w t0 ≡ acl.Absent → IsClosed b bytes t → acl_of w t ≡ acl.Absent
+    → draft_acl w t0 ≡ acl.Absent → IsClosed b bytes t → draft_acl w t ≡ acl.Absent
 acl-free b bytes lists.Sacl t0 t h0 e h = given-acl bytes b.sacl t.sacl h.parts.sacl
     (acl-given bytes b.sacl t0.sacl h0.parts.sacl e)
 acl-free b bytes lists.Dacl t0 t h0 e h = given-acl bytes b.dacl t.dacl h.parts.dacl
     (acl-given bytes b.dacl t0.dacl h0.parts.dacl e)
 
-acl-left : (b : Builder) (bytes : List ℕ) (w : Which) (t : Draft) → PartsStand bytes b t → acl_of w t ≡ acl.Absent
+acl-left : (b : Builder) (bytes : List ℕ) (w : Which) (t : Draft) → PartsStand bytes b t → draft_acl w t ≡ acl.Absent
     → length bytes + 65535 ≤ 131226
 acl-left b bytes lists.Sacl t h e = (room bytes b t h).sacl e
 acl-left b bytes lists.Dacl t h e = (room bytes b t h).dacl e
@@ -214,7 +215,7 @@ begin-builds b bytes front w t0 t h0 can eight h =
         eight = eight;
         shape = sym (append-nil front);
       };
-      free = acl_of-open w t (Some (w, [])) ∙ acl-free b bytes w t0 t was can.1 now;
+      free = draft_acl-open w t (Some (w, [])) ∙ acl-free b bytes w t0 t was can.1 now;
     }
 
 pub null-builds : (b : Builder) (bytes : List ℕ) (w : Which) (t0 t : Draft) → Builds b bytes t0 → CanBegin w t0
@@ -242,12 +243,12 @@ pub record IsBegun (b : Builder) (bytes : List ℕ) (t : Draft) (o : OpenAcl) : 
   pub given : t.«open» ≡ Some (which, aces)
   pub parts : PartsStand closed b t
   pub at : OpenAt closed tail o which aces
-  pub free : acl_of which t ≡ acl.Absent
+  pub free : draft_acl which t ≡ acl.Absent
 
 begun-at : (t : Draft) (front tail : List ℕ) (o : OpenAcl) (u : Option (Which × List AccessControlEntry))
     → OpenStands front tail (Some o) u → OpenIsFree u t
     → (w : Which) × ((aces : List AccessControlEntry)
-    × ((u ≡ Some (w, aces)) × OpenAt front tail o w aces × (acl_of w t ≡ acl.Absent)))
+    × ((u ≡ Some (w, aces)) × OpenAt front tail o w aces × (draft_acl w t ≡ acl.Absent)))
 begun-at t front tail o None h free = absurd h
 begun-at t front tail o (Some u) h free = (u.0, (u.1, (refl, h, free)))
 
@@ -327,24 +328,20 @@ open-roomy b bytes t o h e =
     }
 
 -- an ACE more
-all-more : (aces : List AccessControlEntry) (a : AccessControlEntry) → AllByRecursion IsAce aces → IsAce a
+pub all-more : (aces : List AccessControlEntry) (a : AccessControlEntry) → AllByRecursion IsAce aces → IsAce a
     → AllByRecursion IsAce (aces ++ a ∷ [])
 all-more [] a h more = (more, tt)
 all-more (x ∷ others) a h more = (h.0, all-more others a h.1 more)
 
-size-more : (aces : List AccessControlEntry) (a : AccessControlEntry)
+pub size-more : (aces : List AccessControlEntry) (a : AccessControlEntry)
     → aces_size (aces ++ a ∷ []) ≡ aces_size aces + ace_size a
 size-more [] a = omega arith
 size-more (x ∷ others) a = omega (arith, size-more others a)
 
-any-one : (x : Bool) → (x || false) ≡ x
-any-one true = refl
-any-one false = refl
-
 object-more : (aces : List AccessControlEntry) (a : AccessControlEntry)
     → has_object (aces ++ a ∷ []) ≡ (has_object aces || is_object a.kind)
 object-more aces a = list_any-append (λ x. is_object x.kind) aces (a ∷ [])
-    ∙ ap (λ (x : Bool). has_object aces || x) (any-one (is_object a.kind))
+    ∙ ap (λ (x : Bool). has_object aces || x) (or-false (is_object a.kind))
 
 -- the ACL with one ACE more
 abbrev pub with_more : OpenAcl → AccessControlEntry → OpenAcl
@@ -397,7 +394,7 @@ ace-builds b bytes t o a e limits fits h =
       parts = reopened found.closed b t _ _ found.parts;
       «open» = open-more found.closed found.tail o found.which found.aces a found.at limits
           (omega (arith, open_is, fits));
-      free = acl_of-open found.which t u ∙ found.free;
+      free = draft_acl-open found.which t u ∙ found.free;
     })
 
 -- the open ACL with its header written over the bytes before its ACEs

@@ -75,7 +75,7 @@ spells-append s t first second =
     ∙ spelled-append s t first
     ∙ rw (spells-pairs s first, spells-pairs t second) refl
 
-decoded-ok : (d : Result (List ℕ) FromHexError) (bytes : List ℕ) → or_digit_fault d ≡ Ok bytes → d ≡ Ok bytes
+pub decoded-ok : (d : Result (List ℕ) FromHexError) (bytes : List ℕ) → or_digit_fault d ≡ Ok bytes → d ≡ Ok bytes
 decoded-ok (Ok xs) bytes e = let same : xs ≡ bytes = cc in ap (λ (b : List ℕ). Ok b) same
 decoded-ok (Err f) bytes e = absurd (cc)
 

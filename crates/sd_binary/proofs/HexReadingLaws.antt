@@ -9,7 +9,8 @@ use Rattle.sd_binary.specs.declared.buffer.TextFault.TheVariants.{HexOdd}
 use Rattle.sd_binary.specs.declared.hex_reader.HexReader.{HexReader}
 use Rattle.sd_rights.specs.Limits.{most_hex_text}
 use Rattle.sd_binary.specs.Text.{hex_spells}
-use Rattle.sd_binary.specs.HexReading.{ReadsHex, spelled_so_far, waiting}
+use Rattle.std.specs.Option.{option_to_list}
+use Rattle.sd_binary.specs.HexReading.{ReadsHex, spelled_so_far}
 use Rattle.sd_binary.proofs.Decoded.{spells-odd}
 use Rattle.sd_binary.proofs.HexPairs.{joined, pairs-fault, spells-append, spells-length, spells-nil}
 
@@ -20,12 +21,12 @@ hex-begun r none right = record { pairs = []; even = refl; shape = rw none refl;
 
 -- a character comes that waits for its pair
 pub hex-waits : (r s : HexReader) (bytes text : List ℕ) (c : Option ℕ) → ReadsHex r bytes text → r.pending ≡ None
-    → s.pending ≡ c → s.wrong ≡ r.wrong → ReadsHex s bytes (text ++ waiting c)
+    → s.pending ≡ c → s.wrong ≡ r.wrong → ReadsHex s bytes (text ++ option_to_list c)
 unfolding ReadsHex
 hex-waits r s bytes text c h none some same = record {
   pairs = h.pairs;
   even = h.even;
-  shape = rw (h.shape, none, some) (ap (λ (xs : List ℕ). xs ++ waiting c) (append-nil h.pairs));
+  shape = rw (h.shape, none, some) (ap (λ (xs : List ℕ). xs ++ option_to_list c) (append-nil h.pairs));
   spelled = rw same h.spelled;
 }
 
@@ -98,7 +99,7 @@ hex-odd r bytes text c h some =
     spells-odd text (omega (arith, h.even, ap length shape, length-append h.pairs (c ∷ [])))
 
 -- what is left of whole pairs waits
-pub one-waits : (last : List ℕ) (o : Option ℕ) → length last < 2 → o ≡ slice_get last 0 → last ≡ waiting o
+pub one-waits : (last : List ℕ) (o : Option ℕ) → length last < 2 → o ≡ slice_get last 0 → last ≡ option_to_list o
 one-waits [] o short e = rw e refl
 one-waits (c ∷ []) o short e = rw e refl
 one-waits (a ∷ b ∷ rest) o short e = absurd (omega arith)

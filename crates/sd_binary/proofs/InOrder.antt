@@ -7,7 +7,7 @@ use Rattle.sd_core.specs.Sid.{SecurityId, IsSid, sid_bytes, sid_size}
 use Rattle.sd_view.specs.Acl.{acl_size}
 use Rattle.sd_view.specs.AclLayout.{ace_bytes, acl_bytes}
 use Rattle.sd_binary.specs.Builds.{Builds, BuildsInOrder, HasLayoutOffsets, Building, OpenIsLast, PartsStand, closed_size, placed}
-use Rattle.sd_binary.specs.Draft.{CanBegin, Draft, acl_of, begun, built, bytes_after, closed, is_present, more_in, no_parts, open_size, part_of, parts_given, with_ace, with_acl}
+use Rattle.sd_binary.specs.Draft.{CanBegin, Draft, draft_acl, begun, built, bytes_after, closed, is_present, more_in, no_parts, open_size, part_of, parts_given, with_ace, with_acl}
 use Rattle.sd_view.specs.Control.{control_of}
 use Rattle.sd_view.specs.Layout.{acl_part, acl_part_size, descriptor_header, header_bytes, layout, offset_if, sid_part, sid_part_size}
 use Rattle.sd_view.specs.declared.acl.AclPart.{AclPart}
@@ -140,7 +140,7 @@ group-offsets n b t s free none long h =
     }
 
 list-offsets : (n : ℕ) (b : Builder) (t : Draft) (w : Which) (aces : List AccessControlEntry)
-    → acl_of w t ≡ acl.Absent → bytes_after (part_of w) t ≡ []
+    → draft_acl w t ≡ acl.Absent → bytes_after (part_of w) t ≡ []
     → n ≡ closed_size t → HasLayoutOffsets b t
     → HasLayoutOffsets (record (placed w n b) { «open» = None })
     (record (with_acl w (acl.List aces) t) { «open» = None })
@@ -164,7 +164,7 @@ list-offsets n b t lists.Dacl aces free none long h =
           (omega arith) (omega (arith, long, dacl));
     }
 
-null-offsets : (b : Builder) (t : Draft) (w : Which) → acl_of w t ≡ acl.Absent → HasLayoutOffsets b t
+null-offsets : (b : Builder) (t : Draft) (w : Which) → draft_acl w t ≡ acl.Absent → HasLayoutOffsets b t
     → HasLayoutOffsets (placed w 0 b) (with_acl w acl.Null t)
 null-offsets b t lists.Sacl free h =
     let sacl : acl_part_size t.sacl ≡ 0 = ap acl_part_size free in
@@ -188,7 +188,7 @@ group-parts : (t : Draft) (s : SecurityId) → t.group ≡ None → bytes_after 
 group-parts t s free none =
     put-second (sid_part t.owner) (sid_part t.group) (bytes_after part.Group t) (sid_bytes s) (ap sid_part free) none
 
-list-parts : (t : Draft) (w : Which) (aces : List AccessControlEntry) → acl_of w t ≡ acl.Absent
+list-parts : (t : Draft) (w : Which) (aces : List AccessControlEntry) → draft_acl w t ≡ acl.Absent
     → bytes_after (part_of w) t ≡ []
     → parts_given t ++ acl_bytes aces ≡ parts_given (record (with_acl w (acl.List aces) t) { «open» = None })
 list-parts t lists.Sacl aces free none =
@@ -198,7 +198,7 @@ list-parts t lists.Dacl aces free none =
     put-last (sid_part t.owner) (sid_part t.group) (acl_part t.sacl) (acl_part t.dacl) (acl_bytes aces)
     (ap acl_part free)
 
-null-parts : (t : Draft) (w : Which) → acl_of w t ≡ acl.Absent → parts_given (with_acl w acl.Null t) ≡ parts_given t
+null-parts : (t : Draft) (w : Which) → draft_acl w t ≡ acl.Absent → parts_given (with_acl w acl.Null t) ≡ parts_given t
 null-parts t lists.Sacl free =
     ap (λ (x : List ℕ). sid_part t.owner ++ (sid_part t.group ++ (x ++ acl_part t.dacl))) (sym (ap acl_part free))
 null-parts t lists.Dacl free =

@@ -11,7 +11,7 @@ use Rattle.sd_view.specs.Acl.{IsAcl, acl_size}
 use Rattle.sd_view.specs.AclLayout.{acl_bytes}
 use Rattle.sd_binary.specs.Builds.{AclStands, PartsStand, SidStands, Stands, acl_extent_of, placed}
 use Rattle.sd_view.specs.Descriptor.{Apart, Extent, sid_extent}
-use Rattle.sd_binary.specs.Draft.{Draft, acl_of, with_acl}
+use Rattle.sd_binary.specs.Draft.{Draft, draft_acl, with_acl}
 use Rattle.sd_view.specs.Layout.{acl_part_size, sid_part_size}
 use Rattle.sd_view.specs.declared.acl.AclPart.{AclPart}
 use Rattle.sd_view.specs.declared.acl.AclPart.TheVariants as acl
@@ -193,7 +193,7 @@ group-stands bytes b t s free limits h =
 
 -- an ACL more
 pub list-stands : (bytes : List ℕ) (b : Builder) (t : Draft) (w : Which) (aces : List AccessControlEntry)
-    → acl_of w t ≡ acl.Absent → IsAcl aces
+    → draft_acl w t ≡ acl.Absent → IsAcl aces
     → PartsStand bytes b t
     → PartsStand (bytes ++ acl_bytes aces) (placed w (length bytes) b) (with_acl w (acl.List aces) t)
 list-stands bytes b t lists.Sacl aces free limits h =
@@ -240,7 +240,7 @@ list-stands bytes b t lists.Dacl aces free limits h =
     }
 
 -- a null ACL more
-pub null-stands : (bytes : List ℕ) (b : Builder) (t : Draft) (w : Which) → acl_of w t ≡ acl.Absent
+pub null-stands : (bytes : List ℕ) (b : Builder) (t : Draft) (w : Which) → draft_acl w t ≡ acl.Absent
     → PartsStand bytes b t → PartsStand bytes (placed w 0 b) (with_acl w acl.Null t)
 null-stands bytes b t lists.Sacl free h =
     let left : acl_part_size t.sacl ≡ 0 = ap acl_part_size free in record {

@@ -7,7 +7,7 @@ use Rattle.sd_core.specs.Sid.{SecurityId, IsSid, sid_bytes}
 use Rattle.sd_view.specs.Acl.{IsAcl, acl_size, has_object}
 use Rattle.sd_view.specs.AclLayout.{ace_bytes, acl_bytes}
 use Rattle.sd_view.specs.Descriptor.{AreApart, Extent, Extents, sid_extent}
-use Rattle.sd_binary.specs.Draft.{Draft, acl_of, bytes_after, part_of, parts_given}
+use Rattle.sd_binary.specs.Draft.{Draft, draft_acl, bytes_after, part_of, parts_given}
 use Rattle.sd_view.specs.Layout.{acl_part_size, offset_if, sid_part_size}
 use Rattle.sd_view.specs.declared.acl.AclPart.{AclPart}
 use Rattle.sd_view.specs.declared.acl.AclPart.TheVariants as acl
@@ -90,7 +90,7 @@ OpenStands closed tail (Some o) (Some u) = OpenAt closed tail o u.0 u.1
 -- the ACL that is open is not given yet
 abbrev pub OpenIsFree : Option (Which × List AccessControlEntry) → Draft → Type 0
 OpenIsFree None t = Unit {0}
-OpenIsFree (Some u) t = acl_of u.0 t ≡ acl.Absent
+OpenIsFree (Some u) t = draft_acl u.0 t ≡ acl.Absent
 
 pub record Building (b : Builder) (bytes : List ℕ) (t : Draft) : Type 0 where
   pub closed : List ℕ

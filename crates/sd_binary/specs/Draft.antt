@@ -25,9 +25,9 @@ pub record Draft : Type 0 where
 abbrev pub no_parts : Draft
 no_parts = record { owner = None; group = None; sacl = acl.Absent; dacl = acl.Absent; «open» = None }
 
-abbrev pub acl_of : Which → Draft → AclPart
-acl_of which.Sacl t = t.sacl
-acl_of which.Dacl t = t.dacl
+abbrev pub draft_acl : Which → Draft → AclPart
+draft_acl which.Sacl t = t.sacl
+draft_acl which.Dacl t = t.dacl
 
 abbrev pub with_acl : Which → AclPart → Draft → Draft
 with_acl which.Sacl part t = record t { sacl = part }
@@ -50,7 +50,7 @@ parts_given t = sid_part t.owner ++ bytes_after part.Owner t
 
 -- no ACL is open, and the part is not given yet
 abbrev pub CanBegin : Which → Draft → Type 0
-CanBegin w t = (t.«open» ≡ None) × (acl_of w t ≡ acl.Absent)
+CanBegin w t = (t.«open» ≡ None) × (draft_acl w t ≡ acl.Absent)
 
 -- an ACL is opened, without ACEs
 abbrev pub begun : Which → Draft → Draft

@@ -1,5 +1,6 @@
 -- What the text of a line spells.
 use Rattle.std.specs.Prelude.{◌≡◌, ◌↔◌, ℕ, ◌%◌, ◌==◌, if◌then◌else◌, List, length, Result, Ok, Err}
+use Rattle.sd_rights.specs.Chains.{fault_as}
 use Rattle.base64.specs.Engines.{standard}
 use Rattle.base64.specs.GeneralPurpose.{IsBytes, decode_of as base64_decode_of, encode_of}
 use Rattle.base64.specs.declared.decode.DecodeError.{DecodeError}
@@ -9,8 +10,7 @@ use Rattle.sd_binary.specs.declared.buffer.TextFault.{TextFault}
 use Rattle.sd_binary.specs.declared.buffer.TextFault.TheVariants.{Base64, HexDigit, HexOdd}
 
 abbrev pub or_digit_fault : Result (List ℕ) FromHexError → Result (List ℕ) TextFault
-or_digit_fault (Ok bytes) = Ok bytes
-or_digit_fault (Err e) = Err HexDigit
+or_digit_fault decoded = fault_as (λ e. HexDigit) decoded
 
 -- 3 where the number of characters is odd, whatever they are; else 2 where one is no hex digit (letters of
 -- either case are digits); else the bytes, a pair of digits each
@@ -18,8 +18,7 @@ unfoldable pub hex_spells : List ℕ → Result (List ℕ) TextFault
 hex_spells text = if length text % 2 == 1 then Err HexOdd else or_digit_fault (decode_of text)
 
 abbrev pub or_base64_fault : Result (List ℕ) DecodeError → Result (List ℕ) TextFault
-or_base64_fault (Ok bytes) = Ok bytes
-or_base64_fault (Err e) = Err Base64
+or_base64_fault decoded = fault_as (λ e. Base64) decoded
 
 -- 4 where it is no base64 (RFC 4648, section 4), whatever is wrong with it; else the bytes
 unfoldable pub base64_spells : List ℕ → Result (List ℕ) TextFault

@@ -8,8 +8,8 @@ ghost use Rattle.sd_view.specs.Layout.{layout};
 ghost use Rattle.sd_view.specs.declared.acl.AclPart.TheVariants as acl;
 ghost use Rattle.sd_view.specs.declared.fault.Part.TheVariants as part;
 
+use crate::append::{append_ace, append_sid_at};
 use crate::buffer::SdBuf;
-use crate::pieces::{append_ace, append_sid_at};
 use sd_core::{Ace, Sid};
 use sd_view::{ACL_HEADER_SIZE, HEADER_SIZE, MOST_ACL_SIZE, Which, acl_header, control_of, header};
 

@@ -2,10 +2,10 @@
 //! part by part in a buffer.
 #![tactic(auto)]
 
+mod append;
 mod buffer;
 mod builder;
 mod hex_reader;
-mod pieces;
 mod written;
 
 pub use buffer::{ByteBuf, Full, SdBuf, TextBuf, TextFault};

@@ -1,6 +1,6 @@
 -- What a reader of an option's text gives, by the definition that the reader meets.
 use Rattle.std.proofs.Common.{◌≡◌, Option, Some, None, Result, Ok, Err, option_map, ap, ◌∙◌, refl, sym}
-use Rattle.std.specs.Option.{ok_or, unwrap_or}
+use Rattle.std.specs.Option.{unwrap_or}
 use Rattle.clap.specs.Words.{Text}
 use Rattle.sd_command.specs.Settings.{GivenBy, given, value_if, value_needed, value_or}
 use Rattle.sd_command.specs.declared.settings.OptionName.{OptionName}
@@ -86,9 +86,3 @@ pub given-needed-fault : {A : Type 0} (reads : Text → Option A) (answers : Tex
     → Err fault ≡ given option (value_needed reads text)
 given-needed-fault reads answers option text result fault meets by e =
     needed-fault reads option text fault (sym (given-is reads answers option text result meets by) ∙ e)
-
--- a value that is left out is its option's fault
-pub ok-or-given : {A : Type 0} (option : OptionName) (value : Option A)
-    → ok_or value (Value option) ≡ given option value
-ok-or-given option None = refl
-ok-or-given option (Some v) = refl

@@ -1,6 +1,7 @@
 -- The command line is one of which `clap` says all, and what its refusals say of the words.
-use Rattle.std.proofs.Common.{◌≡◌, inl, inr, [], ◌∷◌, true, false, refl, sym, ◌∙◌, ap, subst, Bool, ◌||◌}
+use Rattle.std.proofs.Common.{◌≡◌, inl, inr, [], ◌∷◌, true, false, refl, sym, ◌∙◌, ap, subst}
 use Rattle.std.specs.List.{list_any}
+use Rattle.std.proofs.lemmas.Bool.{or_left, or_right}
 use Rattle.clap.specs.Words.{is_simple, is_simple_and_free, Kinds, IsAmong, HasKind, kind_of}
 use Rattle.clap.proofs.OnLiterals.{clap_on_literals}
 use Rattle.clap.specs.declared.error.Error.{Error}
@@ -21,21 +22,12 @@ pub line-free : is_simple_and_free line ≡ true
 unfolding line bare_line convert_line explain_line check_line derive_line clap_on_literals
 line-free = refl
 
--- either of two is enough
-or-right : (a b : Bool) → b ≡ true → (a || b) ≡ true
-or-right true b e = refl
-or-right false b e = e
-
-or-left : (a b : Bool) → a ≡ true → (a || b) ≡ true
-or-left true b e = refl
-or-left false b e = cc
-
 -- a mistake among the kinds
 among-mistake : (kinds : Kinds) (k : ErrorKind) → IsAmong k kinds → is_mistake k ≡ true
     → list_any is_mistake kinds ≡ true
 among-mistake [] k h e = absurd h
-among-mistake (x ∷ xs) k (inl same) e = or-left (is_mistake x) _ (ap is_mistake (sym same) ∙ e)
-among-mistake (x ∷ xs) k (inr h) e = or-right (is_mistake x) _ (among-mistake xs k h e)
+among-mistake (x ∷ xs) k (inl same) e = or_left (is_mistake x) _ (ap is_mistake (sym same) ∙ e)
+among-mistake (x ∷ xs) k (inr h) e = or_right (is_mistake x) _ (among-mistake xs k h e)
 
 -- what an error is taken for is what the kinds allow
 pub refused-by : (kinds : Kinds) (e : Error) (r : Refusal) → HasKind kinds e → RefusedFor e r → RefusedBy kinds r

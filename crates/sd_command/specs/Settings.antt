@@ -2,15 +2,16 @@
 use Rattle.std.specs.Prelude.{◌≡◌, ℕ, Bool, ◌||◌, false, if◌then◌else◌}
 use Rattle.std.specs.Prelude.{List, [], Option, Some, None, Result, Ok, Err, codes, option_map}
 use Rattle.std.specs.Str.{bytes_eq}
+use Rattle.std.specs.Option.{ok_or}
+use Rattle.std.specs.Result.{result_ok}
+use Rattle.sd_rights.specs.Chains.{◌>>=◌, unless}
 use Rattle.clap.specs.Words.{Row, Text, first_of, subcommand_of}
 use Rattle.sd_core.specs.Sid.{SecurityId}
 use Rattle.sd_core.specs.SidText.{sid_reads, usable}
 use Rattle.sd_core.specs.GuidText.{guid_reads}
 use Rattle.sd_core.specs.Token.{Entry}
-use Rattle.sd_core.specs.declared.sid_text.SidFault.{SidFault}
 use Rattle.sd_rights.specs.Rights.{rights_reads}
 use Rattle.sd_access.specs.Ask.{Asked, ask_fault, asks_maximum, wanted_of}
-use Rattle.sd_access.specs.declared.ask.AskFault.{AskFault}
 use Rattle.sd_inherit.specs.declared.plan.Target.{Target}
 use Rattle.sd_inherit.specs.declared.plan.Target.TheVariants.{File, Container}
 use Rattle.sd_command.specs.CommandLine.{line}
@@ -45,13 +46,9 @@ form_reads text =
     else if bytes_eq text (codes "sddl") then Some Sddl
     else None
 
-abbrev pub with_room : Result SecurityId SidFault → Option SecurityId
-with_room (Err fault) = None
-with_room (Ok domain) = usable (Some domain)
-
 -- a SID that has room for one more sub-authority, read without a domain
 unfoldable pub domain_reads : Text → Option SecurityId
-domain_reads text = with_room (sid_reads text None)
+domain_reads text = usable (result_ok (sid_reads text None))
 
 -- the value of an option, or what stands where it is left out
 abbrev pub value_or : {A : Type 0} → A → (Text → Option A) → Option Text → Option A
@@ -70,8 +67,7 @@ value_needed reads (Some text) = reads text
 
 -- the value, or the fault of an option whose value does not read
 abbrev pub given : {A : Type 0} → OptionName → Option A → Result A UsageFault
-given option None = Err (Value option)
-given option (Some value) = Ok value
+given option value = ok_or value (Value option)
 
 -- the same for a reader that is known by what it may answer to a text: private contracts alone cite it
 abbrev pub GivenBy :
@@ -129,16 +125,11 @@ given_want rows = given name.Want (value_or 0 rights_reads (first_of (codes "wan
 unfoldable pub given_object : List Row → Result (Option (List ℕ)) UsageFault
 given_object rows = given name.Object (value_if guid_reads (first_of (codes "object") rows))
 
--- what is asked, or why nothing can be
-abbrev pub unless : Option AskFault → Asked → Result Asked UsageFault
-unless None ask = Ok ask
-unless (Some fault) ask = Err (Unasked fault)
-
--- a desired mask on a type of object, and the rest of what is asked
+-- a desired mask on a type of object, and the rest of what is asked, or why nothing can be
 unfoldable pub asked :
     GenericMapping → ℕ → Option (List ℕ) → Option SecurityId → List Row → Result Asked UsageFault
 asked mapping want object principal rows =
-    unless (ask_fault want (is_set (codes "maximum") rows)) (record {
+    unless (option_map Unasked (ask_fault want (is_set (codes "maximum") rows))) (record {
       wanted = wanted_of mapping want;
       maximum = is_set (codes "maximum") rows || asks_maximum want;
       mapping = mapping;
@@ -150,14 +141,14 @@ asked mapping want object principal rows =
 
 -- ---- what `derive` makes, and for whom
 
-abbrev pub kind_reads : Text → Option Target
-kind_reads text =
+abbrev pub target_reads : Text → Option Target
+target_reads text =
     if bytes_eq text (codes "file") then Some File
     else if bytes_eq text (codes "container") then Some Container
     else None
 
 unfoldable pub given_kind : List Row → Result Target UsageFault
-given_kind rows = given name.Kind (value_needed kind_reads (first_of (codes "kind") rows))
+given_kind rows = given name.Kind (value_needed target_reads (first_of (codes "kind") rows))
 
 -- the owner or the group of what is made, a SID that may not be left out
 unfoldable pub needed_sid : OptionName → Option SecurityId → List Row → Result SecurityId UsageFault
@@ -165,23 +156,19 @@ needed_sid option domain rows = given option (value_needed (sid_under domain) (f
 
 -- ---- the commands
 
-abbrev pub and_then : {A B : Type 0} → Result A UsageFault → (A → Result B UsageFault) → Result B UsageFault
-and_then (Err fault) next = Err fault
-and_then (Ok value) next = next value
-
 -- the first option that does not read, or the job
 unfoldable pub convert_settings : List Row → Result Job UsageFault
-convert_settings rows =
-    and_then (given_domain rows) (λ domain.
-    and_then (given_source rows) (λ source.
-    and_then (given_target rows) (λ target.
-    Ok (record { source = source; act = Convert target; domain = domain; numeric = is_set (codes "numeric") rows }))))
+convert_settings rows = do
+  domain ← given_domain rows
+  source ← given_source rows
+  target ← given_target rows
+  Ok (record { source = source; act = Convert target; domain = domain; numeric = is_set (codes "numeric") rows })
 
 unfoldable pub explain_settings : List Row → Result Job UsageFault
-explain_settings rows =
-    and_then (given_domain rows) (λ domain.
-    and_then (given_source rows) (λ source.
-    Ok (record { source = source; act = Explain; domain = domain; numeric = is_set (codes "numeric") rows })))
+explain_settings rows = do
+  domain ← given_domain rows
+  source ← given_source rows
+  Ok (record { source = source; act = Explain; domain = domain; numeric = is_set (codes "numeric") rows })
 
 -- what the words settle: what is done with each line, and the entries of the token that asks
 pub record Settings : Type 0 where
@@ -194,35 +181,35 @@ with_entries entries (Ok job) = Ok (record { job = job; entries = entries })
 
 -- the values in the order in which they are looked at
 unfoldable pub check_settings : List Row → Result Settings UsageFault
-check_settings rows =
-    and_then (given_domain rows) (λ domain.
-    and_then (given_source rows) (λ source.
-    and_then (given_mapping rows) (λ mapping.
-    and_then (given_token domain rows) (λ entries.
-    and_then (given_want rows) (λ want.
-    and_then (given_object rows) (λ object.
-    and_then (given_sid name.PrincipalSelf domain rows) (λ principal.
-    and_then (asked mapping want object principal rows) (λ ask.
-    Ok (record {
-      job = record { source = source; act = Check ask; domain = domain; numeric = false };
-      entries = entries;
-    })))))))))
+check_settings rows = do
+  domain ← given_domain rows
+  source ← given_source rows
+  mapping ← given_mapping rows
+  entries ← given_token domain rows
+  want ← given_want rows
+  object ← given_object rows
+  principal ← given_sid name.PrincipalSelf domain rows
+  ask ← asked mapping want object principal rows
+  Ok (record {
+    job = record { source = source; act = Check ask; domain = domain; numeric = false };
+    entries = entries;
+  })
 
 unfoldable pub derive_settings : List Row → Result Job UsageFault
-derive_settings rows =
-    and_then (given_domain rows) (λ domain.
-    and_then (given_source rows) (λ source.
-    and_then (given_target rows) (λ target.
-    and_then (given_mapping rows) (λ mapping.
-    and_then (given_kind rows) (λ kind.
-    and_then (needed_sid name.Owner domain rows) (λ owner.
-    and_then (needed_sid name.Group domain rows) (λ group.
-    Ok (record {
-      source = source;
-      act = Derive (record { target = kind; owner = owner; group = group; mapping = mapping }) target;
-      domain = domain;
-      numeric = is_set (codes "numeric") rows;
-    }))))))))
+derive_settings rows = do
+  domain ← given_domain rows
+  source ← given_source rows
+  target ← given_target rows
+  mapping ← given_mapping rows
+  kind ← given_kind rows
+  owner ← needed_sid name.Owner domain rows
+  group ← needed_sid name.Group domain rows
+  Ok (record {
+    source = source;
+    act = Derive (record { target = kind; owner = owner; group = group; mapping = mapping }) target;
+    domain = domain;
+    numeric = is_set (codes "numeric") rows;
+  })
 
 -- by the command's name
 abbrev pub command_settings : Text → List Row → Result Settings UsageFault

@@ -1,47 +1,37 @@
 -- The text of a token (MS-DTYP 2.5.2): SIDs parted by commas, with an exclamation mark before each that is deny-only.
 use Rattle.std.specs.Prelude.{◌==◌, nat_lt, if◌then◌else◌, List, [], ◌∷◌, length}
-use Rattle.std.specs.Prelude.{Option, Some, None, Result, Ok, Err, option_map}
+use Rattle.std.specs.Prelude.{Option, None, option_map}
 use Rattle.std.specs.List.{slice_split}
+use Rattle.std.specs.Str.{byte as char}
+use Rattle.std.specs.Result.{result_ok}
+use Rattle.sd_rights.specs.Chains.{all_read}
 use Rattle.clap.specs.Words.{Text}
 use Rattle.sd_rights.specs.Limits.{most_entries}
 use Rattle.sd_core.specs.Sid.{SecurityId}
 use Rattle.sd_core.specs.SidText.{sid_reads}
 use Rattle.sd_core.specs.Token.{Entry}
-use Rattle.sd_core.specs.declared.sid_text.SidFault.{SidFault}
 use Rattle.sd_core.specs.declared.token.EntryKind.{EntryKind}
 use Rattle.sd_core.specs.declared.token.EntryKind.TheVariants.{Enabled, DenyOnly}
 
 -- what the commas part
-abbrev pub pieces : Text → List Text
-pieces text = slice_split (λ c. c == 44) text
-
-abbrev pub sid_if : Result SecurityId SidFault → Option SecurityId
-sid_if (Ok sid) = Some sid
-sid_if (Err fault) = None
+abbrev pub cut_at_commas : Text → List Text
+cut_at_commas text = slice_split (λ c. c == char ",") text
 
 -- a SID under a domain, if the text reads as one
 abbrev pub sid_under : Option SecurityId → Text → Option SecurityId
-sid_under domain text = sid_if (sid_reads text domain)
+sid_under domain text = result_ok (sid_reads text domain)
 
 -- a text behind its mark, and what the mark says
 abbrev pub marked : Text → Text × EntryKind
 marked [] = ([], Enabled)
-marked (c ∷ text) = if c == 33 then (text, DenyOnly) else (c ∷ text, Enabled)
+marked (c ∷ text) = if c == char "!" then (text, DenyOnly) else (c ∷ text, Enabled)
 
 -- an entry of the token
 abbrev pub entry_reads : Option SecurityId → Text → Option Entry
 entry_reads domain piece = option_map (λ sid. (sid, (marked piece).1)) (sid_under domain (marked piece).0)
 
-abbrev pub also : Option Entry → Option (List Entry) → Option (List Entry)
-also (Some e) (Some es) = Some (e ∷ es)
-also (Some e) None = None
-also None others = None
-
--- the entries of all pieces, in their order
-abbrev pub all_read : Option SecurityId → List Text → Option (List Entry)
-all_read domain [] = Some []
-all_read domain (p ∷ ps) = also (entry_reads domain p) (all_read domain ps)
-
 -- the entries of a text of at most 1,024 pieces
 unfoldable pub entries_read : Option SecurityId → Text → Option (List Entry)
-entries_read domain text = if nat_lt most_entries (length (pieces text)) then None else all_read domain (pieces text)
+entries_read domain text =
+    if nat_lt most_entries (length (cut_at_commas text)) then None
+    else all_read (entry_reads domain) (cut_at_commas text)

@@ -47,7 +47,7 @@ fn given_kind(matches: &ArgMatches<'_>) -> Result<Target, UsageFault>
 }
 
 fn kind_from_text(text: &str) -> Option<Target>
-    ensures { result ≡ specs.kind_reads text.now }
+    ensures { result ≡ specs.target_reads text.now }
 {
     if text == "file" {
         return Some(Target::File);

@@ -3,7 +3,7 @@ use Rattle.std.proofs.Common.{◌≡◌, ◌≤◌, ◌<◌, ℕ, zero, suc, ◌
 use Rattle.std.specs.Prelude.{◌==◌, nat_lt, nat_le, if◌then◌else◌}
 use Rattle.std.specs.Char.{to_ascii_uppercase}
 use Rattle.std.specs.List.{find, list_all}
-use Rattle.std.specs.Option.{option_and_then}
+use Rattle.std.specs.Option.{option_and_then, option_map}
 use Rattle.std.proofs.lemmas.Bool.Decides.{nat_tests}
 use Rattle.std.proofs.lemmas.List.Elements.{All-from_get_or}
 use Rattle.uuid.specs.Text.{by_index, byte_of_digits, digits_of, has_hyphens, is_hex_digit, parsed_simple, value_of}
@@ -11,22 +11,23 @@ use Rattle.uuid.proofs.TextLemmas.{by_index_at, by_index_length}
 use Rattle.sd_core.specs.Ace.{IsGuid}
 use Rattle.sd_core.specs.GuidText.{guid_reads}
 use Rattle.sd_core.specs.Sid.{AreWords, IsSid, SecurityId}
-use Rattle.sd_core.specs.SidText.{all_read, also, are_letters, are_numbers, are_subs, authority_reads, begins_with_s1, decimal_reads, has_form, is_decimal, is_hex, known_named, known_sid, letters_read, name_reads, numbers_read, or_number_fault, pieces, relative_named, sid_in, sid_of_numbers, sid_reads, usable}
+use Rattle.sd_core.specs.SidText.{decimals_read, are_letters, are_numbers, are_subs, authority_reads, begins_with_s1, decimal_reads, has_form, is_decimal, is_hex, known_named, known_sid, letters_read, name_reads, numbers_read, or_number_fault, cut_at_dashes, relative_named, sid_in, sid_of_numbers, sid_reads, usable}
 use Rattle.sd_rights.specs.Numbers.{number_after, number as number_below}
-use Rattle.sd_core.specs.SidText.{Pieces}
+use Rattle.sd_rights.specs.Cuts.{Cuts}
 use Rattle.sd_core.specs.declared.alias.WellKnown.{WellKnown}
 use Rattle.sd_core.specs.declared.alias.DomainRelative.{DomainRelative}
 use Rattle.sd_core.specs.declared.alias.TheConstants.{WELL_KNOWN, DOMAIN_RELATIVE}
 use Rattle.sd_core.specs.declared.sid_text.SidFault.{SidFault}
 use Rattle.sd_core.specs.declared.sid_text.SidFault.TheVariants as faults
-use Rattle.sd_rights.proofs.Bools.{both}
+use Rattle.std.proofs.lemmas.Bool.{and_parts}
+use Rattle.sd_core.proofs.TextLaws.{AreWords-rest}
 use Rattle.sd_rights.proofs.ReadLimits.{some-is}
 
 -- what holds of each entry of a table holds of the one that is found
 found : {X : Type 0} (p q : X → Bool) (xs : List X) → list_all q xs ≡ true → IfSome (find p xs) (λ x. q x ≡ true)
 found p q [] all = tt
 found p q (y ∷ ys) all =
-    let parts = both (q y) _ all in
+    let parts = and_parts (q y) _ all in
     by_test (p y) parts.0 (found p q ys parts.1)
   where
     by_test : (b : Bool) → q y ≡ true → IfSome (find p ys) (λ x. q x ≡ true)
@@ -76,17 +77,14 @@ words-more : (n : ℕ) (ns : List ℕ) → n < 2 ^ 32 → AreWords ns → AreWor
 words-more n ns small h zero = small
 words-more n ns small h (suc i) = h i
 
-words-rest : (n : ℕ) (ns : List ℕ) → AreWords (n ∷ ns) → AreWords ns
-words-rest n ns h i = h (suc i)
-
 words-push : (ns : List ℕ) (n : ℕ) → AreWords ns → n < 2 ^ 32 → AreWords (ns ++ n ∷ [])
 words-push [] n h small = words-more n [] small no_words
-words-push (m ∷ ns) n h small = words-more m (ns ++ n ∷ []) (h 0) (words-push ns n (words-rest m ns h) small)
+words-push (m ∷ ns) n h small = words-more m (ns ++ n ∷ []) (h 0) (words-push ns n (AreWords-rest m ns h) small)
 
 tested-words : (ns : List ℕ) → list_all (λ n. nat_lt n (2 ^ 32)) ns ≡ true → AreWords ns
 tested-words [] e = no_words
 tested-words (n ∷ ns) e =
-    let parts = both (nat_lt n (2 ^ 32)) _ e in
+    let parts = and_parts (nat_lt n (2 ^ 32)) _ e in
     let small : n < 2 ^ 32 = let t = parts.0 in grind (arith, nat_tests) in
     words-more n ns small (tested-words ns parts.1)
 
@@ -94,20 +92,20 @@ tested-words (n ∷ ns) e =
 AreRead : ℕ → List ℕ → Type 0
 AreRead count ns = (length ns ≡ count) × AreWords ns
 
-all-limits : (texts : List (List ℕ)) → IfSome (all_read texts) (AreRead (length texts))
+all-limits : (texts : List (List ℕ)) → IfSome (decimals_read texts) (AreRead (length texts))
 unfolding AreRead
 all-limits [] = (refl, no_words)
-all-limits (t ∷ ts) = joined (decimal_reads t) (all_read ts) (decimal-limit t) (all-limits ts)
+all-limits (t ∷ ts) = joined (decimal_reads t) (decimals_read ts) (decimal-limit t) (all-limits ts)
   where
     joined : (o : Option ℕ) (p : Option (List ℕ)) → IfSome o (λ n. n < 2 ^ 32) → IfSome p (AreRead (length ts))
-        → IfSome (also o p) (AreRead (length (t ∷ ts)))
+        → IfSome (option_and_then (λ n. option_map (λ ns. n ∷ ns) p) o) (AreRead (length (t ∷ ts)))
     joined None p h k = tt
     joined (Some n) None h k = tt
     joined (Some n) (Some ns) h k = (ap suc k.0, words-more n ns h k.1)
 
-numbers-limits : (p : Pieces) → length p.others ≤ 15 → IfSome (numbers_read p) IsSid
+numbers-limits : (p : Cuts) → length p.others ≤ 15 → IfSome (numbers_read p) IsSid
 unfolding numbers_read AreRead
-numbers-limits p few = joined (authority_reads p.first) (all_read p.others) (authority-limit p.first)
+numbers-limits p few = joined (authority_reads p.first) (decimals_read p.others) (authority-limit p.first)
     (all-limits p.others)
   where
     joined : (o : Option ℕ) (q : Option (List ℕ)) → IfSome o (λ n. n < 2 ^ 48) → IfSome q (AreRead (length p.others))
@@ -131,8 +129,8 @@ relative_all = refl
 known-limits : (e : WellKnown) → known_fits e ≡ true → IsSid (known_sid e)
 unfolding known_fits
 known-limits e h =
-    let first = both (nat_lt e.authority (2 ^ 48)) _ h in
-    let second = both (nat_le (length (take e.count e.subs)) 15) _ first.1 in
+    let first = and_parts (nat_lt e.authority (2 ^ 48)) _ h in
+    let second = and_parts (nat_le (length (take e.count e.subs)) 15) _ first.1 in
     let small : e.authority < 2 ^ 48 = let t = first.0 in grind (arith, nat_tests) in
     let few : length (take e.count e.subs) ≤ 15 = let t = second.0 in grind (arith, nat_tests) in
     record { authority = small; count = few; subs = tested-words (take e.count e.subs) second.1 }
@@ -178,29 +176,31 @@ letters-limits a b domain h =
     by_known None (Some e) (Some d) k l m = relative-limits d e m l
     by_known None None u k l m = tt
 
-form-few : (text : List ℕ) → has_form text ≡ true → length (pieces (drop 4 text)).others ≤ 15
+form-few : (text : List ℕ) → has_form text ≡ true → length (cut_at_dashes (drop 4 text)).others ≤ 15
 unfolding has_form
 form-few text e =
-    let p = pieces (drop 4 text) in
-    let numbers = (both (nat_le (length text) 183 && begins_with_s1 text) (are_numbers p) e).1 in
-    let subs = (both (is_hex p.first || is_decimal p.first) (are_subs 0 p.others) numbers).1 in
-    let few = (both (nat_le (0 + length p.others) 15) _ subs).0 in
+    let p = cut_at_dashes (drop 4 text) in
+    let numbers = (and_parts (nat_le (length text) 183 && begins_with_s1 text) (are_numbers p) e).1 in
+    let subs = (and_parts (is_hex p.first || is_decimal p.first) (are_subs 0 p.others) numbers).1 in
+    let few = (and_parts (nat_le (0 + length p.others) 15) _ subs).0 in
     grind (arith, nat_tests)
 
 text-limits : (text : List ℕ) (domain : Option SecurityId) → IfSome domain IsSid → IfOk (sid_reads text domain) IsSid
 unfolding sid_reads
 text-limits text domain h =
     by_letters (are_letters text) (has_form text) (letters-limits (slice_index text 0) (slice_index text 1) domain h)
-    (λ e. numbers (numbers_read (pieces (drop 4 text))) (numbers-limits (pieces (drop 4 text)) (form-few text e)))
+    (λ e. numbers (numbers_read (cut_at_dashes (drop 4 text)))
+    (numbers-limits (cut_at_dashes (drop 4 text)) (form-few text e)))
   where
     numbers : (o : Option SecurityId) → IfSome o IsSid → IfOk (or_number_fault o) IsSid
     numbers None k = tt
     numbers (Some s) k = k
 
     by_letters : (t f : Bool) → IfOk (letters_read (slice_index text 0) (slice_index text 1) domain) IsSid
-        → (f ≡ true → IfOk (or_number_fault (numbers_read (pieces (drop 4 text)))) IsSid)
+        → (f ≡ true → IfOk (or_number_fault (numbers_read (cut_at_dashes (drop 4 text)))) IsSid)
         → IfOk (if t then letters_read (slice_index text 0) (slice_index text 1)
-        domain else (if f then or_number_fault (numbers_read (pieces (drop 4 text))) else Err faults.SidForm)) IsSid
+        domain else (if f then or_number_fault (numbers_read (cut_at_dashes (drop 4 text)))
+        else Err faults.SidForm)) IsSid
     by_letters true f k l = k
     by_letters false true k l = l refl
     by_letters false false k l = tt
@@ -218,8 +218,8 @@ hex-value c h = grind (arith, nat_tests)
 digit-at : (hex : List ℕ) (k : ℕ) → k < length hex → list_all is_hex_digit hex ≡ true
     → is_hex_digit (slice_index hex k) ≡ true
 digit-at [] k within e = absurd (omega arith)
-digit-at (c ∷ cs) zero within e = (both (is_hex_digit c) _ e).0
-digit-at (c ∷ cs) (suc k) within e = digit-at cs k (omega arith) (both (is_hex_digit c) _ e).1
+digit-at (c ∷ cs) zero within e = (and_parts (is_hex_digit c) _ e).0
+digit-at (c ∷ cs) (suc k) within e = digit-at cs k (omega arith) (and_parts (is_hex_digit c) _ e).1
 
 byte-limit : (hex : List ℕ) (j : ℕ) → length hex ≡ 32 → list_all is_hex_digit hex ≡ true → j < 16
     → byte_of_digits hex j < 256

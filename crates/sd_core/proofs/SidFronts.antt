@@ -6,10 +6,10 @@ use Rattle.std.specs.Char.{is_ascii_alphabetic, is_digit, to_ascii_uppercase}
 use Rattle.std.specs.List.{list_all}
 use Rattle.std.proofs.lemmas.Bool.Decides.{nat_tests}
 use Rattle.std.proofs.lemmas.List.Sums.{take_while-cons}
-use Rattle.sd_rights.proofs.Bools.{both}
-use Rattle.sd_core.specs.SidText.{are_letters, are_numbers, begins_with_s1, has_form, is_sid_byte, pieces, sid_front}
+use Rattle.std.proofs.lemmas.Bool.{and_parts}
+use Rattle.sd_core.specs.SidText.{are_letters, are_numbers, begins_with_s1, has_form, is_sid_byte, cut_at_dashes, sid_front}
 use Rattle.sd_rights.specs.Numbers.{number_after}
-use Rattle.sd_core.proofs.TextLaws.{pieces-digits}
+use Rattle.sd_core.proofs.TextLaws.{cut-digits}
 use Rattle.sd_core.proofs.UsualNumbers.{digits}
 
 front-more : (b : ℕ) (bs : List ℕ) → is_sid_byte b ≡ true → sid_front (b ∷ bs) ≡ b ∷ sid_front bs
@@ -22,16 +22,17 @@ front-digits : (ds rest : List ℕ) → list_all (λ b. is_digit b 10) ds ≡ tr
     → sid_front (ds ++ rest) ≡ ds ++ sid_front rest
 front-digits [] rest e = refl
 front-digits (d ∷ ds) rest e =
-    let parts = both (is_digit d 10) _ e in
+    let parts = and_parts (is_digit d 10) _ e in
     front-more d (ds ++ rest) (digit_byte d parts.0) ∙ ap (λ (t : List ℕ). d ∷ t) (front-digits ds rest parts.1)
 
 -- a number, and the pieces that follow it
-number-pieces-of : (ds rest : List ℕ) → list_all (λ b. is_digit b 10) ds ≡ true → (pieces (sid_front rest)).first ≡ []
-    → pieces (sid_front (ds ++ rest)) ≡ record { first = ds; others = (pieces (sid_front rest)).others }
-number-pieces-of ds rest e ends =
-    ap pieces (front-digits ds rest e) ∙ pieces-digits 10 ds (sid_front rest) (omega arith) e
-    ∙ ap (λ (t : List ℕ). record { first = ds ++ t; others = (pieces (sid_front rest)).others }) ends
-    ∙ ap (λ (t : List ℕ). record { first = t; others = (pieces (sid_front rest)).others }) (append-nil ds)
+number-cut-of : (ds rest : List ℕ) → list_all (λ b. is_digit b 10) ds ≡ true
+    → (cut_at_dashes (sid_front rest)).first ≡ []
+    → cut_at_dashes (sid_front (ds ++ rest)) ≡ record { first = ds; others = (cut_at_dashes (sid_front rest)).others }
+number-cut-of ds rest e ends =
+    ap cut_at_dashes (front-digits ds rest e) ∙ cut-digits 10 ds (sid_front rest) (omega arith) e
+    ∙ ap (λ (t : List ℕ). record { first = ds ++ t; others = (cut_at_dashes (sid_front rest)).others }) ends
+    ∙ ap (λ (t : List ℕ). record { first = t; others = (cut_at_dashes (sid_front rest)).others }) (append-nil ds)
 
 number-size-of : (ds rest : List ℕ) → list_all (λ b. is_digit b 10) ds ≡ true
     → length (sid_front (ds ++ rest)) + length rest ≡ length (sid_front rest) + length (ds ++ rest)
@@ -41,12 +42,13 @@ number-size-of ds rest e =
     let whole = length-append ds rest in
     omega arith
 
-pub number-pieces : (text : List ℕ) (i n : ℕ) → number_after 10 0 (take i text) ≡ Some n
-    → (pieces (sid_front (drop i text))).first ≡ []
-    → pieces (sid_front text) ≡ record { first = take i text; others = (pieces (sid_front (drop i text))).others }
-number-pieces text i n e ends =
-    ap (λ (t : List ℕ). pieces (sid_front t)) (sym (take-append-drop i text))
-    ∙ number-pieces-of (take i text) (drop i text) (digits 0 n (take i text) e) ends
+pub number-cut : (text : List ℕ) (i n : ℕ) → number_after 10 0 (take i text) ≡ Some n
+    → (cut_at_dashes (sid_front (drop i text))).first ≡ []
+    → cut_at_dashes (sid_front text)
+    ≡ record { first = take i text; others = (cut_at_dashes (sid_front (drop i text))).others }
+number-cut text i n e ends =
+    ap (λ (t : List ℕ). cut_at_dashes (sid_front t)) (sym (take-append-drop i text))
+    ∙ number-cut-of (take i text) (drop i text) (digits 0 n (take i text) e) ends
 
 pub number-size : (text : List ℕ) (i n : ℕ) → number_after 10 0 (take i text) ≡ Some n
     → length (sid_front text) + length (drop i text) ≡ length (sid_front (drop i text)) + length text
@@ -67,9 +69,9 @@ byte_is b n e = grind (arith, nat_tests)
 s1-front : (text : List ℕ) → begins_with_s1 text ≡ true → 4 ≤ length text
     → sid_front text ≡ take 4 text ++ sid_front (drop 4 text)
 s1-front (a ∷ b ∷ c ∷ d ∷ rest) e long =
-    let three = both (to_ascii_uppercase a == 83 && b == 45 && c == 49) (d == 45) e in
-    let two = both (to_ascii_uppercase a == 83 && b == 45) (c == 49) three.0 in
-    let one = both (to_ascii_uppercase a == 83) (b == 45) two.0 in
+    let three = and_parts (to_ascii_uppercase a == 83 && b == 45 && c == 49) (d == 45) e in
+    let two = and_parts (to_ascii_uppercase a == 83 && b == 45) (c == 49) three.0 in
+    let one = and_parts (to_ascii_uppercase a == 83) (b == 45) two.0 in
     rw (byte_is b 45 one.1, byte_is c 49 two.1, byte_is d 45 three.1) (
     front-more a (45 ∷ 49 ∷ 45 ∷ rest) (s_byte a one.0)
     ∙ ap (λ (t : List ℕ). a ∷ t) (front-more 45 (49 ∷ 45 ∷ rest) refl)
@@ -111,7 +113,7 @@ s1-size text e long =
     omega arith
 
 pub s1-form : (text : List ℕ) → begins_with_s1 text ≡ true → 4 ≤ length text
-    → length (sid_front (drop 4 text)) ≤ 179 → are_numbers (pieces (sid_front (drop 4 text))) ≡ true
+    → length (sid_front (drop 4 text)) ≤ 179 → are_numbers (cut_at_dashes (sid_front (drop 4 text))) ≡ true
     → has_form (sid_front text) ≡ true
 unfolding has_form
 s1-form text e long short numbers =

@@ -1,5 +1,5 @@
 -- A decimal number, digit by digit from the left.
-use Rattle.sd_rights.proofs.Bools.{both}
+use Rattle.std.proofs.lemmas.Bool.{and_parts}
 use Rattle.std.proofs.Common.{zero, suc, ap, ◌-◌, add-one, lt-ltb, ◌≡◌, ℕ, ◌+◌, ◌*◌, ◌^◌, ◌<◌, ◌≤◌, length, take, take-add, get_or, Bool, true, false, ◌&&◌, List, [], ◌∷◌, ◌++◌, drop, Option, Some, None, refl, sym, ◌∙◌, arith}
 use Rattle.std.specs.Prelude.{nat_lt, nat_le, if◌then◌else◌}
 use Rattle.std.proofs.Math.Nat.{pow-le-pow_right, pow-suc}
@@ -60,9 +60,6 @@ reads_is m text short small e =
     let s : nat_lt m (2 ^ 32) ≡ true = grind (arith, nat_tests) in
     rw (l, e, s) refl
 
-pub taken : (n : ℕ) (xs : List ℕ) → n ≤ length xs → length (take n xs) ≡ n
-taken n xs h = grind (arith, common_steps)
-
 -- the bytes of the ten digits
 pub plain_digit : (b : ℕ) → 48 ≤ b → b ≤ 57 → (is_digit b 10 ≡ true) × (b - 48 ≡ digit_value b)
 plain_digit b low high =
@@ -94,8 +91,8 @@ number-append n m (x ∷ xs) ys e = by_digit (is_digit x 10) (number-append (n *
 pub digit_at : (text : List ℕ) (i : ℕ) → i < length text → list_all (λ b. is_digit b 10) text ≡ true
     → is_digit (get_or text i 0) 10 ≡ true
 digit_at [] i h e = absurd (omega arith)
-digit_at (c ∷ cs) zero h e = (both (is_digit c 10) _ e).0
-digit_at (c ∷ cs) (suc i) h e = digit_at cs i (omega arith) (both (is_digit c 10) _ e).1
+digit_at (c ∷ cs) zero h e = (and_parts (is_digit c 10) _ e).0
+digit_at (c ∷ cs) (suc i) h e = digit_at cs i (omega arith) (and_parts (is_digit c 10) _ e).1
 
 pub digit_range : (b : ℕ) → is_digit b 10 ≡ true → (48 ≤ b) × (b ≤ 57)
 digit_range b e = let small : digit_value b < 10 = grind (arith, nat_tests) in (grind arith, grind arith)

@@ -8,7 +8,8 @@ ghost use Rattle.sd_sink.specs.Print.{Prints};
 ghost use Rattle.sd_sink.specs.Sink.{Puts};
 ghost use Rattle.sd_rights.specs.Limits.{most_subs};
 ghost use Rattle.sd_rights.specs.Numbers.{number};
-ghost use Rattle.sd_core.specs.SidText.{all_pieces, all_read, are_letters, are_numbers, are_subs, authority_reads, authority_text, begins_with_s1, decimal_reads, has_form, is_decimal, is_hex, is_sid_byte, numbers_read, or_number_fault, pieces, sid_front, sid_reads, sid_text, sub_text};
+ghost use Rattle.sd_rights.specs.Cuts.{all_cuts};
+ghost use Rattle.sd_core.specs.SidText.{decimals_read, are_letters, are_numbers, are_subs, authority_reads, authority_text, begins_with_s1, decimal_reads, has_form, is_decimal, is_hex, is_sid_byte, numbers_read, or_number_fault, cut_at_dashes, sid_front, sid_reads, sid_text, sub_text};
 
 use crate::alias::read_letters;
 use crate::sid::Sid;
@@ -115,7 +116,7 @@ fn read_any_front(text: &[u8]) -> (Result<Sid, SidFault>, usize)
     ensures front { take result.1 text.now ≡ sid_front text.now }
     ensures within { result.1 ≤ length text.now }
     ensures value { result.0 ≡ (if has_form (sid_front text.now) then or_number_fault
-        (numbers_read (pieces (drop 4 (sid_front text.now)))) else Err SidFault.SidForm) }
+        (numbers_read (cut_at_dashes (drop 4 (sid_front text.now)))) else Err SidFault.SidForm) }
 {
     let size = front_size(text);
     (read_any(&text[..size]), size)
@@ -164,7 +165,7 @@ fn front_is_letters(text: &[u8]) -> bool
 // The SID of a text that is no name, as any may be written. Apart, since few come here, and others need not its room.
 #[inline(never)]
 fn read_any(text: &[u8]) -> Result<Sid, SidFault>
-    ensures { result ≡ (if has_form text.now then or_number_fault (numbers_read (pieces (drop 4 text.now)))
+    ensures { result ≡ (if has_form text.now then or_number_fault (numbers_read (cut_at_dashes (drop 4 text.now)))
         else Err SidFault.SidForm) }
 {
     if !has_form(text) {
@@ -221,7 +222,7 @@ pub(crate) fn begins_with_s1(text: &[u8]) -> bool
 
 // Whether an authority and then at most 15 numbers stand between the dashes.
 fn are_numbers(text: &[u8]) -> bool
-    ensures { result ≡ are_numbers (pieces text.now) }
+    ensures { result ≡ are_numbers (cut_at_dashes text.now) }
 {
     let (first, rest) = cut(text);
     if !is_hex(first) && !is_decimal(first) {
@@ -234,7 +235,7 @@ fn are_numbers(text: &[u8]) -> bool
 }
 
 fn are_subs(text: &[u8]) -> bool
-    ensures { result ≡ are_subs 0 (all_pieces (pieces text.now)) }
+    ensures { result ≡ are_subs 0 (all_cuts (cut_at_dashes text.now)) }
 {
     let mut rest = text;
     let mut count = 0;
@@ -253,8 +254,8 @@ fn are_subs(text: &[u8]) -> bool
 
 // What stands before the first dash, and what follows it.
 fn cut(text: &[u8]) -> (&[u8], Option<&[u8]>)
-    ensures cut { MatchOption result.1 (pieces text.now ≡ record { first = result.0.now; others = [] })
-        (λ rest. pieces text.now ≡ record { first = result.0.now; others = all_pieces (pieces rest.now) }) }
+    ensures cut { MatchOption result.1 (cut_at_dashes text.now ≡ record { first = result.0.now; others = [] })
+        (λ rest. cut_at_dashes text.now ≡ record { first = result.0.now; others = all_cuts (cut_at_dashes rest.now) }) }
     ensures shorter { MatchOption result.1 (0 ≤ 0) (λ rest. length rest.now < length text.now) }
 {
     for (i, byte) in text.iter().enumerate() {
@@ -295,8 +296,8 @@ fn are_digits(base: u32, text: &[u8]) -> bool
 
 #[tactic(auto, unfolding(crate::specs::SidText::numbers_read))]
 fn read_numbers(text: &[u8]) -> Option<Sid>
-    requires { length (pieces text.now).others ≤ most_subs }
-    ensures { result ≡ numbers_read (pieces text.now) }
+    requires { length (cut_at_dashes text.now).others ≤ most_subs }
+    ensures { result ≡ numbers_read (cut_at_dashes text.now) }
 {
     let (first, rest) = cut(text);
     let authority = read_authority(first)?;
@@ -320,9 +321,9 @@ fn read_authority(text: &[u8]) -> Option<u64>
 
 // Writes the numbers to the front of the array, and says how many there are.
 fn read_subs(text: &[u8], subs: &mut [u32; MOST_SUBS]) -> Option<usize>
-    requires { length (all_pieces (pieces text.now)) ≤ most_subs }
+    requires { length (all_cuts (cut_at_dashes text.now)) ≤ most_subs }
     ensures count { IfSome result (λ n. n ≤ most_subs) }
-    ensures numbers { option_map (λ n. take n subs.new) result ≡ all_read (all_pieces (pieces text.now)) }
+    ensures numbers { option_map (λ n. take n subs.new) result ≡ decimals_read (all_cuts (cut_at_dashes text.now)) }
 {
     let mut rest = text;
     let mut count = 0;

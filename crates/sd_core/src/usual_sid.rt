@@ -4,7 +4,8 @@ ghost use Rattle.std.specs.Prelude.{◌≡◌, ◌≤◌, ◌<◌, ◌+◌, ◌^
 ghost use Rattle.std.specs.Char.{is_digit};
 ghost use Rattle.std.specs.List.{list_all};
 ghost use Rattle.sd_rights.specs.Numbers.{number_after};
-ghost use Rattle.sd_core.specs.SidText.{all_pieces, all_read, are_numbers, are_subs, decimal_reads, has_form, is_decimal, numbers_read, pieces, sid_front};
+ghost use Rattle.sd_rights.specs.Cuts.{all_cuts};
+ghost use Rattle.sd_core.specs.SidText.{decimals_read, are_numbers, are_subs, decimal_reads, has_form, is_decimal, numbers_read, cut_at_dashes, sid_front};
 
 use crate::sid::Sid;
 use crate::sid_text::{begins_with_s1, is_sid_byte};
@@ -27,7 +28,7 @@ pub(crate) fn read_usual(text: &[u8], sid: &mut Sid) -> Option<usize>
     requires none { sid.old.subs ≡ [] }
     ensures size { IfSome result (λ n. n ≡ length (sid_front text.now)) }
     ensures form { IfSome result (λ _. has_form (sid_front text.now) ≡ true) }
-    ensures numbers { IfSome result (λ _. numbers_read (pieces (drop 4 (sid_front text.now))) ≡ Some sid.new) }
+    ensures numbers { IfSome result (λ _. numbers_read (cut_at_dashes (drop 4 (sid_front text.now))) ≡ Some sid.new) }
 {
     if !begins_with_s1(text) {
         return None;
@@ -45,8 +46,8 @@ pub(crate) fn read_usual(text: &[u8], sid: &mut Sid) -> Option<usize>
 fn usual_numbers(text: &[u8], sid: &mut Sid) -> Option<usize>
     requires none { sid.old.subs ≡ [] }
     ensures size { IfSome result (λ n. n ≡ length (sid_front text.now)) }
-    ensures form { IfSome result (λ _. are_numbers (pieces (sid_front text.now)) ≡ true) }
-    ensures numbers { IfSome result (λ _. numbers_read (pieces (sid_front text.now)) ≡ Some sid.new) }
+    ensures form { IfSome result (λ _. are_numbers (cut_at_dashes (sid_front text.now)) ≡ true) }
+    ensures numbers { IfSome result (λ _. numbers_read (cut_at_dashes (sid_front text.now)) ≡ Some sid.new) }
 {
     let (authority, after) = front_number(text)?;
     sid.set_authority(authority);
@@ -58,9 +59,9 @@ fn usual_numbers(text: &[u8], sid: &mut Sid) -> Option<usize>
 #[inline(always)]
 fn usual_subs<'a>(text: &'a [u8], sid: &mut Sid) -> Option<&'a [u8]>
     requires none { sid.old.subs ≡ [] }
-    requires ends { (pieces (sid_front text.now)).first ≡ [] }
-    ensures form { IfSome result (λ _. are_subs 0 (pieces (sid_front text.now)).others ≡ true) }
-    ensures numbers { IfSome result (λ _. all_read (pieces (sid_front text.now)).others ≡ Some sid.new.subs) }
+    requires ends { (cut_at_dashes (sid_front text.now)).first ≡ [] }
+    ensures form { IfSome result (λ _. are_subs 0 (cut_at_dashes (sid_front text.now)).others ≡ true) }
+    ensures numbers { IfSome result (λ _. decimals_read (cut_at_dashes (sid_front text.now)).others ≡ Some sid.new.subs) }
     ensures size { IfSome result (λ r. length (sid_front text.now) + length r.now ≡ length text.now) }
     ensures authority { sid.new.authority ≡ sid.old.authority }
 {
@@ -79,9 +80,9 @@ fn usual_subs<'a>(text: &'a [u8], sid: &mut Sid) -> Option<&'a [u8]>
 // What follows the dash at the front. None where nothing of a SID stands there.
 #[inline(always)]
 fn behind_dash(text: &[u8]) -> Option<&[u8]>
-    requires ends { (pieces (sid_front text.now)).first ≡ [] }
-    ensures cut { MatchOption result (sid_front text.now ≡ []) (λ next. pieces (sid_front text.now)
-        ≡ record { first = []; others = all_pieces (pieces (sid_front next.now)) }) }
+    requires ends { (cut_at_dashes (sid_front text.now)).first ≡ [] }
+    ensures cut { MatchOption result (sid_front text.now ≡ []) (λ next. cut_at_dashes (sid_front text.now)
+        ≡ record { first = []; others = all_cuts (cut_at_dashes (sid_front next.now)) }) }
     ensures size { IfSome result (λ next. length (sid_front text.now) + length next.now
         ≡ length (sid_front next.now) + length text.now) }
 {
@@ -95,8 +96,8 @@ fn behind_dash(text: &[u8]) -> Option<&[u8]>
 #[inline(always)]
 fn front_number(text: &[u8]) -> Option<(u32, &[u8])>
     ensures number { IfSome result (λ r. (first : List ℕ) × (is_decimal first ≡ true) × (decimal_reads first ≡ Some r.0)
-        × (pieces (sid_front text.now) ≡ record { first = first; others = (pieces (sid_front r.1.now)).others })) }
-    ensures ends { IfSome result (λ r. (pieces (sid_front r.1.now)).first ≡ []) }
+        × (cut_at_dashes (sid_front text.now) ≡ record { first = first; others = (cut_at_dashes (sid_front r.1.now)).others })) }
+    ensures ends { IfSome result (λ r. (cut_at_dashes (sid_front r.1.now)).first ≡ []) }
     ensures size { IfSome result (λ r. length (sid_front text.now) + length r.1.now
         ≡ length (sid_front r.1.now) + length text.now) }
 {
@@ -111,7 +112,7 @@ fn front_number(text: &[u8]) -> Option<(u32, &[u8])>
 // Whether a dash stands at the front, or what is of no SID.
 #[inline(always)]
 fn ends_number(text: &[u8]) -> bool
-    ensures { result ≡ true → (pieces (sid_front text.now)).first ≡ [] }
+    ensures { result ≡ true → (cut_at_dashes (sid_front text.now)).first ≡ [] }
 {
     match text.split_first() {
         Some((byte, _)) => *byte == b'-' || !is_sid_byte(*byte),

@@ -7,14 +7,14 @@ use Rattle.std.proofs.KnownBytes.{Appends-trans}
 use Rattle.sd_core.specs.Token.{Entry, TokenShown}
 use Rattle.sd_sink.specs.Sink.{SinkTold, PutAll, PutSome}
 use Rattle.sd_sink.proofs.SinkLemmas.{PutAll-nil, PutAll-trans}
-use Rattle.sd_filter.specs.Lines.{parts, ended, lines, last_line, without_cr}
+use Rattle.sd_filter.specs.Lines.{cut_at_line_feeds, ended, lines, last_line, without_cr}
 use Rattle.sd_filter.specs.Answers.{answer, answers, bound, bounds, errors, is_error}
 use Rattle.sd_filter.specs.Outcome.{Compares}
 use Rattle.sd_filter.specs.Inner.Running.{Holds, Answered, Failed, AfterBytes}
 use Rattle.sd_command.specs.declared.job.Job.{Job}
 use Rattle.sd_filter.specs.declared.engine.RunState.{RunState}
 use Rattle.sd_filter.specs.declared.engine.Report.{Report}
-use Rattle.sd_filter.proofs.PartsLemmas.{NoLf, ended-more, rest-more, ended-lf, rest-lf, ended-append}
+use Rattle.sd_filter.proofs.LineCutLemmas.{NoLf, ended-more, rest-more, ended-lf, rest-lf, ended-append}
 use Rattle.sd_filter.proofs.AnswersLemmas.{answers-one, answers-push, errors-push, bounds-push}
 
 -- comparisons, and further ones
@@ -98,7 +98,7 @@ Failed-more job token0 token sink0 sink all more h = record {
 pub AfterBytes-nil : (token0 : TokenShown) (sink0 : SinkTold) (state : RunState) (report : Report)
     → Holds state.job state.line [] → report.lines ≡ 0 → report.faults ≡ 0
     → AfterBytes token0 sink0 [] state token0 sink0 report
-unfolding parts ended answers errors bounds
+unfolding cut_at_line_feeds ended answers errors bounds
 AfterBytes-nil token0 sink0 state report h no_lines no_faults = record {
   holds = h;
   answered = record {
@@ -116,7 +116,7 @@ pub AfterBytes-more : (token0 token : TokenShown) (sink0 sink : SinkTold) (got b
     → NoLf bytes
     → AfterBytes token0 sink0 got state token sink report
     → state'.job ≡ state.job
-    → Holds state'.job state'.line ((parts got).rest ++ bytes)
+    → Holds state'.job state'.line ((cut_at_line_feeds got).rest ++ bytes)
     → AfterBytes token0 sink0 (got ++ bytes) state' token sink report
 AfterBytes-more token0 token sink0 sink got bytes state state' report none h same holds = record {
   holds = rw (rest-more got bytes none) holds;
@@ -127,7 +127,8 @@ AfterBytes-more token0 token sink0 sink got bytes state state' report none h sam
 pub AfterBytes-line : (token0 token : TokenShown) (sink0 sink : SinkTold) (got bytes : List ℕ) (state : RunState)
     (report : Report)
     → NoLf bytes
-    → Answered state.job token0 sink0 (ended got ++ without_cr ((parts got).rest ++ bytes) ∷ []) token sink report
+    → Answered state.job token0 sink0
+    (ended got ++ without_cr ((cut_at_line_feeds got).rest ++ bytes) ∷ []) token sink report
     → Holds state.job state.line []
     → AfterBytes token0 sink0 (got ++ bytes ++ 10 ∷ []) state token sink report
 AfterBytes-line token0 token sink0 sink got bytes state report none h holds = record {
@@ -137,7 +138,7 @@ AfterBytes-line token0 token sink0 sink got bytes state report none h holds = re
 
 pub Failed-line : (job : Job) (token0 token : TokenShown) (sink0 sink : SinkTold) (got bytes : List ℕ)
     → NoLf bytes
-    → Failed job token0 sink0 (ended got ++ without_cr ((parts got).rest ++ bytes) ∷ []) token sink
+    → Failed job token0 sink0 (ended got ++ without_cr ((cut_at_line_feeds got).rest ++ bytes) ∷ []) token sink
     → Failed job token0 sink0 (ended (got ++ bytes ++ 10 ∷ [])) token sink
 Failed-line job token0 token sink0 sink got bytes none
     h = rw (ended-lf (got ++ bytes), ended-more got bytes none, rest-more got bytes none) h
@@ -150,7 +151,7 @@ Failed-bytes job token0 token sink0 sink got more h =
     rw e.1 (Failed-more job token0 token sink0 sink (ended got) e.0 h)
 
 -- the end of the input
-pub lines-empty : (got : List ℕ) → (parts got).rest ≡ [] → lines got ≡ ended got
+pub lines-empty : (got : List ℕ) → (cut_at_line_feeds got).rest ≡ [] → lines got ≡ ended got
 unfolding lines
 lines-empty got e = ap (λ l. ended got ++ last_line l) e ∙ append-nil (ended got)
 
@@ -158,9 +159,10 @@ last_line-some : (raw : List ℕ) → raw ≢ [] → last_line raw ≡ raw ∷ [
 last_line-some [] ne = absurd (ne refl)
 last_line-some (b ∷ raw) ne = refl
 
-pub lines-last : (got : List ℕ) → (parts got).rest ≢ [] → lines got ≡ ended got ++ (parts got).rest ∷ []
+pub lines-last : (got : List ℕ) → (cut_at_line_feeds got).rest ≢ []
+    → lines got ≡ ended got ++ (cut_at_line_feeds got).rest ∷ []
 unfolding lines
-lines-last got ne = ap (λ l. ended got ++ l) (last_line-some (parts got).rest ne)
+lines-last got ne = ap (λ l. ended got ++ l) (last_line-some (cut_at_line_feeds got).rest ne)
 
 -- a fault is counted, or not
 pub counted_true : (b : Bool) (n : ℕ) → b ≡ true → n + 1 ≡ n + cond b 1 0

@@ -1,6 +1,6 @@
 -- The text of an `error` line is short.
 use Rattle.std.proofs.Common.{◌≤◌, ◌<◌, length, Option, Some, None, arith, length-append, lit≤}
-use Rattle.sd_filter.specs.Faults.{fault_text, number_and_name, part_text, parts_of, parts_text, NamedParts}
+use Rattle.sd_filter.specs.Faults.{fault_text, number_and_name, part_text, named_parts, parts_text, NamedParts}
 use Rattle.sd_binary.specs.declared.buffer.TextFault.TheVariants as text
 use Rattle.sd_view.specs.declared.fault.Part.{Part}
 use Rattle.sd_view.specs.declared.fault.Part.TheVariants as part
@@ -53,5 +53,5 @@ parts-short p = let first = part-short p.0 in let second = part-short
 pub fault_text-short : (fault : LineFault) → length (fault_text fault) < 64
 unfolding fault_text
 fault_text-short fault =
-    let name = name-short fault in let parts = parts-short (parts_of fault) in
-    omega (arith, length-append (number_and_name fault) (parts_text (parts_of fault)))
+    let name = name-short fault in let parts = parts-short (named_parts fault) in
+    omega (arith, length-append (number_and_name fault) (parts_text (named_parts fault)))

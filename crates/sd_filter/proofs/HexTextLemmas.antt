@@ -1,6 +1,7 @@
 -- The hex text of some bytes, piece by piece.
-use Rattle.std.proofs.Common.{◌≡◌, ℕ, ◌+◌, ◌-◌, ◌/◌, ◌%◌, ◌∷◌, slice_index, List, [], ◌++◌, take, drop, refl, ◌∙◌, ap, arith}
+use Rattle.std.proofs.Common.{◌≡◌, ℕ, ◌+◌, ◌-◌, ◌/◌, ◌%◌, ◌∷◌, slice_index, List, [], ◌++◌, take, drop, refl, ◌∙◌, ap}
 use Rattle.std.proofs.Math.Seq.{take-add}
+use Rattle.sd_filter.proofs.AfterBytesLemmas.{line_in}
 use Rattle.hex.specs.Hex.{encode_with, encode_lower, lower_digits}
 use Rattle.sd_sink.specs.Print.{PrintTold, Prints}
 use Rattle.sd_sink.proofs.PrintLemmas.{prints_then}
@@ -17,12 +18,9 @@ encode-piece : (bytes : List ℕ) (at n : ℕ) → encode_lower (take (at + n) b
 encode-piece bytes at n = ap encode_lower (take-add at n bytes)
     ∙ encode_with-append lower_digits (take at bytes) (take n (drop at bytes))
 
-piece-is : (bytes : List ℕ) (at n : ℕ) → take (at + n - at) (drop at bytes) ≡ take n (drop at bytes)
-piece-is bytes at n = ap (λ (k : ℕ). take k (drop at bytes)) (omega arith)
-
 pub Prints-piece : (a b c : PrintTold) (bytes digits : List ℕ) (at n : ℕ)
     → digits ≡ encode_lower (take (at + n - at) (drop at bytes))
     → Prints a b (encode_lower (take at bytes)) → Prints b c digits → Prints a c (encode_lower (take (at + n) bytes))
 Prints-piece a b c bytes digits at n is p q =
-    let same : digits ≡ encode_lower (take n (drop at bytes)) = is ∙ ap encode_lower (piece-is bytes at n) in
+    let same : digits ≡ encode_lower (take n (drop at bytes)) = is ∙ ap encode_lower (line_in bytes at n) in
     rw (encode-piece bytes at n, ← same) (prints_then p q)

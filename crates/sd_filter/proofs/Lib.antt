@@ -7,10 +7,10 @@ pub mod FaultLemmas
 pub mod HexTextLemmas
 pub mod HoldsLemmas
 pub mod LimitLemmas
+pub mod LineCutLemmas
 pub mod MeaningLemmas
-pub mod PartsLemmas
-pub mod PiecesLemmas
 pub mod ReadingLemmas
+pub mod SplitsLemmas
 mod Rows
 pub mod RunLemmas
 pub mod ShortLemmas

@@ -1,8 +1,8 @@
 -- What a line means has the limits of a descriptor.
-use Rattle.std.proofs.Common.{◌≡◌, ℕ, Bool, true, false, cond, eqb, List, [], ◌∷◌, length, ◌%◌, Option, Some, None, Result, Ok, Err, refl, ap, subst}
+use Rattle.std.proofs.Common.{◌≡◌, ℕ, Bool, true, false, cond, eqb, List, [], ◌∷◌, length, ◌%◌, Option, Some, None, Result, Ok, Err, refl, subst}
 use Rattle.std.specs.Prelude.{IfSome, nat_lt}
+use Rattle.sd_binary.proofs.HexPairs.{decoded-ok}
 use Rattle.hex.specs.Hex.{decode_of, decode_pairs}
-use Rattle.hex.specs.declared.error.FromHexError.{FromHexError}
 use Rattle.hex.specs.declared.error.FromHexError.TheVariants.{OddLength}
 use Rattle.hex.proofs.HexLemmas.{decode_pairs-ok}
 use Rattle.sd_core.proofs.Numbers.{AreBytes}
@@ -11,8 +11,9 @@ use Rattle.sd_reader.specs.Meaning.{means}
 use Rattle.sd_reader.specs.declared.fault.SddlFault.{SddlFault}
 use Rattle.sd_reader.proofs.MeansLimits.{means-limits}
 use Rattle.sd_view.specs.Descriptor.{Descriptor, IsDescriptor}
-use Rattle.sd_view.specs.Reading.{fault, reading, shown, unless}
-use Rattle.sd_binary.specs.Text.{base64_spells, hex_spells, or_digit_fault}
+use Rattle.sd_rights.specs.Chains.{unless}
+use Rattle.sd_view.specs.Reading.{fault, reading, shown}
+use Rattle.sd_binary.specs.Text.{base64_spells, hex_spells}
 use Rattle.sd_binary.specs.declared.buffer.TextFault.{TextFault}
 use Rattle.sd_view.specs.declared.fault.SdFault.{SdFault}
 use Rattle.sd_view.proofs.ReadLaws.{fault-shows}
@@ -28,15 +29,11 @@ not_chosen : {A F : Type 0} (b : Bool) (f : F) (r : Result A F) (x : A) → cond
 not_chosen true f r x e = absurd (cc)
 not_chosen false f r x e = e
 
-decoded : (d : Result (List ℕ) FromHexError) (bytes : List ℕ) → or_digit_fault d ≡ Ok bytes → d ≡ Ok bytes
-decoded (Ok xs) bytes e = let same : xs ≡ bytes = cc in ap (λ (b : List ℕ). Ok b) same
-decoded (Err f) bytes e = absurd (cc)
-
 -- what a text spells is bytes
 spelled-bytes : (text bytes : List ℕ) → hex_spells text ≡ Ok bytes → AreBytes bytes
 unfolding hex_spells
 spelled-bytes text bytes e =
-    let pairs = decoded (decode_of text) bytes (not_chosen _ _ _ bytes e) in
+    let pairs = decoded-ok (decode_of text) bytes (not_chosen _ _ _ bytes e) in
     (decode_pairs-ok 0 text bytes (not_chosen (eqb (length text % 2) 1) OddLength (decode_pairs 0 text) bytes pairs)).2
 
 read_by : (f : Option SdFault) (bytes : List ℕ) (d : Descriptor) → AreBytes bytes → fault bytes ≡ f

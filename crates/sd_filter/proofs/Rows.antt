@@ -15,16 +15,16 @@ use Rattle.sd_command.specs.declared.job.Form.TheVariants.{Base64, Hex}
 use Rattle.sd_command.specs.declared.job.Job.{Job}
 use Rattle.sd_filter.specs.Answers.{answer, form_text, line_means}
 use Rattle.sd_filter.specs.Faults.{fault_text}
-use Rattle.sd_filter.specs.Lines.{ended, lines, parts, without_cr}
+use Rattle.sd_filter.specs.Lines.{ended, lines, cut_at_line_feeds, without_cr}
 
 -- "a" CR LF, LF, "b" CR CR LF, "c" CR: the CR at the very end stays
 pub four_lines : lines
     (97 ∷ 13 ∷ 10 ∷ 10 ∷ 98 ∷ 13 ∷ 13 ∷ 10 ∷ 99 ∷ 13 ∷ []) ≡ (97 ∷ []) ∷ [] ∷ (98 ∷ 13 ∷ []) ∷ (99 ∷ 13 ∷ []) ∷ []
-unfolding lines ended parts without_cr
+unfolding lines ended cut_at_line_feeds without_cr
 four_lines = refl
 
 pub no_line : lines [] ≡ []
-unfolding lines ended parts without_cr
+unfolding lines ended cut_at_line_feeds without_cr
 no_line = refl
 
 pub overlap_text : fault_text (Sd (sd.Overlap part.Owner part.Group)) ≡ codes "error 14 overlap owner group"

@@ -6,7 +6,7 @@ use Rattle.sd_sink.specs.Counts.{counted}
 use Rattle.sd_core.specs.Token.{TokenShown}
 use Rattle.sd_sink.specs.Sink.{SinkTold, IsPrefix}
 use Rattle.sd_filter.specs.Told.{SourceTold, DrainTold, sink_of, reads_after, ends_after, failed_reads_after}
-use Rattle.sd_filter.specs.Lines.{ended, lines, parts}
+use Rattle.sd_filter.specs.Lines.{ended, lines, cut_at_line_feeds}
 use Rattle.sd_filter.specs.Answers.{answers}
 use Rattle.sd_filter.specs.Inner.Running.{Holds, Answered, Failed, AfterBytes, BeforeRead}
 use Rattle.sd_filter.specs.Outcome.{Finished, FaultSays, HandedOn}
@@ -92,7 +92,7 @@ Failed-flush job token0 token sink0 drain drain' all report h keeps failed = rec
 }
 
 ended-nil : ended [] ≡ []
-unfolding ended parts
+unfolding ended cut_at_line_feeds
 ended-nil = refl
 
 -- before the first read

@@ -1,6 +1,10 @@
 -- The answer to each line, which rests on that line alone.
 use Rattle.std.specs.Prelude.{◌≤◌, ℕ, ◌+◌, ◌*◌, List, [], ◌∷◌, ◌++◌, if◌then◌else◌, nat_lt, length, Bool, true, false, Option, Some, None, is_some, Result, Ok, Err, count_by, sum_by, codes}
 use Rattle.std.specs.List.{flat_map}
+use Rattle.std.specs.Option.{option_map}
+use Rattle.std.specs.Result.{result_ok}
+use Rattle.sd_rights.specs.Chains.{◌>>=◌, fault_as, unless}
+use Rattle.sd_filter.specs.Lines.{line_feed}
 use Rattle.base64.specs.Engines.{standard}
 use Rattle.base64.specs.GeneralPurpose.{encode_of}
 use Rattle.hex.specs.Hex.{encode_lower}
@@ -21,7 +25,7 @@ use Rattle.sd_command.specs.declared.job.Form.{Form}
 use Rattle.sd_command.specs.declared.job.Form.TheVariants as form
 use Rattle.sd_command.specs.declared.job.Job.{Job}
 use Rattle.sd_core.specs.declared.naming.Naming.{Naming}
-use Rattle.sd_access.specs.Need.{bound as check_bound}
+use Rattle.sd_access.specs.Need.{check_bound}
 use Rattle.sd_access.specs.Verdict.{verdict}
 use Rattle.sd_access.specs.declared.verdict.Verdict.{Verdict}
 use Rattle.sd_access.specs.declared.verdict.Verdict.TheVariants.{Denied, Granted}
@@ -44,16 +48,15 @@ line_limit form.Base64 = most_base64_text
 line_limit form.Sddl = most_sddl_text
 
 abbrev pub or_byte_fault : Result Descriptor SdFault → Result Descriptor LineFault
-or_byte_fault (Err fault) = Err (Sd fault)
-or_byte_fault (Ok d) = Ok d
+or_byte_fault read = fault_as Sd read
 
 abbrev pub bytes_mean : Result (List ℕ) TextFault → Result Descriptor LineFault
-bytes_mean (Err fault) = Err (Text fault)
-bytes_mean (Ok bytes) = or_byte_fault (reading bytes)
+bytes_mean spelled = do
+  bytes ← fault_as Text spelled
+  or_byte_fault (reading bytes)
 
 abbrev pub or_sddl_fault : Result Descriptor SddlFault → Result Descriptor LineFault
-or_sddl_fault (Err fault) = Err (Sddl fault)
-or_sddl_fault (Ok d) = Ok d
+or_sddl_fault read = fault_as Sddl read
 
 -- What a text means in a form, under a domain. Hex and base64: its text spells no bytes, its bytes do not read, or the
 -- descriptor that its bytes show. SDDL: its first fault, or the descriptor that it means.
@@ -92,8 +95,7 @@ verdict_text (Granted mask) = codes "granted 0x" ++ hex_digits 8 mask
 verdict_text (Denied mask) = codes "denied 0x" ++ hex_digits 8 mask
 
 abbrev pub as_line_fault : Option DeriveFault → Option LineFault
-as_line_fault None = None
-as_line_fault (Some fault) = Some (Derive fault)
+as_line_fault fault = option_map Derive fault
 
 -- the fault of an act at a descriptor: to derive alone may have one
 abbrev pub act_fault : Act → Descriptor → Option LineFault
@@ -105,22 +107,22 @@ act_fault (act.Derive plan form) d = as_line_fault (derive_fault d plan)
 -- an `error` line stands in the place of the answer
 abbrev pub unless_fault : Option LineFault → List ℕ → List ℕ
 unless_fault None text = text
-unless_fault (Some fault) text = fault_text fault ++ 10 ∷ []
+unless_fault (Some fault) text = fault_text fault ++ line_feed ∷ []
 
 -- what is answered where the act has no fault, with its LF; each line of an explanation has its own already
 abbrev pub done_text : Job → Act → List Entry → Descriptor → List ℕ
-done_text job (Convert form) entries d = form_text job form d ++ 10 ∷ []
+done_text job (Convert form) entries d = form_text job form d ++ line_feed ∷ []
 done_text job Explain entries d = explain (naming_of job) d
-done_text job (Check ask) entries d = verdict_text (verdict d entries ask) ++ 10 ∷ []
-done_text job (act.Derive plan form) entries d = form_text job form (derived d plan) ++ 10 ∷ []
+done_text job (Check ask) entries d = verdict_text (verdict d entries ask) ++ line_feed ∷ []
+done_text job (act.Derive plan form) entries d = form_text job form (derived d plan) ++ line_feed ∷ []
 
 -- what is answered to a descriptor
 abbrev pub act_text : Job → Act → List Entry → Descriptor → List ℕ
 act_text job act entries d = unless_fault (act_fault act d) (done_text job act entries d)
 
 abbrev pub text_of_meaning : Job → List Entry → Meaning → List ℕ
-text_of_meaning job entries None = 10 ∷ []
-text_of_meaning job entries (Some (Err fault)) = fault_text fault ++ 10 ∷ []
+text_of_meaning job entries None = line_feed ∷ []
+text_of_meaning job entries (Some (Err fault)) = fault_text fault ++ line_feed ∷ []
 text_of_meaning job entries (Some (Ok d)) = act_text job job.act entries d
 
 -- the answer, with its LF
@@ -167,8 +169,7 @@ bounds job entries lines = sum_by (bound job entries) lines
 -- ---- how much is printed
 
 abbrev pub unless_refused : Option DeriveFault → Descriptor → Option Descriptor
-unless_refused None d = Some d
-unless_refused (Some fault) d = None
+unless_refused fault d = result_ok (unless fault d)
 
 -- the descriptor that is printed for one that was read: a conversion prints that one, and so does an explanation; a
 -- verdict prints none; to derive prints the derived one, unless there is none

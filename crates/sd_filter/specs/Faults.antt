@@ -42,28 +42,28 @@ number_and_name (Derive (DerivedTooLarge w)) = codes "error 40 derived-too-large
 abbrev pub NamedParts : Type 0
 NamedParts = Option Part × Option Part
 
-abbrev pub parts_of : LineFault → NamedParts
-parts_of TooLong = (None, None)
-parts_of (Text fault) = (None, None)
-parts_of (Sd sd.Short) = (None, None)
-parts_of (Sd sd.Revision) = (None, None)
-parts_of (Sd sd.NotSelfRelative) = (None, None)
-parts_of (Sd (sd.Offset p)) = (Some p, None)
-parts_of (Sd (sd.Sid p)) = (Some p, None)
-parts_of (Sd (sd.Acl p)) = (Some p, None)
-parts_of (Sd (sd.AceSize p)) = (Some p, None)
-parts_of (Sd (sd.AceType p)) = (Some p, None)
-parts_of (Sd (sd.AceFlags p)) = (Some p, None)
-parts_of (Sd (sd.Overlap p q)) = (Some p, Some q)
-parts_of (Sddl sddl.Shape) = (None, None)
-parts_of (Sddl sddl.PartTwice) = (None, None)
-parts_of (Sddl (sddl.Sid fault)) = (None, None)
-parts_of (Sddl sddl.Flags) = (None, None)
-parts_of (Sddl sddl.Rights) = (None, None)
-parts_of (Sddl sddl.Guid) = (None, None)
-parts_of (Sddl sddl.Kind) = (None, None)
-parts_of (Sddl (sddl.AclTooLarge w)) = (Some (part_of w), None)
-parts_of (Derive (DerivedTooLarge w)) = (Some (part_of w), None)
+abbrev pub named_parts : LineFault → NamedParts
+named_parts TooLong = (None, None)
+named_parts (Text fault) = (None, None)
+named_parts (Sd sd.Short) = (None, None)
+named_parts (Sd sd.Revision) = (None, None)
+named_parts (Sd sd.NotSelfRelative) = (None, None)
+named_parts (Sd (sd.Offset p)) = (Some p, None)
+named_parts (Sd (sd.Sid p)) = (Some p, None)
+named_parts (Sd (sd.Acl p)) = (Some p, None)
+named_parts (Sd (sd.AceSize p)) = (Some p, None)
+named_parts (Sd (sd.AceType p)) = (Some p, None)
+named_parts (Sd (sd.AceFlags p)) = (Some p, None)
+named_parts (Sd (sd.Overlap p q)) = (Some p, Some q)
+named_parts (Sddl sddl.Shape) = (None, None)
+named_parts (Sddl sddl.PartTwice) = (None, None)
+named_parts (Sddl (sddl.Sid fault)) = (None, None)
+named_parts (Sddl sddl.Flags) = (None, None)
+named_parts (Sddl sddl.Rights) = (None, None)
+named_parts (Sddl sddl.Guid) = (None, None)
+named_parts (Sddl sddl.Kind) = (None, None)
+named_parts (Sddl (sddl.AclTooLarge w)) = (Some (part_of w), None)
+named_parts (Derive (DerivedTooLarge w)) = (Some (part_of w), None)
 
 -- a part behind a blank
 abbrev pub part_text : Option Part → List ℕ
@@ -77,4 +77,4 @@ abbrev pub parts_text : NamedParts → List ℕ
 parts_text parts = part_text parts.0 ++ part_text parts.1
 
 unfoldable pub fault_text : LineFault → List ℕ
-fault_text fault = number_and_name fault ++ parts_text (parts_of fault)
+fault_text fault = number_and_name fault ++ parts_text (named_parts fault)

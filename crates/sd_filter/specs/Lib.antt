@@ -4,5 +4,5 @@ pub mod Faults
 pub mod Inner
 pub mod Lines
 pub mod Outcome
-pub mod Pieces
+pub mod Splits
 pub mod Told

@@ -1,5 +1,6 @@
 // The answer to one line.
 ghost use Rattle.std.specs.Prelude.{◌≡◌, ℕ, List, ◌++◌, [], ◌∷◌, length, true, is_some, Ok, Err};
+ghost use Rattle.sd_filter.specs.Lines.{line_feed};
 ghost use Rattle.sd_sink.specs.Print.{Prints};
 ghost use Rattle.sd_filter.specs.Answers.{act_bound, act_fault, act_text, answer, as_line_fault, bound, form_text};
 ghost use Rattle.sd_filter.specs.Answers.{is_error, naming_of, unless_fault, verdict_text};
@@ -106,7 +107,7 @@ fn print_answer<P: Print>(
 
 // Prints an `error` line.
 fn print_error<P: Print>(fault: &LineFault, out: &mut P) -> bool
-    ensures { PrintsAnswer (P.told out.old) (P.told out.new) (fault_text fault.now ++ 10 ∷ []) true result }
+    ensures { PrintsAnswer (P.told out.old) (P.told out.new) (fault_text fault.now ++ line_feed ∷ []) true result }
 {
     print_fault(fault, out);
     print_end(true, out)
@@ -241,7 +242,7 @@ fn print_verdict<P: Print>(verdict: Verdict, out: &mut P)
 
 // Ends a line.
 fn print_end<P: Print>(faulty: bool, out: &mut P) -> bool
-    ensures { PrintsAnswer (P.told out.old) (P.told out.new) (10 ∷ []) faulty result }
+    ensures { PrintsAnswer (P.told out.old) (P.told out.new) (line_feed ∷ []) faulty result }
 {
     out.put(b"\n");
     faulty

@@ -2,7 +2,7 @@
 ghost use Rattle.std.specs.Prelude.{◌≡◌, ◌<◌, length};
 ghost use Rattle.sd_sink.specs.Print.{Prints};
 ghost use Rattle.sd_sink.specs.Sink.{Puts};
-ghost use Rattle.sd_filter.specs.Faults.{fault_text, number_and_name, part_text, parts_of};
+ghost use Rattle.sd_filter.specs.Faults.{fault_text, number_and_name, part_text, named_parts};
 
 use sd_access::DeriveFault;
 use sd_binary::{Part, SdFault, TextFault, Which};
@@ -39,7 +39,7 @@ pub fn put_fault<S: Sink>(fault: &LineFault, sink: &mut S) -> Result<(), SinkFau
 pub fn print_fault<P: Print>(fault: &LineFault, out: &mut P)
     ensures { Prints (P.told out.old) (P.told out.new) (fault_text fault.now) }
 {
-    let parts = parts_of(*fault);
+    let parts = named_parts(*fault);
     out.put(number_and_name(*fault).as_bytes());
     out.put(part_text(parts.0).as_bytes());
     out.put(part_text(parts.1).as_bytes());
@@ -78,8 +78,8 @@ fn number_and_name(fault: LineFault) -> &'static str
     }
 }
 
-fn parts_of(fault: LineFault) -> (Option<Part>, Option<Part>)
-    ensures { result ≡ parts_of fault }
+fn named_parts(fault: LineFault) -> (Option<Part>, Option<Part>)
+    ensures { result ≡ named_parts fault }
 {
     match fault {
         LineFault::Sd(SdFault::Offset(part)) => (Some(part), None),

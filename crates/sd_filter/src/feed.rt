@@ -3,7 +3,7 @@ ghost use Rattle.std.specs.Prelude.{◌≡◌, ◌+◌, ◌<◌, ◌≤◌, ◌^
 ghost use Rattle.std.specs.Prelude.{MatchResult, IsOk, Ok, false, unwrap_or, IfSome};
 ghost use Rattle.sd_sink.specs.Sink.{SinkTold};
 ghost use Rattle.sd_core.specs.Token.{TokenShown};
-ghost use Rattle.sd_filter.specs.Lines.{ended, lines};
+ghost use Rattle.sd_filter.specs.Lines.{ended, lines, line_feed};
 ghost use Rattle.sd_filter.specs.Inner.Running.{Answered, Failed, HasRoom, Holds, HoldsText, IsReady, RoseWithin, AfterBytes};
 ghost use Rattle.sd_filter.specs.Told.{sink_of};
 
@@ -76,8 +76,8 @@ pub fn feed_all<W: Drain>(
 
 // The place of the first LF. Whole blocks without one are passed over, each in a few instructions.
 fn line_end(bytes: &[u8]) -> Option<usize>
-    ensures found { IfSome result (λ n. (n < length bytes.now) × (slice_index bytes.now n ≡ 10)) }
-    ensures before { (k : ℕ) → k < unwrap_or result (length bytes.now) → slice_index bytes.now k ≢ 10 }
+    ensures found { IfSome result (λ n. (n < length bytes.now) × (slice_index bytes.now n ≡ line_feed)) }
+    ensures before { (k : ℕ) → k < unwrap_or result (length bytes.now) → slice_index bytes.now k ≢ line_feed }
 {
     let mut start = 0;
     while bytes.len() - start >= BLOCK && !has_lf(&bytes[start..start + BLOCK]) {
@@ -90,15 +90,15 @@ fn line_end(bytes: &[u8]) -> Option<usize>
 }
 
 fn first_lf(bytes: &[u8]) -> Option<usize>
-    ensures found { IfSome result (λ n. (n < length bytes.now) × (slice_index bytes.now n ≡ 10)) }
-    ensures before { (k : ℕ) → k < unwrap_or result (length bytes.now) → slice_index bytes.now k ≢ 10 }
+    ensures found { IfSome result (λ n. (n < length bytes.now) × (slice_index bytes.now n ≡ line_feed)) }
+    ensures before { (k : ℕ) → k < unwrap_or result (length bytes.now) → slice_index bytes.now k ≢ line_feed }
 {
     bytes.iter().position(|b| *b == b'\n')
 }
 
 // Whether an LF is among the bytes. It looks at all of them, and so at several at a time.
 fn has_lf(bytes: &[u8]) -> bool
-    ensures { result ≡ false → (k : ℕ) → k < length bytes.now → slice_index bytes.now k ≢ 10 }
+    ensures { result ≡ false → (k : ℕ) → k < length bytes.now → slice_index bytes.now k ≢ line_feed }
 {
     let mut found = false;
     for b in bytes {

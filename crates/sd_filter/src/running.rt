@@ -5,7 +5,7 @@ ghost use Rattle.sd_sink.specs.Sink.{SinkTold};
 ghost use Rattle.sd_filter.specs.Told.{sink_of};
 ghost use Rattle.sd_filter.specs.Answers.{AnswersAreShort};
 ghost use Rattle.sd_filter.specs.Lines.{LinesAreCut, ended, lines};
-ghost use Rattle.sd_filter.specs.Pieces.{AnswersSplit};
+ghost use Rattle.sd_filter.specs.Splits.{AnswersSplit};
 ghost use Rattle.sd_filter.specs.Inner.Running.{Answered, Failed, HasRoom, IsReady, RoseWithin, AfterBytes};
 ghost use Rattle.sd_filter.specs.Outcome.{Outcome};
 

@@ -6,12 +6,11 @@ ghost use Rattle.sd_inherit.specs.Inner.Building.{listed};
 ghost use Rattle.sd_inherit.specs.Copies.{copies, copies_for, effective_copy, inherit_only_copy};
 ghost use Rattle.sd_inherit.specs.Derived.{sacl_of};
 
-use crate::flags::{
-    CONTAINER_INHERIT, INHERIT_ONLY, NO_PROPAGATE, OBJECT_INHERIT, copied_flags, onward_flags,
-};
+use crate::flags::{CONTAINER_INHERIT, NO_PROPAGATE, OBJECT_INHERIT, copied_flags, onward_flags};
 use crate::heirs::{differs, heir, heir_mask};
 use crate::plan::{Plan, Target};
 use sd_core::{Ace, Sid, carries};
+use sd_rights::INHERIT_ONLY;
 
 /// What a new object gets from one ACE: at most one copy for itself, and then at most one to hand on.
 #[derive(Clone, Copy)]

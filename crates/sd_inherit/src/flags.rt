@@ -3,21 +3,14 @@
 ghost use Rattle.std.specs.Prelude.{◌≡◌, ◌<◌, ◌≤◌};
 ghost use Rattle.sd_inherit.specs.Copies.{copied_flags, onward_flags};
 
+use sd_rights::{INHERITED, ONWARD};
+
 /// The places of OBJECT_INHERIT_ACE, CONTAINER_INHERIT_ACE and NO_PROPAGATE_INHERIT_ACE.
 pub const OBJECT_INHERIT: u32 = 0;
 
 pub const CONTAINER_INHERIT: u32 = 1;
 
 pub const NO_PROPAGATE: u32 = 2;
-
-/// INHERIT_ONLY_ACE.
-pub const INHERIT_ONLY: u8 = 0x8;
-
-/// INHERITED_ACE.
-const INHERITED: u8 = 0x10;
-
-/// OBJECT_INHERIT_ACE and CONTAINER_INHERIT_ACE.
-const ONWARD: u8 = 0x3;
 
 /// SUCCESSFUL_ACCESS_ACE_FLAG and FAILED_ACCESS_ACE_FLAG.
 const AUDIT: u8 = 0xc0;

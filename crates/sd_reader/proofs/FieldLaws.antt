@@ -7,7 +7,7 @@ use Rattle.sd_rights.specs.declared.kinds.AceKind.{AceKind}
 use Rattle.sd_binary.specs.Draft.{closed}
 use Rattle.sd_reader.specs.Inner.FoldedReading.{FieldsRead, begun_or_null, no_fields, take_front, with_flags}
 use Rattle.sd_reader.specs.FieldTexts.{object_reads}
-use Rattle.sd_reader.specs.Inner.Reads.{AreAceFields, HasRead}
+use Rattle.sd_reader.specs.Inner.Reads.{AreAceFields, HasReadFields}
 use Rattle.sd_view.specs.declared.control.AclFlags.{AclFlags}
 use Rattle.sd_reader.specs.declared.reading.AceFields.{AceFields}
 use Rattle.sd_reader.specs.declared.reading.AclFront.{AclFront}
@@ -15,8 +15,8 @@ use Rattle.sd_view.specs.declared.control.Which.{Which}
 use Rattle.sd_view.specs.declared.control.Which.TheVariants as which
 use Rattle.sd_reader.specs.declared.reading.FieldReader.{FieldReader}
 
-module _ (r : FieldReader) (buf : List ℕ) (t : FieldsRead) (h : HasRead r buf t) where
-  pub holds-sacl : (f : AclFlags) → HasRead (record r { sacl = f }) buf (record t { sacl = f })
+module _ (r : FieldReader) (buf : List ℕ) (t : FieldsRead) (h : HasReadFields r buf t) where
+  pub holds-sacl : (f : AclFlags) → HasReadFields (record r { sacl = f }) buf (record t { sacl = f })
   holds-sacl f = record {
     sacl = refl;
     dacl = h.dacl;
@@ -27,7 +27,7 @@ module _ (r : FieldReader) (buf : List ℕ) (t : FieldsRead) (h : HasRead r buf 
     open_acl = h.open_acl;
   }
 
-  pub holds-dacl : (f : AclFlags) → HasRead (record r { dacl = f }) buf (record t { dacl = f })
+  pub holds-dacl : (f : AclFlags) → HasReadFields (record r { dacl = f }) buf (record t { dacl = f })
   holds-dacl f = record {
     sacl = h.sacl;
     dacl = refl;
@@ -38,7 +38,7 @@ module _ (r : FieldReader) (buf : List ℕ) (t : FieldsRead) (h : HasRead r buf 
     open_acl = h.open_acl;
   }
 
-  pub holds-ace : (a : AceFields) → AreAceFields a → HasRead (record r { ace = a }) buf (record t { ace = a })
+  pub holds-ace : (a : AceFields) → AreAceFields a → HasReadFields (record r { ace = a }) buf (record t { ace = a })
   holds-ace a sound = record {
     sacl = h.sacl;
     dacl = h.dacl;
@@ -133,10 +133,3 @@ module _ (w : Which) (has_aces : Bool) (t : FieldsRead) (f : AclFront) (found : 
   dacl-taken same = front-taken w has_aces t f found is e
       ∙ ap (λ (v : Which). Ok
       (with_flags v f.flags (record t { parts = begun_or_null w f.null (closed t.parts) }))) same
-
-pub not-both : (x y : Bool) → y ≡ false → (x && y) ≡ false
-not-both true y e = e
-not-both false y e = refl
-
-pub not-first : (x y : Bool) → x ≡ false → (x && y) ≡ false
-not-first x y e = rw e refl

@@ -1,9 +1,10 @@
 -- The text of a field: what is held of it stands for the whole of it.
-use Rattle.std.proofs.Common.{◌≡◌, ℕ, ◌+◌, ◌<◌, ◌≤◌, Bool, true, false, ◌&&◌, ◌||◌, List, [], ◌∷◌, ◌++◌, length, refl, ap, ◌∙◌, arith, length-append, append_assoc}
+use Rattle.std.proofs.Common.{◌≡◌, ℕ, ◌+◌, ◌<◌, ◌≤◌, Bool, true, false, ◌||◌, List, [], ◌∷◌, ◌++◌, length, refl, ap, ◌∙◌, arith, length-append, append_assoc}
 use Rattle.std.specs.Prelude.{◌==◌, nat_lt, if◌then◌else◌, Option}
 use Rattle.std.specs.List.{list_all, list_any}
 use Rattle.std.proofs.lemmas.Bool.Decides.{nat_tests}
 use Rattle.std.proofs.Math.Dec.{eqb-suc-zero}
+use Rattle.std.proofs.lemmas.Bool.{or_parts, or_right, or_left}
 use Rattle.sd_reader.specs.declared.line.Slot.{Slot}
 use Rattle.sd_core.specs.Sid.{SecurityId}
 use Rattle.sd_reader.specs.Line.{is_blank, trim, trim_end}
@@ -33,20 +34,9 @@ pub same_bad : (t : List ℕ) → is_unreadable t ≡ true → Same t unreadable
 unfolding Same take_field
 same_bad t e domain b s = rw e refl
 
-and_first : (x y : Bool) → x ≡ false → (x && y) ≡ false
-and_first x y e = rw e refl
-
-or_parts : (x y : Bool) → (x || y) ≡ false → (x ≡ false) × (y ≡ false)
-or_parts false y e = (refl, e)
-or_parts true y e = absurd cc
-
-or_second : (x y : Bool) → y ≡ true → (x || y) ≡ true
-or_second true y e = refl
-or_second false y e = e
-
 clean_append : (t u : List ℕ) → list_any is_blank u ≡ true → list_any is_blank (t ++ u) ≡ true
 clean_append [] u e = e
-clean_append (c ∷ t) u e = or_second (is_blank c) _ (clean_append t u e)
+clean_append (c ∷ t) u e = or_right (is_blank c) _ (clean_append t u e)
 
 clean_both : (t : List ℕ) (b : ℕ) → list_any is_blank t ≡ false → is_blank b ≡ false
     → list_any is_blank (t ++ b ∷ []) ≡ false
@@ -83,15 +73,12 @@ not_long n h = grind (arith, nat_tests)
 pub long_unreadable : (t : List ℕ) (b : ℕ) (u : List ℕ) → length t ≡ 183 → is_unreadable (t ++ b ∷ u) ≡ true
 long_unreadable t b u e =
     let l : 183 < length (t ++ b ∷ u) = omega (arith, length-append t (b ∷ u)) in
-    or_second (list_any is_blank (t ++ b ∷ u)) _ (not_long _ l)
-
-or_first : (x y : Bool) → x ≡ true → (x || y) ≡ true
-or_first x y e = rw e refl
+    or_right (list_any is_blank (t ++ b ∷ u)) _ (not_long _ l)
 
 pub blank_unreadable : (t u : List ℕ) (b : ℕ) → is_blank b ≡ true → is_unreadable (t ++ b ∷ u) ≡ true
 blank_unreadable t u b e =
-    let h : list_any is_blank (b ∷ u) ≡ true = or_first (is_blank b) (list_any is_blank u) e in
-    or_first (list_any is_blank (t ++ b ∷ u)) _ (clean_append t (b ∷ u) h)
+    let h : list_any is_blank (b ∷ u) ≡ true = or_left (is_blank b) (list_any is_blank u) e in
+    or_left (list_any is_blank (t ++ b ∷ u)) _ (clean_append t (b ∷ u) h)
 
 -- one byte more, no blank
 pub same_text : (h : Held) (b : ℕ) (bs : List ℕ) → IsHeld h → is_blank b ≡ false

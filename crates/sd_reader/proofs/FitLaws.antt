@@ -1,6 +1,7 @@
 -- Which parts are given, and which ACL is open, after one field more.
 use Rattle.std.proofs.Common.{◌≡◌, ℕ, List, Option, Some, None, Bool, true, false, refl, sym, ap, ◌∙◌, subst, true≢false}
 use Rattle.std.specs.Prelude.{if◌then◌else◌, is_some, ◌&&◌, ◌||◌, not, IfOk, Result, Ok, Err}
+use Rattle.std.proofs.lemmas.Bool.{or_left, or_right, not_from_false}
 use Rattle.sd_core.specs.Ace.{AccessControlEntry}
 use Rattle.sd_core.specs.Sid.{SecurityId}
 use Rattle.sd_rights.specs.Flags.{flags_reads}
@@ -8,13 +9,14 @@ use Rattle.sd_rights.specs.Rights.{rights_reads}
 use Rattle.sd_core.specs.SidText.{sid_reads}
 use Rattle.sd_core.specs.declared.sid_text.SidFault.{SidFault}
 use Rattle.sd_view.specs.declared.acl.AclPart.TheVariants as acl
-use Rattle.sd_binary.specs.Draft.{Draft, IsOpen, IsOpenIn, acl_of, closed, more_in, with_ace}
+use Rattle.sd_binary.specs.Draft.{Draft, IsOpen, IsOpenIn, draft_acl, closed, more_in, with_ace}
 use Rattle.sd_reader.specs.Line.{same_head}
-use Rattle.sd_reader.specs.Inner.FoldedReading.{FieldsRead, ace_of, begun_or_null, fault_of, nothing_read, take_ace_field, take_field, take_front, take_readable, with_flags, with_owner_or_group, with_sid, with_trustee, with_value}
-use Rattle.sd_reader.specs.Meaning.{and_then, is_unreadable}
+use Rattle.sd_reader.specs.Inner.FoldedReading.{FieldsRead, ace_of_fields, begun_or_null, fault_of, nothing_read, take_ace_field, take_field, take_front, take_readable, with_flags, with_owner_or_group, with_sid, with_trustee, with_value}
+use Rattle.sd_rights.specs.Chains.{and_then, unless}
+use Rattle.sd_reader.specs.Meaning.{is_unreadable}
 use Rattle.sd_reader.specs.FieldTexts.{front_reads, kind_reads, object_reads}
 use Rattle.sd_reader.specs.Inner.Held.{Held, held_text}
-use Rattle.sd_reader.specs.Inner.Progress.{ended_with, is_seen, state_of, result_or, with_head}
+use Rattle.sd_reader.specs.Inner.Progress.{ended_with, is_seen, state_of, with_head}
 use Rattle.sd_reader.proofs.Steps.{seen_with}
 use Rattle.sd_reader.specs.Inner.Reads.{Fits, LineHasRead, Lacks, is_at_front, is_in_acl}
 use Rattle.sd_view.specs.declared.control.AclFlags.{AclFlags}
@@ -39,7 +41,7 @@ use Rattle.sd_view.specs.declared.control.Which.TheVariants as which
 
 -- 1. Where no fault is found, none was there, and the field was read.
 pub taken : (fault : Option SddlFault) (t u : FieldsRead) (next : FieldsRead → Result FieldsRead SddlFault)
-    → Ok u ≡ and_then (result_or t fault) next
+    → Ok u ≡ and_then (unless fault t) next
     → (fault ≡ None) × (next t ≡ Ok u)
 taken None t u next e = (refl, sym e)
 taken (Some f) t u next e = absurd cc
@@ -56,11 +58,11 @@ acl_in p o = record p { «open» = o }
 
 -- an owner or a group
 module _ (p : Draft) (s : SecurityId) where
-  acl-beside-owner : (v : Which) → acl_of v (closed (record (closed p) { owner = Some s })) ≡ acl_of v (closed p)
+  acl-beside-owner : (v : Which) → draft_acl v (closed (record (closed p) { owner = Some s })) ≡ draft_acl v (closed p)
   acl-beside-owner v = cases p.«open» v
     where
       listed : (w : Which) (aces : List AccessControlEntry) (v : Which)
-          → acl_of v (closed (record (closed (acl_in p (Some (w, aces)))) { owner = Some s })) ≡ acl_of v
+          → draft_acl v (closed (record (closed (acl_in p (Some (w, aces)))) { owner = Some s })) ≡ draft_acl v
           (closed (acl_in p (Some (w, aces))))
       listed which.Sacl aces which.Sacl = refl
       listed which.Sacl aces which.Dacl = refl
@@ -68,16 +70,16 @@ module _ (p : Draft) (s : SecurityId) where
       listed which.Dacl aces which.Dacl = refl
 
       cases : (o : Option (Which × List AccessControlEntry)) (v : Which)
-          → acl_of v (closed (record (closed (acl_in p o)) { owner = Some s })) ≡ acl_of v (closed (acl_in p o))
+          → draft_acl v (closed (record (closed (acl_in p o)) { owner = Some s })) ≡ draft_acl v (closed (acl_in p o))
       cases None which.Sacl = refl
       cases None which.Dacl = refl
       cases (Some o) v = listed o.0 o.1 v
 
-  acl-beside-group : (v : Which) → acl_of v (closed (record (closed p) { group = Some s })) ≡ acl_of v (closed p)
+  acl-beside-group : (v : Which) → draft_acl v (closed (record (closed p) { group = Some s })) ≡ draft_acl v (closed p)
   acl-beside-group v = cases p.«open» v
     where
       listed : (w : Which) (aces : List AccessControlEntry) (v : Which)
-          → acl_of v (closed (record (closed (acl_in p (Some (w, aces)))) { group = Some s })) ≡ acl_of v
+          → draft_acl v (closed (record (closed (acl_in p (Some (w, aces)))) { group = Some s })) ≡ draft_acl v
           (closed (acl_in p (Some (w, aces))))
       listed which.Sacl aces which.Sacl = refl
       listed which.Sacl aces which.Dacl = refl
@@ -85,7 +87,7 @@ module _ (p : Draft) (s : SecurityId) where
       listed which.Dacl aces which.Dacl = refl
 
       cases : (o : Option (Which × List AccessControlEntry)) (v : Which)
-          → acl_of v (closed (record (closed (acl_in p o)) { group = Some s })) ≡ acl_of v (closed (acl_in p o))
+          → draft_acl v (closed (record (closed (acl_in p o)) { group = Some s })) ≡ draft_acl v (closed (acl_in p o))
       cases None which.Sacl = refl
       cases None which.Dacl = refl
       cases (Some o) v = listed o.0 o.1 v
@@ -114,12 +116,12 @@ group-closed p = cases p.«open»
 
 -- an ACL that begins
 acl-beside-acl : (p : Draft) (w : Which) (null : Bool) (v : Which) → same_head (head.Acl w) (head.Acl v) ≡ false
-    → acl_of v (closed (begun_or_null w null (closed p))) ≡ acl_of v (closed p)
+    → draft_acl v (closed (begun_or_null w null (closed p))) ≡ draft_acl v (closed p)
 acl-beside-acl p w null v e = cases p.«open» w null v e
   where
     listed : (x : Which) (aces : List AccessControlEntry) (w : Which) (null : Bool) (v : Which)
         → same_head (head.Acl w) (head.Acl v) ≡ false
-        → acl_of v (closed (begun_or_null w null (closed (acl_in p (Some (x, aces)))))) ≡ acl_of v
+        → draft_acl v (closed (begun_or_null w null (closed (acl_in p (Some (x, aces)))))) ≡ draft_acl v
         (closed (acl_in p (Some (x, aces))))
     listed x aces which.Sacl null which.Sacl e = absurd cc
     listed x aces which.Dacl null which.Dacl e = absurd cc
@@ -134,7 +136,7 @@ acl-beside-acl p w null v e = cases p.«open» w null v e
 
     cases : (o : Option (Which × List AccessControlEntry)) (w : Which) (null : Bool) (v : Which)
         → same_head (head.Acl w) (head.Acl v) ≡ false
-        → acl_of v (closed (begun_or_null w null (closed (acl_in p o)))) ≡ acl_of v (closed (acl_in p o))
+        → draft_acl v (closed (begun_or_null w null (closed (acl_in p o)))) ≡ draft_acl v (closed (acl_in p o))
     cases None which.Sacl null which.Sacl e = absurd cc
     cases None which.Dacl null which.Dacl e = absurd cc
     cases None which.Sacl true which.Dacl e = refl
@@ -154,20 +156,20 @@ group-begun p which.Sacl true = refl
 group-begun p which.Dacl true = refl
 
 -- one ACE more in the ACL at hand
-absent-with_ace : (p : Draft) (a : AccessControlEntry) (v : Which) → acl_of v (closed p) ≡ acl.Absent
-    → acl_of v (closed (with_ace a p)) ≡ acl.Absent
+absent-with_ace : (p : Draft) (a : AccessControlEntry) (v : Which) → draft_acl v (closed p) ≡ acl.Absent
+    → draft_acl v (closed (with_ace a p)) ≡ acl.Absent
 absent-with_ace p a v e = cases p.«open» v e
   where
     listed : (w : Which) (aces : List AccessControlEntry) (v : Which)
-        → acl_of v (closed (acl_in p (Some (w, aces)))) ≡ acl.Absent
-        → acl_of v (closed (with_ace a (acl_in p (Some (w, aces))))) ≡ acl.Absent
+        → draft_acl v (closed (acl_in p (Some (w, aces)))) ≡ acl.Absent
+        → draft_acl v (closed (with_ace a (acl_in p (Some (w, aces))))) ≡ acl.Absent
     listed which.Sacl aces which.Sacl e = absurd cc
     listed which.Sacl aces which.Dacl e = e
     listed which.Dacl aces which.Sacl e = e
     listed which.Dacl aces which.Dacl e = absurd cc
 
-    cases : (o : Option (Which × List AccessControlEntry)) (v : Which) → acl_of v (closed (acl_in p o)) ≡ acl.Absent
-        → acl_of v (closed (with_ace a (acl_in p o))) ≡ acl.Absent
+    cases : (o : Option (Which × List AccessControlEntry)) (v : Which) → draft_acl v (closed (acl_in p o)) ≡ acl.Absent
+        → draft_acl v (closed (with_ace a (acl_in p o))) ≡ acl.Absent
     cases None v e = e
     cases (Some o) v e = listed o.0 o.1 v e
 
@@ -211,7 +213,7 @@ lacks-front r which.Dacl f (head.Acl v) e l = acl-beside-acl r.parts which.Dacl 
 lacks-trustee : (r : FieldsRead) (s : SecurityId) (h : Head) → Lacks h r → Lacks h (with_trustee r s)
 lacks-trustee r s (head.Sid sid_part.Owner) l = l
 lacks-trustee r s (head.Sid sid_part.Group) l = l
-lacks-trustee r s (head.Acl v) l = absent-with_ace r.parts (ace_of r.ace s) v l
+lacks-trustee r s (head.Acl v) l = absent-with_ace r.parts (ace_of_fields r.ace s) v l
 
 -- what holds of each reading with a value holds of the one that is found
 module _ (P : FieldsRead → Type 0) (u : FieldsRead) where
@@ -309,20 +311,10 @@ open-front domain r u w text e =
 open-taken : (domain : Option SecurityId) (r u : FieldsRead) (f : AceField) (text : List ℕ)
     → take_field domain r (slot.Ace f) text ≡ Ok u → IsOpen r.parts → IsOpen u.parts
 open-taken domain r u f text e o =
-    ace_field (λ x. IsOpen x.parts) domain r u f text (λ a. o) (λ s. open-with_ace r.parts (ace_of r.ace s) o)
+    ace_field (λ x. IsOpen x.parts) domain r u f text (λ a. o) (λ s. open-with_ace r.parts (ace_of_fields r.ace s) o)
     (readable domain r u (slot.Ace f) text e)
 
 -- 4. Places.
-
-or_left : (x y : Bool) → x ≡ true → (x || y) ≡ true
-or_left x y e = rw e refl
-
-or_right : (x y : Bool) → y ≡ true → (x || y) ≡ true
-or_right true y e = refl
-or_right false y e = e
-
-not_false : (x : Bool) → x ≡ false → not x ≡ true
-not_false x e = rw e refl
 
 -- a part that was not seen is not at hand
 not-here : (p : State) (seen : Seen) (t : FieldsRead) → Fits p seen t → (h : Head) → is_seen seen h ≡ false
@@ -346,7 +338,7 @@ fits-first domain w seen t u text e k = record {
   lacks = λ h f.
       let unseen = not_or_false (is_seen seen h) f in
       lacks-taken domain t u (slot.AclFlags w true) text h e (not-here (state.AclFlags w) seen t k h unseen)
-      (k.lacks h (or_left (not (is_seen seen h)) _ (not_false (is_seen seen h) unseen)));
+      (k.lacks h (or_left (not (is_seen seen h)) _ (not_from_false (is_seen seen h) unseen)));
   opened = λ _. open-front domain t u w text e;
 }
 
@@ -363,14 +355,14 @@ fits-field domain f p seen t u text e none k = record {
   lacks = λ h g.
       let unseen = not_or_false (is_seen seen h) (sym (ap (λ b. not (is_seen seen h) || b) (none h)) ∙ g) in
       lacks-taken domain t u (slot.Ace f) text h e refl
-      (k.lacks h (or_left (not (is_seen seen h)) _ (not_false (is_seen seen h) unseen)));
+      (k.lacks h (or_left (not (is_seen seen h)) _ (not_from_false (is_seen seen h) unseen)));
   opened = λ _. open-taken domain t u f text e (k.opened refl);
 }
 
 -- 5. What a reader keeps.
 
 module _ (fault fault' : Option SddlFault) (t u : FieldsRead) (next : FieldsRead → Result FieldsRead SddlFault)
-    (e : result_or u fault' ≡ and_then (result_or t fault) next) where
+    (e : unless fault' u ≡ and_then (unless fault t) next) where
   -- where no fault is found, none was there, and the field was read
   pub none-before : fault' ≡ None → fault ≡ None
   none-before none = (taken fault t u next (rw none at e)).0
@@ -430,24 +422,24 @@ fits-head p seen t u h keeps unseen k = record {
 }
   where
     lacking : (x : Head) → is_seen seen x ≡ false → Lacks x u
-    lacking x e = keeps x e (k.lacks x (or_left (not (is_seen seen x)) _ (not_false (is_seen seen x) e)))
+    lacking x e = keeps x e (k.lacks x (or_left (not (is_seen seen x)) _ (not_from_false (is_seen seen x) e)))
 
     by_same : (x : Head) (b : Bool) → same_head h x ≡ b
         → (not (is_seen seen x || same_head h x) || same_head h x) ≡ true → Lacks x u
     by_same x true e f = subst (λ (y : Head). Lacks y u) (same-head h x e) (lacking h unseen)
     by_same x false e f = lacking x (not_or (is_seen seen x) (same_head h x) f e)
 
-lacks-same : (h : Head) (f : Option SddlFault) (t u : FieldsRead) → Ok u ≡ result_or t f → Lacks h t → Lacks h u
-lacks-same h f t u e l = if-ok (λ y. Lacks h y) u (result_or t f) (by_fault f) (sym e)
+lacks-same : (h : Head) (f : Option SddlFault) (t u : FieldsRead) → Ok u ≡ unless f t → Lacks h t → Lacks h u
+lacks-same h f t u e l = if-ok (λ y. Lacks h y) u (unless f t) (by_fault f) (sym e)
   where
-    by_fault : (f : Option SddlFault) → IfOk (result_or t f) (λ y. Lacks h y)
+    by_fault : (f : Option SddlFault) → IfOk (unless f t) (λ y. Lacks h y)
     by_fault None = l
     by_fault (Some g) = tt
 
 -- what a part gives that ends here
 pub lacks-ended : (domain : Option SecurityId) (p : State) (seen : Seen) (x : Held) (fault fault' : Option SddlFault)
     (t u : FieldsRead)
-    → result_or u fault' ≡ ended_with domain p x (result_or t fault) → fault' ≡ None → Fits p seen t → (k : Head)
+    → unless fault' u ≡ ended_with domain p x (unless fault t) → fault' ≡ None → Fits p seen t → (k : Head)
     → is_seen seen k ≡ false → Lacks k t → Lacks k u
 lacks-ended domain state.Before seen x fault fault' t u e none k h n l = lacks-same h fault t u (rw none at e) l
 lacks-ended domain (state.Sid p) seen x fault fault' t u e none k h n l =
@@ -462,7 +454,7 @@ lacks-ended domain (state.Ace f) seen x fault fault' t u e none k h n l = lacks-
 -- where no fault is found at the end of a part, none was there
 pub none-ended : (domain : Option SecurityId) (p : State) (x : Held) (fault fault' : Option SddlFault)
     (t u : FieldsRead)
-    → result_or u fault' ≡ ended_with domain p x (result_or t fault) → fault' ≡ None → fault ≡ None
+    → unless fault' u ≡ ended_with domain p x (unless fault t) → fault' ≡ None → fault ≡ None
 none-ended domain p x None fault' t u e none = refl
 none-ended domain state.Before x (Some f) fault' t u e none = absurd (let no : Ok u ≡ Err f = (rw none at e) in cc)
 none-ended domain (state.Sid p) x (Some f) fault' t u e none = absurd (let no : Ok u ≡ Err f = (rw none at e) in cc)

@@ -3,7 +3,7 @@ use Rattle.std.proofs.Common.{◌≡◌, ◌≤◌, ℕ, ◌+◌, Bool, true, fa
 use Rattle.std.specs.Prelude.{nat_lt, not, if◌then◌else◌}
 use Rattle.std.specs.List.{list_all}
 use Rattle.std.proofs.lemmas.Bool.Decides.{nat_tests}
-use Rattle.sd_rights.proofs.Bools.{both}
+use Rattle.std.proofs.lemmas.Bool.{and_parts, or_parts}
 use Rattle.sd_core.specs.Ace.{AccessControlEntry}
 use Rattle.sd_core.specs.Sid.{SecurityId}
 use Rattle.sd_view.specs.Acl.{acl_size, aces_size}
@@ -16,9 +16,10 @@ use Rattle.sd_view.specs.declared.control.Which.{Which}
 use Rattle.sd_view.specs.declared.control.Which.TheVariants as which
 use Rattle.std.specs.Option.{option_or}
 use Rattle.sd_reader.specs.FieldTexts.{front_reads}
-use Rattle.sd_reader.specs.Inner.FoldedReading.{FieldsRead, described, fields_of, finished, folded, large_in, nothing_read, read_fields, reads_as, verdict}
-use Rattle.sd_reader.specs.Line.{Piece, Section, are_shaped, front, has_head, has_twice, is_blank_piece, is_paired, is_shaped, parts_of, same_head, trim}
-use Rattle.sd_reader.specs.Meaning.{Said, acl_said, and_then, body_reads, control_flags, descriptor_of, each, entries_read, field_reads, first_large, means, section_reads, sections_mean, sid_field_reads, sid_said, unless_large, picked_acl, picked_flags, picked_sid}
+use Rattle.sd_reader.specs.Inner.FoldedReading.{FieldsRead, described, fields_of, finished, folded, large_in, nothing_read, read_fields, reads_as, if_shaped}
+use Rattle.sd_reader.specs.Line.{Piece, Section, are_shaped, front, has_head, has_twice, is_blank_piece, is_paired, is_shaped, sections_of, same_head, trim}
+use Rattle.sd_rights.specs.Chains.{and_then}
+use Rattle.sd_reader.specs.Meaning.{Said, acl_said, body_reads, control_flags, descriptor_of, each, acl_part_reads, field_reads, first_large, means, section_reads, sections_mean, sid_field_reads, sid_said, unless_large, picked_acl, picked_flags, picked_sid}
 use Rattle.sd_view.specs.Control.{bit_if}
 use Rattle.sd_view.specs.declared.control.AclFlags.{AclFlags}
 use Rattle.sd_reader.specs.declared.fault.SddlFault.TheVariants as fault
@@ -226,17 +227,13 @@ swapped (acl_said which.Dacl f a) (sid_said sid_part.Group t) g e = refl
 swapped (acl_said which.Dacl f a) (acl_said which.Sacl k b) g e = refl
 swapped (acl_said which.Dacl f a) (acl_said which.Dacl k b) g e = absurd cc
 
-neither : (x y : Bool) → (x || y) ≡ false → (x ≡ false) × (y ≡ false)
-neither false y e = (refl, e)
-neither true y e = absurd cc
-
 -- the first one may be put last
 put-last : (xs : List Said) (x : Said) (g : Gathered) → is_said (head_said x) xs ≡ false
     → with_those xs (with_one x g) ≡ with_one x (with_those xs g)
 unfolding with_those
 put-last [] x g e = refl
 put-last (y ∷ ys) x g e =
-    let parts = neither (same_head (head_said x) (head_said y)) _ e in
+    let parts = or_parts (same_head (head_said x) (head_said y)) _ e in
     ap (with_those ys) (swapped x y g parts.0) ∙ put-last ys x (with_one y g) parts.1
 
 abbrev picked : List Said → Gathered
@@ -259,7 +256,7 @@ all-picked : (xs : List Said) → is_twice xs ≡ false → with_those xs (picke
 unfolding with_those
 all-picked [] e = refl
 all-picked (x ∷ xs) e =
-    let parts = neither (is_said (head_said x) xs) _ e in
+    let parts = or_parts (is_said (head_said x) xs) _ e in
     put-last xs x (picked []) parts.0 ∙ ap (with_one x) (all-picked xs parts.1) ∙ picked-one x xs
 
 -- what is said has the heads of the sections
@@ -282,9 +279,9 @@ module _ (domain : Option SecurityId) where
       by_entries f (Err g) e = absurd cc
 
       by_front : (y : Found AclFront)
-          → and_then y (λ f. and_then (entries_read domain f.null body) (λ a. Ok (acl_said w f.flags a))) ≡ Ok x
+          → and_then y (λ f. and_then (acl_part_reads domain f.null body) (λ a. Ok (acl_said w f.flags a))) ≡ Ok x
           → head_said x ≡ head.Acl w
-      by_front (Ok f) e = by_entries f.flags (entries_read domain f.null body) e
+      by_front (Ok f) e = by_entries f.flags (acl_part_reads domain f.null body) e
       by_front (Err g) e = absurd cc
 
   -- what a list of sections says: the first one, and the others
@@ -355,15 +352,16 @@ sections-finished domain ss shaped once =
     by_said (Ok xs) e = all-finished xs (never-twice domain ss xs e ∙ once)
     by_said (Err f) e = refl
 
-line-shaped : (text : List ℕ) → is_shaped text ≡ true → are_shaped (parts_of text).parts ≡ true
-line-shaped text e = (both (list_all is_blank_piece (parts_of text).before) _ (both (is_paired false text) _ e).1).1
+line-shaped : (text : List ℕ) → is_shaped text ≡ true → are_shaped (sections_of text).parts ≡ true
+line-shaped text e =
+    (and_parts (list_all is_blank_piece (sections_of text).before) _ (and_parts (is_paired false text) _ e).1).1
 
 pub folded-means : (text : List ℕ) (domain : Option SecurityId) → folded text domain ≡ means text domain
-unfolding folded means reads_as verdict finished
+unfolding folded means reads_as if_shaped finished
 folded-means text domain = by_shape (is_shaped text) refl
   where
     ss : List Section
-    ss = (parts_of text).parts
+    ss = (sections_of text).parts
 
     read : Found FieldsRead
     read = read_fields domain (fields_of ss) nothing_read
@@ -377,7 +375,7 @@ folded-means text domain = by_shape (is_shaped text) refl
     by_twice false shaped e = sections-finished domain ss shaped e
 
     by_shape : (shaped : Bool) → is_shaped text ≡ shaped
-        → finished (verdict shaped (has_twice ss) read)
+        → finished (if_shaped shaped (has_twice ss) read)
         ≡ (if not shaped then Err fault.Shape else (if has_twice ss then Err fault.PartTwice else meant))
     by_shape true e = by_twice (has_twice ss) (line-shaped text e) refl
     by_shape false e = refl

@@ -4,7 +4,7 @@ use Rattle.std.specs.Prelude.{◌==◌, if◌then◌else◌}
 use Rattle.std.specs.List.{AllByRecursion, flat_map}
 use Rattle.std.specs.Option.{ok_or}
 use Rattle.std.proofs.lemmas.Bool.Decides.{nat_tests}
-use Rattle.sd_rights.proofs.Bools.{both}
+use Rattle.std.proofs.lemmas.Bool.{and_parts}
 use Rattle.sd_core.specs.Ace.{AccessControlEntry}
 use Rattle.sd_rights.specs.Flags.{flags_reads}
 use Rattle.sd_rights.specs.Rights.{rights_reads}
@@ -17,9 +17,10 @@ use Rattle.sd_view.specs.declared.acl.AclPart.{AclPart}
 use Rattle.sd_view.specs.declared.acl.AclPart.TheVariants as acl
 use Rattle.sd_view.specs.declared.control.Which.{Which}
 use Rattle.sd_reader.specs.FieldTexts.{front_reads, kind_reads, object_reads}
-use Rattle.sd_reader.specs.Inner.FoldedReading.{Field, FieldsRead, ace_fields, ace_fields_from, ace_of, fields_in, fields_of, grown, no_fields, read_fields, take_ace_field, take_field, take_front, with_flags, with_owner_or_group, with_sid, with_trustee, with_value}
-use Rattle.sd_reader.specs.Line.{Piece, Section, ace, ace_cuts, aces, are_aces, are_shaped, byte, cuts, front, has_aces, has_six_fields, is_acl_body, is_blank, is_body, trim}
-use Rattle.sd_reader.specs.Meaning.{Said, acl_said, ace_reads, and_then, body_reads, each, entries_read, field_reads, is_unreadable, section_reads, sid_field_reads, sid_or_fault, sid_said}
+use Rattle.sd_reader.specs.Inner.FoldedReading.{Field, FieldsRead, ace_fields, ace_fields_from, ace_of_fields, fields_in, fields_of, grown, no_fields, read_fields, take_ace_field, take_field, take_front, with_flags, with_owner_or_group, with_sid, with_trustee, with_value}
+use Rattle.sd_reader.specs.Line.{Piece, Section, ace, ace_cuts, aces, are_aces, are_shaped, byte, cut_at_semicolons, front, has_aces, has_six_fields, is_acl_body, is_blank, is_body, trim}
+use Rattle.sd_rights.specs.Chains.{and_then}
+use Rattle.sd_reader.specs.Meaning.{Said, acl_said, ace_reads, body_reads, each, acl_part_reads, field_reads, is_unreadable, section_reads, sid_field_reads, sid_or_fault, sid_said}
 use Rattle.sd_view.specs.declared.control.AclFlags.{AclFlags}
 use Rattle.sd_reader.specs.declared.fault.SddlFault.{SddlFault}
 use Rattle.sd_reader.specs.declared.fault.SddlFault.TheVariants as fault
@@ -107,14 +108,14 @@ with_fields r a = record r { ace = a }
 module _ (domain : Option SecurityId) (sid : List ℕ) where
   -- what the last fields give to an ACE
   abbrev from_sid : AceFields → Found AccessControlEntry
-  from_sid a = and_then (sid_field_reads domain sid) (λ s. Ok (ace_of a s))
+  from_sid a = and_then (sid_field_reads domain sid) (λ s. Ok (ace_of_fields a s))
 
   sid-last : (r : FieldsRead)
       → read_fields domain (field_at field.Sid sid ∷ []) r ≡ and_then (from_sid r.ace) (entry_in r)
   unfolding take_field take_ace_field
   sid-last r =
       sid-step (with_trustee r) (is_unreadable sid) (sid_reads sid domain)
-      (read_fields domain []) (λ s. Ok (ace_of r.ace s)) (entry_in r) (λ s. refl)
+      (read_fields domain []) (λ s. Ok (ace_of_fields r.ace s)) (entry_in r) (λ s. refl)
 
   module _ (inherited : List ℕ) where
     abbrev from_inherited : AceFields → Found AccessControlEntry
@@ -208,7 +209,7 @@ cuts-read domain r kind (a ∷ b ∷ c ∷ d ∷ e ∷ f ∷ others) six = absur
 
 ace-read : (domain : Option SecurityId) (r : FieldsRead) (text : List ℕ) → has_six_fields text ≡ true
     → read_fields domain (ace_fields text) r ≡ and_then (ace_reads domain (ace_cuts text)) (entry_in r)
-ace-read domain r text six = cuts-read domain r (cuts text).first (cuts text).others six
+ace-read domain r text six = cuts-read domain r (cut_at_semicolons text).first (cut_at_semicolons text).others six
 
 -- 3. ACEs, one after the other.
 
@@ -265,7 +266,7 @@ module _ (domain : Option SecurityId) (w : Which) (body : List Piece) (r : Field
   acl_aces x = aces_folded domain (aces body) x
 
   abbrev front_said : AclFront → Found Said
-  front_said f = and_then (entries_read domain f.null body) (λ a. Ok (acl_said w f.flags a))
+  front_said f = and_then (acl_part_reads domain f.null body) (λ a. Ok (acl_said w f.flags a))
 
   null-read : (f : AclFlags) (has : Bool) → has_aces body ≡ has
       → and_then (if has then Err fault.Flags else Ok (given w f acl.Null r)) acl_aces
@@ -276,7 +277,7 @@ module _ (domain : Option SecurityId) (w : Which) (body : List Piece) (r : Field
   front-read : (f : AclFlags) (null : Bool)
       → and_then (take_front w (has_aces body) r (Some (record { flags = f; null = null }))) acl_aces
       ≡ and_then (front_said (record { flags = f; null = null })) (said_in r)
-  unfolding take_front entries_read
+  unfolding take_front acl_part_reads
   front-read f true = null-read f (has_aces body) refl
   front-read f false =
       aces-read domain (with_flags w f (record r { parts = begun w (closed r.parts) })) (aces body) six
@@ -292,12 +293,12 @@ module _ (domain : Option SecurityId) (w : Which) (body : List Piece) (r : Field
 
 aces-six : (body : List Piece) → are_aces body ≡ true → HaveSix (aces body)
 aces-six [] h = tt
-aces-six (byte b ∷ ps) h = aces-six ps (both (is_blank b) _ h).1
-aces-six (ace a ∷ ps) h = let parts = both (has_six_fields a) _ h in (parts.0, aces-six ps parts.1)
+aces-six (byte b ∷ ps) h = aces-six ps (and_parts (is_blank b) _ h).1
+aces-six (ace a ∷ ps) h = let parts = and_parts (has_six_fields a) _ h in (parts.0, aces-six ps parts.1)
 
 acl-six : (body : List Piece) → is_acl_body body ≡ true → HaveSix (aces body)
 acl-six [] h = tt
-acl-six (byte b ∷ ps) h = acl-six ps (both _ (is_acl_body ps) h).1
+acl-six (byte b ∷ ps) h = acl-six ps (and_parts _ (is_acl_body ps) h).1
 acl-six (ace a ∷ ps) h = aces-six (ace a ∷ ps) h
 
 section-read : (domain : Option SecurityId) (r : FieldsRead) (h : Head) (body : List Piece) → is_body h body ≡ true
@@ -322,7 +323,7 @@ pub sections-read : (domain : Option SecurityId) (r : FieldsRead) (ss : List Sec
 unfolding with_all
 sections-read domain r [] h = refl
 sections-read domain r (s ∷ ss) h =
-    let parts = both (is_body s.head s.body) _ h in
+    let parts = and_parts (is_body s.head s.body) _ h in
     read-append domain (fields_in s.head s.body) (fields_of ss) r
     ∙ ap (λ (x : Found FieldsRead). and_then x (read_fields domain (fields_of ss)))
     (section-read domain r s.head s.body parts.0)

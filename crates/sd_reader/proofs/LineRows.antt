@@ -18,13 +18,13 @@ use Rattle.sd_view.specs.declared.control.Which.TheVariants as which
 use Rattle.sd_reader.specs.declared.fault.SddlFault.{SddlFault}
 use Rattle.sd_view.specs.Control.{no_flags}
 use Rattle.sd_reader.specs.FieldTexts.{front_reads, kind_reads, object_reads}
-use Rattle.sd_reader.specs.Meaning.{Said, acl_said, ace_reads, body_reads, each, entries_read, first_large, means, section_reads, sections_mean}
+use Rattle.sd_reader.specs.Meaning.{Said, acl_said, ace_reads, body_reads, each, acl_part_reads, first_large, means, section_reads, sections_mean}
 use Rattle.sd_reader.specs.Line.{Section}
 use Rattle.sd_reader.specs.declared.fault.SddlFault.TheVariants as fault
 
 -- `unfolding read` lets `refl` compute a row
 read_but_guids : Unit {0}
-unfolding kind_entry kind_letters kind_named means body_reads entries_read ace_reads front_reads kind_reads
+unfolding kind_entry kind_letters kind_named means body_reads acl_part_reads ace_reads front_reads kind_reads
     object_reads flags_reads rights_reads run_of
 read_but_guids = tt
 

@@ -1,9 +1,9 @@
 -- A descriptor that a line means keeps the limits of a descriptor's fields.
 use Rattle.std.proofs.Common.{◌≡◌, ◌<◌, ℕ, ◌+◌, ◌*◌, ◌^◌, List, [], ◌∷◌, ◌++◌, Option, Some, None, IfSome, Result, Ok, Err, IfOk, Bool, true, false, refl, subst, arith}
 use Rattle.std.specs.Prelude.{◌&&◌, nat_lt, if◌then◌else◌}
-use Rattle.std.specs.List.{AllByRecursion}
 use Rattle.std.specs.Option.{option_map, option_or}
 use Rattle.std.proofs.lemmas.Bool.Decides.{nat_tests}
+use Rattle.sd_binary.proofs.Building.{all-more}
 use Rattle.sd_core.specs.Ace.{AccessControlEntry, IsAce, IsGuid}
 use Rattle.sd_rights.specs.Kinds.{is_object}
 use Rattle.sd_rights.specs.Flags.{flags_reads}
@@ -23,9 +23,10 @@ use Rattle.sd_view.specs.declared.acl.AclPart.{AclPart}
 use Rattle.sd_view.specs.declared.acl.AclPart.TheVariants as acl
 use Rattle.sd_view.specs.declared.control.Which.{Which}
 use Rattle.sd_view.specs.declared.control.Which.TheVariants as which
-use Rattle.sd_reader.specs.Inner.FoldedReading.{Field, FieldsRead, ace_of, begun_or_null, described, fault_of, fields_of, finished, folded, large_in, no_fields, nothing_read, read_fields, reads_as, take_ace_field, take_field, take_front, take_readable, verdict, with_flags, with_owner_or_group, with_sid, with_trustee, with_value}
-use Rattle.sd_reader.specs.Line.{has_twice, is_shaped, parts_of}
-use Rattle.sd_reader.specs.Meaning.{and_then, control_flags, is_unreadable, means, unless_large}
+use Rattle.sd_reader.specs.Inner.FoldedReading.{Field, FieldsRead, ace_of_fields, begun_or_null, described, fault_of, fields_of, finished, folded, large_in, no_fields, nothing_read, read_fields, reads_as, take_ace_field, take_field, take_front, take_readable, if_shaped, with_flags, with_owner_or_group, with_sid, with_trustee, with_value}
+use Rattle.sd_reader.specs.Line.{has_twice, is_shaped, sections_of}
+use Rattle.sd_rights.specs.Chains.{and_then}
+use Rattle.sd_reader.specs.Meaning.{control_flags, is_unreadable, means, unless_large}
 use Rattle.sd_reader.specs.FieldTexts.{front_reads, kind_reads, object_reads}
 use Rattle.sd_reader.specs.Inner.Reads.{AreAceFields}
 use Rattle.sd_view.specs.declared.control.AclFlags.{AclFlags}
@@ -160,7 +161,7 @@ front-keeps w has_aces r (Some f) h = by_test (f.null && has_aces)
     by_test true = tt
     by_test false = flags-keep w f.flags _ (begun-keeps w f.null r h)
 
-is-ace : (f : AceFields) (s : SecurityId) → AreFields f → IsSid s → IsAce (ace_of f s)
+is-ace : (f : AceFields) (s : SecurityId) → AreFields f → IsSid s → IsAce (ace_of_fields f s)
 is-ace f s h i = record {
   flags = h.flags;
   clear = h.sound.clear;
@@ -170,11 +171,6 @@ is-ace f s h i = record {
   inherited = h.inherited;
   sid = i;
 }
-
-each-more : (aces : List AccessControlEntry) (a : AccessControlEntry) → AllByRecursion IsAce aces → IsAce a
-    → AllByRecursion IsAce (aces ++ a ∷ [])
-each-more [] a h k = (k, tt)
-each-more (b ∷ others) a h k = (h.0, each-more others a h.1 k)
 
 neither : (x y : Option Which) → option_or x y ≡ None → (x ≡ None) × (y ≡ None)
 neither None y e = (refl, e)
@@ -191,19 +187,19 @@ fits-still w aces e = by_test (nat_lt 65535 (acl_size aces)) refl e
 open-more : (a : AccessControlEntry) (o : Option (Which × List AccessControlEntry)) → IsAce a → IsOpened o
     → large_in (more_in a o) ≡ None → IsOpened (more_in a o)
 open-more a None k h e = tt
-open-more a (Some o) k h e = record { each = each-more o.1 a h.each k; fits = fits-still o.0 (o.1 ++ a ∷ []) e }
+open-more a (Some o) k h e = record { each = all-more o.1 a h.each k; fits = fits-still o.0 (o.1 ++ a ∷ []) e }
 
 trustee-keeps : (r : FieldsRead) (s : SecurityId) → IsSid s → IsReading r → IsReading (with_trustee r s)
 trustee-keeps r s i h = record {
   sids = record { owner = h.sids.owner; group = h.sids.group };
   ace = h.ace;
   acls = λ e.
-      let parts = neither r.large (large_in (more_in (ace_of r.ace s) r.parts.«open»)) e in
+      let parts = neither r.large (large_in (more_in (ace_of_fields r.ace s) r.parts.«open»)) e in
       let before = h.acls parts.0 in
       record {
         sacl = before.sacl;
         dacl = before.dacl;
-        opened = open-more (ace_of r.ace s) r.parts.«open»
+        opened = open-more (ace_of_fields r.ace s) r.parts.«open»
             (is-ace r.ace s h.ace i) before.opened parts.1;
       };
 }
@@ -421,19 +417,19 @@ finished-limits (Ok r) h = by_large r.large refl
     by_large None e = described-limits r h e
     by_large (Some w) e = tt
 
-verdict-keeps : (shaped twice : Bool) (read : Result FieldsRead SddlFault) → IfOk read IsReading
-    → IfOk (verdict shaped twice read) IsReading
-unfolding verdict
-verdict-keeps true true read h = tt
-verdict-keeps true false read h = h
-verdict-keeps false twice read h = tt
+if_shaped-keeps : (shaped twice : Bool) (read : Result FieldsRead SddlFault) → IfOk read IsReading
+    → IfOk (if_shaped shaped twice read) IsReading
+unfolding if_shaped
+if_shaped-keeps true true read h = tt
+if_shaped-keeps true false read h = h
+if_shaped-keeps false twice read h = tt
 
 folded-limits : (text : List ℕ) (domain : Option SecurityId) → IfSome domain IsSid
     → IfOk (folded text domain) IsDescriptor
 unfolding folded reads_as
 folded-limits text domain is =
-    finished-limits _ (verdict-keeps (is_shaped text) (has_twice (parts_of text).parts) _
-    (fields-keep domain is (fields_of (parts_of text).parts) nothing_read nothing-is))
+    finished-limits _ (if_shaped-keeps (is_shaped text) (has_twice (sections_of text).parts) _
+    (fields-keep domain is (fields_of (sections_of text).parts) nothing_read nothing-is))
 
 -- what a line means under a SID of a domain, or none
 pub line-limits : (text : List ℕ) (domain : Option SecurityId) → IfSome domain IsSid

@@ -12,12 +12,12 @@ use Rattle.std.proofs.lemmas.Bool.Decides.{nat_tests}
 use Rattle.sd_rights.specs.Flags.{flags_reads}
 use Rattle.sd_rights.specs.Kinds.{kind_entry, kind_letters}
 use Rattle.sd_rights.specs.Names.{bits_named, joined, run_of}
-use Rattle.sd_rights.specs.Rights.{after_zero, all_rights, number, rights_reads, short_rights_reads}
+use Rattle.sd_rights.specs.Rights.{after_zero, all_rights, mask_reads, rights_reads, short_rights_reads}
 use Rattle.sd_rights.specs.declared.flags.TheConstants.{FLAGS}
 use Rattle.sd_rights.specs.declared.kinds.AceKind.{AceKind}
 use Rattle.sd_rights.specs.declared.kinds.AceKind.TheVariants as kinds
 use Rattle.sd_rights.specs.declared.names.NamedBits.{NamedBits}
-use Rattle.sd_rights.proofs.Bools.{both}
+use Rattle.std.proofs.lemmas.Bool.{and_parts}
 use Rattle.sd_rights.proofs.KindLaws.{kind_named-some, letters-few}
 use Rattle.sd_core.specs.GuidText.{guid_reads}
 use Rattle.sd_core.specs.SidText.{is_sid_byte, sid_front}
@@ -60,7 +60,7 @@ digits-plain : (base : ℕ) (text : List ℕ) → base ≤ 36 → list_all (λ c
     → list_all is_plain_inside text ≡ true
 digits-plain base [] most all = refl
 digits-plain base (b ∷ bs) most all =
-    let parts = both (is_digit b base) _ all in
+    let parts = and_parts (is_digit b base) _ all in
     rw (digit-plain b base most parts.0) (digits-plain base bs most parts.1)
 
 -- 2. Kinds.
@@ -76,7 +76,7 @@ spelled [] [] is all = (refl, refl)
 spelled [] (b ∷ bs) is all = absurd cc
 spelled (a ∷ others) [] is all = absurd cc
 spelled (a ∷ others) (b ∷ bs) is all =
-    let parts = both (nat_le 97 (to_ascii_lowercase a)) _ all in
+    let parts = and_parts (nat_le 97 (to_ascii_lowercase a)) _ all in
     let first : to_ascii_lowercase a ≡ to_ascii_lowercase b = cc in
     let next : map to_ascii_lowercase others ≡ map to_ascii_lowercase bs = cc in
     let rest = spelled others bs next parts.1 in
@@ -107,8 +107,8 @@ named-plain : (table : List NamedBits) → list_all are_letters table ≡ true �
 unfolding are_letters
 named-plain [] all a b n is = absurd cc
 named-plain (e ∷ es) all a b n is =
-    let parts = both (are_letters e) _ all in
-    let least = both (nat_le 60 e.first) (nat_le 60 e.second) parts.0 in
+    let parts = and_parts (are_letters e) _ all in
+    let least = and_parts (nat_le 60 e.first) (nat_le 60 e.second) parts.0 in
     by_test (e.first == to_ascii_uppercase a && e.second == to_ascii_uppercase b) refl least.0 least.1
     (λ h. named-plain es parts.1 a b n h) is
   where
@@ -118,7 +118,7 @@ named-plain (e ∷ es) all a b n is =
         → (if x then Some e.bits else bits_named es a b) ≡ Some n
         → (is_plain_inside a ≡ true) × (is_plain_inside b ≡ true)
     by_test true f first second later g =
-        let same = both (e.first == to_ascii_uppercase a) _ f in
+        let same = and_parts (e.first == to_ascii_uppercase a) _ f in
         (upper-least e.first a first same.0, upper-least e.second b second same.1)
     by_test false f first second later g = later g
 
@@ -149,7 +149,7 @@ rights-letters = refl
 
 -- 4. Access rights.
 
-number-plain : (base : ℕ) (text : List ℕ) (n : ℕ) → base ≤ 36 → number base text ≡ Some n
+number-plain : (base : ℕ) (text : List ℕ) (n : ℕ) → base ≤ 36 → mask_reads base text ≡ Some n
     → list_all is_plain_inside text ≡ true
 number-plain base text n most is =
     by_test (nat_lt 0 (length text)) (list_all (λ c. is_digit c base) text) (nat_lt (digits_value base text) (2 ^ 32))
@@ -166,7 +166,7 @@ after-zero-plain : (text : List ℕ) (n : ℕ) → after_zero text ≡ Some n �
 after-zero-plain [] n is = refl
 after-zero-plain (c ∷ cs) n is = by_test (c == 120 || c == 88) refl is
   where
-    by_test : (x : Bool) → (c == 120 || c == 88) ≡ x → (if x then number 16 cs else number 8 (c ∷ cs)) ≡ Some n
+    by_test : (x : Bool) → (c == 120 || c == 88) ≡ x → (if x then mask_reads 16 cs else mask_reads 8 (c ∷ cs)) ≡ Some n
         → list_all is_plain_inside (c ∷ cs) ≡ true
     by_test true e f = rw (plain-letter c (grind (arith, nat_tests))) (number-plain 16 cs n (omega arith) f)
     by_test false e f = number-plain 8 (c ∷ cs) n (omega arith) f
@@ -176,7 +176,7 @@ short-plain [] n is = refl
 short-plain (c ∷ cs) n is = by_test (is_digit c 10) (c == 48) refl refl is
   where
     by_test : (d z : Bool) → is_digit c 10 ≡ d → (c == 48) ≡ z
-        → (if d then (if z then after_zero cs else number 10 (c ∷ cs)) else run_of all_rights (c ∷ cs)) ≡ Some n
+        → (if d then (if z then after_zero cs else mask_reads 10 (c ∷ cs)) else run_of all_rights (c ∷ cs)) ≡ Some n
         → list_all is_plain_inside (c ∷ cs) ≡ true
     by_test true true d z f = rw (digit-plain c 10 (omega arith) d) (after-zero-plain cs n f)
     by_test true false d z f = number-plain 10 (c ∷ cs) n (omega arith) f
@@ -251,9 +251,9 @@ module _ (s : List ℕ) (hyphens : has_hyphens s ≡ true) (digits : list_all is
 
   hyphen-at : (k : ℕ) → is_hyphen_place k ≡ true → is_plain_inside (get_or s k 0) ≡ true
   hyphen-at k is =
-      let four = both _ (slice_index s 23 == 45) hyphens in
-      let three = both _ (slice_index s 18 == 45) four.0 in
-      let two = both (slice_index s 8 == 45) (slice_index s 13 == 45) three.0 in
+      let four = and_parts _ (slice_index s 23 == 45) hyphens in
+      let three = and_parts _ (slice_index s 18 == 45) four.0 in
+      let two = and_parts (slice_index s 8 == 45) (slice_index s 13 == 45) three.0 in
       by_place two.0 two.1 three.1 four.1 (k == 8) (k == 13) (k == 18) (k == 23) refl refl refl refl
     where
       by_place : (slice_index s 8 == 45) ≡ true → (slice_index s 13 == 45) ≡ true → (slice_index s 18 == 45) ≡ true

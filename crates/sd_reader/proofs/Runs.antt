@@ -1,11 +1,11 @@
 -- Bytes that only go onto the text of the field at hand, taken all at once.
-use Rattle.std.proofs.Common.{◌≡◌, ℕ, ◌+◌, ◌<◌, ◌≤◌, Bool, true, false, ◌&&◌, ◌||◌, List, [], ◌∷◌, ◌++◌, length, take, drop, ◌-◌, refl, ap, sym, ◌∙◌, arith, append_assoc, length-append, true≢false}
+use Rattle.std.proofs.Common.{◌≡◌, ℕ, ◌+◌, ◌<◌, ◌≤◌, Bool, true, false, ◌||◌, List, [], ◌∷◌, ◌++◌, length, take, drop, refl, ap, sym, ◌∙◌, arith, append_assoc, length-append, true≢false}
 use Rattle.std.specs.Prelude.{◌==◌, not, if◌then◌else◌, Result, Option, Some, None}
 use Rattle.std.specs.List.{list_all}
 use Rattle.std.specs.Option.{is_none, is_some}
 use Rattle.std.proofs.lemmas.List.{take-append-drop}
 use Rattle.std.proofs.lemmas.Bool.Decides.{nat_tests}
-use Rattle.std.proofs.lemmas.Grind.{common_steps}
+use Rattle.std.proofs.lemmas.Bool.{and_parts}
 use Rattle.sd_core.specs.Sid.{SecurityId}
 use Rattle.sd_reader.specs.declared.fault.SddlFault.{SddlFault}
 use Rattle.sd_reader.specs.declared.line.AceField.{AceField}
@@ -15,7 +15,8 @@ use Rattle.sd_reader.specs.declared.line.SidPart.{SidPart}
 use Rattle.sd_reader.specs.Inner.Held.{Held, IsHeld, broken_text, held_run, held_with, is_plain_inside, is_plain_outside}
 use Rattle.sd_reader.specs.Line.{head_of, is_blank}
 use Rattle.sd_reader.specs.Inner.FoldedReading.{FieldsRead}
-use Rattle.sd_reader.specs.Inner.Progress.{rest_answer, result_or}
+use Rattle.sd_rights.specs.Chains.{unless}
+use Rattle.sd_reader.specs.Inner.Progress.{rest_answer}
 use Rattle.sd_reader.specs.Inner.Reads.{IsReader, Reads, answer_at}
 use Rattle.sd_reader.specs.declared.reader.SddlReader.{SddlReader}
 use Rattle.sd_reader.proofs.FieldTexts.{append_nothing, same_inner, same_text, with_held}
@@ -94,18 +95,7 @@ pub run-too-long : (h : Held) (bs : List ℕ) → h.broken ≡ false → h.gap �
     → 183 < length h.text + length bs → held_run h bs ≡ broken_text
 run-too-long h bs eb eg fits long = ap (λ x. held_run x bs) (whole h eb eg) ∙ run-long h.text bs fits long
 
-pub held-size : (n : ℕ) (xs : List ℕ) → n ≤ length xs → length (take n xs) ≡ n
-held-size n xs h = grind (arith, common_steps)
-
-pub neither : (x y : Bool) → (x || y) ≡ false → (x ≡ false) × (y ≡ false)
-neither true y e = absurd cc
-neither false y e = (refl, e)
-
 -- 2. What is held stays clean.
-
-both_parts : (x y : Bool) → (x && y) ≡ true → (x ≡ true) × (y ≡ true)
-both_parts true y e = (refl, e)
-both_parts false y e = absurd cc
 
 pub record IsPlain (b : ℕ) : Type 0 where
   pub opens : (b == 40) ≡ false
@@ -136,7 +126,7 @@ with_no_gap h b = by_test (h.broken || (h.gap || length h.text == 183))
 pub inside-held : (h : Held) (bs : List ℕ) → IsHeld h → list_all is_plain_inside bs ≡ true → IsHeld (held_run h bs)
 inside-held h [] k e = k
 inside-held h (b ∷ bs) k e =
-    let p = both_parts (is_plain_inside b) _ e in
+    let p = and_parts (is_plain_inside b) _ e in
     inside-held (held_with h b) bs (with_held h b k (plain-is b p.0).blank) p.1
 
 pub inside-gap : (h : Held) (bs : List ℕ) → h.gap ≡ false → (held_run h bs).gap ≡ false
@@ -150,9 +140,9 @@ none-of (Some y) f = absurd cc
 outside_parts : (b : ℕ) (bs : List ℕ) → list_all is_plain_outside (b ∷ bs) ≡ true
     → (is_plain_inside b ≡ true) × ((b == 58) ≡ false) × (head_of b ≡ None) × (list_all is_plain_outside bs ≡ true)
 outside_parts b bs e =
-    let p = both_parts (is_plain_outside b) _ e in
-    let q = both_parts (is_plain_inside b) _ p.0 in
-    let r = both_parts (not (b == 58)) _ q.1 in
+    let p = and_parts (is_plain_outside b) _ e in
+    let q = and_parts (is_plain_inside b) _ p.0 in
+    let r = and_parts (not (b == 58)) _ q.1 in
     (q.0, not_true _ r.0, none-of (head_of b) r.1, p.1)
   where
     not_true : (x : Bool) → not x ≡ true → x ≡ false
@@ -174,7 +164,7 @@ module _ (dm : Option SecurityId) (so tw : Bool) (se : Seen) (r : Result FieldsR
       (bs ++ rest)
   inside-run c h [] rest k n e = refl
   inside-run c h (b ∷ bs) rest k n e =
-      let p = both_parts (is_plain_inside b) _ e in
+      let p = and_parts (is_plain_inside b) _ e in
       let l = plain-is b p.0 in
       inside-run c (held_with h b) bs rest (with_held h b k l.blank) (with_no_gap h b) p.1
       ∙ entry_text dm so tw se r h (bs ++ rest) c (held_with h b) b l.opens l.closes l.cuts
@@ -223,7 +213,7 @@ inside-goes s c bs here plain buf r =
       },
       λ domain before h. goes-on s bs buf domain before (r.still (rw here refl))
           (λ t rest. rw here (inside-run s.fields.domain s.sound s.twice s.seen
-          (result_or t s.fault) c s.field bs rest r.calm.held gap plain)) h,
+          (unless s.fault t) c s.field bs rest r.calm.held gap plain)) h,
     )
 
 pub outside-goes : (s : SddlReader) (p : SidPart) (bs : List ℕ) → s.state ≡ state.Sid p → s.pending ≡ None
@@ -242,7 +232,7 @@ outside-goes s p bs here none plain buf r = (
   },
   λ domain before h. goes-on s bs buf domain before none
       (λ t rest. rw here (outside-run s.fields.domain s.sound s.twice s.seen
-      (result_or t s.fault) p s.field bs rest r.calm.held plain)) h,
+      (unless s.fault t) p s.field bs rest r.calm.held plain)) h,
 )
 
 -- 5. A text fed in runs.
@@ -251,9 +241,6 @@ pub none-if : {X : Type 0} → (x : Option X) (b : Bool) → b ≡ true → is_s
 none-if None b e f = refl
 none-if (Some y) true e f = absurd cc
 none-if (Some y) false e f = absurd cc
-
-pub rest-from : (text : List ℕ) (k : ℕ) → take (length text - k) (drop k text) ≡ drop k text
-rest-from text k = grind (arith, common_steps)
 
 -- a byte was taken from what is left, then what ends before a rest, and of that a run
 pub fed-more : (fed next whole left after rest : List ℕ) (b n : ℕ) → left ≡ b ∷ after → fed ++ left ≡ whole

@@ -4,6 +4,8 @@ use Rattle.std.specs.Prelude.{◌==◌, if◌then◌else◌, Result, Ok, Err, Op
 use Rattle.std.specs.List.{flat_map}
 use Rattle.std.proofs.Math.Dec.{eqb-suc-zero}
 use Rattle.std.proofs.lemmas.Bool.Decides.{nat_tests, eqb_tells}
+use Rattle.std.proofs.lemmas.Bool.{and_right}
+use Rattle.std.proofs.Math.Bool.{or-true, or-false}
 use Rattle.sd_core.specs.Sid.{SecurityId}
 use Rattle.sd_view.specs.declared.control.Which.{Which}
 use Rattle.sd_view.specs.declared.control.Which.TheVariants as which
@@ -21,10 +23,10 @@ use Rattle.sd_reader.specs.declared.line.SidPart.TheVariants as sid_part
 use Rattle.sd_reader.specs.declared.line.Slot.{Slot}
 use Rattle.sd_reader.specs.declared.line.Slot.TheVariants as slot
 use Rattle.sd_reader.specs.Inner.Held.{Held, IsHeld, no_text, held_text}
-use Rattle.sd_reader.specs.Line.{is_blank, is_paired, Piece, byte, ace, pieces_from, sections, Section, Sections, is_sid_body, are_aces, is_acl_body, are_shaped, cuts, front, aces, has_aces, has_twice, has_head, head_at, head_of, parts_of, begins_with_colon, same_head, is_body}
-use Rattle.sd_reader.specs.Inner.FoldedReading.{Field, FieldsRead, ace_fields, ace_fields_from, fields_in, fields_of, next_field, nothing_read, read_fields, reads_as, take_field, verdict}
-use Rattle.sd_reader.specs.Meaning.{and_then}
-use Rattle.sd_reader.specs.Inner.Progress.{is_inside, fields_left, is_shaped_here, text_with, inner_with, fields_here, is_seen, result_or, with_head, has_seen, judged, rest_answer, state_of, ended_with}
+use Rattle.sd_reader.specs.Line.{is_blank, is_paired, Piece, byte, ace, pieces_from, sections, Section, Sections, is_sid_body, are_aces, is_acl_body, are_shaped, cut_at_semicolons, front, aces, has_aces, has_twice, has_head, head_at, head_of, sections_of, begins_with_colon, same_head, is_body}
+use Rattle.sd_reader.specs.Inner.FoldedReading.{Field, FieldsRead, ace_fields, ace_fields_from, fields_in, fields_of, next_field, nothing_read, read_fields, reads_as, take_field, if_shaped}
+use Rattle.sd_rights.specs.Chains.{and_then, unless}
+use Rattle.sd_reader.specs.Inner.Progress.{is_inside, fields_left, is_shaped_here, text_with, inner_with, fields_here, is_seen, with_head, has_seen, judged, rest_answer, state_of, ended_with}
 use Rattle.sd_reader.proofs.FieldTexts.{Same, same_reads, text_ended, inner_ended}
 
 -- 1. Small facts.
@@ -34,13 +36,9 @@ no_both true true z e = e
 no_both true false z e = refl
 no_both false y z e = refl
 
-no_second : (x y : Bool) → y ≡ false → (x && y) ≡ false
-no_second true y e = e
-no_second false y e = refl
-
 -- a shape that fails
-unshaped : (x t : Bool) (r : Result FieldsRead SddlFault) → x ≡ false → verdict x t r ≡ Err fault.Shape
-unfolding verdict
+unshaped : (x t : Bool) (r : Result FieldsRead SddlFault) → x ≡ false → if_shaped x t r ≡ Err fault.Shape
+unfolding if_shaped
 unshaped x t r e = rw e refl
 
 -- the texts of the field at hand may be changed for others that read as the same
@@ -77,7 +75,7 @@ pub plain : (dm : Option SecurityId) (so tw : Bool) (se : Seen) (r : Result Fiel
     → (b == 40) ≡ false → (b == 41) ≡ false → head_at (byte b) (pieces_from false bs).after ≡ None
     → rest_answer dm so tw se r pl h (b ∷ bs)
     ≡ judged dm so tw se r pl h (is_paired false bs) []
-    (record { before = byte b ∷ (parts_of bs).before; parts = (parts_of bs).parts })
+    (record { before = byte b ∷ (sections_of bs).before; parts = (sections_of bs).parts })
 unfolding rest_answer
 plain dm so tw se r pl h b bs out e40 e41 none = rw (out, e40, e41, none) refl
 
@@ -87,10 +85,10 @@ module _ (dm : Option SecurityId) (so tw : Bool) (se : Seen) (r : Result FieldsR
     (e40 : (b == 40) ≡ false) (e41 : (b == 41) ≡ false)
     (none : head_at (byte b) (pieces_from false bs).after ≡ None) where
   shaped : Bool → Bool
-  shaped here = so && (is_paired false bs && (here && are_shaped (parts_of bs).parts))
+  shaped here = so && (is_paired false bs && (here && are_shaped (sections_of bs).parts))
 
   twice : Bool
-  twice = tw || (has_seen se (parts_of bs).parts || has_twice (parts_of bs).parts)
+  twice = tw || (has_seen se (sections_of bs).parts || has_twice (sections_of bs).parts)
 
   pub sid_text : (p : SidPart) (h h' : Held) → (b == 58) ≡ false
       → ((t : List ℕ) → Same (text_with h (b ∷ t)) (text_with h' t))
@@ -98,8 +96,8 @@ module _ (dm : Option SecurityId) (so tw : Bool) (se : Seen) (r : Result FieldsR
   unfolding rest_answer judged shaped twice
   sid_text p h h' e58 same =
       sym (rw (plain dm so tw se r (state.Sid p) h b bs refl e40 e41 none, e58)
-      (ap (λ x. verdict (shaped (is_sid_body (parts_of bs).before)) twice x)
-      (swap dm r (slot.Sid p) _ _ (fields_of (parts_of bs).parts) (same (front (parts_of bs).before)))))
+      (ap (λ x. if_shaped (shaped (is_sid_body (sections_of bs).before)) twice x)
+      (swap dm r (slot.Sid p) _ _ (fields_of (sections_of bs).parts) (same (front (sections_of bs).before)))))
 
   pub control_text : (w : Which) (h h' : Held) → (b == 58) ≡ false
       → ((t : List ℕ) → Same (text_with h (b ∷ t)) (text_with h' t))
@@ -107,10 +105,10 @@ module _ (dm : Option SecurityId) (so tw : Bool) (se : Seen) (r : Result FieldsR
   unfolding rest_answer judged shaped twice
   control_text w h h' e58 same =
       sym (rw (plain dm so tw se r (state.AclFlags w) h b bs refl e40 e41 none, e58)
-      (ap (λ x. verdict (shaped (is_acl_body (parts_of bs).before)) twice x)
-      (swap dm r (slot.AclFlags w (has_aces (parts_of bs).before)) _ _
-      (flat_map ace_fields (aces (parts_of bs).before) ++ fields_of (parts_of bs).parts)
-      (same (front (parts_of bs).before)))))
+      (ap (λ x. if_shaped (shaped (is_acl_body (sections_of bs).before)) twice x)
+      (swap dm r (slot.AclFlags w (has_aces (sections_of bs).before)) _ _
+      (flat_map ace_fields (aces (sections_of bs).before) ++ fields_of (sections_of bs).parts)
+      (same (front (sections_of bs).before)))))
 
   -- blanks before the first head and between aces
   pub before_blank : (h : Held) → is_blank b ≡ true
@@ -143,12 +141,12 @@ module _ (dm : Option SecurityId) (so tw : Bool) (se : Seen) (r : Result FieldsR
   -- a parenthesis that closes where none is open
   pub close_outside : (pl : State) → is_inside pl ≡ false → rest_answer dm so tw se r pl h (41 ∷ bs) ≡ Err fault.Shape
   unfolding rest_answer judged
-  close_outside pl out = rw out (unshaped _ _ _ (no_second so _ refl))
+  close_outside pl out = rw out (unshaped _ _ _ (and_right so _ refl))
 
   -- a parenthesis in a parenthesis
   pub open_inside : (c : AceField) → rest_answer dm so tw se r (state.Ace c) h (40 ∷ bs) ≡ Err fault.Shape
   unfolding rest_answer judged
-  open_inside c = unshaped _ _ _ (no_second so _ refl)
+  open_inside c = unshaped _ _ _ (and_right so _ refl)
 
   -- a colon with no letter before it
   pub colon : (pl : State) → is_inside pl ≡ false → rest_answer dm so tw se r pl h (58 ∷ bs) ≡ Err fault.Shape
@@ -158,7 +156,7 @@ module _ (dm : Option SecurityId) (so tw : Bool) (se : Seen) (r : Result FieldsR
       (unshaped _ _ _ (no_both so _ _ (here pl out)))
     where
       here : (pl : State) → is_inside pl ≡ false
-          → (is_shaped_here pl [] (byte 58 ∷ (parts_of bs).before) && are_shaped (parts_of bs).parts) ≡ false
+          → (is_shaped_here pl [] (byte 58 ∷ (sections_of bs).before) && are_shaped (sections_of bs).parts) ≡ false
       here state.Before out = refl
       here (state.Sid p) out = refl
       here (state.AclFlags w) out = refl
@@ -175,7 +173,7 @@ module _ (dm : Option SecurityId) (so tw : Bool) (se : Seen) (r : Result FieldsR
   open_sid p = unshaped _ _ _ (no_both so _ _ refl)
 
   pub unsound : (pl : State) → rest_answer dm false tw se r pl h bs ≡ Err fault.Shape
-  unfolding rest_answer judged verdict
+  unfolding rest_answer judged if_shaped
   unsound pl = refl
 
 -- 5. An entry.
@@ -188,7 +186,7 @@ module _ (dm : Option SecurityId) (so tw : Bool) (se : Seen) (r : Result FieldsR
       (state.Ace field.Kind) no_text bs ≡ rest_answer dm so tw se r (state.AclFlags w) h (40 ∷ bs)
   unfolding rest_answer judged
   open_first w k = sym
-      (ap (λ x. verdict (so && (is_paired true
+      (ap (λ x. if_shaped (so && (is_paired true
       bs && (are_aces (ace
       (pieces_from true bs).held ∷ (sections (pieces_from true bs).after).before) && are_shaped
       (sections (pieces_from true bs).after).parts)))
@@ -212,25 +210,25 @@ module _ (dm : Option SecurityId) (so tw : Bool) (se : Seen) (r : Result FieldsR
   unfolding rest_answer judged
   entry_text c h' b e40 e41 e59 same =
       sym (rw (e40, e41, e59)
-      (ap (λ x. verdict (so && (is_paired true
+      (ap (λ x. if_shaped (so && (is_paired true
       bs && (is_shaped_here (state.Ace c) (pieces_from true bs).held
       (sections (pieces_from true bs).after).before && are_shaped
       (sections (pieces_from true bs).after).parts)))
       (tw || (has_seen se (sections (pieces_from true bs).after).parts || has_twice
       (sections (pieces_from true bs).after).parts)) x)
-      (swap_first (cuts (pieces_from true bs).held).others)))
+      (swap_first (cut_at_semicolons (pieces_from true bs).held).others)))
     where
       swap_first : (o : List (List ℕ))
           → and_then r (read_fields dm
-          ((ace_fields_from c (inner_with h (b ∷ (cuts (pieces_from true bs).held).first)) o
+          ((ace_fields_from c (inner_with h (b ∷ (cut_at_semicolons (pieces_from true bs).held).first)) o
           ++ flat_map ace_fields (aces (sections (pieces_from true bs).after).before))
           ++ fields_of (sections (pieces_from true bs).after).parts))
           ≡ and_then r (read_fields dm
-          ((ace_fields_from c (inner_with h' (cuts (pieces_from true bs).held).first) o
+          ((ace_fields_from c (inner_with h' (cut_at_semicolons (pieces_from true bs).held).first) o
           ++ flat_map ace_fields (aces (sections (pieces_from true bs).after).before))
           ++ fields_of (sections (pieces_from true bs).after).parts))
-      swap_first [] = swap dm r (slot.Ace c) _ _ _ (same (cuts (pieces_from true bs).held).first)
-      swap_first (t ∷ ts) = swap dm r (slot.Ace c) _ _ _ (same (cuts (pieces_from true bs).held).first)
+      swap_first [] = swap dm r (slot.Ace c) _ _ _ (same (cut_at_semicolons (pieces_from true bs).held).first)
+      swap_first (t ∷ ts) = swap dm r (slot.Ace c) _ _ _ (same (cut_at_semicolons (pieces_from true bs).held).first)
 
   rest : Sections
   rest = sections (pieces_from false bs).after
@@ -243,7 +241,7 @@ module _ (dm : Option SecurityId) (so tw : Bool) (se : Seen) (r : Result FieldsR
       state.AfterAce no_text bs ≡ rest_answer dm so tw se r (state.Ace field.Sid) h (41 ∷ bs)
   unfolding rest_answer judged rest
   close_last = sym (ap
-      (λ x. verdict (so && (is_paired false bs && (are_aces rest.before && are_shaped rest.parts)))
+      (λ x. if_shaped (so && (is_paired false bs && (are_aces rest.before && are_shaped rest.parts)))
       (tw || (has_seen se rest.parts || has_twice rest.parts)) x)
       (ended dm r (slot.Ace field.Sid) (inner_with h []) _
       ∙ ap (λ t. and_then (and_then r (λ b. take_field dm b (slot.Ace field.Sid) t))
@@ -263,21 +261,22 @@ module _ (dm : Option SecurityId) (so tw : Bool) (se : Seen) (r : Result FieldsR
   -- a semicolon too many
   pub cut_late : rest_answer dm so tw se r (state.Ace field.Sid) h (59 ∷ bs) ≡ Err fault.Shape
   unfolding rest_answer judged
-  cut_late = rw (eqb-suc-zero (length (cuts (pieces_from true bs).held).others)) (unshaped _ _ _ (no_both so _ _ refl))
+  cut_late = rw (eqb-suc-zero (length (cut_at_semicolons (pieces_from true bs).held).others))
+      (unshaped _ _ _ (no_both so _ _ refl))
 
   -- the next field
   pub cut : (c : AceField) → (fields_left c == 0) ≡ false
       → rest_answer dm so tw se (and_then r (λ b. take_field dm b (slot.Ace c) (held_text h)))
       (state.Ace (next_field c)) no_text bs ≡ rest_answer dm so tw se r (state.Ace c) h (59 ∷ bs)
   unfolding rest_answer judged inner
-  cut c e = sym (rw (left c e (length (cuts (pieces_from true bs).held).others))
-      (ap (λ x. verdict (so && (is_paired true
-      bs && ((length (cuts (pieces_from true bs).held).others == fields_left (next_field c) && are_aces
+  cut c e = sym (rw (left c e (length (cut_at_semicolons (pieces_from true bs).held).others))
+      (ap (λ x. if_shaped (so && (is_paired true
+      bs && ((length (cut_at_semicolons (pieces_from true bs).held).others == fields_left (next_field c) && are_aces
       inner.before) && are_shaped inner.parts))) (tw || (has_seen se inner.parts || has_twice inner.parts)) x)
       (ended dm r (slot.Ace c) (inner_with h []) _
       ∙ ap (λ t. and_then (and_then r (λ b. take_field dm b (slot.Ace c) t))
-      (read_fields dm ((ace_fields_from (next_field c) (cuts (pieces_from true bs).held).first
-      (cuts (pieces_from true bs).held).others ++ flat_map ace_fields (aces inner.before))
+      (read_fields dm ((ace_fields_from (next_field c) (cut_at_semicolons (pieces_from true bs).held).first
+      (cut_at_semicolons (pieces_from true bs).held).others ++ flat_map ace_fields (aces inner.before))
       ++ fields_of inner.parts))) (inner_ended h))))
     where
       left : (c : AceField) → (fields_left c == 0) ≡ false → (n : ℕ)
@@ -310,14 +309,6 @@ shaped_end (state.AclFlags w) out = refl
 shaped_end state.AfterAce out = refl
 shaped_end (state.Ace c) out = absurd cc
 
-or_true : (x : Bool) → (x || true) ≡ true
-or_true true = refl
-or_true false = refl
-
-or_false : (x : Bool) → (x || false) ≡ x
-or_false true = refl
-or_false false = refl
-
 mixed : (x u v y z : Bool) → (x || ((u || v) || (y || z))) ≡ ((x || u) || ((v || y) || z))
 mixed true u v y z = refl
 mixed false true v y z = refl
@@ -325,26 +316,26 @@ mixed false false true y z = refl
 mixed false false false y z = refl
 
 pub seen_with : (se : Seen) (p q : Head) → is_seen (with_head se p) q ≡ (is_seen se q || same_head p q)
-seen_with se (head.Sid sid_part.Owner) (head.Sid sid_part.Owner) = rw or_true refl
-seen_with se (head.Sid sid_part.Owner) (head.Sid sid_part.Group) = rw or_false refl
-seen_with se (head.Sid sid_part.Owner) (head.Acl which.Sacl) = rw or_false refl
-seen_with se (head.Sid sid_part.Owner) (head.Acl which.Dacl) = rw or_false refl
-seen_with se (head.Sid sid_part.Group) (head.Sid sid_part.Owner) = rw or_false refl
-seen_with se (head.Sid sid_part.Group) (head.Sid sid_part.Group) = rw or_true refl
-seen_with se (head.Sid sid_part.Group) (head.Acl which.Sacl) = rw or_false refl
-seen_with se (head.Sid sid_part.Group) (head.Acl which.Dacl) = rw or_false refl
-seen_with se (head.Acl which.Sacl) (head.Sid sid_part.Owner) = rw or_false refl
-seen_with se (head.Acl which.Sacl) (head.Sid sid_part.Group) = rw or_false refl
-seen_with se (head.Acl which.Sacl) (head.Acl which.Sacl) = rw or_true refl
-seen_with se (head.Acl which.Sacl) (head.Acl which.Dacl) = rw or_false refl
-seen_with se (head.Acl which.Dacl) (head.Sid sid_part.Owner) = rw or_false refl
-seen_with se (head.Acl which.Dacl) (head.Sid sid_part.Group) = rw or_false refl
-seen_with se (head.Acl which.Dacl) (head.Acl which.Sacl) = rw or_false refl
-seen_with se (head.Acl which.Dacl) (head.Acl which.Dacl) = rw or_true refl
+seen_with se (head.Sid sid_part.Owner) (head.Sid sid_part.Owner) = rw or-true refl
+seen_with se (head.Sid sid_part.Owner) (head.Sid sid_part.Group) = rw or-false refl
+seen_with se (head.Sid sid_part.Owner) (head.Acl which.Sacl) = rw or-false refl
+seen_with se (head.Sid sid_part.Owner) (head.Acl which.Dacl) = rw or-false refl
+seen_with se (head.Sid sid_part.Group) (head.Sid sid_part.Owner) = rw or-false refl
+seen_with se (head.Sid sid_part.Group) (head.Sid sid_part.Group) = rw or-true refl
+seen_with se (head.Sid sid_part.Group) (head.Acl which.Sacl) = rw or-false refl
+seen_with se (head.Sid sid_part.Group) (head.Acl which.Dacl) = rw or-false refl
+seen_with se (head.Acl which.Sacl) (head.Sid sid_part.Owner) = rw or-false refl
+seen_with se (head.Acl which.Sacl) (head.Sid sid_part.Group) = rw or-false refl
+seen_with se (head.Acl which.Sacl) (head.Acl which.Sacl) = rw or-true refl
+seen_with se (head.Acl which.Sacl) (head.Acl which.Dacl) = rw or-false refl
+seen_with se (head.Acl which.Dacl) (head.Sid sid_part.Owner) = rw or-false refl
+seen_with se (head.Acl which.Dacl) (head.Sid sid_part.Group) = rw or-false refl
+seen_with se (head.Acl which.Dacl) (head.Acl which.Sacl) = rw or-false refl
+seen_with se (head.Acl which.Dacl) (head.Acl which.Dacl) = rw or-true refl
 
 four : (a b c d : Bool) → ((a || b) || (c || d)) ≡ ((a || c) || (b || d))
 four true b c d = refl
-four false b true d = or_true b
+four false b true d = or-true b
 four false true false d = refl
 four false false false d = refl
 
@@ -373,7 +364,7 @@ outside (head.Acl w) = refl
 -- what the parentheses at hand hold matters only inside them
 from_outside : (dm : Option SecurityId) (so tw : Bool) (se : Seen) (r : Result FieldsRead SddlFault) (pl : State)
     (h : Held) (bs : List ℕ) → is_inside pl ≡ false
-    → rest_answer dm so tw se r pl h bs ≡ judged dm so tw se r pl h (is_paired false bs) [] (parts_of bs)
+    → rest_answer dm so tw se r pl h bs ≡ judged dm so tw se r pl h (is_paired false bs) [] (sections_of bs)
 unfolding rest_answer judged
 from_outside dm so tw se r state.Before h bs out = refl
 from_outside dm so tw se r (state.Sid p) h bs out = refl
@@ -382,9 +373,9 @@ from_outside dm so tw se r state.AfterAce h bs out = refl
 from_outside dm so tw se r (state.Ace c) h bs out = absurd cc
 
 headed : (b : ℕ) (p : Head) (bs : List ℕ) → head_of b ≡ Some p → (b == 40) ≡ false
-    → parts_of (b ∷ 58 ∷ bs) ≡ record {
+    → sections_of (b ∷ 58 ∷ bs) ≡ record {
       before = [];
-      parts = record { head = p; body = (parts_of bs).before } ∷ (parts_of bs).parts;
+      parts = record { head = p; body = (sections_of bs).before } ∷ (sections_of bs).parts;
     }
 headed b p bs e e40 = rw (e40, e, no_head (begins_with_colon (pieces_from false bs).after) (head_of 58) refl) refl
 
@@ -406,34 +397,34 @@ begin dm so tw se r pl h b p bs out k e =
       headed b p bs e e40,
       paired b bs e40 e41,
       shaped_end pl out,
-      same_body p (parts_of bs).before,
-      mixed tw (is_seen se p) (has_seen se (parts_of bs).parts) (has_head p (parts_of bs).parts)
-          (has_twice (parts_of bs).parts),
-      ← has_seen_with se p (parts_of bs).parts,
-      ends_here dm pl h r (fields_in p (parts_of bs).before ++ fields_of (parts_of bs).parts) k out,
-      same_fields p (parts_of bs).before,
+      same_body p (sections_of bs).before,
+      mixed tw (is_seen se p) (has_seen se (sections_of bs).parts) (has_head p (sections_of bs).parts)
+          (has_twice (sections_of bs).parts),
+      ← has_seen_with se p (sections_of bs).parts,
+      ends_here dm pl h r (fields_in p (sections_of bs).before ++ fields_of (sections_of bs).parts) k out,
+      same_fields p (sections_of bs).before,
     ) refl)
 
 -- after a second head of one letter nothing that is read counts
 twice-any : (dm : Option SecurityId) (so tw : Bool) (se : Seen) (r r' : Result FieldsRead SddlFault) (pl : State)
     (h : Held) (bs : List ℕ) → tw ≡ true → rest_answer dm so tw se r pl h bs ≡ rest_answer dm so tw se r' pl h bs
-unfolding rest_answer judged verdict
+unfolding rest_answer judged if_shaped
 twice-any dm so tw se r r' pl h bs e = rw e refl
 
 pub begin-noted : (dm : Option SecurityId) (so tw : Bool) (se : Seen) (r : Result FieldsRead SddlFault) (pl : State)
     (h : Held) (b : ℕ) (p : Head) (bs : List ℕ) (u : FieldsRead) (fault' : Option SddlFault)
-    → is_inside pl ≡ false → IsHeld h → head_of b ≡ Some p → result_or u fault' ≡ ended_with dm pl h r
+    → is_inside pl ≡ false → IsHeld h → head_of b ≡ Some p → unless fault' u ≡ ended_with dm pl h r
     → rest_answer dm so (tw || is_seen se p) (with_head se p)
-    (result_or u (if is_seen se p then Some fault.PartTwice else fault')) (state_of p) no_text bs ≡ rest_answer dm
+    (unless (if is_seen se p then Some fault.PartTwice else fault') u) (state_of p) no_text bs ≡ rest_answer dm
     so tw se r pl h (b ∷ 58 ∷ bs)
 begin-noted dm so tw se r pl h b p bs u fault' out k e read = by_seen (is_seen se p) refl
   where
     by_seen : (x : Bool) → is_seen se p ≡ x
         → rest_answer dm so (tw || is_seen se p) (with_head se p)
-        (result_or u (if x then Some fault.PartTwice else fault')) (state_of p) no_text bs ≡ rest_answer dm so tw
+        (unless (if x then Some fault.PartTwice else fault') u) (state_of p) no_text bs ≡ rest_answer dm so tw
         se r pl h (b ∷ 58 ∷ bs)
     by_seen true f = twice-any dm so (tw || is_seen se p) (with_head se p) (Err fault.PartTwice) (ended_with dm pl h r)
-        (state_of p) no_text bs (rw f (or_true tw))
+        (state_of p) no_text bs (rw f (or-true tw))
         ∙ begin dm so tw se r pl h b p bs out k e
     by_seen false f = ap (λ (x : Result FieldsRead SddlFault). rest_answer dm so (tw || is_seen se p) (with_head se p)
         x (state_of p) no_text bs) read
@@ -444,9 +435,9 @@ begin-noted dm so tw se r pl h b p bs u fault' out k e read = by_seen (is_seen s
 pub finished : (dm : Option SecurityId) (tw : Bool) (se : Seen) (r : Result FieldsRead SddlFault) (pl : State)
     (h : Held) → is_inside pl ≡ false → IsHeld h
     → rest_answer dm true tw se r pl h [] ≡ (if tw then Err fault.PartTwice else ended_with dm pl h r)
-unfolding judged verdict
+unfolding judged if_shaped
 finished dm tw se r pl h out k = from_outside dm true tw se r pl h [] out
-    ∙ rw (shaped_end pl out, ends_here dm pl h r [] k out, or_false tw) (by_result tw (ended_with dm pl h r))
+    ∙ rw (shaped_end pl out, ends_here dm pl h r [] k out, or-false tw) (by_result tw (ended_with dm pl h r))
   where
     by_result : (tw : Bool) (r : Result FieldsRead SddlFault)
         → (if tw then Err fault.PartTwice else and_then r (read_fields dm [])) ≡ (if tw then Err fault.PartTwice else r)
@@ -457,7 +448,7 @@ finished dm tw se r pl h out k = from_outside dm true tw se r pl h [] out
 pub unfinished : (dm : Option SecurityId) (so tw : Bool) (se : Seen) (r : Result FieldsRead SddlFault) (c : AceField)
     (h : Held) → rest_answer dm so tw se r (state.Ace c) h [] ≡ Err fault.Shape
 unfolding rest_answer judged
-unfinished dm so tw se r c h = unshaped _ _ _ (no_second so _ refl)
+unfinished dm so tw se r c h = unshaped _ _ _ (and_right so _ refl)
 
 -- 8. The start.
 
@@ -465,7 +456,7 @@ pub started : (dm : Option SecurityId) (h : Held) (text : List ℕ)
     → rest_answer dm true false (record { owner = false; group = false; dacl = false; sacl = false }) (Ok nothing_read)
     state.Before h text ≡ reads_as dm text
 unfolding rest_answer judged reads_as
-started dm h text = rw (nothing_seen (parts_of text).parts) refl
+started dm h text = rw (nothing_seen (sections_of text).parts) refl
   where
     nothing_seen : (ss : List Section)
         → has_seen (record { owner = false; group = false; dacl = false; sacl = false }) ss ≡ false

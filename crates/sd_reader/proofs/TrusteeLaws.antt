@@ -1,23 +1,19 @@
 -- An ACE that ends with its SID: the ACL at hand grows by it, or is too large.
-use Rattle.std.proofs.Common.{◌≡◌, ℕ, ◌+◌, ◌≤◌, ◌^◌, List, [], ◌∷◌, ◌++◌, Option, Some, None, Bool, true, false, refl, sym, ◌∙◌, arith}
+use Rattle.std.proofs.Common.{◌≡◌, ℕ, ◌+◌, ◌≤◌, ◌^◌, List, Option, Some, None, Bool, true, false, refl, sym, ◌∙◌, arith}
 use Rattle.std.specs.Prelude.{if◌then◌else◌, is_some, nat_lt}
 use Rattle.std.specs.Option.{option_map}
 use Rattle.std.proofs.lemmas.Bool.Decides.{nat_tests}
+use Rattle.sd_binary.proofs.Building.{size-more}
 use Rattle.sd_core.specs.Ace.{AccessControlEntry, ace_size}
 use Rattle.sd_core.specs.Sid.{SecurityId}
-use Rattle.sd_view.specs.Acl.{acl_size, aces_size}
+use Rattle.sd_view.specs.Acl.{acl_size}
 use Rattle.sd_binary.specs.Builds.{Builds}
 use Rattle.sd_binary.specs.Draft.{IsOpen, IsOpenIn, more_in, open_size, open_size_in, with_ace}
-use Rattle.sd_reader.specs.Inner.FoldedReading.{FieldsRead, ace_of, large_in, with_trustee}
-use Rattle.sd_reader.specs.Inner.Reads.{HasRead}
+use Rattle.sd_reader.specs.Inner.FoldedReading.{FieldsRead, ace_of_fields, large_in, with_trustee}
+use Rattle.sd_reader.specs.Inner.Reads.{HasReadFields}
 use Rattle.sd_reader.specs.declared.reading.FieldReader.{FieldReader}
 use Rattle.sd_binary.specs.declared.builder.Builder.{Builder}
 use Rattle.sd_view.specs.declared.control.Which.{Which}
-
-aces_size-more : (aces : List AccessControlEntry) (a : AccessControlEntry)
-    → aces_size (aces ++ a ∷ []) ≡ aces_size aces + ace_size a
-aces_size-more [] a = omega arith
-aces_size-more (x ∷ aces) a = let h = aces_size-more aces a in omega (arith, h)
 
 -- the ACL that is open is the same one, where one is
 is_open_with : (x y : Option (Which × List AccessControlEntry)) → option_map (λ o. o.0) x ≡ option_map (λ o. o.0) y
@@ -40,13 +36,13 @@ large-found : (x : Option (Which × List AccessControlEntry)) (a : AccessControl
     → 2 ^ 16 ≤ open_size_in x + ace_size a → large_in (more_in a x) ≡ option_map (λ o. o.0) x
 large-found None a o large = absurd o
 large-found (Some p) a o large = large-test (acl_size p.1 + ace_size a) _ p.0 large
-    (let h = aces_size-more p.1 a in omega (arith, h))
+    (let h = size-more p.1 a in omega (arith, h))
 
 fits-found : (x : Option (Which × List AccessControlEntry)) (a : AccessControlEntry) → IsOpenIn x
     → (2 ^ 16 ≤ open_size_in x + ace_size a → ⊥) → large_in (more_in a x) ≡ None
 fits-found None a o fits = absurd o
 fits-found (Some p) a o fits = fits-test (acl_size p.1 + ace_size a) _ p.0 fits
-    (let h = aces_size-more p.1 a in omega (arith, h))
+    (let h = size-more p.1 a in omega (arith, h))
 
 open-same : (x : Option (Which × List AccessControlEntry)) (a : AccessControlEntry)
     → option_map (λ o. o.0) (more_in a x) ≡ option_map (λ o. o.0) x
@@ -58,14 +54,14 @@ no-name None o e = o
 no-name (Some p) o e = absurd cc
 
 module _ (r : FieldReader) (buf buf' : List ℕ) (b' : Builder) (t : FieldsRead) (s : SecurityId)
-    (a : AccessControlEntry) (h : HasRead r buf t) (none : r.large ≡ None) (is : a ≡ ace_of t.ace s)
+    (a : AccessControlEntry) (h : HasReadFields r buf t) (none : r.large ≡ None) (is : a ≡ ace_of_fields t.ace s)
     (o : IsOpen t.parts) where
   nothing_large : t.large ≡ None
   nothing_large = sym h.large ∙ none
 
   -- the ACL would pass 65,535 bytes
   pub holds-large : 2 ^ 16 ≤ open_size t.parts + ace_size a
-      → HasRead (record r { builder = b'; large = r.open_acl }) buf' (with_trustee t s)
+      → HasReadFields (record r { builder = b'; large = r.open_acl }) buf' (with_trustee t s)
   holds-large large = record {
     sacl = h.sacl;
     dacl = h.dacl;
@@ -77,19 +73,19 @@ module _ (r : FieldReader) (buf buf' : List ℕ) (b' : Builder) (t : FieldsRead)
   }
     where
       now_large : (with_trustee t s).large ≡ option_map (λ p. p.0) t.parts.«open»
-      now_large = rw (nothing_large) (large-found t.parts.«open» (ace_of t.ace s) o (rw (is) at large))
+      now_large = rw (nothing_large) (large-found t.parts.«open» (ace_of_fields t.ace s) o (rw (is) at large))
 
   -- it has room for the ACE
   pub holds-more : (2 ^ 16 ≤ open_size t.parts + ace_size a → ⊥) → Builds b' buf' (with_ace a t.parts)
-      → HasRead (record r { builder = b' }) buf' (with_trustee t s)
+      → HasReadFields (record r { builder = b' }) buf' (with_trustee t s)
   holds-more fits built = record {
     sacl = h.sacl;
     dacl = h.dacl;
     ace = h.ace;
-    large = none ∙ sym (rw (nothing_large) (fits-found t.parts.«open» (ace_of t.ace s) o (rw (is) at fits)));
+    large = none ∙ sym (rw (nothing_large) (fits-found t.parts.«open» (ace_of_fields t.ace s) o (rw (is) at fits)));
     sound = h.sound;
     builds = λ e. (rw (is) at built);
-    open_acl = λ e. h.open_acl nothing_large ∙ sym (open-same t.parts.«open» (ace_of t.ace s));
+    open_acl = λ e. h.open_acl nothing_large ∙ sym (open-same t.parts.«open» (ace_of_fields t.ace s));
   }
 
 pub none-is : {A : Type 0} (x : Option A) → is_some x ≡ false → x ≡ None
@@ -97,7 +93,8 @@ none-is None e = refl
 none-is (Some x) e = absurd cc
 
 -- two readings that a reader holds have the same ACL open
-pub open-too : (r : FieldReader) (buf : List ℕ) (t u : FieldsRead) → HasRead r buf t → HasRead r buf u → r.large ≡ None
+pub open-too : (r : FieldReader) (buf : List ℕ) (t u : FieldsRead) → HasReadFields r buf t → HasReadFields r buf u
+    → r.large ≡ None
     → IsOpen t.parts → IsOpen u.parts
 open-too r buf t u h k none o =
     is_open_with t.parts.«open» u.parts.«open»

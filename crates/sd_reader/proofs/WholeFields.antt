@@ -18,11 +18,12 @@ use Rattle.sd_reader.specs.declared.reading.AceFields.{AceFields}
 use Rattle.sd_reader.specs.declared.reading.FieldReader.{FieldReader}
 use Rattle.sd_reader.specs.Inner.FoldedReading.{FieldsRead, take_ace_field, take_field, with_trustee}
 use Rattle.sd_reader.specs.Inner.Held.{IsHeld, is_plain_inside, no_text}
-use Rattle.sd_reader.specs.Inner.Progress.{rest_answer, end_of, result_or, state_after}
+use Rattle.sd_reader.specs.Inner.Progress.{rest_answer, end_of, state_after}
 use Rattle.sd_reader.specs.Inner.Reads.{AreAceFields, FedTo, Fits, IsReader, LineHasRead, Steps}
 use Rattle.sd_reader.specs.declared.reader.SddlReader.{SddlReader}
 use Rattle.sd_reader.specs.Inner.WholeAce.{AceTexts, EndsAce, FieldAt, ObjectsAt, AreWhole, TakesAce, ace_before, with_field, with_texts}
-use Rattle.sd_reader.specs.Meaning.{and_then, is_unreadable}
+use Rattle.sd_rights.specs.Chains.{and_then, unless}
+use Rattle.sd_reader.specs.Meaning.{is_unreadable}
 use Rattle.sd_reader.proofs.FieldLaws.{sound-inherited, sound-object}
 use Rattle.sd_reader.proofs.FieldTexts.{held-readable}
 use Rattle.sd_reader.proofs.FitLaws.{fits-field, fits-next}
@@ -266,7 +267,7 @@ pub steps-open : (s : SddlReader) (buf : List ℕ) → s.state ≡ state.AfterAc
 steps-open s buf here begins t k = (
   t,
   record { fields = k.fields; fits = λ none. fits-next s.seen t (rw here at (k.fits none)) },
-  λ rest. rw (here, begins) (open_next s.fields.domain s.sound s.twice s.seen (result_or t s.fault) no_text rest),
+  λ rest. rw (here, begins) (open_next s.fields.domain s.sound s.twice s.seen (unless s.fault t) no_text rest),
 )
 
 -- a step over what comes next

@@ -3,6 +3,7 @@
 use Rattle.std.specs.Prelude.{ℕ, Bool, true, false, ◌&&◌, ◌||◌, not, ◌==◌, if◌then◌else◌, List, [], ◌∷◌, length, drop, Option, Some, None}
 use Rattle.std.specs.List.{list_all}
 use Rattle.std.specs.Str.{byte as char}
+use Rattle.sd_rights.specs.Cuts.{Cuts, all_cuts, cut_at}
 use Rattle.sd_view.specs.declared.control.Which.TheVariants as which
 use Rattle.sd_reader.specs.declared.line.SidPart.TheVariants as sid_part
 use Rattle.sd_reader.specs.declared.line.Head.{Head}
@@ -10,7 +11,7 @@ use Rattle.sd_reader.specs.declared.line.Head.TheVariants as head
 
 -- a space or a tab
 abbrev pub is_blank : ℕ → Bool
-is_blank b = b == char " " || b == 9
+is_blank b = b == char " " || b == char "\t"
 
 -- 1. Parentheses.
 
@@ -33,22 +34,22 @@ pub data Piece : Type 0 where
   ace : List ℕ → Piece
 
 -- a text from a place in it on: what the open parenthesis still holds, and the pieces after it
-pub record Pieces : Type 0 where
+pub record LinePieces : Type 0 where
   pub held : List ℕ
   pub after : List Piece
 
 -- a byte goes onto what follows it; `inside` says whether a parenthesis is open before it
-abbrev pub with_byte : Bool → ℕ → Pieces → Pieces
-with_byte true b p =
+abbrev pub with_line_byte : Bool → ℕ → LinePieces → LinePieces
+with_line_byte true b p =
     if b == char ")" then record { held = []; after = p.after } else record { held = b ∷ p.held; after = p.after }
-with_byte false b p =
+with_line_byte false b p =
     if b == char "(" then record { held = []; after = ace p.held ∷ p.after }
     else record { held = []; after = byte b ∷ p.after }
 
 -- what a text is cut into, if its parentheses are paired
-abbrev pub pieces_from : Bool → List ℕ → Pieces
+abbrev pub pieces_from : Bool → List ℕ → LinePieces
 pieces_from inside [] = record { held = []; after = [] }
-pieces_from inside (b ∷ bs) = with_byte inside b (pieces_from (open_after inside b) bs)
+pieces_from inside (b ∷ bs) = with_line_byte inside b (pieces_from (open_after inside b) bs)
 
 -- 2. Heads.
 
@@ -92,24 +93,13 @@ abbrev pub sections : List Piece → Sections
 sections [] = record { before = []; parts = [] }
 sections (p ∷ ps) = with_piece (head_at p ps) p (sections ps)
 
-abbrev pub parts_of : List ℕ → Sections
-parts_of text = sections (pieces_from false text).after
+abbrev pub sections_of : List ℕ → Sections
+sections_of text = sections (pieces_from false text).after
 
 -- 3. Fields.
 
--- a text cut at its semicolons: the first cut, and the others
-pub record Cuts : Type 0 where
-  pub first : List ℕ
-  pub others : List (List ℕ)
-
-abbrev pub with_cut : ℕ → Cuts → Cuts
-with_cut b c =
-    if b == char ";" then record { first = []; others = c.first ∷ c.others }
-    else record { first = b ∷ c.first; others = c.others }
-
-abbrev pub cuts : List ℕ → Cuts
-cuts [] = record { first = []; others = [] }
-cuts (b ∷ bs) = with_cut b (cuts bs)
+abbrev pub cut_at_semicolons : List ℕ → Cuts
+cut_at_semicolons text = cut_at (char ";") text
 
 -- the bytes before the first parenthesis
 abbrev pub front : List Piece → List ℕ
@@ -139,7 +129,7 @@ trim (b ∷ bs) = if is_blank b then trim bs else trim_end (b ∷ bs)
 
 -- the text of an ACE cut at its semicolons
 abbrev pub ace_cuts : List ℕ → List (List ℕ)
-ace_cuts a = (cuts a).first ∷ (cuts a).others
+ace_cuts a = all_cuts (cut_at_semicolons a)
 
 -- 4. Shape. A colon outside parentheses that makes no head stays in a body or before the first head, and no shape takes
 -- it.
@@ -155,7 +145,7 @@ is_sid_body (byte b ∷ ps) = not (b == char ":") && is_sid_body ps
 is_sid_body (ace a ∷ ps) = false
 
 abbrev pub has_six_fields : List ℕ → Bool
-has_six_fields a = length (cuts a).others == 5
+has_six_fields a = length (cut_at_semicolons a).others == 5
 
 -- ACEs and blanks
 abbrev pub are_aces : List Piece → Bool
@@ -180,7 +170,7 @@ are_shaped (s ∷ ss) = is_body s.head s.body && are_shaped ss
 -- pairs of parentheses, nothing but blanks before the first head, and each part in its shape
 abbrev pub is_shaped : List ℕ → Bool
 is_shaped text =
-    is_paired false text && (list_all is_blank_piece (parts_of text).before && are_shaped (parts_of text).parts)
+    is_paired false text && (list_all is_blank_piece (sections_of text).before && are_shaped (sections_of text).parts)
 
 -- 5. Two heads with one letter.
 

@@ -1,7 +1,8 @@
 -- What a line of SDDL means (MS-DTYP 2.5.1): the descriptor that its parts give, or the first fault.
 use Rattle.std.specs.Prelude.{ℕ, ◌+◌, ◌||◌, not, Bool, true, false, nat_lt, if◌then◌else◌, List, [], ◌∷◌, length, Option, Some, None, Result, Ok, Err}
 use Rattle.std.specs.List.{list_any}
-use Rattle.std.specs.Option.{ok_or}
+use Rattle.std.specs.Option.{ok_or, option_map}
+use Rattle.sd_rights.specs.Chains.{◌>>=◌, unless, fault_as}
 use Rattle.sd_core.specs.Ace.{AccessControlEntry}
 use Rattle.sd_rights.specs.Flags.{flags_reads}
 use Rattle.sd_rights.specs.Limits.{most_acl, most_field}
@@ -21,7 +22,7 @@ use Rattle.sd_view.specs.declared.control.Which.TheVariants as which
 use Rattle.sd_view.specs.declared.control.AclFlags.{AclFlags}
 use Rattle.sd_view.specs.declared.control.TheConstants.{DACL_PRESENT, SACL_PRESENT, SELF_RELATIVE}
 use Rattle.sd_reader.specs.FieldTexts.{front_reads, kind_reads, object_reads}
-use Rattle.sd_reader.specs.Line.{Piece, Section, ace_cuts, aces, front, has_aces, has_twice, is_blank, is_shaped, parts_of, same_head, trim}
+use Rattle.sd_reader.specs.Line.{Piece, Section, ace_cuts, aces, front, has_aces, has_twice, is_blank, is_shaped, sections_of, same_head, trim}
 use Rattle.sd_reader.specs.declared.fault.SddlFault.{SddlFault}
 use Rattle.sd_reader.specs.declared.fault.SddlFault.TheVariants as fault
 use Rattle.sd_reader.specs.declared.line.Head.{Head}
@@ -29,15 +30,7 @@ use Rattle.sd_reader.specs.declared.line.Head.TheVariants as head
 use Rattle.sd_reader.specs.declared.line.SidPart.{SidPart}
 use Rattle.sd_reader.specs.declared.line.SidPart.TheVariants as sid_part
 
--- One after the other: the first fault is the answer. `x ← read` goes on with what was read.
-abbrev pub and_then : {A B : Type 0} → Result A SddlFault → (A → Result B SddlFault) → Result B SddlFault
-and_then (Ok x) next = next x
-and_then (Err e) next = Err e
-
-abbrev pub ◌>>=◌ : {A B : Type 0} → Result A SddlFault → (A → Result B SddlFault) → Result B SddlFault
-◌>>=◌ read next = and_then read next
-
--- each one of a list, from the left
+-- each one of a list, from the left: the first fault is the answer
 abbrev pub each : {A B : Type 0} → (A → Result B SddlFault) → List A → Result (List B) SddlFault
 each reads [] = Ok []
 each reads (x ∷ others) = do
@@ -56,8 +49,7 @@ abbrev pub field_reads : {A : Type 0} → SddlFault → (List ℕ → Option A) 
 field_reads unread reads text = if is_unreadable text then Err unread else ok_or (reads text) unread
 
 abbrev pub sid_or_fault : Result SecurityId SidFault → Result SecurityId SddlFault
-sid_or_fault (Ok s) = Ok s
-sid_or_fault (Err e) = Err (fault.Sid e)
+sid_or_fault read = fault_as fault.Sid read
 
 abbrev pub sid_field_reads : Option SecurityId → List ℕ → Result SecurityId SddlFault
 sid_field_reads domain text =
@@ -83,11 +75,11 @@ pub data Said : Type 0 where
   acl_said : Which → AclFlags → AclPart → Said
 
 -- no ACE stands in a null ACL
-unfoldable pub entries_read : Option SecurityId → Bool → List Piece → Result AclPart SddlFault
-entries_read domain true body = if has_aces body then Err fault.Flags else Ok acl.Null
-entries_read domain false body = do
-  entries ← each (λ a. ace_reads domain (ace_cuts a)) (aces body)
-  Ok (acl.List entries)
+unfoldable pub acl_part_reads : Option SecurityId → Bool → List Piece → Result AclPart SddlFault
+acl_part_reads domain true body = if has_aces body then Err fault.Flags else Ok acl.Null
+acl_part_reads domain false body = do
+  list ← each (λ a. ace_reads domain (ace_cuts a)) (aces body)
+  Ok (acl.List list)
 
 -- blanks at the ends of the SID, and of what stands before the first ACE, do not count
 unfoldable pub body_reads : Option SecurityId → Head → List Piece → Result Said SddlFault
@@ -96,8 +88,8 @@ body_reads domain (head.Sid p) body = do
   Ok (sid_said p s)
 body_reads domain (head.Acl w) body = do
   f ← field_reads fault.Flags front_reads (trim (front body))
-  entries ← entries_read domain f.null body
-  Ok (acl_said w f.flags entries)
+  part ← acl_part_reads domain f.null body
+  Ok (acl_said w f.flags part)
 
 abbrev pub section_reads : Option SecurityId → Section → Result Said SddlFault
 section_reads domain s = body_reads domain s.head s.body
@@ -152,8 +144,7 @@ first_large (sid_said p s ∷ others) = first_large others
 first_large (acl_said w f a ∷ others) = if nat_lt most_acl (acl_part_size a) then Some w else first_large others
 
 abbrev pub unless_large : Option Which → Descriptor → Result Descriptor SddlFault
-unless_large None d = Ok d
-unless_large (Some w) d = Err (fault.AclTooLarge w)
+unless_large large d = unless (option_map fault.AclTooLarge large) d
 
 abbrev pub sections_mean : Option SecurityId → List Section → Result Descriptor SddlFault
 sections_mean domain sections = do
@@ -165,5 +156,5 @@ sections_mean domain sections = do
 unfoldable pub means : List ℕ → Option SecurityId → Result Descriptor SddlFault
 means text domain =
     if not (is_shaped text) then Err fault.Shape
-    else (if has_twice (parts_of text).parts then Err fault.PartTwice
-    else sections_mean domain (parts_of text).parts)
+    else (if has_twice (sections_of text).parts then Err fault.PartTwice
+    else sections_mean domain (sections_of text).parts)

@@ -1,16 +1,18 @@
 //! A line, read as it comes: byte by byte, and together what stands whole in a piece.
 
-ghost use Rattle.std.specs.Prelude.{◌≡◌, ◌≤◌, ◌==◌, ℕ, List, [], ◌∷◌, ◌++◌, length, take, ◌||◌, if◌then◌else◌, true, false, Option, Some, None, Ok, Err, IfOk, IfSome, MatchResult};
-ghost use Rattle.std.specs.Option.{option_copied};
+ghost use Rattle.std.specs.Prelude.{◌≡◌, ◌≤◌, ◌==◌, ℕ, List, [], ◌∷◌, ◌++◌, codes, length, take, ◌||◌, if◌then◌else◌, true, false, Option, Some, None, Ok, Err, IfOk, IfSome, MatchResult};
+ghost use Rattle.std.specs.Option.{option_copied, option_to_list};
+ghost use Rattle.std.specs.Str.{byte as char};
 ghost use Rattle.sd_core.specs.Sid.{IsSid, SecurityId};
 ghost use Rattle.sd_view.specs.Descriptor.{IsDescriptor, Shows};
 ghost use Rattle.sd_binary.specs.Draft.{IsWritten};
 ghost use Rattle.sd_reader.specs.Inner.Held.{IsHeld, no_text, held_text};
 ghost use Rattle.sd_reader.specs.Line.{byte, head_at, head_of as head_named, pieces_from};
 ghost use Rattle.sd_reader.specs.Inner.FoldedReading.{FieldsRead, finished, reads_as, take_field};
-ghost use Rattle.sd_reader.specs.Meaning.{and_then, means};
-ghost use Rattle.sd_reader.specs.Inner.Reads.{CanTake, HasRead, Takes};
-ghost use Rattle.sd_reader.specs.Inner.Progress.{ended_with, is_inside, is_seen, state_of, result_or, with_head};
+ghost use Rattle.sd_rights.specs.Chains.{and_then, unless};
+ghost use Rattle.sd_reader.specs.Meaning.{means};
+ghost use Rattle.sd_reader.specs.Inner.Reads.{CanTake, HasReadFields, Takes};
+ghost use Rattle.sd_reader.specs.Inner.Progress.{ended_with, is_inside, is_seen, state_of, with_head};
 
 use crate::fault::SddlFault;
 use crate::field_text::FieldText;
@@ -40,7 +42,7 @@ pub struct SddlReader {
 
 impl SddlReader {
     ghost use Rattle.sd_reader.specs.SddlReading.{IsReading, ReadsSddl};
-    ghost use Rattle.sd_reader.specs.Inner.Reads.{Ends, FedTo, HasRead, LineHasRead, IsCalm, IsReader, IsText, Reads, Steps, StepsOn, StepsText, answer_at, waiting};
+    ghost use Rattle.sd_reader.specs.Inner.Reads.{Ends, FedTo, HasReadFields, LineHasRead, IsCalm, IsReader, IsText, Reads, Steps, StepsOn, StepsText, answer_at};
 
     /// A reader that was fed nothing.
     pub fn new(domain: Option<Sid>, buf: &mut SdBuf) -> Self
@@ -86,7 +88,7 @@ impl SddlReader {
         requires here { self.old.state ≡ State.Ace field }
         requires calm { IsCalm self.old }
         requires held { (t : FieldsRead) × LineHasRead self.old buf.old t }
-        ensures answers { Steps self.old buf.old (41 ∷ []) self.new buf.new }
+        ensures answers { Steps self.old buf.old (codes ")") self.new buf.new }
         ensures calm { IsCalm self.new }
         ensures pending { self.new.pending ≡ self.old.pending }
     {
@@ -109,7 +111,7 @@ impl SddlReader {
         requires here { self.old.state ≡ State.Ace field }
         requires calm { IsCalm self.old }
         requires held { (t : FieldsRead) × LineHasRead self.old buf.old t }
-        ensures answers { Steps self.old buf.old (59 ∷ []) self.new buf.new }
+        ensures answers { Steps self.old buf.old (codes ";") self.new buf.new }
         ensures calm { IsCalm self.new }
         ensures pending { self.new.pending ≡ self.old.pending }
     {
@@ -148,7 +150,7 @@ impl SddlReader {
         requires here { is_inside self.old.state ≡ false }
         requires calm { IsCalm self.old }
         requires held { (t : FieldsRead) × LineHasRead self.old buf.old t }
-        ensures answers { Steps self.old buf.old (40 ∷ []) self.new buf.new }
+        ensures answers { Steps self.old buf.old (codes "(") self.new buf.new }
         ensures calm { IsCalm self.new }
         ensures pending { self.new.pending ≡ self.old.pending }
     {
@@ -175,9 +177,9 @@ impl SddlReader {
     fn put_text(&mut self, b: u8)
         requires here { is_inside self.old.state ≡ false }
         requires calm { IsCalm self.old }
-        requires open { (b == 40) ≡ false }
-        requires close { (b == 41) ≡ false }
-        requires colon { (b == 58) ≡ false }
+        requires open { (b == char "(") ≡ false }
+        requires close { (b == char ")") ≡ false }
+        requires colon { (b == char ":") ≡ false }
         ensures answers { (t : FieldsRead) (rest : List ℕ) → head_at (byte b) (pieces_from false rest).after ≡ None → answer_at self.new t rest ≡ answer_at self.old t (b ∷ rest) }
         ensures calm { IsCalm self.new }
         ensures same { self.new ≡ record self.old { sound = self.new.sound; field = self.new.field } }
@@ -198,7 +200,7 @@ impl SddlReader {
         requires calm { IsCalm self.old }
         requires letter { head_named letter ≡ Some head }
         requires held { (t : FieldsRead) × LineHasRead self.old buf.old t }
-        ensures answers { Steps self.old buf.old (letter ∷ 58 ∷ []) self.new buf.new }
+        ensures answers { Steps self.old buf.old (letter ∷ codes ":") self.new buf.new }
         ensures calm { IsCalm self.new }
         ensures pending { self.new.pending ≡ self.old.pending }
     {
@@ -227,8 +229,8 @@ impl SddlReader {
         requires here { is_inside self.old.state ≡ false }
         requires calm { IsCalm self.old }
         requires held { (t : FieldsRead) × LineHasRead self.old buf.old t }
-        ensures read { (t : FieldsRead) → LineHasRead self.old buf.old t → (u : FieldsRead) × (self.new.fault ≡ None → HasRead self.new.fields buf.new u)
-            × (result_or u self.new.fault ≡ ended_with self.old.fields.domain self.old.state self.old.field (result_or t self.old.fault)) }
+        ensures read { (t : FieldsRead) → LineHasRead self.old buf.old t → (u : FieldsRead) × (self.new.fault ≡ None → HasReadFields self.new.fields buf.new u)
+            × (unless self.new.fault u ≡ ended_with self.old.fields.domain self.old.state self.old.field (unless self.old.fault t)) }
         ensures cleared { self.new.field ≡ no_text }
         ensures domain { self.new.fields.domain ≡ self.old.fields.domain }
         ensures same { self.new ≡ record self.old { field = self.new.field; fault = self.new.fault; fields = self.new.fields } }
@@ -435,9 +437,9 @@ fn end_field(
     slot: Slot,
 )
     requires clean { IsHeld field.old }
-    requires held { (t : FieldsRead) × (fault.old ≡ None → HasRead fields.old buf.old t × CanTake slot t) }
-    ensures read { (t : FieldsRead) → (fault.old ≡ None → HasRead fields.old buf.old t) → (u : FieldsRead) × (fault.new ≡ None → HasRead fields.new buf.new u)
-        × (result_or u fault.new ≡ and_then (result_or t fault.old) (λ r. take_field fields.old.domain r slot (held_text field.old))) }
+    requires held { (t : FieldsRead) × (fault.old ≡ None → HasReadFields fields.old buf.old t × CanTake slot t) }
+    ensures read { (t : FieldsRead) → (fault.old ≡ None → HasReadFields fields.old buf.old t) → (u : FieldsRead) × (fault.new ≡ None → HasReadFields fields.new buf.new u)
+        × (unless fault.new u ≡ and_then (unless fault.old t) (λ r. take_field fields.old.domain r slot (held_text field.old))) }
     ensures cleared { field.new ≡ no_text }
     ensures domain { fields.new.domain ≡ fields.old.domain }
 {
@@ -454,9 +456,9 @@ fn read_held(
     slot: Slot,
 )
     requires clean { IsHeld field.now }
-    requires held { (t : FieldsRead) × (fault.old ≡ None → HasRead fields.old buf.old t × CanTake slot t) }
-    ensures read { (t : FieldsRead) → (fault.old ≡ None → HasRead fields.old buf.old t) → (u : FieldsRead) × (fault.new ≡ None → HasRead fields.new buf.new u)
-        × (result_or u fault.new ≡ and_then (result_or t fault.old) (λ r. take_field fields.old.domain r slot (held_text field.now))) }
+    requires held { (t : FieldsRead) × (fault.old ≡ None → HasReadFields fields.old buf.old t × CanTake slot t) }
+    ensures read { (t : FieldsRead) → (fault.old ≡ None → HasReadFields fields.old buf.old t) → (u : FieldsRead) × (fault.new ≡ None → HasReadFields fields.new buf.new u)
+        × (unless fault.new u ≡ and_then (unless fault.old t) (λ r. take_field fields.old.domain r slot (held_text field.now))) }
     ensures domain { fields.new.domain ≡ fields.old.domain }
 {
     if fault.is_some() {
@@ -474,8 +476,8 @@ fn take_held(
     field: &FieldText,
 ) -> Result<(), SddlFault>
     requires clean { IsHeld field.now }
-    requires held { (t : FieldsRead) × HasRead fields.old buf.old t × CanTake slot t }
-    ensures read { (t : FieldsRead) → HasRead fields.old buf.old t → Takes (take_field fields.old.domain t slot (held_text field.now)) result fields.new buf.new }
+    requires held { (t : FieldsRead) × HasReadFields fields.old buf.old t × CanTake slot t }
+    ensures read { (t : FieldsRead) → HasReadFields fields.old buf.old t → Takes (take_field fields.old.domain t slot (held_text field.now)) result fields.new buf.new }
     ensures domain { fields.new.domain ≡ fields.old.domain }
 {
     if field.is_broken() {

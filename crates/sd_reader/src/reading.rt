@@ -49,11 +49,11 @@ impl FieldReader {
     ghost use Rattle.sd_binary.specs.Draft.{IsOpen, closed};
     ghost use Rattle.sd_reader.specs.declared.line.Head.TheVariants as head;
     ghost use Rattle.sd_reader.specs.Inner.FoldedReading.{FieldsRead, begun_or_null, finished, nothing_read, with_flags, with_owner_or_group};
-    ghost use Rattle.sd_reader.specs.Inner.Reads.{AreAceFields, CanTake, Ends, HasRead, Lacks, Takes};
+    ghost use Rattle.sd_reader.specs.Inner.Reads.{AreAceFields, CanTake, Ends, HasReadFields, Lacks, Takes};
 
     /// A reader that has read nothing.
     pub fn new(domain: Option<Sid>, buf: &mut SdBuf) -> FieldReader
-        ensures held { HasRead result buf.new nothing_read }
+        ensures held { HasReadFields result buf.new nothing_read }
         ensures domain { result.domain ≡ domain }
     {
         FieldReader {
@@ -77,8 +77,8 @@ impl FieldReader {
         text: &[u8],
     ) -> Result<(), SddlFault>
         requires clean { is_unreadable text.now ≡ false }
-        requires held { (t : FieldsRead) × HasRead self.old buf.old t × CanTake slot t }
-        ensures read { (t : FieldsRead) → HasRead self.old buf.old t → Takes (take_field self.old.domain t slot text.now) result self.new buf.new }
+        requires held { (t : FieldsRead) × HasReadFields self.old buf.old t × CanTake slot t }
+        ensures read { (t : FieldsRead) → HasReadFields self.old buf.old t → Takes (take_field self.old.domain t slot text.now) result self.new buf.new }
         ensures domain { self.new.domain ≡ self.old.domain }
     {
         match slot {
@@ -90,8 +90,8 @@ impl FieldReader {
 
     // An owner or a group.
     fn take_sid(&mut self, buf: &mut SdBuf, part: SidPart, text: &[u8]) -> Result<(), SddlFault>
-        requires { (t : FieldsRead) × HasRead self.old buf.old t × Lacks (head.Sid part) t }
-        ensures read { (t : FieldsRead) → HasRead self.old buf.old t → Takes (with_sid (with_owner_or_group part t) (sid_reads text.now self.old.domain)) result self.new buf.new }
+        requires { (t : FieldsRead) × HasReadFields self.old buf.old t × Lacks (head.Sid part) t }
+        ensures read { (t : FieldsRead) → HasReadFields self.old buf.old t → Takes (with_sid (with_owner_or_group part t) (sid_reads text.now self.old.domain)) result self.new buf.new }
         ensures domain { self.new.domain ≡ self.old.domain }
     {
         match Sid::from_text(text, self.domain.as_ref()) {
@@ -104,8 +104,8 @@ impl FieldReader {
     }
 
     fn put_sid(&mut self, buf: &mut SdBuf, part: SidPart, sid: &Sid)
-        requires { (t : FieldsRead) × HasRead self.old buf.old t × Lacks (head.Sid part) t }
-        ensures held { (t : FieldsRead) → HasRead self.old buf.old t → HasRead self.new buf.new (with_owner_or_group part t sid.now) }
+        requires { (t : FieldsRead) × HasReadFields self.old buf.old t × Lacks (head.Sid part) t }
+        ensures held { (t : FieldsRead) → HasReadFields self.old buf.old t → HasReadFields self.new buf.new (with_owner_or_group part t sid.now) }
         ensures domain { self.new.domain ≡ self.old.domain }
     {
         self.close_acl(buf);
@@ -119,8 +119,8 @@ impl FieldReader {
 
     // Ends the ACL at hand, where one is open.
     fn close_acl(&mut self, buf: &mut SdBuf)
-        requires { (t : FieldsRead) × HasRead self.old buf.old t }
-        ensures held { (t : FieldsRead) → HasRead self.old buf.old t → HasRead self.new buf.new (record t { parts = closed t.parts }) }
+        requires { (t : FieldsRead) × HasReadFields self.old buf.old t }
+        ensures held { (t : FieldsRead) → HasReadFields self.old buf.old t → HasReadFields self.new buf.new (record t { parts = closed t.parts }) }
         ensures same { self.new ≡ record self.old { builder = self.new.builder; open_acl = self.new.open_acl } }
     {
         if self.large.is_none() && self.open_acl.is_some() {
@@ -138,8 +138,8 @@ impl FieldReader {
         has_aces: bool,
         text: &[u8],
     ) -> Result<(), SddlFault>
-        requires { (t : FieldsRead) × HasRead self.old buf.old t × Lacks (head.Acl which) t }
-        ensures read { (t : FieldsRead) → HasRead self.old buf.old t → Takes (take_front which has_aces t (front_reads text.now)) result self.new buf.new }
+        requires { (t : FieldsRead) × HasReadFields self.old buf.old t × Lacks (head.Acl which) t }
+        ensures read { (t : FieldsRead) → HasReadFields self.old buf.old t → Takes (take_front which has_aces t (front_reads text.now)) result self.new buf.new }
         ensures domain { self.new.domain ≡ self.old.domain }
     {
         let Some(front) = front_from_text(text) else {
@@ -157,8 +157,8 @@ impl FieldReader {
     }
 
     fn begin_acl(&mut self, buf: &mut SdBuf, which: Which, null: bool)
-        requires { (t : FieldsRead) × HasRead self.old buf.old t × Lacks (head.Acl which) t }
-        ensures held { (t : FieldsRead) → HasRead self.old buf.old t → HasRead self.new buf.new (record t { parts = begun_or_null which null (closed t.parts) }) }
+        requires { (t : FieldsRead) × HasReadFields self.old buf.old t × Lacks (head.Acl which) t }
+        ensures held { (t : FieldsRead) → HasReadFields self.old buf.old t → HasReadFields self.new buf.new (record t { parts = begun_or_null which null (closed t.parts) }) }
         ensures domain { self.new.domain ≡ self.old.domain }
     {
         self.close_acl(buf);
@@ -181,8 +181,8 @@ impl FieldReader {
         field: AceField,
         text: &[u8],
     ) -> Result<(), SddlFault>
-        requires { (t : FieldsRead) × HasRead self.old buf.old t × IsOpen t.parts }
-        ensures read { (t : FieldsRead) → HasRead self.old buf.old t → Takes (take_ace_field self.old.domain t field text.now) result self.new buf.new }
+        requires { (t : FieldsRead) × HasReadFields self.old buf.old t × IsOpen t.parts }
+        ensures read { (t : FieldsRead) → HasReadFields self.old buf.old t → Takes (take_ace_field self.old.domain t field text.now) result self.new buf.new }
         ensures domain { self.new.domain ≡ self.old.domain }
     {
         match field {
@@ -224,7 +224,7 @@ impl FieldReader {
     /// Reads the ACE at the front of the text, from behind its first parenthesis, appends it, and answers what follows its
     /// last one. None where none stands there whole, or where a field does not read: then nothing has changed.
     pub fn take_ace<'a>(&mut self, buf: &mut SdBuf, text: &'a [u8]) -> Option<&'a [u8]>
-        requires held { (t : FieldsRead) × HasRead self.old buf.old t × IsOpen t.parts }
+        requires held { (t : FieldsRead) × HasReadFields self.old buf.old t × IsOpen t.parts }
         ensures read { MatchOption result ((self.new ≡ self.old) × (buf.new ≡ buf.old))
             (λ rest. TakesAce self.old buf.old text.now self.new buf.new rest.now) }
         ensures domain { self.new.domain ≡ self.old.domain }
@@ -251,7 +251,7 @@ impl FieldReader {
     #[inline(never)]
     fn end_guids<'a>(&mut self, buf: &mut SdBuf, ace: AceFields, text: &'a [u8]) -> Option<&'a [u8]>
         requires sound { AreAceFields ace }
-        requires held { (t : FieldsRead) × HasRead self.old buf.old t × IsOpen t.parts }
+        requires held { (t : FieldsRead) × HasReadFields self.old buf.old t × IsOpen t.parts }
         ensures read { MatchOption result ((self.new ≡ self.old) × (buf.new ≡ buf.old))
             (λ rest. EndsWithObjects self.old buf.old ace text.now self.new buf.new rest.now) }
         ensures domain { self.new.domain ≡ self.old.domain }
@@ -272,7 +272,7 @@ impl FieldReader {
     #[inline(always)]
     fn end_ace<'a>(&mut self, buf: &mut SdBuf, ace: AceFields, text: &'a [u8]) -> Option<&'a [u8]>
         requires sound { AreAceFields ace }
-        requires held { (t : FieldsRead) × HasRead self.old buf.old t × IsOpen t.parts }
+        requires held { (t : FieldsRead) × HasReadFields self.old buf.old t × IsOpen t.parts }
         ensures read { MatchOption result ((self.new ≡ self.old) × (buf.new ≡ buf.old))
             (λ rest. EndsAce self.old buf.old ace text.now self.new buf.new rest.now) }
         ensures domain { self.new.domain ≡ self.old.domain }
@@ -290,8 +290,8 @@ impl FieldReader {
 
     // The SID of the ACE at hand, which ends it.
     fn take_trustee(&mut self, buf: &mut SdBuf, text: &[u8]) -> Result<(), SddlFault>
-        requires { (t : FieldsRead) × HasRead self.old buf.old t × IsOpen t.parts }
-        ensures read { (t : FieldsRead) → HasRead self.old buf.old t → Takes (with_sid (with_trustee t) (sid_reads text.now self.old.domain)) result self.new buf.new }
+        requires { (t : FieldsRead) × HasReadFields self.old buf.old t × IsOpen t.parts }
+        ensures read { (t : FieldsRead) → HasReadFields self.old buf.old t → Takes (with_sid (with_trustee t) (sid_reads text.now self.old.domain)) result self.new buf.new }
         ensures domain { self.new.domain ≡ self.old.domain }
     {
         match Sid::from_text(text, self.domain.as_ref()) {
@@ -306,8 +306,8 @@ impl FieldReader {
     // Appends the ACE at hand, unless an ACL is too large already.
     #[inline(always)]
     fn put_ace(&mut self, buf: &mut SdBuf, sid: Sid)
-        requires { (t : FieldsRead) × HasRead self.old buf.old t × IsOpen t.parts }
-        ensures held { (t : FieldsRead) → HasRead self.old buf.old t → HasRead self.new buf.new (with_trustee t sid) }
+        requires { (t : FieldsRead) × HasReadFields self.old buf.old t × IsOpen t.parts }
+        ensures held { (t : FieldsRead) → HasReadFields self.old buf.old t → HasReadFields self.new buf.new (with_trustee t sid) }
         ensures domain { self.new.domain ≡ self.old.domain }
     {
         if self.large.is_some() {
@@ -325,8 +325,8 @@ impl FieldReader {
     /// Ends the descriptor.
     #[tactic(auto, unfolding(crate::specs::Inner::FoldedReading::finished))]
     pub fn finish(mut self, buf: &mut SdBuf) -> Result<(), SddlFault>
-        requires { (t : FieldsRead) × HasRead self buf.old t }
-        ensures { (t : FieldsRead) → HasRead self buf.old t → Ends (finished (Ok t)) result buf.new }
+        requires { (t : FieldsRead) × HasReadFields self buf.old t }
+        ensures { (t : FieldsRead) → HasReadFields self buf.old t → Ends (finished (Ok t)) result buf.new }
     {
         if let Some(which) = self.large {
             return Err(SddlFault::AclTooLarge(which));

@@ -1,6 +1,7 @@
 //! The fields of an ACE that stands whole at the front of a text, read where they stand and not copied.
 
 ghost use Rattle.std.specs.Prelude.{◌≡◌, ◌≤◌, ◌/◌, ◌%◌, ◌∷◌, ◌++◌, take, IfSome, Some};
+ghost use Rattle.std.specs.Str.{byte as char};
 ghost use Rattle.sd_rights.specs.Flags.{flags_reads};
 ghost use Rattle.sd_rights.specs.Limits.{most_field};
 ghost use Rattle.sd_reader.specs.FieldTexts.{kind_reads, object_reads};
@@ -8,7 +9,7 @@ ghost use Rattle.sd_reader.specs.Inner.WholeAce.{FieldAt, ObjectsAt};
 
 use crate::field_texts::object_from_text;
 use sd_core::{AceKind, flags_from_text};
-use sd_rights::MOST_FIELD_SIZE;
+use sd_rights::{INHERIT_ONLY, INHERITED, MOST_FIELD_SIZE, ONWARD};
 use uuid::Uuid;
 
 /// The characters of a GUID.
@@ -17,7 +18,7 @@ const GUID_TEXT_SIZE: usize = 36;
 /// The kind at the front of a text, and what follows its semicolon. None where there is none.
 #[inline(always)]
 pub fn front_kind(text: &[u8]) -> Option<(AceKind, &[u8])>
-    ensures { IfSome result (λ r. FieldAt (λ t. kind_reads t ≡ Some r.0) 59 text.now r.1.now) }
+    ensures { IfSome result (λ r. FieldAt (λ t. kind_reads t ≡ Some r.0) (char ";") text.now r.1.now) }
 {
     // Most ACEs allow.
     if text.len() > 1 && text[0] == b'A' && text[1] == b';' {
@@ -31,7 +32,7 @@ pub fn front_kind(text: &[u8]) -> Option<(AceKind, &[u8])>
 /// The flags, and what follows their semicolon.
 #[inline(always)]
 pub fn front_flags(text: &[u8]) -> Option<(u8, &[u8])>
-    ensures found { IfSome result (λ r. FieldAt (λ t. flags_reads t ≡ Some r.0) 59 text.now r.1.now) }
+    ensures found { IfSome result (λ r. FieldAt (λ t. flags_reads t ≡ Some r.0) (char ";") text.now r.1.now) }
     ensures clear { IfSome result (λ r. r.0 / 0x20 % 2 ≡ 0) }
 {
     if let Some(usual) = usual_flags(text) {
@@ -45,28 +46,28 @@ pub fn front_flags(text: &[u8]) -> Option<(u8, &[u8])>
 // The same, for the flags that most ACEs have: none, ID, or OICI with IO, ID or both behind it.
 #[inline(always)]
 fn usual_flags(text: &[u8]) -> Option<(u8, &[u8])>
-    ensures found { IfSome result (λ r. FieldAt (λ t. flags_reads t ≡ Some r.0) 59 text.now r.1.now) }
+    ensures found { IfSome result (λ r. FieldAt (λ t. flags_reads t ≡ Some r.0) (char ";") text.now r.1.now) }
     ensures clear { IfSome result (λ r. r.0 / 0x20 % 2 ≡ 0) }
 {
     if let Some(rest) = after(text, b";") {
         return Some((0, rest));
     }
     if let Some(rest) = after(text, b"ID;") {
-        return Some((0x10, rest));
+        return Some((INHERITED, rest));
     }
     let containers = after(text, b"OICI")?;
     if let Some(rest) = after(containers, b";") {
-        return Some((0x03, rest));
+        return Some((ONWARD, rest));
     }
     if let Some(rest) = after(containers, b"ID;") {
-        return Some((0x13, rest));
+        return Some((ONWARD + INHERITED, rest));
     }
     let children = after(containers, b"IO")?;
     if let Some(rest) = after(children, b";") {
-        return Some((0x0b, rest));
+        return Some((ONWARD + INHERIT_ONLY, rest));
     }
     let rest = after(children, b"ID;")?;
-    Some((0x1b, rest))
+    Some((ONWARD + INHERIT_ONLY + INHERITED, rest))
 }
 
 /// What follows this text at the front.
@@ -93,7 +94,7 @@ pub fn front_objects(kind: AceKind, text: &[u8]) -> Option<(Option<Uuid>, Option
 
 // An object type, and what follows its semicolon: nothing, or a GUID.
 fn front_object(kind: AceKind, text: &[u8]) -> Option<(Option<Uuid>, &[u8])>
-    ensures { IfSome result (λ r. FieldAt (λ t. object_reads kind t ≡ Some r.0) 59 text.now r.1.now) }
+    ensures { IfSome result (λ r. FieldAt (λ t. object_reads kind t ≡ Some r.0) (char ";") text.now r.1.now) }
 {
     let empty = text.len() > 0 && text[0] == b';';
     let size = if empty { 0 } else { GUID_TEXT_SIZE };
@@ -109,7 +110,7 @@ fn front_object(kind: AceKind, text: &[u8]) -> Option<(Option<Uuid>, &[u8])>
 /// What stands before the first semicolon, and what follows it. None where it stands behind the places of a field.
 #[inline(always)]
 pub fn cut(text: &[u8]) -> Option<(&[u8], &[u8])>
-    ensures { IfSome result (λ r. text.now ≡ r.0.now ++ 59 ∷ r.1.now) }
+    ensures { IfSome result (λ r. text.now ≡ r.0.now ++ char ";" ∷ r.1.now) }
 {
     for place in 0..text.len().min(MOST_FIELD_SIZE + 1) {
         if text[place] == b';' {
@@ -122,7 +123,7 @@ pub fn cut(text: &[u8]) -> Option<(&[u8], &[u8])>
 /// What follows the parenthesis behind so many bytes at the front, which are no more than a field has.
 #[inline(always)]
 pub fn behind(text: &[u8], size: usize) -> Option<&[u8]>
-    ensures { IfSome result (λ r. (size ≤ most_field) × (text.now ≡ take size text.now ++ 41 ∷ r.now)) }
+    ensures { IfSome result (λ r. (size ≤ most_field) × (text.now ≡ take size text.now ++ char ")" ∷ r.now)) }
 {
     if size > MOST_FIELD_SIZE || text.len() <= size || text[size] != b')' {
         return None;

@@ -4,7 +4,7 @@ use Rattle.std.proofs.Math.Seq.{take-append_seam}
 use Rattle.std.proofs.lemmas.List.{drop-set, take-take}
 use Rattle.std.specs.Fmt.{decimal, digit_glyph}
 use Rattle.std.specs.Prelude.{◌==◌}
-use Rattle.sd_rights.proofs.Bools.{both}
+use Rattle.std.proofs.lemmas.Bool.{and_parts}
 use Rattle.sd_rights.specs.declared.digits.TheConstants.{PAIRS}
 use Rattle.sd_rights.specs.Numbers.{hex_digits}
 use Rattle.std.proofs.lemmas.Fmt.{decimal_digit, decimal_step}
@@ -66,8 +66,8 @@ below : (n p : ℕ) → are_pairs n ≡ true → p < n
 unfolding are_pairs
 below zero p all h = absurd (omega arith)
 below (suc n) p all h =
-    let parts = both _ (are_pairs n) all in
-    let here = both (get_or PAIRS (2 * n) 0 == 48 + n / 10) _ parts.0 in
+    let parts = and_parts _ (are_pairs n) all in
+    let here = and_parts (get_or PAIRS (2 * n) 0 == 48 + n / 10) _ parts.0 in
     elim (eq-zero-or-pos (n - p)) [
       | inl z ↦ let e : p ≡ n = omega arith in rw e (eqb-true _ _ here.0, eqb-true _ _ here.1)
       | inr g ↦ below n p parts.1 (omega arith)

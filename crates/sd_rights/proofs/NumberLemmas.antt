@@ -7,7 +7,7 @@ use Rattle.std.specs.List.{list_all}
 use Rattle.std.specs.Str.Parse.{digits_value_after}
 use Rattle.std.proofs.Math.Nat.{mul-le-mul_left}
 use Rattle.std.proofs.lemmas.Bool.Decides.{nat_tests}
-use Rattle.sd_rights.specs.Rights.{number}
+use Rattle.sd_rights.specs.Rights.{mask_reads}
 use Rattle.sd_rights.specs.Numbers.{number_after, number as number_below}
 
 -- 1. A number that grew too large stays too large.
@@ -57,7 +57,7 @@ tested : (a : Bool) (n : ℕ)
 tested true n = refl
 tested false n = refl
 
-pub number_is : (base : ℕ) (text : List ℕ) → 0 < length text → number_below base (2 ^ 32) text ≡ number base text
+pub number_is : (base : ℕ) (text : List ℕ) → 0 < length text → number_below base (2 ^ 32) text ≡ mask_reads base text
 number_is base text some =
     rw (after_is base 0 text, lt-ltb 0 (length text) some)
     (tested (list_all (λ b. is_digit b base) text) (digits_value_after base 0 text))

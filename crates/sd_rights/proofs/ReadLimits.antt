@@ -8,7 +8,7 @@ use Rattle.std.proofs.lemmas.Bool.Decides.{nat_tests}
 use Rattle.std.proofs.lemmas.Nat.{le_or_l}
 use Rattle.sd_rights.specs.Flags.{flags_reads}
 use Rattle.sd_rights.specs.Names.{run_of}
-use Rattle.sd_rights.specs.Rights.{after_zero, all_rights, number, rights_reads, short_rights_reads}
+use Rattle.sd_rights.specs.Rights.{after_zero, all_rights, mask_reads, rights_reads, short_rights_reads}
 use Rattle.sd_rights.specs.declared.flags.TheConstants.{FLAGS}
 use Rattle.sd_rights.proofs.FlagLaws.{flags-clear}
 use Rattle.sd_rights.proofs.NameLaws.{among, run-among}
@@ -32,7 +32,7 @@ run-limit text = cases (run_of all_rights text) (run-among 0xffffffff all_rights
     cases None h = tt
     cases (Some n) h = among-word n h
 
-numeral-limit : (base : ℕ) (text : List ℕ) → IfSome (number base text) (λ n. n < 2 ^ 32)
+numeral-limit : (base : ℕ) (text : List ℕ) → IfSome (mask_reads base text) (λ n. n < 2 ^ 32)
 numeral-limit base text = by_test (list_all (λ c. is_digit c base) text) (nat_lt 0 (length text))
     (nat_lt (digits_value base text) (2 ^ 32)) refl
   where
@@ -48,7 +48,7 @@ zero-limit : (text : List ℕ) → IfSome (after_zero text) (λ n. n < 2 ^ 32)
 zero-limit [] = omega arith
 zero-limit (c ∷ cs) = by_test (c == 120 || c == 88)
   where
-    by_test : (b : Bool) → IfSome (if b then number 16 cs else number 8 (c ∷ cs)) (λ n. n < 2 ^ 32)
+    by_test : (b : Bool) → IfSome (if b then mask_reads 16 cs else mask_reads 8 (c ∷ cs)) (λ n. n < 2 ^ 32)
     by_test true = numeral-limit 16 cs
     by_test false = numeral-limit 8 (c ∷ cs)
 
@@ -57,7 +57,7 @@ short-limit [] = omega arith
 short-limit (c ∷ cs) = by_test (is_digit c 10) (c == 48)
   where
     by_test : (d z : Bool)
-        → IfSome (if d then (if z then after_zero cs else number 10 (c ∷ cs)) else run_of all_rights (c ∷ cs))
+        → IfSome (if d then (if z then after_zero cs else mask_reads 10 (c ∷ cs)) else run_of all_rights (c ∷ cs))
         (λ n. n < 2 ^ 32)
     by_test true true = zero-limit cs
     by_test true false = numeral-limit 10 (c ∷ cs)

@@ -1,14 +1,15 @@
 -- Access rights read back from their text, and the text is short.
 use Rattle.std.proofs.Common.{◌≡◌, ℕ, ◌^◌, ◌<◌, ◌≤◌, Bool, true, false, List, [], ◌∷◌, length, Some, None, arith, refl, sym, ap, ◌∙◌, eqb-true, lt-ltb}
-use Rattle.std.specs.Prelude.{Option, bit_and, ◌==◌, not, nat_lt, if◌then◌else◌}
+use Rattle.std.specs.Prelude.{Option, bit_and, ◌==◌, not, nat_lt, if◌then◌else◌, option_map, unwrap_or}
 use Rattle.std.specs.List.{find, list_all}
 use Rattle.std.specs.Char.{is_digit, digit_value}
 use Rattle.std.specs.Fmt.{digits}
 use Rattle.std.specs.Str.Parse.{AllDigits, IsNumeral, digits_value}
 use Rattle.std.proofs.lemmas.Fmt.{digits_is_IsNumeral}
 use Rattle.std.proofs.lemmas.Bool.Decides.{nat_tests}
+use Rattle.std.proofs.lemmas.Bool.{not-true}
 use Rattle.sd_rights.specs.Names.{run_of, names_of, named_bits}
-use Rattle.sd_rights.specs.Rights.{all_rights, number, short_rights_reads, rights_reads, is_label, hex_text, names_or_hex, name_or, rights_text}
+use Rattle.sd_rights.specs.Rights.{all_rights, mask_reads, short_rights_reads, rights_reads, is_label, hex_text, names_or_hex, rights_text, name_letters}
 use Rattle.sd_rights.specs.declared.kinds.AceKind.{AceKind}
 use Rattle.sd_rights.specs.declared.names.NamedBits.{NamedBits}
 use Rattle.sd_rights.specs.declared.rights_table.TheConstants.{SINGLES, SINGLE_BITS, COMPOUNDS, LABELS, LABEL_BITS}
@@ -46,13 +47,9 @@ labels_letters : list_all is_letter LABELS ≡ true
 unfolding is_letter
 labels_letters = refl
 
-not_true : (b : Bool) → not b ≡ true → b ≡ false
-not_true true e = absurd cc
-not_true false e = refl
-
 no_digit : (e : NamedBits) → is_letter e ≡ true → is_digit e.first 10 ≡ false
 unfolding is_letter
-no_digit e h = not_true _ h
+no_digit e h = not-true _ h
 
 -- each of the names of one bit, and so the bits that a mask shares with all of them have names
 
@@ -138,12 +135,12 @@ one_name e h letter = not_long (e.first ∷ e.second ∷ []) (omega arith)
 
 -- 3. Hex digits read back.
 
-all_digits : (base : ℕ) (text : List ℕ) → AllDigits base text → list_all (λ c. is_digit c base) text ≡ true
+pub all_digits : (base : ℕ) (text : List ℕ) → AllDigits base text → list_all (λ c. is_digit c base) text ≡ true
 all_digits base [] a = refl
 all_digits base (c ∷ cs) a = rw (lt-ltb (digit_value c) base a.0) (all_digits base cs a.1)
 
 number-reads : (base n : ℕ) (text : List ℕ) → IsNumeral base text → digits_value base text ≡ n → n < 2 ^ 32
-    → number base text ≡ Some n
+    → mask_reads base text ≡ Some n
 number-reads base n text i v s = rw (lt-ltb 0 (length text) i.0, all_digits base text i.1, v, lt-ltb n (2 ^ 32) s) refl
 
 length-hex : (mask : ℕ) → mask < 2 ^ 32 → length (hex_text mask) ≤ 10
@@ -168,15 +165,16 @@ names_or_hex-reads es mask h letters few s = by_bits (named_bits es mask == mask
 
 whole-reads : (es : List NamedBits) (mask : ℕ) (other : List ℕ) → list_all (reads_in all_rights) es ≡ true
     → list_all is_letter es ≡ true → rights_reads other ≡ Some mask
-    → rights_reads (name_or (find (λ e. e.bits == mask) es) other) ≡ Some mask
+    → rights_reads (unwrap_or (option_map name_letters (find (λ e. e.bits == mask) es)) other) ≡ Some mask
 whole-reads [] mask other h letters r = r
 whole-reads (e ∷ es) mask other h letters r =
     by_bits (e.bits == mask) refl
     (whole-reads es mask other (and_second (reads_in all_rights e) _ h) (and_second (is_letter e) _ letters) r)
   where
     by_bits : (b : Bool) → (e.bits == mask) ≡ b
-        → rights_reads (name_or (find (λ n. n.bits == mask) es) other) ≡ Some mask
-        → rights_reads (name_or (if b then Some e else find (λ n. n.bits == mask) es) other) ≡ Some mask
+        → rights_reads (unwrap_or (option_map name_letters (find (λ n. n.bits == mask) es)) other) ≡ Some mask
+        → rights_reads (unwrap_or (option_map name_letters (if b then Some e else find (λ n. n.bits == mask) es)) other)
+        ≡ Some mask
     by_bits true same more = one_name e (and_first (reads_in all_rights e) _ h) (and_first (is_letter e) _ letters)
         ∙ ap Some (eqb-true e.bits mask same)
     by_bits false same more = more
@@ -186,8 +184,8 @@ unfolding rights_text
 rights_read_back kind mask s = by_zero (mask == 0) refl (is_label kind)
   where
     by_zero : (z : Bool) → (mask == 0) ≡ z → (label : Bool)
-        → rights_reads (if z then hex_text
-        0 else (if label then names_or_hex LABELS mask else name_or (find (λ e. e.bits == mask) COMPOUNDS)
+        → rights_reads (if z then hex_text 0 else (if label then names_or_hex LABELS mask
+        else unwrap_or (option_map name_letters (find (λ e. e.bits == mask) COMPOUNDS))
         (names_or_hex SINGLES mask))) ≡ Some mask
     by_zero true e label = hex_reads 0 (omega arith) ∙ ap Some (sym (eqb-true mask 0 e))
     by_zero false e true = names_or_hex-reads LABELS mask labels_read labels_letters (omega arith) s
@@ -204,19 +202,20 @@ names_or_hex-length es mask few s = by_bits (named_bits es mask == mask)
     by_bits true = omega (arith, length-names es mask)
     by_bits false = omega (arith, length-hex mask s)
 
-name_or-length : (o : Option NamedBits) (other : List ℕ) → length other ≤ 34 → length (name_or o other) ≤ 34
-name_or-length None other h = h
-name_or-length (Some e) other h = omega arith
+letters-length : (o : Option NamedBits) (other : List ℕ) → length other ≤ 34
+    → length (unwrap_or (option_map name_letters o) other) ≤ 34
+letters-length None other h = h
+letters-length (Some e) other h = omega arith
 
 pub rights_text-length : (kind : AceKind) (mask : ℕ) → mask < 2 ^ 32 → length (rights_text kind mask) ≤ 34
 unfolding rights_text
 rights_text-length kind mask s = by_zero (mask == 0) (is_label kind)
   where
     by_zero : (z label : Bool)
-        → length (if z then hex_text
-        0 else (if label then names_or_hex LABELS mask else name_or (find (λ e. e.bits == mask) COMPOUNDS)
+        → length (if z then hex_text 0 else (if label then names_or_hex LABELS mask
+        else unwrap_or (option_map name_letters (find (λ e. e.bits == mask) COMPOUNDS))
         (names_or_hex SINGLES mask))) ≤ 34
     by_zero true label = omega (arith, length-hex 0 (omega arith))
     by_zero false true = names_or_hex-length LABELS mask (omega arith) s
-    by_zero false false = name_or-length (find (λ e. e.bits == mask) COMPOUNDS) (names_or_hex SINGLES mask)
+    by_zero false false = letters-length (find (λ e. e.bits == mask) COMPOUNDS) (names_or_hex SINGLES mask)
         (names_or_hex-length SINGLES mask (omega arith) s)

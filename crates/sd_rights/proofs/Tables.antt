@@ -1,7 +1,7 @@
 -- The rule of a table at an entry that was found.
 use Rattle.std.proofs.Common.{◌≡◌, Bool, true, false, cond, List, [], ◌∷◌, Some, refl, sym, ap, ◌∙◌}
 use Rattle.std.specs.List.{find, list_all}
-use Rattle.sd_rights.proofs.Bools.{both}
+use Rattle.std.proofs.lemmas.Bool.{and_parts}
 
 some_injective : {X : Type 0} (x y : X) → Some x ≡ Some y → x ≡ y
 some_injective x y e = cc
@@ -10,7 +10,7 @@ pub find-passes : {X : Type 0} (p q : X → Bool) (xs : List X) (x : X) → find
     → (p x ≡ true) × (q x ≡ true)
 find-passes p q [] x e all = absurd cc
 find-passes p q (y ∷ ys) x e all =
-    let parts = both (q y) _ all in
+    let parts = and_parts (q y) _ all in
     by_test (p y) refl e parts.0 (λ g. find-passes p q ys x g parts.1)
   where
     by_test : (b : Bool) → p y ≡ b → cond b (Some y) (find p ys) ≡ Some x → q y ≡ true

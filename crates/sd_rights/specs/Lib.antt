@@ -1,3 +1,5 @@
+pub mod Chains
+pub mod Cuts
 pub mod Flags
 pub mod Inner
 pub mod Kinds

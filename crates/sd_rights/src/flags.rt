@@ -9,6 +9,16 @@ use crate::limits::MOST_FIELD_SIZE;
 use crate::names::{NamedBits, print_names, read_names};
 use sd_sink::{Print, Printer, Sink, SinkFault};
 
+/// OBJECT_INHERIT_ACE and CONTAINER_INHERIT_ACE (MS-DTYP 2.4.4.1): the flags with which an ACE goes on from a
+/// container.
+pub const ONWARD: u8 = 0x3;
+
+/// INHERIT_ONLY_ACE.
+pub const INHERIT_ONLY: u8 = 0x8;
+
+/// INHERITED_ACE.
+pub const INHERITED: u8 = 0x10;
+
 /// The flags of an ACE (MS-DTYP 2.4.4.1 and 2.5.1.1), in the order in which they are printed.
 pub const FLAGS: [NamedBits; 7] = [
     NamedBits {

@@ -14,7 +14,7 @@ mod rights_reading;
 mod rights_table;
 
 pub use digits::{print_decimal, print_decimal_behind, print_hex};
-pub use flags::{flags_from_text, print_flags, put_flags};
+pub use flags::{INHERIT_ONLY, INHERITED, ONWARD, flags_from_text, print_flags, put_flags};
 pub use kinds::AceKind;
 pub use limits::{
     MOST_BASE64_TEXT, MOST_ENTRIES, MOST_FIELD_SIZE, MOST_HEX_TEXT, MOST_SDDL_TEXT, MOST_SUBS,

@@ -1,7 +1,7 @@
 //! Reading access rights (MS-DTYP 2.5.1.1).
 
 ghost use Rattle.std.specs.Prelude.{◌≡◌, ◌≤◌};
-ghost use Rattle.sd_rights.specs.Rights.{after_zero, number, rights_reads, short_rights_reads};
+ghost use Rattle.sd_rights.specs.Rights.{after_zero, mask_reads, rights_reads, short_rights_reads};
 
 use crate::limits::MOST_FIELD_SIZE;
 use crate::names::read_names;
@@ -54,7 +54,7 @@ fn read_after_zero(text: &[u8]) -> Option<u32>
 fn read_mask(base: u32, digits: &[u8]) -> Option<u32>
     requires low { 2 ≤ base }
     requires high { base ≤ 16 }
-    ensures { result ≡ number base digits.now }
+    ensures { result ≡ mask_reads base digits.now }
 {
     if digits.is_empty() {
         return None;

@@ -6,12 +6,13 @@ use Rattle.std.proofs.lemmas.List.Folds.{list_all-append}
 use Rattle.sd_core.specs.Ace.{AccessControlEntry, IsAce}
 use Rattle.sd_rights.specs.Flags.{flags_text}
 use Rattle.sd_rights.specs.Rights.{rights_text}
-use Rattle.sd_rights.proofs.Bools.{both}
+use Rattle.std.proofs.lemmas.Bool.{and_parts}
 use Rattle.sd_core.specs.declared.naming.Naming.{Naming}
 use Rattle.sd_reader.specs.declared.line.AceField.{AceField}
 use Rattle.sd_reader.specs.declared.line.AceField.TheVariants as field
 use Rattle.sd_reader.specs.declared.line.Slot.TheVariants as slot
-use Rattle.sd_reader.specs.Line.{Cuts, cuts, with_cut}
+use Rattle.sd_rights.specs.Cuts.{Cuts, with_byte}
+use Rattle.sd_reader.specs.Line.{cut_at_semicolons}
 use Rattle.sd_reader.specs.Inner.FoldedReading.{Field, ace_fields, ace_fields_from}
 use Rattle.sd_sddl.specs.Printed.{ace_text, flags_field, kind_field, kind_text, object_field, object_text, rights_field, trustee_field, trustee_text}
 use Rattle.sd_sddl.proofs.LineCuts.{IsInner, in_parentheses, is_inner_byte}
@@ -24,16 +25,17 @@ joined text [] = text
 joined text (t ∷ ts) = text ++ 59 ∷ joined t ts
 
 cuts-before : (text rest : List ℕ) → IsPlain text
-    → cuts (text ++ rest) ≡ record { first = text ++ (cuts rest).first; others = (cuts rest).others }
+    → cut_at_semicolons (text ++ rest)
+    ≡ record { first = text ++ (cut_at_semicolons rest).first; others = (cut_at_semicolons rest).others }
 cuts-before [] rest h = refl
 cuts-before (b ∷ bs) rest h =
-    let parts = both (is_plain_byte b) _ h in
-    ap (with_cut b) (cuts-before bs rest parts.1) ∙ rw (no_mark b parts.0).semicolon refl
+    let parts = and_parts (is_plain_byte b) _ h in
+    ap (with_byte 59 b) (cuts-before bs rest parts.1) ∙ rw (no_mark b parts.0).semicolon refl
 
 joined-cuts : (text : List ℕ) (ts : List (List ℕ)) → IsPlain text → AllByRecursion IsPlain ts
-    → cuts (joined text ts) ≡ record { first = text; others = ts }
+    → cut_at_semicolons (joined text ts) ≡ record { first = text; others = ts }
 joined-cuts text [] h k =
-    ap cuts (sym (append-nil text)) ∙ cuts-before text [] h
+    ap cut_at_semicolons (sym (append-nil text)) ∙ cuts-before text [] h
     ∙ ap (λ (t : List ℕ). record { first = t; others = [] }) (append-nil text)
 joined-cuts text (t ∷ ts) h k =
     cuts-before text (59 ∷ joined t ts) h
@@ -42,7 +44,7 @@ joined-cuts text (t ∷ ts) h k =
 
 text-inner : (text : List ℕ) → IsPlain text → list_all is_inner_byte text ≡ true
 text-inner [] h = refl
-text-inner (b ∷ bs) h = let parts = both (is_plain_byte b) _ h in rw (parts.0) (text-inner bs parts.1)
+text-inner (b ∷ bs) h = let parts = and_parts (is_plain_byte b) _ h in rw (parts.0) (text-inner bs parts.1)
 
 joined-inner : (text : List ℕ) (ts : List (List ℕ)) → IsPlain text → AllByRecursion IsPlain ts
     → list_all is_inner_byte (joined text ts) ≡ true
@@ -105,7 +107,7 @@ others-plain naming a h = (
 )
 
 inner-cuts : (naming : Naming) (a : AccessControlEntry) → IsAce a
-    → cuts (inner_text naming a) ≡ record { first = kind_text a.kind; others = other_texts naming a }
+    → cut_at_semicolons (inner_text naming a) ≡ record { first = kind_text a.kind; others = other_texts naming a }
 inner-cuts naming a h = joined-cuts (kind_text a.kind) (other_texts naming a) (kind-plain a.kind)
     (others-plain naming a h)
 

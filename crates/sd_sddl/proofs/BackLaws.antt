@@ -18,8 +18,8 @@ use Rattle.sd_view.specs.declared.control.Which.{Which}
 use Rattle.sd_view.specs.declared.control.Which.TheVariants as which
 use Rattle.sd_view.specs.Control.{acl_flags, bit_if, flag_bits, no_flags, control_of}
 use Rattle.sd_binary.specs.Draft.{is_present, no_parts}
-use Rattle.sd_reader.specs.Inner.FoldedReading.{Field, FieldsRead, described, fields_of, finished, folded, nothing_read, read_fields, reads_as, verdict}
-use Rattle.sd_reader.specs.Line.{Sections, has_twice, is_shaped, parts_of}
+use Rattle.sd_reader.specs.Inner.FoldedReading.{Field, FieldsRead, described, fields_of, finished, folded, nothing_read, read_fields, reads_as, if_shaped}
+use Rattle.sd_reader.specs.Line.{Sections, has_twice, is_shaped, sections_of}
 use Rattle.sd_reader.specs.Meaning.{control_flags}
 use Rattle.sd_sddl.specs.Printed.{ace_text, acl_text, dacl_text, group_text, kept_bits, owner_text, plain, sacl_text, sddl, sid_text_of, trustee_text}
 use Rattle.sd_reader.proofs.ControlFlags.{flags-stay}
@@ -252,19 +252,19 @@ whole-plain d =
 
 judged : (shaped twice : Bool) (read : Result FieldsRead SddlFault) (r : FieldsRead) → shaped ≡ true → twice ≡ false
     → read ≡ Ok r → r.large ≡ None
-    → finished (verdict shaped twice read) ≡ Ok (described r)
-unfolding finished verdict
+    → finished (if_shaped shaped twice read) ≡ Ok (described r)
+unfolding finished if_shaped
 judged shaped twice read r s t e l = rw (s, t, e, l) refl
 
 line-means : (domain : Option SecurityId) (text : List ℕ) (r : FieldsRead) → is_shaped text ≡ true
-    → has_twice (parts_of text).parts ≡ false
-    → read_fields domain (fields_of (parts_of text).parts) nothing_read ≡ Ok r → r.large ≡ None
+    → has_twice (sections_of text).parts ≡ false
+    → read_fields domain (fields_of (sections_of text).parts) nothing_read ≡ Ok r → r.large ≡ None
     → folded text domain ≡ Ok (described r)
 unfolding folded reads_as
-line-means domain text r s t e l = judged (is_shaped text) (has_twice (parts_of text).parts) _ r s t e l
+line-means domain text r s t e l = judged (is_shaped text) (has_twice (sections_of text).parts) _ r s t e l
 
 once : (naming : Naming) (d : Descriptor) → IsDescriptor d
-    → has_twice (parts_of (flat_map part_text (printed_parts naming d))).parts ≡ false
+    → has_twice (sections_of (flat_map part_text (printed_parts naming d))).parts ≡ false
 unfolding printed_parts
 once naming d h =
     let dacl = acl_body naming (dacl_of d.control) d.dacl in

@@ -26,7 +26,8 @@ use Rattle.sd_view.specs.declared.control.Which.{Which}
 use Rattle.sd_reader.specs.Inner.FoldedReading.{FieldsRead, begun_or_null, no_fields, take_ace_field, take_field, take_front, take_readable, with_flags, with_owner_or_group, with_sid, with_trustee, with_value}
 use Rattle.sd_reader.specs.FieldTexts.{front_reads, kind_reads, object_reads}
 use Rattle.sd_binary.specs.Draft.{closed}
-use Rattle.sd_sddl.specs.Printed.{acl_flags_text, kind_text, name_or, object_text, trustee_text}
+use Rattle.std.specs.Option.{unwrap_or}
+use Rattle.sd_sddl.specs.Printed.{acl_flags_text, kind_text, object_text, trustee_text}
 use Rattle.sd_sddl.proofs.PlainTexts.{IsPlain, acl_flags_text-plain, flags-plain, kind-plain, object-plain, plain-append, plain-readable, rights-plain, trustee-plain}
 use Rattle.sd_sddl.proofs.SizeLaws.{flags-length, kind-length, trustee-length}
 
@@ -110,7 +111,7 @@ take-inherited domain r o h =
 
 named_back : (o : Option (List ℕ)) (s : SecurityId) (domain : Option SecurityId) → IsSid s
     → IfSome o (λ name. sid_reads name domain ≡ Ok s)
-    → sid_reads (name_or o (sid_text s)) domain ≡ Ok s
+    → sid_reads (unwrap_or o (sid_text s)) domain ≡ Ok s
 named_back None s domain i h = sid_text-reads s i domain
 named_back (Some name) s domain i h = h
 
@@ -119,7 +120,7 @@ unfolding trustee_text
 sid_back naming s i = by_naming naming.numeric
   where
     by_naming : (b : Bool)
-        → sid_reads (name_or (if b then None else alias_of s naming.domain) (sid_text s)) naming.domain ≡ Ok s
+        → sid_reads (unwrap_or (if b then None else alias_of s naming.domain) (sid_text s)) naming.domain ≡ Ok s
     by_naming true = sid_text-reads s i naming.domain
     by_naming false = named_back (alias_of s naming.domain) s naming.domain i (alias-back s naming.domain _ refl)
 

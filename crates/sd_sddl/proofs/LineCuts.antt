@@ -2,12 +2,12 @@
 use Rattle.std.proofs.Common.{◌≡◌, ℕ, Bool, true, false, ◌||◌, List, [], ◌∷◌, ◌++◌, map, Some, refl, ap, sym, ◌∙◌, append-nil, append_assoc, eqb-true}
 use Rattle.std.specs.Prelude.{◌==◌}
 use Rattle.std.specs.List.{AllByRecursion, flat_map, list_all}
-use Rattle.sd_rights.proofs.Bools.{both}
+use Rattle.std.proofs.lemmas.Bool.{and_parts}
 use Rattle.sd_view.specs.declared.control.Which.TheVariants as which
 use Rattle.sd_reader.specs.declared.line.Head.{Head}
 use Rattle.sd_reader.specs.declared.line.Head.TheVariants as head
 use Rattle.sd_reader.specs.declared.line.SidPart.TheVariants as sid_part
-use Rattle.sd_reader.specs.Line.{Piece, Pieces, Section, Sections, ace, begins_with_colon, byte, has_six_fields, head_of, is_paired, parts_of, pieces_from, sections}
+use Rattle.sd_reader.specs.Line.{Piece, LinePieces, Section, Sections, ace, begins_with_colon, byte, has_six_fields, head_of, is_paired, sections_of, pieces_from, sections}
 use Rattle.sd_sddl.proofs.PlainTexts.{IsPlain, is_plain_byte, no_mark}
 
 -- 1. The parts of a line as they are printed.
@@ -80,7 +80,7 @@ byte-cut b h =
 text-cut : (text : List ℕ) → IsPlain text → IsCutInto text (map byte text)
 text-cut [] h = nothing-cut
 text-cut (b ∷ bs) h =
-    let parts = both (is_plain_byte b) _ h in
+    let parts = and_parts (is_plain_byte b) _ h in
     cut-append (b ∷ []) bs (byte b ∷ []) (map byte bs) (byte-cut b parts.0) (text-cut bs parts.1)
 
 -- within parentheses
@@ -101,14 +101,14 @@ inner-pieces : (inner rest : List ℕ) → list_all is_inner_byte inner ≡ true
     → pieces_from true (inner ++ 41 ∷ rest) ≡ record { held = inner; after = (pieces_from false rest).after }
 inner-pieces [] rest h = refl
 inner-pieces (b ∷ bs) rest h =
-    let parts = both (is_inner_byte b) _ h in
+    let parts = and_parts (is_inner_byte b) _ h in
     rw ((no_parenthesis b parts.0).closing, inner-pieces bs rest parts.1) refl
 
 inner-paired : (inner rest : List ℕ) → list_all is_inner_byte inner ≡ true
     → is_paired true (inner ++ 41 ∷ rest) ≡ is_paired false rest
 inner-paired [] rest h = refl
 inner-paired (b ∷ bs) rest h =
-    let parts = both (is_inner_byte b) _ h in
+    let parts = and_parts (is_inner_byte b) _ h in
     let mark = no_parenthesis b parts.0 in
     rw (mark.opening, mark.closing) (inner-paired bs rest parts.1)
 
@@ -116,7 +116,7 @@ inner-cut : (inner : List ℕ) → IsInner inner → IsCutInto (in_parentheses i
 inner-cut inner h = record {
   pieces = λ rest.
       ap (λ (x : List ℕ). (pieces_from false (40 ∷ x)).after) (append_assoc inner (41 ∷ []) rest)
-      ∙ ap (λ (p : Pieces). ace p.held ∷ p.after) (inner-pieces inner rest h.bytes);
+      ∙ ap (λ (p : LinePieces). ace p.held ∷ p.after) (inner-pieces inner rest h.bytes);
   paired = λ rest. ap (is_paired true) (append_assoc inner (41 ∷ []) rest) ∙ inner-paired inner rest h.bytes;
 }
 
@@ -166,7 +166,7 @@ line-paired ps h = ap (is_paired false) (sym (append-nil (flat_map part_text ps)
 text-colon : (text : List ℕ) (ps : List Piece) → IsPlain text → begins_with_colon ps ≡ false
     → begins_with_colon (map byte text ++ ps) ≡ false
 text-colon [] ps h e = e
-text-colon (b ∷ bs) ps h e = (no_mark b (both (is_plain_byte b) _ h).0).colon
+text-colon (b ∷ bs) ps h e = (no_mark b (and_parts (is_plain_byte b) _ h).0).colon
 
 aces-colon : (inners : List (List ℕ)) (ps : List Piece) → begins_with_colon ps ≡ false
     → begins_with_colon (map ace inners ++ ps) ≡ false
@@ -180,7 +180,7 @@ text-sections : (text : List ℕ) (ps : List Piece) → IsPlain text → begins_
     → sections (map byte text ++ ps) ≡ after_pieces (map byte text) (sections ps)
 text-sections [] ps h e = refl
 text-sections (b ∷ bs) ps h e =
-    let parts = both (is_plain_byte b) _ h in
+    let parts = and_parts (is_plain_byte b) _ h in
     rw (text-colon bs ps parts.1 e, text-sections bs ps parts.1 e) refl
 
 aces-sections : (inners : List (List ℕ)) (ps : List Piece)
@@ -242,5 +242,5 @@ line-sections (p ∷ ps) h =
     (append-nil (body_pieces p.body))
 
 pub line-parts : (ps : List Part) → AllByRecursion IsPart ps
-    → parts_of (flat_map part_text ps) ≡ record { before = []; parts = map section_of ps }
+    → sections_of (flat_map part_text ps) ≡ record { before = []; parts = map section_of ps }
 line-parts ps h = ap sections (line-pieces ps h) ∙ line-sections ps h

@@ -1,14 +1,14 @@
 -- A line of parts has its shape, and its fields are the texts of the parts.
 use Rattle.std.proofs.Common.{◌≡◌, ℕ, Bool, true, false, ◌&&◌, List, [], ◌∷◌, ◌++◌, map, Option, Some, None, refl, ap, ◌∙◌}
 use Rattle.std.specs.List.{AllByRecursion, flat_map, list_all}
-use Rattle.sd_rights.proofs.Bools.{both}
+use Rattle.std.proofs.lemmas.Bool.{and_parts}
 use Rattle.sd_view.specs.declared.control.Which.TheVariants as which
 use Rattle.sd_reader.specs.declared.line.Head.{Head}
 use Rattle.sd_reader.specs.declared.line.Head.TheVariants as head
 use Rattle.sd_reader.specs.declared.line.SidPart.TheVariants as sid_part
 use Rattle.sd_reader.specs.declared.line.Slot.TheVariants as slot
 use Rattle.sd_reader.specs.Inner.FoldedReading.{Field, ace_fields, fields_in, fields_of}
-use Rattle.sd_reader.specs.Line.{Sections, ace, aces, are_aces, are_shaped, byte, front, has_aces, has_twice, is_acl_body, is_blank_piece, is_body, is_shaped, is_sid_body, parts_of, trim, trim_end}
+use Rattle.sd_reader.specs.Line.{Sections, ace, aces, are_aces, are_shaped, byte, front, has_aces, has_twice, is_acl_body, is_blank_piece, is_body, is_shaped, is_sid_body, sections_of, trim, trim_end}
 use Rattle.sd_sddl.proofs.LineCuts.{Body, IsInner, IsPart, MayHold, Part, body_pieces, line-paired, line-parts, part_text, section_of}
 use Rattle.sd_sddl.proofs.PlainTexts.{IsPlain, is_plain_byte, no_mark}
 
@@ -16,7 +16,7 @@ use Rattle.sd_sddl.proofs.PlainTexts.{IsPlain, is_plain_byte, no_mark}
 
 sid_body : (text : List ℕ) → IsPlain text → is_sid_body (map byte text ++ []) ≡ true
 sid_body [] h = refl
-sid_body (b ∷ bs) h = let parts = both (is_plain_byte b) _ h in rw (no_mark b parts.0).colon (sid_body bs parts.1)
+sid_body (b ∷ bs) h = let parts = and_parts (is_plain_byte b) _ h in rw (no_mark b parts.0).colon (sid_body bs parts.1)
 
 inners-shaped : (inners : List (List ℕ)) → AllByRecursion IsInner inners → are_aces (map ace inners) ≡ true
 inners-shaped [] h = refl
@@ -26,7 +26,7 @@ acl_body : (text : List ℕ) (inners : List (List ℕ)) → IsPlain text → All
     → is_acl_body (map byte text ++ map ace inners) ≡ true
 acl_body [] [] h k = refl
 acl_body [] (i ∷ is) h k = inners-shaped (i ∷ is) k
-acl_body (b ∷ bs) inners h k = let parts = both (is_plain_byte b) _ h in rw (no_mark b parts.0).colon
+acl_body (b ∷ bs) inners h k = let parts = and_parts (is_plain_byte b) _ h in rw (no_mark b parts.0).colon
     (acl_body bs inners parts.1 k)
 
 body-shaped : (h : Head) (b : Body) → IsPlain b.text → AllByRecursion IsInner b.inners → MayHold h b.inners
@@ -41,8 +41,8 @@ parts-shaped (p ∷ ps) h = rw (body-shaped p.head p.body h.0.plain h.0.inners h
 
 pub line-shaped : (ps : List Part) → AllByRecursion IsPart ps → is_shaped (flat_map part_text ps) ≡ true
 line-shaped ps h =
-    ap (λ (b : Bool). b && (list_all is_blank_piece (parts_of (flat_map part_text ps)).before && are_shaped
-    (parts_of (flat_map part_text ps)).parts)) (line-paired ps h)
+    ap (λ (b : Bool). b && (list_all is_blank_piece (sections_of (flat_map part_text ps)).before && are_shaped
+    (sections_of (flat_map part_text ps)).parts)) (line-paired ps h)
     ∙ ap (λ (s : Sections). list_all is_blank_piece s.before && are_shaped s.parts) (line-parts ps h)
     ∙ parts-shaped ps h
 
@@ -82,13 +82,13 @@ never_twice (Some o) (Some g) (Some d) (Some s) = refl
 trim_end-plain : (text : List ℕ) → IsPlain text → trim_end text ≡ text
 trim_end-plain [] h = refl
 trim_end-plain (b ∷ bs) h =
-    let parts = both (is_plain_byte b) _ h in
+    let parts = and_parts (is_plain_byte b) _ h in
     rw (no_mark b parts.0).blank (ap (λ (t : List ℕ). b ∷ t) (trim_end-plain bs parts.1))
 
 trim-plain : (text : List ℕ) → IsPlain text → trim text ≡ text
 trim-plain [] h = refl
 trim-plain (b ∷ bs) h =
-    let parts = both (is_plain_byte b) _ h in
+    let parts = and_parts (is_plain_byte b) _ h in
     rw (no_mark b parts.0).blank (ap (λ (t : List ℕ). b ∷ t) (trim_end-plain bs parts.1))
 
 body-front : (text : List ℕ) (inners : List (List ℕ)) → front (map byte text ++ map ace inners) ≡ text
@@ -127,5 +127,5 @@ parts-fields [] h = refl
 parts-fields (p ∷ ps) h = rw (part-fields p.head p.body h.0.plain, parts-fields ps h.1) refl
 
 pub line-fields : (ps : List Part) → AllByRecursion IsPart ps
-    → fields_of (parts_of (flat_map part_text ps)).parts ≡ flat_map part_fields ps
+    → fields_of (sections_of (flat_map part_text ps)).parts ≡ flat_map part_fields ps
 line-fields ps h = ap (λ (s : Sections). fields_of s.parts) (line-parts ps h) ∙ parts-fields ps h

@@ -23,8 +23,9 @@ use Rattle.sd_view.specs.declared.control.Which.TheVariants as which
 use Rattle.sd_binary.specs.Draft.{Draft, begun, closed, with_ace, with_acl}
 use Rattle.sd_reader.specs.Inner.FoldedReading.{Field, FieldsRead, ace_fields, grown, large_in, no_fields, read_fields, take_field, with_flags, with_owner_or_group, with_trustee}
 use Rattle.sd_reader.specs.Line.{ace, byte, has_aces}
-use Rattle.sd_reader.specs.Meaning.{and_then}
+use Rattle.sd_rights.specs.Chains.{and_then}
 use Rattle.std.specs.Option.{option_or}
+use Rattle.sd_reader.proofs.FlagRuns.{or-none}
 use Rattle.sd_sddl.specs.Printed.{trustee_text}
 use Rattle.sd_reader.proofs.FoldedSections.{read-append}
 use Rattle.sd_sddl.proofs.AceTexts.{field_at, inner-fields, inner_text, inner_text-is}
@@ -82,10 +83,6 @@ with_fields f r = record r { ace = f }
 abbrev opened : Which → List AccessControlEntry → FieldsRead → FieldsRead
 opened w done r = record r { parts = record r.parts { «open» = Some (w, done) } }
 
-nothing-else : {A : Type 0} (o : Option A) → option_or o None ≡ o
-nothing-else None = refl
-nothing-else (Some x) = refl
-
 not-large : (w : Which) (aces : List AccessControlEntry) → acl_size aces < 2 ^ 16 → large_in (Some (w, aces)) ≡ None
 not-large w aces small = let no : nat_lt 65535 (acl_size aces) ≡ false = grind (arith, nat_tests) in rw no refl
 
@@ -94,7 +91,7 @@ grown-open : (w : Which) (done : List AccessControlEntry) (a : AccessControlEntr
     → grown (opened w done r) (with_ace a (opened w done r).parts) ≡ opened w (done ++ a ∷ []) r
 grown-open w done a r small =
     ap (λ (l : Option Which). record (opened w (done ++ a ∷ []) r) { large = l })
-    (ap (option_or r.large) (not-large w (done ++ a ∷ []) small) ∙ nothing-else r.large)
+    (ap (option_or r.large) (not-large w (done ++ a ∷ []) small) ∙ or-none r.large)
 
 ace-back : (naming : Naming) (w : Which) (done : List AccessControlEntry) (a : AccessControlEntry) (r : FieldsRead)
     → IsAce a → acl_size (done ++ a ∷ []) < 2 ^ 16

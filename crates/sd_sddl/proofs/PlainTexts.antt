@@ -8,13 +8,14 @@ use Rattle.std.specs.Str.Parse.{AllDigits}
 use Rattle.std.proofs.lemmas.Bool.Decides.{nat_tests}
 use Rattle.std.proofs.lemmas.Fmt.{digits_is_IsNumeral}
 use Rattle.std.proofs.lemmas.List.Folds.{list_all-append}
+use Rattle.std.specs.Option.{option_map, unwrap_or}
 use Rattle.uuid.specs.Text.{by_index, digit_place, hex_digit, is_hyphen_place, nibble}
 use Rattle.uuid.proofs.TextLemmas.{nibble_small}
 use Rattle.sd_rights.specs.Flags.{flags_text}
 use Rattle.sd_core.specs.GuidText.{guid_text}
 use Rattle.sd_rights.specs.Kinds.{kind_entry, kind_letters}
 use Rattle.sd_rights.specs.Names.{named_bits, names_of}
-use Rattle.sd_rights.specs.Rights.{hex_text, is_label, name_or, names_or_hex, rights_text}
+use Rattle.sd_rights.specs.Rights.{hex_text, is_label, names_or_hex, rights_text, name_letters}
 use Rattle.sd_core.specs.Sid.{IsSid, SecurityId}
 use Rattle.sd_core.specs.SidText.{alias_of, is_sid_byte, sid_text}
 use Rattle.sd_rights.specs.declared.kinds.AceKind.{AceKind}
@@ -23,14 +24,13 @@ use Rattle.sd_rights.specs.declared.flags.TheConstants.{FLAGS}
 use Rattle.sd_rights.specs.declared.names.NamedBits.{NamedBits}
 use Rattle.sd_rights.specs.declared.rights_table.TheConstants.{COMPOUNDS, LABELS, SINGLES}
 use Rattle.sd_core.proofs.AliasLaws.{alias-letters}
-use Rattle.sd_rights.proofs.Bools.{both}
+use Rattle.std.proofs.lemmas.Bool.{and_parts}
 use Rattle.sd_core.proofs.TextLaws.{sid_text-bytes}
 use Rattle.sd_core.specs.declared.naming.Naming.{Naming}
 use Rattle.sd_reader.specs.Line.{is_blank}
 use Rattle.sd_reader.specs.Meaning.{is_unreadable}
 use Rattle.sd_view.specs.declared.control.AclFlags.{AclFlags}
 use Rattle.sd_sddl.specs.Printed.{acl_flags_text, kind_text, object_text, text_if, trustee_text}
-use Rattle.sd_sddl.specs.Printed.{name_or as alias_or}
 
 -- 1. Plain bytes.
 
@@ -75,7 +75,7 @@ plain-append xs ys e f = list_all-append is_plain_byte xs ys ∙ rw (e, f) refl
 plain-more : (p : ℕ → Bool) → ((b : ℕ) → p b ≡ true → is_plain_byte b ≡ true) → (text : List ℕ) → list_all p text ≡ true
     → IsPlain text
 plain-more p h [] e = refl
-plain-more p h (b ∷ bs) e = let parts = both (p b) _ e in rw (h b parts.0) (plain-more p h bs parts.1)
+plain-more p h (b ∷ bs) e = let parts = and_parts (p b) _ e in rw (h b parts.0) (plain-more p h bs parts.1)
 
 upper_is_plain : (b : ℕ) → is_ascii_uppercase b ≡ true → is_plain_byte b ≡ true
 upper_is_plain b e = grind (arith, nat_tests)
@@ -87,7 +87,8 @@ sid_byte_is_plain b e = rw e refl
 
 no_blanks : (text : List ℕ) → IsPlain text → list_any is_blank text ≡ false
 no_blanks [] h = refl
-no_blanks (b ∷ bs) h = let parts = both (is_plain_byte b) _ h in rw (no_mark b parts.0).blank (no_blanks bs parts.1)
+no_blanks (b ∷ bs) h =
+    let parts = and_parts (is_plain_byte b) _ h in rw (no_mark b parts.0).blank (no_blanks bs parts.1)
 
 pub plain-readable : (text : List ℕ) → IsPlain text → length text ≤ 183 → is_unreadable text ≡ false
 plain-readable text h short =
@@ -114,7 +115,7 @@ is_plain_name e = is_plain_byte e.first && is_plain_byte e.second
 two_bytes : (e : NamedBits) (text : List ℕ) → is_plain_name e ≡ true → IsPlain text
     → IsPlain (e.first ∷ e.second ∷ text)
 unfolding is_plain_name
-two_bytes e text h k = let parts = both (is_plain_byte e.first) _ h in rw (parts.0, parts.1) k
+two_bytes e text h k = let parts = and_parts (is_plain_byte e.first) _ h in rw (parts.0, parts.1) k
 
 flags_are_plain : list_all is_plain_name FLAGS ≡ true
 unfolding is_plain_name
@@ -135,7 +136,7 @@ labels_are_plain = refl
 names-plain : (es : List NamedBits) (mask : ℕ) → list_all is_plain_name es ≡ true → IsPlain (names_of es mask)
 names-plain [] mask h = refl
 names-plain (e ∷ es) mask h =
-    let parts = both (is_plain_name e) _ h in
+    let parts = and_parts (is_plain_name e) _ h in
     by_bit (bit_and mask e.bits == 0) parts.0 (names-plain es mask parts.1)
   where
     by_bit : (b : Bool) → is_plain_name e ≡ true → IsPlain (names_of es mask)
@@ -168,14 +169,15 @@ names_or_hex-plain es mask h small = by_bits (named_bits es mask == mask)
     by_bits false = hex-plain mask small
 
 found-plain : (es : List NamedBits) (mask : ℕ) (other : List ℕ) → list_all is_plain_name es ≡ true → IsPlain other
-    → IsPlain (name_or (find (λ e. e.bits == mask) es) other)
+    → IsPlain (unwrap_or (option_map name_letters (find (λ e. e.bits == mask) es)) other)
 found-plain [] mask other h k = k
 found-plain (e ∷ es) mask other h k =
-    let parts = both (is_plain_name e) _ h in
+    let parts = and_parts (is_plain_name e) _ h in
     by_bits (e.bits == mask) parts.0 (found-plain es mask other parts.1 k)
   where
-    by_bits : (b : Bool) → is_plain_name e ≡ true → IsPlain (name_or (find (λ n. n.bits == mask) es) other)
-        → IsPlain (name_or (if b then Some e else find (λ n. n.bits == mask) es) other)
+    by_bits : (b : Bool) → is_plain_name e ≡ true
+        → IsPlain (unwrap_or (option_map name_letters (find (λ n. n.bits == mask) es)) other)
+        → IsPlain (unwrap_or (option_map name_letters (if b then Some e else find (λ n. n.bits == mask) es)) other)
     by_bits true name others = two_bytes e [] name refl
     by_bits false name others = others
 
@@ -184,8 +186,8 @@ unfolding rights_text
 rights-plain kind mask small = by_zero (mask == 0) (is_label kind)
   where
     by_zero : (z label : Bool)
-        → IsPlain (if z then hex_text
-        0 else (if label then names_or_hex LABELS mask else name_or (find (λ e. e.bits == mask) COMPOUNDS)
+        → IsPlain (if z then hex_text 0 else (if label then names_or_hex LABELS mask
+        else unwrap_or (option_map name_letters (find (λ e. e.bits == mask) COMPOUNDS))
         (names_or_hex SINGLES mask)))
     by_zero true label = hex-plain 0 (omega arith)
     by_zero false true = names_or_hex-plain LABELS mask labels_are_plain small
@@ -219,7 +221,7 @@ object-plain (Some g) = guid-plain g
 -- 6. SIDs.
 
 name-plain : (o : Option (List ℕ)) (text : List ℕ) → IfSome o (λ name. list_all is_ascii_uppercase name ≡ true)
-    → IsPlain text → IsPlain (alias_or o text)
+    → IsPlain text → IsPlain (unwrap_or o text)
 name-plain None text h k = k
 name-plain (Some name) text h k = plain-more is_ascii_uppercase upper_is_plain name h
 
@@ -230,7 +232,7 @@ pub trustee-plain : (naming : Naming) (s : SecurityId) → IsSid s → IsPlain (
 unfolding trustee_text
 trustee-plain naming s i = by_naming naming.numeric
   where
-    by_naming : (b : Bool) → IsPlain (alias_or (if b then None else alias_of s naming.domain) (sid_text s))
+    by_naming : (b : Bool) → IsPlain (unwrap_or (if b then None else alias_of s naming.domain) (sid_text s))
     by_naming true = sid-plain s i
     by_naming false = name-plain (alias_of s naming.domain) (sid_text s) (alias-letters s naming.domain _ refl)
         (sid-plain s i)

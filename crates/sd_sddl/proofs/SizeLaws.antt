@@ -25,13 +25,14 @@ use Rattle.sd_view.specs.declared.acl.AclPart.TheVariants as acl
 use Rattle.sd_core.specs.declared.naming.Naming.{Naming}
 use Rattle.sd_view.specs.declared.control.Which.TheVariants as which
 use Rattle.sd_view.specs.declared.control.AclFlags.{AclFlags}
-use Rattle.sd_sddl.specs.Printed.{ace_text, acl_flags_text, acl_text, dacl_text, flags_field, group_text, kind_field, kind_text, name_or, object_field, object_text, owner_text, rights_field, sacl_text, sddl, sid_text_of, text_if, trustee_field, trustee_text}
+use Rattle.std.specs.Option.{unwrap_or}
+use Rattle.sd_sddl.specs.Printed.{ace_text, acl_flags_text, acl_text, dacl_text, flags_field, group_text, kind_field, kind_text, object_field, object_text, owner_text, rights_field, sacl_text, sddl, sid_text_of, text_if, trustee_field, trustee_text}
 
 -- a SID takes at most 18 characters, and 11 for each sub-authority
-name_or-length : (o : Option (List ℕ)) (text : List ℕ) (n : ℕ) → IsName o → 2 ≤ n → length text ≤ n
-    → length (name_or o text) ≤ n
-name_or-length None text n h low k = k
-name_or-length (Some name) text n h low k = omega (arith, h)
+named-length : (o : Option (List ℕ)) (text : List ℕ) (n : ℕ) → IsName o → 2 ≤ n → length text ≤ n
+    → length (unwrap_or o text) ≤ n
+named-length None text n h low k = k
+named-length (Some name) text n h low k = omega (arith, h)
 
 pub trustee-length : (naming : Naming) (s : SecurityId) → IsSid s
     → length (trustee_text naming s) ≤ 18 + 11 * length s.subs
@@ -39,9 +40,9 @@ unfolding trustee_text
 trustee-length naming s h = by_naming naming.numeric
   where
     by_naming : (b : Bool)
-        → length (name_or (cond b None (alias_of s naming.domain)) (sid_text s)) ≤ 18 + 11 * length s.subs
+        → length (unwrap_or (cond b None (alias_of s naming.domain)) (sid_text s)) ≤ 18 + 11 * length s.subs
     by_naming true = length-sid_text s h
-    by_naming false = name_or-length (alias_of s naming.domain) (sid_text s) (18 + 11 * length s.subs)
+    by_naming false = named-length (alias_of s naming.domain) (sid_text s) (18 + 11 * length s.subs)
         (alias_of-IsName s naming.domain) (omega arith) (length-sid_text s h)
 
 -- an ACE takes at most eight characters a byte

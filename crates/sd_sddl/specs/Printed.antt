@@ -1,6 +1,7 @@
 -- A descriptor as SDDL (MS-DTYP 2.5.1.1).
 use Rattle.std.specs.Prelude.{ℕ, ◌+◌, Bool, true, false, List, [], ◌++◌, Option, Some, None, codes}
 use Rattle.std.specs.List.{flat_map}
+use Rattle.std.specs.Option.{unwrap_or}
 use Rattle.sd_core.specs.Ace.{AccessControlEntry}
 use Rattle.sd_rights.specs.Flags.{flags_text}
 use Rattle.sd_core.specs.GuidText.{guid_text}
@@ -20,13 +21,9 @@ use Rattle.sd_view.specs.declared.control.Which.TheVariants as which
 use Rattle.sd_view.specs.declared.control.AclFlags.{AclFlags}
 use Rattle.sd_view.specs.declared.control.TheConstants.{SELF_RELATIVE}
 
-abbrev pub name_or : Option (List ℕ) → List ℕ → List ℕ
-name_or None text = text
-name_or (Some name) text = name
-
 -- the alias of a SID, under a domain; its text where it has none, or where numbers are asked for
 unfoldable pub trustee_text : Naming → SecurityId → List ℕ
-trustee_text naming s = name_or (alias_by naming s) (sid_text s)
+trustee_text naming s = unwrap_or (alias_by naming s) (sid_text s)
 
 -- ---- ACEs: six fields in parentheses
 

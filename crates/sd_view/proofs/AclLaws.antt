@@ -3,7 +3,7 @@ use Rattle.std.proofs.Common.{◌≡◌, ◌≤◌, ◌<◌, ◌⊎◌, inl, inr
 use Rattle.std.specs.Prelude.{is_some, unwrap_or}
 use Rattle.std.specs.List.{All, AllByRecursion}
 use Rattle.std.proofs.lemmas.Bool.Decides.{nat_tests}
-use Rattle.std.proofs.lemmas.Bool.{cases_eq, eqb-true}
+use Rattle.std.proofs.lemmas.Bool.{cases_eq, eqb-true, not-false, ltb-false, le-ltb}
 use Rattle.std.proofs.lemmas.List.Elements.{All-from_recursion}
 use Rattle.std.proofs.lemmas.List.{take-append-drop, take_at, drop_at, drop-append-le, get_or-take, get_or_append_left, length-take-le}
 use Rattle.byteorder.specs.Endian.{little_number}
@@ -22,7 +22,8 @@ use Rattle.sd_view.specs.declared.fault.AclFault.{AclFault}
 use Rattle.sd_view.specs.declared.fault.AclFault.TheVariants as faults
 use Rattle.sd_view.specs.Ace.{ShowsAce, ShowsGuid, announces_inherited, announces_object}
 use Rattle.sd_view.specs.Acl.{BeginsWithAcl, IsAcl, ShowsAces, ShowsAcl, acl_size, aces_size}
-use Rattle.sd_view.specs.AclReading.{IsReadableAce, IsReadableAcl, ace_fault, ace_of, aces_fault, aces_of, acl_fault, acl_of, acl_at_front, first, guid_if, inherited_in, kind_in, object_in, extent_fault, sid_offset_in}
+use Rattle.std.specs.Option.{option_or}
+use Rattle.sd_view.specs.AclReading.{IsReadableAce, IsReadableAcl, ace_fault, ace_of, aces_fault, aces_of, acl_fault, acl_of, acl_at_front, guid_if, inherited_in, kind_in, object_in, extent_fault, sid_offset_in}
 use Rattle.sd_view.proofs.FirstFault.{first_none, went_on, passed}
 
 -- one ACE of the count read
@@ -60,10 +61,6 @@ sid_found : (bytes : List ℕ) (o : Option (SecurityId × ℕ)) → AreBytes byt
 sid_found bytes None b e h = absurd (cc)
 sid_found bytes (Some (s, n)) b e h =
     subst (λ (t : SecurityId). BeginsWithSid bytes t) (sym (sid_of-at bytes s n e)) (sid_at-found bytes s n b e).0
-
-not_false : (b : Bool) → not b ≡ false → b ≡ true
-not_false true e = refl
-not_false false e = absurd (cc)
 
 clear_flag : (f : ℕ) → eqb (f / 32 % 2) 1 ≡ false → f / 32 % 2 ≡ 0
 clear_flag f e = grind (arith, nat_tests)
@@ -108,7 +105,7 @@ extent-shows extent b size aligned e =
     let room = went_on _ _ _ flag.1 in
     let sid = passed _ _ room.1 in
     record {
-      kind = known (slice_index extent 0) (kind_of (slice_index extent 0)) refl (not_false _ kind.0);
+      kind = known (slice_index extent 0) (kind_of (slice_index extent 0)) refl (not-false _ kind.0);
       flags = refl;
       clear = clear_flag (slice_index extent 1) flag.0;
       size = size;
@@ -153,9 +150,6 @@ shows-front extent a h =
 front_room : (n : ℕ) (extent : List ℕ) (s : SecurityId) → BeginsWithSid (drop n extent) s → n + 8 ≤ length extent
 front_room n extent s h = omega (arith, length-drop n extent, ap (length {A = ℕ}) h.shape)
 
-not_below : (n k : ℕ) → k ≤ n → ltb n k ≡ false
-not_below n k h = grind (arith, nat_tests)
-
 -- what is shown has no fault, and is read
 pub shows-extent : (extent : List ℕ) (a : AccessControlEntry) → ShowsAce extent a → (extent_fault extent ≡ None)
     × (ace_of extent ≡ a)
@@ -167,7 +161,7 @@ shows-extent extent a h =
     let n = sid_offset a.kind a.object a.inherited in
     let front : sid_offset_in extent ≡ n = shows-front extent a h in
     let room : ltb (length extent) (n + 8) ≡ false =
-    not_below (length extent) (n + 8) (front_room n extent a.sid h.sid) in
+    le-ltb (length extent) (n + 8) (front_room n extent a.sid h.sid) in
     let sid = sid_at-bytes (drop n extent) a.sid h.sid in
     let subject : sid_of (drop (sid_offset_in extent) extent) ≡ a.sid = ap (λ (k : ℕ). sid_of (drop k extent)) front
     ∙ sid_of-at (drop n extent) a.sid (sid_size a.sid) sid in (
@@ -186,9 +180,6 @@ shows-extent extent a h =
 size_bounds : (n len : ℕ) → (ltb n 16 || ltb len n) ≡ false → (16 ≤ n) × (n ≤ len)
 size_bounds n len e = (grind (arith, nat_tests), grind (arith, nat_tests))
 
-at_least : (n k : ℕ) → ltb n k ≡ false → k ≤ n
-at_least n k e = grind (arith, nat_tests)
-
 -- the ACE at the front of what is left
 pub ace-shows : (left : List ℕ) → AreBytes left → ace_fault left ≡ None
     → ShowsAce (take (u16_at 2 left) left) (ace_of (take (u16_at 2 left) left)) × (u16_at 2 left ≤ length left)
@@ -203,7 +194,7 @@ ace-shows left b e =
     let same : u16_at 2 (take n left) ≡ n =
     sym (u16_at-front 2 (take n left) (drop n left) (omega (arith, long, bounds.0)))
     ∙ ap (u16_at 2) (take-append-drop n left) in
-    let whole : n % 4 ≡ 0 = eqb-true (n % 4) 0 (not_false _ fourth.0) in (
+    let whole : n % 4 ≡ 0 = eqb-true (n % 4) 0 (not-false _ fourth.0) in (
       extent-shows (take n left) (AreBytes-take n left b) (same ∙ sym long) (ap (λ (k : ℕ). k % 4) long ∙ whole)
           fourth.1,
       bounds.1,
@@ -226,7 +217,7 @@ shows-ace extent rest a h =
     let long = sixteen extent a h in
     let size : u16_at 2 (extent ++ rest) ≡ length extent = u16_at-front 2 extent rest (omega (arith, long)) ∙ h.size in
     let all = length-append extent rest in
-    let room : ltb (length (extent ++ rest)) 16 ≡ false = not_below (length (extent ++ rest)) 16
+    let room : ltb (length (extent ++ rest)) 16 ≡ false = le-ltb (length (extent ++ rest)) 16
     (omega (arith, all, long)) in
     let range : (ltb (length extent) 16 || ltb (length (extent ++ rest)) (length extent)) ≡ false =
     in_range (length extent) (length (extent ++ rest)) long (omega (arith, all)) in
@@ -259,9 +250,10 @@ shows-aces (a ∷ others) left h =
     let front : take (length extent) (extent ++ rest) ≡ extent = take_at extent rest (length extent) refl in
     let back : drop (length extent) (extent ++ rest) ≡ rest = drop_at extent rest (length extent) refl in
     let head = (shows-extent extent a h.3).1 in
-    let P : List ℕ → Type 0 = λ xs. (first (ace_fault xs) (aces_fault (length others) (drop (u16_at 2 xs) xs)) ≡ None)
+    let P : List ℕ → Type 0 =
+    λ xs. (option_or (ace_fault xs) (aces_fault (length others) (drop (u16_at 2 xs) xs)) ≡ None)
     × (ace_of (take (u16_at 2 xs) xs) ∷ aces_of (length others) (drop (u16_at 2 xs) xs) ≡ a ∷ others) in
-    let fault : first (ace_fault (extent ++ rest))
+    let fault : option_or (ace_fault (extent ++ rest))
     (aces_fault (length others) (drop (u16_at 2 (extent ++ rest)) (extent ++ rest))) ≡ None =
     rw (head-ace.0, size, back) tail.0 in
     let items : ace_of (take (u16_at 2 (extent ++ rest)) (extent ++ rest)) ∷ aces_of (length others)
@@ -543,7 +535,7 @@ ace-readable left b e =
     record {
       room = omega (arith, long, bounds.0);
       sound = bounds.2;
-      front = at_least (length extent) (sid_offset_in extent + 8) room.0;
+      front = ltb-false (length extent) (sid_offset_in extent + 8) room.0;
       sid = sid_found (drop (sid_offset_in extent) extent) (sid_at (drop (sid_offset_in extent) extent))
           (AreBytes-drop (sid_offset_in extent) extent (AreBytes-take n left b)) refl sid;
       limits = shows-ace-limits extent (ace_of extent) (AreBytes-take n left b) shows.0;

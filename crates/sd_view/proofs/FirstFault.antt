@@ -1,14 +1,14 @@
 -- A chain of tests that answers the first fault.
 use Rattle.std.proofs.Common.{◌≡◌, Bool, true, false, cond, Option, Some, None, refl}
-use Rattle.sd_view.specs.AclReading.{first}
+use Rattle.std.specs.Option.{option_or}
 
 -- no first fault of two: neither is there
-pub first_none : {F : Type 0} (f g : Option F) → first f g ≡ None → (f ≡ None) × (g ≡ None)
+pub first_none : {F : Type 0} (f g : Option F) → option_or f g ≡ None → (f ≡ None) × (g ≡ None)
 first_none None g e = (refl, e)
 first_none (Some f) g e = absurd (cc)
 
 -- two that are not there: no first one
-pub none_first : {F : Type 0} (f g : Option F) → f ≡ None → g ≡ None → first f g ≡ None
+pub none_first : {F : Type 0} (f g : Option F) → f ≡ None → g ≡ None → option_or f g ≡ None
 none_first f g e h = rw e h
 
 -- a test that did not answer a fault

@@ -2,7 +2,7 @@
 use Rattle.std.proofs.Common.{◌≡◌, ◌≤◌, ◌<◌, ◌⊎◌, inl, inr, ℕ, ◌+◌, ◌*◌, ◌^◌, ◌||◌, ◌&&◌, ◌++◌, Bool, true, false, cond, eqb, ltb, List, length, take, drop, slice_index, Option, Some, None, Ok, Err, refl, sym, ap, ◌∙◌, subst, arith, length-append, length-drop}
 use Rattle.std.specs.Prelude.{is_some, option_map, IfSome}
 use Rattle.std.proofs.lemmas.Bool.Decides.{nat_tests}
-use Rattle.std.proofs.lemmas.Bool.{cases_eq, cases_lt, eqb-true, eq-eqb, not-false, or_parts}
+use Rattle.std.proofs.lemmas.Bool.{cases_eq, cases_lt, eqb-true, eq-eqb, not-false, or_parts, ltb-false, le-ltb}
 use Rattle.std.proofs.lemmas.List.{take_at}
 use Rattle.byteorder.specs.Numbers.{little_from-lt}
 use Rattle.sd_core.specs.Sid.{SecurityId, IsSid, BeginsWithSid, sid_at, sid_of, sid_size, sid_stands}
@@ -29,12 +29,6 @@ record Header (bytes : List ℕ) : Type 0 where
   pub revision : slice_index bytes 0 ≡ 1
   pub relative : self_relative (control_at bytes) ≡ true
 
-at_least : (n k : ℕ) → ltb n k ≡ false → k ≤ n
-at_least n k e = grind (arith, nat_tests)
-
-not_below : (n k : ℕ) → k ≤ n → ltb n k ≡ false
-not_below n k h = grind (arith, nat_tests)
-
 header_none : (bytes : List ℕ) → header_fault bytes ≡ None → Header bytes
 unfolding header_fault
 header_none bytes e =
@@ -42,7 +36,7 @@ header_none bytes e =
     let revision = went_on _ _ _ room.1 in
     let relative = went_on _ _ _ revision.1 in
     record {
-      room = at_least (length bytes) 20 room.0;
+      room = ltb-false (length bytes) 20 room.0;
       revision = eqb-true (slice_index bytes 0) 1 (not-false _ revision.0);
       relative = not-false _ relative.0;
     }
@@ -50,7 +44,7 @@ header_none bytes e =
 none_header : (bytes : List ℕ) → Header bytes → header_fault bytes ≡ None
 unfolding header_fault
 none_header bytes h =
-    let room = not_below (length bytes) 20 h.room in
+    let room = le-ltb (length bytes) 20 h.room in
     let revision = eq-eqb (slice_index bytes 0) 1 h.revision in
     rw (room, revision, h.relative) refl
 
@@ -62,8 +56,8 @@ sid_answer : (part : Part) (bytes : List ℕ) (offset : ℕ) (s : SecurityId) (n
 unfolding sid_fault sid_shown
 sid_answer part bytes offset s n low room e =
     let zero_test : eqb offset 0 ≡ false = grind (arith, nat_tests) in
-    let low_test = not_below offset 20 low in
-    let room_test = not_below (length bytes) (offset + 8) room in
+    let low_test = le-ltb offset 20 low in
+    let room_test = le-ltb (length bytes) (offset + 8) room in
     (rw (zero_test, low_test, room_test, e) refl, rw (zero_test, e) refl)
 
 -- what an offset shows has no fault, and is read
@@ -99,7 +93,7 @@ pub stands-sid : (bytes : List ℕ) → AreBytes bytes → sid_stands bytes ≡ 
 stands-sid bytes b e = sid_at-found bytes (sid_of bytes) (8 + 4 * slice_index bytes 1) b (stands-at bytes e)
 
 bounds : (offset len : ℕ) → (ltb offset 20 || ltb len (offset + 8)) ≡ false → (20 ≤ offset) × (offset + 8 ≤ len)
-bounds offset len e = let parts = or_parts _ _ e in (at_least offset 20 parts.0, at_least len (offset + 8) parts.1)
+bounds offset len e = let parts = or_parts _ _ e in (ltb-false offset 20 parts.0, ltb-false len (offset + 8) parts.1)
 
 -- an offset without a fault shows what is read
 sid-shows : (part : Part) (bytes : List ℕ) (offset : ℕ) → AreBytes bytes → sid_fault part bytes offset ≡ None
@@ -138,8 +132,8 @@ unfolding acl_part_fault acl_shown
 acl_answer part bytes offset aces low room h =
     let read = begins-acl (drop offset bytes) aces h in
     let zero_test : eqb offset 0 ≡ false = grind (arith, nat_tests) in
-    let low_test = not_below offset 20 low in
-    let room_test = not_below (length bytes) (offset + 8) room in (
+    let low_test = le-ltb offset 20 low in
+    let room_test = le-ltb (length bytes) (offset + 8) room in (
       rw (zero_test, low_test, room_test, read.0) refl,
       rw zero_test (ap (λ (as' : List AccessControlEntry). acl.List as') read.1),
     )

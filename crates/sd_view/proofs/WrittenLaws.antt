@@ -4,6 +4,7 @@ use Rattle.std.specs.List.{flat_map}
 use Rattle.std.proofs.lemmas.Bool.Decides.{nat_tests}
 use Rattle.std.proofs.Math.Seq.{take-add}
 use Rattle.std.proofs.lemmas.List.{append-nil, length-take-le, take_all, take-append-drop}
+use Rattle.std.proofs.lemmas.Bool.{and_parts, or_parts}
 use Rattle.byteorder.specs.Endian.{little_bytes, little_number}
 use Rattle.byteorder.specs.Numbers.{little_number-reads_back}
 use Rattle.sd_core.specs.Ace.{ace_size, guid_size}
@@ -107,10 +108,6 @@ ace-written extent b h shows whole named =
     ap (λ (xs : List ℕ). xs ++ body) (sym front) ∙ ap (λ (xs : List ℕ). take n extent ++ xs) (sym back)
     ∙ take-append-drop n extent
 
-both : (a b : Bool) → (a && b) ≡ true → (a ≡ true) × (b ≡ true)
-both true b e = (refl, e)
-both false b e = absurd (cc)
-
 none : (xs : List ℕ) → 0 ≡ length xs → [] ≡ xs
 none [] e = refl
 none (x ∷ xs) e = absurd (omega arith)
@@ -127,7 +124,7 @@ aces-written (suc n) left b e whole named =
     let extent = take size left in
     let rest = drop size left in
     let sound = first_none _ _ e in
-    let names = both (named_flags extent) (all_named_flags n rest) named in
+    let names = and_parts (named_flags extent) (all_named_flags n rest) named in
     let shows = ace-shows left b sound.0 in
     let rest_bytes = AreBytes-drop size left b in
     let fits = ace-fits extent (ace_of extent) shows.0 in
@@ -175,17 +172,13 @@ acl-written extent header b k h written same named =
     ∙ take-append-drop 8 extent
 
 -- where no object ACE stands, no flags stand
-neither : (a b : Bool) → (a || b) ≡ false → (a ≡ false) × (b ≡ false)
-neither true b e = absurd (cc)
-neither false b e = (refl, e)
-
 pub plain-named : (n : ℕ) (left : List ℕ) → has_object (aces_of n left) ≡ false → all_named_flags n left ≡ true
 unfolding aces_of all_named_flags
 plain-named zero left e = refl
 plain-named (suc n) left e =
     let extent = take (u16_at 2 left) left in
     let rest = drop (u16_at 2 left) left in
-    let parts = neither (is_object (kind_in extent)) (has_object (aces_of n rest)) e in
+    let parts = or_parts (is_object (kind_in extent)) (has_object (aces_of n rest)) e in
     let plain = parts.0 in
     rw plain (plain-named n rest parts.1)
 

@@ -1,6 +1,7 @@
 -- The first fault of an ACL, and its ACEs where there is none.
 -- `read` promises that this agrees with `Shows`.
 use Rattle.std.specs.Prelude.{◌≡◌, ◌≤◌, ℕ, zero, suc, ◌+◌, ◌/◌, ◌%◌, ◌==◌, ◌||◌, not, nat_lt, Bool, if◌then◌else◌, List, [], ◌∷◌, length, drop, take, slice_index, Option, Some, None, is_some, unwrap_or}
+use Rattle.std.specs.Option.{option_or}
 use Rattle.uuid.specs.Parts.{swap_fields}
 use Rattle.sd_core.specs.Ace.{AccessControlEntry, IsAce, guid_size, sid_offset}
 use Rattle.sd_rights.specs.Kinds.{kind_of}
@@ -12,11 +13,6 @@ use Rattle.sd_view.specs.declared.fault.AclFault.TheVariants as faults
 use Rattle.sd_view.specs.Ace.{announces_inherited, announces_object}
 use Rattle.sd_view.specs.Acl.{IsAcl}
 use Rattle.sd_view.specs.Bytes.{u16_at, u32_at}
-
--- the first of two faults
-abbrev pub first : {F : Type 0} → Option F → Option F → Option F
-first (Some f) later = Some f
-first None later = later
 
 -- the fields of an ACE's extent, which count only where the extent has no fault
 unfoldable pub kind_in : List ℕ → AceKind
@@ -66,7 +62,7 @@ ace_fault left =
 -- the first fault of as many ACEs as are counted
 unfoldable pub aces_fault : ℕ → List ℕ → Option AclFault
 aces_fault zero left = None
-aces_fault (suc n) left = first (ace_fault left) (aces_fault n (drop (u16_at 2 left) left))
+aces_fault (suc n) left = option_or (ace_fault left) (aces_fault n (drop (u16_at 2 left) left))
 
 unfoldable pub aces_of : ℕ → List ℕ → List AccessControlEntry
 aces_of zero left = []

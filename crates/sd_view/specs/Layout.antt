@@ -58,8 +58,8 @@ descriptor_header d =
     (offset_if (sacl_offset d) (acl_part_size d.sacl)) (offset_if (dacl_offset d) (acl_part_size d.dacl))
 
 -- the parts that stand, in their order and without gaps
-abbrev pub parts : Descriptor → List ℕ
-parts d = sid_part d.owner ++ (sid_part d.group ++ (acl_part d.sacl ++ acl_part d.dacl))
+abbrev pub parts_bytes : Descriptor → List ℕ
+parts_bytes d = sid_part d.owner ++ (sid_part d.group ++ (acl_part d.sacl ++ acl_part d.dacl))
 
 abbrev pub layout : Descriptor → List ℕ
-layout d = descriptor_header d ++ parts d
+layout d = descriptor_header d ++ parts_bytes d

@@ -1,6 +1,6 @@
 -- The first fault of some bytes, and the descriptor that they show where there is none.
 -- `read` promises that this agrees with `Shows`.
-use Rattle.std.specs.Prelude.{◌≡◌, ◌≤◌, ℕ, ◌+◌, ◌==◌, ◌||◌, ◌&&◌, not, nat_lt, Bool, true, false, if◌then◌else◌, List, length, drop, slice_index, Option, Some, None, option_map, is_some, Result, Ok, Err}
+use Rattle.std.specs.Prelude.{◌≡◌, ◌≤◌, ℕ, ◌+◌, ◌==◌, ◌||◌, ◌&&◌, not, nat_lt, Bool, true, false, if◌then◌else◌, List, length, drop, slice_index, Option, Some, None, option_map, is_some, Result}
 use Rattle.sd_core.specs.Sid.{SecurityId, sid_at, sid_stands}
 use Rattle.sd_view.specs.declared.fault.Part.{Part}
 use Rattle.sd_view.specs.declared.fault.Part.TheVariants.{Owner, Group, Sacl, Dacl}
@@ -10,7 +10,9 @@ use Rattle.sd_view.specs.declared.fault.AclFault.{AclFault}
 use Rattle.sd_view.specs.declared.fault.AclFault.TheVariants as lists
 use Rattle.sd_view.specs.declared.acl.AclPart.{AclPart}
 use Rattle.sd_view.specs.declared.acl.AclPart.TheVariants as acl
-use Rattle.sd_view.specs.AclReading.{IsReadableAcl, acl_fault, acl_of, acl_at_front, first}
+use Rattle.std.specs.Option.{option_or}
+use Rattle.sd_rights.specs.Chains.{unless}
+use Rattle.sd_view.specs.AclReading.{IsReadableAcl, acl_fault, acl_of, acl_at_front}
 use Rattle.sd_view.specs.Bytes.{u16_at}
 use Rattle.sd_view.specs.Descriptor.{Descriptor, Extent, Extents, IsDescriptor, control_at, dacl_at, dacl_present, extents_of, group_at, owner_at, sacl_at, sacl_present, self_relative}
 
@@ -70,9 +72,9 @@ acl_part_fault part bytes present offset =
 
 unfoldable pub parts_fault : List ℕ → Option SdFault
 parts_fault bytes =
-    first (sid_fault Owner bytes (owner_at bytes))
-    (first (sid_fault Group bytes (group_at bytes))
-    (first (acl_part_fault Sacl bytes (sacl_present (control_at bytes)) (sacl_at bytes))
+    option_or (sid_fault Owner bytes (owner_at bytes))
+    (option_or (sid_fault Group bytes (group_at bytes))
+    (option_or (acl_part_fault Sacl bytes (sacl_present (control_at bytes)) (sacl_at bytes))
     (acl_part_fault Dacl bytes (dacl_present (control_at bytes)) (dacl_at bytes))))
 
 -- whether two extents share a byte
@@ -87,20 +89,18 @@ overlap_fault p a q b = if share_a_byte a b then Some (faults.Overlap p q) else 
 -- the first pair that shares a byte: 14
 unfoldable pub overlaps_fault : Extents → Option SdFault
 overlaps_fault e =
-    first (overlap_fault Owner e.owner Group e.group)
-    (first (overlap_fault Owner e.owner Sacl e.sacl)
-    (first (overlap_fault Owner e.owner Dacl e.dacl)
-    (first (overlap_fault Group e.group Sacl e.sacl)
-    (first (overlap_fault Group e.group Dacl e.dacl)
+    option_or (overlap_fault Owner e.owner Group e.group)
+    (option_or (overlap_fault Owner e.owner Sacl e.sacl)
+    (option_or (overlap_fault Owner e.owner Dacl e.dacl)
+    (option_or (overlap_fault Group e.group Sacl e.sacl)
+    (option_or (overlap_fault Group e.group Dacl e.dacl)
     (overlap_fault Sacl e.sacl Dacl e.dacl)))))
 
 -- The first condition that holds: this is what says which fault comes first.
 unfoldable pub fault : List ℕ → Option SdFault
-fault bytes = first (header_fault bytes) (first (parts_fault bytes) (overlaps_fault (extents_of bytes (shown bytes))))
-
-abbrev pub unless : {F D : Type 0} → Option F → D → Result D F
-unless (Some f) d = Err f
-unless None d = Ok d
+fault bytes =
+    option_or (header_fault bytes)
+    (option_or (parts_fault bytes) (overlaps_fault (extents_of bytes (shown bytes))))
 
 -- what is read of some bytes: the first fault, or the descriptor that they show
 unfoldable pub reading : List ℕ → Result Descriptor SdFault

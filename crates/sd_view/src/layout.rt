@@ -3,7 +3,7 @@ ghost use Rattle.std.specs.Prelude.{◌≡◌, ◌≤◌, ◌<◌, ◌+◌, ◌^
 ghost use Rattle.sd_sink.specs.Print.{Prints};
 ghost use Rattle.sd_sink.specs.Sink.{Puts};
 ghost use Rattle.sd_view.specs.Descriptor.{IsDescriptor, Shows};
-ghost use Rattle.sd_view.specs.Layout.{acl_part, descriptor_header, header_bytes, layout, offset_if, parts, size};
+ghost use Rattle.sd_view.specs.Layout.{acl_part, descriptor_header, header_bytes, layout, offset_if, parts_bytes, size};
 ghost use Rattle.sd_view.specs.declared.limits.TheConstants.{MOST_LAYOUT_SIZE};
 
 use crate::acl::AclPart;

@@ -12,7 +12,7 @@ use Rattle.sd_sink.specs.declared.sink.SinkFault.{SinkFault}
 use Rattle.sd_sink.specs.Counts.{counted}
 use Rattle.sd_view.specs.Descriptor.{Descriptor}
 use Rattle.sd_view.specs.Reading.{reading}
-use Rattle.sd_filter.specs.Lines.{parts, ended, without_cr}
+use Rattle.sd_filter.specs.Lines.{cut_at_line_feeds, ended, without_cr, carriage_return}
 use Rattle.sd_filter.specs.Answers.{answers, errors, bounds, line_limit, or_byte_fault}
 use Rattle.sd_filter.specs.Outcome.{Compares, HandedOn, RoseBy}
 use Rattle.sd_command.specs.declared.job.Job.{Job}
@@ -35,7 +35,7 @@ pub record HoldsText (job : Job) (line : Line) (text : List ℕ) : Type 0 where
 
 -- a CR that waits for the next byte
 abbrev pub pending : Bool → List ℕ
-pending true = 13 ∷ []
+pending true = carriage_return ∷ []
 pending false = []
 
 -- the line in hand has the bytes since the last LF
@@ -79,7 +79,7 @@ pub record Answered (job : Job) (token0 : TokenShown) (sink0 : SinkTold) (all : 
 -- after these bytes, the lines that an LF ended are answered, and what follows is held
 pub record AfterBytes (token0 : TokenShown) (sink0 : SinkTold) (got : List ℕ) (state : RunState) (token : TokenShown)
     (sink : SinkTold) (report : Report) : Type 0 where
-  pub holds : Holds state.job state.line (parts got).rest
+  pub holds : Holds state.job state.line (cut_at_line_feeds got).rest
   pub answered : Answered state.job token0 sink0 (ended got) token sink report
 
 -- the sink failed: some of these lines are answered whole, and of the answer to one more, or to none, a part

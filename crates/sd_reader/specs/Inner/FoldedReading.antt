@@ -22,8 +22,9 @@ use Rattle.sd_view.specs.Control.{no_flags}
 use Rattle.sd_view.specs.declared.control.AclFlags.{AclFlags}
 use Rattle.std.specs.Option.{option_or}
 use Rattle.sd_reader.specs.FieldTexts.{front_reads, kind_reads, object_reads}
-use Rattle.sd_reader.specs.Line.{Piece, Section, aces, cuts, front, has_aces, has_twice, is_shaped, parts_of, trim}
-use Rattle.sd_reader.specs.Meaning.{and_then, control_flags, is_unreadable, unless_large}
+use Rattle.sd_reader.specs.Line.{Piece, Section, aces, cut_at_semicolons, front, has_aces, has_twice, is_shaped, sections_of, trim}
+use Rattle.sd_rights.specs.Chains.{and_then}
+use Rattle.sd_reader.specs.Meaning.{control_flags, is_unreadable, unless_large}
 use Rattle.sd_reader.specs.declared.fault.SddlFault.{SddlFault}
 use Rattle.sd_reader.specs.declared.fault.SddlFault.TheVariants as fault
 use Rattle.sd_reader.specs.declared.line.AceField.{AceField}
@@ -59,7 +60,7 @@ ace_fields_from f text [] = record { slot = slot.Ace f; text = text } ∷ []
 ace_fields_from f text (t ∷ ts) = record { slot = slot.Ace f; text = text } ∷ ace_fields_from (next_field f) t ts
 
 abbrev pub ace_fields : List ℕ → List Field
-ace_fields a = ace_fields_from field.Kind (cuts a).first (cuts a).others
+ace_fields a = ace_fields_from field.Kind (cut_at_semicolons a).first (cut_at_semicolons a).others
 
 -- the SID; or what stands before the first parenthesis, and the fields of the ACEs; blanks at the ends of both first
 -- ones do not count
@@ -124,8 +125,8 @@ take_front w has_aces r (Some f) =
     if f.null && has_aces then Err fault.Flags
     else Ok (with_flags w f.flags (record r { parts = begun_or_null w f.null (closed r.parts) }))
 
-abbrev pub ace_of : AceFields → SecurityId → AccessControlEntry
-ace_of f s =
+abbrev pub ace_of_fields : AceFields → SecurityId → AccessControlEntry
+ace_of_fields f s =
     record { kind = f.kind; flags = f.flags; mask = f.mask; object = f.object; inherited = f.inherited; sid = s }
 
 abbrev pub large_in : Option (Which × List AccessControlEntry) → Option Which
@@ -137,7 +138,7 @@ grown r parts = record r { parts = parts; large = option_or r.large (large_in pa
 
 -- the ACE at hand ends with its SID
 abbrev pub with_trustee : FieldsRead → SecurityId → FieldsRead
-with_trustee r s = grown r (with_ace (ace_of r.ace s) r.parts)
+with_trustee r s = grown r (with_ace (ace_of_fields r.ace s) r.parts)
 
 -- a field of the ACE at hand
 unfoldable pub take_ace_field : Option SecurityId → FieldsRead → AceField → List ℕ → Result FieldsRead SddlFault
@@ -184,13 +185,13 @@ read_fields domain (f ∷ fs) r = and_then (take_field domain r f.slot f.text) (
 -- 3. The line.
 
 -- shape first, then a part that stands twice, then the fields
-unfoldable pub verdict : Bool → Bool → Result FieldsRead SddlFault → Result FieldsRead SddlFault
-verdict shaped twice read = if shaped then (if twice then Err fault.PartTwice else read) else Err fault.Shape
+unfoldable pub if_shaped : Bool → Bool → Result FieldsRead SddlFault → Result FieldsRead SddlFault
+if_shaped shaped twice read = if shaped then (if twice then Err fault.PartTwice else read) else Err fault.Shape
 
 unfoldable pub reads_as : Option SecurityId → List ℕ → Result FieldsRead SddlFault
 reads_as domain text =
-    verdict (is_shaped text) (has_twice (parts_of text).parts)
-    (read_fields domain (fields_of (parts_of text).parts) nothing_read)
+    if_shaped (is_shaped text) (has_twice (sections_of text).parts)
+    (read_fields domain (fields_of (sections_of text).parts) nothing_read)
 
 abbrev pub described : FieldsRead → Descriptor
 described r = built (control_flags r.sacl r.dacl) 0 (closed r.parts)

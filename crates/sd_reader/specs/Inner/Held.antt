@@ -1,5 +1,5 @@
 -- What a reader keeps of the text of one field.
-use Rattle.std.specs.Prelude.{◌≡◌, ℕ, ◌≤◌, Bool, true, false, ◌||◌, ◌&&◌, not, ◌==◌, if◌then◌else◌, List, [], ◌∷◌, ◌++◌, length}
+use Rattle.std.specs.Prelude.{◌≡◌, ℕ, ◌≤◌, Bool, true, false, ◌||◌, ◌&&◌, not, ◌==◌, if◌then◌else◌, List, [], ◌∷◌, ◌++◌, codes, length}
 use Rattle.std.specs.Option.{is_none}
 use Rattle.std.specs.List.{list_any}
 use Rattle.std.specs.Str.{byte as char}
@@ -57,4 +57,4 @@ is_plain_outside b = is_plain_inside b && (not (b == char ":") && is_none (head_
 
 -- the text of a field that ends here: one that is not kept has a blank, and does not read
 abbrev pub held_text : Held → List ℕ
-held_text h = if h.broken then 32 ∷ [] else h.text
+held_text h = if h.broken then codes " " else h.text

@@ -1,12 +1,13 @@
 -- A reader in the middle of a line: what it answers if the line goes on by a text and ends there.
-use Rattle.std.specs.Prelude.{ℕ, Bool, true, false, ◌&&◌, ◌||◌, ◌==◌, if◌then◌else◌, List, [], ◌∷◌, ◌++◌, length, Option, Some, None, Result, Ok, Err}
+use Rattle.std.specs.Prelude.{ℕ, Bool, true, false, ◌&&◌, ◌||◌, ◌==◌, if◌then◌else◌, List, [], ◌∷◌, ◌++◌, codes, length, Option, Result}
 use Rattle.std.specs.List.{list_all, flat_map}
+use Rattle.std.specs.Str.{byte as char}
 use Rattle.sd_core.specs.Sid.{SecurityId}
 use Rattle.sd_view.specs.declared.control.Which.TheVariants as which
 use Rattle.sd_reader.specs.Inner.Held.{Held, held_text}
-use Rattle.sd_reader.specs.Inner.FoldedReading.{Field, FieldsRead, ace_fields, ace_fields_from, fields_of, read_fields, take_field, verdict}
-use Rattle.sd_reader.specs.Line.{Piece, Section, Sections, aces, are_aces, are_shaped, cuts, front, has_aces, has_twice, is_acl_body, is_blank, is_blank_piece, is_paired, is_sid_body, pieces_from, sections, trim}
-use Rattle.sd_reader.specs.Meaning.{and_then}
+use Rattle.sd_reader.specs.Inner.FoldedReading.{Field, FieldsRead, ace_fields, ace_fields_from, fields_of, read_fields, take_field, if_shaped}
+use Rattle.sd_reader.specs.Line.{Piece, Section, Sections, aces, are_aces, are_shaped, cut_at_semicolons, front, has_aces, has_twice, is_acl_body, is_blank, is_blank_piece, is_paired, is_sid_body, pieces_from, sections, trim}
+use Rattle.sd_rights.specs.Chains.{and_then}
 use Rattle.sd_reader.specs.declared.fault.SddlFault.{SddlFault}
 use Rattle.sd_reader.specs.declared.line.AceField.{AceField}
 use Rattle.sd_reader.specs.declared.line.AceField.TheVariants as field
@@ -40,11 +41,11 @@ is_shaped_here state.Before held ps = list_all is_blank_piece ps
 is_shaped_here (state.Sid p) held ps = is_sid_body ps
 is_shaped_here (state.AclFlags w) held ps = is_acl_body ps
 is_shaped_here state.AfterAce held ps = are_aces ps
-is_shaped_here (state.Ace f) held ps = length (cuts held).others == fields_left f && are_aces ps
+is_shaped_here (state.Ace f) held ps = length (cut_at_semicolons held).others == fields_left f && are_aces ps
 
 -- a text that does not read
 abbrev pub unreadable : List ℕ
-unreadable = 32 ∷ []
+unreadable = codes " "
 
 -- the text of a field where blanks at the ends do not count: what is held of it, and the rest
 abbrev pub text_with : Held → List ℕ → List ℕ
@@ -64,7 +65,8 @@ fields_here (state.AclFlags w) h held ps =
     record { slot = slot.AclFlags w (has_aces ps); text = text_with h (front ps) } ∷ flat_map ace_fields (aces ps)
 fields_here state.AfterAce h held ps = flat_map ace_fields (aces ps)
 fields_here (state.Ace f) h held ps =
-    ace_fields_from f (inner_with h (cuts held).first) (cuts held).others ++ flat_map ace_fields (aces ps)
+    ace_fields_from f (inner_with h (cut_at_semicolons held).first) (cut_at_semicolons held).others
+    ++ flat_map ace_fields (aces ps)
 
 abbrev pub is_seen : Seen → Head → Bool
 is_seen s (head.Sid sid_part.Owner) = s.owner
@@ -82,17 +84,12 @@ abbrev pub has_seen : Seen → List Section → Bool
 has_seen seen [] = false
 has_seen seen (s ∷ ss) = is_seen seen s.head || has_seen seen ss
 
--- the first fault, or what was read
-abbrev pub result_or : FieldsRead → Option SddlFault → Result FieldsRead SddlFault
-result_or r None = Ok r
-result_or r (Some e) = Err e
-
--- the verdict on what was read before, and a rest in pieces
+-- the answer to what was read before and to a rest in pieces
 unfoldable pub judged : Option SecurityId → Bool → Bool → Seen → Result FieldsRead SddlFault → State → Held → Bool
     → List ℕ
     → Sections → Result FieldsRead SddlFault
 judged domain sound twice seen read state h paired held ss =
-    verdict (sound && (paired && (is_shaped_here state held ss.before && are_shaped ss.parts)))
+    if_shaped (sound && (paired && (is_shaped_here state held ss.before && are_shaped ss.parts)))
     (twice || (has_seen seen ss.parts || has_twice ss.parts))
     (and_then read (read_fields domain (fields_here state h held ss.before ++ fields_of ss.parts)))
 
@@ -109,12 +106,12 @@ state_of (head.Acl w) = state.AclFlags w
 
 -- the byte that ends a field of an ACE, and where the line goes on after it
 abbrev pub end_of : AceField → ℕ
-end_of field.Kind = 59
-end_of field.Flags = 59
-end_of field.Rights = 59
-end_of field.Object = 59
-end_of field.Inherited = 59
-end_of field.Sid = 41
+end_of field.Kind = char ";"
+end_of field.Flags = char ";"
+end_of field.Rights = char ";"
+end_of field.Object = char ";"
+end_of field.Inherited = char ";"
+end_of field.Sid = char ")"
 
 abbrev pub state_after : AceField → State
 state_after field.Kind = state.Ace field.Flags

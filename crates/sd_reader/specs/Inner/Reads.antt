@@ -1,6 +1,6 @@
 -- The reader of a line: what it has read, and what its buffer holds.
-use Rattle.std.specs.Prelude.{◌≡◌, ℕ, ◌/◌, ◌%◌, Bool, true, false, ◌||◌, not, ◌==◌, List, [], ◌∷◌, ◌++◌, Option, Some, None, Result, Ok, Err}
-use Rattle.std.specs.Option.{option_map}
+use Rattle.std.specs.Prelude.{◌≡◌, ℕ, ◌/◌, ◌%◌, Bool, true, false, ◌||◌, not, ◌==◌, List, ◌∷◌, ◌++◌, Option, Some, None, Result, Ok, Err}
+use Rattle.std.specs.Option.{option_map, option_to_list}
 use Rattle.std.specs.Str.{byte as char}
 use Rattle.sd_core.specs.Ace.{GuidsFit}
 use Rattle.sd_rights.specs.Kinds.{is_object}
@@ -8,11 +8,12 @@ use Rattle.sd_core.specs.Sid.{SecurityId}
 use Rattle.sd_view.specs.Descriptor.{Descriptor, Shows}
 use Rattle.sd_view.specs.declared.acl.AclPart.TheVariants as acl
 use Rattle.sd_binary.specs.Builds.{Builds}
-use Rattle.sd_binary.specs.Draft.{IsOpen, IsWritten, acl_of, closed}
+use Rattle.sd_binary.specs.Draft.{IsOpen, IsWritten, draft_acl, closed}
 use Rattle.sd_reader.specs.Inner.Held.{IsHeld}
 use Rattle.sd_reader.specs.Line.{byte, head_at, pieces_from, same_head}
 use Rattle.sd_reader.specs.Inner.FoldedReading.{FieldsRead, reads_as}
-use Rattle.sd_reader.specs.Inner.Progress.{rest_answer, is_inside, is_seen, result_or}
+use Rattle.sd_rights.specs.Chains.{unless}
+use Rattle.sd_reader.specs.Inner.Progress.{rest_answer, is_inside, is_seen}
 use Rattle.sd_reader.specs.declared.fault.SddlFault.{SddlFault}
 use Rattle.sd_reader.specs.declared.line.Head.{Head}
 use Rattle.sd_reader.specs.declared.line.Head.TheVariants as head
@@ -32,7 +33,7 @@ use Rattle.sd_reader.specs.declared.reader.SddlReader.{SddlReader}
 abbrev pub Lacks : Head → FieldsRead → Type 0
 Lacks (head.Sid sid_part.Owner) r = r.parts.owner ≡ None
 Lacks (head.Sid sid_part.Group) r = r.parts.group ≡ None
-Lacks (head.Acl w) r = acl_of w (closed r.parts) ≡ acl.Absent
+Lacks (head.Acl w) r = draft_acl w (closed r.parts) ≡ acl.Absent
 
 -- a field's part is not given yet, or its ACL is open
 abbrev pub CanTake : Slot → FieldsRead → Type 0
@@ -46,7 +47,7 @@ pub record AreAceFields (f : AceFields) : Type 0 where
   pub fit : GuidsFit (is_object f.kind) f.object f.inherited
 
 -- The reader has read this, and as long as no ACL is too large it is in the buffer.
-pub record HasRead (r : FieldReader) (buf : List ℕ) (t : FieldsRead) : Type 0 where
+pub record HasReadFields (r : FieldReader) (buf : List ℕ) (t : FieldsRead) : Type 0 where
   pub sacl : r.sacl ≡ t.sacl
   pub dacl : r.dacl ≡ t.dacl
   pub ace : r.ace ≡ t.ace
@@ -57,7 +58,7 @@ pub record HasRead (r : FieldReader) (buf : List ℕ) (t : FieldsRead) : Type 0 
 
 -- a field was read, or is the fault
 abbrev pub Takes : {X : Type 0} → Result FieldsRead SddlFault → Result X SddlFault → FieldReader → List ℕ → Type 0
-Takes wanted (Ok x) r buf = (u : FieldsRead) × HasRead r buf u × (wanted ≡ Ok u)
+Takes wanted (Ok x) r buf = (u : FieldsRead) × HasReadFields r buf u × (wanted ≡ Ok u)
 Takes wanted (Err e) r buf = wanted ≡ Err e
 
 -- the buffer shows the descriptor in its written form, or is a refusal's
@@ -69,7 +70,7 @@ Ends wanted (Err e) buf = wanted ≡ Err e
 
 -- the answer if a text follows, whatever byte waits, where the fields so far say this
 abbrev pub answer_at : SddlReader → FieldsRead → List ℕ → Result FieldsRead SddlFault
-answer_at s t text = rest_answer s.fields.domain s.sound s.twice s.seen (result_or t s.fault) s.state s.field text
+answer_at s t text = rest_answer s.fields.domain s.sound s.twice s.seen (unless s.fault t) s.state s.field text
 
 -- the part at hand, of which no field was read
 abbrev pub is_at_front : State → Head → Bool
@@ -95,7 +96,7 @@ pub record Fits (p : State) (seen : Seen) (t : FieldsRead) : Type 0 where
 
 -- as long as there is no fault, what was read is held
 pub record LineHasRead (s : SddlReader) (buf : List ℕ) (t : FieldsRead) : Type 0 where
-  pub fields : s.fault ≡ None → HasRead s.fields buf t
+  pub fields : s.fault ≡ None → HasReadFields s.fields buf t
   pub fits : s.fault ≡ None → Fits s.state s.seen t
 
 -- a step over some bytes: whatever was read before it, something is read after it that gives the same answers
@@ -111,16 +112,11 @@ StepsText old before b new after =
     × ((rest : List ℕ) → head_at (byte b) (pieces_from false rest).after ≡ None
     → answer_at new u rest ≡ answer_at old t (b ∷ rest))
 
--- the byte that waits for the next one
-abbrev pub waiting : Option ℕ → List ℕ
-waiting None = []
-waiting (Some b) = b ∷ []
-
--- the same where a byte may wait after it
+-- the same where a byte may wait for the next one after it
 abbrev pub StepsOn : SddlReader → List ℕ → List ℕ → SddlReader → List ℕ → Type 0
 StepsOn old before bytes new after =
     (t : FieldsRead) → LineHasRead old before t → (u : FieldsRead) × LineHasRead new after u
-    × ((rest : List ℕ) → answer_at new u (waiting new.pending ++ rest) ≡ answer_at old t (bytes ++ rest))
+    × ((rest : List ℕ) → answer_at new u (option_to_list new.pending ++ rest) ≡ answer_at old t (bytes ++ rest))
 
 -- what is held of a field is clean, and inside parentheses no blank counts as an end
 pub record IsCalm (s : SddlReader) : Type 0 where
@@ -147,7 +143,7 @@ pub record IsReader (s : SddlReader) (buf : List ℕ) : Type 0 where
 abbrev pub Reads : SddlReader → List ℕ → Option SecurityId → List ℕ → Type 0
 Reads s buf domain text =
     (t : FieldsRead) × LineHasRead s buf t
-    × ((rest : List ℕ) → answer_at s t (waiting s.pending ++ rest) ≡ reads_as domain (text ++ rest))
+    × ((rest : List ℕ) → answer_at s t (option_to_list s.pending ++ rest) ≡ reads_as domain (text ++ rest))
 
 -- they have read the line but for this rest of it
 abbrev pub FedTo : SddlReader → List ℕ → Option SecurityId → List ℕ → List ℕ → Type 0

@@ -1,6 +1,7 @@
 -- An ACE that stands whole in what comes of a line: the texts of its fields, and what they read as.
 use Rattle.std.specs.Prelude.{◌≡◌, ℕ, ◌≤◌, true, List, ◌∷◌, ◌++◌, length, Option, Some, Result, Ok}
 use Rattle.std.specs.List.{list_all}
+use Rattle.std.specs.Str.{byte as char}
 use Rattle.sd_core.specs.Sid.{SecurityId}
 use Rattle.sd_core.specs.SidText.{sid_reads}
 use Rattle.sd_rights.specs.Limits.{most_field}
@@ -8,8 +9,8 @@ use Rattle.sd_rights.specs.declared.kinds.AceKind.{AceKind}
 use Rattle.sd_reader.specs.FieldTexts.{object_reads}
 use Rattle.sd_reader.specs.Inner.FoldedReading.{FieldsRead, take_field, with_trustee}
 use Rattle.sd_reader.specs.Inner.Held.{is_plain_inside}
-use Rattle.sd_reader.specs.Inner.Reads.{HasRead}
-use Rattle.sd_reader.specs.Meaning.{and_then}
+use Rattle.sd_reader.specs.Inner.Reads.{HasReadFields}
+use Rattle.sd_rights.specs.Chains.{and_then}
 use Rattle.sd_reader.specs.declared.fault.SddlFault.{SddlFault}
 use Rattle.sd_reader.specs.declared.line.AceField.{AceField}
 use Rattle.sd_reader.specs.declared.line.AceField.TheVariants as field
@@ -44,7 +45,8 @@ pub record AreWhole (a : AceTexts) : Type 0 where
 -- the fields, each with the byte that ends it, and what follows them
 abbrev pub ace_before : AceTexts → List ℕ → List ℕ
 ace_before a rest =
-    a.kind ++ 59 ∷ (a.flags ++ 59 ∷ (a.rights ++ 59 ∷ (a.object ++ 59 ∷ (a.inherited ++ 59 ∷ (a.sid ++ 41 ∷ rest)))))
+    a.kind ++ char ";" ∷ (a.flags ++ char ";" ∷ (a.rights ++ char ";" ∷ (a.object ++ char ";" ∷
+    (a.inherited ++ char ";" ∷ (a.sid ++ char ")" ∷ rest)))))
 
 -- one field more
 abbrev pub with_field : Option SecurityId → AceField → List ℕ → Result FieldsRead SddlFault
@@ -73,8 +75,8 @@ pub record FieldAt (Reads : List ℕ → Type 0) (end : ℕ) (text rest : List �
 -- the object type and the inherited object type
 pub record ObjectsAt (kind : AceKind) (object inherited : Option (List ℕ)) (text rest : List ℕ) : Type 0 where
   pub between : List ℕ
-  pub first : FieldAt (λ t. object_reads kind t ≡ Some object) 59 text between
-  pub second : FieldAt (λ t. object_reads kind t ≡ Some inherited) 59 between rest
+  pub first : FieldAt (λ t. object_reads kind t ≡ Some object) (char ";") text between
+  pub second : FieldAt (λ t. object_reads kind t ≡ Some inherited) (char ";") between rest
 
 -- 3. A step over an ACE that reads.
 
@@ -82,8 +84,9 @@ pub record ObjectsAt (kind : AceKind) (object inherited : Option (List ℕ)) (te
 pub record EndsAce (old : FieldReader) (before : List ℕ) (f : AceFields) (text : List ℕ) (new : FieldReader)
     (after rest : List ℕ) : Type 0 where
   pub trustee : SecurityId
-  pub sid : FieldAt (λ t. sid_reads t old.domain ≡ Ok trustee) 41 text rest
-  pub held : (t : FieldsRead) → HasRead old before t → HasRead new after (with_trustee (record t { ace = f }) trustee)
+  pub sid : FieldAt (λ t. sid_reads t old.domain ≡ Ok trustee) (char ")") text rest
+  pub held : (t : FieldsRead) → HasReadFields old before t
+      → HasReadFields new after (with_trustee (record t { ace = f }) trustee)
 
 -- the same, with object types before it
 pub record EndsWithObjects (old : FieldReader) (before : List ℕ) (f : AceFields) (text : List ℕ) (new : FieldReader)
@@ -98,5 +101,5 @@ pub record EndsWithObjects (old : FieldReader) (before : List ℕ) (f : AceField
 abbrev pub TakesAce : FieldReader → List ℕ → List ℕ → FieldReader → List ℕ → List ℕ → Type 0
 TakesAce old before text new after rest =
     (a : AceTexts) × AreWhole a × (text ≡ ace_before a rest)
-    × ((t : FieldsRead) → HasRead old before t → (u : FieldsRead) × HasRead new after u
+    × ((t : FieldsRead) → HasReadFields old before t → (u : FieldsRead) × HasReadFields new after u
     × (with_texts old.domain a (Ok t) ≡ Ok u))

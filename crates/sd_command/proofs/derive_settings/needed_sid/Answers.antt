@@ -2,7 +2,7 @@ use Rattle.std.proofs.Common.{rules, ◌≡◌, Err, ◌∙◌, sym}
 use Rattle.std.specs.Option.{option_copied}
 use Rattle.sd_command.specs.Settings as specs
 use Rattle.sd_command.specs.TokenText.{sid_under}
-use Rattle.sd_command.proofs.GivenLemmas.{needed-fault, needed-is, ok-or-given}
+use Rattle.sd_command.proofs.GivenLemmas.{needed-fault, needed-is}
 use Rattle.sd_command.proofs.derive_settings.needed_sid.Goals as goal
 
 pub returns-in_err-sid : goal.returns-in_err-sid
@@ -17,6 +17,5 @@ pub returns : goal.returns
 unfolding specs.given_sid specs.needed_sid
 returns c =
     c.ok_or.ensures.value
-    ∙ (ok-or-given c.args.option _
     ∙ needed-is (sid_under (option_copied c.args.domain)) c.args.option _ _
-    (sym c.given_sid.ensures ∙ c.in_ok-sid.was))
+    (sym c.given_sid.ensures ∙ c.in_ok-sid.was)

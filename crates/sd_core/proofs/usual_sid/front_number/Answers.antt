@@ -1,8 +1,8 @@
 use Rattle.std.proofs.Common.{◌≡◌, [], length, take, drop, arith}
-use Rattle.sd_core.specs.SidText.{pieces, sid_front}
-use Rattle.sd_core.proofs.Cutting.{rest_is}
-use Rattle.sd_core.proofs.SidFronts.{number-pieces, number-size}
-use Rattle.sd_core.proofs.UsualNumbers.{decimal_is, reads_is, taken}
+use Rattle.std.proofs.lemmas.List.{take_rest, length-take-le}
+use Rattle.sd_core.specs.SidText.{cut_at_dashes, sid_front}
+use Rattle.sd_core.proofs.SidFronts.{number-cut, number-size}
+use Rattle.sd_core.proofs.UsualNumbers.{decimal_is, reads_is}
 use Rattle.sd_core.proofs.usual_sid.front_number.Goals as goal
 
 pub returns-clause-number : goal.returns-clause-number
@@ -11,18 +11,19 @@ returns-clause-number c =
     let n = c.front_digits-number.result.0 in
     let count = c.front_digits-number.result.1 in
     let digits = c.front_digits-number.ensures.number in
-    let size : length (take count text) ≡ count = taken count text c.front_digits-number.ensures.within in
-    let ends : (pieces (sid_front (drop count text))).first ≡ [] =
-    rw (rest_is text count) at (c.ends_number.ensures c.if-not-ends_number.false) in (
+    let size : length (take count text) ≡ count = length-take-le count text c.front_digits-number.ensures.within in
+    let ends : (cut_at_dashes (sid_front (drop count text))).first ≡ [] =
+    rw (take_rest text count) at (c.ends_number.ensures c.if-not-ends_number.false) in (
       take count text,
       decimal_is n (take count text) (omega arith) digits,
       reads_is n (take count text) (omega (arith, c.front_digits-number.ensures.few)) (omega (arith, c.if-number.false))
           digits,
-      rw (rest_is text count) (number-pieces text count n digits ends),
+      rw (take_rest text count) (number-cut text count n digits ends),
     )
 
 pub returns-clause-size : goal.returns-clause-size
 returns-clause-size c =
     let text = c.args.text.now in
     let count = c.front_digits-number.result.1 in
-    rw (rest_is text count) (number-size text count c.front_digits-number.result.0 c.front_digits-number.ensures.number)
+    rw (take_rest text count)
+    (number-size text count c.front_digits-number.result.0 c.front_digits-number.ensures.number)

@@ -1,6 +1,6 @@
 use Rattle.std.proofs.Common.{ap, arith, drop, length, sym, ◌≡◌, ◌∙◌}
 use Rattle.std.proofs.lemmas.List.{take_rest}
-use Rattle.sd_core.specs.SidText.{numbers_read, pieces, sid_front}
+use Rattle.sd_core.specs.SidText.{numbers_read, cut_at_dashes, sid_front}
 use Rattle.sd_core.proofs.SidFronts.{s1-behind, s1-form, s1-size}
 use Rattle.sd_core.proofs.usual_sid.read_usual.Goals as goal
 
@@ -27,5 +27,5 @@ returns-clause-numbers c =
     let text = c.args.text.now in
     let front = sym c.begins_with_s1.ensures.value ∙ c.if-not-begins_with_s1.false in
     let long = c.begins_with_s1.ensures.long c.if-not-begins_with_s1.false in
-    ap (λ t. numbers_read (pieces t)) (s1-behind text front long)
+    ap (λ t. numbers_read (cut_at_dashes t)) (s1-behind text front long)
     ∙ (rw (take_rest text 4) at c.in_ok-size.ensures.numbers)

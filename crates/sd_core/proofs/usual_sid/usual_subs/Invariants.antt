@@ -1,17 +1,17 @@
 use Rattle.std.proofs.Common.{◌≡◌, ◌≤◌, ◌+◌, ◌++◌, [], length, ◌-◌}
 use Rattle.std.specs.Option.{option_map}
-use Rattle.sd_core.specs.SidText.{all_read, are_subs, pieces, sid_front}
+use Rattle.sd_core.specs.SidText.{decimals_read, are_subs, cut_at_dashes, sid_front}
 use Rattle.sd_core.proofs.usual_sid.usual_subs.Given as goal
 
 abbrev pub invariant-loop-next : goal.invariant-loop-next
 invariant-loop-next l = record {
   count : length l.sid.subs ≤ 15;
   authority : l.sid.authority ≡ l.initial.sid.authority;
-  ends : (pieces (sid_front l.rest)).first ≡ [];
-  form : are_subs (length l.sid.subs) (pieces (sid_front l.rest)).others
-      ≡ are_subs 0 (pieces (sid_front l.text)).others;
-  numbers : option_map (λ ns. l.sid.subs ++ ns) (all_read (pieces (sid_front l.rest)).others) ≡ all_read
-      (pieces (sid_front l.text)).others;
+  ends : (cut_at_dashes (sid_front l.rest)).first ≡ [];
+  form : are_subs (length l.sid.subs) (cut_at_dashes (sid_front l.rest)).others
+      ≡ are_subs 0 (cut_at_dashes (sid_front l.text)).others;
+  numbers : option_map (λ ns. l.sid.subs ++ ns) (decimals_read (cut_at_dashes (sid_front l.rest)).others)
+      ≡ decimals_read (cut_at_dashes (sid_front l.text)).others;
   size : length (sid_front l.text) + length l.rest ≡ length (sid_front l.rest) + length l.text;
 }
 

@@ -1,7 +1,7 @@
 use Rattle.std.proofs.Common.{sym, ◌∙◌, arith, refl, ◌+◌, ◌-◌, take, drop}
 use Rattle.std.proofs.lemmas.Grind.{common_steps}
 use Rattle.std.proofs.lemmas.Result.{err_from_is_err_and}
-use Rattle.sd_filter.proofs.PartsLemmas.{NoLf}
+use Rattle.sd_filter.proofs.LineCutLemmas.{NoLf}
 use Rattle.sd_filter.proofs.AfterBytesLemmas.{Failed-in, Failed-line, AfterBytes-line, AfterBytes-more}
 use Rattle.sd_filter.proofs.AfterBytesLemmas.{fed_line, fed_rest, found_in, line_in}
 use Rattle.sd_filter.proofs.feed.feed_all.Goals as goal

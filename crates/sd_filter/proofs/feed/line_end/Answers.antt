@@ -1,5 +1,5 @@
 use Rattle.std.proofs.Common.{◌-◌, ◌+◌, length, take, drop, arith}
-use Rattle.sd_filter.proofs.PartsLemmas.{NoLfBelow, NoLfBelow-more, length-part}
+use Rattle.sd_filter.proofs.LineCutLemmas.{NoLfBelow, NoLfBelow-more, length-part}
 use Rattle.sd_filter.proofs.feed.line_end.Goals as goal
 
 pub loop-start-preserved : goal.loop-start-preserved

@@ -1,5 +1,5 @@
-use Rattle.sd_filter.proofs.PartsLemmas.{parts-cut}
-use Rattle.sd_filter.proofs.PiecesLemmas.{answers-split}
+use Rattle.sd_filter.proofs.LineCutLemmas.{lines-are-cut}
+use Rattle.sd_filter.proofs.SplitsLemmas.{answers-split}
 use Rattle.sd_filter.proofs.ShortLemmas.{answers-short}
 use Rattle.sd_filter.proofs.running.run.Goals as goal
 
@@ -7,7 +7,7 @@ pub returns-clause-answers_are_short : goal.returns-clause-answers_are_short
 returns-clause-answers_are_short g c = answers-short _ _ c.note_limits.ensures.domain c.note_limits.ensures.act
 
 pub returns-clause-lines_are_cut : goal.returns-clause-lines_are_cut
-returns-clause-lines_are_cut g c = parts-cut
+returns-clause-lines_are_cut g c = lines-are-cut
 
 pub returns-clause-answers_split : goal.returns-clause-answers_split
 returns-clause-answers_split g c = answers-split _ _

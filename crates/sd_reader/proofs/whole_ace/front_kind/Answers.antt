@@ -1,8 +1,8 @@
 use Rattle.std.proofs.Common.{◌≡◌, ℕ, ◌<◌, List, [], ◌∷◌, refl, sym, ◌∙◌, arith, drop, get_or, length}
+use Rattle.std.proofs.lemmas.List.{take_rest}
 use Rattle.sd_reader.specs.FieldTexts.{kind_reads}
 use Rattle.sd_rights.specs.Kinds.{kind_named}
 use Rattle.sd_reader.proofs.PlainFields.{kind-whole}
-use Rattle.sd_reader.proofs.Runs.{rest-from}
 use Rattle.sd_reader.proofs.whole_ace.front_kind.Goals as goal
 
 two-first : (t : List ℕ) → 1 < length t → get_or t 0 0 ≡ 65 → get_or t 1 0 ≡ 59 → t ≡ 65 ∷ 59 ∷ drop 2 t
@@ -16,7 +16,7 @@ returns-then-text-eq59 c = record {
   field = 65 ∷ [];
   whole = record { plain = refl; fits = omega arith };
   stands =
-      rw (rest-from c.args.text.now 2)
+      rw (take_rest c.args.text.now 2)
       (two-first c.args.text.now c.if-text-gt1.true c.if-text-eq65.true c.if-text-eq59.true);
   reads = refl;
 }

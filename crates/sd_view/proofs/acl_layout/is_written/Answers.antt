@@ -1,13 +1,10 @@
-use Rattle.std.proofs.Common.{◌≡◌, ◌∙◌, ℕ, Bool, true, false, not, drop, refl, sym, ap, arith}
+use Rattle.std.proofs.Common.{◌∙◌, ℕ, drop, sym, ap, arith}
 use Rattle.std.proofs.lemmas.List.{take_rest}
+use Rattle.std.proofs.lemmas.Bool.{not-true}
 use Rattle.sd_view.specs.Bytes.{u16_at}
 use Rattle.sd_view.specs.Inner.Written.{all_named_flags}
 use Rattle.sd_view.proofs.WrittenLaws.{acl-written, plain-named}
 use Rattle.sd_view.proofs.acl_layout.is_written.Goals as goal
-
-off : (b : Bool) → not b ≡ true → b ≡ false
-off true e = absurd (cc)
-off false e = refl
 
 pub returns-then-not-object : goal.returns-then-not-object
 returns-then-not-object c =
@@ -18,7 +15,7 @@ returns-then-not-object c =
     c.requires.extent
     c.requires.header
     (sym c.read_u64.ensures ∙ c.if-read_u64.false ∙ c.read_u64-2.ensures)
-    (plain-named (u16_at 4 extent) (drop 8 extent) (sym c.requires.object ∙ off c.args.object e))
+    (plain-named (u16_at 4 extent) (drop 8 extent) (sym c.requires.object ∙ not-true c.args.object e))
 
 pub returns-else-not-object : goal.returns-else-not-object
 returns-else-not-object c =

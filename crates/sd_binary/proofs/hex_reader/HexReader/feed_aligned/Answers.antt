@@ -1,6 +1,6 @@
 use Rattle.std.proofs.Common.{◌≡◌, ℕ, ◌*◌, ◌/◌, List, ◌++◌, length, refl, sym, ap, ◌∙◌, append_assoc, arith}
 use Rattle.std.proofs.lemmas.List.{take-append-drop}
-use Rattle.sd_binary.specs.HexReading.{waiting}
+use Rattle.std.specs.Option.{option_to_list}
 use Rattle.sd_binary.proofs.HexReadingLaws.{hex-waits, one-waits}
 use Rattle.sd_binary.proofs.hex_reader.HexReader.feed_aligned.Goals as goal
 
@@ -16,9 +16,9 @@ returns c =
     let first = c.copied-self.ensures ∙ c.first.ensures.value in
     let waits = one-waits last next (omega (arith, split.back_len)) first in
     let read = c.feed_pairs.ensures.value text h (omega (arith, split.front_len)) in
-    let same : text ++ bytes ≡ (text ++ pairs) ++ waiting next =
+    let same : text ++ bytes ≡ (text ++ pairs) ++ option_to_list next =
     ap (λ (xs : List ℕ). text ++ xs) (sym whole)
     ∙ ap (λ (xs : List ℕ). text ++ (pairs ++ xs)) waits
-    ∙ sym (append_assoc text pairs (waiting next)) in
+    ∙ sym (append_assoc text pairs (option_to_list next)) in
     let none = c.feed_pairs.ensures.none_waits in
     rw same (hex-waits c.feed_pairs.new.self _ c.feed_pairs.new.buf _ next read none refl refl)

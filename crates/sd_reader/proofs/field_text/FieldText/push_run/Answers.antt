@@ -1,6 +1,8 @@
 use Rattle.std.proofs.Common.{◌≡◌, ◌<◌, ◌≤◌, ◌+◌, ◌||◌, true, false, length, refl, sym, ◌∙◌, arith, true≢false}
 use Rattle.std.proofs.lemmas.Bool.Decides.{nat_tests}
-use Rattle.sd_reader.proofs.Runs.{held-size, neither, run-more, run-spoilt, run-too-long}
+use Rattle.std.proofs.lemmas.Bool.{or_parts}
+use Rattle.std.proofs.lemmas.List.{length-take-le}
+use Rattle.sd_reader.proofs.Runs.{run-more, run-spoilt, run-too-long}
 use Rattle.sd_reader.proofs.field_text.FieldText.push_run.Goals.{then-self, else-self}
 use Rattle.sd_reader.proofs.field_text.FieldText.push_run.Goals as goal
 
@@ -19,9 +21,9 @@ returns-then-self-run c =
       | then-self w ↦ absurd (true≢false (sym w.if-self.true ∙ sym w.value-is ∙ c.if-self-2.false))
       | else-self w ↦ rw (w.if-self.false) (sym w.value-is ∙ c.if-self-2.false)
     ]) in
-    let n = neither _ _ kept in
+    let n = or_parts _ _ kept in
     let size : length c.args.self.now.text ≡ c.self.inside.len =
-    rw (← c.self.view_is) (held-size c.self.inside.len c.self.inside.bytes (rw c.self.told c.self.invariant)) in
+    rw (← c.self.view_is) (length-take-le c.self.inside.len c.self.inside.bytes (rw c.self.told c.self.invariant)) in
     c.spoil-then-self-run.ensures
     ∙ sym (run-too-long c.args.self.now c.args.run.now n.0 n.1 (rw size c.self.invariant) (rw size (omega arith)))
 
@@ -31,8 +33,8 @@ returns-else-self-run c =
       | then-self w ↦ absurd (true≢false (sym w.if-self.true ∙ sym w.value-is ∙ c.if-self-2.false))
       | else-self w ↦ rw (w.if-self.false) (sym w.value-is ∙ c.if-self-2.false)
     ]) in
-    let n = neither _ _ kept in
+    let n = or_parts _ _ kept in
     let size : length c.args.self.now.text ≡ c.self.inside.len =
-    rw (← c.self.view_is) (held-size c.self.inside.len c.self.inside.bytes (rw c.self.told c.self.invariant)) in
+    rw (← c.self.view_is) (length-take-le c.self.inside.len c.self.inside.bytes (rw c.self.told c.self.invariant)) in
     let fits : length c.args.self.now.text + length c.args.run.now ≤ 183 = omega arith in
     c.append.ensures ∙ (rw (n.0, n.1) refl ∙ sym (run-more c.args.self.now c.args.run.now n.0 n.1 fits))

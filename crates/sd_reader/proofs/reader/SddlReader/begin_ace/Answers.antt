@@ -1,6 +1,6 @@
 use Rattle.std.proofs.Common.{true, refl, sym, ◌∙◌}
 use Rattle.sd_reader.specs.declared.line.Head.TheVariants as head
-use Rattle.sd_reader.specs.Inner.Progress.{result_or}
+use Rattle.sd_rights.specs.Chains.{unless}
 use Rattle.sd_reader.proofs.Steps.{open_first, open_next, open_nowhere, unsound}
 use Rattle.sd_reader.proofs.FitLaws.{fits-first, fits-next, itself-or, none-before, read-ok}
 use Rattle.sd_reader.proofs.reader.SddlReader.begin_ace.Goals as goal
@@ -32,7 +32,7 @@ returns-in-AclFlags-clause-answers c = λ t k.
             (rw (c.in-AclFlags.is) at (k.fits (none-before s.fault _ t e.0 _ e.2 none)));
       },
       λ rest. rw (c.in-AclFlags.is, e.2, c.end_field.ensures.cleared, c.end_field.ensures.domain)
-          (open_first s.fields.domain s.sound s.twice s.seen (result_or t s.fault) s.field rest c.in-AclFlags.which
+          (open_first s.fields.domain s.sound s.twice s.seen (unless s.fault t) s.field rest c.in-AclFlags.which
           c.requires.calm.held),
     )
 
@@ -42,7 +42,7 @@ returns-in-AfterAce-clause-answers c = λ t k.
       t,
       record { fields = k.fields; fits = λ none. fits-next s.seen t (rw (c.in-AfterAce.is) at (k.fits none)) },
       λ rest. rw (c.in-AfterAce.is, c.clear.ensures)
-          (open_next s.fields.domain s.sound s.twice s.seen (result_or t s.fault) s.field rest),
+          (open_next s.fields.domain s.sound s.twice s.seen (unless s.fault t) s.field rest),
     )
 
 pub returns-in_default : goal.returns-in_default
@@ -52,8 +52,8 @@ returns-in_default c =
       answers = λ t k. (
         t,
         record { fields = k.fields; fits = k.fits },
-        λ rest. unsound s.fields.domain true s.twice s.seen (result_or t s.fault) s.field rest s.state
-            ∙ sym (open_nowhere s.fields.domain s.sound s.twice s.seen (result_or t s.fault) s.field rest s.state
+        λ rest. unsound s.fields.domain true s.twice s.seen (unless s.fault t) s.field rest s.state
+            ∙ sym (open_nowhere s.fields.domain s.sound s.twice s.seen (unless s.fault t) s.field rest s.state
             c.requires.here c.in_default.not-AclFlags c.in_default.not-AfterAce),
       );
       calm = record { held = c.requires.calm.held; gap = c.requires.calm.gap };

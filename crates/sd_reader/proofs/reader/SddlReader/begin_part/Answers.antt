@@ -1,7 +1,8 @@
 use Rattle.std.proofs.Common.{◌≡◌, false, ap, sym, ◌∙◌, None}
 use Rattle.sd_reader.specs.declared.line.Seen.{Seen}
 use Rattle.sd_reader.specs.declared.reader.SddlReader.{SddlReader}
-use Rattle.sd_reader.specs.Inner.Progress.{is_seen, result_or}
+use Rattle.sd_rights.specs.Chains.{unless}
+use Rattle.sd_reader.specs.Inner.Progress.{is_seen}
 use Rattle.sd_reader.proofs.Steps.{begin-noted}
 use Rattle.sd_reader.proofs.FitLaws.{fits-head, lacks-ended, none-ended, unseen-head}
 use Rattle.sd_reader.proofs.reader.SddlReader.begin_part.Goals as goal
@@ -44,7 +45,7 @@ returns-clause-answers c = λ t k.
         seen,
         ap (λ (x : SddlReader). x.twice) ended,
       )
-          (begin-noted s.fields.domain s.sound s.twice s.seen (result_or t s.fault) s.state s.field c.args.letter
+          (begin-noted s.fields.domain s.sound s.twice s.seen (unless s.fault t) s.state s.field c.args.letter
           c.args.head rest e.0 c.end_part.new.self.fault c.requires.here c.requires.calm.held
           c.requires.letter e.2),
     )

@@ -1,6 +1,6 @@
 use Rattle.std.proofs.Common.{true, refl, sym, ◌∙◌}
 use Rattle.sd_reader.specs.declared.line.State.TheVariants as state
-use Rattle.sd_reader.specs.Inner.Progress.{result_or}
+use Rattle.sd_rights.specs.Chains.{unless}
 use Rattle.sd_reader.proofs.Steps.{close_early, close_last, column_more, unsound}
 use Rattle.sd_reader.proofs.FitLaws.{fits-field, none-before, read-ok}
 use Rattle.sd_reader.proofs.reader.SddlReader.end_ace.Goals as goal
@@ -17,7 +17,7 @@ returns-in-Sid-clause-answers c = λ t k.
             (rw (c.requires.here) at (k.fits (none-before s.fault _ t e.0 _ e.2 none)));
       },
       λ rest. rw (c.requires.here, e.2, c.end_field.ensures.cleared, c.in-Sid.is, c.end_field.ensures.domain)
-          (close_last s.fields.domain s.sound s.twice s.seen (result_or t s.fault) s.field rest),
+          (close_last s.fields.domain s.sound s.twice s.seen (unless s.fault t) s.field rest),
     )
 
 pub returns-in_default : goal.returns-in_default
@@ -28,8 +28,8 @@ returns-in_default c =
         t,
         record { fields = k.fields; fits = k.fits },
         λ rest. rw (c.requires.here)
-            (unsound s.fields.domain true s.twice s.seen (result_or t s.fault) s.field rest (state.Ace c.args.field)
-            ∙ sym (close_early s.fields.domain s.sound s.twice s.seen (result_or t s.fault) s.field rest c.args.field
+            (unsound s.fields.domain true s.twice s.seen (unless s.fault t) s.field rest (state.Ace c.args.field)
+            ∙ sym (close_early s.fields.domain s.sound s.twice s.seen (unless s.fault t) s.field rest c.args.field
             (column_more c.args.field c.in_default.not-Sid))),
       );
       calm = record { held = c.requires.calm.held; gap = c.requires.calm.gap };

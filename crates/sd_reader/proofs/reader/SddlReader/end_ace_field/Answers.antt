@@ -1,7 +1,7 @@
 use Rattle.std.proofs.Common.{true, refl, sym, ◌∙◌, arith}
 use Rattle.sd_reader.specs.declared.line.AceField.TheVariants as field
 use Rattle.sd_reader.specs.declared.line.State.TheVariants as state
-use Rattle.sd_reader.specs.Inner.Progress.{result_or}
+use Rattle.sd_rights.specs.Chains.{unless}
 use Rattle.sd_reader.proofs.Steps.{column_more, cut, cut_late, unsound}
 use Rattle.sd_reader.proofs.FitLaws.{fits-field, none-before, read-ok}
 use Rattle.sd_reader.proofs.reader.SddlReader.end_ace_field.Goals as goal
@@ -12,8 +12,8 @@ returns-in-Sid-clause-answers c = λ t k.
       t,
       record { fields = k.fields; fits = k.fits },
       λ rest. rw (c.requires.here, c.in-Sid.is)
-          (unsound s.fields.domain true s.twice s.seen (result_or t s.fault) s.field rest (state.Ace field.Sid)
-          ∙ sym (cut_late s.fields.domain s.sound s.twice s.seen (result_or t s.fault) s.field rest)),
+          (unsound s.fields.domain true s.twice s.seen (unless s.fault t) s.field rest (state.Ace field.Sid)
+          ∙ sym (cut_late s.fields.domain s.sound s.twice s.seen (unless s.fault t) s.field rest)),
     )
 
 pub returns-in_default : goal.returns-in_default
@@ -29,7 +29,7 @@ returns-in_default c =
               (rw (c.requires.here) at (k.fits (none-before s.fault _ t e.0 _ e.2 none)));
         },
         λ rest. rw (c.requires.here, c.next_field.ensures, e.2, c.end_field.ensures.cleared, c.end_field.ensures.domain)
-            (cut s.fields.domain s.sound s.twice s.seen (result_or t s.fault) s.field rest c.args.field
+            (cut s.fields.domain s.sound s.twice s.seen (unless s.fault t) s.field rest c.args.field
             (column_more c.args.field c.in_default.not-Sid)),
       ));
       calm = record {

@@ -3,8 +3,9 @@ use Rattle.std.specs.Prelude.{Option}
 use Rattle.sd_core.specs.Sid.{SecurityId}
 use Rattle.sd_reader.specs.declared.fault.SddlFault.TheVariants as fault
 use Rattle.sd_reader.specs.Inner.FoldedReading.{reads_as}
-use Rattle.sd_reader.specs.Inner.Progress.{result_or}
-use Rattle.sd_reader.specs.Inner.Reads.{answer_at, waiting}
+use Rattle.sd_rights.specs.Chains.{unless}
+use Rattle.std.specs.Option.{option_to_list}
+use Rattle.sd_reader.specs.Inner.Reads.{answer_at}
 use Rattle.sd_reader.proofs.Steps.{unsound}
 use Rattle.sd_reader.proofs.reader.SddlReader.feed.Goals as goal
 
@@ -13,11 +14,12 @@ returns-then-not-self-clause-read c = λ domain text h.
     let s = c.args.self.now in
     let lost : (u : List ℕ)
     → answer_at s h.0 u ≡ Err fault.Shape = λ u. rw (c.if-not-self.true)
-    (unsound s.fields.domain true s.twice s.seen (result_or h.0 s.fault) s.field u s.state) in (
+    (unsound s.fields.domain true s.twice s.seen (unless s.fault h.0) s.field u s.state) in (
       h.0,
       h.1,
-      λ rest. lost (waiting s.pending ++ rest)
-          ∙ (sym (lost (waiting s.pending ++ c.args.byte ∷ rest)) ∙ (h.2 (c.args.byte ∷ rest) ∙ rw append_assoc refl)),
+      λ rest. lost (option_to_list s.pending ++ rest)
+          ∙ (sym (lost (option_to_list s.pending ++ c.args.byte ∷ rest))
+          ∙ (h.2 (c.args.byte ∷ rest) ∙ rw append_assoc refl)),
     )
 
 -- the line so far, with a byte more
@@ -33,7 +35,7 @@ returns-in-Ace-clause-read c = λ domain text h.
     let still : c.put_inside.new.self.pending ≡ None = c.put_inside.ensures.pending ∙ none in (
       e.0,
       e.1,
-      λ rest. ap (λ (p : Option ℕ). answer_at c.put_inside.new.self e.0 (waiting p ++ rest)) still
+      λ rest. ap (λ (p : Option ℕ). answer_at c.put_inside.new.self e.0 (option_to_list p ++ rest)) still
           ∙ (e.2 rest ∙ ((rw none at h.2 (c.args.byte ∷ rest)) ∙ next domain text rest c.args.byte)),
     )
 

@@ -1,5 +1,6 @@
 use Rattle.std.proofs.Common.{[], ◌∷◌, ◌++◌, take}
-use Rattle.sd_reader.proofs.Runs.{fed-more, fed-whole, rest-from}
+use Rattle.std.proofs.lemmas.List.{take_rest}
+use Rattle.sd_reader.proofs.Runs.{fed-more, fed-whole}
 use Rattle.sd_reader.proofs.reader.SddlReader.feed_all.Goals as goal
 
 pub loop-byte-preserved : goal.loop-byte-preserved
@@ -13,7 +14,7 @@ loop-byte-preserved c = record {
       let run = c.feed_run-run.result in (
         f.0 ++ take run left,
         c.feed_run-run.ensures.read _ domain f.0 c.feed_aces-left.ensures.reader f.1,
-        rw (rest-from left run)
+        rw (take_rest left run)
             (fed-more e.0 f.0 _ c.loop-byte.rest.now c.in-Some.after.now left c.in-Some.byte.now run
             c.in-Some.ensures.cases.0 e.2 f.2),
       );

@@ -3,7 +3,8 @@ use Rattle.std.specs.Prelude.{Option}
 use Rattle.sd_core.specs.Sid.{SecurityId}
 use Rattle.sd_reader.specs.Meaning.{means}
 use Rattle.sd_reader.specs.Inner.FoldedReading.{FieldsRead, finished, folded, reads_as}
-use Rattle.sd_reader.specs.Inner.Reads.{LineHasRead, Reads, answer_at, waiting}
+use Rattle.std.specs.Option.{option_to_list}
+use Rattle.sd_reader.specs.Inner.Reads.{LineHasRead, Reads, answer_at}
 use Rattle.sd_reader.proofs.FieldTexts.{append_nothing}
 use Rattle.sd_reader.proofs.FitLaws.{keeps-same}
 use Rattle.sd_reader.proofs.FoldedMeaning.{folded-means}
@@ -20,7 +21,7 @@ at-end : (c : goal.After-finish_alone) (domain : Option SecurityId) (text : List
 unfolding folded
 at-end c domain text h =
     let s = c.args.self in
-    let whole : answer_at s h.0 (waiting s.pending ++ []) ≡ reads_as domain text =
+    let whole : answer_at s h.0 (option_to_list s.pending ++ []) ≡ reads_as domain text =
     h.2 [] ∙ ap (reads_as domain) (append_nothing text) in
     let flushed : answer_at c.match-self.self h.0 [] ≡ reads_as domain text = elim c.match-self.branch [
       | in-Some w ↦ rw (w.self-is) (w.put_text.ensures.answers h.0 [] refl ∙ (rw (w.in-Some.is) at whole))

@@ -2,7 +2,7 @@ use Rattle.std.proofs.Common.{◌≡◌, true, false, refl, sym, ◌∙◌, arit
 use Rattle.std.specs.Prelude.{◌==◌}
 use Rattle.std.proofs.lemmas.Bool.Decides.{nat_tests}
 use Rattle.sd_reader.specs.declared.line.State.TheVariants as state
-use Rattle.sd_reader.specs.Inner.Progress.{result_or}
+use Rattle.sd_rights.specs.Chains.{unless}
 use Rattle.sd_reader.proofs.FieldTexts.{same_within}
 use Rattle.sd_reader.proofs.Steps.{entry_text, open_inside, unsound}
 use Rattle.sd_reader.proofs.reader.SddlReader.put_inside.Goals as goal
@@ -13,8 +13,8 @@ returns-in-40-clause-answers c = λ t k.
       t,
       record { fields = k.fields; fits = k.fits },
       λ rest. rw (c.requires.here, c.in-40.is)
-          (unsound s.fields.domain true s.twice s.seen (result_or t s.fault) s.field rest (state.Ace c.args.field)
-          ∙ sym (open_inside s.fields.domain s.sound s.twice s.seen (result_or t s.fault) s.field rest c.args.field)),
+          (unsound s.fields.domain true s.twice s.seen (unless s.fault t) s.field rest (state.Ace c.args.field)
+          ∙ sym (open_inside s.fields.domain s.sound s.twice s.seen (unless s.fault t) s.field rest c.args.field)),
     )
 
 pub returns-in-41-clause-answers : goal.returns-in-41-clause-answers
@@ -34,6 +34,6 @@ returns-in_default-clause-answers c = λ t k.
       t,
       record { fields = k.fields; fits = k.fits },
       λ rest. rw (c.requires.here, c.push_within.ensures)
-          (entry_text s.fields.domain s.sound s.twice s.seen (result_or t s.fault) s.field rest c.args.field _
+          (entry_text s.fields.domain s.sound s.twice s.seen (unless s.fault t) s.field rest c.args.field _
           c.args.byte e40 e41 e59 (λ u. same_within s.field c.args.byte u c.requires.calm.held calm)),
     )

@@ -1,5 +1,5 @@
 use Rattle.std.proofs.Common.{true, sym, inl, inr, ◌∙◌}
-use Rattle.sd_reader.specs.Inner.Progress.{result_or}
+use Rattle.sd_rights.specs.Chains.{unless}
 use Rattle.sd_reader.proofs.Steps.{close_outside, colon, unsound}
 use Rattle.sd_reader.proofs.FitLaws.{keeps-same}
 use Rattle.sd_reader.proofs.reader.SddlReader.put_outside.Goals as goal
@@ -15,11 +15,11 @@ returns-in-41-clause-answers c = λ t k. (
   record { fields = k.fields; fits = k.fits },
   λ rest none.
       let s = c.args.self.now in
-      unsound s.fields.domain true s.twice s.seen (result_or t s.fault) s.field rest s.state
+      unsound s.fields.domain true s.twice s.seen (unless s.fault t) s.field rest s.state
       ∙ elim c.in-41.is [
-        | inl e ↦ rw e (sym (close_outside s.fields.domain s.sound s.twice s.seen (result_or t s.fault) s.field rest
+        | inl e ↦ rw e (sym (close_outside s.fields.domain s.sound s.twice s.seen (unless s.fault t) s.field rest
             s.state c.requires.here))
-        | inr e ↦ rw e (sym (colon s.fields.domain s.sound s.twice s.seen (result_or t s.fault) s.field rest s.state
+        | inr e ↦ rw e (sym (colon s.fields.domain s.sound s.twice s.seen (unless s.fault t) s.field rest s.state
             c.requires.here))
       ],
 )

@@ -1,5 +1,5 @@
 use Rattle.std.proofs.Common.{◌≡◌, sym, None, ◌∙◌, refl, ap, true≢false}
-use Rattle.sd_reader.specs.Inner.FoldedReading.{ace_of}
+use Rattle.sd_reader.specs.Inner.FoldedReading.{ace_of_fields}
 use Rattle.sd_reader.proofs.TrusteeLaws.{holds-large, holds-more, none-is, open-too}
 use Rattle.sd_reader.proofs.reading.FieldReader.put_ace.Goals as goal
 
@@ -8,7 +8,8 @@ returns-in-Err-clause-held c = λ t h.
     let r = c.args.self.now in
     let none : r.large ≡ None = none-is r.large (sym c.is_some.ensures ∙ c.if-is_some.false) in
     let o = open-too r c.args.buf.now c.requires.0 t c.requires.1 h none c.requires.2 in
-    let is : c.in-Some.ace ≡ ace_of t.ace c.args.sid = c.in-Some.ensures.value ∙ ap (λ f. ace_of f c.args.sid) h.ace in
+    let is : c.in-Some.ace ≡ ace_of_fields t.ace c.args.sid = c.in-Some.ensures.value
+    ∙ ap (λ f. ace_of_fields f c.args.sid) h.ace in
     holds-large r c.args.buf.now c.ace.new.buf c.ace.new.self t c.args.sid c.in-Some.ace h none is o
     ((c.in-Err.ensures.full t.parts (h.builds (sym h.large ∙ none))).0 refl)
 
@@ -17,7 +18,8 @@ returns-in_default-ace-clause-held c = λ t h.
     let r = c.args.self.now in
     let none : r.large ≡ None = none-is r.large (sym c.is_some.ensures ∙ c.if-is_some.false) in
     let o = open-too r c.args.buf.now c.requires.0 t c.requires.1 h none c.requires.2 in
-    let is : c.in-Some.ace ≡ ace_of t.ace c.args.sid = c.in-Some.ensures.value ∙ ap (λ f. ace_of f c.args.sid) h.ace in
+    let is : c.in-Some.ace ≡ ace_of_fields t.ace c.args.sid = c.in-Some.ensures.value
+    ∙ ap (λ f. ace_of_fields f c.args.sid) h.ace in
     let built = h.builds (sym h.large ∙ none) in
     holds-more r c.args.buf.now c.ace.new.buf c.ace.new.self t c.args.sid c.in-Some.ace h none is o
     (λ large. absurd (true≢false (sym ((c.in_default-ace.ensures.full t.parts built).1 large))))

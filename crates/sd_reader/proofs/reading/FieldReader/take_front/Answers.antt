@@ -1,6 +1,7 @@
 use Rattle.std.proofs.Common.{◌≡◌, sym, ◌∙◌, false}
 use Rattle.std.specs.Prelude.{◌&&◌}
-use Rattle.sd_reader.proofs.FieldLaws.{dacl-taken, holds-dacl, holds-sacl, not-both, not-first, sacl-taken}
+use Rattle.std.proofs.lemmas.Bool.{and_left, and_right}
+use Rattle.sd_reader.proofs.FieldLaws.{dacl-taken, holds-dacl, holds-sacl, sacl-taken}
 use Rattle.sd_reader.proofs.reading.FieldReader.take_front.Goals as goal
 use Rattle.sd_reader.proofs.reading.FieldReader.take_front.Goals.{else-front-via-then-front+else-has_aces, else-front-via-else-front}
 
@@ -9,8 +10,8 @@ returns-in-Sacl-clause-read c = λ t h.
     let k = c.begin_acl.ensures.held t h in
     let f = c.in-Some.front in
     let may : (f.null && c.args.has_aces) ≡ false = elim c.else-front.branch [
-      | else-front-via-then-front+else-has_aces w ↦ not-both f.null c.args.has_aces w.if-has_aces.false
-      | else-front-via-else-front w ↦ not-first f.null c.args.has_aces w.if-front.false
+      | else-front-via-then-front+else-has_aces w ↦ and_right f.null c.args.has_aces w.if-has_aces.false
+      | else-front-via-else-front w ↦ and_left f.null c.args.has_aces w.if-front.false
     ] in (
       _,
       holds-sacl _ _ _ k f.flags,
@@ -22,8 +23,8 @@ returns-in-Dacl-clause-read c = λ t h.
     let k = c.begin_acl.ensures.held t h in
     let f = c.in-Some.front in
     let may : (f.null && c.args.has_aces) ≡ false = elim c.else-front.branch [
-      | else-front-via-then-front+else-has_aces w ↦ not-both f.null c.args.has_aces w.if-has_aces.false
-      | else-front-via-else-front w ↦ not-first f.null c.args.has_aces w.if-front.false
+      | else-front-via-then-front+else-has_aces w ↦ and_right f.null c.args.has_aces w.if-has_aces.false
+      | else-front-via-else-front w ↦ and_left f.null c.args.has_aces w.if-front.false
     ] in (
       _,
       holds-dacl _ _ _ k f.flags,

@@ -2,11 +2,11 @@
 use Rattle.std.proofs.Common.{◌≡◌, ℕ, List, [], ◌∷◌, ◌++◌, Bool, true, false, ◌==◌, cond, map, refl, sym, ◌∙◌, ap, rules, append-nil, append_assoc, suc, length, get_or, take, drop, ◌<◌, ◌≤◌, ◌+◌, ◌-◌, inl, inr, arith}
 use Rattle.std.proofs.lemmas.List.{map_push, get_or-take, get_or-drop, length-take-le, length-drop}
 use Rattle.std.proofs.lemmas.Bool.{cases_lt}
-use Rattle.sd_filter.specs.Lines.{IsCut, LinesAreCut, Parts, parts, onto_first, without_cr, ended}
+use Rattle.sd_filter.specs.Lines.{IsCut, LinesAreCut, LineCut, cut_at_line_feeds, onto_first_line, without_cr, ended}
 
 -- one byte in front of these parts
-abbrev pub front : Bool → ℕ → Parts → Parts
-front c b p = cond c (record { ended = [] ∷ p.ended; rest = p.rest }) (onto_first b p.ended p.rest)
+abbrev pub front : Bool → ℕ → LineCut → LineCut
+front c b p = cond c (record { ended = [] ∷ p.ended; rest = p.rest }) (onto_first_line b p.ended p.rest)
 
 -- one byte in front of a cut
 front-cut : (c : Bool) (b : ℕ) (ended : List (List ℕ)) (rest bytes : List ℕ) → (b == 10) ≡ c
@@ -25,17 +25,18 @@ front-cut false b (p ∷ ps) rest bytes is h =
     record { joined = ap (λ l. b ∷ l) h.joined; ended_without = rw is h.ended_without; rest_without = h.rest_without }
 
 -- the parts are the one cut at the LFs
-pub parts-cut : LinesAreCut
-unfolding parts
-parts-cut [] = record { joined = refl; ended_without = refl; rest_without = refl }
-parts-cut (b ∷ bytes) = front-cut (b == 10) b (parts bytes).ended (parts bytes).rest bytes refl (parts-cut bytes)
+pub lines-are-cut : LinesAreCut
+unfolding cut_at_line_feeds
+lines-are-cut [] = record { joined = refl; ended_without = refl; rest_without = refl }
+lines-are-cut (b ∷ bytes) = front-cut (b == 10) b (cut_at_line_feeds bytes).ended
+    (cut_at_line_feeds bytes).rest bytes refl (lines-are-cut bytes)
 
 -- these parts, and then an LF
-abbrev closed : Parts → Parts
+abbrev closed : LineCut → LineCut
 closed p = record { ended = p.ended ++ p.rest ∷ []; rest = [] }
 
 -- these parts, and then another byte
-abbrev grown : ℕ → Parts → Parts
+abbrev grown : ℕ → LineCut → LineCut
 grown b p = record { ended = p.ended; rest = p.rest ++ b ∷ [] }
 
 front-closed : (c : Bool) (x : ℕ) (ended : List (List ℕ)) (rest : List ℕ)
@@ -52,39 +53,44 @@ front-grown true x b ended rest = refl
 front-grown false x b [] rest = refl
 front-grown false x b (p ∷ ps) rest = refl
 
-pub parts-lf : (xs : List ℕ) → parts (xs ++ 10 ∷ []) ≡ closed (parts xs)
-unfolding parts
-parts-lf [] = refl
-parts-lf (x ∷ xs) = ap (front (x == 10) x) (parts-lf xs) ∙ front-closed (x == 10) x (parts xs).ended (parts xs).rest
+pub cut-lf : (xs : List ℕ) → cut_at_line_feeds (xs ++ 10 ∷ []) ≡ closed (cut_at_line_feeds xs)
+unfolding cut_at_line_feeds
+cut-lf [] = refl
+cut-lf (x ∷ xs) = ap (front (x == 10) x) (cut-lf xs)
+    ∙ front-closed (x == 10) x (cut_at_line_feeds xs).ended (cut_at_line_feeds xs).rest
 
 alone : (c : Bool) (b : ℕ) → c ≡ false
     → front c b (record { ended = []; rest = [] }) ≡ record { ended = []; rest = b ∷ [] }
 alone c b e = rw e
 
-pub parts-other : (xs : List ℕ) (b : ℕ) → (b == 10) ≡ false → parts (xs ++ b ∷ []) ≡ grown b (parts xs)
-unfolding parts
-parts-other [] b e = alone (b == 10) b e
-parts-other (x ∷ xs) b e = ap (front (x == 10) x) (parts-other xs b e)
-    ∙ front-grown (x == 10) x b (parts xs).ended (parts xs).rest
+pub cut-other : (xs : List ℕ) (b : ℕ) → (b == 10) ≡ false
+    → cut_at_line_feeds (xs ++ b ∷ []) ≡ grown b (cut_at_line_feeds xs)
+unfolding cut_at_line_feeds
+cut-other [] b e = alone (b == 10) b e
+cut-other (x ∷ xs) b e = ap (front (x == 10) x) (cut-other xs b e)
+    ∙ front-grown (x == 10) x b (cut_at_line_feeds xs).ended (cut_at_line_feeds xs).rest
 
-pub ended-lf : (xs : List ℕ) → ended (xs ++ 10 ∷ []) ≡ ended xs ++ without_cr (parts xs).rest ∷ []
+pub ended-lf : (xs : List ℕ) → ended (xs ++ 10 ∷ []) ≡ ended xs ++ without_cr (cut_at_line_feeds xs).rest ∷ []
 unfolding ended
-ended-lf xs = ap (λ p. map without_cr p.ended) (parts-lf xs) ∙ map_push without_cr (parts xs).ended (parts xs).rest
+ended-lf xs = ap (λ p. map without_cr p.ended) (cut-lf xs)
+    ∙ map_push without_cr (cut_at_line_feeds xs).ended (cut_at_line_feeds xs).rest
 
 pub ended-other : (xs : List ℕ) (b : ℕ) → (b == 10) ≡ false → ended (xs ++ b ∷ []) ≡ ended xs
 unfolding ended
-ended-other xs b e = ap (λ p. map without_cr p.ended) (parts-other xs b e)
+ended-other xs b e = ap (λ p. map without_cr p.ended) (cut-other xs b e)
 
-pub rest-lf : (xs : List ℕ) → (parts (xs ++ 10 ∷ [])).rest ≡ []
-rest-lf xs = ap (λ p. p.rest) (parts-lf xs)
+pub rest-lf : (xs : List ℕ) → (cut_at_line_feeds (xs ++ 10 ∷ [])).rest ≡ []
+rest-lf xs = ap (λ p. p.rest) (cut-lf xs)
 
-pub rest-other : (xs : List ℕ) (b : ℕ) → (b == 10) ≡ false → (parts (xs ++ b ∷ [])).rest ≡ (parts xs).rest ++ b ∷ []
-rest-other xs b e = ap (λ p. p.rest) (parts-other xs b e)
+pub rest-other : (xs : List ℕ) (b : ℕ) → (b == 10) ≡ false
+    → (cut_at_line_feeds (xs ++ b ∷ [])).rest ≡ (cut_at_line_feeds xs).rest ++ b ∷ []
+rest-other xs b e = ap (λ p. p.rest) (cut-other xs b e)
 
 -- more bytes end more lines
 ended-append_from : (b : Bool) (xs : List ℕ) (x : ℕ) → (x == 10) ≡ b → (more : List (List ℕ))
     × (ended (xs ++ x ∷ []) ≡ ended xs ++ more)
-ended-append_from true xs x e = let is : x ≡ 10 = search rules in (without_cr (parts xs).rest ∷ [], rw is (ended-lf xs))
+ended-append_from true xs x e = let is : x
+    ≡ 10 = search rules in (without_cr (cut_at_line_feeds xs).rest ∷ [], rw is (ended-lf xs))
 ended-append_from false xs x e = ([], ended-other xs x e ∙ sym (append-nil (ended xs)))
 
 pub ended-append : (xs ys : List ℕ) → (more : List (List ℕ)) × (ended (xs ++ ys) ≡ ended xs ++ more)
@@ -105,22 +111,25 @@ eq_false : (y : ℕ) → (y ≡ 10 → ⊥) → (y == 10) ≡ false
 eq_false y h = search rules
 
 pub parts-more : (xs ys : List ℕ) → NoLf ys
-    → parts (xs ++ ys) ≡ record { ended = (parts xs).ended; rest = (parts xs).rest ++ ys }
-parts-more xs [] h = ap parts (append-nil xs)
-    ∙ ap (λ r. let p : Parts = record { ended = (parts xs).ended; rest = r } in p) (sym (append-nil (parts xs).rest))
+    → cut_at_line_feeds (xs ++ ys)
+    ≡ record { ended = (cut_at_line_feeds xs).ended; rest = (cut_at_line_feeds xs).rest ++ ys }
+parts-more xs [] h = ap cut_at_line_feeds (append-nil xs)
+    ∙ ap (λ r. let p : LineCut = record { ended = (cut_at_line_feeds xs).ended; rest = r } in p)
+    (sym (append-nil (cut_at_line_feeds xs).rest))
 parts-more xs (y ∷ ys) h =
-    let one : (parts (xs ++ y ∷ [])) ≡ grown y (parts xs) = parts-other xs y (eq_false y (h 0 (omega arith))) in
+    let one : (cut_at_line_feeds (xs ++ y ∷ []))
+    ≡ grown y (cut_at_line_feeds xs) = cut-other xs y (eq_false y (h 0 (omega arith))) in
     let all = parts-more (xs ++ y ∷ []) ys (λ k l e. h (suc k) (omega arith) e) in
-    ap parts (sym (append_assoc xs (y ∷ []) ys)) ∙ all
-    ∙ ap (λ p. let q : Parts = record { ended = p.ended; rest = p.rest ++ ys } in q) one
-    ∙ ap (λ r. let p : Parts = record { ended = (parts xs).ended; rest = r } in p)
-    (append_assoc (parts xs).rest (y ∷ []) ys)
+    ap cut_at_line_feeds (sym (append_assoc xs (y ∷ []) ys)) ∙ all
+    ∙ ap (λ p. let q : LineCut = record { ended = p.ended; rest = p.rest ++ ys } in q) one
+    ∙ ap (λ r. let p : LineCut = record { ended = (cut_at_line_feeds xs).ended; rest = r } in p)
+    (append_assoc (cut_at_line_feeds xs).rest (y ∷ []) ys)
 
 pub ended-more : (xs ys : List ℕ) → NoLf ys → ended (xs ++ ys) ≡ ended xs
 unfolding ended
 ended-more xs ys h = ap (λ p. map without_cr p.ended) (parts-more xs ys h)
 
-pub rest-more : (xs ys : List ℕ) → NoLf ys → (parts (xs ++ ys)).rest ≡ (parts xs).rest ++ ys
+pub rest-more : (xs ys : List ℕ) → NoLf ys → (cut_at_line_feeds (xs ++ ys)).rest ≡ (cut_at_line_feeds xs).rest ++ ys
 rest-more xs ys h = ap (λ p. p.rest) (parts-more xs ys h)
 
 -- none of the first n bytes is an LF

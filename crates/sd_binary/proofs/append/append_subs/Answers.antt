@@ -4,7 +4,7 @@ use Rattle.std.proofs.lemmas.List.{append-nil, flat_map_more, length-take-le, ta
 use Rattle.std.specs.List.{flat_map}
 use Rattle.byteorder.specs.Endian.{little_bytes}
 use Rattle.sd_core.proofs.SidLaws.{length-word_bytes}
-use Rattle.sd_binary.proofs.pieces.append_subs.Goals as goal
+use Rattle.sd_binary.proofs.append.append_subs.Goals as goal
 
 -- one more was appended
 next : (b : List ℕ) (xs : List ℕ) (i : ℕ) → i < length xs

@@ -3,16 +3,17 @@ use Rattle.std.specs.Prelude.{◌≡◌, ℕ, ◌+◌, List, [], ◌∷◌, ◌+
 use Rattle.sd_core.specs.Token.{Entry}
 use Rattle.sd_command.specs.declared.job.Job.{Job}
 use Rattle.sd_filter.specs.Answers.{answers, errors}
-use Rattle.sd_filter.specs.Lines.{lines}
+use Rattle.sd_filter.specs.Lines.{lines, line_feed}
 
 -- Cut behind an LF, an input has the answers of its pieces, one after the other, and as many lines and `error` lines as
 -- they have together: so each piece may be answered by itself.
 pub record Splits (job : Job) (entries : List Entry) (front back : List ℕ) : Type 0 where
-  pub answered : answers job entries (lines (front ++ 10 ∷ back))
-      ≡ answers job entries (lines (front ++ 10 ∷ [])) ++ answers job entries (lines back)
-  pub line_count : length (lines (front ++ 10 ∷ back)) ≡ length (lines (front ++ 10 ∷ [])) + length (lines back)
-  pub error_count : errors job (lines (front ++ 10 ∷ back))
-      ≡ errors job (lines (front ++ 10 ∷ [])) + errors job (lines back)
+  pub answered : answers job entries (lines (front ++ line_feed ∷ back))
+      ≡ answers job entries (lines (front ++ line_feed ∷ [])) ++ answers job entries (lines back)
+  pub line_count : length (lines (front ++ line_feed ∷ back))
+      ≡ length (lines (front ++ line_feed ∷ [])) + length (lines back)
+  pub error_count : errors job (lines (front ++ line_feed ∷ back))
+      ≡ errors job (lines (front ++ line_feed ∷ [])) + errors job (lines back)
 
 abbrev pub AnswersSplit : Job → List Entry → Type 0
 AnswersSplit job entries = (front back : List ℕ) → Splits job entries front back

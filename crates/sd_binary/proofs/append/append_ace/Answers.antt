@@ -3,7 +3,7 @@ use Rattle.sd_core.specs.Ace.{AccessControlEntry, GuidsFit, ace_size, guid_size}
 use Rattle.sd_rights.specs.Kinds.{is_object}
 use Rattle.sd_core.specs.Sid.{sid_bytes, sid_size}
 use Rattle.sd_view.specs.AclLayout.{ace_front, front_size, guid_part, guids, object_flags}
-use Rattle.sd_binary.proofs.pieces.append_ace.Goals as goal
+use Rattle.sd_binary.proofs.append.append_ace.Goals as goal
 
 -- GUIDs stand in object kinds alone
 guids-fit : (b : Bool) (o i : Option (List ℕ)) → GuidsFit b o i → guids b o i ≡ guid_part o ++ guid_part i
