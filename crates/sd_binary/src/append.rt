@@ -1,16 +1,16 @@
 // SIDs and ACEs appended to a buffer.
-ghost use Rattle.std.specs.Prelude.{◌≡◌, ◌≤◌, ◌+◌, ◌*◌, ◌++◌, ◌∷◌, length, take};
+ghost use Rattle.std.specs.Prelude.{◌≡◌, ◌≤◌, ◌+◌, ◌*◌, ◌++◌, ◌∷◌, length};
 ghost use Rattle.std.specs.List.{flat_map};
 ghost use Rattle.byteorder.specs.Endian.{big_bytes, little_bytes};
-ghost use Rattle.sd_core.specs.Ace.{IsAce, ace_size};
+ghost use Rattle.sd_core.specs.Ace.{ace_size};
 ghost use Rattle.sd_core.specs.Sid.{IsSid, sid_bytes, sid_size};
-ghost use Rattle.sd_view.specs.AclLayout.{ace_bytes, ace_front as front_bytes, flag_if, front_size, guid_part};
+ghost use Rattle.sd_view.specs.AclLayout.{ace_bytes, guid_part};
 ghost use Rattle.sd_view.specs.declared.limits.TheConstants.{CAPACITY, MOST_SID_SIZE};
 
 use crate::buffer::SdBuf;
 use byteorder::{BigEndian, ByteOrder, LittleEndian};
 use sd_core::{Ace, Sid, guid_bytes};
-use sd_view::{FRONT_SIZE, OBJECT_FRONT_SIZE, SID_HEADER_SIZE};
+use sd_view::{AceFront, SID_HEADER_SIZE};
 use uuid::Uuid;
 
 // The sub-authorities of an account of a domain: most SIDs have as many.
@@ -81,48 +81,11 @@ pub(crate) fn append_ace(buf: &mut SdBuf, ace: &Ace)
     requires { length buf.old + ace_size ace.now ≤ CAPACITY }
     ensures { buf.new ≡ buf.old ++ ace_bytes ace.now }
 {
-    append_front(buf, ace);
+    let front = AceFront::of_ace(ace);
+    buf.append_front(&front.cells, front.count);
     append_guid(buf, &ace.object());
     append_guid(buf, &ace.inherited());
     append_sid(buf, ace.trustee());
-}
-
-// Appends what stands before the GUIDs.
-fn append_front(buf: &mut SdBuf, ace: &Ace)
-    requires { length buf.old + front_size ace.now.kind ≤ CAPACITY }
-    ensures value { buf.new ≡ buf.old ++ front_bytes ace.now }
-    ensures limits { IsAce ace.now }
-{
-    let front = ace_front(ace);
-    let size = if ace.kind().is_object() {
-        OBJECT_FRONT_SIZE
-    } else {
-        FRONT_SIZE
-    };
-    buf.append(&front[..size]);
-}
-
-// The bytes before the GUIDs; the object flags among them count in object kinds alone.
-fn ace_front(ace: &Ace) -> [u8; 12]
-    ensures value { take (front_size ace.now.kind) result ≡ front_bytes ace.now }
-    ensures limits { IsAce ace.now }
-{
-    let mut front = [0; OBJECT_FRONT_SIZE];
-    front[0] = ace.kind().code();
-    front[1] = ace.flags();
-    LittleEndian::write_u16(&mut front[2..], ace.size());
-    LittleEndian::write_u32(&mut front[4..], ace.mask());
-    LittleEndian::write_u32(&mut front[8..], object_flags(ace));
-    front
-}
-
-// Which GUIDs stand in the ACE (MS-DTYP 2.4.4.3).
-fn object_flags(ace: &Ace) -> u32
-    ensures { result ≡ flag_if ace.now.object 1 + flag_if ace.now.inherited 2 }
-{
-    let object = if ace.object().is_some() { 1 } else { 0 };
-    let inherited = if ace.inherited().is_some() { 2 } else { 0 };
-    object + inherited
 }
 
 // Appends a GUID that may be there (MS-DTYP 2.3.4.2).

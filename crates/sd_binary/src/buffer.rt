@@ -100,6 +100,17 @@ impl<const MOST: usize> ByteBuf<MOST> {
         self.held += bytes.len();
     }
 
+    // Appends the first of some cells. There is room for all of them, so that they are copied at once.
+    #[inline(always)]
+    pub(crate) fn append_front(&mut self, cells: &[u8], count: usize)
+        requires room { length self.old + length cells.now ≤ MOST }
+        requires within { count ≤ length cells.now }
+        ensures { self.new ≡ self.old ++ take count cells.now }
+    {
+        write_at(&mut self.cells, self.held, cells);
+        self.held += count;
+    }
+
     // Writes bytes over those that stand from an offset on.
     pub(crate) fn patch(&mut self, at: usize, bytes: &[u8])
         requires { at + length bytes.now ≤ length self.old }

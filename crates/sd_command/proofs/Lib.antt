@@ -1,4 +1,5 @@
 pub mod GivenLemmas
 pub mod ParseLemmas
 mod Rows
+pub mod StepLemmas
 pub mod TokenLemmas

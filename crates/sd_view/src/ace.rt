@@ -4,7 +4,7 @@ ghost use Rattle.uuid.specs.Parts.{swap_fields};
 ghost use Rattle.sd_core.specs.Ace.{IsAce, ace_size};
 ghost use Rattle.sd_rights.specs.Kinds.{is_object};
 ghost use Rattle.sd_view.specs.Ace.{announces_inherited, announces_object};
-ghost use Rattle.sd_view.specs.AclLayout.{ace_body, ace_bytes, flag_if, front_size};
+ghost use Rattle.sd_view.specs.AclLayout.{ace_body, ace_bytes, front_size};
 ghost use Rattle.sd_view.specs.AclReading.{IsReadableAce, ace_fault, ace_of, kind_in, extent_fault, sid_offset_in};
 ghost use Rattle.sd_view.specs.Bytes.{u16_at as u16_of};
 ghost use Rattle.sd_view.specs.Inner.Written.{named_flags};
@@ -19,10 +19,10 @@ use uuid::Uuid;
 const LEAST_SIZE: usize = 16;
 
 /// The bytes before the SID, or the object flags: type, flags, size and mask.
-pub const FRONT_SIZE: usize = 8;
+pub(crate) const FRONT_SIZE: usize = 8;
 
 /// The bytes before the GUIDs in object kinds: the object flags stand there too.
-pub const OBJECT_FRONT_SIZE: usize = 12;
+pub(crate) const OBJECT_FRONT_SIZE: usize = 12;
 
 const GUID_SIZE: usize = 16;
 
@@ -254,16 +254,6 @@ impl<'a> AceView<'a> {
         } else {
             FRONT_SIZE
         }
-    }
-
-    // Which GUIDs stand in the extent (MS-DTYP 2.4.4.3).
-    #[tactic(auto, unfolding(crate::specs::AclReading::inherited_in, crate::specs::AclReading::object_in, crate::specs::AclReading::guid_if))]
-    pub(crate) fn object_flags(&self) -> u8
-        ensures { result ≡ flag_if self.now.object 1 + flag_if self.now.inherited 2 }
-    {
-        let object = if has_object(self.extent) { 1 } else { 0 };
-        let inherited = if has_inherited(self.extent) { 2 } else { 0 };
-        object + inherited
     }
 
     // The bytes of the GUIDs and of the SID.

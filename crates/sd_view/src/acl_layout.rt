@@ -1,14 +1,15 @@
 // The written form of an ACL.
-ghost use Rattle.std.specs.Prelude.{◌≡◌, ◌++◌, ◌∷◌, [], take, None, true};
+ghost use Rattle.std.specs.Prelude.{◌≡◌, ◌++◌, ◌∷◌, [], None, true};
 ghost use Rattle.std.specs.List.{flat_map};
 ghost use Rattle.byteorder.specs.Endian.{little_bytes};
 ghost use Rattle.sd_sink.specs.Print.{Prints};
 ghost use Rattle.sd_view.specs.Acl.{has_object};
 ghost use Rattle.sd_view.specs.AclReading.{IsReadableAcl, aces_fault, acl_of};
 ghost use Rattle.sd_view.specs.Inner.Written.{all_named_flags};
-ghost use Rattle.sd_view.specs.AclLayout.{ace_bytes, ace_front, acl_bytes, acl_header as header_bytes, front_size, revision_if};
+ghost use Rattle.sd_view.specs.AclLayout.{ace_bytes, acl_bytes, acl_header as header_bytes, revision_if};
 
 use crate::ace::{AceView, has_named_flags};
+use crate::ace_front::AceFront;
 use crate::acl::AclView;
 use crate::bytes::u16_at;
 use crate::limits::{ACL_HEADER_SIZE, ACL_REVISION, ACL_REVISION_DS};
@@ -94,29 +95,7 @@ fn print_aces<P: Print>(acl: &AclView<'_>, out: &mut P)
 fn print_ace<P: Print>(ace: &AceView<'_>, out: &mut P)
     ensures { Prints (P.told out.old) (P.told out.new) (ace_bytes ace.now) }
 {
-    let front = ace_front(ace);
-    out.put(&front[..ace.front_size()]);
+    let front = AceFront::of_view(ace);
+    out.put(&front.cells[..front.count]);
     out.put(ace.body());
-}
-
-// The bytes before the GUIDs and the SID; the object flags among them count in object kinds alone.
-fn ace_front(ace: &AceView<'_>) -> [u8; 12]
-    ensures { take (front_size ace.now.kind) result ≡ ace_front ace.now }
-{
-    let s = ace.size().to_le_bytes();
-    let m = ace.mask().to_le_bytes();
-    [
-        ace.kind().code(),
-        ace.flags(),
-        s[0],
-        s[1],
-        m[0],
-        m[1],
-        m[2],
-        m[3],
-        ace.object_flags(),
-        0,
-        0,
-        0,
-    ]
 }

@@ -2,6 +2,7 @@
 #![tactic(auto)]
 
 mod ace;
+mod ace_front;
 mod acl;
 mod acl_layout;
 mod bytes;
@@ -11,7 +12,8 @@ mod layout;
 mod limits;
 mod view;
 
-pub use ace::{AceView, FRONT_SIZE, OBJECT_FRONT_SIZE};
+pub use ace::AceView;
+pub use ace_front::AceFront;
 pub use acl::{Aces, AclPart, AclView};
 pub use acl_layout::acl_header;
 pub use control::{AclFlags, CONTROL_BITS, ControlBit, Which, control_of};

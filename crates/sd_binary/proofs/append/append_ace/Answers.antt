@@ -49,27 +49,36 @@ room a n most fit h =
 pub append_guid-requires : goal.append_guid-requires
 append_guid-requires c =
     let a = c.args.ace.now in
-    let r = room a (length c.args.buf.now) 131226 c.append_front.ensures.limits.fit c.requires in
+    let r = room a (length c.args.buf.now) 131226 c.of_ace-front.ensures.limits.fit c.requires in
     let front = length-front a in
-    simp (c.append_front.ensures.value, c.object.ensures, length-append) (omega (arith, r.object, front))
+    simp (c.append_front.ensures, c.of_ace-front.ensures.bytes, c.object.ensures, length-append)
+    (omega (arith, r.object, front))
 
 pub append_guid-requires-2 : goal.append_guid-requires-2
 append_guid-requires-2 c =
     let a = c.args.ace.now in
-    let r = room a (length c.args.buf.now) 131226 c.append_front.ensures.limits.fit c.requires in
+    let r = room a (length c.args.buf.now) 131226 c.of_ace-front.ensures.limits.fit c.requires in
     let front = length-front a in
-    simp (c.append_guid.ensures, c.append_front.ensures.value, c.object.ensures, c.inherited.ensures, length-append)
+    simp (
+      c.append_guid.ensures,
+      c.append_front.ensures,
+      c.of_ace-front.ensures.bytes,
+      c.object.ensures,
+      c.inherited.ensures,
+      length-append,
+    )
     (omega (arith, r.inherited, front))
 
 pub append_sid-requires : goal.append_sid-requires
 append_sid-requires c =
     let a = c.args.ace.now in
-    let r = room a (length c.args.buf.now) 131226 c.append_front.ensures.limits.fit c.requires in
+    let r = room a (length c.args.buf.now) 131226 c.of_ace-front.ensures.limits.fit c.requires in
     let front = length-front a in
     simp (
       c.append_guid-2.ensures,
       c.append_guid.ensures,
-      c.append_front.ensures.value,
+      c.append_front.ensures,
+      c.of_ace-front.ensures.bytes,
       c.object.ensures,
       c.inherited.ensures,
       c.trustee.ensures,
@@ -84,14 +93,15 @@ in_row b f o i s = simp append_assoc
 pub returns : goal.returns
 returns c =
     let a = c.args.ace.now in
-    let fit = guids-fit (is_object a.kind) a.object a.inherited c.append_front.ensures.limits.fit in
+    let fit = guids-fit (is_object a.kind) a.object a.inherited c.of_ace-front.ensures.limits.fit in
     let whole : c.append_sid.new.buf ≡ (((c.args.buf.now ++ ace_front a) ++ guid_part a.object)
     ++ guid_part a.inherited) ++ sid_bytes a.sid =
     simp (
       c.append_sid.ensures,
       c.append_guid-2.ensures,
       c.append_guid.ensures,
-      c.append_front.ensures.value,
+      c.append_front.ensures,
+      c.of_ace-front.ensures.bytes,
       c.object.ensures,
       c.inherited.ensures,
       c.trustee.ensures,
