@@ -1,6 +1,6 @@
 // The command line: its commands and their options.
 ghost use Rattle.std.specs.Prelude.{◌≡◌, IfOk, codes, false};
-ghost use Rattle.clap.specs.Words.{app_of, new_app, rule_of, with_rule};
+ghost use Rattle.clap.specs.Words.{App, Rule, app_of, new_app, rule_of, with_rule, with_subcommand};
 ghost use Rattle.clap.specs.declared.Command.TheViews.{out-Command};
 ghost use Rattle.sd_command.specs.CommandLine.{bare_line, check_line, convert_line, derive_line};
 ghost use Rattle.sd_command.specs.CommandLine.{explain_line, line};
@@ -36,10 +36,10 @@ const DERIVE_EXAMPLE: &str =
 pub fn command_line<'a>(alloc: Global) -> Result<Command<'a>, AllocError>
     ensures { IfOk result (λ c. app_of c ≡ line) }
 {
-    let command = bare_line(alloc).subcommand(convert_command(alloc)?)?;
-    let command = command.subcommand(explain_command(alloc)?)?;
-    let command = command.subcommand(check_command(alloc)?)?;
-    command.subcommand(derive_command(alloc)?)
+    let command = with_command(Ok(bare_line(alloc)), convert_command(alloc));
+    let command = with_command(command, explain_command(alloc));
+    let command = with_command(command, check_command(alloc));
+    with_command(command, derive_command(alloc))
 }
 
 fn bare_line<'a>(alloc: Global) -> Command<'a>
@@ -56,15 +56,15 @@ fn convert_command<'a>(alloc: Global) -> Result<Command<'a>, AllocError>
     ensures line { IfOk result (λ c. app_of c ≡ convert_line) }
     ensures local { IfOk result (λ c. (out-Command c).has_globals ≡ false) }
 {
-    let command = named(
+    let command = Ok(named(
         alloc,
         "convert",
         "Print each descriptor in a canonical form",
         CONVERT_EXAMPLE,
-    );
-    let command = with_arg(command, from_option(alloc))?;
-    let command = with_arg(command, to_option(alloc))?;
-    let command = with_arg(command, domain_option(alloc))?;
+    ));
+    let command = with_arg(command, from_option(alloc));
+    let command = with_arg(command, to_option(alloc));
+    let command = with_arg(command, domain_option(alloc));
     with_arg(command, numeric_flag(alloc))
 }
 
@@ -72,14 +72,14 @@ fn explain_command<'a>(alloc: Global) -> Result<Command<'a>, AllocError>
     ensures line { IfOk result (λ c. app_of c ≡ explain_line) }
     ensures local { IfOk result (λ c. (out-Command c).has_globals ≡ false) }
 {
-    let command = named(
+    let command = Ok(named(
         alloc,
         "explain",
         "Say what each descriptor has, on a block of lines",
         EXPLAIN_EXAMPLE,
-    );
-    let command = with_arg(command, from_option(alloc))?;
-    let command = with_arg(command, domain_option(alloc))?;
+    ));
+    let command = with_arg(command, from_option(alloc));
+    let command = with_arg(command, domain_option(alloc));
     with_arg(command, numeric_flag(alloc))
 }
 
@@ -87,27 +87,27 @@ fn check_command<'a>(alloc: Global) -> Result<Command<'a>, AllocError>
     ensures line { IfOk result (λ c. app_of c ≡ check_line) }
     ensures local { IfOk result (λ c. (out-Command c).has_globals ≡ false) }
 {
-    let command = named(
+    let command = Ok(named(
         alloc,
         "check",
         "Say what each descriptor grants to a token",
         CHECK_EXAMPLE,
-    );
-    let command = with_arg(command, from_option(alloc))?;
-    let command = with_arg(command, domain_option(alloc))?;
-    let command = with_arg(command, token_option(alloc))?;
-    let command = with_arg(command, want_option(alloc))?;
+    ));
+    let command = with_arg(command, from_option(alloc));
+    let command = with_arg(command, domain_option(alloc));
+    let command = with_arg(command, token_option(alloc));
+    let command = with_arg(command, want_option(alloc));
     let command = with_arg(
         command,
         flag(alloc, "maximum", "Ask for all that is granted"),
-    )?;
-    let command = with_arg(command, type_option(alloc))?;
-    let command = with_arg(command, object_option(alloc))?;
-    let command = with_arg(command, self_option(alloc))?;
+    );
+    let command = with_arg(command, type_option(alloc));
+    let command = with_arg(command, object_option(alloc));
+    let command = with_arg(command, self_option(alloc));
     let command = with_arg(
         command,
         flag(alloc, "security", "The token holds SeSecurityPrivilege"),
-    )?;
+    );
     with_arg(
         command,
         flag(
@@ -122,28 +122,28 @@ fn derive_command<'a>(alloc: Global) -> Result<Command<'a>, AllocError>
     ensures line { IfOk result (λ c. app_of c ≡ derive_line) }
     ensures local { IfOk result (λ c. (out-Command c).has_globals ≡ false) }
 {
-    let command = named(
+    let command = Ok(named(
         alloc,
         "derive",
         "Print what a new object inherits from each descriptor",
         DERIVE_EXAMPLE,
-    );
-    let command = with_arg(command, from_option(alloc))?;
-    let command = with_arg(command, to_option(alloc))?;
-    let command = with_arg(command, domain_option(alloc))?;
-    let command = with_arg(command, numeric_flag(alloc))?;
+    ));
+    let command = with_arg(command, from_option(alloc));
+    let command = with_arg(command, to_option(alloc));
+    let command = with_arg(command, domain_option(alloc));
+    let command = with_arg(command, numeric_flag(alloc));
     let command = with_arg(
         command,
         required(alloc, "kind", "What is made: file or container"),
-    )?;
+    );
     let command = with_arg(
         command,
         required(alloc, "owner", "The SID of the owner of what is made"),
-    )?;
+    );
     let command = with_arg(
         command,
         required(alloc, "group", "The SID of the group of what is made"),
-    )?;
+    );
     with_arg(command, type_option(alloc))
 }
 
@@ -241,14 +241,32 @@ fn named<'a>(alloc: Global, name: &'a str, about: &'a str, example: &'a str) -> 
     Command::new(alloc, name).about(about).after_help(example)
 }
 
-fn with_arg<'a>(command: Command<'a>, arg: Arg<'a>) -> Result<Command<'a>, AllocError>
+// The command with one option more, where there was memory for it so far: a chain of these has no way out of its
+// middle.
+fn with_arg<'a>(
+    command: Result<Command<'a>, AllocError>,
+    arg: Arg<'a>,
+) -> Result<Command<'a>, AllocError>
     requires local { arg.global ≡ false }
-    ensures app { IfOk result (λ c.
-        app_of c ≡ with_rule (app_of command.entry) (rule_of arg.entry)) }
-    ensures local { (out-Command command.entry).has_globals ≡ false
+    ensures app { (app : App) (rule : Rule) → IfOk command.entry (λ c. app_of c ≡ app) → rule_of arg.entry ≡ rule
+        → IfOk result (λ c. app_of c ≡ with_rule app rule) }
+    ensures local { IfOk command.entry (λ c. (out-Command c).has_globals ≡ false)
         → IfOk result (λ c. (out-Command c).has_globals ≡ false) }
 {
-    command.arg(arg)
+    command?.arg(arg)
+}
+
+// The same with one command more below it.
+fn with_command<'a>(
+    command: Result<Command<'a>, AllocError>,
+    subcommand: Result<Command<'a>, AllocError>,
+) -> Result<Command<'a>, AllocError>
+    ensures app { (app below : App) → IfOk command.entry (λ c. app_of c ≡ app)
+        → IfOk subcommand.entry (λ c. app_of c ≡ below)
+        → IfOk subcommand.entry (λ c. (out-Command c).has_globals ≡ false)
+        → IfOk result (λ c. app_of c ≡ with_subcommand app below.top) }
+{
+    command?.subcommand(subcommand?)
 }
 
 fn option<'a>(alloc: Global, name: &'a str, help: &'a str) -> Arg<'a>
