@@ -253,7 +253,10 @@ fn with_arg<'a>(
     ensures local { IfOk command.entry (λ c. (out-Command c).has_globals ≡ false)
         → IfOk result (λ c. (out-Command c).has_globals ≡ false) }
 {
-    command?.arg(arg)
+    match command {
+        Ok(command) => command.arg(arg),
+        Err(refused) => Err(refused),
+    }
 }
 
 // The same with one command more below it.
