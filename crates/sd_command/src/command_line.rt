@@ -1,5 +1,5 @@
 // The command line: its commands and their options.
-ghost use Rattle.std.specs.Prelude.{◌≡◌, IfOk, codes, false};
+ghost use Rattle.std.specs.Prelude.{◌≡◌, IfOk, false};
 ghost use Rattle.clap.specs.Words.{App, Rule, app_of, new_app, rule_of, with_rule, with_subcommand};
 ghost use Rattle.clap.specs.declared.Command.TheViews.{out-Command};
 ghost use Rattle.sd_command.specs.CommandLine.{bare_line, check_line, convert_line, derive_line};
@@ -32,6 +32,24 @@ const DERIVE_EXAMPLE: &str =
     "Example: echo 'D:(A;OICI;FA;;;CO)' | sdtool derive --from sddl --kind file --owner BA --group SY
 'sdtool --help' says what is read and written.";
 
+// What is said of an option in the help of several commands, or is long.
+const FROM_HELP: &str = "The form of the lines: hex, the default, base64 or sddl";
+
+const TO_HELP: &str = "The form of the answers: sddl, the default, hex or base64";
+
+const DOMAIN_HELP: &str = "The SID of the domain whose aliases are read and printed";
+
+const NUMERIC_HELP: &str = "Print SIDs without aliases";
+
+const TOKEN_HELP: &str =
+    "The SIDs of the token, parted by commas, with ! before one that only denies";
+
+const TYPE_HELP: &str = "The type of object: file, the default, key or ds";
+
+const OBJECT_HELP: &str = "The GUID of the object type that is asked for";
+
+const SELF_HELP: &str = "The SID that PRINCIPAL SELF stands for";
+
 /// The command line of the program.
 pub fn command_line<'a>(alloc: Global) -> Result<Command<'a>, AllocError>
     ensures { IfOk result (λ c. app_of c ≡ line) }
@@ -62,10 +80,10 @@ fn convert_command<'a>(alloc: Global) -> Result<Command<'a>, AllocError>
         "Print each descriptor in a canonical form",
         CONVERT_EXAMPLE,
     ));
-    let command = with_arg(command, from_option(alloc));
-    let command = with_arg(command, to_option(alloc));
-    let command = with_arg(command, domain_option(alloc));
-    with_arg(command, numeric_flag(alloc))
+    let command = with_arg(command, option(alloc, "from", FROM_HELP));
+    let command = with_arg(command, option(alloc, "to", TO_HELP));
+    let command = with_arg(command, option(alloc, "domain", DOMAIN_HELP));
+    with_arg(command, flag(alloc, "numeric", NUMERIC_HELP))
 }
 
 fn explain_command<'a>(alloc: Global) -> Result<Command<'a>, AllocError>
@@ -78,9 +96,9 @@ fn explain_command<'a>(alloc: Global) -> Result<Command<'a>, AllocError>
         "Say what each descriptor has, on a block of lines",
         EXPLAIN_EXAMPLE,
     ));
-    let command = with_arg(command, from_option(alloc));
-    let command = with_arg(command, domain_option(alloc));
-    with_arg(command, numeric_flag(alloc))
+    let command = with_arg(command, option(alloc, "from", FROM_HELP));
+    let command = with_arg(command, option(alloc, "domain", DOMAIN_HELP));
+    with_arg(command, flag(alloc, "numeric", NUMERIC_HELP))
 }
 
 fn check_command<'a>(alloc: Global) -> Result<Command<'a>, AllocError>
@@ -93,17 +111,17 @@ fn check_command<'a>(alloc: Global) -> Result<Command<'a>, AllocError>
         "Say what each descriptor grants to a token",
         CHECK_EXAMPLE,
     ));
-    let command = with_arg(command, from_option(alloc));
-    let command = with_arg(command, domain_option(alloc));
-    let command = with_arg(command, token_option(alloc));
-    let command = with_arg(command, want_option(alloc));
+    let command = with_arg(command, option(alloc, "from", FROM_HELP));
+    let command = with_arg(command, option(alloc, "domain", DOMAIN_HELP));
+    let command = with_arg(command, required(alloc, "token", TOKEN_HELP));
+    let command = with_arg(command, option(alloc, "want", "The rights that are wanted"));
     let command = with_arg(
         command,
         flag(alloc, "maximum", "Ask for all that is granted"),
     );
-    let command = with_arg(command, type_option(alloc));
-    let command = with_arg(command, object_option(alloc));
-    let command = with_arg(command, self_option(alloc));
+    let command = with_arg(command, option(alloc, "type", TYPE_HELP));
+    let command = with_arg(command, option(alloc, "object", OBJECT_HELP));
+    let command = with_arg(command, option(alloc, "self", SELF_HELP));
     let command = with_arg(
         command,
         flag(alloc, "security", "The token holds SeSecurityPrivilege"),
@@ -128,10 +146,10 @@ fn derive_command<'a>(alloc: Global) -> Result<Command<'a>, AllocError>
         "Print what a new object inherits from each descriptor",
         DERIVE_EXAMPLE,
     ));
-    let command = with_arg(command, from_option(alloc));
-    let command = with_arg(command, to_option(alloc));
-    let command = with_arg(command, domain_option(alloc));
-    let command = with_arg(command, numeric_flag(alloc));
+    let command = with_arg(command, option(alloc, "from", FROM_HELP));
+    let command = with_arg(command, option(alloc, "to", TO_HELP));
+    let command = with_arg(command, option(alloc, "domain", DOMAIN_HELP));
+    let command = with_arg(command, flag(alloc, "numeric", NUMERIC_HELP));
     let command = with_arg(
         command,
         required(alloc, "kind", "What is made: file or container"),
@@ -144,94 +162,7 @@ fn derive_command<'a>(alloc: Global) -> Result<Command<'a>, AllocError>
         command,
         required(alloc, "group", "The SID of the group of what is made"),
     );
-    with_arg(command, type_option(alloc))
-}
-
-fn from_option<'a>(alloc: Global) -> Arg<'a>
-    ensures rule { rule_of result ≡ option_rule (codes "from") }
-    ensures local { result.global ≡ false }
-{
-    option(
-        alloc,
-        "from",
-        "The form of the lines: hex, the default, base64 or sddl",
-    )
-}
-
-fn to_option<'a>(alloc: Global) -> Arg<'a>
-    ensures rule { rule_of result ≡ option_rule (codes "to") }
-    ensures local { result.global ≡ false }
-{
-    option(
-        alloc,
-        "to",
-        "The form of the answers: sddl, the default, hex or base64",
-    )
-}
-
-fn domain_option<'a>(alloc: Global) -> Arg<'a>
-    ensures rule { rule_of result ≡ option_rule (codes "domain") }
-    ensures local { result.global ≡ false }
-{
-    option(
-        alloc,
-        "domain",
-        "The SID of the domain whose aliases are read and printed",
-    )
-}
-
-fn token_option<'a>(alloc: Global) -> Arg<'a>
-    ensures rule { rule_of result ≡ required_rule (codes "token") }
-    ensures local { result.global ≡ false }
-{
-    required(
-        alloc,
-        "token",
-        "The SIDs of the token, parted by commas, with ! before one that only denies",
-    )
-}
-
-fn want_option<'a>(alloc: Global) -> Arg<'a>
-    ensures rule { rule_of result ≡ option_rule (codes "want") }
-    ensures local { result.global ≡ false }
-{
-    option(alloc, "want", "The rights that are wanted")
-}
-
-fn type_option<'a>(alloc: Global) -> Arg<'a>
-    ensures rule { rule_of result ≡ option_rule (codes "type") }
-    ensures local { result.global ≡ false }
-{
-    option(
-        alloc,
-        "type",
-        "The type of object: file, the default, key or ds",
-    )
-}
-
-fn object_option<'a>(alloc: Global) -> Arg<'a>
-    ensures rule { rule_of result ≡ option_rule (codes "object") }
-    ensures local { result.global ≡ false }
-{
-    option(
-        alloc,
-        "object",
-        "The GUID of the object type that is asked for",
-    )
-}
-
-fn self_option<'a>(alloc: Global) -> Arg<'a>
-    ensures rule { rule_of result ≡ option_rule (codes "self") }
-    ensures local { result.global ≡ false }
-{
-    option(alloc, "self", "The SID that PRINCIPAL SELF stands for")
-}
-
-fn numeric_flag<'a>(alloc: Global) -> Arg<'a>
-    ensures rule { rule_of result ≡ flag_rule (codes "numeric") }
-    ensures local { result.global ≡ false }
-{
-    flag(alloc, "numeric", "Print SIDs without aliases")
+    with_arg(command, option(alloc, "type", TYPE_HELP))
 }
 
 fn named<'a>(alloc: Global, name: &'a str, about: &'a str, example: &'a str) -> Command<'a>

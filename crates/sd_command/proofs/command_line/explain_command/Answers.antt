@@ -4,6 +4,6 @@ use Rattle.sd_command.proofs.command_line.explain_command.Goals as goal
 pub returns-clause-line : goal.returns-clause-line
 unfolding explain_line
 returns-clause-line c =
-    let from = c.with_arg-command.ensures.app _ _ c.named.ensures.app c.from_option.ensures.rule in
-    let domain = c.with_arg-command-2.ensures.app _ _ from c.domain_option.ensures.rule in
-    c.with_arg.ensures.app _ _ domain c.numeric_flag.ensures.rule
+    let from = c.with_arg-command.ensures.app _ _ c.named.ensures.app c.option.ensures.rule in
+    let domain = c.with_arg-command-2.ensures.app _ _ from c.option-2.ensures.rule in
+    c.with_arg.ensures.app _ _ domain c.flag.ensures.rule
