@@ -1,6 +1,6 @@
 // The command line: its commands and their options.
-ghost use Rattle.std.specs.Prelude.{◌≡◌, IfOk, codes, false};
-ghost use Rattle.clap.specs.Words.{app_of, new_app, rule_of, with_rule};
+ghost use Rattle.std.specs.Prelude.{◌≡◌, IfOk, false};
+ghost use Rattle.clap.specs.Words.{App, Rule, app_of, new_app, rule_of, with_rule, with_subcommand};
 ghost use Rattle.clap.specs.declared.Command.TheViews.{out-Command};
 ghost use Rattle.sd_command.specs.CommandLine.{bare_line, check_line, convert_line, derive_line};
 ghost use Rattle.sd_command.specs.CommandLine.{explain_line, line};
@@ -32,14 +32,32 @@ const DERIVE_EXAMPLE: &str =
     "Example: echo 'D:(A;OICI;FA;;;CO)' | sdtool derive --from sddl --kind file --owner BA --group SY
 'sdtool --help' says what is read and written.";
 
+// What is said of an option in the help of several commands, or is long.
+const FROM_HELP: &str = "The form of the lines: hex, the default, base64 or sddl";
+
+const TO_HELP: &str = "The form of the answers: sddl, the default, hex or base64";
+
+const DOMAIN_HELP: &str = "The SID of the domain whose aliases are read and printed";
+
+const NUMERIC_HELP: &str = "Print SIDs without aliases";
+
+const TOKEN_HELP: &str =
+    "The SIDs of the token, parted by commas, with ! before one that only denies";
+
+const TYPE_HELP: &str = "The type of object: file, the default, key or ds";
+
+const OBJECT_HELP: &str = "The GUID of the object type that is asked for";
+
+const SELF_HELP: &str = "The SID that PRINCIPAL SELF stands for";
+
 /// The command line of the program.
 pub fn command_line<'a>(alloc: Global) -> Result<Command<'a>, AllocError>
     ensures { IfOk result (λ c. app_of c ≡ line) }
 {
-    let command = bare_line(alloc).subcommand(convert_command(alloc)?)?;
-    let command = command.subcommand(explain_command(alloc)?)?;
-    let command = command.subcommand(check_command(alloc)?)?;
-    command.subcommand(derive_command(alloc)?)
+    let command = with_command(Ok(bare_line(alloc)), convert_command(alloc));
+    let command = with_command(command, explain_command(alloc));
+    let command = with_command(command, check_command(alloc));
+    with_command(command, derive_command(alloc))
 }
 
 fn bare_line<'a>(alloc: Global) -> Command<'a>
@@ -56,58 +74,58 @@ fn convert_command<'a>(alloc: Global) -> Result<Command<'a>, AllocError>
     ensures line { IfOk result (λ c. app_of c ≡ convert_line) }
     ensures local { IfOk result (λ c. (out-Command c).has_globals ≡ false) }
 {
-    let command = named(
+    let command = Ok(named(
         alloc,
         "convert",
         "Print each descriptor in a canonical form",
         CONVERT_EXAMPLE,
-    );
-    let command = with_arg(command, from_option(alloc))?;
-    let command = with_arg(command, to_option(alloc))?;
-    let command = with_arg(command, domain_option(alloc))?;
-    with_arg(command, numeric_flag(alloc))
+    ));
+    let command = with_arg(command, option(alloc, "from", FROM_HELP));
+    let command = with_arg(command, option(alloc, "to", TO_HELP));
+    let command = with_arg(command, option(alloc, "domain", DOMAIN_HELP));
+    with_arg(command, flag(alloc, "numeric", NUMERIC_HELP))
 }
 
 fn explain_command<'a>(alloc: Global) -> Result<Command<'a>, AllocError>
     ensures line { IfOk result (λ c. app_of c ≡ explain_line) }
     ensures local { IfOk result (λ c. (out-Command c).has_globals ≡ false) }
 {
-    let command = named(
+    let command = Ok(named(
         alloc,
         "explain",
         "Say what each descriptor has, on a block of lines",
         EXPLAIN_EXAMPLE,
-    );
-    let command = with_arg(command, from_option(alloc))?;
-    let command = with_arg(command, domain_option(alloc))?;
-    with_arg(command, numeric_flag(alloc))
+    ));
+    let command = with_arg(command, option(alloc, "from", FROM_HELP));
+    let command = with_arg(command, option(alloc, "domain", DOMAIN_HELP));
+    with_arg(command, flag(alloc, "numeric", NUMERIC_HELP))
 }
 
 fn check_command<'a>(alloc: Global) -> Result<Command<'a>, AllocError>
     ensures line { IfOk result (λ c. app_of c ≡ check_line) }
     ensures local { IfOk result (λ c. (out-Command c).has_globals ≡ false) }
 {
-    let command = named(
+    let command = Ok(named(
         alloc,
         "check",
         "Say what each descriptor grants to a token",
         CHECK_EXAMPLE,
-    );
-    let command = with_arg(command, from_option(alloc))?;
-    let command = with_arg(command, domain_option(alloc))?;
-    let command = with_arg(command, token_option(alloc))?;
-    let command = with_arg(command, want_option(alloc))?;
+    ));
+    let command = with_arg(command, option(alloc, "from", FROM_HELP));
+    let command = with_arg(command, option(alloc, "domain", DOMAIN_HELP));
+    let command = with_arg(command, required(alloc, "token", TOKEN_HELP));
+    let command = with_arg(command, option(alloc, "want", "The rights that are wanted"));
     let command = with_arg(
         command,
         flag(alloc, "maximum", "Ask for all that is granted"),
-    )?;
-    let command = with_arg(command, type_option(alloc))?;
-    let command = with_arg(command, object_option(alloc))?;
-    let command = with_arg(command, self_option(alloc))?;
+    );
+    let command = with_arg(command, option(alloc, "type", TYPE_HELP));
+    let command = with_arg(command, option(alloc, "object", OBJECT_HELP));
+    let command = with_arg(command, option(alloc, "self", SELF_HELP));
     let command = with_arg(
         command,
         flag(alloc, "security", "The token holds SeSecurityPrivilege"),
-    )?;
+    );
     with_arg(
         command,
         flag(
@@ -122,116 +140,29 @@ fn derive_command<'a>(alloc: Global) -> Result<Command<'a>, AllocError>
     ensures line { IfOk result (λ c. app_of c ≡ derive_line) }
     ensures local { IfOk result (λ c. (out-Command c).has_globals ≡ false) }
 {
-    let command = named(
+    let command = Ok(named(
         alloc,
         "derive",
         "Print what a new object inherits from each descriptor",
         DERIVE_EXAMPLE,
-    );
-    let command = with_arg(command, from_option(alloc))?;
-    let command = with_arg(command, to_option(alloc))?;
-    let command = with_arg(command, domain_option(alloc))?;
-    let command = with_arg(command, numeric_flag(alloc))?;
+    ));
+    let command = with_arg(command, option(alloc, "from", FROM_HELP));
+    let command = with_arg(command, option(alloc, "to", TO_HELP));
+    let command = with_arg(command, option(alloc, "domain", DOMAIN_HELP));
+    let command = with_arg(command, flag(alloc, "numeric", NUMERIC_HELP));
     let command = with_arg(
         command,
         required(alloc, "kind", "What is made: file or container"),
-    )?;
+    );
     let command = with_arg(
         command,
         required(alloc, "owner", "The SID of the owner of what is made"),
-    )?;
+    );
     let command = with_arg(
         command,
         required(alloc, "group", "The SID of the group of what is made"),
-    )?;
-    with_arg(command, type_option(alloc))
-}
-
-fn from_option<'a>(alloc: Global) -> Arg<'a>
-    ensures rule { rule_of result ≡ option_rule (codes "from") }
-    ensures local { result.global ≡ false }
-{
-    option(
-        alloc,
-        "from",
-        "The form of the lines: hex, the default, base64 or sddl",
-    )
-}
-
-fn to_option<'a>(alloc: Global) -> Arg<'a>
-    ensures rule { rule_of result ≡ option_rule (codes "to") }
-    ensures local { result.global ≡ false }
-{
-    option(
-        alloc,
-        "to",
-        "The form of the answers: sddl, the default, hex or base64",
-    )
-}
-
-fn domain_option<'a>(alloc: Global) -> Arg<'a>
-    ensures rule { rule_of result ≡ option_rule (codes "domain") }
-    ensures local { result.global ≡ false }
-{
-    option(
-        alloc,
-        "domain",
-        "The SID of the domain whose aliases are read and printed",
-    )
-}
-
-fn token_option<'a>(alloc: Global) -> Arg<'a>
-    ensures rule { rule_of result ≡ required_rule (codes "token") }
-    ensures local { result.global ≡ false }
-{
-    required(
-        alloc,
-        "token",
-        "The SIDs of the token, parted by commas, with ! before one that only denies",
-    )
-}
-
-fn want_option<'a>(alloc: Global) -> Arg<'a>
-    ensures rule { rule_of result ≡ option_rule (codes "want") }
-    ensures local { result.global ≡ false }
-{
-    option(alloc, "want", "The rights that are wanted")
-}
-
-fn type_option<'a>(alloc: Global) -> Arg<'a>
-    ensures rule { rule_of result ≡ option_rule (codes "type") }
-    ensures local { result.global ≡ false }
-{
-    option(
-        alloc,
-        "type",
-        "The type of object: file, the default, key or ds",
-    )
-}
-
-fn object_option<'a>(alloc: Global) -> Arg<'a>
-    ensures rule { rule_of result ≡ option_rule (codes "object") }
-    ensures local { result.global ≡ false }
-{
-    option(
-        alloc,
-        "object",
-        "The GUID of the object type that is asked for",
-    )
-}
-
-fn self_option<'a>(alloc: Global) -> Arg<'a>
-    ensures rule { rule_of result ≡ option_rule (codes "self") }
-    ensures local { result.global ≡ false }
-{
-    option(alloc, "self", "The SID that PRINCIPAL SELF stands for")
-}
-
-fn numeric_flag<'a>(alloc: Global) -> Arg<'a>
-    ensures rule { rule_of result ≡ flag_rule (codes "numeric") }
-    ensures local { result.global ≡ false }
-{
-    flag(alloc, "numeric", "Print SIDs without aliases")
+    );
+    with_arg(command, option(alloc, "type", TYPE_HELP))
 }
 
 fn named<'a>(alloc: Global, name: &'a str, about: &'a str, example: &'a str) -> Command<'a>
@@ -241,14 +172,35 @@ fn named<'a>(alloc: Global, name: &'a str, about: &'a str, example: &'a str) -> 
     Command::new(alloc, name).about(about).after_help(example)
 }
 
-fn with_arg<'a>(command: Command<'a>, arg: Arg<'a>) -> Result<Command<'a>, AllocError>
+// The command with one option more, where there was memory for it so far: a chain of these has no way out of its
+// middle.
+fn with_arg<'a>(
+    command: Result<Command<'a>, AllocError>,
+    arg: Arg<'a>,
+) -> Result<Command<'a>, AllocError>
     requires local { arg.global ≡ false }
-    ensures app { IfOk result (λ c.
-        app_of c ≡ with_rule (app_of command.entry) (rule_of arg.entry)) }
-    ensures local { (out-Command command.entry).has_globals ≡ false
+    ensures app { (app : App) (rule : Rule) → IfOk command.entry (λ c. app_of c ≡ app) → rule_of arg.entry ≡ rule
+        → IfOk result (λ c. app_of c ≡ with_rule app rule) }
+    ensures local { IfOk command.entry (λ c. (out-Command c).has_globals ≡ false)
         → IfOk result (λ c. (out-Command c).has_globals ≡ false) }
 {
-    command.arg(arg)
+    match command {
+        Ok(command) => command.arg(arg),
+        Err(refused) => Err(refused),
+    }
+}
+
+// The same with one command more below it.
+fn with_command<'a>(
+    command: Result<Command<'a>, AllocError>,
+    subcommand: Result<Command<'a>, AllocError>,
+) -> Result<Command<'a>, AllocError>
+    ensures app { (app below : App) → IfOk command.entry (λ c. app_of c ≡ app)
+        → IfOk subcommand.entry (λ c. app_of c ≡ below)
+        → IfOk subcommand.entry (λ c. (out-Command c).has_globals ≡ false)
+        → IfOk result (λ c. app_of c ≡ with_subcommand app below.top) }
+{
+    command?.subcommand(subcommand?)
 }
 
 fn option<'a>(alloc: Global, name: &'a str, help: &'a str) -> Arg<'a>

@@ -14,8 +14,6 @@ mod program;
 mod running;
 mod sink;
 mod streams;
-#[cfg(test)]
-mod tests;
 
 pub use device::{DeviceFault, Drain, Source};
 pub use engine::{Engine, Report, RunFault};

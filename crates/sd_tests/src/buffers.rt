@@ -98,11 +98,8 @@ fn leaves_nothing_of_a_line_that_does_not_read(rt: HostRuntime) {
     for line in NO_LINES.split(' ') {
         assert!(rt; read_sddl(b"O:BAD:(A;;FA;;;WD)", None, &mut buf) == Ok(()));
         assert!(rt; buf.bytes().len() == 64);
-        assert!(rt;
-            read_sddl(line.as_bytes(), None, &mut buf).is_err(),
-            "{line}"
-        );
-        assert!(rt; buf.bytes().is_empty(), "{line}");
+        let is_refused = read_sddl(line.as_bytes(), None, &mut buf).is_err();
+        assert!(rt; is_refused && buf.bytes().is_empty(), "{line}");
     }
 }
 

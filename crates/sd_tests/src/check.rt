@@ -35,11 +35,11 @@ fn compared(
     assert!(rt; read_sddl(line.as_bytes(), None, buf) == Ok(()), "{line}");
     let view = read(buf.bytes()).expect(rt, "a descriptor");
     let (verdict, need) = question.verdict(&view);
-    assert!(rt; check(&view, &mut token, &ask) == verdict, "{line}");
+    let seen = check(&view, &mut token, &ask);
     let entries = question.entries.len();
     let most = need.saturating_add(1).saturating_mul(entries as u64);
-    assert!(rt; token.compared() <= most, "{line}");
-    assert!(rt; token.len() == entries, "{line}");
+    let is_sound = token.compared() <= most && token.len() == entries;
+    assert!(rt; seen == verdict && is_sound, "{line}");
     token.compared()
 }
 

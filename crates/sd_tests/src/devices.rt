@@ -25,7 +25,8 @@ fn over<'a>(rt: &(impl Abort + AllocGlobal), input: Input<'a>, output: Output) -
     program(rt, "sdtool convert --to hex", input, output, faults)
 }
 
-fn count(bytes: &[u8], byte: u8) -> usize {
+/// How often a byte stands there.
+pub fn count(bytes: &[u8], byte: u8) -> usize {
     bytes.iter().filter(|other| **other == byte).count()
 }
 
@@ -265,8 +266,10 @@ fn refuses_words(rt: HostRuntime) {
             let ended = program(&rt, line, Input::new(b"00\n"), output, faults);
             let front = text.as_bytes().get(..room).unwrap_or(b"");
             ended.expect(&rt, 2, b"", front, b"");
-            assert!(rt; ended.faults.writes == writes, "{row}");
-            assert!(rt; ended.calls.is_empty(), "{row}");
+            assert!(rt;
+                ended.faults.writes == writes && ended.calls.is_empty(),
+                "{row}"
+            );
         }
     }
 }
@@ -282,10 +285,11 @@ fn flushes_help(rt: HostRuntime) {
         let said = |output: Output| {
             let faults = Output::new(rt.alloc());
             let ended = program(&rt, line, Input::new(b"00\n"), output, faults);
-            assert!(rt; ended.status == 0, "{line}");
-            assert!(rt; ended.faults.writes == 0, "{line}");
-            assert!(rt; ended.calls.as_slice() == b"wf".as_slice(), "{line}");
-            assert!(rt; ended.output.flushes == 1, "{line}");
+            ended.expect(&rt, 0, ended.output.taken.as_slice(), b"", b"wf");
+            assert!(rt;
+                ended.calls.len() == 2 && ended.output.flushes == 1,
+                "{line}"
+            );
             ended.output
         };
         let whole = said(Output::new(rt.alloc()));
@@ -293,13 +297,13 @@ fn flushes_help(rt: HostRuntime) {
         assert!(rt; help.len() > 400 && whole.writes == 1, "{line}");
         for most in [usize::MAX, 100, 1] {
             let output = said(Output::slow(rt.alloc(), most, never, Failing::from(1)));
-            assert!(rt; output.taken.as_slice() == help, "{line}");
-            assert!(rt; most < help.len() || output.writes == 1, "{line}");
+            let is_whole = most < help.len() || output.writes == 1;
+            assert!(rt; is_whole && output.taken.as_slice() == help, "{line}");
         }
         for (room, writes) in [(9, 2), (0, 1)] {
             let output = said(with_room(&rt, room));
-            assert!(rt; output.taken.as_slice() == &help[..room], "{line}");
-            assert!(rt; output.writes == writes, "{line}");
+            let is_front = output.taken.as_slice() == &help[..room];
+            assert!(rt; is_front && output.writes == writes, "{line}");
         }
     }
 }

@@ -1,18 +1,13 @@
-use Rattle.std.proofs.Common.{ap, ap₂, ◌∙◌}
-use Rattle.std.proofs.lemmas.Result.{IfOk-weaker}
-use Rattle.clap.specs.Words.{App, with_subcommand}
 use Rattle.sd_command.specs.CommandLine.{line}
 use Rattle.sd_command.proofs.command_line.command_line.Goals as goal
 
 pub returns : goal.returns
 unfolding line
 returns c =
-    let top = λ (a : App). a.top in
-    let convert = c.in_ok-command.ensures.shape c.in_ok-convert_command.ensures.local
-    ∙ ap₂ with_subcommand c.bare_line.ensures.app (ap top c.in_ok-convert_command.ensures.line) in
-    let explain = c.in_ok-command-2.ensures.shape c.in_ok-explain_command.ensures.local
-    ∙ ap₂ with_subcommand convert (ap top c.in_ok-explain_command.ensures.line) in
-    let check = c.in_ok-command-3.ensures.shape c.in_ok-check_command.ensures.local
-    ∙ ap₂ with_subcommand explain (ap top c.in_ok-check_command.ensures.line) in
-    IfOk-weaker c.subcommand-4.result _ _ (λ r h. h.shape c.in_ok-derive_command.ensures.local
-    ∙ ap₂ with_subcommand check (ap top c.in_ok-derive_command.ensures.line)) c.subcommand-4.ensures
+    let convert = c.with_command-command.ensures.app _ _ c.bare_line.ensures.app
+    c.convert_command.ensures.line c.convert_command.ensures.local in
+    let explain = c.with_command-command-2.ensures.app _ _ convert
+    c.explain_command.ensures.line c.explain_command.ensures.local in
+    let check = c.with_command-command-3.ensures.app _ _ explain
+    c.check_command.ensures.line c.check_command.ensures.local in
+    c.with_command.ensures.app _ _ check c.derive_command.ensures.line c.derive_command.ensures.local

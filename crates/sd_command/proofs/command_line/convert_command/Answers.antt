@@ -1,14 +1,10 @@
-use Rattle.std.proofs.Common.{ap₂, ◌∙◌}
-use Rattle.std.proofs.lemmas.Result.{IfOk-weaker}
-use Rattle.clap.specs.Words.{with_rule}
 use Rattle.sd_command.specs.CommandLine.{convert_line}
 use Rattle.sd_command.proofs.command_line.convert_command.Goals as goal
 
 pub returns-clause-line : goal.returns-clause-line
 unfolding convert_line
 returns-clause-line c =
-    let from = c.in_ok-command.ensures.app ∙ ap₂ with_rule c.named-command.ensures.app c.from_option.ensures.rule in
-    let to = c.in_ok-command-2.ensures.app ∙ ap₂ with_rule from c.to_option.ensures.rule in
-    let domain = c.in_ok-command-3.ensures.app ∙ ap₂ with_rule to c.domain_option.ensures.rule in
-    IfOk-weaker c.with_arg-4.result _ _ (λ r h. h ∙ ap₂ with_rule domain c.numeric_flag.ensures.rule)
-    c.with_arg-4.ensures.app
+    let from = c.with_arg-command.ensures.app _ _ c.named.ensures.app c.option.ensures.rule in
+    let to = c.with_arg-command-2.ensures.app _ _ from c.option-2.ensures.rule in
+    let domain = c.with_arg-command-3.ensures.app _ _ to c.option-3.ensures.rule in
+    c.with_arg.ensures.app _ _ domain c.flag.ensures.rule
