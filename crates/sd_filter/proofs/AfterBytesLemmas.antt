@@ -1,20 +1,20 @@
 -- A run after one line more, and after more bytes.
 use Rattle.std.proofs.Common.{◌≡◌, ◌≢◌, ℕ, ◌+◌, ◌-◌, ◌<◌, ◌≤◌, List, [], ◌∷◌, ◌++◌, Bool, true, false, cond, length}
-use Rattle.std.proofs.Common.{refl, sym, ◌∙◌, ap, subst, arith, append_assoc, append-nil, take, drop, get_or}
+use Rattle.std.proofs.Common.{zero, suc, nat_lt, rules, refl, sym, ◌∙◌, ap, subst, arith, append_assoc, append-nil, take, drop, get_or}
 use Rattle.std.proofs.lemmas.List.{length_push, take_more, take-append-drop, take_rest, length-drop, get_or-drop}
 use Rattle.std.proofs.Math.Seq.{take-add}
 use Rattle.std.proofs.KnownBytes.{Appends-trans}
 use Rattle.sd_core.specs.Token.{Entry, TokenShown}
 use Rattle.sd_sink.specs.Sink.{SinkTold, PutAll, PutSome}
 use Rattle.sd_sink.proofs.SinkLemmas.{PutAll-nil, PutAll-trans}
-use Rattle.sd_filter.specs.Lines.{cut_at_line_feeds, ended, lines, last_line, without_cr}
+use Rattle.sd_filter.specs.Lines.{cut_at_line_feeds, ended, lines, last_line, without_cr, has_lf}
 use Rattle.sd_filter.specs.Answers.{answer, answers, bound, bounds, errors, is_error}
 use Rattle.sd_filter.specs.Outcome.{Compares}
 use Rattle.sd_filter.specs.Inner.Running.{Holds, Answered, Failed, AfterBytes}
 use Rattle.sd_command.specs.declared.job.Job.{Job}
 use Rattle.sd_filter.specs.declared.engine.RunState.{RunState}
 use Rattle.sd_filter.specs.declared.engine.Report.{Report}
-use Rattle.sd_filter.proofs.LineCutLemmas.{NoLf, ended-more, rest-more, ended-lf, rest-lf, ended-append}
+use Rattle.sd_filter.proofs.LineCutLemmas.{NoLf, has_lf-none, ended-more, rest-more, ended-lf, rest-lf, ended-append}
 use Rattle.sd_filter.proofs.AnswersLemmas.{answers-one, answers-push, errors-push, bounds-push}
 
 -- comparisons, and further ones
@@ -206,6 +206,14 @@ found_in piece start n within low e =
     let size : n < length piece - start = rw (rest, length-drop) at low in
     let is : get_or (drop start piece) n 0 ≡ 10 = rw rest at e in
     (omega arith, sym (get_or-drop start piece n 0) ∙ is)
+
+-- a search that goes on behind an LF has found one, and one that is still at the start sees them all
+pub found_any : (piece : List ℕ) (start : ℕ) → (0 < start → has_lf piece ≡ true)
+    → NoLf (take (length piece - start) (drop start piece)) → nat_lt 0 start ≡ has_lf piece
+found_any piece zero found none = sym (has_lf-none piece (rw (take_rest piece zero) at none))
+found_any piece (suc n) found none =
+    let more : nat_lt 0 (suc n) ≡ true = search (rules, arith) in
+    more ∙ sym (found (omega arith))
 
 pub fed_rest : (got piece : List ℕ) (start : ℕ) → got ++ take start piece
     ++ take (length piece - start) (drop start piece) ≡ got ++ piece

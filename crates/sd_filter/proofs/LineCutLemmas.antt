@@ -2,7 +2,9 @@
 use Rattle.std.proofs.Common.{◌≡◌, ℕ, List, [], ◌∷◌, ◌++◌, Bool, true, false, ◌==◌, cond, map, refl, sym, ◌∙◌, ap, rules, append-nil, append_assoc, suc, length, get_or, take, drop, ◌<◌, ◌≤◌, ◌+◌, ◌-◌, inl, inr, arith}
 use Rattle.std.proofs.lemmas.List.{map_push, get_or-take, get_or-drop, length-take-le, length-drop}
 use Rattle.std.proofs.lemmas.Bool.{cases_lt}
-use Rattle.sd_filter.specs.Lines.{IsCut, LinesAreCut, LineCut, cut_at_line_feeds, onto_first_line, without_cr, ended}
+use Rattle.std.proofs.lemmas.List.Elements.{All-from_get_or}
+use Rattle.std.proofs.lemmas.List.Folds.{list_any_at, list_any_none}
+use Rattle.sd_filter.specs.Lines.{IsCut, LinesAreCut, LineCut, cut_at_line_feeds, onto_first_line, without_cr, ended, has_lf}
 
 -- one byte in front of these parts
 abbrev pub front : Bool → ℕ → LineCut → LineCut
@@ -109,6 +111,14 @@ NoLf bytes = (k : ℕ) → k < length bytes → get_or bytes k 0 ≡ 10 → ⊥
 
 eq_false : (y : ℕ) → (y ≡ 10 → ⊥) → (y == 10) ≡ false
 eq_false y h = search rules
+
+-- an LF somewhere, and nowhere
+pub has_lf-at : (bytes : List ℕ) (k : ℕ) → k < length bytes → get_or bytes k 0 ≡ 10 → has_lf bytes ≡ true
+has_lf-at bytes k low e = list_any_at (λ b. b == 10) bytes k 0 low (rw e refl)
+
+pub has_lf-none : (bytes : List ℕ) → NoLf bytes → has_lf bytes ≡ false
+has_lf-none bytes none = list_any_none (λ b. b == 10) bytes
+    (All-from_get_or (λ b. (b == 10) ≡ false) bytes 0 (λ k low. eq_false (get_or bytes k 0) (none k low)))
 
 pub parts-more : (xs ys : List ℕ) → NoLf ys
     → cut_at_line_feeds (xs ++ ys)

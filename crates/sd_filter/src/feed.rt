@@ -1,9 +1,9 @@
 // The bytes go one after another into the line in hand, and each LF answers it.
 ghost use Rattle.std.specs.Prelude.{◌≡◌, ◌+◌, ◌<◌, ◌≤◌, ◌^◌, ℕ, List, ◌++◌, [], ◌∷◌, length, ◌≢◌, slice_index};
-ghost use Rattle.std.specs.Prelude.{MatchResult, IsOk, Ok, false, unwrap_or, IfSome};
+ghost use Rattle.std.specs.Prelude.{MatchResult, IfOk, IsOk, Ok, false, unwrap_or, IfSome};
 ghost use Rattle.sd_sink.specs.Sink.{SinkTold};
 ghost use Rattle.sd_core.specs.Token.{TokenShown};
-ghost use Rattle.sd_filter.specs.Lines.{ended, lines, line_feed};
+ghost use Rattle.sd_filter.specs.Lines.{ended, has_lf, lines, line_feed};
 ghost use Rattle.sd_filter.specs.Inner.Running.{Answered, Failed, HasRoom, Holds, HoldsText, IsReady, RoseWithin, AfterBytes};
 ghost use Rattle.sd_filter.specs.Told.{sink_of};
 
@@ -59,6 +59,7 @@ pub fn feed_all<W: Drain>(
         → MatchResult result
         (λ _. AfterBytes token0 sink0 (got ++ piece.now) state.new token.new (sink_of (W.told drain.new)) report.new)
         (λ _. Failed state.new.job token0 sink0 (ended (got ++ piece.now)) token.new (sink_of (W.told drain.new))) }
+    ensures ended { IfOk result (λ some. some ≡ has_lf piece.now) }
     ensures quiet { result ≡ Ok false → (W.told drain.new ≡ W.told drain.old) × (report.new.lines ≡ report.old.lines) }
     ensures ready { IsOk result → IsReady state.new.line }
     ensures job { state.new.job ≡ state.old.job }

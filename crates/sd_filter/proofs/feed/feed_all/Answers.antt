@@ -1,9 +1,9 @@
 use Rattle.std.proofs.Common.{sym, ◌∙◌, arith, refl, ◌+◌, ◌-◌, take, drop}
 use Rattle.std.proofs.lemmas.Grind.{common_steps}
 use Rattle.std.proofs.lemmas.Result.{err_from_is_err_and}
-use Rattle.sd_filter.proofs.LineCutLemmas.{NoLf}
+use Rattle.sd_filter.proofs.LineCutLemmas.{NoLf, has_lf-at}
 use Rattle.sd_filter.proofs.AfterBytesLemmas.{Failed-in, Failed-line, AfterBytes-line, AfterBytes-more}
-use Rattle.sd_filter.proofs.AfterBytesLemmas.{fed_line, fed_rest, found_in, line_in}
+use Rattle.sd_filter.proofs.AfterBytesLemmas.{fed_line, fed_rest, found_any, found_in, line_in}
 use Rattle.sd_filter.proofs.feed.feed_all.Goals as goal
 
 pub loop-n-preserved : goal.loop-n-preserved
@@ -24,6 +24,7 @@ loop-n-preserved g c =
           (c.in_ok-answer_line.ensures.answered token0 sink0 _ _ (c.take.ensures.holds _ _ before.holds).text
           before.answered))
           (rw c.answer_line.ensures.job (c.in_ok-answer_line.ensures.begun refl)));
+      found = λ _. has_lf-at piece (start + n) found.0 found.1;
       quiet = λ none. absurd (omega arith);
       job = c.answer_line.ensures.job ∙ c.loop-n.invariant.job;
       rose = (omega arith, omega arith);
@@ -43,6 +44,10 @@ returns-in_err-answer_line-clause-fed g c = λ token0 sink0 got h.
     (rw (line_in piece start n) at (Failed-line _ token0 _ sink0 _ _ _ none
     (c.in_err-answer_line.ensures.answered token0 sink0 _ _ (c.take.ensures.holds _ _ before.holds).text
     before.answered))))
+
+pub returns-clause-ended : goal.returns-clause-ended
+returns-clause-ended g c =
+    found_any c.args.piece.now c.loop-n.start c.loop-n.invariant.found (λ k low e. c.in_default.ensures.before k low e)
 
 pub returns-clause-fed : goal.returns-clause-fed
 returns-clause-fed g c = λ token0 sink0 got h.

@@ -1,7 +1,8 @@
-use Rattle.std.proofs.Common.{◌≡◌, ◌≤◌, ◌-◌, ℕ, List, ◌++◌, length, take}
+use Rattle.std.proofs.Common.{◌≡◌, ◌<◌, ◌≤◌, ◌-◌, ℕ, List, true, ◌++◌, length, take}
 use Rattle.sd_core.specs.Token.{TokenShown}
 use Rattle.sd_sink.specs.Sink.{SinkTold}
 use Rattle.sd_filter.specs.Inner.Running.{IsReady, RoseWithin, AfterBytes}
+use Rattle.sd_filter.specs.Lines.{has_lf}
 use Rattle.sd_filter.specs.Told.{sink_of}
 use Rattle.sd_filter.proofs.feed.feed_all.Given as goal
 
@@ -13,6 +14,7 @@ invariant-loop-n g l = record {
       → AfterBytes token0 sink0 got l.fn.state l.fn.token (sink_of (g.W.Drain.told l.fn.drain)) l.fn.report
       → AfterBytes token0 sink0 (got ++ take l.start l.piece) l.state l.token (sink_of (g.W.Drain.told l.drain))
       l.report;
+  found : 0 < l.start → has_lf l.piece ≡ true;
   quiet : l.start ≡ 0
       → (g.W.Drain.told l.drain ≡ g.W.Drain.told l.fn.drain) × (l.report.lines ≡ l.fn.report.lines);
   job : l.state.job ≡ l.fn.state.job;
