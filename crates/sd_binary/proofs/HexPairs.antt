@@ -40,24 +40,24 @@ decoded-pairs i (a ∷ b ∷ rest) =
     ∙ ap (with_pair (hex_digit_value a) (hex_digit_value b)) (decoded-pairs (i + 2) rest)
 
 -- what a text spells, and then what another one does
-abbrev pub joined : Result (List ℕ) TextFault → Result (List ℕ) TextFault → Result (List ℕ) TextFault
-joined (Err f) more = Err f
-joined (Ok bytes) (Err f) = Err f
-joined (Ok bytes) (Ok more) = Ok (bytes ++ more)
+abbrev pub both_spelled : Result (List ℕ) TextFault → Result (List ℕ) TextFault → Result (List ℕ) TextFault
+both_spelled (Err f) more = Err f
+both_spelled (Ok bytes) (Err f) = Err f
+both_spelled (Ok bytes) (Ok more) = Ok (bytes ++ more)
 
-joined-nil : (r : Result (List ℕ) TextFault) → r ≡ joined (Ok []) r
+joined-nil : (r : Result (List ℕ) TextFault) → r ≡ both_spelled (Ok []) r
 joined-nil (Ok bytes) = refl
 joined-nil (Err f) = refl
 
 joined-pair : (high low : Option ℕ) (r s : Result (List ℕ) TextFault)
-    → with_pair high low (joined r s) ≡ joined (with_pair high low r) s
+    → with_pair high low (both_spelled r s) ≡ both_spelled (with_pair high low r) s
 joined-pair None low r s = refl
 joined-pair (Some h) None r s = refl
 joined-pair (Some h) (Some l) (Err f) s = refl
 joined-pair (Some h) (Some l) (Ok bytes) (Err f) = refl
 joined-pair (Some h) (Some l) (Ok bytes) (Ok more) = refl
 
-spelled-append : (s t : List ℕ) → length s % 2 ≡ 0 → spelled (s ++ t) ≡ joined (spelled s) (spelled t)
+spelled-append : (s t : List ℕ) → length s % 2 ≡ 0 → spelled (s ++ t) ≡ both_spelled (spelled s) (spelled t)
 spelled-append [] t even = joined-nil (spelled t)
 spelled-append (c ∷ []) t even = absurd (omega arith)
 spelled-append (a ∷ b ∷ rest) t even =
@@ -69,7 +69,7 @@ spells-pairs text even = spells-even text even ∙ ap or_digit_fault (decode_of-
 
 -- whole pairs, and then whole pairs
 pub spells-append : (s t : List ℕ) → length s % 2 ≡ 0 → length t % 2 ≡ 0
-    → hex_spells (s ++ t) ≡ joined (hex_spells s) (hex_spells t)
+    → hex_spells (s ++ t) ≡ both_spelled (hex_spells s) (hex_spells t)
 spells-append s t first second =
     spells-pairs (s ++ t) (omega (arith, length-append s t))
     ∙ spelled-append s t first

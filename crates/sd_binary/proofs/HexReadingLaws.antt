@@ -12,7 +12,7 @@ use Rattle.sd_binary.specs.Text.{hex_spells}
 use Rattle.std.specs.Option.{option_to_list}
 use Rattle.sd_binary.specs.HexReading.{ReadsHex, spelled_so_far}
 use Rattle.sd_binary.proofs.Decoded.{spells-odd}
-use Rattle.sd_binary.proofs.HexPairs.{joined, pairs-fault, spells-append, spells-length, spells-nil}
+use Rattle.sd_binary.proofs.HexPairs.{both_spelled, pairs-fault, spells-append, spells-length, spells-nil}
 
 -- nothing was fed
 pub hex-begun : (r : HexReader) → r.pending ≡ None → r.wrong ≡ false → ReadsHex r [] []
@@ -70,7 +70,7 @@ Appended spelled old result new =
 
 appended : (pairs old new : List ℕ) (spelled : Result (List ℕ) TextFault) (result : Result (Unit {0}) TextFault)
     → length pairs % 2 ≡ 0 → hex_spells pairs ≡ spelled → Appended spelled old result new
-    → joined (Ok old) spelled ≡ spelled_so_far (is_err result) new
+    → both_spelled (Ok old) spelled ≡ spelled_so_far (is_err result) new
 appended pairs old new (Ok bytes) result even e h = rw (h.0, h.1) refl
 appended pairs old new (Err f) result even e h =
     let digit = pairs-fault pairs f even e in

@@ -65,28 +65,28 @@ acl-kept bytes new (Some offset) acl.Null k h = h
 acl-kept bytes new (Some offset) (acl.List aces) k h = (h.0, k offset (acl_bytes aces) h.1)
 
 -- each extent ends within the bytes
-abbrev Ends : Extent → ℕ → Type 0
-Ends None n = Unit {0}
-Ends (Some p) n = p.1 ≤ n
+abbrev EndsWithin : Extent → ℕ → Type 0
+EndsWithin None n = Unit {0}
+EndsWithin (Some p) n = p.1 ≤ n
 
 sid-ends : (bytes : List ℕ) (offset : ℕ) (o : Option SecurityId) → SidStands bytes offset o
-    → Ends (sid_extent offset o) (length bytes)
+    → EndsWithin (sid_extent offset o) (length bytes)
 sid-ends bytes offset None h = tt
 sid-ends bytes offset (Some s) h = omega (arith, h.1.inside, length-sid_bytes s)
 
 acl-ends : (bytes : List ℕ) (offset : Option ℕ) (p : AclPart) → AclStands bytes offset p
-    → Ends (acl_extent_of offset p) (length bytes)
+    → EndsWithin (acl_extent_of offset p) (length bytes)
 acl-ends bytes None p h = tt
 acl-ends bytes (Some offset) acl.Absent h = tt
 acl-ends bytes (Some offset) acl.Null h = tt
 acl-ends bytes (Some offset) (acl.List aces) h = omega (arith, h.1.inside, length-acl_bytes aces)
 
 -- so an extent at the end of the bytes shares none with another
-last-apart : (e : Extent) (n m : ℕ) → Ends e n → Apart (Some (n, m)) e
+last-apart : (e : Extent) (n m : ℕ) → EndsWithin e n → Apart (Some (n, m)) e
 last-apart None n m h = tt
 last-apart (Some p) n m h = inr h
 
-apart-last : (e : Extent) (n m : ℕ) → Ends e n → Apart e (Some (n, m))
+apart-last : (e : Extent) (n m : ℕ) → EndsWithin e n → Apart e (Some (n, m))
 apart-last None n m h = tt
 apart-last (Some p) n m h = inl h
 

@@ -136,20 +136,21 @@ known-limits e h =
     record { authority = small; count = few; subs = tested-words (take e.count e.subs) second.1 }
 
 -- a domain with room for one sub-authority more
-HasRoom : SecurityId → Type 0
-HasRoom d = IsSid d × (length d.subs < 15)
+HasUsableSid : SecurityId → Type 0
+HasUsableSid d = IsSid d × (length d.subs < 15)
 
-usable-limits : (domain : Option SecurityId) → IfSome domain IsSid → IfSome (usable domain) HasRoom
-unfolding HasRoom
+usable-limits : (domain : Option SecurityId) → IfSome domain IsSid → IfSome (usable domain) HasUsableSid
+unfolding HasUsableSid
 usable-limits None h = tt
 usable-limits (Some d) h = by_test (nat_lt (length d.subs) 15) refl
   where
-    by_test : (b : Bool) → nat_lt (length d.subs) 15 ≡ b → IfSome (if b then Some d else None) HasRoom
+    by_test : (b : Bool) → nat_lt (length d.subs) 15 ≡ b → IfSome (if b then Some d else None) HasUsableSid
     by_test true e = (h, grind (arith, nat_tests))
     by_test false e = tt
 
-relative-limits : (d : SecurityId) (e : DomainRelative) → HasRoom d → nat_lt e.last (2 ^ 32) ≡ true → IsSid (sid_in d e)
-unfolding HasRoom
+relative-limits : (d : SecurityId) (e : DomainRelative) → HasUsableSid d → nat_lt e.last (2 ^ 32) ≡ true
+    → IsSid (sid_in d e)
+unfolding HasUsableSid
 relative-limits d e h t =
     let small : e.last < 2 ^ 32 = grind (arith, nat_tests) in
     let room = h.1 in
@@ -169,7 +170,7 @@ letters-limits a b domain h =
     (usable-limits domain h)
   where
     by_known : (o : Option WellKnown) (r : Option DomainRelative) (u : Option SecurityId)
-        → IfSome o (λ e. known_fits e ≡ true) → IfSome r (λ e. nat_lt e.last (2 ^ 32) ≡ true) → IfSome u HasRoom
+        → IfSome o (λ e. known_fits e ≡ true) → IfSome r (λ e. nat_lt e.last (2 ^ 32) ≡ true) → IfSome u HasUsableSid
         → IfOk (name_reads o r u) IsSid
     by_known (Some e) r u k l m = known-limits e k
     by_known None (Some e) None k l m = tt

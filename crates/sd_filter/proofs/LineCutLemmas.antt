@@ -7,13 +7,13 @@ use Rattle.std.proofs.lemmas.List.Folds.{list_any_at, list_any_none}
 use Rattle.sd_filter.specs.Lines.{IsCut, LinesAreCut, LineCut, cut_at_line_feeds, onto_first_line, without_cr, ended, has_lf}
 
 -- one byte in front of these parts
-abbrev pub front : Bool → ℕ → LineCut → LineCut
-front c b p = cond c (record { ended = [] ∷ p.ended; rest = p.rest }) (onto_first_line b p.ended p.rest)
+abbrev pub with_front : Bool → ℕ → LineCut → LineCut
+with_front c b p = cond c (record { ended = [] ∷ p.ended; rest = p.rest }) (onto_first_line b p.ended p.rest)
 
 -- one byte in front of a cut
 front-cut : (c : Bool) (b : ℕ) (ended : List (List ℕ)) (rest bytes : List ℕ) → (b == 10) ≡ c
     → IsCut bytes (record { ended = ended; rest = rest })
-    → IsCut (b ∷ bytes) (front c b (record { ended = ended; rest = rest }))
+    → IsCut (b ∷ bytes) (with_front c b (record { ended = ended; rest = rest }))
 front-cut true b ended rest bytes is h =
     let lf : b ≡ 10 = search rules in
     record {
@@ -34,42 +34,42 @@ lines-are-cut (b ∷ bytes) = front-cut (b == 10) b (cut_at_line_feeds bytes).en
     (cut_at_line_feeds bytes).rest bytes refl (lines-are-cut bytes)
 
 -- these parts, and then an LF
-abbrev closed : LineCut → LineCut
-closed p = record { ended = p.ended ++ p.rest ∷ []; rest = [] }
+abbrev with_line_end : LineCut → LineCut
+with_line_end p = record { ended = p.ended ++ p.rest ∷ []; rest = [] }
 
 -- these parts, and then another byte
-abbrev grown : ℕ → LineCut → LineCut
-grown b p = record { ended = p.ended; rest = p.rest ++ b ∷ [] }
+abbrev with_end : ℕ → LineCut → LineCut
+with_end b p = record { ended = p.ended; rest = p.rest ++ b ∷ [] }
 
 front-closed : (c : Bool) (x : ℕ) (ended : List (List ℕ)) (rest : List ℕ)
-    → front c x (closed (record { ended = ended; rest = rest })) ≡ closed
-    (front c x (record { ended = ended; rest = rest }))
+    → with_front c x (with_line_end (record { ended = ended; rest = rest })) ≡ with_line_end
+    (with_front c x (record { ended = ended; rest = rest }))
 front-closed true x ended rest = refl
 front-closed false x [] rest = refl
 front-closed false x (p ∷ ps) rest = refl
 
 front-grown : (c : Bool) (x b : ℕ) (ended : List (List ℕ)) (rest : List ℕ)
-    → front c x (grown b (record { ended = ended; rest = rest })) ≡ grown b
-    (front c x (record { ended = ended; rest = rest }))
+    → with_front c x (with_end b (record { ended = ended; rest = rest })) ≡ with_end b
+    (with_front c x (record { ended = ended; rest = rest }))
 front-grown true x b ended rest = refl
 front-grown false x b [] rest = refl
 front-grown false x b (p ∷ ps) rest = refl
 
-pub cut-lf : (xs : List ℕ) → cut_at_line_feeds (xs ++ 10 ∷ []) ≡ closed (cut_at_line_feeds xs)
+pub cut-lf : (xs : List ℕ) → cut_at_line_feeds (xs ++ 10 ∷ []) ≡ with_line_end (cut_at_line_feeds xs)
 unfolding cut_at_line_feeds
 cut-lf [] = refl
-cut-lf (x ∷ xs) = ap (front (x == 10) x) (cut-lf xs)
+cut-lf (x ∷ xs) = ap (with_front (x == 10) x) (cut-lf xs)
     ∙ front-closed (x == 10) x (cut_at_line_feeds xs).ended (cut_at_line_feeds xs).rest
 
 alone : (c : Bool) (b : ℕ) → c ≡ false
-    → front c b (record { ended = []; rest = [] }) ≡ record { ended = []; rest = b ∷ [] }
+    → with_front c b (record { ended = []; rest = [] }) ≡ record { ended = []; rest = b ∷ [] }
 alone c b e = rw e
 
 pub cut-other : (xs : List ℕ) (b : ℕ) → (b == 10) ≡ false
-    → cut_at_line_feeds (xs ++ b ∷ []) ≡ grown b (cut_at_line_feeds xs)
+    → cut_at_line_feeds (xs ++ b ∷ []) ≡ with_end b (cut_at_line_feeds xs)
 unfolding cut_at_line_feeds
 cut-other [] b e = alone (b == 10) b e
-cut-other (x ∷ xs) b e = ap (front (x == 10) x) (cut-other xs b e)
+cut-other (x ∷ xs) b e = ap (with_front (x == 10) x) (cut-other xs b e)
     ∙ front-grown (x == 10) x b (cut_at_line_feeds xs).ended (cut_at_line_feeds xs).rest
 
 pub ended-lf : (xs : List ℕ) → ended (xs ++ 10 ∷ []) ≡ ended xs ++ without_cr (cut_at_line_feeds xs).rest ∷ []
@@ -128,7 +128,7 @@ parts-more xs [] h = ap cut_at_line_feeds (append-nil xs)
     (sym (append-nil (cut_at_line_feeds xs).rest))
 parts-more xs (y ∷ ys) h =
     let one : (cut_at_line_feeds (xs ++ y ∷ []))
-    ≡ grown y (cut_at_line_feeds xs) = cut-other xs y (eq_false y (h 0 (omega arith))) in
+    ≡ with_end y (cut_at_line_feeds xs) = cut-other xs y (eq_false y (h 0 (omega arith))) in
     let all = parts-more (xs ++ y ∷ []) ys (λ k l e. h (suc k) (omega arith) e) in
     ap cut_at_line_feeds (sym (append_assoc xs (y ∷ []) ys)) ∙ all
     ∙ ap (λ p. let q : LineCut = record { ended = p.ended; rest = p.rest ++ ys } in q) one

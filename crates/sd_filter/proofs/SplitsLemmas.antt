@@ -6,15 +6,15 @@ use Rattle.sd_command.specs.declared.job.Job.{Job}
 use Rattle.sd_filter.specs.Lines.{LineCut, ended, last_line, lines, cut_at_line_feeds, without_cr}
 use Rattle.sd_filter.specs.Splits.{AnswersSplit}
 use Rattle.sd_filter.proofs.AnswersLemmas.{answers-append, errors-append}
-use Rattle.sd_filter.proofs.LineCutLemmas.{front, cut-lf, rest-lf}
+use Rattle.sd_filter.proofs.LineCutLemmas.{with_front, cut-lf, rest-lf}
 
 -- parts that an LF closed, and then those of more bytes
 abbrev after : List (List ℕ) → List ℕ → LineCut → LineCut
 after ended last more = record { ended = (ended ++ last ∷ []) ++ more.ended; rest = more.rest }
 
 front-after : (c : Bool) (b : ℕ) (ended : List (List ℕ)) (last : List ℕ) (more : LineCut)
-    → front c b (after ended last more) ≡ after (front c b (record { ended = ended; rest = last })).ended
-    (front c b (record { ended = ended; rest = last })).rest more
+    → with_front c b (after ended last more) ≡ after (with_front c b (record { ended = ended; rest = last })).ended
+    (with_front c b (record { ended = ended; rest = last })).rest more
 front-after true b ended last more = refl
 front-after false b [] last more = refl
 front-after false b (p ∷ ps) last more = refl
@@ -24,7 +24,7 @@ cut-after : (xs ys : List ℕ)
     ≡ after (cut_at_line_feeds xs).ended (cut_at_line_feeds xs).rest (cut_at_line_feeds ys)
 unfolding cut_at_line_feeds
 cut-after [] ys = refl
-cut-after (x ∷ xs) ys = ap (front (x == 10) x) (cut-after xs ys)
+cut-after (x ∷ xs) ys = ap (with_front (x == 10) x) (cut-after xs ys)
     ∙ front-after (x == 10) x (cut_at_line_feeds xs).ended (cut_at_line_feeds xs).rest (cut_at_line_feeds ys)
 
 ended-after : (xs ys : List ℕ) → ended (xs ++ 10 ∷ ys) ≡ ended (xs ++ 10 ∷ []) ++ ended ys

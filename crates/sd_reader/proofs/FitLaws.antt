@@ -183,10 +183,10 @@ open-with_ace p a o = cases p.«open» o
 -- 3. A field gives no part but its own.
 
 -- the part that a field gives
-abbrev pub gives : Slot → Head → Bool
-gives (slot.Sid p) h = same_head (head.Sid p) h
-gives (slot.AclFlags w has_aces) h = same_head (head.Acl w) h
-gives (slot.Ace f) h = false
+abbrev pub fills : Slot → Head → Bool
+fills (slot.Sid p) h = same_head (head.Sid p) h
+fills (slot.AclFlags w has_aces) h = same_head (head.Acl w) h
+fills (slot.Ace f) h = false
 
 lacks-sid : (r : FieldsRead) (p : SidPart) (s : SecurityId) (h : Head) → same_head (head.Sid p) h ≡ false → Lacks h r
     → Lacks h (with_owner_or_group p r s)
@@ -274,7 +274,7 @@ ace_field P domain r u field.Inherited text k l e = if-value P u _ _ (object_rea
 ace_field P domain r u field.Sid text k l e = if-sid P u _ (sid_reads text domain) l e
 
 lacks-taken : (domain : Option SecurityId) (r u : FieldsRead) (s : Slot) (text : List ℕ) (h : Head)
-    → take_field domain r s text ≡ Ok u → gives s h ≡ false → Lacks h r → Lacks h u
+    → take_field domain r s text ≡ Ok u → fills s h ≡ false → Lacks h r → Lacks h u
 lacks-taken domain r u (slot.Sid p) text h e g l =
     if-sid (λ x. Lacks h x) u (with_owner_or_group p r) (sid_reads text domain) (λ s. lacks-sid r p s h g l)
     (readable domain r u (slot.Sid p) text e)

@@ -92,11 +92,11 @@ before_sid e = record {
   inherited = e.inherited;
 }
 
-abbrev pub with_entry : FieldsRead → AccessControlEntry → FieldsRead
-with_entry r e = grown (record r { ace = before_sid e }) (with_ace e r.parts)
+abbrev pub with_read_ace : FieldsRead → AccessControlEntry → FieldsRead
+with_read_ace r e = grown (record r { ace = before_sid e }) (with_ace e r.parts)
 
 abbrev entry_in : FieldsRead → AccessControlEntry → Found FieldsRead
-entry_in r e = Ok (with_entry r e)
+entry_in r e = Ok (with_read_ace r e)
 
 abbrev field_at : AceField → List ℕ → Field
 field_at f text = record { slot = slot.Ace f; text = text }
@@ -215,7 +215,7 @@ ace-read domain r text six = cuts-read domain r (cut_at_semicolons text).first (
 
 unfoldable pub with_entries : FieldsRead → List AccessControlEntry → FieldsRead
 with_entries r [] = r
-with_entries r (e ∷ es) = with_entries (with_entry r e) es
+with_entries r (e ∷ es) = with_entries (with_read_ace r e) es
 
 abbrev HaveSix : List (List ℕ) → Type 0
 HaveSix texts = AllByRecursion (λ a. has_six_fields a ≡ true) texts
@@ -233,19 +233,19 @@ aces-read domain r [] h = refl
 aces-read domain r (a ∷ others) h =
     read-append domain (ace_fields a) (flat_map ace_fields others) r
     ∙ ap (λ (x : Found FieldsRead). and_then x (aces_folded domain others)) (ace-read domain r a h.0)
-    ∙ each-step (ace_reads domain (ace_cuts a)) (aces_read domain others) (with_entry r)
-    (aces_folded domain others) (with_entries r) (λ e. aces-read domain (with_entry r e) others h.1)
+    ∙ each-step (ace_reads domain (ace_cuts a)) (aces_read domain others) (with_read_ace r)
+    (aces_folded domain others) (with_entries r) (λ e. aces-read domain (with_read_ace r e) others h.1)
 
 -- 4. A section.
 
-abbrev pub given : Which → AclFlags → AclPart → FieldsRead → FieldsRead
-given w f acl.Absent r = with_flags w f (record r { parts = with_acl w acl.Absent (closed r.parts) })
-given w f acl.Null r = with_flags w f (record r { parts = with_acl w acl.Null (closed r.parts) })
-given w f (acl.List es) r = with_entries (with_flags w f (record r { parts = begun w (closed r.parts) })) es
+abbrev pub acl_given : Which → AclFlags → AclPart → FieldsRead → FieldsRead
+acl_given w f acl.Absent r = with_flags w f (record r { parts = with_acl w acl.Absent (closed r.parts) })
+acl_given w f acl.Null r = with_flags w f (record r { parts = with_acl w acl.Null (closed r.parts) })
+acl_given w f (acl.List es) r = with_entries (with_flags w f (record r { parts = begun w (closed r.parts) })) es
 
 abbrev pub with_said : FieldsRead → Said → FieldsRead
 with_said r (sid_said p s) = with_owner_or_group p r s
-with_said r (acl_said w f a) = given w f a r
+with_said r (acl_said w f a) = acl_given w f a r
 
 abbrev said_in : FieldsRead → Said → Found FieldsRead
 said_in r x = Ok (with_said r x)
@@ -256,7 +256,7 @@ no-aces (byte b ∷ ps) e = no-aces ps e
 no-aces (ace a ∷ ps) e = absurd cc
 
 list-read : (x : Found (List AccessControlEntry)) (w : Which) (f : AclFlags) (r : FieldsRead)
-    → and_then x (λ es. Ok (given w f (acl.List es) r))
+    → and_then x (λ es. Ok (acl_given w f (acl.List es) r))
     ≡ and_then (and_then (and_then x (λ es. Ok (acl.List es))) (λ a. Ok (acl_said w f a))) (said_in r)
 list-read (Ok es) w f r = refl
 list-read (Err e) w f r = refl
@@ -269,10 +269,11 @@ module _ (domain : Option SecurityId) (w : Which) (body : List Piece) (r : Field
   front_said f = and_then (acl_part_reads domain f.null body) (λ a. Ok (acl_said w f.flags a))
 
   null-read : (f : AclFlags) (has : Bool) → has_aces body ≡ has
-      → and_then (if has then Err fault.Flags else Ok (given w f acl.Null r)) acl_aces
+      → and_then (if has then Err fault.Flags else Ok (acl_given w f acl.Null r)) acl_aces
       ≡ and_then (and_then (if has then Err fault.Flags else Ok acl.Null) (λ a. Ok (acl_said w f a))) (said_in r)
   null-read f true e = refl
-  null-read f false e = ap (λ (texts : List (List ℕ)). aces_folded domain texts (given w f acl.Null r)) (no-aces body e)
+  null-read f false e = ap (λ (texts : List (List ℕ)). aces_folded domain texts (acl_given w f acl.Null r))
+      (no-aces body e)
 
   front-read : (f : AclFlags) (null : Bool)
       → and_then (take_front w (has_aces body) r (Some (record { flags = f; null = null }))) acl_aces

@@ -75,7 +75,7 @@ record AreAcls (t : Draft) : Type 0 where
   opened : IsOpened t.«open»
 
 -- as long as no ACL is too large, each one keeps its limits
-record IsReading (r : FieldsRead) : Type 0 where
+record HasReadLimits (r : FieldsRead) : Type 0 where
   sids : AreSids r.parts
   ace : AreFields r.ace
   acls : r.large ≡ None → AreAcls r.parts
@@ -120,8 +120,8 @@ acls-begun w false t h = record { sacl = h.sacl; dacl = h.dacl; opened = no_aces
 
 -- 3. Steps.
 
-owner_or_group-keeps : (p : SidPart) (r : FieldsRead) (s : SecurityId) → IsSid s → IsReading r
-    → IsReading (with_owner_or_group p r s)
+owner_or_group-keeps : (p : SidPart) (r : FieldsRead) (s : SecurityId) → IsSid s → HasReadLimits r
+    → HasReadLimits (with_owner_or_group p r s)
 owner_or_group-keeps sid_part.Owner r s i h =
     let others = closed-sids r.parts h.sids in
     record {
@@ -137,27 +137,27 @@ owner_or_group-keeps sid_part.Group r s i h =
       acls = λ e. let k = closed-acls r.parts (h.acls e) in record { sacl = k.sacl; dacl = k.dacl; opened = k.opened };
     }
 
-flags-keep : (w : Which) (f : AclFlags) (r : FieldsRead) → IsReading r → IsReading (with_flags w f r)
+flags-keep : (w : Which) (f : AclFlags) (r : FieldsRead) → HasReadLimits r → HasReadLimits (with_flags w f r)
 flags-keep which.Sacl f r h = record { sids = h.sids; ace = h.ace; acls = h.acls }
 flags-keep which.Dacl f r h = record { sids = h.sids; ace = h.ace; acls = h.acls }
 
-begun-keeps : (w : Which) (null : Bool) (r : FieldsRead) → IsReading r
-    → IsReading (record r { parts = begun_or_null w null (closed r.parts) })
+begun-keeps : (w : Which) (null : Bool) (r : FieldsRead) → HasReadLimits r
+    → HasReadLimits (record r { parts = begun_or_null w null (closed r.parts) })
 begun-keeps w null r h = record {
   sids = sids-begun w null (closed r.parts) (closed-sids r.parts h.sids);
   ace = h.ace;
   acls = λ e. acls-begun w null (closed r.parts) (closed-acls r.parts (h.acls e));
 }
 
-front-keeps : (w : Which) (has_aces : Bool) (r : FieldsRead) (o : Option AclFront) → IsReading r
-    → IfOk (take_front w has_aces r o) IsReading
+front-keeps : (w : Which) (has_aces : Bool) (r : FieldsRead) (o : Option AclFront) → HasReadLimits r
+    → IfOk (take_front w has_aces r o) HasReadLimits
 unfolding take_front
 front-keeps w has_aces r None h = tt
 front-keeps w has_aces r (Some f) h = by_test (f.null && has_aces)
   where
     by_test : (b : Bool) → IfOk
         (if b then Err fault.Flags else Ok
-        (with_flags w f.flags (record r { parts = begun_or_null w f.null (closed r.parts) }))) IsReading
+        (with_flags w f.flags (record r { parts = begun_or_null w f.null (closed r.parts) }))) HasReadLimits
     by_test true = tt
     by_test false = flags-keep w f.flags _ (begun-keeps w f.null r h)
 
@@ -189,7 +189,7 @@ open-more : (a : AccessControlEntry) (o : Option (Which × List AccessControlEnt
 open-more a None k h e = tt
 open-more a (Some o) k h e = record { each = all-more o.1 a h.each k; fits = fits-still o.0 (o.1 ++ a ∷ []) e }
 
-trustee-keeps : (r : FieldsRead) (s : SecurityId) → IsSid s → IsReading r → IsReading (with_trustee r s)
+trustee-keeps : (r : FieldsRead) (s : SecurityId) → IsSid s → HasReadLimits r → HasReadLimits (with_trustee r s)
 trustee-keeps r s i h = record {
   sids = record { owner = h.sids.owner; group = h.sids.group };
   ace = h.ace;
@@ -204,7 +204,7 @@ trustee-keeps r s i h = record {
       };
 }
 
-ace-keeps : (f : AceFields) (r : FieldsRead) → AreFields f → IsReading r → IsReading (record r { ace = f })
+ace-keeps : (f : AceFields) (r : FieldsRead) → AreFields f → HasReadLimits r → HasReadLimits (record r { ace = f })
 ace-keeps f r k h = record { sids = h.sids; ace = k; acls = h.acls }
 
 -- 4. The fields of an ACE.
@@ -285,18 +285,18 @@ inherited-fields f text o h e =
 -- 5. Each field keeps the limits.
 
 value-keeps : {A : Type 0} (e : SddlFault) (with : A → FieldsRead) (o : Option A)
-    → ((x : A) → o ≡ Some x → IsReading (with x)) → IfOk (with_value e with o) IsReading
+    → ((x : A) → o ≡ Some x → HasReadLimits (with x)) → IfOk (with_value e with o) HasReadLimits
 value-keeps e with None h = tt
 value-keeps e with (Some x) h = h x refl
 
 sid-keeps : (with : SecurityId → FieldsRead) (x : Result SecurityId SidFault)
-    → ((s : SecurityId) → x ≡ Ok s → IsReading (with s)) → IfOk (with_sid with x) IsReading
+    → ((s : SecurityId) → x ≡ Ok s → HasReadLimits (with s)) → IfOk (with_sid with x) HasReadLimits
 sid-keeps with (Ok s) h = h s refl
 sid-keeps with (Err e) h = tt
 
 module _ (domain : Option SecurityId) (is : IfSome domain IsSid) where
-  ace_field-keeps : (r : FieldsRead) (f : AceField) (text : List ℕ) → IsReading r
-      → IfOk (take_ace_field domain r f text) IsReading
+  ace_field-keeps : (r : FieldsRead) (f : AceField) (text : List ℕ) → HasReadLimits r
+      → IfOk (take_ace_field domain r f text) HasReadLimits
   unfolding take_ace_field
   ace_field-keeps r field.Kind text h = value-keeps _ _ (kind_reads text) (λ kind e. ace-keeps _ r (kind-fields kind) h)
   ace_field-keeps r field.Flags text h = value-keeps _ _ (flags_reads text)
@@ -310,34 +310,35 @@ module _ (domain : Option SecurityId) (is : IfSome domain IsSid) where
   ace_field-keeps r field.Sid text h = sid-keeps (with_trustee r) (sid_reads text domain)
       (λ s e. trustee-keeps r s (sid-limits text domain s is e) h)
 
-  readable-keeps : (r : FieldsRead) (s : Slot) (text : List ℕ) → IsReading r
-      → IfOk (take_readable domain r s text) IsReading
+  readable-keeps : (r : FieldsRead) (s : Slot) (text : List ℕ) → HasReadLimits r
+      → IfOk (take_readable domain r s text) HasReadLimits
   readable-keeps r (slot.Sid p) text h =
       sid-keeps (with_owner_or_group p r) (sid_reads text domain)
       (λ s e. owner_or_group-keeps p r s (sid-limits text domain s is e) h)
   readable-keeps r (slot.AclFlags w has_aces) text h = front-keeps w has_aces r (front_reads text) h
   readable-keeps r (slot.Ace f) text h = ace_field-keeps r f text h
 
-  field-keeps : (r : FieldsRead) (s : Slot) (text : List ℕ) → IsReading r → IfOk (take_field domain r s text) IsReading
+  field-keeps : (r : FieldsRead) (s : Slot) (text : List ℕ) → HasReadLimits r
+      → IfOk (take_field domain r s text) HasReadLimits
   unfolding take_field
   field-keeps r s text h = by_test (is_unreadable text)
     where
-      by_test : (b : Bool) → IfOk (if b then Err (fault_of s) else take_readable domain r s text) IsReading
+      by_test : (b : Bool) → IfOk (if b then Err (fault_of s) else take_readable domain r s text) HasReadLimits
       by_test true = tt
       by_test false = readable-keeps r s text h
 
-  fields-keep : (fs : List Field) (r : FieldsRead) → IsReading r → IfOk (read_fields domain fs r) IsReading
+  fields-keep : (fs : List Field) (r : FieldsRead) → HasReadLimits r → IfOk (read_fields domain fs r) HasReadLimits
   fields-keep [] r h = h
   fields-keep (f ∷ fs) r h = by_first (take_field domain r f.slot f.text) (field-keeps r f.slot f.text h)
       (λ x k. fields-keep fs x k)
     where
-      by_first : (t : Result FieldsRead SddlFault) → IfOk t IsReading
-          → ((x : FieldsRead) → IsReading x → IfOk (read_fields domain fs x) IsReading)
-          → IfOk (and_then t (read_fields domain fs)) IsReading
+      by_first : (t : Result FieldsRead SddlFault) → IfOk t HasReadLimits
+          → ((x : FieldsRead) → HasReadLimits x → IfOk (read_fields domain fs x) HasReadLimits)
+          → IfOk (and_then t (read_fields domain fs)) HasReadLimits
       by_first (Ok x) k more = more x k
       by_first (Err e) k more = tt
 
-nothing-is : IsReading nothing_read
+nothing-is : HasReadLimits nothing_read
 nothing-is = record {
   sids = record { owner = tt; group = tt };
   ace = kind-fields _;
@@ -392,7 +393,7 @@ part-limits present acl.Absent e h = e
 part-limits present acl.Null e h = e
 part-limits present (acl.List aces) e h = (e, h)
 
-described-limits : (r : FieldsRead) → IsReading r → r.large ≡ None → IsDescriptor (described r)
+described-limits : (r : FieldsRead) → HasReadLimits r → r.large ≡ None → IsDescriptor (described r)
 described-limits r h e =
     let t = closed r.parts in
     let sids = closed-sids r.parts h.sids in
@@ -408,7 +409,7 @@ described-limits r h e =
       dacl = part-limits _ t.dacl control.with_dacl acls.dacl;
     }
 
-finished-limits : (x : Result FieldsRead SddlFault) → IfOk x IsReading → IfOk (finished x) IsDescriptor
+finished-limits : (x : Result FieldsRead SddlFault) → IfOk x HasReadLimits → IfOk (finished x) IsDescriptor
 unfolding finished
 finished-limits (Err e) h = tt
 finished-limits (Ok r) h = by_large r.large refl
@@ -417,8 +418,8 @@ finished-limits (Ok r) h = by_large r.large refl
     by_large None e = described-limits r h e
     by_large (Some w) e = tt
 
-if_shaped-keeps : (shaped twice : Bool) (read : Result FieldsRead SddlFault) → IfOk read IsReading
-    → IfOk (if_shaped shaped twice read) IsReading
+if_shaped-keeps : (shaped twice : Bool) (read : Result FieldsRead SddlFault) → IfOk read HasReadLimits
+    → IfOk (if_shaped shaped twice read) HasReadLimits
 unfolding if_shaped
 if_shaped-keeps true true read h = tt
 if_shaped-keeps true false read h = h

@@ -96,18 +96,18 @@ letters-low kinds.Label = refl
 
 -- 3. Names of two letters.
 
-are_letters : NamedBits → Bool
-are_letters e = nat_le 60 e.first && nat_le 60 e.second
+is_lettered : NamedBits → Bool
+is_lettered e = nat_le 60 e.first && nat_le 60 e.second
 
 upper-least : (a b : ℕ) → nat_le 60 a ≡ true → (a == to_ascii_uppercase b) ≡ true → is_plain_inside b ≡ true
 upper-least a b least is = plain-letter b (grind (arith, nat_tests))
 
-named-plain : (table : List NamedBits) → list_all are_letters table ≡ true → (a b n : ℕ) → bits_named table a b ≡ Some n
+named-plain : (table : List NamedBits) → list_all is_lettered table ≡ true → (a b n : ℕ) → bits_named table a b ≡ Some n
     → (is_plain_inside a ≡ true) × (is_plain_inside b ≡ true)
-unfolding are_letters
+unfolding is_lettered
 named-plain [] all a b n is = absurd cc
 named-plain (e ∷ es) all a b n is =
-    let parts = and_parts (are_letters e) _ all in
+    let parts = and_parts (is_lettered e) _ all in
     let least = and_parts (nat_le 60 e.first) (nat_le 60 e.second) parts.0 in
     by_test (e.first == to_ascii_uppercase a && e.second == to_ascii_uppercase b) refl least.0 least.1
     (λ h. named-plain es parts.1 a b n h) is
@@ -122,7 +122,7 @@ named-plain (e ∷ es) all a b n is =
         (upper-least e.first a first same.0, upper-least e.second b second same.1)
     by_test false f first second later g = later g
 
-run-plain : (table : List NamedBits) → list_all are_letters table ≡ true → (text : List ℕ) (n : ℕ)
+run-plain : (table : List NamedBits) → list_all is_lettered table ≡ true → (text : List ℕ) (n : ℕ)
     → run_of table text ≡ Some n → list_all is_plain_inside text ≡ true
 unfolding run_of
 run-plain table all [] n is = refl
@@ -139,12 +139,12 @@ run-plain table all (a ∷ b ∷ rest) n is =
         let name = named-plain table all a b m e in
         rw (name.0, name.1) (later k f)
 
-flags-letters : list_all are_letters FLAGS ≡ true
-unfolding are_letters
+flags-letters : list_all is_lettered FLAGS ≡ true
+unfolding is_lettered
 flags-letters = refl
 
-rights-letters : list_all are_letters all_rights ≡ true
-unfolding are_letters
+rights-letters : list_all is_lettered all_rights ≡ true
+unfolding is_lettered
 rights-letters = refl
 
 -- 4. Access rights.

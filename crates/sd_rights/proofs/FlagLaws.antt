@@ -14,15 +14,15 @@ unfolding reads_in
 flags_read = refl
 
 -- a test of each number below another
-abbrev all_below : ℕ → (ℕ → Bool) → Bool
-all_below zero test = true
-all_below (suc n) test = test n && all_below n test
+abbrev passes_below : ℕ → (ℕ → Bool) → Bool
+passes_below zero test = true
+passes_below (suc n) test = test n && passes_below n test
 
-at_below : (n : ℕ) (test : ℕ → Bool) (k : ℕ) → k < n → all_below n test ≡ true → test k ≡ true
+at_below : (n : ℕ) (test : ℕ → Bool) (k : ℕ) → k < n → passes_below n test ≡ true → test k ≡ true
 at_below zero test k h e = absurd (omega arith)
 at_below (suc n) test k h e = by_last (k == n) refl (at_below n test k)
   where
-    by_last : (b : Bool) → (k == n) ≡ b → (k < n → all_below n test ≡ true → test k ≡ true) → test k ≡ true
+    by_last : (b : Bool) → (k == n) ≡ b → (k < n → passes_below n test ≡ true → test k ≡ true) → test k ≡ true
     by_last true f more = ap test (eqb-true k n f) ∙ and_first (test n) _ e
     by_last false f more = more (grind (arith, nat_tests)) (and_second (test n) _ e)
 
@@ -30,7 +30,7 @@ at_below (suc n) test k h e = by_last (k == n) refl (at_below n test k)
 all_named : ℕ → Bool
 all_named f = f / 0x20 % 2 == 1 || named_bits FLAGS f == f
 
-every_named : all_below 256 all_named ≡ true
+every_named : passes_below 256 all_named ≡ true
 unfolding all_named
 every_named = refl
 
@@ -57,7 +57,7 @@ all_among = refl
 clear_among : ℕ → Bool
 clear_among f = not (among 0xdf f) || f / 0x20 % 2 == 0
 
-every_clear : all_below 256 clear_among ≡ true
+every_clear : passes_below 256 clear_among ≡ true
 unfolding clear_among
 every_clear = refl
 

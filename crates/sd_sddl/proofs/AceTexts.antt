@@ -20,9 +20,9 @@ use Rattle.sd_sddl.proofs.PlainTexts.{IsPlain, flags-plain, is_plain_byte, kind-
 
 -- 1. Texts with semicolons between them.
 
-abbrev joined : List ℕ → List (List ℕ) → List ℕ
-joined text [] = text
-joined text (t ∷ ts) = text ++ 59 ∷ joined t ts
+abbrev joined_fields : List ℕ → List (List ℕ) → List ℕ
+joined_fields text [] = text
+joined_fields text (t ∷ ts) = text ++ 59 ∷ joined_fields t ts
 
 cuts-before : (text rest : List ℕ) → IsPlain text
     → cut_at_semicolons (text ++ rest)
@@ -33,12 +33,12 @@ cuts-before (b ∷ bs) rest h =
     ap (with_byte 59 b) (cuts-before bs rest parts.1) ∙ rw (no_mark b parts.0).semicolon refl
 
 joined-cuts : (text : List ℕ) (ts : List (List ℕ)) → IsPlain text → AllByRecursion IsPlain ts
-    → cut_at_semicolons (joined text ts) ≡ record { first = text; others = ts }
+    → cut_at_semicolons (joined_fields text ts) ≡ record { first = text; others = ts }
 joined-cuts text [] h k =
     ap cut_at_semicolons (sym (append-nil text)) ∙ cuts-before text [] h
     ∙ ap (λ (t : List ℕ). record { first = t; others = [] }) (append-nil text)
 joined-cuts text (t ∷ ts) h k =
-    cuts-before text (59 ∷ joined t ts) h
+    cuts-before text (59 ∷ joined_fields t ts) h
     ∙ ap (λ (c : Cuts). record { first = text ++ []; others = c.first ∷ c.others }) (joined-cuts t ts k.0 k.1)
     ∙ ap (λ (x : List ℕ). record { first = x; others = t ∷ ts }) (append-nil text)
 
@@ -47,10 +47,10 @@ text-inner [] h = refl
 text-inner (b ∷ bs) h = let parts = and_parts (is_plain_byte b) _ h in rw (parts.0) (text-inner bs parts.1)
 
 joined-inner : (text : List ℕ) (ts : List (List ℕ)) → IsPlain text → AllByRecursion IsPlain ts
-    → list_all is_inner_byte (joined text ts) ≡ true
+    → list_all is_inner_byte (joined_fields text ts) ≡ true
 joined-inner text [] h k = text-inner text h
 joined-inner text (t ∷ ts) h k =
-    list_all-append is_inner_byte text (59 ∷ joined t ts) ∙ rw (text-inner text h) (joined-inner t ts k.0 k.1)
+    list_all-append is_inner_byte text (59 ∷ joined_fields t ts) ∙ rw (text-inner text h) (joined-inner t ts k.0 k.1)
 
 -- 2. The six fields.
 
@@ -60,16 +60,16 @@ other_texts naming a = flags_text a.flags ∷ rights_text a.kind a.mask ∷ obje
 
 -- what the parentheses hold
 abbrev pub inner_text : Naming → AccessControlEntry → List ℕ
-inner_text naming a = joined (kind_text a.kind) (other_texts naming a)
+inner_text naming a = joined_fields (kind_text a.kind) (other_texts naming a)
 
 -- a text after the joined ones
 abbrev before_text : List ℕ → List ℕ → List (List ℕ) → List ℕ
 before_text rest text [] = text ++ rest
 before_text rest text (t ∷ ts) = text ++ 59 ∷ before_text rest t ts
 
-joined-before : (rest text : List ℕ) (ts : List (List ℕ)) → joined text ts ++ rest ≡ before_text rest text ts
+joined-before : (rest text : List ℕ) (ts : List (List ℕ)) → joined_fields text ts ++ rest ≡ before_text rest text ts
 joined-before rest text [] = refl
-joined-before rest text (t ∷ ts) = append_assoc text (59 ∷ joined t ts) rest
+joined-before rest text (t ∷ ts) = append_assoc text (59 ∷ joined_fields t ts) rest
     ∙ ap (λ (x : List ℕ). text ++ 59 ∷ x) (joined-before rest t ts)
 
 marked : (text rest : List ℕ) → (text ++ 59 ∷ []) ++ rest ≡ text ++ 59 ∷ rest
@@ -78,7 +78,7 @@ marked text rest = append_assoc text (59 ∷ []) rest
 in_one : (k f r o i t : List ℕ)
     → ((40 ∷ k ++ 59 ∷ []) ++ (f ++ 59 ∷ []))
     ++ (((r ++ 59 ∷ []) ++ (o ++ 59 ∷ [])) ++ ((i ++ 59 ∷ []) ++ (t ++ 41 ∷ [])))
-    ≡ in_parentheses (joined k (f ∷ r ∷ o ∷ i ∷ t ∷ []))
+    ≡ in_parentheses (joined_fields k (f ∷ r ∷ o ∷ i ∷ t ∷ []))
 in_one k f r o i t =
     let last = (i ++ 59 ∷ []) ++ (t ++ 41 ∷ []) in
     let rights = append_assoc (r ++ 59 ∷ []) (o ++ 59 ∷ []) last ∙ marked r ((o ++ 59 ∷ []) ++ last) in

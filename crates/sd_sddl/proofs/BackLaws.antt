@@ -25,8 +25,8 @@ use Rattle.sd_sddl.specs.Printed.{ace_text, acl_text, dacl_text, group_text, kep
 use Rattle.sd_reader.proofs.ControlFlags.{flags-stay}
 use Rattle.sd_sddl.proofs.AceTexts.{ace_text-inner, inner_text}
 use Rattle.sd_sddl.proofs.FieldsBack.{front_text}
-use Rattle.sd_sddl.proofs.LineCuts.{IsPart, Part, in_parentheses, letter_of, line-parts, part_text}
-use Rattle.sd_sddl.proofs.LineFields.{line-fields, line-shaped, listed, never_twice, part_fields}
+use Rattle.sd_sddl.proofs.LineCuts.{IsPart, Part, in_parentheses, letter_of, line-parts, printed_part}
+use Rattle.sd_sddl.proofs.LineFields.{line-fields, line-shaped, listed_parts, never_twice, part_fields}
 use Rattle.sd_sddl.proofs.PartsBack.{acl-back, acl-is_part, acl_body, read-on, sid-back, sid-is_part, sid_body, with_acl_part, with_sid_part}
 
 -- 1. The parts that are printed.
@@ -35,21 +35,21 @@ use Rattle.sd_sddl.proofs.PartsBack.{acl-back, acl-is_part, acl_body, read-on, s
 abbrev dacl_of : ℕ → AclFlags
 dacl_of c = acl_flags which.Dacl c
 
-abbrev sacl_of : ℕ → AclFlags
-sacl_of c = acl_flags which.Sacl c
+abbrev sacl_flags_of : ℕ → AclFlags
+sacl_flags_of c = acl_flags which.Sacl c
 
 -- the parts, those that stand
 abbrev owner_part : Naming → Descriptor → List Part
-owner_part naming d = listed (head.Sid sid_part.Owner) (sid_body naming d.owner)
+owner_part naming d = listed_parts (head.Sid sid_part.Owner) (sid_body naming d.owner)
 
 abbrev group_part : Naming → Descriptor → List Part
-group_part naming d = listed (head.Sid sid_part.Group) (sid_body naming d.group)
+group_part naming d = listed_parts (head.Sid sid_part.Group) (sid_body naming d.group)
 
 abbrev dacl_part : Naming → Descriptor → List Part
-dacl_part naming d = listed (head.Acl which.Dacl) (acl_body naming (dacl_of d.control) d.dacl)
+dacl_part naming d = listed_parts (head.Acl which.Dacl) (acl_body naming (dacl_of d.control) d.dacl)
 
 abbrev sacl_part : Naming → Descriptor → List Part
-sacl_part naming d = listed (head.Acl which.Sacl) (acl_body naming (sacl_of d.control) d.sacl)
+sacl_part naming d = listed_parts (head.Acl which.Sacl) (acl_body naming (sacl_flags_of d.control) d.sacl)
 
 printed_parts : Naming → Descriptor → List Part
 printed_parts naming d = (owner_part naming d ++ group_part naming d) ++ (dacl_part naming d ++ sacl_part naming d)
@@ -65,12 +65,12 @@ printed_parts-are naming d h =
     let owner = sid-is_part naming sid_part.Owner d.owner h.owner in
     let group = sid-is_part naming sid_part.Group d.group h.group in
     let dacl = acl-is_part naming which.Dacl (dacl_of d.control) (dacl_present d.control) d.dacl h.dacl in
-    let sacl = acl-is_part naming which.Sacl (sacl_of d.control) (sacl_present d.control) d.sacl h.sacl in
+    let sacl = acl-is_part naming which.Sacl (sacl_flags_of d.control) (sacl_present d.control) d.sacl h.sacl in
     all-append IsPart _ _ (all-append IsPart _ _ owner group) (all-append IsPart _ _ dacl sacl)
 
 sid-text : (naming : Naming) (p : SidPart) (o : Option SecurityId)
-    → sid_text_of naming (letter_of (head.Sid p) ∷ 58 ∷ []) o ≡ flat_map part_text
-    (listed (head.Sid p) (sid_body naming o))
+    → sid_text_of naming (letter_of (head.Sid p) ∷ 58 ∷ []) o ≡ flat_map printed_part
+    (listed_parts (head.Sid p) (sid_body naming o))
 sid-text naming p None = refl
 sid-text naming p (Some s) =
     ap (λ (x : List ℕ). letter_of (head.Sid p) ∷ 58 ∷ x)
@@ -82,8 +82,8 @@ aces-text naming [] = refl
 aces-text naming (a ∷ others) = rw (ace_text-inner naming a, aces-text naming others) refl
 
 acl-text : (naming : Naming) (w : Which) (f : AclFlags) (part : AclPart)
-    → acl_text naming (letter_of (head.Acl w) ∷ 58 ∷ []) (front_text f) part ≡ flat_map part_text
-    (listed (head.Acl w) (acl_body naming f part))
+    → acl_text naming (letter_of (head.Acl w) ∷ 58 ∷ []) (front_text f) part ≡ flat_map printed_part
+    (listed_parts (head.Acl w) (acl_body naming f part))
 acl-text naming w f acl.Absent = refl
 acl-text naming w f acl.Null =
     let text = front_text f ++ codes "NO_ACCESS_CONTROL" in
@@ -94,25 +94,25 @@ acl-text naming w f (acl.List aces) =
     (sym (append-nil (front_text f ++ flat_map in_parentheses (map (inner_text naming) aces))))
 
 parts-text : (o g d s : List Part)
-    → flat_map part_text ((o ++ g) ++ (d ++ s)) ≡ (flat_map part_text o ++ flat_map part_text g)
-    ++ (flat_map part_text d ++ flat_map part_text s)
+    → flat_map printed_part ((o ++ g) ++ (d ++ s)) ≡ (flat_map printed_part o ++ flat_map printed_part g)
+    ++ (flat_map printed_part d ++ flat_map printed_part s)
 parts-text o g d s = rw (
-  flat_map-append part_text (o ++ g) (d ++ s),
-  flat_map-append part_text o g,
-  flat_map-append part_text d s,
+  flat_map-append printed_part (o ++ g) (d ++ s),
+  flat_map-append printed_part o g,
+  flat_map-append printed_part d s,
 ) refl
 
 same-texts : (o g d s o' g' d' s' : List ℕ) → o ≡ o' → g ≡ g' → d ≡ d' → s ≡ s' → (o ++ g) ++ (d ++ s) ≡ (o' ++ g')
     ++ (d' ++ s')
 same-texts o g d s o' g' d' s' e f h k = cc
 
-sddl-printed : (naming : Naming) (d : Descriptor) → sddl naming d ≡ flat_map part_text (printed_parts naming d)
+sddl-printed : (naming : Naming) (d : Descriptor) → sddl naming d ≡ flat_map printed_part (printed_parts naming d)
 unfolding printed_parts sddl owner_text group_text dacl_text sacl_text
 sddl-printed naming d =
     let owner = sid-text naming sid_part.Owner d.owner in
     let group = sid-text naming sid_part.Group d.group in
     let dacl = acl-text naming which.Dacl (dacl_of d.control) d.dacl in
-    let sacl = acl-text naming which.Sacl (sacl_of d.control) d.sacl in
+    let sacl = acl-text naming which.Sacl (sacl_flags_of d.control) d.sacl in
     same-texts _ _ _ _ _ _ _ _ owner group dacl sacl
     ∙ sym (parts-text (owner_part naming d) (group_part naming d) (dacl_part naming d) (sacl_part naming d))
 
@@ -140,7 +140,7 @@ abbrev whole : Option SecurityId → Option SecurityId → AclFlags → AclPart 
 whole o g df dacl sf sacl = with_acl_part which.Sacl sf sacl (with_acl_part which.Dacl df dacl (with_sids o g))
 
 abbrev whole_of : Descriptor → FieldsRead
-whole_of d = whole d.owner d.group (dacl_of d.control) d.dacl (sacl_of d.control) d.sacl
+whole_of d = whole d.owner d.group (dacl_of d.control) d.dacl (sacl_flags_of d.control) d.sacl
 
 sids-back : (naming : Naming) (d : Descriptor) → IsDescriptor d
     → read_fields naming.domain (flat_map part_fields (owner_part naming d ++ group_part naming d)) nothing_read ≡ Ok
@@ -160,7 +160,7 @@ acls-back naming d h =
     let sids = with_sids d.owner d.group in
     let with_dacl = with_acl_part which.Dacl (dacl_of d.control) d.dacl sids in
     let dacl = acl-back naming which.Dacl (dacl_of d.control) (dacl_present d.control) d.dacl sids h.dacl in
-    let sacl = acl-back naming which.Sacl (sacl_of d.control) (sacl_present d.control) d.sacl with_dacl h.sacl in
+    let sacl = acl-back naming which.Sacl (sacl_flags_of d.control) (sacl_present d.control) d.sacl with_dacl h.sacl in
     two-back naming.domain (dacl_part naming d) (sacl_part naming d) sids with_dacl (whole_of d) dacl sacl
 
 printed-back : (naming : Naming) (d : Descriptor) → IsDescriptor d
@@ -183,7 +183,8 @@ never-large : (d : Descriptor) → (whole_of d).large ≡ None
 never-large d =
     let sids = with_sids d.owner d.group in
     let with_dacl = with_acl_part which.Dacl (dacl_of d.control) d.dacl sids in
-    same-large which.Sacl (sacl_of d.control) d.sacl with_dacl ∙ same-large which.Dacl (dacl_of d.control) d.dacl sids
+    same-large which.Sacl (sacl_flags_of d.control) d.sacl with_dacl
+        ∙ same-large which.Dacl (dacl_of d.control) d.dacl sids
 
 -- 3. The descriptor.
 
@@ -222,21 +223,21 @@ dacl-bits c acl.Absent f e = rw e refl
 dacl-bits c acl.Null f e = rw e (omega arith)
 dacl-bits c (acl.List aces) f e = rw e (omega arith)
 
-sacl-bits : (c : ℕ) (part : AclPart) (f : AclFlags) → f ≡ flags_of part (sacl_of c)
+sacl-bits : (c : ℕ) (part : AclPart) (f : AclFlags) → f ≡ flags_of part (sacl_flags_of c)
     → flag_bits which.Sacl f + bit_if (is_present part) 0x10 ≡ kept_bits which.Sacl c part
 sacl-bits c acl.Absent f e = rw e refl
 sacl-bits c acl.Null f e = rw e (omega arith)
 sacl-bits c (acl.List aces) f e = rw e (omega arith)
 
 abbrev made_control : ℕ → AclPart → AclPart → ℕ
-made_control c dacl sacl = control_of (control_flags (flags_of sacl (sacl_of c)) (flags_of dacl (dacl_of c)))
+made_control c dacl sacl = control_of (control_flags (flags_of sacl (sacl_flags_of c)) (flags_of dacl (dacl_of c)))
     (is_present sacl) (is_present dacl)
 
 control-made : (c : ℕ) (dacl sacl : AclPart)
     → made_control c dacl sacl ≡ 0x8000 + kept_bits which.Dacl c dacl + kept_bits which.Sacl c sacl
 control-made c dacl sacl =
     let df = flags_of dacl (dacl_of c) in
-    let sf = flags_of sacl (sacl_of c) in
+    let sf = flags_of sacl (sacl_flags_of c) in
     let low = dacl-bits c dacl df refl in
     let high = sacl-bits c sacl sf refl in
     ap (λ (n : ℕ). n + 0x8000 + bit_if (is_present sacl) 0x10 + bit_if (is_present dacl) 0x4) (flags-stay sf df)
@@ -244,7 +245,7 @@ control-made c dacl sacl =
 
 whole-plain : (d : Descriptor) → described (whole_of d) ≡ plain d
 whole-plain d =
-    whole-described d.owner d.group (dacl_of d.control) d.dacl (sacl_of d.control) d.sacl
+    whole-described d.owner d.group (dacl_of d.control) d.dacl (sacl_flags_of d.control) d.sacl
     ∙ ap (λ (n : ℕ). record { control = n; rm = 0; owner = d.owner; group = d.group; sacl = d.sacl; dacl = d.dacl })
     (control-made d.control d.dacl d.sacl)
 
@@ -264,11 +265,11 @@ unfolding folded reads_as
 line-means domain text r s t e l = judged (is_shaped text) (has_twice (sections_of text).parts) _ r s t e l
 
 once : (naming : Naming) (d : Descriptor) → IsDescriptor d
-    → has_twice (sections_of (flat_map part_text (printed_parts naming d))).parts ≡ false
+    → has_twice (sections_of (flat_map printed_part (printed_parts naming d))).parts ≡ false
 unfolding printed_parts
 once naming d h =
     let dacl = acl_body naming (dacl_of d.control) d.dacl in
-    let sacl = acl_body naming (sacl_of d.control) d.sacl in
+    let sacl = acl_body naming (sacl_flags_of d.control) d.sacl in
     ap (λ (s : Sections). has_twice s.parts) (line-parts (printed_parts naming d) (printed_parts-are naming d h))
     ∙ never_twice (sid_body naming d.owner) (sid_body naming d.group) dacl sacl
 
@@ -281,6 +282,6 @@ folded-sddl naming d h =
     let fields = ap (λ (fs : List Field). read_fields naming.domain fs nothing_read) (line-fields ps are)
     ∙ printed-back naming d h in
     ap (λ (text : List ℕ). folded text naming.domain) (sddl-printed naming d)
-    ∙ line-means naming.domain (flat_map part_text ps) (whole_of d) (line-shaped ps are) (once naming d h) fields
+    ∙ line-means naming.domain (flat_map printed_part ps) (whole_of d) (line-shaped ps are) (once naming d h) fields
     (never-large d)
     ∙ ap (λ (x : Descriptor). Ok x) (whole-plain d)

@@ -33,8 +33,8 @@ in_parentheses inner = 40 ∷ inner ++ 41 ∷ []
 abbrev pub body_text : Body → List ℕ
 body_text b = b.text ++ flat_map in_parentheses b.inners
 
-abbrev pub part_text : Part → List ℕ
-part_text p = letter_of p.head ∷ 58 ∷ body_text p.body
+abbrev pub printed_part : Part → List ℕ
+printed_part p = letter_of p.head ∷ 58 ∷ body_text p.body
 
 -- plain bytes and semicolons
 abbrev pub is_inner_byte : ℕ → Bool
@@ -138,7 +138,7 @@ head-cut (head.Sid sid_part.Group) = record { pieces = λ rest. refl; paired = �
 head-cut (head.Acl which.Dacl) = record { pieces = λ rest. refl; paired = λ rest. refl }
 head-cut (head.Acl which.Sacl) = record { pieces = λ rest. refl; paired = λ rest. refl }
 
-part-cut : (p : Part) → IsPart p → IsCutInto (part_text p) (part_pieces p)
+part-cut : (p : Part) → IsPart p → IsCutInto (printed_part p) (part_pieces p)
 part-cut p h =
     let text = p.body.text in
     let inners = p.body.inners in
@@ -147,19 +147,19 @@ part-cut p h =
     cut-append (letter_of p.head ∷ 58 ∷ []) (body_text p.body) (byte (letter_of p.head) ∷ byte 58 ∷ [])
     (body_pieces p.body) (head-cut p.head) body
 
-line-cut : (ps : List Part) → AllByRecursion IsPart ps → IsCutInto (flat_map part_text ps) (flat_map part_pieces ps)
+line-cut : (ps : List Part) → AllByRecursion IsPart ps → IsCutInto (flat_map printed_part ps) (flat_map part_pieces ps)
 line-cut [] h = nothing-cut
-line-cut (p ∷ ps) h = cut-append (part_text p) (flat_map part_text ps) (part_pieces p) (flat_map part_pieces ps)
+line-cut (p ∷ ps) h = cut-append (printed_part p) (flat_map printed_part ps) (part_pieces p) (flat_map part_pieces ps)
     (part-cut p h.0) (line-cut ps h.1)
 
 line-pieces : (ps : List Part) → AllByRecursion IsPart ps
-    → (pieces_from false (flat_map part_text ps)).after ≡ flat_map part_pieces ps
+    → (pieces_from false (flat_map printed_part ps)).after ≡ flat_map part_pieces ps
 line-pieces ps h =
-    ap (λ (x : List ℕ). (pieces_from false x).after) (sym (append-nil (flat_map part_text ps)))
+    ap (λ (x : List ℕ). (pieces_from false x).after) (sym (append-nil (flat_map printed_part ps)))
     ∙ (line-cut ps h).pieces [] ∙ append-nil (flat_map part_pieces ps)
 
-pub line-paired : (ps : List Part) → AllByRecursion IsPart ps → is_paired false (flat_map part_text ps) ≡ true
-line-paired ps h = ap (is_paired false) (sym (append-nil (flat_map part_text ps))) ∙ (line-cut ps h).paired []
+pub line-paired : (ps : List Part) → AllByRecursion IsPart ps → is_paired false (flat_map printed_part ps) ≡ true
+line-paired ps h = ap (is_paired false) (sym (append-nil (flat_map printed_part ps))) ∙ (line-cut ps h).paired []
 
 -- 3. Sections.
 
@@ -242,5 +242,5 @@ line-sections (p ∷ ps) h =
     (append-nil (body_pieces p.body))
 
 pub line-parts : (ps : List Part) → AllByRecursion IsPart ps
-    → sections_of (flat_map part_text ps) ≡ record { before = []; parts = map section_of ps }
+    → sections_of (flat_map printed_part ps) ≡ record { before = []; parts = map section_of ps }
 line-parts ps h = ap sections (line-pieces ps h) ∙ line-sections ps h

@@ -9,7 +9,7 @@ use Rattle.sd_reader.specs.declared.line.SidPart.TheVariants as sid_part
 use Rattle.sd_reader.specs.declared.line.Slot.TheVariants as slot
 use Rattle.sd_reader.specs.Inner.FoldedReading.{Field, ace_fields, fields_in, fields_of}
 use Rattle.sd_reader.specs.Line.{Sections, ace, aces, are_aces, are_shaped, byte, front, has_aces, has_twice, is_acl_body, is_blank_piece, is_body, is_shaped, is_sid_body, sections_of, trim, trim_end}
-use Rattle.sd_sddl.proofs.LineCuts.{Body, IsInner, IsPart, MayHold, Part, body_pieces, line-paired, line-parts, part_text, section_of}
+use Rattle.sd_sddl.proofs.LineCuts.{Body, IsInner, IsPart, MayHold, Part, body_pieces, line-paired, line-parts, printed_part, section_of}
 use Rattle.sd_sddl.proofs.PlainTexts.{IsPlain, is_plain_byte, no_mark}
 
 -- 1. Shape.
@@ -39,25 +39,25 @@ parts-shaped : (ps : List Part) → AllByRecursion IsPart ps → are_shaped (map
 parts-shaped [] h = refl
 parts-shaped (p ∷ ps) h = rw (body-shaped p.head p.body h.0.plain h.0.inners h.0.may_hold, parts-shaped ps h.1) refl
 
-pub line-shaped : (ps : List Part) → AllByRecursion IsPart ps → is_shaped (flat_map part_text ps) ≡ true
+pub line-shaped : (ps : List Part) → AllByRecursion IsPart ps → is_shaped (flat_map printed_part ps) ≡ true
 line-shaped ps h =
-    ap (λ (b : Bool). b && (list_all is_blank_piece (sections_of (flat_map part_text ps)).before && are_shaped
-    (sections_of (flat_map part_text ps)).parts)) (line-paired ps h)
+    ap (λ (b : Bool). b && (list_all is_blank_piece (sections_of (flat_map printed_part ps)).before && are_shaped
+    (sections_of (flat_map printed_part ps)).parts)) (line-paired ps h)
     ∙ ap (λ (s : Sections). list_all is_blank_piece s.before && are_shaped s.parts) (line-parts ps h)
     ∙ parts-shaped ps h
 
 -- 2. Heads that stand once.
 
 -- a part that may stand
-abbrev pub listed : Head → Option Body → List Part
-listed h None = []
-listed h (Some b) = record { head = h; body = b } ∷ []
+abbrev pub listed_parts : Head → Option Body → List Part
+listed_parts h None = []
+listed_parts h (Some b) = record { head = h; body = b } ∷ []
 
 -- owner, group, DACL and SACL
 abbrev pub four_parts : Option Body → Option Body → Option Body → Option Body → List Part
 four_parts owner group dacl sacl =
-    (listed (head.Sid sid_part.Owner) owner ++ listed (head.Sid sid_part.Group) group)
-    ++ (listed (head.Acl which.Dacl) dacl ++ listed (head.Acl which.Sacl) sacl)
+    (listed_parts (head.Sid sid_part.Owner) owner ++ listed_parts (head.Sid sid_part.Group) group)
+    ++ (listed_parts (head.Acl which.Dacl) dacl ++ listed_parts (head.Acl which.Sacl) sacl)
 
 pub never_twice : (o g d s : Option Body) → has_twice (map section_of (four_parts o g d s)) ≡ false
 never_twice None None None None = refl
@@ -127,5 +127,5 @@ parts-fields [] h = refl
 parts-fields (p ∷ ps) h = rw (part-fields p.head p.body h.0.plain, parts-fields ps h.1) refl
 
 pub line-fields : (ps : List Part) → AllByRecursion IsPart ps
-    → fields_of (sections_of (flat_map part_text ps)).parts ≡ flat_map part_fields ps
+    → fields_of (sections_of (flat_map printed_part ps)).parts ≡ flat_map part_fields ps
 line-fields ps h = ap (λ (s : Sections). fields_of s.parts) (line-parts ps h) ∙ parts-fields ps h

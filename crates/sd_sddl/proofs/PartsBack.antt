@@ -31,7 +31,7 @@ use Rattle.sd_reader.proofs.FoldedSections.{read-append}
 use Rattle.sd_sddl.proofs.AceTexts.{field_at, inner-fields, inner_text, inner_text-is}
 use Rattle.sd_sddl.proofs.FieldsBack.{front_text, front_text-plain, null_front_text, null_front_text-plain, take-flags, take-inherited, take-kind, take-list, take-null, take-object, take-rights, take-sid, take-trustee}
 use Rattle.sd_sddl.proofs.LineCuts.{Body, IsInner, IsPart}
-use Rattle.sd_sddl.proofs.LineFields.{listed, part_fields, text-no_aces}
+use Rattle.sd_sddl.proofs.LineFields.{listed_parts, part_fields, text-no_aces}
 use Rattle.sd_sddl.proofs.PlainTexts.{trustee-plain}
 
 -- 1. Fields one after the other.
@@ -43,19 +43,20 @@ pub read-on : (domain : Option SecurityId) (fs gs : List Field) (r after : Field
 read-on domain fs gs r after e = read-append domain fs gs r
     ∙ ap (λ (t : Result FieldsRead SddlFault). and_then t (read_fields domain gs)) e
 
-Takes : Option SecurityId → Field → FieldsRead → FieldsRead → Type 0
-Takes domain f r after = take_field domain r f.slot f.text ≡ Ok after
+TakesField : Option SecurityId → Field → FieldsRead → FieldsRead → Type 0
+TakesField domain f r after = take_field domain r f.slot f.text ≡ Ok after
 
-read-one : (domain : Option SecurityId) (f : Field) (r after : FieldsRead) → Takes domain f r after
+read-one : (domain : Option SecurityId) (f : Field) (r after : FieldsRead) → TakesField domain f r after
     → read_fields domain (f ∷ []) r ≡ Ok after
-unfolding Takes
+unfolding TakesField
 read-one domain f r after e = ap (λ (t : Result FieldsRead SddlFault). and_then t (read_fields domain [])) e
 
 read-six : (domain : Option SecurityId) (k f m o i s : Field) (r0 r1 r2 r3 r4 r5 r6 : FieldsRead)
-    → Takes domain k r0 r1 → Takes domain f r1 r2 → Takes domain m r2 r3 → Takes domain o r3 r4 → Takes domain i r4 r5
-    → Takes domain s r5 r6
+    → TakesField domain k r0 r1 → TakesField domain f r1 r2 → TakesField domain m r2 r3 → TakesField domain o r3 r4
+    → TakesField domain i r4 r5
+    → TakesField domain s r5 r6
     → read_fields domain (k ∷ f ∷ m ∷ o ∷ i ∷ s ∷ []) r0 ≡ Ok r6
-unfolding Takes
+unfolding TakesField
 read-six domain k f m o i s r0 r1 r2 r3 r4 r5 r6 h1 h2 h3 h4 h5 h6 = rw (h1, h2, h3, h4, h5, h6) refl
 
 -- 2. An ACE.
@@ -97,7 +98,7 @@ ace-back : (naming : Naming) (w : Which) (done : List AccessControlEntry) (a : A
     → IsAce a → acl_size (done ++ a ∷ []) < 2 ^ 16
     → read_fields naming.domain (ace_fields (inner_text naming a)) (opened w done r) ≡ Ok
     (opened w (done ++ a ∷ []) (with_fields (fields_of_ace a) r))
-unfolding Takes
+unfolding TakesField
 ace-back naming w done a r h small =
     let domain = naming.domain in
     let at = field_at naming a in
@@ -165,16 +166,16 @@ with_sid_part p None r = r
 with_sid_part p (Some s) r = with_owner_or_group p r s
 
 pub sid-back : (naming : Naming) (p : SidPart) (o : Option SecurityId) (r : FieldsRead) → IfSome o IsSid
-    → read_fields naming.domain (flat_map part_fields (listed (head.Sid p) (sid_body naming o))) r ≡ Ok
+    → read_fields naming.domain (flat_map part_fields (listed_parts (head.Sid p) (sid_body naming o))) r ≡ Ok
     (with_sid_part p o r)
-unfolding Takes
+unfolding TakesField
 sid-back naming p None r h = refl
 sid-back naming p (Some s) r h =
     read-one naming.domain (record { slot = slot.Sid p; text = trustee_text naming s }) r (with_owner_or_group p r s)
     (take-sid naming r p s h)
 
 pub sid-is_part : (naming : Naming) (p : SidPart) (o : Option SecurityId) → IfSome o IsSid
-    → AllByRecursion IsPart (listed (head.Sid p) (sid_body naming o))
+    → AllByRecursion IsPart (listed_parts (head.Sid p) (sid_body naming o))
 sid-is_part naming p None h = tt
 sid-is_part naming p (Some s) h = (record { plain = trustee-plain naming s h; inners = tt; may_hold = refl }, tt)
 
@@ -202,9 +203,9 @@ first-opened which.Dacl f r t = refl
 
 pub acl-back : (naming : Naming) (w : Which) (f : AclFlags) (present : Bool) (part : AclPart) (r : FieldsRead)
     → IsAclPart present part
-    → read_fields naming.domain (flat_map part_fields (listed (head.Acl w) (acl_body naming f part))) r ≡ Ok
+    → read_fields naming.domain (flat_map part_fields (listed_parts (head.Acl w) (acl_body naming f part))) r ≡ Ok
     (with_acl_part w f part r)
-unfolding Takes
+unfolding TakesField
 acl-back naming w f present acl.Absent r h = refl
 acl-back naming w f present acl.Null r h =
     let has = has_aces (map byte (null_front_text f) ++ []) in
@@ -230,7 +231,7 @@ inners-are naming (a ∷ others) h = (inner_text-is naming a h.0, inners-are nam
 
 pub acl-is_part : (naming : Naming) (w : Which) (f : AclFlags) (present : Bool) (part : AclPart)
     → IsAclPart present part
-    → AllByRecursion IsPart (listed (head.Acl w) (acl_body naming f part))
+    → AllByRecursion IsPart (listed_parts (head.Acl w) (acl_body naming f part))
 acl-is_part naming w f present acl.Absent h = tt
 acl-is_part naming w f present acl.Null h = (record { plain = null_front_text-plain f; inners = tt; may_hold = tt }, tt)
 acl-is_part naming w f present (acl.List aces) h =

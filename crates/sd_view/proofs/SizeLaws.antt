@@ -29,23 +29,23 @@ abbrev first_of : Extent → ℕ
 first_of None = 20
 first_of (Some p) = p.0
 
-abbrev end_of : Extent → ℕ
-end_of None = 20
-end_of (Some p) = p.1
+abbrev extent_end : Extent → ℕ
+extent_end None = 20
+extent_end (Some p) = p.1
 
-record Holds (e : Extent) (n total : ℕ) : Type 0 where
+record HoldsExtent (e : Extent) (n total : ℕ) : Type 0 where
   low : 20 ≤ first_of e
-  room : first_of e + n ≤ end_of e
-  inside : end_of e ≤ total
+  room : first_of e + n ≤ extent_end e
+  inside : extent_end e ≤ total
 
 sid-held : (bytes : List ℕ) (offset : ℕ) (o : Option SecurityId) → 20 ≤ length bytes → ShowsSid bytes offset o
-    → Holds (sid_extent offset o) (sid_part_size o) (length bytes)
+    → HoldsExtent (sid_extent offset o) (sid_part_size o) (length bytes)
 sid-held bytes offset None header h = record { low = omega arith; room = omega arith; inside = header }
 sid-held bytes offset (Some s) header h = record { low = h.0; room = omega arith; inside = sid-room offset bytes s h.1 }
 
 acl-held : (bytes : List ℕ) (present : Bool) (offset : ℕ) (p : AclPart) → 20 ≤ length bytes
     → ShowsAclPart bytes present offset p
-    → Holds (acl_extent bytes offset p) (acl_part_size p) (length bytes)
+    → HoldsExtent (acl_extent bytes offset p) (acl_part_size p) (length bytes)
 acl-held bytes present offset acl.Absent header h = record { low = omega arith; room = omega arith; inside = header }
 acl-held bytes present offset acl.Null header h = record { low = omega arith; room = omega arith; inside = header }
 acl-held bytes present offset (acl.List aces) header h =
@@ -53,15 +53,16 @@ acl-held bytes present offset (acl.List aces) header h =
     record { low = h.1; room = omega (arith, found.0); inside = found.1 }
 
 -- of two extents that share no byte one ends before the other begins
-follows : (e f : Extent) → Apart e f → 20 ≤ first_of e → 20 ≤ first_of f → (end_of e ≤ first_of f)
-    ⊎ (end_of f ≤ first_of e)
+follows : (e f : Extent) → Apart e f → 20 ≤ first_of e → 20 ≤ first_of f → (extent_end e ≤ first_of f)
+    ⊎ (extent_end f ≤ first_of e)
 follows None f h low high = inl high
 follows (Some p) None h low high = inr low
 follows (Some p) (Some q) h low high = h
 
 -- so four extents, of which no two share a byte, have room for four parts one after the other
-four-fit : (e f g h : Extent) (k l m n total : ℕ) → Holds e k total → Holds f l total → Holds g m total
-    → Holds h n total
+four-fit : (e f g h : Extent) (k l m n total : ℕ) → HoldsExtent e k total → HoldsExtent f l total
+    → HoldsExtent g m total
+    → HoldsExtent h n total
     → AreApart (record { owner = e; group = f; sacl = g; dacl = h }) → 20 + k + l + m + n ≤ total
 four-fit e f g h k l m n total owner group sacl dacl apart =
     let owner_group = follows e f apart.owner_group owner.low group.low in
