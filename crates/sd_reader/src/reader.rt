@@ -1,6 +1,6 @@
 //! A line, read a byte at a time.
 
-ghost use Rattle.std.specs.Prelude.{◌≡◌, ◌≤◌, ◌==◌, ℕ, List, [], ◌∷◌, ◌++◌, length, take, ◌||◌, if◌then◌else◌, true, false, Option, Some, None, Ok, Err, IfOk, IfSome, MatchResult};
+ghost use Rattle.std.specs.Prelude.{◌≡◌, ◌≤◌, ℕ, List, [], ◌∷◌, ◌++◌, length, take, ◌||◌, if◌then◌else◌, true, false, Option, Some, None, Ok, Err, IfOk, IfSome, MatchResult};
 ghost use Rattle.std.specs.Option.{option_copied};
 ghost use Rattle.sd_core.specs.Sid.{IsSid, SecurityId};
 ghost use Rattle.sd_view.specs.Descriptor.{IsDescriptor, Shows};
@@ -175,9 +175,7 @@ impl SddlReader {
     fn put_text(&mut self, b: u8)
         requires here { is_inside self.old.state ≡ false }
         requires calm { IsCalm self.old }
-        requires open { (b == 40) ≡ false }
-        requires close { (b == 41) ≡ false }
-        requires colon { (b == 58) ≡ false }
+        requires text { IsText b }
         ensures answers { (t : FieldsRead) (rest : List ℕ) → head_at (byte b) (pieces_from false rest).after ≡ None → answer_at self.new t rest ≡ answer_at self.old t (b ∷ rest) }
         ensures calm { IsCalm self.new }
         ensures same { self.new ≡ record self.old { sound = self.new.sound; field = self.new.field } }

@@ -1,23 +1,14 @@
 use Rattle.std.proofs.Common.{true, refl, sym, ◌∙◌}
-use Rattle.sd_reader.specs.declared.line.Head.TheVariants as head
 use Rattle.sd_reader.specs.Inner.Progress.{result_or}
 use Rattle.sd_reader.proofs.Steps.{open_first, open_next, open_nowhere, unsound}
-use Rattle.sd_reader.proofs.FitLaws.{fits-first, fits-next, itself-or, none-before, read-ok}
+use Rattle.sd_reader.proofs.FitLaws.{can-take-front, fits-first, fits-next, none-before, read-ok}
 use Rattle.sd_reader.proofs.reader.SddlReader.begin_ace.Goals as goal
 
 pub end_field-requires : goal.end_field-requires
 end_field-requires c =
-    let k = c.requires.held.1 in
     record {
       clean = c.requires.calm.held;
-      held = (
-        c.requires.held.0,
-        λ none. (
-          k.fields none,
-          (rw (c.in-AclFlags.is) at (k.fits none)).lacks (head.Acl c.in-AclFlags.which)
-              (itself-or _ (head.Acl c.in-AclFlags.which)),
-        ),
-      );
+      held = can-take-front c.args.self.now _ c.in-AclFlags.which true c.in-AclFlags.is c.requires.held;
     }
 
 pub returns-in-AclFlags-clause-answers : goal.returns-in-AclFlags-clause-answers
