@@ -40,7 +40,7 @@ pub struct SddlReader {
 
 impl SddlReader {
     ghost use Rattle.sd_reader.specs.SddlReading.{IsReading, ReadsSddl};
-    ghost use Rattle.sd_reader.specs.Inner.Reads.{Ends, FedTo, HasRead, LineHasRead, IsCalm, IsReader, IsText, Reads, Steps, StepsOn, StepsText, answer_at, waiting};
+    ghost use Rattle.sd_reader.specs.Inner.Reads.{CanStep, Ends, FedTo, HasRead, LineHasRead, IsCalm, IsReader, IsText, Reads, Steps, StepsOn, StepsText, answer_at, waiting};
 
     /// A reader that was fed nothing.
     pub fn new(domain: Option<Sid>, buf: &mut SdBuf) -> Self
@@ -67,8 +67,7 @@ impl SddlReader {
     // A byte inside parentheses.
     fn put_inside(&mut self, buf: &mut SdBuf, field: AceField, byte: u8)
         requires here { self.old.state ≡ State.Ace field }
-        requires calm { IsCalm self.old }
-        requires held { (t : FieldsRead) × LineHasRead self.old buf.old t }
+        requires ready { CanStep self.old buf.old }
         ensures answers { Steps self.old buf.old (byte ∷ []) self.new buf.new }
         ensures calm { IsCalm self.new }
         ensures pending { self.new.pending ≡ self.old.pending }
@@ -84,8 +83,7 @@ impl SddlReader {
     // The parenthesis that ends an ACE.
     fn end_ace(&mut self, buf: &mut SdBuf, field: AceField)
         requires here { self.old.state ≡ State.Ace field }
-        requires calm { IsCalm self.old }
-        requires held { (t : FieldsRead) × LineHasRead self.old buf.old t }
+        requires ready { CanStep self.old buf.old }
         ensures answers { Steps self.old buf.old (41 ∷ []) self.new buf.new }
         ensures calm { IsCalm self.new }
         ensures pending { self.new.pending ≡ self.old.pending }
@@ -107,8 +105,7 @@ impl SddlReader {
     // The semicolon that ends a field of an ACE.
     fn end_ace_field(&mut self, buf: &mut SdBuf, field: AceField)
         requires here { self.old.state ≡ State.Ace field }
-        requires calm { IsCalm self.old }
-        requires held { (t : FieldsRead) × LineHasRead self.old buf.old t }
+        requires ready { CanStep self.old buf.old }
         ensures answers { Steps self.old buf.old (59 ∷ []) self.new buf.new }
         ensures calm { IsCalm self.new }
         ensures pending { self.new.pending ≡ self.old.pending }
@@ -130,8 +127,7 @@ impl SddlReader {
     // A byte outside parentheses that begins no head.
     fn put_outside(&mut self, buf: &mut SdBuf, byte: u8)
         requires here { is_inside self.old.state ≡ false }
-        requires calm { IsCalm self.old }
-        requires held { (t : FieldsRead) × LineHasRead self.old buf.old t }
+        requires ready { CanStep self.old buf.old }
         ensures answers { StepsText self.old buf.old byte self.new buf.new }
         ensures calm { IsCalm self.new }
         ensures pending { self.new.pending ≡ self.old.pending }
@@ -146,8 +142,7 @@ impl SddlReader {
     // The parenthesis that begins an ACE.
     fn begin_ace(&mut self, buf: &mut SdBuf)
         requires here { is_inside self.old.state ≡ false }
-        requires calm { IsCalm self.old }
-        requires held { (t : FieldsRead) × LineHasRead self.old buf.old t }
+        requires ready { CanStep self.old buf.old }
         ensures answers { Steps self.old buf.old (40 ∷ []) self.new buf.new }
         ensures calm { IsCalm self.new }
         ensures pending { self.new.pending ≡ self.old.pending }
@@ -193,9 +188,8 @@ impl SddlReader {
     // A head, of a letter that waited and its colon.
     fn begin_part(&mut self, buf: &mut SdBuf, letter: u8, head: Head)
         requires here { is_inside self.old.state ≡ false }
-        requires calm { IsCalm self.old }
+        requires ready { CanStep self.old buf.old }
         requires letter { head_named letter ≡ Some head }
-        requires held { (t : FieldsRead) × LineHasRead self.old buf.old t }
         ensures answers { Steps self.old buf.old (letter ∷ 58 ∷ []) self.new buf.new }
         ensures calm { IsCalm self.new }
         ensures pending { self.new.pending ≡ self.old.pending }
@@ -223,8 +217,7 @@ impl SddlReader {
     // The end of the part at hand, with no ACE since its head or none open.
     fn end_part(&mut self, buf: &mut SdBuf)
         requires here { is_inside self.old.state ≡ false }
-        requires calm { IsCalm self.old }
-        requires held { (t : FieldsRead) × LineHasRead self.old buf.old t }
+        requires ready { CanStep self.old buf.old }
         ensures read { (t : FieldsRead) → LineHasRead self.old buf.old t → (u : FieldsRead) × (self.new.fault ≡ None → HasRead self.new.fields buf.new u)
             × (result_or u self.new.fault ≡ ended_with self.old.fields.domain self.old.state self.old.field (result_or t self.old.fault)) }
         ensures cleared { self.new.field ≡ no_text }
@@ -253,9 +246,8 @@ impl SddlReader {
     // A byte outside parentheses with none that waits before it.
     fn feed_alone(&mut self, buf: &mut SdBuf, byte: u8)
         requires here { is_inside self.old.state ≡ false }
-        requires calm { IsCalm self.old }
+        requires ready { CanStep self.old buf.old }
         requires pending { self.old.pending ≡ None }
-        requires held { (t : FieldsRead) × LineHasRead self.old buf.old t }
         ensures answers { StepsOn self.old buf.old (byte ∷ []) self.new buf.new }
         ensures reader { IsReader self.new buf.new }
     {
@@ -269,10 +261,9 @@ impl SddlReader {
     // A byte outside parentheses after a letter that waits.
     fn feed_after(&mut self, buf: &mut SdBuf, letter: u8, byte: u8)
         requires here { is_inside self.old.state ≡ false }
-        requires calm { IsCalm self.old }
+        requires ready { CanStep self.old buf.old }
         requires pending { self.old.pending ≡ Some letter }
         requires letter { IsText letter }
-        requires held { (t : FieldsRead) × LineHasRead self.old buf.old t }
         ensures answers { StepsOn self.old buf.old (letter ∷ byte ∷ []) self.new buf.new }
         ensures reader { IsReader self.new buf.new }
     {
@@ -385,8 +376,7 @@ impl SddlReader {
 
     // The end of a line with no byte that waits.
     fn finish_alone(mut self, buf: &mut SdBuf) -> Result<(), SddlFault>
-        requires calm { IsCalm self }
-        requires held { (t : FieldsRead) × LineHasRead self buf.old t }
+        requires { CanStep self buf.old }
         ensures exact { (t : FieldsRead) → LineHasRead self buf.old t → MatchResult (finished (answer_at self t []))
             (λ d. (result ≡ Ok tt) × Shows buf.new d)
             (λ e. (result ≡ Err e) × (buf.new ≡ [])) }
@@ -403,8 +393,7 @@ impl SddlReader {
 
     // What a line gives that ends here, with no byte that waits.
     fn end_line(mut self, buf: &mut SdBuf) -> Result<(), SddlFault>
-        requires calm { IsCalm self }
-        requires held { (t : FieldsRead) × LineHasRead self buf.old t }
+        requires { CanStep self buf.old }
         ensures { (t : FieldsRead) → LineHasRead self buf.old t → Ends (finished (answer_at self t [])) result buf.new }
     {
         if !self.sound {

@@ -7,8 +7,8 @@ use Rattle.sd_reader.proofs.reader.SddlReader.begin_ace.Goals as goal
 pub end_field-requires : goal.end_field-requires
 end_field-requires c =
     record {
-      clean = c.requires.calm.held;
-      held = can-take-front c.args.self.now _ c.in-AclFlags.which true c.in-AclFlags.is c.requires.held;
+      clean = c.requires.ready.calm.held;
+      held = can-take-front c.args.self.now _ c.in-AclFlags.which true c.in-AclFlags.is c.requires.ready.held;
     }
 
 pub returns-in-AclFlags-clause-answers : goal.returns-in-AclFlags-clause-answers
@@ -24,7 +24,7 @@ returns-in-AclFlags-clause-answers c = λ t k.
       },
       λ rest. rw (c.in-AclFlags.is, e.2, c.end_field.ensures.cleared, c.end_field.ensures.domain)
           (open_first s.fields.domain s.sound s.twice s.seen (result_or t s.fault) s.field rest c.in-AclFlags.which
-          c.requires.calm.held),
+          c.requires.ready.calm.held),
     )
 
 pub returns-in-AfterAce-clause-answers : goal.returns-in-AfterAce-clause-answers
@@ -47,6 +47,6 @@ returns-in_default c =
             ∙ sym (open_nowhere s.fields.domain s.sound s.twice s.seen (result_or t s.fault) s.field rest s.state
             c.requires.here c.in_default.not-AclFlags c.in_default.not-AfterAce),
       );
-      calm = record { held = c.requires.calm.held; gap = c.requires.calm.gap };
+      calm = record { held = c.requires.ready.calm.held; gap = c.requires.ready.calm.gap };
       pending = refl;
     }

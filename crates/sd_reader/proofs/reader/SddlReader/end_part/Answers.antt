@@ -5,8 +5,8 @@ use Rattle.sd_reader.proofs.reader.SddlReader.end_part.Goals as goal
 pub end_field-requires-in-AclFlags : goal.end_field-requires-in-AclFlags
 end_field-requires-in-AclFlags c =
     record {
-      clean = c.requires.calm.held;
-      held = can-take-front c.args.self.now _ c.in-AclFlags.which false c.in-AclFlags.is c.requires.held;
+      clean = c.requires.ready.calm.held;
+      held = can-take-front c.args.self.now _ c.in-AclFlags.which false c.in-AclFlags.is c.requires.ready.held;
     }
 
 pub returns-in-Sid-clause-read : goal.returns-in-Sid-clause-read
