@@ -1,10 +1,10 @@
 -- What a finished builder's buffer shows.
-use Rattle.std.proofs.Common.{◌≡◌, ◌≤◌, ◌<◌, ℕ, ◌+◌, ◌/◌, ◌%◌, ◌^◌, eqb, Bool, true, false, List, ◌++◌, length, drop, Option, Some, None, refl, sym, ap, subst, ◌∙◌, arith, length-append, length-drop}
+use Rattle.std.proofs.Common.{◌≡◌, ◌≤◌, ◌<◌, ℕ, ◌+◌, ◌^◌, Bool, List, ◌++◌, length, drop, Option, Some, None, refl, sym, ap, subst, ◌∙◌, arith, length-append, length-drop}
 use Rattle.std.specs.Prelude.{is_some, unwrap_or}
 use Rattle.sd_core.specs.Sid.{SecurityId}
 use Rattle.sd_view.specs.AclLayout.{acl_bytes}
 use Rattle.sd_binary.specs.Builds.{AclStands, Builds, PartsStand, SidStands, acl_extent_of}
-use Rattle.sd_view.specs.Control.{bit_if, control_of}
+use Rattle.sd_view.specs.Control.{control_of}
 use Rattle.sd_view.specs.Descriptor.{Shows, ShowsAclPart, ShowsSid, acl_extent, dacl_at, group_at, owner_at, sacl_at}
 use Rattle.sd_binary.specs.Draft.{AclIsWritten, Draft, IsWritten, built, is_present}
 use Rattle.sd_view.specs.Layout.{header_bytes}
@@ -12,30 +12,10 @@ use Rattle.sd_view.specs.declared.acl.AclPart.{AclPart}
 use Rattle.sd_view.specs.declared.acl.AclPart.TheVariants as acl
 use Rattle.sd_binary.specs.declared.builder.Builder.{Builder}
 use Rattle.sd_view.proofs.AclLayoutLaws.{acl_bytes-shows}
+use Rattle.sd_view.proofs.ControlLaws.{control-bits}
 use Rattle.sd_binary.proofs.Building.{closed-from}
 use Rattle.sd_view.proofs.LayoutLaws.{acl_size-read, header-control, header-dacl, header-group, header-owner, header-revision, header-rm, header-sacl}
 use Rattle.sd_binary.proofs.Standing.{acl-kept, headed, room, sid-kept, sid-small}
-
--- the bits of the control word
-record ControlBits (word : ℕ) (s d : Bool) : Type 0 where
-  small : word < 2 ^ 16
-  relative : word / 0x8000 % 2 ≡ 1
-  sacl : word / 0x10 % 2 ≡ bit_if s 1
-  dacl : word / 0x4 % 2 ≡ bit_if d 1
-
-control-bits : (flags : ℕ) (sacl dacl : Bool) → flags < 2 ^ 16 → ControlBits (control_of flags sacl dacl) sacl dacl
-control-bits flags true true
-    h = record { small = omega arith; relative = omega arith; sacl = omega arith; dacl = omega arith }
-control-bits flags true false
-    h = record { small = omega arith; relative = omega arith; sacl = omega arith; dacl = omega arith }
-control-bits flags false true
-    h = record { small = omega arith; relative = omega arith; sacl = omega arith; dacl = omega arith }
-control-bits flags false false
-    h = record { small = omega arith; relative = omega arith; sacl = omega arith; dacl = omega arith }
-
-bit-test : (n : ℕ) (x : Bool) → n ≡ bit_if x 1 → eqb n 1 ≡ x
-bit-test n true e = rw e refl
-bit-test n false e = rw e refl
 
 -- what stands is shown
 sid-shown : (bytes : List ℕ) (offset : ℕ) (o : Option SecurityId) → SidStands bytes offset o → ShowsSid bytes offset o
@@ -118,14 +98,14 @@ shows b bytes t flags rm small h =
       revision = header-revision rm word b.owner b.group s d rest;
       rm = header-rm rm word b.owner b.group s d rest;
       control = header-control rm word b.owner b.group s d rest bits.small;
-      relative = bit-test _ true bits.relative;
+      relative = bits.relative;
       owner = sid-read new b.owner (owner_at new) t.owner owner
           (sid-shown new b.owner t.owner (sid-kept bytes new b.owner t.owner keep h.owner));
       group = sid-read new b.group (group_at new) t.group group
           (sid-shown new b.group t.group (sid-kept bytes new b.group t.group keep h.group));
-      sacl = acl-read new (is_present t.sacl) _ s (sacl_at new) t.sacl (bit-test _ (is_present t.sacl) bits.sacl) sacl
+      sacl = acl-read new (is_present t.sacl) _ s (sacl_at new) t.sacl bits.sacl sacl
           sacl_stands.0;
-      dacl = acl-read new (is_present t.dacl) _ d (dacl_at new) t.dacl (bit-test _ (is_present t.dacl) bits.dacl) dacl
+      dacl = acl-read new (is_present t.dacl) _ d (dacl_at new) t.dacl bits.dacl dacl
           dacl_stands.0;
       apart = rw (owner, group, sacl_extent, dacl_extent) h.apart;
     }

@@ -1,6 +1,6 @@
 -- A step of what a command settles: an option that reads, or one that does not.
 use Rattle.std.proofs.Common.{◌≡◌, Result, Ok, Err, ap, ◌∙◌, sym}
-use Rattle.sd_command.specs.Settings.{and_then}
+use Rattle.sd_rights.specs.Chains.{and_then}
 use Rattle.sd_command.specs.declared.settings.UsageFault.{UsageFault}
 
 module _ {A B : Type 0} {read given : Result A UsageFault} {settled : Result B UsageFault}

@@ -10,7 +10,7 @@ use sd_sink::{Print, Printer, Sink, SinkFault};
 use uuid::Uuid;
 
 /// The characters of a GUID's text: 32 digits and four hyphens.
-const TEXT_SIZE: usize = 36;
+pub const GUID_TEXT_SIZE: usize = 36;
 
 /// The GUID of these bytes (MS-DTYP 2.3.4.2): its first three fields stand low byte first.
 pub fn guid_read(bytes: &[u8; 16]) -> Uuid
@@ -50,7 +50,7 @@ pub fn print_guid<P: Print>(guid: &Uuid, out: &mut P)
     ensures back { guid_reads (guid_text guid.now) ≡ Some guid.now }
     ensures short { length (guid_text guid.now) ≡ 36 }
 {
-    let mut buffer = [0; TEXT_SIZE];
+    let mut buffer = [0; GUID_TEXT_SIZE];
     let text = guid.hyphenated().encode_lower(&mut buffer);
     out.put(text.as_bytes());
 }
@@ -61,7 +61,7 @@ pub fn print_guid<P: Print>(guid: &Uuid, out: &mut P)
 pub fn guid_from_text(text: &[u8]) -> Option<Uuid>
     ensures { result ≡ guid_reads text.now }
 {
-    if text.len() != TEXT_SIZE {
+    if text.len() != GUID_TEXT_SIZE {
         return None;
     }
     Uuid::try_parse_ascii(text).ok()

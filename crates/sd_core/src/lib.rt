@@ -11,8 +11,8 @@ mod sid_text;
 mod token;
 mod usual_sid;
 
-pub use ace::Ace;
-pub use guid::{guid_bytes, guid_from_text, guid_read, print_guid, put_guid};
+pub use ace::{Ace, UNUSED_FLAG};
+pub use guid::{GUID_TEXT_SIZE, guid_bytes, guid_from_text, guid_read, print_guid, put_guid};
 pub use naming::Naming;
 pub use sd_rights::{
     AceKind, Mapping, carries, flags_from_text, print_decimal, print_flags, print_hex,

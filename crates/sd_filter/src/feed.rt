@@ -3,8 +3,8 @@ ghost use Rattle.std.specs.Prelude.{◌≡◌, ◌+◌, ◌<◌, ◌≤◌, ◌^
 ghost use Rattle.std.specs.Prelude.{MatchResult, IfOk, IsOk, Ok, false, unwrap_or, IfSome};
 ghost use Rattle.sd_sink.specs.Sink.{SinkTold};
 ghost use Rattle.sd_core.specs.Token.{TokenShown};
-ghost use Rattle.sd_filter.specs.Lines.{ended, has_lf, lines, line_feed};
-ghost use Rattle.sd_filter.specs.Inner.Running.{Answered, Failed, HasRoom, Holds, HoldsText, IsReady, RoseWithin, AfterBytes};
+ghost use Rattle.sd_filter.specs.Lines.{has_lf, lines, line_feed};
+ghost use Rattle.sd_filter.specs.Inner.Running.{Answered, Failed, Feeds, HasRoom, Holds, HoldsText, IsReady, RoseWithin, AfterBytes};
 ghost use Rattle.sd_filter.specs.Told.{sink_of};
 
 use crate::answer::put_answer;
@@ -54,11 +54,8 @@ pub fn feed_all<W: Drain>(
 ) -> Result<bool, SinkFault>
     requires ready { IsReady state.old.line }
     requires room { HasRoom report.old (length piece.now) }
-    ensures fed { (token0 : TokenShown) (sink0 : SinkTold) (got : List ℕ)
-        → AfterBytes token0 sink0 got state.old token.old (sink_of (W.told drain.old)) report.old
-        → MatchResult result
-        (λ _. AfterBytes token0 sink0 (got ++ piece.now) state.new token.new (sink_of (W.told drain.new)) report.new)
-        (λ _. Failed state.new.job token0 sink0 (ended (got ++ piece.now)) token.new (sink_of (W.told drain.new))) }
+    ensures fed { Feeds piece.now state.old token.old (sink_of (W.told drain.old)) report.old
+        state.new token.new (sink_of (W.told drain.new)) report.new result }
     ensures ended { IfOk result (λ some. some ≡ has_lf piece.now) }
     ensures quiet { result ≡ Ok false → (W.told drain.new ≡ W.told drain.old) × (report.new.lines ≡ report.old.lines) }
     ensures ready { IsOk result → IsReady state.new.line }

@@ -61,7 +61,10 @@ impl Line {
     ghost use Rattle.sd_filter.specs.Inner.Running.{Holds, HoldsText, IsReady, Leaves};
 
     /// A line over these buffers, whatever they hold. It is to be started.
-    pub fn over(read: SdBuf, held: TextBuf) -> Line {
+    pub fn over(read: SdBuf, held: TextBuf) -> Line
+        ensures buffers { (result.read ≡ read) × (result.held ≡ held) }
+        ensures untouched { (result.count ≡ 0) × (result.cr ≡ false) }
+    {
         Line {
             reader: LineReader::Base64,
             read,

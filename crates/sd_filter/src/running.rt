@@ -1,12 +1,12 @@
 // A run from the first read to the last flush.
-ghost use Rattle.std.specs.Prelude.{◌≡◌, ◌⊎◌, ◌+◌, ◌<◌, ◌≤◌, ◌^◌, ℕ, List, ◌++◌, [], length, true, IsOk, MatchResult};
+ghost use Rattle.std.specs.Prelude.{◌≡◌, ◌⊎◌, ◌+◌, ◌<◌, ◌≤◌, ◌^◌, ℕ, List, length, true, IsOk, MatchResult};
 ghost use Rattle.sd_core.specs.Token.{TokenShown};
 ghost use Rattle.sd_sink.specs.Sink.{SinkTold};
 ghost use Rattle.sd_filter.specs.Told.{sink_of};
 ghost use Rattle.sd_filter.specs.Answers.{AnswersAreShort};
-ghost use Rattle.sd_filter.specs.Lines.{LinesAreCut, ended, lines};
+ghost use Rattle.sd_filter.specs.Lines.{LinesAreCut, lines};
 ghost use Rattle.sd_filter.specs.Splits.{AnswersSplit};
-ghost use Rattle.sd_filter.specs.Inner.Running.{Answered, Failed, HasRoom, IsReady, RoseWithin, AfterBytes};
+ghost use Rattle.sd_filter.specs.Inner.Running.{Answered, Failed, Feeds, HasRoom, IsReady, RoseWithin, AfterBytes};
 ghost use Rattle.sd_filter.specs.Outcome.{Outcome};
 
 use crate::device::{Drain, Source};
@@ -94,11 +94,8 @@ fn answer_piece<W: Drain>(
 ) -> Result<(), SinkFault>
     requires ready { IsReady state.old.line }
     requires room { HasRoom report.old (length piece.now) }
-    ensures fed { (token0 : TokenShown) (sink0 : SinkTold) (got : List ℕ)
-        → AfterBytes token0 sink0 got state.old token.old (sink_of (W.told drain.old)) report.old
-        → MatchResult result
-        (λ _. AfterBytes token0 sink0 (got ++ piece.now) state.new token.new (sink_of (W.told drain.new)) report.new)
-        (λ _. Failed state.new.job token0 sink0 (ended (got ++ piece.now)) token.new (sink_of (W.told drain.new))) }
+    ensures fed { Feeds piece.now state.old token.old (sink_of (W.told drain.old)) report.old
+        state.new token.new (sink_of (W.told drain.new)) report.new result }
     ensures handed_on { IsOk result → ((W.told drain.new ≡ W.told drain.old) × (report.new.lines ≡ report.old.lines)) ⊎ ((W.told drain.new).flushed ≡ true) }
     ensures ready { IsOk result → IsReady state.new.line }
     ensures job { state.new.job ≡ state.old.job }

@@ -1,5 +1,5 @@
 -- A descriptor that a line means keeps the limits of a descriptor's fields.
-use Rattle.std.proofs.Common.{◌≡◌, ◌<◌, ℕ, ◌+◌, ◌*◌, ◌^◌, List, [], ◌∷◌, ◌++◌, Option, Some, None, IfSome, Result, Ok, Err, IfOk, Bool, true, false, refl, subst, arith}
+use Rattle.std.proofs.Common.{◌≡◌, ◌<◌, ℕ, ◌^◌, List, [], ◌∷◌, ◌++◌, Option, Some, None, IfSome, Result, Ok, Err, IfOk, Bool, true, false, refl, subst, arith}
 use Rattle.std.specs.Prelude.{◌&&◌, nat_lt, if◌then◌else◌}
 use Rattle.std.specs.Option.{option_map, option_or}
 use Rattle.std.proofs.lemmas.Bool.Decides.{nat_tests}
@@ -16,9 +16,8 @@ use Rattle.sd_core.specs.declared.sid_text.SidFault.{SidFault}
 use Rattle.sd_rights.proofs.ReadLimits.{flags-limits, rights-limit}
 use Rattle.sd_core.proofs.ReadLimits.{guid-limits, sid-limits}
 use Rattle.sd_view.specs.Acl.{IsAcl, acl_size}
-use Rattle.sd_view.specs.Descriptor.{Descriptor, IsAclPart, IsDescriptor, dacl_present, sacl_present, self_relative}
+use Rattle.sd_view.specs.Descriptor.{Descriptor, IsAclPart, IsDescriptor}
 use Rattle.sd_binary.specs.Draft.{Draft, closed, closed_in, is_present, more_in, with_acl}
-use Rattle.sd_view.specs.Control.{control_of, bit_if}
 use Rattle.sd_view.specs.declared.acl.AclPart.{AclPart}
 use Rattle.sd_view.specs.declared.acl.AclPart.TheVariants as acl
 use Rattle.sd_view.specs.declared.control.Which.{Which}
@@ -26,7 +25,7 @@ use Rattle.sd_view.specs.declared.control.Which.TheVariants as which
 use Rattle.sd_reader.specs.Inner.FoldedReading.{Field, FieldsRead, ace_of_fields, begun_or_null, described, fault_of, fields_of, finished, folded, large_in, no_fields, nothing_read, read_fields, reads_as, take_ace_field, take_field, take_front, take_readable, if_shaped, with_flags, with_owner_or_group, with_sid, with_trustee, with_value}
 use Rattle.sd_reader.specs.Line.{has_twice, is_shaped, sections_of}
 use Rattle.sd_rights.specs.Chains.{and_then}
-use Rattle.sd_reader.specs.Meaning.{control_flags, is_unreadable, means, unless_large}
+use Rattle.sd_reader.specs.Meaning.{is_unreadable, means, unless_large}
 use Rattle.sd_reader.specs.FieldTexts.{front_reads, kind_reads, object_reads}
 use Rattle.sd_reader.specs.Inner.Reads.{AreAceFields}
 use Rattle.sd_view.specs.declared.control.AclFlags.{AclFlags}
@@ -40,7 +39,8 @@ use Rattle.sd_reader.specs.declared.line.Slot.{Slot}
 use Rattle.sd_reader.specs.declared.line.Slot.TheVariants as slot
 use Rattle.sd_reader.specs.declared.reading.AceFields.{AceFields}
 use Rattle.sd_reader.specs.declared.reading.AclFront.{AclFront}
-use Rattle.sd_reader.proofs.ControlFlags.{control-upper}
+use Rattle.sd_view.proofs.ControlLaws.{control-bits}
+use Rattle.sd_reader.proofs.ControlFlags.{flags-small}
 use Rattle.sd_reader.proofs.FoldedMeaning.{folded-means}
 use Rattle.sd_reader.proofs.FieldLaws.{sound-flags, sound-inherited, sound-kind, sound-mask, sound-object}
 
@@ -347,47 +347,6 @@ nothing-is = record {
 
 -- 6. The descriptor.
 
--- the control word of ACLs that stand or not, above flags in its upper byte
-record IsControl (control : ℕ) (sacl dacl : Bool) : Type 0 where
-  small : control < 2 ^ 16
-  relative : self_relative control ≡ true
-  with_sacl : sacl_present control ≡ sacl
-  with_dacl : dacl_present control ≡ dacl
-
-word : (n k : ℕ) (sacl dacl : Bool) → k < 128 → n ≡ 256 * k
-    → IsControl (n + 0x8000 + bit_if sacl 0x10 + bit_if dacl 0x4) sacl dacl
-word n k true true small
-    e = record {
-      small = omega arith;
-      relative = grind (arith, nat_tests);
-      with_sacl = grind (arith, nat_tests);
-      with_dacl = grind (arith, nat_tests);
-    }
-word n k true false small
-    e = record {
-      small = omega arith;
-      relative = grind (arith, nat_tests);
-      with_sacl = grind (arith, nat_tests);
-      with_dacl = grind (arith, nat_tests);
-    }
-word n k false true small
-    e = record {
-      small = omega arith;
-      relative = grind (arith, nat_tests);
-      with_sacl = grind (arith, nat_tests);
-      with_dacl = grind (arith, nat_tests);
-    }
-word n k false false small
-    e = record {
-      small = omega arith;
-      relative = grind (arith, nat_tests);
-      with_sacl = grind (arith, nat_tests);
-      with_dacl = grind (arith, nat_tests);
-    }
-
-control-limits : (sacl dacl : AclFlags) (s d : Bool) → IsControl (control_of (control_flags sacl dacl) s d) s d
-control-limits sacl dacl s d = let upper = control-upper sacl dacl in word _ upper.0 s d upper.1 upper.2
-
 part-limits : (present : Bool) (part : AclPart) → present ≡ is_present part → IsListed part → IsAclPart present part
 part-limits present acl.Absent e h = e
 part-limits present acl.Null e h = e
@@ -398,15 +357,15 @@ described-limits r h e =
     let t = closed r.parts in
     let sids = closed-sids r.parts h.sids in
     let acls = closed-acls r.parts (h.acls e) in
-    let control = control-limits r.sacl r.dacl (is_present t.sacl) (is_present t.dacl) in
+    let control = control-bits _ (is_present t.sacl) (is_present t.dacl) (flags-small r.sacl r.dacl) in
     record {
       control = control.small;
       relative = control.relative;
       rm = omega arith;
       owner = sids.owner;
       group = sids.group;
-      sacl = part-limits _ t.sacl control.with_sacl acls.sacl;
-      dacl = part-limits _ t.dacl control.with_dacl acls.dacl;
+      sacl = part-limits _ t.sacl control.sacl acls.sacl;
+      dacl = part-limits _ t.dacl control.dacl acls.dacl;
     }
 
 finished-limits : (x : Result FieldsRead SddlFault) → IfOk x HasReadLimits → IfOk (finished x) IsDescriptor

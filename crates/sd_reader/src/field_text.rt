@@ -4,6 +4,7 @@ ghost use Rattle.std.specs.Prelude.{◌≡◌, ◌≤◌, ◌↔◌, ℕ, ◌+�
 ghost use Rattle.sd_rights.specs.Limits.{most_field};
 ghost use Rattle.sd_reader.specs.Inner.Held.{Held, no_text, broken_text, held_with, held_run, held_blank, outer_with, within_with, held_text};
 
+use crate::line::is_blank;
 use sd_rights::MOST_FIELD_SIZE;
 use std::marker::Model;
 
@@ -110,7 +111,7 @@ impl FieldText {
     pub fn push_outer(&mut self, byte: u8)
         ensures { self.new ≡ outer_with self.old byte }
     {
-        if byte == b' ' || byte == b'\t' {
+        if is_blank(byte) {
             self.blank();
         } else {
             self.push(byte);
@@ -121,7 +122,7 @@ impl FieldText {
     pub fn push_within(&mut self, byte: u8)
         ensures { self.new ≡ within_with self.old byte }
     {
-        if byte == b' ' || byte == b'\t' {
+        if is_blank(byte) {
             self.spoil();
         } else {
             self.push(byte);

@@ -1,6 +1,6 @@
 //! A line, read as it comes: byte by byte, and together what stands whole in a piece.
 
-ghost use Rattle.std.specs.Prelude.{◌≡◌, ◌≤◌, ◌==◌, ℕ, List, [], ◌∷◌, ◌++◌, codes, length, take, ◌||◌, if◌then◌else◌, true, false, Option, Some, None, Ok, Err, IfOk, IfSome, MatchResult};
+ghost use Rattle.std.specs.Prelude.{◌≡◌, ◌≤◌, ℕ, List, [], ◌∷◌, ◌++◌, codes, length, take, ◌||◌, if◌then◌else◌, true, false, Option, Some, None, Ok, Err, IfOk, IfSome, MatchResult};
 ghost use Rattle.std.specs.Option.{option_copied, option_to_list};
 ghost use Rattle.std.specs.Str.{byte as char};
 ghost use Rattle.sd_core.specs.Sid.{IsSid, SecurityId};
@@ -42,7 +42,7 @@ pub struct SddlReader {
 
 impl SddlReader {
     ghost use Rattle.sd_reader.specs.SddlReading.{IsReading, ReadsSddl};
-    ghost use Rattle.sd_reader.specs.Inner.Reads.{Ends, FedTo, HasReadFields, LineHasRead, IsCalm, IsReader, IsText, Reads, Steps, StepsOn, StepsText, answer_at};
+    ghost use Rattle.sd_reader.specs.Inner.Reads.{CanStep, Ends, FedTo, HasReadFields, LineHasRead, IsCalm, IsReader, IsText, Reads, Steps, StepsOn, StepsText, answer_at};
 
     /// A reader that was fed nothing.
     pub fn new(domain: Option<Sid>, buf: &mut SdBuf) -> Self
@@ -69,8 +69,7 @@ impl SddlReader {
     // A byte inside parentheses.
     fn put_inside(&mut self, buf: &mut SdBuf, field: AceField, byte: u8)
         requires here { self.old.state ≡ State.Ace field }
-        requires calm { IsCalm self.old }
-        requires held { (t : FieldsRead) × LineHasRead self.old buf.old t }
+        requires ready { CanStep self.old buf.old }
         ensures answers { Steps self.old buf.old (byte ∷ []) self.new buf.new }
         ensures calm { IsCalm self.new }
         ensures pending { self.new.pending ≡ self.old.pending }
@@ -86,8 +85,7 @@ impl SddlReader {
     // The parenthesis that ends an ACE.
     fn end_ace(&mut self, buf: &mut SdBuf, field: AceField)
         requires here { self.old.state ≡ State.Ace field }
-        requires calm { IsCalm self.old }
-        requires held { (t : FieldsRead) × LineHasRead self.old buf.old t }
+        requires ready { CanStep self.old buf.old }
         ensures answers { Steps self.old buf.old (codes ")") self.new buf.new }
         ensures calm { IsCalm self.new }
         ensures pending { self.new.pending ≡ self.old.pending }
@@ -109,8 +107,7 @@ impl SddlReader {
     // The semicolon that ends a field of an ACE.
     fn end_ace_field(&mut self, buf: &mut SdBuf, field: AceField)
         requires here { self.old.state ≡ State.Ace field }
-        requires calm { IsCalm self.old }
-        requires held { (t : FieldsRead) × LineHasRead self.old buf.old t }
+        requires ready { CanStep self.old buf.old }
         ensures answers { Steps self.old buf.old (codes ";") self.new buf.new }
         ensures calm { IsCalm self.new }
         ensures pending { self.new.pending ≡ self.old.pending }
@@ -132,8 +129,7 @@ impl SddlReader {
     // A byte outside parentheses that begins no head.
     fn put_outside(&mut self, buf: &mut SdBuf, byte: u8)
         requires here { is_inside self.old.state ≡ false }
-        requires calm { IsCalm self.old }
-        requires held { (t : FieldsRead) × LineHasRead self.old buf.old t }
+        requires ready { CanStep self.old buf.old }
         ensures answers { StepsText self.old buf.old byte self.new buf.new }
         ensures calm { IsCalm self.new }
         ensures pending { self.new.pending ≡ self.old.pending }
@@ -148,8 +144,7 @@ impl SddlReader {
     // The parenthesis that begins an ACE.
     fn begin_ace(&mut self, buf: &mut SdBuf)
         requires here { is_inside self.old.state ≡ false }
-        requires calm { IsCalm self.old }
-        requires held { (t : FieldsRead) × LineHasRead self.old buf.old t }
+        requires ready { CanStep self.old buf.old }
         ensures answers { Steps self.old buf.old (codes "(") self.new buf.new }
         ensures calm { IsCalm self.new }
         ensures pending { self.new.pending ≡ self.old.pending }
@@ -177,9 +172,7 @@ impl SddlReader {
     fn put_text(&mut self, b: u8)
         requires here { is_inside self.old.state ≡ false }
         requires calm { IsCalm self.old }
-        requires open { (b == char "(") ≡ false }
-        requires close { (b == char ")") ≡ false }
-        requires colon { (b == char ":") ≡ false }
+        requires text { IsText b }
         ensures answers { (t : FieldsRead) (rest : List ℕ) → head_at (byte b) (pieces_from false rest).after ≡ None → answer_at self.new t rest ≡ answer_at self.old t (b ∷ rest) }
         ensures calm { IsCalm self.new }
         ensures same { self.new ≡ record self.old { sound = self.new.sound; field = self.new.field } }
@@ -197,9 +190,8 @@ impl SddlReader {
     // A head, of a letter that waited and its colon.
     fn begin_part(&mut self, buf: &mut SdBuf, letter: u8, head: Head)
         requires here { is_inside self.old.state ≡ false }
-        requires calm { IsCalm self.old }
+        requires ready { CanStep self.old buf.old }
         requires letter { head_named letter ≡ Some head }
-        requires held { (t : FieldsRead) × LineHasRead self.old buf.old t }
         ensures answers { Steps self.old buf.old (letter ∷ codes ":") self.new buf.new }
         ensures calm { IsCalm self.new }
         ensures pending { self.new.pending ≡ self.old.pending }
@@ -227,10 +219,9 @@ impl SddlReader {
     // The end of the part at hand, with no ACE since its head or none open.
     fn end_part(&mut self, buf: &mut SdBuf)
         requires here { is_inside self.old.state ≡ false }
-        requires calm { IsCalm self.old }
-        requires held { (t : FieldsRead) × LineHasRead self.old buf.old t }
+        requires ready { CanStep self.old buf.old }
         ensures read { (t : FieldsRead) → LineHasRead self.old buf.old t → (u : FieldsRead) × (self.new.fault ≡ None → HasReadFields self.new.fields buf.new u)
-            × (unless self.new.fault u ≡ ended_with self.old.fields.domain self.old.state self.old.field (unless self.old.fault t)) }
+            × (unless self.new.fault u ≡ ended_with self.old.fields.domain self.old.state self.old.field (unless self.old.fault) t) }
         ensures cleared { self.new.field ≡ no_text }
         ensures domain { self.new.fields.domain ≡ self.old.fields.domain }
         ensures same { self.new ≡ record self.old { field = self.new.field; fault = self.new.fault; fields = self.new.fields } }
@@ -257,9 +248,8 @@ impl SddlReader {
     // A byte outside parentheses with none that waits before it.
     fn feed_alone(&mut self, buf: &mut SdBuf, byte: u8)
         requires here { is_inside self.old.state ≡ false }
-        requires calm { IsCalm self.old }
+        requires ready { CanStep self.old buf.old }
         requires pending { self.old.pending ≡ None }
-        requires held { (t : FieldsRead) × LineHasRead self.old buf.old t }
         ensures answers { StepsOn self.old buf.old (byte ∷ []) self.new buf.new }
         ensures reader { IsReader self.new buf.new }
     {
@@ -273,10 +263,9 @@ impl SddlReader {
     // A byte outside parentheses after a letter that waits.
     fn feed_after(&mut self, buf: &mut SdBuf, letter: u8, byte: u8)
         requires here { is_inside self.old.state ≡ false }
-        requires calm { IsCalm self.old }
+        requires ready { CanStep self.old buf.old }
         requires pending { self.old.pending ≡ Some letter }
         requires letter { IsText letter }
-        requires held { (t : FieldsRead) × LineHasRead self.old buf.old t }
         ensures answers { StepsOn self.old buf.old (letter ∷ byte ∷ []) self.new buf.new }
         ensures reader { IsReader self.new buf.new }
     {
@@ -389,8 +378,7 @@ impl SddlReader {
 
     // The end of a line with no byte that waits.
     fn finish_alone(mut self, buf: &mut SdBuf) -> Result<(), SddlFault>
-        requires calm { IsCalm self }
-        requires held { (t : FieldsRead) × LineHasRead self buf.old t }
+        requires { CanStep self buf.old }
         ensures exact { (t : FieldsRead) → LineHasRead self buf.old t → MatchResult (finished (answer_at self t []))
             (λ d. (result ≡ Ok tt) × Shows buf.new d)
             (λ e. (result ≡ Err e) × (buf.new ≡ [])) }
@@ -407,8 +395,7 @@ impl SddlReader {
 
     // What a line gives that ends here, with no byte that waits.
     fn end_line(mut self, buf: &mut SdBuf) -> Result<(), SddlFault>
-        requires calm { IsCalm self }
-        requires held { (t : FieldsRead) × LineHasRead self buf.old t }
+        requires { CanStep self buf.old }
         ensures { (t : FieldsRead) → LineHasRead self buf.old t → Ends (finished (answer_at self t [])) result buf.new }
     {
         if !self.sound {

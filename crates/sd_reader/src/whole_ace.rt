@@ -8,12 +8,9 @@ ghost use Rattle.sd_reader.specs.FieldTexts.{kind_reads, object_reads};
 ghost use Rattle.sd_reader.specs.Inner.WholeAce.{FieldAt, ObjectsAt};
 
 use crate::field_texts::object_from_text;
-use sd_core::{AceKind, flags_from_text};
+use sd_core::{AceKind, GUID_TEXT_SIZE, flags_from_text};
 use sd_rights::{INHERIT_ONLY, INHERITED, MOST_FIELD_SIZE, ONWARD};
 use uuid::Uuid;
-
-/// The characters of a GUID.
-const GUID_TEXT_SIZE: usize = 36;
 
 /// The kind at the front of a text, and what follows its semicolon. None where there is none.
 #[inline(always)]

@@ -6,44 +6,20 @@ ghost use Rattle.sd_sddl.specs.Printed.{ace_text, kind_field, object_field, obje
 
 use crate::trustee::print_trustee;
 use sd_binary::AceView;
-use sd_core::{AceKind, Naming, Print, Sid, print_flags, print_guid, print_rights};
+use sd_core::{AceKind, Naming, Print, print_flags, print_guid, print_rights};
 use uuid::Uuid;
 
 /// Prints an ACE.
 pub fn print_ace<P: Print>(naming: &Naming, ace: &AceView<'_>, out: &mut P)
     ensures { Prints (P.told out.old) (P.told out.new) (ace_text naming.now ace.now) }
 {
-    print_fields(
-        naming,
-        ace.kind(),
-        ace.flags(),
-        ace.mask(),
-        ace.object(),
-        ace.inherited(),
-        &ace.sid(),
-        out,
-    );
-}
-
-fn print_fields<P: Print>(
-    naming: &Naming,
-    kind: AceKind,
-    flags: u8,
-    mask: u32,
-    object: Option<Uuid>,
-    inherited: Option<Uuid>,
-    sid: &Sid,
-    out: &mut P,
-)
-    ensures { Prints (P.told out.old) (P.told out.new)
-        (ace_text naming.now (record { kind = kind; flags = flags; mask = mask; object = object; inherited = inherited; sid = sid.now })) }
-{
+    let kind = ace.kind();
     print_kind(kind, out);
-    print_flags(flags, out);
+    print_flags(ace.flags(), out);
     out.put(b";");
-    print_rights(kind, mask, out);
-    print_objects(object, inherited, out);
-    print_trustee(naming, sid, out);
+    print_rights(kind, ace.mask(), out);
+    print_objects(ace.object(), ace.inherited(), out);
+    print_trustee(naming, &ace.sid(), out);
     out.put(b")");
 }
 

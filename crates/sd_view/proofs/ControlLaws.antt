@@ -1,10 +1,11 @@
 -- The flags of an ACL beside the other bits of a control word.
-use Rattle.std.proofs.Common.{◌≡◌, ◌<◌, ℕ, ◌+◌, ◌*◌, ◌^◌, eqb, Bool, true, false, bit_or, refl, sym, ap, ◌∙◌, arith}
+use Rattle.std.proofs.Common.{◌≡◌, ◌≤◌, ◌<◌, ℕ, ◌+◌, ◌*◌, ◌/◌, ◌%◌, ◌^◌, eqb, Bool, true, false, bit_or, refl, sym, ap, ◌∙◌, arith}
 use Rattle.std.specs.Int.{bit_at}
 use Rattle.std.proofs.lemmas.Bool.Decides.{nat_tests}
 use Rattle.std.proofs.lemmas.Nat.{or_disjoint}
 use Rattle.std.proofs.lemmas.Nat.Bits.{and_pow, bit_at_or, bit_at-pow_other}
-use Rattle.sd_view.specs.Control.{acl_flags, all_flags, bit_if, flag_bits, has_bit, no_flags, other_acl}
+use Rattle.sd_view.specs.Control.{acl_flags, all_flags, bit_if, control_of, flag_bits, has_bit, no_flags, other_acl}
+use Rattle.sd_view.specs.Descriptor.{dacl_present, sacl_present, self_relative}
 use Rattle.sd_view.specs.declared.control.Which.{Which}
 use Rattle.sd_view.specs.declared.control.Which.TheVariants as lists
 use Rattle.sd_view.specs.declared.control.AclFlags.{AclFlags}
@@ -34,6 +35,15 @@ put-three a b c n k l m i e f g lk mk ml ik il im =
     let clear_m : bit_at two m ≡ 0 = put-other b one l m clear_l ml ∙ put-other a n k m e mk ∙ g in
     ap (λ (w : ℕ). bit_at w i) (omega arith) ∙ put-other c two m i clear_m im ∙ put-other b one l i clear_l il
     ∙ put-other a n k i e ik
+
+-- what stands where a bit may be set
+pub bit_if-times : (b : Bool) (n k : ℕ) → bit_if b (n * k) ≡ n * bit_if b k
+bit_if-times true n k = refl
+bit_if-times false n k = omega arith
+
+pub bit_if-most : (b : Bool) (n : ℕ) → bit_if b n ≤ n
+bit_if-most true n = omega arith
+bit_if-most false n = omega arith
 
 -- a bit that is not set
 clear-bit : (n : ℕ) → n < 2 → eqb n 1 ≡ false → n ≡ 0
@@ -102,3 +112,31 @@ flags-apart lists.Sacl f others e =
 flags-apart lists.Dacl f others e =
     same-flags _ _ _ _ _ _ (bits-same lists.Dacl f others 13 e refl) (bits-same lists.Dacl f others 9 e refl)
     (bits-same lists.Dacl f others 11 e refl)
+
+-- the control word of ACLs that stand or not
+pub record IsControl (word : ℕ) (s d : Bool) : Type 0 where
+  pub small : word < 2 ^ 16
+  pub relative : self_relative word ≡ true
+  pub sacl : sacl_present word ≡ s
+  pub dacl : dacl_present word ≡ d
+
+bit-test : (n : ℕ) (b : Bool) → n ≡ bit_if b 1 → eqb n 1 ≡ b
+bit-test n true e = rw e refl
+bit-test n false e = rw e refl
+
+pub control-bits : (flags : ℕ) (sacl dacl : Bool) → flags < 2 ^ 16 → IsControl (control_of flags sacl dacl) sacl dacl
+control-bits flags sacl dacl h =
+    let word = control_of flags sacl dacl in
+    let s = bit_if-times sacl 0x10 1 in
+    let d = bit_if-times dacl 0x4 1 in
+    let s_most = bit_if-most sacl 1 in
+    let d_most = bit_if-most dacl 1 in
+    let first : word / 0x8000 % 2 ≡ 1 = omega arith in
+    let second : word / 0x10 % 2 ≡ bit_if sacl 1 = omega arith in
+    let third : word / 0x4 % 2 ≡ bit_if dacl 1 = omega arith in
+    record {
+      small = omega arith;
+      relative = bit-test _ true first;
+      sacl = bit-test _ sacl second;
+      dacl = bit-test _ dacl third;
+    }

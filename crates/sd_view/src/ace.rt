@@ -1,5 +1,5 @@
 // Access control entries read in place.
-ghost use Rattle.std.specs.Prelude.{◌≡◌, ◌≤◌, ◌<◌, ◌+◌, ◌%◌, ◌^◌, length, take, drop, Some, IfOk, MatchResult};
+ghost use Rattle.std.specs.Prelude.{◌≡◌, ◌≤◌, ◌<◌, ◌+◌, ◌%◌, ◌^◌, length, take, drop, Some, IfOk};
 ghost use Rattle.uuid.specs.Parts.{swap_fields};
 ghost use Rattle.sd_core.specs.Ace.{IsAce, ace_size};
 ghost use Rattle.sd_rights.specs.Kinds.{is_object};
@@ -7,11 +7,12 @@ ghost use Rattle.sd_view.specs.Ace.{announces_inherited, announces_object};
 ghost use Rattle.sd_view.specs.AclLayout.{ace_body, ace_bytes, front_size};
 ghost use Rattle.sd_view.specs.AclReading.{IsReadableAce, ace_fault, ace_of, kind_in, extent_fault, sid_offset_in};
 ghost use Rattle.sd_view.specs.Bytes.{u16_at as u16_of};
+ghost use Rattle.sd_view.specs.Inner.Found.{FailsBy};
 ghost use Rattle.sd_view.specs.Inner.Written.{named_flags};
 
 use crate::bytes::{u16_at, u32_at};
 use crate::fault::AclFault;
-use sd_core::{Ace, AceKind, Sid, guid_read};
+use sd_core::{Ace, AceKind, Sid, UNUSED_FLAG, guid_read};
 use std::marker::Model;
 use uuid::Uuid;
 
@@ -25,9 +26,6 @@ pub(crate) const FRONT_SIZE: usize = 8;
 pub(crate) const OBJECT_FRONT_SIZE: usize = 12;
 
 const GUID_SIZE: usize = 16;
-
-/// The flag that MS-DTYP 2.4.4.1 does not name, and that no ACE has here.
-const UNUSED_FLAG: u8 = 0x20;
 
 /// The object flags that MS-DTYP 2.4.4.3 names.
 const NAMED_OBJECT_FLAGS: u32 = 3;
@@ -86,7 +84,7 @@ fn sid_offset(extent: &[u8]) -> usize
 #[tactic(auto, unfolding(crate::specs::AclReading::extent_fault))]
 fn check_extent(extent: &[u8]) -> Result<usize, AclFault>
     requires { 16 ≤ length extent.now }
-    ensures fault { MatchResult result (λ _. extent_fault extent.now ≡ None) (λ f. extent_fault extent.now ≡ Some f) }
+    ensures fault { FailsBy (extent_fault extent.now) result }
     ensures size { IfOk result (λ n. (n ≡ ace_size (ace_of extent.now)) × (n ≤ length extent.now)) }
 {
     if AceKind::from_code(extent[0]).is_none() {
@@ -108,7 +106,7 @@ fn check_extent(extent: &[u8]) -> Result<usize, AclFault>
 // The ACE at the front of what is left of an ACL.
 #[tactic(auto, unfolding(crate::specs::AclReading::ace_fault))]
 pub(crate) fn check_ace(left: &[u8]) -> Result<Checked, AclFault>
-    ensures fault { MatchResult result (λ _. ace_fault left.now ≡ None) (λ f. ace_fault left.now ≡ Some f) }
+    ensures fault { FailsBy (ace_fault left.now) result }
     ensures taken { IfOk result (λ c. (c.taken ≡ u16_of 2 left.now) × (c.taken ≤ length left.now)) }
     ensures size { IfOk result (λ c. (c.size ≡ ace_size (ace_of (take (u16_of 2 left.now) left.now))) × (c.size ≤ c.taken)) }
     ensures object { IfOk result (λ c. c.object ≡ is_object (kind_in (take (u16_of 2 left.now) left.now))) }

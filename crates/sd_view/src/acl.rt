@@ -1,9 +1,10 @@
 // Access control lists read in place.
-ghost use Rattle.std.specs.Prelude.{◌≡◌, ◌≤◌, ◌<◌, ◌+◌, ◌^◌, length, take, drop, None, IfOk, MatchResult};
+ghost use Rattle.std.specs.Prelude.{◌≡◌, ◌≤◌, ◌<◌, ◌+◌, ◌^◌, length, take, drop, None, IfOk};
 ghost use Rattle.std.specs.Iterator.{YieldsFirst, item_count};
 ghost use Rattle.sd_view.specs.Acl.{IsAcl, acl_size, aces_size, has_object};
 ghost use Rattle.sd_view.specs.AclReading.{IsReadableAcl, ace_fault, ace_of, acl_fault, acl_of, acl_at_front, aces_fault, aces_of};
 ghost use Rattle.sd_view.specs.Bytes.{u16_at as u16_of};
+ghost use Rattle.sd_view.specs.Inner.Found.{FailsBy};
 
 use crate::ace::{AceView, ace_view, check_ace};
 use crate::bytes::u16_at;
@@ -21,7 +22,7 @@ pub struct Written {
 
 // The written form of as many ACEs as are counted.
 fn check_aces(count: u16, bytes: &[u8]) -> Result<Written, AclFault>
-    ensures fault { MatchResult result (λ _. aces_fault count bytes.now ≡ None) (λ f. aces_fault count bytes.now ≡ Some f) }
+    ensures fault { FailsBy (aces_fault count bytes.now) result }
     ensures size { IfOk result (λ w. (w.size ≡ acl_size (aces_of count bytes.now)) × (w.size ≤ 8 + length bytes.now)) }
     ensures object { IfOk result (λ w. w.object ≡ has_object (aces_of count bytes.now)) }
 {
@@ -41,7 +42,7 @@ fn check_aces(count: u16, bytes: &[u8]) -> Result<Written, AclFault>
 #[tactic(auto, unfolding(crate::specs::AclReading::acl_fault))]
 pub(crate) fn check_acl(bytes: &[u8]) -> Result<(usize, Written), AclFault>
     requires { 8 ≤ length bytes.now }
-    ensures fault { MatchResult result (λ _. acl_fault bytes.now ≡ None) (λ f. acl_fault bytes.now ≡ Some f) }
+    ensures fault { FailsBy (acl_fault bytes.now) result }
     ensures taken { IfOk result (λ r. (r.0 ≡ u16_of 2 bytes.now) × (r.0 ≤ length bytes.now) × (8 ≤ r.0)) }
     ensures size { IfOk result (λ r. (r.1.size ≡ acl_size (acl_of (acl_at_front bytes.now))) × (r.1.size ≤ r.0)) }
     ensures object { IfOk result (λ r. r.1.object ≡ has_object (acl_of (acl_at_front bytes.now))) }

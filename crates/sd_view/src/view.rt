@@ -2,7 +2,7 @@
 ghost use Rattle.std.specs.Prelude.{◌≡◌, ◌≤◌, ◌<◌, ◌+◌, ◌*◌, ℕ, List, length, Ok, IfOk, OnOk, MatchResult};
 ghost use Rattle.sd_view.specs.Descriptor.{Descriptor, Shows, IsDescriptor, acl_extent, extents_of, sid_extent};
 ghost use Rattle.sd_view.specs.Layout.{layout, sid_part, size};
-ghost use Rattle.sd_view.specs.Inner.Found.{extents_seen, shown_written, written_of};
+ghost use Rattle.sd_view.specs.Inner.Found.{FailsBy, extents_seen, shown_written, written_of};
 ghost use Rattle.sd_view.specs.Reading.{IsAclAt, IsSidAt, acl_part_fault, acl_shown, fault, fault_in, header_fault, share_a_byte as share_of, overlap_fault, overlaps_fault, parts_fault, reading, shown, sid_fault, sid_shown};
 ghost use Rattle.sd_view.specs.declared.limits.TheConstants.{HEADER_SIZE, MOST_LAYOUT_SIZE, MOST_SID_SIZE};
 
@@ -76,7 +76,7 @@ pub fn read(bytes: &[u8]) -> Result<SdView<'_>, SdFault>
 // The first fault of the bytes, or what it found for the written form of the ACLs.
 #[tactic(auto, unfolding(crate::specs::Reading::fault))]
 fn check(bytes: &[u8]) -> Result<Acls, SdFault>
-    ensures fault { MatchResult result (λ _. fault bytes.now ≡ None) (λ f. fault bytes.now ≡ Some f) }
+    ensures fault { FailsBy (fault bytes.now) result }
     ensures acls { IfOk result (λ a. a ≡ shown_written (shown bytes.now)) }
 {
     check_header(bytes)?;
@@ -88,7 +88,7 @@ fn check(bytes: &[u8]) -> Result<Acls, SdFault>
 // The first fault of the header.
 #[tactic(auto, unfolding(crate::specs::Reading::header_fault))]
 fn check_header(bytes: &[u8]) -> Result<(), SdFault>
-    ensures fault { MatchResult result (λ _. header_fault bytes.now ≡ None) (λ f. header_fault bytes.now ≡ Some f) }
+    ensures fault { FailsBy (header_fault bytes.now) result }
     ensures room { OnOk result (HEADER_SIZE ≤ length bytes.now) }
 {
     if bytes.len() < HEADER_SIZE {
@@ -107,7 +107,7 @@ fn check_header(bytes: &[u8]) -> Result<(), SdFault>
 #[tactic(auto, unfolding(crate::specs::Reading::parts_fault))]
 fn check_parts(bytes: &[u8]) -> Result<(PartExtents, Acls), SdFault>
     requires { HEADER_SIZE ≤ length bytes.now }
-    ensures fault { MatchResult result (λ _. parts_fault bytes.now ≡ None) (λ f. parts_fault bytes.now ≡ Some f) }
+    ensures fault { FailsBy (parts_fault bytes.now) result }
     ensures extents { IfOk result (λ r. extents_seen r.0 ≡ extents_of bytes.now (shown bytes.now)) }
     ensures acls { IfOk result (λ r. r.1 ≡ shown_written (shown bytes.now)) }
 {
@@ -169,7 +169,7 @@ fn check_acl_part(
     present: bool,
     offset: u32,
 ) -> Result<(Option<(u64, u64)>, Written), SdFault>
-    ensures fault { MatchResult result (λ _. acl_part_fault part bytes.now present offset ≡ None) (λ f. acl_part_fault part bytes.now present offset ≡ Some f) }
+    ensures fault { FailsBy (acl_part_fault part bytes.now present offset) result }
     ensures extent { IfOk result (λ r. r.0 ≡ acl_extent bytes.now offset (acl_shown bytes.now present offset)) }
     ensures written { IfOk result (λ r. r.1 ≡ written_of (acl_shown bytes.now present offset)) }
 {
@@ -205,7 +205,7 @@ fn fault_in(part: Part, fault: AclFault) -> SdFault
 // The first pair of parts that shares a byte.
 #[tactic(auto, unfolding(crate::specs::Reading::overlaps_fault))]
 fn check_overlaps(extents: &PartExtents) -> Result<(), SdFault>
-    ensures { MatchResult result (λ _. overlaps_fault (extents_seen extents.now) ≡ None) (λ f. overlaps_fault (extents_seen extents.now) ≡ Some f) }
+    ensures { FailsBy (overlaps_fault (extents_seen extents.now)) result }
 {
     check_apart(Part::Owner, extents.owner, Part::Group, extents.group)?;
     check_apart(Part::Owner, extents.owner, Part::Sacl, extents.sacl)?;
@@ -232,7 +232,7 @@ fn check_apart(
     q: Part,
     b: Option<(u64, u64)>,
 ) -> Result<(), SdFault>
-    ensures { MatchResult result (λ _. overlap_fault p a q b ≡ None) (λ f. overlap_fault p a q b ≡ Some f) }
+    ensures { FailsBy (overlap_fault p a q b) result }
 {
     if share_a_byte(a, b) {
         return Err(SdFault::Overlap(p, q));

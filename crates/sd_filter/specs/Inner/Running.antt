@@ -1,7 +1,7 @@
 -- A run in the middle: the line in hand, and what stands of the lines before it. Private contracts alone
 -- cite these words; they promise nothing to a caller.
 use Rattle.std.specs.Prelude.{◌≡◌, ◌<◌, ◌≤◌, ℕ, ◌+◌, ◌-◌, ◌^◌, min, List, [], ◌∷◌, ◌++◌, length, Bool, true, false}
-use Rattle.std.specs.Prelude.{Result, Ok, Err}
+use Rattle.std.specs.Prelude.{MatchResult, Result, Ok, Err}
 use Rattle.std.specs.Io.KnownBytes.{Consumes, Appends}
 use Rattle.sd_filter.specs.Inner.Reading.{CanRead, HasRead, form_of}
 use Rattle.sd_filter.specs.Told.{SourceTold, DrainTold, sink_of}
@@ -96,6 +96,15 @@ pub record Failed (job : Job) (token0 : TokenShown) (sink0 : SinkTold) (all : Li
   pub failed : sink.failures ≡ counted sink0.failures
   pub same_entries : token.entries ≡ token0.entries
   pub compared : Compares token0 token (bounds job token0.entries (whole ++ broken))
+
+-- a piece went in: after whatever bytes came before it and it, the lines that ended are answered; or the sink failed
+abbrev pub Feeds : {A : Type 0} → List ℕ → RunState → TokenShown → SinkTold → Report
+    → RunState → TokenShown → SinkTold → Report → Result A SinkFault → Type 0
+Feeds piece state token sink report state' token' sink' report' result =
+    (token0 : TokenShown) (sink0 : SinkTold) (got : List ℕ) → AfterBytes token0 sink0 got state token sink report
+    → MatchResult result
+    (λ _. AfterBytes token0 sink0 (got ++ piece) state' token' sink' report')
+    (λ _. Failed state'.job token0 sink0 (ended (got ++ piece)) token' sink')
 
 -- a run before its next read
 pub record BeforeRead (turn : ℕ) (token0 : TokenShown) (source0 : SourceTold) (drain0 : DrainTold) (state : RunState)

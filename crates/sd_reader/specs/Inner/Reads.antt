@@ -123,6 +123,12 @@ pub record IsCalm (s : SddlReader) : Type 0 where
   pub held : IsHeld s.field
   pub gap : is_inside s.state ≡ true → s.field.gap ≡ false
 
+-- what a step needs
+pub record CanStep (s : SddlReader) (buf : List ℕ) : Type 0 where
+  pub calm : IsCalm s
+  -- something was read
+  pub held : (t : FieldsRead) × LineHasRead s buf t
+
 -- a byte that waits is no parenthesis and no colon
 pub record IsText (b : ℕ) : Type 0 where
   pub opens : (b == char "(") ≡ false

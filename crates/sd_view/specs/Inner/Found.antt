@@ -1,5 +1,5 @@
 -- What the check of some bytes found, which is kept for the views of them.
-use Rattle.std.specs.Prelude.{false}
+use Rattle.std.specs.Prelude.{◌≡◌, false, Option, Some, None, Result, MatchResult}
 use Rattle.sd_view.specs.Acl.{acl_size, has_object}
 use Rattle.sd_view.specs.Descriptor.{Descriptor, Extents}
 use Rattle.sd_view.specs.declared.acl.AclPart.{AclPart}
@@ -20,3 +20,7 @@ shown_written d = record { sacl = written_of d.sacl; dacl = written_of d.dacl }
 
 abbrev pub extents_seen : PartExtents → Extents
 extents_seen p = record { owner = p.owner; group = p.group; sacl = p.sacl; dacl = p.dacl }
+
+-- a check fails by this fault, and passes where there is none
+abbrev pub FailsBy : {A F : Type 0} → Option F → Result A F → Type 0
+FailsBy fault result = MatchResult result (λ _. fault ≡ None) (λ f. fault ≡ Some f)

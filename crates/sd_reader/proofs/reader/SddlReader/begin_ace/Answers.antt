@@ -1,23 +1,14 @@
 use Rattle.std.proofs.Common.{true, refl, sym, ◌∙◌}
-use Rattle.sd_reader.specs.declared.line.Head.TheVariants as head
 use Rattle.sd_rights.specs.Chains.{unless}
 use Rattle.sd_reader.proofs.Steps.{open_first, open_next, open_nowhere, unsound}
-use Rattle.sd_reader.proofs.FitLaws.{fits-first, fits-next, itself-or, none-before, read-ok}
+use Rattle.sd_reader.proofs.FitLaws.{can-take-front, fits-first, fits-next, none-before, read-ok}
 use Rattle.sd_reader.proofs.reader.SddlReader.begin_ace.Goals as goal
 
 pub end_field-requires : goal.end_field-requires
 end_field-requires c =
-    let k = c.requires.held.1 in
     record {
-      clean = c.requires.calm.held;
-      held = (
-        c.requires.held.0,
-        λ none. (
-          k.fields none,
-          (rw (c.in-AclFlags.is) at (k.fits none)).lacks (head.Acl c.in-AclFlags.which)
-              (itself-or _ (head.Acl c.in-AclFlags.which)),
-        ),
-      );
+      clean = c.requires.ready.calm.held;
+      held = can-take-front c.args.self.now _ c.in-AclFlags.which true c.in-AclFlags.is c.requires.ready.held;
     }
 
 pub returns-in-AclFlags-clause-answers : goal.returns-in-AclFlags-clause-answers
@@ -32,8 +23,8 @@ returns-in-AclFlags-clause-answers c = λ t k.
             (rw (c.in-AclFlags.is) at (k.fits (none-before s.fault _ t e.0 _ e.2 none)));
       },
       λ rest. rw (c.in-AclFlags.is, e.2, c.end_field.ensures.cleared, c.end_field.ensures.domain)
-          (open_first s.fields.domain s.sound s.twice s.seen (unless s.fault t) s.field rest c.in-AclFlags.which
-          c.requires.calm.held),
+          (open_first s.fields.domain s.sound s.twice s.seen (unless s.fault) t s.field rest c.in-AclFlags.which
+          c.requires.ready.calm.held),
     )
 
 pub returns-in-AfterAce-clause-answers : goal.returns-in-AfterAce-clause-answers
@@ -56,6 +47,6 @@ returns-in_default c =
             ∙ sym (open_nowhere s.fields.domain s.sound s.twice s.seen (unless s.fault t) s.field rest s.state
             c.requires.here c.in_default.not-AclFlags c.in_default.not-AfterAce),
       );
-      calm = record { held = c.requires.calm.held; gap = c.requires.calm.gap };
+      calm = record { held = c.requires.ready.calm.held; gap = c.requires.ready.calm.gap };
       pending = refl;
     }

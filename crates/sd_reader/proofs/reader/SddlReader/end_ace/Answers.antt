@@ -32,6 +32,6 @@ returns-in_default c =
             ∙ sym (close_early s.fields.domain s.sound s.twice s.seen (unless s.fault t) s.field rest c.args.field
             (column_more c.args.field c.in_default.not-Sid))),
       );
-      calm = record { held = c.requires.calm.held; gap = c.requires.calm.gap };
+      calm = record { held = c.requires.ready.calm.held; gap = c.requires.ready.calm.gap };
       pending = refl;
     }

@@ -1,20 +1,12 @@
-use Rattle.sd_reader.specs.declared.line.Head.TheVariants as head
-use Rattle.sd_reader.proofs.FitLaws.{itself-or}
+use Rattle.std.proofs.Common.{false}
+use Rattle.sd_reader.proofs.FitLaws.{can-take-front}
 use Rattle.sd_reader.proofs.reader.SddlReader.end_part.Goals as goal
 
 pub end_field-requires-in-AclFlags : goal.end_field-requires-in-AclFlags
 end_field-requires-in-AclFlags c =
-    let k = c.requires.held.1 in
     record {
-      clean = c.requires.calm.held;
-      held = (
-        c.requires.held.0,
-        λ none. (
-          k.fields none,
-          (rw (c.in-AclFlags.is) at (k.fits none)).lacks (head.Acl c.in-AclFlags.which)
-              (itself-or _ (head.Acl c.in-AclFlags.which)),
-        ),
-      );
+      clean = c.requires.ready.calm.held;
+      held = can-take-front c.args.self.now _ c.in-AclFlags.which false c.in-AclFlags.is c.requires.ready.held;
     }
 
 pub returns-in-Sid-clause-read : goal.returns-in-Sid-clause-read

@@ -12,8 +12,8 @@ returns-in-Some-clause-answers c = λ t k.
 
 pub returns-in-Some-clause-reader : goal.returns-in-Some-clause-reader
 returns-in-Some-clause-reader c =
-    let k = c.requires.held.1 in
-    let e = c.begin_part.ensures.answers c.requires.held.0 (record { fields = k.fields; fits = k.fits }) in
+    let k = c.requires.ready.held.1 in
+    let e = c.begin_part.ensures.answers c.requires.ready.held.0 (record { fields = k.fields; fits = k.fits }) in
     record {
       calm = c.begin_part.ensures.calm;
       still = λ _. c.begin_part.ensures.pending;

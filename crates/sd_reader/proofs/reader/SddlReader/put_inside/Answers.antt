@@ -30,10 +30,10 @@ returns-in_default-clause-answers c = λ t k.
     let e40 : (c.args.byte == 40) ≡ false = grind (arith, nat_tests) in
     let e41 : (c.args.byte == 41) ≡ false = grind (arith, nat_tests) in
     let e59 : (c.args.byte == 59) ≡ false = grind (arith, nat_tests) in
-    let calm : s.field.gap ≡ false = c.requires.calm.gap (rw (c.requires.here) refl) in (
+    let calm : s.field.gap ≡ false = c.requires.ready.calm.gap (rw (c.requires.here) refl) in (
       t,
       record { fields = k.fields; fits = k.fits },
       λ rest. rw (c.requires.here, c.push_within.ensures)
-          (entry_text s.fields.domain s.sound s.twice s.seen (unless s.fault t) s.field rest c.args.field _
-          c.args.byte e40 e41 e59 (λ u. same_within s.field c.args.byte u c.requires.calm.held calm)),
+          (entry_text s.fields.domain s.sound s.twice s.seen (unless s.fault) t s.field rest c.args.field _
+          c.args.byte e40 e41 e59 (λ u. same_within s.field c.args.byte u c.requires.ready.calm.held calm)),
     )
