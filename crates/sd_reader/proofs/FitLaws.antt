@@ -18,7 +18,7 @@ use Rattle.sd_reader.specs.FieldTexts.{front_reads, kind_reads, object_reads}
 use Rattle.sd_reader.specs.Inner.Held.{Held, held_text}
 use Rattle.sd_reader.specs.Inner.Progress.{ended_with, is_seen, state_of, with_head}
 use Rattle.sd_reader.proofs.Steps.{seen_with}
-use Rattle.sd_reader.specs.Inner.Reads.{CanTake, Fits, HasRead, LineHasRead, Lacks, is_at_front, is_in_acl}
+use Rattle.sd_reader.specs.Inner.Reads.{CanTake, Fits, HasReadFields, LineHasRead, Lacks, is_at_front, is_in_acl}
 use Rattle.sd_view.specs.declared.control.AclFlags.{AclFlags}
 use Rattle.sd_reader.specs.declared.fault.SddlFault.{SddlFault}
 use Rattle.sd_reader.specs.declared.fault.SddlFault.TheVariants as fault
@@ -438,7 +438,7 @@ can-take-front s buf w has_aces here held =
     (held.0, λ none. (k.fields none, (rw here at (k.fits none)).lacks (head.Acl w) (itself-or _ (head.Acl w))))
 
 lacks-same : (h : Head) (f : Option SddlFault) (t u : FieldsRead) → Ok u ≡ unless f t → Lacks h t → Lacks h u
-lacks-same h f t u e l = if-ok (λ y. Lacks h y) u (unless f) t (by_fault f) (sym e)
+lacks-same h f t u e l = if-ok (λ y. Lacks h y) u (unless f t) (by_fault f) (sym e)
   where
     by_fault : (f : Option SddlFault) → IfOk (unless f t) (λ y. Lacks h y)
     by_fault None = l

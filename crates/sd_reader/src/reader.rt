@@ -221,7 +221,7 @@ impl SddlReader {
         requires here { is_inside self.old.state ≡ false }
         requires ready { CanStep self.old buf.old }
         ensures read { (t : FieldsRead) → LineHasRead self.old buf.old t → (u : FieldsRead) × (self.new.fault ≡ None → HasReadFields self.new.fields buf.new u)
-            × (unless self.new.fault u ≡ ended_with self.old.fields.domain self.old.state self.old.field (unless self.old.fault) t) }
+            × (unless self.new.fault u ≡ ended_with self.old.fields.domain self.old.state self.old.field (unless self.old.fault t)) }
         ensures cleared { self.new.field ≡ no_text }
         ensures domain { self.new.fields.domain ≡ self.old.fields.domain }
         ensures same { self.new ≡ record self.old { field = self.new.field; fault = self.new.fault; fields = self.new.fields } }

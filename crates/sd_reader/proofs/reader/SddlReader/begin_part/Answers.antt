@@ -45,7 +45,7 @@ returns-clause-answers c = λ t k.
         seen,
         ap (λ (x : SddlReader). x.twice) ended,
       )
-          (begin-noted s.fields.domain s.sound s.twice s.seen (unless s.fault) t s.state s.field c.args.letter
+          (begin-noted s.fields.domain s.sound s.twice s.seen (unless s.fault t) s.state s.field c.args.letter
           c.args.head rest e.0 c.end_part.new.self.fault c.requires.here c.requires.ready.calm.held
           c.requires.letter e.2),
     )

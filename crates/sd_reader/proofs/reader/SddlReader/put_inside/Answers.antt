@@ -34,6 +34,6 @@ returns-in_default-clause-answers c = λ t k.
       t,
       record { fields = k.fields; fits = k.fits },
       λ rest. rw (c.requires.here, c.push_within.ensures)
-          (entry_text s.fields.domain s.sound s.twice s.seen (unless s.fault) t s.field rest c.args.field _
+          (entry_text s.fields.domain s.sound s.twice s.seen (unless s.fault t) s.field rest c.args.field _
           c.args.byte e40 e41 e59 (λ u. same_within s.field c.args.byte u c.requires.ready.calm.held calm)),
     )
