@@ -3,6 +3,7 @@
 use Rattle.std.specs.Prelude.{ℕ, if◌then◌else◌, List, [], ◌∷◌, ◌++◌, length, Option, Some, None, codes}
 use Rattle.std.specs.Fmt.{decimal}
 use Rattle.std.specs.List.{enumerate_from, flat_map}
+use Rattle.std.specs.Str.{byte as char}
 use Rattle.sd_core.specs.Ace.{AccessControlEntry}
 use Rattle.sd_rights.specs.Flags.{flags_text}
 use Rattle.sd_core.specs.GuidText.{guid_text}
@@ -25,7 +26,7 @@ use Rattle.sd_view.specs.declared.control.TheConstants.{CONTROL_BITS}
 
 -- a blank and the code of a bit of the control word, where it is set
 abbrev pub code_if : ℕ → ControlBit → List ℕ
-code_if control b = if has_bit b.bit control then 32 ∷ b.first ∷ b.second ∷ [] else []
+code_if control b = if has_bit b.bit control then char " " ∷ b.first ∷ b.second ∷ [] else []
 
 -- the control word, and the codes of its bits that have one, in rising order
 unfoldable pub control_line : ℕ → List ℕ

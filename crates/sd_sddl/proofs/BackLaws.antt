@@ -184,7 +184,7 @@ never-large d =
     let sids = with_sids d.owner d.group in
     let with_dacl = with_acl_part which.Dacl (dacl_of d.control) d.dacl sids in
     same-large which.Sacl (sacl_flags_of d.control) d.sacl with_dacl
-        ∙ same-large which.Dacl (dacl_of d.control) d.dacl sids
+    ∙ same-large which.Dacl (dacl_of d.control) d.dacl sids
 
 -- 3. The descriptor.
 
