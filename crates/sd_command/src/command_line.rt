@@ -44,6 +44,8 @@ const NUMERIC_HELP: &str = "Print SIDs without aliases";
 const TOKEN_HELP: &str =
     "The SIDs of the token, parted by commas, with ! before one that only denies";
 
+const WANT_HELP: &str = "The rights that are wanted, as SDDL has them";
+
 const TYPE_HELP: &str = "The type of object: file, the default, key or ds";
 
 const OBJECT_HELP: &str = "The GUID of the object type that is asked for";
@@ -93,7 +95,7 @@ fn explain_command<'a>(alloc: Global) -> Result<Command<'a>, AllocError>
     let command = Ok(named(
         alloc,
         "explain",
-        "Say what each descriptor has, on a block of lines",
+        "Say what each descriptor has, in a block of lines",
         EXPLAIN_EXAMPLE,
     ));
     let command = with_arg(command, option(alloc, "from", FROM_HELP));
@@ -114,7 +116,7 @@ fn check_command<'a>(alloc: Global) -> Result<Command<'a>, AllocError>
     let command = with_arg(command, option(alloc, "from", FROM_HELP));
     let command = with_arg(command, option(alloc, "domain", DOMAIN_HELP));
     let command = with_arg(command, required(alloc, "token", TOKEN_HELP));
-    let command = with_arg(command, option(alloc, "want", "The rights that are wanted"));
+    let command = with_arg(command, option(alloc, "want", WANT_HELP));
     let command = with_arg(
         command,
         flag(alloc, "maximum", "Ask for all that is granted"),

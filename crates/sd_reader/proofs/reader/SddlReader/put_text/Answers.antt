@@ -8,8 +8,8 @@ pub returns-in-Sid-clause-answers : goal.returns-in-Sid-clause-answers
 returns-in-Sid-clause-answers c = λ t rest none.
     let s = c.args.self.now in
     rw (c.push_outer.ensures)
-    (outside_text s.fields.domain s.sound s.twice s.seen (unless s.fault t) s.field c.args.b rest c.requires.text.opens
-    c.requires.text.closes none s.state _ c.requires.text.colon
+    (outside_text s.fields.domain s.sound s.twice s.seen (unless s.fault t) s.field c.args.b rest
+    c.requires.text.opens c.requires.text.closes none s.state _ c.requires.text.colon
     (λ u. same_outer s.field c.args.b u c.requires.calm.held) c.in-Sid.is)
 
 pub returns-then-not-is_blank : goal.returns-then-not-is_blank
