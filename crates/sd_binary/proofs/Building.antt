@@ -15,7 +15,8 @@ use Rattle.sd_rights.specs.Kinds.{is_object}
 use Rattle.sd_core.specs.Sid.{SecurityId, IsSid, sid_bytes}
 use Rattle.sd_view.specs.Acl.{aces_size, acl_size, has_object}
 use Rattle.sd_view.specs.AclLayout.{ace_bytes, acl_bytes, acl_header, revision_if}
-use Rattle.sd_binary.specs.Builds.{AclStands, Building, Builds, OpenAt, OpenIsFree, OpenStands, PartsStand, SidStands, placed}
+use Rattle.sd_binary.specs.Builds.{Builds}
+use Rattle.sd_binary.specs.Inner.Building.{AclStands, Building, OpenAt, OpenIsFree, OpenStands, PartsStand, SidStands, placed}
 use Rattle.sd_binary.specs.Draft.{CanBegin, Draft, IsOpen, IsOpenIn, draft_acl, begun, closed, closed_in, no_parts, open_size, open_size_in, with_ace, with_acl}
 use Rattle.sd_view.specs.declared.acl.AclPart.{AclPart}
 use Rattle.sd_view.specs.declared.acl.AclPart.TheVariants as acl

@@ -3,7 +3,8 @@ use Rattle.std.proofs.Common.{◌≡◌, ◌≤◌, ◌<◌, ℕ, ◌+◌, ◌^�
 use Rattle.std.specs.Prelude.{is_some, unwrap_or}
 use Rattle.sd_core.specs.Sid.{SecurityId}
 use Rattle.sd_view.specs.AclLayout.{acl_bytes}
-use Rattle.sd_binary.specs.Builds.{AclStands, Builds, PartsStand, SidStands, acl_extent_of}
+use Rattle.sd_binary.specs.Builds.{Builds}
+use Rattle.sd_binary.specs.Inner.Building.{AclStands, PartsStand, SidStands, acl_extent_of}
 use Rattle.sd_view.specs.Control.{control_of}
 use Rattle.sd_view.specs.Descriptor.{Shows, ShowsAclPart, ShowsSid, acl_extent, dacl_at, group_at, owner_at, sacl_at}
 use Rattle.sd_binary.specs.Draft.{AclIsWritten, Draft, IsWritten, built, is_present}

@@ -10,7 +10,8 @@ use Rattle.sd_binary.specs.declared.hex_reader.HexReader.{HexReader}
 use Rattle.sd_rights.specs.Limits.{most_hex_text}
 use Rattle.sd_binary.specs.Text.{hex_spells}
 use Rattle.std.specs.Option.{option_to_list}
-use Rattle.sd_binary.specs.HexReading.{ReadsHex, spelled_so_far}
+use Rattle.sd_binary.specs.HexReading.{ReadsHex}
+use Rattle.sd_binary.specs.Inner.HexPairs.{spelled_so_far}
 use Rattle.sd_binary.proofs.Decoded.{spells-odd}
 use Rattle.sd_binary.proofs.HexPairs.{both_spelled, pairs-fault, spells-append, spells-length, spells-nil}
 

@@ -6,7 +6,8 @@ use Rattle.sd_core.specs.Ace.{AccessControlEntry, IsAce, ace_size}
 use Rattle.sd_core.specs.Sid.{SecurityId, IsSid, sid_bytes, sid_size}
 use Rattle.sd_view.specs.Acl.{acl_size}
 use Rattle.sd_view.specs.AclLayout.{ace_bytes, acl_bytes}
-use Rattle.sd_binary.specs.Builds.{Builds, BuildsInOrder, HasLayoutOffsets, Building, OpenIsLast, PartsStand, closed_size, placed}
+use Rattle.sd_binary.specs.Builds.{Builds, BuildsInOrder}
+use Rattle.sd_binary.specs.Inner.Building.{HasLayoutOffsets, Building, OpenIsLast, PartsStand, closed_size, placed}
 use Rattle.sd_binary.specs.Draft.{CanBegin, Draft, draft_acl, begun, built, bytes_after, closed, is_present, more_in, no_parts, open_size, part_of, parts_given, with_ace, with_acl}
 use Rattle.sd_view.specs.Control.{control_of}
 use Rattle.sd_view.specs.Layout.{acl_part, acl_part_size, descriptor_header, header_bytes, layout, offset_if, sid_part, sid_part_size}

@@ -9,7 +9,7 @@ use Rattle.sd_core.specs.Sid.{SecurityId, IsSid, sid_bytes, sid_size}
 use Rattle.sd_core.proofs.SidLaws.{length-sid_bytes}
 use Rattle.sd_view.specs.Acl.{IsAcl, acl_size}
 use Rattle.sd_view.specs.AclLayout.{acl_bytes}
-use Rattle.sd_binary.specs.Builds.{AclStands, PartsStand, SidStands, Stands, acl_extent_of, placed}
+use Rattle.sd_binary.specs.Inner.Building.{AclStands, PartsStand, SidStands, Stands, acl_extent_of, placed}
 use Rattle.sd_view.specs.Descriptor.{Apart, Extent, sid_extent}
 use Rattle.sd_binary.specs.Draft.{Draft, draft_acl, with_acl}
 use Rattle.sd_view.specs.Layout.{acl_part_size, sid_part_size}

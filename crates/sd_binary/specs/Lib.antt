@@ -2,4 +2,5 @@
 pub mod Builds
 pub mod Draft
 pub mod HexReading
+pub mod Inner
 pub mod Text

@@ -1,7 +1,8 @@
 // Descriptors built part by part in a buffer.
 ghost use Rattle.std.specs.Prelude.{◌≡◌, ◌≤◌, ◌<◌, ◌+◌, ◌^◌, ◌↔◌, ◌||◌, [], Some, None, IsErr, OnOk, OnErr};
 ghost use Rattle.sd_core.specs.Ace.{ace_size};
-ghost use Rattle.sd_binary.specs.Builds.{Builds, BuildsInOrder, placed};
+ghost use Rattle.sd_binary.specs.Builds.{Builds, BuildsInOrder};
+ghost use Rattle.sd_binary.specs.Inner.Building.{placed};
 ghost use Rattle.sd_view.specs.Descriptor.{Shows};
 ghost use Rattle.sd_binary.specs.Draft.{CanBegin, Draft, IsOpen, IsWritten, begun, built, bytes_after, closed, no_parts, open_size, part_of, with_ace, with_acl};
 ghost use Rattle.sd_view.specs.Layout.{layout};

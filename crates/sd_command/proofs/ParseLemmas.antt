@@ -8,7 +8,8 @@ use Rattle.clap.specs.declared.error.Error.{Error}
 use Rattle.clap.specs.declared.error.ErrorKind.{ErrorKind}
 use Rattle.clap.specs.declared.error.ErrorKind.TheVariants as kind
 use Rattle.sd_command.specs.CommandLine.{line, bare_line, check_line, convert_line, derive_line, explain_line}
-use Rattle.sd_command.specs.Refusing.{RefusedBy, RefusedFor, is_mistake}
+use Rattle.sd_command.specs.Refusing.{RefusedBy, is_mistake}
+use Rattle.sd_command.specs.Inner.Refused.{RefusedFor}
 use Rattle.sd_command.specs.declared.parse.Refusal.{Refusal}
 use Rattle.sd_command.specs.declared.parse.Refusal.TheVariants.{NoMemory, Usage, Help}
 

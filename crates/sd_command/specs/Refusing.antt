@@ -1,8 +1,7 @@
 -- What a refusal says of the words, by the kinds of fault that `clap` finds in them.
-use Rattle.std.specs.Prelude.{◌≡◌, ◌⊎◌, Bool, true, false}
+use Rattle.std.specs.Prelude.{◌≡◌, Bool, true, false}
 use Rattle.std.specs.List.{list_any}
-use Rattle.clap.specs.Words.{Kinds, IsAmong, kind_of}
-use Rattle.clap.specs.declared.error.Error.{Error}
+use Rattle.clap.specs.Words.{Kinds, IsAmong}
 use Rattle.clap.specs.declared.error.ErrorKind.{ErrorKind}
 use Rattle.clap.specs.declared.error.ErrorKind.TheVariants as kind
 use Rattle.sd_command.specs.declared.parse.Refusal.{Refusal}
@@ -19,9 +18,3 @@ abbrev pub RefusedBy : Kinds → Refusal → Type 0
 RefusedBy kinds NoMemory = Unit {0}
 RefusedBy kinds Usage = list_any is_mistake kinds ≡ true
 RefusedBy kinds (Help text) = IsAmong kind.DisplayHelp kinds
-
--- A refusal for an error of `clap`. A private contract alone cites it; it promises nothing to a caller.
-abbrev pub RefusedFor : Error → Refusal → Type 0
-RefusedFor e NoMemory = (kind_of e ≡ kind.OutOfMemory) ⊎ (kind_of e ≡ kind.DisplayHelp)
-RefusedFor e Usage = is_mistake (kind_of e) ≡ true
-RefusedFor e (Help text) = kind_of e ≡ kind.DisplayHelp

@@ -1,5 +1,5 @@
 -- What the matches of a command line settle.
-use Rattle.std.specs.Prelude.{◌≡◌, ℕ, Bool, ◌||◌, false, if◌then◌else◌}
+use Rattle.std.specs.Prelude.{ℕ, Bool, ◌||◌, false, if◌then◌else◌}
 use Rattle.std.specs.Prelude.{List, [], Option, Some, None, Result, Ok, Err, codes, option_map}
 use Rattle.std.specs.Str.{bytes_eq}
 use Rattle.std.specs.Option.{ok_or}
@@ -68,13 +68,6 @@ value_needed reads (Some text) = reads text
 -- the value, or the fault of an option whose value does not read
 abbrev pub given : {A : Type 0} → OptionName → Option A → Result A UsageFault
 given option value = ok_or value (Value option)
-
--- the same for a reader that is known by what it may answer to a text: private contracts alone cite it
-abbrev pub GivenBy :
-    {A : Type 0} → (Text → Option A → Type 0) → OptionName → Option Text → Result (Option A) UsageFault → Type 0
-GivenBy reads option None result = result ≡ Ok None
-GivenBy reads option (Some text) result =
-    (value : _) × (reads text value) × (result ≡ given option (option_map (λ v. Some v) value))
 
 unfoldable pub given_domain : List Row → Result (Option SecurityId) UsageFault
 given_domain rows = given name.Domain (value_if domain_reads (first_of (codes "domain") rows))

@@ -4,7 +4,8 @@ ghost use Rattle.std.specs.String.{string_bytes};
 ghost use Rattle.clap.specs.Words.{subcommand_of, subcommand_rows_of, takes, fault_of};
 ghost use Rattle.sd_command.specs.CommandLine.{line};
 ghost use Rattle.sd_command.specs.declared.parse.Refusal.TheVariants.{NoMemory};
-ghost use Rattle.sd_command.specs.Refusing.{RefusedBy, RefusedFor};
+ghost use Rattle.sd_command.specs.Refusing.{RefusedBy};
+ghost use Rattle.sd_command.specs.Inner.Refused.{RefusedFor};
 
 use crate::command_line::command_line;
 use clap::error::ErrorKind;

@@ -4,6 +4,7 @@ ghost use Rattle.clap.specs.Words.{first_of, found_of, rows_of, subcommand_rows_
 ghost use Rattle.sd_command.specs.Usage.{usage_line};
 ghost use Rattle.std.specs.Fn.{FnOnceReturnsAt};
 ghost use Rattle.std.specs.Option.{option_copied};
+ghost use Rattle.sd_command.specs.Inner.Given.{GivenBy};
 ghost use Rattle.sd_command.specs.Settings as specs;
 ghost use Rattle.sd_command.specs.Settings.{option_text, with_entries};
 
@@ -163,7 +164,7 @@ pub(crate) fn value_of<T, R: FnOnce(&str) -> Option<T>>(
     read: R,
 ) -> Result<Option<T>, UsageFault>
     requires { R.IsAlwaysCallable read }
-    ensures { specs.GivenBy (λ text value. FnOnceReturnsAt R.FnOnce read text value) option
+    ensures { GivenBy (λ text value. FnOnceReturnsAt R.FnOnce read text value) option
         (first_of (option_text option) (rows_of (found_of matches.now))) result }
 {
     match text_of(matches, option.text()) {

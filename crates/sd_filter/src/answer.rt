@@ -1,5 +1,5 @@
 // The answer to one line.
-ghost use Rattle.std.specs.Prelude.{◌≡◌, ℕ, List, ◌++◌, [], ◌∷◌, length, true, is_some, Ok, Err};
+ghost use Rattle.std.specs.Prelude.{◌≡◌, ℕ, List, ◌++◌, [], ◌∷◌, true, is_some, Ok, Err};
 ghost use Rattle.sd_filter.specs.Lines.{line_feed};
 ghost use Rattle.sd_sink.specs.Print.{Prints};
 ghost use Rattle.sd_filter.specs.Answers.{act_bound, act_fault, act_text, answer, as_line_fault, bound, form_text};

@@ -1,5 +1,5 @@
 // The bytes go one after another into the line in hand, and each LF answers it.
-ghost use Rattle.std.specs.Prelude.{◌≡◌, ◌+◌, ◌<◌, ◌≤◌, ◌^◌, ℕ, List, ◌++◌, [], ◌∷◌, length, ◌≢◌, slice_index};
+ghost use Rattle.std.specs.Prelude.{◌≡◌, ◌+◌, ◌<◌, ℕ, List, ◌++◌, [], ◌∷◌, length, ◌≢◌, slice_index};
 ghost use Rattle.std.specs.Prelude.{MatchResult, IfOk, IsOk, Ok, false, unwrap_or, IfSome};
 ghost use Rattle.sd_sink.specs.Sink.{SinkTold};
 ghost use Rattle.sd_core.specs.Token.{TokenShown};

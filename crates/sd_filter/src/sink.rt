@@ -1,5 +1,4 @@
 // A sink over a drain.
-ghost use Rattle.std.specs.Prelude.{◌≡◌};
 ghost use Rattle.sd_sink.specs.Sink.{Puts};
 ghost use Rattle.sd_filter.specs.Told.{sink_of};
 

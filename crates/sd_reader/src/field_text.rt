@@ -1,8 +1,8 @@
 //! The text of the field at hand, of at most MOST_FIELD_SIZE bytes.
 
-ghost use Rattle.std.specs.Prelude.{◌≡◌, ◌≤◌, ◌↔◌, ℕ, ◌+◌, ◌++◌, length, take, IsTrue, true};
+ghost use Rattle.std.specs.Prelude.{◌≡◌, ◌≤◌, ◌+◌, ◌++◌, length, take, true};
 ghost use Rattle.sd_rights.specs.Limits.{most_field};
-ghost use Rattle.sd_reader.specs.Inner.Held.{Held, no_text, broken_text, held_with, held_run, held_blank, outer_with, within_with, held_text};
+ghost use Rattle.sd_reader.specs.Inner.Held.{Held, no_text, broken_text, held_with, held_run, held_blank, outer_with, within_with};
 
 use crate::line::is_blank;
 use sd_rights::MOST_FIELD_SIZE;

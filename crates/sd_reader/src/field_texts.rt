@@ -1,9 +1,9 @@
 //! The texts of fields that stand in SDDL alone (MS-DTYP 2.5.1.1).
 
-ghost use Rattle.std.specs.Prelude.{◌≡◌, ◌≤◌, length, if◌then◌else◌, List, ℕ, Some, None, IfSome};
+ghost use Rattle.std.specs.Prelude.{◌≡◌, Some, None};
 ghost use Rattle.std.specs.Str.{str_eq_ignore_ascii_case};
 ghost use Rattle.sd_view.specs.Control.{no_flags};
-ghost use Rattle.sd_reader.specs.FieldTexts.{after_a, ends_with_null, flags_after, front_reads, object_reads, one_letter, two_letters};
+ghost use Rattle.sd_reader.specs.FieldTexts.{ends_with_null, flags_after, front_reads, object_reads, two_letters};
 
 use crate::reading::AclFront;
 use sd_binary::AclFlags;

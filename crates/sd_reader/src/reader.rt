@@ -1,14 +1,13 @@
 //! A line, read as it comes: byte by byte, and together what stands whole in a piece.
 
 ghost use Rattle.std.specs.Prelude.{◌≡◌, ◌≤◌, ℕ, List, [], ◌∷◌, ◌++◌, codes, length, take, ◌||◌, if◌then◌else◌, true, false, Option, Some, None, Ok, Err, IfOk, IfSome, MatchResult};
-ghost use Rattle.std.specs.Option.{option_copied, option_to_list};
-ghost use Rattle.std.specs.Str.{byte as char};
+ghost use Rattle.std.specs.Option.{option_copied};
 ghost use Rattle.sd_core.specs.Sid.{IsSid, SecurityId};
 ghost use Rattle.sd_view.specs.Descriptor.{IsDescriptor, Shows};
 ghost use Rattle.sd_binary.specs.Draft.{IsWritten};
 ghost use Rattle.sd_reader.specs.Inner.Held.{IsHeld, no_text, held_text};
 ghost use Rattle.sd_reader.specs.Line.{byte, head_at, head_of as head_named, pieces_from};
-ghost use Rattle.sd_reader.specs.Inner.FoldedReading.{FieldsRead, finished, reads_as, take_field};
+ghost use Rattle.sd_reader.specs.Inner.FoldedReading.{FieldsRead, finished, take_field};
 ghost use Rattle.sd_rights.specs.Chains.{and_then, unless};
 ghost use Rattle.sd_reader.specs.Meaning.{means};
 ghost use Rattle.sd_reader.specs.Inner.Reads.{CanTake, HasReadFields, Takes};

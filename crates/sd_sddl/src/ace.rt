@@ -1,6 +1,6 @@
 //! ACEs as SDDL: six fields in parentheses (MS-DTYP 2.5.1.1).
 
-ghost use Rattle.std.specs.Prelude.{◌≡◌, ◌++◌, codes};
+ghost use Rattle.std.specs.Prelude.{◌++◌, codes};
 ghost use Rattle.sd_sink.specs.Print.{Prints};
 ghost use Rattle.sd_sddl.specs.Printed.{ace_text, kind_field, object_field, object_text};
 

@@ -1,6 +1,6 @@
 //! Descriptors as SDDL (MS-DTYP 2.5.1).
 
-ghost use Rattle.std.specs.Prelude.{◌≡◌, ◌≤◌, ◌+◌, ◌*◌, ◌++◌, Bool, length, Ok, Option};
+ghost use Rattle.std.specs.Prelude.{◌≡◌, ◌≤◌, ◌+◌, ◌*◌, Bool, length, Ok, Option};
 ghost use Rattle.sd_sink.specs.Print.{Prints};
 ghost use Rattle.sd_core.specs.Sid.{SecurityId};
 ghost use Rattle.sd_sink.specs.Sink.{Puts};

@@ -1,7 +1,7 @@
 //! A printer that gathers small texts, and hands them down together.
 
-ghost use Rattle.std.specs.Prelude.{◌≡◌, ◌+◌, ◌≤◌, ◌++◌, List, ℕ, [], length, take, true, false};
-ghost use Rattle.sd_sink.specs.Print.{PrintTold, Prints, Begins};
+ghost use Rattle.std.specs.Prelude.{◌≡◌, [], false};
+ghost use Rattle.sd_sink.specs.Print.{Prints, Begins};
 
 use crate::held::{FRONT, Held};
 use crate::print::Print;

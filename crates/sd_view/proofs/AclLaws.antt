@@ -23,7 +23,8 @@ use Rattle.sd_view.specs.declared.fault.AclFault.TheVariants as faults
 use Rattle.sd_view.specs.Ace.{ShowsAce, ShowsGuid, announces_inherited, announces_object}
 use Rattle.sd_view.specs.Acl.{BeginsWithAcl, IsAcl, ShowsAces, ShowsAcl, acl_size, aces_size}
 use Rattle.std.specs.Option.{option_or}
-use Rattle.sd_view.specs.AclReading.{IsReadableAce, IsReadableAcl, ace_fault, ace_of, aces_fault, aces_of, acl_fault, acl_of, acl_at_front, guid_if, inherited_in, kind_in, object_in, extent_fault, sid_offset_in}
+use Rattle.sd_view.specs.AclReading.{ace_fault, ace_of, aces_fault, aces_of, acl_fault, acl_of, acl_at_front, guid_if, inherited_in, kind_in, object_in, extent_fault, sid_offset_in}
+use Rattle.sd_view.specs.Inner.ReadableAcl.{IsReadableAce, IsReadableAcl}
 use Rattle.sd_view.proofs.FirstFault.{first_none, went_on, passed}
 
 -- one ACE of the count read

@@ -8,7 +8,8 @@ use Rattle.sd_rights.specs.Kinds.{is_object}
 use Rattle.sd_core.specs.Sid.{SecurityId, BeginsWithSid, sid_bytes, sid_of}
 use Rattle.sd_view.specs.Ace.{announces_inherited, announces_object}
 use Rattle.sd_view.specs.AclLayout.{ace_body, guid_part, guids, front_size}
-use Rattle.sd_view.specs.AclReading.{IsReadableAce, ace_of, guid_if, inherited_in, kind_in, object_in, sid_offset_in}
+use Rattle.sd_view.specs.AclReading.{ace_of, guid_if, inherited_in, kind_in, object_in, sid_offset_in}
+use Rattle.sd_view.specs.Inner.ReadableAcl.{IsReadableAce}
 use Rattle.sd_view.specs.Bytes.{u32_at}
 use Rattle.sd_core.proofs.SidLaws.{length-sid_bytes}
 

@@ -8,7 +8,8 @@ use Rattle.sd_view.specs.declared.acl.AclPart.{AclPart}
 use Rattle.sd_view.specs.declared.acl.AclPart.TheVariants as acl
 use Rattle.sd_view.specs.Inner.Found.{written_of}
 use Rattle.sd_view.specs.Layout.{acl_part_size, sid_part}
-use Rattle.sd_view.specs.Reading.{IsSidAt, sid_shown}
+use Rattle.sd_view.specs.Reading.{sid_shown}
+use Rattle.sd_view.specs.Inner.Readable.{IsSidAt}
 use Rattle.sd_core.proofs.SidLaws.{length-sid_bytes}
 use Rattle.sd_view.proofs.ReadLaws.{stands-at, stands-sid}
 

@@ -19,7 +19,8 @@ use Rattle.sd_core.specs.Ace.{AccessControlEntry}
 use Rattle.sd_view.specs.Acl.{BeginsWithAcl}
 use Rattle.sd_view.specs.AclReading.{acl_fault, acl_of, acl_at_front}
 use Rattle.sd_view.specs.Descriptor.{Apart, AreApart, Descriptor, Extent, Extents, IsAclPart, IsDescriptor, Shows, ShowsAclPart, ShowsSid, control_at, dacl_at, dacl_present, extents_of, group_at, owner_at, sacl_at, sacl_present, self_relative}
-use Rattle.sd_view.specs.Reading.{IsAclAt, IsSidAt, Readable, acl_part_fault, acl_shown, fault, fault_in, header_fault, overlap_fault, overlaps_fault, parts_fault, reading, share_a_byte, shown, sid_fault, sid_shown}
+use Rattle.sd_view.specs.Reading.{acl_part_fault, acl_shown, fault, fault_in, header_fault, overlap_fault, overlaps_fault, parts_fault, reading, share_a_byte, shown, sid_fault, sid_shown}
+use Rattle.sd_view.specs.Inner.Readable.{IsAclAt, IsSidAt, Readable}
 use Rattle.sd_view.proofs.AclLaws.{acl-begins, acl-readable, begins-acl, shows-acl-limits}
 use Rattle.sd_view.proofs.FirstFault.{first_none, none_first, otherwise, passed, went_on}
 

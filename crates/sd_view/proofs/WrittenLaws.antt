@@ -14,7 +14,8 @@ use Rattle.sd_view.specs.Bytes.{u16_at, u32_at}
 use Rattle.sd_view.specs.Ace.{ShowsAce, announces_inherited, announces_object}
 use Rattle.sd_view.specs.Acl.{acl_size, aces_size, has_object}
 use Rattle.sd_view.specs.AclLayout.{ace_body, ace_bytes, ace_front, acl_bytes, acl_header, flag_if, front_size, object_flags}
-use Rattle.sd_view.specs.AclReading.{IsReadableAce, IsReadableAcl, ace_of, aces_fault, aces_of, acl_of, guid_if, inherited_in, kind_in, object_in}
+use Rattle.sd_view.specs.AclReading.{ace_of, aces_fault, aces_of, acl_of, guid_if, inherited_in, kind_in, object_in}
+use Rattle.sd_view.specs.Inner.ReadableAcl.{IsReadableAce, IsReadableAcl}
 use Rattle.sd_view.specs.Inner.Written.{all_named_flags, named_flags}
 use Rattle.sd_view.proofs.AclLaws.{ace-fits, ace-readable, ace-shows, aces-fit, aces-shows, u16_at-front}
 use Rattle.sd_view.proofs.BodyLaws.{body_at, length_body}

@@ -1,17 +1,16 @@
 -- The first fault of an ACL, and its ACEs where there is none.
 -- `read` promises that this agrees with `Shows`.
-use Rattle.std.specs.Prelude.{◌≡◌, ◌≤◌, ℕ, zero, suc, ◌+◌, ◌/◌, ◌%◌, ◌==◌, ◌||◌, not, nat_lt, Bool, if◌then◌else◌, List, [], ◌∷◌, length, drop, take, slice_index, Option, Some, None, is_some, unwrap_or}
+use Rattle.std.specs.Prelude.{ℕ, zero, suc, ◌+◌, ◌/◌, ◌%◌, ◌==◌, ◌||◌, not, nat_lt, Bool, if◌then◌else◌, List, [], ◌∷◌, length, drop, take, slice_index, Option, Some, None, is_some, unwrap_or}
 use Rattle.std.specs.Option.{option_or}
 use Rattle.uuid.specs.Parts.{swap_fields}
-use Rattle.sd_core.specs.Ace.{AccessControlEntry, IsAce, guid_size, sid_offset}
+use Rattle.sd_core.specs.Ace.{AccessControlEntry, guid_size, sid_offset}
 use Rattle.sd_rights.specs.Kinds.{kind_of}
-use Rattle.sd_core.specs.Sid.{BeginsWithSid, sid_at, sid_of}
+use Rattle.sd_core.specs.Sid.{sid_at, sid_of}
 use Rattle.sd_rights.specs.declared.kinds.AceKind.{AceKind}
 use Rattle.sd_rights.specs.declared.kinds.AceKind.TheVariants as kinds
 use Rattle.sd_view.specs.declared.fault.AclFault.{AclFault}
 use Rattle.sd_view.specs.declared.fault.AclFault.TheVariants as faults
 use Rattle.sd_view.specs.Ace.{announces_inherited, announces_object}
-use Rattle.sd_view.specs.Acl.{IsAcl}
 use Rattle.sd_view.specs.Bytes.{u16_at, u32_at}
 
 -- the fields of an ACE's extent, which count only where the extent has no fault
@@ -82,18 +81,3 @@ acl_fault bytes =
 -- the ACEs of an ACL's extent
 abbrev pub acl_of : List ℕ → List AccessControlEntry
 acl_of extent = aces_of (u16_at 4 extent) (drop 8 extent)
-
--- what a reader of an ACE's extent needs, and of an ACL's
-pub record IsReadableAce (extent : List ℕ) : Type 0 where
-  pub room : 16 ≤ length extent
-  pub sound : extent_fault extent ≡ None
-  pub front : sid_offset_in extent + 8 ≤ length extent
-  pub sid : BeginsWithSid (drop (sid_offset_in extent) extent) (sid_of (drop (sid_offset_in extent) extent))
-  pub limits : IsAce (ace_of extent)
-
-pub record IsReadableAcl (extent : List ℕ) : Type 0 where
-  pub room : 8 ≤ length extent
-  pub small : length extent ≤ 65535
-  pub size : u16_at 2 extent ≡ length extent
-  pub sound : aces_fault (u16_at 4 extent) (drop 8 extent) ≡ None
-  pub limits : IsAcl (acl_of extent)

@@ -1,7 +1,7 @@
 -- The first fault of some bytes, and the descriptor that they show where there is none.
 -- `read` promises that this agrees with `Shows`.
-use Rattle.std.specs.Prelude.{◌≡◌, ◌≤◌, ℕ, ◌+◌, ◌==◌, ◌||◌, ◌&&◌, not, nat_lt, Bool, true, false, if◌then◌else◌, List, length, drop, slice_index, Option, Some, None, option_map, is_some, Result}
-use Rattle.sd_core.specs.Sid.{SecurityId, sid_at, sid_stands}
+use Rattle.std.specs.Prelude.{ℕ, ◌+◌, ◌==◌, ◌||◌, ◌&&◌, not, nat_lt, Bool, false, if◌then◌else◌, List, length, drop, slice_index, Option, Some, None, option_map, is_some, Result}
+use Rattle.sd_core.specs.Sid.{SecurityId, sid_at}
 use Rattle.sd_view.specs.declared.fault.Part.{Part}
 use Rattle.sd_view.specs.declared.fault.Part.TheVariants.{Owner, Group, Sacl, Dacl}
 use Rattle.sd_view.specs.declared.fault.SdFault.{SdFault}
@@ -12,9 +12,8 @@ use Rattle.sd_view.specs.declared.acl.AclPart.{AclPart}
 use Rattle.sd_view.specs.declared.acl.AclPart.TheVariants as acl
 use Rattle.std.specs.Option.{option_or}
 use Rattle.sd_rights.specs.Chains.{unless}
-use Rattle.sd_view.specs.AclReading.{IsReadableAcl, acl_fault, acl_of, acl_at_front}
-use Rattle.sd_view.specs.Bytes.{u16_at}
-use Rattle.sd_view.specs.Descriptor.{Descriptor, Extent, Extents, IsDescriptor, control_at, dacl_at, dacl_present, extents_of, group_at, owner_at, sacl_at, sacl_present, self_relative}
+use Rattle.sd_view.specs.AclReading.{acl_fault, acl_of, acl_at_front}
+use Rattle.sd_view.specs.Descriptor.{Descriptor, Extent, Extents, control_at, dacl_at, dacl_present, extents_of, group_at, owner_at, sacl_at, sacl_present, self_relative}
 
 -- the SID at an offset; an offset of 0 means that there is none
 unfoldable pub sid_shown : List ℕ → ℕ → Option SecurityId
@@ -105,24 +104,3 @@ fault bytes =
 -- what is read of some bytes: the first fault, or the descriptor that they show
 unfoldable pub reading : List ℕ → Result Descriptor SdFault
 reading bytes = unless (fault bytes) (shown bytes)
-
--- where a SID is meant, one stands
-pub record IsSidAt (bytes : List ℕ) (offset : ℕ) : Type 0 where
-  pub within : offset ≤ length bytes
-  pub stands : (offset ≡ 0 → ⊥) → sid_stands (drop offset bytes) ≡ true
-
--- where an ACL is meant, one stands
-pub record IsAclAt (bytes : List ℕ) (present : Bool) (offset : ℕ) : Type 0 where
-  pub within : present ≡ true → (offset ≡ 0 → ⊥) → offset + 8 ≤ length bytes
-  pub whole : present ≡ true → (offset ≡ 0 → ⊥) → u16_at 2 (drop offset bytes) ≤ length (drop offset bytes)
-  pub extent : present ≡ true → (offset ≡ 0 → ⊥) → IsReadableAcl (acl_at_front (drop offset bytes))
-
--- bytes without a fault, with what a reader of their parts needs
-pub record Readable (bytes : List ℕ) : Type 0 where
-  pub sound : fault bytes ≡ None
-  pub header : 20 ≤ length bytes
-  pub owner : IsSidAt bytes (owner_at bytes)
-  pub group : IsSidAt bytes (group_at bytes)
-  pub sacl : IsAclAt bytes (sacl_present (control_at bytes)) (sacl_at bytes)
-  pub dacl : IsAclAt bytes (dacl_present (control_at bytes)) (dacl_at bytes)
-  pub limits : IsDescriptor (shown bytes)

@@ -1,11 +1,12 @@
 // Access control entries read in place.
-ghost use Rattle.std.specs.Prelude.{◌≡◌, ◌≤◌, ◌<◌, ◌+◌, ◌%◌, ◌^◌, length, take, drop, Some, IfOk};
+ghost use Rattle.std.specs.Prelude.{◌≡◌, ◌≤◌, ◌<◌, ◌+◌, ◌%◌, length, take, drop, Some, IfOk};
 ghost use Rattle.uuid.specs.Parts.{swap_fields};
 ghost use Rattle.sd_core.specs.Ace.{IsAce, ace_size};
 ghost use Rattle.sd_rights.specs.Kinds.{is_object};
 ghost use Rattle.sd_view.specs.Ace.{announces_inherited, announces_object};
 ghost use Rattle.sd_view.specs.AclLayout.{ace_body, ace_bytes, front_size};
-ghost use Rattle.sd_view.specs.AclReading.{IsReadableAce, ace_fault, ace_of, kind_in, extent_fault, sid_offset_in};
+ghost use Rattle.sd_view.specs.AclReading.{ace_fault, ace_of, kind_in, extent_fault, sid_offset_in};
+ghost use Rattle.sd_view.specs.Inner.ReadableAcl.{IsReadableAce};
 ghost use Rattle.sd_view.specs.Bytes.{u16_at as u16_of};
 ghost use Rattle.sd_view.specs.Inner.Found.{FailsBy};
 ghost use Rattle.sd_view.specs.Inner.Written.{named_flags};
@@ -143,7 +144,8 @@ pub struct AceView<'a> {
 
 impl<'a> Model for AceView<'a> {
     ghost use Rattle.sd_core.specs.Ace.{AccessControlEntry};
-    ghost use Rattle.sd_view.specs.AclReading.{IsReadableAce, ace_of};
+    ghost use Rattle.sd_view.specs.AclReading.{ace_of};
+    ghost use Rattle.sd_view.specs.Inner.ReadableAcl.{IsReadableAce};
 
     ghost Value = { AccessControlEntry };
 

@@ -1,8 +1,9 @@
 // Access control lists read in place.
 ghost use Rattle.std.specs.Prelude.{◌≡◌, ◌≤◌, ◌<◌, ◌+◌, ◌^◌, length, take, drop, None, IfOk};
 ghost use Rattle.std.specs.Iterator.{YieldsFirst, item_count};
-ghost use Rattle.sd_view.specs.Acl.{IsAcl, acl_size, aces_size, has_object};
-ghost use Rattle.sd_view.specs.AclReading.{IsReadableAcl, ace_fault, ace_of, acl_fault, acl_of, acl_at_front, aces_fault, aces_of};
+ghost use Rattle.sd_view.specs.Acl.{IsAcl, acl_size, has_object};
+ghost use Rattle.sd_view.specs.AclReading.{ace_fault, ace_of, acl_fault, acl_of, acl_at_front, aces_fault, aces_of};
+ghost use Rattle.sd_view.specs.Inner.ReadableAcl.{IsReadableAcl};
 ghost use Rattle.sd_view.specs.Bytes.{u16_at as u16_of};
 ghost use Rattle.sd_view.specs.Inner.Found.{FailsBy};
 
@@ -79,7 +80,8 @@ impl<'a> Model for AclView<'a> {
     ghost use Rattle.std.specs.Prelude.{◌≡◌, List};
     ghost use Rattle.sd_core.specs.Ace.{AccessControlEntry};
     ghost use Rattle.sd_view.specs.Acl.{acl_size, has_object};
-    ghost use Rattle.sd_view.specs.AclReading.{IsReadableAcl, acl_of};
+    ghost use Rattle.sd_view.specs.AclReading.{acl_of};
+    ghost use Rattle.sd_view.specs.Inner.ReadableAcl.{IsReadableAcl};
 
     ghost Value = { List AccessControlEntry };
 

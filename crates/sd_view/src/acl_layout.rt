@@ -4,7 +4,8 @@ ghost use Rattle.std.specs.List.{flat_map};
 ghost use Rattle.byteorder.specs.Endian.{little_bytes};
 ghost use Rattle.sd_sink.specs.Print.{Prints};
 ghost use Rattle.sd_view.specs.Acl.{has_object};
-ghost use Rattle.sd_view.specs.AclReading.{IsReadableAcl, aces_fault, acl_of};
+ghost use Rattle.sd_view.specs.AclReading.{aces_fault, acl_of};
+ghost use Rattle.sd_view.specs.Inner.ReadableAcl.{IsReadableAcl};
 ghost use Rattle.sd_view.specs.Inner.Written.{all_named_flags};
 ghost use Rattle.sd_view.specs.AclLayout.{ace_bytes, acl_bytes, acl_header as header_bytes, revision_if};
 

@@ -1,9 +1,9 @@
 // The written form of a descriptor.
-ghost use Rattle.std.specs.Prelude.{◌≡◌, ◌≤◌, ◌<◌, ◌+◌, ◌^◌, ◌++◌, ℕ, List, length};
+ghost use Rattle.std.specs.Prelude.{◌≡◌, ◌≤◌, ◌<◌, ◌+◌, ℕ, List, length};
 ghost use Rattle.sd_sink.specs.Print.{Prints};
 ghost use Rattle.sd_sink.specs.Sink.{Puts};
 ghost use Rattle.sd_view.specs.Descriptor.{IsDescriptor, Shows};
-ghost use Rattle.sd_view.specs.Layout.{acl_part, descriptor_header, header_bytes, layout, offset_if, parts_bytes, size};
+ghost use Rattle.sd_view.specs.Layout.{acl_part, descriptor_header, header_bytes, layout, offset_if, size};
 ghost use Rattle.sd_view.specs.declared.limits.TheConstants.{MOST_LAYOUT_SIZE};
 
 use crate::acl::AclPart;

@@ -3,7 +3,8 @@ ghost use Rattle.std.specs.Prelude.{◌≡◌, ◌≤◌, ◌<◌, ◌+◌, ◌*
 ghost use Rattle.sd_view.specs.Descriptor.{Descriptor, Shows, IsDescriptor, acl_extent, extents_of, sid_extent};
 ghost use Rattle.sd_view.specs.Layout.{layout, sid_part, size};
 ghost use Rattle.sd_view.specs.Inner.Found.{FailsBy, extents_seen, shown_written, written_of};
-ghost use Rattle.sd_view.specs.Reading.{IsAclAt, IsSidAt, acl_part_fault, acl_shown, fault, fault_in, header_fault, share_a_byte as share_of, overlap_fault, overlaps_fault, parts_fault, reading, shown, sid_fault, sid_shown};
+ghost use Rattle.sd_view.specs.Reading.{acl_part_fault, acl_shown, fault, fault_in, header_fault, share_a_byte as share_of, overlap_fault, overlaps_fault, parts_fault, reading, shown, sid_fault, sid_shown};
+ghost use Rattle.sd_view.specs.Inner.Readable.{IsAclAt, IsSidAt};
 ghost use Rattle.sd_view.specs.declared.limits.TheConstants.{HEADER_SIZE, MOST_LAYOUT_SIZE, MOST_SID_SIZE};
 
 use crate::acl::{AclPart, Written, acl_view, check_acl};
@@ -32,7 +33,8 @@ impl<'a> Model for SdView<'a> {
     ghost use Rattle.std.specs.Prelude.{◌≡◌};
     ghost use Rattle.sd_view.specs.Descriptor.{Descriptor};
     ghost use Rattle.sd_view.specs.Inner.Found.{shown_written};
-    ghost use Rattle.sd_view.specs.Reading.{Readable, shown};
+    ghost use Rattle.sd_view.specs.Reading.{shown};
+    ghost use Rattle.sd_view.specs.Inner.Readable.{Readable};
 
     ghost Value = { Descriptor };
 

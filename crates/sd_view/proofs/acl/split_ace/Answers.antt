@@ -1,6 +1,6 @@
 use Rattle.std.proofs.Common.{◌≡◌, ℕ, take, sym, ap, ◌∙◌, subst, arith}
 use Rattle.sd_view.specs.Bytes.{u16_at}
-use Rattle.sd_view.specs.AclReading.{IsReadableAce}
+use Rattle.sd_view.specs.Inner.ReadableAcl.{IsReadableAce}
 use Rattle.sd_view.proofs.AclLaws.{ace-bounds, ace-readable}
 use Rattle.sd_view.proofs.acl.split_ace.Goals as goal
 

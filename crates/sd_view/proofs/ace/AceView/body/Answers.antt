@@ -3,7 +3,8 @@ use Rattle.std.proofs.lemmas.List.{length-take-le}
 use Rattle.sd_core.specs.Ace.{AccessControlEntry, ace_size}
 use Rattle.sd_core.specs.Sid.{sid_of}
 use Rattle.sd_view.specs.AclLayout.{ace_body, front_size}
-use Rattle.sd_view.specs.AclReading.{IsReadableAce, ace_of, kind_in, sid_offset_in}
+use Rattle.sd_view.specs.AclReading.{ace_of, kind_in, sid_offset_in}
+use Rattle.sd_view.specs.Inner.ReadableAcl.{IsReadableAce}
 use Rattle.sd_view.proofs.AclLaws.{sid-room}
 use Rattle.sd_view.proofs.BodyLaws.{front, sid_count, length_body, body_at}
 use Rattle.sd_view.proofs.ace.AceView.body.Goals as goal
