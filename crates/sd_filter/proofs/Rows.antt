@@ -1,9 +1,11 @@
 -- Worked rows of lines and answers, computed.
-use Rattle.std.proofs.Common.{◌≡◌, [], ◌∷◌, ◌++◌, None, false, codes, refl}
+use Rattle.std.proofs.Common.{◌≡◌, ◌+◌, ◌*◌, ◌/◌, [], ◌∷◌, ◌++◌, None, false, codes, refl}
 use Rattle.base64.proofs.OnLiterals.{base64_on_literals}
 use Rattle.hex.proofs.OnLiterals.{hex_on_literals}
 use Rattle.sd_core.specs.Sid.{sid_at}
+use Rattle.sd_rights.specs.Limits.{most_base64_text, most_hex_text, most_sddl_text}
 use Rattle.sd_view.specs.Bytes.{u16_at, u32_at}
+use Rattle.sd_view.specs.declared.limits.TheConstants.{CAPACITY}
 use Rattle.sd_view.specs.Layout.{header_bytes}
 use Rattle.sd_view.specs.Reading.{acl_part_fault, acl_shown, fault, header_fault, overlap_fault, overlaps_fault, parts_fault, reading, sid_fault, sid_shown}
 use Rattle.sd_binary.specs.Text.{base64_spells, hex_spells}
@@ -16,6 +18,14 @@ use Rattle.sd_command.specs.declared.job.Job.{Job}
 use Rattle.sd_filter.specs.Answers.{answer, form_text, line_means}
 use Rattle.sd_filter.specs.Faults.{fault_text}
 use Rattle.sd_filter.specs.Lines.{ended, lines, cut_at_line_feeds, without_cr}
+
+-- the longest descriptor that is held, and the limits of a line that follow from it
+pub longest : CAPACITY ≡ 131226
+longest = refl
+
+pub longest_lines : (most_hex_text ≡ 2 * CAPACITY) × (most_base64_text ≡ 4 * (CAPACITY / 3))
+    × (most_sddl_text ≡ 8 * CAPACITY + 64)
+longest_lines = (refl, refl, refl)
 
 -- "a" CR LF, LF, "b" CR CR LF, "c" CR: the CR at the very end stays
 pub four_lines : lines
