@@ -14,6 +14,8 @@ mod program;
 mod running;
 mod sink;
 mod streams;
+#[cfg(test)]
+mod tests;
 
 pub use device::{DeviceFault, Drain, Source};
 pub use engine::{Engine, Report, RunFault};

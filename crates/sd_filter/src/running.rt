@@ -46,8 +46,8 @@ pub fn run<R: Source, W: Drain>(
     run_at_most(&mut engine.state, token, source, drain, MOST_READS)
 }
 
-// The same for any number of reads: what it returns after the last one does not hang on how many they are.
-fn run_at_most<R: Source, W: Drain>(
+// The same for any number of reads, so that a test can reach the last of them.
+pub(crate) fn run_at_most<R: Source, W: Drain>(
     state: &mut RunState,
     token: &mut Token,
     source: &mut R,
