@@ -266,10 +266,8 @@ fn refuses_words(rt: HostRuntime) {
             let ended = program(&rt, line, Input::new(b"00\n"), output, faults);
             let front = text.as_bytes().get(..room).unwrap_or(b"");
             ended.expect(&rt, 2, b"", front, b"");
-            assert!(rt;
-                ended.faults.writes == writes && ended.calls.is_empty(),
-                "{row}"
-            );
+            let is_idle = ended.faults.writes == writes && ended.calls.is_empty();
+            assert!(rt; is_idle, "{row}");
         }
     }
 }
@@ -286,10 +284,8 @@ fn flushes_help(rt: HostRuntime) {
             let faults = Output::new(rt.alloc());
             let ended = program(&rt, line, Input::new(b"00\n"), output, faults);
             ended.expect(&rt, 0, ended.output.taken.as_slice(), b"", b"wf");
-            assert!(rt;
-                ended.calls.len() == 2 && ended.output.flushes == 1,
-                "{line}"
-            );
+            let is_flushed = ended.calls.len() == 2 && ended.output.flushes == 1;
+            assert!(rt; is_flushed, "{line}");
             ended.output
         };
         let whole = said(Output::new(rt.alloc()));
