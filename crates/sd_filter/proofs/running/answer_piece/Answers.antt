@@ -9,3 +9,6 @@ returns-in-Err-flush-clause-fed g c = λ token0 sink0 got h.
 
 pub returns-then-not-a_line_ended-clause-handed_on : goal.returns-then-not-a_line_ended-clause-handed_on
 returns-then-not-a_line_ended-clause-handed_on g c = search rules
+
+pub returns-in-Err-flush-clause-handed_on : goal.returns-in-Err-flush-clause-handed_on
+returns-in-Err-flush-clause-handed_on g c = search rules
