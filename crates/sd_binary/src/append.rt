@@ -4,7 +4,8 @@ ghost use Rattle.std.specs.List.{flat_map};
 ghost use Rattle.byteorder.specs.Endian.{big_bytes, little_bytes};
 ghost use Rattle.sd_core.specs.Ace.{ace_size};
 ghost use Rattle.sd_core.specs.Sid.{IsSid, sid_bytes, sid_size};
-ghost use Rattle.sd_view.specs.AclLayout.{ace_bytes, guid_part};
+ghost use Rattle.sd_rights.specs.Kinds.{is_object};
+ghost use Rattle.sd_view.specs.AclLayout.{ace_bytes, ace_front, guid_part, guids};
 ghost use Rattle.sd_view.specs.declared.limits.TheConstants.{CAPACITY, MOST_SID_SIZE};
 
 use crate::buffer::SdBuf;
@@ -81,11 +82,29 @@ pub(crate) fn append_ace(buf: &mut SdBuf, ace: &Ace)
     requires { length buf.old + ace_size ace.now ≤ CAPACITY }
     ensures { buf.new ≡ buf.old ++ ace_bytes ace.now }
 {
-    let front = AceFront::of_ace(ace);
-    buf.append_front(&front.cells, front.count);
-    append_guid(buf, &ace.object());
-    append_guid(buf, &ace.inherited());
+    append_front(buf, ace);
+    append_guids(buf, ace);
     append_sid(buf, ace.trustee());
+}
+
+// Appends what stands before the GUIDs. There is room for the longest, so that its cells are copied at once.
+fn append_front(buf: &mut SdBuf, ace: &Ace)
+    requires { length buf.old + 12 ≤ CAPACITY }
+    ensures { buf.new ≡ buf.old ++ ace_front ace.now }
+{
+    let front = AceFront::of_ace(ace);
+    buf.append_front(front.cells(), front.len());
+}
+
+// Appends the GUIDs, which stand in object kinds alone.
+fn append_guids(buf: &mut SdBuf, ace: &Ace)
+    requires { length buf.old + length (guids (is_object ace.now.kind) ace.now.object ace.now.inherited) ≤ CAPACITY }
+    ensures { buf.new ≡ buf.old ++ guids (is_object ace.now.kind) ace.now.object ace.now.inherited }
+{
+    if ace.kind().is_object() {
+        append_guid(buf, &ace.object());
+        append_guid(buf, &ace.inherited());
+    }
 }
 
 // Appends a GUID that may be there (MS-DTYP 2.3.4.2).

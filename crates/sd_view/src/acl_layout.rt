@@ -97,6 +97,6 @@ fn print_ace<P: Print>(ace: &AceView<'_>, out: &mut P)
     ensures { Prints (P.told out.old) (P.told out.new) (ace_bytes ace.now) }
 {
     let front = AceFront::of_view(ace);
-    out.put(&front.cells[..front.count]);
+    out.put(front.as_slice());
     out.put(ace.body());
 }

@@ -1,6 +1,7 @@
+use Rattle.std.proofs.Common.{◌∙◌}
 use Rattle.sd_sink.proofs.PrintLemmas.{prints_as, prints_then}
 use Rattle.sd_view.proofs.acl_layout.print_ace.Goals as goal
 
 pub returns : goal.returns
 returns g c =
-    prints_then (prints_as c.of_view-front.ensures.bytes c.put.ensures) (prints_as c.body.ensures.value c.put-2.ensures)
+    prints_then (prints_as (c.as_slice.ensures ∙ c.of_view-front.ensures) c.put.ensures) (prints_as c.body.ensures.value c.put-2.ensures)
