@@ -280,26 +280,28 @@ const HELPS: &str = "sdtool help|sdtool --help|sdtool -h|sdtool help convert|sdt
 fn flushes_help(rt: HostRuntime) {
     let never = Failing::never();
     for line in HELPS.split('|') {
-        let said = |output: Output| {
+        let asked = |output: Output| {
             let faults = Output::new(rt.alloc());
-            let ended = program(&rt, line, Input::new(b"00\n"), output, faults);
-            ended.expect(&rt, 0, ended.output.taken.as_slice(), b"", b"wf");
-            let is_flushed = ended.calls.len() == 2 && ended.output.flushes == 1;
-            assert!(rt; is_flushed, "{line}");
-            ended.output
+            program(&rt, line, Input::new(b"00\n"), output, faults)
         };
-        let whole = said(Output::new(rt.alloc()));
+        let whole = asked(Output::new(rt.alloc())).output;
         let help = whole.taken.as_slice();
         assert!(rt; help.len() > 400 && whole.writes == 1, "{line}");
+        let writes_of = |output: Output, text: &[u8]| {
+            let ended = asked(output);
+            ended.expect(&rt, 0, text, b"", b"wf");
+            let is_flushed = ended.calls.len() == 2 && ended.output.flushes == 1;
+            assert!(rt; is_flushed, "{line}");
+            ended.output.writes
+        };
         for most in [usize::MAX, 100, 1] {
-            let output = said(Output::slow(rt.alloc(), most, never, Failing::from(1)));
-            let is_whole = most < help.len() || output.writes == 1;
-            assert!(rt; is_whole && output.taken.as_slice() == help, "{line}");
+            let output = Output::slow(rt.alloc(), most, never, Failing::from(1));
+            let writes = writes_of(output, help);
+            assert!(rt; most < help.len() || writes == 1, "{line}");
         }
         for (room, writes) in [(9, 2), (0, 1)] {
-            let output = said(with_room(&rt, room));
-            let is_front = output.taken.as_slice() == &help[..room];
-            assert!(rt; is_front && output.writes == writes, "{line}");
+            let is_right = writes_of(with_room(&rt, room), &help[..room]) == writes;
+            assert!(rt; is_right, "{line}");
         }
     }
 }
