@@ -9,7 +9,7 @@ use Rattle.sd_rights.specs.Rights.{rights_reads}
 use Rattle.sd_core.specs.SidText.{sid_reads}
 use Rattle.sd_core.specs.declared.sid_text.SidFault.{SidFault}
 use Rattle.sd_view.specs.declared.acl.AclPart.TheVariants as acl
-use Rattle.sd_binary.specs.Draft.{Draft, IsOpen, IsOpenIn, draft_acl, closed, more_in, with_ace}
+use Rattle.sd_binary.specs.Draft.{Draft, IsOpen, IsOpenIn, closed, closed_in, draft_acl, more_in, with_ace}
 use Rattle.sd_reader.specs.Line.{same_head}
 use Rattle.sd_reader.specs.Inner.FoldedReading.{FieldsRead, ace_of_fields, begun_or_null, fault_of, nothing_read, take_ace_field, take_field, take_front, take_readable, with_flags, with_owner_or_group, with_sid, with_trustee, with_value}
 use Rattle.sd_rights.specs.Chains.{and_then, unless}
@@ -56,94 +56,48 @@ is-none (Some x) false e f = absurd cc
 abbrev acl_in : Draft → Option (Which × List AccessControlEntry) → Draft
 acl_in p o = record p { «open» = o }
 
+-- no ACL is at hand then, and owner and group are as they were
+record IsClosed (p q : Draft) : Type 0 where
+  none : q.«open» ≡ None
+  owner : q.owner ≡ p.owner
+  group : q.group ≡ p.group
+
+is-closed : (p : Draft) → IsClosed p (closed p)
+is-closed p = cases p.«open»
+  where
+    listed : (w : Which) (aces : List AccessControlEntry) → IsClosed p (closed (acl_in p (Some (w, aces))))
+    listed which.Sacl aces = record { none = refl; owner = refl; group = refl }
+    listed which.Dacl aces = record { none = refl; owner = refl; group = refl }
+
+    cases : (o : Option (Which × List AccessControlEntry)) → IsClosed p (closed (acl_in p o))
+    cases None = record { none = refl; owner = refl; group = refl }
+    cases (Some o) = listed o.0 o.1
+
+-- an ACL where none is at hand
+acl-as-is : (v : Which) (q : Draft) → q.«open» ≡ None → draft_acl v (closed q) ≡ draft_acl v q
+acl-as-is v q none = ap (λ o. draft_acl v (closed_in o q)) none
+
 -- an owner or a group
-module _ (p : Draft) (s : SecurityId) where
-  acl-beside-owner : (v : Which) → draft_acl v (closed (record (closed p) { owner = Some s })) ≡ draft_acl v (closed p)
-  acl-beside-owner v = cases p.«open» v
-    where
-      listed : (w : Which) (aces : List AccessControlEntry) (v : Which)
-          → draft_acl v (closed (record (closed (acl_in p (Some (w, aces)))) { owner = Some s })) ≡ draft_acl v
-          (closed (acl_in p (Some (w, aces))))
-      listed which.Sacl aces which.Sacl = refl
-      listed which.Sacl aces which.Dacl = refl
-      listed which.Dacl aces which.Sacl = refl
-      listed which.Dacl aces which.Dacl = refl
-
-      cases : (o : Option (Which × List AccessControlEntry)) (v : Which)
-          → draft_acl v (closed (record (closed (acl_in p o)) { owner = Some s })) ≡ draft_acl v (closed (acl_in p o))
-      cases None which.Sacl = refl
-      cases None which.Dacl = refl
-      cases (Some o) v = listed o.0 o.1 v
-
-  acl-beside-group : (v : Which) → draft_acl v (closed (record (closed p) { group = Some s })) ≡ draft_acl v (closed p)
-  acl-beside-group v = cases p.«open» v
-    where
-      listed : (w : Which) (aces : List AccessControlEntry) (v : Which)
-          → draft_acl v (closed (record (closed (acl_in p (Some (w, aces)))) { group = Some s })) ≡ draft_acl v
-          (closed (acl_in p (Some (w, aces))))
-      listed which.Sacl aces which.Sacl = refl
-      listed which.Sacl aces which.Dacl = refl
-      listed which.Dacl aces which.Sacl = refl
-      listed which.Dacl aces which.Dacl = refl
-
-      cases : (o : Option (Which × List AccessControlEntry)) (v : Which)
-          → draft_acl v (closed (record (closed (acl_in p o)) { group = Some s })) ≡ draft_acl v (closed (acl_in p o))
-      cases None which.Sacl = refl
-      cases None which.Dacl = refl
-      cases (Some o) v = listed o.0 o.1 v
-
-owner-closed : (p : Draft) → (closed p).owner ≡ p.owner
-owner-closed p = cases p.«open»
+acl-beside-sid : (p : Draft) (owner group : Option SecurityId) (v : Which)
+    → draft_acl v (closed (record (closed p) { owner = owner; group = group })) ≡ draft_acl v (closed p)
+acl-beside-sid p owner group v =
+    acl-as-is v (record (closed p) { owner = owner; group = group }) (is-closed p).none ∙ same v
   where
-    listed : (w : Which) (aces : List AccessControlEntry) → (closed (acl_in p (Some (w, aces)))).owner ≡ p.owner
-    listed which.Sacl aces = refl
-    listed which.Dacl aces = refl
-
-    cases : (o : Option (Which × List AccessControlEntry)) → (closed (acl_in p o)).owner ≡ p.owner
-    cases None = refl
-    cases (Some o) = listed o.0 o.1
-
-group-closed : (p : Draft) → (closed p).group ≡ p.group
-group-closed p = cases p.«open»
-  where
-    listed : (w : Which) (aces : List AccessControlEntry) → (closed (acl_in p (Some (w, aces)))).group ≡ p.group
-    listed which.Sacl aces = refl
-    listed which.Dacl aces = refl
-
-    cases : (o : Option (Which × List AccessControlEntry)) → (closed (acl_in p o)).group ≡ p.group
-    cases None = refl
-    cases (Some o) = listed o.0 o.1
+    same : (v : Which) → draft_acl v (record (closed p) { owner = owner; group = group }) ≡ draft_acl v (closed p)
+    same which.Sacl = refl
+    same which.Dacl = refl
 
 -- an ACL that begins
 acl-beside-acl : (p : Draft) (w : Which) (null : Bool) (v : Which) → same_head (head.Acl w) (head.Acl v) ≡ false
     → draft_acl v (closed (begun_or_null w null (closed p))) ≡ draft_acl v (closed p)
-acl-beside-acl p w null v e = cases p.«open» w null v e
-  where
-    listed : (x : Which) (aces : List AccessControlEntry) (w : Which) (null : Bool) (v : Which)
-        → same_head (head.Acl w) (head.Acl v) ≡ false
-        → draft_acl v (closed (begun_or_null w null (closed (acl_in p (Some (x, aces)))))) ≡ draft_acl v
-        (closed (acl_in p (Some (x, aces))))
-    listed x aces which.Sacl null which.Sacl e = absurd cc
-    listed x aces which.Dacl null which.Dacl e = absurd cc
-    listed which.Sacl aces which.Sacl true which.Dacl e = refl
-    listed which.Sacl aces which.Sacl false which.Dacl e = refl
-    listed which.Sacl aces which.Dacl true which.Sacl e = refl
-    listed which.Sacl aces which.Dacl false which.Sacl e = refl
-    listed which.Dacl aces which.Sacl true which.Dacl e = refl
-    listed which.Dacl aces which.Sacl false which.Dacl e = refl
-    listed which.Dacl aces which.Dacl true which.Sacl e = refl
-    listed which.Dacl aces which.Dacl false which.Sacl e = refl
-
-    cases : (o : Option (Which × List AccessControlEntry)) (w : Which) (null : Bool) (v : Which)
-        → same_head (head.Acl w) (head.Acl v) ≡ false
-        → draft_acl v (closed (begun_or_null w null (closed (acl_in p o)))) ≡ draft_acl v (closed (acl_in p o))
-    cases None which.Sacl null which.Sacl e = absurd cc
-    cases None which.Dacl null which.Dacl e = absurd cc
-    cases None which.Sacl true which.Dacl e = refl
-    cases None which.Sacl false which.Dacl e = refl
-    cases None which.Dacl true which.Sacl e = refl
-    cases None which.Dacl false which.Sacl e = refl
-    cases (Some o) w null v e = listed o.0 o.1 w null v e
+acl-beside-acl p which.Sacl null which.Sacl e = absurd cc
+acl-beside-acl p which.Dacl null which.Dacl e = absurd cc
+acl-beside-acl p which.Sacl true which.Dacl e = acl-as-is which.Dacl (begun_or_null which.Sacl true (closed p))
+    (is-closed p).none
+acl-beside-acl p which.Dacl true which.Sacl e = acl-as-is which.Sacl (begun_or_null which.Dacl true (closed p))
+    (is-closed p).none
+acl-beside-acl p which.Sacl false which.Dacl e = refl
+acl-beside-acl p which.Dacl false which.Sacl e = refl
 
 owner-begun : (p : Draft) (w : Which) (null : Bool) → (begun_or_null w null p).owner ≡ p.owner
 owner-begun p w false = refl
@@ -191,23 +145,23 @@ fills (slot.Ace f) h = false
 lacks-sid : (r : FieldsRead) (p : SidPart) (s : SecurityId) (h : Head) → same_head (head.Sid p) h ≡ false → Lacks h r
     → Lacks h (with_owner_or_group p r s)
 lacks-sid r sid_part.Owner s (head.Sid sid_part.Owner) e l = absurd cc
-lacks-sid r sid_part.Owner s (head.Sid sid_part.Group) e l = group-closed r.parts ∙ l
-lacks-sid r sid_part.Owner s (head.Acl v) e l = acl-beside-owner r.parts s v ∙ l
-lacks-sid r sid_part.Group s (head.Sid sid_part.Owner) e l = owner-closed r.parts ∙ l
+lacks-sid r sid_part.Owner s (head.Sid sid_part.Group) e l = (is-closed r.parts).group ∙ l
+lacks-sid r sid_part.Owner s (head.Acl v) e l = acl-beside-sid r.parts (Some s) (closed r.parts).group v ∙ l
+lacks-sid r sid_part.Group s (head.Sid sid_part.Owner) e l = (is-closed r.parts).owner ∙ l
 lacks-sid r sid_part.Group s (head.Sid sid_part.Group) e l = absurd cc
-lacks-sid r sid_part.Group s (head.Acl v) e l = acl-beside-group r.parts s v ∙ l
+lacks-sid r sid_part.Group s (head.Acl v) e l = acl-beside-sid r.parts (closed r.parts).owner (Some s) v ∙ l
 
 lacks-front : (r : FieldsRead) (w : Which) (f : AclFront) (h : Head) → same_head (head.Acl w) h ≡ false → Lacks h r
     → Lacks h (with_flags w f.flags (record r { parts = begun_or_null w f.null (closed r.parts) }))
 lacks-front r which.Sacl f (head.Sid sid_part.Owner) e l = owner-begun (closed r.parts) which.Sacl f.null
-    ∙ (owner-closed r.parts ∙ l)
+    ∙ ((is-closed r.parts).owner ∙ l)
 lacks-front r which.Sacl f (head.Sid sid_part.Group) e l = group-begun (closed r.parts) which.Sacl f.null
-    ∙ (group-closed r.parts ∙ l)
+    ∙ ((is-closed r.parts).group ∙ l)
 lacks-front r which.Sacl f (head.Acl v) e l = acl-beside-acl r.parts which.Sacl f.null v e ∙ l
 lacks-front r which.Dacl f (head.Sid sid_part.Owner) e l = owner-begun (closed r.parts) which.Dacl f.null
-    ∙ (owner-closed r.parts ∙ l)
+    ∙ ((is-closed r.parts).owner ∙ l)
 lacks-front r which.Dacl f (head.Sid sid_part.Group) e l = group-begun (closed r.parts) which.Dacl f.null
-    ∙ (group-closed r.parts ∙ l)
+    ∙ ((is-closed r.parts).group ∙ l)
 lacks-front r which.Dacl f (head.Acl v) e l = acl-beside-acl r.parts which.Dacl f.null v e ∙ l
 
 lacks-trustee : (r : FieldsRead) (s : SecurityId) (h : Head) → Lacks h r → Lacks h (with_trustee r s)
