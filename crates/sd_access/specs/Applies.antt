@@ -2,10 +2,11 @@
 use Rattle.std.specs.Prelude.{ℕ, Bool, true, false, not, ◌&&◌, if◌then◌else◌, List, [], ◌∷◌, Option, Some, None, unwrap_or}
 use Rattle.std.specs.Str.{bytes_eq}
 use Rattle.sd_core.specs.Ace.{AccessControlEntry}
-use Rattle.sd_rights.specs.Mapping.{carries}
+use Rattle.sd_rights.specs.Bits.{has_bit}
 use Rattle.sd_core.specs.Sid.{SecurityId}
 use Rattle.sd_core.specs.SidText.{same_sid}
 use Rattle.sd_core.specs.Token.{Entry, meets}
+use Rattle.sd_rights.specs.declared.flags.TheConstants.{INHERIT_ONLY}
 use Rattle.sd_rights.specs.declared.kinds.AceKind.{AceKind}
 use Rattle.sd_rights.specs.declared.kinds.AceKind.TheVariants as kinds
 use Rattle.sd_view.specs.Descriptor.{Descriptor}
@@ -30,9 +31,9 @@ is_access kinds.ObjectAllow = true
 is_access kinds.ObjectDeny = true
 is_access other = false
 
--- 2.4.4.1: INHERIT_ONLY_ACE, the bit 0x8
+-- 2.4.4.1: INHERIT_ONLY_ACE
 abbrev pub is_inherit_only : ℕ → Bool
-is_inherit_only flags = carries flags 3
+is_inherit_only flags = has_bit INHERIT_ONLY flags
 
 -- the ACE grants or denies on the object itself
 abbrev pub is_effective : AccessControlEntry → Bool

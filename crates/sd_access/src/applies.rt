@@ -6,11 +6,9 @@ ghost use Rattle.sd_access.specs.Applies.{applies, is_access, is_allow, is_deny,
 use crate::ask::Ask;
 use crate::trustee::{some_meets, subject};
 use sd_binary::{AceView, SdView};
-use sd_core::{AceKind, Token, carries};
+use sd_core::{AceKind, Token};
+use sd_rights::{INHERIT_ONLY, has_flag};
 use uuid::Uuid;
-
-/// The place of the flag that leaves an ACE to those who inherit it (MS-DTYP 2.4.4.1).
-const INHERIT_ONLY_PLACE: u32 = 3;
 
 /// Whether the ACE speaks of the token, and of the object that is asked for.
 #[tactic(auto, unfolding(crate::specs::Applies::applies))]
@@ -33,7 +31,7 @@ pub fn applies(ace: &AceView, view: &SdView, token: &mut Token, ask: &Ask) -> bo
 pub fn is_effective(ace: &AceView) -> bool
     ensures { result ≡ is_effective ace.now }
 {
-    is_access(ace.kind()) && !carries(u32::from(ace.flags()), INHERIT_ONLY_PLACE)
+    is_access(ace.kind()) && !has_flag(ace.flags(), INHERIT_ONLY)
 }
 
 /// Whether what it decides is granted.

@@ -23,7 +23,7 @@ use Rattle.sd_rights.proofs.KindLaws.{letters-few}
 use Rattle.sd_rights.proofs.RightsLaws.{rights_text-length}
 use Rattle.sd_core.proofs.TextLaws.{length-sid_text}
 use Rattle.sd_view.specs.Acl.{aces_size}
-use Rattle.sd_view.specs.Control.{has_bit}
+use Rattle.sd_rights.specs.Bits.{has_bit}
 use Rattle.sd_view.specs.Descriptor.{Descriptor, IsAclPart, IsDescriptor, dacl_present, sacl_present}
 use Rattle.sd_view.specs.Layout.{acl_part_size, sid_part_size, size}
 use Rattle.sd_view.specs.declared.acl.AclPart.{AclPart}

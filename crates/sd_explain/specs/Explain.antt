@@ -15,7 +15,7 @@ use Rattle.sd_rights.specs.Numbers.{hex_digits}
 use Rattle.sd_core.specs.SidText.{sid_text}
 use Rattle.sd_rights.specs.declared.kinds.AceKind.{AceKind}
 use Rattle.sd_core.specs.declared.naming.Naming.{Naming}
-use Rattle.sd_view.specs.Control.{has_bit}
+use Rattle.sd_rights.specs.Bits.{has_bit}
 use Rattle.sd_view.specs.Descriptor.{Descriptor}
 use Rattle.sd_view.specs.declared.acl.AclPart.{AclPart}
 use Rattle.sd_view.specs.declared.acl.AclPart.TheVariants as acl

@@ -1,28 +1,27 @@
 -- What a new object gets from one ACE of its container (MS-DTYP 2.5.3.4), by the flags of 2.4.4.1.
 use Rattle.std.specs.Prelude.{ℕ, ◌+◌, Bool, not, ◌&&◌, ◌||◌, if◌then◌else◌, List, [], ◌∷◌}
 use Rattle.sd_core.specs.Ace.{AccessControlEntry}
+use Rattle.sd_rights.specs.Bits.{bit_of, has_bit}
 use Rattle.sd_rights.specs.Mapping.{carries, mapped}
 use Rattle.sd_rights.specs.Rights.{is_label}
 use Rattle.sd_core.specs.Sid.{SecurityId}
 use Rattle.sd_core.specs.SidText.{same_sid}
-use Rattle.sd_view.specs.Control.{bit_of}
+use Rattle.sd_rights.specs.declared.flags.TheConstants.{CONTAINER_INHERIT, FAILED_ACCESS, INHERITED, INHERIT_ONLY, NO_PROPAGATE, OBJECT_INHERIT, SUCCESSFUL_ACCESS}
 use Rattle.sd_inherit.specs.declared.plan.Plan.{Plan}
 use Rattle.sd_inherit.specs.declared.plan.Target.{Target}
 use Rattle.sd_inherit.specs.declared.plan.Target.TheVariants.{File, Container}
 
--- 1. Where an ACE goes, by the places of its flags.
+-- 1. Where an ACE goes.
 
--- OBJECT_INHERIT_ACE
 abbrev pub is_for_files : AccessControlEntry → Bool
-is_for_files a = carries a.flags 0
+is_for_files a = has_bit OBJECT_INHERIT a.flags
 
--- CONTAINER_INHERIT_ACE
 abbrev pub is_for_containers : AccessControlEntry → Bool
-is_for_containers a = carries a.flags 1
+is_for_containers a = has_bit CONTAINER_INHERIT a.flags
 
--- NO_PROPAGATE_INHERIT_ACE: not further than the new object
+-- not further than the new object
 abbrev pub is_for_one_level : AccessControlEntry → Bool
-is_for_one_level a = carries a.flags 2
+is_for_one_level a = has_bit NO_PROPAGATE a.flags
 
 -- 2. Who and what stands for the creator and for generic rights.
 
@@ -54,17 +53,16 @@ differs a =
 
 -- 3. The two kinds of copies. Kind and GUIDs stay; no object class is compared.
 
--- OBJECT_INHERIT_ACE and CONTAINER_INHERIT_ACE, 0x1 and 0x2
+-- the flags that go on from a container
 abbrev pub onward_flags : ℕ → ℕ
-onward_flags flags = bit_of 0x1 flags + bit_of 0x2 flags
+onward_flags flags = bit_of OBJECT_INHERIT flags + bit_of CONTAINER_INHERIT flags
 
--- SUCCESSFUL_ACCESS_ACE_FLAG and FAILED_ACCESS_ACE_FLAG, 0x40 and 0x80
 abbrev pub audit_flags : ℕ → ℕ
-audit_flags flags = bit_of 0x40 flags + bit_of 0x80 flags
+audit_flags flags = bit_of SUCCESSFUL_ACCESS flags + bit_of FAILED_ACCESS flags
 
--- a copy keeps the audit flags and has INHERITED_ACE, 0x10
+-- a copy keeps the audit flags, and says that it was inherited
 abbrev pub copied_flags : ℕ → ℕ → ℕ
-copied_flags flags added = audit_flags flags + 0x10 + added
+copied_flags flags added = audit_flags flags + INHERITED + added
 
 -- for the new object itself, with the flags that go on, if any do
 abbrev pub effective_copy : Plan → AccessControlEntry → ℕ → AccessControlEntry
@@ -74,9 +72,9 @@ effective_copy plan a onward = record a {
   sid = heir plan a.sid;
 }
 
--- to hand on, as it was: INHERIT_ONLY_ACE, 0x8
+-- to hand on, as it was
 abbrev pub inherit_only_copy : AccessControlEntry → AccessControlEntry
-inherit_only_copy a = record a { flags = copied_flags a.flags (0x8 + onward_flags a.flags) }
+inherit_only_copy a = record a { flags = copied_flags a.flags (INHERIT_ONLY + onward_flags a.flags) }
 
 -- 4. The copies, in order. Whether the ACE itself is inherit-only is not looked at.
 

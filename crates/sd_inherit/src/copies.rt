@@ -6,11 +6,11 @@ ghost use Rattle.sd_inherit.specs.Inner.Building.{listed};
 ghost use Rattle.sd_inherit.specs.Copies.{copies, copies_for, effective_copy, inherit_only_copy};
 ghost use Rattle.sd_inherit.specs.Derived.{sacl_of};
 
-use crate::flags::{CONTAINER_INHERIT, NO_PROPAGATE, OBJECT_INHERIT, copied_flags, onward_flags};
+use crate::flags::{copied_flags, onward_flags};
 use crate::heirs::{differs, heir, heir_mask};
 use crate::plan::{Plan, Target};
-use sd_core::{Ace, Sid, carries};
-use sd_rights::INHERIT_ONLY;
+use sd_core::{Ace, Sid};
+use sd_rights::{CONTAINER_INHERIT, INHERIT_ONLY, NO_PROPAGATE, OBJECT_INHERIT, has_flag};
 
 /// What a new object gets from one ACE: at most one copy for itself, and then at most one to hand on.
 #[derive(Clone, Copy)]
@@ -42,7 +42,7 @@ pub fn copies_of(plan: &Plan, ace: &Ace) -> Copies
 fn file_copies(plan: &Plan, ace: &Ace) -> Copies
     ensures { listed result ≡ copies_for Target.File plan.now ace.now }
 {
-    if carries(u32::from(ace.flags()), OBJECT_INHERIT) {
+    if has_flag(ace.flags(), OBJECT_INHERIT) {
         return one_copy(effective_copy(plan, ace, 0));
     }
     Copies {
@@ -54,14 +54,14 @@ fn file_copies(plan: &Plan, ace: &Ace) -> Copies
 fn container_copies(plan: &Plan, ace: &Ace) -> Copies
     ensures { listed result ≡ copies_for Target.Container plan.now ace.now }
 {
-    let flags = u32::from(ace.flags());
-    let one_level = carries(flags, NO_PROPAGATE);
-    if carries(flags, CONTAINER_INHERIT) {
+    let flags = ace.flags();
+    let one_level = has_flag(flags, NO_PROPAGATE);
+    if has_flag(flags, CONTAINER_INHERIT) {
         if one_level {
             return one_copy(effective_copy(plan, ace, 0));
         }
         if !differs(ace) {
-            return one_copy(effective_copy(plan, ace, onward_flags(ace.flags())));
+            return one_copy(effective_copy(plan, ace, onward_flags(flags)));
         }
         return Copies {
             effective: Some(effective_copy(plan, ace, 0)),
@@ -70,7 +70,7 @@ fn container_copies(plan: &Plan, ace: &Ace) -> Copies
     }
     Copies {
         effective: None,
-        inherit_only: if carries(flags, OBJECT_INHERIT) && !one_level {
+        inherit_only: if has_flag(flags, OBJECT_INHERIT) && !one_level {
             Some(inherit_only_copy(ace))
         } else {
             None

@@ -3,17 +3,10 @@
 ghost use Rattle.std.specs.Prelude.{◌≡◌, ◌<◌, ◌≤◌};
 ghost use Rattle.sd_inherit.specs.Copies.{copied_flags, onward_flags};
 
-use sd_rights::{INHERITED, ONWARD};
+use sd_rights::{FAILED_ACCESS, INHERITED, ONWARD, SUCCESSFUL_ACCESS};
 
-/// The places of OBJECT_INHERIT_ACE, CONTAINER_INHERIT_ACE and NO_PROPAGATE_INHERIT_ACE.
-pub const OBJECT_INHERIT: u32 = 0;
-
-pub const CONTAINER_INHERIT: u32 = 1;
-
-pub const NO_PROPAGATE: u32 = 2;
-
-/// SUCCESSFUL_ACCESS_ACE_FLAG and FAILED_ACCESS_ACE_FLAG.
-const AUDIT: u8 = 0xc0;
+/// The flags that say which access is audited.
+const AUDIT: u8 = SUCCESSFUL_ACCESS | FAILED_ACCESS;
 
 /// The flags with which an ACE goes on from a container.
 pub fn onward_flags(flags: u8) -> u8

@@ -1,17 +1,17 @@
--- The flags of an ACE read back from their names.
-use Rattle.std.proofs.Common.{◌≡◌, ◌≤◌, ℕ, ◌/◌, ◌%◌, ◌<◌, zero, suc, Bool, true, false, List, length, Some, arith, refl, sym, ap, ◌∙◌, subst, eqb-true}
+-- A flag among those of an ACE, and that these read back from their names.
+use Rattle.std.proofs.Common.{◌≡◌, ◌≤◌, ℕ, ◌*◌, ◌/◌, ◌%◌, ◌^◌, ◌<◌, zero, suc, Bool, true, false, List, [], ◌∷◌, length, Some, bit_and, arith, refl, sym, ap, ◌∙◌, subst, eqb-true, zero-mul}
 use Rattle.std.specs.Prelude.{Option, IfSome, not, ◌==◌, ◌&&◌, ◌||◌, nat_lt}
-use Rattle.std.specs.List.{list_all}
+use Rattle.std.specs.Int.{IsPowerOfTwo, bit_at}
+use Rattle.std.specs.List.{AllByRecursion, list_all, list_any}
 use Rattle.std.proofs.lemmas.Bool.Decides.{nat_tests}
-use Rattle.std.proofs.lemmas.Nat.{le_or_l}
+use Rattle.std.proofs.lemmas.Nat.{le_or_l, pow_pos}
+use Rattle.std.proofs.lemmas.Nat.Bits.{and_pow}
+use Rattle.sd_rights.specs.Bits.{has_bit}
 use Rattle.sd_rights.specs.Names.{run_of, names_of, named_bits}
-use Rattle.sd_rights.specs.Flags.{flags_reads, flags_text}
+use Rattle.sd_rights.specs.Flags.{flags_reads, flags_text, is_flag}
 use Rattle.sd_rights.specs.declared.flags.TheConstants.{FLAGS}
+use Rattle.sd_rights.specs.declared.names.NamedBits.{NamedBits}
 use Rattle.sd_rights.proofs.NameLaws.{reads_in, run-names, run-among, among, length-names, and_first, and_second}
-
-flags_read : list_all (reads_in FLAGS) FLAGS ≡ true
-unfolding reads_in
-flags_read = refl
 
 -- a test of each number below another
 abbrev passes_below : ℕ → (ℕ → Bool) → Bool
@@ -25,6 +25,39 @@ at_below (suc n) test k h e = by_last (k == n) refl (at_below n test k)
     by_last : (b : Bool) → (k == n) ≡ b → (k < n → passes_below n test ≡ true → test k ≡ true) → test k ≡ true
     by_last true f more = ap test (eqb-true k n f) ∙ and_first (test n) _ e
     by_last false f more = more (grind (arith, nat_tests)) (and_second (test n) _ e)
+
+-- `&` with one bit tells whether it is set
+times-bit : (bit n : ℕ) → bit < 2 → 0 < n → not (bit * n == 0) ≡ (bit == 1)
+times-bit zero n h p = rw (zero-mul n) refl
+times-bit (suc bit) n h p = let one : bit ≡ 0 = omega arith in rw one (grind (arith, nat_tests))
+
+and-bit : (place word : ℕ) → not (bit_and word (2 ^ place) == 0) ≡ has_bit (2 ^ place) word
+and-bit place word =
+    rw (and_pow word place) (times-bit (bit_at word place) (2 ^ place) (omega arith) (pow_pos place))
+
+-- each flag is one bit
+each_one_bit : AllByRecursion (λ e. IsPowerOfTwo e.bits) FLAGS
+each_one_bit =
+    ((0, refl), ((1, refl), ((2, refl), ((3, refl), ((4, refl), ((6, refl), ((7, refl), tt)))))))
+
+one_bit : (flag : ℕ) (table : List NamedBits) → AllByRecursion (λ e. IsPowerOfTwo e.bits) table
+    → list_any (λ e. e.bits == flag) table ≡ true → IsPowerOfTwo flag
+one_bit flag [] each found = absurd cc
+one_bit flag (e ∷ es) each found = by_first (e.bits == flag) refl found (one_bit flag es each.1)
+  where
+    by_first : (b : Bool) → (e.bits == flag) ≡ b → (b || list_any (λ e. e.bits == flag) es) ≡ true
+        → (list_any (λ e. e.bits == flag) es ≡ true → IsPowerOfTwo flag) → IsPowerOfTwo flag
+    by_first true same here later = subst IsPowerOfTwo (eqb-true e.bits flag same) each.0
+    by_first false other there later = later there
+
+pub and-flag : (flag flags : ℕ) → is_flag flag ≡ true → not (bit_and flags flag == 0) ≡ has_bit flag flags
+and-flag flag flags h =
+    let one = one_bit flag FLAGS each_one_bit h in
+    rw one.1 (and-bit one.0 flags)
+
+flags_read : list_all (reads_in FLAGS) FLAGS ≡ true
+unfolding reads_in
+flags_read = refl
 
 -- every bit but 0x20 has a name
 all_named : ℕ → Bool

@@ -1,3 +1,4 @@
+pub mod Bits
 pub mod Chains
 pub mod Cuts
 pub mod Flags

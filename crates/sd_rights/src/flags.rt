@@ -1,7 +1,8 @@
 //! The flags of an ACE (MS-DTYP 2.4.4.1), and their names.
 
-ghost use Rattle.std.specs.Prelude.{◌≡◌, ◌≤◌, ◌/◌, ◌%◌, length, IfSome, Some};
-ghost use Rattle.sd_rights.specs.Flags.{flags_reads, flags_text};
+ghost use Rattle.std.specs.Prelude.{◌≡◌, ◌≤◌, ◌/◌, ◌%◌, length, IfSome, IsTrue, Some};
+ghost use Rattle.sd_rights.specs.Bits.{has_bit};
+ghost use Rattle.sd_rights.specs.Flags.{flags_reads, flags_text, is_flag};
 ghost use Rattle.sd_sink.specs.Print.{Prints};
 ghost use Rattle.sd_sink.specs.Sink.{Puts};
 
@@ -9,54 +10,77 @@ use crate::limits::MOST_FIELD_SIZE;
 use crate::names::{NamedBits, print_names, read_names};
 use sd_sink::{Print, Printer, Sink, SinkFault};
 
-/// OBJECT_INHERIT_ACE and CONTAINER_INHERIT_ACE (MS-DTYP 2.4.4.1): the flags with which an ACE goes on from a
-/// container.
-pub const ONWARD: u8 = 0x3;
+/// OBJECT_INHERIT_ACE: files inherit the ACE.
+pub const OBJECT_INHERIT: u8 = 0x1;
 
-/// INHERIT_ONLY_ACE.
+/// CONTAINER_INHERIT_ACE: containers inherit the ACE.
+pub const CONTAINER_INHERIT: u8 = 0x2;
+
+/// NO_PROPAGATE_INHERIT_ACE: it goes no further than the object that inherits it.
+pub const NO_PROPAGATE: u8 = 0x4;
+
+/// INHERIT_ONLY_ACE: it does not count for the object itself.
 pub const INHERIT_ONLY: u8 = 0x8;
 
-/// INHERITED_ACE.
+/// INHERITED_ACE: the ACE was inherited.
 pub const INHERITED: u8 = 0x10;
+
+/// SUCCESSFUL_ACCESS_ACE_FLAG: access that is granted is audited.
+pub const SUCCESSFUL_ACCESS: u8 = 0x40;
+
+/// FAILED_ACCESS_ACE_FLAG: access that is denied is audited.
+pub const FAILED_ACCESS: u8 = 0x80;
+
+/// The flags with which an ACE goes on from a container.
+pub const ONWARD: u8 = OBJECT_INHERIT | CONTAINER_INHERIT;
 
 /// The flags of an ACE (MS-DTYP 2.4.4.1 and 2.5.1.1), in the order in which they are printed.
 pub const FLAGS: [NamedBits; 7] = [
     NamedBits {
         first: b'O',
         second: b'I',
-        bits: 0x1,
+        bits: OBJECT_INHERIT as u32,
     },
     NamedBits {
         first: b'C',
         second: b'I',
-        bits: 0x2,
+        bits: CONTAINER_INHERIT as u32,
     },
     NamedBits {
         first: b'N',
         second: b'P',
-        bits: 0x4,
+        bits: NO_PROPAGATE as u32,
     },
     NamedBits {
         first: b'I',
         second: b'O',
-        bits: 0x8,
+        bits: INHERIT_ONLY as u32,
     },
     NamedBits {
         first: b'I',
         second: b'D',
-        bits: 0x10,
+        bits: INHERITED as u32,
     },
     NamedBits {
         first: b'S',
         second: b'A',
-        bits: 0x40,
+        bits: SUCCESSFUL_ACCESS as u32,
     },
     NamedBits {
         first: b'F',
         second: b'A',
-        bits: 0x80,
+        bits: FAILED_ACCESS as u32,
     },
 ];
+
+/// Whether a flag is set among those of an ACE.
+#[inline(always)]
+pub fn has_flag(flags: u8, flag: u8) -> bool
+    requires { IsTrue (is_flag flag) }
+    ensures { result ≡ has_bit flag flags }
+{
+    flags & flag != 0
+}
 
 /// Puts the names of an ACE's flags, as `OICI` for 3. Bit 0x20 has no name.
 pub fn put_flags<S: Sink>(flags: u8, sink: &mut S) -> Result<(), SinkFault>

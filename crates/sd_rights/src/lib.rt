@@ -14,7 +14,10 @@ mod rights_reading;
 mod rights_table;
 
 pub use digits::{print_decimal, print_decimal_behind, print_hex};
-pub use flags::{INHERIT_ONLY, INHERITED, ONWARD, flags_from_text, print_flags, put_flags};
+pub use flags::{
+    CONTAINER_INHERIT, FAILED_ACCESS, INHERIT_ONLY, INHERITED, NO_PROPAGATE, OBJECT_INHERIT,
+    ONWARD, SUCCESSFUL_ACCESS, flags_from_text, has_flag, print_flags, put_flags,
+};
 pub use kinds::AceKind;
 pub use limits::{
     MOST_BASE64_TEXT, MOST_ENTRIES, MOST_FIELD_SIZE, MOST_HEX_TEXT, MOST_SDDL_TEXT, MOST_SUBS,

@@ -4,7 +4,8 @@ use Rattle.std.specs.Int.{bit_at}
 use Rattle.std.proofs.lemmas.Bool.Decides.{nat_tests}
 use Rattle.std.proofs.lemmas.Nat.{or_disjoint}
 use Rattle.std.proofs.lemmas.Nat.Bits.{and_pow, bit_at_or, bit_at-pow_other}
-use Rattle.sd_view.specs.Control.{acl_flags, all_flags, bit_if, control_of, flag_bits, has_bit, no_flags, other_acl}
+use Rattle.sd_rights.specs.Bits.{has_bit}
+use Rattle.sd_view.specs.Control.{acl_flags, all_flags, bit_if, control_of, flag_bits, no_flags, other_acl}
 use Rattle.sd_view.specs.Descriptor.{dacl_present, sacl_present, self_relative}
 use Rattle.sd_view.specs.declared.control.Which.{Which}
 use Rattle.sd_view.specs.declared.control.Which.TheVariants as lists

@@ -1,18 +1,11 @@
 -- The control word of a descriptor (MS-DTYP 2.4.6): its bits, and among them the flags of either ACL. The bits that
 -- have names are the constants of src/control.rt, and `CONTROL_BITS` lists them.
-use Rattle.std.specs.Prelude.{ℕ, ◌+◌, ◌-◌, ◌*◌, ◌/◌, ◌%◌, ◌==◌, Bool, true, false}
+use Rattle.std.specs.Prelude.{ℕ, ◌+◌, ◌-◌, Bool, true, false}
+use Rattle.sd_rights.specs.Bits.{bit_of, has_bit}
 use Rattle.sd_view.specs.declared.control.Which.{Which}
 use Rattle.sd_view.specs.declared.control.Which.TheVariants as which
 use Rattle.sd_view.specs.declared.control.AclFlags.{AclFlags}
 use Rattle.sd_view.specs.declared.control.TheConstants.{DACL_AUTO_INHERITED, DACL_AUTO_INHERIT_REQUIRED, DACL_PRESENT, DACL_PROTECTED, SACL_AUTO_INHERITED, SACL_AUTO_INHERIT_REQUIRED, SACL_PRESENT, SACL_PROTECTED, SELF_RELATIVE}
-
--- whether a bit is set
-abbrev pub has_bit : ℕ → ℕ → Bool
-has_bit bit control = control / bit % 2 == 1
-
--- a bit of a word, by its number
-abbrev pub bit_of : ℕ → ℕ → ℕ
-bit_of bit word = word / bit % 2 * bit
 
 -- a bit where it is to be set
 abbrev pub bit_if : Bool → ℕ → ℕ

@@ -3,7 +3,7 @@ use Rattle.std.specs.Prelude.{◌≡◌, ◌≤◌, ◌<◌, ℕ, ◌+◌, ◌^�
 use Rattle.sd_core.specs.Sid.{SecurityId, IsSid, BeginsWithSid, sid_size}
 use Rattle.sd_view.specs.Acl.{BeginsWithAcl, IsAcl}
 use Rattle.sd_view.specs.Bytes.{u16_at, u32_at}
-use Rattle.sd_view.specs.Control.{has_bit}
+use Rattle.sd_rights.specs.Bits.{has_bit}
 use Rattle.sd_view.specs.declared.acl.AclPart.{AclPart}
 use Rattle.sd_view.specs.declared.acl.AclPart.TheVariants as acl
 use Rattle.sd_view.specs.declared.control.TheConstants.{DACL_PRESENT, SACL_PRESENT, SELF_RELATIVE}

@@ -1,6 +1,7 @@
 // The control word of a descriptor (MS-DTYP 2.4.6).
 ghost use Rattle.std.specs.Prelude.{◌≡◌, ◌<◌, ◌+◌, ◌^◌, ℕ, false};
-ghost use Rattle.sd_view.specs.Control.{acl_flags, all_flags, bit_if, bit_of, flag_bits, has_bit, no_flags, other_acl, control_of};
+ghost use Rattle.sd_rights.specs.Bits.{bit_of, has_bit};
+ghost use Rattle.sd_view.specs.Control.{acl_flags, all_flags, bit_if, flag_bits, no_flags, other_acl, control_of};
 
 /// One of the two ACLs of a descriptor (MS-DTYP 2.4.6).
 #[derive(Clone, Copy, Debug, PartialEq, Eq)]
