@@ -10,7 +10,7 @@ use Rattle.sd_command.specs.declared.job.Job.{Job}
 use Rattle.sd_command.specs.declared.settings.OptionName.TheVariants as name
 use Rattle.sd_command.specs.declared.settings.UsageFault.TheVariants.{Value}
 use Rattle.sd_command.specs.CommandLine.{bare_line, check_line, convert_line, derive_line, explain_line, line}
-use Rattle.sd_command.specs.Settings.{convert_settings, derive_settings, explain_settings, settings_of}
+use Rattle.sd_command.specs.Settings.{command_settings, convert_act, derive_act, settings_of}
 use Rattle.sd_command.specs.Settings.{given_domain, given_kind, given_mapping, given_source, given_target}
 use Rattle.sd_command.specs.Settings.{is_set, needed_sid}
 use Rattle.sd_rights.specs.Mapping.{file_mapping}
@@ -33,12 +33,12 @@ unfolding line bare_line convert_line explain_line check_line derive_line clap_o
 no_fault = refl
 
 pub settled : settings_of to_hex ≡ Ok (record { job = hex_to_hex; entries = [] })
-unfolding settings_of convert_settings explain_settings given_domain given_source given_target is_set
+unfolding settings_of command_settings convert_act given_domain given_source given_target is_set
     line bare_line convert_line explain_line check_line derive_line clap_on_literals
 settled = refl
 
 pub not_settled : settings_of to_xml ≡ Err (Value name.To)
-unfolding settings_of convert_settings explain_settings given_domain given_source given_target is_set
+unfolding settings_of command_settings convert_act given_domain given_source given_target is_set
     line bare_line convert_line explain_line check_line derive_line clap_on_literals
 not_settled = refl
 
@@ -49,7 +49,7 @@ pub explained : settings_of explain_sddl ≡ Ok (record {
   job = record { source = Sddl; act = Explain; domain = None; numeric = true };
   entries = [];
 })
-unfolding settings_of convert_settings explain_settings given_domain given_source given_target is_set
+unfolding settings_of command_settings convert_act given_domain given_source given_target is_set
     line bare_line convert_line explain_line check_line derive_line clap_on_literals
 explained = refl
 
@@ -78,8 +78,9 @@ pub derived : settings_of derive_file ≡ Ok (record {
   };
   entries = [];
 })
-unfolding settings_of derive_settings given_domain given_source given_target given_mapping given_kind needed_sid is_set
-    sid_reads has_form numbers_read line bare_line convert_line explain_line check_line derive_line clap_on_literals
+unfolding settings_of command_settings derive_act given_domain given_source given_target given_mapping given_kind
+    needed_sid is_set sid_reads has_form numbers_read line bare_line convert_line explain_line check_line derive_line
+    clap_on_literals
 derived = refl
 
 -- a kind has to be given

@@ -19,8 +19,11 @@ use Rattle.sd_rights.specs.Mapping.{GenericMapping, directory_mapping, file_mapp
 use Rattle.sd_command.specs.TokenText.{entries_read, sid_under}
 use Rattle.sd_command.specs.declared.job.Form.{Form}
 use Rattle.sd_command.specs.declared.job.Form.TheVariants.{Base64, Hex, Sddl}
+use Rattle.sd_command.specs.declared.job.Act.{Act}
 use Rattle.sd_command.specs.declared.job.Act.TheVariants.{Check, Convert, Derive, Explain}
 use Rattle.sd_command.specs.declared.job.Job.{Job}
+use Rattle.sd_command.specs.declared.settings.CommandName.{CommandName}
+use Rattle.sd_command.specs.declared.settings.CommandName.TheVariants as command
 use Rattle.sd_command.specs.declared.settings.OptionName.{OptionName}
 use Rattle.sd_command.specs.declared.settings.OptionName.TheVariants as name
 use Rattle.sd_command.specs.declared.settings.UsageFault.{UsageFault}
@@ -149,19 +152,54 @@ needed_sid option domain rows = given option (value_needed (sid_under domain) (f
 
 -- ---- the commands
 
--- the first option that does not read, or the job
-unfoldable pub convert_settings : List Row → Result Job UsageFault
-convert_settings rows = do
-  domain ← given_domain rows
-  source ← given_source rows
-  target ← given_target rows
-  Ok (record { source = source; act = Convert target; domain = domain; numeric = is_set (codes "numeric") rows })
+-- by their names
+abbrev pub command_reads : Text → Option CommandName
+command_reads text =
+    if bytes_eq text (codes "convert") then Some command.Convert
+    else if bytes_eq text (codes "explain") then Some command.Explain
+    else if bytes_eq text (codes "check") then Some command.Check
+    else if bytes_eq text (codes "derive") then Some command.Derive
+    else None
 
-unfoldable pub explain_settings : List Row → Result Job UsageFault
-explain_settings rows = do
-  domain ← given_domain rows
-  source ← given_source rows
-  Ok (record { source = source; act = Explain; domain = domain; numeric = is_set (codes "numeric") rows })
+unfoldable pub convert_act : List Row → Result Act UsageFault
+convert_act rows = do
+  target ← given_target rows
+  Ok (Convert target)
+
+unfoldable pub derive_act : Option SecurityId → List Row → Result Act UsageFault
+derive_act domain rows = do
+  target ← given_target rows
+  mapping ← given_mapping rows
+  kind ← given_kind rows
+  owner ← needed_sid name.Owner domain rows
+  group ← needed_sid name.Group domain rows
+  Ok (Derive (record { target = kind; owner = owner; group = group; mapping = mapping }) target)
+
+-- what is done with each line, and the entries of the token that asks
+pub record ActWithEntries : Type 0 where
+  pub act : Act
+  pub entries : List Entry
+
+unfoldable pub check_act : Option SecurityId → List Row → Result ActWithEntries UsageFault
+check_act domain rows = do
+  mapping ← given_mapping rows
+  entries ← given_token domain rows
+  want ← given_want rows
+  object ← given_object rows
+  principal ← given_sid name.PrincipalSelf domain rows
+  ask ← asked mapping want object principal rows
+  Ok (record { act = Check ask; entries = entries })
+
+abbrev pub act_with_entries : List Entry → Result Act UsageFault → Result ActWithEntries UsageFault
+act_with_entries entries (Err fault) = Err fault
+act_with_entries entries (Ok act) = Ok (record { act = act; entries = entries })
+
+-- what is a command's own: `check` alone has a token
+abbrev pub command_act : CommandName → Option SecurityId → List Row → Result ActWithEntries UsageFault
+command_act command.Convert domain rows = act_with_entries [] (convert_act rows)
+command_act command.Explain domain rows = act_with_entries [] (Ok Explain)
+command_act command.Check domain rows = check_act domain rows
+command_act command.Derive domain rows = act_with_entries [] (derive_act domain rows)
 
 -- what the words settle: what is done with each line, and the entries of the token that asks
 pub record Settings : Type 0 where
@@ -172,51 +210,23 @@ abbrev pub with_entries : List Entry → Result Job UsageFault → Result Settin
 with_entries entries (Err fault) = Err fault
 with_entries entries (Ok job) = Ok (record { job = job; entries = entries })
 
--- the values in the order in which they are looked at
-unfoldable pub check_settings : List Row → Result Settings UsageFault
-check_settings rows = do
+-- the first option that does not read, or the job: what all commands have is looked at before what is the command's own
+unfoldable pub command_settings : CommandName → List Row → Result Settings UsageFault
+command_settings command rows = do
   domain ← given_domain rows
   source ← given_source rows
-  mapping ← given_mapping rows
-  entries ← given_token domain rows
-  want ← given_want rows
-  object ← given_object rows
-  principal ← given_sid name.PrincipalSelf domain rows
-  ask ← asked mapping want object principal rows
+  own ← command_act command domain rows
   Ok (record {
-    job = record { source = source; act = Check ask; domain = domain; numeric = false };
-    entries = entries;
+    job = record { source = source; act = own.act; domain = domain; numeric = is_set (codes "numeric") rows };
+    entries = own.entries;
   })
-
-unfoldable pub derive_settings : List Row → Result Job UsageFault
-derive_settings rows = do
-  domain ← given_domain rows
-  source ← given_source rows
-  target ← given_target rows
-  mapping ← given_mapping rows
-  kind ← given_kind rows
-  owner ← needed_sid name.Owner domain rows
-  group ← needed_sid name.Group domain rows
-  Ok (record {
-    source = source;
-    act = Derive (record { target = kind; owner = owner; group = group; mapping = mapping }) target;
-    domain = domain;
-    numeric = is_set (codes "numeric") rows;
-  })
-
--- by the command's name
-abbrev pub command_settings : Text → List Row → Result Settings UsageFault
-command_settings command rows =
-    if bytes_eq command (codes "convert") then with_entries [] (convert_settings rows)
-    else if bytes_eq command (codes "explain") then with_entries [] (explain_settings rows)
-    else if bytes_eq command (codes "check") then check_settings rows
-    else if bytes_eq command (codes "derive") then with_entries [] (derive_settings rows)
-    else Err NoCommand
 
 -- a command's name and its matches
 abbrev pub settings : Option (Text × List Row) → Result Settings UsageFault
 settings None = Err NoCommand
-settings (Some matches) = command_settings matches.0 matches.1
+settings (Some matches) = do
+  command ← ok_or (command_reads matches.0) NoCommand
+  command_settings command matches.1
 
 -- what words settle that the command line takes
 unfoldable pub settings_of : List Text → Result Settings UsageFault

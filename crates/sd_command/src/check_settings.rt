@@ -6,12 +6,11 @@ ghost use Rattle.sd_core.specs.GuidText.{guid_reads};
 ghost use Rattle.sd_rights.specs.Rights.{rights_reads};
 ghost use Rattle.sd_command.specs.Inner.Adding.{gives};
 ghost use Rattle.sd_command.specs.Settings as specs;
-ghost use Rattle.sd_command.specs.Settings.{with_entries};
+ghost use Rattle.sd_command.specs.Settings.{act_with_entries};
 
-use crate::job::{Act, Job};
+use crate::job::Act;
 use crate::settings::{
-    OptionName, UsageFault, given_domain, given_mapping, given_sid, given_source, is_set, text_of,
-    value_of,
+    OptionName, UsageFault, given_mapping, given_sid, is_set, text_of, value_of,
 };
 use crate::token_text::add_entries;
 use clap::ArgMatches;
@@ -20,26 +19,24 @@ use sd_core::{Mapping, Sid, Token, guid_from_text, rights_from_text};
 use uuid::Uuid;
 
 // The values in the order in which they are looked at.
-pub(crate) fn check_settings(matches: &ArgMatches<'_>, token: &mut Token) -> Result<Job, UsageFault>
+#[tactic(auto, unfolding(crate::specs::Settings::check_act))]
+pub(crate) fn check_act(
+    matches: &ArgMatches<'_>,
+    domain: Option<&Sid>,
+    token: &mut Token,
+) -> Result<Act, UsageFault>
     requires empty { token.old.entries ≡ [] }
-    ensures settled { with_entries token.new.entries result
-        ≡ specs.check_settings (rows_of (found_of matches.now)) }
+    ensures settled { act_with_entries token.new.entries result
+        ≡ specs.check_act (option_copied domain.entry) (rows_of (found_of matches.now)) }
     ensures compared { token.new.compared ≡ token.old.compared }
 {
-    let domain = given_domain(matches)?;
-    let source = given_source(matches)?;
     let mapping = given_mapping(matches)?;
-    given_token(matches, domain.as_ref(), token)?;
+    given_token(matches, domain, token)?;
     let want = given_want(matches)?;
     let object = given_object(matches)?;
-    let principal = given_sid(matches, OptionName::PrincipalSelf, domain.as_ref())?;
+    let principal = given_sid(matches, OptionName::PrincipalSelf, domain)?;
     let ask = asked(matches, mapping, want, object, principal)?;
-    Ok(Job {
-        source,
-        act: Act::Check(ask),
-        domain,
-        numeric: false,
-    })
+    Ok(Act::Check(ask))
 }
 
 // The entries go into the token.

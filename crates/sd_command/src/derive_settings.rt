@@ -4,39 +4,30 @@ ghost use Rattle.std.specs.Option.{option_copied};
 ghost use Rattle.clap.specs.Words.{found_of, rows_of};
 ghost use Rattle.sd_command.specs.Settings as specs;
 
-use crate::job::{Act, Job};
-use crate::settings::{
-    OptionName, UsageFault, given_domain, given_mapping, given_sid, given_source, given_target,
-    is_set, value_of,
-};
+use crate::job::Act;
+use crate::settings::{OptionName, UsageFault, given_mapping, given_sid, given_target, value_of};
 use clap::ArgMatches;
 use sd_access::{Plan, Target};
 use sd_core::Sid;
 
 // The values in the order in which they are looked at.
-pub(crate) fn derive_settings(matches: &ArgMatches<'_>) -> Result<Job, UsageFault>
-    ensures { result ≡ specs.derive_settings (rows_of (found_of matches.now)) }
+#[tactic(auto, unfolding(crate::specs::Settings::derive_act))]
+pub(crate) fn derive_act(matches: &ArgMatches<'_>, domain: Option<&Sid>) -> Result<Act, UsageFault>
+    ensures { result
+        ≡ specs.derive_act (option_copied domain.entry) (rows_of (found_of matches.now)) }
 {
-    let domain = given_domain(matches)?;
-    let source = given_source(matches)?;
     let form = given_target(matches)?;
     let mapping = given_mapping(matches)?;
     let target = given_kind(matches)?;
-    let owner = needed_sid(matches, OptionName::Owner, domain.as_ref())?;
-    let group = needed_sid(matches, OptionName::Group, domain.as_ref())?;
-    let numeric = is_set(matches, "numeric");
+    let owner = needed_sid(matches, OptionName::Owner, domain)?;
+    let group = needed_sid(matches, OptionName::Group, domain)?;
     let plan = Plan {
         target,
         owner,
         group,
         mapping,
     };
-    Ok(Job {
-        source,
-        act: Act::Derive(plan, form),
-        domain,
-        numeric,
-    })
+    Ok(Act::Derive(plan, form))
 }
 
 fn given_kind(matches: &ArgMatches<'_>) -> Result<Target, UsageFault>

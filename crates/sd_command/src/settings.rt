@@ -6,10 +6,10 @@ ghost use Rattle.std.specs.Fn.{FnOnceReturnsAt};
 ghost use Rattle.std.specs.Option.{option_copied};
 ghost use Rattle.sd_command.specs.Inner.Given.{GivenBy};
 ghost use Rattle.sd_command.specs.Settings as specs;
-ghost use Rattle.sd_command.specs.Settings.{option_text, with_entries};
+ghost use Rattle.sd_command.specs.Settings.{act_with_entries, option_text, with_entries};
 
-use crate::check_settings::check_settings;
-use crate::derive_settings::derive_settings;
+use crate::check_settings::check_act;
+use crate::derive_settings::derive_act;
 use crate::job::{Act, Form, Job};
 use crate::token_text::sid_under;
 use clap::ArgMatches;
@@ -51,6 +51,35 @@ impl OptionName {
             OptionName::Object => "object",
             OptionName::PrincipalSelf => "self",
         }
+    }
+}
+
+// The commands.
+#[derive(Clone, Copy)]
+enum CommandName {
+    Convert,
+    Explain,
+    Check,
+    Derive,
+}
+
+impl CommandName {
+    fn from_text(text: &str) -> Option<CommandName>
+        ensures { result ≡ specs.command_reads text.now }
+    {
+        if text == "convert" {
+            return Some(CommandName::Convert);
+        }
+        if text == "explain" {
+            return Some(CommandName::Explain);
+        }
+        if text == "check" {
+            return Some(CommandName::Check);
+        }
+        if text == "derive" {
+            return Some(CommandName::Derive);
+        }
+        None
     }
 }
 
@@ -98,63 +127,63 @@ pub fn settle(matches: &ArgMatches<'_>, token: &mut Token) -> Result<Job, UsageF
     ensures compared { token.new.compared ≡ token.old.compared }
 {
     match matches.subcommand() {
-        Some((command, found)) => command_settings(command, found, token),
+        Some((name, found)) => match CommandName::from_text(name) {
+            Some(command) => command_settings(command, found, token),
+            None => Err(UsageFault::NoCommand),
+        },
         None => Err(UsageFault::NoCommand),
     }
 }
 
+// What all commands have is looked at before what is the command's own.
+#[tactic(auto, unfolding(crate::specs::Settings::command_settings))]
 fn command_settings(
-    command: &str,
+    command: CommandName,
     matches: &ArgMatches<'_>,
     token: &mut Token,
 ) -> Result<Job, UsageFault>
     requires empty { token.old.entries ≡ [] }
     ensures settled { with_entries token.new.entries result
-        ≡ specs.command_settings command.now (rows_of (found_of matches.now)) }
+        ≡ specs.command_settings command (rows_of (found_of matches.now)) }
     ensures compared { token.new.compared ≡ token.old.compared }
 {
-    if command == "convert" {
-        return convert_settings(matches);
-    }
-    if command == "explain" {
-        return explain_settings(matches);
-    }
-    if command == "check" {
-        return check_settings(matches, token);
-    }
-    if command == "derive" {
-        return derive_settings(matches);
-    }
-    Err(UsageFault::NoCommand)
-}
-
-fn convert_settings(matches: &ArgMatches<'_>) -> Result<Job, UsageFault>
-    ensures { result ≡ specs.convert_settings (rows_of (found_of matches.now)) }
-{
     let domain = given_domain(matches)?;
     let source = given_source(matches)?;
+    let act = command_act(command, matches, domain.as_ref(), token)?;
+    let numeric = is_set(matches, "numeric");
+    Ok(Job {
+        source,
+        act,
+        domain,
+        numeric,
+    })
+}
+
+fn command_act(
+    command: CommandName,
+    matches: &ArgMatches<'_>,
+    domain: Option<&Sid>,
+    token: &mut Token,
+) -> Result<Act, UsageFault>
+    requires empty { token.old.entries ≡ [] }
+    ensures settled { act_with_entries token.new.entries result
+        ≡ specs.command_act command (option_copied domain.entry) (rows_of (found_of matches.now)) }
+    ensures compared { token.new.compared ≡ token.old.compared }
+{
+    match command {
+        CommandName::Convert => convert_act(matches),
+        CommandName::Explain => Ok(Act::Explain),
+        CommandName::Check => check_act(matches, domain, token),
+        CommandName::Derive => derive_act(matches, domain),
+    }
+}
+
+#[tactic(auto, unfolding(crate::specs::Settings::convert_act))]
+fn convert_act(matches: &ArgMatches<'_>) -> Result<Act, UsageFault>
+    ensures { result ≡ specs.convert_act (rows_of (found_of matches.now)) }
+{
     let target = given_target(matches)?;
-    let numeric = is_set(matches, "numeric");
-    Ok(Job {
-        source,
-        act: Act::Convert(target),
-        domain,
-        numeric,
-    })
-}
-
-fn explain_settings(matches: &ArgMatches<'_>) -> Result<Job, UsageFault>
-    ensures { result ≡ specs.explain_settings (rows_of (found_of matches.now)) }
-{
-    let domain = given_domain(matches)?;
-    let source = given_source(matches)?;
-    let numeric = is_set(matches, "numeric");
-    Ok(Job {
-        source,
-        act: Act::Explain,
-        domain,
-        numeric,
-    })
+    Ok(Act::Convert(target))
 }
 
 // What an option's text reads as. None where the option is left out.
@@ -176,7 +205,7 @@ pub(crate) fn value_of<T, R: FnOnce(&str) -> Option<T>>(
     }
 }
 
-pub(crate) fn given_domain(matches: &ArgMatches<'_>) -> Result<Option<Sid>, UsageFault>
+fn given_domain(matches: &ArgMatches<'_>) -> Result<Option<Sid>, UsageFault>
     ensures { result ≡ specs.given_domain (rows_of (found_of matches.now)) }
 {
     value_of(matches, OptionName::Domain, domain_from_text)
@@ -200,7 +229,7 @@ fn domain_from_text(text: &str) -> Option<Sid>
 }
 
 // Hex where the option is left out.
-pub(crate) fn given_source(matches: &ArgMatches<'_>) -> Result<Form, UsageFault>
+fn given_source(matches: &ArgMatches<'_>) -> Result<Form, UsageFault>
     ensures { result ≡ specs.given_source (rows_of (found_of matches.now)) }
 {
     let form = value_of(matches, OptionName::From, form_from_text)?;
