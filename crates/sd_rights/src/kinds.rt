@@ -153,12 +153,7 @@ fn with_code(code: u8) -> Option<AceKind>
 fn with_letters(table: &[KindEntry], text: &[u8]) -> Option<KindEntry>
     ensures { result ≡ find (λ e. str_eq_ignore_ascii_case (letters_of e) text.now) table.now }
 {
-    for entry in table {
-        if is_named(entry, text) {
-            return Some(*entry);
-        }
-    }
-    None
+    table.iter().copied().find(|entry| is_named(entry, text))
 }
 
 fn is_named(entry: &KindEntry, text: &[u8]) -> bool
