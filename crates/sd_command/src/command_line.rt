@@ -1,10 +1,10 @@
 // The command line: its commands and their options.
 ghost use Rattle.std.specs.Prelude.{◌≡◌, IfOk, false};
-ghost use Rattle.clap.specs.Words.{App, Rule, app_of, new_app, rule_of, with_rule, with_subcommand};
-ghost use Rattle.clap.specs.declared.Command.TheViews.{out-Command};
+ghost use Rattle.clap.specs.Words.{App, app_of, new_app, rule_of, with_rule, with_subcommand};
 ghost use Rattle.sd_command.specs.CommandLine.{bare_line, check_line, convert_line, derive_line};
 ghost use Rattle.sd_command.specs.CommandLine.{explain_line, line};
 ghost use Rattle.sd_command.specs.CommandLine.{flag_rule, option_rule, required_rule};
+ghost use Rattle.sd_command.specs.Inner.Building.{IsBuilt};
 
 use clap::{Arg, ArgAction, Command};
 use std::alloc::{AllocError, Global};
@@ -32,7 +32,7 @@ const DERIVE_EXAMPLE: &str =
     "Example: echo 'D:(A;OICI;FA;;;CO)' | sdtool derive --from sddl --kind file --owner BA --group SY
 'sdtool --help' says what is read and written.";
 
-// What is said of an option in the help of several commands, or is long.
+// What is said of the options.
 const FROM_HELP: &str = "The form of the lines: hex, the default, base64 or sddl";
 
 const TO_HELP: &str = "The form of the answers: sddl, the default, hex or base64";
@@ -46,11 +46,23 @@ const TOKEN_HELP: &str =
 
 const WANT_HELP: &str = "The rights that are wanted, as SDDL has them";
 
+const MAXIMUM_HELP: &str = "Ask for all that is granted";
+
 const TYPE_HELP: &str = "The type of object: file, the default, key or ds";
 
 const OBJECT_HELP: &str = "The GUID of the object type that is asked for";
 
 const SELF_HELP: &str = "The SID that PRINCIPAL SELF stands for";
+
+const SECURITY_HELP: &str = "The token holds SeSecurityPrivilege";
+
+const TAKE_OWNERSHIP_HELP: &str = "The token holds SeTakeOwnershipPrivilege";
+
+const KIND_HELP: &str = "What is made: file or container";
+
+const OWNER_HELP: &str = "The SID of the owner of what is made";
+
+const GROUP_HELP: &str = "The SID of the group of what is made";
 
 /// The command line of the program.
 pub fn command_line<'a>(alloc: Global) -> Result<Command<'a>, AllocError>
@@ -63,8 +75,7 @@ pub fn command_line<'a>(alloc: Global) -> Result<Command<'a>, AllocError>
 }
 
 fn bare_line<'a>(alloc: Global) -> Command<'a>
-    ensures app { app_of result ≡ bare_line }
-    ensures local { (out-Command result).has_globals ≡ false }
+    ensures { app_of result ≡ bare_line }
 {
     Command::new(alloc, "sdtool")
         .about("Work on Windows security descriptors, one a line")
@@ -73,136 +84,127 @@ fn bare_line<'a>(alloc: Global) -> Command<'a>
 }
 
 fn convert_command<'a>(alloc: Global) -> Result<Command<'a>, AllocError>
-    ensures line { IfOk result (λ c. app_of c ≡ convert_line) }
-    ensures local { IfOk result (λ c. (out-Command c).has_globals ≡ false) }
+    ensures { IsBuilt convert_line result }
 {
-    let command = Ok(named(
+    let command = named(
         alloc,
         "convert",
         "Print each descriptor in a canonical form",
         CONVERT_EXAMPLE,
-    ));
-    let command = with_arg(command, option(alloc, "from", FROM_HELP));
-    let command = with_arg(command, option(alloc, "to", TO_HELP));
-    let command = with_arg(command, option(alloc, "domain", DOMAIN_HELP));
-    with_arg(command, flag(alloc, "numeric", NUMERIC_HELP))
+    );
+    let command = with_option(alloc, command, "from", FROM_HELP);
+    let command = with_option(alloc, command, "to", TO_HELP);
+    let command = with_option(alloc, command, "domain", DOMAIN_HELP);
+    with_flag(alloc, command, "numeric", NUMERIC_HELP)
 }
 
 fn explain_command<'a>(alloc: Global) -> Result<Command<'a>, AllocError>
-    ensures line { IfOk result (λ c. app_of c ≡ explain_line) }
-    ensures local { IfOk result (λ c. (out-Command c).has_globals ≡ false) }
+    ensures { IsBuilt explain_line result }
 {
-    let command = Ok(named(
+    let command = named(
         alloc,
         "explain",
         "Say what each descriptor has, in a block of lines",
         EXPLAIN_EXAMPLE,
-    ));
-    let command = with_arg(command, option(alloc, "from", FROM_HELP));
-    let command = with_arg(command, option(alloc, "domain", DOMAIN_HELP));
-    with_arg(command, flag(alloc, "numeric", NUMERIC_HELP))
+    );
+    let command = with_option(alloc, command, "from", FROM_HELP);
+    let command = with_option(alloc, command, "domain", DOMAIN_HELP);
+    with_flag(alloc, command, "numeric", NUMERIC_HELP)
 }
 
 fn check_command<'a>(alloc: Global) -> Result<Command<'a>, AllocError>
-    ensures line { IfOk result (λ c. app_of c ≡ check_line) }
-    ensures local { IfOk result (λ c. (out-Command c).has_globals ≡ false) }
+    ensures { IsBuilt check_line result }
 {
-    let command = Ok(named(
+    let command = named(
         alloc,
         "check",
         "Say what each descriptor grants to a token",
         CHECK_EXAMPLE,
-    ));
-    let command = with_arg(command, option(alloc, "from", FROM_HELP));
-    let command = with_arg(command, option(alloc, "domain", DOMAIN_HELP));
-    let command = with_arg(command, required(alloc, "token", TOKEN_HELP));
-    let command = with_arg(command, option(alloc, "want", WANT_HELP));
-    let command = with_arg(
-        command,
-        flag(alloc, "maximum", "Ask for all that is granted"),
     );
-    let command = with_arg(command, option(alloc, "type", TYPE_HELP));
-    let command = with_arg(command, option(alloc, "object", OBJECT_HELP));
-    let command = with_arg(command, option(alloc, "self", SELF_HELP));
-    let command = with_arg(
-        command,
-        flag(alloc, "security", "The token holds SeSecurityPrivilege"),
-    );
-    with_arg(
-        command,
-        flag(
-            alloc,
-            "take-ownership",
-            "The token holds SeTakeOwnershipPrivilege",
-        ),
-    )
+    let command = with_option(alloc, command, "from", FROM_HELP);
+    let command = with_option(alloc, command, "domain", DOMAIN_HELP);
+    let command = with_required(alloc, command, "token", TOKEN_HELP);
+    let command = with_option(alloc, command, "want", WANT_HELP);
+    let command = with_flag(alloc, command, "maximum", MAXIMUM_HELP);
+    let command = with_option(alloc, command, "type", TYPE_HELP);
+    let command = with_option(alloc, command, "object", OBJECT_HELP);
+    let command = with_option(alloc, command, "self", SELF_HELP);
+    let command = with_flag(alloc, command, "security", SECURITY_HELP);
+    with_flag(alloc, command, "take-ownership", TAKE_OWNERSHIP_HELP)
 }
 
 fn derive_command<'a>(alloc: Global) -> Result<Command<'a>, AllocError>
-    ensures line { IfOk result (λ c. app_of c ≡ derive_line) }
-    ensures local { IfOk result (λ c. (out-Command c).has_globals ≡ false) }
+    ensures { IsBuilt derive_line result }
 {
-    let command = Ok(named(
+    let command = named(
         alloc,
         "derive",
         "Print what a new object inherits from each descriptor",
         DERIVE_EXAMPLE,
-    ));
-    let command = with_arg(command, option(alloc, "from", FROM_HELP));
-    let command = with_arg(command, option(alloc, "to", TO_HELP));
-    let command = with_arg(command, option(alloc, "domain", DOMAIN_HELP));
-    let command = with_arg(command, flag(alloc, "numeric", NUMERIC_HELP));
-    let command = with_arg(
-        command,
-        required(alloc, "kind", "What is made: file or container"),
     );
-    let command = with_arg(
-        command,
-        required(alloc, "owner", "The SID of the owner of what is made"),
-    );
-    let command = with_arg(
-        command,
-        required(alloc, "group", "The SID of the group of what is made"),
-    );
-    with_arg(command, option(alloc, "type", TYPE_HELP))
+    let command = with_option(alloc, command, "from", FROM_HELP);
+    let command = with_option(alloc, command, "to", TO_HELP);
+    let command = with_option(alloc, command, "domain", DOMAIN_HELP);
+    let command = with_flag(alloc, command, "numeric", NUMERIC_HELP);
+    let command = with_required(alloc, command, "kind", KIND_HELP);
+    let command = with_required(alloc, command, "owner", OWNER_HELP);
+    let command = with_required(alloc, command, "group", GROUP_HELP);
+    with_option(alloc, command, "type", TYPE_HELP)
 }
 
-fn named<'a>(alloc: Global, name: &'a str, about: &'a str, example: &'a str) -> Command<'a>
-    ensures app { app_of result ≡ new_app name.entry.now }
-    ensures local { (out-Command result).has_globals ≡ false }
+fn named<'a>(
+    alloc: Global,
+    name: &'a str,
+    about: &'a str,
+    example: &'a str,
+) -> Result<Command<'a>, AllocError>
+    ensures { IsBuilt (new_app name.entry.now) result }
 {
-    Command::new(alloc, name).about(about).after_help(example)
+    Ok(Command::new(alloc, name).about(about).after_help(example))
 }
 
 // The command with one option more, where there was memory for it so far: a chain of these has no way out of its
 // middle.
-fn with_arg<'a>(
+fn with_option<'a>(
+    alloc: Global,
     command: Result<Command<'a>, AllocError>,
-    arg: Arg<'a>,
+    name: &'a str,
+    help: &'a str,
 ) -> Result<Command<'a>, AllocError>
-    requires local { arg.global ≡ false }
-    ensures app { (app : App) (rule : Rule) → IfOk command.entry (λ c. app_of c ≡ app) → rule_of arg.entry ≡ rule
-        → IfOk result (λ c. app_of c ≡ with_rule app rule) }
-    ensures local { IfOk command.entry (λ c. (out-Command c).has_globals ≡ false)
-        → IfOk result (λ c. (out-Command c).has_globals ≡ false) }
+    ensures { (app : App) → IsBuilt app command.entry
+        → IsBuilt (with_rule app (option_rule name.entry.now)) result }
 {
-    match command {
-        Ok(command) => command.arg(arg),
-        Err(refused) => Err(refused),
-    }
+    with_arg(command, option(alloc, name, help))
 }
 
-// The same with one command more below it.
-fn with_command<'a>(
+// The same with an option that may not be left out.
+fn with_required<'a>(
+    alloc: Global,
     command: Result<Command<'a>, AllocError>,
-    subcommand: Result<Command<'a>, AllocError>,
+    name: &'a str,
+    help: &'a str,
 ) -> Result<Command<'a>, AllocError>
-    ensures app { (app below : App) → IfOk command.entry (λ c. app_of c ≡ app)
-        → IfOk subcommand.entry (λ c. app_of c ≡ below)
-        → IfOk subcommand.entry (λ c. (out-Command c).has_globals ≡ false)
-        → IfOk result (λ c. app_of c ≡ with_subcommand app below.top) }
+    ensures { (app : App) → IsBuilt app command.entry
+        → IsBuilt (with_rule app (required_rule name.entry.now)) result }
 {
-    command?.subcommand(subcommand?)
+    with_arg(command, option(alloc, name, help).required(true))
+}
+
+// The same with a flag.
+fn with_flag<'a>(
+    alloc: Global,
+    command: Result<Command<'a>, AllocError>,
+    name: &'a str,
+    help: &'a str,
+) -> Result<Command<'a>, AllocError>
+    ensures { (app : App) → IsBuilt app command.entry
+        → IsBuilt (with_rule app (flag_rule name.entry.now)) result }
+{
+    let flag = Arg::new(alloc, name)
+        .long(name)
+        .action(ArgAction::SetTrue)
+        .help(help);
+    with_arg(command, flag)
 }
 
 fn option<'a>(alloc: Global, name: &'a str, help: &'a str) -> Arg<'a>
@@ -215,19 +217,28 @@ fn option<'a>(alloc: Global, name: &'a str, help: &'a str) -> Arg<'a>
         .help(help)
 }
 
-fn required<'a>(alloc: Global, name: &'a str, help: &'a str) -> Arg<'a>
-    ensures rule { rule_of result ≡ required_rule name.entry.now }
-    ensures local { result.global ≡ false }
+fn with_arg<'a>(
+    command: Result<Command<'a>, AllocError>,
+    arg: Arg<'a>,
+) -> Result<Command<'a>, AllocError>
+    requires local { arg.global ≡ false }
+    ensures { (app : App) → IsBuilt app command.entry
+        → IsBuilt (with_rule app (rule_of arg.entry)) result }
 {
-    option(alloc, name, help).required(true)
+    match command {
+        Ok(command) => command.arg(arg),
+        Err(refused) => Err(refused),
+    }
 }
 
-fn flag<'a>(alloc: Global, name: &'a str, help: &'a str) -> Arg<'a>
-    ensures rule { rule_of result ≡ flag_rule name.entry.now }
-    ensures local { result.global ≡ false }
+// The same with one command more below it.
+fn with_command<'a>(
+    command: Result<Command<'a>, AllocError>,
+    subcommand: Result<Command<'a>, AllocError>,
+) -> Result<Command<'a>, AllocError>
+    ensures { (app below : App) → IfOk command.entry (λ c. app_of c ≡ app)
+        → IsBuilt below subcommand.entry
+        → IfOk result (λ c. app_of c ≡ with_subcommand app below.top) }
 {
-    Arg::new(alloc, name)
-        .long(name)
-        .action(ArgAction::SetTrue)
-        .help(help)
+    command?.subcommand(subcommand?)
 }
