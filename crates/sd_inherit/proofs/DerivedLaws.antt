@@ -1,6 +1,6 @@
 -- What is derived, from the parts that the builder was given, and why it may not be.
-use Rattle.std.proofs.Common.{◌≡◌, ◌≤◌, ℕ, ◌+◌, ◌^◌, ◌↔◌, Bool, true, false, not, List, [], ◌∷◌, ◌++◌, Some, None, refl, sym, ap, arith}
-use Rattle.std.proofs.lemmas.Bool.Decides.{nat_tests}
+use Rattle.std.proofs.Common.{◌≡◌, ◌≤◌, ℕ, ◌+◌, ◌^◌, ◌↔◌, Bool, true, false, not, List, [], ◌∷◌, ◌++◌, Some, None, refl, sym, ap}
+use Rattle.std.proofs.lemmas.Bool.{le-leb, leb-true}
 use Rattle.sd_core.specs.Ace.{AccessControlEntry}
 use Rattle.sd_view.specs.Acl.{acl_size}
 use Rattle.sd_view.specs.Control.{bit_if, control_of}
@@ -19,13 +19,13 @@ abbrev RefusedFor : Bool → List AccessControlEntry → Type 0
 RefusedFor refused aces = (refused ≡ true) ↔ (2 ^ 16 ≤ acl_size aces)
 
 too_large : (aces : List AccessControlEntry) → RefusedFor true aces → is_too_large aces ≡ true
-too_large aces refused = let large = refused.0 refl in grind (arith, nat_tests)
+too_large aces refused = le-leb (2 ^ 16) (acl_size aces) (refused.0 refl)
 
 fits : (aces : List AccessControlEntry) → RefusedFor false aces → is_too_large aces ≡ false
 fits aces refused = by_test (is_too_large aces) refl
   where
     by_test : (x : Bool) → is_too_large aces ≡ x → x ≡ false
-    by_test true e = sym (refused.1 (grind (arith, nat_tests)))
+    by_test true e = sym (refused.1 (leb-true (2 ^ 16) (acl_size aces) e))
     by_test false e = refl
 
 module _ (d : Descriptor) (plan : Plan) where
