@@ -18,8 +18,7 @@ fn holds_the_longest_line_of_base64(rt: HostRuntime) {
     for _ in 4..174_968 {
         assert!(rt; text.push(b'A') == Ok(()));
     }
-    assert!(rt; text.push(b'B') == Err(Full));
-    assert!(rt; text.bytes().len() == 174_968);
+    assert!(rt; text.push(b'B') == Err(Full) && text.bytes().len() == 174_968);
     assert!(rt; text.bytes().iter().all(|byte| *byte == b'A'));
 }
 
@@ -28,10 +27,8 @@ fn holds_the_longest_line_of_base64(rt: HostRuntime) {
 fn decodes_base64(rt: HostRuntime) {
     let mut buf = SdBuf::new(rt.alloc()).expect(&rt, "memory for a buffer");
     assert!(rt; buf.bytes().is_empty());
-    assert!(rt; buf.push(1) == Ok(()));
-    assert!(rt; buf.bytes() == [1].as_slice());
-    assert!(rt; buf.from_base64(b"Zm9vYg==") == Ok(()));
-    assert!(rt; buf.bytes() == b"foob".as_slice());
+    assert!(rt; buf.push(1) == Ok(()) && buf.bytes() == [1].as_slice());
+    assert!(rt; buf.from_base64(b"Zm9vYg==") == Ok(()) && buf.bytes() == b"foob".as_slice());
     assert!(rt; buf.from_base64(b"Zm9v\n") == Err(TextFault::Base64));
     assert!(rt; buf.bytes().is_empty());
 }
@@ -62,11 +59,10 @@ fn expect_read(
     requires { length text.now ≤ most_hex_text }
 {
     let text = text.as_bytes();
-    assert!(rt; buf.from_hex(text) == want);
-    assert!(rt; buf.bytes() == bytes);
+    assert!(rt; buf.from_hex(text) == want && buf.bytes() == bytes);
     for size in 0..=text.len() {
-        assert!(rt; read_in_pieces(buf, text, size) == want);
-        assert!(rt; buf.bytes() == bytes);
+        let is_read = read_in_pieces(buf, text, size) == want;
+        assert!(rt; is_read && buf.bytes() == bytes);
     }
 }
 
@@ -96,8 +92,8 @@ const NO_LINES: &str =
 fn leaves_nothing_of_a_line_that_does_not_read(rt: HostRuntime) {
     let mut buf = SdBuf::new(rt.alloc()).expect(&rt, "memory");
     for line in NO_LINES.split(' ') {
-        assert!(rt; read_sddl(b"O:BAD:(A;;FA;;;WD)", None, &mut buf) == Ok(()));
-        assert!(rt; buf.bytes().len() == 64);
+        let is_read = read_sddl(b"O:BAD:(A;;FA;;;WD)", None, &mut buf).is_ok();
+        assert!(rt; is_read && buf.bytes().len() == 64);
         let is_refused = read_sddl(line.as_bytes(), None, &mut buf).is_err();
         assert!(rt; is_refused && buf.bytes().is_empty(), "{line}");
     }

@@ -4,4 +4,5 @@ use Rattle.sd_view.proofs.acl_layout.print_ace.Goals as goal
 
 pub returns : goal.returns
 returns g c =
-    prints_then (prints_as (c.as_slice.ensures ∙ c.of_view-front.ensures) c.put.ensures) (prints_as c.body.ensures.value c.put-2.ensures)
+    prints_then (prints_as (c.as_slice.ensures ∙ c.of_view-front.ensures) c.put.ensures)
+    (prints_as c.body.ensures.value c.put-2.ensures)
