@@ -210,7 +210,8 @@ abbrev pub with_entries : List Entry → Result Job UsageFault → Result Settin
 with_entries entries (Err fault) = Err fault
 with_entries entries (Ok job) = Ok (record { job = job; entries = entries })
 
--- the first option that does not read, or the job: what all commands have is looked at before what is the command's own
+-- the first option that does not read, or the job: the domain and the form, which all commands have, are looked at
+-- before what is the command's own. The line gives `check` no `--numeric`, and a check prints no SID.
 unfoldable pub command_settings : CommandName → List Row → Result Settings UsageFault
 command_settings command rows = do
   domain ← given_domain rows

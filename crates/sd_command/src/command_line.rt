@@ -152,6 +152,7 @@ fn derive_command<'a>(alloc: Global) -> Result<Command<'a>, AllocError>
     with_option(alloc, command, "type", TYPE_HELP)
 }
 
+// A command without options so far. It is a result, since a chain of options begins with it.
 fn named<'a>(
     alloc: Global,
     name: &'a str,
@@ -217,6 +218,7 @@ fn option<'a>(alloc: Global, name: &'a str, help: &'a str) -> Arg<'a>
         .help(help)
 }
 
+// The command with one argument more, which is its own alone.
 fn with_arg<'a>(
     command: Result<Command<'a>, AllocError>,
     arg: Arg<'a>,
@@ -231,7 +233,7 @@ fn with_arg<'a>(
     }
 }
 
-// The same with one command more below it.
+// The command with one command more below it, where there was memory for both.
 fn with_command<'a>(
     command: Result<Command<'a>, AllocError>,
     subcommand: Result<Command<'a>, AllocError>,

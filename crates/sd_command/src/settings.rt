@@ -135,7 +135,8 @@ pub fn settle(matches: &ArgMatches<'_>, token: &mut Token) -> Result<Job, UsageF
     }
 }
 
-// What all commands have is looked at before what is the command's own.
+// The domain and the form, which all commands have, are looked at before what is the command's own. `check` has no
+// `--numeric`, so there it is never set.
 #[tactic(auto, unfolding(crate::specs::Settings::command_settings))]
 fn command_settings(
     command: CommandName,

@@ -73,7 +73,7 @@ pub const FLAGS: [NamedBits; 7] = [
     },
 ];
 
-/// Whether a flag is set among those of an ACE.
+/// Whether a flag is set among those of an ACE. It is one of `FLAGS`, and not several at once.
 #[inline(always)]
 pub fn has_flag(flags: u8, flag: u8) -> bool
     requires { IsTrue (is_flag flag) }

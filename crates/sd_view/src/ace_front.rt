@@ -1,7 +1,6 @@
 // What stands in an ACE before its GUIDs and its SID, as it is written.
 ghost use Rattle.std.specs.Prelude.{◌≡◌, ◌+◌, ◌++◌, ◌∷◌, [], length, take, if◌then◌else◌};
 ghost use Rattle.byteorder.specs.Endian.{little_bytes};
-ghost use Rattle.sd_core.specs.Ace.{IsAce};
 ghost use Rattle.sd_rights.specs.Kinds.{is_object, kind_code};
 ghost use Rattle.sd_view.specs.AclLayout.{ace_front};
 
@@ -31,19 +30,18 @@ impl AceFront {
     /// That of an ACE.
     #[inline(always)]
     pub fn of_ace(ace: &Ace) -> AceFront
-        ensures bytes { result ≡ ace_front ace.now }
-        ensures limits { IsAce ace.now }
+        ensures { result ≡ ace_front ace.now }
     {
-        let guids = object_flags(ace.object().is_some(), ace.inherited().is_some());
-        front(ace.kind(), ace.flags(), ace.size(), ace.mask(), guids)
+        let present = object_flags(ace.object().is_some(), ace.inherited().is_some());
+        front(ace.kind(), ace.flags(), ace.size(), ace.mask(), present)
     }
 
     // That of an ACE in the bytes that show it.
     pub(crate) fn of_view(ace: &AceView<'_>) -> AceFront
         ensures { result ≡ ace_front ace.now }
     {
-        let guids = object_flags(ace.object().is_some(), ace.inherited().is_some());
-        front(ace.kind(), ace.flags(), ace.size(), ace.mask(), guids)
+        let present = object_flags(ace.object().is_some(), ace.inherited().is_some());
+        front(ace.kind(), ace.flags(), ace.size(), ace.mask(), present)
     }
 
     /// How many bytes there are.
@@ -54,7 +52,7 @@ impl AceFront {
         self.len
     }
 
-    /// As many cells as there are bytes at most, which can be copied without a loop. The bytes are the first of them.
+    /// As many cells as the longest of these has, so that they can be copied at once. The bytes are the first of them.
     #[inline(always)]
     pub fn cells(&self) -> &[u8; OBJECT_FRONT_SIZE]
         ensures { take (length self.now) result.now ≡ self.now }
@@ -78,16 +76,16 @@ fn object_flags(object: bool, inherited: bool) -> u32
 }
 
 #[inline(always)]
-fn front(kind: AceKind, flags: u8, size: u16, mask: u32, guids: u32) -> AceFront
+fn front(kind: AceKind, flags: u8, size: u16, mask: u32, present: u32) -> AceFront
     ensures { result ≡ kind_code kind ∷ flags ∷ little_bytes 2 size
-        ++ (little_bytes 4 mask ++ (if is_object kind then little_bytes 4 guids else [])) }
+        ++ (little_bytes 4 mask ++ (if is_object kind then little_bytes 4 present else [])) }
 {
     let mut cells = [0; OBJECT_FRONT_SIZE];
     cells[0] = kind.code();
     cells[1] = flags;
     LittleEndian::write_u16(&mut cells[2..], size);
     LittleEndian::write_u32(&mut cells[4..], mask);
-    LittleEndian::write_u32(&mut cells[8..], guids);
+    LittleEndian::write_u32(&mut cells[8..], present);
     let len = if kind.is_object() {
         OBJECT_FRONT_SIZE
     } else {
