@@ -18,7 +18,7 @@ help:
 	@echo 'make quick             builds the program without a proof, and gives it rows and random lines (a minute)'
 	@echo 'make check CRATE=NAME  proves a crate, over the work that earlier checks kept (seconds to 2 minutes)'
 	@echo 'make rows ID=WORD      the rows whose names have the word, on the built program (seconds; ID= for all)'
-	@echo 'make test              the gate and all tests of the built program (30 minutes); ends with N passed, M failed'
+	@echo 'make test              the gate and all tests of the built program (40 minutes); ends with N passed, M failed'
 	@echo 'make edits CRATE=NAME  tries every edit that the check has to refuse, also those that the gate leaves out'
 	@echo 'make bench             measures the program against a plain one in Rust, and cat (8 minutes)'
 	@echo 'make install           puts the program, its man page and its documents below PREFIX ($(PREFIX))'
