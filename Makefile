@@ -13,7 +13,7 @@ need_toolchain = $(if $(shell command -v rt 2>&1),,$(error the Rattle toolchain 
 
 # The first target, so that `make` alone says what there is.
 help:
-	@echo 'make run               builds the program and shows the examples, each with its answer (10 minutes, then seconds)'
+	@echo 'make run               builds the program and shows the examples, each with its answer (10 to 18 minutes, then seconds)'
 	@echo 'make program           builds the program alone: crates/sdtool/out/sdtool'
 	@echo 'make quick             builds the program without a proof, and gives it rows and random lines (a minute)'
 	@echo 'make check CRATE=NAME  proves a crate, over the work that earlier checks kept (seconds to 2 minutes)'
