@@ -24,7 +24,8 @@ use Rattle.sd_binary.specs.declared.builder.Builder.{Builder}
 use Rattle.sd_binary.specs.declared.builder.OpenAcl.{OpenAcl}
 use Rattle.sd_view.specs.declared.control.Which.{Which}
 use Rattle.sd_view.specs.declared.control.Which.TheVariants as lists
-use Rattle.sd_view.proofs.AclLayoutLaws.{aces-many, length-aces}
+use Rattle.sd_view.proofs.laws.AceLists.{all-more, size-more}
+use Rattle.sd_view.proofs.laws.AclLayoutLaws.{aces-many, length-aces}
 use Rattle.sd_binary.proofs.Standing.{group-stands, list-stands, null-stands, owner-stands, room}
 
 -- what the builder keeps and what it was given agree on which parts there are
@@ -329,16 +330,6 @@ open-roomy b bytes t o h e =
     }
 
 -- an ACE more
-pub all-more : (aces : List AccessControlEntry) (a : AccessControlEntry) → AllByRecursion IsAce aces → IsAce a
-    → AllByRecursion IsAce (aces ++ a ∷ [])
-all-more [] a h more = (more, tt)
-all-more (x ∷ others) a h more = (h.0, all-more others a h.1 more)
-
-pub size-more : (aces : List AccessControlEntry) (a : AccessControlEntry)
-    → aces_size (aces ++ a ∷ []) ≡ aces_size aces + ace_size a
-size-more [] a = omega arith
-size-more (x ∷ others) a = omega (arith, size-more others a)
-
 object-more : (aces : List AccessControlEntry) (a : AccessControlEntry)
     → has_object (aces ++ a ∷ []) ≡ (has_object aces || is_object a.kind)
 object-more aces a = list_any-append (λ x. is_object x.kind) aces (a ∷ [])

@@ -12,10 +12,10 @@ use Rattle.sd_view.specs.Layout.{header_bytes}
 use Rattle.sd_view.specs.declared.acl.AclPart.{AclPart}
 use Rattle.sd_view.specs.declared.acl.AclPart.TheVariants as acl
 use Rattle.sd_binary.specs.declared.builder.Builder.{Builder}
-use Rattle.sd_view.proofs.AclLayoutLaws.{acl_bytes-shows}
-use Rattle.sd_view.proofs.ControlLaws.{control-bits}
+use Rattle.sd_view.proofs.laws.AclLayoutLaws.{acl_bytes-shows}
+use Rattle.sd_view.proofs.laws.ControlLaws.{control-bits}
 use Rattle.sd_binary.proofs.Building.{closed-from}
-use Rattle.sd_view.proofs.LayoutLaws.{acl_size-read, header-control, header-dacl, header-group, header-owner, header-revision, header-rm, header-sacl}
+use Rattle.sd_view.proofs.laws.LayoutLaws.{acl_size-read, header-control, header-dacl, header-group, header-owner, header-revision, header-rm, header-sacl}
 use Rattle.sd_binary.proofs.Standing.{acl-kept, headed, room, sid-kept, sid-small}
 
 -- what stands is shown

@@ -13,7 +13,7 @@ use Rattle.std.specs.Option.{option_to_list}
 use Rattle.sd_binary.specs.HexReading.{ReadsHex}
 use Rattle.sd_binary.specs.Inner.HexPairs.{spelled_so_far}
 use Rattle.sd_binary.proofs.Decoded.{spells-odd}
-use Rattle.sd_binary.proofs.HexPairs.{both_spelled, pairs-fault, spells-append, spells-length, spells-nil}
+use Rattle.sd_binary.proofs.laws.HexPairs.{both_spelled, pairs-fault, spells-append, spells-length, spells-nil}
 
 -- nothing was fed
 pub hex-begun : (r : HexReader) → r.pending ≡ None → r.wrong ≡ false → ReadsHex r [] []

@@ -20,7 +20,7 @@ use Rattle.sd_view.specs.declared.control.Which.TheVariants as lists
 use Rattle.sd_view.specs.declared.fault.Part.TheVariants as part
 use Rattle.sd_binary.proofs.Building.{ace-builds, acl-free, begin-builds, closed-from, end-builds, end-bytes, given-closed, group-builds, group-free, header_by, is_begun, kept-is, new-builds, null-builds, owner-builds, owner-free, with_more}
 use Rattle.sd_binary.proofs.Finished.{acl-present, header_for}
-use Rattle.sd_view.proofs.LayoutLaws.{length-acl_part, length-sid_part, offset-stands}
+use Rattle.sd_view.proofs.laws.LayoutLaws.{length-acl_part, length-sid_part, offset-stands}
 use Rattle.sd_binary.proofs.Standing.{room}
 
 -- ---- bytes

@@ -6,7 +6,7 @@ use Rattle.std.proofs.lemmas.Slice.{drop-append-drop}
 use Rattle.std.proofs.Math.Seq.{drop-append_seam}
 use Rattle.sd_core.specs.Ace.{AccessControlEntry}
 use Rattle.sd_core.specs.Sid.{SecurityId, IsSid, sid_bytes, sid_size}
-use Rattle.sd_core.proofs.SidLaws.{length-sid_bytes}
+use Rattle.sd_core.proofs.laws.SidLaws.{length-sid_bytes}
 use Rattle.sd_view.specs.Acl.{IsAcl, acl_size}
 use Rattle.sd_view.specs.AclLayout.{acl_bytes}
 use Rattle.sd_binary.specs.Inner.Building.{AclStands, PartsStand, SidStands, Stands, acl_extent_of, placed}
@@ -18,7 +18,7 @@ use Rattle.sd_view.specs.declared.acl.AclPart.TheVariants as acl
 use Rattle.sd_binary.specs.declared.builder.Builder.{Builder}
 use Rattle.sd_view.specs.declared.control.Which.{Which}
 use Rattle.sd_view.specs.declared.control.Which.TheVariants as lists
-use Rattle.sd_view.proofs.AclLayoutLaws.{length-acl_bytes}
+use Rattle.sd_view.proofs.laws.AclLayoutLaws.{length-acl_bytes}
 
 -- what stands in some bytes stands in others
 abbrev pub Kept : List ℕ → List ℕ → Type 0

@@ -9,7 +9,7 @@ use Rattle.std.proofs.lemmas.List.Sums.{take_while-cons}
 use Rattle.std.proofs.lemmas.Bool.{and_parts}
 use Rattle.sd_core.specs.SidText.{are_letters, are_numbers, begins_with_s1, has_form, is_sid_byte, cut_at_dashes, sid_front}
 use Rattle.sd_rights.specs.Numbers.{number_after}
-use Rattle.sd_core.proofs.TextLaws.{cut-digits}
+use Rattle.sd_core.proofs.laws.TextLaws.{cut-digits}
 use Rattle.sd_core.proofs.UsualNumbers.{digits}
 
 front-more : (b : ℕ) (bs : List ℕ) → is_sid_byte b ≡ true → sid_front (b ∷ bs) ≡ b ∷ sid_front bs

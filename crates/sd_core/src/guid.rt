@@ -57,7 +57,7 @@ pub fn print_guid<P: Print>(guid: &Uuid, out: &mut P)
 
 /// The GUID of a text (MS-DTYP 2.3.4.3, without its braces): 36 characters, with letters in either case.
 /// None for any other text, also for another form of a GUID.
-#[tactic(auto, using(crate::proofs::GuidTexts::other_length))]
+#[tactic(auto, using(crate::proofs::laws::GuidTexts::other_length))]
 pub fn guid_from_text(text: &[u8]) -> Option<Uuid>
     ensures { result ≡ guid_reads text.now }
 {

@@ -1,4 +1,4 @@
 -- Descriptors explained.
 pub mod Numbered
 mod Rows
-pub mod SizeLaws
+pub mod laws

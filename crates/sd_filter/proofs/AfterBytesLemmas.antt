@@ -6,7 +6,7 @@ use Rattle.std.proofs.Math.Seq.{take-add}
 use Rattle.std.proofs.KnownBytes.{Appends-trans}
 use Rattle.sd_core.specs.Token.{Entry, TokenShown}
 use Rattle.sd_sink.specs.Sink.{SinkTold, PutAll, PutSome}
-use Rattle.sd_sink.proofs.SinkLemmas.{PutAll-nil, PutAll-trans}
+use Rattle.sd_sink.proofs.laws.SinkLemmas.{PutAll-nil, PutAll-trans}
 use Rattle.sd_filter.specs.Lines.{cut_at_line_feeds, ended, lines, last_line, without_cr, has_lf}
 use Rattle.sd_filter.specs.Answers.{answer, answers, bound, bounds, errors, is_error}
 use Rattle.sd_filter.specs.Outcome.{Compares}

@@ -11,11 +11,11 @@ use Rattle.base64.specs.declared.decode.DecodeError.{DecodeError}
 use Rattle.base64.specs.declared.engine.general_purpose.GeneralPurpose.{GeneralPurpose}
 use Rattle.base64.proofs.EngineFacts.{encode_of-append}
 use Rattle.base64.proofs.Tables.{IsDecodeTable_from, are_tables_inverse}
-use Rattle.sd_core.proofs.Numbers.{AreBytes, AreBytes-tail, AreBytes-take}
+use Rattle.sd_core.proofs.laws.Numbers.{AreBytes, AreBytes-tail, AreBytes-take}
 use Rattle.sd_binary.specs.Text.{base64_spells}
-use Rattle.sd_binary.proofs.SpelledBase64.{decoded-base64}
+use Rattle.sd_binary.proofs.laws.SpelledBase64.{decoded-base64}
 use Rattle.sd_sink.specs.Print.{PrintTold, Prints}
-use Rattle.sd_sink.proofs.PrintLemmas.{prints_then}
+use Rattle.sd_sink.proofs.laws.PrintLemmas.{prints_then}
 
 -- ---- what is spelled is bytes
 

@@ -1,22 +1,22 @@
 -- What a line means has the limits of a descriptor.
 use Rattle.std.proofs.Common.{◌≡◌, ℕ, Bool, true, false, cond, eqb, List, [], ◌∷◌, length, ◌%◌, Option, Some, None, Result, Ok, Err, refl, subst}
 use Rattle.std.specs.Prelude.{IfSome, nat_lt}
-use Rattle.sd_binary.proofs.HexPairs.{decoded-ok}
+use Rattle.sd_binary.proofs.laws.HexPairs.{decoded-ok}
 use Rattle.hex.specs.Hex.{decode_of, decode_pairs}
 use Rattle.hex.specs.declared.error.FromHexError.TheVariants.{OddLength}
 use Rattle.hex.proofs.HexLemmas.{decode_pairs-ok}
-use Rattle.sd_core.proofs.Numbers.{AreBytes}
+use Rattle.sd_core.proofs.laws.Numbers.{AreBytes}
 use Rattle.sd_core.specs.Sid.{IsSid, SecurityId}
 use Rattle.sd_reader.specs.Meaning.{means}
 use Rattle.sd_reader.specs.declared.fault.SddlFault.{SddlFault}
-use Rattle.sd_reader.proofs.MeansLimits.{means-limits}
+use Rattle.sd_reader.proofs.laws.MeaningLimits.{means-limits}
 use Rattle.sd_view.specs.Descriptor.{Descriptor, IsDescriptor}
 use Rattle.sd_rights.specs.Chains.{unless}
 use Rattle.sd_view.specs.Reading.{fault, reading, shown}
 use Rattle.sd_binary.specs.Text.{base64_spells, hex_spells}
 use Rattle.sd_binary.specs.declared.buffer.TextFault.{TextFault}
 use Rattle.sd_view.specs.declared.fault.SdFault.{SdFault}
-use Rattle.sd_view.proofs.ReadLaws.{fault-shows}
+use Rattle.sd_view.proofs.laws.ReadingLaws.{read-limits}
 use Rattle.sd_filter.specs.Answers.{Meaning, bytes_mean, line_limit, line_means, meaning, or_byte_fault, or_sddl_fault, text_means}
 use Rattle.sd_filter.proofs.Base64Lemmas.{spelled-base64}
 use Rattle.sd_filter.specs.declared.fault.LineFault.{LineFault}
@@ -35,15 +35,6 @@ unfolding hex_spells
 spelled-bytes text bytes e =
     let pairs = decoded-ok (decode_of text) bytes (not_chosen _ _ _ bytes e) in
     (decode_pairs-ok 0 text bytes (not_chosen (eqb (length text % 2) 1) OddLength (decode_pairs 0 text) bytes pairs)).2
-
-read_by : (f : Option SdFault) (bytes : List ℕ) (d : Descriptor) → AreBytes bytes → fault bytes ≡ f
-    → unless f (shown bytes) ≡ Ok d → IsDescriptor d
-read_by None bytes d b e h = let same : shown bytes ≡ d = cc in subst IsDescriptor same (fault-shows bytes b e).1.limits
-read_by (Some f) bytes d b e h = absurd (cc)
-
-read-limits : (bytes : List ℕ) (d : Descriptor) → AreBytes bytes → reading bytes ≡ Ok d → IsDescriptor d
-unfolding reading
-read-limits bytes d b e = read_by (fault bytes) bytes d b refl e
 
 -- the limits of what is meant, where something is
 abbrev pub Limits : Result Descriptor LineFault → Type 0

@@ -12,7 +12,7 @@ use Rattle.sd_filter.specs.Answers.{Meaning, answer, bound, bound_of_meaning, is
 use Rattle.sd_filter.specs.Answers.{line_means, meaning, text_means, text_of_meaning}
 use Rattle.sd_filter.specs.Outcome.{Compares}
 use Rattle.sd_filter.specs.Inner.Running.{PrintsAnswer, PutsAnswer}
-use Rattle.sd_sink.proofs.PrintLemmas.{printed}
+use Rattle.sd_sink.proofs.laws.PrintLemmas.{printed}
 use Rattle.sd_filter.specs.declared.fault.LineFault.{LineFault}
 use Rattle.sd_filter.specs.declared.fault.LineFault.TheVariants.{TooLong}
 use Rattle.sd_command.specs.declared.job.Form.{Form}

@@ -5,7 +5,7 @@ use Rattle.sd_core.specs.Sid.{SecurityId}
 use Rattle.sd_view.specs.Descriptor.{Descriptor, Shows}
 use Rattle.sd_view.specs.Reading.{reading}
 use Rattle.sd_view.specs.declared.fault.SdFault.{SdFault}
-use Rattle.sd_view.proofs.ReadLaws.{reading-ok, shows-fault}
+use Rattle.sd_view.proofs.laws.ReadingLaws.{reading-shown}
 use Rattle.sd_reader.specs.SddlReading.{ReadsSddl}
 use Rattle.sd_reader.specs.Meaning.{means}
 use Rattle.sd_reader.specs.declared.fault.SddlFault.{SddlFault}
@@ -26,12 +26,6 @@ pub read-mapped : (v : Result Descriptor SdFault) (x : Result Descriptor LineFau
 read-mapped (Ok d) x h = h
 read-mapped (Err e) (Ok d) h = absurd h
 read-mapped (Err e) (Err f) h = rw h refl
-
--- what shows a descriptor reads as it
-reading-shown : (bytes : List ℕ) (d : Descriptor) → Shows bytes d → reading bytes ≡ Ok d
-reading-shown bytes d h =
-    let s = shows-fault bytes d h in
-    reading-ok bytes s.0 ∙ ap (λ (x : Descriptor). let r : Result Descriptor SdFault = Ok x in r) s.1
 
 -- what a reader of SDDL leaves
 sddl_leaves : (m : Result Descriptor SddlFault) (r : Result (Unit {0}) SddlFault)

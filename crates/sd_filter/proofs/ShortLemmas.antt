@@ -6,17 +6,17 @@ use Rattle.sd_core.specs.Sid.{IsSid}
 use Rattle.sd_core.specs.Token.{Entry}
 use Rattle.sd_view.specs.Descriptor.{Descriptor, IsDescriptor}
 use Rattle.sd_view.specs.Layout.{layout, size}
-use Rattle.sd_view.proofs.LayoutLaws.{length-layout}
+use Rattle.sd_view.proofs.laws.LayoutLaws.{length-layout}
 use Rattle.sd_access.specs.Verdict.{verdict}
 use Rattle.sd_access.specs.declared.verdict.Verdict.{Verdict}
 use Rattle.sd_access.specs.declared.verdict.Verdict.TheVariants.{Denied, Granted}
-use Rattle.sd_explain.proofs.SizeLaws.{explain-length}
-use Rattle.sd_inherit.proofs.LimitLaws.{derived-limits}
+use Rattle.sd_explain.proofs.laws.SizeLaws.{explain-length}
+use Rattle.sd_inherit.proofs.laws.LimitLaws.{derived-limits}
 use Rattle.sd_inherit.specs.Derived.{derive_fault, derived}
-use Rattle.sd_inherit.specs.Inner.Limits.{IsPlan}
+use Rattle.sd_inherit.specs.PlanLimits.{IsPlan}
 use Rattle.sd_inherit.specs.declared.derivation.DeriveFault.{DeriveFault}
 use Rattle.sd_inherit.specs.declared.plan.Plan.{Plan}
-use Rattle.sd_sddl.proofs.SizeLaws.{sddl-length}
+use Rattle.sd_sddl.proofs.laws.SizeLaws.{sddl-length}
 use Rattle.sd_filter.specs.Inner.ActLimits.{ActLimits}
 use Rattle.sd_filter.specs.Answers.{AnswersAreShort, Meaning, act_prints, act_text, answer, as_line_fault, form_text, meaning, naming_of, printed_of_meaning, printed_size, text_of_meaning, unless_fault, unless_refused, verdict_text}
 use Rattle.sd_filter.specs.Faults.{fault_text}

@@ -2,7 +2,7 @@
 ghost use Rattle.std.specs.Prelude.{◌≡◌, IfOk, IfSome};
 ghost use Rattle.sd_core.specs.Sid.{IsSid};
 ghost use Rattle.sd_filter.specs.Inner.ActLimits.{ActLimits};
-ghost use Rattle.sd_inherit.specs.Inner.Limits.{IsPlan};
+ghost use Rattle.sd_inherit.specs.PlanLimits.{IsPlan};
 
 use crate::hex_text::GATHERED;
 use crate::line::Line;

@@ -1,4 +1,4 @@
 pub mod BuildingLaws
 pub mod DerivedLaws
-pub mod LimitLaws
 mod Rows
+pub mod laws

@@ -1,4 +1,2 @@
--- What the code has built in the middle of a derivation, and the limits of its plan. No definition rests on these
--- files.
+-- What the code has built in the middle of a derivation. No definition rests on this file.
 pub mod Building
-pub mod Limits

@@ -2,3 +2,4 @@
 pub mod Copies
 pub mod Derived
 pub mod Inner
+pub mod PlanLimits

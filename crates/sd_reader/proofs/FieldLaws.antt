@@ -5,7 +5,7 @@ use Rattle.sd_core.specs.Ace.{GuidsFit}
 use Rattle.sd_rights.specs.Kinds.{is_object}
 use Rattle.sd_rights.specs.declared.kinds.AceKind.{AceKind}
 use Rattle.sd_binary.specs.Draft.{closed}
-use Rattle.sd_reader.specs.Inner.FoldedReading.{FieldsRead, begun_or_null, no_fields, take_front, with_flags}
+use Rattle.sd_reader.specs.FoldedReading.{FieldsRead, begun_or_null, no_fields, take_front, with_flags}
 use Rattle.sd_reader.specs.FieldTexts.{object_reads}
 use Rattle.sd_reader.specs.Inner.Reads.{AreAceFields, HasReadFields}
 use Rattle.sd_view.specs.declared.control.AclFlags.{AclFlags}

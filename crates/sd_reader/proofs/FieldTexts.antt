@@ -8,7 +8,7 @@ use Rattle.std.proofs.lemmas.Bool.{or_parts, or_right, or_left}
 use Rattle.sd_reader.specs.declared.line.Slot.{Slot}
 use Rattle.sd_core.specs.Sid.{SecurityId}
 use Rattle.sd_reader.specs.Line.{is_blank, trim, trim_end}
-use Rattle.sd_reader.specs.Inner.FoldedReading.{FieldsRead, take_field}
+use Rattle.sd_reader.specs.FoldedReading.{FieldsRead, take_field}
 use Rattle.sd_reader.specs.Meaning.{is_unreadable}
 use Rattle.sd_reader.specs.Inner.Held.{Held, IsHeld, broken_text, held_with, held_blank, outer_with, within_with, held_text}
 use Rattle.sd_reader.specs.Inner.Progress.{unreadable, text_with, inner_with}

@@ -11,7 +11,7 @@ use Rattle.sd_core.specs.declared.sid_text.SidFault.{SidFault}
 use Rattle.sd_view.specs.declared.acl.AclPart.TheVariants as acl
 use Rattle.sd_binary.specs.Draft.{Draft, IsOpen, IsOpenIn, closed, closed_in, draft_acl, more_in, with_ace}
 use Rattle.sd_reader.specs.Line.{same_head}
-use Rattle.sd_reader.specs.Inner.FoldedReading.{FieldsRead, ace_of_fields, begun_or_null, fault_of, nothing_read, take_ace_field, take_field, take_front, take_readable, with_flags, with_owner_or_group, with_sid, with_trustee, with_value}
+use Rattle.sd_reader.specs.FoldedReading.{FieldsRead, ace_of_fields, begun_or_null, fault_of, nothing_read, take_ace_field, take_field, take_front, take_readable, with_flags, with_owner_or_group, with_sid, with_trustee, with_value}
 use Rattle.sd_rights.specs.Chains.{and_then, unless}
 use Rattle.sd_reader.specs.Meaning.{is_unreadable}
 use Rattle.sd_reader.specs.FieldTexts.{front_reads, kind_reads, object_reads}
@@ -45,11 +45,6 @@ pub taken : (fault : Option SddlFault) (t u : FieldsRead) (next : FieldsRead →
     → (fault ≡ None) × (next t ≡ Ok u)
 taken None t u next e = (refl, sym e)
 taken (Some f) t u next e = absurd cc
-
-pub is-none : {A : Type 0} (x : Option A) (b : Bool) → is_some x ≡ not b → b ≡ true → x ≡ None
-is-none None b e f = refl
-is-none (Some x) true e f = absurd cc
-is-none (Some x) false e f = absurd cc
 
 -- 2. The ACL at hand is closed into its part, and the other parts stay.
 

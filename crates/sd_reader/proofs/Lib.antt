@@ -1,10 +1,6 @@
-pub mod ControlFlags
 pub mod FieldLaws
 pub mod FieldTexts
 pub mod FitLaws
-pub mod FlagRuns
-pub mod FoldedMeaning
-pub mod FoldedSections
 mod LineRows
 pub mod MeansLimits
 pub mod PlainFields
@@ -12,3 +8,4 @@ pub mod Runs
 pub mod Steps
 pub mod TrusteeLaws
 pub mod WholeFields
+pub mod laws

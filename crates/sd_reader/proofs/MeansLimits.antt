@@ -3,7 +3,7 @@ use Rattle.std.proofs.Common.{◌≡◌, ◌<◌, ℕ, ◌^◌, List, [], ◌∷
 use Rattle.std.specs.Prelude.{◌&&◌, nat_lt, if◌then◌else◌}
 use Rattle.std.specs.Option.{option_map, option_or}
 use Rattle.std.proofs.lemmas.Bool.Decides.{nat_tests}
-use Rattle.sd_binary.proofs.Building.{all-more}
+use Rattle.sd_view.proofs.laws.AceLists.{all-more}
 use Rattle.sd_core.specs.Ace.{AccessControlEntry, IsAce, IsGuid}
 use Rattle.sd_rights.specs.Kinds.{is_object}
 use Rattle.sd_rights.specs.Flags.{flags_reads}
@@ -13,8 +13,8 @@ use Rattle.sd_core.specs.Sid.{IsSid, SecurityId}
 use Rattle.sd_core.specs.SidText.{sid_reads}
 use Rattle.sd_rights.specs.declared.kinds.AceKind.{AceKind}
 use Rattle.sd_core.specs.declared.sid_text.SidFault.{SidFault}
-use Rattle.sd_rights.proofs.ReadLimits.{flags-limits, rights-limit}
-use Rattle.sd_core.proofs.ReadLimits.{guid-limits, sid-limits}
+use Rattle.sd_rights.proofs.laws.ReadLimits.{flags-limits, rights-limit}
+use Rattle.sd_core.proofs.laws.ReadLimits.{guid-limits, sid-limits}
 use Rattle.sd_view.specs.Acl.{IsAcl, acl_size}
 use Rattle.sd_view.specs.Descriptor.{Descriptor, IsAclPart, IsDescriptor}
 use Rattle.sd_binary.specs.Draft.{Draft, closed, closed_in, is_present, more_in, with_acl}
@@ -22,7 +22,7 @@ use Rattle.sd_view.specs.declared.acl.AclPart.{AclPart}
 use Rattle.sd_view.specs.declared.acl.AclPart.TheVariants as acl
 use Rattle.sd_view.specs.declared.control.Which.{Which}
 use Rattle.sd_view.specs.declared.control.Which.TheVariants as which
-use Rattle.sd_reader.specs.Inner.FoldedReading.{Field, FieldsRead, ace_of_fields, begun_or_null, described, fault_of, fields_of, finished, folded, large_in, no_fields, nothing_read, read_fields, reads_as, take_ace_field, take_field, take_front, take_readable, if_shaped, with_flags, with_owner_or_group, with_sid, with_trustee, with_value}
+use Rattle.sd_reader.specs.FoldedReading.{Field, FieldsRead, ace_of_fields, begun_or_null, described, fault_of, fields_of, finished, folded, large_in, no_fields, nothing_read, read_fields, reads_as, take_ace_field, take_field, take_front, take_readable, if_shaped, with_flags, with_owner_or_group, with_sid, with_trustee, with_value}
 use Rattle.sd_reader.specs.Line.{has_twice, is_shaped, sections_of}
 use Rattle.sd_rights.specs.Chains.{and_then}
 use Rattle.sd_reader.specs.Meaning.{is_unreadable, means, unless_large}
@@ -39,9 +39,9 @@ use Rattle.sd_reader.specs.declared.line.Slot.{Slot}
 use Rattle.sd_reader.specs.declared.line.Slot.TheVariants as slot
 use Rattle.sd_reader.specs.declared.reading.AceFields.{AceFields}
 use Rattle.sd_reader.specs.declared.reading.AclFront.{AclFront}
-use Rattle.sd_view.proofs.ControlLaws.{control-bits}
-use Rattle.sd_reader.proofs.ControlFlags.{flags-small}
-use Rattle.sd_reader.proofs.FoldedMeaning.{folded-means}
+use Rattle.sd_view.proofs.laws.ControlLaws.{control-bits}
+use Rattle.sd_reader.proofs.laws.ControlFlags.{flags-small}
+use Rattle.sd_reader.proofs.laws.FoldedMeaning.{folded-means}
 use Rattle.sd_reader.proofs.FieldLaws.{sound-flags, sound-inherited, sound-kind, sound-mask, sound-object}
 
 -- 1. What the fields so far keep.
@@ -397,8 +397,3 @@ pub line-limits : (text : List ℕ) (domain : Option SecurityId) → IfSome doma
 line-limits text domain is =
     subst (λ (x : Result Descriptor SddlFault). IfOk x IsDescriptor) (folded-means text domain)
     (folded-limits text domain is)
-
-pub means-limits : (text : List ℕ) (domain : Option SecurityId) (d : Descriptor) → IfSome domain IsSid
-    → means text domain ≡ Ok d → IsDescriptor d
-means-limits text domain d is e = subst (λ (x : Result Descriptor SddlFault). IfOk x IsDescriptor) e
-    (line-limits text domain is)

@@ -18,7 +18,7 @@ use Rattle.sd_rights.specs.declared.kinds.AceKind.{AceKind}
 use Rattle.sd_rights.specs.declared.kinds.AceKind.TheVariants as kinds
 use Rattle.sd_rights.specs.declared.names.NamedBits.{NamedBits}
 use Rattle.std.proofs.lemmas.Bool.{and_parts}
-use Rattle.sd_rights.proofs.KindLaws.{kind_named-some, letters-few}
+use Rattle.sd_rights.proofs.laws.KindLaws.{kind_named-some, letters-few}
 use Rattle.sd_core.specs.GuidText.{guid_reads}
 use Rattle.sd_core.specs.SidText.{is_sid_byte, sid_front}
 use Rattle.uuid.specs.Text.{by_index, byte_of_digits, digit_place, digits_of, has_hyphens, hyphen_place, is_hex_digit, is_hyphen_place, parsed_hyphenated}

@@ -14,7 +14,7 @@ use Rattle.sd_reader.specs.declared.line.Seen.{Seen}
 use Rattle.sd_reader.specs.declared.line.SidPart.{SidPart}
 use Rattle.sd_reader.specs.Inner.Held.{Held, IsHeld, broken_text, held_run, held_with, is_plain_inside, is_plain_outside}
 use Rattle.sd_reader.specs.Line.{head_of, is_blank}
-use Rattle.sd_reader.specs.Inner.FoldedReading.{FieldsRead}
+use Rattle.sd_reader.specs.FoldedReading.{FieldsRead}
 use Rattle.sd_rights.specs.Chains.{unless}
 use Rattle.sd_reader.specs.Inner.Progress.{rest_answer}
 use Rattle.sd_reader.specs.Inner.Reads.{IsReader, Reads, answer_at}

@@ -3,13 +3,13 @@ use Rattle.std.proofs.Common.{◌≡◌, ℕ, ◌+◌, ◌≤◌, ◌^◌, List,
 use Rattle.std.specs.Prelude.{if◌then◌else◌, is_some, nat_lt}
 use Rattle.std.specs.Option.{option_map}
 use Rattle.std.proofs.lemmas.Bool.Decides.{nat_tests}
-use Rattle.sd_binary.proofs.Building.{size-more}
+use Rattle.sd_view.proofs.laws.AceLists.{size-more}
 use Rattle.sd_core.specs.Ace.{AccessControlEntry, ace_size}
 use Rattle.sd_core.specs.Sid.{SecurityId}
 use Rattle.sd_view.specs.Acl.{acl_size}
 use Rattle.sd_binary.specs.Builds.{Builds}
 use Rattle.sd_binary.specs.Draft.{IsOpen, IsOpenIn, more_in, open_size, open_size_in, with_ace}
-use Rattle.sd_reader.specs.Inner.FoldedReading.{FieldsRead, ace_of_fields, large_in, with_trustee}
+use Rattle.sd_reader.specs.FoldedReading.{FieldsRead, ace_of_fields, large_in, with_trustee}
 use Rattle.sd_reader.specs.Inner.Reads.{HasReadFields}
 use Rattle.sd_reader.specs.declared.reading.FieldReader.{FieldReader}
 use Rattle.sd_binary.specs.declared.builder.Builder.{Builder}

@@ -16,7 +16,7 @@ use Rattle.sd_reader.specs.declared.line.Seen.{Seen}
 use Rattle.sd_reader.specs.declared.line.Slot.TheVariants as slot
 use Rattle.sd_reader.specs.declared.reading.AceFields.{AceFields}
 use Rattle.sd_reader.specs.declared.reading.FieldReader.{FieldReader}
-use Rattle.sd_reader.specs.Inner.FoldedReading.{FieldsRead, take_ace_field, take_field, with_trustee}
+use Rattle.sd_reader.specs.FoldedReading.{FieldsRead, take_ace_field, take_field, with_trustee}
 use Rattle.sd_reader.specs.Inner.Held.{IsHeld, is_plain_inside, no_text}
 use Rattle.sd_reader.specs.Inner.Progress.{rest_answer, end_of, state_after}
 use Rattle.sd_reader.specs.Inner.Reads.{AreAceFields, FedTo, Fits, IsReader, LineHasRead, Steps}

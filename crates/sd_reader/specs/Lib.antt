@@ -1,4 +1,5 @@
 pub mod FieldTexts
+pub mod FoldedReading
 pub mod Inner
 pub mod Line
 pub mod Meaning

@@ -4,7 +4,7 @@ ghost use Rattle.std.specs.Prelude.{◌≡◌, ◌≤◌, length, take, true};
 ghost use Rattle.std.specs.List.{list_all};
 ghost use Rattle.sd_reader.specs.Inner.Held.{is_plain_inside, is_plain_outside};
 ghost use Rattle.sd_reader.specs.Line.{head_of, is_blank};
-ghost use Rattle.sd_reader.specs.Inner.FoldedReading.{next_field};
+ghost use Rattle.sd_reader.specs.FoldedReading.{next_field};
 ghost use Rattle.sd_reader.specs.Inner.Progress.{state_of};
 
 use sd_binary::Which;

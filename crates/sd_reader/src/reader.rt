@@ -7,7 +7,7 @@ ghost use Rattle.sd_view.specs.Descriptor.{IsDescriptor, Shows};
 ghost use Rattle.sd_binary.specs.Draft.{IsWritten};
 ghost use Rattle.sd_reader.specs.Inner.Held.{IsHeld, no_text, held_text};
 ghost use Rattle.sd_reader.specs.Line.{byte, head_at, head_of as head_named, pieces_from};
-ghost use Rattle.sd_reader.specs.Inner.FoldedReading.{FieldsRead, finished, take_field};
+ghost use Rattle.sd_reader.specs.FoldedReading.{FieldsRead, finished, take_field};
 ghost use Rattle.sd_rights.specs.Chains.{and_then, unless};
 ghost use Rattle.sd_reader.specs.Meaning.{means};
 ghost use Rattle.sd_reader.specs.Inner.Reads.{CanTake, HasReadFields, Takes};

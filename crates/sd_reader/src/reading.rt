@@ -2,7 +2,7 @@
 
 ghost use Rattle.std.specs.Prelude.{◌≡◌, Option, Ok, false, MatchOption};
 ghost use Rattle.sd_core.specs.SidText.{sid_reads};
-ghost use Rattle.sd_reader.specs.Inner.FoldedReading.{FieldsRead, fault_of, no_fields, take_ace_field, take_field, take_front, with_sid, with_trustee};
+ghost use Rattle.sd_reader.specs.FoldedReading.{FieldsRead, fault_of, no_fields, take_ace_field, take_field, take_front, with_sid, with_trustee};
 ghost use Rattle.sd_reader.specs.Meaning.{control_flags, is_unreadable};
 ghost use Rattle.sd_reader.specs.FieldTexts.{front_reads};
 ghost use Rattle.sd_reader.specs.Inner.WholeAce.{EndsAce, EndsWithObjects, TakesAce};
@@ -48,7 +48,7 @@ impl FieldReader {
     ghost use Rattle.std.specs.Prelude.{◌≡◌, ◌/◌, Ok, Err, Some, None, Option};
     ghost use Rattle.sd_binary.specs.Draft.{IsOpen, closed};
     ghost use Rattle.sd_reader.specs.declared.line.Head.TheVariants as head;
-    ghost use Rattle.sd_reader.specs.Inner.FoldedReading.{FieldsRead, begun_or_null, finished, nothing_read, with_owner_or_group};
+    ghost use Rattle.sd_reader.specs.FoldedReading.{FieldsRead, begun_or_null, finished, nothing_read, with_owner_or_group};
     ghost use Rattle.sd_reader.specs.Inner.Reads.{AreAceFields, CanTake, Ends, HasReadFields, Lacks, Takes};
 
     /// A reader that has read nothing.

@@ -13,7 +13,7 @@ use Rattle.sd_reader.specs.declared.line.AceField.TheVariants as field
 use Rattle.sd_reader.specs.declared.line.Slot.TheVariants as slot
 use Rattle.sd_rights.specs.Cuts.{Cuts, with_byte}
 use Rattle.sd_reader.specs.Line.{cut_at_semicolons}
-use Rattle.sd_reader.specs.Inner.FoldedReading.{Field, ace_fields, ace_fields_from}
+use Rattle.sd_reader.specs.FoldedReading.{Field, ace_fields, ace_fields_from}
 use Rattle.sd_sddl.specs.Printed.{ace_text, flags_field, kind_field, kind_text, object_field, object_text, rights_field, trustee_field, trustee_text}
 use Rattle.sd_sddl.proofs.LineCuts.{IsInner, in_parentheses, is_inner_byte}
 use Rattle.sd_sddl.proofs.PlainTexts.{IsPlain, flags-plain, is_plain_byte, kind-plain, no_mark, object-plain, rights-plain, trustee-plain}

@@ -18,11 +18,11 @@ use Rattle.sd_view.specs.declared.control.Which.{Which}
 use Rattle.sd_view.specs.declared.control.Which.TheVariants as which
 use Rattle.sd_view.specs.Control.{acl_flags, bit_if, flag_bits, no_flags, control_of}
 use Rattle.sd_binary.specs.Draft.{is_present, no_parts}
-use Rattle.sd_reader.specs.Inner.FoldedReading.{Field, FieldsRead, described, fields_of, finished, folded, nothing_read, read_fields, reads_as, if_shaped}
+use Rattle.sd_reader.specs.FoldedReading.{Field, FieldsRead, described, fields_of, finished, folded, nothing_read, read_fields, reads_as, if_shaped}
 use Rattle.sd_reader.specs.Line.{Sections, has_twice, is_shaped, sections_of}
 use Rattle.sd_reader.specs.Meaning.{control_flags}
 use Rattle.sd_sddl.specs.Printed.{ace_text, acl_text, dacl_text, group_text, kept_bits, owner_text, plain, sacl_text, sddl, sid_text_of, trustee_text}
-use Rattle.sd_reader.proofs.ControlFlags.{flags-stay}
+use Rattle.sd_reader.proofs.laws.ControlFlags.{flags-stay}
 use Rattle.sd_sddl.proofs.AceTexts.{ace_text-inner, inner_text}
 use Rattle.sd_sddl.proofs.FieldsBack.{front_text}
 use Rattle.sd_sddl.proofs.LineCuts.{IsPart, Part, in_parentheses, letter_of, line-parts, printed_part}

@@ -9,12 +9,12 @@ use Rattle.sd_rights.specs.Rights.{rights_text}
 use Rattle.sd_core.specs.Sid.{IsSid, SecurityId}
 use Rattle.sd_core.specs.SidText.{alias_of, sid_reads, sid_text}
 use Rattle.sd_rights.specs.declared.kinds.AceKind.{AceKind}
-use Rattle.sd_rights.proofs.KindLaws.{kind_named-letters}
-use Rattle.sd_core.proofs.AliasLaws.{alias-back}
-use Rattle.sd_rights.proofs.FlagLaws.{flags_read_back, flags_text-length}
-use Rattle.sd_core.proofs.GuidTexts.{guid_text-length, guid_text-reads}
-use Rattle.sd_rights.proofs.RightsLaws.{rights_read_back, rights_text-length}
-use Rattle.sd_core.proofs.TextLaws.{sid_text-reads}
+use Rattle.sd_rights.proofs.laws.KindLaws.{kind_named-letters}
+use Rattle.sd_core.proofs.laws.AliasLaws.{alias-back}
+use Rattle.sd_rights.proofs.laws.FlagLaws.{flags_read_back, flags_text-length}
+use Rattle.sd_core.proofs.laws.GuidTexts.{guid_text-length, guid_text-reads}
+use Rattle.sd_rights.proofs.laws.RightsLaws.{rights_read_back, rights_text-length}
+use Rattle.sd_core.proofs.laws.TextLaws.{sid_text-reads}
 use Rattle.sd_core.specs.declared.naming.Naming.{Naming}
 use Rattle.sd_reader.specs.declared.fault.SddlFault.TheVariants as fault
 use Rattle.sd_reader.specs.declared.line.AceField.TheVariants as field
@@ -23,13 +23,13 @@ use Rattle.sd_reader.specs.declared.line.Slot.{Slot}
 use Rattle.sd_reader.specs.declared.line.Slot.TheVariants as slot
 use Rattle.sd_view.specs.declared.control.AclFlags.{AclFlags}
 use Rattle.sd_view.specs.declared.control.Which.{Which}
-use Rattle.sd_reader.specs.Inner.FoldedReading.{FieldsRead, begun_or_null, no_fields, take_ace_field, take_field, take_front, take_readable, with_flags, with_owner_or_group, with_sid, with_trustee, with_value}
+use Rattle.sd_reader.specs.FoldedReading.{FieldsRead, begun_or_null, no_fields, take_ace_field, take_field, take_front, take_readable, with_flags, with_owner_or_group, with_sid, with_trustee, with_value}
 use Rattle.sd_reader.specs.FieldTexts.{front_reads, kind_reads, object_reads}
 use Rattle.sd_binary.specs.Draft.{closed}
 use Rattle.std.specs.Option.{unwrap_or}
 use Rattle.sd_sddl.specs.Printed.{acl_flags_text, kind_text, object_text, trustee_text}
 use Rattle.sd_sddl.proofs.PlainTexts.{IsPlain, acl_flags_text-plain, flags-plain, kind-plain, object-plain, plain-append, plain-readable, rights-plain, trustee-plain}
-use Rattle.sd_sddl.proofs.SizeLaws.{flags-length, kind-length, trustee-length}
+use Rattle.sd_sddl.proofs.laws.SizeLaws.{flags-length, kind-length, trustee-length}
 
 readable : (domain : Option SecurityId) (r : FieldsRead) (s : Slot) (text : List ℕ) → IsPlain text → length text ≤ 183
     → take_field domain r s text ≡ take_readable domain r s text

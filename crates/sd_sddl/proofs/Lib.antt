@@ -7,4 +7,4 @@ pub mod LineFields
 pub mod PartsBack
 pub mod PlainTexts
 mod Rows
-pub mod SizeLaws
+pub mod laws

@@ -7,7 +7,7 @@ use Rattle.sd_reader.specs.declared.line.Head.{Head}
 use Rattle.sd_reader.specs.declared.line.Head.TheVariants as head
 use Rattle.sd_reader.specs.declared.line.SidPart.TheVariants as sid_part
 use Rattle.sd_reader.specs.declared.line.Slot.TheVariants as slot
-use Rattle.sd_reader.specs.Inner.FoldedReading.{Field, ace_fields, fields_in, fields_of}
+use Rattle.sd_reader.specs.FoldedReading.{Field, ace_fields, fields_in, fields_of}
 use Rattle.sd_reader.specs.Line.{Sections, ace, aces, are_aces, are_shaped, byte, front, has_aces, has_twice, is_acl_body, is_blank_piece, is_body, is_shaped, is_sid_body, sections_of, trim, trim_end}
 use Rattle.sd_sddl.proofs.LineCuts.{Body, IsInner, IsPart, MayHold, Part, body_pieces, line-paired, line-parts, printed_part, section_of}
 use Rattle.sd_sddl.proofs.PlainTexts.{IsPlain, is_plain_byte, no_mark}

@@ -21,13 +21,13 @@ use Rattle.sd_reader.specs.declared.reading.AceFields.{AceFields}
 use Rattle.sd_view.specs.declared.control.Which.{Which}
 use Rattle.sd_view.specs.declared.control.Which.TheVariants as which
 use Rattle.sd_binary.specs.Draft.{Draft, begun, closed, with_ace, with_acl}
-use Rattle.sd_reader.specs.Inner.FoldedReading.{Field, FieldsRead, ace_fields, grown, large_in, no_fields, read_fields, take_field, with_flags, with_owner_or_group, with_trustee}
+use Rattle.sd_reader.specs.FoldedReading.{Field, FieldsRead, ace_fields, grown, large_in, no_fields, read_fields, take_field, with_flags, with_owner_or_group, with_trustee}
 use Rattle.sd_reader.specs.Line.{ace, byte, has_aces}
 use Rattle.sd_rights.specs.Chains.{and_then}
 use Rattle.std.specs.Option.{option_or}
-use Rattle.sd_reader.proofs.FlagRuns.{or-none}
+use Rattle.sd_reader.proofs.laws.FlagRuns.{or-none}
 use Rattle.sd_sddl.specs.Printed.{trustee_text}
-use Rattle.sd_reader.proofs.FoldedSections.{read-append}
+use Rattle.sd_reader.proofs.laws.FoldedSections.{read-append}
 use Rattle.sd_sddl.proofs.AceTexts.{field_at, inner-fields, inner_text, inner_text-is}
 use Rattle.sd_sddl.proofs.FieldsBack.{front_text, front_text-plain, null_front_text, null_front_text-plain, take-flags, take-inherited, take-kind, take-list, take-null, take-object, take-rights, take-sid, take-trustee}
 use Rattle.sd_sddl.proofs.LineCuts.{Body, IsInner, IsPart}

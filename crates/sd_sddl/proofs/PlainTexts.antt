@@ -23,9 +23,9 @@ use Rattle.sd_rights.specs.declared.kinds.AceKind.TheVariants as kinds
 use Rattle.sd_rights.specs.declared.flags.TheConstants.{FLAGS}
 use Rattle.sd_rights.specs.declared.names.NamedBits.{NamedBits}
 use Rattle.sd_rights.specs.declared.rights_table.TheConstants.{COMPOUNDS, LABELS, SINGLES}
-use Rattle.sd_core.proofs.AliasLaws.{alias-letters}
+use Rattle.sd_core.proofs.laws.AliasLaws.{alias-letters}
 use Rattle.std.proofs.lemmas.Bool.{and_parts}
-use Rattle.sd_core.proofs.TextLaws.{sid_text-bytes}
+use Rattle.sd_core.proofs.laws.TextLaws.{sid_text-bytes}
 use Rattle.sd_core.specs.declared.naming.Naming.{Naming}
 use Rattle.sd_reader.specs.Line.{is_blank}
 use Rattle.sd_reader.specs.Meaning.{is_unreadable}

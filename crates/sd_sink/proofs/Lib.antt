@@ -1,4 +1,2 @@
 pub mod HeldLemmas
-pub mod PrintLemmas
-pub mod PrintLoops
-pub mod SinkLemmas
+pub mod laws

@@ -11,7 +11,7 @@ use Rattle.sd_view.specs.AclLayout.{ace_body, guid_part, guids, front_size}
 use Rattle.sd_view.specs.AclReading.{ace_of, guid_if, inherited_in, kind_in, object_in, sid_offset_in}
 use Rattle.sd_view.specs.Inner.ReadableAcl.{IsReadableAce}
 use Rattle.sd_view.specs.Bytes.{u32_at}
-use Rattle.sd_core.proofs.SidLaws.{length-sid_bytes}
+use Rattle.sd_core.proofs.laws.SidLaws.{length-sid_bytes}
 
 -- a GUID that is announced is the next piece of the extent
 piece : (b : Bool) (n : ℕ) (extent : List ℕ) → n + guid_size (guid_if b (drop n extent)) ≤ length extent

@@ -1,10 +1,8 @@
 pub mod AclLaws
-pub mod AclLayoutLaws
 pub mod BodyLaws
-pub mod ControlLaws
 pub mod FirstFault
-pub mod LayoutLaws
 pub mod Parts
 pub mod ReadLaws
 pub mod SizeLaws
 pub mod WrittenLaws
+pub mod laws

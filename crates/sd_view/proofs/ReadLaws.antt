@@ -6,8 +6,8 @@ use Rattle.std.proofs.lemmas.Bool.{cases_eq, cases_lt, eqb-true, eq-eqb, not-fal
 use Rattle.std.proofs.lemmas.List.{take_at}
 use Rattle.byteorder.specs.Numbers.{little_from-lt}
 use Rattle.sd_core.specs.Sid.{SecurityId, IsSid, BeginsWithSid, sid_at, sid_of, sid_size, sid_stands}
-use Rattle.sd_core.proofs.Numbers.{AreBytes, AreBytes-drop, AreBytes-take}
-use Rattle.sd_core.proofs.SidLaws.{sid_at-bytes, sid_at-found}
+use Rattle.sd_core.proofs.laws.Numbers.{AreBytes, AreBytes-drop, AreBytes-take}
+use Rattle.sd_core.proofs.laws.SidLaws.{sid_at-bytes, sid_at-found}
 use Rattle.sd_view.specs.Bytes.{u16_at}
 use Rattle.sd_view.specs.declared.fault.Part.{Part}
 use Rattle.sd_view.specs.declared.fault.Part.TheVariants.{Owner, Group, Sacl, Dacl}

@@ -1,7 +1,7 @@
 -- The limits of what an act has. A private contract alone cites them; they promise nothing to a caller.
 use Rattle.sd_command.specs.declared.job.Act.{Act}
 use Rattle.sd_command.specs.declared.job.Act.TheVariants.{Check, Convert, Derive, Explain}
-use Rattle.sd_inherit.specs.Inner.Limits.{IsPlan}
+use Rattle.sd_inherit.specs.PlanLimits.{IsPlan}
 
 -- those of a plan, where it has one
 abbrev pub ActLimits : Act → Type 0

@@ -5,7 +5,7 @@ use Rattle.std.specs.Str.{byte as char}
 use Rattle.sd_core.specs.Sid.{SecurityId}
 use Rattle.sd_view.specs.declared.control.Which.TheVariants as which
 use Rattle.sd_reader.specs.Inner.Held.{Held, held_text}
-use Rattle.sd_reader.specs.Inner.FoldedReading.{Field, FieldsRead, ace_fields, ace_fields_from, fields_of, read_fields, take_field, if_shaped}
+use Rattle.sd_reader.specs.FoldedReading.{Field, FieldsRead, ace_fields, ace_fields_from, fields_of, read_fields, take_field, if_shaped}
 use Rattle.sd_reader.specs.Line.{Piece, Section, Sections, aces, are_aces, are_shaped, cut_at_semicolons, front, has_aces, has_twice, is_acl_body, is_blank, is_blank_piece, is_paired, is_sid_body, pieces_from, sections, trim}
 use Rattle.sd_rights.specs.Chains.{and_then}
 use Rattle.sd_reader.specs.declared.fault.SddlFault.{SddlFault}

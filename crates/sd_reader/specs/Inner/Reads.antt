@@ -11,7 +11,7 @@ use Rattle.sd_binary.specs.Builds.{Builds}
 use Rattle.sd_binary.specs.Draft.{IsOpen, IsWritten, draft_acl, closed}
 use Rattle.sd_reader.specs.Inner.Held.{IsHeld}
 use Rattle.sd_reader.specs.Line.{byte, head_at, pieces_from, same_head}
-use Rattle.sd_reader.specs.Inner.FoldedReading.{FieldsRead, reads_as}
+use Rattle.sd_reader.specs.FoldedReading.{FieldsRead, reads_as}
 use Rattle.sd_rights.specs.Chains.{unless}
 use Rattle.sd_reader.specs.Inner.Progress.{rest_answer, is_inside, is_seen}
 use Rattle.sd_reader.specs.declared.fault.SddlFault.{SddlFault}

@@ -7,7 +7,7 @@ use Rattle.sd_core.specs.SidText.{sid_reads}
 use Rattle.sd_rights.specs.Limits.{most_field}
 use Rattle.sd_rights.specs.declared.kinds.AceKind.{AceKind}
 use Rattle.sd_reader.specs.FieldTexts.{object_reads}
-use Rattle.sd_reader.specs.Inner.FoldedReading.{FieldsRead, take_field, with_trustee}
+use Rattle.sd_reader.specs.FoldedReading.{FieldsRead, take_field, with_trustee}
 use Rattle.sd_reader.specs.Inner.Held.{is_plain_inside}
 use Rattle.sd_reader.specs.Inner.Reads.{HasReadFields}
 use Rattle.sd_rights.specs.Chains.{and_then}

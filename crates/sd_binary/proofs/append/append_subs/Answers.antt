@@ -3,7 +3,7 @@ use Rattle.std.proofs.Math.Seq.{take-suc}
 use Rattle.std.proofs.lemmas.List.{append-nil, flat_map_more, length-take-le, take_all}
 use Rattle.std.specs.List.{flat_map}
 use Rattle.byteorder.specs.Endian.{little_bytes}
-use Rattle.sd_core.proofs.SidLaws.{length-word_bytes}
+use Rattle.sd_core.proofs.laws.SidLaws.{length-word_bytes}
 use Rattle.sd_binary.proofs.append.append_subs.Goals as goal
 
 -- one more was appended

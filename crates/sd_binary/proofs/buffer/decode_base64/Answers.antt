@@ -1,6 +1,6 @@
 use Rattle.std.proofs.Common.{◌≤◌, arith, length, refl}
 use Rattle.std.proofs.lemmas.List.{length-take-le}
-use Rattle.sd_binary.proofs.SpelledBase64.{base64-err, base64-ok}
+use Rattle.sd_binary.proofs.laws.SpelledBase64.{base64-err, base64-ok}
 use Rattle.sd_binary.proofs.buffer.decode_base64.Goals as goal
 
 pub returns-in-Ok-clause-value : goal.returns-in-Ok-clause-value

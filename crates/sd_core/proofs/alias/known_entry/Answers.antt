@@ -1,5 +1,5 @@
 use Rattle.std.proofs.Common.{◌≡◌, ◌≤◌, ap, length, sym, subst}
-use Rattle.sd_core.proofs.AliasLaws.{middle-unknown}
+use Rattle.sd_core.proofs.laws.AliasLaws.{middle-unknown}
 use Rattle.sd_core.proofs.alias.known_entry.Goals as goal
 
 pub returns-then-count-le5 : goal.returns-then-count-le5

@@ -2,7 +2,7 @@ use Rattle.std.proofs.Common.{ℕ, List, Some, sym, ap, ◌∙◌, subst}
 use Rattle.uuid.specs.Text.{parsed, hyphenated_text, lower}
 use Rattle.sd_core.specs.GuidText.{guid_text}
 use Rattle.sd_sink.specs.Print.{Prints}
-use Rattle.sd_core.proofs.GuidTexts.{guid_text-length, guid_reads_parsed}
+use Rattle.sd_core.proofs.laws.GuidTexts.{guid_text-length, guid_reads_parsed}
 use Rattle.sd_core.proofs.guid.print_guid.Goals as goal
 
 pub returns-clause-put : goal.returns-clause-put

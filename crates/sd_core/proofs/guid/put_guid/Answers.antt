@@ -1,5 +1,5 @@
 use Rattle.std.proofs.Common.{rules}
-use Rattle.sd_sink.proofs.PrintLemmas.{printed}
+use Rattle.sd_sink.proofs.laws.PrintLemmas.{printed}
 use Rattle.sd_core.proofs.guid.put_guid.Goals as goal
 
 pub returns-clause-put : goal.returns-clause-put

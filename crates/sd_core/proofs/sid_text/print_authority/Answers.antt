@@ -1,7 +1,7 @@
 use Rattle.std.proofs.Common.{◌^◌, ◌++◌, codes, if◌then◌else◌, ap, sym}
 use Rattle.std.specs.Fmt.{decimal}
 use Rattle.std.proofs.lemmas.Bool.{le-ltb}
-use Rattle.sd_sink.proofs.PrintLemmas.{prints_as, prints_then}
+use Rattle.sd_sink.proofs.laws.PrintLemmas.{prints_as, prints_then}
 use Rattle.sd_rights.specs.Numbers.{hex_digits}
 use Rattle.sd_core.proofs.sid_text.print_authority.Goals as goal
 

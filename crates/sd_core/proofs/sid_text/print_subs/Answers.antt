@@ -1,5 +1,5 @@
 use Rattle.sd_core.specs.SidText.{sub_text}
-use Rattle.sd_sink.proofs.PrintLoops.{Prints-next}
+use Rattle.sd_sink.proofs.laws.PrintLoops.{Prints-next}
 use Rattle.sd_core.proofs.sid_text.print_subs.Goals as goal
 
 pub loop-sub-preserved : goal.loop-sub-preserved

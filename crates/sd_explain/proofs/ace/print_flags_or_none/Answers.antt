@@ -1,6 +1,6 @@
 use Rattle.std.proofs.Common.{◌≡◌, ℕ, List, [], ◌∷◌, Some, refl, arith}
-use Rattle.sd_rights.proofs.FlagLaws.{flags_read_back}
-use Rattle.sd_sink.proofs.PrintLemmas.{prints_as}
+use Rattle.sd_rights.proofs.laws.FlagLaws.{flags_read_back}
+use Rattle.sd_sink.proofs.laws.PrintLemmas.{prints_as}
 use Rattle.sd_rights.specs.Flags.{flags_reads, flags_text}
 use Rattle.sd_rights.specs.Names.{run_of}
 use Rattle.sd_explain.specs.Explain.{or_none}

@@ -1,4 +1,4 @@
-use Rattle.sd_sink.proofs.PrintLemmas.{prints_then}
+use Rattle.sd_sink.proofs.laws.PrintLemmas.{prints_then}
 use Rattle.sd_explain.specs.Explain.{ace_trustee}
 use Rattle.sd_explain.proofs.ace.print_trustee.Goals as goal
 

@@ -1,8 +1,8 @@
 use Rattle.std.proofs.Common.{◌≡◌, ℕ, ◌+◌, [], ◌∷◌, length, ap, sym, arith, length-append}
 use Rattle.std.specs.List.{enumerate_from, flat_map}
 use Rattle.sd_core.specs.Ace.{AccessControlEntry}
-use Rattle.sd_sink.proofs.PrintLemmas.{prints_as}
-use Rattle.sd_sink.proofs.PrintLoops.{Prints-item, moved}
+use Rattle.sd_sink.proofs.laws.PrintLemmas.{prints_as}
+use Rattle.sd_sink.proofs.laws.PrintLoops.{Prints-item, moved}
 use Rattle.sd_explain.specs.Explain.{ace_line}
 use Rattle.sd_explain.proofs.Numbered.{enumerate_from-last}
 use Rattle.sd_explain.proofs.acl.print_aces.Goals as goal

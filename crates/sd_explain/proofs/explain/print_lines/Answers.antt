@@ -1,4 +1,4 @@
-use Rattle.sd_sink.proofs.PrintLemmas.{prints_then}
+use Rattle.sd_sink.proofs.laws.PrintLemmas.{prints_then}
 use Rattle.sd_explain.specs.Explain.{explain}
 use Rattle.sd_explain.proofs.explain.print_lines.Goals as goal
 

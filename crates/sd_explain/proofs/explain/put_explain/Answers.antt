@@ -1,7 +1,7 @@
 use Rattle.std.proofs.Common.{rules}
-use Rattle.sd_sink.proofs.PrintLemmas.{printed}
+use Rattle.sd_sink.proofs.laws.PrintLemmas.{printed}
 use Rattle.sd_core.specs.Naming.{naming_by}
-use Rattle.sd_explain.proofs.SizeLaws.{explain-length}
+use Rattle.sd_explain.proofs.laws.SizeLaws.{explain-length}
 use Rattle.sd_explain.proofs.explain.put_explain.Goals as goal
 
 pub returns-clause-put : goal.returns-clause-put

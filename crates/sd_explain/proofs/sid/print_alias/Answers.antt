@@ -1,4 +1,4 @@
-use Rattle.sd_sink.proofs.PrintLemmas.{prints_then}
+use Rattle.sd_sink.proofs.laws.PrintLemmas.{prints_then}
 use Rattle.sd_explain.proofs.sid.print_alias.Goals as goal
 
 pub returns-in-Some : goal.returns-in-Some

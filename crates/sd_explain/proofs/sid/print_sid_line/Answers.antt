@@ -1,4 +1,4 @@
-use Rattle.sd_sink.proofs.PrintLemmas.{prints_then}
+use Rattle.sd_sink.proofs.laws.PrintLemmas.{prints_then}
 use Rattle.sd_explain.specs.Explain.{sid_line}
 use Rattle.sd_explain.proofs.sid.print_sid_line.Goals as goal
 

@@ -1,5 +1,5 @@
 use Rattle.std.proofs.Common.{refl}
-use Rattle.sd_sink.proofs.PrintLemmas.{prints_then}
+use Rattle.sd_sink.proofs.laws.PrintLemmas.{prints_then}
 use Rattle.sd_filter.proofs.MeaningLemmas.{Compares-none}
 use Rattle.sd_filter.proofs.answer.print_act.Goals as goal
 

@@ -1,4 +1,4 @@
-use Rattle.sd_sink.proofs.PrintLemmas.{prints_then}
+use Rattle.sd_sink.proofs.laws.PrintLemmas.{prints_then}
 use Rattle.sd_filter.proofs.answer.print_derived.Goals as goal
 
 pub returns-in-Ok : goal.returns-in-Ok

@@ -1,4 +1,4 @@
-use Rattle.sd_sink.proofs.PrintLemmas.{prints_then}
+use Rattle.sd_sink.proofs.laws.PrintLemmas.{prints_then}
 use Rattle.sd_filter.proofs.answer.print_verdict.Goals as goal
 
 pub returns-in-Granted : goal.returns-in-Granted

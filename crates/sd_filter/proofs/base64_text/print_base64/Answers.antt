@@ -1,6 +1,6 @@
 use Rattle.std.proofs.Common.{arith, ◌∙◌}
 use Rattle.base64.specs.Rfc4648.{encode_symbols}
-use Rattle.sd_sink.proofs.PrintLemmas.{prints_nothing}
+use Rattle.sd_sink.proofs.laws.PrintLemmas.{prints_nothing}
 use Rattle.sd_filter.proofs.Base64Lemmas.{Prints-base64}
 use Rattle.sd_filter.proofs.base64_text.print_base64.Goals as goal
 

@@ -1,5 +1,5 @@
 use Rattle.std.proofs.Common.{◌≡◌}
-use Rattle.sd_sink.proofs.PrintLemmas.{prints_as, prints_then}
+use Rattle.sd_sink.proofs.laws.PrintLemmas.{prints_as, prints_then}
 use Rattle.sd_filter.specs.Faults.{fault_text, number_and_name, part_text, named_parts}
 use Rattle.sd_filter.proofs.fault.print_fault.Goals as goal
 

@@ -1,5 +1,5 @@
 use Rattle.std.proofs.Common.{rules}
-use Rattle.sd_sink.proofs.PrintLemmas.{printed}
+use Rattle.sd_sink.proofs.laws.PrintLemmas.{printed}
 use Rattle.sd_filter.proofs.FaultLemmas.{fault_text-short}
 use Rattle.sd_filter.proofs.fault.put_fault.Goals as goal
 

@@ -1,6 +1,6 @@
 use Rattle.std.proofs.Common.{arith, ◌∙◌}
 use Rattle.hex.specs.Hex.{encode_with}
-use Rattle.sd_sink.proofs.PrintLemmas.{prints_nothing}
+use Rattle.sd_sink.proofs.laws.PrintLemmas.{prints_nothing}
 use Rattle.sd_filter.proofs.HexTextLemmas.{Prints-piece}
 use Rattle.sd_filter.proofs.hex_text.print_hex.Goals as goal
 

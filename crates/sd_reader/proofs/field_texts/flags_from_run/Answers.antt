@@ -2,7 +2,7 @@ use Rattle.std.proofs.Common.{◌≡◌, ◌∙◌, sym, arith, false}
 use Rattle.std.specs.Prelude.{◌==◌}
 use Rattle.std.specs.Char.{to_ascii_uppercase}
 use Rattle.std.proofs.lemmas.Bool.Decides.{nat_tests}
-use Rattle.sd_reader.proofs.FlagRuns.{run-p, run-pair}
+use Rattle.sd_reader.proofs.laws.FlagRuns.{run-p, run-pair}
 use Rattle.sd_reader.proofs.field_texts.flags_from_run.Goals as goal
 
 pub loop-first-preserved-then-to_ascii_uppercase-eq80 :

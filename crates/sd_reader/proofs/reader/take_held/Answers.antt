@@ -1,5 +1,5 @@
 use Rattle.std.proofs.Common.{refl}
-use Rattle.sd_reader.specs.Inner.FoldedReading.{take_field}
+use Rattle.sd_reader.specs.FoldedReading.{take_field}
 use Rattle.sd_reader.proofs.reader.take_held.Goals as goal
 
 pub returns-then-is_broken-clause-read : goal.returns-then-is_broken-clause-read

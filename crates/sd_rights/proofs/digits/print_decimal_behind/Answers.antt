@@ -1,6 +1,6 @@
 use Rattle.std.proofs.Common.{arith}
 use Rattle.std.specs.Fmt.{decimal}
-use Rattle.sd_sink.proofs.PrintLemmas.{prints_as}
+use Rattle.sd_sink.proofs.laws.PrintLemmas.{prints_as}
 use Rattle.sd_rights.proofs.DigitLemmas.{behind}
 use Rattle.sd_rights.proofs.digits.print_decimal_behind.Goals as goal
 

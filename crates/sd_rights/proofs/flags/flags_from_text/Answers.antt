@@ -1,5 +1,5 @@
 use Rattle.std.proofs.Common.{arith}
-use Rattle.sd_rights.proofs.FlagLaws.{flags-clear}
+use Rattle.sd_rights.proofs.laws.FlagLaws.{flags-clear}
 use Rattle.sd_rights.proofs.flags.flags_from_text.Goals as goal
 
 pub overflow_cast-result : goal.overflow_cast-result

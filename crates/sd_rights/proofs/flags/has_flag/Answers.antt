@@ -1,4 +1,4 @@
-use Rattle.sd_rights.proofs.FlagLaws.{and-flag}
+use Rattle.sd_rights.proofs.laws.FlagLaws.{and-flag}
 use Rattle.sd_rights.proofs.flags.has_flag.Goals as goal
 
 pub returns : goal.returns

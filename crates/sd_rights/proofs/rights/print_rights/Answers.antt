@@ -1,4 +1,4 @@
-use Rattle.sd_rights.proofs.RightsLaws.{labels_named, singles_named}
+use Rattle.sd_rights.proofs.laws.RightsLaws.{labels_named, singles_named}
 use Rattle.sd_rights.proofs.rights.print_rights.Goals as goal
 
 pub print_names_or_hex-requires-clause-bits : goal.print_names_or_hex-requires-clause-bits

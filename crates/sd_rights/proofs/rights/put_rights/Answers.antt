@@ -1,4 +1,4 @@
-use Rattle.sd_rights.proofs.RightsLaws.{rights_read_back, rights_text-length}
+use Rattle.sd_rights.proofs.laws.RightsLaws.{rights_read_back, rights_text-length}
 use Rattle.sd_rights.proofs.rights.put_rights.Goals as goal
 
 pub returns-clause-back : goal.returns-clause-back

@@ -1,5 +1,5 @@
 use Rattle.std.proofs.Common.{append_assoc, refl}
-use Rattle.sd_sink.proofs.PrintLemmas.{prints_as, prints_then}
+use Rattle.sd_sink.proofs.laws.PrintLemmas.{prints_as, prints_then}
 use Rattle.sd_sddl.specs.Printed.{ace_text, flags_field, rights_field, trustee_field}
 use Rattle.sd_sddl.proofs.ace.print_ace.Goals as goal
 

@@ -1,5 +1,5 @@
 use Rattle.std.proofs.Common.{◌≡◌, ◌≤◌, ℕ, List, [], ◌∷◌, ◌++◌, length, slice_index, codes, refl, ap, ◌∙◌, arith}
-use Rattle.sd_sink.proofs.PrintLemmas.{prints_as}
+use Rattle.sd_sink.proofs.laws.PrintLemmas.{prints_as}
 use Rattle.sd_sddl.specs.Printed.{kind_field}
 use Rattle.sd_sddl.proofs.ace.print_kind.Goals as goal
 

@@ -1,7 +1,7 @@
 use Rattle.std.proofs.Common.{append_assoc}
-use Rattle.sd_sink.proofs.PrintLemmas.{prints_then}
+use Rattle.sd_sink.proofs.laws.PrintLemmas.{prints_then}
 use Rattle.sd_sddl.specs.Printed.{object_field}
-use Rattle.sd_reader.proofs.FitLaws.{is-none}
+use Rattle.sd_rights.proofs.laws.Options.{is-none}
 use Rattle.sd_sddl.proofs.ace.print_objects.Goals as goal
 
 pub returns-then-is_none-2 : goal.returns-then-is_none-2

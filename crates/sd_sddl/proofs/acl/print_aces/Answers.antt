@@ -1,4 +1,4 @@
-use Rattle.sd_sink.proofs.PrintLoops.{Prints-item, moved}
+use Rattle.sd_sink.proofs.laws.PrintLoops.{Prints-item, moved}
 use Rattle.sd_sddl.specs.Printed.{ace_text}
 use Rattle.sd_sddl.proofs.acl.print_aces.Goals as goal
 

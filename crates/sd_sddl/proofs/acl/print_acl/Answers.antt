@@ -1,4 +1,4 @@
-use Rattle.sd_sink.proofs.PrintLemmas.{prints_then}
+use Rattle.sd_sink.proofs.laws.PrintLemmas.{prints_then}
 use Rattle.sd_sddl.proofs.acl.print_acl.Goals as goal
 
 pub returns-in-Null : goal.returns-in-Null

@@ -1,4 +1,4 @@
-use Rattle.sd_sink.proofs.PrintLemmas.{prints_as, prints_then}
+use Rattle.sd_sink.proofs.laws.PrintLemmas.{prints_as, prints_then}
 use Rattle.sd_sddl.specs.Printed.{acl_flags_text}
 use Rattle.sd_sddl.proofs.acl.print_acl_flags.Goals as goal
 

@@ -1,5 +1,5 @@
 use Rattle.std.proofs.Common.{append_assoc}
-use Rattle.sd_sink.proofs.PrintLemmas.{prints_then}
+use Rattle.sd_sink.proofs.laws.PrintLemmas.{prints_then}
 use Rattle.sd_sddl.specs.Printed.{dacl_text, group_text, owner_text, sacl_text, sddl}
 use Rattle.sd_sddl.proofs.printed.print_parts.Goals as goal
 

@@ -1,9 +1,9 @@
 use Rattle.std.proofs.Common.{sym, rules, ◌∙◌}
 use Rattle.std.specs.Option.{option_copied}
-use Rattle.sd_sink.proofs.PrintLemmas.{printed}
+use Rattle.sd_sink.proofs.laws.PrintLemmas.{printed}
 use Rattle.sd_sddl.proofs.BackLaws.{folded-sddl}
-use Rattle.sd_reader.proofs.FoldedMeaning.{folded-means}
-use Rattle.sd_sddl.proofs.SizeLaws.{sddl-length}
+use Rattle.sd_reader.proofs.laws.FoldedMeaning.{folded-means}
+use Rattle.sd_sddl.proofs.laws.SizeLaws.{sddl-length}
 use Rattle.sd_core.specs.Naming.{naming_by}
 use Rattle.sd_sddl.proofs.printed.put_sddl.Goals as goal
 

@@ -1,5 +1,5 @@
 use Rattle.std.proofs.Common.{◌∙◌}
-use Rattle.sd_sink.proofs.PrintLemmas.{prints_as, prints_then}
+use Rattle.sd_sink.proofs.laws.PrintLemmas.{prints_as, prints_then}
 use Rattle.sd_view.proofs.acl_layout.print_ace.Goals as goal
 
 pub returns : goal.returns

@@ -1,4 +1,4 @@
-use Rattle.sd_sink.proofs.PrintLoops.{Prints-item, moved}
+use Rattle.sd_sink.proofs.laws.PrintLoops.{Prints-item, moved}
 use Rattle.sd_view.specs.AclLayout.{ace_bytes}
 use Rattle.sd_view.proofs.acl_layout.print_aces.Goals as goal
 

@@ -1,6 +1,6 @@
 use Rattle.std.proofs.Common.{ap, length, refl, ◌∙◌}
 use Rattle.sd_view.specs.declared.view.Acls.{Acls}
-use Rattle.sd_view.proofs.LayoutLaws.{length-sid_part}
+use Rattle.sd_view.proofs.laws.LayoutLaws.{length-sid_part}
 use Rattle.sd_view.proofs.Parts.{written-size}
 use Rattle.sd_view.proofs.layout.header_of.Goals as goal
 

@@ -1,4 +1,4 @@
-use Rattle.sd_sink.proofs.PrintLemmas.{prints_then}
+use Rattle.sd_sink.proofs.laws.PrintLemmas.{prints_then}
 use Rattle.sd_view.proofs.layout.print_layout.Goals as goal
 
 pub returns-clause-printed : goal.returns-clause-printed

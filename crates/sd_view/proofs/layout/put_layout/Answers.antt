@@ -1,6 +1,6 @@
 use Rattle.std.proofs.Common.{rules}
-use Rattle.sd_sink.proofs.PrintLemmas.{printed}
-use Rattle.sd_view.proofs.LayoutLaws.{layout-shows, length-layout, size-most}
+use Rattle.sd_sink.proofs.laws.PrintLemmas.{printed}
+use Rattle.sd_view.proofs.laws.LayoutLaws.{layout-shows, length-layout, size-most}
 use Rattle.sd_view.proofs.SizeLaws.{size-least}
 use Rattle.sd_view.proofs.layout.put_layout.Goals as goal
 

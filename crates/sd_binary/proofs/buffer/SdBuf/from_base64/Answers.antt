@@ -1,5 +1,5 @@
 use Rattle.std.proofs.Common.{arith}
-use Rattle.sd_binary.proofs.SpelledBase64.{one_encoding}
+use Rattle.sd_binary.proofs.laws.SpelledBase64.{one_encoding}
 use Rattle.sd_binary.proofs.buffer.SdBuf.from_base64.Goals as goal
 
 pub returns-in_err-held-clause-encoding : goal.returns-in_err-held-clause-encoding

@@ -1,5 +1,5 @@
 use Rattle.std.proofs.Common.{◌≡◌, slice_index, arith}
-use Rattle.sd_sink.proofs.PrintLemmas.{prints_as, prints_then}
+use Rattle.sd_sink.proofs.laws.PrintLemmas.{prints_as, prints_then}
 use Rattle.sd_core.proofs.TextLemmas.{domain_text}
 use Rattle.sd_core.proofs.sid.Sid.print_text.Goals as goal
 

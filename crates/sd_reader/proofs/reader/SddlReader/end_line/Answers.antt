@@ -3,7 +3,7 @@ use Rattle.std.specs.Prelude.{Result}
 use Rattle.sd_reader.specs.declared.fault.SddlFault.{SddlFault}
 use Rattle.sd_reader.specs.declared.fault.SddlFault.TheVariants as fault
 use Rattle.sd_reader.specs.declared.reader.SddlReader.{SddlReader}
-use Rattle.sd_reader.specs.Inner.FoldedReading.{FieldsRead, finished}
+use Rattle.sd_reader.specs.FoldedReading.{FieldsRead, finished}
 use Rattle.sd_rights.specs.Chains.{unless}
 use Rattle.sd_reader.specs.Inner.Reads.{answer_at, Ends}
 use Rattle.sd_reader.proofs.Steps.{finished_once, finished_twice, outside_of, unfinished, unsound}

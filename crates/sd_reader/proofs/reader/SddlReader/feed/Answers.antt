@@ -2,7 +2,7 @@ use Rattle.std.proofs.Common.{◌≡◌, ℕ, true, List, [], ◌∷◌, refl, a
 use Rattle.std.specs.Prelude.{Option}
 use Rattle.sd_core.specs.Sid.{SecurityId}
 use Rattle.sd_reader.specs.declared.fault.SddlFault.TheVariants as fault
-use Rattle.sd_reader.specs.Inner.FoldedReading.{reads_as}
+use Rattle.sd_reader.specs.FoldedReading.{reads_as}
 use Rattle.sd_rights.specs.Chains.{unless}
 use Rattle.std.specs.Option.{option_to_list}
 use Rattle.sd_reader.specs.Inner.Reads.{answer_at}

@@ -2,12 +2,12 @@ use Rattle.std.proofs.Common.{◌≡◌, ℕ, List, [], refl, ap, ◌∙◌, ◌
 use Rattle.std.specs.Prelude.{Option}
 use Rattle.sd_core.specs.Sid.{SecurityId}
 use Rattle.sd_reader.specs.Meaning.{means}
-use Rattle.sd_reader.specs.Inner.FoldedReading.{FieldsRead, finished, folded, reads_as}
+use Rattle.sd_reader.specs.FoldedReading.{FieldsRead, finished, folded, reads_as}
 use Rattle.std.specs.Option.{option_to_list}
 use Rattle.sd_reader.specs.Inner.Reads.{LineHasRead, Reads, answer_at}
 use Rattle.sd_reader.proofs.FieldTexts.{append_nothing}
 use Rattle.sd_reader.proofs.FitLaws.{keeps-same}
-use Rattle.sd_reader.proofs.FoldedMeaning.{folded-means}
+use Rattle.sd_reader.proofs.laws.FoldedMeaning.{folded-means}
 use Rattle.sd_reader.proofs.reader.SddlReader.finish.Goals.{in-Some, in_default}
 use Rattle.sd_reader.proofs.reader.SddlReader.finish.Goals as goal
 

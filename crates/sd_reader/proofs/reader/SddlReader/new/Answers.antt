@@ -1,7 +1,7 @@
 use Rattle.std.proofs.Common.{refl, ap, ◌∙◌, arith}
 use Rattle.std.specs.Prelude.{Option}
 use Rattle.sd_core.specs.Sid.{SecurityId}
-use Rattle.sd_reader.specs.Inner.FoldedReading.{nothing_read, reads_as}
+use Rattle.sd_reader.specs.FoldedReading.{nothing_read, reads_as}
 use Rattle.sd_reader.proofs.Steps.{started}
 use Rattle.sd_reader.proofs.FitLaws.{fits-start}
 use Rattle.sd_reader.proofs.reader.SddlReader.new.Goals as goal

@@ -1,5 +1,5 @@
 use Rattle.std.proofs.Common.{◌≡◌, sym, None, ◌∙◌, refl, ap, true≢false}
-use Rattle.sd_reader.specs.Inner.FoldedReading.{ace_of_fields}
+use Rattle.sd_reader.specs.FoldedReading.{ace_of_fields}
 use Rattle.sd_reader.proofs.TrusteeLaws.{holds-large, holds-more, none-is, open-too}
 use Rattle.sd_reader.proofs.reading.FieldReader.put_ace.Goals as goal
 

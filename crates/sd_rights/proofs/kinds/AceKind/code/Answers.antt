@@ -1,4 +1,4 @@
-use Rattle.sd_rights.proofs.KindLaws.{kind_of-code}
+use Rattle.sd_rights.proofs.laws.KindLaws.{kind_of-code}
 use Rattle.sd_rights.proofs.kinds.AceKind.code.Goals as goal
 
 pub returns-clause-back : goal.returns-clause-back

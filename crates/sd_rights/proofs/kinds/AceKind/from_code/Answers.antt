@@ -1,4 +1,4 @@
-use Rattle.sd_rights.proofs.KindLaws.{kind_of-some}
+use Rattle.sd_rights.proofs.laws.KindLaws.{kind_of-some}
 use Rattle.sd_rights.proofs.kinds.AceKind.from_code.Goals as goal
 
 pub returns-clause-back : goal.returns-clause-back

@@ -3,7 +3,7 @@ use Rattle.std.specs.List.{find}
 use Rattle.std.specs.Str.{str_eq_ignore_ascii_case}
 use Rattle.sd_rights.specs.declared.kinds.TheConstants.{KINDS}
 use Rattle.sd_rights.specs.Kinds.{letters_of}
-use Rattle.sd_rights.proofs.KindLaws.{found_letters}
+use Rattle.sd_rights.proofs.laws.KindLaws.{found_letters}
 use Rattle.sd_rights.proofs.kinds.AceKind.from_text.Goals as goal
 
 pub returns-clause-back : goal.returns-clause-back

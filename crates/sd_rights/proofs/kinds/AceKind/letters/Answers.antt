@@ -2,7 +2,7 @@ use Rattle.std.proofs.Common.{◌≡◌, ◌≤◌, ℕ, List, length}
 use Rattle.sd_rights.specs.Kinds.{kind_entry, kind_letters, letters_of}
 use Rattle.sd_rights.specs.declared.kinds.AceKind.{AceKind}
 use Rattle.sd_rights.specs.declared.kinds.KindEntry.{KindEntry}
-use Rattle.sd_rights.proofs.KindLaws.{kind_named-letters, letters-few}
+use Rattle.sd_rights.proofs.laws.KindLaws.{kind_named-letters, letters-few}
 use Rattle.sd_rights.proofs.kinds.AceKind.letters.Goals as goal
 
 few : (k : AceKind) (e : KindEntry) (text : List ℕ) → text ≡ letters_of e → e ≡ kind_entry k → (1 ≤ length text)

@@ -1,4 +1,4 @@
-use Rattle.sd_sink.proofs.PrintLemmas.{prints_then}
+use Rattle.sd_sink.proofs.laws.PrintLemmas.{prints_then}
 use Rattle.sd_sink.proofs.gather.Gather.put_over.Goals as goal
 
 pub returns-then-not-self : goal.returns-then-not-self

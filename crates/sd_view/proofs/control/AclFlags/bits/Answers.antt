@@ -1,4 +1,4 @@
-use Rattle.sd_view.proofs.ControlLaws.{bits-same, flags-apart}
+use Rattle.sd_view.proofs.laws.ControlLaws.{bits-same, flags-apart}
 use Rattle.sd_view.proofs.control.AclFlags.bits.Goals as goal
 
 pub returns-in-Sacl-clause-apart : goal.returns-in-Sacl-clause-apart

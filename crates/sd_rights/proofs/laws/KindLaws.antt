@@ -10,7 +10,7 @@ use Rattle.sd_rights.specs.declared.kinds.AceKind.{AceKind}
 use Rattle.sd_rights.specs.declared.kinds.AceKind.TheVariants as kinds
 use Rattle.sd_rights.specs.declared.kinds.KindEntry.{KindEntry}
 use Rattle.sd_rights.specs.declared.kinds.TheConstants.{KINDS}
-use Rattle.sd_rights.proofs.Tables.{find-passes}
+use Rattle.sd_rights.proofs.laws.Tables.{find-passes}
 
 -- 1. Type bytes.
 

@@ -14,7 +14,7 @@ use Rattle.sd_view.specs.declared.acl.AclPart.{AclPart}
 use Rattle.sd_view.specs.declared.acl.AclPart.TheVariants as acl
 use Rattle.sd_inherit.specs.Copies.{copies, copies_for, creator_group, creator_owner, differs, effective_copy, heir, heir_mask, inherit_only_copy, is_for_containers, is_for_files, is_for_one_level, onward_flags}
 use Rattle.sd_inherit.specs.Derived.{derive_fault, derived, derived_control, inherited, is_too_large, sacl_of}
-use Rattle.sd_inherit.specs.Inner.Limits.{IsPlan}
+use Rattle.sd_inherit.specs.PlanLimits.{IsPlan}
 use Rattle.sd_inherit.specs.declared.derivation.DeriveFault.{DeriveFault}
 use Rattle.sd_inherit.specs.declared.plan.Plan.{Plan}
 use Rattle.sd_inherit.specs.declared.plan.Target.{Target}

@@ -15,13 +15,13 @@ use Rattle.sd_core.specs.SidText.{alias_of, sid_text}
 use Rattle.sd_rights.specs.Numbers.{hex_digits}
 use Rattle.sd_rights.specs.declared.kinds.AceKind.{AceKind}
 use Rattle.sd_core.specs.declared.naming.Naming.{Naming}
-use Rattle.sd_core.proofs.AceSizes.{offset-low}
-use Rattle.sd_core.proofs.AliasNames.{IsName, alias_of-IsName}
-use Rattle.sd_rights.proofs.FlagLaws.{flags_text-length}
-use Rattle.sd_core.proofs.GuidTexts.{guid_text-length}
-use Rattle.sd_rights.proofs.KindLaws.{letters-few}
-use Rattle.sd_rights.proofs.RightsLaws.{rights_text-length}
-use Rattle.sd_core.proofs.TextLaws.{length-sid_text}
+use Rattle.sd_core.proofs.laws.AceSizes.{offset-low}
+use Rattle.sd_core.proofs.laws.AliasNames.{IsName, alias_of-IsName}
+use Rattle.sd_rights.proofs.laws.FlagLaws.{flags_text-length}
+use Rattle.sd_core.proofs.laws.GuidTexts.{guid_text-length}
+use Rattle.sd_rights.proofs.laws.KindLaws.{letters-few}
+use Rattle.sd_rights.proofs.laws.RightsLaws.{rights_text-length}
+use Rattle.sd_core.proofs.laws.TextLaws.{length-sid_text}
 use Rattle.sd_view.specs.Acl.{aces_size}
 use Rattle.sd_rights.specs.Bits.{has_bit}
 use Rattle.sd_view.specs.Descriptor.{Descriptor, IsAclPart, IsDescriptor, dacl_present, sacl_present}

@@ -2,7 +2,7 @@
 use Rattle.std.proofs.Common.{◌≡◌, ◌<◌, ℕ, ◌+◌, ◌*◌, ◌^◌, ap, sym, ◌∙◌, arith}
 use Rattle.sd_view.specs.Control.{bit_if, other_flags}
 use Rattle.sd_view.specs.declared.control.AclFlags.{AclFlags}
-use Rattle.sd_view.proofs.ControlLaws.{bit_if-most, bit_if-times}
+use Rattle.sd_view.proofs.laws.ControlLaws.{bit_if-most, bit_if-times}
 use Rattle.sd_reader.specs.Meaning.{control_flags}
 
 -- the flags stand in the upper byte, without its highest bit

@@ -20,8 +20,8 @@ use Rattle.sd_core.specs.declared.alias.TheConstants.{WELL_KNOWN, DOMAIN_RELATIV
 use Rattle.sd_core.specs.declared.sid_text.SidFault.{SidFault}
 use Rattle.sd_core.specs.declared.sid_text.SidFault.TheVariants as faults
 use Rattle.std.proofs.lemmas.Bool.{and_parts}
-use Rattle.sd_core.proofs.TextLaws.{AreWords-rest}
-use Rattle.sd_rights.proofs.ReadLimits.{some-is}
+use Rattle.sd_core.proofs.laws.TextLaws.{AreWords-rest}
+use Rattle.sd_rights.proofs.laws.ReadLimits.{some-is}
 
 -- what holds of each entry of a table holds of the one that is found
 found : {X : Type 0} (p q : X → Bool) (xs : List X) → list_all q xs ≡ true → IfSome (find p xs) (λ x. q x ≡ true)

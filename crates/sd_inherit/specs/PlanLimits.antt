@@ -1,4 +1,4 @@
--- The limits of a plan.
+-- The limits of a plan: those of its SIDs and of its mapping.
 use Rattle.sd_rights.specs.Mapping.{IsMapping}
 use Rattle.sd_core.specs.Sid.{IsSid}
 use Rattle.sd_inherit.specs.declared.plan.Plan.{Plan}

@@ -16,7 +16,7 @@ use Rattle.sd_view.specs.declared.control.Which.{Which}
 use Rattle.sd_view.specs.declared.control.Which.TheVariants as which
 use Rattle.std.specs.Option.{option_or}
 use Rattle.sd_reader.specs.FieldTexts.{front_reads}
-use Rattle.sd_reader.specs.Inner.FoldedReading.{FieldsRead, described, fields_of, finished, folded, large_in, nothing_read, read_fields, reads_as, if_shaped}
+use Rattle.sd_reader.specs.FoldedReading.{FieldsRead, described, fields_of, finished, folded, large_in, nothing_read, read_fields, reads_as, if_shaped}
 use Rattle.sd_reader.specs.Line.{Piece, Section, are_shaped, front, has_head, has_twice, is_blank_piece, is_paired, is_shaped, sections_of, same_head, trim}
 use Rattle.sd_rights.specs.Chains.{and_then}
 use Rattle.sd_reader.specs.Meaning.{Said, acl_said, body_reads, control_flags, descriptor_of, each, acl_part_reads, field_reads, first_large, means, section_reads, sections_mean, sid_field_reads, sid_said, unless_large, picked_acl, picked_flags, picked_sid}
@@ -28,9 +28,9 @@ use Rattle.sd_reader.specs.declared.line.Head.TheVariants as head
 use Rattle.sd_reader.specs.declared.line.SidPart.TheVariants as sid_part
 use Rattle.sd_reader.specs.declared.reading.AceFields.{AceFields}
 use Rattle.sd_reader.specs.declared.reading.AclFront.{AclFront}
-use Rattle.sd_reader.proofs.ControlFlags.{flags-stay}
-use Rattle.sd_reader.proofs.FlagRuns.{or-none}
-use Rattle.sd_reader.proofs.FoldedSections.{Found, before_sid, sections-read, with_all, with_entries, with_said}
+use Rattle.sd_reader.proofs.laws.ControlFlags.{flags-stay}
+use Rattle.sd_reader.proofs.laws.FlagRuns.{or-none}
+use Rattle.sd_reader.proofs.laws.FoldedSections.{Found, before_sid, sections-read, with_all, with_entries, with_said}
 
 -- 1. What the fold holds after a section.
 

@@ -10,7 +10,7 @@ use Rattle.sd_rights.specs.Flags.{flags_reads}
 use Rattle.sd_rights.specs.Names.{run_of}
 use Rattle.sd_rights.specs.Rights.{after_zero, all_rights, mask_reads, rights_reads, short_rights_reads}
 use Rattle.sd_rights.specs.declared.flags.TheConstants.{FLAGS}
-use Rattle.sd_rights.proofs.FlagLaws.{flags-clear}
+use Rattle.sd_rights.proofs.laws.FlagLaws.{flags-clear}
 use Rattle.sd_rights.proofs.NameLaws.{among, run-among}
 
 -- what holds of each value holds of the one that is read

@@ -5,7 +5,7 @@ use Rattle.std.proofs.lemmas.Grind.{flat_map-append}
 use Rattle.std.proofs.lemmas.List.{append-nil}
 use Rattle.std.specs.List.{flat_map}
 use Rattle.sd_sink.specs.Print.{PrintTold, Prints}
-use Rattle.sd_sink.proofs.PrintLemmas.{prints_then}
+use Rattle.sd_sink.proofs.laws.PrintLemmas.{prints_then}
 
 -- the next one is no longer left
 pub moved : {X : Type 0} (done left next all : List X) (x : X) → done ++ left ≡ all → left ≡ x ∷ next → (done ++ x ∷ [])

@@ -2,7 +2,7 @@
 use Rattle.std.proofs.Common.{◌≡◌, ℕ, List, [], ◌++◌, Bool, true, false, Result, subst, refl, sym, ◌∙◌, ap, append_assoc, append-nil}
 use Rattle.sd_sink.specs.Sink.{SinkTold, PutSome, Puts}
 use Rattle.sd_sink.specs.declared.sink.SinkFault.{SinkFault}
-use Rattle.sd_sink.proofs.SinkLemmas.{PutAll-nil, PutAll-trans, PutSome-after, PutSome-more, Puts-after}
+use Rattle.sd_sink.proofs.laws.SinkLemmas.{PutAll-nil, PutAll-trans, PutSome-after, PutSome-more, Puts-after}
 use Rattle.sd_sink.specs.Print.{PrintTold, Passes, Prints, Finishes, Begins}
 
 Passes-trans : (a b c : PrintTold) (xs ys : List ℕ) → Passes a b xs → Passes b c ys → Passes a c (xs ++ ys)

@@ -15,8 +15,8 @@ use Rattle.sd_view.specs.Descriptor.{Apart, AreApart, Descriptor, Extent, IsAclP
 use Rattle.sd_view.specs.Layout.{acl_part, acl_part_size, dacl_offset, descriptor_header, group_offset, header_bytes, layout, offset_if, sacl_offset, sid_part, sid_part_size, size}
 use Rattle.sd_view.specs.declared.acl.AclPart.{AclPart}
 use Rattle.sd_view.specs.declared.acl.AclPart.TheVariants as acl
-use Rattle.sd_core.proofs.SidLaws.{length-sid_bytes}
-use Rattle.sd_view.proofs.AclLayoutLaws.{acl_bytes-shows, acl_size-most, length-acl_bytes}
+use Rattle.sd_core.proofs.laws.SidLaws.{length-sid_bytes}
+use Rattle.sd_view.proofs.laws.AclLayoutLaws.{acl_bytes-shows, acl_size-most, length-acl_bytes}
 
 -- a part has as many bytes as its size says, and is no larger than the largest SID or ACL
 pub length-sid_part : (o : Option SecurityId) → length (sid_part o) ≡ sid_part_size o
