@@ -69,7 +69,7 @@ impl FieldReader {
 
     /// Reads a field whose text has no blank and at most 183 bytes.
     #[inline(always)]
-    #[tactic(auto, unfolding(crate::specs::Inner::FoldedReading::take_field))]
+    #[tactic(auto, unfolding(crate::specs::FoldedReading::take_field))]
     pub fn take_readable(
         &mut self,
         buf: &mut SdBuf,
@@ -130,7 +130,7 @@ impl FieldReader {
     }
 
     // What stands in an ACL before its ACEs.
-    #[tactic(auto, unfolding(crate::specs::Inner::FoldedReading::take_front))]
+    #[tactic(auto, unfolding(crate::specs::FoldedReading::take_front))]
     fn take_front(
         &mut self,
         buf: &mut SdBuf,
@@ -174,7 +174,7 @@ impl FieldReader {
     }
 
     // A field of the ACE at hand.
-    #[tactic(auto, unfolding(crate::specs::Inner::FoldedReading::take_ace_field, crate::specs::FieldTexts::kind_reads))]
+    #[tactic(auto, unfolding(crate::specs::FoldedReading::take_ace_field, crate::specs::FieldTexts::kind_reads))]
     fn take_ace_field(
         &mut self,
         buf: &mut SdBuf,
@@ -323,7 +323,7 @@ impl FieldReader {
     }
 
     /// Ends the descriptor.
-    #[tactic(auto, unfolding(crate::specs::Inner::FoldedReading::finished))]
+    #[tactic(auto, unfolding(crate::specs::FoldedReading::finished))]
     pub fn finish(mut self, buf: &mut SdBuf) -> Result<(), SddlFault>
         requires { (t : FieldsRead) × HasReadFields self buf.old t }
         ensures { (t : FieldsRead) → HasReadFields self buf.old t → Ends (finished (Ok t)) result buf.new }
