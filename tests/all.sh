@@ -1,5 +1,5 @@
 #!/usr/bin/env bash
-# The gate, and then the tests of the built program. Each part is shown as it runs and ends with a line
+# Tests of the sources, the gate, and then the tests of the built program. Each part is shown as it runs and ends with a line
 # 'N passed, M failed'; the last line of all is their sum. A part without such a line counts as one that failed.
 set -u
 cd "$(dirname "$0")/.." || exit 2
@@ -23,6 +23,7 @@ count() {
 
 # No older program is to be tested where the gate stops before it has built one.
 rm -f "$program"
+count tests/layers.py
 count rt ci
 count tests/run_rows.py --reference
 if "${MAKE:-make}" --no-print-directory program; then
