@@ -9,7 +9,7 @@ SOURCES := crates.txt $(shell find crates -path '*/out' -prune -o -path '*/must-
 
 need_toolchain = $(if $(shell command -v rt 2>&1),,$(error the Rattle toolchain is missing: there is no command 'rt' on the PATH))
 
-.PHONY: help program run quick check rows test edits bench install uninstall deb clean
+.PHONY: help program run quick check rows test edits figures bench install uninstall deb clean
 
 # The first target, so that `make` alone says what there is.
 help:
@@ -20,6 +20,7 @@ help:
 	@echo 'make rows ID=WORD      the rows whose names have the word, on the built program (seconds; ID= for all)'
 	@echo 'make test              the gate and all tests of the built program (40 minutes); ends with N passed, M failed'
 	@echo 'make edits CRATE=NAME  tries every edit that the check has to refuse, also those that the gate leaves out'
+	@echo 'make figures           rewrites the figures in docs/GATE.md (seconds)'
 	@echo 'make bench             measures the program against a plain one in Rust, and cat (8 minutes)'
 	@echo 'make install           puts the program, its man page and its documents below PREFIX ($(PREFIX))'
 	@echo 'make uninstall         takes them away again'
@@ -58,6 +59,9 @@ test:
 edits:
 	$(need_toolchain)
 	tests/edits.sh $(CRATE)
+
+figures:
+	tests/figures.py
 
 bench: program
 	bench/run.py $(PROGRAM)

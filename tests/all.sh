@@ -24,6 +24,7 @@ count() {
 # No older program is to be tested where the gate stops before it has built one.
 rm -f "$program"
 count tests/layers.py
+count tests/figures.py --check
 count rt ci
 count tests/run_rows.py --reference
 if "${MAKE:-make}" --no-print-directory program; then
