@@ -23,4 +23,4 @@ BEGIN { line = 1 }
 
 /^error / { print line ": unknown, " $0 }
 
-/^(end|error .*|)$/ { line++ }
+/^(end|error .*)?$/ { line++ }
