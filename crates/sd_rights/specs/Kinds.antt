@@ -1,5 +1,5 @@
 -- The kinds of ACEs (MS-DTYP 2.4.4.1 and 2.5.1.1): type bytes and letters, of one table.
-use Rattle.std.specs.Prelude.{ℕ, Bool, true, false, ◌==◌, List, [], take, get_or, Option}
+use Rattle.std.specs.Prelude.{ℕ, Bool, true, false, ◌==◌, List, [], take, Option, unwrap_or}
 use Rattle.std.specs.List.{find}
 use Rattle.std.specs.Option.{option_map}
 use Rattle.std.specs.Str.{str_eq_ignore_ascii_case}
@@ -17,28 +17,26 @@ is_object kinds.ObjectDeny = true
 is_object kinds.ObjectAudit = true
 is_object other = false
 
--- 2. The entry of a kind: they stand in the order of the variants.
+-- 2. The entry of a kind.
 
-abbrev pub kind_index : AceKind → ℕ
-kind_index kinds.Allow = 0
-kind_index kinds.Deny = 1
-kind_index kinds.Audit = 2
-kind_index kinds.ObjectAllow = 3
-kind_index kinds.ObjectDeny = 4
-kind_index kinds.ObjectAudit = 5
-kind_index kinds.Label = 6
+abbrev pub same_kind : AceKind → AceKind → Bool
+same_kind kinds.Allow kinds.Allow = true
+same_kind kinds.Deny kinds.Deny = true
+same_kind kinds.Audit kinds.Audit = true
+same_kind kinds.ObjectAllow kinds.ObjectAllow = true
+same_kind kinds.ObjectDeny kinds.ObjectDeny = true
+same_kind kinds.ObjectAudit kinds.ObjectAudit = true
+same_kind kinds.Label kinds.Label = true
+same_kind kind other = false
 
--- what no kind has
-abbrev pub no_entry : KindEntry
-no_entry = record { kind = kinds.Allow; code = 0; letters = []; count = 0 }
-
-unfoldable pub kind_entry : AceKind → KindEntry
-kind_entry kind = get_or KINDS (kind_index kind) no_entry
+-- the table has one for each kind
+unfoldable pub kind_entry : AceKind → Option KindEntry
+kind_entry kind = find (λ e. same_kind e.kind kind) KINDS
 
 -- 3. Type bytes (2.4.4.1).
 
 unfoldable pub kind_code : AceKind → ℕ
-kind_code kind = (kind_entry kind).code
+kind_code kind = unwrap_or (option_map (λ e. e.code) (kind_entry kind)) 0
 
 -- the kind of a type byte
 unfoldable pub kind_of : ℕ → Option AceKind
@@ -50,7 +48,7 @@ abbrev pub letters_of : KindEntry → List ℕ
 letters_of e = take e.count e.letters
 
 unfoldable pub kind_letters : AceKind → List ℕ
-kind_letters kind = letters_of (kind_entry kind)
+kind_letters kind = unwrap_or (option_map letters_of (kind_entry kind)) []
 
 -- the kind that has these letters, in either case
 unfoldable pub kind_named : List ℕ → Option AceKind

@@ -34,3 +34,9 @@ names_of (e ∷ es) mask = if bit_and mask e.bits == 0 then names_of es mask els
 abbrev pub named_bits : List NamedBits → ℕ → ℕ
 named_bits [] mask = 0
 named_bits (e ∷ es) mask = if bit_and mask e.bits == 0 then named_bits es mask else bit_or e.bits (named_bits es mask)
+
+-- 3. Tables.
+
+-- a name, and the bits that it stands for
+abbrev pub named_row : NamedBits → List ℕ × ℕ
+named_row e = (e.first ∷ e.second ∷ [], e.bits)

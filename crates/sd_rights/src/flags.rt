@@ -2,7 +2,9 @@
 
 ghost use Rattle.std.specs.Prelude.{◌≡◌, ◌≤◌, ◌/◌, ◌%◌, length, IfSome, IsTrue, Some};
 ghost use Rattle.sd_rights.specs.Bits.{has_bit};
+ghost use Rattle.sd_rights.specs.FlagValues.{FlagNames, FlagValues};
 ghost use Rattle.sd_rights.specs.Flags.{flags_reads, flags_text, is_flag};
+ghost use Rattle.sd_rights.specs.LimitValues.{LimitValues};
 ghost use Rattle.sd_sink.specs.Print.{Prints};
 ghost use Rattle.sd_sink.specs.Sink.{Puts};
 
@@ -88,6 +90,9 @@ pub fn put_flags<S: Sink>(flags: u8, sink: &mut S) -> Result<(), SinkFault>
     // The text reads as the flags.
     ensures back { flags / 0x20 % 2 ≡ 0 → flags_reads (flags_text flags) ≡ Some flags }
     ensures short { length (flags_text flags) ≤ 14 }
+    // The names and the numbers are those of MS-DTYP.
+    ensures names { FlagNames }
+    ensures values { FlagValues }
 {
     let mut out = Printer::new(sink);
     print_flags(flags, &mut out);
@@ -103,11 +108,13 @@ pub fn print_flags<P: Print>(flags: u8, out: &mut P)
 
 /// The flags of a text of at most 183 bytes (MS-DTYP 2.5.1.1): names of two letters, in either case and any
 /// order, also repeated, as `CIOI` for 3. None for any other text.
-#[tactic(auto, unfolding(crate::specs::Flags::flags_reads))]
+#[tactic(auto, unfolding(crate::specs::Flags::flags_reads, crate::specs::LimitValues::LimitValues))]
 pub fn flags_from_text(text: &[u8]) -> Option<u8>
     ensures exact { result ≡ flags_reads text.now }
     // No name has bit 0x20, which no ACE has.
     ensures clear { IfSome result (λ flags. flags / 0x20 % 2 ≡ 0) }
+    // The limits are what they are reckoned from.
+    ensures limits { LimitValues }
 {
     if text.len() > MOST_FIELD_SIZE {
         return None;

@@ -2,8 +2,10 @@
 
 ghost use Rattle.std.specs.Prelude.{◌≡◌, ◌≤◌, length, Some, IfSome, true};
 ghost use Rattle.std.specs.List.{find};
+ghost use Rattle.std.specs.Option.{option_copied};
 ghost use Rattle.std.specs.Str.{str_eq_ignore_ascii_case};
-ghost use Rattle.sd_rights.specs.Kinds.{is_object, kind_code, kind_entry, kind_letters, kind_named, kind_of, letters_of};
+ghost use Rattle.sd_rights.specs.KindValues.{KindValues};
+ghost use Rattle.sd_rights.specs.Kinds.{is_object, kind_code, kind_entry, kind_letters, kind_named, kind_of, letters_of, same_kind};
 
 /// What an ACE does (MS-DTYP 2.4.4.1).
 #[derive(Clone, Copy, Debug, PartialEq, Eq)]
@@ -42,7 +44,7 @@ macro_rules! kind {
     };
 }
 
-/// In the order of the variants of `AceKind`.
+/// Each kind has one row.
 pub static KINDS: [KindEntry; 7] = [
     kind!(Allow, 0x00, [b'A', 0], 1),
     kind!(Deny, 0x01, [b'D', 0], 1),
@@ -72,20 +74,22 @@ impl AceKind {
         // It is the byte of no other kind.
         ensures back { kind_of (kind_code self) ≡ Some self }
     {
-        entry_of(self).code
+        entry_of(self).map_or(0, |entry| entry.code)
     }
 
     /// The kind of a type byte. None where no kind has it.
+    #[tactic(auto, unfolding(crate::specs::KindValues::KindValues))]
     #[inline(always)]
     pub fn from_code(code: u8) -> Option<AceKind>
         ensures exact { result ≡ kind_of code }
         ensures back { IfSome result (λ kind. kind_code kind ≡ code) }
+        // The type bytes and the letters of all kinds are those of MS-DTYP.
+        ensures values { KindValues }
     {
         with_code(code)
     }
 
     /// The letters that name it in SDDL (MS-DTYP 2.5.1.1): one or two, in upper case.
-    #[tactic(auto, unfolding(crate::specs::Kinds::kind_letters))]
     pub fn letters(self) -> &'static [u8]
         ensures value { result.now ≡ kind_letters self }
         // They read as it.
@@ -93,7 +97,7 @@ impl AceKind {
         ensures some { 1 ≤ length result.now }
         ensures short { length result.now ≤ 2 }
     {
-        letters_of(entry_of(self))
+        kind_letters(self)
     }
 
     /// The kind that has these letters, in either case. None where no kind has them.
@@ -107,11 +111,48 @@ impl AceKind {
     }
 }
 
+// The entries one by one, and no loop over them: so it is compiled as a match on the kinds.
 #[inline(always)]
-fn entry_of(kind: AceKind) -> &'static KindEntry
-    ensures { result.now ≡ kind_entry kind }
+#[tactic(auto, unfolding(crate::specs::Kinds::kind_entry))]
+fn entry_of(kind: AceKind) -> Option<&'static KindEntry>
+    ensures { option_copied result ≡ kind_entry kind }
 {
-    &KINDS[kind as usize]
+    if is_same(KINDS[0].kind, kind) {
+        return Some(&KINDS[0]);
+    }
+    if is_same(KINDS[1].kind, kind) {
+        return Some(&KINDS[1]);
+    }
+    if is_same(KINDS[2].kind, kind) {
+        return Some(&KINDS[2]);
+    }
+    if is_same(KINDS[3].kind, kind) {
+        return Some(&KINDS[3]);
+    }
+    if is_same(KINDS[4].kind, kind) {
+        return Some(&KINDS[4]);
+    }
+    if is_same(KINDS[5].kind, kind) {
+        return Some(&KINDS[5]);
+    }
+    if is_same(KINDS[6].kind, kind) {
+        return Some(&KINDS[6]);
+    }
+    None
+}
+
+#[inline(always)]
+fn is_same(a: AceKind, b: AceKind) -> bool
+    ensures { result ≡ same_kind a b }
+{
+    a == b
+}
+
+#[tactic(auto, unfolding(crate::specs::Kinds::kind_letters))]
+fn kind_letters(kind: AceKind) -> &'static [u8]
+    ensures { result.now ≡ kind_letters kind }
+{
+    entry_of(kind).map_or(&[], letters_of)
 }
 
 fn letters_of(entry: &KindEntry) -> &[u8]

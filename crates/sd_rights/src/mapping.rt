@@ -2,6 +2,7 @@
 
 ghost use Rattle.std.specs.Prelude.{◌≡◌, ◌≤◌, ◌<◌, ◌^◌};
 ghost use Rattle.sd_rights.specs.Mapping.{IsMapping, carries, mapped, mask_if};
+ghost use Rattle.sd_rights.specs.MappingValues.{MappingValues};
 
 use std::marker::Model;
 
@@ -121,10 +122,12 @@ impl Mapping {
     }
 
     /// The mask with each generic right replaced by the rights that it stands for.
-    #[tactic(auto, unfolding(crate::specs::Mapping::mapped))]
+    #[tactic(auto, unfolding(crate::specs::Mapping::mapped, crate::specs::MappingValues::MappingValues))]
     pub fn map(&self, mask: u32) -> u32
         ensures value { result ≡ mapped self.now mask }
         ensures specific { result < 2 ^ 28 }
+        // The three mappings are written out.
+        ensures values { MappingValues }
     {
         let all = mask_if(carries(mask, GENERIC_ALL), self.all);
         let execute = mask_if(carries(mask, GENERIC_EXECUTE), self.execute);

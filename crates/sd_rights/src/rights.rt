@@ -5,6 +5,7 @@ ghost use Rattle.std.specs.Fmt.{digits};
 ghost use Rattle.std.specs.List.{find};
 ghost use Rattle.sd_sink.specs.Print.{Prints};
 ghost use Rattle.sd_rights.specs.Names.{named_bits};
+ghost use Rattle.sd_rights.specs.RightValues.{CompoundRights, LabelRights, SingleRights};
 ghost use Rattle.sd_rights.specs.Rights.{hex_text, is_label, names_or_hex, rights_reads, rights_text};
 ghost use Rattle.sd_sink.specs.Sink.{Puts};
 ghost use Rattle.sd_rights.specs.declared.rights_table.TheConstants.{COMPOUNDS};
@@ -25,6 +26,10 @@ pub fn put_rights<S: Sink>(kind: AceKind, mask: u32, sink: &mut S) -> Result<(),
     // The text reads as the mask.
     ensures back { rights_reads (rights_text kind mask) ≡ Some mask }
     ensures short { length (rights_text kind mask) ≤ 34 }
+    // The names and their numbers are those of MS-DTYP.
+    ensures singles { SingleRights }
+    ensures compounds { CompoundRights }
+    ensures labels { LabelRights }
 {
     let mut out = Printer::new(sink);
     print_rights(kind, mask, &mut out);

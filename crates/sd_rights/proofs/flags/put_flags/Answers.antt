@@ -1,6 +1,7 @@
-use Rattle.std.proofs.Common.{rules}
+use Rattle.std.proofs.Common.{rules, refl}
 use Rattle.sd_rights.proofs.laws.FlagLaws.{flags_text-length, flags_read_back}
 use Rattle.sd_sink.proofs.laws.PrintLemmas.{printed}
+use Rattle.sd_rights.specs.FlagValues.{FlagNames, FlagValues}
 use Rattle.sd_rights.proofs.flags.put_flags.Goals as goal
 
 pub returns-clause-put : goal.returns-clause-put
@@ -11,3 +12,11 @@ returns-clause-back g c = flags_read_back c.args.flags c.ranges.flags.fits
 
 pub returns-clause-short : goal.returns-clause-short
 returns-clause-short g c = flags_text-length c.args.flags
+
+pub returns-clause-names : goal.returns-clause-names
+unfolding FlagNames
+returns-clause-names g c = refl
+
+pub returns-clause-values : goal.returns-clause-values
+unfolding FlagValues
+returns-clause-values g c = (refl, refl, refl, refl, refl, refl, refl, refl)
