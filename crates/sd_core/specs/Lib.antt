@@ -1,4 +1,5 @@
 pub mod Ace
+pub mod AliasValues
 pub mod GuidText
 pub mod Inner
 pub mod Naming
