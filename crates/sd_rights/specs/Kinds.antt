@@ -29,7 +29,7 @@ same_kind kinds.ObjectAudit kinds.ObjectAudit = true
 same_kind kinds.Label kinds.Label = true
 same_kind kind other = false
 
--- the table has one for each kind
+-- each kind has one, so what stands for None below is never used
 unfoldable pub kind_entry : AceKind → Option KindEntry
 kind_entry kind = find (λ e. same_kind e.kind kind) KINDS
 
