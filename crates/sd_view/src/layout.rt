@@ -4,7 +4,6 @@ ghost use Rattle.sd_sink.specs.Print.{Prints};
 ghost use Rattle.sd_sink.specs.Sink.{Puts};
 ghost use Rattle.sd_view.specs.Descriptor.{IsDescriptor, Shows};
 ghost use Rattle.sd_view.specs.Layout.{acl_part, descriptor_header, header_bytes, layout, offset_if, size};
-ghost use Rattle.sd_view.specs.declared.limits.TheConstants.{MOST_LAYOUT_SIZE};
 
 use crate::acl::AclPart;
 use crate::acl_layout::print_acl;
@@ -19,7 +18,7 @@ pub fn put_layout<S: Sink>(view: &SdView<'_>, sink: &mut S) -> Result<(), SinkFa
     // What is put shows the descriptor.
     ensures shows { Shows (layout view.now) view.now }
     ensures size { length (layout view.now) ≡ size view.now }
-    ensures most { size view.now ≤ MOST_LAYOUT_SIZE }
+    ensures most { size view.now ≤ 131220 }
     // No bytes that show the descriptor are fewer.
     ensures least { (bytes : List ℕ) → Shows bytes view.now → size view.now ≤ length bytes }
 {

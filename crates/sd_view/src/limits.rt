@@ -22,6 +22,3 @@ pub const ACL_REVISION_DS: u8 = 4;
 
 /// The bytes of a descriptor that is held at most, 131,226: the header, two SIDs and two ACLs.
 pub const CAPACITY: usize = HEADER_SIZE + 2 * MOST_SID_SIZE + 2 * MOST_ACL_SIZE;
-
-/// The bytes of the largest layout. The size of a written ACL is a multiple of four.
-pub const MOST_LAYOUT_SIZE: usize = HEADER_SIZE + 2 * MOST_SID_SIZE + 2 * (MOST_ACL_SIZE / 4 * 4);

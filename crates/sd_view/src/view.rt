@@ -5,7 +5,7 @@ ghost use Rattle.sd_view.specs.Layout.{layout, sid_part, size};
 ghost use Rattle.sd_view.specs.Inner.Found.{FailsBy, extents_seen, shown_written, written_of};
 ghost use Rattle.sd_view.specs.Reading.{acl_part_fault, acl_shown, fault, fault_in, header_fault, share_a_byte as share_of, overlap_fault, overlaps_fault, parts_fault, reading, shown, sid_fault, sid_shown};
 ghost use Rattle.sd_view.specs.Inner.Readable.{IsAclAt, IsSidAt};
-ghost use Rattle.sd_view.specs.declared.limits.TheConstants.{HEADER_SIZE, MOST_LAYOUT_SIZE, MOST_SID_SIZE};
+ghost use Rattle.sd_view.specs.declared.limits.TheConstants.{HEADER_SIZE, MOST_SID_SIZE};
 
 use crate::acl::{AclPart, Written, acl_view, check_acl};
 use crate::bytes::{u16_at, u32_at};
@@ -70,6 +70,10 @@ pub fn read(bytes: &[u8]) -> Result<SdView<'_>, SdFault>
     // The same as a function of the bytes.
     ensures exact { result ≡ reading bytes.now }
     ensures limits { IfOk result IsDescriptor }
+    // Its written layout has no more bytes than these,
+    ensures no_longer { IfOk result (λ d. size d ≤ length bytes.now) }
+    // and at most 20 + 2 * 68 + 2 * 65,532: a header, two SIDs and two ACLs, whose sizes are multiples of four.
+    ensures most { IfOk result (λ d. size d ≤ 131220) }
 {
     let acls = check(bytes)?;
     Ok(SdView { bytes, acls })
@@ -291,7 +295,7 @@ impl<'a> SdView<'a> {
     /// The size of the written layout in bytes, at most 131,220.
     pub fn size(&self) -> u32
         ensures value { result ≡ size self.now }
-        ensures most { size self.now ≤ MOST_LAYOUT_SIZE }
+        ensures most { size self.now ≤ 131220 }
         // As many bytes as the layout has.
         ensures written { length (layout self.now) ≡ size self.now }
         // No bytes that show the descriptor are fewer.

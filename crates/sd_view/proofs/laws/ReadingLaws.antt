@@ -1,5 +1,5 @@
 -- What is read, beside what is shown.
-use Rattle.std.proofs.Common.{◌≡◌, ℕ, List, Option, Some, None, Result, Ok, Err, refl, ap, ◌∙◌, subst}
+use Rattle.std.proofs.Common.{◌≡◌, ℕ, List, Option, Some, None, Result, Ok, refl, ap, ◌∙◌, subst}
 use Rattle.sd_core.proofs.laws.Numbers.{AreBytes}
 use Rattle.sd_rights.specs.Chains.{unless}
 use Rattle.sd_view.specs.Descriptor.{Descriptor, IsDescriptor, Shows}

@@ -1,6 +1,8 @@
 use Rattle.std.proofs.Common.{arith, ap, Ok, sym}
 use Rattle.std.proofs.lemmas.Result.{err_from_is_err_and}
 use Rattle.sd_view.specs.Descriptor.{Descriptor}
+use Rattle.sd_view.proofs.SizeLaws.{size-least}
+use Rattle.sd_view.proofs.laws.LayoutLaws.{size-most}
 use Rattle.sd_view.proofs.ReadLaws.{fault-shows, reading-err, reading-ok, shows-fault}
 use Rattle.sd_view.proofs.view.read.Goals as goal
 
@@ -35,4 +37,14 @@ returns-clause-exact c = sym (reading-ok c.args.bytes.now c.in_ok-acls.ensures.f
 
 pub returns-clause-limits : goal.returns-clause-limits
 returns-clause-limits c =
+    (fault-shows c.args.bytes.now (λ i. omega (arith, c.type_inv.bytes i)) c.in_ok-acls.ensures.fault).1.limits
+
+pub returns-clause-no_longer : goal.returns-clause-no_longer
+returns-clause-no_longer c =
+    size-least c.args.bytes.now _
+    (fault-shows c.args.bytes.now (λ i. omega (arith, c.type_inv.bytes i)) c.in_ok-acls.ensures.fault).0
+
+pub returns-clause-most : goal.returns-clause-most
+returns-clause-most c =
+    size-most _
     (fault-shows c.args.bytes.now (λ i. omega (arith, c.type_inv.bytes i)) c.in_ok-acls.ensures.fault).1.limits
