@@ -1,11 +1,13 @@
 -- The control word of a descriptor (MS-DTYP 2.4.6): its bits, and among them the flags of either ACL. The bits that
--- have names are the constants of src/control.rt, and `CONTROL_BITS` lists them.
-use Rattle.std.specs.Prelude.{ℕ, ◌+◌, ◌-◌, Bool, true, false}
+-- have names are the constants of src/control.rt, and `CONTROL_BITS` lists them; `AreControlBits` and
+-- `AreListedBits` say which numbers these are.
+use Rattle.std.specs.Prelude.{◌≡◌, ℕ, ◌+◌, ◌-◌, Bool, true, false, List, [], ◌∷◌, codes, map}
 use Rattle.sd_rights.specs.Bits.{bit_of, has_bit}
 use Rattle.sd_view.specs.declared.control.Which.{Which}
 use Rattle.sd_view.specs.declared.control.Which.TheVariants as which
 use Rattle.sd_view.specs.declared.control.AclFlags.{AclFlags}
-use Rattle.sd_view.specs.declared.control.TheConstants.{DACL_AUTO_INHERITED, DACL_AUTO_INHERIT_REQUIRED, DACL_PRESENT, DACL_PROTECTED, SACL_AUTO_INHERITED, SACL_AUTO_INHERIT_REQUIRED, SACL_PRESENT, SACL_PROTECTED, SELF_RELATIVE}
+use Rattle.sd_view.specs.declared.control.ControlBit.{ControlBit}
+use Rattle.sd_view.specs.declared.control.TheConstants.{DACL_AUTO_INHERITED, DACL_AUTO_INHERIT_REQUIRED, DACL_DEFAULTED, DACL_PRESENT, DACL_PROTECTED, GROUP_DEFAULTED, OWNER_DEFAULTED, RM_CONTROL_VALID, SACL_AUTO_INHERITED, SACL_AUTO_INHERIT_REQUIRED, SACL_DEFAULTED, SACL_PRESENT, SACL_PROTECTED, SELF_RELATIVE}
 
 -- a bit where it is to be set
 abbrev pub bit_if : Bool → ℕ → ℕ
@@ -56,3 +58,32 @@ other_flags flags = flags - bit_of SELF_RELATIVE flags - bit_of SACL_PRESENT fla
 -- the control word: those flags, SR, and SP and DP where the ACLs are present
 abbrev pub control_of : ℕ → Bool → Bool → ℕ
 control_of flags sacl dacl = other_flags flags + SELF_RELATIVE + bit_if sacl SACL_PRESENT + bit_if dacl DACL_PRESENT
+
+-- what the constants are: each bit of 2.4.6
+pub record AreControlBits : Type 0 where
+  pub owner_defaulted : OWNER_DEFAULTED ≡ 0x1
+  pub group_defaulted : GROUP_DEFAULTED ≡ 0x2
+  pub dacl_present : DACL_PRESENT ≡ 0x4
+  pub dacl_defaulted : DACL_DEFAULTED ≡ 0x8
+  pub sacl_present : SACL_PRESENT ≡ 0x10
+  pub sacl_defaulted : SACL_DEFAULTED ≡ 0x20
+  pub dacl_required : DACL_AUTO_INHERIT_REQUIRED ≡ 0x100
+  pub sacl_required : SACL_AUTO_INHERIT_REQUIRED ≡ 0x200
+  pub dacl_inherited : DACL_AUTO_INHERITED ≡ 0x400
+  pub sacl_inherited : SACL_AUTO_INHERITED ≡ 0x800
+  pub dacl_protected : DACL_PROTECTED ≡ 0x1000
+  pub sacl_protected : SACL_PROTECTED ≡ 0x2000
+  pub rm_valid : RM_CONTROL_VALID ≡ 0x4000
+  pub self_relative : SELF_RELATIVE ≡ 0x8000
+
+-- a bit with its letters
+abbrev pub lettered : ControlBit → ℕ × List ℕ
+lettered b = (b.bit, b.first ∷ b.second ∷ [])
+
+-- the table lists these bits with these letters, in rising order, and no others
+abbrev pub AreListedBits : List ControlBit → Type 0
+AreListedBits bits =
+    map lettered bits
+    ≡ (0x1, codes "OD") ∷ (0x2, codes "GD") ∷ (0x4, codes "DP") ∷ (0x8, codes "DD") ∷ (0x10, codes "SP")
+    ∷ (0x20, codes "SD") ∷ (0x100, codes "DC") ∷ (0x200, codes "SC") ∷ (0x400, codes "DI") ∷ (0x800, codes "SI")
+    ∷ (0x1000, codes "PD") ∷ (0x2000, codes "PS") ∷ (0x4000, codes "RM") ∷ (0x8000, codes "SR") ∷ []

@@ -7,4 +7,5 @@ pub mod Control
 pub mod Descriptor
 pub mod Inner
 pub mod Layout
+pub mod Limits
 pub mod Reading

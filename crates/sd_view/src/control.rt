@@ -1,7 +1,7 @@
 // The control word of a descriptor (MS-DTYP 2.4.6).
 ghost use Rattle.std.specs.Prelude.{◌≡◌, ◌<◌, ◌+◌, ◌^◌, ℕ, false};
 ghost use Rattle.sd_rights.specs.Bits.{bit_of, has_bit};
-ghost use Rattle.sd_view.specs.Control.{acl_flags, all_flags, bit_if, flag_bits, no_flags, other_acl, control_of};
+ghost use Rattle.sd_view.specs.Control.{AreListedBits, acl_flags, all_flags, bit_if, flag_bits, no_flags, other_acl, control_of};
 
 /// One of the two ACLs of a descriptor (MS-DTYP 2.4.6).
 #[derive(Clone, Copy, Debug, PartialEq, Eq)]
@@ -64,7 +64,9 @@ impl ControlBit {
     /// Whether it is set in a control word.
     pub fn is_set(&self, control: u16) -> bool
         requires { 0 < self.now.bit }
-        ensures { result ≡ has_bit self.now.bit control }
+        ensures value { result ≡ has_bit self.now.bit control }
+        // The bits that have names are those of the standard, each with its letters.
+        ensures table { AreListedBits CONTROL_BITS }
     {
         has_bit(self.bit, control)
     }

@@ -3,6 +3,7 @@ ghost use Rattle.std.specs.Prelude.{◌≡◌, ◌≤◌, ◌<◌, ◌+◌, ℕ,
 ghost use Rattle.sd_sink.specs.Print.{Prints};
 ghost use Rattle.sd_sink.specs.Sink.{Puts};
 ghost use Rattle.sd_view.specs.Descriptor.{IsDescriptor, Shows};
+ghost use Rattle.sd_view.specs.Limits.{AreLimits};
 ghost use Rattle.sd_view.specs.Layout.{acl_part, descriptor_header, header_bytes, layout, offset_if, size};
 
 use crate::acl::AclPart;
@@ -21,6 +22,8 @@ pub fn put_layout<S: Sink>(view: &SdView<'_>, sink: &mut S) -> Result<(), SinkFa
     ensures most { size view.now ≤ 131220 }
     // No bytes that show the descriptor are fewer.
     ensures least { (bytes : List ℕ) → Shows bytes view.now → size view.now ≤ length bytes }
+    // What the constants of sizes and revisions are.
+    ensures limits { AreLimits }
 {
     let mut out = Printer::new(sink);
     print_layout(view, &mut out);

@@ -1,5 +1,6 @@
 // Descriptors read in place.
 ghost use Rattle.std.specs.Prelude.{◌≡◌, ◌≤◌, ◌<◌, ◌+◌, ◌*◌, ℕ, List, length, Ok, IfOk, OnOk, MatchResult};
+ghost use Rattle.sd_view.specs.Control.{AreControlBits};
 ghost use Rattle.sd_view.specs.Descriptor.{Descriptor, Shows, IsDescriptor, acl_extent, extents_of, sid_extent};
 ghost use Rattle.sd_view.specs.Layout.{layout, sid_part, size};
 ghost use Rattle.sd_view.specs.Inner.Found.{FailsBy, extents_seen, shown_written, written_of};
@@ -251,6 +252,8 @@ impl<'a> SdView<'a> {
     pub fn control(&self) -> u16
         ensures value { result ≡ self.now.control }
         ensures limits { IsDescriptor self.now }
+        // What the constants of its bits are.
+        ensures bits { AreControlBits }
     {
         u16_at(self.bytes, 2)
     }
