@@ -19,7 +19,8 @@ help:
 	@echo 'make check CRATE=NAME  proves a crate, over the work that earlier checks kept (seconds to 2 minutes)'
 	@echo 'make rows ID=WORD      the rows whose names have the word, on the built program (seconds; ID= for all)'
 	@echo 'make test              the gate and all tests of the built program (40 minutes); ends with N passed, M failed'
-	@echo 'make edits CRATE=NAME  tries every edit that the check has to refuse, also those that the gate leaves out'
+	@echo 'make edits             tries every edit that the check has to refuse, also those that the gate leaves out (an hour or two);'
+	@echo '                       with CRATE=NAME those of a crate, with EDIT=WORD those with the word in their names (10 to 30 seconds each)'
 	@echo 'make figures           rewrites the figures in docs/GATE.md (seconds)'
 	@echo 'make bench             measures the program against a plain one in Rust, and cat (8 minutes)'
 	@echo 'make install           puts the program, its man page and its documents below PREFIX ($(PREFIX))'
@@ -58,7 +59,7 @@ test:
 
 edits:
 	$(need_toolchain)
-	tests/edits.sh $(CRATE)
+	tests/edits.py $(if $(EDIT),--edit '$(EDIT)') $(CRATE)
 
 figures:
 	tests/figures.py
