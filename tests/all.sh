@@ -1,24 +1,30 @@
 #!/usr/bin/env bash
-# Tests of the sources, the gate, and then the tests of the built program. Each part is shown as it runs and ends with a line
-# 'N passed, M failed'; the last line of all is their sum. A part without such a line counts as one that failed.
+# Tests of the sources, the gate, and then the tests of the built program. Each part shows what it prints, which ends
+# with a line 'N passed, M failed'; the last line of all is their sum. A part without such a line counts as one that failed.
 set -u
 cd "$(dirname "$0")/.." || exit 2
 program=crates/sdtool/out/sdtool
 passed=0
 failed=0
+comparison=
 log=$(mktemp) || exit 2
-trap 'rm -f "$log"' EXIT
+log_of_comparison=$(mktemp) || exit 2
+trap 'rm -f "$log" "$log_of_comparison"; [[ -z $comparison ]] || kill "$comparison" 2>/dev/null' EXIT
+
+# Adds what a part printed, by its log and its status.
+add() {
+    if [[ $(tail -n 1 "$1") =~ ^([0-9]+)\ passed,\ ([0-9]+)\ failed$ ]]; then
+        ((passed += BASH_REMATCH[1], failed += BASH_REMATCH[2]))
+        (($2 == 0 || BASH_REMATCH[2] > 0 || (failed += 1)))
+    else
+        ((failed += 1))
+    fi
+}
 
 count() {
     echo "== $*"
     "$@" 2>&1 | tee "$log"
-    local status=${PIPESTATUS[0]}
-    if [[ $(tail -n 1 "$log") =~ ^([0-9]+)\ passed,\ ([0-9]+)\ failed$ ]]; then
-        ((passed += BASH_REMATCH[1], failed += BASH_REMATCH[2]))
-        ((status == 0 || BASH_REMATCH[2] > 0 || (failed += 1)))
-    else
-        ((failed += 1))
-    fi
+    add "$log" "${PIPESTATUS[0]}"
 }
 
 # No older program is to be tested where the gate stops before it has built one.
@@ -28,15 +34,23 @@ count tests/figures.py --check
 count rt ci
 count tests/run_rows.py --reference
 if "${MAKE:-make}" --no-print-directory program; then
+    # The longest part keeps one processor busy, so the others run beside it.
+    tests/compare.py "$program" >"$log_of_comparison" 2>&1 &
+    comparison=$!
     count tests/run_rows.py "$program"
     count tests/run_rows.py "$program" --one-byte
-    count tests/compare.py "$program"
     count tests/refused_allocations.py "$program"
     count tests/tables.py "$program"
     count tests/run_examples.py "$program"
     count tests/system_calls.py "$program"
     count tests/memory.py "$program"
     count tests/device_faults.py "$program"
+    wait "$comparison"
+    status=$?
+    comparison=
+    echo "== tests/compare.py $program"
+    cat "$log_of_comparison"
+    add "$log_of_comparison" "$status"
 else
     echo "the program is not built, so its tests have not run"
     ((failed += 1))
