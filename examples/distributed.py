@@ -40,6 +40,7 @@ from __future__ import annotations
 import argparse
 import asyncio
 import collections
+import concurrent.futures
 import contextlib
 import dataclasses
 import fcntl
@@ -59,6 +60,7 @@ import sys
 import tempfile
 import threading
 import time
+import traceback
 import warnings
 from typing import Any, Callable, Iterator, NamedTuple, Optional
 
@@ -68,6 +70,7 @@ LONGEST_LINE = 2 << 20  # bytes; the longest line of any form has about half of 
 SCANNED = 1 << 16  # bytes that are read at a time to find the end of a line
 REDRAW_SECONDS = 0.2  # of the bar on a terminal
 POLL_SECONDS = 2.0  # between two looks at the workers
+LOOPBACK = "127.0.0.1:0"
 JOURNAL = ".sdtool.journal"
 
 
@@ -434,12 +437,14 @@ class Cluster:
     """The workers, by a scheduler's address, or started in this process."""
 
     def __init__(self, dask: Any, wanted: argparse.Namespace):
-        self.dask, self.wait_seconds, self.local = dask, wanted.wait, None
+        self.wait_seconds, self.local = wanted.wait, None
         if wanted.scheduler is None:
-            # sdtool does the work, in a process of its own, so threads serve as workers and nothing is copied.
+            # sdtool does the work, in a process of its own, so threads serve as workers and nothing is copied. Dask
+            # listens for HTTP, whatever it is told, and on all addresses, if it is not told which.
             self.local = dask.LocalCluster(
                 n_workers=wanted.workers or len(os.sched_getaffinity(0)), threads_per_worker=1, processes=False,
-                dashboard_address=None, memory_limit=0, silence_logs=logging.ERROR)
+                dashboard_address=LOOPBACK, worker_dashboard_address=LOOPBACK, scheduler_kwargs={"dashboard": False},
+                memory_limit=0)
         self.name = wanted.scheduler or "this machine"
         try:
             self.client = dask.Client(self.local or wanted.scheduler, timeout=wanted.wait)
@@ -462,8 +467,8 @@ class Cluster:
         if now - self.polled < POLL_SECONDS:
             return
         self.polled = now
-        workers = self.client.scheduler_info()["workers"].values()
-        self.workers, self.threads = len(workers), sum(worker["nthreads"] for worker in workers)
+        threads = self.client.nthreads()
+        self.workers, self.threads = len(threads), sum(threads.values())
         if self.workers:
             self.seen = now
         elif now - self.seen > self.wait_seconds:
@@ -478,13 +483,20 @@ class Cluster:
         return told
 
     def outcome(self, future: Any, while_waiting: Callable[[], None]) -> Outcome:
-        """Waits for a task."""
-        while not future.done():
-            with contextlib.suppress(TimeoutError, asyncio.TimeoutError):
-                self.dask.wait([future], timeout=REDRAW_SECONDS)
+        """Waits for a task and its answers, in a thread: Dask waits for ever where all workers are gone."""
+        fetched: concurrent.futures.Future = concurrent.futures.Future()
+
+        def fetch() -> None:
+            try:
+                fetched.set_result(future.result())
+            except BaseException as error:
+                fetched.set_exception(error)
+
+        threading.Thread(target=fetch, daemon=True).start()
+        while not concurrent.futures.wait([fetched], timeout=REDRAW_SECONDS).done:
             self.poll()
             while_waiting()
-        return Outcome(*future.result())
+        return Outcome(*fetched.result())
 
 
 def check_words(cluster: Cluster, command: list[str]) -> Optional[int]:
@@ -535,6 +547,8 @@ class Run:
                 if not under_way:
                     return
                 self.write(*under_way.popleft())
+        except Failed as error:
+            raise Failed(f"{error}\nThe files that are done stay; the same command goes on with the others.") from None
         finally:
             self.progress.end()
             if self.answers:
@@ -567,7 +581,9 @@ class Run:
             outcome = self.cluster.outcome(future, self.shown_progress)
         except Failed:
             raise
-        except (Exception, asyncio.CancelledError) as error:  # of Dask: the scheduler is gone, workers kept dying
+        except (OSError, asyncio.CancelledError, concurrent.futures.CancelledError):
+            raise Failed(f"{block.input.path}, {bytes_of_it}: the scheduler at {self.cluster.name} is lost") from None
+        except Exception as error:  # Dask has others, as where each worker that tried the block died
             raise Failed(f"{block.input.path}, {bytes_of_it}: {type(error).__name__}: {error}") from None
         if fault := outcome.fault():
             raise Failed(f"{block.input.path}, {bytes_of_it}, on worker {outcome.worker}: {fault}")
@@ -590,6 +606,12 @@ def print_summary(tallies: dict[str, Tally], before: set[str], shown: int) -> No
         print(f"{path}:{number}: {text}")
 
 
+def whole(text: str) -> int:
+    if int(text) < 0:
+        raise ValueError
+    return int(text)
+
+
 def positive(text: str) -> int:
     if int(text) < 1:
         raise ValueError
@@ -601,19 +623,20 @@ def wanted_of(arguments: list[str]) -> argparse.Namespace:
     parser = argparse.ArgumentParser(
         prog="distributed.py", allow_abbrev=False, description="Runs sdtool over large files on a Dask cluster.",
         usage="%(prog)s [--scheduler ADDRESS] --out FOLDER [..] COMMAND [OPTIONS] -- FILE..")
-    parser.add_argument("--scheduler", metavar="ADDRESS", help="of Dask, as tcp://host:8786; without it, a cluster in this process")
-    parser.add_argument("--out", metavar="FOLDER", required=True, help="where the answer files go")
-    parser.add_argument("--program", default="sdtool", metavar="PATH", help="on the workers (%(default)s)")
-    parser.add_argument("--block", type=positive, default=BLOCK_BYTES, metavar="BYTES", help="of a block, about (%(default)s)")
-    parser.add_argument("--shared", action="store_true", help="workers read the files, under the same paths")
-    parser.add_argument("--keep-folders", action="store_true", help="answer files keep the folders of their inputs' paths")
-    parser.add_argument("--ahead", type=positive, metavar="N", help="blocks under way at most (two per worker thread)")
-    parser.add_argument("--workers", type=positive, metavar="N", help="of the cluster in this process (one per processor)")
-    parser.add_argument("--wait", type=float, default=60, metavar="SECONDS", help="for a scheduler and a worker (%(default)s)")
-    parser.add_argument("--report", type=float, default=30, metavar="SECONDS", help="between lines of progress, 0 for none (%(default)s)")
-    parser.add_argument("--errors", type=int, default=10, metavar="N", help="the first errors that are shown (%(default)s)")
-    parser.add_argument("command", choices=COMMANDS, help="and its options, for sdtool")
-    parser.add_argument("options", nargs=argparse.REMAINDER, help=argparse.SUPPRESS)
+    add = parser.add_argument
+    add("--scheduler", metavar="ADDRESS", help="of Dask, as tcp://host:8786; without it, a cluster in this process")
+    add("--out", metavar="FOLDER", required=True, help="where the answer files go")
+    add("--program", default="sdtool", metavar="PATH", help="on the workers (%(default)s)")
+    add("--block", type=positive, default=BLOCK_BYTES, metavar="BYTES", help="of a block, about (%(default)s)")
+    add("--shared", action="store_true", help="workers read the files, under the same paths")
+    add("--keep-folders", action="store_true", help="answer files keep the folders of their inputs' paths")
+    add("--ahead", type=positive, metavar="N", help="blocks under way at most (two per worker thread)")
+    add("--workers", type=positive, metavar="N", help="of the cluster in this process (one per processor)")
+    add("--wait", type=float, default=60, metavar="SECONDS", help="for a scheduler and a worker (%(default)s)")
+    add("--report", type=float, default=30, metavar="SECONDS", help="between lines of progress; 0: none (%(default)s)")
+    add("--errors", type=whole, default=10, metavar="N", help="the first errors that are shown (%(default)s)")
+    add("command", choices=COMMANDS, help="and its options, for sdtool")
+    add("options", nargs=argparse.REMAINDER, help=argparse.SUPPRESS)
     at = arguments.index("--") if "--" in arguments else len(arguments)
     wanted = parser.parse_args(arguments[:at])
     wanted.files = arguments[at + 1:]
@@ -628,6 +651,8 @@ def answer_files(wanted: argparse.Namespace) -> int:
     words = [wanted.command, *wanted.options]
     inputs = inputs_of(wanted.files, wanted.out, wanted.keep_folders)
     dask = load_dask()
+    # Dask logs each lost connection in fifty lines. Whatever ends the run is said in one.
+    logging.disable(logging.CRITICAL)
     # Dask advises to scatter large arguments. A block is one on purpose: see above.
     warnings.filterwarnings("ignore", message="(?s)(Large object|Sending large graph)")
     cluster = Cluster(dask, wanted)
@@ -649,6 +674,7 @@ def answer_files(wanted: argparse.Namespace) -> int:
 def main() -> int:
     # So that an ended run takes its unfinished file away.
     signal.signal(signal.SIGTERM, lambda *_: sys.exit(128 + signal.SIGTERM))
+    sys.stdout.reconfigure(errors="surrogateescape")  # names of files need not be UTF-8
     wanted = wanted_of(sys.argv[1:])
     try:
         return answer_files(wanted)
@@ -657,11 +683,13 @@ def main() -> int:
         return 2
     except Failed as error:
         say(str(error))
-        say("answer files that are done stay; the same command does the others")
         return 3
     except KeyboardInterrupt:
         say("interrupted; the same command goes on with the files that are not done")
         return 128 + signal.SIGINT
+    except Exception:  # not 1, which says that all is answered
+        traceback.print_exc()
+        return 3
 
 
 if __name__ == "__main__":
