@@ -1,4 +1,5 @@
 -- The two-letter names of SIDs (MS-DTYP 2.5.1.1, sid-token) and what they stand for (2.4.2.4), written out.
+-- The values of UD, HA and AP are this project's own.
 use Rattle.std.specs.Prelude.{◌≡◌, ℕ, List, [], ◌∷◌, codes, map}
 use Rattle.sd_core.specs.SidText.{known_sid, sid_text}
 use Rattle.sd_core.specs.declared.alias.DomainRelative.{DomainRelative}

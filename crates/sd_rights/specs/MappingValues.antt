@@ -2,7 +2,7 @@
 use Rattle.std.specs.Prelude.{◌≡◌}
 use Rattle.sd_rights.specs.Mapping.{directory_mapping, file_mapping, key_mapping}
 
--- files and folders, registry keys, and objects of a directory service
+-- of files and folders, of registry keys, and of objects of a directory service
 unfoldable pub MappingValues : Type 0
 MappingValues =
     (file_mapping ≡ record { read = 0x120089; write = 0x120116; execute = 0x1200A0; all = 0x1F01FF })

@@ -113,7 +113,7 @@ pub fn flags_from_text(text: &[u8]) -> Option<u8>
     ensures exact { result ≡ flags_reads text.now }
     // No name has bit 0x20, which no ACE has.
     ensures clear { IfSome result (λ flags. flags / 0x20 % 2 ≡ 0) }
-    // The limits are what they are reckoned from.
+    // The limits have the values that LimitValues writes out.
     ensures limits { LimitValues }
 {
     if text.len() > MOST_FIELD_SIZE {

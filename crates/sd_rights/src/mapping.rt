@@ -126,7 +126,7 @@ impl Mapping {
     pub fn map(&self, mask: u32) -> u32
         ensures value { result ≡ mapped self.now mask }
         ensures specific { result < 2 ^ 28 }
-        // The three mappings are written out.
+        // The three mappings have the values that MappingValues writes out.
         ensures values { MappingValues }
     {
         let all = mask_if(carries(mask, GENERIC_ALL), self.all);

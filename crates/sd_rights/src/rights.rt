@@ -26,7 +26,7 @@ pub fn put_rights<S: Sink>(kind: AceKind, mask: u32, sink: &mut S) -> Result<(),
     // The text reads as the mask.
     ensures back { rights_reads (rights_text kind mask) ≡ Some mask }
     ensures short { length (rights_text kind mask) ≤ 34 }
-    // The names and their numbers are those of MS-DTYP.
+    // The names have the numbers that RightValues writes out.
     ensures singles { SingleRights }
     ensures compounds { CompoundRights }
     ensures labels { LabelRights }

@@ -1,7 +1,7 @@
 use Rattle.std.proofs.Common.{rules, refl}
+use Rattle.sd_rights.specs.FlagValues.{FlagNames, FlagValues}
 use Rattle.sd_rights.proofs.laws.FlagLaws.{flags_text-length, flags_read_back}
 use Rattle.sd_sink.proofs.laws.PrintLemmas.{printed}
-use Rattle.sd_rights.specs.FlagValues.{FlagNames, FlagValues}
 use Rattle.sd_rights.proofs.flags.put_flags.Goals as goal
 
 pub returns-clause-put : goal.returns-clause-put

@@ -1,6 +1,6 @@
-use Rattle.sd_rights.proofs.laws.RightsLaws.{rights_read_back, rights_text-length}
 use Rattle.std.proofs.Common.{refl}
 use Rattle.sd_rights.specs.RightValues.{CompoundRights, LabelRights, SingleRights}
+use Rattle.sd_rights.proofs.laws.RightsLaws.{rights_read_back, rights_text-length}
 use Rattle.sd_rights.proofs.rights.put_rights.Goals as goal
 
 pub returns-clause-back : goal.returns-clause-back
