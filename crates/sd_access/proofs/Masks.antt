@@ -1,7 +1,7 @@
 -- Masks by their rights.
 use Rattle.std.proofs.Common.{◌≡◌, ◌<◌, ◌≤◌, ℕ, zero, suc, ◌+◌, ◌-◌, ◌*◌, ◌^◌, min, max, Bool, true, false, not, ◌&&◌, ◌||◌, cond, eqb, refl, sym, ap, ◌∙◌, arith, ⊎_elim, lit<, rules, bit_and, bit_or}
 use Rattle.std.specs.Int.{bit_at, bit_not, w32}
-use Rattle.std.proofs.lemmas.Bool.{cases_lt}
+use Rattle.std.proofs.lemmas.Bool.{agree_below_at, cases_lt, eq-eqb, eqb-true, ne_eqb}
 use Rattle.std.proofs.lemmas.Bool.Decides.{nat_tests}
 use Rattle.std.proofs.lemmas.Nat.Bits.{bit_at_and, bit_at_or, bit_at_not, bit_at-lt, bit_at-zero, bit_at_above, same_from_bits, bit_at_cat_low, bit_at_cat_high}
 use Rattle.sd_rights.specs.Mapping.{carries, mask_if}
@@ -92,3 +92,39 @@ is_rights_below n m test p h = same_masks m (rights_below n test) (λ i.
 pub carries-mask_if : (b : Bool) (m i : ℕ) → carries (mask_if b m) i ≡ (b && carries m i)
 carries-mask_if true m i = refl
 carries-mask_if false m i = carries-zero i
+
+-- a mask has READ_CONTROL or WRITE_DAC where it meets the mask of the two
+pub has_owner_right : (m : ℕ) → not (eqb (bit_and m 0x6_0000) 0) ≡ (carries m 17 || carries m 18)
+has_owner_right m = by (carries m 17) (carries m 18) refl refl
+  where
+    some : (i : ℕ) → carries m i ≡ true → carries 0x6_0000 i ≡ true → bit_and m 0x6_0000 ≡ 0 → ⊥
+    some i has one none =
+        let both : carries (bit_and m 0x6_0000) i ≡ true = carries-and m 0x6_0000 i ∙ rw (has, one) refl in
+        let neither : carries (bit_and m 0x6_0000) i ≡ false = ap (λ (n : ℕ). carries n i) none ∙ carries-zero i in
+        absurd (cc)
+
+    two : (i : ℕ) → carries 0x6_0000 i ≡ (eqb i 17 || eqb i 18)
+    two i =
+        ⊎_elim (λ (below : i < 25). agree_below_at (carries 0x6_0000) (λ n. eqb n 17 || eqb n 18) 25 i refl below)
+        (λ (above : 25 ≤ i).
+        carries_above 0x6_0000 25 i (lit< tt) above
+        ∙ rw (ne_eqb i 17 (λ e. omega (arith, e)), ne_eqb i 18 (λ e. omega (arith, e))) refl)
+        (cases_lt i 25)
+
+    meets_none : (c x y : Bool) → (x ≡ true → c ≡ false) → (y ≡ true → c ≡ false) → (c && (x || y)) ≡ false
+    meets_none false x y h k = refl
+    meets_none true true y h k = h refl
+    meets_none true false true h k = k refl
+    meets_none true false false h k = refl
+
+    none : carries m 17 ≡ false → carries m 18 ≡ false → bit_and m 0x6_0000 ≡ 0
+    none e f = same_masks (bit_and m 0x6_0000) 0 (λ i.
+        carries-and m 0x6_0000 i ∙ ap (λ (b : Bool). carries m i && b) (two i)
+        ∙ meets_none (carries m i) (eqb i 17) (eqb i 18)
+        (λ h. ap (carries m) (eqb-true i 17 h) ∙ e) (λ h. ap (carries m) (eqb-true i 18 h) ∙ f)
+        ∙ sym (carries-zero i))
+
+    by : (a b : Bool) → carries m 17 ≡ a → carries m 18 ≡ b → not (eqb (bit_and m 0x6_0000) 0) ≡ (a || b)
+    by true b e f = ap not (ne_eqb _ 0 (some 17 e refl))
+    by false true e f = ap not (ne_eqb _ 0 (some 18 f refl))
+    by false false e f = ap not (eq-eqb _ 0 (none e f))

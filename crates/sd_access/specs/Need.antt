@@ -6,7 +6,7 @@ use Rattle.sd_rights.specs.Mapping.{carries}
 use Rattle.sd_core.specs.Token.{Entry}
 use Rattle.sd_view.specs.Descriptor.{Descriptor}
 use Rattle.sd_access.specs.Ask.{Asked}
-use Rattle.sd_access.specs.Granted.{listed_aces, decides, needs_no_ace, system_security}
+use Rattle.sd_access.specs.Granted.{listed_aces, decides, is_open, needs_no_ace, read_control, system_security, write_dac}
 
 -- each ACE of the DACL, and the owner, against each entry of the token
 abbrev pub check_bound : Descriptor → ℕ → ℕ
@@ -15,6 +15,11 @@ check_bound d entries = (length (listed_aces d.dacl) + 1) * entries
 -- the right is wanted or, with maximum, one of the mapping's
 abbrev pub in_question : ℕ → Asked → Bool
 in_question right ask = carries ask.wanted right || (ask.maximum && carries ask.mapping.all right)
+
+-- it matters who the owner is: a right that an owner has is in question, and the DACL does not grant it by being null
+-- or absent
+abbrev pub owner_matters : Descriptor → Asked → Bool
+owner_matters d ask = not (is_open d.dacl) && (in_question read_control ask || in_question write_dac ask)
 
 -- the right needs no ACE beside these: it is right 24, or is granted without one, or one of these decides it
 abbrev pub is_settled : ℕ → Descriptor → List Entry → Asked → List AccessControlEntry → Bool

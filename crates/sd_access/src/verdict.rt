@@ -1,9 +1,9 @@
 //! The verdict of a check.
 
-ghost use Rattle.std.specs.Prelude.{◌≡◌, ◌≤◌, ◌+◌, ◌*◌, ◌^◌, ◌-◌, bit_and, bit_or, length};
+ghost use Rattle.std.specs.Prelude.{◌≡◌, ◌≤◌, ◌+◌, ◌*◌, ◌^◌, ◌-◌, bit_and, bit_or, false, length};
 ghost use Rattle.sd_rights.specs.Mapping.{mask_if as mask_if_of};
 ghost use Rattle.sd_access.specs.Ask.{AreRights};
-ghost use Rattle.sd_access.specs.Need.{check_bound, need};
+ghost use Rattle.sd_access.specs.Need.{check_bound, need, owner_matters};
 ghost use Rattle.sd_access.specs.Inner.Scan.{HasGranted, question_of};
 ghost use Rattle.sd_access.specs.Verdict.{verdict};
 
@@ -23,14 +23,18 @@ pub enum Verdict {
     Denied(u32),
 }
 
-/// Whether the descriptor grants what is asked to the token (MS-DTYP 2.5.3). The ACEs are walked once, and only
-/// until each right in question is decided.
+/// Whether the descriptor grants what is asked to the token (MS-DTYP 2.5.3). The ACEs are walked once for the rights in
+/// question, and only until each of them is decided. Before that, only where READ_CONTROL or WRITE_DAC is in question
+/// and the DACL is neither null nor absent, the token's entries are compared with the owner; where one of them is the
+/// owner, the DACL is also searched for an ACE for OWNER RIGHTS.
 pub fn check(view: &SdView, token: &mut Token, ask: &Ask) -> Verdict
     ensures verdict { result ≡ verdict view.now token.old.entries ask.now }
     ensures entries { token.new.entries ≡ token.old.entries }
     ensures goes_on { token.old.compared ≤ token.new.compared }
-    // Each entry is looked at once for the owner, and once for each ACE that is needed.
+    // Each entry is compared at most once with the owner, and at most once for each ACE that is needed.
     ensures needed { token.new.compared ≤ token.old.compared + (need view.now token.old.entries ask.now + 1) * length token.old.entries }
+    // Where it does not matter who the owner is, no entry is compared with it.
+    ensures spared { owner_matters view.now ask.now ≡ false → token.new.compared ≤ token.old.compared + need view.now token.old.entries ask.now * length token.old.entries }
     ensures bound { token.new.compared ≤ token.old.compared + check_bound view.now (length token.old.entries) }
 {
     let granted = granted(view, token, ask);
@@ -51,18 +55,27 @@ fn granted(view: &SdView, token: &mut Token, ask: &Ask) -> u32
     ensures entries { token.new.entries ≡ token.old.entries }
     ensures goes_on { token.old.compared ≤ token.new.compared }
     ensures count { token.new.compared ≤ token.old.compared + (need view.now token.old.entries ask.now + 1) * length token.old.entries }
+    ensures spared { owner_matters view.now ask.now ≡ false → token.new.compared ≤ token.old.compared + need view.now token.old.entries ask.now * length token.old.entries }
 {
-    let given = given(view, token, ask);
-    let undecided = undecided(ask, given);
+    let question = question(ask);
+    let given = given(view, token, ask, question);
+    let undecided = undecided(question, given);
     given | scan(view, token, ask, undecided)
 }
 
-// The rights in question that the ACEs alone can decide.
-fn undecided(ask: &Ask, given: u32) -> u32
-    ensures value { result ≡ bit_and (question_of ask.now) (2 ^ 32 - 1 - bit_or given 0x100_0000) }
+// The rights in question: those that are wanted and, with maximum, those of the mapping.
+fn question(ask: &Ask) -> u32
+    ensures value { result ≡ question_of ask.now }
     ensures limits { AreRights ask.now }
 {
-    (ask.wanted() | pool(ask)) & !(given | ACCESS_SYSTEM_SECURITY)
+    ask.wanted() | pool(ask)
+}
+
+// Those of the rights in question that the ACEs alone can decide.
+fn undecided(question: u32, given: u32) -> u32
+    ensures { result ≡ bit_and question (2 ^ 32 - 1 - bit_or given 0x100_0000) }
+{
+    question & !(given | ACCESS_SYSTEM_SECURITY)
 }
 
 // The rights that the maximum is made from.
