@@ -4,10 +4,10 @@ use Rattle.std.specs.Prelude.{is_some, unwrap_or}
 use Rattle.sd_core.specs.Sid.{SecurityId}
 use Rattle.sd_view.specs.AclLayout.{acl_bytes}
 use Rattle.sd_binary.specs.Builds.{Builds}
-use Rattle.sd_binary.specs.Inner.Building.{AclStands, PartsStand, SidStands, acl_extent_of}
+use Rattle.sd_binary.specs.Inner.Building.{AclStands, PartsStand, SidStands, StandsInOrder, acl_extent_of}
 use Rattle.sd_view.specs.Control.{control_of}
 use Rattle.sd_view.specs.Descriptor.{Shows, ShowsAclPart, ShowsSid, acl_extent, dacl_at, group_at, owner_at, sacl_at}
-use Rattle.sd_binary.specs.Draft.{AclIsWritten, Draft, IsWritten, built, is_present}
+use Rattle.sd_binary.specs.Draft.{AclIsWritten, Draft, IsWritten, Parts, built, built_bytes, bytes_in_order, is_present}
 use Rattle.sd_view.specs.Layout.{header_bytes}
 use Rattle.sd_view.specs.declared.acl.AclPart.{AclPart}
 use Rattle.sd_view.specs.declared.acl.AclPart.TheVariants as acl
@@ -44,7 +44,7 @@ acl-small bytes (Some offset) acl.Absent h room = absurd h
 acl-small bytes (Some offset) acl.Null h room = omega (arith, h)
 acl-small bytes (Some offset) (acl.List aces) h room = omega (arith, h.1.inside, room)
 
-pub acl-present : (bytes : List ℕ) (offset : Option ℕ) (p : AclPart) → AclStands bytes offset p
+acl-present : (bytes : List ℕ) (offset : Option ℕ) (p : AclPart) → AclStands bytes offset p
     → is_some offset ≡ is_present p
 acl-present bytes None acl.Absent h = refl
 acl-present bytes None acl.Null h = absurd h
@@ -71,7 +71,7 @@ pub length-header_for : (rm control : ℕ) (b : Builder) → length (header_for 
 unfolding header_bytes
 length-header_for rm control b = refl
 
-shows : (b : Builder) (bytes : List ℕ) (t : Draft) (flags rm : ℕ) → flags < 2 ^ 16 → PartsStand bytes b t
+shows : (b : Builder) (bytes : List ℕ) (t : Parts) (flags rm : ℕ) → flags < 2 ^ 16 → PartsStand bytes b t
     → Shows (header_for rm (control_of flags (is_present t.sacl) (is_present t.dacl)) b ++ drop 20 bytes)
     (built flags rm t)
 shows b bytes t flags rm small h =
@@ -121,7 +121,7 @@ acl-written bytes (Some offset) field acl.Null e h = e ∙ h
 acl-written bytes None field (acl.List aces) e h = absurd h
 acl-written bytes (Some offset) field (acl.List aces) e h = (h.1.rest, ap (λ (n : ℕ). drop n bytes) e ∙ h.1.shape)
 
-is-written : (b : Builder) (bytes : List ℕ) (t : Draft) (flags rm word : ℕ) → PartsStand bytes b t
+pub is-written : (b : Builder) (bytes : List ℕ) (t : Parts) (flags rm word : ℕ) → PartsStand bytes b t
     → IsWritten (header_for rm word b ++ drop 20 bytes) (built flags rm t)
 is-written b bytes t flags rm word h =
     let header = header_for rm word b in
@@ -141,27 +141,45 @@ is-written b bytes t flags rm word h =
     }
 
 -- finish
-pub finish-room : (b : Builder) (bytes : List ℕ) (t : Draft) → Builds b bytes t → t.«open» ≡ None → 20 ≤ length bytes
-unfolding Builds
-finish-room b bytes t h e = (room bytes b t (closed-from b bytes t t h e h).parts).low
+same-header : (rm c k o p g h s u d v : ℕ) → c ≡ k → o ≡ p → g ≡ h → s ≡ u → d ≡ v
+    → header_bytes rm c o g s d ≡ header_bytes rm k p h u v
+same-header rm c k o p g h s u d v e f i j l = rw (e, f, i, j, l) refl
 
-pub finish-shows : (b : Builder) (bytes : List ℕ) (t0 t : Draft) (flags rm : ℕ) → Builds b bytes t0 → t0.«open» ≡ None
-    → flags < 2 ^ 16 → Builds b bytes t
-    → Shows (header_for rm (control_of flags (is_some b.sacl) (is_some b.dacl)) b ++ drop 20 bytes) (built flags rm t)
+pub exact : (b : Builder) (bytes : List ℕ) (t : Draft) (flags rm word : ℕ) → StandsInOrder bytes b t
+    → word ≡ control_of flags (is_present t.parts.sacl) (is_present t.parts.dacl)
+    → header_for rm word b ++ drop 20 bytes ≡ built_bytes flags rm t
+exact b bytes t flags rm word h e =
+    ap (λ (x : List ℕ). header_for rm word b ++ x) h.shape
+    ∙ ap (λ (x : List ℕ). x ++ bytes_in_order t)
+    (same-header rm _ _ _ _ _ _ _ _ _ _ e h.owner h.group h.sacl h.dacl)
+
+-- the control word, by what the builder keeps
+word-is : (b : Builder) (bytes : List ℕ) (t : Parts) (flags : ℕ) → PartsStand bytes b t
+    → control_of flags (is_some b.sacl) (is_some b.dacl) ≡ control_of flags (is_present t.sacl) (is_present t.dacl)
+word-is b bytes t flags h =
+    let sacl = acl-present bytes b.sacl t.sacl h.sacl in
+    let dacl = acl-present bytes b.dacl t.dacl h.dacl in
+    rw (sacl, dacl) refl
+
+pub finish-room : (b : Builder) (bytes : List ℕ) (t : Draft) → Builds b bytes t → t.parts.«open» ≡ None
+    → 20 ≤ length bytes
+unfolding Builds
+finish-room b bytes t h e = (room bytes b t.parts (closed-from b bytes t t h e h).parts).low
+
+pub finish-exact : (b : Builder) (bytes : List ℕ) (t0 t : Draft) (flags rm : ℕ) → Builds b bytes t0
+    → t0.parts.«open» ≡ None → Builds b bytes t
+    → header_for rm (control_of flags (is_some b.sacl) (is_some b.dacl)) b ++ drop 20 bytes ≡ built_bytes flags rm t
+unfolding Builds
+finish-exact b bytes t0 t flags rm h0 e h =
+    let now = closed-from b bytes t0 t h0 e h in
+    exact b bytes t flags rm _ now.order (word-is b bytes t.parts flags now.parts)
+
+pub finish-shows : (b : Builder) (bytes : List ℕ) (t0 t : Draft) (flags rm : ℕ) → Builds b bytes t0
+    → t0.parts.«open» ≡ None → flags < 2 ^ 16 → Builds b bytes t
+    → Shows (header_for rm (control_of flags (is_some b.sacl) (is_some b.dacl)) b ++ drop 20 bytes)
+    (built flags rm t.parts)
 unfolding Builds
 finish-shows b bytes t0 t flags rm h0 e small h =
     let parts = (closed-from b bytes t0 t h0 e h).parts in
-    let sacl = acl-present bytes b.sacl t.sacl parts.sacl in
-    let dacl = acl-present bytes b.dacl t.dacl parts.dacl in
-    subst (λ (x : Bool). Shows (header_for rm (control_of flags x (is_some b.dacl)) b ++ drop 20 bytes)
-    (built flags rm t)) (sym sacl)
-    (subst (λ (x : Bool). Shows (header_for rm (control_of flags (is_present t.sacl) x) b ++ drop 20 bytes)
-    (built flags rm t)) (sym dacl)
-    (shows b bytes t flags rm small parts))
-
-pub finish-written : (b : Builder) (bytes : List ℕ) (t0 t : Draft) (flags rm word : ℕ) → Builds b bytes t0
-    → t0.«open» ≡ None → Builds b bytes t
-    → IsWritten (header_for rm word b ++ drop 20 bytes) (built flags rm t)
-unfolding Builds
-finish-written b bytes t0 t flags rm word h0 e h = is-written b bytes t flags rm word
-    (closed-from b bytes t0 t h0 e h).parts
+    subst (λ (word : ℕ). Shows (header_for rm word b ++ drop 20 bytes) (built flags rm t.parts))
+    (sym (word-is b bytes t.parts flags parts)) (shows b bytes t.parts flags rm small parts)

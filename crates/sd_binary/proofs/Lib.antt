@@ -3,7 +3,7 @@ pub mod Building
 pub mod Decoded
 pub mod Finished
 pub mod HexReadingLaws
-pub mod InOrder
+pub mod Order
 mod Rows
 pub mod Standing
 pub mod laws

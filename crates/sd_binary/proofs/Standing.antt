@@ -11,7 +11,7 @@ use Rattle.sd_view.specs.Acl.{IsAcl, acl_size}
 use Rattle.sd_view.specs.AclLayout.{acl_bytes}
 use Rattle.sd_binary.specs.Inner.Building.{AclStands, PartsStand, SidStands, Stands, acl_extent_of, placed}
 use Rattle.sd_view.specs.Descriptor.{Apart, Extent, sid_extent}
-use Rattle.sd_binary.specs.Draft.{Draft, draft_acl, with_acl}
+use Rattle.sd_binary.specs.Draft.{Parts, acl_for, with_acl}
 use Rattle.sd_view.specs.Layout.{acl_part_size, sid_part_size}
 use Rattle.sd_view.specs.declared.acl.AclPart.{AclPart}
 use Rattle.sd_view.specs.declared.acl.AclPart.TheVariants as acl
@@ -101,7 +101,7 @@ sid-small bytes offset None h room = omega arith
 sid-small bytes offset (Some s) h room = omega (arith, h.1.inside, room)
 
 -- the header stands, and there is room for the parts that are not given yet
-low : (bytes : List ℕ) (b : Builder) (t : Draft) → PartsStand bytes b t → 20 ≤ length bytes
+low : (bytes : List ℕ) (b : Builder) (t : Parts) → PartsStand bytes b t → 20 ≤ length bytes
 low bytes b t h = omega (arith, h.size)
 
 sid-most : (bytes : List ℕ) (offset : ℕ) (o : Option SecurityId) → SidStands bytes offset o → sid_part_size o ≤ 68
@@ -116,7 +116,7 @@ acl-most bytes (Some offset) acl.Absent h = omega arith
 acl-most bytes (Some offset) acl.Null h = omega arith
 acl-most bytes (Some offset) (acl.List aces) h = omega (arith, h.0.fits)
 
-pub record Room (bytes : List ℕ) (b : Builder) (t : Draft) : Type 0 where
+pub record Room (bytes : List ℕ) (b : Builder) (t : Parts) : Type 0 where
   pub low : 20 ≤ length bytes
   pub most : length bytes ≤ 131226
   pub owner : t.owner ≡ None → length bytes + 68 ≤ 131226
@@ -124,7 +124,7 @@ pub record Room (bytes : List ℕ) (b : Builder) (t : Draft) : Type 0 where
   pub sacl : t.sacl ≡ acl.Absent → length bytes + 65535 ≤ 131226
   pub dacl : t.dacl ≡ acl.Absent → length bytes + 65535 ≤ 131226
 
-pub room : (bytes : List ℕ) (b : Builder) (t : Draft) → PartsStand bytes b t → Room bytes b t
+pub room : (bytes : List ℕ) (b : Builder) (t : Parts) → PartsStand bytes b t → Room bytes b t
 room bytes b t h =
     let owner = sid-most bytes b.owner t.owner h.owner in
     let group = sid-most bytes b.group t.group h.group in
@@ -140,7 +140,7 @@ room bytes b t h =
     }
 
 -- an owner more
-pub owner-stands : (bytes : List ℕ) (b : Builder) (t : Draft) (s : SecurityId) → t.owner ≡ None → IsSid s
+pub owner-stands : (bytes : List ℕ) (b : Builder) (t : Parts) (s : SecurityId) → t.owner ≡ None → IsSid s
     → PartsStand bytes b t
     → PartsStand (bytes ++ sid_bytes s) (record b { owner = length bytes }) (record t { owner = Some s })
 owner-stands bytes b t s free limits h =
@@ -166,7 +166,7 @@ owner-stands bytes b t s free limits h =
     }
 
 -- a group more
-pub group-stands : (bytes : List ℕ) (b : Builder) (t : Draft) (s : SecurityId) → t.group ≡ None → IsSid s
+pub group-stands : (bytes : List ℕ) (b : Builder) (t : Parts) (s : SecurityId) → t.group ≡ None → IsSid s
     → PartsStand bytes b t
     → PartsStand (bytes ++ sid_bytes s) (record b { group = length bytes }) (record t { group = Some s })
 group-stands bytes b t s free limits h =
@@ -192,8 +192,8 @@ group-stands bytes b t s free limits h =
     }
 
 -- an ACL more
-pub list-stands : (bytes : List ℕ) (b : Builder) (t : Draft) (w : Which) (aces : List AccessControlEntry)
-    → draft_acl w t ≡ acl.Absent → IsAcl aces
+pub list-stands : (bytes : List ℕ) (b : Builder) (t : Parts) (w : Which) (aces : List AccessControlEntry)
+    → acl_for w t ≡ acl.Absent → IsAcl aces
     → PartsStand bytes b t
     → PartsStand (bytes ++ acl_bytes aces) (placed w (length bytes) b) (with_acl w (acl.List aces) t)
 list-stands bytes b t lists.Sacl aces free limits h =
@@ -240,7 +240,7 @@ list-stands bytes b t lists.Dacl aces free limits h =
     }
 
 -- a null ACL more
-pub null-stands : (bytes : List ℕ) (b : Builder) (t : Draft) (w : Which) → draft_acl w t ≡ acl.Absent
+pub null-stands : (bytes : List ℕ) (b : Builder) (t : Parts) (w : Which) → acl_for w t ≡ acl.Absent
     → PartsStand bytes b t → PartsStand bytes (placed w 0 b) (with_acl w acl.Null t)
 null-stands bytes b t lists.Sacl free h =
     let left : acl_part_size t.sacl ≡ 0 = ap acl_part_size free in record {

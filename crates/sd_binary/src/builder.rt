@@ -1,13 +1,11 @@
 // Descriptors built part by part in a buffer.
-ghost use Rattle.std.specs.Prelude.{◌≡◌, ◌≤◌, ◌<◌, ◌+◌, ◌^◌, ◌↔◌, ◌||◌, [], Some, None, IsErr, OnOk, OnErr};
+ghost use Rattle.std.specs.Prelude.{◌≡◌, ◌≤◌, ◌<◌, ◌+◌, ◌^◌, ◌↔◌, ◌||◌, None, IsErr, OnOk, OnErr};
 ghost use Rattle.sd_core.specs.Ace.{ace_size};
-ghost use Rattle.sd_binary.specs.Builds.{Builds, BuildsInOrder};
+ghost use Rattle.sd_binary.specs.Builds.{Builds};
 ghost use Rattle.sd_binary.specs.Inner.Building.{placed};
 ghost use Rattle.sd_view.specs.Descriptor.{Shows};
-ghost use Rattle.sd_binary.specs.Draft.{CanBegin, Draft, IsOpen, IsWritten, begun, built, bytes_after, closed, no_parts, open_size, part_of, with_ace, with_acl};
-ghost use Rattle.sd_view.specs.Layout.{layout};
+ghost use Rattle.sd_binary.specs.Draft.{CanBegin, Draft, IsOpen, begun, built, built_bytes, ended, nothing_given, open_size, with_ace, with_acl, with_group, with_owner};
 ghost use Rattle.sd_view.specs.declared.acl.AclPart.TheVariants as acl;
-ghost use Rattle.sd_view.specs.declared.fault.Part.TheVariants as part;
 
 use crate::append::{append_ace, append_sid_at};
 use crate::buffer::SdBuf;
@@ -56,8 +54,7 @@ impl OpenAcl {
 impl Builder {
     /// Clears the buffer, and begins a descriptor in it.
     pub fn new(buf: &mut SdBuf) -> Builder
-        ensures value { Builds result buf.new no_parts }
-        ensures in_order { BuildsInOrder result buf.new no_parts }
+        ensures value { Builds result buf.new nothing_given }
     {
         buf.clear();
         // Room for the header, which `finish` writes.
@@ -73,30 +70,25 @@ impl Builder {
 
     /// Appends the SID of the owner (MS-DTYP 2.4.2).
     pub fn owner(&mut self, buf: &mut SdBuf, sid: &Sid)
-        requires { (t : Draft) × Builds self.old buf.old t × (t.owner ≡ None) × (t.«open» ≡ None) }
-        ensures value { (t : Draft) → Builds self.old buf.old t → Builds self.new buf.new (record t { owner = Some sid.now }) }
-        ensures in_order { (t : Draft) → BuildsInOrder self.old buf.old t → bytes_after part.Owner t ≡ []
-            → BuildsInOrder self.new buf.new (record t { owner = Some sid.now }) }
+        requires { (t : Draft) × Builds self.old buf.old t × (t.parts.owner ≡ None) × (t.parts.«open» ≡ None) }
+        ensures value { (t : Draft) → Builds self.old buf.old t → Builds self.new buf.new (with_owner sid.now t) }
     {
         self.owner = append_sid_at(buf, sid);
     }
 
     /// Appends the SID of the primary group (MS-DTYP 2.4.2).
     pub fn group(&mut self, buf: &mut SdBuf, sid: &Sid)
-        requires { (t : Draft) × Builds self.old buf.old t × (t.group ≡ None) × (t.«open» ≡ None) }
-        ensures value { (t : Draft) → Builds self.old buf.old t → Builds self.new buf.new (record t { group = Some sid.now }) }
-        ensures in_order { (t : Draft) → BuildsInOrder self.old buf.old t → bytes_after part.Group t ≡ []
-            → BuildsInOrder self.new buf.new (record t { group = Some sid.now }) }
+        requires { (t : Draft) × Builds self.old buf.old t × (t.parts.group ≡ None) × (t.parts.«open» ≡ None) }
+        ensures value { (t : Draft) → Builds self.old buf.old t → Builds self.new buf.new (with_group sid.now t) }
     {
         self.group = append_sid_at(buf, sid);
     }
 
     /// Begins an ACL (MS-DTYP 2.4.5), to which `ace` appends, until `end_acl`.
     pub fn begin_acl(&mut self, buf: &mut SdBuf, which: Which)
-        requires { (t : Draft) × Builds self.old buf.old t × CanBegin which t }
-        ensures value { (t : Draft) → Builds self.old buf.old t → Builds self.new buf.new (begun which t) }
-        ensures in_order { (t : Draft) → BuildsInOrder self.old buf.old t → bytes_after (part_of which) t ≡ []
-            → BuildsInOrder self.new buf.new (begun which t) }
+        requires { (t : Draft) × Builds self.old buf.old t × CanBegin which t.parts }
+        ensures value { (t : Draft) → Builds self.old buf.old t
+            → Builds self.new buf.new (record t { parts = begun which t.parts }) }
     {
         self.open = Some(OpenAcl {
             which,
@@ -111,11 +103,11 @@ impl Builder {
     /// Appends an ACE (MS-DTYP 2.4.4) to the ACL that is open. AclTooLarge exactly where the ACL would pass 65,535 bytes,
     /// and then nothing is changed.
     pub fn ace(&mut self, buf: &mut SdBuf, ace: &Ace) -> Result<(), AclTooLarge>
-        requires { (t : Draft) × Builds self.old buf.old t × IsOpen t }
-        ensures full { (t : Draft) → Builds self.old buf.old t → (IsErr result ↔ (2 ^ 16 ≤ open_size t + ace_size ace.now)) }
-        ensures ok { (t : Draft) → Builds self.old buf.old t → OnOk result (Builds self.new buf.new (with_ace ace.now t)) }
-        ensures in_order { (t : Draft) → BuildsInOrder self.old buf.old t
-            → OnOk result (BuildsInOrder self.new buf.new (with_ace ace.now t)) }
+        requires { (t : Draft) × Builds self.old buf.old t × IsOpen t.parts }
+        ensures full { (t : Draft) → Builds self.old buf.old t
+            → (IsErr result ↔ (2 ^ 16 ≤ open_size t.parts + ace_size ace.now)) }
+        ensures ok { (t : Draft) → Builds self.old buf.old t
+            → OnOk result (Builds self.new buf.new (record t { parts = with_ace ace.now t.parts })) }
         ensures same { OnErr result ((self.new ≡ self.old) × (buf.new ≡ buf.old)) }
     {
         let open = self.open.unwrap();
@@ -133,9 +125,8 @@ impl Builder {
     /// Ends the ACL that is open, and writes its header (MS-DTYP 2.4.5): revision 4 exactly where an object ACE stands in
     /// it, and else 2.
     pub fn end_acl(&mut self, buf: &mut SdBuf)
-        requires { (t : Draft) × Builds self.old buf.old t × IsOpen t }
-        ensures value { (t : Draft) → Builds self.old buf.old t → Builds self.new buf.new (closed t) }
-        ensures in_order { (t : Draft) → BuildsInOrder self.old buf.old t → BuildsInOrder self.new buf.new (closed t) }
+        requires { (t : Draft) × Builds self.old buf.old t × IsOpen t.parts }
+        ensures value { (t : Draft) → Builds self.old buf.old t → Builds self.new buf.new (ended t) }
     {
         let open = self.open.unwrap();
         let start = open.start as usize;
@@ -147,10 +138,9 @@ impl Builder {
 
     /// An ACL that is present and null (MS-DTYP 2.4.6): its offset is 0.
     pub fn null_acl(&mut self, buf: &mut SdBuf, which: Which)
-        requires { (t : Draft) × Builds self.old buf.old t × CanBegin which t }
-        ensures value { (t : Draft) → Builds self.old buf.old t → Builds self.new buf.new (with_acl which acl.Null t) }
-        ensures in_order { (t : Draft) → BuildsInOrder self.old buf.old t
-            → BuildsInOrder self.new buf.new (with_acl which acl.Null t) }
+        requires { (t : Draft) × Builds self.old buf.old t × CanBegin which t.parts }
+        ensures value { (t : Draft) → Builds self.old buf.old t
+            → Builds self.new buf.new (record t { parts = with_acl which acl.Null t.parts }) }
     {
         self.keep(which, 0);
     }
@@ -168,12 +158,10 @@ impl Builder {
     /// Writes the header (MS-DTYP 2.4.6). Of the flags the bits 0x8000, 0x10 and 0x4 don't count: the first is set, and the
     /// others tell which ACLs stand.
     pub fn finish(self, buf: &mut SdBuf, flags: u16, rm: u8)
-        requires { (t : Draft) × Builds self buf.old t × (t.«open» ≡ None) }
-        ensures shows { (t : Draft) → Builds self buf.old t → Shows buf.new (built flags rm t) }
-        // Without gaps, and each part in its one written form.
-        ensures written { (t : Draft) → Builds self buf.old t → IsWritten buf.new (built flags rm t) }
-        // In the one layout, where the parts came in its order.
-        ensures laid_out { (t : Draft) → BuildsInOrder self buf.old t → buf.new ≡ layout (built flags rm t) }
+        requires { (t : Draft) × Builds self buf.old t × (t.parts.«open» ≡ None) }
+        // The header, and the parts in the order of the calls.
+        ensures exact { (t : Draft) → Builds self buf.old t → buf.new ≡ built_bytes flags rm t }
+        ensures shows { (t : Draft) → Builds self buf.old t → Shows buf.new (built flags rm t.parts) }
     {
         let control = control_of(flags, self.sacl.is_some(), self.dacl.is_some());
         let bytes = header(

@@ -1,20 +1,21 @@
 -- What a builder's buffer holds between its calls: the parts that are closed, at the offsets that the builder keeps,
 -- and after them the ACL that is open.
-use Rattle.std.specs.Prelude.{◌≡◌, ◌≤◌, ℕ, ◌+◌, List, [], length, drop, take, ◌++◌, Option, Some, None, unwrap_or}
+use Rattle.std.specs.Prelude.{◌≡◌, ◌≤◌, ℕ, ◌+◌, List, [], length, drop, ◌++◌, Option, Some, None, unwrap_or}
 use Rattle.std.specs.List.{flat_map}
 use Rattle.sd_core.specs.Ace.{AccessControlEntry}
 use Rattle.sd_core.specs.Sid.{SecurityId, IsSid, sid_bytes}
 use Rattle.sd_view.specs.Acl.{IsAcl, acl_size, has_object}
 use Rattle.sd_view.specs.AclLayout.{ace_bytes, acl_bytes}
 use Rattle.sd_view.specs.Descriptor.{AreApart, Extent, Extents, sid_extent}
-use Rattle.sd_binary.specs.Draft.{Draft, draft_acl, bytes_after, part_of, parts_given}
-use Rattle.sd_view.specs.Layout.{acl_part_size, offset_if, sid_part_size}
+use Rattle.sd_binary.specs.Draft.{Draft, Parts, acl_for, bytes_in_order, offset_of}
+use Rattle.sd_view.specs.Layout.{acl_part_size, sid_part_size}
 use Rattle.sd_view.specs.declared.acl.AclPart.{AclPart}
 use Rattle.sd_view.specs.declared.acl.AclPart.TheVariants as acl
 use Rattle.sd_binary.specs.declared.builder.Builder.{Builder}
 use Rattle.sd_binary.specs.declared.builder.OpenAcl.{OpenAcl}
 use Rattle.sd_view.specs.declared.control.Which.{Which}
 use Rattle.sd_view.specs.declared.control.Which.TheVariants as which
+use Rattle.sd_view.specs.declared.fault.Part.TheVariants as part
 
 -- a part's bytes at its offset, past the header
 pub record Stands (bytes : List ℕ) (offset : ℕ) (part : List ℕ) : Type 0 where
@@ -49,7 +50,7 @@ acl_extent_of (Some offset) acl.Absent = None
 acl_extent_of (Some offset) acl.Null = None
 acl_extent_of (Some offset) (acl.List aces) = Some (offset, offset + acl_size aces)
 
-abbrev pub extents_kept : Builder → Draft → Extents
+abbrev pub extents_kept : Builder → Parts → Extents
 extents_kept b t = record {
   owner = sid_extent b.owner t.owner;
   group = sid_extent b.group t.group;
@@ -58,17 +59,25 @@ extents_kept b t = record {
 }
 
 -- the bytes of the header and of the parts
-abbrev pub closed_size : Draft → ℕ
+abbrev pub closed_size : Parts → ℕ
 closed_size t = 20 + sid_part_size t.owner + sid_part_size t.group + acl_part_size t.sacl + acl_part_size t.dacl
 
 -- the parts that are closed, without gaps
-pub record PartsStand (bytes : List ℕ) (b : Builder) (t : Draft) : Type 0 where
+pub record PartsStand (bytes : List ℕ) (b : Builder) (t : Parts) : Type 0 where
   pub owner : SidStands bytes b.owner t.owner
   pub group : SidStands bytes b.group t.group
   pub sacl : AclStands bytes b.sacl t.sacl
   pub dacl : AclStands bytes b.dacl t.dacl
   pub apart : AreApart (extents_kept b t)
   pub size : length bytes ≡ closed_size t
+
+-- they stand behind the header in the order of the calls, and the offsets that are kept are theirs
+pub record StandsInOrder (bytes : List ℕ) (b : Builder) (t : Draft) : Type 0 where
+  pub shape : drop 20 bytes ≡ bytes_in_order t
+  pub owner : b.owner ≡ offset_of t part.Owner
+  pub group : b.group ≡ offset_of t part.Group
+  pub sacl : unwrap_or b.sacl 0 ≡ offset_of t part.Sacl
+  pub dacl : unwrap_or b.dacl 0 ≡ offset_of t part.Dacl
 
 -- an open ACL after them: eight bytes for its header, and its ACEs so far
 pub record OpenAt (closed tail : List ℕ) (o : OpenAcl) (w : Which) (aces : List AccessControlEntry) : Type 0 where
@@ -88,34 +97,15 @@ OpenStands closed tail (Some o) None = ⊥
 OpenStands closed tail (Some o) (Some u) = OpenAt closed tail o u.0 u.1
 
 -- the ACL that is open is not given yet
-abbrev pub OpenIsFree : Option (Which × List AccessControlEntry) → Draft → Type 0
+abbrev pub OpenIsFree : Option (Which × List AccessControlEntry) → Parts → Type 0
 OpenIsFree None t = Unit {0}
-OpenIsFree (Some u) t = draft_acl u.0 t ≡ acl.Absent
+OpenIsFree (Some u) t = acl_for u.0 t ≡ acl.Absent
 
 pub record Building (b : Builder) (bytes : List ℕ) (t : Draft) : Type 0 where
   pub closed : List ℕ
   pub tail : List ℕ
   pub shape : bytes ≡ closed ++ tail
-  pub parts : PartsStand closed b t
-  pub «open» : OpenStands closed tail b.open t.«open»
-  pub free : OpenIsFree t.«open» t
-
--- the offsets that are kept are the layout's
-pub record HasLayoutOffsets (b : Builder) (t : Draft) : Type 0 where
-  pub owner : b.owner ≡ offset_if 20 (sid_part_size t.owner)
-  pub group : b.group ≡ offset_if (20 + sid_part_size t.owner) (sid_part_size t.group)
-  pub sacl : unwrap_or b.sacl 0 ≡ offset_if (20 + sid_part_size t.owner + sid_part_size t.group) (acl_part_size t.sacl)
-  pub dacl : unwrap_or b.dacl 0
-      ≡ offset_if (20 + sid_part_size t.owner + sid_part_size t.group + acl_part_size t.sacl) (acl_part_size t.dacl)
-
--- no part that comes after the open ACL was given
-abbrev pub OpenIsLast : Option (Which × List AccessControlEntry) → Draft → Type 0
-OpenIsLast None t = Unit {0}
-OpenIsLast (Some u) t = bytes_after (part_of u.0) t ≡ []
-
--- the parts that are closed follow the header in the order of the layout
-pub record BuildingInOrder (b : Builder) (bytes : List ℕ) (t : Draft) : Type 0 where
-  pub building : Building b bytes t
-  pub offsets : HasLayoutOffsets b t
-  pub parts : take (length (parts_given t)) (drop 20 bytes) ≡ parts_given t
-  pub last : OpenIsLast t.«open» t
+  pub parts : PartsStand closed b t.parts
+  pub order : StandsInOrder closed b t
+  pub «open» : OpenStands closed tail b.open t.parts.«open»
+  pub free : OpenIsFree t.parts.«open» t.parts

@@ -5,7 +5,6 @@ use Rattle.sd_rights.specs.declared.kinds.AceKind.{AceKind}
 use Rattle.sd_binary.specs.declared.builder.OpenAcl.{OpenAcl}
 use Rattle.sd_binary.specs.Draft.{open_size}
 use Rattle.sd_binary.proofs.Building.{ace-builds, is-open, open-roomy, open-size}
-use Rattle.sd_binary.proofs.InOrder.{ace-in-order, in-order-builds}
 use Rattle.sd_binary.proofs.builder.Builder.ace.Goals as goal
 
 pub unwrap-open-requires : goal.unwrap-open-requires
@@ -49,16 +48,6 @@ returns-in-Some-clause-ok c =
     let o = c.in-Some.open in
     let a = c.args.ace.now in
     let size = open-size _ _ t _ h c.unwrap-open.ensures in
-    let fits : open_size t + ace_size a < 65536 = omega (arith, size, ap length c.bytes.ensures.value) in
+    let fits : open_size t.parts + ace_size a < 65536 = omega (arith, size, ap length c.bytes.ensures.value) in
     rw (c.append_ace.ensures, added o _ _ a.kind _ c.add.ensures c.is_object.ensures c.kind.ensures)
     (ace-builds _ _ t o a c.in-Some.is c.size.ensures.limits fits h)
-
-pub returns-in-Some-clause-in_order : goal.returns-in-Some-clause-in_order
-returns-in-Some-clause-in_order c =
-    λ t h.
-    let o = c.in-Some.open in
-    let a = c.args.ace.now in
-    let size = open-size _ _ t _ (in-order-builds _ _ t h) c.unwrap-open.ensures in
-    let fits : open_size t + ace_size a < 65536 = omega (arith, size, ap length c.bytes.ensures.value) in
-    rw (c.append_ace.ensures, added o _ _ a.kind _ c.add.ensures c.is_object.ensures c.kind.ensures)
-    (ace-in-order _ _ t o a c.in-Some.is c.size.ensures.limits fits h)

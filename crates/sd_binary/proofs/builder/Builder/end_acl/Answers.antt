@@ -1,6 +1,5 @@
 use Rattle.std.proofs.Common.{◌≡◌, ◌+◌, ◌-◌, length, ap, arith}
 use Rattle.sd_binary.proofs.Building.{end-builds, is-open, open-roomy}
-use Rattle.sd_binary.proofs.InOrder.{end-in-order}
 use Rattle.sd_binary.proofs.builder.Builder.end_acl.Goals as goal
 
 pub unwrap-open-requires : goal.unwrap-open-requires
@@ -18,24 +17,15 @@ pub patch-requires : goal.patch-requires
 patch-requires c = let r = open-roomy _ _ c.requires.0 _ c.requires.1
     c.unwrap-open.ensures in omega (arith, r.start, ap length c.acl_header.ensures)
 
-pub returns-clause-value : goal.returns-clause-value
-returns-clause-value c =
-    λ t h.
-    let o = c.unwrap-open.result in
-    let r = open-roomy _ _ c.requires.0 _ c.requires.1 c.unwrap-open.ensures in
-    let total : o.start + (length c.bytes.result.now - o.start) ≡ length
-    c.args.buf.now = omega (arith, r.start, ap length c.bytes.ensures.value) in
-    rw (c.keep.ensures, c.patch.ensures)
-    (end-builds c.args.self.now c.args.buf.now t o (length c.bytes.result.now - o.start) c.acl_header.result
-    c.unwrap-open.ensures total c.acl_header.ensures h)
-
-pub returns-clause-in_order : goal.returns-clause-in_order
-returns-clause-in_order c =
-    λ t h.
-    let o = c.unwrap-open.result in
-    let r = open-roomy _ _ c.requires.0 _ c.requires.1 c.unwrap-open.ensures in
-    let total : o.start + (length c.bytes.result.now - o.start) ≡ length c.args.buf.now =
-    omega (arith, r.start, ap length c.bytes.ensures.value) in
-    rw (c.keep.ensures, c.patch.ensures)
-    (end-in-order c.args.self.now c.args.buf.now t o
-    (length c.bytes.result.now - o.start) c.acl_header.result c.unwrap-open.ensures total c.acl_header.ensures h)
+pub returns : goal.returns
+returns c = record {
+  value =
+      λ t h.
+      let o = c.unwrap-open.result in
+      let r = open-roomy _ _ c.requires.0 _ c.requires.1 c.unwrap-open.ensures in
+      let total : o.start + (length c.bytes.result.now - o.start) ≡ length
+      c.args.buf.now = omega (arith, r.start, ap length c.bytes.ensures.value) in
+      rw (c.keep.ensures, c.patch.ensures)
+      (end-builds c.args.self.now c.args.buf.now t o (length c.bytes.result.now - o.start) c.acl_header.result
+      c.unwrap-open.ensures total c.acl_header.ensures h);
+}

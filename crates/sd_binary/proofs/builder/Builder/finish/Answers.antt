@@ -2,8 +2,7 @@ use Rattle.std.proofs.Common.{◌≡◌, ◌+◌, length, ap, arith}
 use Rattle.std.specs.Prelude.{is_some, unwrap_or}
 use Rattle.sd_view.specs.Control.{control_of}
 use Rattle.sd_view.specs.Layout.{header_bytes}
-use Rattle.sd_binary.proofs.Finished.{finish-room, finish-shows, finish-written, length-header_for}
-use Rattle.sd_binary.proofs.InOrder.{finish-laid_out}
+use Rattle.sd_binary.proofs.Finished.{finish-exact, finish-room, finish-shows, length-header_for}
 use Rattle.sd_binary.proofs.builder.Builder.finish.Goals as goal
 
 pub patch-requires : goal.patch-requires
@@ -26,20 +25,8 @@ returns-clause-shows c =
     rw (c.patch.ensures, long, head)
     (finish-shows b c.args.buf.now c.requires.0 t c.args.flags c.args.rm c.requires.1 c.requires.2 (omega arith) h)
 
-pub returns-clause-written : goal.returns-clause-written
-returns-clause-written c =
-    λ t h.
-    let b = c.args.self in
-    let word = c.control_of-control.result in
-    let head : c.header-bytes.result ≡ header_bytes c.args.rm word b.owner b.group (unwrap_or b.sacl 0)
-    (unwrap_or b.dacl 0) = cc in
-    let long : 0 + length
-    c.header-bytes.result ≡ 20 = omega (arith, ap length head, length-header_for c.args.rm word b) in
-    rw (c.patch.ensures, long, head)
-    (finish-written b c.args.buf.now c.requires.0 t c.args.flags c.args.rm word c.requires.1 c.requires.2 h)
-
-pub returns-clause-laid_out : goal.returns-clause-laid_out
-returns-clause-laid_out c =
+pub returns-clause-exact : goal.returns-clause-exact
+returns-clause-exact c =
     λ t h.
     let b = c.args.self in
     let word = control_of c.args.flags (is_some b.sacl) (is_some b.dacl) in
@@ -48,4 +35,4 @@ returns-clause-laid_out c =
     let long : 0 + length c.header-bytes.result ≡ 20 =
     omega (arith, ap length head, length-header_for c.args.rm word b) in
     rw (c.patch.ensures, long, head)
-    (finish-laid_out b c.args.buf.now c.requires.0 t c.args.flags c.args.rm c.requires.1 c.requires.2 h)
+    (finish-exact b c.args.buf.now c.requires.0 t c.args.flags c.args.rm c.requires.1 c.requires.2 h)
