@@ -14,7 +14,7 @@ Aces = List AccessControlEntry
 
 -- one call more fails exactly where its ACEs don't fit
 abbrev pub FailsFor : Bool → Draft → Aces → Type 0
-FailsFor failed t aces = (failed ≡ true) ↔ (2 ^ 16 ≤ open_size t + aces_size aces)
+FailsFor failed t aces = (failed ≡ true) ↔ (2 ^ 16 ≤ open_size t.parts + aces_size aces)
 
 pub aces_size-append : (xs ys : Aces) → aces_size (xs ++ ys) ≡ aces_size xs + aces_size ys
 aces_size-append [] ys = omega arith
@@ -29,16 +29,16 @@ is_open-more : (o : Option (Which × Aces)) (xs : Aces) → IsOpenIn o → IsOpe
 is_open-more None xs h = absurd h
 is_open-more (Some o) xs h = tt
 
-pub open_size-with : (t : Draft) (xs : Aces) → HasOpen t → open_size (with_aces xs t) ≡ open_size t + aces_size xs
-open_size-with t xs h = size_in-more t.«open» xs h.open
+pub open_size-with : (t : Draft) (xs : Aces) → HasOpen t → open_size (with_aces xs t).parts ≡ open_size t.parts + aces_size xs
+open_size-with t xs h = size_in-more t.parts.«open» xs h.open
 
 -- after a call that did not fail
 pub stays_open : (t : Draft) (xs : Aces) → HasOpen t → FailsFor false t xs → HasOpen (with_aces xs t)
 stays_open t xs h full = record {
-  «open» = is_open-more t.«open» xs h.open;
-  fits = ⊎_elim (λ (small : open_size t + aces_size xs < 2 ^ 16). let e = open_size-with t xs h in omega (arith, e))
-      (λ (large : 2 ^ 16 ≤ open_size t + aces_size xs). let no = full.1 large in absurd (cc))
-      (cases_lt (open_size t + aces_size xs) (2 ^ 16));
+  «open» = is_open-more t.parts.«open» xs h.open;
+  fits = ⊎_elim (λ (small : open_size t.parts + aces_size xs < 2 ^ 16). let e = open_size-with t xs h in omega (arith, e))
+      (λ (large : 2 ^ 16 ≤ open_size t.parts + aces_size xs). let no = full.1 large in absurd (cc))
+      (cases_lt (open_size t.parts + aces_size xs) (2 ^ 16));
 }
 
 -- a first call that failed, of two
@@ -67,8 +67,8 @@ more_aces-append (Some o) xs ys = ap (λ (zs : Aces). Some (o.0, zs)) (append_as
 
 -- first these, and then those
 pub with_both : (t : Draft) (xs ys : Aces) → with_aces ys (with_aces xs t) ≡ with_aces (xs ++ ys) t
-with_both t xs ys = ap (λ (o : Option (Which × Aces)). let d : Draft = record t { «open» = o } in d)
-    (more_aces-append t.«open» xs ys)
+with_both t xs ys = ap (λ (o : Option (Which × Aces)). let d : Draft = record t { parts = record t.parts { «open» = o } } in d)
+    (more_aces-append t.parts.«open» xs ys)
 
 -- The ACEs of an ACL are taken one after the other, and their copies appended.
 module _ (f : AccessControlEntry → Aces) (ys : Aces) (a : AccessControlEntry) where

@@ -5,11 +5,13 @@ use Rattle.sd_core.specs.Ace.{AccessControlEntry}
 use Rattle.sd_view.specs.Acl.{acl_size}
 use Rattle.sd_view.specs.Control.{bit_if, control_of}
 use Rattle.sd_view.specs.Descriptor.{Descriptor}
-use Rattle.sd_binary.specs.Draft.{Draft, built, is_present}
+use Rattle.sd_binary.proofs.laws.BuiltBytes.{layout_order}
+use Rattle.sd_binary.specs.Draft.{CanBegin, Draft, Parts, built, is_present, nothing_given, with_group, with_owner}
+use Rattle.sd_view.specs.declared.acl.AclPart.{AclPart}
 use Rattle.sd_view.specs.declared.acl.AclPart.TheVariants as acl
 use Rattle.sd_view.specs.declared.control.Which.TheVariants.{Sacl, Dacl}
 use Rattle.sd_view.specs.declared.control.TheConstants.{DACL_AUTO_INHERITED, DACL_PRESENT, SACL_AUTO_INHERITED, SACL_PRESENT, SELF_RELATIVE}
-use Rattle.sd_inherit.specs.Inner.Building.{inherited_bits}
+use Rattle.sd_inherit.specs.Inner.Building.{inherited_bits, with_part}
 use Rattle.sd_inherit.specs.Derived.{derive_fault, derived, inherited, is_too_large, sacl_of}
 use Rattle.sd_inherit.specs.declared.derivation.DeriveFault.TheVariants.{DerivedTooLarge}
 use Rattle.sd_inherit.specs.declared.plan.Plan.{Plan}
@@ -49,7 +51,7 @@ control-is true = refl
 control-is false = refl
 
 -- the parts of what is derived
-abbrev pub parts_of : Descriptor → Plan → Draft
+abbrev pub parts_of : Descriptor → Plan → Parts
 parts_of d plan = record {
   owner = Some plan.owner;
   group = Some plan.group;
@@ -57,6 +59,46 @@ parts_of d plan = record {
   dacl = acl.List (inherited plan d.dacl);
   «open» = None;
 }
+
+-- what the builder was given, in the order of the calls
+abbrev pub with_sids : Plan → Draft
+with_sids plan = with_group plan.group (with_owner plan.owner nothing_given)
+
+abbrev pub draft_of : Descriptor → Plan → Draft
+draft_of d plan =
+    with_part Dacl (acl.List (inherited plan d.dacl)) (with_part Sacl (sacl_of (inherited plan d.sacl)) (with_sids plan))
+
+pub can-begin : (plan : Plan) (sacl : AclPart) → CanBegin Dacl (with_part Sacl sacl (with_sids plan)).parts
+can-begin plan acl.Absent = (refl, refl)
+can-begin plan acl.Null = (refl, refl)
+can-begin plan (acl.List aces) = (refl, refl)
+
+parts-are : (plan : Plan) (sacl : AclPart) (aces : List AccessControlEntry)
+    → (with_part Dacl (acl.List aces) (with_part Sacl sacl (with_sids plan))).parts
+    ≡ record {
+      owner = Some plan.owner;
+      group = Some plan.group;
+      sacl = sacl;
+      dacl = acl.List aces;
+      «open» = None;
+    }
+parts-are plan acl.Absent aces = refl
+parts-are plan acl.Null aces = refl
+parts-are plan (acl.List others) aces = refl
+
+pub draft-parts : (d : Descriptor) (plan : Plan) → (draft_of d plan).parts ≡ parts_of d plan
+draft-parts d plan = parts-are plan (sacl_of (inherited plan d.sacl)) (inherited plan d.dacl)
+
+in-order : (plan : Plan) (sacl : AclPart) (aces : List AccessControlEntry)
+    → (with_part Dacl (acl.List aces) (with_part Sacl sacl (with_sids plan))).order
+    ≡ layout_order (with_part Dacl (acl.List aces) (with_part Sacl sacl (with_sids plan))).parts
+in-order plan acl.Absent aces = refl
+in-order plan acl.Null aces = refl
+in-order plan (acl.List others) aces = refl
+
+-- which is the order of the layout
+pub draft-in-order : (d : Descriptor) (plan : Plan) → (draft_of d plan).order ≡ layout_order (draft_of d plan).parts
+draft-in-order d plan = in-order plan (sacl_of (inherited plan d.sacl)) (inherited plan d.dacl)
 
 pub built-derived : (d : Descriptor) (plan : Plan) (has_sacl : Bool)
     → has_sacl ≡ is_present (sacl_of (inherited plan d.sacl))

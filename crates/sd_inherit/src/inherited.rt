@@ -1,12 +1,13 @@
 //! ACLs of copies, built.
 
-ghost use Rattle.std.specs.Prelude.{◌≡◌, ◌≤◌, ◌+◌, ◌^◌, ◌↔◌, ◌++◌, [], IsErr, IfOk, OnOk};
+ghost use Rattle.std.specs.Prelude.{◌≡◌, ◌≤◌, ◌+◌, ◌^◌, ◌↔◌, ◌++◌, IsErr, IfOk, OnOk};
 ghost use Rattle.std.specs.List.{flat_map};
 ghost use Rattle.sd_view.specs.Acl.{aces_size, acl_size};
-ghost use Rattle.sd_binary.specs.Draft.{CanBegin, Draft, bytes_after, is_present, open_size, part_of, with_acl};
+ghost use Rattle.sd_binary.specs.Builds.{Builds};
+ghost use Rattle.sd_binary.specs.Draft.{CanBegin, Draft, is_present, open_size};
 ghost use Rattle.sd_view.specs.declared.acl.AclPart.TheVariants as acl;
 ghost use Rattle.sd_view.specs.declared.control.Which.TheVariants as which;
-ghost use Rattle.sd_inherit.specs.Inner.Building.{HasOpen, Writes, listed, one_or_none, with_aces};
+ghost use Rattle.sd_inherit.specs.Inner.Building.{HasOpen, listed, one_or_none, with_aces, with_part};
 ghost use Rattle.sd_inherit.specs.Copies.{copies};
 ghost use Rattle.sd_inherit.specs.Derived.{inherited, sacl_of};
 
@@ -22,11 +23,9 @@ pub fn put_sacl(
     plan: &Plan,
     sacl: &AclPart,
 ) -> Result<bool, AclTooLarge>
-    requires { (t : Draft) × Writes builder.old buf.old t × CanBegin which.Sacl t
-        × (bytes_after (part_of which.Sacl) t ≡ []) }
-    ensures ok { (t : Draft) → Writes builder.old buf.old t → CanBegin which.Sacl t
-        → bytes_after (part_of which.Sacl) t ≡ []
-        → OnOk result (Writes builder.new buf.new (with_acl which.Sacl (sacl_of (inherited plan.now sacl.now)) t)) }
+    requires { (t : Draft) × Builds builder.old buf.old t × CanBegin which.Sacl t.parts }
+    ensures ok { (t : Draft) → Builds builder.old buf.old t → CanBegin which.Sacl t.parts
+        → OnOk result (Builds builder.new buf.new (with_part which.Sacl (sacl_of (inherited plan.now sacl.now)) t)) }
     ensures stands { IfOk result (λ stands. stands ≡ is_present (sacl_of (inherited plan.now sacl.now))) }
     ensures full { IsErr result ↔ (2 ^ 16 ≤ acl_size (inherited plan.now sacl.now)) }
 {
@@ -52,12 +51,10 @@ fn put_from(
     first: &Copies,
     others: Aces<'_>,
 ) -> Result<(), AclTooLarge>
-    requires { (t : Draft) × Writes builder.old buf.old t × CanBegin which.Sacl t
-        × (bytes_after (part_of which.Sacl) t ≡ []) }
-    ensures ok { (t : Draft) → Writes builder.old buf.old t → CanBegin which.Sacl t
-        → bytes_after (part_of which.Sacl) t ≡ []
-        → OnOk result (Writes builder.new buf.new
-        (with_acl which.Sacl (acl.List (listed first.now ++ flat_map (copies plan.now) others.entry)) t)) }
+    requires { (t : Draft) × Builds builder.old buf.old t × CanBegin which.Sacl t.parts }
+    ensures ok { (t : Draft) → Builds builder.old buf.old t → CanBegin which.Sacl t.parts
+        → OnOk result (Builds builder.new buf.new
+        (with_part which.Sacl (acl.List (listed first.now ++ flat_map (copies plan.now) others.entry)) t)) }
     ensures full { IsErr result ↔ (2 ^ 16 ≤ acl_size (listed first.now ++ flat_map (copies plan.now) others.entry)) }
 {
     builder.begin_acl(buf, Which::Sacl);
@@ -75,9 +72,9 @@ pub fn put_acl(
     which: Which,
     part: &AclPart,
 ) -> Result<(), AclTooLarge>
-    requires { (t : Draft) × Writes builder.old buf.old t × CanBegin which t × (bytes_after (part_of which) t ≡ []) }
-    ensures ok { (t : Draft) → Writes builder.old buf.old t → CanBegin which t → bytes_after (part_of which) t ≡ []
-        → OnOk result (Writes builder.new buf.new (with_acl which (acl.List (inherited plan.now part.now)) t)) }
+    requires { (t : Draft) × Builds builder.old buf.old t × CanBegin which t.parts }
+    ensures ok { (t : Draft) → Builds builder.old buf.old t → CanBegin which t.parts
+        → OnOk result (Builds builder.new buf.new (with_part which (acl.List (inherited plan.now part.now)) t)) }
     ensures full { IsErr result ↔ (2 ^ 16 ≤ acl_size (inherited plan.now part.now)) }
 {
     builder.begin_acl(buf, which);
@@ -95,11 +92,11 @@ fn put_inherited(
     plan: &Plan,
     aces: Aces<'_>,
 ) -> Result<(), AclTooLarge>
-    requires { (t : Draft) × Writes builder.old buf.old t × HasOpen t }
-    ensures ok { (t : Draft) → Writes builder.old buf.old t
-        → OnOk result (Writes builder.new buf.new (with_aces (flat_map (copies plan.now) aces.entry) t)) }
-    ensures full { (t : Draft) → Writes builder.old buf.old t → HasOpen t
-        → (IsErr result ↔ (2 ^ 16 ≤ open_size t + aces_size (flat_map (copies plan.now) aces.entry))) }
+    requires { (t : Draft) × Builds builder.old buf.old t × HasOpen t }
+    ensures ok { (t : Draft) → Builds builder.old buf.old t
+        → OnOk result (Builds builder.new buf.new (with_aces (flat_map (copies plan.now) aces.entry) t)) }
+    ensures full { (t : Draft) → Builds builder.old buf.old t → HasOpen t
+        → (IsErr result ↔ (2 ^ 16 ≤ open_size t.parts + aces_size (flat_map (copies plan.now) aces.entry))) }
 {
     for ace in aces {
         put_copies(builder, buf, &copies_of(plan, &ace.ace()))?;
@@ -108,22 +105,22 @@ fn put_inherited(
 }
 
 fn put_copies(builder: &mut Builder, buf: &mut SdBuf, copies: &Copies) -> Result<(), AclTooLarge>
-    requires { (t : Draft) × Writes builder.old buf.old t × HasOpen t }
-    ensures ok { (t : Draft) → Writes builder.old buf.old t
-        → OnOk result (Writes builder.new buf.new (with_aces (listed copies.now) t)) }
-    ensures full { (t : Draft) → Writes builder.old buf.old t → HasOpen t
-        → (IsErr result ↔ (2 ^ 16 ≤ open_size t + aces_size (listed copies.now))) }
+    requires { (t : Draft) × Builds builder.old buf.old t × HasOpen t }
+    ensures ok { (t : Draft) → Builds builder.old buf.old t
+        → OnOk result (Builds builder.new buf.new (with_aces (listed copies.now) t)) }
+    ensures full { (t : Draft) → Builds builder.old buf.old t → HasOpen t
+        → (IsErr result ↔ (2 ^ 16 ≤ open_size t.parts + aces_size (listed copies.now))) }
 {
     put_copy(builder, buf, copies.effective)?;
     put_copy(builder, buf, copies.inherit_only)
 }
 
 fn put_copy(builder: &mut Builder, buf: &mut SdBuf, copy: Option<Ace>) -> Result<(), AclTooLarge>
-    requires { (t : Draft) × Writes builder.old buf.old t × HasOpen t }
-    ensures ok { (t : Draft) → Writes builder.old buf.old t
-        → OnOk result (Writes builder.new buf.new (with_aces (one_or_none copy) t)) }
-    ensures full { (t : Draft) → Writes builder.old buf.old t → HasOpen t
-        → (IsErr result ↔ (2 ^ 16 ≤ open_size t + aces_size (one_or_none copy))) }
+    requires { (t : Draft) × Builds builder.old buf.old t × HasOpen t }
+    ensures ok { (t : Draft) → Builds builder.old buf.old t
+        → OnOk result (Builds builder.new buf.new (with_aces (one_or_none copy) t)) }
+    ensures full { (t : Draft) → Builds builder.old buf.old t → HasOpen t
+        → (IsErr result ↔ (2 ^ 16 ≤ open_size t.parts + aces_size (one_or_none copy))) }
 {
     match copy {
         None => Ok(()),

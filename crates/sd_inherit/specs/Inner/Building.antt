@@ -1,10 +1,10 @@
 -- What the code that copies has built so far. No definition of what is derived rests on it.
 use Rattle.std.specs.Prelude.{◌<◌, ℕ, ◌+◌, ◌^◌, Bool, List, [], ◌∷◌, ◌++◌, Option, Some, None}
 use Rattle.sd_core.specs.Ace.{AccessControlEntry}
-use Rattle.sd_binary.specs.Builds.{Builds, BuildsInOrder}
 use Rattle.sd_view.specs.Control.{bit_if}
-use Rattle.sd_binary.specs.Draft.{Draft, IsOpen, open_size}
-use Rattle.sd_binary.specs.declared.builder.Builder.{Builder}
+use Rattle.sd_binary.specs.Draft.{Draft, IsOpen, open_size, part_of, with_acl}
+use Rattle.sd_view.specs.declared.acl.AclPart.{AclPart}
+use Rattle.sd_view.specs.declared.acl.AclPart.TheVariants as acl
 use Rattle.sd_view.specs.declared.control.Which.{Which}
 use Rattle.sd_view.specs.declared.control.TheConstants.{DACL_AUTO_INHERITED, SACL_AUTO_INHERITED}
 use Rattle.sd_inherit.specs.declared.copies.Copies.{Copies}
@@ -18,15 +18,10 @@ one_or_none (Some a) = a ∷ []
 abbrev pub listed : Copies → List AccessControlEntry
 listed c = one_or_none c.effective ++ one_or_none c.inherit_only
 
--- the buffer is as the builder left it, which was given these parts, in the order of the layout
-pub record Writes (b : Builder) (bytes : List ℕ) (t : Draft) : Type 0 where
-  pub builds : Builds b bytes t
-  pub in_order : BuildsInOrder b bytes t
-
 -- an ACL is open, and is no larger than an ACL may be
 pub record HasOpen (t : Draft) : Type 0 where
-  pub «open» : IsOpen t
-  pub fits : open_size t < 2 ^ 16
+  pub «open» : IsOpen t.parts
+  pub fits : open_size t.parts < 2 ^ 16
 
 abbrev pub more_aces : List AccessControlEntry → Option (Which × List AccessControlEntry)
     → Option (Which × List AccessControlEntry)
@@ -35,7 +30,14 @@ more_aces aces (Some o) = Some (o.0, o.1 ++ aces)
 
 -- these ACEs more at the end of the open ACL
 abbrev pub with_aces : List AccessControlEntry → Draft → Draft
-with_aces aces t = record t { «open» = more_aces aces t.«open» }
+with_aces aces t = record t { parts = record t.parts { «open» = more_aces aces t.parts.«open» } }
+
+-- an ACL more, behind the other parts, unless it is absent; a null one has no bytes
+abbrev pub with_part : Which → AclPart → Draft → Draft
+with_part w acl.Absent t = t
+with_part w acl.Null t = record t { parts = with_acl w acl.Null t.parts }
+with_part w (acl.List aces) t =
+    record { parts = with_acl w (acl.List aces) t.parts; order = t.order ++ part_of w ∷ [] }
 
 -- the bits that say that the ACLs were made by inheritance
 abbrev pub inherited_bits : Bool → ℕ

@@ -1,8 +1,11 @@
-use Rattle.std.proofs.Common.{◌≡◌, Some, refl}
-use Rattle.sd_binary.specs.Draft.{Draft, built, no_parts}
-use Rattle.sd_inherit.specs.Inner.Building.{Writes}
+use Rattle.std.proofs.Common.{◌≡◌, refl, ap, ◌∙◌}
+use Rattle.sd_view.specs.declared.control.Which.TheVariants.{Sacl}
+use Rattle.sd_binary.specs.Builds.{Builds}
+use Rattle.sd_binary.specs.Draft.{built, nothing_given, with_owner}
+use Rattle.sd_binary.proofs.laws.BuiltBytes.{built-layout}
+use Rattle.sd_inherit.specs.Inner.Building.{with_part}
 use Rattle.sd_inherit.specs.Derived.{derived, inherited, sacl_of}
-use Rattle.sd_inherit.proofs.DerivedLaws.{built-derived, fault-dacl, fault-none, fault-sacl, parts_of}
+use Rattle.sd_inherit.proofs.DerivedLaws.{built-derived, can-begin, draft-in-order, draft-parts, draft_of, fault-dacl, fault-none, fault-sacl, with_sids}
 use Rattle.sd_inherit.proofs.derivation.build.Goals as goal
 use Rattle.sd_inherit.proofs.derivation.build.Goals.{After-finish}
 
@@ -17,35 +20,37 @@ pub returns-clause-fault : goal.returns-clause-fault
 returns-clause-fault c =
     fault-none _ _ (rw c.sacl.ensures at c.in-Ok.ensures.full) (rw c.dacl.ensures at c.in_default-put_acl.ensures.full)
 
--- the parts that the builder has at the end
-written : (c : After-finish)
-    → Writes c.put_acl.new.builder c.put_acl.new.buf (parts_of c.args.parent.now c.args.plan.now)
-written c =
+-- what the builder was given in the end
+given : (c : After-finish)
+    → Builds c.put_acl.new.builder c.put_acl.new.buf (draft_of c.args.parent.now c.args.plan.now)
+given c =
     let plan = c.args.plan.now in
-    let one : Draft = record no_parts { owner = Some plan.owner } in
-    let two : Draft = record one { group = Some plan.group } in
-    let begun : Writes c.group.new.self c.group.new.buf two = record {
-      builds = c.group.ensures.value one (c.owner.ensures.value no_parts c.new-builder.ensures.value);
-      in_order = c.group.ensures.in_order one
-          (c.owner.ensures.in_order no_parts c.new-builder.ensures.in_order refl) refl;
-    } in
-    let three : Draft = record two { sacl = sacl_of (inherited plan c.args.parent.now.sacl) } in
+    let one = with_owner plan.owner nothing_given in
+    let sids = c.group.ensures.value one (c.owner.ensures.value nothing_given c.new-builder.ensures.value) in
+    let sacl = sacl_of (inherited plan c.args.parent.now.sacl) in
     rw c.dacl.ensures at
-    (c.in_default-put_acl.ensures.ok three
-    (rw c.sacl.ensures at (c.in-Ok.ensures.ok two begun (refl, refl) refl)) (refl, refl) refl)
+    (c.in_default-put_acl.ensures.ok (with_part Sacl sacl (with_sids plan))
+    (rw c.sacl.ensures at (c.in-Ok.ensures.ok (with_sids plan) sids (refl, refl))) (can-begin plan sacl))
 
--- and what they make
-derives : (c : After-finish) → built c.inherited_bits.result 0 (parts_of c.args.parent.now c.args.plan.now)
+-- and what that makes
+derives : (c : After-finish)
+    → built c.inherited_bits.result 0 (draft_of c.args.parent.now c.args.plan.now).parts
     ≡ derived c.args.parent.now c.args.plan.now
-derives c = rw c.inherited_bits.ensures
-    (built-derived c.args.parent.now c.args.plan.now c.in-Ok.has_sacl (rw c.sacl.ensures at c.in-Ok.ensures.stands))
+derives c =
+    let d = c.args.parent.now in
+    let plan = c.args.plan.now in
+    ap (built c.inherited_bits.result 0) (draft-parts d plan)
+    ∙ rw c.inherited_bits.ensures (built-derived d plan c.in-Ok.has_sacl (rw c.sacl.ensures at c.in-Ok.ensures.stands))
 
 pub returns-clause-shows : goal.returns-clause-shows
 returns-clause-shows c =
     let after = (goal.at.returns-clause-shows c).After-finish in
-    rw (← derives after) (c.finish.ensures.shows _ (written after).builds)
+    rw (← derives after) (c.finish.ensures.shows _ (given after))
 
 pub returns-clause-laid_out : goal.returns-clause-laid_out
 returns-clause-laid_out c =
     let after = (goal.at.returns-clause-laid_out c).After-finish in
-    rw (← derives after) (c.finish.ensures.laid_out _ (written after).in_order)
+    let t = draft_of c.args.parent.now c.args.plan.now in
+    rw (← derives after)
+    (c.finish.ensures.exact t (given after)
+    ∙ built-layout c.inherited_bits.result 0 t (draft-in-order c.args.parent.now c.args.plan.now))

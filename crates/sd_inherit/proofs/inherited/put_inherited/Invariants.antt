@@ -1,7 +1,8 @@
 use Rattle.std.proofs.Common.{◌≡◌, ◌++◌}
 use Rattle.std.specs.List.{flat_map}
+use Rattle.sd_binary.specs.Builds.{Builds}
 use Rattle.sd_binary.specs.Draft.{Draft}
-use Rattle.sd_inherit.specs.Inner.Building.{HasOpen, Writes, with_aces}
+use Rattle.sd_inherit.specs.Inner.Building.{HasOpen, with_aces}
 use Rattle.sd_inherit.specs.Copies.{copies}
 use Rattle.sd_inherit.proofs.inherited.put_inherited.Given as goal
 
@@ -9,8 +10,8 @@ use Rattle.sd_inherit.proofs.inherited.put_inherited.Given as goal
 abbrev pub invariant-loop-ace : goal.invariant-loop-ace
 invariant-loop-ace l = record {
   parts : l.fn.aces ≡ l.yielded ++ l.ace-iterator;
-  writes : (t : Draft) → Writes l.fn.builder l.fn.buf t
-      → Writes l.builder l.buf (with_aces (flat_map (copies l.plan) l.yielded) t);
-  room : (t : Draft) → Writes l.fn.builder l.fn.buf t → HasOpen t
+  writes : (t : Draft) → Builds l.fn.builder l.fn.buf t
+      → Builds l.builder l.buf (with_aces (flat_map (copies l.plan) l.yielded) t);
+  room : (t : Draft) → Builds l.fn.builder l.fn.buf t → HasOpen t
       → HasOpen (with_aces (flat_map (copies l.plan) l.yielded) t);
 }

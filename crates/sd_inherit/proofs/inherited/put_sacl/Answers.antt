@@ -16,9 +16,9 @@ from_the_first c = sym c.loop-ace.invariant.aces
     (sym (c.copies_of-copies.ensures ∙ ap (copies c.args.plan.now) c.ace.ensures))
 
 pub returns-then-not-is_empty-clause-ok : goal.returns-then-not-is_empty-clause-ok
-returns-then-not-is_empty-clause-ok c = λ t h begin last.
+returns-then-not-is_empty-clause-ok c = λ t h begin.
     let is = from_the_first (goal.at.returns-then-not-is_empty-clause-ok c).After-is_empty in
     let stands = sacl-stands (listed c.copies_of-copies.result) (flat_map (copies c.args.plan.now) c.next.new.self)
     (sym c.is_empty.ensures ∙ c.if-not-is_empty.true) in
     rw (is, stands)
-    (c.in_ok-put_from.ensures.ok t (rw (c.loop-ace.invariant.builder, c.loop-ace.invariant.buf) h) begin last)
+    (c.in_ok-put_from.ensures.ok t (rw (c.loop-ace.invariant.builder, c.loop-ace.invariant.buf) h) begin)
