@@ -1,13 +1,16 @@
 -- What a reader of fields holds, after one field more.
-use Rattle.std.proofs.Common.{◌≡◌, ℕ, ◌/◌, ◌%◌, List, [], ◌∷◌, Option, Some, None, Bool, true, false, refl, ap, ◌∙◌}
+use Rattle.std.proofs.Common.{◌≡◌, ℕ, ◌/◌, ◌%◌, List, [], ◌∷◌, Option, Some, None, Bool, true, false, refl, sym, ap, ◌∙◌}
 use Rattle.std.specs.Prelude.{◌&&◌, Ok}
-use Rattle.sd_core.specs.Ace.{GuidsFit}
+use Rattle.std.specs.Option.{option_map}
+use Rattle.sd_core.specs.Ace.{AccessControlEntry, GuidsFit}
 use Rattle.sd_rights.specs.Kinds.{is_object}
 use Rattle.sd_rights.specs.declared.kinds.AceKind.{AceKind}
-use Rattle.sd_binary.specs.Draft.{closed}
-use Rattle.sd_reader.specs.FoldedReading.{FieldsRead, begun_or_null, no_fields, take_front, with_flags}
+use Rattle.sd_binary.specs.Draft.{Parts, built, closed}
+use Rattle.sd_binary.specs.declared.builder.Builder.{Builder}
+use Rattle.sd_reader.specs.FoldedReading.{FieldsRead, begun_or_null, described, finished, no_fields, take_front, with_flags}
 use Rattle.sd_reader.specs.FieldTexts.{object_reads}
-use Rattle.sd_reader.specs.Inner.Reads.{AreAceFields, HasReadFields}
+use Rattle.sd_reader.specs.Meaning.{control_flags, unless_large}
+use Rattle.sd_reader.specs.Inner.Reads.{AreAceFields, BuildsParts, HasReadFields}
 use Rattle.sd_view.specs.declared.control.AclFlags.{AclFlags}
 use Rattle.sd_reader.specs.declared.reading.AceFields.{AceFields}
 use Rattle.sd_reader.specs.declared.reading.AclFront.{AclFront}
@@ -48,6 +51,30 @@ module _ (r : FieldReader) (buf : List ℕ) (t : FieldsRead) (h : HasReadFields 
     builds = h.builds;
     open_acl = h.open_acl;
   }
+
+-- what a reader of fields ends with, where no ACL is too large
+pub finished-none : (t : FieldsRead) (flags : ℕ) → t.large ≡ None → flags ≡ control_flags t.sacl t.dacl
+    → finished (Ok t) ≡ Ok (built flags 0 (closed t.parts))
+unfolding finished
+finished-none t flags none same =
+    ap (λ (large : Option Which). unless_large large (described t)) none
+    ∙ ap (λ (n : ℕ). Ok (built n 0 (closed t.parts))) (sym same)
+
+-- parts more, in whatever order
+pub holds-parts : (r : FieldReader) (buf buf' : List ℕ) (b' : Builder) (t : FieldsRead) (u : Parts)
+    → HasReadFields r buf t → u.«open» ≡ t.parts.«open»
+    → (BuildsParts r.builder buf t.parts → BuildsParts b' buf' u)
+    → HasReadFields (record r { builder = b' }) buf' (record t { parts = u })
+holds-parts r buf buf' b' t u h same step = record {
+  sacl = h.sacl;
+  dacl = h.dacl;
+  ace = h.ace;
+  large = h.large;
+  sound = h.sound;
+  builds = λ e. step (h.builds e);
+  open_acl = λ e. h.open_acl e
+      ∙ ap (λ (o : Option (Which × List AccessControlEntry)). option_map (λ p. p.0) o) (sym same);
+}
 
 pub sound-kind : (kind : AceKind) → AreAceFields (record no_fields { kind = kind })
 sound-kind kind = record { clear = refl; fit = none (is_object kind) }

@@ -17,7 +17,7 @@ use Rattle.sd_rights.proofs.laws.ReadLimits.{flags-limits, rights-limit}
 use Rattle.sd_core.proofs.laws.ReadLimits.{guid-limits, sid-limits}
 use Rattle.sd_view.specs.Acl.{IsAcl, acl_size}
 use Rattle.sd_view.specs.Descriptor.{Descriptor, IsAclPart, IsDescriptor}
-use Rattle.sd_binary.specs.Draft.{Draft, closed, closed_in, is_present, more_in, with_acl}
+use Rattle.sd_binary.specs.Draft.{Parts, closed, closed_in, is_present, more_in, with_acl}
 use Rattle.sd_view.specs.declared.acl.AclPart.{AclPart}
 use Rattle.sd_view.specs.declared.acl.AclPart.TheVariants as acl
 use Rattle.sd_view.specs.declared.control.Which.{Which}
@@ -65,11 +65,11 @@ abbrev IsOpened : Option (Which × List AccessControlEntry) → Type 0
 IsOpened None = Unit {0}
 IsOpened (Some o) = IsAcl o.1
 
-record AreSids (t : Draft) : Type 0 where
+record AreSids (t : Parts) : Type 0 where
   owner : IfSome t.owner IsSid
   group : IfSome t.group IsSid
 
-record AreAcls (t : Draft) : Type 0 where
+record AreAcls (t : Parts) : Type 0 where
   sacl : IsListed t.sacl
   dacl : IsListed t.dacl
   opened : IsOpened t.«open»
@@ -85,7 +85,7 @@ no_aces = record { each = tt; fits = omega arith }
 
 -- 2. The parts.
 
-sids-closed : (t : Draft) (o : Option (Which × List AccessControlEntry)) → AreSids t → AreSids (closed_in o t)
+sids-closed : (t : Parts) (o : Option (Which × List AccessControlEntry)) → AreSids t → AreSids (closed_in o t)
 sids-closed t None h = h
 sids-closed t (Some o) h = listed o.0
   where
@@ -93,7 +93,7 @@ sids-closed t (Some o) h = listed o.0
     listed which.Sacl = record { owner = h.owner; group = h.group }
     listed which.Dacl = record { owner = h.owner; group = h.group }
 
-acls-closed : (t : Draft) (o : Option (Which × List AccessControlEntry)) → AreAcls t → IsOpened o
+acls-closed : (t : Parts) (o : Option (Which × List AccessControlEntry)) → AreAcls t → IsOpened o
     → AreAcls (closed_in o t)
 acls-closed t None h k = h
 acls-closed t (Some o) h k = listed o.0
@@ -102,18 +102,18 @@ acls-closed t (Some o) h k = listed o.0
     listed which.Sacl = record { sacl = k; dacl = h.dacl; opened = tt }
     listed which.Dacl = record { sacl = h.sacl; dacl = k; opened = tt }
 
-closed-sids : (t : Draft) → AreSids t → AreSids (closed t)
+closed-sids : (t : Parts) → AreSids t → AreSids (closed t)
 closed-sids t h = sids-closed t t.«open» h
 
-closed-acls : (t : Draft) → AreAcls t → AreAcls (closed t)
+closed-acls : (t : Parts) → AreAcls t → AreAcls (closed t)
 closed-acls t h = acls-closed t t.«open» h h.opened
 
-sids-begun : (w : Which) (null : Bool) (t : Draft) → AreSids t → AreSids (begun_or_null w null t)
+sids-begun : (w : Which) (null : Bool) (t : Parts) → AreSids t → AreSids (begun_or_null w null t)
 sids-begun which.Sacl true t h = record { owner = h.owner; group = h.group }
 sids-begun which.Dacl true t h = record { owner = h.owner; group = h.group }
 sids-begun w false t h = record { owner = h.owner; group = h.group }
 
-acls-begun : (w : Which) (null : Bool) (t : Draft) → AreAcls t → AreAcls (begun_or_null w null t)
+acls-begun : (w : Which) (null : Bool) (t : Parts) → AreAcls t → AreAcls (begun_or_null w null t)
 acls-begun which.Sacl true t h = record { sacl = tt; dacl = h.dacl; opened = h.opened }
 acls-begun which.Dacl true t h = record { sacl = h.sacl; dacl = tt; opened = h.opened }
 acls-begun w false t h = record { sacl = h.sacl; dacl = h.dacl; opened = no_aces }

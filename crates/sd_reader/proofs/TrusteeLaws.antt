@@ -7,10 +7,9 @@ use Rattle.sd_view.proofs.laws.AceLists.{size-more}
 use Rattle.sd_core.specs.Ace.{AccessControlEntry, ace_size}
 use Rattle.sd_core.specs.Sid.{SecurityId}
 use Rattle.sd_view.specs.Acl.{acl_size}
-use Rattle.sd_binary.specs.Builds.{Builds}
 use Rattle.sd_binary.specs.Draft.{IsOpen, IsOpenIn, more_in, open_size, open_size_in, with_ace}
 use Rattle.sd_reader.specs.FoldedReading.{FieldsRead, ace_of_fields, large_in, with_trustee}
-use Rattle.sd_reader.specs.Inner.Reads.{HasReadFields}
+use Rattle.sd_reader.specs.Inner.Reads.{BuildsParts, HasReadFields}
 use Rattle.sd_reader.specs.declared.reading.FieldReader.{FieldReader}
 use Rattle.sd_binary.specs.declared.builder.Builder.{Builder}
 use Rattle.sd_view.specs.declared.control.Which.{Which}
@@ -76,7 +75,7 @@ module _ (r : FieldReader) (buf buf' : List ℕ) (b' : Builder) (t : FieldsRead)
       now_large = rw (nothing_large) (large-found t.parts.«open» (ace_of_fields t.ace s) o (rw (is) at large))
 
   -- it has room for the ACE
-  pub holds-more : (2 ^ 16 ≤ open_size t.parts + ace_size a → ⊥) → Builds b' buf' (with_ace a t.parts)
+  pub holds-more : (2 ^ 16 ≤ open_size t.parts + ace_size a → ⊥) → BuildsParts b' buf' (with_ace a t.parts)
       → HasReadFields (record r { builder = b' }) buf' (with_trustee t s)
   holds-more fits built = record {
     sacl = h.sacl;
@@ -84,7 +83,7 @@ module _ (r : FieldReader) (buf buf' : List ℕ) (b' : Builder) (t : FieldsRead)
     ace = h.ace;
     large = none ∙ sym (rw (nothing_large) (fits-found t.parts.«open» (ace_of_fields t.ace s) o (rw (is) at fits)));
     sound = h.sound;
-    builds = λ e. (rw (is) at built);
+    builds = λ e. (built.0, rw (is) at built.1);
     open_acl = λ e. h.open_acl nothing_large ∙ sym (open-same t.parts.«open» (ace_of_fields t.ace s));
   }
 

@@ -14,7 +14,7 @@ use Rattle.sd_core.specs.declared.sid_text.SidFault.{SidFault}
 use Rattle.sd_core.specs.declared.sid_text.SidFault.TheVariants.{SidForm}
 use Rattle.sd_view.specs.Acl.{acl_size}
 use Rattle.sd_view.specs.Descriptor.{Descriptor}
-use Rattle.sd_binary.specs.Draft.{Draft, begun, built, closed, no_parts, with_ace, with_acl}
+use Rattle.sd_binary.specs.Draft.{Parts, begun, built, closed, no_parts, with_ace, with_acl}
 use Rattle.sd_view.specs.declared.acl.AclPart.TheVariants as acl
 use Rattle.sd_view.specs.declared.control.Which.{Which}
 use Rattle.sd_view.specs.declared.control.Which.TheVariants as which
@@ -81,7 +81,7 @@ fields_of (s ∷ ss) = fields_in s.head s.body ++ fields_of ss
 -- it.
 pub record FieldsRead : Type 0 where
   -- the parts, and the ACL at hand with its ACEs
-  pub parts : Draft
+  pub parts : Parts
   -- the flags of the ACLs that stand
   pub sacl : AclFlags
   pub dacl : AclFlags
@@ -114,7 +114,7 @@ abbrev pub with_flags : Which → AclFlags → FieldsRead → FieldsRead
 with_flags which.Sacl f r = record r { sacl = f }
 with_flags which.Dacl f r = record r { dacl = f }
 
-abbrev pub begun_or_null : Which → Bool → Draft → Draft
+abbrev pub begun_or_null : Which → Bool → Parts → Parts
 begun_or_null w true t = with_acl w acl.Null t
 begun_or_null w false t = begun w t
 
@@ -133,7 +133,7 @@ abbrev pub large_in : Option (Which × List AccessControlEntry) → Option Which
 large_in None = None
 large_in (Some o) = if nat_lt most_acl (acl_size o.1) then Some o.0 else None
 
-abbrev pub grown : FieldsRead → Draft → FieldsRead
+abbrev pub grown : FieldsRead → Parts → FieldsRead
 grown r parts = record r { parts = parts; large = option_or r.large (large_in parts.«open») }
 
 -- the ACE at hand ends with its SID

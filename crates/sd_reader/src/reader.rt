@@ -1,6 +1,6 @@
 //! A line, read as it comes: byte by byte, and together what stands whole in a piece.
 
-ghost use Rattle.std.specs.Prelude.{◌≡◌, ◌≤◌, ℕ, List, [], ◌∷◌, ◌++◌, codes, length, take, ◌||◌, if◌then◌else◌, true, false, Option, Some, None, Ok, Err, IfOk, IfSome, MatchResult};
+ghost use Rattle.std.specs.Prelude.{◌≡◌, ◌≤◌, ℕ, List, [], ◌∷◌, ◌++◌, codes, length, take, ◌||◌, if◌then◌else◌, true, false, Option, Some, None, Ok, Err, IfOk, IfSome, OnErr, MatchResult};
 ghost use Rattle.std.specs.Option.{option_copied};
 ghost use Rattle.sd_core.specs.Sid.{IsSid, SecurityId};
 ghost use Rattle.sd_view.specs.Descriptor.{IsDescriptor, Shows};
@@ -368,6 +368,7 @@ impl SddlReader {
             (λ e. (result ≡ Err e) × (buf.new ≡ [])) }
         // Without gaps, and each part in its one written form.
         ensures written { (domain : Option SecurityId) (text : List ℕ) → ReadsSddl self buf.old domain text → IfOk (means text domain) (IsWritten buf.new) }
+        ensures empty { OnErr result (buf.new ≡ []) }
     {
         if let Some(letter) = self.pending {
             self.put_text(letter);
@@ -382,6 +383,7 @@ impl SddlReader {
             (λ d. (result ≡ Ok tt) × Shows buf.new d)
             (λ e. (result ≡ Err e) × (buf.new ≡ [])) }
         ensures written { (t : FieldsRead) → LineHasRead self buf.old t → IfOk (finished (answer_at self t [])) (IsWritten buf.new) }
+        ensures empty { OnErr result (buf.new ≡ []) }
     {
         match self.end_line(buf) {
             Ok(()) => Ok(()),

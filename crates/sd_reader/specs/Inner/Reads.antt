@@ -7,8 +7,10 @@ use Rattle.sd_rights.specs.Kinds.{is_object}
 use Rattle.sd_core.specs.Sid.{SecurityId}
 use Rattle.sd_view.specs.Descriptor.{Descriptor, Shows}
 use Rattle.sd_view.specs.declared.acl.AclPart.TheVariants as acl
+use Rattle.sd_view.specs.declared.fault.Part.{Part}
 use Rattle.sd_binary.specs.Builds.{Builds}
-use Rattle.sd_binary.specs.Draft.{IsOpen, IsWritten, draft_acl, closed}
+use Rattle.sd_binary.specs.declared.builder.Builder.{Builder}
+use Rattle.sd_binary.specs.Draft.{IsOpen, IsWritten, Parts, acl_for, closed}
 use Rattle.sd_reader.specs.Inner.Held.{IsHeld}
 use Rattle.sd_reader.specs.Line.{byte, head_at, pieces_from, same_head}
 use Rattle.sd_reader.specs.FoldedReading.{FieldsRead, reads_as}
@@ -33,7 +35,7 @@ use Rattle.sd_reader.specs.declared.reader.SddlReader.{SddlReader}
 abbrev pub Lacks : Head → FieldsRead → Type 0
 Lacks (head.Sid sid_part.Owner) r = r.parts.owner ≡ None
 Lacks (head.Sid sid_part.Group) r = r.parts.group ≡ None
-Lacks (head.Acl w) r = draft_acl w (closed r.parts) ≡ acl.Absent
+Lacks (head.Acl w) r = acl_for w (closed r.parts) ≡ acl.Absent
 
 -- a field's part is not given yet, or its ACL is open
 abbrev pub CanTake : Slot → FieldsRead → Type 0
@@ -46,6 +48,10 @@ pub record AreAceFields (f : AceFields) : Type 0 where
   pub clear : f.flags / 0x20 % 2 ≡ 0
   pub fit : GuidsFit (is_object f.kind) f.object f.inherited
 
+-- the builder was given these parts, in some order
+abbrev pub BuildsParts : Builder → List ℕ → Parts → Type 0
+BuildsParts b buf p = (order : List Part) × Builds b buf (record { parts = p; order = order })
+
 -- The reader has read this, and as long as no ACL is too large it is in the buffer.
 pub record HasReadFields (r : FieldReader) (buf : List ℕ) (t : FieldsRead) : Type 0 where
   pub sacl : r.sacl ≡ t.sacl
@@ -53,7 +59,7 @@ pub record HasReadFields (r : FieldReader) (buf : List ℕ) (t : FieldsRead) : T
   pub ace : r.ace ≡ t.ace
   pub large : r.large ≡ t.large
   pub sound : AreAceFields t.ace
-  pub builds : t.large ≡ None → Builds r.builder buf t.parts
+  pub builds : t.large ≡ None → BuildsParts r.builder buf t.parts
   pub open_acl : t.large ≡ None → r.open_acl ≡ option_map (λ o. o.0) t.parts.«open»
 
 -- a field was read, or is the fault

@@ -1,4 +1,5 @@
 use Rattle.std.proofs.Common.{◌≡◌, sym, None, ◌∙◌, refl, ap, true≢false}
+use Rattle.sd_binary.specs.Draft.{Draft}
 use Rattle.sd_reader.specs.FoldedReading.{ace_of_fields}
 use Rattle.sd_reader.proofs.TrusteeLaws.{holds-large, holds-more, none-is, open-too}
 use Rattle.sd_reader.proofs.reading.FieldReader.put_ace.Goals as goal
@@ -10,8 +11,9 @@ returns-in-Err-clause-held c = λ t h.
     let o = open-too r c.args.buf.now c.requires.0 t c.requires.1 h none c.requires.2 in
     let is : c.in-Some.ace ≡ ace_of_fields t.ace c.args.sid = c.in-Some.ensures.value
     ∙ ap (λ f. ace_of_fields f c.args.sid) h.ace in
+    let built = h.builds (sym h.large ∙ none) in
     holds-large r c.args.buf.now c.ace.new.buf c.ace.new.self t c.args.sid c.in-Some.ace h none is o
-    ((c.in-Err.ensures.full t.parts (h.builds (sym h.large ∙ none))).0 refl)
+    ((c.in-Err.ensures.full (record { parts = t.parts; order = built.0 }) built.1).0 refl)
 
 pub returns-in_default-ace-clause-held : goal.returns-in_default-ace-clause-held
 returns-in_default-ace-clause-held c = λ t h.
@@ -21,6 +23,7 @@ returns-in_default-ace-clause-held c = λ t h.
     let is : c.in-Some.ace ≡ ace_of_fields t.ace c.args.sid = c.in-Some.ensures.value
     ∙ ap (λ f. ace_of_fields f c.args.sid) h.ace in
     let built = h.builds (sym h.large ∙ none) in
+    let given : Draft = record { parts = t.parts; order = built.0 } in
     holds-more r c.args.buf.now c.ace.new.buf c.ace.new.self t c.args.sid c.in-Some.ace h none is o
-    (λ large. absurd (true≢false (sym ((c.in_default-ace.ensures.full t.parts built).1 large))))
-    (c.in_default-ace.ensures.ok t.parts built)
+    (λ large. absurd (true≢false (sym ((c.in_default-ace.ensures.full given built.1).1 large))))
+    (built.0, c.in_default-ace.ensures.ok given built.1)
