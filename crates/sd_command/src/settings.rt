@@ -97,7 +97,7 @@ pub enum UsageFault {
 impl UsageFault {
     /// What the fault stream gets.
     pub fn line(self) -> &'static str
-        ensures { result.now ≡ usage_line self }
+        ensures said { result.now ≡ usage_line self }
     {
         match self {
             UsageFault::NoCommand => "sdtool: usage\n",

@@ -1,12 +1,13 @@
 -- What each return of a run says.
 use Rattle.std.proofs.Common.{zero, suc, ◌≡◌, ℕ, ◌+◌, ◌<◌, List, [], ◌∷◌, ◌++◌, length, true, Option, None, Some, Result, Ok, Err, refl, sym, ◌∙◌, ap, arith, append-nil, append_assoc, inl, inr, ◌⊎◌}
+use Rattle.std.proofs.lemmas.List.Elements.{All-append, All-nil}
 use Rattle.std.specs.Io.KnownBytes.{Consumes, Appends, Keeps, IsAtEnd}
 use Rattle.std.proofs.KnownBytes.{Consumes-nil, Consumes-trans, Consumes-kept}
 use Rattle.sd_sink.specs.Counts.{counted}
 use Rattle.sd_core.specs.Token.{TokenShown}
 use Rattle.sd_sink.specs.Sink.{SinkTold, IsPrefix}
 use Rattle.sd_filter.specs.Told.{SourceTold, DrainTold, sink_of, reads_after, ends_after, failed_reads_after}
-use Rattle.sd_filter.specs.Lines.{ended, lines, cut_at_line_feeds}
+use Rattle.sd_filter.specs.Lines.{AreBytes, ended, lines, cut_at_line_feeds}
 use Rattle.sd_filter.specs.Answers.{answers}
 use Rattle.sd_filter.specs.Inner.Running.{Holds, Answered, Failed, AfterBytes, BeforeRead}
 use Rattle.sd_filter.specs.Outcome.{Finished, FaultSays, HandedOn}
@@ -25,6 +26,9 @@ Appends-kept (Some x) (Some y) (Some z) xs p q = q ∙ p
 
 Consumes-none : (a b c : Option (List ℕ)) (xs : List ℕ) → Consumes a b xs → Consumes b c [] → Consumes a c xs
 Consumes-none a b c xs p q = rw append-nil at (Consumes-trans a b c xs [] p q)
+
+AreBytes-append : (xs ys : List ℕ) → AreBytes xs → AreBytes ys → AreBytes (xs ++ ys)
+AreBytes-append xs ys h more = All-append (λ b. b < 256) xs ys h more
 
 -- a flush after the last answer
 pub Answered-flush : (job : Job) (token0 token : TokenShown) (sink0 : SinkTold) (drain drain' : DrainTold)
@@ -103,6 +107,7 @@ pub BeforeRead-start :
 BeforeRead-start token0 source0 drain0 state report h no_lines no_faults = record {
   got = [];
   read = Consumes-nil source0.left;
+  bytes = All-nil _;
   after = AfterBytes-nil token0 (sink_of drain0) state report h no_lines no_faults;
   handed_on = inl (ended-nil, refl);
   reads = record { at_least = omega arith; at_most = omega arith };
@@ -129,14 +134,15 @@ module _ (most turn : ℕ) (token0 token : TokenShown) (source0 source source' :
   -- a piece was read and its lines are answered
   pub BeforeRead-more :
       (piece : List ℕ) (token' : TokenShown) (drain' : DrainTold) (state' : RunState) (report' : Report)
-      → Consumes source.left source'.left piece → source'.reads ≡ counted source.reads → source'.ends ≡ source.ends
+      → AreBytes piece → Consumes source.left source'.left piece → source'.reads ≡ counted source.reads → source'.ends ≡ source.ends
       → source'.failures ≡ source.failures
       → AfterBytes token0 (sink_of drain0) (r.got ++ piece) state' token' (sink_of drain') report'
       → ((drain' ≡ drain) × (report'.lines ≡ report.lines)) ⊎ (drain'.flushed ≡ true)
       → BeforeRead (turn + 1) token0 source0 drain0 state' token' source' drain' report'
-  BeforeRead-more piece token' drain' state' report' consumed reads ends failures after handed = record {
+  BeforeRead-more piece token' drain' state' report' bytes consumed reads ends failures after handed = record {
     got = r.got ++ piece;
     read = Consumes-trans _ _ _ _ _ r.read consumed;
+    bytes = AreBytes-append r.got piece r.bytes bytes;
     after = after;
     handed_on = HandedOn-more r.got (r.got ++ piece) drain0 drain drain' _ _ r.handed_on r.after.answered.lines_counted
         after.answered.lines_counted handed;
@@ -156,6 +162,7 @@ module _ (most turn : ℕ) (token0 token : TokenShown) (source0 source source' :
     record {
       got = r.got;
       read = Consumes-kept _ _ _ _ r.read keeps;
+      bytes = r.bytes;
       reads = let before = r.reads.at_most in omega arith;
       no_end = ends ∙ r.ends;
       written = r.after.answered.put.appended;
@@ -175,6 +182,7 @@ module _ (most turn : ℕ) (token0 token : TokenShown) (source0 source source' :
   finished token' drain' report' consumed none reads ends failures answered flushed = record {
     got = r.got;
     read = Consumes-none _ _ _ _ r.read consumed;
+    bytes = r.bytes;
     reads = let before = r.reads.at_most in omega arith;
     end = ends ∙ ap counted r.ends;
     at_end = none;
@@ -196,6 +204,7 @@ module _ (most turn : ℕ) (token0 token : TokenShown) (source0 source source' :
   broken-close token' drain' consumed reads ends failures failed = record {
     got = r.got;
     read = Consumes-none _ _ _ _ r.read consumed;
+    bytes = r.bytes;
     reads = let before = r.reads.at_most in omega arith;
     no_failed_read = failures ∙ r.failures;
     all = lines r.got;
@@ -217,13 +226,14 @@ module _ (most turn : ℕ) (token0 token : TokenShown) (source0 source source' :
 
   -- a write failed before
   pub broken-write : (piece : List ℕ) (token' : TokenShown) (drain' : DrainTold)
-      → Consumes source.left source'.left piece
+      → AreBytes piece → Consumes source.left source'.left piece
       → source'.reads ≡ counted source.reads → source'.ends ≡ source.ends → source'.failures ≡ source.failures
       → Failed state.job token0 (sink_of drain0) (ended (r.got ++ piece)) token' (sink_of drain')
       → FaultSays most state.job token0 token' source0 source' drain0 drain' Write
-  broken-write piece token' drain' consumed reads ends failures failed = record {
+  broken-write piece token' drain' bytes consumed reads ends failures failed = record {
     got = r.got ++ piece;
     read = Consumes-trans _ _ _ _ _ r.read consumed;
+    bytes = AreBytes-append r.got piece r.bytes bytes;
     reads = let before = r.reads.at_most in omega arith;
     no_failed_read = failures ∙ r.failures;
     all = ended (r.got ++ piece);
@@ -252,6 +262,7 @@ broken-most most token0 token source0 source drain0 drain state report r = (
   record {
     got = r.got;
     read = r.read;
+    bytes = r.bytes;
     reads = r.reads.at_most;
     no_end = r.ends;
     written = r.after.answered.put.appended;

@@ -1,5 +1,6 @@
 -- Each answer is short.
-use Rattle.std.proofs.Common.{◌≡◌, IfSome, ◌≤◌, ◌+◌, ◌*◌, List, [], ◌∷◌, ◌++◌, length, lit≤, Option, Some, None, Ok, Err, refl, arith, length-append}
+use Rattle.std.proofs.Common.{◌≡◌, IfSome, ◌≤◌, ℕ, ◌+◌, ◌*◌, List, [], ◌∷◌, ◌++◌, length, lit≤, Option, Some, None, Ok, Err, refl, arith, get_or, length-append}
+use Rattle.std.proofs.lemmas.List.Elements.{All-from_get_or}
 use Rattle.hex.specs.Hex.{lower_digits}
 use Rattle.hex.proofs.HexLemmas.{length-encode_with}
 use Rattle.sd_core.specs.Sid.{IsSid}
@@ -18,8 +19,9 @@ use Rattle.sd_inherit.specs.declared.derivation.DeriveFault.{DeriveFault}
 use Rattle.sd_inherit.specs.declared.plan.Plan.{Plan}
 use Rattle.sd_sddl.proofs.laws.SizeLaws.{sddl-length}
 use Rattle.sd_filter.specs.Inner.ActLimits.{ActLimits}
-use Rattle.sd_filter.specs.Answers.{AnswersAreShort, Meaning, act_prints, act_text, answer, as_line_fault, form_text, meaning, naming_of, printed_of_meaning, printed_size, text_of_meaning, unless_fault, unless_refused, verdict_text}
+use Rattle.sd_filter.specs.Answers.{AnswersAreShort, HasShortAnswer, Meaning, act_prints, act_text, answer, as_line_fault, form_text, meaning, naming_of, printed_of_meaning, printed_size, text_of_meaning, unless_fault, unless_refused, verdict_text}
 use Rattle.sd_filter.specs.Faults.{fault_text}
+use Rattle.sd_filter.specs.Lines.{lines}
 use Rattle.sd_filter.specs.declared.fault.LineFault.{LineFault}
 use Rattle.sd_filter.specs.declared.fault.LineFault.TheVariants.{Derive}
 use Rattle.sd_filter.proofs.Base64Lemmas.{base64-short}
@@ -75,7 +77,13 @@ text-short job entries None k h = omega arith
 text-short job entries (Some (Err fault)) k h = fault-short fault
 text-short job entries (Some (Ok d)) k h = act-short job job.act entries d k h
 
+answer-short : (job : Job) (entries : List Entry) → IfSome job.domain IsSid → ActLimits job.act → (line : List ℕ)
+    → HasShortAnswer job entries line
+unfolding answer
+answer-short job entries k a line = text-short job entries (meaning job line) a (meaning-limits job line k)
+
 pub answers-short : (job : Job) (entries : List Entry) → IfSome job.domain IsSid → ActLimits job.act
     → AnswersAreShort job entries
-unfolding answer
-answers-short job entries k a line = text-short job entries (meaning job line) a (meaning-limits job line k)
+answers-short job entries k a input bytes =
+    All-from_get_or (HasShortAnswer job entries) (lines input) []
+    (λ i below. answer-short job entries k a (get_or (lines input) i []))

@@ -1,10 +1,10 @@
 -- The answer to each line, which rests on that line alone.
-use Rattle.std.specs.Prelude.{◌≤◌, ℕ, ◌+◌, ◌*◌, List, [], ◌∷◌, ◌++◌, if◌then◌else◌, nat_lt, length, Bool, true, false, Option, Some, None, is_some, Result, Ok, Err, count_by, sum_by, codes}
+use Rattle.std.specs.Prelude.{◌≤◌, ℕ, ◌+◌, ◌*◌, All, List, [], ◌∷◌, ◌++◌, if◌then◌else◌, nat_lt, length, Bool, true, false, Option, Some, None, is_some, Result, Ok, Err, count_by, sum_by, codes}
 use Rattle.std.specs.List.{flat_map}
 use Rattle.std.specs.Option.{option_map}
 use Rattle.std.specs.Result.{result_ok}
 use Rattle.sd_rights.specs.Chains.{◌>>=◌, fault_as, unless}
-use Rattle.sd_filter.specs.Lines.{line_feed}
+use Rattle.sd_filter.specs.Lines.{AreBytes, line_feed, lines}
 use Rattle.base64.specs.Engines.{standard}
 use Rattle.base64.specs.GeneralPurpose.{encode_of}
 use Rattle.hex.specs.Hex.{encode_lower}
@@ -131,7 +131,7 @@ answer job entries line = text_of_meaning job entries (meaning job line)
 
 -- the answers to these lines, one after the other
 unfoldable pub answers : Job → List Entry → List (List ℕ) → List ℕ
-answers job entries lines = flat_map (answer job entries) lines
+answers job entries these = flat_map (answer job entries) these
 
 -- ---- what is counted
 
@@ -146,7 +146,7 @@ is_error job line = is_error_of_meaning job.act (meaning job line)
 
 -- how many lines are answered by an `error` line
 unfoldable pub errors : Job → List (List ℕ) → ℕ
-errors job lines = count_by (is_error job) lines
+errors job these = count_by (is_error job) these
 
 -- how often an entry of the token may be compared: a check alone compares any
 abbrev pub act_bound : Act → List Entry → Descriptor → ℕ
@@ -164,7 +164,7 @@ unfoldable pub bound : Job → List Entry → List ℕ → ℕ
 bound job entries line = bound_of_meaning job.act entries (meaning job line)
 
 unfoldable pub bounds : Job → List Entry → List (List ℕ) → ℕ
-bounds job entries lines = sum_by (bound job entries) lines
+bounds job entries these = sum_by (bound job entries) these
 
 -- ---- how much is printed
 
@@ -192,7 +192,10 @@ abbrev pub printed_size : Option Descriptor → ℕ
 printed_size None = 0
 printed_size (Some d) = size d
 
--- each answer has at most eight characters a byte of the descriptor that it prints, and 64
+-- the answer has at most eight characters a byte of the descriptor that it prints, and 64
+abbrev pub HasShortAnswer : Job → List Entry → List ℕ → Type 0
+HasShortAnswer job entries line = length (answer job entries line) ≤ 8 * printed_size (printed job line) + 64
+
+-- so has the answer to each line, whatever bytes are the input
 abbrev pub AnswersAreShort : Job → List Entry → Type 0
-AnswersAreShort job entries = (line : List ℕ)
-    → length (answer job entries line) ≤ 8 * printed_size (printed job line) + 64
+AnswersAreShort job entries = (input : List ℕ) → AreBytes input → All (HasShortAnswer job entries) (lines input)

@@ -5,7 +5,7 @@ use Rattle.sd_sink.specs.Counts.{counted}
 use Rattle.sd_core.specs.Token.{TokenShown}
 use Rattle.sd_sink.specs.Sink.{IsPrefix}
 use Rattle.sd_filter.specs.Told.{SourceTold, DrainTold}
-use Rattle.sd_filter.specs.Lines.{lines, ended}
+use Rattle.sd_filter.specs.Lines.{AreBytes, lines, ended}
 use Rattle.sd_filter.specs.Answers.{answers, errors, bounds}
 use Rattle.sd_command.specs.declared.job.Job.{Job}
 use Rattle.sd_filter.specs.declared.engine.Report.{Report}
@@ -28,6 +28,7 @@ pub record Finished (most : ℕ) (job : Job) (token token' : TokenShown) (source
   -- the bytes that left the source in this run
   pub got : List ℕ
   pub read : Consumes source.left source'.left got
+  pub bytes : AreBytes got
   pub reads : source'.reads ≤ source.reads + most
   -- the one read that answered 0 was the last, and nothing is left
   pub end : source'.ends ≡ counted source.ends
@@ -40,8 +41,8 @@ pub record Finished (most : ℕ) (job : Job) (token token' : TokenShown) (source
   pub faults_counted : report.faults ≡ errors job (lines got)
   pub compared : Compares token token' (bounds job token.entries (lines got))
 
--- No line had ended and the output is as it was, or its last call was a flush that succeeded: whoever waits for the
--- answers to the lines that had ended has them.
+-- No line had ended and the output is as it was, or its last call was a flush that succeeded. Any read may be the one
+-- that fails, so this holds before each: a caller has the answers to all lines that have ended before more is read.
 abbrev pub HandedOn : List ℕ → DrainTold → DrainTold → Type 0
 HandedOn got drain drain' = ((ended got ≡ []) × (drain' ≡ drain)) ⊎ (drain'.flushed ≡ true)
 
@@ -50,6 +51,7 @@ pub record Stopped (most : ℕ) (job : Job) (token token' : TokenShown) (source 
     (drain drain' : DrainTold) : Type 0 where
   pub got : List ℕ
   pub read : Consumes source.left source'.left got
+  pub bytes : AreBytes got
   pub reads : source'.reads ≤ source.reads + most
   pub no_end : source'.ends ≡ source.ends
   pub written : Appends drain.taken drain'.taken (answers job token.entries (ended got))
@@ -63,6 +65,7 @@ pub record WriteFailed (most : ℕ) (job : Job) (token token' : TokenShown) (sou
     (drain drain' : DrainTold) : Type 0 where
   pub got : List ℕ
   pub read : Consumes source.left source'.left got
+  pub bytes : AreBytes got
   pub reads : source'.reads ≤ source.reads + most
   pub no_failed_read : source'.failures ≡ source.failures
   -- all lines where the end was read, else those that an LF ended

@@ -52,7 +52,7 @@ impl Model for Engine {
 impl Engine {
     /// All that a run needs is reserved here.
     pub fn new(alloc: Global, job: Job) -> Result<Engine, NoMemory>
-        ensures { IfOk result (λ engine. engine ≡ job) }
+        ensures job { IfOk result (λ engine. engine ≡ job) }
     {
         let read = SdBuf::new(alloc)?;
         let written = SdBuf::new(alloc)?;
@@ -63,7 +63,7 @@ impl Engine {
     /// An engine over these buffers, whatever they hold: the bytes of a line's descriptor, those of the one that is
     /// printed, and the text of a line of base64. It takes no memory.
     pub fn over(job: Job, read: SdBuf, written: SdBuf, held: TextBuf) -> Engine
-        ensures { result ≡ job }
+        ensures job { result ≡ job }
     {
         Engine {
             state: RunState {

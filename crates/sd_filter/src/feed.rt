@@ -57,7 +57,8 @@ pub fn feed_all<W: Drain>(
     ensures fed { Feeds piece.now state.old token.old (sink_of (W.told drain.old)) report.old
         state.new token.new (sink_of (W.told drain.new)) report.new result }
     ensures ended { IfOk result (λ some. some ≡ has_lf piece.now) }
-    ensures quiet { result ≡ Ok false → (W.told drain.new ≡ W.told drain.old) × (report.new.lines ≡ report.old.lines) }
+    ensures quiet { result ≡ Ok false → W.told drain.new ≡ W.told drain.old }
+    ensures none_counted { result ≡ Ok false → report.new.lines ≡ report.old.lines }
     ensures ready { IsOk result → IsReady state.new.line }
     ensures job { state.new.job ≡ state.old.job }
     ensures rose { RoseWithin (length piece.now) report.old report.new }

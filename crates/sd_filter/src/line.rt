@@ -60,10 +60,12 @@ pub struct Line {
 impl Line {
     ghost use Rattle.sd_filter.specs.Inner.Running.{Holds, HoldsText, IsReady, Leaves};
 
-    /// A line over these buffers, whatever they hold. It is to be started.
+    /// A line over these buffers, whatever they hold. Call `start` before the first byte.
     pub fn over(read: SdBuf, held: TextBuf) -> Line
-        ensures buffers { (result.read ≡ read) × (result.held ≡ held) }
-        ensures untouched { (result.count ≡ 0) × (result.cr ≡ false) }
+        ensures read { result.read ≡ read }
+        ensures held { result.held ≡ held }
+        ensures none_counted { result.count ≡ 0 }
+        ensures none_waits { result.cr ≡ false }
     {
         Line {
             reader: LineReader::Base64,
@@ -74,7 +76,7 @@ impl Line {
         }
     }
 
-    /// Nothing came yet of a line for the job.
+    /// Starts an empty line for the job.
     pub fn start(&mut self, job: &Job)
         ensures empty { Holds job.now self.new [] }
         ensures ready { IsReady self.new }

@@ -4,7 +4,7 @@ ghost use Rattle.sd_core.specs.Token.{TokenShown};
 ghost use Rattle.sd_sink.specs.Sink.{SinkTold};
 ghost use Rattle.sd_filter.specs.Told.{sink_of};
 ghost use Rattle.sd_filter.specs.Answers.{AnswersAreShort};
-ghost use Rattle.sd_filter.specs.Lines.{LinesAreCut, lines};
+ghost use Rattle.sd_filter.specs.Lines.{AreBytes, LinesAreCut, lines};
 ghost use Rattle.sd_filter.specs.Splits.{AnswersSplit};
 ghost use Rattle.sd_filter.specs.Inner.Running.{Answered, Failed, Feeds, HasRoom, IsReady, RoseWithin, AfterBytes};
 ghost use Rattle.sd_filter.specs.Outcome.{Outcome};
@@ -20,20 +20,29 @@ const MOST_READS: u64 = 1 << 40;
 /// The bytes that one read may give.
 const PIECE: usize = 8192;
 
-/// Reads lines to the end of the input, writes the answer to each, and flushes at the end, and before it reads again
-/// wherever a line ended: so whoever waits for the answers has them.
+/// Reads lines to the end of the input and writes the answer to each.
 ///
-/// A read that fails ends the run, and so do 2^40 reads without an end: the lines that an LF ended are
-/// answered by then, and the one in hand is not. A write or a flush that fails ends it at once, and a prefix
-/// of the answers is written. After any return the engine may run again: it starts without a held line.
+/// The drain is flushed at the end of the input, and also after each read in which a line ended. So the answers to all
+/// lines that have ended are handed on before more is read, and a caller who waits for an answer gets it.
+///
+/// A fault ends the run:
+///
+/// - `Read` (60): a read failed. The lines that an LF ended are answered and their answers handed on. The line in hand
+///   is not answered.
+/// - `Write` (61): a write or a flush failed. A prefix of the answers is written, and nothing after the failed call. A
+///   drain that fails to hand on its bytes ends the run at the first answers that do not go out, not at the end.
+/// - `TooManyReads` (62): 2^40 reads brought no end. What is answered is as after a failed read.
+///
+/// The engine can run again after any return. It starts without a held line.
 pub fn run<R: Source, W: Drain>(
     engine: &mut Engine,
     token: &mut Token,
     source: &mut R,
     drain: &mut W,
 ) -> Result<Report, RunFault>
-    ensures outcome { Outcome (2 ^ 40) engine.old token.old token.new (R.told source.old) (R.told source.new) (W.told drain.old) (W.told drain.new) result }
-    // At most eight characters a byte of the descriptor that a line prints, and 64.
+    ensures outcome { Outcome (2 ^ 40) engine.old token.old token.new (R.told source.old) (R.told source.new)
+        (W.told drain.old) (W.told drain.new) result }
+    // At most eight characters a byte of the descriptor that a line prints, and 64, whatever bytes are read.
     ensures answers_are_short { AnswersAreShort engine.old token.old.entries }
     // The lines are cut at each LF and nowhere else.
     ensures lines_are_cut { LinesAreCut }
@@ -54,8 +63,9 @@ pub(crate) fn run_at_most<R: Source, W: Drain>(
     drain: &mut W,
     most: u64,
 ) -> Result<Report, RunFault>
-    requires { most ≤ 2 ^ 40 }
-    ensures outcome { Outcome most state.old.job token.old token.new (R.told source.old) (R.told source.new) (W.told drain.old) (W.told drain.new) result }
+    requires limit { most ≤ 2 ^ 40 }
+    ensures outcome { Outcome most state.old.job token.old token.new (R.told source.old) (R.told source.new)
+        (W.told drain.old) (W.told drain.new) result }
     ensures job { state.new.job ≡ state.old.job }
     ensures entries { token.new.entries ≡ token.old.entries }
 {
@@ -96,7 +106,10 @@ fn answer_piece<W: Drain>(
     requires room { HasRoom report.old (length piece.now) }
     ensures fed { Feeds piece.now state.old token.old (sink_of (W.told drain.old)) report.old
         state.new token.new (sink_of (W.told drain.new)) report.new result }
-    ensures handed_on { IsOk result → ((W.told drain.new ≡ W.told drain.old) × (report.new.lines ≡ report.old.lines)) ⊎ ((W.told drain.new).flushed ≡ true) }
+    ensures bytes { AreBytes piece.now }
+    ensures handed_on { IsOk result
+        → ((W.told drain.new ≡ W.told drain.old) × (report.new.lines ≡ report.old.lines))
+        ⊎ ((W.told drain.new).flushed ≡ true) }
     ensures ready { IsOk result → IsReady state.new.line }
     ensures job { state.new.job ≡ state.old.job }
     ensures rose { RoseWithin (length piece.now) report.old report.new }
@@ -126,9 +139,9 @@ fn close<W: Drain>(
     ensures closed { (token0 : TokenShown) (sink0 : SinkTold) (got : List ℕ)
         → AfterBytes token0 sink0 got state.old token.old (sink_of (W.told drain.old)) report.old
         → MatchResult result
-        (λ _. Answered state.new.job token0 sink0 (lines got) token.new (sink_of (W.told drain.new)) report.new
-        × ((W.told drain.new).flushed ≡ true))
+        (λ _. Answered state.new.job token0 sink0 (lines got) token.new (sink_of (W.told drain.new)) report.new)
         (λ _. Failed state.new.job token0 sink0 (lines got) token.new (sink_of (W.told drain.new))) }
+    ensures flushed { IsOk result → (W.told drain.new).flushed ≡ true }
     ensures job { state.new.job ≡ state.old.job }
 {
     match finish(state, token, drain, report) {

@@ -12,7 +12,7 @@ use Rattle.sd_sink.specs.declared.sink.SinkFault.{SinkFault}
 use Rattle.sd_sink.specs.Counts.{counted}
 use Rattle.sd_view.specs.Descriptor.{Descriptor}
 use Rattle.sd_view.specs.Reading.{reading}
-use Rattle.sd_filter.specs.Lines.{cut_at_line_feeds, ended, without_cr, carriage_return}
+use Rattle.sd_filter.specs.Lines.{AreBytes, cut_at_line_feeds, ended, without_cr, carriage_return}
 use Rattle.sd_filter.specs.Answers.{answers, errors, bounds, line_limit, or_byte_fault}
 use Rattle.sd_filter.specs.Outcome.{Compares, HandedOn, RoseBy}
 use Rattle.sd_command.specs.declared.job.Job.{Job}
@@ -112,6 +112,7 @@ pub record BeforeRead (turn : ℕ) (token0 : TokenShown) (source0 : SourceTold) 
   -- the bytes that left the source
   pub got : List ℕ
   pub read : Consumes source0.left source.left got
+  pub bytes : AreBytes got
   pub after : AfterBytes token0 (sink_of drain0) got state token (sink_of drain) report
   pub handed_on : HandedOn got drain0 drain
   pub reads : RoseBy turn source0.reads source.reads

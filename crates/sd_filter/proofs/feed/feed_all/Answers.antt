@@ -26,6 +26,7 @@ loop-n-preserved g c =
           (rw c.answer_line.ensures.job (c.in_ok-answer_line.ensures.begun refl)));
       found = λ _. has_lf-at piece (start + n) found.0 found.1;
       quiet = λ none. absurd (omega arith);
+      none_counted = λ none. absurd (omega arith);
       job = c.answer_line.ensures.job ∙ c.loop-n.invariant.job;
       rose = (omega arith, omega arith);
     }

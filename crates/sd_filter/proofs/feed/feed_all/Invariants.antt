@@ -15,8 +15,8 @@ invariant-loop-n g l = record {
       → AfterBytes token0 sink0 (got ++ take l.start l.piece) l.state l.token (sink_of (g.W.Drain.told l.drain))
       l.report;
   found : 0 < l.start → has_lf l.piece ≡ true;
-  quiet : l.start ≡ 0
-      → (g.W.Drain.told l.drain ≡ g.W.Drain.told l.fn.drain) × (l.report.lines ≡ l.fn.report.lines);
+  quiet : l.start ≡ 0 → g.W.Drain.told l.drain ≡ g.W.Drain.told l.fn.drain;
+  none_counted : l.start ≡ 0 → l.report.lines ≡ l.fn.report.lines;
   job : l.state.job ≡ l.fn.state.job;
   rose : RoseWithin l.start l.fn.report l.report;
 }

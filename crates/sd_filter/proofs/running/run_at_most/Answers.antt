@@ -24,7 +24,7 @@ loop-turn-preserved g c =
     (omega (arith, c.loop-turn.invariant.size, c.read.auto.buf)) in
     record {
       before = BeforeRead-more c.args.most c.loop-turn.turn _ _ _ _ _ _ _ _ _ r (omega arith)
-          (take c.in-Ok.n c.read.new.buf) _ _ _ _
+          (take c.in-Ok.n c.read.new.buf) _ _ _ _ c.answer_piece.ensures.bytes
           c.in-Ok.ensures.bytes.0 (c.read.ensures.reads ∙ reads-some _ _ room)
           (c.read.ensures.ends ∙ ends-some c.read.result _ c.in-Ok.n _ c.in-Ok.is (search rules))
           (c.read.ensures.failures ∙ failures-ok c.read.result c.in-Ok.n _ c.in-Ok.is)
@@ -56,7 +56,7 @@ returns-in-Ok-close-clause-outcome g c =
     (rw z at c.in-Ok.ensures.bytes.0) (c.in-Ok.ensures.bytes.1 z room) (c.read.ensures.reads ∙ reads-some _ _ room)
     (c.read.ensures.ends ∙ ends-zero c.read.result _ c.in-Ok.n _ c.in-Ok.is z room)
     (c.read.ensures.failures ∙ failures-ok c.read.result c.in-Ok.n _ c.in-Ok.is)
-    (rw c.close.ensures.job at closed.0) closed.1)
+    (rw c.close.ensures.job at closed) (c.in-Ok-close.ensures.flushed (search rules)))
 
 pub returns-in-Err-close-clause-outcome : goal.returns-in-Err-close-clause-outcome
 returns-in-Err-close-clause-outcome g c =
@@ -80,7 +80,7 @@ returns-in-Err-answer_piece-clause-outcome g c =
     r.after in
     rw (← c.loop-turn.invariant.job)
     (broken-write c.args.most c.loop-turn.turn _ _ _ _ _ _ _ _ _ r (omega arith) (take c.in-Ok.n c.read.new.buf) _ _
-    c.in-Ok.ensures.bytes.0 (c.read.ensures.reads ∙ reads-some _ _ room)
+    c.answer_piece.ensures.bytes c.in-Ok.ensures.bytes.0 (c.read.ensures.reads ∙ reads-some _ _ room)
     (c.read.ensures.ends ∙ ends-some c.read.result _ c.in-Ok.n _ c.in-Ok.is (search rules))
     (c.read.ensures.failures ∙ failures-ok c.read.result c.in-Ok.n _ c.in-Ok.is)
     (rw c.answer_piece.ensures.job at fed))
@@ -94,7 +94,7 @@ pub returns-in-Ok-close-clause-entries : goal.returns-in-Ok-close-clause-entries
 returns-in-Ok-close-clause-entries g c =
     let r = c.loop-turn.invariant.before in
     (c.in-Ok-close.ensures.closed c.args.token.now (sink_of (g.W.Drain.told c.args.drain.now)) r.got
-    r.after).0.same_entries
+    r.after).same_entries
 
 pub returns-in-Err-close-clause-entries : goal.returns-in-Err-close-clause-entries
 returns-in-Err-close-clause-entries g c =
