@@ -58,7 +58,7 @@ pub Failed-push : (job : Job) (token0 token token' : TokenShown) (sink0 sink sin
     → PutSome sink sink' (answer job token.entries text)
     → token'.entries ≡ token.entries
     → Compares token token' (bound job token.entries text)
-    → Failed job token0 sink0 (all ++ text ∷ []) token' sink'
+    → Failed job token0 sink0 all (all ++ text ∷ []) token' sink'
 Failed-push job token0 token token' sink0 sink sink' all text report h put same further =
     let put0 : PutSome sink sink' (answer job token0.entries text) = subst
     (λ (e : List Entry). PutSome sink sink' (answer job e text)) h.same_entries put in
@@ -68,6 +68,7 @@ Failed-push job token0 token token' sink0 sink sink' all text report h put same 
       more = [];
       part = put0.part;
       split = sym (append-nil (all ++ text ∷ []));
+      begins = ([], sym (append-nil all));
       one = omega arith;
       is_prefix = rw (answers-one job token0.entries text) put0.is_prefix;
       appended = Appends-trans _ _ _ _ _ h.put.appended put0.appended;
@@ -78,14 +79,15 @@ Failed-push job token0 token token' sink0 sink sink' all text report h put same 
     }
 
 -- further lines are not answered either
-Failed-more : (job : Job) (token0 token : TokenShown) (sink0 sink : SinkTold) (all more : List (List ℕ))
-    → Failed job token0 sink0 all token sink → Failed job token0 sink0 (all ++ more) token sink
-Failed-more job token0 token sink0 sink all more h = record {
+Failed-more : (job : Job) (token0 token : TokenShown) (sink0 sink : SinkTold) (before all more : List (List ℕ))
+    → Failed job token0 sink0 before all token sink → Failed job token0 sink0 before (all ++ more) token sink
+Failed-more job token0 token sink0 sink before all more h = record {
   whole = h.whole;
   broken = h.broken;
   more = h.more ++ more;
   part = h.part;
   split = ap (λ l. l ++ more) h.split ∙ append_assoc (h.whole ++ h.broken) h.more more;
+  begins = h.begins;
   one = h.one;
   is_prefix = h.is_prefix;
   appended = h.appended;
@@ -136,19 +138,20 @@ AfterBytes-line token0 token sink0 sink got bytes state report none h holds = re
   answered = rw (ended-lf (got ++ bytes), ended-more got bytes none, rest-more got bytes none) h;
 }
 
-pub Failed-line : (job : Job) (token0 token : TokenShown) (sink0 sink : SinkTold) (got bytes : List ℕ)
-    → NoLf bytes
-    → Failed job token0 sink0 (ended got ++ without_cr ((cut_at_line_feeds got).rest ++ bytes) ∷ []) token sink
-    → Failed job token0 sink0 (ended (got ++ bytes ++ 10 ∷ [])) token sink
-Failed-line job token0 token sink0 sink got bytes none
+pub Failed-line : (job : Job) (token0 token : TokenShown) (sink0 sink : SinkTold) (before : List (List ℕ))
+    (got bytes : List ℕ) → NoLf bytes
+    → Failed job token0 sink0 before (ended got ++ without_cr ((cut_at_line_feeds got).rest ++ bytes) ∷ []) token sink
+    → Failed job token0 sink0 before (ended (got ++ bytes ++ 10 ∷ [])) token sink
+Failed-line job token0 token sink0 sink before got bytes none
     h = rw (ended-lf (got ++ bytes), ended-more got bytes none, rest-more got bytes none) h
 
 -- more bytes after a failure
-Failed-bytes : (job : Job) (token0 token : TokenShown) (sink0 sink : SinkTold) (got more : List ℕ)
-    → Failed job token0 sink0 (ended got) token sink → Failed job token0 sink0 (ended (got ++ more)) token sink
-Failed-bytes job token0 token sink0 sink got more h =
+Failed-bytes : (job : Job) (token0 token : TokenShown) (sink0 sink : SinkTold) (before : List (List ℕ))
+    (got more : List ℕ) → Failed job token0 sink0 before (ended got) token sink
+    → Failed job token0 sink0 before (ended (got ++ more)) token sink
+Failed-bytes job token0 token sink0 sink before got more h =
     let e = ended-append got more in
-    rw e.1 (Failed-more job token0 token sink0 sink (ended got) e.0 h)
+    rw e.1 (Failed-more job token0 token sink0 sink before (ended got) e.0 h)
 
 -- the end of the input
 pub lines-empty : (got : List ℕ) → (cut_at_line_feeds got).rest ≡ [] → lines got ≡ ended got
@@ -179,18 +182,44 @@ piece_line piece start n h e =
     ap (λ k. take k piece) same ∙ take_more piece (start + n) 0 h ∙ ap (λ x. take (start + n) piece ++ x ∷ []) e
     ∙ ap (λ l. l ++ 10 ∷ []) (take-add start n piece)
 
+-- fewer lines before are among them too
+Failed-since : (job : Job) (token0 token : TokenShown) (sink0 sink : SinkTold) (got more : List ℕ)
+    (all : List (List ℕ)) → Failed job token0 sink0 (ended (got ++ more)) all token sink
+    → Failed job token0 sink0 (ended got) all token sink
+Failed-since job token0 token sink0 sink got more all h =
+    let e = ended-append got more in
+    record {
+      whole = h.whole;
+      broken = h.broken;
+      more = h.more;
+      part = h.part;
+      split = h.split;
+      begins = (
+        e.0 ++ h.begins.0,
+        h.begins.1 ∙ ap (λ l. l ++ h.begins.0) e.1 ∙ append_assoc (ended got) e.0 h.begins.0,
+      );
+      one = h.one;
+      is_prefix = h.is_prefix;
+      appended = h.appended;
+      failed = h.failed;
+      same_entries = h.same_entries;
+      compared = h.compared;
+    }
+
 pub Failed-in : (job : Job) (token0 token : TokenShown) (sink0 sink : SinkTold) (got piece : List ℕ) (start n : ℕ)
     → start + n < length piece → get_or piece (start + n) 0 ≡ 10
-    → Failed job token0 sink0 (ended (got ++ take start piece ++ take n (drop start piece) ++ 10 ∷ [])) token sink
-    → Failed job token0 sink0 (ended (got ++ piece)) token sink
+    → Failed job token0 sink0 (ended (got ++ take start piece))
+    (ended (got ++ take start piece ++ take n (drop start piece) ++ 10 ∷ [])) token sink
+    → Failed job token0 sink0 (ended got) (ended (got ++ piece)) token sink
 Failed-in job token0 token sink0 sink got piece start n h e f =
     let whole : got ++ piece ≡ got ++ take start piece ++ take n (drop start piece) ++ 10 ∷ []
     ++ drop (start + (n + 1)) piece =
     ap (λ l. got ++ l) (sym (take-append-drop (start + (n + 1)) piece)
     ∙ ap (λ l. l ++ drop (start + (n + 1)) piece) (piece_line piece start n h e))
     ∙ (simp append_assoc) in
-    subst (λ (l : List ℕ). Failed job token0 sink0 (ended l) token sink) (sym whole)
-    (Failed-bytes job token0 token sink0 sink _ (drop (start + (n + 1)) piece) f)
+    Failed-since job token0 token sink0 sink got (take start piece) _
+    (subst (λ (l : List ℕ). Failed job token0 sink0 (ended (got ++ take start piece)) (ended l) token sink) (sym whole)
+    (Failed-bytes job token0 token sink0 sink _ _ (drop (start + (n + 1)) piece) f))
 
 pub fed_line : (got piece : List ℕ) (start n : ℕ) → start + n < length piece → get_or piece (start + n) 0 ≡ 10
     → got ++ take start piece ++ take n (drop start piece) ++ 10 ∷ [] ≡ got ++ take (start + (n + 1)) piece

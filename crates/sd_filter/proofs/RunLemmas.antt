@@ -1,5 +1,5 @@
 -- What each return of a run says.
-use Rattle.std.proofs.Common.{zero, suc, ◌≡◌, ℕ, ◌+◌, ◌<◌, List, [], ◌∷◌, ◌++◌, length, true, Option, None, Some, Result, Ok, Err, refl, sym, ◌∙◌, ap, arith, append-nil, append_assoc, inl, inr, ◌⊎◌}
+use Rattle.std.proofs.Common.{zero, suc, ◌≡◌, ℕ, ◌+◌, ◌<◌, ◌≤◌, List, [], ◌∷◌, ◌++◌, length, true, Option, None, Some, Result, Ok, Err, refl, sym, ◌∙◌, ap, arith, append-nil, append_assoc, inl, inr, ◌⊎◌}
 use Rattle.std.proofs.lemmas.List.Elements.{All-append, All-nil}
 use Rattle.std.specs.Io.KnownBytes.{Consumes, Appends, Keeps, IsAtEnd}
 use Rattle.std.proofs.KnownBytes.{Consumes-nil, Consumes-trans, Consumes-kept}
@@ -7,10 +7,10 @@ use Rattle.sd_sink.specs.Counts.{counted}
 use Rattle.sd_core.specs.Token.{TokenShown}
 use Rattle.sd_sink.specs.Sink.{SinkTold, IsPrefix}
 use Rattle.sd_filter.specs.Told.{SourceTold, DrainTold, sink_of, reads_after, ends_after, failed_reads_after}
-use Rattle.sd_filter.specs.Lines.{AreBytes, ended, lines, cut_at_line_feeds}
+use Rattle.sd_filter.specs.Lines.{AreBytes, ended, last_line, lines, cut_at_line_feeds}
 use Rattle.sd_filter.specs.Answers.{answers}
 use Rattle.sd_filter.specs.Inner.Running.{Holds, Answered, Failed, AfterBytes, BeforeRead}
-use Rattle.sd_filter.specs.Outcome.{Finished, FaultSays, HandedOn}
+use Rattle.sd_filter.specs.Outcome.{Finished, FaultSays, HandedOn, IsFront, most_of_a_read}
 use Rattle.sd_command.specs.declared.job.Job.{Job}
 use Rattle.sd_filter.specs.declared.engine.RunState.{RunState}
 use Rattle.sd_filter.specs.declared.engine.Report.{Report}
@@ -77,16 +77,17 @@ HandedOn-more got got' a b c lines lines' (inr flushed) counted counted' (inl (s
 
 -- a flush that fails
 pub Failed-flush : (job : Job) (token0 token : TokenShown) (sink0 : SinkTold) (drain drain' : DrainTold)
-    (all : List (List ℕ)) (report : Report)
+    (before all : List (List ℕ)) (report : Report)
     → Answered job token0 sink0 all token (sink_of drain) report → Keeps drain.taken drain'.taken
-    → drain'.failures ≡ counted drain.failures
-    → Failed job token0 sink0 all token (sink_of drain')
-Failed-flush job token0 token sink0 drain drain' all report h keeps failed = record {
+    → drain'.failures ≡ counted drain.failures → IsFront before all
+    → Failed job token0 sink0 before all token (sink_of drain')
+Failed-flush job token0 token sink0 drain drain' before all report h keeps failed front = record {
   whole = all;
   broken = [];
   more = [];
   part = [];
   split = sym (append-nil (all ++ []) ∙ append-nil all);
+  begins = front;
   one = omega arith;
   is_prefix = (answers job token0.entries [], refl);
   appended = rw append-nil (Appends-kept _ _ _ _ h.put.appended keeps);
@@ -94,6 +95,11 @@ Failed-flush job token0 token sink0 drain drain' all report h keeps failed = rec
   same_entries = h.same_entries;
   compared = rw append-nil h.compared;
 }
+
+-- the lines that an LF ended come first
+pub lines-front : (got : List ℕ) → IsFront (ended got) (lines got)
+unfolding lines
+lines-front got = (last_line (cut_at_line_feeds got).rest, refl)
 
 ended-nil : ended [] ≡ []
 unfolding ended cut_at_line_feeds
@@ -116,10 +122,10 @@ BeforeRead-start token0 source0 drain0 state report h no_lines no_faults = recor
 }
 
 -- the answers to some lines, and a part of the answer to one more, are a prefix of the answers to all
-written-prefix : (job : Job) (token0 token : TokenShown) (sink0 sink : SinkTold) (all : List (List ℕ))
-    (h : Failed job token0 sink0 all token sink)
+written-prefix : (job : Job) (token0 token : TokenShown) (sink0 sink : SinkTold) (before all : List (List ℕ))
+    (h : Failed job token0 sink0 before all token sink)
     → IsPrefix (answers job token0.entries h.whole ++ h.part) (answers job token0.entries all)
-written-prefix job token0 token sink0 sink all h =
+written-prefix job token0 token sink0 sink before all h =
     let a = answers job token0.entries in (
       h.is_prefix.0 ++ a h.more,
       ap a h.split ∙ answers-append job token0.entries (h.whole ++ h.broken) h.more
@@ -199,7 +205,7 @@ module _ (most turn : ℕ) (token0 token : TokenShown) (source0 source source' :
   pub broken-close : (token' : TokenShown) (drain' : DrainTold)
       → Consumes source.left source'.left []
       → source'.reads ≡ counted source.reads → source'.ends ≡ counted source.ends → source'.failures ≡ source.failures
-      → Failed state.job token0 (sink_of drain0) (lines r.got) token' (sink_of drain')
+      → Failed state.job token0 (sink_of drain0) (ended r.got) (lines r.got) token' (sink_of drain')
       → FaultSays most state.job token0 token' source0 source' drain0 drain' Write
   broken-close token' drain' consumed reads ends failures failed = record {
     got = r.got;
@@ -211,7 +217,7 @@ module _ (most turn : ℕ) (token0 token : TokenShown) (source0 source source' :
     these = inl (ends ∙ ap counted r.ends, refl);
     written = answers state.job token0.entries failed.whole ++ failed.part;
     wrote = failed.appended;
-    is_prefix = written-prefix _ _ _ _ _ _ failed;
+    is_prefix = written-prefix _ _ _ _ _ _ _ failed;
     failed = failed.failed;
     whole = failed.whole;
     broken = failed.broken;
@@ -222,15 +228,20 @@ module _ (most turn : ℕ) (token0 token : TokenShown) (source0 source source' :
     is_part = failed.is_prefix;
     joined = refl;
     compared = failed.compared;
+    front = r.got;
+    last_read = [];
+    cut = sym (append-nil r.got);
+    one_read = omega arith;
+    went_out = failed.begins;
   }
 
   -- a write failed before
   pub broken-write : (piece : List ℕ) (token' : TokenShown) (drain' : DrainTold)
-      → AreBytes piece → Consumes source.left source'.left piece
+      → AreBytes piece → length piece ≤ most_of_a_read → Consumes source.left source'.left piece
       → source'.reads ≡ counted source.reads → source'.ends ≡ source.ends → source'.failures ≡ source.failures
-      → Failed state.job token0 (sink_of drain0) (ended (r.got ++ piece)) token' (sink_of drain')
+      → Failed state.job token0 (sink_of drain0) (ended r.got) (ended (r.got ++ piece)) token' (sink_of drain')
       → FaultSays most state.job token0 token' source0 source' drain0 drain' Write
-  broken-write piece token' drain' bytes consumed reads ends failures failed = record {
+  broken-write piece token' drain' bytes size consumed reads ends failures failed = record {
     got = r.got ++ piece;
     read = Consumes-trans _ _ _ _ _ r.read consumed;
     bytes = AreBytes-append r.got piece r.bytes bytes;
@@ -240,7 +251,7 @@ module _ (most turn : ℕ) (token0 token : TokenShown) (source0 source source' :
     these = inr (ends ∙ r.ends, refl);
     written = answers state.job token0.entries failed.whole ++ failed.part;
     wrote = failed.appended;
-    is_prefix = written-prefix _ _ _ _ _ _ failed;
+    is_prefix = written-prefix _ _ _ _ _ _ _ failed;
     failed = failed.failed;
     whole = failed.whole;
     broken = failed.broken;
@@ -251,6 +262,11 @@ module _ (most turn : ℕ) (token0 token : TokenShown) (source0 source source' :
     is_part = failed.is_prefix;
     joined = refl;
     compared = failed.compared;
+    front = r.got;
+    last_read = piece;
+    cut = refl;
+    one_read = size;
+    went_out = failed.begins;
   }
 
 -- the reads are used up

@@ -59,6 +59,14 @@ pub record Stopped (most : ℕ) (job : Job) (token token' : TokenShown) (source 
   pub no_failed_write : drain'.failures ≡ drain.failures
   pub compared : Compares token token' (bounds job token.entries (ended got))
 
+-- the first of these lines are those
+abbrev pub IsFront : List (List ℕ) → List (List ℕ) → Type 0
+IsFront front all = (back : List (List ℕ)) × (all ≡ front ++ back)
+
+-- the bytes that one read may give
+abbrev pub most_of_a_read : ℕ
+most_of_a_read = 8192
+
 -- a write or a flush failed, and a prefix of the answers was written: those of some lines whole, and
 -- a part of the answer to one more, or to none where a flush failed
 pub record WriteFailed (most : ℕ) (job : Job) (token token' : TokenShown) (source source' : SourceTold)
@@ -86,6 +94,12 @@ pub record WriteFailed (most : ℕ) (job : Job) (token token' : TokenShown) (sou
   pub is_part : IsPrefix part (answers job token.entries broken)
   pub joined : written ≡ answers job token.entries whole ++ part
   pub compared : Compares token token' (bounds job token.entries (whole ++ broken))
+  -- It ended at the first answers that did not go out: the lines that had ended before the last read are answered whole.
+  pub front : List ℕ
+  pub last_read : List ℕ
+  pub cut : got ≡ front ++ last_read
+  pub one_read : length last_read ≤ most_of_a_read
+  pub went_out : IsFront (ended front) whole
 
 -- what each fault says: of a run of at most `most` reads, which the first failed read ends
 abbrev pub FaultSays : ℕ → Job → TokenShown → TokenShown → SourceTold → SourceTold → DrainTold → DrainTold → RunFault

@@ -3,7 +3,7 @@ ghost use Rattle.std.specs.Prelude.{◌≡◌, ◌+◌, ◌<◌, ℕ, List, ◌+
 ghost use Rattle.std.specs.Prelude.{MatchResult, IfOk, IsOk, Ok, false, unwrap_or, IfSome};
 ghost use Rattle.sd_sink.specs.Sink.{SinkTold};
 ghost use Rattle.sd_core.specs.Token.{TokenShown};
-ghost use Rattle.sd_filter.specs.Lines.{has_lf, lines, line_feed};
+ghost use Rattle.sd_filter.specs.Lines.{ended, has_lf, lines, line_feed};
 ghost use Rattle.sd_filter.specs.Inner.Running.{Answered, Failed, Feeds, HasRoom, Holds, HoldsText, IsReady, RoseWithin, AfterBytes};
 ghost use Rattle.sd_filter.specs.Told.{sink_of};
 
@@ -29,7 +29,7 @@ fn answer_line<W: Drain>(
         → Answered state.old.job token0 sink0 all token.old (sink_of (W.told drain.old)) report.old
         → MatchResult result
         (λ _. Answered state.old.job token0 sink0 (all ++ line ∷ []) token.new (sink_of (W.told drain.new)) report.new)
-        (λ _. Failed state.old.job token0 sink0 (all ++ line ∷ []) token.new (sink_of (W.told drain.new))) }
+        (λ _. Failed state.old.job token0 sink0 all (all ++ line ∷ []) token.new (sink_of (W.told drain.new))) }
     ensures begun { IsOk result → Holds state.old.job state.new.line [] }
     ensures ready { IsOk result → IsReady state.new.line }
     ensures job { state.new.job ≡ state.old.job }
@@ -119,7 +119,7 @@ pub fn finish<W: Drain>(
         → AfterBytes token0 sink0 got state.old token.old (sink_of (W.told drain.old)) report.old
         → MatchResult result
         (λ _. Answered state.new.job token0 sink0 (lines got) token.new (sink_of (W.told drain.new)) report.new)
-        (λ _. Failed state.new.job token0 sink0 (lines got) token.new (sink_of (W.told drain.new))) }
+        (λ _. Failed state.new.job token0 sink0 (ended got) (lines got) token.new (sink_of (W.told drain.new))) }
     ensures job { state.new.job ≡ state.old.job }
 {
     if state.line.is_untouched() {

@@ -4,7 +4,7 @@ ghost use Rattle.sd_core.specs.Token.{TokenShown};
 ghost use Rattle.sd_sink.specs.Sink.{SinkTold};
 ghost use Rattle.sd_filter.specs.Told.{sink_of};
 ghost use Rattle.sd_filter.specs.Answers.{AnswersAreShort};
-ghost use Rattle.sd_filter.specs.Lines.{AreBytes, LinesAreCut, lines};
+ghost use Rattle.sd_filter.specs.Lines.{AreBytes, LinesAreCut, ended, lines};
 ghost use Rattle.sd_filter.specs.Splits.{AnswersSplit};
 ghost use Rattle.sd_filter.specs.Inner.Running.{Answered, Failed, Feeds, HasRoom, IsReady, RoseWithin, AfterBytes};
 ghost use Rattle.sd_filter.specs.Outcome.{Outcome};
@@ -140,7 +140,7 @@ fn close<W: Drain>(
         → AfterBytes token0 sink0 got state.old token.old (sink_of (W.told drain.old)) report.old
         → MatchResult result
         (λ _. Answered state.new.job token0 sink0 (lines got) token.new (sink_of (W.told drain.new)) report.new)
-        (λ _. Failed state.new.job token0 sink0 (lines got) token.new (sink_of (W.told drain.new))) }
+        (λ _. Failed state.new.job token0 sink0 (ended got) (lines got) token.new (sink_of (W.told drain.new))) }
     ensures flushed { IsOk result → (W.told drain.new).flushed ≡ true }
     ensures job { state.new.job ≡ state.old.job }
 {

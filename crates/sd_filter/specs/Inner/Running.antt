@@ -14,7 +14,7 @@ use Rattle.sd_view.specs.Descriptor.{Descriptor}
 use Rattle.sd_view.specs.Reading.{reading}
 use Rattle.sd_filter.specs.Lines.{AreBytes, cut_at_line_feeds, ended, without_cr, carriage_return}
 use Rattle.sd_filter.specs.Answers.{answers, errors, bounds, line_limit, or_byte_fault}
-use Rattle.sd_filter.specs.Outcome.{Compares, HandedOn, RoseBy}
+use Rattle.sd_filter.specs.Outcome.{Compares, HandedOn, IsFront, RoseBy}
 use Rattle.sd_command.specs.declared.job.Job.{Job}
 use Rattle.sd_filter.specs.declared.engine.RunState.{RunState}
 use Rattle.sd_filter.specs.declared.engine.Report.{Report}
@@ -82,14 +82,16 @@ pub record AfterBytes (token0 : TokenShown) (sink0 : SinkTold) (got : List ℕ) 
   pub holds : Holds state.job state.line (cut_at_line_feeds got).rest
   pub answered : Answered state.job token0 sink0 (ended got) token sink report
 
--- the sink failed: some of these lines are answered whole, and of the answer to one more, or to none, a part
-pub record Failed (job : Job) (token0 : TokenShown) (sink0 : SinkTold) (all : List (List ℕ)) (token : TokenShown)
+-- the sink failed: some of these lines are answered whole, those before among them, and of the answer to one more, or
+-- to none, a part
+pub record Failed (job : Job) (token0 : TokenShown) (sink0 : SinkTold) (before all : List (List ℕ)) (token : TokenShown)
     (sink : SinkTold) : Type 0 where
   pub whole : List (List ℕ)
   pub broken : List (List ℕ)
   pub more : List (List ℕ)
   pub part : List ℕ
   pub split : all ≡ whole ++ broken ++ more
+  pub begins : IsFront before whole
   pub one : length broken ≤ 1
   pub is_prefix : IsPrefix part (answers job token0.entries broken)
   pub appended : Appends sink0.contents sink.contents (answers job token0.entries whole ++ part)
@@ -104,7 +106,7 @@ Feeds piece state token sink report state' token' sink' report' result =
     (token0 : TokenShown) (sink0 : SinkTold) (got : List ℕ) → AfterBytes token0 sink0 got state token sink report
     → MatchResult result
     (λ _. AfterBytes token0 sink0 (got ++ piece) state' token' sink' report')
-    (λ _. Failed state'.job token0 sink0 (ended (got ++ piece)) token' sink')
+    (λ _. Failed state'.job token0 sink0 (ended got) (ended (got ++ piece)) token' sink')
 
 -- a run before its next read
 pub record BeforeRead (turn : ℕ) (token0 : TokenShown) (source0 : SourceTold) (drain0 : DrainTold) (state : RunState)

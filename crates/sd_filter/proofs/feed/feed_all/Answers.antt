@@ -42,7 +42,7 @@ returns-in_err-answer_line-clause-fed g c = λ token0 sink0 got h.
     let before = c.loop-n.invariant.after token0 sink0 got h in
     rw (p.1, c.answer_line.ensures.job)
     (Failed-in _ token0 _ sink0 _ got piece start n found.0 found.1
-    (rw (line_in piece start n) at (Failed-line _ token0 _ sink0 _ _ _ none
+    (rw (line_in piece start n) at (Failed-line _ token0 _ sink0 _ _ _ _ none
     (c.in_err-answer_line.ensures.answered token0 sink0 _ _ (c.take.ensures.holds _ _ before.holds).text
     before.answered))))
 

@@ -78,9 +78,11 @@ returns-in-Err-answer_piece-clause-outcome g c =
     let room : 0 < length c.read.new.buf = omega (arith, c.loop-turn.invariant.size, c.read.auto.buf) in
     let fed = c.in-Err-answer_piece.ensures.fed c.args.token.now (sink_of (g.W.Drain.told c.args.drain.now)) r.got
     r.after in
+    let size : length (take c.in-Ok.n c.read.new.buf) ≤ 8192 = simp length-take
+    (omega (arith, c.loop-turn.invariant.size, c.read.auto.buf)) in
     rw (← c.loop-turn.invariant.job)
     (broken-write c.args.most c.loop-turn.turn _ _ _ _ _ _ _ _ _ r (omega arith) (take c.in-Ok.n c.read.new.buf) _ _
-    c.answer_piece.ensures.bytes c.in-Ok.ensures.bytes.0 (c.read.ensures.reads ∙ reads-some _ _ room)
+    c.answer_piece.ensures.bytes size c.in-Ok.ensures.bytes.0 (c.read.ensures.reads ∙ reads-some _ _ room)
     (c.read.ensures.ends ∙ ends-some c.read.result _ c.in-Ok.n _ c.in-Ok.is (search rules))
     (c.read.ensures.failures ∙ failures-ok c.read.result c.in-Ok.n _ c.in-Ok.is)
     (rw c.answer_piece.ensures.job at fed))
