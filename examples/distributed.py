@@ -9,23 +9,25 @@ It needs the packages dask and distributed (Debian: python3-dask, python3-distri
 sdtool on the workers' PATH. Workers need no copy of this file.
 
 Blocks. An input may be cut behind any LF: the answers to the pieces, one after the other, are the answers to the
-whole. So each file is cut behind LFs into blocks of about 25 MB, and a block is one Dask task that pipes its bytes
-through one sdtool. There are two ways for the bytes to get to the worker:
+whole. So each file is cut behind LFs into blocks of about 25 MB, and each block is a Dask task, which pipes the
+block through one sdtool. The bytes get to the worker in one of two ways:
 
   sent    The client reads the block, and its bytes are an argument of the task. This is the default with
           --scheduler, because it works where workers do not see the client's files. The scheduler keeps the argument
-          until the task is done. So it can give the block to another worker if one dies, which it could not do with
-          data that had been scattered to that worker. The price: all bytes pass through client and scheduler.
+          until the task is done, so if a worker dies, another one gets the block. Blocks that the client scatters to
+          workers would be lost with them. The price: all bytes pass through client and scheduler.
   shared  The task gets path, offset and length, and the worker reads the file. Use --shared where each worker sees
           the files under the same paths. A cluster in this process always works like this.
 
-Memory. At most --ahead blocks are under way (default: two per worker thread), which bounds what scheduler and
-workers hold. Answers stay on the workers until their turn, and the client fetches one at a time: it holds one block
-or one answer. A line of more than 2 MiB is too long in every form, whatever follows, so only its front is sent.
+Memory. At most --ahead blocks are under way (default: two per worker thread). This bounds what client, scheduler and
+workers hold. The answers to a block stay on its worker until their turn, and the client fetches one block's answers at
+a time. A line of more than 2 MiB is too long in every form, so only its front is sent: memory does not depend on the
+length of lines.
 
-Files. FOLDER/NAME appears when it is whole: it is written to FOLDER/.NAME.unfinished, synced and renamed. A journal
-in FOLDER, .sdtool.journal, records each file that is done. The same command again skips those files, unless their
-input has changed. Two inputs with one base name are refused; --keep-folders keeps the folders of their paths.
+Files. An answer file appears as FOLDER/NAME when it is whole: it is written to FOLDER/.NAME.unfinished, synced and
+renamed. The journal FOLDER/.sdtool.journal records each file that is done. The same command skips these files when it
+runs again, unless their input has changed. Two inputs with the same base name are refused; with --keep-folders the
+answer files keep the folders of their inputs' paths.
 
 Standard output gets the number of lines and of `error` lines of each file, and the first errors, as FILE:LINE.
 Standard error gets the progress. The exit status is
@@ -89,15 +91,12 @@ END_OF_EXPLANATION = re.compile(rb"^(?:end|error [^\n]*|)\n", re.MULTILINE)
 
 
 def read_block(path: str, offset: int, length: int, most: int) -> bytes:
-    """The bytes of a block; of a block of more than `most` bytes, whose last line is too long, that many and its LF."""
+    """The bytes of a block, at most `most`: a line that is cut there is too long with or without the cut."""
     with open(path, "rb") as file:
         file.seek(offset)
         data = file.read(min(length, most))
-        if len(data) < min(length, most):
-            raise OSError(f"{path} is shorter than it was")
-        if length > most:
-            file.seek(offset + length - 1)
-            data += b"\n" if file.read(1) == b"\n" else b""
+    if len(data) < min(length, most):
+        raise OSError(f"{path} is shorter than it was")
     return data
 
 
@@ -352,8 +351,8 @@ class AnswerFile:
     def finish(self, record: Callable[[], None]) -> None:
         """Syncs the answers, records that they are whole, and gives them their name.
 
-        The record comes first: a run that dies in between leaves no file that nobody recorded. It also must not vouch
-        for answers to an older input, so these go before it.
+        The record comes before the name, so that no file has its name without a record if the run dies in between.
+        Answers to an older version of the input go before both, so that the new record cannot vouch for them.
         """
         self.file.flush()
         os.fsync(self.file.fileno())
@@ -368,7 +367,7 @@ class AnswerFile:
             os.close(folder)
 
     def drop(self) -> None:
-        """Takes an unfinished file away; nothing where it is finished."""
+        """Removes the file if it is unfinished."""
         with contextlib.suppress(OSError):
             self.file.close()
         with contextlib.suppress(OSError):
@@ -389,7 +388,7 @@ class Progress:
         self.started = self.shown = time.monotonic()
 
     def show(self) -> None:
-        """Shows it where the last time is long enough ago."""
+        """Shows it if the last time is long enough ago."""
         now = time.monotonic()
         if not self.seconds or now - self.shown < self.seconds:
             return
@@ -439,8 +438,8 @@ class Cluster:
     def __init__(self, dask: Any, wanted: argparse.Namespace):
         self.wait_seconds, self.local = wanted.wait, None
         if wanted.scheduler is None:
-            # sdtool does the work, in a process of its own, so threads serve as workers and nothing is copied. Dask
-            # listens for HTTP, whatever it is told, and on all addresses, if it is not told which.
+            # sdtool does the work, in processes of its own, so the workers can be threads, and nothing is copied. Dask
+            # always starts HTTP servers. Without an address they would listen on all interfaces.
             self.local = dask.LocalCluster(
                 n_workers=wanted.workers or len(os.sched_getaffinity(0)), threads_per_worker=1, processes=False,
                 dashboard_address=LOOPBACK, worker_dashboard_address=LOOPBACK, scheduler_kwargs={"dashboard": False},
@@ -462,7 +461,7 @@ class Cluster:
                 self.local.close(timeout=10)
 
     def poll(self) -> None:
-        """Counts workers and threads every few seconds, and fails where there has been none for long."""
+        """Counts workers and threads every few seconds, and fails if there has been no worker for long."""
         now = time.monotonic()
         if now - self.polled < POLL_SECONDS:
             return
@@ -475,7 +474,7 @@ class Cluster:
             raise Failed(f"{self.name} has had no worker for {self.wait_seconds:g} seconds")
 
     def probe(self, command: list[str]) -> dict[str, tuple]:
-        """What `probe` returns on each worker, beside the tasks that it has."""
+        """What `probe` returns on each worker. It does not wait for the worker's tasks."""
         probed = self.client.run(probe, command, on_error="return")
         told = {worker: outcome for worker, outcome in probed.items() if isinstance(outcome, tuple)}
         if not told:
@@ -483,7 +482,7 @@ class Cluster:
         return told
 
     def outcome(self, future: Any, while_waiting: Callable[[], None]) -> Outcome:
-        """Waits for a task and its answers, in a thread: Dask waits for ever where all workers are gone."""
+        """Waits for a task and its answers, in a thread: if all workers are gone, Dask would wait for ever."""
         fetched: concurrent.futures.Future = concurrent.futures.Future()
 
         def fetch() -> None:
@@ -493,14 +492,15 @@ class Cluster:
                 fetched.set_exception(error)
 
         threading.Thread(target=fetch, daemon=True).start()
-        while not concurrent.futures.wait([fetched], timeout=REDRAW_SECONDS).done:
+        while True:
             self.poll()
             while_waiting()
-        return Outcome(*fetched.result())
+            if concurrent.futures.wait([fetched], timeout=REDRAW_SECONDS).done:
+                return Outcome(*fetched.result())
 
 
 def check_words(cluster: Cluster, command: list[str]) -> Optional[int]:
-    """Tries the words on each worker, without input; the exit status where nothing is left to do."""
+    """Tries the words on each worker, without input. Returns the exit status if the run ends here."""
     probed = cluster.probe(command)
     for worker, (status, said, answers, _) in probed.items():
         if status == 2:
@@ -547,7 +547,7 @@ class Run:
                 if not under_way:
                     return
                 self.write(*under_way.popleft())
-        except Failed as error:
+        except (Failed, OSError) as error:
             raise Failed(f"{error}\nThe files that are done stay; the same command goes on with the others.") from None
         finally:
             self.progress.end()
@@ -555,7 +555,7 @@ class Run:
                 self.answers.drop()
 
     def write(self, block: Block, future: Any) -> None:
-        """Appends the answers to a block, and finishes the file behind its last one."""
+        """Appends the answers to a block, and finishes the file after its last block."""
         outcome = self.answered(block, future)
         given, folder = block.input, self.wanted.out
         tally = self.tallies.setdefault(given.path, Tally())
@@ -583,7 +583,7 @@ class Run:
             raise
         except (OSError, asyncio.CancelledError, concurrent.futures.CancelledError):
             raise Failed(f"{block.input.path}, {bytes_of_it}: the scheduler at {self.cluster.name} is lost") from None
-        except Exception as error:  # Dask has others, as where each worker that tried the block died
+        except Exception as error:  # such as KilledWorker, if each worker that tried the block died
             raise Failed(f"{block.input.path}, {bytes_of_it}: {type(error).__name__}: {error}") from None
         if fault := outcome.fault():
             raise Failed(f"{block.input.path}, {bytes_of_it}, on worker {outcome.worker}: {fault}")
@@ -687,7 +687,7 @@ def main() -> int:
     except KeyboardInterrupt:
         say("interrupted; the same command goes on with the files that are not done")
         return 128 + signal.SIGINT
-    except Exception:  # not 1, which says that all is answered
+    except Exception:  # Python's own status would be 1, which says that all lines were answered
         traceback.print_exc()
         return 3
 

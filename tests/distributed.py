@@ -354,6 +354,24 @@ def test_words(count, place, address):
     count.add(got.status == 3 and is_said, f"no scheduler: {got}")
 
 
+def test_other_program(count, place, address):
+    """A worker that has another program is told of."""
+    other = place.folder / "other"
+    other.mkdir()
+    place.script("other/sdtool", "exec PROGRAM \"$@\"")
+    usual = place.environment
+    place.environment = {**usual, "PATH": f"{other}:{usual['PATH']}"}
+    worker = place.start_worker(address)
+    place.environment = usual
+    place.wait_for_workers(address, 2)
+    name, out = place.write("told", LINE * 50), place.out()
+    got = place.run(out, ["convert"], [name], ["--scheduler", address])
+    judge_run(count, place, got, out, ["convert"], [name], "two programs")
+    is_said = "do not have the same program" in got.stderr and got.stderr.count("SHA-256") == 2
+    count.add(is_said, f"two programs: {got}")
+    end(worker)
+
+
 def test_progress(count, place):
     name = place.write("watched", LINE * 300)
     slow = place.script("slowly", "sleep 0.1; exec PROGRAM \"$@\"")
@@ -417,6 +435,7 @@ def over_words(count, place):
     _, address = place.start_scheduler()
     place.start_worker(address)
     timed("words", test_words, count, place, address)
+    timed("another program", test_other_program, count, place, address)
     timed("progress", test_progress, count, place)
 
 
