@@ -45,6 +45,7 @@ if "${MAKE:-make}" --no-print-directory program; then
     count tests/system_calls.py "$program"
     count tests/memory.py "$program"
     count tests/device_faults.py "$program"
+    count tests/distributed.py "$program"
     wait "$comparison"
     status=$?
     comparison=
