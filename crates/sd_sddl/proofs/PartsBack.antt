@@ -20,7 +20,7 @@ use Rattle.sd_core.specs.declared.naming.Naming.{Naming}
 use Rattle.sd_reader.specs.declared.reading.AceFields.{AceFields}
 use Rattle.sd_view.specs.declared.control.Which.{Which}
 use Rattle.sd_view.specs.declared.control.Which.TheVariants as which
-use Rattle.sd_binary.specs.Draft.{Draft, begun, closed, with_ace, with_acl}
+use Rattle.sd_binary.specs.Draft.{Parts, begun, closed, with_ace, with_acl}
 use Rattle.sd_reader.specs.FoldedReading.{Field, FieldsRead, ace_fields, grown, large_in, no_fields, read_fields, take_field, with_flags, with_owner_or_group, with_trustee}
 use Rattle.sd_reader.specs.Line.{ace, byte, has_aces}
 use Rattle.sd_rights.specs.Chains.{and_then}
@@ -196,7 +196,7 @@ with_acl_part w f acl.Null r = with_flags w f (record r { parts = with_acl w acl
 with_acl_part w f (acl.List aces) r = opened w aces
     (with_fields (last_fields (begun_acl w f r).ace aces) (begun_acl w f r))
 
-first-opened : (w : Which) (f : AclFlags) (r : FieldsRead) (t : Draft)
+first-opened : (w : Which) (f : AclFlags) (r : FieldsRead) (t : Parts)
     → with_flags w f (record r { parts = begun w t }) ≡ opened w [] (with_flags w f (record r { parts = t }))
 first-opened which.Sacl f r t = refl
 first-opened which.Dacl f r t = refl
