@@ -31,6 +31,7 @@ count() {
 rm -f "$program"
 count tests/layers.py
 count tests/figures.py --check
+count tests/edits.py --apply
 count rt ci
 count tests/run_rows.py --reference
 if "${MAKE:-make}" --no-print-directory program; then

@@ -1,5 +1,5 @@
 #!/usr/bin/env python3
-"""edits.py [--edit WORD] [CRATE ..]
+"""edits.py [--apply] [--edit WORD] [CRATE ..]
 
 Tries the edits of crates/NAME/must-fail and tests/edits/NAME: each puts a wrong body in place of a function's own,
 and the prover has to refuse it. Without names it tries the edits of all crates, with --edit those whose name has the
@@ -13,7 +13,8 @@ and no second proof. An edit passes where the crate is not proved with it becaus
   - the edit does not apply, compile or read, or the check breaks off
   - all that fails is a proof file that names what the edit took away, and what cites that file
 
-Each edit has a line with its seconds. The last line is 'N passed, M failed'.
+Each edit has a line with its seconds. With --apply nothing is checked but that each edit still applies, which takes a
+second. The last line is 'N passed, M failed'.
 """
 import argparse
 import contextlib
@@ -201,9 +202,24 @@ class Edits:
                 self.try_one(copy, crate, path)
 
 
+def apply_all(chosen):
+    """Whether each edit applies to the crate as it is."""
+    count = preload.Count(most_shown=1000)
+    for crate, paths in chosen.items():
+        for path in paths:
+            why = None
+            try:
+                edited(path.read_text(encoding="utf-8"), TOP / "crates" / crate)
+            except WrongEdit as fault:
+                why = fault
+            count.add(not why, f"{crate}/{path.stem}: {why}")
+    return count.end()
+
+
 def main():
     parser = argparse.ArgumentParser(description="Tries the edits that the prover has to refuse.")
     parser.add_argument("crates", nargs="*", metavar="CRATE", help="by default all")
+    parser.add_argument("--apply", action="store_true", help="only looks whether the edits apply")
     parser.add_argument("--edit", metavar="WORD", default="", help="only edits with this word in their names")
     given = parser.parse_args()
     listed = layers.dependencies(TOP)
@@ -212,6 +228,8 @@ def main():
     chosen = {crate: paths for crate, paths in chosen.items() if paths}
     if unknown or not chosen:
         parser.error(f"there is no crate {min(unknown)}" if unknown else "there is no such edit")
+    if given.apply:
+        return apply_all(chosen)
     edits = Edits(listed)
     chosen = {crate: paths for crate, paths in chosen.items() if edits.is_proved(crate, paths)}
     with ThreadPoolExecutor(AT_ONCE) as pool:
