@@ -1,6 +1,6 @@
 #!/usr/bin/env bash
-# Tests of the sources, the gate, and then the tests of the built program. Each part shows what it prints, which ends
-# with a line 'N passed, M failed'; the last line of all is their sum. A part without such a line counts as one that failed.
+# Tests of the sources, the gate, and then the tests of the built program. Each part ends with a line
+# 'N passed, M failed', and the last line of all is their sum. A part without such a line counts as one that failed.
 set -u
 cd "$(dirname "$0")/.." || exit 2
 program=crates/sdtool/out/sdtool

@@ -40,7 +40,8 @@ CHECK = ("rt", "check", "--jobs", "1")
 PLACE = r"(?:\./)?(\S+?):\d+:\d+: "
 # Where antt reads a text that an edit made false, it names a goal; these words say that it could not read the text.
 UNREAD = re.compile(PLACE + r"error: (`[^`]*`: )?(.*)")
-UNREAD_WORDS = re.compile(r"is not in scope|has no field|is no name|operand is missing|expected the end|cannot continue")
+UNREAD_WORDS = re.compile(
+    r"is not in scope|has no field|is no name|operand is missing|expected the end|cannot continue")
 GOAL = re.compile(r"note: " + PLACE + "|" + PLACE + "error")
 # A proof that names what is gone, and what cites that proof.
 NAMES_WHAT_IS_GONE = re.compile(r"(?:\./)?proofs/.*(?:has no field|is not in scope|has no `|was not admitted)")

@@ -16,7 +16,8 @@ import preload  # noqa: E402
 TOP = pathlib.Path(__file__).resolve().parent.parent
 DOCUMENT = TOP / "docs/GATE.md"
 MARKERS = ("<!-- figures, written by make figures -->\n", "<!-- end of the figures -->\n")
-HEADS = ("Crate", "Functions", "Lines of `src`", "Lines of `specs`", "Lines of `proofs`", "Edits in the gate", "Further edits")
+HEADS = ("Crate", "Functions", "Lines of `src`", "Lines of `specs`", "Lines of `proofs`", "Edits in the gate",
+         "Further edits")
 ITEM = re.compile(r"\bfn\s+\w+")
 COMMENT = re.compile(r"//.*")
 ROW_OF_AN_EDIT = re.compile(r"^\| `(\w+)` \| `(\w+)` \|", re.M)
@@ -68,9 +69,9 @@ def check(document):
     count.add(parts_of(document)[1] == table(), "the figures in docs/GATE.md are stale: run make figures")
     named = ROW_OF_AN_EDIT.findall(document)
     there = [(crate, edit) for crate in crates() for edit in in_gate(crate)]
-    for crate, edit in sorted({*named, *there}):
-        count.add((named.count((crate, edit)), there.count((crate, edit))) == (1, 1),
-                  f"{crate}/{edit}: docs/GATE.md has {named.count((crate, edit))} rows for it, the gate has {there.count((crate, edit))}")
+    for edit in sorted({*named, *there}):
+        rows, files = named.count(edit), there.count(edit)
+        count.add(rows == files == 1, f"{'/'.join(edit)}: docs/GATE.md has {rows} rows for it, the gate has {files}")
     return count.end()
 
 

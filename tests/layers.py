@@ -70,7 +70,8 @@ def violations(crate, folder, listed):
             if other == crate and is_law and (is_inner(module) or is_of_one_function(module)):
                 found["laws"].append(place)
         if path.parts[0] == "src":
-            named = {other for other, _ in modules_in(line)} | {name for names in RUST_PATH.findall(line) for name in names}
+            named = {name for names in RUST_PATH.findall(line) for name in names}
+            named |= {other for other, _ in modules_in(line)}
             found["dependencies"] += [place] if named & beyond else []
     return found
 
