@@ -12,8 +12,9 @@ fn expect_hex(rt: &(impl Abort + AllocGlobal), buf: &SdBuf, text: &str) {
 }
 
 fn expect_ace(rt: &impl Abort, builder: &mut Builder, buf: &mut SdBuf, ace: &Ace)
-    requires { (t : Draft) × Builds builder.old buf.old t × IsOpen t }
-    ensures { (t : Draft) → Builds builder.old buf.old t → Builds builder.new buf.new (with_ace ace.now t) }
+    requires { (t : Draft) × Builds builder.old buf.old t × IsOpen t.parts }
+    ensures { (t : Draft) → Builds builder.old buf.old t
+        → Builds builder.new buf.new (record t { parts = with_ace ace.now t.parts }) }
 {
     assert!(rt; builder.ace(buf, ace) == Ok(()));
 }

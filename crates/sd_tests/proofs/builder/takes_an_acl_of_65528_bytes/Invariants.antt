@@ -1,4 +1,4 @@
-use Rattle.std.specs.Prelude.{List, Some}
+use Rattle.std.specs.Prelude.{List, [], Some}
 use Rattle.sd_core.specs.Ace.{AccessControlEntry}
 use Rattle.sd_binary.specs.Builds.{Builds}
 use Rattle.sd_binary.specs.Draft.{no_parts}
@@ -7,4 +7,4 @@ use Rattle.sd_tests.proofs.builder.takes_an_acl_of_65528_bytes.Given as goal
 
 abbrev pub invariant-loop : goal.invariant-loop
 invariant-loop g l = (aces : List AccessControlEntry)
-    × Builds l.builder l.buf (record no_parts { «open» = Some (Sacl, aces) })
+    × Builds l.builder l.buf (record { parts = record no_parts { «open» = Some (Sacl, aces) }; order = [] })
