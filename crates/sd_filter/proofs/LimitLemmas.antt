@@ -1,5 +1,5 @@
 -- What a line means has the limits of a descriptor.
-use Rattle.std.proofs.Common.{◌≡◌, ℕ, Bool, true, false, cond, eqb, List, [], ◌∷◌, length, ◌%◌, Option, Some, None, Result, Ok, Err, refl, subst}
+use Rattle.std.proofs.Common.{◌≡◌, ℕ, Bool, true, false, cond, eqb, List, [], ◌∷◌, length, ◌%◌, Option, Some, None, Result, Ok, Err, refl}
 use Rattle.std.specs.Prelude.{IfSome, nat_lt}
 use Rattle.sd_binary.proofs.laws.HexPairs.{decoded-ok}
 use Rattle.hex.specs.Hex.{decode_of, decode_pairs}
@@ -11,8 +11,7 @@ use Rattle.sd_reader.specs.Meaning.{means}
 use Rattle.sd_reader.specs.declared.fault.SddlFault.{SddlFault}
 use Rattle.sd_reader.proofs.laws.MeaningLimits.{means-limits}
 use Rattle.sd_view.specs.Descriptor.{Descriptor, IsDescriptor}
-use Rattle.sd_rights.specs.Chains.{unless}
-use Rattle.sd_view.specs.Reading.{fault, reading, shown}
+use Rattle.sd_view.specs.Reading.{reading}
 use Rattle.sd_binary.specs.Text.{base64_spells, hex_spells}
 use Rattle.sd_binary.specs.declared.buffer.TextFault.{TextFault}
 use Rattle.sd_view.specs.declared.fault.SdFault.{SdFault}

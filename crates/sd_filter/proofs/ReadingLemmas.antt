@@ -1,9 +1,8 @@
 -- The end of a line: what its reader leaves, and what is read there.
-use Rattle.std.proofs.Common.{◌≡◌, ◌≤◌, ℕ, List, [], length, Option, Result, Ok, Err, refl, sym, ◌∙◌, ap, subst}
+use Rattle.std.proofs.Common.{◌≡◌, ◌≤◌, ℕ, List, [], length, Option, Result, Ok, Err, refl, sym, ap, subst}
 use Rattle.std.specs.Prelude.{MatchResult, IsErrAnd}
 use Rattle.sd_core.specs.Sid.{SecurityId}
 use Rattle.sd_view.specs.Descriptor.{Descriptor, Shows}
-use Rattle.sd_view.specs.Reading.{reading}
 use Rattle.sd_view.specs.declared.fault.SdFault.{SdFault}
 use Rattle.sd_view.proofs.laws.ReadingLaws.{reading-shown}
 use Rattle.sd_reader.specs.SddlReading.{ReadsSddl}
