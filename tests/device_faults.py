@@ -47,6 +47,7 @@ OWNER = b"0100008014000000000000000000000000000000" b"010100000000000512000000"
 BASE64_NO_PARTS, BASE64_OWNER = (base64.b64encode(bytes.fromhex(text.decode())) for text in (NO_PARTS, OWNER))
 ACE = b"00001400ff011f00010100000000000100000000"
 WITH_DACL = b"010004800000000000000000000000001400000002001c0001000000" + ACE
+TWO_LINES = NO_PARTS + b"\nzz\n"
 SHORT_HEX = OWNER + b"\nzz\n\n" + NO_PARTS + b"\r\n" + OWNER
 SHORT_SDDL = b"o:ba d:(a;;fa;;;wd)\n?\n\nS:P\r\n O:SY\n \nG:WD"
 # Every flag and right that has a name, and a SID of sixteen characters: SDDL nearly five times as long as the bytes.
@@ -77,7 +78,8 @@ DERIVE = ["derive", "--kind", "container", "--owner", "BA", "--group", "SY"]
 DERIVE_SDDL_TO_HEX = [*DERIVE, "--from", "sddl", "--to", "hex"]
 SHORT_JOBS = [Job(HEX, SHORT_HEX, 1), Job(SDDL, SHORT_HEX, 1), Job(SDDL_TO_SDDL, SHORT_SDDL, 1),
               Job(SDDL_TO_HEX, SHORT_SDDL, 1), Job(EXPLAIN, SHORT_HEX, 1), Job(CHECK, SHORT_HEX, 1),
-              Job(DERIVE, SHORT_HEX, 1), Job(TO_BASE64, SHORT_HEX, 1), Job(FROM_BASE64, SHORT_BASE64, 1)]
+              Job(DERIVE, SHORT_HEX, 1), Job(TO_BASE64, SHORT_HEX, 1), Job(FROM_BASE64, SHORT_BASE64, 1),
+              Job(HEX, TWO_LINES, 1, 1)]
 LARGE_JOBS = [Job(HEX, MANY_HEX), Job(SDDL, MANY_HEX), Job(SDDL_TO_SDDL, MANY_SDDL), Job(SDDL_TO_HEX, MANY_SDDL),
               Job(SDDL, SHORT_HEX + b"\n" + BOTH_LONG + b"\n" + SHORT_HEX), Job(EXPLAIN, MANY_HEX),
               Job(EXPLAIN, SHORT_HEX + b"\n" + BOTH_LONG + b"\n" + SHORT_HEX),

@@ -3,7 +3,8 @@
 //   REFUSE_AT=K            refuses the Kth allocation, and no other
 //   REFUSE_WHEN_READING=1  refuses every allocation from the first read of the standard input on
 //   REFUSE_TELL=FD         where it tells, one letter for each event: 'r' the first read of the standard
-//                          input, 'l' an allocation of LARGE bytes or more, 'a' a refused allocation
+//                          input, 'l' an allocation of LARGE bytes or more, 'm' another of MIDDLING bytes or
+//                          more; and a refused one 'L', 'M', or 'S' where it is smaller
 //
 // It includes nothing, so that a C compiler is enough to build it: no header of a C library is wanted.
 typedef __SIZE_TYPE__ size_t;
@@ -19,6 +20,7 @@ extern long atol(const char *text);
 
 enum { OUT_OF_MEMORY = 12 };  // ENOMEM on Linux
 enum { LARGE = 131226 };      // the bytes of the largest descriptor
+enum { MIDDLING = 8192 };     // eight bytes for each entry of the largest token
 
 static long refused_one;
 static int refuses_when_reading;
@@ -45,13 +47,12 @@ static void tell(char event) {
 }
 
 static int is_refused(size_t size) {
-    allocations++;
-    if (size >= LARGE)
-        tell('l');
-    if (allocations != refused_one && !(refuses_when_reading && is_reading))
-        return 0;
-    tell('a');
-    return 1;
+    int refused = ++allocations == refused_one || (refuses_when_reading && is_reading);
+    if (refused)
+        tell(size >= LARGE ? 'L' : size >= MIDDLING ? 'M' : 'S');
+    else if (size >= MIDDLING)
+        tell(size >= LARGE ? 'l' : 'm');
+    return refused;
 }
 
 void *malloc(size_t size) {

@@ -4,13 +4,15 @@
 Refuses the program's allocations, by a small library (refuse.c) that is preloaded under it.
 First each allocation of a few command lines in turn: the program says `sdtool: no memory`, ends with status 4, and has
 neither read nor written anything. One allocation of each may be dispensable: refused, it changes nothing.
-Where lines are read, three allocations are as large as a descriptor or larger, the engine's buffers: none is dispensable.
+Before its first read the program takes memory for the token, in two allocations, and for the engine, in three that are
+as large as a descriptor or larger: none of them is dispensable.
 Then every allocation from the first read on: there is none, so nothing changes.
 The last line is 'N passed, M failed'.
 """
 import argparse
 import base64
 import os
+import re
 import subprocess
 import sys
 import tempfile
@@ -40,7 +42,8 @@ FAULTY_ACLS = [WITH_DACL[:-2], WITH_DACL[:-40] + b"09" + ACE[2:], WITH_DACL[:-40
                b"01001480000000000000000014000000140000000200080000000000"]
 # The list of words is copied to a block that just fits; where there is no such block, it stays where it is.
 DISPENSABLE = 1
-ENGINE_BUFFERS = 3
+# What the library tells of the token, the engine and the first read.
+TOKEN, ENGINE, READ = b"mm", b"lll", b"r"
 COMMAND_LINES = [
     ["convert"],
     ["convert", "--from", "hex", "--to=hex"],
@@ -72,6 +75,29 @@ COMMAND_LINES = [
     ["--help"],
     [],
 ]
+# Worked rows: the words, the line and the answer.
+WORKED = b"01000480140000002400000000000000300000000102000000000005200000002002000001010000000000051200000002001c0001000000" + ACE
+USER = "S-1-5-21-1-2-3-1001"
+EXPLANATION = b"""control 0x8004 DP SR
+rm 0x00
+owner S-1-5-32-544 BA
+group S-1-5-18 SY
+dacl list 1
+dacl 1 A flags none mask 0x001f01ff rights FA sid S-1-1-0 WD
+sacl absent
+end"""
+ROWS = [
+    (["convert", "--to", "hex"], WORKED, WORKED),
+    (["convert", "--to", "sddl"], WORKED, b"O:BAG:SYD:(A;;FA;;;WD)"),
+    (["check", "--from", "sddl", "--token", f"{USER},!BA", "--want", "FR"], b"D:(A;;FA;;;BA)", b"denied 0x00120089"),
+    (["derive", "--from", "sddl", "--kind", "container", "--owner", USER, "--group", "WD"], b"D:(A;OICIIO;GA;;;CO)",
+     b"O:S-1-5-21-1-2-3-1001G:WDD:AI(A;ID;FA;;;S-1-5-21-1-2-3-1001)(A;OICIIOID;GA;;;CO)"),
+    (["explain"], WORKED, EXPLANATION),
+]
+# The longest line of hex: two SIDs of fifteen sub-authorities and two ACLs of 65,535 bytes.
+LONG_ACL, LONG_SID = b"0200ffff00000000" + b"00" * 65_527, b"010f000000000005" + b"00" * 60
+LONGEST = b"0100148014000000580000009c0000009b000100" + LONG_SID * 2 + LONG_ACL * 2
+LONGEST_SDDL = b"O:S-1-5%bG:S-1-5%bD:S:" % (b"-0" * 15, b"-0" * 15)
 HEX_LINES = [EMPTY, b"zz", b"", EMPTY + b"\r", EMPTY + b"f" * (LIMIT - len(EMPTY)), b"0" * (LIMIT + 1), b"0", EMPTY,
              WITH_DACL, WITH_SACL, OF_DOMAIN, NULL_ACLS, LABEL, GUIDS, FULL, *FAULTY_ACLS, WITH_DACL]
 SDDL_ACE = b"(OA;CIIO;0x1f;bf967aba-0de6-11d0-a285-00aa003049e2;bf967a9c-0de6-11d0-a285-00aa003049e2;S-1-5-21-1-2-3-512)"
@@ -87,6 +113,8 @@ SDDL_LINES = [b"O:BAG:SYD:PAI" + SDDL_ACE + b"S:AR(ML;;NW;;;HI)", b"", b" o:ba "
 BASE64_LINES = [base64.b64encode(bytes.fromhex(line.decode())) for line in (EMPTY, WITH_DACL, OF_DOMAIN, GUIDS, FULL)]
 BASE64_LINES += [b"", b"AQ", b"AQ==", BASE64_LINES[0] + b"\r", b"A" * BASE64_LIMIT, b"!" * BASE64_LIMIT,
                  b"A" * (BASE64_LIMIT + 1), BASE64_LINES[1]]
+LONGEST_LINES = [WORKED, LONGEST, LONGEST + b"00", WORKED]
+LONGEST_ANSWERS = [b"O:BAG:SYD:(A;;FA;;;WD)", LONGEST_SDDL, b"error 1 too-long", b"O:BAG:SYD:(A;;FA;;;WD)"]
 # The words, and the lines that are read under them.
 READING = [
     (["convert", "--to", "hex"], HEX_LINES * 20),
@@ -135,37 +163,56 @@ def run(command, data, library, **settings):
     return Ended(child.returncode, child.stdout, child.stderr, taken), told
 
 
-def refuse_each(count, program, words, library):
+def refused_in(told):
+    """The letters up to that of the first refused allocation."""
+    found = re.match(rb"[a-z]*[A-Z]", told)
+    return found[0] if found else b""
+
+
+def is_told(told):
+    """Whether memory for the token and then for the engine was taken just before the first read. Where nothing is read
+    there is no engine."""
+    return re.fullmatch(b"m*" + TOKEN + ENGINE + READ, told) or re.fullmatch(b"m*", told)
+
+
+def refuse_each(count, program, words, library, line=EMPTY, answer=None):
     """Each allocation in turn, until there is none any more to refuse."""
-    data = EMPTY + b"\n"
+    data = line + b"\n"
     shown = " ".join(["sdtool", *words])
     plain, plainly_told = run([program, *words], data, library)
-    buffers = ENGINE_BUFFERS if b"r" in plainly_told else 0
-    dispensable, large = [], 0
+    dispensable, fronts = [], set()
     for number in range(1, ALLOCATIONS):
         ended, told = run([program, *words], data, library, REFUSE_AT=number)
-        if b"a" not in told:
+        front = refused_in(told)
+        if not front:
             break
-        large += b"la" in told
-        if ended == plain and b"la" not in told:
+        fronts.add(front)
+        if ended == plain and front.endswith(b"S"):
             dispensable.append(number)
         else:
             count.add(ended == NO_MEMORY, f"{shown}, allocation {number} refused: {ended}")
     print(f"{shown}: {number - 1} allocations, each refused in turn; dispensable: {dispensable}")
     count.add(number > 1, f"{shown}: no allocation was seen; is the program linked with the C library as a shared one?")
     count.add(len(dispensable) <= DISPENSABLE, f"{shown}: more allocations are dispensable than {DISPENSABLE}")
-    count.add(large == buffers and plainly_told.count(b"l") == buffers, f"{shown}: {large} large allocations, not {buffers}")
+    stores = plainly_told.rstrip(READ)
+    count.add(is_told(plainly_told), f"{shown}: the library told {plainly_told}")
+    count.add(all(stores[:at] + stores[at:at + 1].upper() in fronts for at in range(len(stores))),
+              f"{shown}: of {stores} not each was refused, but {fronts}")
     count.add(ended == plain, f"{shown}, none refused: {ended}, not {plain}")
+    if answer is not None:
+        count.add(plain[:3] == (0, answer + b"\n", b""), f"{shown}, none refused: {plain}, not {answer}")
 
 
-def refuse_when_reading(count, program, words, lines, library):
+def refuse_when_reading(count, program, words, lines, library, answers=None):
     data = b"\n".join(lines)
     command, shown = [program, *words], " ".join(["sdtool", *words])
     plain, _ = run(command, data, library)
     ended, told = run(command, data, library, REFUSE_WHEN_READING=1)
     count.add(plain.status == 1 and plain.taken == len(data), f"{shown}, plain run: {plain}")
+    if answers is not None:
+        count.add(plain.stdout == b"".join(answer + b"\n" for answer in answers), f"{shown}, plain run: {plain}")
     count.add(ended == plain, f"{shown}, every allocation refused from the first read on: {ended}, not {plain}")
-    count.add(told == b"l" * ENGINE_BUFFERS + b"r", f"{shown}, the library told {told[:20]}, not the buffers and the read alone")
+    count.add(is_told(told) and told.endswith(READ), f"{shown}, the library told {told[:20]}, and no read last")
 
 
 def main():
@@ -177,6 +224,9 @@ def main():
         library = preload.build("refuse.c", folder)
         for words in COMMAND_LINES:
             refuse_each(count, program, words, library)
+        for words, line, answer in ROWS:
+            refuse_each(count, program, words, library, line, answer)
+        refuse_when_reading(count, program, ["convert", "--to", "sddl"], LONGEST_LINES, library, LONGEST_ANSWERS)
         for words, lines in READING:
             refuse_when_reading(count, program, words, lines, library)
     return count.end()
