@@ -7,13 +7,19 @@ use std::io::Error;
 use std::io::ErrorKind::{Interrupted, Other, WouldBlock};
 use std::process::Abort;
 
-const TEXT: &[u8] = b"\nzz\n\r\n0100008000000000000000000000000000000000\nzz\n";
+/// Two lines, and the answers to them.
+pub const TEXT: &[u8] = b"0100008000000000000000000000000000000000\nzz\n";
 
-const ANSWERS: &[u8] =
-    b"\nerror 2 hex-digit\n\n0100008000000000000000000000000000000000\nerror 2 hex-digit\n";
+pub const ANSWERS: &[u8] = b"0100008000000000000000000000000000000000\nerror 2 hex-digit\n";
 
-// How long the answers are to so many lines.
-const ENDS: [usize; 6] = [0, 1, 19, 20, 61, 79];
+/// The answers to the lines that end in a front of the text.
+pub fn answers_to(front: &[u8]) -> &'static [u8] {
+    match count(front, b'\n') {
+        0 => b"",
+        1 => b"0100008000000000000000000000000000000000\n",
+        _ => ANSWERS,
+    }
+}
 
 const READ_FAULT: &[u8] = b"sdtool: error 60 read\n";
 
@@ -45,21 +51,17 @@ fn writes_on_and_flushes(rt: HostRuntime) {
 // Each read fails in turn, once or for good: the run ends with it, and no line that it cut is answered.
 #[test]
 fn ends_at_the_read_that_fails(rt: HostRuntime) {
-    let error = Some(Error::from(Other));
     for taken in 0..=TEXT.len() {
-        let text = &TEXT[..taken];
-        let end = ENDS[count(text, b'\n').min(5)];
-        let answers = ANSWERS.get(..end).unwrap_or(b"");
-        for most in [50, 1] {
-            let first = taken.div_ceil(most) as u64 + 1;
-            for failing in Failing::once_or_for_good(first, error) {
-                let ended = over(
-                    &rt,
-                    Input::slow(text, most, failing),
-                    Output::new(rt.alloc()),
-                );
-                ended.expect(&rt, 3, answers, READ_FAULT, b"r");
-                assert!(rt; ended.input.reads == first, "{taken}");
+        let front = &TEXT[..taken];
+        for kind in [Other, WouldBlock, Interrupted] {
+            for (text, most) in [(front, 50), (TEXT, 1)] {
+                let first = taken.div_ceil(most) as u64 + 1;
+                for failing in Failing::once_or_for_good(first, Some(Error::from(kind))) {
+                    let input = Input::slow(text, most, failing);
+                    let ended = over(&rt, input, Output::new(rt.alloc()));
+                    ended.expect(&rt, 3, answers_to(front), READ_FAULT, b"r");
+                    assert!(rt; ended.input.reads == first, "{taken}");
+                }
             }
         }
     }
@@ -80,13 +82,9 @@ fn ends_at_the_write_that_fails(rt: HostRuntime) {
                 assert!(rt; ended.output.writes == first, "{taken}");
             }
         }
+        let ended = over(&rt, Input::new(TEXT), Output::with_room(rt.alloc(), taken));
+        ended.expect(&rt, 3, &ANSWERS[..taken], WRITE_FAULT, b"w");
     }
-}
-
-// What takes so many bytes, and then fails.
-fn with_room(rt: &impl AllocGlobal, room: usize) -> Output {
-    let failing = Failing::from(1 + u64::from(room > 0));
-    Output::slow(rt.alloc(), room, failing, Failing::never())
 }
 
 // The fault stream changes nothing, and is not asked again.
@@ -94,7 +92,8 @@ fn with_room(rt: &impl AllocGlobal, room: usize) -> Output {
 fn ends_as_well_where_the_fault_stream_fails(rt: HostRuntime) {
     for room in 0..READ_FAULT.len() {
         let input = Input::slow(TEXT, usize::MAX, Failing::from(2));
-        let (output, faults) = (Output::new(rt.alloc()), with_room(&rt, room));
+        let output = Output::new(rt.alloc());
+        let faults = Output::with_room(rt.alloc(), room);
         let ended = program(&rt, "sdtool convert --to hex", input, output, faults);
         ended.expect(&rt, 3, ANSWERS, &READ_FAULT[..room], b"r");
         assert!(rt; ended.faults.writes == 1 + u64::from(room > 0));
@@ -266,7 +265,8 @@ fn refuses_words(rt: HostRuntime) {
         let (said, line) = row.split_once('|').expect(&rt, "what is said");
         let text = format!(in rt.alloc(); "sdtool: {said}\n").expect(&rt, "memory");
         for (room, writes) in [(text.len(), 1), (9, 2), (0, 1)] {
-            let (output, faults) = (Output::new(rt.alloc()), with_room(&rt, room));
+            let output = Output::new(rt.alloc());
+            let faults = Output::with_room(rt.alloc(), room);
             let ended = program(&rt, line, Input::new(b"00\n"), output, faults);
             let front = text.as_bytes().get(..room).unwrap_or(b"");
             ended.expect(&rt, 2, b"", front, b"");
@@ -304,7 +304,7 @@ fn flushes_help(rt: HostRuntime) {
             assert!(rt; most < help.len() || writes == 1, "{line}");
         }
         for (room, writes) in [(9, 2), (0, 1)] {
-            let is_cut = writes_of(with_room(&rt, room), &help[..room]) == writes;
+            let is_cut = writes_of(Output::with_room(rt.alloc(), room), &help[..room]) == writes;
             assert!(rt; is_cut, "{line}");
         }
     }

@@ -1,11 +1,13 @@
 //! Engines: over given buffers, whatever these hold, and over memory that is taken for them; and the token of a run.
 
-use crate::devices::count;
+use crate::devices::{ANSWERS, TEXT, answers_to, count};
 use crate::memory::{Failing, Input, Output};
 use sd_access::{Ask, Plan, Privileges, Target};
 use sd_binary::{SdBuf, TextBuf};
 use sd_core::{EntryKind, Mapping, Sid, Token};
 use sd_filter::{Act, Engine, Form, FromRead, Job, Report, RunFault, ToWrite, run};
+use std::io::Error;
+use std::io::ErrorKind::{Interrupted, Other, WouldBlock};
 use std::process::Abort;
 
 const FORMS: [Form; 3] = [Form::Hex, Form::Base64, Form::Sddl];
@@ -130,12 +132,94 @@ fn looks_at_the_token(rt: HostRuntime) {
     assert!(rt; token.compared() <= 8);
 }
 
-// No run of a test makes so many.
+// The texts of its three values, of which no run of a test reaches the last.
 #[test]
-fn names_too_many_reads(rt: HostRuntime) {
-    let text = format!(in rt.alloc(); "{}", RunFault::TooManyReads).expect(
+fn names_the_faults_of_a_run(rt: HostRuntime) {
+    for (fault, name) in [
+        (RunFault::Read, "60 read"),
+        (RunFault::Write, "61 write"),
+        (RunFault::TooManyReads, "62 too-many-reads"),
+    ] {
+        let text = format!(in rt.alloc(); "{fault}").expect(&rt, "memory for a text");
+        assert!(rt; text.as_str() == name);
+    }
+}
+
+// A run over these devices has this fault and wrote these answers, and the same engine then answers the next line.
+fn expect_fault(
+    rt: &(impl Abort + AllocGlobal),
+    engine: &mut Engine,
+    token: &mut Token,
+    devices: (Input<'_>, Output),
+    fault: RunFault,
+    answers: &[u8],
+) {
+    let (mut input, mut output) = devices;
+    let mut drain = ToWrite::new(&mut output);
+    assert!(rt; run(engine, token, &mut FromRead::new(&mut input), &mut drain) == Err(fault));
+    assert!(rt; output.taken.as_slice() == answers);
+    let [line, _, _] = LINES;
+    expect_answers(rt, engine, token, usize::MAX, line, line, 0);
+}
+
+#[test]
+fn runs_again_after_each_failed_read(rt: HostRuntime) {
+    let mut token = Token::new(rt.alloc()).expect(&rt, "memory for a token");
+    let mut engine = used_engine(&rt, Form::Hex, Form::Hex);
+    for taken in 0..=TEXT.len() {
+        for kind in [Other, WouldBlock, Interrupted] {
+            let error = Some(Error::from(kind));
+            for failing in Failing::once_or_for_good(taken as u64 + 1, error) {
+                let devices = (Input::slow(TEXT, 1, failing), Output::new(rt.alloc()));
+                let answers = answers_to(&TEXT[..taken]);
+                expect_fault(
+                    &rt,
+                    &mut engine,
+                    &mut token,
+                    devices,
+                    RunFault::Read,
+                    answers,
+                );
+            }
+        }
+    }
+}
+
+// A write that fails, one that takes nothing, an output that is full, and a flush that fails.
+#[test]
+fn runs_again_after_each_failed_write(rt: HostRuntime) {
+    let mut token = Token::new(rt.alloc()).expect(&rt, "memory for a token");
+    let mut engine = used_engine(&rt, Form::Hex, Form::Hex);
+    let never = Failing::never();
+    let outputs = |taken: usize| {
+        let [fails, takes_none] = [Some(Error::from(Other)), None].map(|error| {
+            let [failing, _] = Failing::once_or_for_good(taken as u64 + 1, error);
+            Output::slow(rt.alloc(), 1, failing, never)
+        });
+        [fails, takes_none, Output::with_room(rt.alloc(), taken)]
+    };
+    for taken in 0..ANSWERS.len() {
+        for output in outputs(taken) {
+            let devices = (Input::new(TEXT), output);
+            let answers = &ANSWERS[..taken];
+            expect_fault(
+                &rt,
+                &mut engine,
+                &mut token,
+                devices,
+                RunFault::Write,
+                answers,
+            );
+        }
+    }
+    let output = Output::slow(rt.alloc(), usize::MAX, never, Failing::from(1));
+    let devices = (Input::new(TEXT), output);
+    expect_fault(
         &rt,
-        "memory for a text",
+        &mut engine,
+        &mut token,
+        devices,
+        RunFault::Write,
+        ANSWERS,
     );
-    assert!(rt; text.as_str() == "62 too-many-reads");
 }

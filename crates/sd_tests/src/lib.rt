@@ -17,6 +17,8 @@ mod memory;
 #[cfg(test)]
 mod plain_check;
 #[cfg(test)]
+mod sinks;
+#[cfg(test)]
 mod streams;
 #[cfg(test)]
 mod token;

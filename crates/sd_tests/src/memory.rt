@@ -95,6 +95,8 @@ pub struct Output {
     pub taken: Vec<u8>,
     /// The bytes that one write takes at most.
     pub most: usize,
+    /// The bytes that all writes take: one that finds none of this room left fails.
+    pub room: usize,
     pub failing_writes: Failing,
     pub failing_flushes: Failing,
     pub writes: u64,
@@ -106,10 +108,18 @@ impl Output {
         Output::slow(alloc, usize::MAX, Failing::never(), Failing::never())
     }
 
+    pub fn with_room(alloc: Global, room: usize) -> Self {
+        Output {
+            room,
+            ..Output::new(alloc)
+        }
+    }
+
     pub fn slow(alloc: Global, most: usize, writes: Failing, flushes: Failing) -> Self {
         Output {
             taken: Vec::new(alloc),
             most,
+            room: usize::MAX,
             failing_writes: writes,
             failing_flushes: flushes,
             writes: 0,
@@ -127,7 +137,11 @@ impl Write for Output {
         if self.failing_writes.is_at(self.writes) {
             return Ok(0);
         }
-        let n = bytes.len().min(self.most);
+        let room = self.room.saturating_sub(self.taken.len());
+        if room == 0 {
+            return Err(Error::from(ErrorKind::Other));
+        }
+        let n = bytes.len().min(self.most).min(room);
         self.taken.extend_from_slice(&bytes[..n])?;
         Ok(n)
     }
