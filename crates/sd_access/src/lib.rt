@@ -1,14 +1,7 @@
-//! What a user may do: the access check (MS-DTYP 2.5.3), in the profile that docs/DEFINITIONS.md tells. What a new object
-//! inherits stands in `sd_inherit`, and is brought out here.
+//! What a user may do and what a new object gets (MS-DTYP 2.5.3), in the profile of docs/DEFINITIONS.md.
+//!
+//! This crate re-exports the rooms below it: `sd_check` and `sd_inherit`.
 #![tactic(auto)]
 
-mod applies;
-mod ask;
-mod grants;
-mod scan;
-mod trustee;
-mod verdict;
-
-pub use ask::{Ask, AskFault, Privileges};
+pub use sd_check::{Ask, AskFault, Privileges, Verdict, check};
 pub use sd_inherit::{DeriveFault, Plan, Target, derive};
-pub use verdict::{Verdict, check};

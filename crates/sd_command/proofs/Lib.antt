@@ -1,3 +1,4 @@
+pub mod EndsLemmas
 pub mod GivenLemmas
 pub mod ParseLemmas
 mod Rows

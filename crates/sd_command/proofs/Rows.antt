@@ -2,17 +2,15 @@
 use Rattle.std.proofs.Common.{◌≡◌, List, [], ◌∷◌, None, Ok, Err, true, false, codes, refl}
 use Rattle.clap.specs.Words.{Text, fault_of, takes}
 use Rattle.clap.proofs.OnLiterals.{clap_on_literals}
-use Rattle.sd_core.specs.SidText.{has_form, numbers_read, sid_reads}
+use Rattle.sd_sid.specs.SidText.{has_form, numbers_read, sid_reads}
 use Rattle.sd_inherit.specs.declared.plan.Target.TheVariants.{File}
-use Rattle.sd_command.specs.declared.job.Act.TheVariants.{Convert, Derive, Explain}
-use Rattle.sd_command.specs.declared.job.Form.TheVariants.{Hex, Sddl}
-use Rattle.sd_command.specs.declared.job.Job.{Job}
+use Rattle.sd_run.specs.declared.job.Act.TheVariants.{Convert, Derive, Explain}
+use Rattle.sd_run.specs.declared.job.Form.TheVariants.{Hex, Sddl}
+use Rattle.sd_run.specs.declared.job.Job.{Job}
 use Rattle.sd_command.specs.declared.settings.OptionName.TheVariants as name
 use Rattle.sd_command.specs.declared.settings.UsageFault.TheVariants.{Value}
 use Rattle.sd_command.specs.CommandLine.{bare_line, check_line, convert_line, derive_line, explain_line, line}
-use Rattle.sd_command.specs.Settings.{command_settings, convert_act, derive_act, settings_of}
-use Rattle.sd_command.specs.Settings.{given_domain, given_kind, given_mapping, given_source, given_target}
-use Rattle.sd_command.specs.Settings.{is_set, needed_sid}
+use Rattle.sd_command.specs.Settings.{command_settings, convert_act, derive_act, settings_of, given_domain, given_kind, given_mapping, given_source, given_target, is_set, needed_sid}
 use Rattle.sd_rights.specs.Mapping.{file_mapping}
 
 abbrev hex_to_hex : Job

@@ -1,7 +1,5 @@
 -- The pieces of a token's text, one after the other.
-use Rattle.std.proofs.Common.{◌≡◌, ◌≤◌, ◌<◌, ◌+◌, ℕ, Bool, true, false, List, [], ◌∷◌, ◌++◌, length}
-use Rattle.std.proofs.Common.{Option, Some, None, option_map, append_assoc, append-nil, length-append}
-use Rattle.std.proofs.Common.{ap, sym, ◌∙◌, refl, arith}
+use Rattle.std.proofs.Common.{◌≡◌, ◌≤◌, ◌<◌, ◌+◌, ℕ, Bool, true, false, List, [], ◌∷◌, ◌++◌, length, Option, Some, None, option_map, append_assoc, append-nil, length-append, ap, sym, ◌∙◌, refl, arith}
 use Rattle.std.specs.Prelude.{◌==◌, nat_lt, if◌then◌else◌}
 use Rattle.std.specs.Option.{option_and_then}
 use Rattle.std.specs.List.{position_or_len, before_first, after_first}
@@ -11,10 +9,10 @@ use Rattle.std.proofs.lemmas.List.Elements.{All-from_get_or}
 use Rattle.std.proofs.lemmas.List.Sums.{fails_before_first}
 use Rattle.std.proofs.lemmas.List.Splits.{slice_split_first, slice_split_none}
 use Rattle.clap.specs.Words.{Text}
-use Rattle.sd_core.specs.Sid.{SecurityId}
-use Rattle.sd_core.specs.Token.{Entry}
+use Rattle.sd_sid.specs.Sid.{SecurityId}
+use Rattle.sd_token.specs.Token.{Entry}
 use Rattle.sd_command.specs.Inner.Adding.{with_entry, with_pieces}
-use Rattle.sd_rights.specs.Chains.{all_read}
+use Rattle.sd_text.specs.Chains.{all_read}
 use Rattle.sd_command.specs.TokenText.{entries_read, entry_reads, cut_at_commas}
 
 -- ---- where the text is cut

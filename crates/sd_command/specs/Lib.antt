@@ -1,4 +1,5 @@
 pub mod CommandLine
+pub mod Endings
 pub mod Inner
 pub mod Refusing
 pub mod Settings

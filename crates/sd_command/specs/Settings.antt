@@ -1,27 +1,26 @@
 -- What the matches of a command line settle.
-use Rattle.std.specs.Prelude.{ℕ, Bool, ◌||◌, false, if◌then◌else◌}
-use Rattle.std.specs.Prelude.{List, [], Option, Some, None, Result, Ok, Err, codes, option_map}
+use Rattle.std.specs.Prelude.{ℕ, Bool, ◌||◌, false, if◌then◌else◌, List, [], Option, Some, None, Result, Ok, Err, codes, option_map}
 use Rattle.std.specs.Str.{bytes_eq}
 use Rattle.std.specs.Option.{ok_or}
 use Rattle.std.specs.Result.{result_ok}
-use Rattle.sd_rights.specs.Chains.{◌>>=◌, unless}
+use Rattle.sd_text.specs.Chains.{◌>>=◌, unless}
 use Rattle.clap.specs.Words.{Row, Text, first_of, subcommand_of}
-use Rattle.sd_core.specs.Sid.{SecurityId}
-use Rattle.sd_core.specs.SidText.{sid_reads, usable}
-use Rattle.sd_core.specs.GuidText.{guid_reads}
-use Rattle.sd_core.specs.Token.{Entry}
+use Rattle.sd_sid.specs.Sid.{SecurityId}
+use Rattle.sd_sid.specs.SidText.{sid_reads, usable}
+use Rattle.sd_ace.specs.GuidText.{guid_reads}
+use Rattle.sd_token.specs.Token.{Entry}
 use Rattle.sd_rights.specs.Rights.{rights_reads}
-use Rattle.sd_access.specs.Ask.{Asked, ask_fault, asks_maximum, wanted_of}
+use Rattle.sd_check.specs.Ask.{Asked, ask_fault, asks_maximum, wanted_of}
 use Rattle.sd_inherit.specs.declared.plan.Target.{Target}
 use Rattle.sd_inherit.specs.declared.plan.Target.TheVariants.{File, Container}
 use Rattle.sd_command.specs.CommandLine.{line}
 use Rattle.sd_rights.specs.Mapping.{GenericMapping, directory_mapping, file_mapping, key_mapping}
 use Rattle.sd_command.specs.TokenText.{entries_read, sid_under}
-use Rattle.sd_command.specs.declared.job.Form.{Form}
-use Rattle.sd_command.specs.declared.job.Form.TheVariants.{Base64, Hex, Sddl}
-use Rattle.sd_command.specs.declared.job.Act.{Act}
-use Rattle.sd_command.specs.declared.job.Act.TheVariants.{Check, Convert, Derive, Explain}
-use Rattle.sd_command.specs.declared.job.Job.{Job}
+use Rattle.sd_run.specs.declared.job.Form.{Form}
+use Rattle.sd_run.specs.declared.job.Form.TheVariants.{Base64, Hex, Sddl}
+use Rattle.sd_run.specs.declared.job.Act.{Act}
+use Rattle.sd_run.specs.declared.job.Act.TheVariants.{Check, Convert, Derive, Explain}
+use Rattle.sd_run.specs.declared.job.Job.{Job}
 use Rattle.sd_command.specs.declared.settings.CommandName.{CommandName}
 use Rattle.sd_command.specs.declared.settings.CommandName.TheVariants as command
 use Rattle.sd_command.specs.declared.settings.OptionName.{OptionName}

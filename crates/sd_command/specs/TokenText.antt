@@ -1,17 +1,16 @@
 -- The text of a token (MS-DTYP 2.5.2): SIDs parted by commas, with an exclamation mark before each that is deny-only.
-use Rattle.std.specs.Prelude.{◌==◌, nat_lt, if◌then◌else◌, List, [], ◌∷◌, length}
-use Rattle.std.specs.Prelude.{Option, None, option_map}
+use Rattle.std.specs.Prelude.{◌==◌, nat_lt, if◌then◌else◌, List, [], ◌∷◌, length, Option, None, option_map}
 use Rattle.std.specs.List.{slice_split}
 use Rattle.std.specs.Str.{byte as char}
 use Rattle.std.specs.Result.{result_ok}
-use Rattle.sd_rights.specs.Chains.{all_read}
+use Rattle.sd_text.specs.Chains.{all_read}
 use Rattle.clap.specs.Words.{Text}
-use Rattle.sd_rights.specs.Limits.{most_entries}
-use Rattle.sd_core.specs.Sid.{SecurityId}
-use Rattle.sd_core.specs.SidText.{sid_reads}
-use Rattle.sd_core.specs.Token.{Entry}
-use Rattle.sd_core.specs.declared.token.EntryKind.{EntryKind}
-use Rattle.sd_core.specs.declared.token.EntryKind.TheVariants.{Enabled, DenyOnly}
+use Rattle.sd_text.specs.Limits.{most_entries}
+use Rattle.sd_sid.specs.Sid.{SecurityId}
+use Rattle.sd_sid.specs.SidText.{sid_reads}
+use Rattle.sd_token.specs.Token.{Entry}
+use Rattle.sd_token.specs.declared.token.EntryKind.{EntryKind}
+use Rattle.sd_token.specs.declared.token.EntryKind.TheVariants.{Enabled, DenyOnly}
 
 -- what the commas part
 abbrev pub cut_at_commas : Text → List Text

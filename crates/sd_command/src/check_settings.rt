@@ -2,20 +2,23 @@
 ghost use Rattle.std.specs.Prelude.{◌≡◌, []};
 ghost use Rattle.std.specs.Option.{option_copied};
 ghost use Rattle.clap.specs.Words.{found_of, rows_of};
-ghost use Rattle.sd_core.specs.GuidText.{guid_reads};
+ghost use Rattle.sd_ace.specs.GuidText.{guid_reads};
 ghost use Rattle.sd_rights.specs.Rights.{rights_reads};
 ghost use Rattle.sd_command.specs.Inner.Adding.{gives};
 ghost use Rattle.sd_command.specs.Settings as specs;
 ghost use Rattle.sd_command.specs.Settings.{act_with_entries};
 
-use crate::job::Act;
 use crate::settings::{
     OptionName, UsageFault, given_mapping, given_sid, is_set, text_of, value_of,
 };
 use crate::token_text::add_entries;
 use clap::ArgMatches;
-use sd_access::{Ask, Privileges};
-use sd_core::{Mapping, Sid, Token, guid_from_text, rights_from_text};
+use sd_ace::guid_from_text;
+use sd_check::{Ask, Privileges};
+use sd_rights::{Mapping, rights_from_text};
+use sd_run::Act;
+use sd_sid::Sid;
+use sd_token::Token;
 use uuid::Uuid;
 
 // The values in the order in which they are looked at.

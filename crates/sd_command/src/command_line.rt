@@ -1,9 +1,7 @@
 // The command line: its commands and their options.
 ghost use Rattle.std.specs.Prelude.{◌≡◌, IfOk, false};
 ghost use Rattle.clap.specs.Words.{App, app_of, new_app, rule_of, with_rule, with_subcommand};
-ghost use Rattle.sd_command.specs.CommandLine.{bare_line, check_line, convert_line, derive_line};
-ghost use Rattle.sd_command.specs.CommandLine.{explain_line, line};
-ghost use Rattle.sd_command.specs.CommandLine.{flag_rule, option_rule, required_rule};
+ghost use Rattle.sd_command.specs.CommandLine.{bare_line, check_line, convert_line, derive_line, explain_line, line, flag_rule, option_rule, required_rule};
 ghost use Rattle.sd_command.specs.Inner.Building.{IsBuilt};
 
 use clap::{Arg, ArgAction, Command};

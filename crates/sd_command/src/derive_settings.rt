@@ -4,11 +4,11 @@ ghost use Rattle.std.specs.Option.{option_copied};
 ghost use Rattle.clap.specs.Words.{found_of, rows_of};
 ghost use Rattle.sd_command.specs.Settings as specs;
 
-use crate::job::Act;
 use crate::settings::{OptionName, UsageFault, given_mapping, given_sid, given_target, value_of};
 use clap::ArgMatches;
-use sd_access::{Plan, Target};
-use sd_core::Sid;
+use sd_inherit::{Plan, Target};
+use sd_run::Act;
+use sd_sid::Sid;
 
 // The values in the order in which they are looked at.
 #[tactic(auto, unfolding(crate::specs::Settings::derive_act))]

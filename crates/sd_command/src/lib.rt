@@ -1,14 +1,14 @@
-//! The command line of `sdtool`: its words, the job that they settle, and the token that asks.
+//! The command line and the program over a reader and two writers.
 #![tactic(auto)]
 
 mod check_settings;
 mod command_line;
 mod derive_settings;
-mod job;
 mod parse;
+mod program;
 mod settings;
 mod token_text;
 
-pub use job::{Act, Form, Job};
 pub use parse::{Refusal, parse_words};
+pub use program::command;
 pub use settings::{OptionName, UsageFault, settle};

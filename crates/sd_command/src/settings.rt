@@ -10,12 +10,14 @@ ghost use Rattle.sd_command.specs.Settings.{act_with_entries, option_text, with_
 
 use crate::check_settings::check_act;
 use crate::derive_settings::derive_act;
-use crate::job::{Act, Form, Job};
 use crate::token_text::sid_under;
 use clap::ArgMatches;
-use sd_access::AskFault;
-use sd_core::{Mapping, Sid, Token};
-use sd_rights::MOST_SUBS;
+use sd_check::AskFault;
+use sd_rights::Mapping;
+use sd_run::{Act, Form, Job};
+use sd_sid::Sid;
+use sd_text::MOST_SUBS;
+use sd_token::Token;
 
 /// The options whose values are read.
 #[derive(Clone, Copy, Debug, PartialEq, Eq)]

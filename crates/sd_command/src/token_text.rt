@@ -4,7 +4,8 @@ ghost use Rattle.std.specs.Option.{option_copied};
 ghost use Rattle.sd_command.specs.Inner.Adding.{with_entry};
 ghost use Rattle.sd_command.specs.TokenText as specs;
 
-use sd_core::{EntryKind, Sid, Token};
+use sd_sid::Sid;
+use sd_token::{EntryKind, Token};
 
 // Adds the entries of all pieces. None where one does not read, or finds no room.
 pub(crate) fn add_entries(text: &str, domain: Option<&Sid>, token: &mut Token) -> Option<()>

@@ -1,15 +1,15 @@
 -- Worked descriptors, explained.
 use Rattle.std.proofs.Common.{◌≡◌, [], ◌∷◌, ◌++◌, Some, None, true, false, codes, refl}
 use Rattle.std.specs.Fmt.{digits}
-use Rattle.sd_rights.specs.Kinds.{kind_entry, kind_letters}
-use Rattle.sd_core.specs.Ace.{AccessControlEntry}
-use Rattle.sd_rights.specs.Flags.{flags_text}
-use Rattle.sd_core.specs.GuidText.{guid_text}
+use Rattle.sd_kinds.specs.Kinds.{kind_entry, kind_letters}
+use Rattle.sd_ace.specs.Ace.{AccessControlEntry}
+use Rattle.sd_kinds.specs.Flags.{flags_text}
+use Rattle.sd_ace.specs.GuidText.{guid_text}
 use Rattle.sd_rights.specs.Rights.{rights_text}
-use Rattle.sd_core.specs.Sid.{SecurityId}
-use Rattle.sd_core.specs.SidText.{alias_of}
-use Rattle.sd_rights.specs.declared.kinds.AceKind.TheVariants as kinds
-use Rattle.sd_core.specs.declared.naming.Naming.{Naming}
+use Rattle.sd_sid.specs.Sid.{SecurityId}
+use Rattle.sd_sid.specs.SidText.{alias_of}
+use Rattle.sd_kinds.specs.declared.kinds.AceKind.TheVariants as kinds
+use Rattle.sd_sid.specs.declared.naming.Naming.{Naming}
 use Rattle.sd_view.specs.Descriptor.{Descriptor}
 use Rattle.sd_view.specs.declared.acl.AclPart.TheVariants as acl
 use Rattle.sd_explain.specs.Explain.{ace_head, ace_line, ace_rights, ace_trustee, control_line, count_line, explain, rm_line, sid_line, sid_words}

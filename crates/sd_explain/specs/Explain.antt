@@ -4,23 +4,23 @@ use Rattle.std.specs.Prelude.{ℕ, if◌then◌else◌, List, [], ◌∷◌, ◌
 use Rattle.std.specs.Fmt.{decimal}
 use Rattle.std.specs.List.{enumerate_from, flat_map}
 use Rattle.std.specs.Str.{byte as char}
-use Rattle.sd_core.specs.Ace.{AccessControlEntry}
-use Rattle.sd_rights.specs.Flags.{flags_text}
-use Rattle.sd_core.specs.GuidText.{guid_text}
-use Rattle.sd_rights.specs.Kinds.{kind_letters}
-use Rattle.sd_core.specs.Naming.{alias_by}
+use Rattle.sd_ace.specs.Ace.{AccessControlEntry}
+use Rattle.sd_kinds.specs.Flags.{flags_text}
+use Rattle.sd_ace.specs.GuidText.{guid_text}
+use Rattle.sd_kinds.specs.Kinds.{kind_letters}
+use Rattle.sd_sid.specs.Naming.{alias_by}
 use Rattle.sd_rights.specs.Rights.{rights_text}
-use Rattle.sd_core.specs.Sid.{SecurityId}
-use Rattle.sd_rights.specs.Numbers.{hex_digits}
-use Rattle.sd_core.specs.SidText.{sid_text}
-use Rattle.sd_rights.specs.declared.kinds.AceKind.{AceKind}
-use Rattle.sd_core.specs.declared.naming.Naming.{Naming}
-use Rattle.sd_rights.specs.Bits.{has_bit}
+use Rattle.sd_sid.specs.Sid.{SecurityId}
+use Rattle.sd_text.specs.Numbers.{hex_digits}
+use Rattle.sd_sid.specs.SidText.{sid_text}
+use Rattle.sd_kinds.specs.declared.kinds.AceKind.{AceKind}
+use Rattle.sd_sid.specs.declared.naming.Naming.{Naming}
+use Rattle.sd_text.specs.Bits.{has_bit}
 use Rattle.sd_view.specs.Descriptor.{Descriptor}
 use Rattle.sd_view.specs.declared.acl.AclPart.{AclPart}
 use Rattle.sd_view.specs.declared.acl.AclPart.TheVariants as acl
-use Rattle.sd_view.specs.declared.control.ControlBit.{ControlBit}
-use Rattle.sd_view.specs.declared.control.TheConstants.{CONTROL_BITS}
+use Rattle.sd_control.specs.declared.control.ControlBit.{ControlBit}
+use Rattle.sd_control.specs.declared.control.TheConstants.{CONTROL_BITS}
 
 -- ---- the header (MS-DTYP 2.4.6)
 

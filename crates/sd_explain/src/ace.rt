@@ -1,15 +1,18 @@
 // The line of an ACE (MS-DTYP 2.4.4).
 ghost use Rattle.std.specs.Prelude.{◌≡◌, ◌/◌, ◌%◌, ◌++◌, codes};
 ghost use Rattle.sd_sink.specs.Print.{Prints};
-ghost use Rattle.sd_rights.specs.Flags.{flags_text};
-ghost use Rattle.sd_rights.specs.Kinds.{kind_letters};
+ghost use Rattle.sd_kinds.specs.Flags.{flags_text};
+ghost use Rattle.sd_kinds.specs.Kinds.{kind_letters};
 ghost use Rattle.sd_explain.specs.Explain.{ace_head, ace_line, ace_rights, ace_trustee, guid_words, or_none};
 
 use crate::sid::print_sid;
-use sd_binary::AceView;
-use sd_core::{
-    AceKind, Naming, Print, Sid, print_decimal, print_flags, print_guid, print_hex, print_rights,
-};
+use sd_ace::print_guid;
+use sd_kinds::{AceKind, print_flags};
+use sd_rights::print_rights;
+use sd_sid::{Naming, Sid};
+use sd_sink::Print;
+use sd_text::{print_decimal, print_hex};
+use sd_view::AceView;
 use uuid::Uuid;
 
 /// Prints the line of an ACE.

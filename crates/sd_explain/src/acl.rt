@@ -4,8 +4,10 @@ ghost use Rattle.sd_sink.specs.Print.{Prints};
 ghost use Rattle.sd_explain.specs.Explain.{ace_lines, acl_lines, count_line};
 
 use crate::ace::print_ace;
-use sd_binary::{AclPart, AclView};
-use sd_core::{Naming, Print, print_decimal};
+use sd_sid::Naming;
+use sd_sink::Print;
+use sd_text::print_decimal;
+use sd_view::{AclPart, AclView};
 
 /// Prints the lines of an ACL: that it is absent or null, or how many ACEs it has, and then a line for each.
 pub fn print_acl<P: Print>(naming: &Naming, part: &[u8], acl: &AclPart<'_>, out: &mut P)

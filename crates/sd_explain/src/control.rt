@@ -2,11 +2,12 @@
 ghost use Rattle.std.specs.Prelude.{◌<◌};
 ghost use Rattle.std.specs.List.{flat_map};
 ghost use Rattle.sd_sink.specs.Print.{Prints};
-ghost use Rattle.sd_view.specs.declared.control.TheConstants.{CONTROL_BITS};
+ghost use Rattle.sd_control.specs.declared.control.TheConstants.{CONTROL_BITS};
 ghost use Rattle.sd_explain.specs.Explain.{code_if, control_line, rm_line};
 
-use sd_binary::{CONTROL_BITS, ControlBit};
-use sd_core::{Print, print_hex};
+use sd_control::{CONTROL_BITS, ControlBit};
+use sd_sink::Print;
+use sd_text::print_hex;
 
 /// Prints the control word, and the codes of its bits in rising order.
 pub fn print_control<P: Print>(control: u16, out: &mut P)

@@ -1,9 +1,9 @@
 // The explanation of a descriptor (MS-DTYP 2.4.6).
 ghost use Rattle.std.specs.Prelude.{◌≤◌, ◌+◌, ◌*◌, Bool, length, Option};
 ghost use Rattle.std.specs.Option.{option_copied};
-ghost use Rattle.sd_core.specs.Naming.{naming_by};
+ghost use Rattle.sd_sid.specs.Naming.{naming_by};
 ghost use Rattle.sd_sink.specs.Print.{Prints};
-ghost use Rattle.sd_core.specs.Sid.{SecurityId};
+ghost use Rattle.sd_sid.specs.Sid.{SecurityId};
 ghost use Rattle.sd_sink.specs.Sink.{Puts};
 ghost use Rattle.sd_view.specs.Descriptor.{IsDescriptor};
 ghost use Rattle.sd_view.specs.Layout.{size};
@@ -12,8 +12,9 @@ ghost use Rattle.sd_explain.specs.Explain.{explain};
 use crate::acl::print_acl;
 use crate::control::{print_control, print_rm};
 use crate::sid::print_sid_line;
-use sd_binary::SdView;
-use sd_core::{Gather, Naming, Print, Sid, Sink, SinkFault};
+use sd_sid::{Naming, Sid};
+use sd_sink::{Gather, Print, Sink, SinkFault};
+use sd_view::SdView;
 
 /// Puts what a descriptor has, as a block of lines that ends with `end`: the control word with the codes of its
 /// bits, the resource manager byte, owner, group, DACL and SACL, each ACE on a line of its own, numbered from 1.

@@ -2,7 +2,8 @@
 ghost use Rattle.sd_sink.specs.Print.{Prints};
 ghost use Rattle.sd_explain.specs.Explain.{name_after, sid_line, sid_or_none, sid_words};
 
-use sd_core::{Naming, Print, Sid};
+use sd_sid::{Naming, Sid};
+use sd_sink::Print;
 
 /// Prints the line of an owner or a group, which may be none.
 pub fn print_sid_line<P: Print>(naming: &Naming, part: &[u8], sid: Option<Sid>, out: &mut P)

@@ -1,26 +1,10 @@
-//! The line filter of `sdtool`: it reads a descriptor a line, writes an answer a line, and reads the
-//! command line that says which.
+//! The line filter: a descriptor a line is read, an answer a line is written, and a command line says which.
+//!
+//! This crate re-exports the rooms below it: `sd_run`, the run over lines, and `sd_command`, the words and the program.
 #![tactic(auto)]
 
-mod answer;
-mod base64_text;
-mod device;
-mod engine;
-mod fault;
-mod feed;
-mod hex_text;
-mod line;
-mod program;
-mod running;
-mod sink;
-mod streams;
-#[cfg(test)]
-mod tests;
-
-pub use device::{DeviceFault, Drain, Source};
-pub use engine::{Engine, Report, RunFault};
-pub use fault::{LineFault, put_fault};
-pub use program::command;
-pub use running::run;
-pub use sd_command::{Act, Form, Job};
-pub use streams::{FromRead, ToWrite};
+pub use sd_command::command;
+pub use sd_run::{
+    Act, DeviceFault, Drain, Engine, Form, FromRead, Job, LineFault, Report, RunFault, Source,
+    ToWrite, put_fault, run,
+};

@@ -1,16 +1,16 @@
 -- What is derived, from the parts that the builder was given, and why it may not be.
 use Rattle.std.proofs.Common.{◌≡◌, ◌≤◌, ℕ, ◌+◌, ◌^◌, ◌↔◌, Bool, true, false, not, List, [], ◌∷◌, ◌++◌, Some, None, refl, sym, ap}
 use Rattle.std.proofs.lemmas.Bool.{le-leb, leb-true}
-use Rattle.sd_core.specs.Ace.{AccessControlEntry}
+use Rattle.sd_ace.specs.Ace.{AccessControlEntry}
 use Rattle.sd_view.specs.Acl.{acl_size}
-use Rattle.sd_view.specs.Control.{bit_if, control_of}
+use Rattle.sd_control.specs.Control.{bit_if, control_of}
 use Rattle.sd_view.specs.Descriptor.{Descriptor}
-use Rattle.sd_binary.proofs.laws.BuiltBytes.{layout_order}
-use Rattle.sd_binary.specs.Draft.{CanBegin, Draft, Parts, built, is_present, nothing_given, with_group, with_owner}
+use Rattle.sd_builder.proofs.laws.BuiltBytes.{layout_order}
+use Rattle.sd_builder.specs.Draft.{CanBegin, Draft, Parts, built, is_present, nothing_given, with_group, with_owner}
 use Rattle.sd_view.specs.declared.acl.AclPart.{AclPart}
 use Rattle.sd_view.specs.declared.acl.AclPart.TheVariants as acl
-use Rattle.sd_view.specs.declared.control.Which.TheVariants.{Sacl, Dacl}
-use Rattle.sd_view.specs.declared.control.TheConstants.{DACL_AUTO_INHERITED, DACL_PRESENT, SACL_AUTO_INHERITED, SACL_PRESENT, SELF_RELATIVE}
+use Rattle.sd_control.specs.declared.control.Which.TheVariants.{Sacl, Dacl}
+use Rattle.sd_control.specs.declared.control.TheConstants.{DACL_AUTO_INHERITED, DACL_PRESENT, SACL_AUTO_INHERITED, SACL_PRESENT, SELF_RELATIVE}
 use Rattle.sd_inherit.specs.Inner.Building.{inherited_bits, with_part}
 use Rattle.sd_inherit.specs.Derived.{derive_fault, derived, inherited, is_too_large, sacl_of}
 use Rattle.sd_inherit.specs.declared.derivation.DeriveFault.TheVariants.{DerivedTooLarge}

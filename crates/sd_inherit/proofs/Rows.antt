@@ -1,10 +1,10 @@
 -- Worked rows, computed: the copies of single ACEs on files and containers, and what is derived around them.
 use Rattle.std.proofs.Common.{◌≡◌, ℕ, List, [], ◌∷◌, Some, None, refl}
-use Rattle.sd_core.specs.Ace.{AccessControlEntry}
+use Rattle.sd_ace.specs.Ace.{AccessControlEntry}
 use Rattle.sd_rights.specs.Mapping.{mapped}
-use Rattle.sd_core.specs.Sid.{SecurityId}
-use Rattle.sd_rights.specs.declared.kinds.AceKind.{AceKind}
-use Rattle.sd_rights.specs.declared.kinds.AceKind.TheVariants as kinds
+use Rattle.sd_sid.specs.Sid.{SecurityId}
+use Rattle.sd_kinds.specs.declared.kinds.AceKind.{AceKind}
+use Rattle.sd_kinds.specs.declared.kinds.AceKind.TheVariants as kinds
 use Rattle.sd_view.specs.Descriptor.{Descriptor}
 use Rattle.sd_view.specs.declared.acl.AclPart.{AclPart}
 use Rattle.sd_view.specs.declared.acl.AclPart.TheVariants as acl

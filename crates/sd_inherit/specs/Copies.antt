@@ -1,12 +1,12 @@
 -- What a new object gets from one ACE of its container (MS-DTYP 2.5.3.4), by the flags of 2.4.4.1.
 use Rattle.std.specs.Prelude.{ℕ, ◌+◌, Bool, not, ◌&&◌, ◌||◌, if◌then◌else◌, List, [], ◌∷◌}
-use Rattle.sd_core.specs.Ace.{AccessControlEntry}
-use Rattle.sd_rights.specs.Bits.{bit_of, has_bit}
+use Rattle.sd_ace.specs.Ace.{AccessControlEntry}
+use Rattle.sd_text.specs.Bits.{bit_of, has_bit}
 use Rattle.sd_rights.specs.Mapping.{carries, mapped}
 use Rattle.sd_rights.specs.Rights.{is_label}
-use Rattle.sd_core.specs.Sid.{SecurityId}
-use Rattle.sd_core.specs.SidText.{same_sid}
-use Rattle.sd_rights.specs.declared.flags.TheConstants.{CONTAINER_INHERIT, FAILED_ACCESS, INHERITED, INHERIT_ONLY, NO_PROPAGATE, OBJECT_INHERIT, SUCCESSFUL_ACCESS}
+use Rattle.sd_sid.specs.Sid.{SecurityId}
+use Rattle.sd_sid.specs.SidText.{same_sid}
+use Rattle.sd_kinds.specs.declared.flags.TheConstants.{CONTAINER_INHERIT, FAILED_ACCESS, INHERITED, INHERIT_ONLY, NO_PROPAGATE, OBJECT_INHERIT, SUCCESSFUL_ACCESS}
 use Rattle.sd_inherit.specs.declared.plan.Plan.{Plan}
 use Rattle.sd_inherit.specs.declared.plan.Target.{Target}
 use Rattle.sd_inherit.specs.declared.plan.Target.TheVariants.{File, Container}

@@ -1,16 +1,16 @@
 -- The descriptor of a new object (MS-DTYP 2.5.3.4): what it inherits from its container, and whom it belongs to.
 use Rattle.std.specs.Prelude.{ℕ, ◌+◌, nat_lt, Bool, if◌then◌else◌, List, [], ◌∷◌, Option, Some, None}
 use Rattle.std.specs.List.{flat_map}
-use Rattle.sd_rights.specs.Limits.{most_acl}
-use Rattle.sd_core.specs.Ace.{AccessControlEntry}
+use Rattle.sd_text.specs.Limits.{most_acl}
+use Rattle.sd_ace.specs.Ace.{AccessControlEntry}
 use Rattle.sd_view.specs.Acl.{acl_size}
-use Rattle.sd_view.specs.Control.{bit_if}
+use Rattle.sd_control.specs.Control.{bit_if}
 use Rattle.sd_view.specs.Descriptor.{Descriptor}
-use Rattle.sd_binary.specs.Draft.{is_present}
+use Rattle.sd_builder.specs.Draft.{is_present}
 use Rattle.sd_view.specs.declared.acl.AclPart.{AclPart}
 use Rattle.sd_view.specs.declared.acl.AclPart.TheVariants as acl
-use Rattle.sd_view.specs.declared.control.Which.TheVariants.{Sacl, Dacl}
-use Rattle.sd_view.specs.declared.control.TheConstants.{DACL_AUTO_INHERITED, DACL_PRESENT, SACL_AUTO_INHERITED, SACL_PRESENT, SELF_RELATIVE}
+use Rattle.sd_control.specs.declared.control.Which.TheVariants.{Sacl, Dacl}
+use Rattle.sd_control.specs.declared.control.TheConstants.{DACL_AUTO_INHERITED, DACL_PRESENT, SACL_AUTO_INHERITED, SACL_PRESENT, SELF_RELATIVE}
 use Rattle.sd_inherit.specs.Copies.{copies}
 use Rattle.sd_inherit.specs.declared.derivation.DeriveFault.{DeriveFault}
 use Rattle.sd_inherit.specs.declared.derivation.DeriveFault.TheVariants.{DerivedTooLarge}

@@ -1,7 +1,7 @@
 //! The copies of one ACE.
 
 ghost use Rattle.std.specs.Prelude.{◌≡◌, ◌<◌, ◌/◌, ◌%◌, not, None, Some};
-ghost use Rattle.sd_binary.specs.Draft.{is_present};
+ghost use Rattle.sd_builder.specs.Draft.{is_present};
 ghost use Rattle.sd_inherit.specs.Inner.Building.{listed};
 ghost use Rattle.sd_inherit.specs.Copies.{copies, copies_for, effective_copy, inherit_only_copy};
 ghost use Rattle.sd_inherit.specs.Derived.{sacl_of};
@@ -9,8 +9,9 @@ ghost use Rattle.sd_inherit.specs.Derived.{sacl_of};
 use crate::flags::{copied_flags, onward_flags};
 use crate::heirs::{differs, heir, heir_mask};
 use crate::plan::{Plan, Target};
-use sd_core::{Ace, Sid};
-use sd_rights::{CONTAINER_INHERIT, INHERIT_ONLY, NO_PROPAGATE, OBJECT_INHERIT, has_flag};
+use sd_ace::Ace;
+use sd_kinds::{CONTAINER_INHERIT, INHERIT_ONLY, NO_PROPAGATE, OBJECT_INHERIT, has_flag};
+use sd_sid::Sid;
 
 /// What a new object gets from one ACE: at most one copy for itself, and then at most one to hand on.
 #[derive(Clone, Copy)]

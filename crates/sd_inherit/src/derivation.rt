@@ -8,7 +8,10 @@ ghost use Rattle.sd_inherit.specs.Derived.{derive_fault, derived};
 
 use crate::inherited::{put_acl, put_sacl};
 use crate::plan::Plan;
-use sd_binary::{AclFlags, Builder, SdBuf, SdView, Which};
+use sd_buffer::SdBuf;
+use sd_builder::Builder;
+use sd_control::{AclFlags, Which};
+use sd_view::SdView;
 
 /// Why nothing is derived.
 #[derive(Clone, Copy, Debug, PartialEq, Eq)]

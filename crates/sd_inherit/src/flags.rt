@@ -3,7 +3,7 @@
 ghost use Rattle.std.specs.Prelude.{◌≡◌, ◌<◌, ◌≤◌};
 ghost use Rattle.sd_inherit.specs.Copies.{copied_flags, onward_flags};
 
-use sd_rights::{FAILED_ACCESS, INHERITED, ONWARD, SUCCESSFUL_ACCESS};
+use sd_kinds::{FAILED_ACCESS, INHERITED, ONWARD, SUCCESSFUL_ACCESS};
 
 /// The flags that say which access is audited.
 const AUDIT: u8 = SUCCESSFUL_ACCESS | FAILED_ACCESS;

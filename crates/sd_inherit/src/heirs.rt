@@ -2,11 +2,13 @@
 
 ghost use Rattle.std.specs.Prelude.{◌≡◌};
 ghost use Rattle.sd_rights.specs.Rights.{is_label};
-ghost use Rattle.sd_core.specs.SidText.{same_sid};
+ghost use Rattle.sd_sid.specs.SidText.{same_sid};
 ghost use Rattle.sd_inherit.specs.Copies.{creator_group, creator_owner, has_generic, heir, heir_mask, differs};
 
 use crate::plan::Plan;
-use sd_core::{Ace, AceKind, Sid};
+use sd_ace::Ace;
+use sd_kinds::AceKind;
+use sd_sid::Sid;
 
 /// The generic rights (MS-DTYP 2.4.3).
 const GENERIC_RIGHTS: u32 = 0xf000_0000;

@@ -3,18 +3,21 @@
 ghost use Rattle.std.specs.Prelude.{◌≡◌, ◌≤◌, ◌+◌, ◌^◌, ◌↔◌, ◌++◌, IsErr, IfOk, OnOk};
 ghost use Rattle.std.specs.List.{flat_map};
 ghost use Rattle.sd_view.specs.Acl.{aces_size, acl_size};
-ghost use Rattle.sd_binary.specs.Builds.{Builds};
-ghost use Rattle.sd_binary.specs.Draft.{CanBegin, Draft, is_present, open_size};
+ghost use Rattle.sd_builder.specs.Builds.{Builds};
+ghost use Rattle.sd_builder.specs.Draft.{CanBegin, Draft, is_present, open_size};
 ghost use Rattle.sd_view.specs.declared.acl.AclPart.TheVariants as acl;
-ghost use Rattle.sd_view.specs.declared.control.Which.TheVariants as which;
+ghost use Rattle.sd_control.specs.declared.control.Which.TheVariants as which;
 ghost use Rattle.sd_inherit.specs.Inner.Building.{HasOpen, listed, one_or_none, with_aces, with_part};
 ghost use Rattle.sd_inherit.specs.Copies.{copies};
 ghost use Rattle.sd_inherit.specs.Derived.{inherited, sacl_of};
 
 use crate::copies::{Copies, copies_of};
 use crate::plan::Plan;
-use sd_binary::{Aces, AclPart, AclTooLarge, Builder, SdBuf, Which};
-use sd_core::Ace;
+use sd_ace::Ace;
+use sd_buffer::SdBuf;
+use sd_builder::{AclTooLarge, Builder};
+use sd_control::Which;
+use sd_view::{Aces, AclPart};
 
 /// Appends the SACL, if a copy stands in it, and tells whether it does.
 pub fn put_sacl(

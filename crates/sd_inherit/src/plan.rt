@@ -1,6 +1,7 @@
 //! What is made, and for whom.
 
-use sd_core::{Mapping, Sid};
+use sd_rights::Mapping;
+use sd_sid::Sid;
 
 /// What is made in the container.
 #[derive(Clone, Copy, Debug, PartialEq, Eq)]

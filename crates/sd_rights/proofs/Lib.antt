@@ -1,7 +1,3 @@
-pub mod Bits
-pub mod DigitLemmas
-pub mod HexDigits
-pub mod NameLaws
+pub mod MaskNumbers
 mod NameRows
-pub mod NumberLemmas
 pub mod laws

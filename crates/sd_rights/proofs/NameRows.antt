@@ -1,10 +1,10 @@
 -- Worked texts, computed: flags and access rights.
 use Rattle.std.proofs.Common.{◌≡◌, [], Some, None, codes, refl}
 use Rattle.std.specs.Fmt.{digits}
-use Rattle.sd_rights.specs.Names.{run_of}
-use Rattle.sd_rights.specs.Flags.{flags_reads, flags_text}
+use Rattle.sd_text.specs.Names.{run_of}
+use Rattle.sd_kinds.specs.Flags.{flags_reads, flags_text}
 use Rattle.sd_rights.specs.Rights.{rights_reads, rights_text}
-use Rattle.sd_rights.specs.declared.kinds.AceKind.TheVariants as kinds
+use Rattle.sd_kinds.specs.declared.kinds.AceKind.TheVariants as kinds
 
 -- `unfolding computed` lets `refl` compute a row
 computed : Unit {0}

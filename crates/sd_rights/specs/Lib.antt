@@ -1,16 +1,4 @@
-pub mod Bits
-pub mod Chains
-pub mod Cuts
-pub mod FlagValues
-pub mod Flags
-pub mod Inner
-pub mod KindValues
-pub mod Kinds
-pub mod LimitValues
-pub mod Limits
 pub mod Mapping
 pub mod MappingValues
-pub mod Names
-pub mod Numbers
 pub mod RightValues
 pub mod Rights

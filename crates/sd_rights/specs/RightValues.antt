@@ -1,7 +1,7 @@
 -- The names of access rights, written out: numbers as in MS-DTYP 2.4.3, names as in 2.5.1.1 (ace-rights). The
 -- number of KX, the same as that of KR, is this project's own.
 use Rattle.std.specs.Prelude.{◌≡◌, [], ◌∷◌, codes, map}
-use Rattle.sd_rights.specs.Names.{named_row}
+use Rattle.sd_text.specs.Names.{named_row}
 use Rattle.sd_rights.specs.declared.rights_table.TheConstants.{COMPOUNDS, LABELS, SINGLES}
 
 -- the rights of one bit, in rising order

@@ -5,11 +5,11 @@ use Rattle.std.specs.Char.{is_digit}
 use Rattle.std.specs.Fmt.{digits}
 use Rattle.std.specs.Str.Parse.{digits_value}
 use Rattle.std.specs.Str.{byte as char}
-use Rattle.sd_rights.specs.Limits.{most_field}
-use Rattle.sd_rights.specs.Names.{run_of, names_of, named_bits}
-use Rattle.sd_rights.specs.declared.kinds.AceKind.{AceKind}
-use Rattle.sd_rights.specs.declared.kinds.AceKind.TheVariants as kinds
-use Rattle.sd_rights.specs.declared.names.NamedBits.{NamedBits}
+use Rattle.sd_text.specs.Limits.{most_field}
+use Rattle.sd_text.specs.Names.{run_of, names_of, named_bits}
+use Rattle.sd_kinds.specs.declared.kinds.AceKind.{AceKind}
+use Rattle.sd_kinds.specs.declared.kinds.AceKind.TheVariants as kinds
+use Rattle.sd_text.specs.declared.names.NamedBits.{NamedBits}
 use Rattle.sd_rights.specs.declared.rights_table.TheConstants.{SINGLES, COMPOUNDS, LABELS}
 
 -- 1. Reading.

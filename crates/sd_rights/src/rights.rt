@@ -4,17 +4,16 @@ ghost use Rattle.std.specs.Prelude.{◌≡◌, ◌≤◌, ◌<◌, ◌==◌, bit
 ghost use Rattle.std.specs.Fmt.{digits};
 ghost use Rattle.std.specs.List.{find};
 ghost use Rattle.sd_sink.specs.Print.{Prints};
-ghost use Rattle.sd_rights.specs.Names.{named_bits};
+ghost use Rattle.sd_text.specs.Names.{named_bits};
 ghost use Rattle.sd_rights.specs.RightValues.{CompoundRights, LabelRights, SingleRights};
 ghost use Rattle.sd_rights.specs.Rights.{hex_text, is_label, names_or_hex, rights_reads, rights_text};
 ghost use Rattle.sd_sink.specs.Sink.{Puts};
 ghost use Rattle.sd_rights.specs.declared.rights_table.TheConstants.{COMPOUNDS};
 
-use crate::digits::hex_digit;
-use crate::kinds::AceKind;
-use crate::names::{NamedBits, print_names};
 use crate::rights_table::{COMPOUNDS, LABEL_BITS, LABELS, SINGLE_BITS, SINGLES};
+use sd_kinds::AceKind;
 use sd_sink::{Print, Printer, Sink, SinkFault};
+use sd_text::{NamedBits, hex_digit, print_names};
 
 /// `0x` and the eight digits of the largest mask.
 const HEX_SIZE: usize = 10;

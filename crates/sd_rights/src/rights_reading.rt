@@ -3,10 +3,8 @@
 ghost use Rattle.std.specs.Prelude.{◌≡◌, ◌≤◌};
 ghost use Rattle.sd_rights.specs.Rights.{after_zero, mask_reads, rights_reads, short_rights_reads};
 
-use crate::limits::MOST_FIELD_SIZE;
-use crate::names::read_names;
-use crate::numbers::read_number;
 use crate::rights_table::{COMPOUNDS, LABELS, SINGLES};
+use sd_text::{MOST_FIELD_SIZE, read_names, read_number};
 
 /// The access mask of a text of at most 183 bytes (MS-DTYP 2.5.1.1). No text at all is 0. A text that begins
 /// with a decimal digit is a number below 2^32: hex after `0x` or `0X`, octal after any other zero, and else
@@ -22,7 +20,7 @@ pub fn rights_from_text(text: &[u8]) -> Option<u32>
     read_rights(text)
 }
 
-#[tactic(auto, unfolding(crate::specs::Names::run_of))]
+#[tactic(auto, unfolding(sd_text::specs::Names::run_of))]
 fn read_rights(text: &[u8]) -> Option<u32>
     ensures { result ≡ short_rights_reads text.now }
 {

@@ -1,6 +1,6 @@
 //! Buffers, and what is read into them: hex in pieces, base64, and what a refusal leaves.
 ghost use Rattle.std.specs.Prelude.{◌≤◌, ◌<◌, length};
-ghost use Rattle.sd_rights.specs.Limits.{most_hex_text};
+ghost use Rattle.sd_text.specs.Limits.{most_hex_text};
 
 use sd_access::{DeriveFault, Plan, Target, derive};
 use sd_binary::{Full, HexReader, SdBuf, TextBuf, TextFault, Which, read};

@@ -1,6 +1,6 @@
 //! Descriptors that are built part by part. Those in the order of the layout stand in `tests/rows/`, from SDDL.
-ghost use Rattle.sd_binary.specs.Builds.{Builds};
-ghost use Rattle.sd_binary.specs.Draft.{Draft, IsOpen, with_ace};
+ghost use Rattle.sd_builder.specs.Builds.{Builds};
+ghost use Rattle.sd_builder.specs.Draft.{Draft, IsOpen, with_ace};
 
 use sd_binary::{AclTooLarge, Builder, SdBuf, Which};
 use sd_core::{Ace, AceKind, Sid};

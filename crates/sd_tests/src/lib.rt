@@ -1,5 +1,6 @@
-//! The tests, over public calls alone, of what no clause says and no row shows: values stand in `tests/rows/`, data
-//! that the built program is run on. A crate with tests is proved twice, so no other has any that can stand here.
+//! Tests over public calls, for what no clause says and no row shows: values, buffers, builders, tokens, the access
+//! check beside a plain program, and sinks that fail. Values of the built program are in `tests/rows/`. A crate with
+//! tests is proved twice, so all tests are here and in `sd_run_tests`.
 #![tactic(auto)]
 
 #[cfg(test)]
@@ -9,17 +10,9 @@ mod builder;
 #[cfg(test)]
 mod check;
 #[cfg(test)]
-mod devices;
-#[cfg(test)]
-mod engines;
-#[cfg(test)]
-mod memory;
-#[cfg(test)]
 mod plain_check;
 #[cfg(test)]
 mod sinks;
-#[cfg(test)]
-mod streams;
 #[cfg(test)]
 mod token;
 #[cfg(test)]

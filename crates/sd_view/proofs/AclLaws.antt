@@ -9,14 +9,14 @@ use Rattle.std.proofs.lemmas.List.{take-append-drop, take_at, drop_at, drop-appe
 use Rattle.byteorder.specs.Endian.{little_number}
 use Rattle.byteorder.specs.Numbers.{little_from-append, little_from-lt}
 use Rattle.uuid.specs.Parts.{swap_fields}
-use Rattle.sd_core.specs.Ace.{AccessControlEntry, GuidsFit, IsAce, IsGuid, ace_size, guid_size, sid_offset}
-use Rattle.sd_rights.specs.Kinds.{is_object, kind_code, kind_of}
-use Rattle.sd_core.specs.Sid.{SecurityId, BeginsWithSid, sid_at, sid_bytes, sid_of, sid_size}
-use Rattle.sd_rights.specs.declared.kinds.AceKind.{AceKind}
-use Rattle.sd_rights.specs.declared.kinds.AceKind.TheVariants as kinds
-use Rattle.sd_rights.proofs.laws.KindLaws.{kind_of-code, kind_of-some}
-use Rattle.sd_core.proofs.laws.Numbers.{AreBytes, AreBytes-drop, AreBytes-take}
-use Rattle.sd_core.proofs.laws.SidLaws.{length-sid_bytes, sid_at-bytes, sid_at-found, sid_of-at}
+use Rattle.sd_ace.specs.Ace.{AccessControlEntry, GuidsFit, IsAce, IsGuid, ace_size, guid_size, sid_offset}
+use Rattle.sd_kinds.specs.Kinds.{is_object, kind_code, kind_of}
+use Rattle.sd_sid.specs.Sid.{SecurityId, BeginsWithSid, sid_at, sid_bytes, sid_of, sid_size}
+use Rattle.sd_kinds.specs.declared.kinds.AceKind.{AceKind}
+use Rattle.sd_kinds.specs.declared.kinds.AceKind.TheVariants as kinds
+use Rattle.sd_kinds.proofs.laws.KindLaws.{kind_of-code, kind_of-some}
+use Rattle.sd_sid.proofs.laws.Numbers.{AreBytes, AreBytes-drop, AreBytes-take}
+use Rattle.sd_sid.proofs.laws.SidLaws.{length-sid_bytes, sid_at-bytes, sid_at-found, sid_of-at}
 use Rattle.sd_view.specs.Bytes.{u16_at, u32_at}
 use Rattle.sd_view.specs.declared.fault.AclFault.{AclFault}
 use Rattle.sd_view.specs.declared.fault.AclFault.TheVariants as faults

@@ -3,15 +3,15 @@ use Rattle.std.proofs.Common.{◌≡◌, ◌≤◌, ◌/◌, ◌%◌, ◌+◌, �
 use Rattle.std.proofs.lemmas.List.{drop-drop, get_or-drop, length-take-le, take-append-drop, take_at}
 use Rattle.uuid.specs.Parts.{swap_fields}
 use Rattle.uuid.proofs.RoundTrips.{swap_twice}
-use Rattle.sd_core.specs.Ace.{ace_size, guid_size}
-use Rattle.sd_rights.specs.Kinds.{is_object}
-use Rattle.sd_core.specs.Sid.{SecurityId, BeginsWithSid, sid_bytes, sid_of}
+use Rattle.sd_ace.specs.Ace.{ace_size, guid_size}
+use Rattle.sd_kinds.specs.Kinds.{is_object}
+use Rattle.sd_sid.specs.Sid.{SecurityId, BeginsWithSid, sid_bytes, sid_of}
 use Rattle.sd_view.specs.Ace.{announces_inherited, announces_object}
 use Rattle.sd_view.specs.AclLayout.{ace_body, guid_part, guids, front_size}
 use Rattle.sd_view.specs.AclReading.{ace_of, guid_if, inherited_in, kind_in, object_in, sid_offset_in}
 use Rattle.sd_view.specs.Inner.ReadableAcl.{IsReadableAce}
 use Rattle.sd_view.specs.Bytes.{u32_at}
-use Rattle.sd_core.proofs.laws.SidLaws.{length-sid_bytes}
+use Rattle.sd_sid.proofs.laws.SidLaws.{length-sid_bytes}
 
 -- a GUID that is announced is the next piece of the extent
 piece : (b : Bool) (n : ℕ) (extent : List ℕ) → n + guid_size (guid_if b (drop n extent)) ≤ length extent

@@ -2,15 +2,15 @@
 use Rattle.std.proofs.Common.{◌≡◌, ◌+◌, ◌*◌, ℕ, true, false, eqb, List, [], take, drop, slice_index, Some, refl, sym, ap, ◌∙◌, arith}
 use Rattle.std.proofs.lemmas.Bool.Decides.{nat_tests}
 use Rattle.std.proofs.lemmas.List.{take_at}
-use Rattle.sd_core.specs.Sid.{sid_bytes, sid_of, sid_stands}
-use Rattle.sd_core.proofs.laws.Numbers.{AreBytes, AreBytes-drop}
+use Rattle.sd_sid.specs.Sid.{sid_bytes, sid_of, sid_stands}
+use Rattle.sd_sid.proofs.laws.Numbers.{AreBytes, AreBytes-drop}
 use Rattle.sd_view.specs.declared.acl.AclPart.{AclPart}
 use Rattle.sd_view.specs.declared.acl.AclPart.TheVariants as acl
 use Rattle.sd_view.specs.Inner.Found.{written_of}
 use Rattle.sd_view.specs.Layout.{acl_part_size, sid_part}
 use Rattle.sd_view.specs.Reading.{sid_shown}
 use Rattle.sd_view.specs.Inner.Readable.{IsSidAt}
-use Rattle.sd_core.proofs.laws.SidLaws.{length-sid_bytes}
+use Rattle.sd_sid.proofs.laws.SidLaws.{length-sid_bytes}
 use Rattle.sd_view.proofs.ReadLaws.{stands-at, stands-sid}
 
 -- no SID is shown at 0

@@ -5,9 +5,9 @@ use Rattle.std.proofs.lemmas.Bool.Decides.{nat_tests}
 use Rattle.std.proofs.lemmas.Bool.{cases_eq, cases_lt, eqb-true, eq-eqb, not-false, or_parts, ltb-false, le-ltb}
 use Rattle.std.proofs.lemmas.List.{take_at}
 use Rattle.byteorder.specs.Numbers.{little_from-lt}
-use Rattle.sd_core.specs.Sid.{SecurityId, IsSid, BeginsWithSid, sid_at, sid_of, sid_size, sid_stands}
-use Rattle.sd_core.proofs.laws.Numbers.{AreBytes, AreBytes-drop, AreBytes-take}
-use Rattle.sd_core.proofs.laws.SidLaws.{sid_at-bytes, sid_at-found}
+use Rattle.sd_sid.specs.Sid.{SecurityId, IsSid, BeginsWithSid, sid_at, sid_of, sid_size, sid_stands}
+use Rattle.sd_sid.proofs.laws.Numbers.{AreBytes, AreBytes-drop, AreBytes-take}
+use Rattle.sd_sid.proofs.laws.SidLaws.{sid_at-bytes, sid_at-found}
 use Rattle.sd_view.specs.Bytes.{u16_at}
 use Rattle.sd_view.specs.declared.fault.Part.{Part}
 use Rattle.sd_view.specs.declared.fault.Part.TheVariants.{Owner, Group, Sacl, Dacl}
@@ -15,10 +15,11 @@ use Rattle.sd_view.specs.declared.fault.SdFault.{SdFault}
 use Rattle.sd_view.specs.declared.fault.AclFault.{AclFault}
 use Rattle.sd_view.specs.declared.acl.AclPart.{AclPart}
 use Rattle.sd_view.specs.declared.acl.AclPart.TheVariants as acl
-use Rattle.sd_core.specs.Ace.{AccessControlEntry}
+use Rattle.sd_ace.specs.Ace.{AccessControlEntry}
 use Rattle.sd_view.specs.Acl.{BeginsWithAcl}
 use Rattle.sd_view.specs.AclReading.{acl_fault, acl_of, acl_at_front}
-use Rattle.sd_view.specs.Descriptor.{Apart, AreApart, Descriptor, Extent, Extents, IsAclPart, IsDescriptor, Shows, ShowsAclPart, ShowsSid, control_at, dacl_at, dacl_present, extents_of, group_at, owner_at, sacl_at, sacl_present, self_relative}
+use Rattle.sd_view.specs.Descriptor.{Apart, AreApart, Descriptor, Extent, Extents, IsAclPart, IsDescriptor, Shows, ShowsAclPart, ShowsSid, control_at, dacl_at, extents_of, group_at, owner_at, sacl_at}
+use Rattle.sd_control.specs.Control.{dacl_present, sacl_present, self_relative}
 use Rattle.sd_view.specs.Reading.{acl_part_fault, acl_shown, fault, fault_in, header_fault, overlap_fault, overlaps_fault, parts_fault, reading, share_a_byte, shown, sid_fault, sid_shown}
 use Rattle.sd_view.specs.Inner.Readable.{IsAclAt, IsSidAt, Readable}
 use Rattle.sd_view.proofs.AclLaws.{acl-begins, acl-readable, begins-acl, shows-acl-limits}

@@ -1,10 +1,11 @@
 -- No bytes that show a descriptor are fewer than its size says.
 use Rattle.std.proofs.Common.{◌≡◌, ◌≤◌, ◌⊎◌, inl, inr, ℕ, ◌+◌, Bool, List, length, drop, Option, Some, None, ap, ◌∙◌, arith, length-append, length-drop}
-use Rattle.sd_core.specs.Ace.{AccessControlEntry}
-use Rattle.sd_core.specs.Sid.{SecurityId}
+use Rattle.sd_ace.specs.Ace.{AccessControlEntry}
+use Rattle.sd_sid.specs.Sid.{SecurityId}
 use Rattle.sd_view.specs.Acl.{BeginsWithAcl, acl_size}
 use Rattle.sd_view.specs.Bytes.{u16_at}
-use Rattle.sd_view.specs.Descriptor.{Apart, AreApart, Descriptor, Extent, Shows, ShowsAclPart, ShowsSid, acl_extent, dacl_at, dacl_present, group_at, owner_at, sacl_at, sacl_present, sid_extent}
+use Rattle.sd_view.specs.Descriptor.{Apart, AreApart, Descriptor, Extent, Shows, ShowsAclPart, ShowsSid, acl_extent, dacl_at, group_at, owner_at, sacl_at, sid_extent}
+use Rattle.sd_control.specs.Control.{dacl_present, sacl_present}
 use Rattle.sd_view.specs.Layout.{acl_part_size, sid_part_size, size}
 use Rattle.sd_view.specs.declared.acl.AclPart.{AclPart}
 use Rattle.sd_view.specs.declared.acl.AclPart.TheVariants as acl

@@ -7,9 +7,9 @@ use Rattle.std.proofs.lemmas.List.{append-nil, length-take-le, take_all, take-ap
 use Rattle.std.proofs.lemmas.Bool.{and_parts, or_parts}
 use Rattle.byteorder.specs.Endian.{little_bytes, little_number}
 use Rattle.byteorder.specs.Numbers.{little_number-reads_back}
-use Rattle.sd_core.specs.Ace.{ace_size, guid_size}
-use Rattle.sd_rights.specs.Kinds.{is_object, kind_code}
-use Rattle.sd_core.proofs.laws.Numbers.{AreBytes, AreBytes-drop, AreBytes-take, bytes_low_first-little_from}
+use Rattle.sd_ace.specs.Ace.{ace_size, guid_size}
+use Rattle.sd_kinds.specs.Kinds.{is_object, kind_code}
+use Rattle.sd_sid.proofs.laws.Numbers.{AreBytes, AreBytes-drop, AreBytes-take, bytes_low_first-little_from}
 use Rattle.sd_view.specs.Bytes.{u16_at, u32_at}
 use Rattle.sd_view.specs.Ace.{ShowsAce, announces_inherited, announces_object}
 use Rattle.sd_view.specs.Acl.{acl_size, aces_size, has_object}

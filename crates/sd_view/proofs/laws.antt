@@ -1,6 +1,5 @@
 -- Laws of the definitions alone, which crates above may cite.
 pub mod AceLists
 pub mod AclLayoutLaws
-pub mod ControlLaws
 pub mod LayoutLaws
 pub mod ReadingLaws

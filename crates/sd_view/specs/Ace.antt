@@ -1,10 +1,10 @@
 -- Access control entries as bytes (MS-DTYP 2.4.4): which extent shows which.
 use Rattle.std.specs.Prelude.{◌≡◌, ℕ, ◌+◌, ◌/◌, ◌%◌, ◌==◌, ◌&&◌, Bool, true, false, List, length, drop, take, slice_index, Option, Some, None}
 use Rattle.uuid.specs.Parts.{swap_fields}
-use Rattle.sd_core.specs.Ace.{AccessControlEntry, guid_size, sid_offset}
-use Rattle.sd_rights.specs.Kinds.{is_object, kind_code}
-use Rattle.sd_rights.specs.declared.kinds.AceKind.{AceKind}
-use Rattle.sd_core.specs.Sid.{BeginsWithSid}
+use Rattle.sd_ace.specs.Ace.{AccessControlEntry, guid_size, sid_offset}
+use Rattle.sd_kinds.specs.Kinds.{is_object, kind_code}
+use Rattle.sd_kinds.specs.declared.kinds.AceKind.{AceKind}
+use Rattle.sd_sid.specs.Sid.{BeginsWithSid}
 use Rattle.sd_view.specs.Bytes.{u16_at, u32_at}
 
 -- 2.4.4.3: whether the object flags of an extent announce an object type, and an inherited object type

@@ -1,8 +1,8 @@
 -- Access control lists as bytes (MS-DTYP 2.4.5): which extent shows which.
 use Rattle.std.specs.Prelude.{◌≡◌, ◌≤◌, ◌<◌, ℕ, ◌+◌, ◌^◌, ◌⊎◌, Bool, List, [], ◌∷◌, ◌++◌, length, drop, slice_index}
 use Rattle.std.specs.List.{list_any, AllByRecursion}
-use Rattle.sd_core.specs.Ace.{AccessControlEntry, IsAce, ace_size}
-use Rattle.sd_rights.specs.Kinds.{is_object}
+use Rattle.sd_ace.specs.Ace.{AccessControlEntry, IsAce, ace_size}
+use Rattle.sd_kinds.specs.Kinds.{is_object}
 use Rattle.sd_view.specs.Ace.{ShowsAce}
 use Rattle.sd_view.specs.Bytes.{u16_at}
 

@@ -3,10 +3,10 @@ use Rattle.std.specs.Prelude.{ℕ, ◌+◌, if◌then◌else◌, List, [], ◌�
 use Rattle.std.specs.List.{flat_map}
 use Rattle.byteorder.specs.Endian.{little_bytes}
 use Rattle.uuid.specs.Parts.{swap_fields}
-use Rattle.sd_core.specs.Ace.{AccessControlEntry, ace_size}
-use Rattle.sd_rights.specs.Kinds.{is_object, kind_code}
-use Rattle.sd_rights.specs.declared.kinds.AceKind.{AceKind}
-use Rattle.sd_core.specs.Sid.{sid_bytes}
+use Rattle.sd_ace.specs.Ace.{AccessControlEntry, ace_size}
+use Rattle.sd_kinds.specs.Kinds.{is_object, kind_code}
+use Rattle.sd_kinds.specs.declared.kinds.AceKind.{AceKind}
+use Rattle.sd_sid.specs.Sid.{sid_bytes}
 use Rattle.sd_view.specs.Acl.{acl_size, has_object}
 
 -- 2.3.4.2

@@ -3,11 +3,11 @@
 use Rattle.std.specs.Prelude.{ℕ, zero, suc, ◌+◌, ◌/◌, ◌%◌, ◌==◌, ◌||◌, not, nat_lt, Bool, if◌then◌else◌, List, [], ◌∷◌, length, drop, take, slice_index, Option, Some, None, is_some, unwrap_or}
 use Rattle.std.specs.Option.{option_or}
 use Rattle.uuid.specs.Parts.{swap_fields}
-use Rattle.sd_core.specs.Ace.{AccessControlEntry, guid_size, sid_offset}
-use Rattle.sd_rights.specs.Kinds.{kind_of}
-use Rattle.sd_core.specs.Sid.{sid_at, sid_of}
-use Rattle.sd_rights.specs.declared.kinds.AceKind.{AceKind}
-use Rattle.sd_rights.specs.declared.kinds.AceKind.TheVariants as kinds
+use Rattle.sd_ace.specs.Ace.{AccessControlEntry, guid_size, sid_offset}
+use Rattle.sd_kinds.specs.Kinds.{kind_of}
+use Rattle.sd_sid.specs.Sid.{sid_at, sid_of}
+use Rattle.sd_kinds.specs.declared.kinds.AceKind.{AceKind}
+use Rattle.sd_kinds.specs.declared.kinds.AceKind.TheVariants as kinds
 use Rattle.sd_view.specs.declared.fault.AclFault.{AclFault}
 use Rattle.sd_view.specs.declared.fault.AclFault.TheVariants as faults
 use Rattle.sd_view.specs.Ace.{announces_inherited, announces_object}

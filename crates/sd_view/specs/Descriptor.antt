@@ -1,12 +1,12 @@
 -- Self-relative security descriptors (MS-DTYP 2.4.6): what one is, and which bytes show which.
 use Rattle.std.specs.Prelude.{◌≡◌, ◌≤◌, ◌<◌, ℕ, ◌+◌, ◌^◌, ◌⊎◌, Bool, true, false, List, length, drop, slice_index, Option, Some, None, IfSome}
-use Rattle.sd_core.specs.Sid.{SecurityId, IsSid, BeginsWithSid, sid_size}
+use Rattle.sd_sid.specs.Sid.{SecurityId, IsSid, BeginsWithSid, sid_size}
 use Rattle.sd_view.specs.Acl.{BeginsWithAcl, IsAcl}
 use Rattle.sd_view.specs.Bytes.{u16_at, u32_at}
-use Rattle.sd_rights.specs.Bits.{has_bit}
+use Rattle.sd_control.specs.Control.{self_relative, sacl_present, dacl_present}
+use Rattle.sd_text.specs.Bits.{has_bit}
 use Rattle.sd_view.specs.declared.acl.AclPart.{AclPart}
 use Rattle.sd_view.specs.declared.acl.AclPart.TheVariants as acl
-use Rattle.sd_view.specs.declared.control.TheConstants.{DACL_PRESENT, SACL_PRESENT, SELF_RELATIVE}
 
 pub record Descriptor : Type 0 where
   -- the control word
@@ -17,16 +17,6 @@ pub record Descriptor : Type 0 where
   pub group : Option SecurityId
   pub sacl : AclPart
   pub dacl : AclPart
-
--- bits of the control word: SR, SP and DP
-abbrev pub self_relative : ℕ → Bool
-self_relative control = has_bit SELF_RELATIVE control
-
-abbrev pub sacl_present : ℕ → Bool
-sacl_present control = has_bit SACL_PRESENT control
-
-abbrev pub dacl_present : ℕ → Bool
-dacl_present control = has_bit DACL_PRESENT control
 
 -- the fields of the header: the control word and the offsets of the parts
 abbrev pub control_at : List ℕ → ℕ

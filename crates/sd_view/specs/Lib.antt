@@ -3,9 +3,7 @@ pub mod Acl
 pub mod AclLayout
 pub mod AclReading
 pub mod Bytes
-pub mod Control
 pub mod Descriptor
 pub mod Inner
 pub mod Layout
-pub mod Limits
 pub mod Reading

@@ -1,7 +1,7 @@
 -- The first fault of some bytes, and the descriptor that they show where there is none.
 -- `read` promises that this agrees with `Shows`.
 use Rattle.std.specs.Prelude.{ℕ, ◌+◌, ◌==◌, ◌||◌, ◌&&◌, not, nat_lt, Bool, false, if◌then◌else◌, List, length, drop, slice_index, Option, Some, None, option_map, is_some, Result}
-use Rattle.sd_core.specs.Sid.{SecurityId, sid_at}
+use Rattle.sd_sid.specs.Sid.{SecurityId, sid_at}
 use Rattle.sd_view.specs.declared.fault.Part.{Part}
 use Rattle.sd_view.specs.declared.fault.Part.TheVariants.{Owner, Group, Sacl, Dacl}
 use Rattle.sd_view.specs.declared.fault.SdFault.{SdFault}
@@ -11,9 +11,10 @@ use Rattle.sd_view.specs.declared.fault.AclFault.TheVariants as lists
 use Rattle.sd_view.specs.declared.acl.AclPart.{AclPart}
 use Rattle.sd_view.specs.declared.acl.AclPart.TheVariants as acl
 use Rattle.std.specs.Option.{option_or}
-use Rattle.sd_rights.specs.Chains.{unless}
+use Rattle.sd_text.specs.Chains.{unless}
 use Rattle.sd_view.specs.AclReading.{acl_fault, acl_of, acl_at_front}
-use Rattle.sd_view.specs.Descriptor.{Descriptor, Extent, Extents, control_at, dacl_at, dacl_present, extents_of, group_at, owner_at, sacl_at, sacl_present, self_relative}
+use Rattle.sd_view.specs.Descriptor.{Descriptor, Extent, Extents, control_at, dacl_at, extents_of, group_at, owner_at, sacl_at}
+use Rattle.sd_control.specs.Control.{dacl_present, sacl_present, self_relative}
 
 -- the SID at an offset; an offset of 0 means that there is none
 unfoldable pub sid_shown : List ℕ → ℕ → Option SecurityId

@@ -1,8 +1,8 @@
 // Access control entries read in place.
 ghost use Rattle.std.specs.Prelude.{◌≡◌, ◌≤◌, ◌<◌, ◌+◌, ◌%◌, length, take, drop, Some, IfOk};
 ghost use Rattle.uuid.specs.Parts.{swap_fields};
-ghost use Rattle.sd_core.specs.Ace.{IsAce, ace_size};
-ghost use Rattle.sd_rights.specs.Kinds.{is_object};
+ghost use Rattle.sd_ace.specs.Ace.{IsAce, ace_size};
+ghost use Rattle.sd_kinds.specs.Kinds.{is_object};
 ghost use Rattle.sd_view.specs.Ace.{announces_inherited, announces_object};
 ghost use Rattle.sd_view.specs.AclLayout.{ace_body, ace_bytes, front_size};
 ghost use Rattle.sd_view.specs.AclReading.{ace_fault, ace_of, kind_in, extent_fault, sid_offset_in};
@@ -13,7 +13,9 @@ ghost use Rattle.sd_view.specs.Inner.Written.{named_flags};
 
 use crate::bytes::{u16_at, u32_at};
 use crate::fault::AclFault;
-use sd_core::{Ace, AceKind, Sid, UNUSED_FLAG, guid_read};
+use sd_ace::{Ace, UNUSED_FLAG, guid_read};
+use sd_kinds::AceKind;
+use sd_sid::Sid;
 use std::marker::Model;
 use uuid::Uuid;
 
@@ -143,7 +145,7 @@ pub struct AceView<'a> {
 }
 
 impl<'a> Model for AceView<'a> {
-    ghost use Rattle.sd_core.specs.Ace.{AccessControlEntry};
+    ghost use Rattle.sd_ace.specs.Ace.{AccessControlEntry};
     ghost use Rattle.sd_view.specs.AclReading.{ace_of};
     ghost use Rattle.sd_view.specs.Inner.ReadableAcl.{IsReadableAce};
 

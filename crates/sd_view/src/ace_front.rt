@@ -1,12 +1,13 @@
 // What stands in an ACE before its GUIDs and its SID, as it is written.
 ghost use Rattle.std.specs.Prelude.{◌≡◌, ◌+◌, ◌++◌, ◌∷◌, [], length, take, if◌then◌else◌};
 ghost use Rattle.byteorder.specs.Endian.{little_bytes};
-ghost use Rattle.sd_rights.specs.Kinds.{is_object, kind_code};
+ghost use Rattle.sd_kinds.specs.Kinds.{is_object, kind_code};
 ghost use Rattle.sd_view.specs.AclLayout.{ace_front};
 
 use crate::ace::{AceView, FRONT_SIZE, OBJECT_FRONT_SIZE};
 use byteorder::{ByteOrder, LittleEndian};
-use sd_core::{Ace, AceKind};
+use sd_ace::Ace;
+use sd_kinds::AceKind;
 use std::marker::Model;
 
 /// Type, flags, size and mask of an ACE, and in object kinds the object flags (MS-DTYP 2.4.4): the first of its cells.

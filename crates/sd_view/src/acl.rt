@@ -10,7 +10,7 @@ ghost use Rattle.sd_view.specs.Inner.Found.{FailsBy};
 use crate::ace::{AceView, ace_view, check_ace};
 use crate::bytes::u16_at;
 use crate::fault::AclFault;
-use crate::limits::{ACL_HEADER_SIZE, ACL_REVISION, ACL_REVISION_DS};
+use sd_control::{ACL_HEADER_SIZE, ACL_REVISION, ACL_REVISION_DS};
 use std::marker::Model;
 
 /// What the front of a written ACL is made from, besides the count: its size, and whether an object ACE
@@ -78,7 +78,7 @@ pub struct AclView<'a> {
 
 impl<'a> Model for AclView<'a> {
     ghost use Rattle.std.specs.Prelude.{◌≡◌, List};
-    ghost use Rattle.sd_core.specs.Ace.{AccessControlEntry};
+    ghost use Rattle.sd_ace.specs.Ace.{AccessControlEntry};
     ghost use Rattle.sd_view.specs.Acl.{acl_size, has_object};
     ghost use Rattle.sd_view.specs.AclReading.{acl_of};
     ghost use Rattle.sd_view.specs.Inner.ReadableAcl.{IsReadableAcl};
@@ -146,7 +146,7 @@ pub struct Aces<'a> {
 
 impl<'a> Model for Aces<'a> {
     ghost use Rattle.std.specs.Prelude.{◌≡◌, List, None};
-    ghost use Rattle.sd_core.specs.Ace.{AccessControlEntry};
+    ghost use Rattle.sd_ace.specs.Ace.{AccessControlEntry};
     ghost use Rattle.sd_view.specs.AclReading.{aces_fault, aces_of};
 
     ghost Value = { List AccessControlEntry };

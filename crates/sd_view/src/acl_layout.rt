@@ -13,9 +13,9 @@ use crate::ace::{AceView, has_named_flags};
 use crate::ace_front::AceFront;
 use crate::acl::AclView;
 use crate::bytes::u16_at;
-use crate::limits::{ACL_HEADER_SIZE, ACL_REVISION, ACL_REVISION_DS};
 use byteorder::{ByteOrder, LittleEndian};
-use sd_core::Print;
+use sd_control::{ACL_HEADER_SIZE, ACL_REVISION, ACL_REVISION_DS};
+use sd_sink::Print;
 
 /// Prints an ACL: its header, and its ACEs one after the other; where it stands in this form, at once.
 #[inline(always)]

@@ -3,14 +3,14 @@ ghost use Rattle.std.specs.Prelude.{◌≡◌, ◌≤◌, ◌<◌, ◌+◌, ℕ,
 ghost use Rattle.sd_sink.specs.Print.{Prints};
 ghost use Rattle.sd_sink.specs.Sink.{Puts};
 ghost use Rattle.sd_view.specs.Descriptor.{IsDescriptor, Shows};
-ghost use Rattle.sd_view.specs.Limits.{AreLimits};
+ghost use Rattle.sd_control.specs.Limits.{AreLimits};
 ghost use Rattle.sd_view.specs.Layout.{acl_part, descriptor_header, header_bytes, layout, offset_if, size};
 
 use crate::acl::AclPart;
 use crate::acl_layout::print_acl;
-use crate::limits::HEADER_SIZE;
 use crate::view::SdView;
-use sd_core::{Print, Printer, Sink, SinkFault};
+use sd_control::HEADER_SIZE;
+use sd_sink::{Print, Printer, Sink, SinkFault};
 
 /// Puts the one layout of a descriptor (MS-DTYP 2.4.6): header, owner, group, SACL, DACL, those that
 /// stand, without gaps, and 0 for each offset without a part.

@@ -6,20 +6,14 @@ mod ace_front;
 mod acl;
 mod acl_layout;
 mod bytes;
-mod control;
 mod fault;
 mod layout;
-mod limits;
 mod view;
 
 pub use ace::AceView;
 pub use ace_front::AceFront;
 pub use acl::{Aces, AclPart, AclView};
 pub use acl_layout::acl_header;
-pub use control::{AclFlags, CONTROL_BITS, ControlBit, Which, control_of};
 pub use fault::{Part, SdFault};
 pub use layout::{header, print_layout, put_layout};
-pub use limits::{
-    ACL_HEADER_SIZE, CAPACITY, HEADER_SIZE, MOST_ACL_SIZE, MOST_SID_SIZE, SID_HEADER_SIZE,
-};
 pub use view::{SdView, read};

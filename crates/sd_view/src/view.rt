@@ -1,19 +1,18 @@
 // Descriptors read in place.
 ghost use Rattle.std.specs.Prelude.{◌≡◌, ◌≤◌, ◌<◌, ◌+◌, ◌*◌, ℕ, List, length, Ok, IfOk, OnOk, MatchResult};
-ghost use Rattle.sd_view.specs.Control.{AreControlBits};
+ghost use Rattle.sd_control.specs.Control.{AreControlBits};
 ghost use Rattle.sd_view.specs.Descriptor.{Descriptor, Shows, IsDescriptor, acl_extent, extents_of, sid_extent};
 ghost use Rattle.sd_view.specs.Layout.{layout, sid_part, size};
 ghost use Rattle.sd_view.specs.Inner.Found.{FailsBy, extents_seen, shown_written, written_of};
 ghost use Rattle.sd_view.specs.Reading.{acl_part_fault, acl_shown, fault, fault_in, header_fault, share_a_byte as share_of, overlap_fault, overlaps_fault, parts_fault, reading, shown, sid_fault, sid_shown};
 ghost use Rattle.sd_view.specs.Inner.Readable.{IsAclAt, IsSidAt};
-ghost use Rattle.sd_view.specs.declared.limits.TheConstants.{HEADER_SIZE, MOST_SID_SIZE};
+ghost use Rattle.sd_control.specs.declared.limits.TheConstants.{HEADER_SIZE, MOST_SID_SIZE};
 
 use crate::acl::{AclPart, Written, acl_view, check_acl};
 use crate::bytes::{u16_at, u32_at};
-use crate::control::{DACL_PRESENT, SACL_PRESENT, SELF_RELATIVE, has_bit};
 use crate::fault::{AclFault, Part, SdFault};
-use crate::limits::HEADER_SIZE;
-use sd_core::Sid;
+use sd_control::{DACL_PRESENT, HEADER_SIZE, SACL_PRESENT, SELF_RELATIVE, has_bit};
+use sd_sid::Sid;
 use std::marker::Model;
 
 /// What is kept of an ACL that does not stand.

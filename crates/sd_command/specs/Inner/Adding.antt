@@ -3,9 +3,9 @@
 use Rattle.std.specs.Prelude.{nat_lt, Result, Ok, Err, if◌then◌else◌, ◌++◌, List, [], ◌∷◌, length, Option, Some, None}
 use Rattle.std.specs.Option.{option_and_then}
 use Rattle.clap.specs.Words.{Text}
-use Rattle.sd_rights.specs.Limits.{most_entries}
-use Rattle.sd_core.specs.Sid.{SecurityId}
-use Rattle.sd_core.specs.Token.{Entry}
+use Rattle.sd_text.specs.Limits.{most_entries}
+use Rattle.sd_sid.specs.Sid.{SecurityId}
+use Rattle.sd_token.specs.Token.{Entry}
 use Rattle.sd_command.specs.TokenText.{entry_reads}
 use Rattle.sd_command.specs.declared.settings.UsageFault.{UsageFault}
 

@@ -4,32 +4,33 @@ use Rattle.std.specs.Prelude.{IfSome, codes}
 use Rattle.std.specs.Fmt.{decimal, digit_glyph}
 use Rattle.std.specs.List.{flat_map, enumerate_from, AllByRecursion}
 use Rattle.std.proofs.lemmas.Fmt.{length-decimal-le}
-use Rattle.sd_core.specs.Ace.{AccessControlEntry, IsAce, ace_size, guid_size}
-use Rattle.sd_rights.specs.Kinds.{is_object, kind_letters}
-use Rattle.sd_rights.specs.Flags.{flags_text}
-use Rattle.sd_core.specs.GuidText.{guid_text}
-use Rattle.sd_core.specs.Naming.{alias_by}
+use Rattle.sd_ace.specs.Ace.{AccessControlEntry, IsAce, ace_size, guid_size}
+use Rattle.sd_kinds.specs.Kinds.{is_object, kind_letters}
+use Rattle.sd_kinds.specs.Flags.{flags_text}
+use Rattle.sd_ace.specs.GuidText.{guid_text}
+use Rattle.sd_sid.specs.Naming.{alias_by}
 use Rattle.sd_rights.specs.Rights.{rights_text}
-use Rattle.sd_core.specs.Sid.{SecurityId, IsSid}
-use Rattle.sd_core.specs.SidText.{alias_of, sid_text}
-use Rattle.sd_rights.specs.Numbers.{hex_digits}
-use Rattle.sd_rights.specs.declared.kinds.AceKind.{AceKind}
-use Rattle.sd_core.specs.declared.naming.Naming.{Naming}
-use Rattle.sd_core.proofs.laws.AceSizes.{offset-low}
-use Rattle.sd_core.proofs.laws.AliasNames.{IsName, alias_of-IsName}
-use Rattle.sd_rights.proofs.laws.FlagLaws.{flags_text-length}
-use Rattle.sd_core.proofs.laws.GuidTexts.{guid_text-length}
-use Rattle.sd_rights.proofs.laws.KindLaws.{letters-few}
+use Rattle.sd_sid.specs.Sid.{SecurityId, IsSid}
+use Rattle.sd_sid.specs.SidText.{alias_of, sid_text}
+use Rattle.sd_text.specs.Numbers.{hex_digits}
+use Rattle.sd_kinds.specs.declared.kinds.AceKind.{AceKind}
+use Rattle.sd_sid.specs.declared.naming.Naming.{Naming}
+use Rattle.sd_ace.proofs.laws.AceSizes.{offset-low}
+use Rattle.sd_sid.proofs.laws.AliasNames.{IsName, alias_of-IsName}
+use Rattle.sd_kinds.proofs.laws.FlagLaws.{flags_text-length}
+use Rattle.sd_ace.proofs.laws.GuidTexts.{guid_text-length}
+use Rattle.sd_kinds.proofs.laws.KindLaws.{letters-few}
 use Rattle.sd_rights.proofs.laws.RightsLaws.{rights_text-length}
-use Rattle.sd_core.proofs.laws.TextLaws.{length-sid_text}
+use Rattle.sd_sid.proofs.laws.TextLaws.{length-sid_text}
 use Rattle.sd_view.specs.Acl.{aces_size}
-use Rattle.sd_rights.specs.Bits.{has_bit}
-use Rattle.sd_view.specs.Descriptor.{Descriptor, IsAclPart, IsDescriptor, dacl_present, sacl_present}
+use Rattle.sd_text.specs.Bits.{has_bit}
+use Rattle.sd_view.specs.Descriptor.{Descriptor, IsAclPart, IsDescriptor}
+use Rattle.sd_control.specs.Control.{dacl_present, sacl_present}
 use Rattle.sd_view.specs.Layout.{acl_part_size, sid_part_size, size}
 use Rattle.sd_view.specs.declared.acl.AclPart.{AclPart}
 use Rattle.sd_view.specs.declared.acl.AclPart.TheVariants as acl
-use Rattle.sd_view.specs.declared.control.ControlBit.{ControlBit}
-use Rattle.sd_view.specs.declared.control.TheConstants.{CONTROL_BITS}
+use Rattle.sd_control.specs.declared.control.ControlBit.{ControlBit}
+use Rattle.sd_control.specs.declared.control.TheConstants.{CONTROL_BITS}
 use Rattle.sd_explain.specs.Explain.{ace_head, ace_line, ace_rights, ace_trustee, acl_lines, code_if, control_line, count_line, explain, guid_words, name_after, or_none, rm_line, sid_line, sid_words}
 
 -- 1. The header: at most 57 and 8 characters.

@@ -3,10 +3,10 @@ use Rattle.std.proofs.Common.{◌≡◌, ◌<◌, ℕ, ◌^◌, Bool, true, fals
 use Rattle.std.proofs.lemmas.Bool.Decides.{nat_tests}
 use Rattle.std.proofs.lemmas.Nat.{or_lt}
 use Rattle.std.specs.List.{AllByRecursion, flat_map}
-use Rattle.sd_core.specs.Ace.{AccessControlEntry, IsAce}
+use Rattle.sd_ace.specs.Ace.{AccessControlEntry, IsAce}
 use Rattle.sd_rights.specs.Mapping.{GenericMapping, IsMapping, carries, mapped, mask_if}
-use Rattle.sd_core.specs.Sid.{IsSid, SecurityId}
-use Rattle.sd_core.specs.SidText.{same_sid}
+use Rattle.sd_sid.specs.Sid.{IsSid, SecurityId}
+use Rattle.sd_sid.specs.SidText.{same_sid}
 use Rattle.sd_rights.specs.Rights.{is_label}
 use Rattle.sd_view.specs.Acl.{IsAcl, acl_size}
 use Rattle.sd_view.specs.Descriptor.{Descriptor, IsAclPart, IsDescriptor}

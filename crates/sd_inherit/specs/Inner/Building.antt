@@ -1,12 +1,12 @@
 -- What the code that copies has built so far. No definition of what is derived rests on it.
 use Rattle.std.specs.Prelude.{◌<◌, ℕ, ◌+◌, ◌^◌, Bool, List, [], ◌∷◌, ◌++◌, Option, Some, None}
-use Rattle.sd_core.specs.Ace.{AccessControlEntry}
-use Rattle.sd_view.specs.Control.{bit_if}
-use Rattle.sd_binary.specs.Draft.{Draft, IsOpen, open_size, part_of, with_acl}
+use Rattle.sd_ace.specs.Ace.{AccessControlEntry}
+use Rattle.sd_control.specs.Control.{bit_if}
+use Rattle.sd_builder.specs.Draft.{Draft, IsOpen, open_size, part_of, with_acl}
 use Rattle.sd_view.specs.declared.acl.AclPart.{AclPart}
 use Rattle.sd_view.specs.declared.acl.AclPart.TheVariants as acl
-use Rattle.sd_view.specs.declared.control.Which.{Which}
-use Rattle.sd_view.specs.declared.control.TheConstants.{DACL_AUTO_INHERITED, SACL_AUTO_INHERITED}
+use Rattle.sd_control.specs.declared.control.Which.{Which}
+use Rattle.sd_control.specs.declared.control.TheConstants.{DACL_AUTO_INHERITED, SACL_AUTO_INHERITED}
 use Rattle.sd_inherit.specs.declared.copies.Copies.{Copies}
 
 -- at most one, as a list

@@ -6,16 +6,13 @@ use Rattle.std.specs.List.{list_all}
 use Rattle.std.specs.Str.Parse.{digits_value}
 use Rattle.std.proofs.lemmas.Bool.Decides.{nat_tests}
 use Rattle.std.proofs.lemmas.Nat.{le_or_l}
-use Rattle.sd_rights.specs.Flags.{flags_reads}
-use Rattle.sd_rights.specs.Names.{run_of}
+use Rattle.sd_kinds.specs.Flags.{flags_reads}
+use Rattle.sd_text.specs.Names.{run_of}
 use Rattle.sd_rights.specs.Rights.{after_zero, all_rights, mask_reads, rights_reads, short_rights_reads}
-use Rattle.sd_rights.specs.declared.flags.TheConstants.{FLAGS}
-use Rattle.sd_rights.proofs.laws.FlagLaws.{flags-clear}
-use Rattle.sd_rights.proofs.NameLaws.{among, run-among}
-
--- what holds of each value holds of the one that is read
-pub some-is : {A : Type 0} (P : A → Type 0) (o : Option A) (x : A) → IfSome o P → o ≡ Some x → P x
-some-is P o x h e = subst (λ (y : Option _). IfSome y P) e h
+use Rattle.sd_kinds.specs.declared.flags.TheConstants.{FLAGS}
+use Rattle.sd_text.proofs.laws.Options.{some-is}
+use Rattle.sd_kinds.proofs.laws.FlagLaws.{flags-clear}
+use Rattle.sd_text.proofs.laws.NameLaws.{among, run-among}
 
 -- 1. Access rights.
 

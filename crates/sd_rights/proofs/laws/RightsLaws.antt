@@ -8,14 +8,14 @@ use Rattle.std.specs.Str.Parse.{AllDigits, IsNumeral, digits_value}
 use Rattle.std.proofs.lemmas.Fmt.{digits_is_IsNumeral}
 use Rattle.std.proofs.lemmas.Bool.Decides.{nat_tests}
 use Rattle.std.proofs.lemmas.Bool.{not-true}
-use Rattle.sd_rights.specs.Names.{run_of, names_of, named_bits}
+use Rattle.sd_text.specs.Names.{run_of, names_of, named_bits}
 use Rattle.sd_rights.specs.Rights.{all_rights, mask_reads, short_rights_reads, rights_reads, is_label, hex_text, names_or_hex, rights_text, name_letters}
-use Rattle.sd_rights.specs.declared.kinds.AceKind.{AceKind}
-use Rattle.sd_rights.specs.declared.names.NamedBits.{NamedBits}
+use Rattle.sd_kinds.specs.declared.kinds.AceKind.{AceKind}
+use Rattle.sd_text.specs.declared.names.NamedBits.{NamedBits}
 use Rattle.sd_rights.specs.declared.rights_table.TheConstants.{SINGLES, SINGLE_BITS, COMPOUNDS, LABELS, LABEL_BITS}
-use Rattle.sd_rights.proofs.Bits.{or_zero}
-use Rattle.sd_rights.proofs.HexDigits.{length-digits}
-use Rattle.sd_rights.proofs.NameLaws.{AreSingle, named_bits-single, reads_in, reads_in-rule, run-names, length-names, and_first, and_second}
+use Rattle.sd_text.proofs.laws.Bits.{or_zero}
+use Rattle.sd_text.proofs.laws.HexDigits.{all_digits, length-digits}
+use Rattle.sd_text.proofs.laws.NameLaws.{AreSingle, named_bits-single, reads_in, reads_in-rule, run-names, length-names, and_first, and_second}
 
 -- 1. The test of a table, and the rule at its entries.
 
@@ -134,10 +134,6 @@ one_name e h letter = not_long (e.first ∷ e.second ∷ []) (omega arith)
     ∙ rw (no_digit e letter, reads_in-rule all_rights e h) (ap Some (or_zero e.bits))
 
 -- 3. Hex digits read back.
-
-pub all_digits : (base : ℕ) (text : List ℕ) → AllDigits base text → list_all (λ c. is_digit c base) text ≡ true
-all_digits base [] a = refl
-all_digits base (c ∷ cs) a = rw (lt-ltb (digit_value c) base a.0) (all_digits base cs a.1)
 
 number-reads : (base n : ℕ) (text : List ℕ) → IsNumeral base text → digits_value base text ≡ n → n < 2 ^ 32
     → mask_reads base text ≡ Some n

@@ -1,7 +1,7 @@
 -- A list with one ACE more.
 use Rattle.std.proofs.Common.{◌≡◌, ◌+◌, List, [], ◌∷◌, ◌++◌, arith}
 use Rattle.std.specs.List.{AllByRecursion}
-use Rattle.sd_core.specs.Ace.{AccessControlEntry, IsAce, ace_size}
+use Rattle.sd_ace.specs.Ace.{AccessControlEntry, IsAce, ace_size}
 use Rattle.sd_view.specs.Acl.{aces_size}
 
 pub all-more : (aces : List AccessControlEntry) (a : AccessControlEntry) → AllByRecursion IsAce aces → IsAce a

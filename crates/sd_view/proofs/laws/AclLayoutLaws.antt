@@ -6,10 +6,10 @@ use Rattle.std.proofs.lemmas.List.{append-nil}
 use Rattle.byteorder.specs.Endian.{little_bytes}
 use Rattle.byteorder.specs.Numbers.{little_number-reads_back}
 use Rattle.uuid.proofs.RoundTrips.{swap_twice}
-use Rattle.sd_core.specs.Ace.{AccessControlEntry, GuidsFit, IsAce, IsGuid, ace_size, guid_size}
-use Rattle.sd_rights.specs.Kinds.{is_object, kind_code}
-use Rattle.sd_core.specs.Sid.{SecurityId, IsSid, BeginsWithSid, sid_bytes, sid_size}
-use Rattle.sd_core.proofs.laws.SidLaws.{length-sid_bytes}
+use Rattle.sd_ace.specs.Ace.{AccessControlEntry, GuidsFit, IsAce, IsGuid, ace_size, guid_size}
+use Rattle.sd_kinds.specs.Kinds.{is_object, kind_code}
+use Rattle.sd_sid.specs.Sid.{SecurityId, IsSid, BeginsWithSid, sid_bytes, sid_size}
+use Rattle.sd_sid.proofs.laws.SidLaws.{length-sid_bytes}
 use Rattle.sd_view.specs.Ace.{ShowsAce, ShowsGuid, announces_inherited, announces_object}
 use Rattle.sd_view.specs.Acl.{IsAcl, ShowsAces, ShowsAcl, acl_size, aces_size, has_object}
 use Rattle.sd_view.specs.AclLayout.{ace_bytes, acl_bytes, guids, object_flags, revision_if}

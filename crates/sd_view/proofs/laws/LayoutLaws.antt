@@ -6,8 +6,8 @@ use Rattle.std.proofs.lemmas.List.{append-nil, drop_at, drop-drop}
 use Rattle.std.specs.List.{flat_map}
 use Rattle.byteorder.specs.Endian.{little_bytes}
 use Rattle.byteorder.specs.Numbers.{little_number-reads_back}
-use Rattle.sd_core.specs.Ace.{AccessControlEntry}
-use Rattle.sd_core.specs.Sid.{SecurityId, IsSid, sid_size}
+use Rattle.sd_ace.specs.Ace.{AccessControlEntry}
+use Rattle.sd_sid.specs.Sid.{SecurityId, IsSid, sid_size}
 use Rattle.sd_view.specs.Acl.{IsAcl, acl_size}
 use Rattle.sd_view.specs.AclLayout.{acl_bytes, ace_bytes}
 use Rattle.sd_view.specs.Bytes.{u16_at, u32_at}
@@ -15,7 +15,7 @@ use Rattle.sd_view.specs.Descriptor.{Apart, AreApart, Descriptor, Extent, IsAclP
 use Rattle.sd_view.specs.Layout.{acl_part, acl_part_size, dacl_offset, descriptor_header, group_offset, header_bytes, layout, offset_if, sacl_offset, sid_part, sid_part_size, size}
 use Rattle.sd_view.specs.declared.acl.AclPart.{AclPart}
 use Rattle.sd_view.specs.declared.acl.AclPart.TheVariants as acl
-use Rattle.sd_core.proofs.laws.SidLaws.{length-sid_bytes}
+use Rattle.sd_sid.proofs.laws.SidLaws.{length-sid_bytes}
 use Rattle.sd_view.proofs.laws.AclLayoutLaws.{acl_bytes-shows, acl_size-most, length-acl_bytes}
 
 -- a part has as many bytes as its size says, and is no larger than the largest SID or ACL

@@ -1,7 +1,7 @@
 -- What is read, beside what is shown.
 use Rattle.std.proofs.Common.{◌≡◌, ℕ, List, Option, Some, None, Result, Ok, refl, ap, ◌∙◌, subst}
-use Rattle.sd_core.proofs.laws.Numbers.{AreBytes}
-use Rattle.sd_rights.specs.Chains.{unless}
+use Rattle.sd_sid.proofs.laws.Numbers.{AreBytes}
+use Rattle.sd_text.specs.Chains.{unless}
 use Rattle.sd_view.specs.Descriptor.{Descriptor, IsDescriptor, Shows}
 use Rattle.sd_view.specs.Reading.{fault, reading, shown}
 use Rattle.sd_view.specs.declared.fault.SdFault.{SdFault}

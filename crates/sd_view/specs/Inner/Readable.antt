@@ -1,10 +1,11 @@
 -- What a view of a descriptor needs of its bytes. Private contracts and the view's invariant alone cite these words;
 -- they promise nothing to a caller.
 use Rattle.std.specs.Prelude.{◌≡◌, ◌≤◌, ℕ, ◌+◌, Bool, true, List, length, drop, None}
-use Rattle.sd_core.specs.Sid.{sid_stands}
+use Rattle.sd_sid.specs.Sid.{sid_stands}
 use Rattle.sd_view.specs.AclReading.{acl_at_front}
 use Rattle.sd_view.specs.Bytes.{u16_at}
-use Rattle.sd_view.specs.Descriptor.{IsDescriptor, control_at, dacl_at, dacl_present, group_at, owner_at, sacl_at, sacl_present}
+use Rattle.sd_view.specs.Descriptor.{IsDescriptor, control_at, dacl_at, group_at, owner_at, sacl_at}
+use Rattle.sd_control.specs.Control.{dacl_present, sacl_present}
 use Rattle.sd_view.specs.Inner.ReadableAcl.{IsReadableAcl}
 use Rattle.sd_view.specs.Reading.{fault, shown}
 

@@ -1,8 +1,8 @@
 -- What a view of an ACE and of an ACL needs of its extent. Private contracts and the views' invariants alone cite these
 -- words; they promise nothing to a caller.
 use Rattle.std.specs.Prelude.{◌≡◌, ◌≤◌, ℕ, ◌+◌, List, length, drop, None}
-use Rattle.sd_core.specs.Ace.{IsAce}
-use Rattle.sd_core.specs.Sid.{BeginsWithSid, sid_of}
+use Rattle.sd_ace.specs.Ace.{IsAce}
+use Rattle.sd_sid.specs.Sid.{BeginsWithSid, sid_of}
 use Rattle.sd_view.specs.Acl.{IsAcl}
 use Rattle.sd_view.specs.AclReading.{ace_of, aces_fault, acl_of, extent_fault, sid_offset_in}
 use Rattle.sd_view.specs.Bytes.{u16_at}

@@ -1,6 +1,6 @@
 -- What is looked at before an ACL is put as it stands.
 use Rattle.std.specs.Prelude.{ℕ, zero, suc, nat_le, not, ◌||◌, ◌&&◌, Bool, true, List, drop, take}
-use Rattle.sd_rights.specs.Kinds.{is_object}
+use Rattle.sd_kinds.specs.Kinds.{is_object}
 use Rattle.sd_view.specs.AclReading.{kind_in}
 use Rattle.sd_view.specs.Bytes.{u16_at, u32_at}
 

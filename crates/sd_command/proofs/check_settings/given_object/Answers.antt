@@ -1,5 +1,5 @@
 use Rattle.std.proofs.Common.{rules}
-use Rattle.sd_core.specs.GuidText.{guid_reads}
+use Rattle.sd_ace.specs.GuidText.{guid_reads}
 use Rattle.sd_command.specs.Settings as specs
 use Rattle.sd_command.proofs.GivenLemmas.{given-is}
 use Rattle.sd_command.proofs.check_settings.given_object.Goals as goal

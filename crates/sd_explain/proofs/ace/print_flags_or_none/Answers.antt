@@ -1,8 +1,8 @@
 use Rattle.std.proofs.Common.{◌≡◌, ℕ, List, [], ◌∷◌, Some, refl, arith}
-use Rattle.sd_rights.proofs.laws.FlagLaws.{flags_read_back}
+use Rattle.sd_kinds.proofs.laws.FlagLaws.{flags_read_back}
 use Rattle.sd_sink.proofs.laws.PrintLemmas.{prints_as}
-use Rattle.sd_rights.specs.Flags.{flags_reads, flags_text}
-use Rattle.sd_rights.specs.Names.{run_of}
+use Rattle.sd_kinds.specs.Flags.{flags_reads, flags_text}
+use Rattle.sd_text.specs.Names.{run_of}
 use Rattle.sd_explain.specs.Explain.{or_none}
 use Rattle.sd_explain.proofs.ace.print_flags_or_none.Goals as goal
 

@@ -1,6 +1,6 @@
 use Rattle.std.proofs.Common.{◌≡◌, ℕ, ◌+◌, [], ◌∷◌, length, ap, sym, arith, length-append}
 use Rattle.std.specs.List.{enumerate_from, flat_map}
-use Rattle.sd_core.specs.Ace.{AccessControlEntry}
+use Rattle.sd_ace.specs.Ace.{AccessControlEntry}
 use Rattle.sd_sink.proofs.laws.PrintLemmas.{prints_as}
 use Rattle.sd_sink.proofs.laws.PrintLoops.{Prints-item, moved}
 use Rattle.sd_explain.specs.Explain.{ace_line}

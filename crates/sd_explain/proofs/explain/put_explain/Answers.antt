@@ -1,6 +1,6 @@
 use Rattle.std.proofs.Common.{rules}
 use Rattle.sd_sink.proofs.laws.PrintLemmas.{printed}
-use Rattle.sd_core.specs.Naming.{naming_by}
+use Rattle.sd_sid.specs.Naming.{naming_by}
 use Rattle.sd_explain.proofs.laws.SizeLaws.{explain-length}
 use Rattle.sd_explain.proofs.explain.put_explain.Goals as goal
 

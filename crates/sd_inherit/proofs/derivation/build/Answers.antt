@@ -1,8 +1,8 @@
 use Rattle.std.proofs.Common.{◌≡◌, refl, ap, ◌∙◌}
-use Rattle.sd_view.specs.declared.control.Which.TheVariants.{Sacl}
-use Rattle.sd_binary.specs.Builds.{Builds}
-use Rattle.sd_binary.specs.Draft.{built, nothing_given, with_owner}
-use Rattle.sd_binary.proofs.laws.BuiltBytes.{built-layout}
+use Rattle.sd_control.specs.declared.control.Which.TheVariants.{Sacl}
+use Rattle.sd_builder.specs.Builds.{Builds}
+use Rattle.sd_builder.specs.Draft.{built, nothing_given, with_owner}
+use Rattle.sd_builder.proofs.laws.BuiltBytes.{built-layout}
 use Rattle.sd_inherit.specs.Inner.Building.{with_part}
 use Rattle.sd_inherit.specs.Derived.{derived, inherited, sacl_of}
 use Rattle.sd_inherit.proofs.DerivedLaws.{built-derived, can-begin, draft-in-order, draft-parts, draft_of, fault-dacl, fault-none, fault-sacl, with_sids}

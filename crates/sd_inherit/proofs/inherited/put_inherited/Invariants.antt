@@ -1,7 +1,7 @@
 use Rattle.std.proofs.Common.{◌≡◌, ◌++◌}
 use Rattle.std.specs.List.{flat_map}
-use Rattle.sd_binary.specs.Builds.{Builds}
-use Rattle.sd_binary.specs.Draft.{Draft}
+use Rattle.sd_builder.specs.Builds.{Builds}
+use Rattle.sd_builder.specs.Draft.{Draft}
 use Rattle.sd_inherit.specs.Inner.Building.{HasOpen, with_aces}
 use Rattle.sd_inherit.specs.Copies.{copies}
 use Rattle.sd_inherit.proofs.inherited.put_inherited.Given as goal

@@ -1,5 +1,5 @@
 use Rattle.std.proofs.Common.{arith, ◌∙◌}
-use Rattle.sd_rights.proofs.NumberLemmas.{number_is}
+use Rattle.sd_rights.proofs.MaskNumbers.{number_is}
 use Rattle.sd_rights.proofs.rights_reading.read_mask.Goals as goal
 
 pub returns-in_err-mask : goal.returns-in_err-mask

@@ -1,6 +1,6 @@
 use Rattle.std.proofs.Common.{◌≡◌, ◌+◌, ℕ, List, Some, drop, sym, ap, ◌∙◌, subst, arith}
 use Rattle.std.proofs.lemmas.List.{take_rest}
-use Rattle.sd_core.specs.Sid.{BeginsWithSid, sid_at}
+use Rattle.sd_sid.specs.Sid.{BeginsWithSid, sid_at}
 use Rattle.sd_view.specs.AclReading.{sid_offset_in}
 use Rattle.sd_view.proofs.AclLaws.{read-size, sid-room}
 use Rattle.sd_view.proofs.ace.check_extent.Goals as goal

@@ -1,7 +1,7 @@
 use Rattle.std.proofs.Common.{◌≡◌, ◌≤◌, ◌+◌, ◌-◌, ◌*◌, ℕ, List, length, take, drop, slice_index, sym, ap, ◌∙◌, arith, rules, length-drop}
 use Rattle.std.proofs.lemmas.List.{length-take-le}
-use Rattle.sd_core.specs.Ace.{AccessControlEntry, ace_size}
-use Rattle.sd_core.specs.Sid.{sid_of}
+use Rattle.sd_ace.specs.Ace.{AccessControlEntry, ace_size}
+use Rattle.sd_sid.specs.Sid.{sid_of}
 use Rattle.sd_view.specs.AclLayout.{ace_body, front_size}
 use Rattle.sd_view.specs.AclReading.{ace_of, kind_in, sid_offset_in}
 use Rattle.sd_view.specs.Inner.ReadableAcl.{IsReadableAce}

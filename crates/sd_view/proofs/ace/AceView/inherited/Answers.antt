@@ -1,5 +1,5 @@
 use Rattle.std.proofs.Common.{◌≡◌, ◌∙◌, sym, arith}
-use Rattle.sd_core.specs.Ace.{guid_size}
+use Rattle.sd_ace.specs.Ace.{guid_size}
 use Rattle.sd_view.specs.AclReading.{object_in}
 use Rattle.sd_view.proofs.AclLaws.{inherited-room, object-size}
 use Rattle.sd_view.proofs.ace.AceView.inherited.Goals.{then-has_object, else-has_object}

@@ -1,5 +1,5 @@
 use Rattle.std.proofs.Common.{subst}
-use Rattle.sd_core.specs.Ace.{IsAce}
+use Rattle.sd_ace.specs.Ace.{IsAce}
 use Rattle.sd_view.proofs.ace.AceView.kind.Goals as goal
 
 pub returns-clause-limits : goal.returns-clause-limits

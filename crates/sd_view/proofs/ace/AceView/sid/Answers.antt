@@ -1,8 +1,8 @@
 use Rattle.std.proofs.Common.{ℕ, List, drop, sym, ap, ◌∙◌, subst}
 use Rattle.std.proofs.lemmas.List.{take_rest}
-use Rattle.sd_core.specs.Ace.{AccessControlEntry}
-use Rattle.sd_core.specs.Sid.{sid_of}
-use Rattle.sd_core.proofs.laws.SidLaws.{SidStands, begins-Stands}
+use Rattle.sd_ace.specs.Ace.{AccessControlEntry}
+use Rattle.sd_sid.specs.Sid.{sid_of}
+use Rattle.sd_sid.proofs.laws.SidLaws.{SidStands, begins-Stands}
 use Rattle.sd_view.proofs.ace.AceView.sid.Goals as goal
 
 pub at_front-requires : goal.at_front-requires

@@ -1,5 +1,5 @@
 use Rattle.std.proofs.Common.{◌∷◌, ◌-◌, ℕ, List, drop, arith, sym, ap, ◌∙◌, length, rules}
-use Rattle.sd_core.specs.Ace.{AccessControlEntry}
+use Rattle.sd_ace.specs.Ace.{AccessControlEntry}
 use Rattle.sd_view.specs.Bytes.{u16_at}
 use Rattle.sd_view.specs.AclReading.{aces_fault, aces_of}
 use Rattle.sd_view.proofs.AclLaws.{aces-front, aces_of-more, aces_of-none}

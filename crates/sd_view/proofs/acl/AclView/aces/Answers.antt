@@ -1,6 +1,6 @@
 use Rattle.std.proofs.Common.{◌≡◌, ℕ, List, drop, length, sym, ap, ◌∙◌}
 use Rattle.std.proofs.lemmas.List.{take_rest}
-use Rattle.sd_core.specs.Ace.{AccessControlEntry}
+use Rattle.sd_ace.specs.Ace.{AccessControlEntry}
 use Rattle.sd_view.specs.AclReading.{aces_fault, aces_of}
 use Rattle.sd_view.specs.Bytes.{u16_at}
 use Rattle.sd_view.proofs.AclLaws.{length-aces_of}

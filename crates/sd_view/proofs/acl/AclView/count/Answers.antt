@@ -1,5 +1,5 @@
 use Rattle.std.proofs.Common.{length, drop, sym, ap, ◌∙◌}
-use Rattle.sd_core.specs.Ace.{AccessControlEntry}
+use Rattle.sd_ace.specs.Ace.{AccessControlEntry}
 use Rattle.sd_view.specs.Bytes.{u16_at}
 use Rattle.sd_view.proofs.AclLaws.{length-aces_of}
 use Rattle.sd_view.proofs.acl.AclView.count.Goals as goal

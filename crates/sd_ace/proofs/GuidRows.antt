@@ -1,0 +1,28 @@
+-- Worked texts of GUIDs, computed.
+use Rattle.std.proofs.Common.{◌≡◌, ℕ, List, [], ◌∷◌, Some, None, codes, refl}
+use Rattle.uuid.specs.Text.{by_index}
+use Rattle.sd_ace.specs.GuidText.{guid_reads, guid_text}
+
+-- `unfolding computed` lets `refl` compute a row
+computed : Unit {0}
+unfolding by_index guid_reads guid_text
+computed = tt
+
+user_class : List ℕ
+user_class = 0xbf ∷ 0x96 ∷ 0x7a ∷ 0xba ∷ 0x0d ∷ 0xe6 ∷ 0x11 ∷ 0xd0 ∷ 0xa2 ∷ 0x85 ∷ 0x00 ∷ 0xaa ∷ 0x00 ∷ 0x30 ∷ 0x49 ∷ 0xe2 ∷ []
+
+guid_put : guid_text user_class ≡ codes "bf967aba-0de6-11d0-a285-00aa003049e2"
+unfolding computed user_class
+guid_put = refl
+
+guid_in_upper_case : guid_reads (codes "BF967ABA-0DE6-11D0-A285-00AA003049E2") ≡ Some user_class
+unfolding computed user_class
+guid_in_upper_case = refl
+
+guid_in_braces : guid_reads (codes "{bf967aba-0de6-11d0-a285-00aa003049e2}") ≡ None
+unfolding computed
+guid_in_braces = refl
+
+guid_without_hyphens : guid_reads (codes "bf967aba0de611d0a28500aa003049e2") ≡ None
+unfolding computed
+guid_without_hyphens = refl

@@ -1,0 +1,2 @@
+mod GuidRows
+pub mod laws

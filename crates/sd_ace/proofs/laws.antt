@@ -1,0 +1,4 @@
+-- Laws of the definitions alone, which crates above may cite.
+pub mod AceSizes
+pub mod GuidLimits
+pub mod GuidTexts

@@ -1,0 +1,2 @@
+pub mod Ace
+pub mod GuidText

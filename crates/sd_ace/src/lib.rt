@@ -1,0 +1,8 @@
+//! ACEs as values (MS-DTYP 2.4.4), and the GUIDs that object ACEs have (2.3.4).
+#![tactic(auto)]
+
+mod ace;
+mod guid;
+
+pub use ace::{Ace, UNUSED_FLAG};
+pub use guid::{GUID_TEXT_SIZE, guid_bytes, guid_from_text, guid_read, print_guid, put_guid};

@@ -1,8 +1,0 @@
-use Rattle.sd_binary.proofs.Building.{null-builds}
-use Rattle.sd_binary.proofs.builder.Builder.null_acl.Goals as goal
-
-pub returns : goal.returns
-returns c = record {
-  value =
-      λ t h. rw c.keep.ensures (null-builds _ _ c.args.which c.requires.0 t c.requires.1 c.requires.2 h);
-}

@@ -1,6 +1,0 @@
-use Rattle.std.proofs.Common.{refl}
-use Rattle.sd_binary.proofs.HexReadingLaws.{hex-begun}
-use Rattle.sd_binary.proofs.hex_reader.HexReader.new.Goals as goal
-
-pub returns : goal.returns
-returns c = rw c.clear.ensures (hex-begun _ refl refl)

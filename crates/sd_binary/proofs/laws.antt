@@ -1,4 +1,0 @@
--- Laws of the definitions alone, which crates above may cite.
-pub mod BuiltBytes
-pub mod HexPairs
-pub mod SpelledBase64

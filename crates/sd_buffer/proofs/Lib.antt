@@ -1,0 +1,3 @@
+pub mod Decoded
+pub mod HexReadingLaws
+pub mod laws

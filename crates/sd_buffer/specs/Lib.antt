@@ -1,0 +1,3 @@
+pub mod HexReading
+pub mod Inner
+pub mod Text

@@ -1,0 +1,8 @@
+//! Buffers of a fixed size, and hex and base64 that are read into them.
+#![tactic(auto)]
+
+mod buffer;
+mod hex_reader;
+
+pub use buffer::{ByteBuf, Full, SdBuf, TextBuf, TextFault};
+pub use hex_reader::HexReader;

@@ -1,0 +1,414 @@
+-- Worked rows, computed: what hex and base64 texts spell, what their bytes are read as, and what is laid out.
+use Rattle.std.proofs.Common.{◌≡◌, ℕ, Bool, true, false, List, [], ◌∷◌, map, Some, None, Result, Ok, Err, codes, refl, replicate}
+use Prim.Native.String.{String}
+use Rattle.base64.proofs.OnLiterals.{base64_on_literals}
+use Rattle.base64.specs.Engines.{standard}
+use Rattle.base64.specs.GeneralPurpose.{engine_symbols}
+use Rattle.hex.specs.Hex.{decode_pairs}
+use Rattle.sd_kinds.specs.Kinds.{kind_code, kind_entry, kind_of}
+use Rattle.sd_sid.specs.Sid.{SecurityId, sid_at, sid_bytes}
+use Rattle.sd_buffer.specs.declared.buffer.TextFault.{TextFault}
+use Rattle.sd_buffer.specs.declared.buffer.TextFault.TheVariants.{Base64, HexDigit, HexOdd}
+use Rattle.sd_view.specs.declared.fault.Part.TheVariants.{Owner, Group, Sacl, Dacl}
+use Rattle.sd_view.specs.declared.fault.SdFault.TheVariants as faults
+use Rattle.sd_view.specs.Bytes.{u16_at, u32_at}
+use Rattle.sd_control.specs.Control.{acl_flags, flag_bits}
+use Rattle.sd_control.specs.declared.control.Which.TheVariants as which
+use Rattle.sd_control.specs.declared.control.AclFlags.{AclFlags}
+use Rattle.sd_control.specs.declared.control.ControlBit.{ControlBit}
+use Rattle.sd_control.specs.declared.control.TheConstants.{CONTROL_BITS}
+use Rattle.sd_view.specs.Descriptor.{Descriptor}
+use Rattle.sd_view.specs.Layout.{header_bytes, layout, size}
+use Rattle.sd_view.specs.Ace.{announces_inherited, announces_object}
+use Rattle.sd_view.specs.AclReading.{ace_fault, aces_fault, aces_of, acl_fault, guid_if, inherited_in, kind_in, object_in, extent_fault, sid_offset_in}
+use Rattle.sd_view.specs.declared.acl.AclPart.TheVariants as acl
+use Rattle.sd_ace.specs.Ace.{AccessControlEntry}
+use Rattle.sd_kinds.specs.declared.kinds.AceKind.TheVariants as kinds
+use Rattle.sd_view.specs.Reading.{acl_part_fault, acl_shown, fault, header_fault, overlap_fault, overlaps_fault, parts_fault, reading, sid_fault, sid_shown}
+use Rattle.sd_buffer.specs.Text.{base64_spells, hex_spells}
+
+spelled : Result (List ℕ) TextFault → List ℕ
+spelled (Ok bytes) = bytes
+spelled (Err fault) = []
+
+-- the bytes of a hex text, and none of a text that spells none
+hex : String → List ℕ
+hex text = spelled (hex_spells (codes text))
+
+-- `unfolding computed` lets `refl` compute a row
+computed : Unit {0}
+unfolding spelled hex hex_spells decode_pairs u16_at u32_at sid_at sid_shown header_fault sid_fault parts_fault
+    overlap_fault overlaps_fault fault reading header_bytes acl_part_fault acl_shown acl_fault aces_fault aces_of
+    ace_fault extent_fault kind_code kind_entry kind_of kind_in object_in inherited_in sid_offset_in guid_if
+    announces_object announces_inherited
+computed = tt
+
+system : SecurityId
+system = record { authority = 5; subs = 18 ∷ [] }
+
+everyone : SecurityId
+everyone = record { authority = 1; subs = 0 ∷ [] }
+
+system_bytes : sid_bytes system ≡ hex "010100000000000512000000"
+unfolding computed system
+system_bytes = refl
+
+-- hex texts
+
+pairs_of_digits : hex_spells (codes "0100") ≡ Ok (1 ∷ 0 ∷ [])
+unfolding computed
+pairs_of_digits = refl
+
+either_case : hex_spells (codes "aFFa09") ≡ Ok (0xaf ∷ 0xfa ∷ 0x09 ∷ [])
+unfolding computed
+either_case = refl
+
+no_digit : hex_spells (codes "zz") ≡ Err HexDigit
+unfolding computed
+no_digit = refl
+
+odd_before_no_digit : hex_spells (codes "zzz") ≡ Err HexOdd
+unfolding computed
+odd_before_no_digit = refl
+
+no_text : hex_spells (codes "") ≡ Ok []
+unfolding computed
+no_text = refl
+
+-- base64 texts
+
+standard_alphabet : engine_symbols standard ≡ codes "ABCDEFGHIJKLMNOPQRSTUVWXYZabcdefghijklmnopqrstuvwxyz0123456789+/"
+standard_alphabet = refl
+
+three_bytes : base64_spells (codes "AQAE") ≡ Ok (1 ∷ 0 ∷ 4 ∷ [])
+unfolding base64_spells base64_on_literals
+three_bytes = refl
+
+one_byte : base64_spells (codes "AQ==") ≡ Ok (1 ∷ [])
+unfolding base64_spells base64_on_literals
+one_byte = refl
+
+no_padding : base64_spells (codes "AQ") ≡ Err Base64
+unfolding base64_spells base64_on_literals
+no_padding = refl
+
+bits_behind_the_last_byte : base64_spells (codes "AR==") ≡ Err Base64
+unfolding base64_spells base64_on_literals
+bits_behind_the_last_byte = refl
+
+blank_inside : base64_spells (codes "AQ AE") ≡ Err Base64
+unfolding base64_spells base64_on_literals
+blank_inside = refl
+
+letters_of_urls : base64_spells (codes "-_-_") ≡ Err Base64
+unfolding base64_spells base64_on_literals
+letters_of_urls = refl
+
+no_base64_text : base64_spells (codes "") ≡ Ok []
+unfolding base64_spells base64_on_literals
+no_base64_text = refl
+
+-- a header without parts
+
+bare : Descriptor
+bare = record { control = 0x8000; rm = 0; owner = None; group = None; sacl = acl.Absent; dacl = acl.Absent }
+
+bare_is_read : reading (hex "0100008000000000000000000000000000000000") ≡ Ok bare
+unfolding computed bare
+bare_is_read = refl
+
+bare_is_laid_out : layout bare ≡ hex "0100008000000000000000000000000000000000"
+unfolding computed bare
+bare_is_laid_out = refl
+
+-- an owner behind its group, with a gap between them
+
+moved : Descriptor
+moved = record {
+  control = 0x8000;
+  rm = 0;
+  owner = Some system;
+  group = Some everyone;
+  sacl = acl.Absent;
+  dacl = acl.Absent;
+}
+
+moved_is_read : reading
+    (hex "0100008021000000140000000000000000000000010100000000000100000000aa010100000000000512000000") ≡ Ok moved
+unfolding computed moved system everyone
+moved_is_read = refl
+
+moved_is_laid_out : layout moved ≡ hex
+    "0100008014000000200000000000000000000000010100000000000512000000010100000000000100000000"
+unfolding computed moved system everyone
+moved_is_laid_out = refl
+
+moved_size : size moved ≡ 44
+unfolding moved system everyone
+moved_size = refl
+
+-- an owner alone, which has no sub-authority and an authority that needs its high bytes
+
+without_subs : Descriptor
+without_subs = record {
+  control = 0x8000;
+  rm = 0;
+  owner = Some (record { authority = 0x1_0000_0000; subs = [] });
+  group = None;
+  sacl = acl.Absent;
+  dacl = acl.Absent;
+}
+
+without_subs_is_read : reading (hex "01000080140000000000000000000000000000000100000100000000") ≡ Ok without_subs
+unfolding computed without_subs
+without_subs_is_read = refl
+
+without_subs_is_laid_out : layout without_subs ≡ hex "01000080140000000000000000000000000000000100000100000000"
+unfolding computed without_subs
+without_subs_is_laid_out = refl
+
+-- two SIDs of fifteen sub-authorities
+
+widest : SecurityId
+widest = record { authority = 0; subs = replicate 15 0 }
+
+largest_size : size (record
+    { control = 0x8000; rm = 0; owner = Some widest; group = Some widest; sacl = acl.Absent; dacl = acl.Absent }) ≡ 156
+unfolding widest
+largest_size = refl
+
+-- a group alone, under a resource manager byte and every other control bit; what follows is dropped
+
+marked : Descriptor
+marked = record {
+  control = 0xffeb;
+  rm = 0x7f;
+  owner = None;
+  group = Some everyone;
+  sacl = acl.Absent;
+  dacl = acl.Absent;
+}
+
+marked_is_read : reading (hex "017febff0000000014000000ffffffffffffffff010100000000000100000000beef") ≡ Ok marked
+unfolding computed marked everyone
+marked_is_read = refl
+
+marked_is_laid_out : layout marked ≡ hex "017febff00000000140000000000000000000000010100000000000100000000"
+unfolding computed marked everyone
+marked_is_laid_out = refl
+
+-- faults, in the order in which they are looked for
+
+short : reading (hex "0100048014") ≡ Err faults.Short
+unfolding computed
+short = refl
+
+nineteen_bytes : reading (hex "02000400000000000000000000000000000000") ≡ Err faults.Short
+unfolding computed
+nineteen_bytes = refl
+
+revision : reading (hex "0200008000000000000000000000000000000000") ≡ Err faults.Revision
+unfolding computed
+revision = refl
+
+not_self_relative : reading (hex "0100000000000000000000000000000000000000") ≡ Err faults.NotSelfRelative
+unfolding computed
+not_self_relative = refl
+
+largest_offset : reading (hex "01000080ffffffff000000000000000000000000010100000000000512000000") ≡ Err
+    (faults.Offset Owner)
+unfolding computed
+largest_offset = refl
+
+inside_header : reading (hex "0100008013000000140000000000000000000000010100000000000512000000") ≡ Err
+    (faults.Offset Owner)
+unfolding computed
+inside_header = refl
+
+too_few_bytes : reading (hex "010000800000000014000000000000000000000001000000000000") ≡ Err (faults.Offset Group)
+unfolding computed
+too_few_bytes = refl
+
+sixteen_subs : reading (hex "01000080140000000000000000000000000000000110000000000005") ≡ Err (faults.Sid Owner)
+unfolding computed
+sixteen_subs = refl
+
+cut_short : reading (hex "01000080000000001400000000000000000000000101000000000005120000") ≡ Err (faults.Sid Group)
+unfolding computed
+cut_short = refl
+
+owner_before_group : reading (hex "0100008014000000150000000000000000000000020100000000000512000000") ≡ Err
+    (faults.Sid Owner)
+unfolding computed
+owner_before_group = refl
+
+shared_extent : reading (hex "0100008014000000140000000000000000000000010100000000000512000000") ≡ Err
+    (faults.Overlap Owner Group)
+unfolding computed
+shared_extent = refl
+
+-- ---- ACLs
+
+administrators : SecurityId
+administrators = record { authority = 5; subs = 32 ∷ 544 ∷ [] }
+
+-- everyone has full access
+full_access : AccessControlEntry
+full_access = record { kind = kinds.Allow; flags = 0; mask = 0x1f01ff; object = None; inherited = None; sid = everyone }
+
+with_dacl : Descriptor
+with_dacl = record {
+  control = 0x8004;
+  rm = 0;
+  owner = Some administrators;
+  group = Some system;
+  sacl = acl.Absent;
+  dacl = acl.List (full_access ∷ []);
+}
+
+with_dacl_is_read : reading
+    (hex "0100048040000000500000000000000015000000aa020028000100000000001400ff011f00010100000000000100000000bbbbbbbbbbbbbbbbbbbbbbbbcccccc01020000000000052000000020020000010100000000000512000000") ≡ Ok with_dacl
+unfolding computed with_dacl full_access administrators system everyone
+with_dacl_is_read = refl
+
+with_dacl_is_laid_out : layout with_dacl ≡ hex
+    "01000480140000002400000000000000300000000102000000000005200000002002000001010000000000051200000002001c000100000000001400ff011f00010100000000000100000000"
+unfolding computed with_dacl full_access administrators system everyone
+with_dacl_is_laid_out = refl
+
+-- authenticated users may read one property, and the same with both GUIDs
+
+authenticated : SecurityId
+authenticated = record { authority = 5; subs = 11 ∷ [] }
+
+user_class : List ℕ
+user_class = 0xbf ∷ 0x96 ∷ 0x7a ∷ 0xba ∷ 0x0d ∷ 0xe6 ∷ 0x11 ∷ 0xd0 ∷ 0xa2 ∷ 0x85 ∷ 0x00 ∷ 0xaa ∷ 0x00 ∷ 0x30 ∷ 0x49 ∷ 0xe2 ∷ []
+
+read_property : AccessControlEntry
+read_property = record {
+  kind = kinds.ObjectAllow;
+  flags = 2;
+  mask = 0x10;
+  object = Some user_class;
+  inherited = None;
+  sid = authenticated;
+}
+
+with_object : Descriptor
+with_object = record {
+  control = 0x8004;
+  rm = 0;
+  owner = None;
+  group = None;
+  sacl = acl.Absent;
+  dacl = acl.List
+      (read_property ∷ []);
+}
+
+-- under revision 2, and with a bit among the object flags that means nothing
+with_object_is_read : reading
+    (hex "01000480000000000000000000000000140000000200300001000000050228001000000005000000ba7a96bfe60dd011a28500aa003049e201010000000000050b000000") ≡ Ok with_object
+unfolding computed with_object read_property user_class authenticated
+with_object_is_read = refl
+
+with_object_is_laid_out : layout with_object ≡ hex
+    "01000480000000000000000000000000140000000400300001000000050228001000000001000000ba7a96bfe60dd011a28500aa003049e201010000000000050b000000"
+unfolding computed with_object read_property user_class authenticated
+with_object_is_laid_out = refl
+
+-- a null SACL and an empty DACL with spare bytes
+null_and_empty : reading (hex "01001480000000000000000000000000140000000200100000000000ffffffffffffffff") ≡ Ok
+    (record { control = 0x8014; rm = 0; owner = None; group = None; sacl = acl.Null; dacl = acl.List [] })
+unfolding computed
+null_and_empty = refl
+
+label : AccessControlEntry
+label = record {
+  kind = kinds.Label;
+  flags = 0;
+  mask = 1;
+  object = None;
+  inherited = None;
+  sid = record { authority = 16; subs = 8192 ∷ [] };
+}
+
+label_in_sacl : reading
+    (hex "010010800000000000000000140000000000000002001c0001000000110014000100000001010000000000100020000000000000") ≡ Ok (record { control = 0x8010; rm = 0; owner = None; group = None; sacl = acl.List (label ∷ []); dacl = acl.Absent })
+unfolding computed label
+label_in_sacl = refl
+
+acl_of_another_revision : reading (hex "0100048000000000000000000000000014000000030008000000000000000000") ≡ Err
+    (faults.Acl Dacl)
+unfolding computed
+acl_of_another_revision = refl
+
+one_ace_too_many : reading (hex "010004800000000000000000000000001400000002000800ffff0000") ≡ Err (faults.AceSize Dacl)
+unfolding computed
+one_ace_too_many = refl
+
+ace_of_another_type : reading
+    (hex "0100048000000000000000000000000014000000020018000100000009001000000000000100000000000000") ≡ Err
+    (faults.AceType Dacl)
+unfolding computed
+ace_of_another_type = refl
+
+ace_with_the_unused_flag : reading
+    (hex "0100108000000000000000001400000000000000020018000100000000201000000000000100000000000000") ≡ Err
+    (faults.AceFlags Sacl)
+unfolding computed
+ace_with_the_unused_flag = refl
+
+guids_past_the_ace : reading
+    (hex "0100048000000000000000000000000014000000020018000100000005001000000000000100000000000000") ≡ Err
+    (faults.AceSize Dacl)
+unfolding computed
+guids_past_the_ace = refl
+
+sid_past_the_ace : reading
+    (hex "0100048000000000000000000000000014000000020018000100000000001000000000000101000000000000") ≡ Err
+    (faults.Sid Dacl)
+unfolding computed
+sid_past_the_ace = refl
+
+shared_acls : reading (hex "01001480000000000000000014000000140000000200080000000000") ≡ Err (faults.Overlap Sacl Dacl)
+unfolding computed
+shared_acls = refl
+
+shared_owner_and_acl : reading (hex "010004801400000000000000000000001c00000001020000000000050200080000000000") ≡ Err
+    (faults.Overlap Owner Dacl)
+unfolding computed
+shared_owner_and_acl = refl
+
+-- the control word: the names and the bits of MS-DTYP 2.4.6
+
+lettered : List ControlBit → List (List ℕ × ℕ)
+lettered bits = map (λ b. (b.first ∷ b.second ∷ [], b.bit)) bits
+
+named_bits : lettered CONTROL_BITS ≡
+    (codes "OD", 0x1) ∷ (codes "GD", 0x2) ∷ (codes "DP", 0x4) ∷ (codes "DD", 0x8) ∷ (codes "SP", 0x10)
+    ∷ (codes "SD", 0x20)
+    ∷ (codes "DC", 0x100) ∷ (codes "SC", 0x200) ∷ (codes "DI", 0x400) ∷ (codes "SI", 0x800) ∷ (codes "PD", 0x1000)
+    ∷ (codes "PS", 0x2000) ∷ (codes "RM", 0x4000) ∷ (codes "SR", 0x8000) ∷ []
+unfolding lettered
+named_bits = refl
+
+flags : Bool → Bool → Bool → AclFlags
+flags p r i = record { protected = p; auto_inherit_required = r; auto_inherited = i }
+
+-- SR, PD, DI and DP
+flags_of_a_protected_dacl : acl_flags which.Dacl 0x9404 ≡ flags true false true
+unfolding flags
+flags_of_a_protected_dacl = refl
+
+no_flags_of_its_sacl : acl_flags which.Sacl 0x9404 ≡ flags false false false
+unfolding flags
+no_flags_of_its_sacl = refl
+
+-- PS, SC and SI; PD, DC and DI
+bits_of_the_flags_of_a_sacl : flag_bits which.Sacl (flags true true true) ≡ 0x2a00
+unfolding flags
+bits_of_the_flags_of_a_sacl = refl
+
+bits_of_the_flags_of_a_dacl : flag_bits which.Dacl (flags true true true) ≡ 0x1500
+unfolding flags
+bits_of_the_flags_of_a_dacl = refl

@@ -1,0 +1,173 @@
+-- What a builder was given so far, and the descriptor that it ends with, and its bytes (MS-DTYP 2.4.6).
+use Rattle.std.specs.Prelude.{◌≡◌, ℕ, ◌+◌, Bool, true, false, if◌then◌else◌, List, [], ◌∷◌, ◌++◌, length, drop, Option, Some, None}
+use Rattle.std.specs.List.{flat_map}
+use Rattle.sd_ace.specs.Ace.{AccessControlEntry}
+use Rattle.sd_sid.specs.Sid.{SecurityId}
+use Rattle.sd_view.specs.Acl.{acl_size}
+use Rattle.sd_view.specs.AclLayout.{acl_bytes}
+use Rattle.sd_control.specs.Control.{control_of}
+use Rattle.sd_view.specs.Descriptor.{Descriptor, dacl_at, sacl_at}
+use Rattle.sd_view.specs.Layout.{acl_part, header_bytes, sid_part, size}
+use Rattle.sd_view.specs.declared.acl.AclPart.{AclPart}
+use Rattle.sd_view.specs.declared.acl.AclPart.TheVariants as acl
+use Rattle.sd_view.specs.declared.fault.Part.{Part}
+use Rattle.sd_view.specs.declared.fault.Part.TheVariants as part
+use Rattle.sd_control.specs.declared.control.Which.{Which}
+use Rattle.sd_control.specs.declared.control.Which.TheVariants as which
+
+-- 1. The parts.
+
+-- the parts that are given, and the ACL that is open, with its ACEs so far
+pub record Parts : Type 0 where
+  pub owner : Option SecurityId
+  pub group : Option SecurityId
+  pub sacl : AclPart
+  pub dacl : AclPart
+  pub «open» : Option (Which × List AccessControlEntry)
+
+abbrev pub no_parts : Parts
+no_parts = record { owner = None; group = None; sacl = acl.Absent; dacl = acl.Absent; «open» = None }
+
+abbrev pub acl_for : Which → Parts → AclPart
+acl_for which.Sacl t = t.sacl
+acl_for which.Dacl t = t.dacl
+
+abbrev pub with_acl : Which → AclPart → Parts → Parts
+with_acl which.Sacl part t = record t { sacl = part }
+with_acl which.Dacl part t = record t { dacl = part }
+
+abbrev pub part_of : Which → Part
+part_of which.Sacl = part.Sacl
+part_of which.Dacl = part.Dacl
+
+-- no ACL is open, and the part is not given yet
+abbrev pub CanBegin : Which → Parts → Type 0
+CanBegin w t = (t.«open» ≡ None) × (acl_for w t ≡ acl.Absent)
+
+-- an ACL is opened, without ACEs
+abbrev pub begun : Which → Parts → Parts
+begun w t = record t { «open» = Some (w, []) }
+
+abbrev pub IsOpenIn : Option (Which × List AccessControlEntry) → Type 0
+IsOpenIn None = ⊥
+IsOpenIn (Some o) = Unit {0}
+
+abbrev pub IsOpen : Parts → Type 0
+IsOpen t = IsOpenIn t.«open»
+
+-- the size of the ACL that is open
+abbrev pub open_size_in : Option (Which × List AccessControlEntry) → ℕ
+open_size_in None = 0
+open_size_in (Some o) = acl_size o.1
+
+abbrev pub open_size : Parts → ℕ
+open_size t = open_size_in t.«open»
+
+abbrev pub more_in : AccessControlEntry → Option (Which × List AccessControlEntry)
+    → Option (Which × List AccessControlEntry)
+more_in a None = None
+more_in a (Some o) = Some (o.0, o.1 ++ a ∷ [])
+
+-- one ACE more at the end of the open ACL
+abbrev pub with_ace : AccessControlEntry → Parts → Parts
+with_ace a t = record t { «open» = more_in a t.«open» }
+
+abbrev pub closed_in : Option (Which × List AccessControlEntry) → Parts → Parts
+closed_in None t = t
+closed_in (Some o) t = with_acl o.0 (acl.List o.1) (record t { «open» = None })
+
+-- the open ACL is closed
+abbrev pub closed : Parts → Parts
+closed t = closed_in t.«open» t
+
+-- 2. The parts, and the order of the calls.
+
+-- the parts, and those of them that stand in the buffer, in the order of the calls: a null ACL has no bytes, and one
+-- that is open does not count yet
+pub record Draft : Type 0 where
+  pub parts : Parts
+  pub order : List Part
+
+abbrev pub nothing_given : Draft
+nothing_given = record { parts = no_parts; order = [] }
+
+abbrev pub with_owner : SecurityId → Draft → Draft
+with_owner s t = record { parts = record t.parts { owner = Some s }; order = t.order ++ part.Owner ∷ [] }
+
+abbrev pub with_group : SecurityId → Draft → Draft
+with_group s t = record { parts = record t.parts { group = Some s }; order = t.order ++ part.Group ∷ [] }
+
+abbrev pub ended_in : Option (Which × List AccessControlEntry) → Draft → Draft
+ended_in None t = t
+ended_in (Some o) t = record { parts = closed t.parts; order = t.order ++ part_of o.0 ∷ [] }
+
+-- the open ACL is closed, and stands behind the others
+abbrev pub ended : Draft → Draft
+ended t = ended_in t.parts.«open» t
+
+-- 3. The descriptor that is finished.
+
+-- an ACL is present, null or not
+abbrev pub is_present : AclPart → Bool
+is_present acl.Absent = false
+is_present acl.Null = true
+is_present (acl.List aces) = true
+
+-- the parts under a control word and a resource manager byte
+abbrev pub built : ℕ → ℕ → Parts → Descriptor
+built flags rm t = record {
+  control = control_of flags (is_present t.sacl) (is_present t.dacl);
+  rm = rm;
+  owner = t.owner;
+  group = t.group;
+  sacl = t.sacl;
+  dacl = t.dacl;
+}
+
+-- 4. Its bytes: the header, and the parts in the order of the calls.
+
+abbrev pub part_bytes : Parts → Part → List ℕ
+part_bytes t part.Owner = sid_part t.owner
+part_bytes t part.Group = sid_part t.group
+part_bytes t part.Sacl = acl_part t.sacl
+part_bytes t part.Dacl = acl_part t.dacl
+
+abbrev pub same_part : Part → Part → Bool
+same_part part.Owner part.Owner = true
+same_part part.Group part.Group = true
+same_part part.Sacl part.Sacl = true
+same_part part.Dacl part.Dacl = true
+same_part _ _ = false
+
+-- where a part begins among parts that stand one after the other from there on, and 0 where it is none of them
+abbrev pub offset_among : ℕ → Parts → List Part → Part → ℕ
+offset_among start t [] p = 0
+offset_among start t (q ∷ qs) p =
+    if same_part p q then start else offset_among (start + length (part_bytes t q)) t qs p
+
+-- the first one stands behind the 20 bytes of the header
+abbrev pub offset_of : Draft → Part → ℕ
+offset_of t p = offset_among 20 t.parts t.order p
+
+abbrev pub bytes_in_order : Draft → List ℕ
+bytes_in_order t = flat_map (part_bytes t.parts) t.order
+
+abbrev pub built_bytes : ℕ → ℕ → Draft → List ℕ
+built_bytes flags rm t =
+    header_bytes rm (control_of flags (is_present t.parts.sacl) (is_present t.parts.dacl))
+    (offset_of t part.Owner) (offset_of t part.Group) (offset_of t part.Sacl) (offset_of t part.Dacl)
+    ++ bytes_in_order t
+
+-- 5. Bytes that have no gap, and the one written form of each part.
+
+-- an ACL stands in its written form (MS-DTYP 2.4.5); the offset is 0 where none stands
+abbrev pub AclIsWritten : List ℕ → ℕ → AclPart → Type 0
+AclIsWritten bytes offset acl.Absent = offset ≡ 0
+AclIsWritten bytes offset acl.Null = offset ≡ 0
+AclIsWritten bytes offset (acl.List aces) = (rest : List ℕ) × (drop offset bytes ≡ acl_bytes aces ++ rest)
+
+-- as many bytes as the layout has, and so no gap; in each ACL revision 4 exactly where an object ACE stands
+pub record IsWritten (bytes : List ℕ) (d : Descriptor) : Type 0 where
+  pub size : length bytes ≡ size d
+  pub sacl : AclIsWritten bytes (sacl_at bytes) d.sacl
+  pub dacl : AclIsWritten bytes (dacl_at bytes) d.dacl

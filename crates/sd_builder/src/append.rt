@@ -1,0 +1,120 @@
+// SIDs and ACEs appended to a buffer.
+ghost use Rattle.std.specs.Prelude.{◌≡◌, ◌≤◌, ◌+◌, ◌*◌, ◌++◌, ◌∷◌, length};
+ghost use Rattle.std.specs.List.{flat_map};
+ghost use Rattle.byteorder.specs.Endian.{big_bytes, little_bytes};
+ghost use Rattle.sd_ace.specs.Ace.{ace_size};
+ghost use Rattle.sd_sid.specs.Sid.{IsSid, sid_bytes, sid_size};
+ghost use Rattle.sd_kinds.specs.Kinds.{is_object};
+ghost use Rattle.sd_view.specs.AclLayout.{ace_bytes, ace_front, guid_part, guids};
+ghost use Rattle.sd_control.specs.declared.limits.TheConstants.{CAPACITY, MOST_SID_SIZE};
+
+use byteorder::{BigEndian, ByteOrder, LittleEndian};
+use sd_ace::{Ace, guid_bytes};
+use sd_buffer::SdBuf;
+use sd_control::SID_HEADER_SIZE;
+use sd_sid::Sid;
+use sd_view::AceFront;
+use uuid::Uuid;
+
+// The sub-authorities of an account of a domain: most SIDs have as many.
+const ACCOUNT_SUBS: usize = 5;
+
+// Appends a SID (MS-DTYP 2.4.2.2).
+pub(crate) fn append_sid(buf: &mut SdBuf, sid: &Sid)
+    requires { length buf.old + sid_size sid.now ≤ CAPACITY }
+    ensures { buf.new ≡ buf.old ++ sid_bytes sid.now }
+{
+    let subs = sid.subs();
+    buf.append(&sid_front(sid));
+    if subs.len() == ACCOUNT_SUBS {
+        buf.append(&account_subs(subs));
+    } else {
+        append_subs(buf, subs);
+    }
+}
+
+// The bytes of a SID before its sub-authorities.
+fn sid_front(sid: &Sid) -> [u8; SID_HEADER_SIZE]
+    ensures { result ≡ 1 ∷ length sid.now.subs ∷ big_bytes 6 sid.now.authority }
+{
+    let mut front = [0; SID_HEADER_SIZE];
+    front[0] = 1;
+    front[1] = sid.subs().len() as u8;
+    BigEndian::write_u48(&mut front[2..], sid.authority());
+    front
+}
+
+// The bytes of as many sub-authorities as an account of a domain has. Their number is known when the program is built,
+// so they are copied at once.
+fn account_subs(subs: &[u32]) -> [u8; 4 * ACCOUNT_SUBS]
+    requires { length subs.now ≡ ACCOUNT_SUBS }
+    ensures { result ≡ flat_map (little_bytes 4) subs.now }
+{
+    let mut bytes = [0; 4 * ACCOUNT_SUBS];
+    LittleEndian::write_u32_into(&subs[..ACCOUNT_SUBS], &mut bytes);
+    bytes
+}
+
+// Appends sub-authorities one after the other.
+fn append_subs(buf: &mut SdBuf, subs: &[u32])
+    requires { length buf.old + 4 * length subs.now ≤ CAPACITY }
+    ensures { buf.new ≡ buf.old ++ flat_map (little_bytes 4) subs.now }
+{
+    for sub in subs {
+        buf.append(&sub.to_le_bytes());
+    }
+}
+
+// Appends a SID, and tells where it stands.
+pub(crate) fn append_sid_at(buf: &mut SdBuf, sid: &Sid) -> u32
+    requires { length buf.old + MOST_SID_SIZE ≤ CAPACITY }
+    ensures offset { result ≡ length buf.old }
+    ensures value { buf.new ≡ buf.old ++ sid_bytes sid.now }
+    ensures limits { IsSid sid.now }
+{
+    let offset = buf.bytes().len() as u32;
+    // Its size tells that it has at most 15 sub-authorities.
+    let _ = sid.size();
+    append_sid(buf, sid);
+    offset
+}
+
+// Appends an ACE (MS-DTYP 2.4.4).
+pub(crate) fn append_ace(buf: &mut SdBuf, ace: &Ace)
+    requires { length buf.old + ace_size ace.now ≤ CAPACITY }
+    ensures { buf.new ≡ buf.old ++ ace_bytes ace.now }
+{
+    append_front(buf, ace);
+    append_guids(buf, ace);
+    append_sid(buf, ace.trustee());
+}
+
+// Appends what stands before the GUIDs. There is room for the longest, so that its cells are copied at once.
+fn append_front(buf: &mut SdBuf, ace: &Ace)
+    requires { length buf.old + 12 ≤ CAPACITY }
+    ensures { buf.new ≡ buf.old ++ ace_front ace.now }
+{
+    let front = AceFront::of_ace(ace);
+    buf.append_front(front.cells(), front.len());
+}
+
+// Appends the GUIDs, which stand in object kinds alone.
+fn append_guids(buf: &mut SdBuf, ace: &Ace)
+    requires { length buf.old + length (guids (is_object ace.now.kind) ace.now.object ace.now.inherited) ≤ CAPACITY }
+    ensures { buf.new ≡ buf.old ++ guids (is_object ace.now.kind) ace.now.object ace.now.inherited }
+{
+    if ace.kind().is_object() {
+        append_guid(buf, &ace.object());
+        append_guid(buf, &ace.inherited());
+    }
+}
+
+// Appends a GUID that may be there (MS-DTYP 2.3.4.2).
+fn append_guid(buf: &mut SdBuf, guid: &Option<Uuid>)
+    requires { length buf.old + length (guid_part guid.now) ≤ CAPACITY }
+    ensures { buf.new ≡ buf.old ++ guid_part guid.now }
+{
+    if let Some(guid) = guid {
+        buf.append(&guid_bytes(guid));
+    }
+}

@@ -1,0 +1,9 @@
+//! Descriptors that are built in a buffer, part by part or as the layout of another one.
+#![tactic(auto)]
+
+mod append;
+mod builder;
+mod written;
+
+pub use builder::{AclTooLarge, Builder};
+pub use written::write_layout;

@@ -1,0 +1,186 @@
+-- A step of the scan, right by right.
+use Rattle.std.proofs.Common.{◌≡◌, ◌<◌, ◌≤◌, ℕ, zero, suc, ◌+◌, ◌-◌, ◌*◌, ◌^◌, Bool, true, false, not, ◌&&◌, ◌||◌, cond, List, [], ◌∷◌, ◌++◌, length, take, Option, Some, refl, sym, ap, ◌∙◌, ⊎_elim, arith, bit_and, bit_or, length-append, append_assoc}
+use Rattle.std.specs.List.{find, list_any}
+use Rattle.std.proofs.lemmas.Bool.{cases_lt, false_from_ne_true, and_parts}
+use Rattle.std.proofs.lemmas.List.Folds.{list_any-append}
+use Rattle.std.proofs.lemmas.Nat.{mul-le}
+use Rattle.sd_ace.specs.Ace.{AccessControlEntry}
+use Rattle.sd_rights.specs.Mapping.{carries, mapped}
+use Rattle.sd_token.specs.Token.{Entry}
+use Rattle.sd_view.specs.Descriptor.{Descriptor}
+use Rattle.sd_check.specs.Applies.{applies, is_allow}
+use Rattle.sd_check.specs.Ask.{Asked}
+use Rattle.sd_check.specs.Granted.{allows, decides}
+use Rattle.sd_check.specs.Need.{all_below, least}
+use Rattle.sd_check.specs.Inner.Scan.{are_decided, scan_need}
+use Rattle.sd_check.proofs.Masks.{carries-and, carries-or, carries-and_not, carries-zero, carries_above, same_masks}
+
+-- 1. One right. It was granted (g), is undecided (u), is in question (q), and the ACE would decide it (d); an ACE
+-- before decided it (l).
+
+allow_step : (g u d : Bool) (a : AccessControlEntry) (o : Option AccessControlEntry) → is_allow a.kind ≡ true
+    → ((g || (u && d)) || ((u && not (u && d)) && allows o)) ≡ (g || (u && allows (cond d (Some a) o)))
+allow_step true u d a o h = refl
+allow_step false false d a o h = refl
+allow_step false true true a o h = sym h
+allow_step false true false a o h = refl
+
+deny_step : (g u d : Bool) (a : AccessControlEntry) (o : Option AccessControlEntry) → is_allow a.kind ≡ false
+    → (g || ((u && not (u && d)) && allows o)) ≡ (g || (u && allows (cond d (Some a) o)))
+deny_step true u d a o h = refl
+deny_step false false d a o h = refl
+deny_step false true true a o h = sym h
+deny_step false true false a o h = refl
+
+clear_step : (q l d : Bool) → ((q && not l) && not ((q && not l) && d)) ≡ (q && not (l || (d || false)))
+clear_step false l d = refl
+clear_step true true d = refl
+clear_step true false true = refl
+clear_step true false false = refl
+
+-- 2. The masks: granted (g) and undecided (u), and what the ACE decides (m).
+
+-- what the ACE decides of the undecided rights
+abbrev pub IsDecided : Descriptor → List Entry → Asked → AccessControlEntry → ℕ → ℕ → Type 0
+IsDecided d t ask a u m = (right : ℕ) → carries m right ≡ (carries u right && decides right d t ask a)
+
+pub rights_allow : (d : Descriptor) (t : List Entry) (ask : Asked) (a : AccessControlEntry)
+    (rest : List AccessControlEntry) (g u m right : ℕ)
+    → u < 2 ^ 32 → m < 2 ^ 32 → IsDecided d t ask a u m → is_allow a.kind ≡ true
+    → (carries (bit_or g m) right
+    || (carries (bit_and u (2 ^ 32 - 1 - m)) right && allows (find (decides right d t ask) rest)))
+    ≡ (carries g right || (carries u right && allows (find (decides right d t ask) (a ∷ rest))))
+rights_allow d t ask a rest g u m right p q h k =
+    rw (carries-or g m right, carries-and_not u m right p q, h right)
+    (allow_step (carries g right) (carries u right) (decides right d t ask a) a (find (decides right d t ask) rest) k)
+
+pub rights_deny : (d : Descriptor) (t : List Entry) (ask : Asked) (a : AccessControlEntry)
+    (rest : List AccessControlEntry) (g u m right : ℕ)
+    → u < 2 ^ 32 → m < 2 ^ 32 → IsDecided d t ask a u m → is_allow a.kind ≡ false
+    → (carries g right
+    || (carries (bit_and u (2 ^ 32 - 1 - m)) right && allows (find (decides right d t ask) rest)))
+    ≡ (carries g right || (carries u right && allows (find (decides right d t ask) (a ∷ rest))))
+rights_deny d t ask a rest g u m right p q h k =
+    rw (carries-and_not u m right p q, h right)
+    (deny_step (carries g right) (carries u right) (decides right d t ask a) a (find (decides right d t ask) rest) k)
+
+pub undecided_step : (d : Descriptor) (t : List Entry) (ask : Asked) (a : AccessControlEntry)
+    (ys : List AccessControlEntry) (q u m right : ℕ)
+    → u < 2 ^ 32 → m < 2 ^ 32 → IsDecided d t ask a u m
+    → carries u right ≡ (carries q right && not (list_any (decides right d t ask) ys))
+    → carries (bit_and u (2 ^ 32 - 1 - m)) right
+    ≡ (carries q right && not (list_any (decides right d t ask) (ys ++ a ∷ [])))
+undecided_step d t ask a ys q u m right p s h old =
+    rw (carries-and_not u m right p s, h right, old, list_any-append (decides right d t ask) ys (a ∷ []))
+    (clear_step (carries q right) (list_any (decides right d t ask) ys) (decides right d t ask a))
+
+-- the ACE applies, and has these of the undecided rights
+pub decided-applies : (d : Descriptor) (t : List Entry) (ask : Asked) (a : AccessControlEntry) (u m : ℕ)
+    → applies a d t ask ≡ true → m ≡ mapped ask.mapping a.mask → IsDecided d t ask a u (bit_and u m)
+decided-applies d t ask a u m h e right =
+    carries-and u m right ∙ rw h (ap (λ (n : ℕ). carries u right && carries n right) e)
+
+-- it has none of the undecided rights
+pub decided-nothing : (d : Descriptor) (t : List Entry) (ask : Asked) (a : AccessControlEntry) (u m : ℕ)
+    → m ≡ mapped ask.mapping a.mask → bit_and u m ≡ 0 → IsDecided d t ask a u 0
+decided-nothing d t ask a u m e none right =
+    carries-zero right
+    ∙ nothing (carries u right) (applies a d t ask) (carries (mapped ask.mapping a.mask) right)
+    (ap (λ (n : ℕ). carries u right && carries n right) (sym e) ∙ sym (carries-and u m right)
+    ∙ ap (λ (n : ℕ). carries n right) none ∙ carries-zero right)
+  where
+    nothing : (p q r : Bool) → (p && r) ≡ false → false ≡ (p && (q && r))
+    nothing false q r h = refl
+    nothing true false r h = refl
+    nothing true true r h = sym h
+
+-- 3. What is not settled.
+
+all_below_at : (n : ℕ) (test : ℕ → Bool) → all_below n test ≡ true → (i : ℕ) → i < n → test i ≡ true
+unfolding all_below
+all_below_at zero test h i below = absurd (omega arith)
+all_below_at (suc n) test h i below =
+    let p = and_parts _ _ h in
+    ⊎_elim (λ (less : i < n). all_below_at n test p.1 i less)
+    (λ (more : n ≤ i). let here : i ≡ n = omega arith in ap test here ∙ p.0) (cases_lt i n)
+
+pub all_below_same : (n : ℕ) (f g : ℕ → Bool) → ((i : ℕ) → i < n → f i ≡ g i) → all_below n f ≡ all_below n g
+unfolding all_below
+all_below_same zero f g h = refl
+all_below_same (suc n) f g h =
+    let here = h n (omega arith) in
+    let rest = all_below_same n f g (λ i below. h i (omega arith)) in
+    cc
+
+blocked : (q l : Bool) → (not q || l) ≡ true → (q && not l) ≡ false
+blocked false l h = refl
+blocked true true h = refl
+blocked true false h = absurd (cc)
+
+-- rights are still undecided
+pub not_decided : (d : Descriptor) (t : List Entry) (ask : Asked) (ys : List AccessControlEntry) (q u : ℕ)
+    → q < 2 ^ 25 → (u ≡ 0 → ⊥)
+    → ((right : ℕ) → carries u right ≡ (carries q right && not (list_any (decides right d t ask) ys)))
+    → are_decided q d t ask ys ≡ false
+not_decided d t ask ys q u limit some old =
+    false_from_ne_true _ (λ all. some (same_masks u 0 (λ i. old i
+    ∙ ⊎_elim (λ (below : i < 25).
+    blocked (carries q i) (list_any (decides i d t ask) ys) (all_below_at 25 _ all i below))
+    (λ (above : 25 ≤ i). rw (carries_above q 25 i limit above) refl) (cases_lt i 25)
+    ∙ sym (carries-zero i))))
+
+least_ge : (n limit : ℕ) (test : ℕ → Bool) → n ≤ limit → ((k : ℕ) → k < n → test k ≡ false) → n ≤ least test limit
+unfolding least
+least_ge zero limit test h fails = omega arith
+least_ge (suc n) zero test h fails = absurd (omega arith)
+least_ge (suc n) (suc limit) test h fails =
+    let first = fails 0 (omega arith) in
+    let rest = least_ge n limit (λ k. test (suc k)) (omega arith) (λ k below. fails (suc k) (omega arith)) in
+    rw first (omega arith)
+
+pub least_same : (limit : ℕ) (f g : ℕ → Bool) → ((k : ℕ) → f k ≡ g k) → least f limit ≡ least g limit
+unfolding least
+least_same zero f g h = refl
+least_same (suc limit) f g h =
+    let here = h 0 in
+    let rest = least_same limit (λ k. f (suc k)) (λ k. g (suc k)) (λ k. h (suc k)) in
+    cc
+
+-- 4. The ACEs so far.
+
+take_front : (ys rest : List AccessControlEntry) → take (length ys) (ys ++ rest) ≡ ys
+take_front [] rest = refl
+take_front (y ∷ ys) rest = ap (λ (zs : List AccessControlEntry). y ∷ zs) (take_front ys rest)
+
+pub parts_step : (a : AccessControlEntry) (ys front rest all : List AccessControlEntry)
+    → all ≡ ys ++ front → front ≡ a ∷ rest → all ≡ (ys ++ a ∷ []) ++ rest
+parts_step a ys front rest all h e =
+    h ∙ ap (λ (zs : List AccessControlEntry). ys ++ zs) e ∙ sym (append_assoc ys (a ∷ []) rest)
+
+pub count_step : (a : AccessControlEntry) (ys : List AccessControlEntry) (old mid new n : ℕ)
+    → mid ≤ old + length ys * n → new ≤ mid + n → new ≤ old + length (ys ++ a ∷ []) * n
+count_step a ys old mid new n h e =
+    let more : length (ys ++ a ∷ []) * n ≡ length ys * n + n = simp length-append (omega arith) in
+    omega arith
+
+pub passed_step : (d : Descriptor) (t : List Entry) (ask : Asked) (a : AccessControlEntry)
+    (ys rest all : List AccessControlEntry) (q : ℕ)
+    → all ≡ ys ++ a ∷ rest → are_decided q d t ask ys ≡ false
+    → ((k : ℕ) → k < length ys → are_decided q d t ask (take k all) ≡ false)
+    → (k : ℕ) → k < length (ys ++ a ∷ []) → are_decided q d t ask (take k all) ≡ false
+passed_step d t ask a ys rest all q parts here old k below =
+    ⊎_elim (λ (less : k < length ys). old k less)
+    (λ (more : length ys ≤ k).
+    let at : k ≡ length ys = omega (arith, length-append {A = AccessControlEntry} ys (a ∷ [])) in
+    ap (are_decided q d t ask)
+    (ap (take k) parts ∙ ap (λ (n : ℕ). take n (ys ++ a ∷ rest)) at ∙ take_front ys (a ∷ rest)) ∙ here)
+    (cases_lt k (length ys))
+
+pub scan_bound : (d : Descriptor) (t : List Entry) (ask : Asked) (ys rest all : List AccessControlEntry)
+    (q n old new : ℕ) → all ≡ ys ++ rest → ((k : ℕ) → k < length ys → are_decided q d t ask (take k all) ≡ false)
+    → new ≤ old + length ys * n → new ≤ old + scan_need q d t ask all * n
+unfolding scan_need
+scan_bound d t ask ys rest all q n old new parts passed h =
+    let long : length ys ≤ length all = rw parts (omega (arith, length-append {A = AccessControlEntry})) in
+    let most = least_ge (length ys) (length all) _ long passed in
+    omega (arith, mul-le (length ys) n (scan_need q d t ask all) n most (omega arith))

@@ -1,0 +1,48 @@
+use Rattle.std.proofs.Common.{◌≡◌, ◌≤◌, ◌+◌, ◌*◌, ℕ, length, arith, ap, ◌∙◌, refl}
+use Rattle.sd_check.specs.Need.{need}
+use Rattle.sd_check.specs.Inner.Scan.{asks_owner, undecided_of}
+use Rattle.sd_check.proofs.VerdictLaws.{asks_owner-is, count_scan, granted_bit, undecided-lt}
+use Rattle.sd_check.proofs.verdict.granted.Goals as goal
+use Rattle.sd_check.proofs.verdict.granted.Goals.{After-scan, After-undecided-undecided}
+
+undecided : (c : After-undecided-undecided)
+    → c.undecided-undecided.result ≡ undecided_of c.args.view.now c.args.token.now.entries c.args.ask.now
+undecided c = c.undecided-undecided.ensures
+    ∙ rw (c.given-given.ensures.value, c.question-question.ensures.value) refl
+
+pub scan-requires : goal.scan-requires
+scan-requires c =
+    rw (undecided (goal.at.scan-requires c).After-undecided-undecided)
+    (undecided-lt c.args.view.now c.args.token.now.entries c.args.ask.now c.question-question.ensures.limits)
+
+pub returns-clause-rights : goal.returns-clause-rights
+returns-clause-rights c =
+    let e = undecided (goal.at.returns-clause-rights c).After-undecided-undecided in
+    rw (c.given-given.ensures.value, c.question-question.ensures.value)
+    (granted_bit c.args.view.now c.args.token.now.entries c.args.ask.now c.scan.result
+    c.question-question.ensures.limits
+    (λ n. c.scan.ensures.rights n ∙ rw (e, c.given-given.ensures.entries) refl))
+
+-- what the scan adds to the count
+scanned : (c : After-scan)
+    → c.undecided-undecided.result ≡ undecided_of c.args.view.now c.args.token.now.entries c.args.ask.now
+    → c.scan.new.token.compared
+    ≤ c.given-given.new.token.compared
+    + need c.args.view.now c.args.token.now.entries c.args.ask.now * length c.args.token.now.entries
+scanned c e =
+    count_scan c.args.view.now c.args.token.now.entries c.args.ask.now _ c.given-given.new.token.compared
+    c.scan.new.token.compared c.question-question.ensures.limits e
+    (rw c.given-given.ensures.entries at c.scan.ensures.count)
+
+pub returns-clause-count : goal.returns-clause-count
+returns-clause-count c =
+    let at = goal.at.returns-clause-count c in
+    omega (arith, scanned at.After-scan (undecided at.After-undecided-undecided), c.given-given.ensures.count)
+
+pub returns-clause-spared : goal.returns-clause-spared
+returns-clause-spared c = λ idle.
+    let at = goal.at.returns-clause-spared c in
+    let same = c.given-given.ensures.spared
+    (ap (λ (q : ℕ). asks_owner q c.args.view.now.dacl) c.question-question.ensures.value
+    ∙ asks_owner-is c.args.view.now c.args.ask.now ∙ idle) in
+    omega (arith, scanned at.After-scan (undecided at.After-undecided-undecided), same)

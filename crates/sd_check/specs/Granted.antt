@@ -1,0 +1,79 @@
+-- Whether a right is granted: one right by itself (MS-DTYP 2.5.3.2).
+use Rattle.std.specs.Prelude.{ℕ, ◌==◌, Bool, true, false, not, ◌&&◌, ◌||◌, if◌then◌else◌, List, [], Option, Some, None}
+use Rattle.std.specs.List.{find, list_any}
+use Rattle.sd_ace.specs.Ace.{AccessControlEntry}
+use Rattle.sd_rights.specs.Mapping.{carries, mapped}
+use Rattle.sd_sid.specs.SidText.{same_sid}
+use Rattle.sd_token.specs.Token.{Entry}
+use Rattle.sd_view.specs.Descriptor.{Descriptor}
+use Rattle.sd_view.specs.declared.acl.AclPart.{AclPart}
+use Rattle.sd_view.specs.declared.acl.AclPart.TheVariants as acl
+use Rattle.sd_check.specs.Ask.{Asked}
+use Rattle.sd_check.specs.Applies.{applies, is_allow, is_effective, owner_rights, some_meets}
+
+-- 2.4.3: the places of READ_CONTROL, WRITE_DAC, WRITE_OWNER and ACCESS_SYSTEM_SECURITY
+abbrev pub read_control : ℕ
+read_control = 17
+
+abbrev pub write_dac : ℕ
+write_dac = 18
+
+abbrev pub write_owner : ℕ
+write_owner = 19
+
+abbrev pub system_security : ℕ
+system_security = 24
+
+-- 1. Without an ACE.
+
+abbrev pub listed_aces : AclPart → List AccessControlEntry
+listed_aces acl.Absent = []
+listed_aces acl.Null = []
+listed_aces (acl.List aces) = aces
+
+-- the DACL is null or absent
+abbrev pub is_open : AclPart → Bool
+is_open acl.Absent = true
+is_open acl.Null = true
+is_open (acl.List aces) = false
+
+-- an ACE whose own SID, before any replacement, is OWNER RIGHTS; its object type is not looked at
+abbrev pub is_for_owner_rights : AccessControlEntry → Bool
+is_for_owner_rights a = is_effective a && same_sid a.sid owner_rights
+
+abbrev pub names_owner_rights : List AccessControlEntry → Bool
+names_owner_rights aces = list_any is_for_owner_rights aces
+
+-- the owner equals an enabled entry, and no ACE says what an owner may do
+abbrev pub is_owned : Descriptor → List Entry → Bool
+is_owned d token = some_meets d.owner false token && not (names_owner_rights (listed_aces d.dacl))
+
+-- the right is granted whatever the ACEs say: by a DACL that is null or absent, to the owner, or by the privilege to
+-- take ownership
+abbrev pub needs_no_ace : ℕ → Descriptor → List Entry → Asked → Bool
+needs_no_ace right d token ask =
+    is_open d.dacl
+    || ((right == read_control || right == write_dac) && is_owned d token)
+    || (right == write_owner && ask.take_ownership)
+
+-- 2. By the ACEs.
+
+-- the ACE applies, and its mapped mask has the right
+abbrev pub decides : ℕ → Descriptor → List Entry → Asked → AccessControlEntry → Bool
+decides right d token ask a = applies a d token ask && carries (mapped ask.mapping a.mask) right
+
+-- where no ACE decides, the right is denied
+abbrev pub allows : Option AccessControlEntry → Bool
+allows None = false
+allows (Some a) = is_allow a.kind
+
+-- the first ACE that decides the right allows it
+abbrev pub is_allowed : ℕ → Descriptor → List Entry → Asked → Bool
+is_allowed right d token ask = allows (find (decides right d token ask) (listed_aces d.dacl))
+
+-- 3. The right is granted. ACCESS_SYSTEM_SECURITY is, by the privilege, and by nothing else.
+
+unfoldable pub granted : ℕ → Descriptor → List Entry → Asked → Bool
+granted right d token ask =
+    if right == system_security then ask.security
+    else needs_no_ace right d token ask || is_allowed right d token ask

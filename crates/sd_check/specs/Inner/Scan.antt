@@ -1,0 +1,45 @@
+-- The masks of the code that scans a DACL. No definition of what is granted rests on them.
+use Rattle.std.specs.Prelude.{◌≡◌, ◌<◌, ℕ, ◌-◌, ◌^◌, ◌==◌, Bool, true, not, ◌&&◌, ◌||◌, List, length, take, bit_and, bit_or}
+use Rattle.std.specs.List.{list_any}
+use Rattle.sd_ace.specs.Ace.{AccessControlEntry}
+use Rattle.sd_rights.specs.Mapping.{carries, mask_if}
+use Rattle.sd_token.specs.Token.{Entry}
+use Rattle.sd_view.specs.Descriptor.{Descriptor}
+use Rattle.sd_view.specs.declared.acl.AclPart.{AclPart}
+use Rattle.sd_check.specs.Ask.{Asked}
+use Rattle.sd_check.specs.Granted.{decides, granted, is_open, is_owned}
+use Rattle.sd_check.specs.Need.{all_below, in_question, least}
+
+-- of these rights in question an owner has one, and the DACL does not grant it by being null or absent
+abbrev pub asks_owner : ℕ → AclPart → Bool
+asks_owner question dacl = not (is_open dacl) && not (bit_and question 0x6_0000 == 0)
+
+-- the rights that are granted without an ACE, right 24 among them; those of an owner only where they are asked for
+unfoldable pub given_mask : ℕ → Descriptor → List Entry → Asked → ℕ
+given_mask question d token ask =
+    bit_or (bit_or (bit_or (mask_if ask.security 0x100_0000) (mask_if ask.take_ownership 0x8_0000))
+    (mask_if (asks_owner question d.dacl && is_owned d token) 0x6_0000))
+    (mask_if (is_open d.dacl) 0xff_ffff)
+
+-- the rights in question
+abbrev pub question_of : Asked → ℕ
+question_of ask = bit_or ask.wanted (mask_if ask.maximum ask.mapping.all)
+
+-- those that the ACEs alone can decide
+abbrev pub undecided_of : Descriptor → List Entry → Asked → ℕ
+undecided_of d token ask =
+    bit_and (question_of ask) (2 ^ 32 - 1 - bit_or (given_mask (question_of ask) d token ask) 0x100_0000)
+
+-- these ACEs decide each right of a mask
+abbrev pub are_decided : ℕ → Descriptor → List Entry → Asked → List AccessControlEntry → Bool
+are_decided mask d token ask aces =
+    all_below 25 (λ right. not (carries mask right) || list_any (decides right d token ask) aces)
+
+-- the least number of first ACEs that decide each right of a mask, or else all of them
+unfoldable pub scan_need : ℕ → Descriptor → List Entry → Asked → List AccessControlEntry → ℕ
+scan_need mask d token ask aces = least (λ n. are_decided mask d token ask (take n aces)) (length aces)
+
+-- of the rights in question, the mask has those that are granted
+abbrev pub HasGranted : Descriptor → List Entry → Asked → ℕ → Type 0
+HasGranted d token ask mask =
+    (right : ℕ) → right < 25 → in_question right ask ≡ true → carries mask right ≡ granted right d token ask

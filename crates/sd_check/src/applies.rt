@@ -1,0 +1,65 @@
+//! When an ACE applies.
+
+ghost use Rattle.std.specs.Prelude.{◌≡◌, ◌≤◌, ◌+◌, length};
+ghost use Rattle.sd_check.specs.Applies.{applies, is_access, is_allow, is_deny, is_effective, is_for};
+
+use crate::ask::Ask;
+use crate::trustee::{some_meets, subject};
+use sd_kinds::{AceKind, INHERIT_ONLY, has_flag};
+use sd_token::Token;
+use sd_view::{AceView, SdView};
+use uuid::Uuid;
+
+/// Whether the ACE speaks of the token, and of the object that is asked for.
+#[tactic(auto, unfolding(crate::specs::Applies::applies))]
+pub fn applies(ace: &AceView, view: &SdView, token: &mut Token, ask: &Ask) -> bool
+    ensures value { result ≡ applies ace.now view.now token.old.entries ask.now }
+    ensures entries { token.new.entries ≡ token.old.entries }
+    ensures goes_on { token.old.compared ≤ token.new.compared }
+    ensures count { token.new.compared ≤ token.old.compared + length token.old.entries }
+{
+    is_effective(ace)
+        && is_for(ace.object(), ask.object())
+        && some_meets(
+            token,
+            subject(view, ask.principal_self(), ace.sid()),
+            is_deny(ace.kind()),
+        )
+}
+
+/// Whether it grants or denies on the object itself.
+pub fn is_effective(ace: &AceView) -> bool
+    ensures { result ≡ is_effective ace.now }
+{
+    is_access(ace.kind()) && !has_flag(ace.flags(), INHERIT_ONLY)
+}
+
+/// Whether what it decides is granted.
+pub fn is_allow(kind: AceKind) -> bool
+    ensures { result ≡ is_allow kind }
+{
+    matches!(kind, AceKind::Allow | AceKind::ObjectAllow)
+}
+
+fn is_deny(kind: AceKind) -> bool
+    ensures { result ≡ is_deny kind }
+{
+    matches!(kind, AceKind::Deny | AceKind::ObjectDeny)
+}
+
+fn is_access(kind: AceKind) -> bool
+    ensures { result ≡ is_access kind }
+{
+    is_allow(kind) || is_deny(kind)
+}
+
+// Whether the object type is absent or the one that is asked for.
+fn is_for(object: Option<Uuid>, asked: Option<Uuid>) -> bool
+    ensures { result ≡ is_for object asked }
+{
+    match (object, asked) {
+        (None, _) => true,
+        (Some(_), None) => false,
+        (Some(object), Some(asked)) => object == asked,
+    }
+}

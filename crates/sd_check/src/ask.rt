@@ -1,0 +1,166 @@
+//! What is asked of a descriptor.
+
+ghost use Rattle.std.specs.Prelude.{◌≡◌, ◌||◌, None, Some, IfOk, MatchResult};
+ghost use Rattle.sd_check.specs.Ask.{AreRights, ask_fault, asks_maximum, wanted_of};
+
+use sd_rights::{Mapping, carries};
+use sd_sid::Sid;
+use std::marker::Model;
+use uuid::Uuid;
+
+/// The places of MAXIMUM_ALLOWED and of the two reserved bits (MS-DTYP 2.4.3).
+const MAXIMUM_ALLOWED: u32 = 25;
+
+const FIRST_RESERVED: u32 = 26;
+
+const SECOND_RESERVED: u32 = 27;
+
+/// The privileges that grant a right, where the token holds them.
+#[derive(Clone, Copy, Debug, PartialEq, Eq)]
+pub struct Privileges {
+    /// SeSecurityPrivilege: it grants ACCESS_SYSTEM_SECURITY, and nothing else does.
+    pub security: bool,
+    /// SeTakeOwnershipPrivilege: it grants WRITE_OWNER.
+    pub take_ownership: bool,
+}
+
+/// The rights that are wanted, on which type of object, and for whom.
+#[derive(Clone, Copy, Debug, PartialEq, Eq)]
+pub struct Ask {
+    // The mapped mask, without MAXIMUM_ALLOWED.
+    wanted: u32,
+    maximum: bool,
+    mapping: Mapping,
+    object: Option<Uuid>,
+    principal_self: Option<Sid>,
+    privileges: Privileges,
+}
+
+/// Why nothing can be asked.
+#[derive(Clone, Copy, Debug, PartialEq, Eq)]
+pub enum AskFault {
+    /// No right is desired, nor the maximum: fault 50.
+    EmptyRequest,
+    /// Bit 26 or 27 is set in the desired mask: fault 51.
+    ReservedBits,
+}
+
+impl Model for Ask {
+    ghost use Rattle.std.specs.Prelude.{◌<◌, ◌^◌};
+    ghost use Rattle.sd_check.specs.Ask.{Asked};
+
+    ghost Value = { Asked };
+
+    ghost view = { λ a. record {
+      wanted = a.wanted;
+      maximum = a.maximum;
+      mapping = a.mapping;
+      object = a.object;
+      principal_self = a.principal_self;
+      security = a.privileges.security;
+      take_ownership = a.privileges.take_ownership;
+    } };
+
+    ghost invariant = { λ a. (a.wanted < 2 ^ 25) × (a.mapping.all < 2 ^ 25) };
+
+    ghost inverse = { λ a. record {
+      wanted = a.wanted;
+      maximum = a.maximum;
+      mapping = a.mapping;
+      object = a.object;
+      principal_self = a.principal_self;
+      privileges = record { security = a.security; take_ownership = a.take_ownership };
+    } };
+}
+
+impl Ask {
+    /// What is asked: the rights of the desired mask, whose generic rights mean what the mapping says, and with
+    /// `maximum`, or with bit 25 in the mask, all that is granted. ACEs with an object type count where it is
+    /// `object`; the SID PRINCIPAL SELF stands for `principal_self`.
+    pub fn new(
+        desired: u32,
+        maximum: bool,
+        mapping: Mapping,
+        object: Option<Uuid>,
+        principal_self: Option<Sid>,
+        privileges: Privileges,
+    ) -> Result<Ask, AskFault>
+        ensures fault { MatchResult result (λ _. ask_fault desired maximum ≡ None) (λ f. ask_fault desired maximum ≡ Some f) }
+        ensures value { IfOk result (λ a. a ≡ record {
+          wanted = wanted_of mapping desired;
+          maximum = maximum || asks_maximum desired;
+          mapping = mapping;
+          object = object;
+          principal_self = principal_self;
+          security = privileges.security;
+          take_ownership = privileges.take_ownership;
+        }) }
+    {
+        if desired == 0 && !maximum {
+            return Err(AskFault::EmptyRequest);
+        }
+        if carries(desired, FIRST_RESERVED) || carries(desired, SECOND_RESERVED) {
+            return Err(AskFault::ReservedBits);
+        }
+        // That its rights are below 2^25 is told by the call.
+        let _ = mapping.all();
+        Ok(Ask {
+            wanted: mapping.map(desired) % (1 << MAXIMUM_ALLOWED),
+            maximum: maximum || carries(desired, MAXIMUM_ALLOWED),
+            mapping,
+            object,
+            principal_self,
+            privileges,
+        })
+    }
+
+    // The rights that are wanted.
+    pub(crate) fn wanted(&self) -> u32
+        ensures value { result ≡ self.now.wanted }
+        ensures limits { AreRights self.now }
+    {
+        self.wanted
+    }
+
+    // Whether all that is granted is asked for as well.
+    pub(crate) fn maximum(&self) -> bool
+        ensures { result ≡ self.now.maximum }
+    {
+        self.maximum
+    }
+
+    // What the generic rights mean.
+    pub(crate) fn mapping(&self) -> Mapping
+        ensures { result ≡ self.now.mapping }
+    {
+        self.mapping
+    }
+
+    // The object type.
+    pub(crate) fn object(&self) -> Option<Uuid>
+        ensures { result ≡ self.now.object }
+    {
+        self.object
+    }
+
+    // Whom PRINCIPAL SELF stands for.
+    pub(crate) fn principal_self(&self) -> Option<Sid>
+        ensures { result ≡ self.now.principal_self }
+    {
+        self.principal_self
+    }
+
+    // Whether the token holds the security privilege.
+    pub(crate) fn security(&self) -> bool
+        ensures { result ≡ self.now.security }
+    {
+        self.privileges.security
+    }
+
+    // Whether the token holds the privilege to take ownership.
+    pub(crate) fn take_ownership(&self) -> bool
+        ensures { result ≡ self.now.take_ownership }
+    {
+        self.privileges.take_ownership
+    }
+}

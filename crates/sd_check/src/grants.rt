@@ -1,0 +1,92 @@
+//! The rights that are granted without an ACE.
+
+ghost use Rattle.std.specs.Prelude.{◌≡◌, ◌≤◌, ◌+◌, false, length};
+ghost use Rattle.sd_rights.specs.Mapping.{mask_if};
+ghost use Rattle.sd_check.specs.Granted.{is_for_owner_rights, is_open, is_owned, names_owner_rights};
+ghost use Rattle.sd_check.specs.Inner.Scan.{asks_owner, given_mask};
+
+use crate::applies::is_effective;
+use crate::ask::Ask;
+use crate::trustee::{is_owner_rights, some_meets};
+use sd_token::Token;
+use sd_view::{AceView, AclPart, AclView, SdView};
+
+/// Access rights of MS-DTYP 2.4.3.
+pub const ACCESS_SYSTEM_SECURITY: u32 = 0x100_0000;
+
+const WRITE_OWNER: u32 = 0x8_0000;
+
+const WRITE_DAC: u32 = 0x4_0000;
+
+const READ_CONTROL: u32 = 0x2_0000;
+
+const BELOW_SYSTEM_SECURITY: u32 = 0xff_ffff;
+
+/// The rights that are granted whatever the ACEs say, as far as they are in question.
+#[tactic(auto, unfolding(crate::specs::Inner::Scan::given_mask))]
+pub fn given(view: &SdView, token: &mut Token, ask: &Ask, question: u32) -> u32
+    ensures value { result ≡ given_mask question view.now token.old.entries ask.now }
+    ensures entries { token.new.entries ≡ token.old.entries }
+    ensures goes_on { token.old.compared ≤ token.new.compared }
+    ensures count { token.new.compared ≤ token.old.compared + length token.old.entries }
+    ensures spared { asks_owner question view.now.dacl ≡ false → token.new.compared ≡ token.old.compared }
+{
+    let owned = asks_owner(view, question) && is_owned(view, token);
+    mask_if(ask.security(), ACCESS_SYSTEM_SECURITY)
+        | mask_if(ask.take_ownership(), WRITE_OWNER)
+        | mask_if(owned, READ_CONTROL | WRITE_DAC)
+        | mask_if(is_open(view), BELOW_SYSTEM_SECURITY)
+}
+
+/// The mask where it is carried, and else no right.
+pub fn mask_if(carried: bool, mask: u32) -> u32
+    ensures { result ≡ mask_if carried mask }
+{
+    if carried { mask } else { 0 }
+}
+
+// Whether the DACL is null or absent.
+fn is_open(view: &SdView) -> bool
+    ensures { result ≡ is_open view.now.dacl }
+{
+    matches!(view.dacl(), AclPart::Absent | AclPart::Null)
+}
+
+// Whether it matters who the owner is: a right that an owner has is in question, and no null or absent DACL grants it.
+fn asks_owner(view: &SdView, question: u32) -> bool
+    ensures { result ≡ asks_owner question view.now.dacl }
+{
+    !is_open(view) && question & (READ_CONTROL | WRITE_DAC) != 0
+}
+
+// Whether the owner is one of the token's, and no ACE says what an owner may do.
+fn is_owned(view: &SdView, token: &mut Token) -> bool
+    ensures value { result ≡ is_owned view.now token.old.entries }
+    ensures entries { token.new.entries ≡ token.old.entries }
+    ensures goes_on { token.old.compared ≤ token.new.compared }
+    ensures count { token.new.compared ≤ token.old.compared + length token.old.entries }
+{
+    some_meets(token, view.owner(), false)
+        && match view.dacl() {
+            AclPart::List(acl) => !names_owner_rights(&acl),
+            AclPart::Absent | AclPart::Null => true,
+        }
+}
+
+// Whether an ACE is for OWNER RIGHTS. No entry of a token is looked at.
+fn names_owner_rights(acl: &AclView) -> bool
+    ensures { result ≡ names_owner_rights acl.now }
+{
+    for ace in acl.aces() {
+        if is_for_owner_rights(&ace) {
+            return true;
+        }
+    }
+    false
+}
+
+fn is_for_owner_rights(ace: &AceView) -> bool
+    ensures { result ≡ is_for_owner_rights ace.now }
+{
+    is_effective(ace) && is_owner_rights(&ace.sid())
+}

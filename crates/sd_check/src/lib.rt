@@ -1,0 +1,12 @@
+//! The access check (MS-DTYP 2.5.3).
+#![tactic(auto)]
+
+mod applies;
+mod ask;
+mod grants;
+mod scan;
+mod trustee;
+mod verdict;
+
+pub use ask::{Ask, AskFault, Privileges};
+pub use verdict::{Verdict, check};

@@ -1,0 +1,68 @@
+//! Whom a SID stands for, and whether a token has it.
+
+ghost use Rattle.std.specs.Prelude.{◌≡◌, ◌≤◌, ◌+◌, [], ◌∷◌, length};
+ghost use Rattle.sd_sid.specs.SidText.{same_sid};
+ghost use Rattle.sd_token.specs.Token.{meets};
+ghost use Rattle.sd_check.specs.Applies.{owner_rights, some_meets, subject};
+
+use sd_sid::Sid;
+use sd_token::Token;
+use sd_view::SdView;
+
+/// Whether an entry of the token meets the SID. Entries are looked at up to the first that does.
+// On its own, so that its few steps have the registers that they need; and with a copy of the SID, which is seen to stay
+// as it is while looks are counted.
+#[inline(never)]
+fn meets_any(token: &mut Token, sid: Sid, deny: bool) -> bool
+    ensures value { result ≡ meets sid deny token.old.entries }
+    ensures entries { token.new.entries ≡ token.old.entries }
+    ensures goes_on { token.old.compared ≤ token.new.compared }
+    ensures count { token.new.compared ≤ token.old.compared + length token.old.entries }
+{
+    for i in 0..token.len() {
+        if token.meets(i, &sid, deny) {
+            return true;
+        }
+    }
+    false
+}
+
+/// The same where there may be no SID: then nothing is looked at.
+pub fn some_meets(token: &mut Token, sid: Option<Sid>, deny: bool) -> bool
+    ensures value { result ≡ some_meets sid deny token.old.entries }
+    ensures entries { token.new.entries ≡ token.old.entries }
+    ensures goes_on { token.old.compared ≤ token.new.compared }
+    ensures count { token.new.compared ≤ token.old.compared + length token.old.entries }
+{
+    match sid {
+        None => false,
+        Some(sid) => meets_any(token, sid, deny),
+    }
+}
+
+/// Whom an ACE's SID stands for. One replacement is made.
+pub fn subject(view: &SdView, principal_self: Option<Sid>, sid: Sid) -> Option<Sid>
+    ensures { result ≡ subject view.now.owner principal_self sid }
+{
+    if is_principal_self(&sid) {
+        return Some(principal_self.unwrap_or(sid));
+    }
+    if is_owner_rights(&sid) {
+        return view.owner();
+    }
+    Some(sid)
+}
+
+// S-1-5-10 (MS-DTYP 2.4.2.4).
+fn is_principal_self(sid: &Sid) -> bool
+    ensures { result ≡ same_sid sid.now (record { authority = 5; subs = 10 ∷ [] }) }
+{
+    sid.authority() == 5 && sid.subs() == [10].as_slice()
+}
+
+/// Whether it is OWNER RIGHTS, S-1-3-4 (MS-DTYP 2.4.2.4).
+pub fn is_owner_rights(sid: &Sid) -> bool
+    ensures { result ≡ same_sid sid.now owner_rights }
+{
+    sid.authority() == 3 && sid.subs() == [4].as_slice()
+}

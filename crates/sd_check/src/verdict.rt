@@ -1,0 +1,86 @@
+//! The verdict of a check.
+
+ghost use Rattle.std.specs.Prelude.{◌≡◌, ◌≤◌, ◌+◌, ◌*◌, ◌^◌, ◌-◌, bit_and, bit_or, false, length};
+ghost use Rattle.sd_rights.specs.Mapping.{mask_if as mask_if_of};
+ghost use Rattle.sd_check.specs.Ask.{AreRights};
+ghost use Rattle.sd_check.specs.Need.{check_bound, need, owner_matters};
+ghost use Rattle.sd_check.specs.Inner.Scan.{HasGranted, question_of};
+ghost use Rattle.sd_check.specs.Verdict.{verdict};
+
+use crate::ask::Ask;
+use crate::grants::{ACCESS_SYSTEM_SECURITY, given, mask_if};
+use crate::scan::scan;
+use sd_token::Token;
+use sd_view::SdView;
+
+/// What a check answers.
+#[derive(Clone, Copy, Debug, PartialEq, Eq)]
+pub enum Verdict {
+    /// Each wanted right is granted. The mask has the wanted rights and, with maximum, each right of the
+    /// mapping that is granted; it is not 0.
+    Granted(u32),
+    /// The wanted rights that are not granted; or 0, where none was wanted and the maximum is no right.
+    Denied(u32),
+}
+
+/// Whether the descriptor grants what is asked to the token (MS-DTYP 2.5.3). The ACEs are walked once for the rights in
+/// question, and only until each of them is decided. Before that, only where READ_CONTROL or WRITE_DAC is in question
+/// and the DACL is neither null nor absent, the token's entries are compared with the owner; where one of them is the
+/// owner, the DACL is also searched for an ACE for OWNER RIGHTS.
+pub fn check(view: &SdView, token: &mut Token, ask: &Ask) -> Verdict
+    ensures verdict { result ≡ verdict view.now token.old.entries ask.now }
+    ensures entries { token.new.entries ≡ token.old.entries }
+    ensures goes_on { token.old.compared ≤ token.new.compared }
+    // Each entry is compared at most once with the owner, and at most once for each ACE that is needed.
+    ensures needed { token.new.compared ≤ token.old.compared + (need view.now token.old.entries ask.now + 1) * length token.old.entries }
+    // Where it does not matter who the owner is, no entry is compared with it.
+    ensures spared { owner_matters view.now ask.now ≡ false → token.new.compared ≤ token.old.compared + need view.now token.old.entries ask.now * length token.old.entries }
+    ensures bound { token.new.compared ≤ token.old.compared + check_bound view.now (length token.old.entries) }
+{
+    let granted = granted(view, token, ask);
+    let missing = ask.wanted() & !granted;
+    if missing != 0 {
+        return Verdict::Denied(missing);
+    }
+    let won = ask.wanted() | (pool(ask) & granted);
+    if won == 0 {
+        return Verdict::Denied(0);
+    }
+    Verdict::Granted(won)
+}
+
+// A mask that has those rights in question that are granted.
+fn granted(view: &SdView, token: &mut Token, ask: &Ask) -> u32
+    ensures rights { HasGranted view.now token.old.entries ask.now result }
+    ensures entries { token.new.entries ≡ token.old.entries }
+    ensures goes_on { token.old.compared ≤ token.new.compared }
+    ensures count { token.new.compared ≤ token.old.compared + (need view.now token.old.entries ask.now + 1) * length token.old.entries }
+    ensures spared { owner_matters view.now ask.now ≡ false → token.new.compared ≤ token.old.compared + need view.now token.old.entries ask.now * length token.old.entries }
+{
+    let question = question(ask);
+    let given = given(view, token, ask, question);
+    let undecided = undecided(question, given);
+    given | scan(view, token, ask, undecided)
+}
+
+// The rights in question: those that are wanted and, with maximum, those of the mapping.
+fn question(ask: &Ask) -> u32
+    ensures value { result ≡ question_of ask.now }
+    ensures limits { AreRights ask.now }
+{
+    ask.wanted() | pool(ask)
+}
+
+// Those of the rights in question that the ACEs alone can decide.
+fn undecided(question: u32, given: u32) -> u32
+    ensures { result ≡ bit_and question (2 ^ 32 - 1 - bit_or given 0x100_0000) }
+{
+    question & !(given | ACCESS_SYSTEM_SECURITY)
+}
+
+// The rights that the maximum is made from.
+fn pool(ask: &Ask) -> u32
+    ensures { result ≡ mask_if_of ask.now.maximum ask.now.mapping.all }
+{
+    mask_if(ask.maximum(), ask.mapping().all())
+}

@@ -1,0 +1,153 @@
+// The whole program over a reader and two writers.
+ghost use Rattle.std.specs.Prelude.{◌≡◌, true, map, codes};
+ghost use Rattle.std.specs.String.{string_bytes};
+ghost use Rattle.clap.specs.Words.{takes};
+ghost use Rattle.sd_command.specs.CommandLine.{line};
+ghost use Rattle.sd_command.specs.Usage.{fault_line};
+ghost use Rattle.sd_command.specs.Endings as ends;
+ghost use Rattle.sd_command.specs.Inner.Preparing as steps;
+
+use crate::parse::{Refusal, parse_words};
+use crate::settings::{UsageFault, settle};
+use sd_run::{Drain, Engine, RunFault, Source, run, write_whole};
+use sd_token::Token;
+use std::alloc::Global;
+
+/// Reads the words, answers the input, and gives the exit status: 0; 1 where a line was answered by an
+/// `error` line; 2 where the words do not read; 3 after a fault of the run; 4 where there was no memory
+/// before the first read. What is wrong is said on the fault stream.
+pub fn command<R: Source, W: Drain, E: Drain>(
+    alloc: Global,
+    words: Vec<String>,
+    input: &mut R,
+    output: &mut W,
+    faults: &mut E,
+) -> u8
+    // Where the command line takes the words.
+    ensures taken { takes line (map string_bytes words.items) ≡ true → ends.EndsTaken (map string_bytes words.items)
+        (record { source = R.told input.old; output = W.told output.old; faults = E.told faults.old })
+        (record { source = R.told input.new; output = W.told output.new; faults = E.told faults.new }) result }
+    // On any words.
+    ensures kinds { ends.EndsBy (map string_bytes words.items)
+        (record { source = R.told input.old; output = W.told output.old; faults = E.told faults.old })
+        (record { source = R.told input.new; output = W.told output.new; faults = E.told faults.new }) result }
+    ensures idle { ends.IsIdleAt result
+        (record { source = R.told input.old; output = W.told output.old; faults = E.told faults.old })
+        (record { source = R.told input.new; output = W.told output.new; faults = E.told faults.new }) }
+    ensures memory { result ≡ 4 → ends.Says (fault_line (codes "no memory")) (E.told faults.old) (E.told faults.new) }
+{
+    match prepare(alloc, words.as_slice()) {
+        Ok(mut prepared) => answered(&mut prepared, input, output, faults),
+        Err(stop) => stopped(&stop, input, output, faults),
+    }
+}
+
+// All that a run takes.
+#[derive(Drop)]
+pub struct Prepared {
+    pub engine: Engine,
+    pub token: Token,
+}
+
+// Why nothing is read.
+#[derive(Drop)]
+pub enum Stop {
+    Refused(Refusal),
+    Value(UsageFault),
+}
+
+// All that takes memory.
+#[tactic(auto, unfolding(crate::specs::Settings::settings_of))]
+fn prepare(alloc: Global, words: &[String]) -> Result<Prepared, Stop>
+    ensures taken { takes line (map string_bytes words.now) ≡ true → steps.StopsTaken result }
+    ensures kinds { steps.PreparesBy (map string_bytes words.now) result }
+{
+    let matches = match parse_words(alloc, words) {
+        Ok(matches) => matches,
+        Err(refusal) => return Err(Stop::Refused(refusal)),
+    };
+    let mut token = match Token::new(alloc) {
+        Ok(token) => token,
+        Err(_) => return Err(Stop::Refused(Refusal::NoMemory)),
+    };
+    let job = match settle(&matches, &mut token) {
+        Ok(job) => job,
+        Err(fault) => return Err(Stop::Value(fault)),
+    };
+    match Engine::new(alloc, job) {
+        Ok(engine) => Ok(Prepared { engine, token }),
+        Err(_) => Err(Stop::Refused(Refusal::NoMemory)),
+    }
+}
+
+// A fault stream that fails changes nothing.
+fn say<E: Drain>(faults: &mut E, text: &str)
+    ensures { ends.Says text.now (E.told faults.old) (E.told faults.new) }
+{
+    let _ = write_whole(faults, text.as_bytes());
+}
+
+fn stopped<R: Source, W: Drain, E: Drain>(
+    stop: &Stop,
+    input: &mut R,
+    output: &mut W,
+    faults: &mut E,
+) -> u8
+    ensures { steps.StopsBy stop.now
+        (record { source = R.told input.old; output = W.told output.old; faults = E.told faults.old })
+        (record { source = R.told input.new; output = W.told output.new; faults = E.told faults.new }) result }
+{
+    match stop {
+        Stop::Refused(refusal) => match refusal {
+            Refusal::NoMemory => {
+                say(faults, "sdtool: no memory\n");
+                4
+            }
+            Refusal::Usage => {
+                say(faults, "sdtool: usage\n");
+                2
+            }
+            Refusal::Help(text) => {
+                let _ = write_whole(output, text.as_str().as_bytes());
+                let _ = output.flush();
+                0
+            }
+        },
+        Stop::Value(fault) => {
+            say(faults, fault.line());
+            2
+        }
+    }
+}
+
+fn answered<R: Source, W: Drain, E: Drain>(
+    prepared: &mut Prepared,
+    input: &mut R,
+    output: &mut W,
+    faults: &mut E,
+) -> u8
+    requires none_compared { prepared.old.token.compared ≡ 0 }
+    ensures { ends.EndsRun (steps.settled prepared.old)
+        (record { source = R.told input.old; output = W.told output.old; faults = E.told faults.old })
+        (record { source = R.told input.new; output = W.told output.new; faults = E.told faults.new }) result }
+{
+    match run(&mut prepared.engine, &mut prepared.token, input, output) {
+        Ok(report) if report.faults == 0 => 0,
+        Ok(_) => 1,
+        Err(fault) => {
+            say(faults, run_line(fault));
+            3
+        }
+    }
+}
+
+// What the fault stream gets after a fault of the run.
+fn run_line(fault: RunFault) -> &'static str
+    ensures { result.now ≡ ends.run_line fault }
+{
+    match fault {
+        RunFault::Read => "sdtool: error 60 read\n",
+        RunFault::Write => "sdtool: error 61 write\n",
+        RunFault::TooManyReads => "sdtool: error 62 too-many-reads\n",
+    }
+}

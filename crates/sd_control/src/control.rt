@@ -1,0 +1,235 @@
+// The control word of a descriptor (MS-DTYP 2.4.6).
+ghost use Rattle.std.specs.Prelude.{◌≡◌, ◌<◌, ◌+◌, ◌^◌, ℕ, false};
+ghost use Rattle.sd_text.specs.Bits.{bit_of, has_bit};
+ghost use Rattle.sd_control.specs.Control.{AreListedBits, acl_flags, all_flags, bit_if, flag_bits, no_flags, other_acl, control_of};
+
+/// One of the two ACLs of a descriptor (MS-DTYP 2.4.6).
+#[derive(Clone, Copy, Debug, PartialEq, Eq)]
+pub enum Which {
+    Sacl,
+    Dacl,
+}
+
+/// OD: the owner came from a default.
+pub const OWNER_DEFAULTED: u16 = 0x1;
+
+/// GD: the primary group came from a default.
+pub const GROUP_DEFAULTED: u16 = 0x2;
+
+/// DP: a DACL stands, which may be null.
+pub const DACL_PRESENT: u16 = 0x4;
+
+/// DD: the DACL came from a default.
+pub const DACL_DEFAULTED: u16 = 0x8;
+
+/// SP: a SACL stands, which may be null.
+pub const SACL_PRESENT: u16 = 0x10;
+
+/// SD: the SACL came from a default.
+pub const SACL_DEFAULTED: u16 = 0x20;
+
+/// DC: automatic inheritance is required of the DACL.
+pub const DACL_AUTO_INHERIT_REQUIRED: u16 = 0x100;
+
+/// SC: automatic inheritance is required of the SACL.
+pub const SACL_AUTO_INHERIT_REQUIRED: u16 = 0x200;
+
+/// DI: the DACL was made by automatic inheritance.
+pub const DACL_AUTO_INHERITED: u16 = 0x400;
+
+/// SI: the SACL was made by automatic inheritance.
+pub const SACL_AUTO_INHERITED: u16 = 0x800;
+
+/// PD: the DACL is protected from inheritance.
+pub const DACL_PROTECTED: u16 = 0x1000;
+
+/// PS: the SACL is protected from inheritance.
+pub const SACL_PROTECTED: u16 = 0x2000;
+
+/// RM: the resource manager byte counts.
+pub const RM_CONTROL_VALID: u16 = 0x4000;
+
+/// SR: the descriptor is self-relative.
+pub const SELF_RELATIVE: u16 = 0x8000;
+
+/// A bit of the control word, and its name of two letters.
+#[derive(Clone, Copy)]
+pub struct ControlBit {
+    pub first: u8,
+    pub second: u8,
+    pub bit: u16,
+}
+
+impl ControlBit {
+    /// Whether it is set in a control word.
+    pub fn is_set(&self, control: u16) -> bool
+        requires { 0 < self.now.bit }
+        ensures value { result ≡ has_bit self.now.bit control }
+        // The bits that have names are those of the standard, each with its letters.
+        ensures table { AreListedBits CONTROL_BITS }
+    {
+        has_bit(self.bit, control)
+    }
+}
+
+/// The bits of the control word that have names, in rising order. 0x40 and 0x80 are kept and have none.
+pub const CONTROL_BITS: [ControlBit; 14] = [
+    ControlBit {
+        first: b'O',
+        second: b'D',
+        bit: OWNER_DEFAULTED,
+    },
+    ControlBit {
+        first: b'G',
+        second: b'D',
+        bit: GROUP_DEFAULTED,
+    },
+    ControlBit {
+        first: b'D',
+        second: b'P',
+        bit: DACL_PRESENT,
+    },
+    ControlBit {
+        first: b'D',
+        second: b'D',
+        bit: DACL_DEFAULTED,
+    },
+    ControlBit {
+        first: b'S',
+        second: b'P',
+        bit: SACL_PRESENT,
+    },
+    ControlBit {
+        first: b'S',
+        second: b'D',
+        bit: SACL_DEFAULTED,
+    },
+    ControlBit {
+        first: b'D',
+        second: b'C',
+        bit: DACL_AUTO_INHERIT_REQUIRED,
+    },
+    ControlBit {
+        first: b'S',
+        second: b'C',
+        bit: SACL_AUTO_INHERIT_REQUIRED,
+    },
+    ControlBit {
+        first: b'D',
+        second: b'I',
+        bit: DACL_AUTO_INHERITED,
+    },
+    ControlBit {
+        first: b'S',
+        second: b'I',
+        bit: SACL_AUTO_INHERITED,
+    },
+    ControlBit {
+        first: b'P',
+        second: b'D',
+        bit: DACL_PROTECTED,
+    },
+    ControlBit {
+        first: b'P',
+        second: b'S',
+        bit: SACL_PROTECTED,
+    },
+    ControlBit {
+        first: b'R',
+        second: b'M',
+        bit: RM_CONTROL_VALID,
+    },
+    ControlBit {
+        first: b'S',
+        second: b'R',
+        bit: SELF_RELATIVE,
+    },
+];
+
+/// The flags of one of the two ACLs, which stand in the control word (MS-DTYP 2.4.6): P, AR and AI in SDDL.
+#[derive(Clone, Copy, Debug, PartialEq, Eq)]
+pub struct AclFlags {
+    pub protected: bool,
+    pub auto_inherit_required: bool,
+    pub auto_inherited: bool,
+}
+
+impl AclFlags {
+    /// The flags of an ACL in a control word.
+    pub fn of(which: Which, control: u16) -> AclFlags
+        ensures { result ≡ acl_flags which control }
+    {
+        match which {
+            Which::Sacl => AclFlags {
+                protected: has_bit(SACL_PROTECTED, control),
+                auto_inherit_required: has_bit(SACL_AUTO_INHERIT_REQUIRED, control),
+                auto_inherited: has_bit(SACL_AUTO_INHERITED, control),
+            },
+            Which::Dacl => AclFlags {
+                protected: has_bit(DACL_PROTECTED, control),
+                auto_inherit_required: has_bit(DACL_AUTO_INHERIT_REQUIRED, control),
+                auto_inherited: has_bit(DACL_AUTO_INHERITED, control),
+            },
+        }
+    }
+
+    /// The bits of the control word that the flags of an ACL are.
+    pub fn bits(self, which: Which) -> u16
+        ensures value { result ≡ flag_bits which self }
+        // Beside any other bits of a control word they are read back,
+        ensures back { (others : ℕ) → acl_flags which others ≡ no_flags → acl_flags which (others + flag_bits which self) ≡ self }
+        // the flags of the other ACL are as they were,
+        ensures apart { (others : ℕ) → acl_flags which others ≡ no_flags
+            → acl_flags (other_acl which) (others + flag_bits which self) ≡ acl_flags (other_acl which) others }
+        // and so is each bit that is no flag of this ACL.
+        ensures same { (others bit : ℕ) → acl_flags which others ≡ no_flags → has_bit (2 ^ bit) (flag_bits which all_flags) ≡ false
+            → has_bit (2 ^ bit) (others + flag_bits which self) ≡ has_bit (2 ^ bit) others }
+    {
+        match which {
+            Which::Sacl => {
+                bit_if(self.protected, SACL_PROTECTED)
+                    + bit_if(self.auto_inherit_required, SACL_AUTO_INHERIT_REQUIRED)
+                    + bit_if(self.auto_inherited, SACL_AUTO_INHERITED)
+            }
+            Which::Dacl => {
+                bit_if(self.protected, DACL_PROTECTED)
+                    + bit_if(self.auto_inherit_required, DACL_AUTO_INHERIT_REQUIRED)
+                    + bit_if(self.auto_inherited, DACL_AUTO_INHERITED)
+            }
+        }
+    }
+}
+
+#[inline(always)]
+pub fn has_bit(bit: u16, control: u16) -> bool
+    requires { 0 < bit }
+    ensures { result ≡ has_bit bit control }
+{
+    control / bit % 2 == 1
+}
+
+fn bit_if(stands: bool, bit: u16) -> u16
+    ensures { result ≡ bit_if stands bit }
+{
+    if stands { bit } else { 0 }
+}
+
+// A bit of a word, by its number.
+#[inline(always)]
+fn bit_of(bit: u16, word: u16) -> u16
+    requires { 0 < bit }
+    ensures { result ≡ bit_of bit word }
+{
+    word / bit % 2 * bit
+}
+
+/// The control word: the flags without SR, SP and DP, and then SR and the present bits of the ACLs that stand.
+pub fn control_of(flags: u16, sacl: bool, dacl: bool) -> u16
+    ensures { result ≡ control_of flags sacl dacl }
+{
+    let other = flags
+        - bit_of(SELF_RELATIVE, flags)
+        - bit_of(SACL_PRESENT, flags)
+        - bit_of(DACL_PRESENT, flags);
+    other + SELF_RELATIVE + bit_if(sacl, SACL_PRESENT) + bit_if(dacl, DACL_PRESENT)
+}

@@ -1,9 +1,0 @@
--- Laws of the definitions alone, which crates above may cite.
-pub mod AceSizes
-pub mod AliasLaws
-pub mod AliasNames
-pub mod GuidTexts
-pub mod Numbers
-pub mod ReadLimits
-pub mod SidLaws
-pub mod TextLaws

@@ -1,0 +1,4 @@
+pub mod FlagValues
+pub mod Flags
+pub mod KindValues
+pub mod Kinds

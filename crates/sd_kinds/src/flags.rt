@@ -1,0 +1,123 @@
+//! The flags of an ACE (MS-DTYP 2.4.4.1), and their names.
+
+ghost use Rattle.std.specs.Prelude.{◌≡◌, ◌≤◌, ◌/◌, ◌%◌, length, IfSome, IsTrue, Some};
+ghost use Rattle.sd_text.specs.Bits.{has_bit};
+ghost use Rattle.sd_kinds.specs.FlagValues.{FlagNames, FlagValues};
+ghost use Rattle.sd_kinds.specs.Flags.{flags_reads, flags_text, is_flag};
+ghost use Rattle.sd_text.specs.LimitValues.{LimitValues};
+ghost use Rattle.sd_sink.specs.Print.{Prints};
+ghost use Rattle.sd_sink.specs.Sink.{Puts};
+
+use sd_sink::{Print, Printer, Sink, SinkFault};
+use sd_text::{MOST_FIELD_SIZE, NamedBits, print_names, read_names};
+
+/// OBJECT_INHERIT_ACE: files inherit the ACE.
+pub const OBJECT_INHERIT: u8 = 0x1;
+
+/// CONTAINER_INHERIT_ACE: containers inherit the ACE.
+pub const CONTAINER_INHERIT: u8 = 0x2;
+
+/// NO_PROPAGATE_INHERIT_ACE: it goes no further than the object that inherits it.
+pub const NO_PROPAGATE: u8 = 0x4;
+
+/// INHERIT_ONLY_ACE: it does not count for the object itself.
+pub const INHERIT_ONLY: u8 = 0x8;
+
+/// INHERITED_ACE: the ACE was inherited.
+pub const INHERITED: u8 = 0x10;
+
+/// SUCCESSFUL_ACCESS_ACE_FLAG: access that is granted is audited.
+pub const SUCCESSFUL_ACCESS: u8 = 0x40;
+
+/// FAILED_ACCESS_ACE_FLAG: access that is denied is audited.
+pub const FAILED_ACCESS: u8 = 0x80;
+
+/// The flags with which an ACE goes on from a container.
+pub const ONWARD: u8 = OBJECT_INHERIT | CONTAINER_INHERIT;
+
+/// The flags of an ACE (MS-DTYP 2.4.4.1 and 2.5.1.1), in the order in which they are printed.
+pub const FLAGS: [NamedBits; 7] = [
+    NamedBits {
+        first: b'O',
+        second: b'I',
+        bits: OBJECT_INHERIT as u32,
+    },
+    NamedBits {
+        first: b'C',
+        second: b'I',
+        bits: CONTAINER_INHERIT as u32,
+    },
+    NamedBits {
+        first: b'N',
+        second: b'P',
+        bits: NO_PROPAGATE as u32,
+    },
+    NamedBits {
+        first: b'I',
+        second: b'O',
+        bits: INHERIT_ONLY as u32,
+    },
+    NamedBits {
+        first: b'I',
+        second: b'D',
+        bits: INHERITED as u32,
+    },
+    NamedBits {
+        first: b'S',
+        second: b'A',
+        bits: SUCCESSFUL_ACCESS as u32,
+    },
+    NamedBits {
+        first: b'F',
+        second: b'A',
+        bits: FAILED_ACCESS as u32,
+    },
+];
+
+/// Whether a flag is set among those of an ACE. It is one of `FLAGS`, and not several at once.
+#[inline(always)]
+pub fn has_flag(flags: u8, flag: u8) -> bool
+    requires { IsTrue (is_flag flag) }
+    ensures { result ≡ has_bit flag flags }
+{
+    flags & flag != 0
+}
+
+/// Puts the names of an ACE's flags, as `OICI` for 3. Bit 0x20 has no name.
+pub fn put_flags<S: Sink>(flags: u8, sink: &mut S) -> Result<(), SinkFault>
+    ensures put { Puts (S.told sink.old) (S.told sink.new) (flags_text flags) result }
+    // The text reads as the flags.
+    ensures back { flags / 0x20 % 2 ≡ 0 → flags_reads (flags_text flags) ≡ Some flags }
+    ensures short { length (flags_text flags) ≤ 14 }
+    // The names and the numbers are those of MS-DTYP.
+    ensures names { FlagNames }
+    ensures values { FlagValues }
+{
+    let mut out = Printer::new(sink);
+    print_flags(flags, &mut out);
+    out.finish()
+}
+
+/// Prints the names of an ACE's flags. Bit 0x20 has no name.
+pub fn print_flags<P: Print>(flags: u8, out: &mut P)
+    ensures { Prints (P.told out.old) (P.told out.new) (flags_text flags) }
+{
+    print_names(&FLAGS, u32::from(flags), out);
+}
+
+/// The flags of a text of at most 183 bytes (MS-DTYP 2.5.1.1): names of two letters, in either case and any
+/// order, also repeated, as `CIOI` for 3. None for any other text.
+#[tactic(auto, unfolding(crate::specs::Flags::flags_reads, sd_text::specs::LimitValues::LimitValues))]
+pub fn flags_from_text(text: &[u8]) -> Option<u8>
+    ensures exact { result ≡ flags_reads text.now }
+    // No name has bit 0x20, which no ACE has.
+    ensures clear { IfSome result (λ flags. flags / 0x20 % 2 ≡ 0) }
+    // The limits have the values that LimitValues writes out.
+    ensures limits { LimitValues }
+{
+    if text.len() > MOST_FIELD_SIZE {
+        return None;
+    }
+    let flags = read_names(&[&FLAGS], text)?;
+    Some(flags as u8)
+}

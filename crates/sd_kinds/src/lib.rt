@@ -1,0 +1,11 @@
+//! The kinds of ACEs and their flags (MS-DTYP 2.4.4.1), with their bytes and their names in SDDL.
+#![tactic(auto)]
+
+mod flags;
+mod kinds;
+
+pub use flags::{
+    CONTAINER_INHERIT, FAILED_ACCESS, INHERIT_ONLY, INHERITED, NO_PROPAGATE, OBJECT_INHERIT,
+    ONWARD, SUCCESSFUL_ACCESS, flags_from_text, has_flag, print_flags, put_flags,
+};
+pub use kinds::AceKind;

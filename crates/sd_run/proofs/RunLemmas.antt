@@ -1,0 +1,313 @@
+-- What each return of a run says.
+use Rattle.std.proofs.Common.{zero, suc, ◌≡◌, ℕ, ◌+◌, ◌<◌, ◌≤◌, List, [], ◌∷◌, ◌++◌, length, true, Option, None, Some, Result, Ok, Err, refl, sym, ◌∙◌, ap, arith, append-nil, append_assoc, inl, inr, ◌⊎◌}
+use Rattle.std.proofs.lemmas.List.Elements.{All-append, All-nil}
+use Rattle.std.specs.Io.KnownBytes.{Consumes, Appends, Keeps, IsAtEnd}
+use Rattle.std.proofs.KnownBytes.{Consumes-nil, Consumes-trans, Consumes-kept}
+use Rattle.sd_sink.specs.Counts.{counted}
+use Rattle.sd_token.specs.Token.{TokenShown}
+use Rattle.sd_sink.specs.Sink.{SinkTold, IsPrefix}
+use Rattle.sd_run.specs.Told.{SourceTold, DrainTold, sink_of, reads_after, ends_after, failed_reads_after}
+use Rattle.sd_run.specs.Lines.{AreBytes, ended, last_line, lines, cut_at_line_feeds}
+use Rattle.sd_run.specs.Answers.{answers}
+use Rattle.sd_run.specs.Inner.Running.{Holds, Answered, Failed, AfterBytes, BeforeRead}
+use Rattle.sd_run.specs.Outcome.{Finished, FaultSays, HandedOn, IsFront, most_of_a_read}
+use Rattle.sd_run.specs.declared.job.Job.{Job}
+use Rattle.sd_run.specs.declared.engine.RunState.{RunState}
+use Rattle.sd_run.specs.declared.engine.Report.{Report}
+use Rattle.sd_run.specs.declared.engine.RunFault.TheVariants.{Read, Write, TooManyReads}
+use Rattle.sd_run.proofs.AnswersLemmas.{answers-append}
+use Rattle.sd_run.proofs.AfterBytesLemmas.{AfterBytes-nil}
+
+Appends-kept : (a b c : Option (List ℕ)) (xs : List ℕ) → Appends a b xs → Keeps b c → Appends a c xs
+Appends-kept None b c xs p q = tt
+Appends-kept (Some x) None c xs p q = absurd p
+Appends-kept (Some x) (Some y) None xs p q = absurd q
+Appends-kept (Some x) (Some y) (Some z) xs p q = q ∙ p
+
+Consumes-none : (a b c : Option (List ℕ)) (xs : List ℕ) → Consumes a b xs → Consumes b c [] → Consumes a c xs
+Consumes-none a b c xs p q = rw append-nil at (Consumes-trans a b c xs [] p q)
+
+AreBytes-append : (xs ys : List ℕ) → AreBytes xs → AreBytes ys → AreBytes (xs ++ ys)
+AreBytes-append xs ys h more = All-append (λ b. b < 256) xs ys h more
+
+-- a flush after the last answer
+pub Answered-flush : (job : Job) (token0 token : TokenShown) (sink0 : SinkTold) (drain drain' : DrainTold)
+    (all : List (List ℕ)) (report : Report)
+    → Answered job token0 sink0 all token (sink_of drain) report → Keeps drain.taken drain'.taken
+    → drain'.failures ≡ drain.failures
+    → Answered job token0 sink0 all token (sink_of drain') report
+Answered-flush job token0 token sink0 drain drain' all report h keeps same = record {
+  put = record {
+    identity = h.put.identity;
+    appended = Appends-kept _ _ _ _ h.put.appended keeps;
+    no_failure = same
+        ∙ h.put.no_failure;
+    room = h.put.room;
+  };
+  lines_counted = h.lines_counted;
+  faults_counted = h.faults_counted;
+  same_entries = h.same_entries;
+  compared = h.compared;
+}
+
+-- the same in the middle of a run
+pub AfterBytes-flush : (token0 token : TokenShown) (sink0 : SinkTold) (drain drain' : DrainTold) (got : List ℕ)
+    (state : RunState) (report : Report)
+    → AfterBytes token0 sink0 got state token (sink_of drain) report → Keeps drain.taken drain'.taken
+    → drain'.failures ≡ drain.failures
+    → AfterBytes token0 sink0 got state token (sink_of drain') report
+AfterBytes-flush token0 token sink0 drain drain' got state report h keeps same = record {
+  holds = h.holds;
+  answered = Answered-flush _ token0 token sink0 drain drain' _ report h.answered keeps same;
+}
+
+none_ended : (xs : List (List ℕ)) → length xs ≡ 0 → xs ≡ []
+none_ended [] none = refl
+none_ended (x ∷ xs) none = absurd (omega arith)
+
+-- a piece more: no line ended in it and nothing was put, or the last call was a flush
+HandedOn-more : (got got' : List ℕ) (a b c : DrainTold) (lines lines' : ℕ) → HandedOn got a b
+    → lines ≡ length (ended got) → lines' ≡ length (ended got')
+    → ((c ≡ b) × (lines' ≡ lines)) ⊎ (c.flushed ≡ true) → HandedOn got' a c
+HandedOn-more got got' a b c lines lines' p counted counted' (inr flushed) = inr flushed
+HandedOn-more got got' a b c lines lines' (inl quiet) counted counted' (inl (still, same)) =
+    let before = ap length quiet.0 in inl (none_ended (ended got') (omega arith), still ∙ quiet.1)
+HandedOn-more got got' a b c lines lines' (inr flushed) counted counted' (inl (still, same)) =
+    inr (ap (λ (d : DrainTold). d.flushed) still ∙ flushed)
+
+-- a flush that fails
+pub Failed-flush : (job : Job) (token0 token : TokenShown) (sink0 : SinkTold) (drain drain' : DrainTold)
+    (before all : List (List ℕ)) (report : Report)
+    → Answered job token0 sink0 all token (sink_of drain) report → Keeps drain.taken drain'.taken
+    → drain'.failures ≡ counted drain.failures → IsFront before all
+    → Failed job token0 sink0 before all token (sink_of drain')
+Failed-flush job token0 token sink0 drain drain' before all report h keeps failed front = record {
+  whole = all;
+  broken = [];
+  more = [];
+  part = [];
+  split = sym (append-nil (all ++ []) ∙ append-nil all);
+  begins = front;
+  one = omega arith;
+  is_prefix = (answers job token0.entries [], refl);
+  appended = rw append-nil (Appends-kept _ _ _ _ h.put.appended keeps);
+  failed = let same = h.put.no_failure in omega arith;
+  same_entries = h.same_entries;
+  compared = rw append-nil h.compared;
+}
+
+-- the lines that an LF ended come first
+pub lines-front : (got : List ℕ) → IsFront (ended got) (lines got)
+unfolding lines
+lines-front got = (last_line (cut_at_line_feeds got).rest, refl)
+
+ended-nil : ended [] ≡ []
+unfolding ended cut_at_line_feeds
+ended-nil = refl
+
+-- before the first read
+pub BeforeRead-start :
+    (token0 : TokenShown) (source0 : SourceTold) (drain0 : DrainTold) (state : RunState) (report : Report)
+    → Holds state.job state.line [] → report.lines ≡ 0 → report.faults ≡ 0
+    → BeforeRead 0 token0 source0 drain0 state token0 source0 drain0 report
+BeforeRead-start token0 source0 drain0 state report h no_lines no_faults = record {
+  got = [];
+  read = Consumes-nil source0.left;
+  bytes = All-nil _;
+  after = AfterBytes-nil token0 (sink_of drain0) state report h no_lines no_faults;
+  handed_on = inl (ended-nil, refl);
+  reads = record { at_least = omega arith; at_most = omega arith };
+  ends = refl;
+  failures = refl;
+}
+
+-- the answers to some lines, and a part of the answer to one more, are a prefix of the answers to all
+written-prefix : (job : Job) (token0 token : TokenShown) (sink0 sink : SinkTold) (before all : List (List ℕ))
+    (h : Failed job token0 sink0 before all token sink)
+    → IsPrefix (answers job token0.entries h.whole ++ h.part) (answers job token0.entries all)
+written-prefix job token0 token sink0 sink before all h =
+    let a = answers job token0.entries in (
+      h.is_prefix.0 ++ a h.more,
+      ap a h.split ∙ answers-append job token0.entries (h.whole ++ h.broken) h.more
+          ∙ ap (λ (t : List ℕ). t ++ a h.more)
+          (answers-append job token0.entries h.whole h.broken ∙ ap (λ (t : List ℕ). a h.whole ++ t) h.is_prefix.1)
+          ∙ simp append_assoc,
+    )
+
+module _ (most turn : ℕ) (token0 token : TokenShown) (source0 source source' : SourceTold) (drain0 drain : DrainTold)
+    (state : RunState) (report : Report)
+    (r : BeforeRead turn token0 source0 drain0 state token source drain report) (low : turn < most) where
+  -- a piece was read and its lines are answered
+  pub BeforeRead-more :
+      (piece : List ℕ) (token' : TokenShown) (drain' : DrainTold) (state' : RunState) (report' : Report)
+      → AreBytes piece → Consumes source.left source'.left piece → source'.reads ≡ counted source.reads → source'.ends ≡ source.ends
+      → source'.failures ≡ source.failures
+      → AfterBytes token0 (sink_of drain0) (r.got ++ piece) state' token' (sink_of drain') report'
+      → ((drain' ≡ drain) × (report'.lines ≡ report.lines)) ⊎ (drain'.flushed ≡ true)
+      → BeforeRead (turn + 1) token0 source0 drain0 state' token' source' drain' report'
+  BeforeRead-more piece token' drain' state' report' bytes consumed reads ends failures after handed = record {
+    got = r.got ++ piece;
+    read = Consumes-trans _ _ _ _ _ r.read consumed;
+    bytes = AreBytes-append r.got piece r.bytes bytes;
+    after = after;
+    handed_on = HandedOn-more r.got (r.got ++ piece) drain0 drain drain' _ _ r.handed_on r.after.answered.lines_counted
+        after.answered.lines_counted handed;
+    reads = record {
+      at_least = let before = r.reads.at_least in omega arith;
+      at_most = let before = r.reads.at_most in omega arith;
+    };
+    ends = ends ∙ r.ends;
+    failures = failures ∙ r.failures;
+  }
+
+  -- a read failed
+  pub broken-read : Keeps source.left source'.left → source'.reads ≡ counted source.reads → source'.ends ≡ source.ends
+      → source'.failures ≡ counted source.failures
+      → FaultSays most state.job token0 token source0 source' drain0 drain Read
+  broken-read keeps reads ends failed = (
+    record {
+      got = r.got;
+      read = Consumes-kept _ _ _ _ r.read keeps;
+      bytes = r.bytes;
+      reads = let before = r.reads.at_most in omega arith;
+      no_end = ends ∙ r.ends;
+      written = r.after.answered.put.appended;
+      handed_on = r.handed_on;
+      no_failed_write = r.after.answered.put.no_failure;
+      compared = r.after.answered.compared;
+    },
+    failed ∙ ap counted r.failures,
+  )
+
+  -- the end was read
+  pub finished : (token' : TokenShown) (drain' : DrainTold) (report' : Report)
+      → Consumes source.left source'.left [] → IsAtEnd source'.left
+      → source'.reads ≡ counted source.reads → source'.ends ≡ counted source.ends → source'.failures ≡ source.failures
+      → Answered state.job token0 (sink_of drain0) (lines r.got) token' (sink_of drain') report' → drain'.flushed ≡ true
+      → Finished most state.job token0 token' source0 source' drain0 drain' report'
+  finished token' drain' report' consumed none reads ends failures answered flushed = record {
+    got = r.got;
+    read = Consumes-none _ _ _ _ r.read consumed;
+    bytes = r.bytes;
+    reads = let before = r.reads.at_most in omega arith;
+    end = ends ∙ ap counted r.ends;
+    at_end = none;
+    no_failed_read = failures ∙ r.failures;
+    written = answered.put.appended;
+    no_failed_write = answered.put.no_failure;
+    flushed = flushed;
+    lines_counted = answered.lines_counted;
+    faults_counted = answered.faults_counted;
+    compared = answered.compared;
+  }
+
+  -- a write or the flush failed after the end was read
+  pub broken-close : (token' : TokenShown) (drain' : DrainTold)
+      → Consumes source.left source'.left []
+      → source'.reads ≡ counted source.reads → source'.ends ≡ counted source.ends → source'.failures ≡ source.failures
+      → Failed state.job token0 (sink_of drain0) (ended r.got) (lines r.got) token' (sink_of drain')
+      → FaultSays most state.job token0 token' source0 source' drain0 drain' Write
+  broken-close token' drain' consumed reads ends failures failed = record {
+    got = r.got;
+    read = Consumes-none _ _ _ _ r.read consumed;
+    bytes = r.bytes;
+    reads = let before = r.reads.at_most in omega arith;
+    no_failed_read = failures ∙ r.failures;
+    all = lines r.got;
+    these = inl (ends ∙ ap counted r.ends, refl);
+    written = answers state.job token0.entries failed.whole ++ failed.part;
+    wrote = failed.appended;
+    is_prefix = written-prefix _ _ _ _ _ _ _ failed;
+    failed = failed.failed;
+    whole = failed.whole;
+    broken = failed.broken;
+    more = failed.more;
+    split = failed.split;
+    one = failed.one;
+    part = failed.part;
+    is_part = failed.is_prefix;
+    joined = refl;
+    compared = failed.compared;
+    front = r.got;
+    last_read = [];
+    cut = sym (append-nil r.got);
+    one_read = omega arith;
+    went_out = failed.begins;
+  }
+
+  -- a write failed before
+  pub broken-write : (piece : List ℕ) (token' : TokenShown) (drain' : DrainTold)
+      → AreBytes piece → length piece ≤ most_of_a_read → Consumes source.left source'.left piece
+      → source'.reads ≡ counted source.reads → source'.ends ≡ source.ends → source'.failures ≡ source.failures
+      → Failed state.job token0 (sink_of drain0) (ended r.got) (ended (r.got ++ piece)) token' (sink_of drain')
+      → FaultSays most state.job token0 token' source0 source' drain0 drain' Write
+  broken-write piece token' drain' bytes size consumed reads ends failures failed = record {
+    got = r.got ++ piece;
+    read = Consumes-trans _ _ _ _ _ r.read consumed;
+    bytes = AreBytes-append r.got piece r.bytes bytes;
+    reads = let before = r.reads.at_most in omega arith;
+    no_failed_read = failures ∙ r.failures;
+    all = ended (r.got ++ piece);
+    these = inr (ends ∙ r.ends, refl);
+    written = answers state.job token0.entries failed.whole ++ failed.part;
+    wrote = failed.appended;
+    is_prefix = written-prefix _ _ _ _ _ _ _ failed;
+    failed = failed.failed;
+    whole = failed.whole;
+    broken = failed.broken;
+    more = failed.more;
+    split = failed.split;
+    one = failed.one;
+    part = failed.part;
+    is_part = failed.is_prefix;
+    joined = refl;
+    compared = failed.compared;
+    front = r.got;
+    last_read = piece;
+    cut = refl;
+    one_read = size;
+    went_out = failed.begins;
+  }
+
+-- the reads are used up
+pub broken-most : (most : ℕ) (token0 token : TokenShown) (source0 source : SourceTold) (drain0 drain : DrainTold)
+    (state : RunState) (report : Report)
+    → BeforeRead most token0 source0 drain0 state token source drain report
+    → FaultSays most state.job token0 token source0 source drain0 drain TooManyReads
+broken-most most token0 token source0 source drain0 drain state report r = (
+  record {
+    got = r.got;
+    read = r.read;
+    bytes = r.bytes;
+    reads = r.reads.at_most;
+    no_end = r.ends;
+    written = r.after.answered.put.appended;
+    handed_on = r.handed_on;
+    no_failed_write = r.after.answered.put.no_failure;
+    compared = r.after.answered.compared;
+  },
+  r.reads,
+  r.failures,
+)
+
+-- what a read into a buffer with room says of the counts: one that answered 0, or more, or that failed
+pub reads-some : (buf : List ℕ) (reads : ℕ) → 0 < length buf → reads_after buf reads ≡ counted reads
+reads-some [] reads room = absurd (omega arith)
+reads-some (b ∷ buf) reads room = refl
+
+pub ends-zero : {E : Type 0} (r : Result ℕ E) (buf : List ℕ) (n ends : ℕ) → r ≡ Ok n → n ≡ 0 → 0 < length buf
+    → ends_after r buf ends ≡ counted ends
+ends-zero {E} r [] n ends e z room = absurd (omega arith)
+ends-zero {E} r (b ∷ buf) n ends e z room = rw (e, z)
+
+pub ends-some : {E : Type 0} (r : Result ℕ E) (buf : List ℕ) (n ends : ℕ) → r ≡ Ok n → (n ≡ 0 → ⊥)
+    → ends_after r buf ends ≡ ends
+ends-some {E} r buf zero ends e z = absurd (z refl)
+ends-some {E} r buf (suc n) ends e z = rw e
+
+pub ends-failed : {E : Type 0} (r : Result ℕ E) (buf : List ℕ) (e : E) (ends : ℕ) → r ≡ Err e
+    → ends_after r buf ends ≡ ends
+ends-failed {E} r buf e ends is = rw is
+
+pub failures-ok : {E : Type 0} (r : Result ℕ E) (n failures : ℕ) → r ≡ Ok n → failed_reads_after r failures ≡ failures
+failures-ok {E} r n failures e = rw e

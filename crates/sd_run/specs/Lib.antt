@@ -1,0 +1,7 @@
+pub mod Answers
+pub mod Faults
+pub mod Inner
+pub mod Lines
+pub mod Outcome
+pub mod Splits
+pub mod Told

@@ -1,0 +1,255 @@
+// The answer to one line.
+ghost use Rattle.std.specs.Prelude.{◌≡◌, ℕ, List, ◌++◌, [], ◌∷◌, true, is_some, Ok, Err};
+ghost use Rattle.sd_run.specs.Lines.{line_feed};
+ghost use Rattle.sd_sink.specs.Print.{Prints};
+ghost use Rattle.sd_run.specs.Answers.{act_bound, act_fault, act_text, answer, as_line_fault, bound, form_text, is_error, naming_of, unless_fault, verdict_text};
+ghost use Rattle.sd_explain.specs.Explain.{explain};
+ghost use Rattle.sd_run.specs.Faults.{fault_text};
+ghost use Rattle.sd_run.specs.Outcome.{Compares};
+ghost use Rattle.sd_run.specs.Inner.Running.{HoldsText, IsReady, PrintsAnswer, PutsAnswer};
+ghost use Rattle.sd_run.specs.Told.{sink_of};
+ghost use Rattle.sd_inherit.specs.Derived.{derive_fault, derived};
+ghost use Rattle.sd_view.specs.Descriptor.{Descriptor, Shows};
+ghost use Rattle.sd_view.specs.Layout.{layout};
+
+use crate::base64_text::print_base64;
+use crate::device::Drain;
+use crate::engine::Stores;
+use crate::fault::{LineFault, print_fault};
+use crate::hex_text::{GATHERED, print_hex};
+use crate::job::{Act, Form, Job};
+use crate::line::Line;
+use crate::sink::DrainSink;
+use sd_buffer::SdBuf;
+use sd_builder::write_layout;
+use sd_check::{Verdict, check};
+use sd_explain::print_explain;
+use sd_inherit::{Plan, derive};
+use sd_sddl_printer::print_sddl;
+use sd_sid::Sid;
+use sd_sink::{Gather, Print, Sink, SinkFault};
+use sd_text::print_hex as print_hex_digits;
+use sd_token::Token;
+use sd_view::{SdView, read};
+
+/// Puts the answer to the line in hand and its LF, and says whether it is an `error` line.
+pub fn put_answer<W: Drain>(
+    job: &Job,
+    line: &mut Line,
+    stores: &mut Stores,
+    token: &mut Token,
+    drain: &mut W,
+) -> Result<bool, SinkFault>
+    requires { IsReady line.old }
+    ensures put { (text : List ℕ) → HoldsText job.now line.old text
+        → PutsAnswer (sink_of (W.told drain.old)) (sink_of (W.told drain.new))
+        (answer job.now token.old.entries text) (is_error job.now text) result }
+    ensures entries { token.new.entries ≡ token.old.entries }
+    ensures compared { (text : List ℕ) → HoldsText job.now line.old text
+        → Compares token.old token.new (bound job.now token.old.entries text) }
+{
+    let mut sink = DrainSink { drain };
+    put_gathered(job, line, stores, token, &mut sink)
+}
+
+// The small texts of an answer are gathered.
+fn put_gathered<S: Sink>(
+    job: &Job,
+    line: &mut Line,
+    stores: &mut Stores,
+    token: &mut Token,
+    sink: &mut S,
+) -> Result<bool, SinkFault>
+    requires { IsReady line.old }
+    ensures put { (text : List ℕ) → HoldsText job.now line.old text
+        → PutsAnswer (S.told sink.old) (S.told sink.new)
+        (answer job.now token.old.entries text) (is_error job.now text) result }
+    ensures entries { token.new.entries ≡ token.old.entries }
+    ensures compared { (text : List ℕ) → HoldsText job.now line.old text
+        → Compares token.old token.new (bound job.now token.old.entries text) }
+{
+    let mut out = Gather::new(sink);
+    let faulty = print_answer(job, line, stores, token, &mut out);
+    match out.finish() {
+        Ok(()) => Ok(faulty),
+        Err(sink_fault) => Err(sink_fault),
+    }
+}
+
+// Of a line over its limit nothing but that is known.
+fn print_answer<P: Print>(
+    job: &Job,
+    line: &mut Line,
+    stores: &mut Stores,
+    token: &mut Token,
+    out: &mut P,
+) -> bool
+    requires { IsReady line.old }
+    ensures printed { (text : List ℕ) → HoldsText job.now line.old text
+        → PrintsAnswer (P.told out.old) (P.told out.new)
+        (answer job.now token.old.entries text) (is_error job.now text) result }
+    ensures entries { token.new.entries ≡ token.old.entries }
+    ensures compared { (text : List ℕ) → HoldsText job.now line.old text
+        → Compares token.old token.new (bound job.now token.old.entries text) }
+{
+    if line.is_too_long() {
+        return print_error(&LineFault::TooLong, out);
+    }
+    if line.is_empty() {
+        return print_end(false, out);
+    }
+    match line.end() {
+        Ok(view) => print_act(
+            job,
+            &view,
+            &mut stores.written,
+            &mut stores.spelled,
+            token,
+            out,
+        ),
+        Err(fault) => print_error(&fault, out),
+    }
+}
+
+// Prints an `error` line.
+fn print_error<P: Print>(fault: &LineFault, out: &mut P) -> bool
+    ensures { PrintsAnswer (P.told out.old) (P.told out.new) (fault_text fault.now ++ line_feed ∷ []) true result }
+{
+    print_fault(fault, out);
+    print_end(true, out)
+}
+
+// Prints what is answered to a descriptor.
+fn print_act<P: Print>(
+    job: &Job,
+    view: &SdView<'_>,
+    written: &mut SdBuf,
+    spelled: &mut [u8; GATHERED],
+    token: &mut Token,
+    out: &mut P,
+) -> bool
+    ensures printed { PrintsAnswer (P.told out.old) (P.told out.new)
+        (act_text job.now job.now.act token.old.entries view.now) (is_some (act_fault job.now.act view.now)) result }
+    ensures entries { token.new.entries ≡ token.old.entries }
+    ensures compared { Compares token.old token.new (act_bound job.now.act token.old.entries view.now) }
+{
+    match job.act {
+        Act::Convert(form) => {
+            print_form(job, form, view, written, spelled, out);
+            print_end(false, out)
+        }
+        Act::Explain => {
+            print_explanation(job, view, out);
+            false
+        }
+        Act::Check(ask) => {
+            print_verdict(check(view, token, &ask), out);
+            print_end(false, out)
+        }
+        Act::Derive(plan, form) => print_derived(job, view, &plan, form, written, spelled, out),
+    }
+}
+
+// Prints a descriptor in a form.
+#[tactic(auto, unfolding(crate::specs::Answers::form_text))]
+fn print_form<P: Print>(
+    job: &Job,
+    form: Form,
+    view: &SdView<'_>,
+    written: &mut SdBuf,
+    spelled: &mut [u8; GATHERED],
+    out: &mut P,
+)
+    ensures { Prints (P.told out.old) (P.told out.new) (form_text job.now form view.now) }
+{
+    match form {
+        Form::Hex => {
+            write_layout(view, written);
+            print_hex(written.bytes(), spelled, out);
+        }
+        Form::Base64 => {
+            write_layout(view, written);
+            print_base64(written.bytes(), spelled, out);
+        }
+        Form::Sddl => print_sddl(view, job.domain.as_ref(), job.numeric, out),
+    }
+}
+
+// Prints the descriptor of a new object in a form, or why there is none.
+fn print_derived<P: Print>(
+    job: &Job,
+    parent: &SdView<'_>,
+    plan: &Plan,
+    form: Form,
+    written: &mut SdBuf,
+    spelled: &mut [u8; GATHERED],
+    out: &mut P,
+) -> bool
+    ensures { PrintsAnswer (P.told out.old) (P.told out.new)
+        (unless_fault (as_line_fault (derive_fault parent.now plan.now)) (form_text job.now form (derived parent.now plan.now) ++ 10 ∷ []))
+        (is_some (as_line_fault (derive_fault parent.now plan.now))) result }
+{
+    match derive(parent, plan, written) {
+        Ok(()) => {
+            print_written(job, form, written, spelled, out);
+            print_end(false, out)
+        }
+        Err(fault) => print_error(&LineFault::Derive(fault), out),
+    }
+}
+
+// Prints the descriptor that is written in the buffer. As hex and base64 its bytes are spelled
+// where they are.
+#[tactic(auto, unfolding(crate::specs::Answers::form_text))]
+fn print_written<P: Print>(
+    job: &Job,
+    form: Form,
+    written: &SdBuf,
+    spelled: &mut [u8; GATHERED],
+    out: &mut P,
+)
+    ensures { (d : Descriptor) → Shows written.now d → written.now ≡ layout d
+        → Prints (P.told out.old) (P.told out.new) (form_text job.now form d) }
+{
+    match form {
+        Form::Hex => print_hex(written.bytes(), spelled, out),
+        Form::Base64 => print_base64(written.bytes(), spelled, out),
+        Form::Sddl => {
+            // Its bytes show a descriptor, so they are read.
+            if let Ok(view) = read(written.bytes()) {
+                print_sddl(&view, job.domain.as_ref(), job.numeric, out);
+            }
+        }
+    }
+}
+
+// Prints what a descriptor has, on lines that each have an LF already.
+fn print_explanation<P: Print>(job: &Job, view: &SdView<'_>, out: &mut P)
+    ensures { Prints (P.told out.old) (P.told out.new) (explain (naming_of job.now) view.now) }
+{
+    print_explain(view, job.domain.as_ref(), job.numeric, out);
+}
+
+// Prints a verdict: its word, and its mask in eight hex digits.
+fn print_verdict<P: Print>(verdict: Verdict, out: &mut P)
+    ensures { Prints (P.told out.old) (P.told out.new) (verdict_text verdict) }
+{
+    match verdict {
+        Verdict::Granted(mask) => {
+            out.put(b"granted 0x");
+            print_hex_digits(8, u64::from(mask), out);
+        }
+        Verdict::Denied(mask) => {
+            out.put(b"denied 0x");
+            print_hex_digits(8, u64::from(mask), out);
+        }
+    }
+}
+
+// Ends a line.
+fn print_end<P: Print>(faulty: bool, out: &mut P) -> bool
+    ensures { PrintsAnswer (P.told out.old) (P.told out.new) (line_feed ∷ []) faulty result }
+{
+    out.put(b"\n");
+    faulty
+}

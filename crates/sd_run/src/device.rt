@@ -1,0 +1,45 @@
+// What a run reads from and writes to.
+ghost use Rattle.std.specs.Prelude.{◌≡◌, ◌≤◌, length, take, false, MatchResult};
+ghost use Rattle.std.specs.Io.KnownBytes.{ReadConsumes, Keeps, Appends};
+ghost use Rattle.sd_run.specs.Told.{SourceTold, DrainTold, reads_after, ends_after, failed_reads_after, failed_writes_after, failed_flushes_after, is_flush};
+
+/// A call of a device failed.
+#[derive(Clone, Copy, Debug, PartialEq, Eq)]
+pub struct DeviceFault;
+
+/// What a run reads from.
+pub trait Source {
+    /// The bytes that it has still to give, and its counts of calls.
+    ghost told: { Self → SourceTold };
+
+    /// `Ok(n)` gives the first n bytes of the buffer, and `Err` gives none. 0 is the end of the input
+    /// where the buffer has room; a call with an empty buffer is no read.
+    fn read(&mut self, buf: &mut [u8]) -> Result<usize, DeviceFault>
+        ensures within { MatchResult result (λ n. n ≤ length buf.new) (λ _. Unit {0}) }
+        ensures bytes { ReadConsumes (told self.old).left (told self.new).left result buf.new }
+        ensures reads { (told self.new).reads ≡ reads_after buf.new (told self.old).reads }
+        ensures ends { (told self.new).ends ≡ ends_after result buf.new (told self.old).ends }
+        ensures failures { (told self.new).failures ≡ failed_reads_after result (told self.old).failures };
+}
+
+/// What a run writes to.
+pub trait Drain {
+    /// The bytes that it took, its count of failed calls, and whether the last call was a flush that
+    /// succeeded.
+    ghost told: { Self → DrainTold };
+
+    /// `Ok(n)` takes the first n bytes, and `Err` takes none.
+    fn write(&mut self, bytes: &[u8]) -> Result<usize, DeviceFault>
+        ensures within { MatchResult result (λ n. n ≤ length bytes.now) (λ _. Unit {0}) }
+        ensures bytes { MatchResult result
+            (λ n. Appends (told self.old).taken (told self.new).taken (take n bytes.now))
+            (λ _. Keeps (told self.old).taken (told self.new).taken) }
+        ensures failures { (told self.new).failures ≡ failed_writes_after result bytes.now (told self.old).failures }
+        ensures flushed { (told self.new).flushed ≡ false };
+
+    /// Hands on what was taken.
+    fn flush(&mut self) -> Result<(), DeviceFault>
+        ensures bytes { Keeps (told self.old).taken (told self.new).taken }
+        ensures failures { (told self.new).failures ≡ failed_flushes_after result (told self.old).failures }
+        ensures flushed { (told self.new).flushed ≡ is_flush result };
+}

@@ -1,0 +1,130 @@
+// The bytes go one after another into the line in hand, and each LF answers it.
+ghost use Rattle.std.specs.Prelude.{◌≡◌, ◌+◌, ◌<◌, ℕ, List, ◌++◌, [], ◌∷◌, length, ◌≢◌, slice_index, MatchResult, IfOk, IsOk, Ok, false, unwrap_or, IfSome};
+ghost use Rattle.sd_sink.specs.Sink.{SinkTold};
+ghost use Rattle.sd_token.specs.Token.{TokenShown};
+ghost use Rattle.sd_run.specs.Lines.{ended, has_lf, lines, line_feed};
+ghost use Rattle.sd_run.specs.Inner.Running.{Answered, Failed, Feeds, HasRoom, Holds, HoldsText, IsReady, RoseWithin, AfterBytes};
+ghost use Rattle.sd_run.specs.Told.{sink_of};
+
+use crate::answer::put_answer;
+use crate::device::Drain;
+use crate::engine::{Report, RunState};
+use sd_sink::SinkFault;
+use sd_token::Token;
+
+/// The bytes that are searched for an LF at once.
+const BLOCK: usize = 32;
+
+// Answers the line in hand, counts it, and begins the next.
+fn answer_line<W: Drain>(
+    state: &mut RunState,
+    token: &mut Token,
+    drain: &mut W,
+    report: &mut Report,
+) -> Result<(), SinkFault>
+    requires ready { IsReady state.old.line }
+    requires room { HasRoom report.old 1 }
+    ensures answered { (token0 : TokenShown) (sink0 : SinkTold) (all : List (List ℕ)) (line : List ℕ)
+        → HoldsText state.old.job state.old.line line
+        → Answered state.old.job token0 sink0 all token.old (sink_of (W.told drain.old)) report.old
+        → MatchResult result
+        (λ _. Answered state.old.job token0 sink0 (all ++ line ∷ []) token.new (sink_of (W.told drain.new)) report.new)
+        (λ _. Failed state.old.job token0 sink0 all (all ++ line ∷ []) token.new (sink_of (W.told drain.new))) }
+    ensures begun { IsOk result → Holds state.old.job state.new.line [] }
+    ensures ready { IsOk result → IsReady state.new.line }
+    ensures job { state.new.job ≡ state.old.job }
+    ensures rose { RoseWithin 1 report.old report.new }
+{
+    let faulty = put_answer(&state.job, &mut state.line, &mut state.stores, token, drain)?;
+    state.line.start(&state.job);
+    report.lines += 1;
+    if faulty {
+        report.faults += 1;
+    }
+    Ok(())
+}
+
+/// A piece more, however the input is cut. The result says whether a line ended in it; where none did, nothing was put.
+pub fn feed_all<W: Drain>(
+    state: &mut RunState,
+    piece: &[u8],
+    token: &mut Token,
+    drain: &mut W,
+    report: &mut Report,
+) -> Result<bool, SinkFault>
+    requires ready { IsReady state.old.line }
+    requires room { HasRoom report.old (length piece.now) }
+    ensures fed { Feeds piece.now state.old token.old (sink_of (W.told drain.old)) report.old
+        state.new token.new (sink_of (W.told drain.new)) report.new result }
+    ensures ended { IfOk result (λ some. some ≡ has_lf piece.now) }
+    ensures quiet { result ≡ Ok false → W.told drain.new ≡ W.told drain.old }
+    ensures none_counted { result ≡ Ok false → report.new.lines ≡ report.old.lines }
+    ensures ready { IsOk result → IsReady state.new.line }
+    ensures job { state.new.job ≡ state.old.job }
+    ensures rose { RoseWithin (length piece.now) report.old report.new }
+{
+    let mut start = 0;
+    while let Some(n) = line_end(&piece[start..]) {
+        state.line.take(&piece[start..start + n]);
+        answer_line(state, token, drain, report)?;
+        start += n + 1;
+    }
+    state.line.take(&piece[start..]);
+    Ok(start > 0)
+}
+
+// The place of the first LF. Whole blocks without one are passed over, each in a few instructions.
+fn line_end(bytes: &[u8]) -> Option<usize>
+    ensures found { IfSome result (λ n. (n < length bytes.now) × (slice_index bytes.now n ≡ line_feed)) }
+    ensures before { (k : ℕ) → k < unwrap_or result (length bytes.now) → slice_index bytes.now k ≢ line_feed }
+{
+    let mut start = 0;
+    while bytes.len() - start >= BLOCK && !has_lf(&bytes[start..start + BLOCK]) {
+        start += BLOCK;
+    }
+    match first_lf(&bytes[start..]) {
+        Some(n) => Some(start + n),
+        None => None,
+    }
+}
+
+fn first_lf(bytes: &[u8]) -> Option<usize>
+    ensures found { IfSome result (λ n. (n < length bytes.now) × (slice_index bytes.now n ≡ line_feed)) }
+    ensures before { (k : ℕ) → k < unwrap_or result (length bytes.now) → slice_index bytes.now k ≢ line_feed }
+{
+    bytes.iter().position(|b| *b == b'\n')
+}
+
+// Whether an LF is among the bytes. It looks at all of them, and so at several at a time.
+fn has_lf(bytes: &[u8]) -> bool
+    ensures { result ≡ false → (k : ℕ) → k < length bytes.now → slice_index bytes.now k ≢ line_feed }
+{
+    let mut found = false;
+    for b in bytes {
+        found |= *b == b'\n';
+    }
+    found
+}
+
+/// The end of the input: what follows the last LF is a line where it is not empty.
+pub fn finish<W: Drain>(
+    state: &mut RunState,
+    token: &mut Token,
+    drain: &mut W,
+    report: &mut Report,
+) -> Result<(), SinkFault>
+    requires ready { IsReady state.old.line }
+    requires room { HasRoom report.old 1 }
+    ensures finished { (token0 : TokenShown) (sink0 : SinkTold) (got : List ℕ)
+        → AfterBytes token0 sink0 got state.old token.old (sink_of (W.told drain.old)) report.old
+        → MatchResult result
+        (λ _. Answered state.new.job token0 sink0 (lines got) token.new (sink_of (W.told drain.new)) report.new)
+        (λ _. Failed state.new.job token0 sink0 (ended got) (lines got) token.new (sink_of (W.told drain.new))) }
+    ensures job { state.new.job ≡ state.old.job }
+{
+    if state.line.is_untouched() {
+        return Ok(());
+    }
+    state.line.settle();
+    answer_line(state, token, drain, report)
+}

@@ -1,0 +1,173 @@
+// A run from the first read to the last flush.
+ghost use Rattle.std.specs.Prelude.{◌≡◌, ◌⊎◌, ◌<◌, ◌≤◌, ◌^◌, ℕ, List, length, true, IsOk, MatchResult};
+ghost use Rattle.sd_token.specs.Token.{TokenShown};
+ghost use Rattle.sd_sink.specs.Sink.{SinkTold};
+ghost use Rattle.sd_run.specs.Told.{sink_of};
+ghost use Rattle.sd_run.specs.Answers.{AnswersAreShort};
+ghost use Rattle.sd_run.specs.Lines.{AreBytes, LinesAreCut, ended, lines};
+ghost use Rattle.sd_run.specs.Splits.{AnswersSplit};
+ghost use Rattle.sd_run.specs.Inner.Running.{Answered, Failed, Feeds, HasRoom, IsReady, RoseWithin, AfterBytes};
+ghost use Rattle.sd_run.specs.Outcome.{Outcome};
+
+use crate::device::{Drain, Source};
+use crate::engine::{Engine, Report, RunFault, RunState};
+use crate::feed::{feed_all, finish};
+use sd_sink::SinkFault;
+use sd_token::Token;
+
+/// The reads of a run: a source that never ends is given up after so many.
+const MOST_READS: u64 = 1 << 40;
+
+/// The bytes that one read may give.
+const PIECE: usize = 8192;
+
+/// Reads lines to the end of the input and writes the answer to each.
+///
+/// The drain is flushed at the end of the input, and also after each read in which a line ended. So the answers to all
+/// lines that have ended are handed on before more is read, and a caller who waits for an answer gets it.
+///
+/// A fault ends the run:
+///
+/// - `Read` (60): a read failed. The lines that an LF ended are answered and their answers handed on. The line in hand
+///   is not answered.
+/// - `Write` (61): a write or a flush failed. A prefix of the answers is written, and nothing after the failed call. The
+///   run ends at the first answers that do not go out, not at the end of the input: only lines that end in the last
+///   read, or with the input, can lack an answer.
+/// - `TooManyReads` (62): 2^40 reads brought no end. What is answered is as after a failed read.
+///
+/// The engine can run again after any return. It starts without a held line.
+pub fn run<R: Source, W: Drain>(
+    engine: &mut Engine,
+    token: &mut Token,
+    source: &mut R,
+    drain: &mut W,
+) -> Result<Report, RunFault>
+    ensures outcome { Outcome (2 ^ 40) engine.old token.old token.new (R.told source.old) (R.told source.new)
+        (W.told drain.old) (W.told drain.new) result }
+    // At most eight characters a byte of the descriptor that a line prints, and 64, whatever bytes are read.
+    ensures answers_are_short { AnswersAreShort engine.old token.old.entries }
+    // The lines are cut at each LF and nowhere else.
+    ensures lines_are_cut { LinesAreCut }
+    // The answers to an input that is cut behind an LF are those to its pieces.
+    ensures answers_split { AnswersSplit engine.old token.old.entries }
+    ensures job { engine.new ≡ engine.old }
+    ensures entries { token.new.entries ≡ token.old.entries }
+{
+    engine.note_limits();
+    run_state(&mut engine.state, token, source, drain, MOST_READS)
+}
+
+/// A run as `run` makes it, which gives up after any smaller number of reads: so a test can reach the last of them.
+pub fn run_at_most<R: Source, W: Drain>(
+    engine: &mut Engine,
+    token: &mut Token,
+    source: &mut R,
+    drain: &mut W,
+    most: u64,
+) -> Result<Report, RunFault>
+    requires { most ≤ 2 ^ 40 }
+    ensures outcome { Outcome most engine.old token.old token.new (R.told source.old) (R.told source.new) (W.told drain.old) (W.told drain.new) result }
+    ensures job { engine.new ≡ engine.old }
+    ensures entries { token.new.entries ≡ token.old.entries }
+{
+    run_state(&mut engine.state, token, source, drain, most)
+}
+
+// A run over the engine's parts.
+fn run_state<R: Source, W: Drain>(
+    state: &mut RunState,
+    token: &mut Token,
+    source: &mut R,
+    drain: &mut W,
+    most: u64,
+) -> Result<Report, RunFault>
+    requires limit { most ≤ 2 ^ 40 }
+    ensures outcome { Outcome most state.old.job token.old token.new (R.told source.old) (R.told source.new)
+        (W.told drain.old) (W.told drain.new) result }
+    ensures job { state.new.job ≡ state.old.job }
+    ensures entries { token.new.entries ≡ token.old.entries }
+{
+    state.line.start(&state.job);
+    let mut report = Report {
+        lines: 0,
+        faults: 0,
+    };
+    let mut buf = [0u8; PIECE];
+    for turn in 0..most {
+        let n = match source.read(&mut buf) {
+            Ok(n) => n,
+            Err(_) => return Err(RunFault::Read),
+        };
+        if n == 0 {
+            return match close(state, token, drain, &mut report) {
+                Ok(()) => Ok(report),
+                Err(_) => Err(RunFault::Write),
+            };
+        }
+        match answer_piece(state, &buf[..n], token, drain, &mut report) {
+            Ok(()) => {}
+            Err(_) => return Err(RunFault::Write),
+        }
+    }
+    Err(RunFault::TooManyReads)
+}
+
+// Answers the lines that end in a piece, and hands their answers on, so that they are out before more is read.
+fn answer_piece<W: Drain>(
+    state: &mut RunState,
+    piece: &[u8],
+    token: &mut Token,
+    drain: &mut W,
+    report: &mut Report,
+) -> Result<(), SinkFault>
+    requires ready { IsReady state.old.line }
+    requires room { HasRoom report.old (length piece.now) }
+    ensures fed { Feeds piece.now state.old token.old (sink_of (W.told drain.old)) report.old
+        state.new token.new (sink_of (W.told drain.new)) report.new result }
+    ensures bytes { AreBytes piece.now }
+    ensures handed_on { IsOk result
+        → ((W.told drain.new ≡ W.told drain.old) × (report.new.lines ≡ report.old.lines))
+        ⊎ ((W.told drain.new).flushed ≡ true) }
+    ensures ready { IsOk result → IsReady state.new.line }
+    ensures job { state.new.job ≡ state.old.job }
+    ensures rose { RoseWithin (length piece.now) report.old report.new }
+{
+    let a_line_ended = match feed_all(state, piece, token, drain, report) {
+        Ok(a_line_ended) => a_line_ended,
+        Err(sink_fault) => return Err(sink_fault),
+    };
+    if !a_line_ended {
+        return Ok(());
+    }
+    if let Err(_) = drain.flush() {
+        return Err(SinkFault);
+    }
+    Ok(())
+}
+
+// The end of the input.
+fn close<W: Drain>(
+    state: &mut RunState,
+    token: &mut Token,
+    drain: &mut W,
+    report: &mut Report,
+) -> Result<(), SinkFault>
+    requires ready { IsReady state.old.line }
+    requires room { HasRoom report.old 1 }
+    ensures closed { (token0 : TokenShown) (sink0 : SinkTold) (got : List ℕ)
+        → AfterBytes token0 sink0 got state.old token.old (sink_of (W.told drain.old)) report.old
+        → MatchResult result
+        (λ _. Answered state.new.job token0 sink0 (lines got) token.new (sink_of (W.told drain.new)) report.new)
+        (λ _. Failed state.new.job token0 sink0 (ended got) (lines got) token.new (sink_of (W.told drain.new))) }
+    ensures flushed { IsOk result → (W.told drain.new).flushed ≡ true }
+    ensures job { state.new.job ≡ state.old.job }
+{
+    match finish(state, token, drain, report) {
+        Ok(()) => {}
+        Err(sink_fault) => return Err(sink_fault),
+    }
+    match drain.flush() {
+        Ok(()) => Ok(()),
+        Err(_) => Err(SinkFault),
+    }
+}

@@ -1,2 +1,0 @@
--- Descriptors as SDDL.
-pub mod Printed

@@ -1,0 +1,83 @@
+-- Worked descriptors, printed.
+use Rattle.std.proofs.Common.{◌≡◌, [], ◌∷◌, Option, Some, None, true, false, codes, refl}
+use Rattle.std.specs.Fmt.{digits}
+use Rattle.sd_kinds.specs.Kinds.{kind_entry, kind_letters}
+use Rattle.sd_ace.specs.Ace.{AccessControlEntry}
+use Rattle.sd_kinds.specs.Flags.{flags_text}
+use Rattle.sd_ace.specs.GuidText.{guid_text}
+use Rattle.sd_rights.specs.Rights.{rights_text}
+use Rattle.sd_sid.specs.Sid.{SecurityId}
+use Rattle.sd_sid.specs.SidText.{alias_of}
+use Rattle.sd_kinds.specs.declared.kinds.AceKind.TheVariants as kinds
+use Rattle.sd_view.specs.Descriptor.{Descriptor}
+use Rattle.sd_view.specs.declared.acl.AclPart.TheVariants as acl
+use Rattle.sd_sid.specs.declared.naming.Naming.{Naming}
+use Rattle.sd_sddl_printer.specs.Printed.{ace_text, acl_flags_text, dacl_text, flags_field, group_text, kind_field, object_field, owner_text, rights_field, sacl_text, sddl, trustee_field, trustee_text}
+
+-- `unfolding printed` lets `refl` compute a row
+printed : Unit {0}
+unfolding kind_entry kind_letters sddl owner_text group_text dacl_text sacl_text acl_flags_text ace_text kind_field
+    flags_field rights_field object_field trustee_field trustee_text alias_of flags_text rights_text guid_text digits
+printed = tt
+
+named : Naming
+named = record { domain = None; numeric = false }
+
+everyone : SecurityId
+everyone = record { authority = 1; subs = 0 ∷ [] }
+
+full_access : AccessControlEntry
+full_access = record { kind = kinds.Allow; flags = 0; mask = 0x1f01ff; object = None; inherited = None; sid = everyone }
+
+shared : Descriptor
+shared = record {
+  control = 0x8004;
+  rm = 0;
+  owner = Some (record { authority = 5; subs = 32 ∷ 544 ∷ [] });
+  group = Some (record { authority = 5; subs = 18 ∷ [] });
+  sacl = acl.Absent;
+  dacl = acl.List (full_access ∷ []);
+}
+
+shared_text : sddl named shared ≡ codes "O:BAG:SYD:(A;;FA;;;WD)"
+unfolding printed named shared full_access everyone
+shared_text = refl
+
+-- no part at all
+bare_text : sddl named
+    (record { control = 0x8000; rm = 7; owner = None; group = None; sacl = acl.Absent; dacl = acl.Absent }) ≡ []
+unfolding printed named
+bare_text = refl
+
+-- a null DACL with all three flags
+null_text : sddl named
+    (record { control = 0x9504; rm = 0; owner = None; group = None; sacl = acl.Absent; dacl = acl.Null })
+    ≡ codes "D:PARAINO_ACCESS_CONTROL"
+unfolding printed named
+null_text = refl
+
+-- a SID of a domain, with and without that domain
+admins : Descriptor
+admins = record {
+  control = 0x8000;
+  rm = 0;
+  owner = Some (record { authority = 5; subs = 21 ∷ 1 ∷ 2 ∷ 3 ∷ 512 ∷ [] });
+  group = None;
+  sacl = acl.Absent;
+  dacl = acl.Absent;
+}
+
+domain : Option SecurityId
+domain = Some (record { authority = 5; subs = 21 ∷ 1 ∷ 2 ∷ 3 ∷ [] })
+
+admins_text : sddl named admins ≡ codes "O:S-1-5-21-1-2-3-512"
+unfolding printed named admins
+admins_text = refl
+
+admins_in_domain : sddl (record { domain = domain; numeric = false }) admins ≡ codes "O:DA"
+unfolding printed domain admins
+admins_in_domain = refl
+
+admins_in_numbers : sddl (record { domain = domain; numeric = true }) admins ≡ codes "O:S-1-5-21-1-2-3-512"
+unfolding printed domain admins
+admins_in_numbers = refl

@@ -1,0 +1,61 @@
+//! ACLs as SDDL (MS-DTYP 2.5.1.1).
+
+ghost use Rattle.std.specs.Prelude.{◌≡◌};
+ghost use Rattle.std.specs.List.{flat_map};
+ghost use Rattle.sd_sink.specs.Print.{Prints};
+ghost use Rattle.sd_sddl_printer.specs.Printed.{ace_text, acl_flags_text, acl_text, text_if};
+
+use crate::ace::print_ace;
+use sd_control::AclFlags;
+use sd_sid::Naming;
+use sd_sink::Print;
+use sd_view::{AclPart, AclView};
+
+/// Prints an ACL behind its head, `D:` or `S:`; nothing for one that is absent.
+pub fn print_acl<P: Print>(
+    naming: &Naming,
+    head: &[u8],
+    flags: AclFlags,
+    part: &AclPart<'_>,
+    out: &mut P,
+)
+    ensures { Prints (P.told out.old) (P.told out.new)
+        (acl_text naming.now head.now (acl_flags_text flags) part.now) }
+{
+    match part {
+        AclPart::Absent => {}
+        AclPart::Null => {
+            out.put(head);
+            print_acl_flags(flags, out);
+            out.put(b"NO_ACCESS_CONTROL");
+        }
+        AclPart::List(acl) => {
+            out.put(head);
+            print_acl_flags(flags, out);
+            print_aces(naming, acl, out);
+        }
+    }
+}
+
+fn print_aces<P: Print>(naming: &Naming, acl: &AclView<'_>, out: &mut P)
+    ensures { Prints (P.told out.old) (P.told out.new) (flat_map (ace_text naming.now) acl.now) }
+{
+    for ace in acl.aces() {
+        print_ace(naming, &ace, out);
+    }
+}
+
+#[tactic(auto, unfolding(crate::specs::Printed::acl_flags_text))]
+fn print_acl_flags<P: Print>(flags: AclFlags, out: &mut P)
+    ensures { Prints (P.told out.old) (P.told out.new) (acl_flags_text flags) }
+{
+    out.put(text_if(flags.protected, b"P"));
+    out.put(text_if(flags.auto_inherit_required, b"AR"));
+    out.put(text_if(flags.auto_inherited, b"AI"));
+}
+
+fn text_if(stands: bool, text: &[u8]) -> &[u8]
+    ensures { result.now ≡ text_if stands text.now }
+{
+    if stands { text } else { &[] }
+}

@@ -1,0 +1,77 @@
+//! Descriptors as SDDL (MS-DTYP 2.5.1).
+
+ghost use Rattle.std.specs.Prelude.{◌≡◌, ◌≤◌, ◌+◌, ◌*◌, Bool, length, Ok, Option};
+ghost use Rattle.sd_sink.specs.Print.{Prints};
+ghost use Rattle.sd_sid.specs.Sid.{SecurityId};
+ghost use Rattle.sd_sink.specs.Sink.{Puts};
+ghost use Rattle.std.specs.Option.{option_copied};
+ghost use Rattle.sd_view.specs.Descriptor.{IsDescriptor};
+ghost use Rattle.sd_view.specs.Layout.{size};
+ghost use Rattle.sd_sddl_reader.specs.Meaning.{means};
+ghost use Rattle.sd_sddl_printer.specs.Printed.{plain, sddl, sid_text_of};
+ghost use Rattle.sd_sid.specs.Naming.{naming_by};
+
+use crate::acl::print_acl;
+use crate::trustee::print_trustee;
+use sd_control::{AclFlags, Which};
+use sd_sid::{Naming, Sid};
+use sd_sink::{Gather, Print, Sink, SinkFault};
+use sd_view::SdView;
+
+/// Puts a descriptor as SDDL: owner, group, DACL and SACL, those that stand, without blanks, in at most
+/// eight characters for each byte of its written layout, and 63. SIDs have their aliases, those of the
+/// domain too, unless numbers alone are asked for; a domain of 15 sub-authorities counts as none. What SDDL
+/// has no letters for is dropped: the resource manager byte, and of the control word all but the present
+/// bits and the flags of ACLs that are not absent. As `O:BAD:(A;;FA;;;WD)`.
+pub fn put_sddl<S: Sink>(
+    view: &SdView<'_>,
+    domain: Option<&Sid>,
+    numeric: bool,
+    sink: &mut S,
+) -> Result<(), SinkFault>
+    ensures put { Puts (S.told sink.old) (S.told sink.new) (sddl (naming_by (option_copied domain.entry) numeric) view.now) result }
+    // Under any domain, and with numbers alone too.
+    ensures short { (any : Option SecurityId) (numbers : Bool) → length (sddl (naming_by any numbers) view.now) ≤ 8 * size view.now + 63 }
+    // The text means the descriptor, but for what is dropped.
+    ensures back { means (sddl (naming_by (option_copied domain.entry) numeric) view.now) (option_copied domain.entry) ≡ Ok (plain view.now) }
+{
+    let mut out = Gather::new(sink);
+    print_sddl(view, domain, numeric, &mut out);
+    out.finish()
+}
+
+/// Prints a descriptor as SDDL, as `put_sddl` puts it.
+pub fn print_sddl<P: Print>(view: &SdView<'_>, domain: Option<&Sid>, numeric: bool, out: &mut P)
+    ensures printed { Prints (P.told out.old) (P.told out.new) (sddl (naming_by (option_copied domain.entry) numeric) view.now) }
+    ensures limits { IsDescriptor view.now }
+{
+    let naming = Naming {
+        domain: domain.copied(),
+        numeric,
+    };
+    print_parts(&naming, view, out);
+}
+
+#[tactic(auto, unfolding(crate::specs::Printed::sddl, crate::specs::Printed::owner_text, crate::specs::Printed::group_text, crate::specs::Printed::dacl_text, crate::specs::Printed::sacl_text))]
+fn print_parts<P: Print>(naming: &Naming, view: &SdView<'_>, out: &mut P)
+    ensures printed { Prints (P.told out.old) (P.told out.new) (sddl naming.now view.now) }
+    ensures limits { IsDescriptor view.now }
+{
+    let control = view.control();
+    print_sid(naming, b"O:", view.owner(), out);
+    print_sid(naming, b"G:", view.group(), out);
+    let dacl_flags = AclFlags::of(Which::Dacl, control);
+    let sacl_flags = AclFlags::of(Which::Sacl, control);
+    print_acl(naming, b"D:", dacl_flags, &view.dacl(), out);
+    print_acl(naming, b"S:", sacl_flags, &view.sacl(), out);
+}
+
+// Prints a SID behind its head; nothing where there is none.
+fn print_sid<P: Print>(naming: &Naming, head: &[u8], sid: Option<Sid>, out: &mut P)
+    ensures { Prints (P.told out.old) (P.told out.new) (sid_text_of naming.now head.now sid) }
+{
+    if let Some(sid) = sid {
+        out.put(head);
+        print_trustee(naming, &sid, out);
+    }
+}

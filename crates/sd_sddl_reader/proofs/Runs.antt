@@ -1,0 +1,255 @@
+-- Bytes that only go onto the text of the field at hand, taken all at once.
+use Rattle.std.proofs.Common.{◌≡◌, ℕ, ◌+◌, ◌<◌, ◌≤◌, Bool, true, false, ◌||◌, List, [], ◌∷◌, ◌++◌, length, take, drop, refl, ap, sym, ◌∙◌, arith, append_assoc, length-append, true≢false}
+use Rattle.std.specs.Prelude.{◌==◌, not, if◌then◌else◌, Result, Option, Some, None}
+use Rattle.std.specs.List.{list_all}
+use Rattle.std.specs.Option.{is_none, is_some}
+use Rattle.std.proofs.lemmas.List.{take-append-drop}
+use Rattle.std.proofs.lemmas.Bool.Decides.{nat_tests}
+use Rattle.std.proofs.lemmas.Bool.{and_parts}
+use Rattle.sd_sid.specs.Sid.{SecurityId}
+use Rattle.sd_sddl_reader.specs.declared.fault.SddlFault.{SddlFault}
+use Rattle.sd_sddl_reader.specs.declared.line.AceField.{AceField}
+use Rattle.sd_sddl_reader.specs.declared.line.State.TheVariants as state
+use Rattle.sd_sddl_reader.specs.declared.line.Seen.{Seen}
+use Rattle.sd_sddl_reader.specs.declared.line.SidPart.{SidPart}
+use Rattle.sd_sddl_reader.specs.Inner.Held.{Held, IsHeld, broken_text, held_run, held_with, is_plain_inside, is_plain_outside}
+use Rattle.sd_sddl_reader.specs.Line.{head_of, is_blank}
+use Rattle.sd_sddl_reader.specs.FoldedReading.{FieldsRead}
+use Rattle.sd_text.specs.Chains.{unless}
+use Rattle.sd_sddl_reader.specs.Inner.Progress.{rest_answer}
+use Rattle.sd_sddl_reader.specs.Inner.Reads.{IsReader, Reads, answer_at}
+use Rattle.sd_sddl_reader.specs.declared.reader.SddlReader.{SddlReader}
+use Rattle.sd_sddl_reader.proofs.FieldTexts.{append_nothing, same_inner, same_text, with_held}
+use Rattle.sd_sddl_reader.proofs.Steps.{entry_text, no_head, sid_text}
+
+-- 1. The text of a field.
+
+with_broken : (h : Held) (b : ℕ) → h.broken ≡ true → held_with h b ≡ broken_text
+with_broken h b e = rw e refl
+
+with_gap : (h : Held) (b : ℕ) → h.gap ≡ true → held_with h b ≡ broken_text
+with_gap h b e = by_broken h.broken
+  where
+    by_broken : (x : Bool)
+        → (if x || (h.gap || length h.text == 183) then broken_text else record {
+          text = h.text ++ b ∷ [];
+          gap =
+              false;
+          broken = false;
+        }) ≡ broken_text
+    by_broken true = refl
+    by_broken false = rw e refl
+
+run-broken : (bs : List ℕ) → held_run broken_text bs ≡ broken_text
+run-broken [] = refl
+run-broken (b ∷ bs) = run-broken bs
+
+-- a text that can no longer read stays so, and so does one after which blanks stood
+pub run-spoilt : (h : Held) (bs : List ℕ) → (h.broken || h.gap) ≡ true → 0 < length bs → held_run h bs ≡ broken_text
+run-spoilt h [] e some = absurd (omega arith)
+run-spoilt h (b ∷ bs) e some = ap (λ x. held_run x bs) (by_broken h.broken h.gap e) ∙ run-broken bs
+  where
+    by_broken : (x y : Bool) → (x || y) ≡ true
+        → (if x || (y || length h.text == 183) then broken_text else record {
+          text = h.text ++ b ∷ [];
+          gap =
+              false;
+          broken = false;
+        }) ≡ broken_text
+    by_broken true y f = refl
+    by_broken false true f = refl
+    by_broken false false f = absurd cc
+
+pub run-fits : (t bs : List ℕ) → length t + length bs ≤ 183
+    → held_run (record { text = t; gap = false; broken = false }) bs
+    ≡ record { text = t ++ bs; gap = false; broken = false }
+run-fits t [] fits = rw (append_nothing t) refl
+run-fits t (b ∷ bs) fits =
+    let room : (length t == 183) ≡ false = grind (arith, nat_tests) in
+    rw room (run-fits (t ++ b ∷ []) bs (omega (arith, length-append t (b ∷ []))) ∙ rw (append_assoc t (b ∷ []) bs) refl)
+
+pub run-long : (t bs : List ℕ) → length t ≤ 183 → 183 < length t + length bs
+    → held_run (record { text = t; gap = false; broken = false }) bs ≡ broken_text
+run-long t [] fits long = absurd (omega arith)
+run-long t (b ∷ bs) fits long =
+    by_room (length t == 183) refl
+    (λ room. run-long (t ++ b ∷ []) bs (omega (arith, length-append t (b ∷ [])))
+    (omega (arith, length-append t (b ∷ []))))
+  where
+    by_room : (full : Bool) → (length t == 183) ≡ full
+        → (length t < 183 → held_run (record { text = t ++ b ∷ []; gap = false; broken = false }) bs ≡ broken_text)
+        → held_run (if full then broken_text else record { text = t ++ b ∷ []; gap = false; broken = false }) bs
+        ≡ broken_text
+    by_room true e more = run-broken bs
+    by_room false e more = more (grind (arith, nat_tests))
+
+whole : (h : Held) → h.broken ≡ false → h.gap ≡ false → h ≡ record { text = h.text; gap = false; broken = false }
+whole h eb eg = ap (λ g. record { text = h.text; gap = g; broken = h.broken }) eg
+    ∙ ap (λ x. record { text = h.text; gap = false; broken = x }) eb
+
+pub run-more : (h : Held) (bs : List ℕ) → h.broken ≡ false → h.gap ≡ false → length h.text + length bs ≤ 183
+    → held_run h bs ≡ record { text = h.text ++ bs; gap = false; broken = false }
+run-more h bs eb eg fits = ap (λ x. held_run x bs) (whole h eb eg) ∙ run-fits h.text bs fits
+
+pub run-too-long : (h : Held) (bs : List ℕ) → h.broken ≡ false → h.gap ≡ false → length h.text ≤ 183
+    → 183 < length h.text + length bs → held_run h bs ≡ broken_text
+run-too-long h bs eb eg fits long = ap (λ x. held_run x bs) (whole h eb eg) ∙ run-long h.text bs fits long
+
+-- 2. What is held stays clean.
+
+pub record IsPlain (b : ℕ) : Type 0 where
+  pub opens : (b == 40) ≡ false
+  pub closes : (b == 41) ≡ false
+  pub cuts : (b == 59) ≡ false
+  pub blank : is_blank b ≡ false
+
+none_of : (w x y z : Bool) → not (w || (x || (y || z))) ≡ true → (w ≡ false) × (x ≡ false) × (y ≡ false) × (z ≡ false)
+none_of true x y z e = absurd cc
+none_of false true y z e = absurd cc
+none_of false false true z e = absurd cc
+none_of false false false true e = absurd cc
+none_of false false false false e = (refl, refl, refl, refl)
+
+plain-is : (b : ℕ) → is_plain_inside b ≡ true → IsPlain b
+plain-is b e = let n =
+    none_of (b == 40) (b == 41) (b == 59)
+    (is_blank b) e in record { opens = n.0; closes = n.1; cuts = n.2; blank = n.3 }
+
+with_no_gap : (h : Held) (b : ℕ) → (held_with h b).gap ≡ false
+with_no_gap h b = by_test (h.broken || (h.gap || length h.text == 183))
+  where
+    by_test : (x : Bool)
+        → (if x then broken_text else record { text = h.text ++ b ∷ []; gap = false; broken = false }).gap ≡ false
+    by_test true = refl
+    by_test false = refl
+
+pub inside-held : (h : Held) (bs : List ℕ) → IsHeld h → list_all is_plain_inside bs ≡ true → IsHeld (held_run h bs)
+inside-held h [] k e = k
+inside-held h (b ∷ bs) k e =
+    let p = and_parts (is_plain_inside b) _ e in
+    inside-held (held_with h b) bs (with_held h b k (plain-is b p.0).blank) p.1
+
+pub inside-gap : (h : Held) (bs : List ℕ) → h.gap ≡ false → (held_run h bs).gap ≡ false
+inside-gap h [] e = e
+inside-gap h (b ∷ bs) e = inside-gap (held_with h b) bs (with_no_gap h b)
+
+pub none-of : {X : Type 0} → (x : Option X) → is_none x ≡ true → x ≡ None
+none-of None f = refl
+none-of (Some y) f = absurd cc
+
+outside_parts : (b : ℕ) (bs : List ℕ) → list_all is_plain_outside (b ∷ bs) ≡ true
+    → (is_plain_inside b ≡ true) × ((b == 58) ≡ false) × (head_of b ≡ None) × (list_all is_plain_outside bs ≡ true)
+outside_parts b bs e =
+    let p = and_parts (is_plain_outside b) _ e in
+    let q = and_parts (is_plain_inside b) _ p.0 in
+    let r = and_parts (not (b == 58)) _ q.1 in
+    (q.0, not_true _ r.0, none-of (head_of b) r.1, p.1)
+  where
+    not_true : (x : Bool) → not x ≡ true → x ≡ false
+    not_true true f = absurd cc
+    not_true false f = refl
+
+pub outside-held : (h : Held) (bs : List ℕ) → IsHeld h → list_all is_plain_outside bs ≡ true → IsHeld (held_run h bs)
+outside-held h [] k e = k
+outside-held h (b ∷ bs) k e =
+    let p = outside_parts b bs e in
+    outside-held (held_with h b) bs (with_held h b k (plain-is b p.0).blank) p.3
+
+-- 3. The answer to a run.
+
+module _ (dm : Option SecurityId) (so tw : Bool) (se : Seen) (r : Result FieldsRead SddlFault) where
+  pub inside-run : (c : AceField) (h : Held) (bs rest : List ℕ) → IsHeld h → h.gap ≡ false
+      → list_all is_plain_inside bs ≡ true
+      → rest_answer dm so tw se r (state.Ace c) (held_run h bs) rest ≡ rest_answer dm so tw se r (state.Ace c) h
+      (bs ++ rest)
+  inside-run c h [] rest k n e = refl
+  inside-run c h (b ∷ bs) rest k n e =
+      let p = and_parts (is_plain_inside b) _ e in
+      let l = plain-is b p.0 in
+      inside-run c (held_with h b) bs rest (with_held h b k l.blank) (with_no_gap h b) p.1
+      ∙ entry_text dm so tw se r h (bs ++ rest) c (held_with h b) b l.opens l.closes l.cuts
+      (λ u. same_inner h b u k n l.blank)
+
+  pub outside-run : (p : SidPart) (h : Held) (bs rest : List ℕ) → IsHeld h → list_all is_plain_outside bs ≡ true
+      → rest_answer dm so tw se r (state.Sid p) (held_run h bs) rest ≡ rest_answer dm so tw se r (state.Sid p) h
+      (bs ++ rest)
+  outside-run p h [] rest k e = refl
+  outside-run p h (b ∷ bs) rest k e =
+      let o = outside_parts b bs e in
+      let l = plain-is b o.0 in
+      outside-run p (held_with h b) bs rest (with_held h b k l.blank) o.3
+      ∙ sid_text dm so tw se r b (bs ++ rest) l.opens l.closes (no_head _ _ o.2) p h (held_with h b) o.1
+      (λ u. same_text h b u k l.blank)
+
+-- 4. The reader after a run.
+
+-- with a run on the text of the field at hand, it has read the run
+abbrev pub Goes : SddlReader → List ℕ → Type 0
+Goes s bs = (buf : List ℕ) → IsReader s buf → IsReader (record s { field = held_run s.field bs }) buf
+    × ((domain : Option SecurityId) (before : List ℕ) → Reads s buf domain before
+    → Reads (record s { field = held_run s.field bs }) buf domain (before ++ bs))
+
+-- where no byte waits, and the answer to the run is that to what follows it
+goes-on : (s : SddlReader) (bs buf : List ℕ) (domain : Option SecurityId) (before : List ℕ) → s.pending ≡ None
+    → ((t : FieldsRead) (rest : List ℕ)
+    → answer_at (record s { field = held_run s.field bs }) t rest ≡ answer_at s t (bs ++ rest))
+    → Reads s buf domain before → Reads (record s { field = held_run s.field bs }) buf domain (before ++ bs)
+goes-on s bs buf domain before none step h = (
+  h.0,
+  record { fields = h.1.fields; fits = h.1.fits },
+  λ rest. rw none (step h.0 rest ∙ (rw none at h.2 (bs ++ rest)) ∙ rw append_assoc refl),
+)
+
+pub inside-goes : (s : SddlReader) (c : AceField) (bs : List ℕ) → s.state ≡ state.Ace c
+    → list_all is_plain_inside bs ≡ true → Goes s bs
+inside-goes s c bs here plain buf r =
+    let gap : s.field.gap ≡ false = r.calm.gap (rw here refl) in (
+      record {
+        calm = record { held = inside-held s.field bs r.calm.held plain; gap = λ _. inside-gap s.field bs gap };
+        still = r.still;
+        letter = r.letter;
+        read = r.read;
+        held = record { fields = r.held.fields; fits = r.held.fits };
+      },
+      λ domain before h. goes-on s bs buf domain before (r.still (rw here refl))
+          (λ t rest. rw here (inside-run s.fields.domain s.sound s.twice s.seen
+          (unless s.fault t) c s.field bs rest r.calm.held gap plain)) h,
+    )
+
+pub outside-goes : (s : SddlReader) (p : SidPart) (bs : List ℕ) → s.state ≡ state.Sid p → s.pending ≡ None
+    → list_all is_plain_outside bs ≡ true → Goes s bs
+outside-goes s p bs here none plain buf r = (
+  record {
+    calm = record {
+      held = outside-held s.field bs r.calm.held plain;
+      gap =
+          λ is. absurd (true≢false (sym is ∙ rw here refl));
+    };
+    still = r.still;
+    letter = r.letter;
+    read = r.read;
+    held = record { fields = r.held.fields; fits = r.held.fits };
+  },
+  λ domain before h. goes-on s bs buf domain before none
+      (λ t rest. rw here (outside-run s.fields.domain s.sound s.twice s.seen
+      (unless s.fault t) p s.field bs rest r.calm.held plain)) h,
+)
+
+-- 5. A text fed in runs.
+
+pub none-if : {X : Type 0} → (x : Option X) (b : Bool) → b ≡ true → is_some x ≡ not b → x ≡ None
+none-if None b e f = refl
+none-if (Some y) true e f = absurd cc
+none-if (Some y) false e f = absurd cc
+
+-- a byte was taken from what is left, then what ends before a rest, and of that a run
+pub fed-more : (fed next whole left after rest : List ℕ) (b n : ℕ) → left ≡ b ∷ after → fed ++ left ≡ whole
+    → next ++ rest ≡ (fed ++ b ∷ []) ++ after → (next ++ take n rest) ++ drop n rest ≡ whole
+fed-more fed next whole left after rest b n is e more =
+    append_assoc next (take n rest) (drop n rest)
+    ∙ (ap (λ (t : List ℕ). next ++ t) (take-append-drop n rest)
+    ∙ (more ∙ (append_assoc fed (b ∷ []) after ∙ (ap (λ (t : List ℕ). fed ++ t) (sym is) ∙ e))))
+
+pub fed-whole : (fed whole left : List ℕ) → length left ≡ 0 → fed ++ left ≡ whole → fed ≡ whole
+fed-whole fed whole [] is e = sym (append_nothing fed) ∙ e
+fed-whole fed whole (b ∷ left) is e = absurd (omega arith)

@@ -1,0 +1,282 @@
+-- An ACE that stands whole in what comes, read where it stands.
+use Rattle.std.proofs.Common.{◌≡◌, ℕ, ◌+◌, ◌≤◌, Bool, true, false, List, [], ◌∷◌, ◌++◌, length, take, drop, Ok, Err, Some, None, refl, ap, sym, ◌∙◌, subst, arith, append_assoc, ◌<◌, ◌-◌, get_or}
+use Rattle.std.specs.Prelude.{Result, Option}
+use Rattle.std.proofs.lemmas.Grind.{common_steps}
+use Rattle.std.specs.List.{list_all}
+use Rattle.sd_sid.specs.Sid.{SecurityId}
+use Rattle.sd_sid.specs.SidText.{sid_reads}
+use Rattle.sd_kinds.specs.Flags.{flags_reads}
+use Rattle.sd_rights.specs.Rights.{rights_reads}
+use Rattle.sd_sddl_reader.specs.FieldTexts.{kind_reads}
+use Rattle.sd_sddl_reader.specs.declared.fault.SddlFault.{SddlFault}
+use Rattle.sd_sddl_reader.specs.declared.line.AceField.{AceField}
+use Rattle.sd_sddl_reader.specs.declared.line.AceField.TheVariants as field
+use Rattle.sd_sddl_reader.specs.declared.line.State.TheVariants as state
+use Rattle.sd_sddl_reader.specs.declared.line.Seen.{Seen}
+use Rattle.sd_sddl_reader.specs.declared.line.Slot.TheVariants as slot
+use Rattle.sd_sddl_reader.specs.declared.reading.AceFields.{AceFields}
+use Rattle.sd_sddl_reader.specs.declared.reading.FieldReader.{FieldReader}
+use Rattle.sd_sddl_reader.specs.FoldedReading.{FieldsRead, take_ace_field, take_field, with_trustee}
+use Rattle.sd_sddl_reader.specs.Inner.Held.{IsHeld, is_plain_inside, no_text}
+use Rattle.sd_sddl_reader.specs.Inner.Progress.{rest_answer, end_of, state_after}
+use Rattle.sd_sddl_reader.specs.Inner.Reads.{AreAceFields, FedTo, Fits, IsReader, LineHasRead, Steps}
+use Rattle.sd_sddl_reader.specs.declared.reader.SddlReader.{SddlReader}
+use Rattle.sd_sddl_reader.specs.Inner.WholeAce.{AceTexts, EndsAce, FieldAt, ObjectsAt, AreWhole, TakesAce, ace_before, with_field, with_texts}
+use Rattle.sd_text.specs.Chains.{and_then, unless}
+use Rattle.sd_sddl_reader.specs.Meaning.{is_unreadable}
+use Rattle.sd_sddl_reader.proofs.FieldLaws.{sound-inherited, sound-object}
+use Rattle.sd_sddl_reader.proofs.FieldTexts.{held-readable}
+use Rattle.sd_sddl_reader.proofs.FitLaws.{fits-field, fits-next}
+use Rattle.sd_sddl_reader.proofs.Runs.{inside-held, inside-run, run-fits}
+use Rattle.sd_sddl_reader.proofs.Steps.{close_last, cut, open_next}
+
+-- 1. The text of a field.
+
+nothing-held : IsHeld no_text
+nothing-held = record { clean = refl; fits = omega arith }
+
+pub whole-readable : (t : List ℕ) → list_all is_plain_inside t ≡ true → length t ≤ 183 → is_unreadable t ≡ false
+whole-readable t plain fits =
+    held-readable (record { text = t; gap = false; broken = false })
+    (subst IsHeld (run-fits [] t (omega arith)) (inside-held no_text t nothing-held plain))
+
+-- 2. The answer to a field.
+
+module _ (dm : Option SecurityId) (so tw : Bool) (se : Seen) (r : Result FieldsRead SddlFault) (t rest : List ℕ)
+    (plain : list_all is_plain_inside t ≡ true) (fits : length t ≤ 183) where
+  -- the text goes onto what is held, which is nothing
+  onto-nothing : (f : AceField) (bs : List ℕ)
+      → rest_answer dm so tw se r (state.Ace f) (record { text = t; gap = false; broken = false }) bs
+      ≡ rest_answer dm so tw se r (state.Ace f) no_text (t ++ bs)
+  onto-nothing f bs =
+      ap (λ h. rest_answer dm so tw se r (state.Ace f) h bs) (sym (run-fits [] t (omega arith)))
+      ∙ inside-run dm so tw se r f no_text t bs nothing-held refl plain
+
+  pub whole-field : (f : AceField)
+      → rest_answer dm so tw se (and_then r (λ b. take_field dm b (slot.Ace f) t)) (state_after f) no_text rest
+      ≡ rest_answer dm so tw se r (state.Ace f) no_text (t ++ end_of f ∷ rest)
+  whole-field field.Kind = cut dm so tw se r _ rest field.Kind refl ∙ onto-nothing field.Kind (59 ∷ rest)
+  whole-field field.Flags = cut dm so tw se r _ rest field.Flags refl ∙ onto-nothing field.Flags (59 ∷ rest)
+  whole-field field.Rights = cut dm so tw se r _ rest field.Rights refl ∙ onto-nothing field.Rights (59 ∷ rest)
+  whole-field field.Object = cut dm so tw se r _ rest field.Object refl ∙ onto-nothing field.Object (59 ∷ rest)
+  whole-field field.Inherited = cut dm so tw se r _ rest field.Inherited refl ∙ onto-nothing field.Inherited (59 ∷ rest)
+  whole-field field.Sid = close_last dm so tw se r _ rest ∙ onto-nothing field.Sid (41 ∷ rest)
+
+-- 3. The answer to an ACE.
+
+module _ (dm : Option SecurityId) (so tw : Bool) (se : Seen) (a : AceTexts) (w : AreWhole a) where
+  pub whole-ace : (r : Result FieldsRead SddlFault) (rest : List ℕ)
+      → rest_answer dm so tw se (with_texts dm a r) state.AfterAce no_text rest
+      ≡ rest_answer dm so tw se r (state.Ace field.Kind) no_text (ace_before a rest)
+  whole-ace r rest =
+      let with1 = with_field dm field.Kind a.kind r in
+      let with2 = with_field dm field.Flags a.flags with1 in
+      let with3 = with_field dm field.Rights a.rights with2 in
+      let with4 = with_field dm field.Object a.object with3 in
+      let with5 = with_field dm field.Inherited a.inherited with4 in
+      whole-field dm so tw se with5 a.sid rest w.sid.plain w.sid.fits field.Sid
+      ∙ whole-field dm so tw se with4 a.inherited _ w.inherited.plain w.inherited.fits field.Inherited
+      ∙ whole-field dm so tw se with3 a.object _ w.object.plain w.object.fits field.Object
+      ∙ whole-field dm so tw se with2 a.rights _ w.rights.plain w.rights.fits field.Rights
+      ∙ whole-field dm so tw se with1 a.flags _ w.flags.plain w.flags.fits field.Flags
+      ∙ whole-field dm so tw se r a.kind _ w.kind.plain w.kind.fits field.Kind
+
+-- what stands before something that reads, reads
+ok-parts : (x : Result FieldsRead SddlFault) (next : FieldsRead → Result FieldsRead SddlFault) (u : FieldsRead)
+    → and_then x next ≡ Ok u → (y : FieldsRead) × (x ≡ Ok y) × (next y ≡ Ok u)
+ok-parts (Ok y) next u e = (y, refl, e)
+ok-parts (Err f) next u e = absurd cc
+
+pub fits-ace : (dm : Option SecurityId) (a : AceTexts) (seen : Seen) (t u : FieldsRead) → with_texts dm a (Ok t) ≡ Ok u
+    → Fits (state.Ace field.Kind) seen t → Fits state.AfterAce seen u
+fits-ace dm a seen t u e k =
+    let with1 = with_field dm field.Kind a.kind (Ok t) in
+    let with2 = with_field dm field.Flags a.flags with1 in
+    let with3 = with_field dm field.Rights a.rights with2 in
+    let with4 = with_field dm field.Object a.object with3 in
+    let with5 = with_field dm field.Inherited a.inherited with4 in
+    let x5 = ok-parts with5 (λ r. take_field dm r (slot.Ace field.Sid) a.sid) u e in
+    let x4 = ok-parts with4 (λ r. take_field dm r (slot.Ace field.Inherited) a.inherited) x5.0 x5.1 in
+    let x3 = ok-parts with3 (λ r. take_field dm r (slot.Ace field.Object) a.object) x4.0 x4.1 in
+    let x2 = ok-parts with2 (λ r. take_field dm r (slot.Ace field.Rights) a.rights) x3.0 x3.1 in
+    let x1 = ok-parts with1 (λ r. take_field dm r (slot.Ace field.Flags) a.flags) x2.0 x2.1 in
+    fits-field dm field.Sid state.AfterAce seen x5.0 u _ x5.2 (λ h. refl)
+    (fits-field dm field.Inherited (state.Ace field.Sid) seen x4.0 x5.0 _ x4.2 (λ h. refl)
+    (fits-field dm field.Object (state.Ace field.Inherited) seen x3.0 x4.0 _ x3.2 (λ h. refl)
+    (fits-field dm field.Rights (state.Ace field.Object) seen x2.0 x3.0 _ x2.2 (λ h. refl)
+    (fits-field dm field.Flags (state.Ace field.Rights) seen x1.0 x2.0 _ x1.2 (λ h. refl)
+    (fits-field dm field.Kind (state.Ace field.Flags) seen t x1.0 _ x1.1 (λ h. refl) k)))))
+
+-- 4. What stands at the front of a text.
+
+-- the fields of an ACE before its SID, which read as these
+pub record FieldsAt (text : List ℕ) (f : AceFields) (rest : List ℕ) : Type 0 where
+  pub kind_rest : List ℕ
+  pub flags_rest : List ℕ
+  pub rights_rest : List ℕ
+  pub kind : FieldAt (λ t. kind_reads t ≡ Some f.kind) 59 text kind_rest
+  pub flags : FieldAt (λ t. flags_reads t ≡ Some f.flags) 59 kind_rest flags_rest
+  pub rights : FieldAt (λ t. rights_reads t ≡ Some f.mask) 59 flags_rest rights_rest
+  pub objects : ObjectsAt f.kind f.object f.inherited rights_rest rest
+
+-- the same and its SID
+pub record AceAt (domain : Option SecurityId) (text : List ℕ) (f : AceFields) (s : SecurityId) (rest : List ℕ)
+    : Type 0 where
+  pub before : List ℕ
+  pub fields : FieldsAt text f before
+  pub sid : FieldAt (λ t. sid_reads t domain ≡ Ok s) 41 before rest
+
+module _ (dm : Option SecurityId) (text rest : List ℕ) (f : AceFields) (s : SecurityId)
+    (h : AceAt dm text f s rest) where
+  texts_at : AceTexts
+  texts_at = record {
+    kind = h.fields.kind.field;
+    flags = h.fields.flags.field;
+    rights = h.fields.rights.field;
+    object = h.fields.objects.first.field;
+    inherited = h.fields.objects.second.field;
+    sid = h.sid.field;
+  }
+
+  whole_at : AreWhole texts_at
+  unfolding texts_at
+  whole_at = record {
+    kind = h.fields.kind.whole;
+    flags = h.fields.flags.whole;
+    rights = h.fields.rights.whole;
+    object = h.fields.objects.first.whole;
+    inherited = h.fields.objects.second.whole;
+    sid = h.sid.whole;
+  }
+
+  stands_at : text ≡ ace_before texts_at rest
+  unfolding texts_at
+  stands_at =
+      rw (
+        ← h.sid.stands,
+        ← h.fields.objects.second.stands,
+        ← h.fields.objects.first.stands,
+        ← h.fields.rights.stands,
+        ← h.fields.flags.stands,
+      )
+      (h.fields.kind.stands)
+
+  taken_at : (t : FieldsRead) → with_texts dm texts_at (Ok t) ≡ Ok (with_trustee (record t { ace = f }) s)
+  unfolding take_field take_ace_field texts_at
+  taken_at t =
+      rw (
+        whole-readable _ h.fields.kind.whole.plain h.fields.kind.whole.fits,
+        h.fields.kind.reads,
+        whole-readable _ h.fields.flags.whole.plain h.fields.flags.whole.fits,
+        h.fields.flags.reads,
+        whole-readable _ h.fields.rights.whole.plain h.fields.rights.whole.fits,
+        h.fields.rights.reads,
+        whole-readable _ h.fields.objects.first.whole.plain h.fields.objects.first.whole.fits,
+        h.fields.objects.first.reads,
+        whole-readable _ h.fields.objects.second.whole.plain h.fields.objects.second.whole.fits,
+        h.fields.objects.second.reads,
+        whole-readable _ h.sid.whole.plain h.sid.whole.fits,
+        h.sid.reads,
+      )
+      refl
+
+-- what ends the ACE of these fields took all of it
+pub takes-ace : (old new : FieldReader) (buf buf' text between rest : List ℕ) (f : AceFields) → FieldsAt text f between
+    → EndsAce old buf f between new buf' rest → TakesAce old buf text new buf' rest
+takes-ace old new buf buf' text between rest f h e =
+    let a : AceAt old.domain text f e.trustee rest = record { before = between; fields = h; sid = e.sid } in (
+      texts_at old.domain text rest f e.trustee a,
+      whole_at old.domain text rest f e.trustee a,
+      stands_at old.domain text rest f e.trustee a,
+      λ t k. (
+        with_trustee (record t { ace = f }) e.trustee,
+        e.held t k,
+        taken_at old.domain text rest f e.trustee a t,
+      ),
+    )
+
+-- object types that read are those of an ACE of the kind
+pub sound-objects : (f : AceFields) (object inherited : Option (List ℕ)) (text rest : List ℕ) → AreAceFields f
+    → ObjectsAt f.kind object inherited text rest → AreAceFields (record f { object = object; inherited = inherited })
+sound-objects f object inherited text rest sound h =
+    sound-inherited (record f { object = object }) h.second.field inherited
+    (sound-object f h.first.field object sound h.first.reads)
+    h.second.reads
+
+-- a field that ends at this place
+pub cut-at : (text : List ℕ) (place end : ℕ) → place < length text → get_or text place 0 ≡ end
+    → text ≡ take place text ++ end ∷ take (length text - (place + 1)) (drop (place + 1) text)
+cut-at text place end within is = grind (arith, common_steps)
+
+-- 5. The reader after an ACE.
+
+pub ace-then : (a : AceTexts) (rest : List ℕ) → ace_before a [] ++ rest ≡ ace_before a rest
+ace-then a rest = simp append_assoc
+
+-- an ACE was read, and the reader of a line stands behind it
+pub record StepsOver (old : SddlReader) (before text : List ℕ) (new : SddlReader) (after rest : List ℕ) : Type 0 where
+  pub bytes : List ℕ
+  pub stands : text ≡ bytes ++ rest
+  pub steps : Steps old before bytes new after
+  pub state : new.state ≡ state.AfterAce
+  pub field : new.field ≡ no_text
+  pub pending : new.pending ≡ old.pending
+  pub fault : new.fault ≡ None
+
+-- a step over an ACE that was taken where no field before it was wrong
+pub steps-over : (s s' : SddlReader) (buf buf' text rest : List ℕ) → s.state ≡ state.Ace field.Kind → s.field ≡ no_text
+    → s.fault ≡ None → s'.fields.domain ≡ s.fields.domain
+    → s' ≡ record s { state = state.AfterAce; fields = s'.fields }
+    → TakesAce s.fields buf text s'.fields buf' rest → StepsOver s buf text s' buf' rest
+steps-over s s' buf buf' text rest here begins clear domain is h =
+    let a = h.0 in
+    record {
+      bytes = ace_before a [];
+      stands = h.2 ∙ sym (ace-then a rest);
+      steps = λ t k.
+          let e = h.3 t (k.fields clear) in (
+            e.0,
+            record {
+              fields = λ _. e.1;
+              fits = λ _. rw is (fits-ace s.fields.domain a s.seen t e.0 e.2 (rw here at (k.fits clear)));
+            },
+            λ more. rw (is, ace-then a more, here, begins, clear, domain)
+                (ap (λ (r : Result FieldsRead SddlFault). rest_answer s.fields.domain s.sound s.twice s.seen r
+                state.AfterAce no_text more) (sym e.2)
+                ∙ whole-ace s.fields.domain s.sound s.twice s.seen a h.1 (Ok t) more),
+          );
+      state = ap (λ (x : SddlReader). x.state) is;
+      field = ap (λ (x : SddlReader). x.field) is ∙ begins;
+      pending = ap (λ (x : SddlReader). x.pending) is;
+      fault = ap (λ (x : SddlReader). x.fault) is ∙ clear;
+    }
+
+pub reader-at : (s : SddlReader) (buf : List ℕ) → s.field ≡ no_text → s.pending ≡ None → (t : FieldsRead)
+    → LineHasRead s buf t → IsReader s buf
+reader-at s buf begins none t k = record {
+  calm = record { held = rw begins nothing-held; gap = λ _. rw begins refl };
+  still = λ _. none;
+  letter = λ b is. absurd (let no : None ≡ Some b = sym none ∙ is in cc);
+  read = t;
+  held = k;
+}
+
+-- the parenthesis of the next ACE
+pub steps-open : (s : SddlReader) (buf : List ℕ) → s.state ≡ state.AfterAce → s.field ≡ no_text
+    → Steps s buf (40 ∷ []) (record s { state = state.Ace field.Kind }) buf
+steps-open s buf here begins t k = (
+  t,
+  record { fields = k.fields; fits = λ none. fits-next s.seen t (rw here at (k.fits none)) },
+  λ rest. rw (here, begins) (open_next s.fields.domain s.sound s.twice s.seen (unless s.fault t) no_text rest),
+)
+
+-- a step over what comes next
+pub fed-on : (s s' : SddlReader) (buf buf' : List ℕ) (dm : Option SecurityId) (bytes after rest line : List ℕ)
+    → s.pending ≡ None → s'.pending ≡ None → Steps s buf bytes s' buf' → rest ≡ bytes ++ after
+    → FedTo s buf dm rest line → FedTo s' buf' dm after line
+fed-on s s' buf buf' dm bytes after rest line none none' steps is h =
+    let e = steps h.1.0 h.1.1 in (
+      h.0 ++ bytes,
+      (e.0, e.1, λ more. rw none' (e.2 more ∙ (rw none at h.1.2 (bytes ++ more)) ∙ rw append_assoc refl)),
+      append_assoc h.0 bytes after ∙ ap (λ (t : List ℕ). h.0 ++ t) (sym is) ∙ h.2,
+    )

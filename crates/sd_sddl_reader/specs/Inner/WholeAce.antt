@@ -1,0 +1,105 @@
+-- An ACE that stands whole in what comes of a line: the texts of its fields, and what they read as.
+use Rattle.std.specs.Prelude.{◌≡◌, ℕ, ◌≤◌, true, List, ◌∷◌, ◌++◌, length, Option, Some, Result, Ok}
+use Rattle.std.specs.List.{list_all}
+use Rattle.std.specs.Str.{byte as char}
+use Rattle.sd_sid.specs.Sid.{SecurityId}
+use Rattle.sd_sid.specs.SidText.{sid_reads}
+use Rattle.sd_text.specs.Limits.{most_field}
+use Rattle.sd_kinds.specs.declared.kinds.AceKind.{AceKind}
+use Rattle.sd_sddl_reader.specs.FieldTexts.{object_reads}
+use Rattle.sd_sddl_reader.specs.FoldedReading.{FieldsRead, take_field, with_trustee}
+use Rattle.sd_sddl_reader.specs.Inner.Held.{is_plain_inside}
+use Rattle.sd_sddl_reader.specs.Inner.Reads.{HasReadFields}
+use Rattle.sd_text.specs.Chains.{and_then}
+use Rattle.sd_sddl_reader.specs.declared.fault.SddlFault.{SddlFault}
+use Rattle.sd_sddl_reader.specs.declared.line.AceField.{AceField}
+use Rattle.sd_sddl_reader.specs.declared.line.AceField.TheVariants as field
+use Rattle.sd_sddl_reader.specs.declared.line.Slot.TheVariants as slot
+use Rattle.sd_sddl_reader.specs.declared.reading.AceFields.{AceFields}
+use Rattle.sd_sddl_reader.specs.declared.reading.FieldReader.{FieldReader}
+
+-- 1. The texts.
+
+-- a field's text with no blank, and not too long
+pub record IsWhole (text : List ℕ) : Type 0 where
+  pub plain : list_all is_plain_inside text ≡ true
+  pub fits : length text ≤ most_field
+
+-- the texts of the fields of an ACE
+pub record AceTexts : Type 0 where
+  pub kind : List ℕ
+  pub flags : List ℕ
+  pub rights : List ℕ
+  pub object : List ℕ
+  pub inherited : List ℕ
+  pub sid : List ℕ
+
+pub record AreWhole (a : AceTexts) : Type 0 where
+  pub kind : IsWhole a.kind
+  pub flags : IsWhole a.flags
+  pub rights : IsWhole a.rights
+  pub object : IsWhole a.object
+  pub inherited : IsWhole a.inherited
+  pub sid : IsWhole a.sid
+
+-- the fields, each with the byte that ends it, and what follows them
+abbrev pub ace_before : AceTexts → List ℕ → List ℕ
+ace_before a rest =
+    a.kind ++ char ";" ∷ (a.flags ++ char ";" ∷ (a.rights ++ char ";" ∷ (a.object ++ char ";" ∷
+    (a.inherited ++ char ";" ∷ (a.sid ++ char ")" ∷ rest)))))
+
+-- one field more
+abbrev pub with_field : Option SecurityId → AceField → List ℕ → Result FieldsRead SddlFault
+    → Result FieldsRead SddlFault
+with_field domain f text read = and_then read (λ r. take_field domain r (slot.Ace f) text)
+
+-- all fields of an ACE
+abbrev pub with_texts : Option SecurityId → AceTexts → Result FieldsRead SddlFault → Result FieldsRead SddlFault
+with_texts domain a read =
+    with_field domain field.Sid a.sid
+    (with_field domain field.Inherited a.inherited
+    (with_field domain field.Object a.object
+    (with_field domain field.Rights a.rights
+    (with_field domain field.Flags a.flags
+    (with_field domain field.Kind a.kind read)))))
+
+-- 2. What stands at the front of a text.
+
+-- a field of which this holds, the byte that ends it, and a rest
+pub record FieldAt (Reads : List ℕ → Type 0) (end : ℕ) (text rest : List ℕ) : Type 0 where
+  pub field : List ℕ
+  pub whole : IsWhole field
+  pub stands : text ≡ field ++ end ∷ rest
+  pub reads : Reads field
+
+-- the object type and the inherited object type
+pub record ObjectsAt (kind : AceKind) (object inherited : Option (List ℕ)) (text rest : List ℕ) : Type 0 where
+  pub between : List ℕ
+  pub first : FieldAt (λ t. object_reads kind t ≡ Some object) (char ";") text between
+  pub second : FieldAt (λ t. object_reads kind t ≡ Some inherited) (char ";") between rest
+
+-- 3. A step over an ACE that reads.
+
+-- a SID ends the ACE of these fields, which was read
+pub record EndsAce (old : FieldReader) (before : List ℕ) (f : AceFields) (text : List ℕ) (new : FieldReader)
+    (after rest : List ℕ) : Type 0 where
+  pub trustee : SecurityId
+  pub sid : FieldAt (λ t. sid_reads t old.domain ≡ Ok trustee) (char ")") text rest
+  pub held : (t : FieldsRead) → HasReadFields old before t
+      → HasReadFields new after (with_trustee (record t { ace = f }) trustee)
+
+-- the same, with object types before it
+pub record EndsWithObjects (old : FieldReader) (before : List ℕ) (f : AceFields) (text : List ℕ) (new : FieldReader)
+    (after rest : List ℕ) : Type 0 where
+  pub object : Option (List ℕ)
+  pub inherited : Option (List ℕ)
+  pub between : List ℕ
+  pub objects : ObjectsAt f.kind object inherited text between
+  pub ends : EndsAce old before (record f { object = object; inherited = inherited }) between new after rest
+
+-- an ACE stands there, and it was read
+abbrev pub TakesAce : FieldReader → List ℕ → List ℕ → FieldReader → List ℕ → List ℕ → Type 0
+TakesAce old before text new after rest =
+    (a : AceTexts) × AreWhole a × (text ≡ ace_before a rest)
+    × ((t : FieldsRead) → HasReadFields old before t → (u : FieldsRead) × HasReadFields new after u
+    × (with_texts old.domain a (Ok t) ≡ Ok u))

@@ -1,0 +1,191 @@
+//! The parts of an SDDL line, and the states of its reader.
+
+ghost use Rattle.std.specs.Prelude.{◌≡◌, ◌≤◌, length, take, true};
+ghost use Rattle.std.specs.List.{list_all};
+ghost use Rattle.sd_sddl_reader.specs.Inner.Held.{is_plain_inside, is_plain_outside};
+ghost use Rattle.sd_sddl_reader.specs.Line.{head_of, is_blank};
+ghost use Rattle.sd_sddl_reader.specs.FoldedReading.{next_field};
+ghost use Rattle.sd_sddl_reader.specs.Inner.Progress.{state_of};
+
+use sd_control::Which;
+
+/// A part that is a SID.
+#[derive(Clone, Copy)]
+pub enum SidPart {
+    Owner,
+    Group,
+}
+
+/// What a letter announces, with a colon after it.
+#[derive(Clone, Copy)]
+pub enum Head {
+    Sid(SidPart),
+    Acl(Which),
+}
+
+/// A field of an ACE.
+#[derive(Clone, Copy)]
+pub enum AceField {
+    Kind,
+    Flags,
+    Rights,
+    Object,
+    Inherited,
+    Sid,
+}
+
+/// What a field of a line is.
+#[derive(Clone, Copy)]
+pub enum Slot {
+    /// An owner or a group.
+    Sid(SidPart),
+    /// What stands in an ACL before its ACEs, and whether there are ACEs.
+    AclFlags(Which, bool),
+    /// A field of an ACE of the ACL at hand.
+    Ace(AceField),
+}
+
+/// Where in a line the next byte stands.
+#[derive(Clone, Copy)]
+pub enum State {
+    /// Before the first head.
+    Before,
+    /// In the text of an owner or a group.
+    Sid(SidPart),
+    /// In an ACL, before its first ACE.
+    AclFlags(Which),
+    /// In an ACL, after an ACE.
+    AfterAce,
+    /// In a field of an ACE.
+    Ace(AceField),
+}
+
+/// The heads that stood in the line so far.
+#[derive(Clone, Copy)]
+pub struct Seen {
+    pub owner: bool,
+    pub group: bool,
+    pub sacl: bool,
+    pub dacl: bool,
+}
+
+impl Seen {
+    ghost use Rattle.std.specs.Prelude.{◌≡◌};
+    ghost use Rattle.sd_sddl_reader.specs.Inner.Progress.{is_seen, with_head};
+
+    /// Whether a head stood.
+    pub fn has(&self, head: Head) -> bool
+        ensures { result ≡ is_seen self.now head }
+    {
+        match head {
+            Head::Sid(SidPart::Owner) => self.owner,
+            Head::Sid(SidPart::Group) => self.group,
+            Head::Acl(Which::Sacl) => self.sacl,
+            Head::Acl(Which::Dacl) => self.dacl,
+        }
+    }
+
+    /// Notes a head.
+    pub fn add(&mut self, head: Head)
+        ensures { self.new ≡ with_head self.old head }
+    {
+        match head {
+            Head::Sid(SidPart::Owner) => self.owner = true,
+            Head::Sid(SidPart::Group) => self.group = true,
+            Head::Acl(Which::Sacl) => self.sacl = true,
+            Head::Acl(Which::Dacl) => self.dacl = true,
+        }
+    }
+}
+
+/// What a letter announces, in either case.
+pub fn head_of(byte: u8) -> Option<Head>
+    ensures { result ≡ head_of byte }
+{
+    match byte {
+        b'O' | b'o' => Some(Head::Sid(SidPart::Owner)),
+        b'G' | b'g' => Some(Head::Sid(SidPart::Group)),
+        b'D' | b'd' => Some(Head::Acl(Which::Dacl)),
+        b'S' | b's' => Some(Head::Acl(Which::Sacl)),
+        _ => None,
+    }
+}
+
+/// Where the part of a head begins.
+pub fn state_of(head: Head) -> State
+    ensures { result ≡ state_of head }
+{
+    match head {
+        Head::Sid(part) => State::Sid(part),
+        Head::Acl(which) => State::AclFlags(which),
+    }
+}
+
+/// The field after this one.
+pub fn next_field(field: AceField) -> AceField
+    ensures { result ≡ next_field field }
+{
+    match field {
+        AceField::Kind => AceField::Flags,
+        AceField::Flags => AceField::Rights,
+        AceField::Rights => AceField::Object,
+        AceField::Object => AceField::Inherited,
+        AceField::Inherited | AceField::Sid => AceField::Sid,
+    }
+}
+
+/// A space or a tab.
+pub fn is_blank(byte: u8) -> bool
+    ensures { result ≡ is_blank byte }
+{
+    byte == b' ' || byte == b'\t'
+}
+
+/// A byte that only goes onto the text of a field inside parentheses.
+fn is_plain_inside(byte: u8) -> bool
+    ensures { result ≡ is_plain_inside byte }
+{
+    // Digits, dashes and letters are told by these two tests.
+    if byte > b')' {
+        return byte != b';';
+    }
+    !(byte == b'(' || byte == b')' || is_blank(byte))
+}
+
+/// A byte that only goes onto the text of a field outside parentheses.
+fn is_plain_outside(byte: u8) -> bool
+    ensures { result ≡ is_plain_outside byte }
+{
+    // Of a SID most bytes are digits.
+    if byte.is_ascii_digit() {
+        return true;
+    }
+    is_plain_inside(byte) && byte != b':' && head_of(byte).is_none()
+}
+
+/// How many bytes at the front only go onto the text of a field inside parentheses.
+#[inline(never)]
+pub fn plain_inside(text: &[u8]) -> usize
+    ensures within { result ≤ length text.now }
+    ensures plain { list_all is_plain_inside (take result text.now) ≡ true }
+{
+    for (i, byte) in text.iter().enumerate() {
+        if !is_plain_inside(*byte) {
+            return i;
+        }
+    }
+    text.len()
+}
+
+/// How many bytes at the front only go onto the text of a field outside parentheses.
+pub fn plain_outside(text: &[u8]) -> usize
+    ensures within { result ≤ length text.now }
+    ensures plain { list_all is_plain_outside (take result text.now) ≡ true }
+{
+    for (i, byte) in text.iter().enumerate() {
+        if !is_plain_outside(*byte) {
+            return i;
+        }
+    }
+    text.len()
+}

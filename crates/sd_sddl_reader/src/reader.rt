@@ -1,0 +1,502 @@
+//! A line, read as it comes: byte by byte, and together what stands whole in a piece.
+
+ghost use Rattle.std.specs.Prelude.{◌≡◌, ◌≤◌, ℕ, List, [], ◌∷◌, ◌++◌, codes, length, take, ◌||◌, if◌then◌else◌, true, false, Option, Some, None, Ok, Err, IfOk, IfSome, OnErr, MatchResult};
+ghost use Rattle.std.specs.Option.{option_copied};
+ghost use Rattle.sd_sid.specs.Sid.{IsSid, SecurityId};
+ghost use Rattle.sd_view.specs.Descriptor.{IsDescriptor, Shows};
+ghost use Rattle.sd_builder.specs.Draft.{IsWritten};
+ghost use Rattle.sd_sddl_reader.specs.Inner.Held.{IsHeld, no_text, held_text};
+ghost use Rattle.sd_sddl_reader.specs.Line.{byte, head_at, head_of as head_named, pieces_from};
+ghost use Rattle.sd_sddl_reader.specs.FoldedReading.{FieldsRead, finished, take_field};
+ghost use Rattle.sd_text.specs.Chains.{and_then, unless};
+ghost use Rattle.sd_sddl_reader.specs.Meaning.{means};
+ghost use Rattle.sd_sddl_reader.specs.Inner.Reads.{CanTake, HasReadFields, Takes};
+ghost use Rattle.sd_sddl_reader.specs.Inner.Progress.{ended_with, is_inside, is_seen, state_of, with_head};
+
+use crate::fault::SddlFault;
+use crate::field_text::FieldText;
+use crate::line::{
+    AceField, Head, Seen, Slot, State, head_of, is_blank, next_field, plain_inside, plain_outside,
+    state_of,
+};
+use crate::reading::{FieldReader, fault_of};
+use sd_buffer::SdBuf;
+use sd_sid::Sid;
+
+/// A reader of one line, by bytes or pieces, beside the buffer in which the descriptor is built.
+#[derive(Drop)]
+pub struct SddlReader {
+    state: State,
+    // A letter that is a head if a colon comes next.
+    pending: Option<u8>,
+    sound: bool,
+    twice: bool,
+    seen: Seen,
+    // The text of the field at hand.
+    field: FieldText,
+    // The first field that did not read.
+    fault: Option<SddlFault>,
+    fields: FieldReader,
+}
+
+impl SddlReader {
+    ghost use Rattle.sd_sddl_reader.specs.SddlReading.{IsReading, ReadsSddl};
+    ghost use Rattle.sd_sddl_reader.specs.Inner.Reads.{CanStep, Ends, FedTo, HasReadFields, LineHasRead, IsCalm, IsReader, IsText, Reads, Steps, StepsOn, StepsText, answer_at};
+
+    /// A reader that was fed nothing.
+    pub fn new(domain: Option<Sid>, buf: &mut SdBuf) -> Self
+        ensures reader { IsReading result buf.new }
+        ensures read { ReadsSddl result buf.new domain [] }
+    {
+        SddlReader {
+            state: State::Before,
+            pending: None,
+            sound: true,
+            twice: false,
+            seen: Seen {
+                owner: false,
+                group: false,
+                sacl: false,
+                dacl: false,
+            },
+            field: FieldText::new(),
+            fault: None,
+            fields: FieldReader::new(domain, buf),
+        }
+    }
+
+    // A byte inside parentheses.
+    fn put_inside(&mut self, buf: &mut SdBuf, field: AceField, byte: u8)
+        requires here { self.old.state ≡ State.Ace field }
+        requires ready { CanStep self.old buf.old }
+        ensures answers { Steps self.old buf.old (byte ∷ []) self.new buf.new }
+        ensures calm { IsCalm self.new }
+        ensures pending { self.new.pending ≡ self.old.pending }
+    {
+        match byte {
+            b'(' => self.sound = false,
+            b')' => self.end_ace(buf, field),
+            b';' => self.end_ace_field(buf, field),
+            _ => self.field.push_within(byte),
+        }
+    }
+
+    // The parenthesis that ends an ACE.
+    fn end_ace(&mut self, buf: &mut SdBuf, field: AceField)
+        requires here { self.old.state ≡ State.Ace field }
+        requires ready { CanStep self.old buf.old }
+        ensures answers { Steps self.old buf.old (codes ")") self.new buf.new }
+        ensures calm { IsCalm self.new }
+        ensures pending { self.new.pending ≡ self.old.pending }
+    {
+        if let AceField::Sid = field {
+            end_field(
+                &mut self.fault,
+                &mut self.field,
+                &mut self.fields,
+                buf,
+                Slot::Ace(field),
+            );
+            self.state = State::AfterAce;
+        } else {
+            self.sound = false;
+        }
+    }
+
+    // The semicolon that ends a field of an ACE.
+    fn end_ace_field(&mut self, buf: &mut SdBuf, field: AceField)
+        requires here { self.old.state ≡ State.Ace field }
+        requires ready { CanStep self.old buf.old }
+        ensures answers { Steps self.old buf.old (codes ";") self.new buf.new }
+        ensures calm { IsCalm self.new }
+        ensures pending { self.new.pending ≡ self.old.pending }
+    {
+        if let AceField::Sid = field {
+            self.sound = false;
+        } else {
+            end_field(
+                &mut self.fault,
+                &mut self.field,
+                &mut self.fields,
+                buf,
+                Slot::Ace(field),
+            );
+            self.state = State::Ace(next_field(field));
+        }
+    }
+
+    // A byte outside parentheses that begins no head.
+    fn put_outside(&mut self, buf: &mut SdBuf, byte: u8)
+        requires here { is_inside self.old.state ≡ false }
+        requires ready { CanStep self.old buf.old }
+        ensures answers { StepsText self.old buf.old byte self.new buf.new }
+        ensures calm { IsCalm self.new }
+        ensures pending { self.new.pending ≡ self.old.pending }
+    {
+        match byte {
+            b'(' => self.begin_ace(buf),
+            b')' | b':' => self.sound = false,
+            _ => self.put_text(byte),
+        }
+    }
+
+    // The parenthesis that begins an ACE.
+    fn begin_ace(&mut self, buf: &mut SdBuf)
+        requires here { is_inside self.old.state ≡ false }
+        requires ready { CanStep self.old buf.old }
+        ensures answers { Steps self.old buf.old (codes "(") self.new buf.new }
+        ensures calm { IsCalm self.new }
+        ensures pending { self.new.pending ≡ self.old.pending }
+    {
+        match self.state {
+            State::AclFlags(which) => {
+                end_field(
+                    &mut self.fault,
+                    &mut self.field,
+                    &mut self.fields,
+                    buf,
+                    Slot::AclFlags(which, true),
+                );
+                self.state = State::Ace(AceField::Kind);
+            }
+            State::AfterAce => {
+                self.field.clear();
+                self.state = State::Ace(AceField::Kind);
+            }
+            _ => self.sound = false,
+        }
+    }
+
+    // A byte of a text outside parentheses.
+    fn put_text(&mut self, b: u8)
+        requires here { is_inside self.old.state ≡ false }
+        requires calm { IsCalm self.old }
+        requires text { IsText b }
+        ensures answers { (t : FieldsRead) (rest : List ℕ) → head_at (byte b) (pieces_from false rest).after ≡ None → answer_at self.new t rest ≡ answer_at self.old t (b ∷ rest) }
+        ensures calm { IsCalm self.new }
+        ensures same { self.new ≡ record self.old { sound = self.new.sound; field = self.new.field } }
+    {
+        match self.state {
+            State::Sid(_) | State::AclFlags(_) => self.field.push_outer(b),
+            _ => {
+                if !is_blank(b) {
+                    self.sound = false;
+                }
+            }
+        }
+    }
+
+    // A head, of a letter that waited and its colon.
+    fn begin_part(&mut self, buf: &mut SdBuf, letter: u8, head: Head)
+        requires here { is_inside self.old.state ≡ false }
+        requires ready { CanStep self.old buf.old }
+        requires letter { head_named letter ≡ Some head }
+        ensures answers { Steps self.old buf.old (letter ∷ codes ":") self.new buf.new }
+        ensures calm { IsCalm self.new }
+        ensures pending { self.new.pending ≡ self.old.pending }
+    {
+        self.end_part(buf);
+        self.note_head(head);
+    }
+
+    // Notes a head. After a second one of its letter nothing counts but the shape, and nothing more is built.
+    fn note_head(&mut self, head: Head)
+        ensures state { self.new.state ≡ state_of head }
+        ensures twice { self.new.twice ≡ (self.old.twice || is_seen self.old.seen head) }
+        ensures seen { self.new.seen ≡ with_head self.old.seen head }
+        ensures fault { self.new.fault ≡ (if is_seen self.old.seen head then Some SddlFault.PartTwice else self.old.fault) }
+        ensures same { self.new ≡ record self.old { state = self.new.state; twice = self.new.twice; seen = self.new.seen; fault = self.new.fault } }
+    {
+        if self.seen.has(head) {
+            self.twice = true;
+            self.fault = Some(SddlFault::PartTwice);
+        }
+        self.seen.add(head);
+        self.state = state_of(head);
+    }
+
+    // The end of the part at hand, with no ACE since its head or none open.
+    fn end_part(&mut self, buf: &mut SdBuf)
+        requires here { is_inside self.old.state ≡ false }
+        requires ready { CanStep self.old buf.old }
+        ensures read { (t : FieldsRead) → LineHasRead self.old buf.old t → (u : FieldsRead) × (self.new.fault ≡ None → HasReadFields self.new.fields buf.new u)
+            × (unless self.new.fault u ≡ ended_with self.old.fields.domain self.old.state self.old.field (unless self.old.fault t)) }
+        ensures cleared { self.new.field ≡ no_text }
+        ensures domain { self.new.fields.domain ≡ self.old.fields.domain }
+        ensures same { self.new ≡ record self.old { field = self.new.field; fault = self.new.fault; fields = self.new.fields } }
+    {
+        match self.state {
+            State::Sid(part) => end_field(
+                &mut self.fault,
+                &mut self.field,
+                &mut self.fields,
+                buf,
+                Slot::Sid(part),
+            ),
+            State::AclFlags(which) => end_field(
+                &mut self.fault,
+                &mut self.field,
+                &mut self.fields,
+                buf,
+                Slot::AclFlags(which, false),
+            ),
+            _ => self.field.clear(),
+        }
+    }
+
+    // A byte outside parentheses with none that waits before it.
+    fn feed_alone(&mut self, buf: &mut SdBuf, byte: u8)
+        requires here { is_inside self.old.state ≡ false }
+        requires ready { CanStep self.old buf.old }
+        requires pending { self.old.pending ≡ None }
+        ensures answers { StepsOn self.old buf.old (byte ∷ []) self.new buf.new }
+        ensures reader { IsReader self.new buf.new }
+    {
+        if head_of(byte).is_some() {
+            self.pending = Some(byte);
+        } else {
+            self.put_outside(buf, byte);
+        }
+    }
+
+    // A byte outside parentheses after a letter that waits.
+    fn feed_after(&mut self, buf: &mut SdBuf, letter: u8, byte: u8)
+        requires here { is_inside self.old.state ≡ false }
+        requires ready { CanStep self.old buf.old }
+        requires pending { self.old.pending ≡ Some letter }
+        requires letter { IsText letter }
+        ensures answers { StepsOn self.old buf.old (letter ∷ byte ∷ []) self.new buf.new }
+        ensures reader { IsReader self.new buf.new }
+    {
+        self.pending = None;
+        match head_of(letter) {
+            Some(head) if byte == b':' => self.begin_part(buf, letter, head),
+            _ => {
+                self.put_text(letter);
+                self.feed_alone(buf, byte);
+            }
+        }
+    }
+
+    /// Takes one byte more of the line.
+    pub fn feed(&mut self, buf: &mut SdBuf, byte: u8)
+        requires { IsReading self.old buf.old }
+        ensures reader { IsReading self.new buf.new }
+        ensures read { (domain : Option SecurityId) (text : List ℕ) → ReadsSddl self.old buf.old domain text → ReadsSddl self.new buf.new domain (text ++ byte ∷ []) }
+    {
+        if !self.sound {
+            return;
+        }
+        if let State::Ace(field) = self.state {
+            self.put_inside(buf, field, byte);
+        } else if let Some(letter) = self.pending {
+            self.feed_after(buf, letter, byte);
+        } else {
+            self.feed_alone(buf, byte);
+        }
+    }
+
+    /// Takes bytes more of the line.
+    pub fn feed_all(&mut self, buf: &mut SdBuf, bytes: &[u8])
+        requires { IsReading self.old buf.old }
+        ensures reader { IsReading self.new buf.new }
+        ensures read { (domain : Option SecurityId) (text : List ℕ) → ReadsSddl self.old buf.old domain text → ReadsSddl self.new buf.new domain (text ++ bytes.now) }
+    {
+        let mut rest = bytes;
+        while let Some((byte, after)) = rest.split_first() {
+            self.feed(buf, *byte);
+            let left = self.feed_aces(buf, after);
+            let run = self.feed_run(left);
+            rest = &left[run..];
+        }
+    }
+
+    // Takes the ACEs that stand whole at the front of the text, from behind the first parenthesis of the first one, and
+    // answers what follows them.
+    fn feed_aces<'a>(&mut self, buf: &mut SdBuf, text: &'a [u8]) -> &'a [u8]
+        requires { IsReader self.old buf.old }
+        ensures shorter { length result.now ≤ length text.now }
+        ensures reader { IsReader self.new buf.new }
+        ensures read { (domain : Option SecurityId) (before : List ℕ) → Reads self.old buf.old domain before
+            → FedTo self.new buf.new domain result.now (before ++ text.now) }
+    {
+        let State::Ace(AceField::Kind) = self.state else {
+            return text;
+        };
+        if !self.sound || self.fault.is_some() || !self.field.is_empty() {
+            return text;
+        }
+        let mut rest = text;
+        while let Some(after) = self.fields.take_ace(buf, rest) {
+            self.state = State::AfterAce;
+            match after.split_first() {
+                Some((b'(', next)) => rest = next,
+                _ => return after,
+            }
+            self.state = State::Ace(AceField::Kind);
+        }
+        rest
+    }
+
+    // Takes the bytes at the front that only go onto the field at hand, all at once, and says how many they are.
+    fn feed_run(&mut self, text: &[u8]) -> usize
+        ensures within { result ≤ length text.now }
+        ensures reader { (buf : List ℕ) → IsReader self.old buf → IsReader self.new buf }
+        ensures read { (buf : List ℕ) (domain : Option SecurityId) (before : List ℕ) → IsReader self.old buf → Reads self.old buf domain before
+            → Reads self.new buf domain (before ++ take result text.now) }
+    {
+        match self.state {
+            State::Ace(_) => {
+                let count = plain_inside(text);
+                self.field.push_run(&text[..count]);
+                count
+            }
+            State::Sid(_) if self.pending.is_none() => {
+                let count = plain_outside(text);
+                self.field.push_run(&text[..count]);
+                count
+            }
+            _ => 0,
+        }
+    }
+
+    /// The end of the line: the buffer holds what it means, or nothing where it has a fault.
+    pub fn finish(mut self, buf: &mut SdBuf) -> Result<(), SddlFault>
+        requires { IsReading self buf.old }
+        ensures exact { (domain : Option SecurityId) (text : List ℕ) → ReadsSddl self buf.old domain text → MatchResult (means text domain)
+            (λ d. (result ≡ Ok tt) × Shows buf.new d)
+            (λ e. (result ≡ Err e) × (buf.new ≡ [])) }
+        // Without gaps, and each part in its one written form.
+        ensures written { (domain : Option SecurityId) (text : List ℕ) → ReadsSddl self buf.old domain text → IfOk (means text domain) (IsWritten buf.new) }
+        ensures empty { OnErr result (buf.new ≡ []) }
+    {
+        if let Some(letter) = self.pending {
+            self.put_text(letter);
+        }
+        self.finish_alone(buf)
+    }
+
+    // The end of a line with no byte that waits.
+    fn finish_alone(mut self, buf: &mut SdBuf) -> Result<(), SddlFault>
+        requires { CanStep self buf.old }
+        ensures exact { (t : FieldsRead) → LineHasRead self buf.old t → MatchResult (finished (answer_at self t []))
+            (λ d. (result ≡ Ok tt) × Shows buf.new d)
+            (λ e. (result ≡ Err e) × (buf.new ≡ [])) }
+        ensures written { (t : FieldsRead) → LineHasRead self buf.old t → IfOk (finished (answer_at self t [])) (IsWritten buf.new) }
+        ensures empty { OnErr result (buf.new ≡ []) }
+    {
+        match self.end_line(buf) {
+            Ok(()) => Ok(()),
+            Err(fault) => {
+                buf.clear();
+                Err(fault)
+            }
+        }
+    }
+
+    // What a line gives that ends here, with no byte that waits.
+    fn end_line(mut self, buf: &mut SdBuf) -> Result<(), SddlFault>
+        requires { CanStep self buf.old }
+        ensures { (t : FieldsRead) → LineHasRead self buf.old t → Ends (finished (answer_at self t [])) result buf.new }
+    {
+        if !self.sound {
+            return Err(SddlFault::Shape);
+        }
+        if let State::Ace(_) = self.state {
+            return Err(SddlFault::Shape);
+        }
+        self.end_part(buf);
+        if self.twice {
+            return Err(SddlFault::PartTwice);
+        }
+        match self.fault {
+            Some(fault) => Err(fault),
+            None => self.fields.finish(buf),
+        }
+    }
+}
+
+// Reads the field at hand, where each one before it read, and makes room for the next.
+fn end_field(
+    fault: &mut Option<SddlFault>,
+    field: &mut FieldText,
+    fields: &mut FieldReader,
+    buf: &mut SdBuf,
+    slot: Slot,
+)
+    requires clean { IsHeld field.old }
+    requires held { (t : FieldsRead) × (fault.old ≡ None → HasReadFields fields.old buf.old t × CanTake slot t) }
+    ensures read { (t : FieldsRead) → (fault.old ≡ None → HasReadFields fields.old buf.old t) → (u : FieldsRead) × (fault.new ≡ None → HasReadFields fields.new buf.new u)
+        × (unless fault.new u ≡ and_then (unless fault.old t) (λ r. take_field fields.old.domain r slot (held_text field.old))) }
+    ensures cleared { field.new ≡ no_text }
+    ensures domain { fields.new.domain ≡ fields.old.domain }
+{
+    read_held(fault, field, fields, buf, slot);
+    field.clear();
+}
+
+// Reads the field at hand, where each one before it read.
+fn read_held(
+    fault: &mut Option<SddlFault>,
+    field: &FieldText,
+    fields: &mut FieldReader,
+    buf: &mut SdBuf,
+    slot: Slot,
+)
+    requires clean { IsHeld field.now }
+    requires held { (t : FieldsRead) × (fault.old ≡ None → HasReadFields fields.old buf.old t × CanTake slot t) }
+    ensures read { (t : FieldsRead) → (fault.old ≡ None → HasReadFields fields.old buf.old t) → (u : FieldsRead) × (fault.new ≡ None → HasReadFields fields.new buf.new u)
+        × (unless fault.new u ≡ and_then (unless fault.old t) (λ r. take_field fields.old.domain r slot (held_text field.now))) }
+    ensures domain { fields.new.domain ≡ fields.old.domain }
+{
+    if fault.is_some() {
+        return;
+    }
+    if let Err(found) = take_held(fields, buf, slot, field) {
+        *fault = Some(found);
+    }
+}
+
+fn take_held(
+    fields: &mut FieldReader,
+    buf: &mut SdBuf,
+    slot: Slot,
+    field: &FieldText,
+) -> Result<(), SddlFault>
+    requires clean { IsHeld field.now }
+    requires held { (t : FieldsRead) × HasReadFields fields.old buf.old t × CanTake slot t }
+    ensures read { (t : FieldsRead) → HasReadFields fields.old buf.old t → Takes (take_field fields.old.domain t slot (held_text field.now)) result fields.new buf.new }
+    ensures domain { fields.new.domain ≡ fields.old.domain }
+{
+    if field.is_broken() {
+        Err(fault_of(slot))
+    } else {
+        fields.take_readable(buf, slot, field.text())
+    }
+}
+
+// The limits of the domain: its size tells that it keeps them.
+fn note_limits(domain: Option<&Sid>)
+    ensures { IfSome (option_copied domain.entry) IsSid }
+{
+    if let Some(sid) = domain {
+        let _ = sid.size();
+    }
+}
+
+/// Reads a line of SDDL (MS-DTYP 2.5.1), as `O:BAD:(A;;FA;;;WD)`, with the aliases of a domain. The buffer holds bytes that show the descriptor that
+/// the line means. After a refusal, by the first fault, it is empty.
+pub fn read_sddl(text: &[u8], domain: Option<&Sid>, buf: &mut SdBuf) -> Result<(), SddlFault>
+    ensures exact { MatchResult (means text.now (option_copied domain.entry))
+        (λ d. (result ≡ Ok tt) × Shows buf.new d)
+        (λ e. (result ≡ Err e) × (buf.new ≡ [])) }
+    // Without gaps, and each part in its one written form.
+    ensures written { IfOk (means text.now (option_copied domain.entry)) (IsWritten buf.new) }
+    // What it means keeps the limits of a descriptor.
+    ensures limits { IfOk (means text.now (option_copied domain.entry)) IsDescriptor }
+{
+    note_limits(domain);
+    let mut reader = SddlReader::new(domain.copied(), buf);
+    reader.feed_all(buf, text);
+    reader.finish(buf)
+}

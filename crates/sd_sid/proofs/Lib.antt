@@ -1,0 +1,9 @@
+pub mod AliasLemmas
+pub mod Cutting
+pub mod FormLemmas
+pub mod SidFronts
+mod SidRows
+pub mod TextLemmas
+pub mod UsualNumbers
+pub mod Words
+pub mod laws

@@ -1,0 +1,146 @@
+-- The letters, digits and dashes at the front of a text.
+use Rattle.std.proofs.Common.{◌≡◌, ℕ, ◌+◌, ◌≤◌, Bool, true, false, ◌&&◌, List, [], ◌∷◌, ◌++◌, length, take, drop, get_or, Some, refl, ap, subst, take-append-drop, sym, ◌∙◌, arith, append-nil, length-append}
+use Rattle.std.proofs.lemmas.List.{length-take-le}
+use Rattle.std.specs.Prelude.{◌==◌, nat_le, nat_lt, not}
+use Rattle.std.specs.Char.{is_ascii_alphabetic, is_digit, to_ascii_uppercase}
+use Rattle.std.specs.List.{list_all}
+use Rattle.std.proofs.lemmas.Bool.Decides.{nat_tests}
+use Rattle.std.proofs.lemmas.List.Sums.{take_while-cons}
+use Rattle.std.proofs.lemmas.Bool.{and_parts}
+use Rattle.sd_sid.specs.SidText.{are_letters, are_numbers, begins_with_s1, has_form, is_sid_byte, cut_at_dashes, sid_front}
+use Rattle.sd_text.specs.Numbers.{number_after}
+use Rattle.sd_sid.proofs.laws.TextLaws.{cut-digits}
+use Rattle.sd_sid.proofs.UsualNumbers.{digits}
+
+front-more : (b : ℕ) (bs : List ℕ) → is_sid_byte b ≡ true → sid_front (b ∷ bs) ≡ b ∷ sid_front bs
+front-more b bs e = take_while-cons is_sid_byte b bs ∙ rw e refl
+
+digit_byte : (c : ℕ) → is_digit c 10 ≡ true → is_sid_byte c ≡ true
+digit_byte c e = grind (arith, nat_tests)
+
+front-digits : (ds rest : List ℕ) → list_all (λ b. is_digit b 10) ds ≡ true
+    → sid_front (ds ++ rest) ≡ ds ++ sid_front rest
+front-digits [] rest e = refl
+front-digits (d ∷ ds) rest e =
+    let parts = and_parts (is_digit d 10) _ e in
+    front-more d (ds ++ rest) (digit_byte d parts.0) ∙ ap (λ (t : List ℕ). d ∷ t) (front-digits ds rest parts.1)
+
+-- a number, and the pieces that follow it
+number-cut-of : (ds rest : List ℕ) → list_all (λ b. is_digit b 10) ds ≡ true
+    → (cut_at_dashes (sid_front rest)).first ≡ []
+    → cut_at_dashes (sid_front (ds ++ rest)) ≡ record { first = ds; others = (cut_at_dashes (sid_front rest)).others }
+number-cut-of ds rest e ends =
+    ap cut_at_dashes (front-digits ds rest e) ∙ cut-digits 10 ds (sid_front rest) (omega arith) e
+    ∙ ap (λ (t : List ℕ). record { first = ds ++ t; others = (cut_at_dashes (sid_front rest)).others }) ends
+    ∙ ap (λ (t : List ℕ). record { first = t; others = (cut_at_dashes (sid_front rest)).others }) (append-nil ds)
+
+number-size-of : (ds rest : List ℕ) → list_all (λ b. is_digit b 10) ds ≡ true
+    → length (sid_front (ds ++ rest)) + length rest ≡ length (sid_front rest) + length (ds ++ rest)
+number-size-of ds rest e =
+    let front : length (sid_front (ds ++ rest)) ≡ length ds + length (sid_front rest) =
+    ap length (front-digits ds rest e) ∙ length-append ds (sid_front rest) in
+    let whole = length-append ds rest in
+    omega arith
+
+pub number-cut : (text : List ℕ) (i n : ℕ) → number_after 10 0 (take i text) ≡ Some n
+    → (cut_at_dashes (sid_front (drop i text))).first ≡ []
+    → cut_at_dashes (sid_front text)
+    ≡ record { first = take i text; others = (cut_at_dashes (sid_front (drop i text))).others }
+number-cut text i n e ends =
+    ap (λ (t : List ℕ). cut_at_dashes (sid_front t)) (sym (take-append-drop i text))
+    ∙ number-cut-of (take i text) (drop i text) (digits 0 n (take i text) e) ends
+
+pub number-size : (text : List ℕ) (i n : ℕ) → number_after 10 0 (take i text) ≡ Some n
+    → length (sid_front text) + length (drop i text) ≡ length (sid_front (drop i text)) + length text
+number-size text i n e =
+    subst (λ (t : List ℕ). length (sid_front t) + length (drop i text) ≡ length (sid_front (drop i text)) + length t)
+    (take-append-drop i text) (number-size-of (take i text) (drop i text) (digits 0 n (take i text) e))
+
+letter_byte : (c : ℕ) → is_ascii_alphabetic c ≡ true → is_sid_byte c ≡ true
+letter_byte c e = grind (arith, nat_tests)
+
+-- the bytes of `S-1-` stand at the front
+s_byte : (b : ℕ) → (to_ascii_uppercase b == 83) ≡ true → is_sid_byte b ≡ true
+s_byte b e = grind (arith, nat_tests)
+
+byte_is : (b n : ℕ) → (b == n) ≡ true → b ≡ n
+byte_is b n e = grind (arith, nat_tests)
+
+s1-front : (text : List ℕ) → begins_with_s1 text ≡ true → 4 ≤ length text
+    → sid_front text ≡ take 4 text ++ sid_front (drop 4 text)
+s1-front (a ∷ b ∷ c ∷ d ∷ rest) e long =
+    let three = and_parts (to_ascii_uppercase a == 83 && b == 45 && c == 49) (d == 45) e in
+    let two = and_parts (to_ascii_uppercase a == 83 && b == 45) (c == 49) three.0 in
+    let one = and_parts (to_ascii_uppercase a == 83) (b == 45) two.0 in
+    rw (byte_is b 45 one.1, byte_is c 49 two.1, byte_is d 45 three.1) (
+    front-more a (45 ∷ 49 ∷ 45 ∷ rest) (s_byte a one.0)
+    ∙ ap (λ (t : List ℕ). a ∷ t) (front-more 45 (49 ∷ 45 ∷ rest) refl)
+    ∙ ap (λ (t : List ℕ). a ∷ 45 ∷ t) (front-more 49 (45 ∷ rest) refl)
+    ∙ ap (λ (t : List ℕ). a ∷ 45 ∷ 49 ∷ t) (front-more 45 rest refl))
+s1-front (a ∷ b ∷ c ∷ []) e long = absurd (omega arith)
+s1-front (a ∷ b ∷ []) e long = absurd (omega arith)
+s1-front (a ∷ []) e long = absurd (omega arith)
+s1-front [] e long = absurd (omega arith)
+
+front-begins : (text : List ℕ) → begins_with_s1 text ≡ true → 4 ≤ length text → begins_with_s1 (sid_front text) ≡ true
+front-begins text e long = rw (s1-front text e long) (begins text (sid_front (drop 4 text)) e long)
+  where
+    begins : (xs rest : List ℕ) → begins_with_s1 xs ≡ true → 4 ≤ length xs → begins_with_s1 (take 4 xs ++ rest) ≡ true
+    begins (a ∷ b ∷ c ∷ d ∷ xs) rest e long = e
+    begins (a ∷ b ∷ c ∷ []) rest e long = absurd (omega arith)
+    begins (a ∷ b ∷ []) rest e long = absurd (omega arith)
+    begins (a ∷ []) rest e long = absurd (omega arith)
+    begins [] rest e long = absurd (omega arith)
+
+behind : (xs rest : List ℕ) → 4 ≤ length xs → drop 4 (take 4 xs ++ rest) ≡ rest
+behind (a ∷ b ∷ c ∷ d ∷ xs) rest long = refl
+behind (a ∷ b ∷ c ∷ []) rest long = absurd (omega arith)
+behind (a ∷ b ∷ []) rest long = absurd (omega arith)
+behind (a ∷ []) rest long = absurd (omega arith)
+behind [] rest long = absurd (omega arith)
+
+-- what follows `S-1-` in the text of a SID at the front
+pub s1-behind : (text : List ℕ) → begins_with_s1 text ≡ true → 4 ≤ length text
+    → drop 4 (sid_front text) ≡ sid_front (drop 4 text)
+s1-behind text e long = ap (drop 4) (s1-front text e long) ∙ behind text (sid_front (drop 4 text)) long
+
+pub s1-size : (text : List ℕ) → begins_with_s1 text ≡ true → 4 ≤ length text
+    → length (sid_front text) ≡ length (sid_front (drop 4 text)) + 4
+s1-size text e long =
+    let parts = length-append (take 4 text) (sid_front (drop 4 text)) in
+    let four : length (take 4 text) ≡ 4 = length-take-le 4 text long in
+    let whole = ap length (s1-front text e long) in
+    omega arith
+
+pub s1-form : (text : List ℕ) → begins_with_s1 text ≡ true → 4 ≤ length text
+    → length (sid_front (drop 4 text)) ≤ 179 → are_numbers (cut_at_dashes (sid_front (drop 4 text))) ≡ true
+    → has_form (sid_front text) ≡ true
+unfolding has_form
+s1-form text e long short numbers =
+    let size = s1-size text e long in
+    let fits : nat_le (length (sid_front text)) 183 ≡ true = grind (arith, nat_tests) in
+    rw (fits, front-begins text e long, s1-behind text e long, numbers) refl
+
+letters-front : (text : List ℕ) → 2 ≤ length text → is_ascii_alphabetic (get_or text 0 0) ≡ true
+    → is_ascii_alphabetic (get_or text 1 0) ≡ true
+    → sid_front text ≡ get_or text 0 0 ∷ get_or text 1 0 ∷ sid_front (drop 2 text)
+letters-front (a ∷ b ∷ rest) long first second =
+    front-more a (b ∷ rest) (letter_byte a first)
+    ∙ ap (λ (t : List ℕ). a ∷ t) (front-more b rest (letter_byte b second))
+letters-front (a ∷ []) long first second = absurd (omega arith)
+letters-front [] long first second = absurd (omega arith)
+
+-- two letters, and whether more of a SID follows
+pub letters-are : (text : List ℕ) (more : Bool) → 2 ≤ length text → is_ascii_alphabetic (get_or text 0 0) ≡ true
+    → is_ascii_alphabetic (get_or text 1 0) ≡ true → more ≡ nat_lt 0 (length (sid_front (drop 2 text)))
+    → not more ≡ are_letters (sid_front text)
+letters-are text more long first second e =
+    rw (letters-front text long first second) (by_rest (sid_front (drop 2 text)) more e)
+  where
+    by_rest : (rest : List ℕ) (more : Bool) → more ≡ nat_lt 0 (length rest)
+        → not more ≡ are_letters (get_or text 0 0 ∷ get_or text 1 0 ∷ rest)
+    by_rest [] more e = rw (e, first, second) refl
+    by_rest (c ∷ cs) more e =
+        let some : nat_lt 0 (length (c ∷ cs)) ≡ true = grind (arith, nat_tests) in
+        let long : (length (get_or text 0 0 ∷ get_or text 1 0 ∷ c ∷ cs) == 2) ≡ false = grind (arith, nat_tests) in
+        rw (e, some, long) refl

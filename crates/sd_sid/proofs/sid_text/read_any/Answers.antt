@@ -1,0 +1,6 @@
+use Rattle.std.proofs.Common.{sym, ◌∙◌}
+use Rattle.sd_sid.proofs.FormLemmas.{has_form-few}
+use Rattle.sd_sid.proofs.sid_text.read_any.Goals as goal
+
+pub read_numbers-requires : goal.read_numbers-requires
+read_numbers-requires c = has_form-few c.args.text.now (sym c.has_form.ensures.value ∙ c.if-not-has_form.false)

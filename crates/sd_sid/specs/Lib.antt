@@ -1,0 +1,5 @@
+pub mod AliasValues
+pub mod Inner
+pub mod Naming
+pub mod Sid
+pub mod SidText

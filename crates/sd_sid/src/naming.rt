@@ -1,0 +1,26 @@
+//! How SIDs are named in what is printed.
+
+ghost use Rattle.std.specs.Prelude.{◌≡◌};
+ghost use Rattle.sd_sid.specs.Naming.{alias_by};
+
+use crate::sid::Sid;
+
+/// How SIDs are printed: by their aliases, those of a domain too where there is one, or by numbers alone.
+#[derive(Clone, Copy)]
+pub struct Naming {
+    pub domain: Option<Sid>,
+    pub numeric: bool,
+}
+
+impl Naming {
+    /// The alias by which a SID is printed (MS-DTYP 2.5.1.1). None where it has none, or where numbers alone
+    /// are asked for.
+    pub fn alias(&self, sid: &Sid) -> Option<[u8; 2]>
+        ensures { result ≡ alias_by self.now sid.now }
+    {
+        if self.numeric {
+            return None;
+        }
+        sid.alias(self.domain.as_ref())
+    }
+}

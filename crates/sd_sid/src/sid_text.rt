@@ -1,0 +1,349 @@
+//! The texts of SIDs (MS-DTYP 2.4.2.1).
+ghost use Rattle.std.specs.Prelude.{◌≡◌, false, true, ◌+◌, ◌*◌, ◌<◌, ◌≤◌, ◌^◌, [], ◌∷◌, length, take, drop, slice_index, nat_lt, if◌then◌else◌, IfSome, MatchOption, Option, None, Ok, Err};
+ghost use Rattle.std.specs.Char.{is_digit};
+ghost use Rattle.std.specs.List.{flat_map, list_all};
+ghost use Rattle.std.specs.Option.{option_copied, option_map};
+ghost use Rattle.sd_sid.specs.Sid.{IsSid, SecurityId};
+ghost use Rattle.sd_sink.specs.Print.{Prints};
+ghost use Rattle.sd_sink.specs.Sink.{Puts};
+ghost use Rattle.sd_text.specs.Limits.{most_subs};
+ghost use Rattle.sd_text.specs.Numbers.{number};
+ghost use Rattle.sd_text.specs.Cuts.{all_cuts};
+ghost use Rattle.sd_sid.specs.SidText.{decimals_read, are_letters, are_numbers, are_subs, authority_reads, authority_text, begins_with_s1, decimal_reads, has_form, is_decimal, is_hex, is_sid_byte, numbers_read, or_number_fault, cut_at_dashes, sid_front, sid_reads, sid_text, sub_text};
+
+use crate::alias::read_letters;
+use crate::sid::Sid;
+use crate::usual_sid::read_usual;
+use sd_sink::{Print, Printer, Sink, SinkFault};
+use sd_text::{
+    MOST_FIELD_SIZE, MOST_SUBS, print_decimal, print_decimal_behind, print_hex, read_number,
+};
+
+/// Why a text is no SID.
+#[derive(Clone, Copy, Debug, PartialEq, Eq)]
+pub enum SidFault {
+    /// 22: two letters that name no SID.
+    Alias,
+    /// 23: the name of a SID in a domain, and no domain with room for one more sub-authority.
+    NeedsDomain,
+    /// 24: a decimal number of more than 10 digits, or of 2^32 or more.
+    Number,
+    /// 25: neither two letters nor of the form `S-1-`, authority and sub-authorities.
+    SidForm,
+}
+
+/// The digits of an authority in hex.
+const HEX_DIGITS: usize = 12;
+
+impl Sid {
+    /// Puts the text: `S-1-`, the authority, and a dash and a number for each sub-authority. Numbers are
+    /// decimal; an authority of 2^32 or more is `0x` and twelve hex digits. As `S-1-5-32-544`.
+    pub fn put_text<S: Sink>(&self, sink: &mut S) -> Result<(), SinkFault>
+        ensures put { Puts (S.told sink.old) (S.told sink.new) (sid_text self.now) result }
+        // The text reads back, and has letters, digits and dashes alone.
+        ensures back { (domain : Option SecurityId) → sid_reads (sid_text self.now) domain ≡ Ok self.now }
+        ensures plain { list_all is_sid_byte (sid_text self.now) ≡ true }
+        ensures short { length (sid_text self.now) ≤ 18 + 11 * length self.now.subs }
+    {
+        let mut out = Printer::new(sink);
+        self.print_text(&mut out);
+        out.finish()
+    }
+
+    /// Prints the text, as `put_text` puts it.
+    pub fn print_text<P: Print>(&self, out: &mut P)
+        ensures put { Prints (P.told out.old) (P.told out.new) (sid_text self.now) }
+        ensures limits { IsSid self.now }
+    {
+        match (self.authority(), self.subs()) {
+            // Most SIDs are of a domain.
+            (5, [21, rest @ ..]) => {
+                out.put(b"S-1-5-21");
+                print_subs(rest, out);
+            }
+            (authority, subs) => {
+                out.put(b"S-1-");
+                print_authority(authority, out);
+                print_subs(subs, out);
+            }
+        }
+    }
+
+    /// The SID of a text. Two letters are an alias, in either case, some of them under the domain, which
+    /// counts as none where it has 15 sub-authorities. Any other text is `S-1-`, the authority in decimal or
+    /// as `0x` and twelve hex digits, and at most 15 times a dash and a decimal number: at most 183 bytes,
+    /// letters in either case, and numbers of at most ten digits below 2^32. The form is looked at before
+    /// the numbers. So `BA`, `ba` and `S-1-5-32-544` are one SID.
+    #[tactic(auto, unfolding(crate::specs::SidText::sid_reads))]
+    pub fn from_text(text: &[u8], domain: Option<&Sid>) -> Result<Sid, SidFault>
+        ensures exact { result ≡ sid_reads text.now (option_copied domain.entry) }
+    {
+        if are_letters(text) {
+            return read_letters(text[0], text[1], domain);
+        }
+        let mut sid = Sid::blank();
+        if read_usual(text, &mut sid) == Some(text.len()) {
+            return Ok(sid);
+        }
+        read_any(text)
+    }
+
+    /// The SID that the letters, digits and dashes at the front of a text write, as `from_text` reads them, and how
+    /// many these are. So of `S-1-5-32-544)` it is that of `BA`, and 12.
+    #[tactic(auto, unfolding(crate::specs::SidText::sid_reads))]
+    pub fn front_text(text: &[u8], domain: Option<&Sid>) -> (Result<Sid, SidFault>, usize)
+        ensures exact { result.0 ≡ sid_reads (sid_front text.now) (option_copied domain.entry) }
+        ensures size { result.1 ≡ length (sid_front text.now) }
+        // What was read, and where the rest begins.
+        ensures front { take result.1 text.now ≡ sid_front text.now }
+        ensures within { result.1 ≤ length text.now }
+    {
+        if front_is_letters(text) {
+            return (read_letters(text[0], text[1], domain), 2);
+        }
+        let mut sid = Sid::blank();
+        if let Some(size) = read_usual(text, &mut sid) {
+            return (Ok(sid), size);
+        }
+        read_any_front(text)
+    }
+}
+
+// The SID of the letters, digits and dashes at the front that are no name, as any may be written, and how many these
+// are. Apart, since few come here.
+#[inline(never)]
+fn read_any_front(text: &[u8]) -> (Result<Sid, SidFault>, usize)
+    ensures front { take result.1 text.now ≡ sid_front text.now }
+    ensures within { result.1 ≤ length text.now }
+    ensures value { result.0 ≡ (if has_form (sid_front text.now) then or_number_fault
+        (numbers_read (cut_at_dashes (drop 4 (sid_front text.now)))) else Err SidFault.SidForm) }
+{
+    let size = front_size(text);
+    (read_any(&text[..size]), size)
+}
+
+fn front_size(text: &[u8]) -> usize
+    ensures front { take result text.now ≡ sid_front text.now }
+    ensures within { result ≤ length text.now }
+{
+    for (i, byte) in text.iter().enumerate() {
+        if !is_sid_byte(*byte) {
+            return i;
+        }
+    }
+    text.len()
+}
+
+pub(crate) fn is_sid_byte(byte: u8) -> bool
+    ensures { result ≡ is_sid_byte byte }
+{
+    // Most texts end before a byte that the first test tells.
+    b'-' <= byte && (byte == b'-' || byte.is_ascii_alphanumeric())
+}
+
+fn begins_as_sid(text: &[u8]) -> bool
+    ensures { result ≡ nat_lt 0 (length (sid_front text.now)) }
+{
+    match text.first() {
+        Some(byte) => is_sid_byte(*byte),
+        None => false,
+    }
+}
+
+// Whether what stands at the front is two letters.
+fn front_is_letters(text: &[u8]) -> bool
+    ensures letters { result ≡ are_letters (sid_front text.now) }
+    ensures two { result ≡ true → sid_front text.now ≡ slice_index text.now 0 ∷ slice_index text.now 1 ∷ [] }
+    ensures long { result ≡ true → 2 ≤ length text.now }
+{
+    if text.len() < 2 || !text[0].is_ascii_alphabetic() || !text[1].is_ascii_alphabetic() {
+        return false;
+    }
+    !begins_as_sid(&text[2..])
+}
+
+// The SID of a text that is no name, as any may be written. Apart, since few come here, and others need not its room.
+#[inline(never)]
+fn read_any(text: &[u8]) -> Result<Sid, SidFault>
+    ensures { result ≡ (if has_form text.now then or_number_fault (numbers_read (cut_at_dashes (drop 4 text.now)))
+        else Err SidFault.SidForm) }
+{
+    if !has_form(text) {
+        return Err(SidFault::SidForm);
+    }
+    read_numbers(&text[4..]).ok_or(SidFault::Number)
+}
+
+// Decimal below 2^32, and else twelve hex digits.
+fn print_authority<P: Print>(authority: u64, out: &mut P)
+    ensures { Prints (P.told out.old) (P.told out.new) (authority_text authority) }
+{
+    if authority < 1 << 32 {
+        return print_decimal(authority as u32, out);
+    }
+    out.put(b"0x");
+    print_hex(HEX_DIGITS, authority, out);
+}
+
+fn print_subs<P: Print>(subs: &[u32], out: &mut P)
+    ensures { Prints (P.told out.old) (P.told out.new) (flat_map sub_text subs.now) }
+{
+    for sub in subs {
+        print_decimal_behind(b'-', *sub, out);
+    }
+}
+
+fn are_letters(text: &[u8]) -> bool
+    ensures { result ≡ are_letters text.now }
+{
+    text.len() == 2 && text[0].is_ascii_alphabetic() && text[1].is_ascii_alphabetic()
+}
+
+#[tactic(auto, unfolding(crate::specs::SidText::has_form))]
+fn has_form(text: &[u8]) -> bool
+    ensures value { result ≡ has_form text.now }
+    ensures long { result ≡ true → 4 ≤ length text.now }
+{
+    if text.len() > MOST_FIELD_SIZE || !begins_with_s1(text) {
+        return false;
+    }
+    are_numbers(&text[4..])
+}
+
+pub(crate) fn begins_with_s1(text: &[u8]) -> bool
+    ensures value { result ≡ begins_with_s1 text.now }
+    ensures long { result ≡ true → 4 ≤ length text.now }
+{
+    if text.len() < 4 {
+        return false;
+    }
+    (text[0] == b'S' || text[0] == b's') && text[1] == b'-' && text[2] == b'1' && text[3] == b'-'
+}
+
+// Whether an authority and then at most 15 numbers stand between the dashes.
+fn are_numbers(text: &[u8]) -> bool
+    ensures { result ≡ are_numbers (cut_at_dashes text.now) }
+{
+    let (first, rest) = cut(text);
+    if !is_hex(first) && !is_decimal(first) {
+        return false;
+    }
+    match rest {
+        None => true,
+        Some(rest) => are_subs(rest),
+    }
+}
+
+fn are_subs(text: &[u8]) -> bool
+    ensures { result ≡ are_subs 0 (all_cuts (cut_at_dashes text.now)) }
+{
+    let mut rest = text;
+    let mut count = 0;
+    loop {
+        let (piece, after) = cut(rest);
+        if count == MOST_SUBS || !is_decimal(piece) {
+            return false;
+        }
+        count += 1;
+        match after {
+            None => return true,
+            Some(after) => rest = after,
+        }
+    }
+}
+
+// What stands before the first dash, and what follows it.
+fn cut(text: &[u8]) -> (&[u8], Option<&[u8]>)
+    ensures cut { MatchOption result.1 (cut_at_dashes text.now ≡ record { first = result.0.now; others = [] })
+        (λ rest. cut_at_dashes text.now ≡ record { first = result.0.now; others = all_cuts (cut_at_dashes rest.now) }) }
+    ensures shorter { MatchOption result.1 (0 ≤ 0) (λ rest. length rest.now < length text.now) }
+{
+    for (i, byte) in text.iter().enumerate() {
+        if *byte == b'-' {
+            return (&text[..i], Some(&text[i + 1..]));
+        }
+    }
+    (text, None)
+}
+
+fn is_decimal(text: &[u8]) -> bool
+    ensures { result ≡ is_decimal text.now }
+{
+    !text.is_empty() && are_digits(10, text)
+}
+
+fn is_hex(text: &[u8]) -> bool
+    ensures { result ≡ is_hex text.now }
+{
+    if text.len() != 2 + HEX_DIGITS {
+        return false;
+    }
+    text[0] == b'0' && text[1].to_ascii_lowercase() == b'x' && are_digits(16, &text[2..])
+}
+
+fn are_digits(base: u32, text: &[u8]) -> bool
+    requires low { 2 ≤ base }
+    requires high { base ≤ 16 }
+    ensures { result ≡ list_all (λ b. is_digit b base) text.now }
+{
+    for byte in text {
+        if !char::from(*byte).is_digit(base) {
+            return false;
+        }
+    }
+    true
+}
+
+#[tactic(auto, unfolding(crate::specs::SidText::numbers_read))]
+fn read_numbers(text: &[u8]) -> Option<Sid>
+    requires { length (cut_at_dashes text.now).others ≤ most_subs }
+    ensures { result ≡ numbers_read (cut_at_dashes text.now) }
+{
+    let (first, rest) = cut(text);
+    let authority = read_authority(first)?;
+    let mut subs = [0; MOST_SUBS];
+    let count = match rest {
+        None => 0,
+        Some(rest) => read_subs(rest, &mut subs)?,
+    };
+    Sid::new(authority, &subs[..count])
+}
+
+fn read_authority(text: &[u8]) -> Option<u64>
+    ensures value { result ≡ authority_reads text.now }
+    ensures limit { IfSome result (λ n. n < 2 ^ 48) }
+{
+    if is_hex(text) {
+        return read_number(16, 1 << 48, &text[2..]);
+    }
+    read_decimal(text)
+}
+
+// Writes the numbers to the front of the array, and says how many there are.
+fn read_subs(text: &[u8], subs: &mut [u32; MOST_SUBS]) -> Option<usize>
+    requires { length (all_cuts (cut_at_dashes text.now)) ≤ most_subs }
+    ensures count { IfSome result (λ n. n ≤ most_subs) }
+    ensures numbers { option_map (λ n. take n subs.new) result ≡ decimals_read (all_cuts (cut_at_dashes text.now)) }
+{
+    let mut rest = text;
+    let mut count = 0;
+    loop {
+        let (piece, after) = cut(rest);
+        subs[count] = read_decimal(piece)? as u32;
+        count += 1;
+        match after {
+            None => return Some(count),
+            Some(after) => rest = after,
+        }
+    }
+}
+
+fn read_decimal(text: &[u8]) -> Option<u64>
+    ensures value { result ≡ decimal_reads text.now }
+    ensures limit { IfSome result (λ n. n < 2 ^ 32) }
+{
+    if text.len() > 10 {
+        return None;
+    }
+    read_number(10, 1 << 32, text)
+}

@@ -1,0 +1,186 @@
+//! The usual text of a SID, with decimal numbers alone, read in one pass from the front of a longer text.
+
+ghost use Rattle.std.specs.Prelude.{◌≡◌, ◌≤◌, ◌<◌, ◌+◌, ◌^◌, [], List, ℕ, length, take, drop, true, IfSome, MatchOption, Some};
+ghost use Rattle.std.specs.Char.{is_digit};
+ghost use Rattle.std.specs.List.{list_all};
+ghost use Rattle.sd_text.specs.Numbers.{number_after};
+ghost use Rattle.sd_text.specs.Cuts.{all_cuts};
+ghost use Rattle.sd_sid.specs.SidText.{decimals_read, are_numbers, are_subs, decimal_reads, has_form, is_decimal, numbers_read, cut_at_dashes, sid_front};
+
+use crate::sid::Sid;
+use crate::sid_text::{begins_with_s1, is_sid_byte};
+use sd_text::{MOST_FIELD_SIZE, MOST_SUBS};
+
+/// The digits that a decimal number has at most.
+const MOST_DIGITS: usize = 10;
+
+const ZERO: u64 = b'0' as u64;
+
+const NINE: u64 = b'9' as u64;
+
+/// The digits that are read at once, where as many stand there.
+const BLOCK: usize = 8;
+
+/// Fills in the SID that the letters, digits and dashes at the front write, and says how many these are, where its
+/// authority and its sub-authorities are decimal and below 2^32. None says nothing of the text.
+#[inline(always)]
+pub(crate) fn read_usual(text: &[u8], sid: &mut Sid) -> Option<usize>
+    requires none { sid.old.subs ≡ [] }
+    ensures size { IfSome result (λ n. n ≡ length (sid_front text.now)) }
+    ensures form { IfSome result (λ _. has_form (sid_front text.now) ≡ true) }
+    ensures numbers { IfSome result (λ _. numbers_read (cut_at_dashes (drop 4 (sid_front text.now))) ≡ Some sid.new) }
+{
+    if !begins_with_s1(text) {
+        return None;
+    }
+    let size = usual_numbers(&text[4..], sid)?;
+    if size > MOST_FIELD_SIZE - 4 {
+        return None;
+    }
+    Some(size + 4)
+}
+
+// The same for what follows `S-1-`.
+#[inline(always)]
+#[tactic(auto, unfolding(crate::specs::SidText::numbers_read))]
+fn usual_numbers(text: &[u8], sid: &mut Sid) -> Option<usize>
+    requires none { sid.old.subs ≡ [] }
+    ensures size { IfSome result (λ n. n ≡ length (sid_front text.now)) }
+    ensures form { IfSome result (λ _. are_numbers (cut_at_dashes (sid_front text.now)) ≡ true) }
+    ensures numbers { IfSome result (λ _. numbers_read (cut_at_dashes (sid_front text.now)) ≡ Some sid.new) }
+{
+    let (authority, after) = front_number(text)?;
+    sid.set_authority(authority);
+    let rest = usual_subs(after, sid)?;
+    Some(text.len() - rest.len())
+}
+
+// Appends the numbers that stand behind dashes to a SID that has none, and gives what follows them.
+#[inline(always)]
+fn usual_subs<'a>(text: &'a [u8], sid: &mut Sid) -> Option<&'a [u8]>
+    requires none { sid.old.subs ≡ [] }
+    requires ends { (cut_at_dashes (sid_front text.now)).first ≡ [] }
+    ensures form { IfSome result (λ _. are_subs 0 (cut_at_dashes (sid_front text.now)).others ≡ true) }
+    ensures numbers { IfSome result (λ _. decimals_read (cut_at_dashes (sid_front text.now)).others ≡ Some sid.new.subs) }
+    ensures size { IfSome result (λ r. length (sid_front text.now) + length r.now ≡ length text.now) }
+    ensures authority { sid.new.authority ≡ sid.old.authority }
+{
+    let mut rest = text;
+    while let Some(next) = behind_dash(rest) {
+        if sid.subs().len() == MOST_SUBS {
+            return None;
+        }
+        let (number, after) = front_number(next)?;
+        sid.push(number);
+        rest = after;
+    }
+    Some(rest)
+}
+
+// What follows the dash at the front. None where nothing of a SID stands there.
+#[inline(always)]
+fn behind_dash(text: &[u8]) -> Option<&[u8]>
+    requires ends { (cut_at_dashes (sid_front text.now)).first ≡ [] }
+    ensures cut { MatchOption result (sid_front text.now ≡ []) (λ next. cut_at_dashes (sid_front text.now)
+        ≡ record { first = []; others = all_cuts (cut_at_dashes (sid_front next.now)) }) }
+    ensures size { IfSome result (λ next. length (sid_front text.now) + length next.now
+        ≡ length (sid_front next.now) + length text.now) }
+{
+    match text.split_first() {
+        Some((b'-', next)) => Some(next),
+        _ => None,
+    }
+}
+
+// The number at the front, and what follows its digits: a dash, or what is of no SID.
+#[inline(always)]
+fn front_number(text: &[u8]) -> Option<(u32, &[u8])>
+    ensures number { IfSome result (λ r. (first : List ℕ) × (is_decimal first ≡ true) × (decimal_reads first ≡ Some r.0)
+        × (cut_at_dashes (sid_front text.now) ≡ record { first = first; others = (cut_at_dashes (sid_front r.1.now)).others })) }
+    ensures ends { IfSome result (λ r. (cut_at_dashes (sid_front r.1.now)).first ≡ []) }
+    ensures size { IfSome result (λ r. length (sid_front text.now) + length r.1.now
+        ≡ length (sid_front r.1.now) + length text.now) }
+{
+    let (number, count) = front_digits(text);
+    let after = &text[count..];
+    if count == 0 || number >= 1 << 32 || !ends_number(after) {
+        return None;
+    }
+    Some((number as u32, after))
+}
+
+// Whether a dash stands at the front, or what is of no SID.
+#[inline(always)]
+fn ends_number(text: &[u8]) -> bool
+    ensures { result ≡ true → (cut_at_dashes (sid_front text.now)).first ≡ [] }
+{
+    match text.split_first() {
+        Some((byte, _)) => *byte == b'-' || !is_sid_byte(*byte),
+        None => true,
+    }
+}
+
+// The number that the digits at the front write, ten of them at most, and how many these are.
+#[inline(always)]
+fn front_digits(text: &[u8]) -> (u64, usize)
+    ensures few { result.1 ≤ 10 }
+    ensures within { result.1 ≤ length text.now }
+    ensures number { number_after 10 0 (take result.1 text.now) ≡ Some result.0 }
+{
+    if text.len() < MOST_DIGITS {
+        return few_digits(0, text);
+    }
+    // Most sub-authorities of a domain have eight digits or more.
+    let block = &text[..BLOCK];
+    if !are_digits(block) {
+        return few_digits(0, block);
+    }
+    let (number, count) = few_digits(block_number(block), &text[BLOCK..MOST_DIGITS]);
+    (number, BLOCK + count)
+}
+
+// Whether all bytes are digits. It looks at all of them and at each in the same way, and so at several at a time.
+#[inline(always)]
+fn are_digits(text: &[u8]) -> bool
+    ensures { result ≡ list_all (λ b. is_digit b 10) text.now }
+{
+    let mut other = false;
+    for byte in text {
+        other |= (*byte < b'0') | (b'9' < *byte);
+    }
+    !other
+}
+
+// The number that a block of digits writes.
+#[inline(always)]
+fn block_number(block: &[u8]) -> u64
+    requires size { length block.now ≡ 8 }
+    requires digits { list_all (λ b. is_digit b 10) block.now ≡ true }
+    ensures number { number_after 10 0 block.now ≡ Some result }
+    ensures small { result < 10 ^ 8 }
+{
+    let mut number: u64 = 0;
+    for byte in block {
+        number = number * 10 + (u64::from(*byte) - ZERO);
+    }
+    number
+}
+
+// The number that the digits at the front write behind those of another, and how many these are.
+#[inline(always)]
+fn few_digits(before: u64, text: &[u8]) -> (u64, usize)
+    requires before { before < 10 ^ 8 }
+    requires few { length text.now ≤ 10 }
+    ensures within { result.1 ≤ length text.now }
+    ensures number { number_after 10 before (take result.1 text.now) ≡ Some result.0 }
+{
+    let mut number = before;
+    for (i, byte) in text.iter().enumerate() {
+        let byte = u64::from(*byte);
+        if byte < ZERO || NINE < byte {
+            return (number, i);
+        }
+        number = number * 10 + (byte - ZERO);
+    }
+    (number, text.len())
+}

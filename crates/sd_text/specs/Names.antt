@@ -1,0 +1,42 @@
+-- Texts of names of two letters that stand for bits.
+use Rattle.std.specs.Prelude.{ℕ, ◌&&◌, ◌==◌, if◌then◌else◌, List, [], ◌∷◌, Option, Some, None, bit_and, bit_or}
+use Rattle.std.specs.Char.{to_ascii_uppercase}
+use Rattle.sd_text.specs.declared.names.NamedBits.{NamedBits}
+
+-- 1. Reading.
+
+-- the bits that two letters, in either case, stand for in a table
+abbrev pub bits_named : List NamedBits → ℕ → ℕ → Option ℕ
+bits_named [] a b = None
+bits_named (e ∷ es) a b =
+    if e.first == to_ascii_uppercase a && e.second == to_ascii_uppercase b then Some e.bits else bits_named es a b
+
+-- the bits of both, where both are known
+abbrev pub joined : Option ℕ → Option ℕ → Option ℕ
+joined None more = None
+joined (Some bits) None = None
+joined (Some bits) (Some more) = Some (bit_or bits more)
+
+-- the bits of a run of names
+unfoldable pub run_of : List NamedBits → List ℕ → Option ℕ
+run_of table [] = Some 0
+run_of table (a ∷ []) = None
+run_of table (a ∷ b ∷ rest) = joined (bits_named table a b) (run_of table rest)
+
+-- 2. Printing.
+
+-- the names in a table of the bits of a mask, in the table's order
+abbrev pub names_of : List NamedBits → ℕ → List ℕ
+names_of [] mask = []
+names_of (e ∷ es) mask = if bit_and mask e.bits == 0 then names_of es mask else e.first ∷ e.second ∷ names_of es mask
+
+-- the bits of those names
+abbrev pub named_bits : List NamedBits → ℕ → ℕ
+named_bits [] mask = 0
+named_bits (e ∷ es) mask = if bit_and mask e.bits == 0 then named_bits es mask else bit_or e.bits (named_bits es mask)
+
+-- 3. Tables.
+
+-- a name, and the bits that it stands for
+abbrev pub named_row : NamedBits → List ℕ × ℕ
+named_row e = (e.first ∷ e.second ∷ [], e.bits)

@@ -1,0 +1,15 @@
+//! Numbers in digits, and names of two letters for bits: what the readers and printers of texts share. And the limits of
+//! texts, SIDs and tokens.
+#![tactic(auto)]
+
+mod digits;
+mod limits;
+mod names;
+mod numbers;
+
+pub use digits::{hex_digit, print_decimal, print_decimal_behind, print_hex};
+pub use limits::{
+    MOST_BASE64_TEXT, MOST_ENTRIES, MOST_FIELD_SIZE, MOST_HEX_TEXT, MOST_SDDL_TEXT, MOST_SUBS,
+};
+pub use names::{NamedBits, print_names, read_names};
+pub use numbers::read_number;

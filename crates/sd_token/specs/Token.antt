@@ -1,0 +1,30 @@
+-- Tokens (MS-DTYP 2.5.2): what contracts see of one, and which SIDs it meets.
+use Rattle.std.specs.Prelude.{ℕ, Bool, true, false, ◌&&◌, ◌||◌, List}
+use Rattle.std.specs.List.{list_any}
+use Rattle.sd_sid.specs.Sid.{SecurityId}
+use Rattle.sd_sid.specs.SidText.{same_sid}
+use Rattle.sd_token.specs.declared.token.EntryKind.{EntryKind}
+use Rattle.sd_token.specs.declared.token.EntryKind.TheVariants.{Enabled, DenyOnly}
+
+-- a SID, and whether it is enabled or deny-only
+abbrev pub Entry : Type 0
+Entry = SecurityId × EntryKind
+
+pub record TokenShown : Type 0 where
+  pub entries : List Entry
+  -- how often an entry was looked at
+  pub compared : ℕ
+  -- how many entries have memory
+  pub room : ℕ
+
+abbrev pub is_enabled : EntryKind → Bool
+is_enabled Enabled = true
+is_enabled DenyOnly = false
+
+-- the entry has the SID, and is enabled or may be deny-only
+abbrev pub entry_meets : SecurityId → Bool → Entry → Bool
+entry_meets s deny e = same_sid e.0 s && (is_enabled e.1 || deny)
+
+-- some entry meets the SID
+abbrev pub meets : SecurityId → Bool → List Entry → Bool
+meets s deny entries = list_any (entry_meets s deny) entries
