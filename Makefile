@@ -1,4 +1,4 @@
-# `make help` says what there is. Times are of four processors with nothing else to do.
+# `make help` lists the targets. Times are for four idle processors.
 PREFIX ?= /usr/local
 DESTDIR ?=
 
@@ -11,33 +11,33 @@ need_toolchain = $(if $(shell command -v rt 2>&1),,$(error the Rattle toolchain 
 
 .PHONY: help program run quick check rows test edits figures bench install uninstall deb clean
 
-# The first target, so that `make` alone says what there is.
+# The first target, so `make` alone lists the targets.
 help:
 	@echo 'make run               builds the program and shows the examples, each with its answer (10 to 18 minutes, then seconds)'
 	@echo 'make program           builds the program alone: crates/sdtool/out/sdtool'
-	@echo 'make quick             builds the program without a proof, and gives it rows and random lines (a minute)'
-	@echo 'make check CRATE=NAME  proves a crate, over the work that earlier checks kept (seconds to 2 minutes)'
-	@echo 'make rows ID=WORD      the rows whose names have the word, on the built program (seconds; ID= for all)'
-	@echo 'make test              the gate and all tests of the built program (40 minutes); ends with N passed, M failed'
-	@echo 'make edits             tries every edit that the check has to refuse, also those that the gate leaves out (an hour or two);'
-	@echo '                       with CRATE=NAME those of a crate, with EDIT=WORD those with the word in their names (10 to 30 seconds each)'
+	@echo 'make quick             builds the program without a proof, and tries it on rows and random lines (a minute)'
+	@echo 'make check CRATE=NAME  proves a crate, reusing the work of earlier checks (seconds to 2 minutes)'
+	@echo 'make rows ID=WORD      runs the rows whose names contain WORD on the built program (seconds; ID= for all)'
+	@echo 'make test              runs the gate and all tests of the built program (40 minutes); ends with N passed, M failed'
+	@echo 'make edits             tries every edit that the check must refuse, also those that the gate leaves out (an hour or two);'
+	@echo '                       CRATE=NAME tries those of a crate, EDIT=WORD those with WORD in their names (10 to 30 seconds each)'
 	@echo 'make figures           rewrites the figures in docs/GATE.md (seconds)'
 	@echo 'make bench             measures the program against a plain one in Rust, and cat (8 minutes)'
-	@echo 'make install           puts the program, its man page and its documents below PREFIX ($(PREFIX))'
-	@echo 'make uninstall         takes them away again'
-	@echo 'make deb               a Debian package of them, in out/ (seconds where the program is built)'
+	@echo 'make install           installs the program, its man page and its documents below PREFIX ($(PREFIX))'
+	@echo 'make uninstall         removes them again'
+	@echo 'make deb               builds a Debian package of them in out/ (seconds if the program is built)'
 	@echo 'make clean             removes what was built'
 
 program: $(PROGRAM)
 
-# 'rt run' proves, builds and runs. On an empty input the program does nothing, and where nothing that 'rt' sees has
-# changed the program stays as it is: hence the touch.
+# 'rt run' proves, builds and runs the program, which does nothing on an empty input. It leaves the program's file alone
+# if nothing changed that 'rt' sees, so touch marks the file as up to date.
 $(PROGRAM): $(SOURCES)
 	$(need_toolchain)
 	cd crates/sdtool && rt run -- convert < /dev/null
 	@touch $@
 
-# Where a line is faulty the status is 1, which here is an answer and no failure.
+# The program's status is 1 if a line has an error. Here that is an answer and not a failure.
 run: program
 	@$(PROGRAM) convert < $(EXAMPLES) | paste -d '\n' $(EXAMPLES) - | sed -e 'n;s/^/    /'
 
@@ -47,7 +47,7 @@ quick:
 
 check:
 	$(need_toolchain)
-	$(if $(CRATE),,$(error say which crate: make check CRATE=sd_core))
+	$(if $(CRATE),,$(error say which crate: make check CRATE=sd_sid))
 	cd crates/$(CRATE) && rt check
 
 rows: program
@@ -79,7 +79,7 @@ uninstall:
 	rm -f '$(DESTDIR)$(PREFIX)/bin/sdtool' '$(DESTDIR)$(PREFIX)/share/man/man1/sdtool.1'
 	rm -rf '$(DESTDIR)$(DOCUMENTS)'
 
-# Of the tree that install makes.
+# Packages the tree that install makes.
 deb: program
 	MAKE='$(MAKE)' packaging/deb.sh
 
