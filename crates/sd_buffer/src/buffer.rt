@@ -149,8 +149,8 @@ impl SdBuf {
         reader.finish(self)
     }
 
-    // Appends the bytes that pairs of hex digits spell. After a fault the contents are unchanged. Want of room is one
-    // too, but a line within its limit has room.
+    // Appends the bytes that pairs of hex digits spell. After a fault the contents are unchanged. A full buffer is a
+    // fault too, but a line within its limit has room.
     pub(crate) fn append_hex(&mut self, pairs: &[u8]) -> Result<(), TextFault>
         requires { length pairs.now % 2 ≡ 0 }
         ensures { 2 * length self.old + length pairs.now ≤ 2 * CAPACITY → MatchResult (hex_spells pairs.now)

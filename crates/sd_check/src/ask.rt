@@ -102,7 +102,7 @@ impl Ask {
         if carries(desired, FIRST_RESERVED) || carries(desired, SECOND_RESERVED) {
             return Err(AskFault::ReservedBits);
         }
-        // That its rights are below 2^25 is told by the call.
+        // The call gives the prover the fact that the mapping's rights are below 2^25.
         let _ = mapping.all();
         Ok(Ask {
             wanted: mapping.map(desired) % (1 << MAXIMUM_ALLOWED),

@@ -10,8 +10,8 @@ use sd_token::Token;
 use sd_view::SdView;
 
 /// Whether an entry of the token meets the SID. Entries are looked at up to the first that does.
-// On its own, so that its few steps have the registers that they need; and with a copy of the SID, which is seen to stay
-// as it is while looks are counted.
+// Not inlined, so the loop gets enough registers. It takes a copy of the SID, so the compiler knows that counting does
+// not change it.
 #[inline(never)]
 fn meets_any(token: &mut Token, sid: Sid, deny: bool) -> bool
     ensures value { result ≡ meets sid deny token.old.entries }

@@ -76,7 +76,7 @@ fn put_gathered<S: Sink>(
     }
 }
 
-// Of a line over its limit nothing but that is known.
+// A line over its limit was not read, so that is its only error.
 fn print_answer<P: Print>(
     job: &Job,
     line: &mut Line,

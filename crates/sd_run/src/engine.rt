@@ -77,7 +77,7 @@ impl Engine {
         }
     }
 
-    // The limits of the job's domain: its size tells that it keeps them. And those of its act.
+    // Gives the prover the limits of the job's domain and act: `size` promises those of a SID.
     pub(crate) fn note_limits(&self)
         ensures domain { IfSome self.now.domain IsSid }
         ensures act { ActLimits self.now.act }
@@ -89,7 +89,7 @@ impl Engine {
     }
 }
 
-// The limits of what an act has.
+// Gives the prover the limits of an act.
 fn note_act(act: &Act)
     ensures { ActLimits act.now }
 {
@@ -99,7 +99,7 @@ fn note_act(act: &Act)
     }
 }
 
-// The limits of a plan: its SIDs and its mapping tell that they keep them.
+// Gives the prover the limits of a plan: `size` promises those of a SID, and `read` those of a mapping.
 fn note_plan(plan: &Plan)
     ensures { IsPlan plan.now }
 {

@@ -1,4 +1,4 @@
-// The bytes go one after another into the line in hand, and each LF answers it.
+// Splits the input at LFs and answers each line.
 ghost use Rattle.std.specs.Prelude.{◌≡◌, ◌+◌, ◌<◌, ℕ, List, ◌++◌, [], ◌∷◌, length, ◌≢◌, slice_index, MatchResult, IfOk, IsOk, Ok, false, unwrap_or, IfSome};
 ghost use Rattle.sd_sink.specs.Sink.{SinkTold};
 ghost use Rattle.sd_token.specs.Token.{TokenShown};
@@ -44,7 +44,7 @@ fn answer_line<W: Drain>(
     Ok(())
 }
 
-/// A piece more, however the input is cut. The result says whether a line ended in it; where none did, nothing was put.
+/// Reads one more piece, wherever the input is cut. Returns whether a line ended in it; if none did, nothing was written.
 pub fn feed_all<W: Drain>(
     state: &mut RunState,
     piece: &[u8],

@@ -199,7 +199,7 @@ impl SddlReader {
         self.note_head(head);
     }
 
-    // Notes a head. After a second one of its letter nothing counts but the shape, and nothing more is built.
+    // Notes a head. After a second head with the same letter, the reader only checks the shape and builds nothing more.
     fn note_head(&mut self, head: Head)
         ensures state { self.new.state ≡ state_of head }
         ensures twice { self.new.twice ≡ (self.old.twice || is_seen self.old.seen head) }
@@ -338,7 +338,7 @@ impl SddlReader {
         rest
     }
 
-    // Takes the bytes at the front that only go onto the field at hand, all at once, and says how many they are.
+    // Appends the bytes at the front that belong to the current field, in one call, and returns their number.
     fn feed_run(&mut self, text: &[u8]) -> usize
         ensures within { result ≤ length text.now }
         ensures reader { (buf : List ℕ) → IsReader self.old buf → IsReader self.new buf }

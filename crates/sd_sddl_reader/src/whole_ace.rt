@@ -118,7 +118,7 @@ pub fn cut(text: &[u8]) -> Option<(&[u8], &[u8])>
     None
 }
 
-/// What follows the parenthesis behind so many bytes at the front, which are no more than a field has.
+/// The text after a parenthesis at offset `size`. `None` if none is there or `size` exceeds a field.
 #[inline(always)]
 pub fn behind(text: &[u8], size: usize) -> Option<&[u8]>
     ensures { IfSome result (λ r. (size ≤ most_field) × (text.now ≡ take size text.now ++ char ")" ∷ r.now)) }

@@ -88,8 +88,8 @@ impl Sid {
         read_any(text)
     }
 
-    /// The SID that the letters, digits and dashes at the front of a text write, as `from_text` reads them, and how
-    /// many these are. So of `S-1-5-32-544)` it is that of `BA`, and 12.
+    /// Reads the SID at the front of a text, as `from_text` does, and returns it with its length. For `S-1-5-32-544)`
+    /// that is the SID of `BA`, and 12.
     #[tactic(auto, unfolding(crate::specs::SidText::sid_reads))]
     pub fn front_text(text: &[u8], domain: Option<&Sid>) -> (Result<Sid, SidFault>, usize)
         ensures exact { result.0 ≡ sid_reads (sid_front text.now) (option_copied domain.entry) }
@@ -109,8 +109,7 @@ impl Sid {
     }
 }
 
-// The SID of the letters, digits and dashes at the front that are no name, as any may be written, and how many these
-// are. Apart, since few come here.
+// Reads a SID in any form but an alias, and returns it with its length. Not inlined because it is rare.
 #[inline(never)]
 fn read_any_front(text: &[u8]) -> (Result<Sid, SidFault>, usize)
     ensures front { take result.1 text.now ≡ sid_front text.now }
@@ -162,7 +161,7 @@ fn front_is_letters(text: &[u8]) -> bool
     !begins_as_sid(&text[2..])
 }
 
-// The SID of a text that is no name, as any may be written. Apart, since few come here, and others need not its room.
+// Reads the SID of a text that is not an alias. Not inlined: it is rare and needs much stack.
 #[inline(never)]
 fn read_any(text: &[u8]) -> Result<Sid, SidFault>
     ensures { result ≡ (if has_form text.now then or_number_fault (numbers_read (cut_at_dashes (drop 4 text.now)))

@@ -21,8 +21,8 @@ const NINE: u64 = b'9' as u64;
 /// The digits that are read at once, where as many stand there.
 const BLOCK: usize = 8;
 
-/// Fills in the SID that the letters, digits and dashes at the front write, and says how many these are, where its
-/// authority and its sub-authorities are decimal and below 2^32. None says nothing of the text.
+/// Reads a SID in its usual form, with all numbers decimal and below 2^32, and returns its length. `None` means only
+/// that the general reader must decide.
 #[inline(always)]
 pub(crate) fn read_usual(text: &[u8], sid: &mut Sid) -> Option<usize>
     requires none { sid.old.subs ≡ [] }
@@ -92,7 +92,7 @@ fn behind_dash(text: &[u8]) -> Option<&[u8]>
     }
 }
 
-// The number at the front, and what follows its digits: a dash, or what is of no SID.
+// The number at the front and the text after its digits. That text starts with a dash or with a byte that no SID has.
 #[inline(always)]
 fn front_number(text: &[u8]) -> Option<(u32, &[u8])>
     ensures number { IfSome result (λ r. (first : List ℕ) × (is_decimal first ≡ true) × (decimal_reads first ≡ Some r.0)

@@ -12,8 +12,8 @@ pub trait Sink {
     /// for certain.
     ghost told: { Self → SinkTold };
 
-    /// Appends all of the bytes. An `Err` has appended a prefix of them, and its failures rose by one:
-    /// a fault is never answered otherwise, and no call follows one that failed.
+    /// Appends all bytes. On `Err` a prefix was appended, and the count of failures rises by one. Do not call it again
+    /// after a failure.
     fn put(&mut self, bytes: &[u8]) -> Result<(), SinkFault>
         ensures { Puts (told self.old) (told self.new) bytes.now result };
 }

@@ -35,8 +35,8 @@ pub fn print_names<P: Print>(table: &[NamedBits], mask: u32, out: &mut P)
     }
 }
 
-// Writes the names to the front of the buffer, and answers where they end. Each name is written, and stays where its
-// bits are set: so no branch waits for the mask.
+// Writes the names to the front of the buffer and returns their end. Every name is written; the end moves only if its
+// bits are set. So the loop is branch-free.
 fn write_names(table: &[NamedBits], mask: u32, buffer: &mut [u8; CELLS]) -> usize
     requires fits { length table.now ≤ 17 }
     ensures end { result ≤ 34 }

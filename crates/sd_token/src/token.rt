@@ -106,7 +106,7 @@ impl Token {
     /// to look at an entry, and each look counts as one.
     pub fn meets(&mut self, index: usize, sid: &Sid, deny: bool) -> bool
         requires { index < length self.old.entries }
-        // The pair at the end is for no index that the condition lets through.
+        // The default pair is never used: the index is in range.
         ensures value { result ≡ entry_meets sid.now deny (slice_index_or self.old.entries index (sid.now, EntryKind.DenyOnly)) }
         ensures entries { self.new.entries ≡ self.old.entries }
         ensures compared { self.new.compared ≡ counted self.old.compared }
@@ -120,7 +120,7 @@ impl Token {
         self.is_met(index, sid, deny)
     }
 
-    // The rest of a look, where the keys are equal. Few looks come to it: the loops over entries go without its code.
+    // Compares the SIDs if the keys are equal. Not inlined: it is rare, and the loops over entries stay small.
     #[inline(never)]
     fn is_met(&self, index: usize, sid: &Sid, deny: bool) -> bool
         requires { index < length self.now.entries }
@@ -131,7 +131,7 @@ impl Token {
     }
 }
 
-// As a branch, which is foreseen: a sum that saturates would stand between each look and the next.
+// A predictable branch beats `saturating_add` here.
 fn count(looks: &mut u64)
     ensures { looks.new ≡ counted looks.old }
 {
