@@ -3,13 +3,17 @@ PREFIX ?= /usr/local
 DESTDIR ?=
 
 DOCUMENTS := $(PREFIX)/share/doc/sdtool
+BASH_COMPLETION := bash-completion/completions/sdtool
+ZSH_COMPLETION := zsh/site-functions/_sdtool
+FISH_COMPLETION := fish/vendor_completions.d/sdtool.fish
+COMPLETIONS := $(BASH_COMPLETION) $(ZSH_COMPLETION) $(FISH_COMPLETION)
 PROGRAM := crates/sdtool/out/sdtool
 EXAMPLES := examples/descriptors.hex
 SOURCES := crates.txt $(shell find crates -path '*/out' -prune -o -path '*/must-fail' -prune -o -type f -print)
 
 need_toolchain = $(if $(shell command -v rt 2>&1),,$(error the Rattle toolchain is missing: there is no command 'rt' on the PATH))
 
-.PHONY: help program run quick check rows test edits figures bench install uninstall deb clean
+.PHONY: help program run quick check rows test edits figures bench install uninstall deb dist clean
 
 # The first target, so `make` alone lists the targets.
 help:
@@ -23,9 +27,10 @@ help:
 	@echo '                       CRATE=NAME tries those of a crate, EDIT=WORD those with WORD in their names (10 to 30 seconds each)'
 	@echo 'make figures           rewrites the figures in docs/GATE.md (seconds)'
 	@echo 'make bench             measures the program against a plain one in Rust, and cat (8 minutes)'
-	@echo 'make install           installs the program, its man page and its documents below PREFIX ($(PREFIX))'
+	@echo 'make install           installs the program, its man page, documents and completions below PREFIX ($(PREFIX))'
 	@echo 'make uninstall         removes them again'
 	@echo 'make deb               builds a Debian package of them in out/ (seconds if the program is built)'
+	@echo 'make dist              builds one archive of them in out/, with checksums (seconds if the program is built)'
 	@echo 'make clean             removes what was built'
 
 program: $(PROGRAM)
@@ -74,14 +79,22 @@ install: program
 	install -m 644 README.md CONTRIBUTING.md LICENSE '$(DESTDIR)$(DOCUMENTS)'
 	install -m 644 docs/*.md '$(DESTDIR)$(DOCUMENTS)/docs'
 	cp -R examples '$(DESTDIR)$(DOCUMENTS)'
+	install -d $(foreach folder,$(COMPLETIONS),'$(DESTDIR)$(PREFIX)/share/$(dir $(folder))')
+	install -m 644 packaging/completions/sdtool.bash '$(DESTDIR)$(PREFIX)/share/$(BASH_COMPLETION)'
+	install -m 644 packaging/completions/_sdtool '$(DESTDIR)$(PREFIX)/share/$(ZSH_COMPLETION)'
+	install -m 644 packaging/completions/sdtool.fish '$(DESTDIR)$(PREFIX)/share/$(FISH_COMPLETION)'
 
 uninstall:
 	rm -f '$(DESTDIR)$(PREFIX)/bin/sdtool' '$(DESTDIR)$(PREFIX)/share/man/man1/sdtool.1'
+	rm -f $(foreach file,$(COMPLETIONS),'$(DESTDIR)$(PREFIX)/share/$(file)')
 	rm -rf '$(DESTDIR)$(DOCUMENTS)'
 
-# Packages the tree that install makes.
+# Package the tree that install makes.
 deb: program
 	MAKE='$(MAKE)' packaging/deb.sh
+
+dist: program
+	MAKE='$(MAKE)' packaging/dist.sh
 
 clean:
 	rm -rf crates/*/out out

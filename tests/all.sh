@@ -43,6 +43,7 @@ if "${MAKE:-make}" --no-print-directory program; then
     count tests/refused_allocations.py "$program"
     count tests/tables.py "$program"
     count tests/run_examples.py "$program"
+    count tests/completions.py "$program"
     count tests/system_calls.py "$program"
     count tests/memory.py "$program"
     count tests/device_faults.py "$program"

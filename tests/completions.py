@@ -1,0 +1,88 @@
+#!/usr/bin/env python3
+"""completions.py PROGRAM
+
+Compares the completions of packaging/completions/ with the program's help: each shell's file offers for each command
+exactly the options that the command's help lists, and exactly the commands that help lists.
+The last line is 'N passed, M failed'.
+"""
+import argparse
+import os
+import pathlib
+import re
+import subprocess
+import sys
+
+sys.dont_write_bytecode = True
+import preload  # noqa: E402
+
+FOLDER = pathlib.Path(__file__).resolve().parent.parent / "packaging/completions"
+SECONDS = 60
+OPTION = re.compile(r"--([a-z][a-z-]*)")
+
+
+def help_of(program, *words):
+    ended = subprocess.run([program, "help", *words], stdout=subprocess.PIPE, timeout=SECONDS, check=True)
+    return ended.stdout.decode()
+
+
+def commands_of(program):
+    """The names in the list of commands, each the first word of its line."""
+    _, _, listed = help_of(program).partition("Commands:\n")
+    return re.findall(r"^  ([a-z]+)\b", listed.partition("\n\n")[0], re.M)
+
+
+def options_of(program, command):
+    _, _, listed = help_of(program, command).partition("Options:\n")
+    return set(re.findall(r"^ +(?:-\w, )?--([a-z][a-z-]*)", listed, re.M))
+
+
+def of_bash(command):
+    """The options of a command, from the one line that sets them."""
+    text = (FOLDER / "sdtool.bash").read_text(encoding="utf-8")
+    found = re.search(rf"^ +{command}\) options='([^']*)'", text, re.M)
+    return set(OPTION.findall(found[1])) if found else set()
+
+
+def of_zsh(command):
+    """The options of a command, and those that each has."""
+    text = (FOLDER / "_sdtool").read_text(encoding="utf-8")
+    common = re.search(r"^common=\(\n(.*?)^\)", text, re.M | re.S)[1]
+    own = re.search(rf"^    {command}\)\n(.*?)^        ;;", text, re.M | re.S)
+    return set(re.findall(r"^ +'--([a-z-]+)\[", common + (own[1] if own else ""), re.M))
+
+
+def of_fish(command):
+    """The options whose condition names the command, or which have none."""
+    text = (FOLDER / "sdtool.fish").read_text(encoding="utf-8")
+    every = re.search(r"^set -l every '([^']*)'", text, re.M)[1]
+    options = set()
+    for row in text.replace("$every", every).splitlines():
+        option, condition = re.search(r" -l ([a-z-]+)", row), re.search(r"from ([a-z ]+)[\"']", row)
+        if row.startswith("complete") and option and (condition is None or command in condition[1].split()):
+            options.add(option[1])
+    return options
+
+
+def main():
+    parser = argparse.ArgumentParser(description="Compares the completions with the program's help.")
+    parser.add_argument("program", type=os.path.abspath)
+    program = parser.parse_args().program
+    count = preload.Count()
+    commands = commands_of(program)
+    count.add(len(commands) >= 4, f"the commands of help: {commands}")
+    for command in commands:
+        for name in ("sdtool.bash", "_sdtool", "sdtool.fish"):
+            text = (FOLDER / name).read_text(encoding="utf-8")
+            count.add(re.search(rf"\b{command}\b", text), f"{name}: no {command}")
+        if command == "help":
+            continue
+        wanted = options_of(program, command)
+        count.add(len(wanted) > 2, f"the options of {command}: {sorted(wanted)}")
+        for name, found in (("bash", of_bash), ("zsh", of_zsh), ("fish", of_fish)):
+            offered = found(command)
+            count.add(offered == wanted, f"{name}, {command}: {sorted(offered ^ wanted)} on one side alone")
+    return count.end()
+
+
+if __name__ == "__main__":
+    sys.exit(main())
