@@ -463,6 +463,8 @@ def main():
     parser.add_argument("program", type=os.path.abspath)
     program = parser.parse_args().program
     count = preload.Count()
+    # A shell that starts this in the background has SIGINT ignored, and so would every run that is to be interrupted.
+    signal.signal(signal.SIGINT, signal.default_int_handler)
     with tempfile.TemporaryDirectory(ignore_cleanup_errors=True) as folder:
         python = dask_cluster.python_with_dask(folder)
         if python is None:
