@@ -1,5 +1,5 @@
 -- Tokens (MS-DTYP 2.5.2): what contracts see of one, and which SIDs it meets.
-use Rattle.std.specs.Prelude.{ℕ, Bool, true, false, ◌&&◌, ◌||◌, List}
+use Rattle.std.specs.Prelude.{◌≡◌, ◌≤◌, ℕ, ◌+◌, ◌*◌, Bool, true, false, ◌&&◌, ◌||◌, List, Option, length}
 use Rattle.std.specs.List.{list_any}
 use Rattle.sd_sid.specs.Sid.{SecurityId}
 use Rattle.sd_sid.specs.SidText.{same_sid}
@@ -10,8 +10,13 @@ use Rattle.sd_token.specs.declared.token.EntryKind.TheVariants.{Enabled, DenyOnl
 abbrev pub Entry : Type 0
 Entry = SecurityId × EntryKind
 
-pub record TokenShown : Type 0 where
+-- who asks for access: the SIDs, and the integrity level where there is one
+pub record Holder : Type 0 where
   pub entries : List Entry
+  pub level : Option ℕ
+
+pub record TokenShown : Type 0 where
+  pub holder : Holder
   -- how often an entry was looked at
   pub compared : ℕ
   -- how many entries have memory
@@ -28,3 +33,13 @@ entry_meets s deny e = same_sid e.0 s && (is_enabled e.1 || deny)
 -- some entry meets the SID
 abbrev pub meets : SecurityId → Bool → List Entry → Bool
 meets s deny entries = list_any (entry_meets s deny) entries
+
+-- the count of comparisons goes on, by at most n
+pub record Compares (token token' : TokenShown) (n : ℕ) : Type 0 where
+  pub goes_on : token.compared ≤ token'.compared
+  pub at_most : token'.compared ≤ token.compared + n
+
+-- the holder stays, and each entry is looked at n times at most
+pub record Asks (token token' : TokenShown) (n : ℕ) : Type 0 where
+  pub holder : token'.holder ≡ token.holder
+  pub compared : Compares token token' (n * length token.holder.entries)

@@ -1,6 +1,6 @@
 //! Tokens (MS-DTYP 2.5.2).
 
-ghost use Rattle.std.specs.Prelude.{◌≡◌, ◌≤◌, ◌<◌, ◌↔◌, ◌++◌, [], ◌∷◌, length, slice_index_or, IfOk, OnOk, OnErr, IsErr};
+ghost use Rattle.std.specs.Prelude.{◌≡◌, ◌≤◌, ◌<◌, ◌↔◌, ◌++◌, [], ◌∷◌, None, length, slice_index_or, IfOk, OnOk, OnErr, IsErr};
 ghost use Rattle.sd_sink.specs.Counts.{counted};
 ghost use Rattle.sd_text.specs.Limits.{most_entries};
 ghost use Rattle.sd_sid.specs.SidText.{same_sid};
@@ -26,7 +26,8 @@ pub enum EntryKind {
     DenyOnly,
 }
 
-/// Who asks for access: the SIDs of a user and its groups (MS-DTYP 2.5.2), at most 1,024.
+/// Who asks for access: the SIDs of a user and its groups (MS-DTYP 2.5.2), at most 1,024, and perhaps an integrity
+/// level.
 ///
 /// A token counts every look at one of its entries. It is not cloned, so no look goes uncounted.
 #[derive(Drop)]
@@ -35,6 +36,7 @@ pub struct Token {
     // The key of each entry's SID, so that most looks at an entry read these eight bytes and no more.
     keys: Vec<u64>,
     compared: u64,
+    level: Option<u32>,
 }
 
 impl Model for Token {
@@ -45,15 +47,19 @@ impl Model for Token {
 
     ghost Value = { TokenShown };
 
-    ghost view = { λ t. record { entries = t.entries.items; compared = t.compared; room = vec_capacity t.entries } };
+    ghost view = { λ t. record {
+      holder = record { entries = t.entries.items; level = t.level };
+      compared = t.compared;
+      room = vec_capacity t.entries;
+    } };
 
     ghost invariant = { λ t. (most_entries ≤ vec_capacity t.entries) × (most_entries ≤ vec_capacity t.keys) × (vec_len t.entries ≤ most_entries) × (t.keys.items ≡ keys_of t.entries.items) };
 }
 
 impl Token {
-    /// A token without an entry, with the memory for 1,024.
+    /// A token without an entry and without a level, with the memory for 1,024 entries.
     pub fn new(alloc: Global) -> Result<Token, NoMemory>
-        ensures entries { IfOk result (λ t. t.entries ≡ []) }
+        ensures holder { IfOk result (λ t. t.holder ≡ record { entries = []; level = None }) }
         ensures compared { IfOk result (λ t. t.compared ≡ 0) }
         ensures reserved { IfOk result (λ t. most_entries ≤ t.room) }
     {
@@ -64,6 +70,7 @@ impl Token {
                 entries,
                 keys,
                 compared: 0,
+                level: None,
             }),
             _ => Err(NoMemory),
         }
@@ -72,8 +79,8 @@ impl Token {
     /// Adds an entry after the others. An entry that the token has already is kept a second time.
     /// Where it has 1,024 entries, nothing changes.
     pub fn add(&mut self, sid: Sid, kind: EntryKind) -> Result<(), TokenFull>
-        ensures full { IsErr result ↔ (most_entries ≤ length self.old.entries) }
-        ensures added { OnOk result (self.new.entries ≡ self.old.entries ++ (sid, kind) ∷ []) }
+        ensures full { IsErr result ↔ (most_entries ≤ length self.old.holder.entries) }
+        ensures added { OnOk result (self.new.holder ≡ record self.old.holder { entries = self.old.holder.entries ++ (sid, kind) ∷ [] }) }
         ensures unchanged { OnErr result (self.new ≡ self.old) }
         ensures compared { self.new.compared ≡ self.old.compared }
         ensures room { self.old.room ≤ self.new.room }
@@ -89,10 +96,27 @@ impl Token {
 
     /// The number of entries.
     pub fn len(&self) -> usize
-        ensures entries { result ≡ length self.now.entries }
+        ensures entries { result ≡ length self.now.holder.entries }
         ensures most { result ≤ most_entries }
     {
         self.entries.len()
+    }
+
+    /// Gives the token an integrity level (MS-DTYP 2.5.2), or takes it away. Mandatory labels limit a token with a
+    /// level alone.
+    pub fn set_level(&mut self, level: Option<u32>)
+        ensures holder { self.new.holder ≡ record self.old.holder { level = level } }
+        ensures compared { self.new.compared ≡ self.old.compared }
+        ensures room { self.new.room ≡ self.old.room }
+    {
+        self.level = level;
+    }
+
+    /// The integrity level, if there is one.
+    pub fn level(&self) -> Option<u32>
+        ensures { result ≡ self.now.holder.level }
+    {
+        self.level
     }
 
     /// How often an entry was looked at. At `u64::MAX` the count stays.
@@ -105,10 +129,10 @@ impl Token {
     /// Whether the entry at an index has the SID, and is enabled or may be deny-only. There is no other way
     /// to look at an entry, and each look counts as one.
     pub fn meets(&mut self, index: usize, sid: &Sid, deny: bool) -> bool
-        requires { index < length self.old.entries }
+        requires { index < length self.old.holder.entries }
         // The default pair is never used: the index is in range.
-        ensures value { result ≡ entry_meets sid.now deny (slice_index_or self.old.entries index (sid.now, EntryKind.DenyOnly)) }
-        ensures entries { self.new.entries ≡ self.old.entries }
+        ensures value { result ≡ entry_meets sid.now deny (slice_index_or self.old.holder.entries index (sid.now, EntryKind.DenyOnly)) }
+        ensures holder { self.new.holder ≡ self.old.holder }
         ensures compared { self.new.compared ≡ counted self.old.compared }
         ensures goes_on { self.old.compared ≤ self.new.compared }
         ensures room { self.new.room ≡ self.old.room }
@@ -123,8 +147,8 @@ impl Token {
     // Compares the SIDs if the keys are equal. Not inlined: it is rare, and the loops over entries stay small.
     #[inline(never)]
     fn is_met(&self, index: usize, sid: &Sid, deny: bool) -> bool
-        requires { index < length self.now.entries }
-        ensures { result ≡ entry_meets sid.now deny (slice_index_or self.now.entries index (sid.now, EntryKind.DenyOnly)) }
+        requires { index < length self.now.holder.entries }
+        ensures { result ≡ entry_meets sid.now deny (slice_index_or self.now.holder.entries index (sid.now, EntryKind.DenyOnly)) }
     {
         let entry = &self.entries[index];
         is_same(&entry.0, sid) && (is_enabled(entry.1) || deny)
