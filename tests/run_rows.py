@@ -71,10 +71,17 @@ def text(value):
     return value.encode("latin-1")
 
 
+def rows_in(file):
+    """The rows of a subject, each with a source: its own, or that of the file."""
+    subject = json.loads(file.read_text(encoding="utf-8"))
+    rows, source = (subject["rows"], subject["source"]) if isinstance(subject, dict) else (subject, None)
+    return [{"source": source, **row} for row in rows]
+
+
 def all_rows():
     """The rows of all subjects; no two have one id."""
     files = sorted(pathlib.Path(__file__).with_name("rows").glob("*.json"))
-    rows = [row for file in files for row in json.loads(file.read_text(encoding="utf-8"))]
+    rows = [row for file in files for row in rows_in(file)]
     if len({row["id"] for row in rows}) < len(rows):
         sys.exit("two rows have one id")
     return rows

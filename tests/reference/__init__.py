@@ -12,7 +12,7 @@ fast, and nothing is shared with the program. What the tests take stands here; a
   sddl_printing.py  SDDL that is printed
   explaining.py     explanations
   access.py         what a descriptor grants
-  inheriting.py     what a new object inherits
+  inheriting.py     the descriptor of a new object
   command_line.py   what words ask for
   run.py            the lines of an input, and their answers
 """

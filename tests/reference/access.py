@@ -3,12 +3,13 @@ import functools
 import operator
 from typing import NamedTuple, Optional, Tuple
 
-from .parts import OBJECT_TYPES, Sid
-from .tables import ACE_FLAGS
+from .parts import LABEL_TYPE, OBJECT_TYPES, Sid
+from .tables import ACE_FLAGS, LABEL_RIGHTS
 
 MAXIMUM_ALLOWED, RESERVED = 1 << 25, 3 << 26
 PLACES = range(25)  # of the rights that can be granted
 READ_CONTROL, WRITE_DAC, WRITE_OWNER, SYSTEM_SECURITY = 17, 18, 19, 24
+MANDATORY_LABEL_AUTHORITY, MEDIUM = 16, 0x2000
 
 
 class Ask(NamedTuple):
@@ -21,6 +22,12 @@ class Ask(NamedTuple):
     principal_self: Optional[Sid]
     security: bool
     take_ownership: bool
+    level: Optional[int] = None  # a token without one is limited by no label
+
+
+class Label(NamedTuple):
+    level: int
+    policy: int
 
 
 def mapped(mask, mapping):
@@ -47,10 +54,32 @@ def applies(ace, descriptor, ask):
             and subject is not None and meets(subject, ask.token, ace.type in (1, 6)))
 
 
+def label(descriptor):
+    """The integrity label of the object (2.4.4.13): the first ACE of the SACL that is a label for the object itself, else
+    medium and no write up."""
+    for ace in descriptor.sacl.aces if descriptor.sacl else ():
+        names_level = ace.sid.authority == MANDATORY_LABEL_AUTHORITY and len(ace.sid.sub_authorities) == 1
+        if ace.type == LABEL_TYPE and names_level and not ace.flags & ACE_FLAGS["IO"]:
+            return Label(ace.sid.sub_authorities[0], ace.mask & 7)
+    return Label(MEDIUM, LABEL_RIGHTS["NW"])
+
+
+def label_allows(place, descriptor, ask):
+    """Whether the label lets the token have the right at the place at all (2.5.3.3)."""
+    level, policy = label(descriptor)
+    if ask.level is None or ask.level >= level:
+        return True
+    _, execute, write, read = ask.mapping
+    ways = {"NR": read, "NW": write, "NX": execute}
+    return any(rights >> place & 1 for name, rights in ways.items() if not policy & LABEL_RIGHTS[name])
+
+
 def granted(place, descriptor, ask):
     """Whether the one right at the place is granted (2.5.3.2)."""
     if place == SYSTEM_SECURITY:
         return ask.security
+    if not label_allows(place, descriptor, ask):
+        return False
     if descriptor.dacl is None or place == WRITE_OWNER and ask.take_ownership:
         return True
     aces = descriptor.dacl.aces

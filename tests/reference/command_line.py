@@ -1,11 +1,12 @@
 """What the words of the command line ask for."""
 import argparse
+import re
 from typing import NamedTuple, Optional
 
 from .access import MAXIMUM_ALLOWED, RESERVED, Ask, mapped
 from .inheriting import Plan
-from .parts import Fault, Sid
-from .sddl_reading import MOST_OF_A_DOMAIN, guid_of_text, rights_of_text, sid_of_text
+from .parts import Descriptor, Fault, Sid
+from .sddl_reading import MOST_OF_A_DOMAIN, from_sddl, guid_of_text, rights_of_text, sid_of_text
 from .tables import MAPPINGS
 
 FORMS = {"from": ["hex", "base64", "sddl"], "to": ["hex", "base64", "sddl"]}
@@ -13,6 +14,7 @@ TARGETS = ["file", "container"]  # what is made
 EXPLANATION = "explanation"  # what the command explain prints, in place of a form
 VERDICT = "verdict"  # and the command check
 MOST_ENTRIES = 1024  # of a token
+LEVELS = range(1 << 32)
 
 
 class Usage(Exception):
@@ -30,6 +32,7 @@ class Settings(NamedTuple):
     numeric: bool = False
     ask: Optional[Ask] = None
     plan: Optional[Plan] = None
+    creator: Optional[Descriptor] = None
 
 
 def value_of(given, name, read):
@@ -56,6 +59,12 @@ def needed_guid(text):
     return guid_of_text(text, True)
 
 
+def level_of_text(text):
+    if not re.fullmatch(rb"[0-9]{1,10}", text) or int(text) not in LEVELS:
+        raise Fault(24, "number")
+    return int(text)
+
+
 def mapping_of(given):
     """What generic rights mean on the type of object."""
     kind = "file" if given["type"] is None else given["type"]
@@ -80,17 +89,19 @@ def ask_of(given, domain):
     want = value_of(given, "want", rights_of_text) or 0
     object_type = value_of(given, "object", needed_guid)
     principal_self = value_of(given, "self", lambda text: sid_of_text(text, domain))
+    level = value_of(given, "level", level_of_text)
     if not want and not given["maximum"]:
         raise Usage("error 50 empty-request")
     if want & RESERVED:
         raise Usage("error 51 reserved-bits")
     return Ask(token, mapped(want, mapping) & ~MAXIMUM_ALLOWED, given["maximum"] or bool(want & MAXIMUM_ALLOWED), mapping,
-               object_type, principal_self, given["security"], given["take_ownership"])
+               object_type, principal_self, given["security"], given["take_ownership"], level)
 
 
 def settings_of(words):
     """What a command and the words after it ask for, which are options that each stand once and have a value where they
-    need one. Values are looked at in this order: domain, from, to, type, kind, owner, group, token, want, object, self."""
+    need one. Values are looked at in this order: domain, from, to, type, kind, owner, group, token, want, object, self,
+    level, creator."""
     command, *words = words
     parser = argparse.ArgumentParser(allow_abbrev=False, add_help=False)
     parser.add_argument("--from", default="hex")
@@ -100,9 +111,10 @@ def settings_of(words):
     if command == b"derive":
         for option in ("kind", "owner", "group"):
             parser.add_argument(f"--{option}", required=True)
-        parser.add_argument("--type")
+        for option in ("type", "creator"):
+            parser.add_argument(f"--{option}")
     if command == b"check":
-        for option in ("token", "want", "type", "object", "self"):
+        for option in ("token", "want", "type", "object", "self", "level"):
             parser.add_argument(f"--{option}")
         for flag in ("maximum", "security", "take-ownership"):
             parser.add_argument(f"--{flag}", action="store_true")
@@ -122,5 +134,8 @@ def settings_of(words):
             raise Usage(name)
     if command == b"check":
         return Settings(given["from"], VERDICT, domain, False, ask_of(given, domain))
-    plan = plan_of(given, domain) if command == b"derive" else None
-    return Settings(given["from"], given.get("to", EXPLANATION), domain, given["numeric"], None, plan)
+    plan = creator = None
+    if command == b"derive":
+        plan = plan_of(given, domain)
+        creator = value_of(given, "creator", lambda text: from_sddl(text, domain))
+    return Settings(given["from"], given.get("to", EXPLANATION), domain, given["numeric"], None, plan, creator)

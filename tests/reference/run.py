@@ -32,7 +32,7 @@ def made(found, settings):
     if settings.plan is None or not isinstance(found, Descriptor):
         return found
     try:
-        return derived(found, settings.plan)
+        return derived(found, settings.creator, settings.plan)
     except Fault as fault:
         return fault.with_traceback(None)
 
