@@ -138,6 +138,29 @@ least_ge (suc n) (suc limit) test h fails =
     let rest = least_ge n limit (λ k. test (suc k)) (omega arith) (λ k below. fails (suc k) (omega arith)) in
     rw first (omega arith)
 
+-- what passes g passes f
+pub all_below_mono : (n : ℕ) (f g : ℕ → Bool) → ((i : ℕ) → i < n → g i ≡ true → f i ≡ true)
+    → all_below n g ≡ true → all_below n f ≡ true
+unfolding all_below
+all_below_mono zero f g h all = refl
+all_below_mono (suc n) f g h all =
+    let p = and_parts _ _ all in
+    let here = h n (omega arith) p.0 in
+    let rest = all_below_mono n f g (λ i below. h i (omega arith)) p.1 in
+    cc
+
+pub least_mono : (limit : ℕ) (f g : ℕ → Bool) → ((k : ℕ) → g k ≡ true → f k ≡ true) → least f limit ≤ least g limit
+unfolding least
+least_mono zero f g h = omega arith
+least_mono (suc limit) f g h =
+    let rest = least_mono limit (λ k. f (suc k)) (λ k. g (suc k)) (λ k. h (suc k)) in
+    by (f 0) (g 0) (h 0) rest
+  where
+    by : (a b : Bool) → (b ≡ true → a ≡ true) → {x y : ℕ} → x ≤ y → cond a zero (suc x) ≤ cond b zero (suc y)
+    by true b h le = omega arith
+    by false true h le = absurd (let e = h refl in cc)
+    by false false h le = omega arith
+
 pub least_same : (limit : ℕ) (f g : ℕ → Bool) → ((k : ℕ) → f k ≡ g k) → least f limit ≡ least g limit
 unfolding least
 least_same zero f g h = refl

@@ -3,17 +3,20 @@ use Rattle.std.proofs.Common.{◌≡◌, ◌<◌, ◌≤◌, ℕ, zero, suc, ◌
 use Rattle.std.specs.List.{list_any}
 use Rattle.std.proofs.lemmas.Bool.{agree_below, agree_below_at, eq-eqb, eqb-true, ne_eqb, or_cases, or_left, or_right}
 use Rattle.std.proofs.lemmas.Nat.{and_le_l, mul-le, or_lt, pow_pos}
-use Rattle.sd_rights.specs.Mapping.{carries, mask_if}
-use Rattle.sd_token.specs.Token.{Entry}
+use Rattle.sd_rights.specs.Mapping.{GenericMapping, carries, mask_if}
+use Rattle.sd_token.specs.Token.{Entry, Holder}
 use Rattle.sd_view.specs.Descriptor.{Descriptor}
+use Rattle.sd_check.specs.Acl.{listed_aces}
 use Rattle.sd_check.specs.Ask.{AreRights, Asked}
-use Rattle.sd_check.specs.Granted.{listed_aces, decides, granted, is_allowed, is_open, is_owned, needs_no_ace}
+use Rattle.sd_check.specs.Granted.{decides, granted, is_allowed, is_open, is_owned, needs_no_ace}
 use Rattle.sd_check.specs.Need.{check_bound, in_question, least, need, owner_matters}
-use Rattle.sd_check.specs.Inner.Scan.{HasGranted, asks_owner, given_mask, question_of, scan_need, undecided_of}
+use Rattle.sd_check.specs.Inner.Scan.{HasGranted, asks_owner, given_mask, left_mask, permitted_mask, question_of, scan_need, undecided_of}
+use Rattle.sd_check.specs.Label.{is_left, is_lower, label, label_allows}
+use Rattle.sd_check.specs.declared.label.Label.{Label}
 use Rattle.sd_check.specs.Verdict.{missing, verdict, won}
 use Rattle.sd_check.specs.declared.verdict.Verdict.TheVariants.{Granted, Denied}
 use Rattle.sd_check.proofs.Masks.{carries-and, carries-or, carries-and_not, carries-mask_if, has_owner_right, is_rights_below}
-use Rattle.sd_check.proofs.ScanLaws.{all_below_same, least_same}
+use Rattle.sd_check.proofs.ScanLaws.{all_below_mono, least_mono}
 
 -- 1. What is granted without an ACE: the four parts of the mask, right by right.
 
@@ -107,75 +110,147 @@ and_when : (p g h : Bool) → (p ≡ true → g ≡ h) → (p && g) ≡ (p && h)
 and_when true g h e = e refl
 and_when false g h e = refl
 
+and_both : (p l g h : Bool) → (p ≡ true → g ≡ h) → ((p && l) && g) ≡ ((p && l) && h)
+and_both true l g h e = ap (λ (b : Bool). l && b) (e refl)
+and_both false l g h e = refl
+
 question-lt : (ask : Asked) → AreRights ask → question_of ask < 2 ^ 25
 question-lt ask h = or_lt 25 _ _ h.wanted (mask_if-lt ask.maximum ask.mapping.all 25 h.all)
 
-pub undecided-lt : (d : Descriptor) (t : List Entry) (ask : Asked) → AreRights ask → undecided_of d t ask < 2 ^ 25
-undecided-lt d t ask h =
-    let q = question_of ask in
-    let most = and_le_l q (2 ^ 32 - 1 - bit_or (given_mask q d t ask) 0x100_0000) in
-    let limit = question-lt ask h in
+limited-lt : (d : Descriptor) (h : Holder) (ask : Asked) → AreRights ask
+    → bit_and (question_of ask) (permitted_mask d h ask) < 2 ^ 25
+limited-lt d h ask narrow =
+    let most = and_le_l (question_of ask) (permitted_mask d h ask) in
+    let limit = question-lt ask narrow in
+    omega arith
+
+pub undecided-lt : (d : Descriptor) (h : Holder) (ask : Asked) → AreRights ask → undecided_of d h ask < 2 ^ 25
+undecided-lt d h ask narrow =
+    let q = bit_and (question_of ask) (permitted_mask d h ask) in
+    let most = and_le_l q (2 ^ 32 - 1 - bit_or (given_mask (question_of ask) d h.entries ask) 0x100_0000) in
+    let limit = limited-lt d h ask narrow in
     omega arith
 
 security_bit : (right : ℕ) → right < 25 → carries 0x100_0000 right ≡ eqb right 24
 security_bit right below = agree_below_at (carries 0x100_0000) (λ n. eqb n 24) 25 right refl below
 
-carries-undecided : (d : Descriptor) (t : List Entry) (ask : Asked) → AreRights ask → (right : ℕ) → right < 25
-    → carries (undecided_of d t ask) right
-    ≡ (in_question right ask && not (cond (eqb right 24) ask.security (needs_no_ace right d t ask) || eqb right 24))
-carries-undecided d t ask h right below =
+carries-left : (l : Label) (m : GenericMapping) (right : ℕ) → right < 25
+    → carries (left_mask l m) right ≡ (eqb right 24 || is_left right l m)
+carries-left l m right below =
+    let reads = mask_if (not (carries l.policy 1)) m.read in
+    let writes = mask_if (not (carries l.policy 0)) m.write in
+    let executes = mask_if (not (carries l.policy 2)) m.execute in
+    carries-or 0x100_0000 (bit_or (bit_or reads writes) executes) right
+    ∙ rw (
+      security_bit right below,
+      carries-or (bit_or reads writes) executes right,
+      carries-or reads writes right,
+      carries-mask_if (not (carries l.policy 1)) m.read right,
+      carries-mask_if (not (carries l.policy 0)) m.write right,
+      carries-mask_if (not (carries l.policy 2)) m.execute right,
+    )
+    (regroup (eqb right 24) (not (carries l.policy 1) && carries m.read right)
+    (not (carries l.policy 0) && carries m.write right) (not (carries l.policy 2) && carries m.execute right))
+  where
+    regroup : (s r w x : Bool) → (s || ((r || w) || x)) ≡ (s || (r || w || x))
+    regroup true r w x = refl
+    regroup false true w x = refl
+    regroup false false w x = refl
+
+-- the mask has the rights that the label allows, and right 24
+carries-permitted : (d : Descriptor) (h : Holder) (ask : Asked) (right : ℕ) → right < 25
+    → carries (permitted_mask d h ask) right ≡ (eqb right 24 || label_allows right d h ask)
+unfolding permitted_mask
+carries-permitted d h ask right below = by (is_lower h.level (label d))
+  where
+    all : carries 0x1ff_ffff right ≡ true
+    all = agree_below_at (carries 0x1ff_ffff) (λ n. true) 25 right refl below
+
+    any : (s : Bool) → true ≡ (s || true)
+    any true = refl
+    any false = refl
+
+    by : (lower : Bool)
+        → carries (cond lower (left_mask (label d) ask.mapping) 0x1ff_ffff) right
+        ≡ (eqb right 24 || (not lower || is_left right (label d) ask.mapping))
+    by true = carries-left (label d) ask.mapping right below
+    by false = all ∙ any (eqb right 24)
+
+carries-undecided : (d : Descriptor) (h : Holder) (ask : Asked) → AreRights ask → (right : ℕ) → right < 25
+    → carries (undecided_of d h ask) right
+    ≡ ((in_question right ask && (eqb right 24 || label_allows right d h ask))
+    && not (cond (eqb right 24) ask.security (needs_no_ace right d h.entries ask) || eqb right 24))
+carries-undecided d h ask narrow right below =
     let q = question_of ask in
-    let given = given_mask q d t ask in
-    let wide : q < 2 ^ 32 = let k = question-lt ask h in omega arith in
+    let p = permitted_mask d h ask in
+    let given = given_mask q d h.entries ask in
+    let wide : bit_and q p < 2 ^ 32 = let k = limited-lt d h ask narrow in omega arith in
     let given_wide : bit_or given 0x100_0000 < 2 ^ 32 =
-    let k : bit_or given 0x100_0000 < 2 ^ 25 = or_lt 25 _ _ (given_mask-lt q d t ask) (lit< tt) in
+    let k : bit_or given 0x100_0000 < 2 ^ 25 = or_lt 25 _ _ (given_mask-lt q d h.entries ask) (lit< tt) in
     omega arith in
-    carries-and_not q (bit_or given 0x100_0000) right wide given_wide
-    ∙ rw (carries-question ask right, carries-or given 0x100_0000 right, security_bit right below)
-    (and_when (in_question right ask) _ _
-    (λ asked. ap (λ (b : Bool). not (b || eqb right 24)) (carries-given d t ask right below asked)))
+    carries-and_not (bit_and q p) (bit_or given 0x100_0000) right wide given_wide
+    ∙ rw (
+      carries-and q p right,
+      carries-question ask right,
+      carries-permitted d h ask right below,
+      carries-or given 0x100_0000 right,
+      security_bit right below,
+    )
+    (and_both (in_question right ask) _ _ _
+    (λ asked. ap (λ (b : Bool). not (b || eqb right 24)) (carries-given d h.entries ask right below asked)))
 
 -- 3. The rights in question that are granted.
 
-final : (q last security given allowed : Bool) → q ≡ true
-    → (cond last security given || ((q && not (cond last security given || last)) && allowed))
-    ≡ cond last security (given || allowed)
-final false last security given allowed h = absurd (cc)
-final true true true given allowed h = refl
-final true true false given allowed h = refl
-final true false security true allowed h = refl
-final true false security false allowed h = refl
+final : (q last security label given allowed : Bool) → q ≡ true
+    → ((cond last security given
+    || (((q && (last || label)) && not (cond last security given || last)) && allowed)) && (last || label))
+    ≡ cond last security (label && (given || allowed))
+final false last security label given allowed h = absurd (cc)
+final true true true label given allowed h = refl
+final true true false label given allowed h = refl
+final true false security true true allowed h = refl
+final true false security true false true h = refl
+final true false security true false false h = refl
+final true false security false true allowed h = refl
+final true false security false false allowed h = refl
 
 -- what the scan gives
-abbrev pub IsScanned : Descriptor → List Entry → Asked → ℕ → Type 0
-IsScanned d t ask m =
-    (right : ℕ) → carries m right ≡ (carries (undecided_of d t ask) right && is_allowed right d t ask)
+abbrev pub IsScanned : Descriptor → Holder → Asked → ℕ → Type 0
+IsScanned d h ask m =
+    (right : ℕ) → carries m right ≡ (carries (undecided_of d h ask) right && is_allowed right d h.entries ask)
 
-pub granted_bit : (d : Descriptor) (t : List Entry) (ask : Asked) (m : ℕ) → AreRights ask → IsScanned d t ask m
-    → HasGranted d t ask (bit_or (given_mask (question_of ask) d t ask) m)
+pub granted_bit : (d : Descriptor) (h : Holder) (ask : Asked) (m : ℕ) → AreRights ask → IsScanned d h ask m
+    → HasGranted d h ask (bit_and (bit_or (given_mask (question_of ask) d h.entries ask) m) (permitted_mask d h ask))
 unfolding granted
-granted_bit d t ask m narrow scanned right below asked =
-    carries-or (given_mask (question_of ask) d t ask) m right
-    ∙ rw (scanned right, carries-given d t ask right below asked, carries-undecided d t ask narrow right below)
-    (final (in_question right ask) (eqb right 24) ask.security (needs_no_ace right d t ask) (is_allowed right d t ask)
-    asked)
+granted_bit d h ask m narrow scanned right below asked =
+    let given = given_mask (question_of ask) d h.entries ask in
+    carries-and (bit_or given m) (permitted_mask d h ask) right
+    ∙ rw (
+      carries-or given m right,
+      scanned right,
+      carries-given d h.entries ask right below asked,
+      carries-undecided d h ask narrow right below,
+      carries-permitted d h ask right below,
+    )
+    (final (in_question right ask) (eqb right 24) ask.security (label_allows right d h ask)
+    (needs_no_ace right d h.entries ask) (is_allowed right d h.entries ask) asked)
 
 -- 4. The verdict.
 
-pub missing_is : (d : Descriptor) (t : List Entry) (ask : Asked) (m : ℕ) → AreRights ask → m < 2 ^ 32
-    → HasGranted d t ask m → bit_and ask.wanted (2 ^ 32 - 1 - m) ≡ missing d t ask
+pub missing_is : (d : Descriptor) (h : Holder) (ask : Asked) (m : ℕ) → AreRights ask → m < 2 ^ 32
+    → HasGranted d h ask m → bit_and ask.wanted (2 ^ 32 - 1 - m) ≡ missing d h ask
 unfolding missing
-missing_is d t ask m narrow wide has =
+missing_is d h ask m narrow wide has =
     let limit = narrow.wanted in
     is_rights_below 25 _ _ (let most = and_le_l ask.wanted (2 ^ 32 - 1 - m) in omega arith)
     (λ i below. carries-and_not ask.wanted m i (omega arith) wide
-    ∙ and_when (carries ask.wanted i) (not (carries m i)) (not (granted i d t ask))
+    ∙ and_when (carries ask.wanted i) (not (carries m i)) (not (granted i d h ask))
     (λ here. ap not (has i below (or_left (carries ask.wanted i) (ask.maximum && carries ask.mapping.all i) here))))
 
-pub won_is : (d : Descriptor) (t : List Entry) (ask : Asked) (m : ℕ) → AreRights ask → HasGranted d t ask m
-    → bit_or ask.wanted (bit_and (mask_if ask.maximum ask.mapping.all) m) ≡ won d t ask
+pub won_is : (d : Descriptor) (h : Holder) (ask : Asked) (m : ℕ) → AreRights ask → HasGranted d h ask m
+    → bit_or ask.wanted (bit_and (mask_if ask.maximum ask.mapping.all) m) ≡ won d h ask
 unfolding won
-won_is d t ask m narrow has =
+won_is d h ask m narrow has =
     let pool = mask_if ask.maximum ask.mapping.all in
     is_rights_below 25 _ _
     (or_lt 25 _ _ narrow.wanted
@@ -186,56 +261,64 @@ won_is d t ask m narrow has =
     ∙ ap (λ (b : Bool). carries ask.wanted i || b)
     (carries-and pool m i
     ∙ rw (carries-mask_if ask.maximum ask.mapping.all i)
-    (and_when (ask.maximum && carries ask.mapping.all i) (carries m i) (granted i d t ask)
+    (and_when (ask.maximum && carries ask.mapping.all i) (carries m i) (granted i d h ask)
     (λ here. has i below (or_right (carries ask.wanted i) (ask.maximum && carries ask.mapping.all i) here)))))
 
-pub denied : (d : Descriptor) (t : List Entry) (ask : Asked) (m : ℕ) → m ≡ missing d t ask → (m ≡ 0 → ⊥)
-    → Denied m ≡ verdict d t ask
+pub denied : (d : Descriptor) (h : Holder) (ask : Asked) (m : ℕ) → m ≡ missing d h ask → (m ≡ 0 → ⊥)
+    → Denied m ≡ verdict d h ask
 unfolding verdict
-denied d t ask m h some =
-    rw (ne_eqb (missing d t ask) 0 (λ e. some (h ∙ e))) (ap (λ (n : ℕ). Denied n) h)
+denied d holder ask m h some =
+    rw (ne_eqb (missing d holder ask) 0 (λ e. some (h ∙ e))) (ap (λ (n : ℕ). Denied n) h)
 
-pub denied_none : (d : Descriptor) (t : List Entry) (ask : Asked) (m w : ℕ)
-    → m ≡ missing d t ask → m ≡ 0 → w ≡ won d t ask → w ≡ 0 → Denied 0 ≡ verdict d t ask
+pub denied_none : (d : Descriptor) (h : Holder) (ask : Asked) (m w : ℕ)
+    → m ≡ missing d h ask → m ≡ 0 → w ≡ won d h ask → w ≡ 0 → Denied 0 ≡ verdict d h ask
 unfolding verdict
-denied_none d t ask m w h none k empty =
-    rw (eq-eqb (missing d t ask) 0 (sym h ∙ none), eq-eqb (won d t ask) 0 (sym k ∙ empty)) refl
+denied_none d holder ask m w h none k empty =
+    rw (eq-eqb (missing d holder ask) 0 (sym h ∙ none), eq-eqb (won d holder ask) 0 (sym k ∙ empty)) refl
 
-pub granted_won : (d : Descriptor) (t : List Entry) (ask : Asked) (m w : ℕ)
-    → m ≡ missing d t ask → m ≡ 0 → w ≡ won d t ask → (w ≡ 0 → ⊥) → Granted w ≡ verdict d t ask
+pub granted_won : (d : Descriptor) (h : Holder) (ask : Asked) (m w : ℕ)
+    → m ≡ missing d h ask → m ≡ 0 → w ≡ won d h ask → (w ≡ 0 → ⊥) → Granted w ≡ verdict d h ask
 unfolding verdict
-granted_won d t ask m w h none k some =
-    rw (eq-eqb (missing d t ask) 0 (sym h ∙ none), ne_eqb (won d t ask) 0 (λ e. some (k ∙ e)))
+granted_won d holder ask m w h none k some =
+    rw (eq-eqb (missing d holder ask) 0 (sym h ∙ none), ne_eqb (won d holder ask) 0 (λ e. some (k ∙ e)))
     (ap (λ (n : ℕ). Granted n) k)
 
 -- 5. The comparisons.
 
-settle : (q last security given decided : Bool)
-    → (not (q && not (cond last security given || last)) || decided) ≡ (not q || (last || given || decided))
-settle false last security given decided = refl
-settle true true true given decided = refl
-settle true true false given decided = refl
-settle true false security true decided = refl
-settle true false security false decided = refl
+-- what is settled is decided, or not looked for
+settle : (q last security label given decided : Bool) → (not q || (last || given || decided)) ≡ true
+    → (not ((q && (last || label)) && not (cond last security given || last)) || decided) ≡ true
+settle false last security label given decided h = refl
+settle true true true label given decided h = refl
+settle true true false label given decided h = refl
+settle true false security false given decided h = refl
+settle true false security true true decided h = refl
+settle true false security true false decided h = h
 
--- the scan stops where every right in question is settled
-scan_need-is : (d : Descriptor) (t : List Entry) (ask : Asked) → AreRights ask
-    → scan_need (undecided_of d t ask) d t ask (listed_aces d.dacl) ≡ need d t ask
+-- the scan stops where every right in question is settled, or earlier
+scan_need-le : (d : Descriptor) (h : Holder) (ask : Asked) → AreRights ask
+    → scan_need (undecided_of d h ask) d h.entries ask (listed_aces d.dacl) ≤ need d h.entries ask
 unfolding scan_need need
-scan_need-is d t ask narrow =
-    least_same (length (listed_aces d.dacl)) _ _ (λ k. all_below_same 25 _ _ (λ i below.
-    rw (carries-undecided d t ask narrow i below)
-    (settle (in_question i ask) (eqb i 24) ask.security (needs_no_ace i d t ask)
-    (list_any (decides i d t ask) (take k (listed_aces d.dacl))))))
+scan_need-le d h ask narrow =
+    least_mono (length (listed_aces d.dacl)) _ _ (λ k. all_below_mono 25 _ _ (λ i below settled.
+    rw (carries-undecided d h ask narrow i below)
+    (settle (in_question i ask) (eqb i 24) ask.security (label_allows i d h ask) (needs_no_ace i d h.entries ask)
+    (list_any (decides i d h.entries ask) (take k (listed_aces d.dacl))) settled)))
 
 -- those of the scan
-pub count_scan : (d : Descriptor) (t : List Entry) (ask : Asked) (q mid new : ℕ) → AreRights ask
-    → q ≡ undecided_of d t ask → new ≤ mid + scan_need q d t ask (listed_aces d.dacl) * length t
-    → new ≤ mid + need d t ask * length t
-count_scan d t ask q mid new narrow is scan_pass =
-    let same : scan_need q d t ask (listed_aces d.dacl) ≡ need d t ask =
-    ap (λ (n : ℕ). scan_need n d t ask (listed_aces d.dacl)) is ∙ scan_need-is d t ask narrow in
-    rw same at scan_pass
+pub count_scan : (d : Descriptor) (h : Holder) (ask : Asked) (q mid new : ℕ) → AreRights ask
+    → q ≡ undecided_of d h ask
+    → new ≤ mid + scan_need q d h.entries ask (listed_aces d.dacl) * length h.entries
+    → new ≤ mid + need d h.entries ask * length h.entries
+count_scan d h ask q mid new narrow is scan_pass =
+    let less : scan_need q d h.entries ask (listed_aces d.dacl) ≤ need d h.entries ask =
+    rw is (scan_need-le d h ask narrow) in
+    omega (
+      arith,
+      mul-le (scan_need q d h.entries ask (listed_aces d.dacl)) (length h.entries) (need d h.entries ask)
+          (length h.entries) less (omega arith),
+      scan_pass,
+    )
 
 least_le : (n : ℕ) (test : ℕ → Bool) → least test n ≤ n
 unfolding least

@@ -1,15 +1,17 @@
 -- Whether a right is granted: one right by itself (MS-DTYP 2.5.3.2).
-use Rattle.std.specs.Prelude.{ℕ, ◌==◌, Bool, true, false, not, ◌&&◌, ◌||◌, if◌then◌else◌, List, [], Option, Some, None}
+use Rattle.std.specs.Prelude.{ℕ, ◌==◌, Bool, true, false, not, ◌&&◌, ◌||◌, if◌then◌else◌, List, Option, Some, None}
 use Rattle.std.specs.List.{find, list_any}
 use Rattle.sd_ace.specs.Ace.{AccessControlEntry}
 use Rattle.sd_rights.specs.Mapping.{carries, mapped}
 use Rattle.sd_sid.specs.SidText.{same_sid}
-use Rattle.sd_token.specs.Token.{Entry}
+use Rattle.sd_token.specs.Token.{Entry, Holder}
 use Rattle.sd_view.specs.Descriptor.{Descriptor}
 use Rattle.sd_view.specs.declared.acl.AclPart.{AclPart}
 use Rattle.sd_view.specs.declared.acl.AclPart.TheVariants as acl
+use Rattle.sd_check.specs.Acl.{listed_aces}
 use Rattle.sd_check.specs.Ask.{Asked}
 use Rattle.sd_check.specs.Applies.{applies, is_allow, is_effective, owner_rights, some_meets}
+use Rattle.sd_check.specs.Label.{label_allows}
 
 -- 2.4.3: the places of READ_CONTROL, WRITE_DAC, WRITE_OWNER and ACCESS_SYSTEM_SECURITY
 abbrev pub read_control : ℕ
@@ -25,11 +27,6 @@ abbrev pub system_security : ℕ
 system_security = 24
 
 -- 1. Without an ACE.
-
-abbrev pub listed_aces : AclPart → List AccessControlEntry
-listed_aces acl.Absent = []
-listed_aces acl.Null = []
-listed_aces (acl.List aces) = aces
 
 -- the DACL is null or absent
 abbrev pub is_open : AclPart → Bool
@@ -71,9 +68,11 @@ allows (Some a) = is_allow a.kind
 abbrev pub is_allowed : ℕ → Descriptor → List Entry → Asked → Bool
 is_allowed right d token ask = allows (find (decides right d token ask) (listed_aces d.dacl))
 
--- 3. The right is granted. ACCESS_SYSTEM_SECURITY is, by the privilege, and by nothing else.
+-- 3. The right is granted. ACCESS_SYSTEM_SECURITY is by the privilege, and by nothing else. Any other right must be one
+-- that the mandatory label allows, whatever else grants it.
 
-unfoldable pub granted : ℕ → Descriptor → List Entry → Asked → Bool
-granted right d token ask =
+unfoldable pub granted : ℕ → Descriptor → Holder → Asked → Bool
+granted right d holder ask =
     if right == system_security then ask.security
-    else needs_no_ace right d token ask || is_allowed right d token ask
+    else label_allows right d holder ask
+    && (needs_no_ace right d holder.entries ask || is_allowed right d holder.entries ask)

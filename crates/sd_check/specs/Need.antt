@@ -5,8 +5,9 @@ use Rattle.sd_ace.specs.Ace.{AccessControlEntry}
 use Rattle.sd_rights.specs.Mapping.{carries}
 use Rattle.sd_token.specs.Token.{Entry}
 use Rattle.sd_view.specs.Descriptor.{Descriptor}
+use Rattle.sd_check.specs.Acl.{listed_aces}
 use Rattle.sd_check.specs.Ask.{Asked}
-use Rattle.sd_check.specs.Granted.{listed_aces, decides, is_open, needs_no_ace, read_control, system_security, write_dac}
+use Rattle.sd_check.specs.Granted.{decides, is_open, needs_no_ace, read_control, system_security, write_dac}
 
 -- each ACE of the DACL, and the owner, against each entry of the token
 abbrev pub check_bound : Descriptor → ℕ → ℕ
@@ -21,7 +22,8 @@ in_question right ask = carries ask.wanted right || (ask.maximum && carries ask.
 abbrev pub owner_matters : Descriptor → Asked → Bool
 owner_matters d ask = not (is_open d.dacl) && (in_question read_control ask || in_question write_dac ask)
 
--- the right needs no ACE beside these: it is right 24, or is granted without one, or one of these decides it
+-- The right needs no ACE beside these: it is right 24, or is granted without one, or one of these decides it. No
+-- label is looked at.
 abbrev pub is_settled : ℕ → Descriptor → List Entry → Asked → List AccessControlEntry → Bool
 is_settled right d token ask aces =
     right == system_security || needs_no_ace right d token ask || list_any (decides right d token ask) aces

@@ -1,6 +1,7 @@
 //! When an ACE applies.
 
 ghost use Rattle.std.specs.Prelude.{◌≡◌, ◌≤◌, ◌+◌, length};
+ghost use Rattle.sd_token.specs.Token.{Asks};
 ghost use Rattle.sd_check.specs.Applies.{applies, is_access, is_allow, is_deny, is_effective, is_for};
 
 use crate::ask::Ask;
@@ -13,10 +14,8 @@ use uuid::Uuid;
 /// Whether the ACE speaks of the token, and of the object that is asked for.
 #[tactic(auto, unfolding(crate::specs::Applies::applies))]
 pub fn applies(ace: &AceView, view: &SdView, token: &mut Token, ask: &Ask) -> bool
-    ensures value { result ≡ applies ace.now view.now token.old.entries ask.now }
-    ensures entries { token.new.entries ≡ token.old.entries }
-    ensures goes_on { token.old.compared ≤ token.new.compared }
-    ensures count { token.new.compared ≤ token.old.compared + length token.old.entries }
+    ensures value { result ≡ applies ace.now view.now token.old.holder.entries ask.now }
+    ensures asks { Asks token.old token.new 1 }
 {
     is_effective(ace)
         && is_for(ace.object(), ask.object())

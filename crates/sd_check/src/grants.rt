@@ -2,6 +2,7 @@
 
 ghost use Rattle.std.specs.Prelude.{◌≡◌, ◌≤◌, ◌+◌, false, length};
 ghost use Rattle.sd_rights.specs.Mapping.{mask_if};
+ghost use Rattle.sd_token.specs.Token.{Asks};
 ghost use Rattle.sd_check.specs.Granted.{is_for_owner_rights, is_open, is_owned, names_owner_rights};
 ghost use Rattle.sd_check.specs.Inner.Scan.{asks_owner, given_mask};
 
@@ -25,10 +26,8 @@ const BELOW_SYSTEM_SECURITY: u32 = 0xff_ffff;
 /// The rights that are granted whatever the ACEs say, as far as they are in question.
 #[tactic(auto, unfolding(crate::specs::Inner::Scan::given_mask))]
 pub fn given(view: &SdView, token: &mut Token, ask: &Ask, question: u32) -> u32
-    ensures value { result ≡ given_mask question view.now token.old.entries ask.now }
-    ensures entries { token.new.entries ≡ token.old.entries }
-    ensures goes_on { token.old.compared ≤ token.new.compared }
-    ensures count { token.new.compared ≤ token.old.compared + length token.old.entries }
+    ensures value { result ≡ given_mask question view.now token.old.holder.entries ask.now }
+    ensures asks { Asks token.old token.new 1 }
     ensures spared { asks_owner question view.now.dacl ≡ false → token.new.compared ≡ token.old.compared }
 {
     let owned = asks_owner(view, question) && is_owned(view, token);
@@ -61,10 +60,8 @@ fn asks_owner(view: &SdView, question: u32) -> bool
 
 // Whether the owner is one of the token's, and no ACE says what an owner may do.
 fn is_owned(view: &SdView, token: &mut Token) -> bool
-    ensures value { result ≡ is_owned view.now token.old.entries }
-    ensures entries { token.new.entries ≡ token.old.entries }
-    ensures goes_on { token.old.compared ≤ token.new.compared }
-    ensures count { token.new.compared ≤ token.old.compared + length token.old.entries }
+    ensures value { result ≡ is_owned view.now token.old.holder.entries }
+    ensures asks { Asks token.old token.new 1 }
 {
     some_meets(token, view.owner(), false)
         && match view.dacl() {

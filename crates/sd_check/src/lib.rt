@@ -4,6 +4,7 @@
 mod applies;
 mod ask;
 mod grants;
+mod label;
 mod scan;
 mod trustee;
 mod verdict;

@@ -3,7 +3,9 @@
 ghost use Rattle.std.specs.Prelude.{◌≡◌, ◌<◌, ◌≤◌, ◌+◌, ◌*◌, ◌^◌, ◌&&◌, ℕ, bit_and, length};
 ghost use Rattle.std.specs.List.{find};
 ghost use Rattle.sd_rights.specs.Mapping.{carries, mapped};
-ghost use Rattle.sd_check.specs.Granted.{listed_aces, allows, decides, is_allowed};
+ghost use Rattle.sd_token.specs.Token.{Asks};
+ghost use Rattle.sd_check.specs.Acl.{listed_aces};
+ghost use Rattle.sd_check.specs.Granted.{allows, decides, is_allowed};
 ghost use Rattle.sd_check.specs.Inner.Scan.{scan_need};
 
 use crate::applies::{applies, is_allow};
@@ -14,10 +16,8 @@ use sd_view::{AceView, AclPart, AclView, SdView};
 /// The rights of a mask that the ACEs grant.
 pub fn scan(view: &SdView, token: &mut Token, ask: &Ask, question: u32) -> u32
     requires { question < 2 ^ 25 }
-    ensures rights { (right : ℕ) → carries result right ≡ (carries question right && is_allowed right view.now token.old.entries ask.now) }
-    ensures entries { token.new.entries ≡ token.old.entries }
-    ensures goes_on { token.old.compared ≤ token.new.compared }
-    ensures count { token.new.compared ≤ token.old.compared + scan_need question view.now token.old.entries ask.now (listed_aces view.now.dacl) * length token.old.entries }
+    ensures rights { (right : ℕ) → carries result right ≡ (carries question right && is_allowed right view.now token.old.holder.entries ask.now) }
+    ensures asks { Asks token.old token.new (scan_need question view.now token.old.holder.entries ask.now (listed_aces view.now.dacl)) }
 {
     match view.dacl() {
         AclPart::List(acl) => scan_aces(&acl, view, token, ask, question),
@@ -28,10 +28,8 @@ pub fn scan(view: &SdView, token: &mut Token, ask: &Ask, question: u32) -> u32
 // An ACE decides the rights that none before it did; where no right is left, no further ACE is looked at.
 fn scan_aces(acl: &AclView, view: &SdView, token: &mut Token, ask: &Ask, question: u32) -> u32
     requires { question < 2 ^ 25 }
-    ensures rights { (right : ℕ) → carries result right ≡ (carries question right && allows (find (decides right view.now token.old.entries ask.now) acl.now)) }
-    ensures entries { token.new.entries ≡ token.old.entries }
-    ensures goes_on { token.old.compared ≤ token.new.compared }
-    ensures count { token.new.compared ≤ token.old.compared + scan_need question view.now token.old.entries ask.now acl.now * length token.old.entries }
+    ensures rights { (right : ℕ) → carries result right ≡ (carries question right && allows (find (decides right view.now token.old.holder.entries ask.now) acl.now)) }
+    ensures asks { Asks token.old token.new (scan_need question view.now token.old.holder.entries ask.now acl.now) }
 {
     let mut undecided = question;
     let mut granted = 0;
@@ -50,10 +48,8 @@ fn scan_aces(acl: &AclView, view: &SdView, token: &mut Token, ask: &Ask, questio
 
 // The rights of a mask that the ACE decides. One that has none of them is not compared.
 fn decided(ace: &AceView, view: &SdView, token: &mut Token, ask: &Ask, undecided: u32) -> u32
-    ensures rights { (right : ℕ) → carries result right ≡ (carries undecided right && decides right view.now token.old.entries ask.now ace.now) }
-    ensures entries { token.new.entries ≡ token.old.entries }
-    ensures goes_on { token.old.compared ≤ token.new.compared }
-    ensures count { token.new.compared ≤ token.old.compared + length token.old.entries }
+    ensures rights { (right : ℕ) → carries result right ≡ (carries undecided right && decides right view.now token.old.holder.entries ask.now ace.now) }
+    ensures asks { Asks token.old token.new 1 }
     ensures spared { bit_and undecided (mapped ask.now.mapping ace.now.mask) ≡ 0 → token.new.compared ≡ token.old.compared }
 {
     let rights = undecided & ask.mapping().map(ace.mask());

@@ -2,7 +2,7 @@
 
 ghost use Rattle.std.specs.Prelude.{◌≡◌, ◌≤◌, ◌+◌, [], ◌∷◌, length};
 ghost use Rattle.sd_sid.specs.SidText.{same_sid};
-ghost use Rattle.sd_token.specs.Token.{meets};
+ghost use Rattle.sd_token.specs.Token.{Asks, meets};
 ghost use Rattle.sd_check.specs.Applies.{owner_rights, some_meets, subject};
 
 use sd_sid::Sid;
@@ -14,10 +14,8 @@ use sd_view::SdView;
 // not change it.
 #[inline(never)]
 fn meets_any(token: &mut Token, sid: Sid, deny: bool) -> bool
-    ensures value { result ≡ meets sid deny token.old.entries }
-    ensures entries { token.new.entries ≡ token.old.entries }
-    ensures goes_on { token.old.compared ≤ token.new.compared }
-    ensures count { token.new.compared ≤ token.old.compared + length token.old.entries }
+    ensures value { result ≡ meets sid deny token.old.holder.entries }
+    ensures asks { Asks token.old token.new 1 }
 {
     for i in 0..token.len() {
         if token.meets(i, &sid, deny) {
@@ -29,10 +27,8 @@ fn meets_any(token: &mut Token, sid: Sid, deny: bool) -> bool
 
 /// The same where there may be no SID: then nothing is looked at.
 pub fn some_meets(token: &mut Token, sid: Option<Sid>, deny: bool) -> bool
-    ensures value { result ≡ some_meets sid deny token.old.entries }
-    ensures entries { token.new.entries ≡ token.old.entries }
-    ensures goes_on { token.old.compared ≤ token.new.compared }
-    ensures count { token.new.compared ≤ token.old.compared + length token.old.entries }
+    ensures value { result ≡ some_meets sid deny token.old.holder.entries }
+    ensures asks { Asks token.old token.new 1 }
 {
     match sid {
         None => false,

@@ -2,6 +2,7 @@
 
 ghost use Rattle.std.specs.Prelude.{◌≡◌, ◌≤◌, ◌+◌, ◌*◌, ◌^◌, ◌-◌, bit_and, bit_or, false, length};
 ghost use Rattle.sd_rights.specs.Mapping.{mask_if as mask_if_of};
+ghost use Rattle.sd_token.specs.Token.{Asks, Compares};
 ghost use Rattle.sd_check.specs.Ask.{AreRights};
 ghost use Rattle.sd_check.specs.Need.{check_bound, need, owner_matters};
 ghost use Rattle.sd_check.specs.Inner.Scan.{HasGranted, question_of};
@@ -9,6 +10,7 @@ ghost use Rattle.sd_check.specs.Verdict.{verdict};
 
 use crate::ask::Ask;
 use crate::grants::{ACCESS_SYSTEM_SECURITY, given, mask_if};
+use crate::label::permitted;
 use crate::scan::scan;
 use sd_token::Token;
 use sd_view::SdView;
@@ -23,19 +25,18 @@ pub enum Verdict {
     Denied(u32),
 }
 
-/// Whether the descriptor grants what is asked to the token (MS-DTYP 2.5.3). The ACEs are walked once for the rights in
-/// question, and only until each of them is decided. Before that, only where READ_CONTROL or WRITE_DAC is in question
+/// Whether the descriptor grants what is asked to the token (MS-DTYP 2.5.3). Where the token has an integrity level, the
+/// first mandatory label of the SACL is found first: it may leave a lower token only some rights, whatever grants the
+/// others. The ACEs are walked once for the rights in question, and only until each of them is decided. Before that, only where READ_CONTROL or WRITE_DAC is in question
 /// and the DACL is neither null nor absent, the token's entries are compared with the owner; where one of them is the
 /// owner, the DACL is also searched for an ACE for OWNER RIGHTS.
 pub fn check(view: &SdView, token: &mut Token, ask: &Ask) -> Verdict
-    ensures verdict { result ≡ verdict view.now token.old.entries ask.now }
-    ensures entries { token.new.entries ≡ token.old.entries }
-    ensures goes_on { token.old.compared ≤ token.new.compared }
+    ensures verdict { result ≡ verdict view.now token.old.holder ask.now }
     // Each entry is compared at most once with the owner, and at most once for each ACE that is needed.
-    ensures needed { token.new.compared ≤ token.old.compared + (need view.now token.old.entries ask.now + 1) * length token.old.entries }
+    ensures asks { Asks token.old token.new (need view.now token.old.holder.entries ask.now + 1) }
     // Where it does not matter who the owner is, no entry is compared with it.
-    ensures spared { owner_matters view.now ask.now ≡ false → token.new.compared ≤ token.old.compared + need view.now token.old.entries ask.now * length token.old.entries }
-    ensures bound { token.new.compared ≤ token.old.compared + check_bound view.now (length token.old.entries) }
+    ensures spared { owner_matters view.now ask.now ≡ false → token.new.compared ≤ token.old.compared + need view.now token.old.holder.entries ask.now * length token.old.holder.entries }
+    ensures bound { Compares token.old token.new (check_bound view.now (length token.old.holder.entries)) }
 {
     let granted = granted(view, token, ask);
     let missing = ask.wanted() & !granted;
@@ -51,16 +52,16 @@ pub fn check(view: &SdView, token: &mut Token, ask: &Ask) -> Verdict
 
 // A mask that has those rights in question that are granted.
 fn granted(view: &SdView, token: &mut Token, ask: &Ask) -> u32
-    ensures rights { HasGranted view.now token.old.entries ask.now result }
-    ensures entries { token.new.entries ≡ token.old.entries }
-    ensures goes_on { token.old.compared ≤ token.new.compared }
-    ensures count { token.new.compared ≤ token.old.compared + (need view.now token.old.entries ask.now + 1) * length token.old.entries }
-    ensures spared { owner_matters view.now ask.now ≡ false → token.new.compared ≤ token.old.compared + need view.now token.old.entries ask.now * length token.old.entries }
+    ensures rights { HasGranted view.now token.old.holder ask.now result }
+    ensures asks { Asks token.old token.new (need view.now token.old.holder.entries ask.now + 1) }
+    ensures spared { owner_matters view.now ask.now ≡ false → token.new.compared ≤ token.old.compared + need view.now token.old.holder.entries ask.now * length token.old.holder.entries }
 {
     let question = question(ask);
+    let permitted = permitted(view, token, ask);
     let given = given(view, token, ask, question);
-    let undecided = undecided(question, given);
-    given | scan(view, token, ask, undecided)
+    // Given rights are never looked for in the ACEs, also where the label does not allow them.
+    let undecided = undecided(question & permitted, given);
+    (given | scan(view, token, ask, undecided)) & permitted
 }
 
 // The rights in question: those that are wanted and, with maximum, those of the mapping.

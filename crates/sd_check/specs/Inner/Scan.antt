@@ -1,13 +1,15 @@
 -- The masks of the code that scans a DACL. No definition of what is granted rests on them.
-use Rattle.std.specs.Prelude.{◌≡◌, ◌<◌, ℕ, ◌-◌, ◌^◌, ◌==◌, Bool, true, not, ◌&&◌, ◌||◌, List, length, take, bit_and, bit_or}
+use Rattle.std.specs.Prelude.{◌≡◌, ◌<◌, ℕ, ◌-◌, ◌^◌, ◌==◌, Bool, true, not, ◌&&◌, ◌||◌, if◌then◌else◌, List, length, take, bit_and, bit_or}
 use Rattle.std.specs.List.{list_any}
 use Rattle.sd_ace.specs.Ace.{AccessControlEntry}
-use Rattle.sd_rights.specs.Mapping.{carries, mask_if}
-use Rattle.sd_token.specs.Token.{Entry}
+use Rattle.sd_rights.specs.Mapping.{GenericMapping, carries, mask_if}
+use Rattle.sd_token.specs.Token.{Entry, Holder}
 use Rattle.sd_view.specs.Descriptor.{Descriptor}
 use Rattle.sd_view.specs.declared.acl.AclPart.{AclPart}
 use Rattle.sd_check.specs.Ask.{Asked}
 use Rattle.sd_check.specs.Granted.{decides, granted, is_open, is_owned}
+use Rattle.sd_check.specs.Label.{is_lower, label}
+use Rattle.sd_check.specs.declared.label.Label.{Label}
 use Rattle.sd_check.specs.Need.{all_below, in_question, least}
 
 -- of these rights in question an owner has one, and the DACL does not grant it by being null or absent
@@ -25,10 +27,25 @@ given_mask question d token ask =
 abbrev pub question_of : Asked → ℕ
 question_of ask = bit_or ask.wanted (mask_if ask.maximum ask.mapping.all)
 
--- those that the ACEs alone can decide
-abbrev pub undecided_of : Descriptor → List Entry → Asked → ℕ
-undecided_of d token ask =
-    bit_and (question_of ask) (2 ^ 32 - 1 - bit_or (given_mask (question_of ask) d token ask) 0x100_0000)
+-- what a label leaves to a holder of a lower level, right 24 among it
+abbrev pub left_mask : Label → GenericMapping → ℕ
+left_mask label m =
+    bit_or 0x100_0000
+    (bit_or
+    (bit_or (mask_if (not (carries label.policy 1)) m.read) (mask_if (not (carries label.policy 0)) m.write))
+    (mask_if (not (carries label.policy 2)) m.execute))
+
+-- the rights that the label allows
+unfoldable pub permitted_mask : Descriptor → Holder → Asked → ℕ
+permitted_mask d holder ask =
+    if is_lower holder.level (label d) then left_mask (label d) ask.mapping else 0x1ff_ffff
+
+-- those of the rights in question that the ACEs alone can decide, and that the label allows; what is given is taken
+-- away whether the label allows it or not
+abbrev pub undecided_of : Descriptor → Holder → Asked → ℕ
+undecided_of d holder ask =
+    bit_and (bit_and (question_of ask) (permitted_mask d holder ask))
+    (2 ^ 32 - 1 - bit_or (given_mask (question_of ask) d holder.entries ask) 0x100_0000)
 
 -- these ACEs decide each right of a mask
 abbrev pub are_decided : ℕ → Descriptor → List Entry → Asked → List AccessControlEntry → Bool
@@ -40,6 +57,6 @@ unfoldable pub scan_need : ℕ → Descriptor → List Entry → Asked → List 
 scan_need mask d token ask aces = least (λ n. are_decided mask d token ask (take n aces)) (length aces)
 
 -- of the rights in question, the mask has those that are granted
-abbrev pub HasGranted : Descriptor → List Entry → Asked → ℕ → Type 0
-HasGranted d token ask mask =
-    (right : ℕ) → right < 25 → in_question right ask ≡ true → carries mask right ≡ granted right d token ask
+abbrev pub HasGranted : Descriptor → Holder → Asked → ℕ → Type 0
+HasGranted d holder ask mask =
+    (right : ℕ) → right < 25 → in_question right ask ≡ true → carries mask right ≡ granted right d holder ask

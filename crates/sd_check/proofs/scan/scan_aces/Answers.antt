@@ -1,30 +1,43 @@
 use Rattle.std.proofs.Common.{◌≡◌, ◌∷◌, ◌++◌, ◌&&◌, ℕ, List, length, ap, ◌∙◌, arith, rules}
 use Rattle.sd_rights.specs.Mapping.{carries}
-use Rattle.sd_token.specs.Token.{Entry}
+use Rattle.sd_token.specs.Token.{Entry, Holder}
 use Rattle.sd_check.specs.Granted.{decides}
 use Rattle.sd_check.proofs.ScanLaws.{IsDecided, count_step, not_decided, parts_step, passed_step, rights_allow, rights_deny, scan_bound, undecided_step}
 use Rattle.sd_check.proofs.scan.scan_aces.Goals as goal
 use Rattle.sd_check.proofs.scan.scan_aces.Goals.{then-is_allow, else-is_allow}
 
-pub returns-then-undecided-eq0-clause-count : goal.returns-then-undecided-eq0-clause-count
-returns-then-undecided-eq0-clause-count c =
-    scan_bound _ _ _ _ _ _ _ _ _ _ c.loop-ace.invariant.parts c.loop-ace.invariant.passed c.loop-ace.invariant.count
+pub returns-then-undecided-eq0-clause-asks : goal.returns-then-undecided-eq0-clause-asks
+returns-then-undecided-eq0-clause-asks c = record {
+  holder = c.loop-ace.invariant.holder;
+  compared = record {
+    goes_on = c.loop-ace.invariant.goes_on;
+    at_most = scan_bound _ _ _ _ _ _ _ _ _ _ c.loop-ace.invariant.parts c.loop-ace.invariant.passed
+        c.loop-ace.invariant.count;
+  };
+}
 
-pub returns-clause-count : goal.returns-clause-count
-returns-clause-count c =
-    scan_bound _ _ _ _ _ _ _ _ _ _ c.loop-ace.invariant.parts c.loop-ace.invariant.passed c.loop-ace.invariant.count
+pub returns-clause-asks : goal.returns-clause-asks
+returns-clause-asks c = record {
+  holder = c.loop-ace.invariant.holder;
+  compared = record {
+    goes_on = c.loop-ace.invariant.goes_on;
+    at_most = scan_bound _ _ _ _ _ _ _ _ _ _ c.loop-ace.invariant.parts c.loop-ace.invariant.passed
+        c.loop-ace.invariant.count;
+  };
+}
 
 pub loop-ace-preserved : goal.loop-ace-preserved
 loop-ace-preserved c =
     let d = c.args.view.now in
-    let t = c.args.token.now.entries in
+    let t = c.args.token.now.holder.entries in
     let ask = c.args.ask.now in
     let a = c.in-Some.ace in
     let ys = c.loop-ace.yielded in
     let rest = c.next.new.self in
     let u = c.loop-ace.undecided in
     let m = c.decided-decided.result in
-    let same = c.loop-ace.invariant.entries in
+    let kept = c.loop-ace.invariant.holder in
+    let same = ap (λ (h : Holder). h.entries) kept in
     let steps : c.loop-ace.ace-iterator ≡ a ∷ rest = c.in-Some.ensures.steps in
     let decides_these : IsDecided d t ask a u m = λ (right : ℕ). c.decided-decided.ensures.rights right
     ∙ ap (λ (x : List Entry). carries u right && decides right d x ask a) same in
@@ -33,11 +46,11 @@ loop-ace-preserved c =
     c.loop-ace.invariant.undecided in
     record {
       parts = parts;
-      entries = c.decided-decided.ensures.entries ∙ same;
+      holder = c.decided-decided.ensures.asks.holder ∙ kept;
       goes_on = omega arith;
       count = count_step a ys c.args.token.now.compared c.loop-ace.token.compared
           c.decided-decided.new.token.compared (length t) c.loop-ace.invariant.count
-          (rw (← same) c.decided-decided.ensures.count);
+          (rw (← same) (omega (arith, c.decided-decided.ensures.asks.compared.at_most)));
       rights = λ right. elim c.if-is_allow.branch [
         | then-is_allow w ↦ rw w.granted-is
             (rights_allow d t ask a rest c.loop-ace.granted u m right (omega arith) (omega arith) decides_these

@@ -6,16 +6,16 @@ use Rattle.sd_check.proofs.verdict.check.Goals.{After-wanted, After-pool}
 
 missed : (c : After-wanted)
     → bit_and c.wanted.result (4294967295 - c.granted-granted.result)
-    ≡ missing c.args.view.now c.args.token.now.entries c.args.ask.now
+    ≡ missing c.args.view.now c.args.token.now.holder c.args.ask.now
 missed c = rw c.wanted.ensures.value
-    (missing_is c.args.view.now c.args.token.now.entries c.args.ask.now c.granted-granted.result c.wanted.ensures.limits
+    (missing_is c.args.view.now c.args.token.now.holder c.args.ask.now c.granted-granted.result c.wanted.ensures.limits
     (omega arith) c.granted-granted.ensures.rights)
 
 winnings : (c : After-pool)
     → bit_or c.wanted-2.result (bit_and c.pool.result c.granted-granted.result)
-    ≡ won c.args.view.now c.args.token.now.entries c.args.ask.now
+    ≡ won c.args.view.now c.args.token.now.holder c.args.ask.now
 winnings c = rw (c.wanted-2.ensures.value, c.pool.ensures)
-    (won_is c.args.view.now c.args.token.now.entries c.args.ask.now c.granted-granted.result c.wanted-2.ensures.limits
+    (won_is c.args.view.now c.args.token.now.holder c.args.ask.now c.granted-granted.result c.wanted-2.ensures.limits
     c.granted-granted.ensures.rights)
 
 pub returns-then-missing-ne0-clause-verdict : goal.returns-then-missing-ne0-clause-verdict
@@ -33,10 +33,19 @@ returns-clause-verdict c =
     granted_won _ _ _ _ _ (missed at.After-wanted) c.if-missing-ne0.false (winnings at.After-pool) c.if-won-eq0.false
 
 pub returns-then-missing-ne0-clause-bound : goal.returns-then-missing-ne0-clause-bound
-returns-then-missing-ne0-clause-bound c = bound_from_need _ _ c.args.ask.now _ _ c.granted-granted.ensures.count
+returns-then-missing-ne0-clause-bound c = record {
+  goes_on = c.granted-granted.ensures.asks.compared.goes_on;
+  at_most = bound_from_need _ _ c.args.ask.now _ _ c.granted-granted.ensures.asks.compared.at_most;
+}
 
 pub returns-then-won-eq0-clause-bound : goal.returns-then-won-eq0-clause-bound
-returns-then-won-eq0-clause-bound c = bound_from_need _ _ c.args.ask.now _ _ c.granted-granted.ensures.count
+returns-then-won-eq0-clause-bound c = record {
+  goes_on = c.granted-granted.ensures.asks.compared.goes_on;
+  at_most = bound_from_need _ _ c.args.ask.now _ _ c.granted-granted.ensures.asks.compared.at_most;
+}
 
 pub returns-clause-bound : goal.returns-clause-bound
-returns-clause-bound c = bound_from_need _ _ c.args.ask.now _ _ c.granted-granted.ensures.count
+returns-clause-bound c = record {
+  goes_on = c.granted-granted.ensures.asks.compared.goes_on;
+  at_most = bound_from_need _ _ c.args.ask.now _ _ c.granted-granted.ensures.asks.compared.at_most;
+}

@@ -6,38 +6,46 @@ use Rattle.sd_check.proofs.verdict.granted.Goals as goal
 use Rattle.sd_check.proofs.verdict.granted.Goals.{After-scan, After-undecided-undecided}
 
 undecided : (c : After-undecided-undecided)
-    → c.undecided-undecided.result ≡ undecided_of c.args.view.now c.args.token.now.entries c.args.ask.now
+    → c.undecided-undecided.result ≡ undecided_of c.args.view.now c.args.token.now.holder c.args.ask.now
 undecided c = c.undecided-undecided.ensures
-    ∙ rw (c.given-given.ensures.value, c.question-question.ensures.value) refl
+    ∙ rw (c.given-given.ensures.value, c.question-question.ensures.value, c.permitted-permitted.ensures) refl
 
 pub scan-requires : goal.scan-requires
 scan-requires c =
     rw (undecided (goal.at.scan-requires c).After-undecided-undecided)
-    (undecided-lt c.args.view.now c.args.token.now.entries c.args.ask.now c.question-question.ensures.limits)
+    (undecided-lt c.args.view.now c.args.token.now.holder c.args.ask.now c.question-question.ensures.limits)
 
 pub returns-clause-rights : goal.returns-clause-rights
 returns-clause-rights c =
     let e = undecided (goal.at.returns-clause-rights c).After-undecided-undecided in
-    rw (c.given-given.ensures.value, c.question-question.ensures.value)
-    (granted_bit c.args.view.now c.args.token.now.entries c.args.ask.now c.scan.result
+    rw (c.given-given.ensures.value, c.question-question.ensures.value, c.permitted-permitted.ensures)
+    (granted_bit c.args.view.now c.args.token.now.holder c.args.ask.now c.scan.result
     c.question-question.ensures.limits
-    (λ n. c.scan.ensures.rights n ∙ rw (e, c.given-given.ensures.entries) refl))
+    (λ n. c.scan.ensures.rights n ∙ rw (e, c.given-given.ensures.asks.holder) refl))
 
 -- what the scan adds to the count
 scanned : (c : After-scan)
-    → c.undecided-undecided.result ≡ undecided_of c.args.view.now c.args.token.now.entries c.args.ask.now
+    → c.undecided-undecided.result ≡ undecided_of c.args.view.now c.args.token.now.holder c.args.ask.now
     → c.scan.new.token.compared
     ≤ c.given-given.new.token.compared
-    + need c.args.view.now c.args.token.now.entries c.args.ask.now * length c.args.token.now.entries
+    + need c.args.view.now c.args.token.now.holder.entries c.args.ask.now * length c.args.token.now.holder.entries
 scanned c e =
-    count_scan c.args.view.now c.args.token.now.entries c.args.ask.now _ c.given-given.new.token.compared
+    count_scan c.args.view.now c.args.token.now.holder c.args.ask.now _ c.given-given.new.token.compared
     c.scan.new.token.compared c.question-question.ensures.limits e
-    (rw c.given-given.ensures.entries at c.scan.ensures.count)
+    (rw c.given-given.ensures.asks.holder at c.scan.ensures.asks.compared.at_most)
 
-pub returns-clause-count : goal.returns-clause-count
-returns-clause-count c =
-    let at = goal.at.returns-clause-count c in
-    omega (arith, scanned at.After-scan (undecided at.After-undecided-undecided), c.given-given.ensures.count)
+pub returns-clause-asks : goal.returns-clause-asks
+returns-clause-asks c =
+    let at = goal.at.returns-clause-asks c in
+    let owner = c.given-given.ensures.asks.compared in
+    let aces = c.scan.ensures.asks.compared in
+    record {
+      holder = c.scan.ensures.asks.holder ∙ c.given-given.ensures.asks.holder;
+      compared = record {
+        goes_on = omega (arith, owner.goes_on, aces.goes_on);
+        at_most = omega (arith, scanned at.After-scan (undecided at.After-undecided-undecided), owner.at_most);
+      };
+    }
 
 pub returns-clause-spared : goal.returns-clause-spared
 returns-clause-spared c = λ idle.
