@@ -10,6 +10,8 @@ to say the same.
 With --only it takes the rows whose id has one of the texts in it.
 The last line is 'N passed, M failed'.
 
+A file has its rows and their source: the section of the standard that gives the values, another implementation, or the
+document that has the rule where no standard says it. A row with another source names it.
 A row has the program's words, its standard input, and what has to come of them: stdout, stderr and status, which are
 empty and 0 where they are left out. Help tells the program's name: it is called sdtool, whatever its file is.
 A text is a string of characters below 256, each of which stands for one byte, or a list of texts, or
