@@ -1,15 +1,13 @@
 -- The answer to each line, which rests on that line alone.
-use Rattle.std.specs.Prelude.{◌≤◌, ℕ, ◌+◌, ◌*◌, All, List, [], ◌∷◌, ◌++◌, if◌then◌else◌, nat_lt, length, Bool, true, false, Option, Some, None, is_some, Result, Ok, Err, count_by, sum_by, codes}
+use Rattle.std.specs.Prelude.{◌≤◌, ℕ, ◌+◌, ◌*◌, All, List, [], ◌∷◌, ◌++◌, if◌then◌else◌, nat_lt, length, Bool, true, false, Option, Some, None, Result, Ok, Err, count_by, sum_by, codes}
 use Rattle.std.specs.List.{flat_map}
-use Rattle.std.specs.Option.{option_map}
-use Rattle.std.specs.Result.{result_ok}
-use Rattle.sd_text.specs.Chains.{◌>>=◌, fault_as, unless}
+use Rattle.sd_text.specs.Chains.{◌>>=◌, fault_as}
 use Rattle.sd_run.specs.Lines.{AreBytes, line_feed, lines}
 use Rattle.base64.specs.Engines.{standard}
 use Rattle.base64.specs.GeneralPurpose.{encode_of}
 use Rattle.hex.specs.Hex.{encode_lower}
 use Rattle.sd_sid.specs.Sid.{SecurityId}
-use Rattle.sd_token.specs.Token.{Entry}
+use Rattle.sd_token.specs.Token.{Holder}
 use Rattle.sd_view.specs.Descriptor.{Descriptor}
 use Rattle.sd_view.specs.Layout.{layout, size}
 use Rattle.sd_view.specs.Reading.{reading}
@@ -24,9 +22,11 @@ use Rattle.sd_run.specs.declared.job.Act.TheVariants as act
 use Rattle.sd_run.specs.declared.job.Form.{Form}
 use Rattle.sd_run.specs.declared.job.Form.TheVariants as form
 use Rattle.sd_run.specs.declared.job.Job.{Job}
+use Rattle.sd_run.specs.declared.job.Task.{Task}
 use Rattle.sd_sid.specs.declared.naming.Naming.{Naming}
 use Rattle.sd_check.specs.Need.{check_bound}
 use Rattle.sd_check.specs.Verdict.{verdict}
+use Rattle.sd_check.specs.Ask.{Asked}
 use Rattle.sd_check.specs.declared.verdict.Verdict.{Verdict}
 use Rattle.sd_check.specs.declared.verdict.Verdict.TheVariants.{Denied, Granted}
 use Rattle.sd_inherit.specs.Derived.{derive_fault, derived}
@@ -94,108 +94,99 @@ abbrev pub verdict_text : Verdict → List ℕ
 verdict_text (Granted mask) = codes "granted 0x" ++ hex_digits 8 mask
 verdict_text (Denied mask) = codes "denied 0x" ++ hex_digits 8 mask
 
-abbrev pub as_line_fault : Option DeriveFault → Option LineFault
-as_line_fault fault = option_map Derive fault
+-- what comes of a line
+pub record LineOutcome : Type 0 where
+  -- its answer, with the LF
+  pub text : List ℕ
+  -- whether that is an `error` line
+  pub is_error : Bool
+  -- how often an entry of the token may be compared for it
+  pub bound : ℕ
+  -- the descriptor that it prints
+  pub printed : Option Descriptor
 
--- the fault of an act at a descriptor: to derive alone may have one
-abbrev pub act_fault : Act → Descriptor → Option LineFault
-act_fault (Convert form) d = None
-act_fault Explain d = None
-act_fault (Check ask) d = None
-act_fault (act.Derive plan form) d = as_line_fault (derive_fault d plan)
+-- an `error` line
+abbrev pub refused : LineFault → LineOutcome
+refused fault = record { text = fault_text fault ++ line_feed ∷ []; is_error = true; bound = 0; printed = None }
 
--- an `error` line stands in the place of the answer
-abbrev pub unless_fault : Option LineFault → List ℕ → List ℕ
-unless_fault None text = text
-unless_fault (Some fault) text = fault_text fault ++ line_feed ∷ []
+-- a descriptor in a form
+abbrev pub converted : Job → Form → Descriptor → LineOutcome
+converted job form d =
+    record { text = form_text job form d ++ line_feed ∷ []; is_error = false; bound = 0; printed = Some d }
 
--- what is answered where the act has no fault, with its LF; each line of an explanation has its own already
-abbrev pub done_text : Job → Act → List Entry → Descriptor → List ℕ
-done_text job (Convert form) entries d = form_text job form d ++ line_feed ∷ []
-done_text job Explain entries d = explain (naming_of job) d
-done_text job (Check ask) entries d = verdict_text (verdict d entries ask) ++ line_feed ∷ []
-done_text job (act.Derive plan form) entries d = form_text job form (derived d plan) ++ line_feed ∷ []
+-- each line of an explanation has its LF already
+abbrev pub explained : Job → Descriptor → LineOutcome
+explained job d = record { text = explain (naming_of job) d; is_error = false; bound = 0; printed = Some d }
 
--- what is answered to a descriptor
-abbrev pub act_text : Job → Act → List Entry → Descriptor → List ℕ
-act_text job act entries d = unless_fault (act_fault act d) (done_text job act entries d)
+-- a verdict prints no descriptor, and it alone compares entries
+abbrev pub checked : Asked → Holder → Descriptor → LineOutcome
+checked ask holder d = record {
+  text = verdict_text (verdict d holder ask) ++ line_feed ∷ [];
+  is_error = false;
+  bound = check_bound d (length holder.entries);
+  printed = None;
+}
 
-abbrev pub text_of_meaning : Job → List Entry → Meaning → List ℕ
-text_of_meaning job entries None = line_feed ∷ []
-text_of_meaning job entries (Some (Err fault)) = fault_text fault ++ line_feed ∷ []
-text_of_meaning job entries (Some (Ok d)) = act_text job job.act entries d
+-- an `error` line stands in the place of what cannot be derived
+abbrev pub unless_too_large : Option DeriveFault → LineOutcome → LineOutcome
+unless_too_large None outcome = outcome
+unless_too_large (Some fault) outcome = refused (Derive fault)
+
+-- what comes of a descriptor
+abbrev pub act_outcome : Task → Holder → Act → Descriptor → LineOutcome
+act_outcome task holder (Convert form) d = converted task.job form d
+act_outcome task holder Explain d = explained task.job d
+act_outcome task holder (Check ask) d = checked ask holder d
+act_outcome task holder (act.Derive plan form) d =
+    unless_too_large (derive_fault d task.creator plan) (converted task.job form (derived d task.creator plan))
+
+abbrev pub outcome_of_meaning : Task → Holder → Meaning → LineOutcome
+outcome_of_meaning task holder None = record { text = line_feed ∷ []; is_error = false; bound = 0; printed = None }
+outcome_of_meaning task holder (Some (Err fault)) = refused fault
+outcome_of_meaning task holder (Some (Ok d)) = act_outcome task holder task.job.act d
+
+abbrev pub line_outcome : Task → Holder → List ℕ → LineOutcome
+line_outcome task holder line = outcome_of_meaning task holder (meaning task.job line)
 
 -- the answer, with its LF
-unfoldable pub answer : Job → List Entry → List ℕ → List ℕ
-answer job entries line = text_of_meaning job entries (meaning job line)
+unfoldable pub answer : Task → Holder → List ℕ → List ℕ
+answer task holder line = (line_outcome task holder line).text
 
 -- the answers to these lines, one after the other
-unfoldable pub answers : Job → List Entry → List (List ℕ) → List ℕ
-answers job entries these = flat_map (answer job entries) these
+unfoldable pub answers : Task → Holder → List (List ℕ) → List ℕ
+answers task holder these = flat_map (answer task holder) these
 
 -- ---- what is counted
 
-abbrev pub is_error_of_meaning : Act → Meaning → Bool
-is_error_of_meaning act None = false
-is_error_of_meaning act (Some (Err fault)) = true
-is_error_of_meaning act (Some (Ok d)) = is_some (act_fault act d)
-
 -- the answer is an `error` line
-unfoldable pub is_error : Job → List ℕ → Bool
-is_error job line = is_error_of_meaning job.act (meaning job line)
+unfoldable pub is_error : Task → Holder → List ℕ → Bool
+is_error task holder line = (line_outcome task holder line).is_error
 
 -- how many lines are answered by an `error` line
-unfoldable pub errors : Job → List (List ℕ) → ℕ
-errors job these = count_by (is_error job) these
+unfoldable pub errors : Task → Holder → List (List ℕ) → ℕ
+errors task holder these = count_by (is_error task holder) these
 
--- how often an entry of the token may be compared: a check alone compares any
-abbrev pub act_bound : Act → List Entry → Descriptor → ℕ
-act_bound (Convert form) entries d = 0
-act_bound Explain entries d = 0
-act_bound (Check ask) entries d = check_bound d (length entries)
-act_bound (act.Derive plan form) entries d = 0
+-- how often an entry of the token may be compared for a line
+unfoldable pub bound : Task → Holder → List ℕ → ℕ
+bound task holder line = (line_outcome task holder line).bound
 
-abbrev pub bound_of_meaning : Act → List Entry → Meaning → ℕ
-bound_of_meaning act entries None = 0
-bound_of_meaning act entries (Some (Err fault)) = 0
-bound_of_meaning act entries (Some (Ok d)) = act_bound act entries d
-
-unfoldable pub bound : Job → List Entry → List ℕ → ℕ
-bound job entries line = bound_of_meaning job.act entries (meaning job line)
-
-unfoldable pub bounds : Job → List Entry → List (List ℕ) → ℕ
-bounds job entries these = sum_by (bound job entries) these
+unfoldable pub bounds : Task → Holder → List (List ℕ) → ℕ
+bounds task holder these = sum_by (bound task holder) these
 
 -- ---- how much is printed
 
-abbrev pub unless_refused : Option DeriveFault → Descriptor → Option Descriptor
-unless_refused fault d = result_ok (unless fault d)
-
--- the descriptor that is printed for one that was read: a conversion prints that one, and so does an explanation; a
--- verdict prints none; to derive prints the derived one, unless there is none
-abbrev pub act_prints : Act → Descriptor → Option Descriptor
-act_prints (Convert form) d = Some d
-act_prints Explain d = Some d
-act_prints (Check ask) d = None
-act_prints (act.Derive plan form) d = unless_refused (derive_fault d plan) (derived d plan)
-
-abbrev pub printed_of_meaning : Act → Meaning → Option Descriptor
-printed_of_meaning act None = None
-printed_of_meaning act (Some (Err fault)) = None
-printed_of_meaning act (Some (Ok d)) = act_prints act d
-
 -- the descriptor that the answer prints
-abbrev pub printed : Job → List ℕ → Option Descriptor
-printed job line = printed_of_meaning job.act (meaning job line)
+abbrev pub printed : Task → Holder → List ℕ → Option Descriptor
+printed task holder line = (line_outcome task holder line).printed
 
 abbrev pub printed_size : Option Descriptor → ℕ
 printed_size None = 0
 printed_size (Some d) = size d
 
 -- the answer has at most eight characters a byte of the descriptor that it prints, and 64
-abbrev pub HasShortAnswer : Job → List Entry → List ℕ → Type 0
-HasShortAnswer job entries line = length (answer job entries line) ≤ 8 * printed_size (printed job line) + 64
+abbrev pub HasShortAnswer : Task → Holder → List ℕ → Type 0
+HasShortAnswer task holder line = length (answer task holder line) ≤ 8 * printed_size (printed task holder line) + 64
 
 -- so has the answer to each line, whatever bytes are the input
-abbrev pub AnswersAreShort : Job → List Entry → Type 0
-AnswersAreShort job entries = (input : List ℕ) → AreBytes input → All (HasShortAnswer job entries) (lines input)
+abbrev pub AnswersAreShort : Task → Holder → Type 0
+AnswersAreShort task holder = (input : List ℕ) → AreBytes input → All (HasShortAnswer task holder) (lines input)

@@ -1,4 +1,4 @@
 -- What private contracts and invariants cite. No definition rests on these files.
-pub mod ActLimits
 pub mod Reading
 pub mod Running
+pub mod TaskLimits

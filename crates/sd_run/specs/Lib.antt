@@ -4,4 +4,5 @@ pub mod Inner
 pub mod Lines
 pub mod Outcome
 pub mod Splits
+pub mod Task
 pub mod Told

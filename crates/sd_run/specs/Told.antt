@@ -2,6 +2,7 @@
 use Rattle.std.specs.Prelude.{ℕ, zero, suc, List, [], ◌∷◌, Bool, true, false, Option, Result, Ok, Err}
 use Rattle.sd_sink.specs.Counts.{counted}
 use Rattle.sd_sink.specs.Sink.{SinkTold}
+use Rattle.sd_token.specs.Token.{TokenShown}
 
 pub record SourceTold : Type 0 where
   -- the bytes that it has still to give, where they are known
@@ -18,6 +19,12 @@ pub record DrainTold : Type 0 where
   pub failures : ℕ
   -- its last call was a flush that succeeded
   pub flushed : Bool
+
+-- what a run's token and its two devices tell, before it or after it
+pub record RunTold : Type 0 where
+  pub token : TokenShown
+  pub source : SourceTold
+  pub drain : DrainTold
 
 -- a call that asks for no byte is no read
 abbrev pub reads_after : List ℕ → ℕ → ℕ

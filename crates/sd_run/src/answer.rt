@@ -1,11 +1,10 @@
 // The answer to one line.
-ghost use Rattle.std.specs.Prelude.{◌≡◌, ℕ, List, ◌++◌, [], ◌∷◌, true, is_some, Ok, Err};
+ghost use Rattle.std.specs.Prelude.{◌≡◌, ℕ, List, ◌++◌, [], ◌∷◌, true, Ok, Err};
 ghost use Rattle.sd_run.specs.Lines.{line_feed};
 ghost use Rattle.sd_sink.specs.Print.{Prints};
-ghost use Rattle.sd_run.specs.Answers.{act_bound, act_fault, act_text, answer, as_line_fault, bound, form_text, is_error, naming_of, unless_fault, verdict_text};
+ghost use Rattle.sd_run.specs.Answers.{act_outcome, answer, bound, converted, form_text, is_error, naming_of, refused, unless_too_large, verdict_text};
 ghost use Rattle.sd_explain.specs.Explain.{explain};
-ghost use Rattle.sd_run.specs.Faults.{fault_text};
-ghost use Rattle.sd_run.specs.Outcome.{Compares};
+ghost use Rattle.sd_token.specs.Token.{Compares};
 ghost use Rattle.sd_run.specs.Inner.Running.{HoldsText, IsReady, PrintsAnswer, PutsAnswer};
 ghost use Rattle.sd_run.specs.Told.{sink_of};
 ghost use Rattle.sd_inherit.specs.Derived.{derive_fault, derived};
@@ -16,11 +15,10 @@ use crate::base64_text::print_base64;
 use crate::device::Drain;
 use crate::engine::Stores;
 use crate::fault::{LineFault, print_fault};
-use crate::hex_text::{GATHERED, print_hex};
-use crate::job::{Act, Form, Job};
+use crate::hex_text::print_hex;
+use crate::job::{Act, Form, Job, Task};
 use crate::line::Line;
 use crate::sink::DrainSink;
-use sd_buffer::SdBuf;
 use sd_builder::write_layout;
 use sd_check::{Verdict, check};
 use sd_explain::print_explain;
@@ -34,42 +32,42 @@ use sd_view::{SdView, read};
 
 /// Puts the answer to the line in hand and its LF, and says whether it is an `error` line.
 pub fn put_answer<W: Drain>(
-    job: &Job,
+    task: &Task<'_>,
     line: &mut Line,
     stores: &mut Stores,
     token: &mut Token,
     drain: &mut W,
 ) -> Result<bool, SinkFault>
     requires { IsReady line.old }
-    ensures put { (text : List ℕ) → HoldsText job.now line.old text
+    ensures put { (text : List ℕ) → HoldsText task.now.job line.old text
         → PutsAnswer (sink_of (W.told drain.old)) (sink_of (W.told drain.new))
-        (answer job.now token.old.entries text) (is_error job.now text) result }
-    ensures entries { token.new.entries ≡ token.old.entries }
-    ensures compared { (text : List ℕ) → HoldsText job.now line.old text
-        → Compares token.old token.new (bound job.now token.old.entries text) }
+        (answer task.now token.old.holder text) (is_error task.now token.old.holder text) result }
+    ensures holder { token.new.holder ≡ token.old.holder }
+    ensures compared { (text : List ℕ) → HoldsText task.now.job line.old text
+        → Compares token.old token.new (bound task.now token.old.holder text) }
 {
     let mut sink = DrainSink { drain };
-    put_gathered(job, line, stores, token, &mut sink)
+    put_gathered(task, line, stores, token, &mut sink)
 }
 
 // The small texts of an answer are gathered.
 fn put_gathered<S: Sink>(
-    job: &Job,
+    task: &Task<'_>,
     line: &mut Line,
     stores: &mut Stores,
     token: &mut Token,
     sink: &mut S,
 ) -> Result<bool, SinkFault>
     requires { IsReady line.old }
-    ensures put { (text : List ℕ) → HoldsText job.now line.old text
+    ensures put { (text : List ℕ) → HoldsText task.now.job line.old text
         → PutsAnswer (S.told sink.old) (S.told sink.new)
-        (answer job.now token.old.entries text) (is_error job.now text) result }
-    ensures entries { token.new.entries ≡ token.old.entries }
-    ensures compared { (text : List ℕ) → HoldsText job.now line.old text
-        → Compares token.old token.new (bound job.now token.old.entries text) }
+        (answer task.now token.old.holder text) (is_error task.now token.old.holder text) result }
+    ensures holder { token.new.holder ≡ token.old.holder }
+    ensures compared { (text : List ℕ) → HoldsText task.now.job line.old text
+        → Compares token.old token.new (bound task.now token.old.holder text) }
 {
     let mut out = Gather::new(sink);
-    let faulty = print_answer(job, line, stores, token, &mut out);
+    let faulty = print_answer(task, line, stores, token, &mut out);
     match out.finish() {
         Ok(()) => Ok(faulty),
         Err(sink_fault) => Err(sink_fault),
@@ -78,19 +76,19 @@ fn put_gathered<S: Sink>(
 
 // A line over its limit was not read, so that is its only error.
 fn print_answer<P: Print>(
-    job: &Job,
+    task: &Task<'_>,
     line: &mut Line,
     stores: &mut Stores,
     token: &mut Token,
     out: &mut P,
 ) -> bool
     requires { IsReady line.old }
-    ensures printed { (text : List ℕ) → HoldsText job.now line.old text
+    ensures printed { (text : List ℕ) → HoldsText task.now.job line.old text
         → PrintsAnswer (P.told out.old) (P.told out.new)
-        (answer job.now token.old.entries text) (is_error job.now text) result }
-    ensures entries { token.new.entries ≡ token.old.entries }
-    ensures compared { (text : List ℕ) → HoldsText job.now line.old text
-        → Compares token.old token.new (bound job.now token.old.entries text) }
+        (answer task.now token.old.holder text) (is_error task.now token.old.holder text) result }
+    ensures holder { token.new.holder ≡ token.old.holder }
+    ensures compared { (text : List ℕ) → HoldsText task.now.job line.old text
+        → Compares token.old token.new (bound task.now token.old.holder text) }
 {
     if line.is_too_long() {
         return print_error(&LineFault::TooLong, out);
@@ -99,21 +97,14 @@ fn print_answer<P: Print>(
         return print_end(false, out);
     }
     match line.end() {
-        Ok(view) => print_act(
-            job,
-            &view,
-            &mut stores.written,
-            &mut stores.spelled,
-            token,
-            out,
-        ),
+        Ok(view) => print_act(task, &view, stores, token, out),
         Err(fault) => print_error(&fault, out),
     }
 }
 
 // Prints an `error` line.
 fn print_error<P: Print>(fault: &LineFault, out: &mut P) -> bool
-    ensures { PrintsAnswer (P.told out.old) (P.told out.new) (fault_text fault.now ++ line_feed ∷ []) true result }
+    ensures { PrintsAnswer (P.told out.old) (P.told out.new) (refused fault.now).text true result }
 {
     print_fault(fault, out);
     print_end(true, out)
@@ -121,21 +112,23 @@ fn print_error<P: Print>(fault: &LineFault, out: &mut P) -> bool
 
 // Prints what is answered to a descriptor.
 fn print_act<P: Print>(
-    job: &Job,
+    task: &Task<'_>,
     view: &SdView<'_>,
-    written: &mut SdBuf,
-    spelled: &mut [u8; GATHERED],
+    stores: &mut Stores,
     token: &mut Token,
     out: &mut P,
 ) -> bool
     ensures printed { PrintsAnswer (P.told out.old) (P.told out.new)
-        (act_text job.now job.now.act token.old.entries view.now) (is_some (act_fault job.now.act view.now)) result }
-    ensures entries { token.new.entries ≡ token.old.entries }
-    ensures compared { Compares token.old token.new (act_bound job.now.act token.old.entries view.now) }
+        (act_outcome task.now token.old.holder task.now.job.act view.now).text
+        (act_outcome task.now token.old.holder task.now.job.act view.now).is_error result }
+    ensures holder { token.new.holder ≡ token.old.holder }
+    ensures compared { Compares token.old token.new
+        (act_outcome task.now token.old.holder task.now.job.act view.now).bound }
 {
+    let job = &task.job;
     match job.act {
         Act::Convert(form) => {
-            print_form(job, form, view, written, spelled, out);
+            print_form(job, form, view, stores, out);
             print_end(false, out)
         }
         Act::Explain => {
@@ -146,7 +139,7 @@ fn print_act<P: Print>(
             print_verdict(check(view, token, &ask), out);
             print_end(false, out)
         }
-        Act::Derive(plan, form) => print_derived(job, view, &plan, form, written, spelled, out),
+        Act::Derive(plan, form) => print_derived(task, view, &plan, form, stores, out),
     }
 }
 
@@ -156,20 +149,19 @@ fn print_form<P: Print>(
     job: &Job,
     form: Form,
     view: &SdView<'_>,
-    written: &mut SdBuf,
-    spelled: &mut [u8; GATHERED],
+    stores: &mut Stores,
     out: &mut P,
 )
     ensures { Prints (P.told out.old) (P.told out.new) (form_text job.now form view.now) }
 {
     match form {
         Form::Hex => {
-            write_layout(view, written);
-            print_hex(written.bytes(), spelled, out);
+            write_layout(view, &mut stores.written);
+            print_hex(stores.written.bytes(), &mut stores.spelled, out);
         }
         Form::Base64 => {
-            write_layout(view, written);
-            print_base64(written.bytes(), spelled, out);
+            write_layout(view, &mut stores.written);
+            print_base64(stores.written.bytes(), &mut stores.spelled, out);
         }
         Form::Sddl => print_sddl(view, job.domain.as_ref(), job.numeric, out),
     }
@@ -177,21 +169,22 @@ fn print_form<P: Print>(
 
 // Prints the descriptor of a new object in a form, or why there is none.
 fn print_derived<P: Print>(
-    job: &Job,
+    task: &Task<'_>,
     parent: &SdView<'_>,
     plan: &Plan,
     form: Form,
-    written: &mut SdBuf,
-    spelled: &mut [u8; GATHERED],
+    stores: &mut Stores,
     out: &mut P,
 ) -> bool
     ensures { PrintsAnswer (P.told out.old) (P.told out.new)
-        (unless_fault (as_line_fault (derive_fault parent.now plan.now)) (form_text job.now form (derived parent.now plan.now) ++ 10 ∷ []))
-        (is_some (as_line_fault (derive_fault parent.now plan.now))) result }
+        (unless_too_large (derive_fault parent.now task.now.creator plan.now)
+        (converted task.now.job form (derived parent.now task.now.creator plan.now))).text
+        (unless_too_large (derive_fault parent.now task.now.creator plan.now)
+        (converted task.now.job form (derived parent.now task.now.creator plan.now))).is_error result }
 {
-    match derive(parent, plan, written) {
+    match derive(parent, task.creator.as_ref(), plan, &mut stores.written) {
         Ok(()) => {
-            print_written(job, form, written, spelled, out);
+            print_written(&task.job, form, stores, out);
             print_end(false, out)
         }
         Err(fault) => print_error(&LineFault::Derive(fault), out),
@@ -201,22 +194,16 @@ fn print_derived<P: Print>(
 // Prints the descriptor that is written in the buffer. As hex and base64 its bytes are spelled
 // where they are.
 #[tactic(auto, unfolding(crate::specs::Answers::form_text))]
-fn print_written<P: Print>(
-    job: &Job,
-    form: Form,
-    written: &SdBuf,
-    spelled: &mut [u8; GATHERED],
-    out: &mut P,
-)
-    ensures { (d : Descriptor) → Shows written.now d → written.now ≡ layout d
+fn print_written<P: Print>(job: &Job, form: Form, stores: &mut Stores, out: &mut P)
+    ensures { (d : Descriptor) → Shows stores.old.written d → stores.old.written ≡ layout d
         → Prints (P.told out.old) (P.told out.new) (form_text job.now form d) }
 {
     match form {
-        Form::Hex => print_hex(written.bytes(), spelled, out),
-        Form::Base64 => print_base64(written.bytes(), spelled, out),
+        Form::Hex => print_hex(stores.written.bytes(), &mut stores.spelled, out),
+        Form::Base64 => print_base64(stores.written.bytes(), &mut stores.spelled, out),
         Form::Sddl => {
             // Its bytes show a descriptor, so they are read.
-            if let Ok(view) = read(written.bytes()) {
+            if let Ok(view) = read(stores.written.bytes()) {
                 print_sddl(&view, job.domain.as_ref(), job.numeric, out);
             }
         }

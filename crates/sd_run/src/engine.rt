@@ -1,14 +1,13 @@
 // The engine, which has every buffer of a run.
-ghost use Rattle.std.specs.Prelude.{◌≡◌, IfOk, IfSome};
-ghost use Rattle.sd_sid.specs.Sid.{IsSid};
-ghost use Rattle.sd_run.specs.Inner.ActLimits.{ActLimits};
-ghost use Rattle.sd_inherit.specs.PlanLimits.{IsPlan};
+ghost use Rattle.std.specs.Prelude.{◌≡◌, IfOk, MatchResult, None, Some, Ok, Err};
+ghost use Rattle.sd_sddl_reader.specs.Meaning.{means};
+ghost use Rattle.sd_run.specs.Task.{IsDerivation};
 
 use crate::hex_text::GATHERED;
-use crate::job::{Act, Job};
+use crate::job::Job;
 use crate::line::Line;
 use sd_buffer::{SdBuf, TextBuf};
-use sd_inherit::Plan;
+use sd_sddl_reader::{SddlFault, read_sddl};
 use sd_sink::NoMemory;
 use std::alloc::Global;
 use std::marker::Model;
@@ -35,85 +34,87 @@ pub enum RunFault {
     TooManyReads,
 }
 
-/// What a run works with: its job, and memory that was taken before the first read.
+/// What a run works with: its job, the creator's descriptor if there is one, and memory that was taken before the first
+/// read. That is three buffers of a descriptor's 131,226 bytes, one of a base64 line's 174,968, and arrays.
 #[derive(Drop)]
 pub struct Engine {
+    pub(crate) job: Job,
+    // The bytes of the creator's descriptor, or none.
+    pub(crate) creator: SdBuf,
     pub(crate) state: RunState,
 }
 
 impl Model for Engine {
-    ghost use Rattle.sd_run.specs.declared.job.Job.{Job};
+    ghost use Rattle.std.specs.Result.{result_ok};
+    ghost use Rattle.sd_view.specs.Reading.{reading};
+    ghost use Rattle.sd_run.specs.declared.job.Task.{Task};
 
-    ghost Value = { Job };
+    ghost Value = { Task };
 
-    ghost view = { λ e. e.state.job };
+    // The creator's descriptor is the one that the bytes of its buffer show.
+    ghost view = { λ e. record { job = e.job; creator = result_ok (reading e.creator) } };
 }
 
 impl Engine {
-    /// All that a run needs is reserved here.
+    /// All that a run needs is reserved here. There is no creator.
     pub fn new(alloc: Global, job: Job) -> Result<Engine, NoMemory>
-        ensures job { IfOk result (λ engine. engine ≡ job) }
+        ensures task { IfOk result (λ engine. engine ≡ record { job = job; creator = None }) }
     {
         let read = SdBuf::new(alloc)?;
         let written = SdBuf::new(alloc)?;
+        let creator = SdBuf::new(alloc)?;
         let held = TextBuf::new(alloc)?;
-        Ok(Engine::over(job, read, written, held))
+        Ok(Engine::over(job, read, written, creator, held))
     }
 
     /// An engine over these buffers, whatever they hold: the bytes of a line's descriptor, those of the one that is
-    /// printed, and the text of a line of base64. It takes no memory.
-    pub fn over(job: Job, read: SdBuf, written: SdBuf, held: TextBuf) -> Engine
-        ensures job { result ≡ job }
+    /// printed, those of the creator's, and the text of a line of base64. There is no creator. It takes no memory.
+    pub fn over(
+        job: Job,
+        read: SdBuf,
+        written: SdBuf,
+        mut creator: SdBuf,
+        held: TextBuf,
+    ) -> Engine
+        ensures task { result ≡ record { job = job; creator = None } }
     {
+        creator.clear();
         Engine {
+            job,
+            creator,
             state: RunState {
-                job,
                 line: Line::over(read, held),
                 stores: Stores {
                     written,
                     spelled: [0; GATHERED],
                 },
+                report: Report {
+                    lines: 0,
+                    faults: 0,
+                },
             },
         }
     }
 
-    // Gives the prover the limits of the job's domain and act: `size` promises those of a SID.
-    pub(crate) fn note_limits(&self)
-        ensures domain { IfSome self.now.domain IsSid }
-        ensures act { ActLimits self.now.act }
+    /// Gives the engine the creator's descriptor, in SDDL with the aliases of the job's domain. It stays over runs.
+    /// After a refusal, by the first fault of the text, the engine has no creator. It takes no memory.
+    pub fn set_creator(&mut self, text: &[u8]) -> Result<(), SddlFault>
+        requires { IsDerivation self.old.job.act }
+        ensures creator { MatchResult (means text.now self.old.job.domain)
+            (λ d. (result ≡ Ok tt) × (self.new.creator ≡ Some d))
+            (λ fault. (result ≡ Err fault) × (self.new.creator ≡ None)) }
+        ensures job { self.new.job ≡ self.old.job }
     {
-        if let Some(domain) = &self.state.job.domain {
-            let _ = domain.size();
-        }
-        note_act(&self.state.job.act);
+        read_sddl(text, self.job.domain.as_ref(), &mut self.creator)
     }
 }
 
-// Gives the prover the limits of an act.
-fn note_act(act: &Act)
-    ensures { ActLimits act.now }
-{
-    match act {
-        Act::Convert(_) | Act::Explain | Act::Check(_) => {}
-        Act::Derive(plan, _) => note_plan(plan),
-    }
-}
-
-// Gives the prover the limits of a plan: `size` promises those of a SID, and `read` those of a mapping.
-fn note_plan(plan: &Plan)
-    ensures { IsPlan plan.now }
-{
-    let _ = plan.owner.size();
-    let _ = plan.group.size();
-    let _ = plan.mapping.read();
-}
-
-// The job, the line in hand, and what its answer is made in.
+// The line in hand, what its answer is made in, and what was counted.
 #[derive(Drop)]
 pub struct RunState {
-    pub job: Job,
     pub line: Line,
     pub stores: Stores,
+    pub report: Report,
 }
 
 // The bytes of the descriptor that is printed, and a piece of the text that spells them.

@@ -8,7 +8,8 @@ ghost use Rattle.sd_run.specs.Told.{sink_of};
 
 use crate::answer::put_answer;
 use crate::device::Drain;
-use crate::engine::{Report, RunState};
+use crate::engine::RunState;
+use crate::job::Task;
 use sd_sink::SinkFault;
 use sd_token::Token;
 
@@ -17,56 +18,58 @@ const BLOCK: usize = 32;
 
 // Answers the line in hand, counts it, and begins the next.
 fn answer_line<W: Drain>(
+    task: &Task<'_>,
     state: &mut RunState,
     token: &mut Token,
     drain: &mut W,
-    report: &mut Report,
 ) -> Result<(), SinkFault>
     requires ready { IsReady state.old.line }
-    requires room { HasRoom report.old 1 }
+    requires room { HasRoom state.old.report 1 }
     ensures answered { (token0 : TokenShown) (sink0 : SinkTold) (all : List (List ℕ)) (line : List ℕ)
-        → HoldsText state.old.job state.old.line line
-        → Answered state.old.job token0 sink0 all token.old (sink_of (W.told drain.old)) report.old
+        → HoldsText task.now.job state.old.line line
+        → Answered task.now token0 sink0 all
+        (record { state = state.old; token = token.old; sink = sink_of (W.told drain.old) })
         → MatchResult result
-        (λ _. Answered state.old.job token0 sink0 (all ++ line ∷ []) token.new (sink_of (W.told drain.new)) report.new)
-        (λ _. Failed state.old.job token0 sink0 all (all ++ line ∷ []) token.new (sink_of (W.told drain.new))) }
-    ensures begun { IsOk result → Holds state.old.job state.new.line [] }
+        (λ _. Answered task.now token0 sink0 (all ++ line ∷ [])
+        (record { state = state.new; token = token.new; sink = sink_of (W.told drain.new) }))
+        (λ _. Failed task.now token0 sink0 all (all ++ line ∷ [])
+        (record { state = state.new; token = token.new; sink = sink_of (W.told drain.new) })) }
+    ensures begun { IsOk result → Holds task.now.job state.new.line [] }
     ensures ready { IsOk result → IsReady state.new.line }
-    ensures job { state.new.job ≡ state.old.job }
-    ensures rose { RoseWithin 1 report.old report.new }
+    ensures rose { RoseWithin 1 state.old.report state.new.report }
 {
-    let faulty = put_answer(&state.job, &mut state.line, &mut state.stores, token, drain)?;
-    state.line.start(&state.job);
-    report.lines += 1;
+    let faulty = put_answer(task, &mut state.line, &mut state.stores, token, drain)?;
+    state.line.start(&task.job);
+    state.report.lines += 1;
     if faulty {
-        report.faults += 1;
+        state.report.faults += 1;
     }
     Ok(())
 }
 
 /// Reads one more piece, wherever the input is cut. Returns whether a line ended in it; if none did, nothing was written.
 pub fn feed_all<W: Drain>(
+    task: &Task<'_>,
     state: &mut RunState,
     piece: &[u8],
     token: &mut Token,
     drain: &mut W,
-    report: &mut Report,
 ) -> Result<bool, SinkFault>
     requires ready { IsReady state.old.line }
-    requires room { HasRoom report.old (length piece.now) }
-    ensures fed { Feeds piece.now state.old token.old (sink_of (W.told drain.old)) report.old
-        state.new token.new (sink_of (W.told drain.new)) report.new result }
+    requires room { HasRoom state.old.report (length piece.now) }
+    ensures fed { Feeds task.now piece.now
+        (record { state = state.old; token = token.old; sink = sink_of (W.told drain.old) })
+        (record { state = state.new; token = token.new; sink = sink_of (W.told drain.new) }) result }
     ensures ended { IfOk result (λ some. some ≡ has_lf piece.now) }
     ensures quiet { result ≡ Ok false → W.told drain.new ≡ W.told drain.old }
-    ensures none_counted { result ≡ Ok false → report.new.lines ≡ report.old.lines }
+    ensures none_counted { result ≡ Ok false → state.new.report.lines ≡ state.old.report.lines }
     ensures ready { IsOk result → IsReady state.new.line }
-    ensures job { state.new.job ≡ state.old.job }
-    ensures rose { RoseWithin (length piece.now) report.old report.new }
+    ensures rose { RoseWithin (length piece.now) state.old.report state.new.report }
 {
     let mut start = 0;
     while let Some(n) = line_end(&piece[start..]) {
         state.line.take(&piece[start..start + n]);
-        answer_line(state, token, drain, report)?;
+        answer_line(task, state, token, drain)?;
         start += n + 1;
     }
     state.line.take(&piece[start..]);
@@ -108,23 +111,25 @@ fn has_lf(bytes: &[u8]) -> bool
 
 /// The end of the input: what follows the last LF is a line where it is not empty.
 pub fn finish<W: Drain>(
+    task: &Task<'_>,
     state: &mut RunState,
     token: &mut Token,
     drain: &mut W,
-    report: &mut Report,
 ) -> Result<(), SinkFault>
     requires ready { IsReady state.old.line }
-    requires room { HasRoom report.old 1 }
+    requires room { HasRoom state.old.report 1 }
     ensures finished { (token0 : TokenShown) (sink0 : SinkTold) (got : List ℕ)
-        → AfterBytes token0 sink0 got state.old token.old (sink_of (W.told drain.old)) report.old
+        → AfterBytes task.now token0 sink0 got
+        (record { state = state.old; token = token.old; sink = sink_of (W.told drain.old) })
         → MatchResult result
-        (λ _. Answered state.new.job token0 sink0 (lines got) token.new (sink_of (W.told drain.new)) report.new)
-        (λ _. Failed state.new.job token0 sink0 (ended got) (lines got) token.new (sink_of (W.told drain.new))) }
-    ensures job { state.new.job ≡ state.old.job }
+        (λ _. Answered task.now token0 sink0 (lines got)
+        (record { state = state.new; token = token.new; sink = sink_of (W.told drain.new) }))
+        (λ _. Failed task.now token0 sink0 (ended got) (lines got)
+        (record { state = state.new; token = token.new; sink = sink_of (W.told drain.new) })) }
 {
     if state.line.is_untouched() {
         return Ok(());
     }
     state.line.settle();
-    answer_line(state, token, drain, report)
+    answer_line(task, state, token, drain)
 }

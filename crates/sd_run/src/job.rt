@@ -1,8 +1,16 @@
 // What is to be done with each line.
+ghost use Rattle.std.specs.Prelude.{◌≡◌, IfSome};
+ghost use Rattle.std.specs.Result.{result_ok};
+ghost use Rattle.sd_inherit.specs.PlanLimits.{IsPlan};
+ghost use Rattle.sd_sid.specs.Sid.{IsSid};
+ghost use Rattle.sd_view.specs.Reading.{reading};
+ghost use Rattle.sd_run.specs.Inner.TaskLimits.{ActLimits, TaskLimits};
 
+use sd_buffer::SdBuf;
 use sd_check::Ask;
 use sd_inherit::Plan;
 use sd_sid::Sid;
+use sd_view::{SdView, read};
 
 /// How a line spells a descriptor.
 #[derive(Clone, Copy, Debug, PartialEq, Eq)]
@@ -37,4 +45,49 @@ pub struct Job {
     pub domain: Option<Sid>,
     /// Whether SIDs are printed without aliases.
     pub numeric: bool,
+}
+
+/// What a run does with each line: its job, and the descriptor that the creator of a new object brings, if there is
+/// one (MS-DTYP 2.5.3.4). Only a derivation looks at that.
+#[derive(Drop)]
+pub struct Task<'a> {
+    pub job: Job,
+    pub creator: Option<SdView<'a>>,
+}
+
+impl<'a> Task<'a> {
+    // The creator's descriptor is the one that the buffer shows, if it shows any.
+    pub(crate) fn new(job: Job, creator: &'a SdBuf) -> Task<'a>
+        ensures task { result ≡ record { job = job; creator = result_ok (reading creator.now) } }
+        ensures limits { TaskLimits result }
+    {
+        note_job(&job);
+        Task {
+            job,
+            creator: read(creator.bytes()).ok(),
+        }
+    }
+}
+
+// Gives the prover the limits of a job: `size` promises those of a SID.
+fn note_job(job: &Job)
+    ensures domain { IfSome job.now.domain IsSid }
+    ensures act { ActLimits job.now.act }
+{
+    if let Some(domain) = &job.domain {
+        let _ = domain.size();
+    }
+    match &job.act {
+        Act::Convert(_) | Act::Explain | Act::Check(_) => {}
+        Act::Derive(plan, _) => note_plan(plan),
+    }
+}
+
+// Gives the prover the limits of a plan: `size` promises those of a SID, and `read` those of a mapping.
+fn note_plan(plan: &Plan)
+    ensures { IsPlan plan.now }
+{
+    let _ = plan.owner.size();
+    let _ = plan.group.size();
+    let _ = plan.mapping.read();
 }

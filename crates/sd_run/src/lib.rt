@@ -17,7 +17,7 @@ mod streams;
 pub use device::{DeviceFault, Drain, Source};
 pub use engine::{Engine, Report, RunFault};
 pub use fault::{LineFault, put_fault};
-pub use job::{Act, Form, Job};
+pub use job::{Act, Form, Job, Task};
 pub use running::{run, run_at_most};
 pub use sink::write_whole;
 pub use streams::{FromRead, ToWrite};

@@ -7,11 +7,13 @@ ghost use Rattle.sd_run.specs.Answers.{AnswersAreShort};
 ghost use Rattle.sd_run.specs.Lines.{AreBytes, LinesAreCut, ended, lines};
 ghost use Rattle.sd_run.specs.Splits.{AnswersSplit};
 ghost use Rattle.sd_run.specs.Inner.Running.{Answered, Failed, Feeds, HasRoom, IsReady, RoseWithin, AfterBytes};
+ghost use Rattle.sd_run.specs.Inner.TaskLimits.{TaskLimits};
 ghost use Rattle.sd_run.specs.Outcome.{Outcome};
 
 use crate::device::{Drain, Source};
 use crate::engine::{Engine, Report, RunFault, RunState};
 use crate::feed::{feed_all, finish};
+use crate::job::Task;
 use sd_sink::SinkFault;
 use sd_token::Token;
 
@@ -42,19 +44,20 @@ pub fn run<R: Source, W: Drain>(
     source: &mut R,
     drain: &mut W,
 ) -> Result<Report, RunFault>
-    ensures outcome { Outcome (2 ^ 40) engine.old token.old token.new (R.told source.old) (R.told source.new)
-        (W.told drain.old) (W.told drain.new) result }
+    ensures outcome { Outcome (2 ^ 40) engine.old
+        (record { token = token.old; source = R.told source.old; drain = W.told drain.old })
+        (record { token = token.new; source = R.told source.new; drain = W.told drain.new }) result }
     // At most eight characters a byte of the descriptor that a line prints, and 64, whatever bytes are read.
-    ensures answers_are_short { AnswersAreShort engine.old token.old.entries }
+    ensures answers_are_short { AnswersAreShort engine.old token.old.holder }
     // The lines are cut at each LF and nowhere else.
     ensures lines_are_cut { LinesAreCut }
     // The answers to an input that is cut behind an LF are those to its pieces.
-    ensures answers_split { AnswersSplit engine.old token.old.entries }
-    ensures job { engine.new ≡ engine.old }
-    ensures entries { token.new.entries ≡ token.old.entries }
+    ensures answers_split { AnswersSplit engine.old token.old.holder }
+    // Its job and its creator.
+    ensures task { engine.new ≡ engine.old }
+    ensures holder { token.new.holder ≡ token.old.holder }
 {
-    engine.note_limits();
-    run_state(&mut engine.state, token, source, drain, MOST_READS)
+    run_engine(engine, token, source, drain, MOST_READS)
 }
 
 /// A run as `run` makes it, which gives up after any smaller number of reads: so a test can reach the last of them.
@@ -66,29 +69,52 @@ pub fn run_at_most<R: Source, W: Drain>(
     most: u64,
 ) -> Result<Report, RunFault>
     requires { most ≤ 2 ^ 40 }
-    ensures outcome { Outcome most engine.old token.old token.new (R.told source.old) (R.told source.new) (W.told drain.old) (W.told drain.new) result }
-    ensures job { engine.new ≡ engine.old }
-    ensures entries { token.new.entries ≡ token.old.entries }
+    ensures outcome { Outcome most engine.old
+        (record { token = token.old; source = R.told source.old; drain = W.told drain.old })
+        (record { token = token.new; source = R.told source.new; drain = W.told drain.new }) result }
+    ensures task { engine.new ≡ engine.old }
+    ensures holder { token.new.holder ≡ token.old.holder }
 {
-    run_state(&mut engine.state, token, source, drain, most)
+    run_engine(engine, token, source, drain, most)
+}
+
+// Reads the creator's descriptor, once, and then the lines.
+fn run_engine<R: Source, W: Drain>(
+    engine: &mut Engine,
+    token: &mut Token,
+    source: &mut R,
+    drain: &mut W,
+    most: u64,
+) -> Result<Report, RunFault>
+    requires { most ≤ 2 ^ 40 }
+    ensures outcome { Outcome most engine.old
+        (record { token = token.old; source = R.told source.old; drain = W.told drain.old })
+        (record { token = token.new; source = R.told source.new; drain = W.told drain.new }) result }
+    ensures limits { TaskLimits engine.old }
+    ensures task { engine.new ≡ engine.old }
+    ensures holder { token.new.holder ≡ token.old.holder }
+{
+    let task = Task::new(engine.job, &engine.creator);
+    run_task(&task, &mut engine.state, token, source, drain, most)
 }
 
 // A run over the engine's parts.
-fn run_state<R: Source, W: Drain>(
+fn run_task<R: Source, W: Drain>(
+    task: &Task<'_>,
     state: &mut RunState,
     token: &mut Token,
     source: &mut R,
     drain: &mut W,
     most: u64,
 ) -> Result<Report, RunFault>
-    requires limit { most ≤ 2 ^ 40 }
-    ensures outcome { Outcome most state.old.job token.old token.new (R.told source.old) (R.told source.new)
-        (W.told drain.old) (W.told drain.new) result }
-    ensures job { state.new.job ≡ state.old.job }
-    ensures entries { token.new.entries ≡ token.old.entries }
+    requires { most ≤ 2 ^ 40 }
+    ensures outcome { Outcome most task.now
+        (record { token = token.old; source = R.told source.old; drain = W.told drain.old })
+        (record { token = token.new; source = R.told source.new; drain = W.told drain.new }) result }
+    ensures holder { token.new.holder ≡ token.old.holder }
 {
-    state.line.start(&state.job);
-    let mut report = Report {
+    state.line.start(&task.job);
+    state.report = Report {
         lines: 0,
         faults: 0,
     };
@@ -99,12 +125,12 @@ fn run_state<R: Source, W: Drain>(
             Err(_) => return Err(RunFault::Read),
         };
         if n == 0 {
-            return match close(state, token, drain, &mut report) {
-                Ok(()) => Ok(report),
+            return match close(task, state, token, drain) {
+                Ok(()) => Ok(state.report),
                 Err(_) => Err(RunFault::Write),
             };
         }
-        match answer_piece(state, &buf[..n], token, drain, &mut report) {
+        match answer_piece(task, state, &buf[..n], token, drain) {
             Ok(()) => {}
             Err(_) => return Err(RunFault::Write),
         }
@@ -114,25 +140,25 @@ fn run_state<R: Source, W: Drain>(
 
 // Answers the lines that end in a piece, and hands their answers on, so that they are out before more is read.
 fn answer_piece<W: Drain>(
+    task: &Task<'_>,
     state: &mut RunState,
     piece: &[u8],
     token: &mut Token,
     drain: &mut W,
-    report: &mut Report,
 ) -> Result<(), SinkFault>
     requires ready { IsReady state.old.line }
-    requires room { HasRoom report.old (length piece.now) }
-    ensures fed { Feeds piece.now state.old token.old (sink_of (W.told drain.old)) report.old
-        state.new token.new (sink_of (W.told drain.new)) report.new result }
+    requires room { HasRoom state.old.report (length piece.now) }
+    ensures fed { Feeds task.now piece.now
+        (record { state = state.old; token = token.old; sink = sink_of (W.told drain.old) })
+        (record { state = state.new; token = token.new; sink = sink_of (W.told drain.new) }) result }
     ensures bytes { AreBytes piece.now }
     ensures handed_on { IsOk result
-        → ((W.told drain.new ≡ W.told drain.old) × (report.new.lines ≡ report.old.lines))
+        → ((W.told drain.new ≡ W.told drain.old) × (state.new.report.lines ≡ state.old.report.lines))
         ⊎ ((W.told drain.new).flushed ≡ true) }
     ensures ready { IsOk result → IsReady state.new.line }
-    ensures job { state.new.job ≡ state.old.job }
-    ensures rose { RoseWithin (length piece.now) report.old report.new }
+    ensures rose { RoseWithin (length piece.now) state.old.report state.new.report }
 {
-    let a_line_ended = match feed_all(state, piece, token, drain, report) {
+    let a_line_ended = match feed_all(task, state, piece, token, drain) {
         Ok(a_line_ended) => a_line_ended,
         Err(sink_fault) => return Err(sink_fault),
     };
@@ -147,22 +173,24 @@ fn answer_piece<W: Drain>(
 
 // The end of the input.
 fn close<W: Drain>(
+    task: &Task<'_>,
     state: &mut RunState,
     token: &mut Token,
     drain: &mut W,
-    report: &mut Report,
 ) -> Result<(), SinkFault>
     requires ready { IsReady state.old.line }
-    requires room { HasRoom report.old 1 }
+    requires room { HasRoom state.old.report 1 }
     ensures closed { (token0 : TokenShown) (sink0 : SinkTold) (got : List ℕ)
-        → AfterBytes token0 sink0 got state.old token.old (sink_of (W.told drain.old)) report.old
+        → AfterBytes task.now token0 sink0 got
+        (record { state = state.old; token = token.old; sink = sink_of (W.told drain.old) })
         → MatchResult result
-        (λ _. Answered state.new.job token0 sink0 (lines got) token.new (sink_of (W.told drain.new)) report.new)
-        (λ _. Failed state.new.job token0 sink0 (ended got) (lines got) token.new (sink_of (W.told drain.new))) }
+        (λ _. Answered task.now token0 sink0 (lines got)
+        (record { state = state.new; token = token.new; sink = sink_of (W.told drain.new) }))
+        (λ _. Failed task.now token0 sink0 (ended got) (lines got)
+        (record { state = state.new; token = token.new; sink = sink_of (W.told drain.new) })) }
     ensures flushed { IsOk result → (W.told drain.new).flushed ≡ true }
-    ensures job { state.new.job ≡ state.old.job }
 {
-    match finish(state, token, drain, report) {
+    match finish(task, state, token, drain) {
         Ok(()) => {}
         Err(sink_fault) => return Err(sink_fault),
     }

@@ -3,8 +3,8 @@
 use Rattle.std.specs.Prelude.{◌≡◌, ◌<◌, ◌≤◌, ℕ, ◌+◌, ◌-◌, ◌^◌, min, List, [], ◌∷◌, ◌++◌, length, Bool, true, false, MatchResult, Result, Ok, Err}
 use Rattle.std.specs.Io.KnownBytes.{Consumes, Appends}
 use Rattle.sd_run.specs.Inner.Reading.{CanRead, HasRead, form_of}
-use Rattle.sd_run.specs.Told.{SourceTold, DrainTold, sink_of}
-use Rattle.sd_token.specs.Token.{TokenShown}
+use Rattle.sd_run.specs.Told.{RunTold, sink_of}
+use Rattle.sd_token.specs.Token.{Compares, Holder, TokenShown}
 use Rattle.sd_sink.specs.Print.{PrintTold, Prints}
 use Rattle.sd_sink.specs.Sink.{SinkTold, PutAll, PutSome, IsPrefix}
 use Rattle.sd_sink.specs.declared.sink.SinkFault.{SinkFault}
@@ -12,9 +12,10 @@ use Rattle.sd_sink.specs.Counts.{counted}
 use Rattle.sd_view.specs.Descriptor.{Descriptor}
 use Rattle.sd_view.specs.Reading.{reading}
 use Rattle.sd_run.specs.Lines.{AreBytes, cut_at_line_feeds, ended, without_cr, carriage_return}
-use Rattle.sd_run.specs.Answers.{answers, errors, bounds, line_limit, or_byte_fault}
-use Rattle.sd_run.specs.Outcome.{Compares, HandedOn, IsFront, RoseBy}
+use Rattle.sd_run.specs.Answers.{LineOutcome, answers, errors, bounds, line_limit, or_byte_fault}
+use Rattle.sd_run.specs.Outcome.{HandedOn, IsFront, RoseBy}
 use Rattle.sd_run.specs.declared.job.Job.{Job}
+use Rattle.sd_run.specs.declared.job.Task.{Task}
 use Rattle.sd_run.specs.declared.engine.RunState.{RunState}
 use Rattle.sd_run.specs.declared.engine.Report.{Report}
 use Rattle.sd_run.specs.declared.fault.LineFault.{LineFault}
@@ -66,25 +67,31 @@ HasRoom report n = (report.lines + n < 2 ^ 64) × (report.faults + n < 2 ^ 64)
 abbrev pub RoseWithin : ℕ → Report → Report → Type 0
 RoseWithin n old new = (new.lines ≤ old.lines + n) × (new.faults ≤ old.faults + n)
 
--- all of these lines are answered
-pub record Answered (job : Job) (token0 : TokenShown) (sink0 : SinkTold) (all : List (List ℕ)) (token : TokenShown)
-    (sink : SinkTold) (report : Report) : Type 0 where
-  pub put : PutAll sink0 sink (answers job token0.entries all)
-  pub lines_counted : report.lines ≡ length all
-  pub faults_counted : report.faults ≡ errors job all
-  pub same_entries : token.entries ≡ token0.entries
-  pub compared : Compares token0 token (bounds job token0.entries all)
+-- where a run stands: its state, and what its token and its sink tell
+pub record Standing : Type 0 where
+  pub state : RunState
+  pub token : TokenShown
+  pub sink : SinkTold
+
+-- since a token and a sink told this, all of these lines are answered
+pub record Answered (task : Task) (token0 : TokenShown) (sink0 : SinkTold) (all : List (List ℕ)) (now : Standing)
+    : Type 0 where
+  pub put : PutAll sink0 now.sink (answers task token0.holder all)
+  pub lines_counted : now.state.report.lines ≡ length all
+  pub faults_counted : now.state.report.faults ≡ errors task token0.holder all
+  pub same_holder : now.token.holder ≡ token0.holder
+  pub compared : Compares token0 now.token (bounds task token0.holder all)
 
 -- after these bytes, the lines that an LF ended are answered, and what follows is held
-pub record AfterBytes (token0 : TokenShown) (sink0 : SinkTold) (got : List ℕ) (state : RunState) (token : TokenShown)
-    (sink : SinkTold) (report : Report) : Type 0 where
-  pub holds : Holds state.job state.line (cut_at_line_feeds got).rest
-  pub answered : Answered state.job token0 sink0 (ended got) token sink report
+pub record AfterBytes (task : Task) (token0 : TokenShown) (sink0 : SinkTold) (got : List ℕ) (now : Standing)
+    : Type 0 where
+  pub holds : Holds task.job now.state.line (cut_at_line_feeds got).rest
+  pub answered : Answered task token0 sink0 (ended got) now
 
 -- the sink failed: some of these lines are answered whole, those before among them, and of the answer to one more, or
 -- to none, a part
-pub record Failed (job : Job) (token0 : TokenShown) (sink0 : SinkTold) (before all : List (List ℕ)) (token : TokenShown)
-    (sink : SinkTold) : Type 0 where
+pub record Failed (task : Task) (token0 : TokenShown) (sink0 : SinkTold) (before all : List (List ℕ)) (now : Standing)
+    : Type 0 where
   pub whole : List (List ℕ)
   pub broken : List (List ℕ)
   pub more : List (List ℕ)
@@ -92,30 +99,32 @@ pub record Failed (job : Job) (token0 : TokenShown) (sink0 : SinkTold) (before a
   pub split : all ≡ whole ++ broken ++ more
   pub begins : IsFront before whole
   pub one : length broken ≤ 1
-  pub is_prefix : IsPrefix part (answers job token0.entries broken)
-  pub appended : Appends sink0.contents sink.contents (answers job token0.entries whole ++ part)
-  pub failed : sink.failures ≡ counted sink0.failures
-  pub same_entries : token.entries ≡ token0.entries
-  pub compared : Compares token0 token (bounds job token0.entries (whole ++ broken))
+  pub is_prefix : IsPrefix part (answers task token0.holder broken)
+  pub appended : Appends sink0.contents now.sink.contents (answers task token0.holder whole ++ part)
+  pub failed : now.sink.failures ≡ counted sink0.failures
+  pub same_holder : now.token.holder ≡ token0.holder
+  pub compared : Compares token0 now.token (bounds task token0.holder (whole ++ broken))
 
 -- a piece went in: after whatever bytes came before it and it, the lines that ended are answered; or the sink failed
-abbrev pub Feeds : {A : Type 0} → List ℕ → RunState → TokenShown → SinkTold → Report
-    → RunState → TokenShown → SinkTold → Report → Result A SinkFault → Type 0
-Feeds piece state token sink report state' token' sink' report' result =
-    (token0 : TokenShown) (sink0 : SinkTold) (got : List ℕ) → AfterBytes token0 sink0 got state token sink report
+abbrev pub Feeds : {A : Type 0} → Task → List ℕ → Standing → Standing → Result A SinkFault → Type 0
+Feeds task piece old new result =
+    (token0 : TokenShown) (sink0 : SinkTold) (got : List ℕ) → AfterBytes task token0 sink0 got old
     → MatchResult result
-    (λ _. AfterBytes token0 sink0 (got ++ piece) state' token' sink' report')
-    (λ _. Failed state'.job token0 sink0 (ended got) (ended (got ++ piece)) token' sink')
+    (λ _. AfterBytes task token0 sink0 (got ++ piece) new)
+    (λ _. Failed task token0 sink0 (ended got) (ended (got ++ piece)) new)
+
+-- where a run stands with a drain for its sink
+abbrev pub standing : RunState → RunTold → Standing
+standing state now = record { state = state; token = now.token; sink = sink_of now.drain }
 
 -- a run before its next read
-pub record BeforeRead (turn : ℕ) (token0 : TokenShown) (source0 : SourceTold) (drain0 : DrainTold) (state : RunState)
-    (token : TokenShown) (source : SourceTold) (drain : DrainTold) (report : Report) : Type 0 where
+pub record BeforeRead (task : Task) (turn : ℕ) (old : RunTold) (state : RunState) (now : RunTold) : Type 0 where
   -- the bytes that left the source
   pub got : List ℕ
-  pub read : Consumes source0.left source.left got
+  pub read : Consumes old.source.left now.source.left got
   pub bytes : AreBytes got
-  pub after : AfterBytes token0 (sink_of drain0) got state token (sink_of drain) report
-  pub handed_on : HandedOn got drain0 drain
-  pub reads : RoseBy turn source0.reads source.reads
-  pub ends : source.ends ≡ source0.ends
-  pub failures : source.failures ≡ source0.failures
+  pub after : AfterBytes task old.token (sink_of old.drain) got (standing state now)
+  pub handed_on : HandedOn got old.drain now.drain
+  pub reads : RoseBy turn old.source.reads now.source.reads
+  pub ends : now.source.ends ≡ old.source.ends
+  pub failures : now.source.failures ≡ old.source.failures
