@@ -1,5 +1,5 @@
 #!/usr/bin/env python3
-"""compare.py PROGRAM [--lines N] [--seed S]
+"""compare.py PROGRAM [--lines N] [--seed S] [--only PART..]
 
 Feeds the program thousands of lines, among them broken and hostile ones, and compares each answer with the one of
 the reference: from a file, in random pieces through a pipe, in many short inputs with all kinds of ends, and a few
@@ -7,7 +7,9 @@ lines in every cut at two places; from hex, base64 and SDDL; as hex and base64, 
 domain, under several domains, and with numbers alone. What is printed as SDDL, and what is spelled otherwise than it would be printed, is compared with the descriptor
 that it was made from.
 Checks ask for what has to do with the descriptors: by tokens of SIDs that stand in them, about rights and object types of
-their ACEs. What is derived comes from descriptors whose ACEs are handed on, for owners and groups that stand in them.
+their ACEs, at levels near those of their labels. What is derived comes from descriptors whose ACEs are handed on, for
+owners and groups that stand in them, and from creators' descriptors of the same kind.
+With --only it runs some of its parts. There are as many checks, and as many derivations, as --lines says.
 The same seed gives the same lines. The last line is 'N passed, M failed'.
 """
 import argparse
@@ -53,6 +55,10 @@ EVERY_WORDS_FROM_SDDL = [[*words, *FROM_SDDL] for words in (HEX, SDDL, BASE64, U
 EVERY_WORDS_FROM_BASE64 = [[*words, "--from", "base64"] for words in (HEX, SDDL, BASE64, EXPLAINED[0], CHECKED[0], DERIVED[0])]
 DOMAIN_SIDS = [reference.sid_of_text(domain.encode()) for domain in DOMAINS]
 CREATORS = [reference.sid_of_text(name) for name in (b"CO", b"CG")]
+LABEL_TYPE, INHERIT_ONLY, LABEL_AUTHORITY = 0x11, 0x08, 16
+LEVELS = [0, 0x1000, 0x2000, 0x2000, 0x2100, 0x3000, 0x4000]
+MOST_LEVEL = 0xffff_ffff
+LINES_OF_A_RUN = 20  # that checks, or derives
 SOME_MASKS = [*reference.RIGHTS.values(), *reference.COMPOUND_RIGHTS.values(), *reference.LABEL_RIGHTS.values()]
 ALIASES, KIND_NAMES, FLAG_NAMES, RIGHT_NAMES = (
     [name.encode() for name in names] for names in ([*reference.WELL_KNOWN, *reference.OF_THE_DOMAIN],
@@ -556,6 +562,24 @@ class Lines:
             mask=self.chance.choice([ace.mask, ace.mask & 0x0fff_ffff]),
             sid=self.chance.choice([ace.sid, ace.sid, *CREATORS])) for ace in acl.aces))
 
+    def label(self):
+        """An ACE that says a level, or one that nearly does."""
+        level = self.chance.choice([*LEVELS, self.chance.getrandbits(32), MOST_LEVEL])
+        sid = reference.Sid(LABEL_AUTHORITY, (level,))
+        others = [reference.Sid(LABEL_AUTHORITY, (level, level)), reference.Sid(LABEL_AUTHORITY, ()), reference.Sid(5, (level,))]
+        flags = self.chance.choice([0, 0, 0, INHERIT_ONLY, self.chance.getrandbits(8) & ~UNKNOWN_FLAG])
+        mask = self.chance.choice([self.chance.randrange(8), self.chance.randrange(8), self.chance.getrandbits(32)])
+        return reference.Ace(LABEL_TYPE, flags, mask, None, None, self.chance.choice([sid] * 6 + others))
+
+    def labelled(self, descriptor):
+        """The descriptor, the most with a label or two in their SACL."""
+        aces = list(descriptor.sacl.aces if descriptor.sacl else ())
+        for _ in range(self.chance.choice([0, 1, 1, 1, 2])):
+            aces.insert(self.chance.randint(0, len(aces)), self.label())
+        if not aces:
+            return descriptor
+        return descriptor._replace(control=descriptor.control | SACL_PRESENT, sacl=reference.Acl(tuple(aces)))
+
     def in_any_case(self, text):
         upper = self.chance.choice([0, -1, self.chance.getrandbits(len(text) + 1)])
         return "".join(letter.upper() if upper >> at & 1 else letter.lower() for at, letter in enumerate(text))
@@ -758,6 +782,20 @@ class Count:
             self.fail(f"{what}, at the end", f"status {status}, not {wanted_status}; more output: {short(written[at:])}")
 
 
+    def run_or_refuse(self, program, words, given):
+        """One run of the program, whose words may have a value that does not read: then there is no answer."""
+        try:
+            given.answers(words)
+        except reference.Usage as fault:
+            ended = subprocess.run([program, *words], input=given.data, capture_output=True, timeout=SECONDS)
+            if (ended.returncode, ended.stdout, ended.stderr) == (2, b"", f"{fault}\n".encode()):
+                self.passed += 1
+            else:
+                self.fail(f"refused words {words}: gave {ended}, not {fault}")
+        else:
+            self.run(program, "with words that are read", words, given)
+
+
 def compare_hex(count, program, maker, number):
     """From hex, random lines of this number among the others."""
     pieces = [*fixed_lines(), *(maker.line() for _ in range(number))]
@@ -827,7 +865,7 @@ def compare_sddl(count, program, maker, number):
 
 def compare_short(count, program, maker, number):
     """Inputs of few lines, with all kinds of ends."""
-    for _ in range(number):
+    for _ in range(number // 25):
         kind, every_words = maker.chance.choice([(maker.line, EVERY_WORDS), (maker.base64_line, EVERY_WORDS_FROM_BASE64),
                                                  (maker.sddl_line, EVERY_WORDS_FROM_SDDL)])
         data = b"".join(kind() + maker.end() for _ in range(maker.chance.randrange(4))) + kind() + maker.last_end()
@@ -851,7 +889,7 @@ def cuts_in_three(size):
     yield [size]
 
 
-def compare_cuts(count, program):
+def compare_cuts(count, program, _maker, _number):
     """Each input in every cut at two places."""
     for source, inputs in CUT.items():
         for data in inputs:
@@ -872,6 +910,14 @@ def token_text(maker, descriptors):
     return ",".join(maker.chance.choice(["", "", "!"]) + sid for sid in some)
 
 
+def level_text(maker, descriptors):
+    """A level near one of their labels, or near that of an object without one."""
+    aces = [ace for one in descriptors if one.sacl for ace in one.sacl.aces if ace.type == LABEL_TYPE]
+    levels = [ace.sid.sub_authorities[0] for ace in aces if ace.sid.sub_authorities] + [0x2000]
+    level = maker.chance.choice(levels) + maker.chance.choice([-1, -1, 0, 0, 0, 1])
+    return maker.padded(str(min(max(0, level), MOST_LEVEL)), 10)
+
+
 def check_words(maker, descriptors):
     """Words of check that ask for something, about what the descriptors say."""
     aces = [ace for one in descriptors if one.dacl for ace in one.dacl.aces]
@@ -882,6 +928,8 @@ def check_words(maker, descriptors):
         words += ["--want", f"0x{wanted:x}"]
     if "--want" not in words or maker.chance.random() < 0.5:
         words.append("--maximum")
+    if maker.chance.random() < 0.75:
+        words += ["--level", level_text(maker, descriptors)]
     guids = [ace.object_type for ace in aces if ace.object_type is not None]
     if guids and maker.chance.random() < 0.7:
         words += ["--object", reference.guid_sddl(maker.chance.choice(guids))]
@@ -892,10 +940,10 @@ def check_words(maker, descriptors):
 
 def compare_checks(count, program, maker, number):
     """Checks by tokens that have something to do with the descriptors, each on a few of them."""
-    for _ in range(number):
-        pieces = [maker.canonical().data for _ in range(20)]
-        given = Input(b"".join(data.hex().encode() + b"\n" for data in pieces))
-        count.run(program, "checked", check_words(maker, [reference.read(data) for data in pieces]), given)
+    for _ in range(number // LINES_OF_A_RUN):
+        descriptors = [maker.labelled(reference.read(maker.descriptor().data)) for _ in range(LINES_OF_A_RUN)]
+        given = Input(b"".join(reference.layout(one).hex().encode() + b"\n" for one in descriptors), descriptors)
+        count.run(program, "checked", check_words(maker, descriptors), given)
 
 
 def derive_words(maker, descriptors):
@@ -910,26 +958,42 @@ def derive_words(maker, descriptors):
     if maker.chance.random() < 0.7:
         words += ["--type", maker.chance.choice(list(reference.MAPPINGS))]
     words += maker.chance.choice([[], [], TO_HEX, ["--to", "base64"]])
+    if maker.chance.random() < 0.75:
+        words += ["--creator", creator_text(maker, DOMAIN_SIDS[0] if "--domain" in words else None)]
     return words + ["--numeric"] * (maker.chance.random() < 0.2)
 
 
-def large_parents():
+def creator_text(maker, domain):
+    """A creator's descriptor, whose ACEs are of the same kinds as a parent's."""
+    return maker.spelled_as_sddl(maker.labelled(maker.parent(maker.plain())), domain).decode()
+
+
+def compare_faulty_creators(count, program, maker, number):
+    """Creators' descriptors with a change or a few: most of them do not read, and then nothing is answered."""
+    parent = Input(b"D:(A;OICI;FA;;;SY)\n")
+    for _ in range(number):
+        creator = maker.mutated_sddl(creator_text(maker, None).encode())
+        if creator.isascii() and b"\0" not in creator and not creator.startswith(b"-"):
+            count.run_or_refuse(program, [*DERIVED[0], *FROM_SDDL, "--creator", creator.decode()], parent)
+
+
+def large_parents(counts=(2729, 2730)):
     """ACLs whose copies for an owner of 16 bytes are about as large as an ACL may be."""
     def acl_of(letter, kind, count, rest):
         aces = f"({kind};OICINP;FA;;;CO)" * count + "".join(f"({kind};OICINP;FA;;;S-1-5{sub})" for sub in rest)
         return f"{letter}:{aces}".encode()
-    for count, rest in itertools.product((2729, 2730), ([], [""], ["-1"], ["-1-2-3"], ["-1-2-3-4"])):
+    for count, rest in itertools.product(counts, ([], [""], ["-1"], ["-1-2-3"], ["-1-2-3-4"])):
         dacl, sacl = acl_of("D", "A", count, rest), acl_of("S", "AU", count, rest)
         yield from (dacl, sacl, dacl + b"S:(AU;CI;FA;;;CO)", sacl + b"D:(A;OI;FA;;;CG)", dacl + sacl)
 
 
 def compare_derived(count, program, maker, number):
     """What is derived for owners and groups that have something to do with the descriptors, from a few of them each."""
-    for _ in range(number):
-        descriptors = [maker.parent(reference.read(maker.descriptor().data)) for _ in range(20)]
+    for _ in range(number // LINES_OF_A_RUN // 2):
+        descriptors = [maker.parent(reference.read(maker.descriptor().data)) for _ in range(LINES_OF_A_RUN)]
         given = Input(b"".join(reference.layout(one).hex().encode() + b"\n" for one in descriptors), descriptors)
         count.run(program, "derived", derive_words(maker, descriptors), given)
-        descriptors = [maker.parent(maker.plain()) for _ in range(20)]
+        descriptors = [maker.parent(maker.plain()) for _ in range(LINES_OF_A_RUN)]
         spelled = [maker.spelled_as_sddl(one, None) for one in descriptors]
         known = [one if text else None for one, text in zip(descriptors, spelled)]
         given = Input(b"".join(text + b"\n" for text in spelled), known)
@@ -938,6 +1002,18 @@ def compare_derived(count, program, maker, number):
     for kind, form in itertools.product(["file", "container"], ["hex", "base64", "sddl"]):
         words = ["derive", "--kind", kind, "--owner", "BA", "--group", "SY", "--to", form, *FROM_SDDL]
         count.run(program, "large ACLs derived", words, large)
+    # Together with those of a creator they are about as large as an ACL may be.
+    large = Input(b"".join(line + b"\n" for line in large_parents((1729, 1730))))
+    creators = ["D:" + "(A;;FA;;;CO)" * 1000, "D:" + "(A;;FA;;;CO)" * 1000 + "S:P",
+                "S:" + "(AU;SA;FA;;;CO)" * 1000, "D:P" + "(A;;FA;;;CO)" * 1000 + "S:NO_ACCESS_CONTROL"]
+    for kind, creator in itertools.product(["file", "container"], creators):
+        words = ["derive", "--kind", kind, "--owner", "BA", "--group", "SY", "--creator", creator, *FROM_SDDL]
+        count.run(program, "large ACLs derived with a creator", words, large)
+    compare_faulty_creators(count, program, maker, number // LINES_OF_A_RUN)
+
+
+PARTS_OF_ALL = {"hex": compare_hex, "base64": compare_base64, "sddl": compare_sddl, "short": compare_short,
+                "cuts": compare_cuts, "checks": compare_checks, "derivations": compare_derived}
 
 
 def main():
@@ -945,16 +1021,11 @@ def main():
     parser.add_argument("program", type=os.path.abspath)
     parser.add_argument("--lines", type=int, default=10_000, help="random lines (%(default)s)")
     parser.add_argument("--seed", type=int, default=1, help="(%(default)s)")
+    parser.add_argument("--only", nargs="+", choices=PARTS_OF_ALL, default=PARTS_OF_ALL, help="(all of them)")
     given = parser.parse_args()
-    maker = Lines(random.Random(given.seed))
     count = Count()
-    compare_hex(count, given.program, maker, given.lines)
-    compare_base64(count, given.program, maker, given.lines)
-    compare_sddl(count, given.program, maker, given.lines)
-    compare_short(count, given.program, maker, given.lines // 25)
-    compare_cuts(count, given.program)
-    compare_checks(count, given.program, maker, given.lines // 20)
-    compare_derived(count, given.program, maker, given.lines // 20)
+    for part in given.only:
+        PARTS_OF_ALL[part](count, given.program, Lines(random.Random(f"{given.seed} {part}")), given.lines)
     print(f"{count.passed} passed, {count.failed} failed")
     return 1 if count.failed else 0
 
