@@ -64,13 +64,13 @@ audit_flags flags = bit_of SUCCESSFUL_ACCESS flags + bit_of FAILED_ACCESS flags
 abbrev pub copied_flags : ℕ → ℕ → ℕ
 copied_flags flags added = audit_flags flags + INHERITED + added
 
--- for the new object itself, with the flags that go on, if any do
+-- for the new object itself: the rights and the SID are what they mean there
+abbrev pub for_itself : Plan → AccessControlEntry → ℕ → AccessControlEntry
+for_itself plan a flags = record a { flags = flags; mask = heir_mask plan a; sid = heir plan a.sid }
+
+-- with the flags that go on, if any do
 abbrev pub effective_copy : Plan → AccessControlEntry → ℕ → AccessControlEntry
-effective_copy plan a onward = record a {
-  flags = copied_flags a.flags onward;
-  mask = heir_mask plan a;
-  sid = heir plan a.sid;
-}
+effective_copy plan a onward = for_itself plan a (copied_flags a.flags onward)
 
 -- to hand on, as it was
 abbrev pub inherit_only_copy : AccessControlEntry → AccessControlEntry

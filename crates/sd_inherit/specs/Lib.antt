@@ -3,3 +3,4 @@ pub mod Copies
 pub mod Derived
 pub mod Inner
 pub mod PlanLimits
+pub mod Taken

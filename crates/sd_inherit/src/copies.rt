@@ -3,7 +3,7 @@
 ghost use Rattle.std.specs.Prelude.{◌≡◌, ◌<◌, ◌/◌, ◌%◌, not, None, Some};
 ghost use Rattle.sd_builder.specs.Draft.{is_present};
 ghost use Rattle.sd_inherit.specs.Inner.Building.{listed};
-ghost use Rattle.sd_inherit.specs.Copies.{copies, copies_for, effective_copy, inherit_only_copy};
+ghost use Rattle.sd_inherit.specs.Copies.{copies, copies_for, effective_copy, for_itself, inherit_only_copy};
 ghost use Rattle.sd_inherit.specs.Derived.{sacl_of};
 
 use crate::flags::{copied_flags, onward_flags};
@@ -13,7 +13,7 @@ use sd_ace::Ace;
 use sd_kinds::{CONTAINER_INHERIT, INHERIT_ONLY, NO_PROPAGATE, OBJECT_INHERIT, has_flag};
 use sd_sid::Sid;
 
-/// What a new object gets from one ACE: at most one copy for itself, and then at most one to hand on.
+/// What a new object gets from one ACE: at most one for itself, and then at most one to hand on.
 #[derive(Clone, Copy)]
 pub struct Copies {
     pub effective: Option<Ace>,
@@ -79,8 +79,8 @@ fn container_copies(plan: &Plan, ace: &Ace) -> Copies
     }
 }
 
-// For the new object alone, or with flags for what is made in it.
-fn one_copy(ace: Ace) -> Copies
+/// One ACE, for the new object alone or with flags for what is made in it.
+pub fn one_copy(ace: Ace) -> Copies
     ensures value { result ≡ record { effective = Some ace; inherit_only = None } }
 {
     Copies {
@@ -94,12 +94,15 @@ fn effective_copy(plan: &Plan, ace: &Ace, onward: u8) -> Ace
     requires { onward < 4 }
     ensures { result ≡ effective_copy plan.now ace.now onward }
 {
-    changed(
-        ace,
-        copied_flags(ace.flags(), onward),
-        heir_mask(plan, ace),
-        heir(plan, ace.sid()),
-    )
+    for_itself(plan, ace, copied_flags(ace.flags(), onward))
+}
+
+/// The ACE for the new object itself, with these flags.
+pub fn for_itself(plan: &Plan, ace: &Ace, flags: u8) -> Ace
+    requires { flags / 0x20 % 2 ≡ 0 }
+    ensures { result ≡ for_itself plan.now ace.now flags }
+{
+    changed(ace, flags, heir_mask(plan, ace), heir(plan, ace.sid()))
 }
 
 // The copy to hand on.
@@ -110,8 +113,8 @@ fn inherit_only_copy(ace: &Ace) -> Ace
     changed(ace, copied_flags(ace.flags(), added), ace.mask(), ace.sid())
 }
 
-// The same ACE with other flags, another mask and another SID.
-fn changed(ace: &Ace, flags: u8, mask: u32, sid: Sid) -> Ace
+/// The same ACE with other flags, another mask and another SID.
+pub fn changed(ace: &Ace, flags: u8, mask: u32, sid: Sid) -> Ace
     requires { flags / 0x20 % 2 ≡ 0 }
     ensures { result ≡ record ace.now { flags = flags; mask = mask; sid = sid } }
 {

@@ -1,17 +1,19 @@
 //! The descriptor of a new object.
 
 ghost use Rattle.std.specs.Prelude.{◌≡◌, [], None, Some, MatchResult, OnOk, OnErr};
+ghost use Rattle.std.specs.Option.{option_copied};
 ghost use Rattle.sd_view.specs.Descriptor.{Shows};
 ghost use Rattle.sd_view.specs.Layout.{layout};
-ghost use Rattle.sd_inherit.specs.Inner.Building.{inherited_bits};
-ghost use Rattle.sd_inherit.specs.Derived.{derive_fault, derived};
+ghost use Rattle.sd_builder.specs.Draft.{is_present};
+ghost use Rattle.sd_inherit.specs.Inner.Building.{flags_beside, is_null};
+ghost use Rattle.sd_inherit.specs.Derived.{acl_of, creators_acl, derive_fault, derived, is_protected, parents_acl};
 
-use crate::inherited::{put_acl, put_sacl};
+use crate::inherited::{put_dacl, put_sacl};
 use crate::plan::Plan;
 use sd_buffer::SdBuf;
 use sd_builder::Builder;
 use sd_control::{AclFlags, Which};
-use sd_view::SdView;
+use sd_view::{AclPart, SdView};
 
 /// Why nothing is derived.
 #[derive(Clone, Copy, Debug, PartialEq, Eq)]
@@ -21,17 +23,22 @@ pub enum DeriveFault {
 }
 
 /// Replaces the contents of the buffer by the descriptor of a new object (MS-DTYP 2.5.3.4) whose container has the
-/// parent's: owner and group of the plan, and the copies of the parent's ACEs. The SACL is looked at before the DACL;
-/// after a fault the buffer is empty.
-pub fn derive(parent: &SdView, plan: &Plan, buf: &mut SdBuf) -> Result<(), DeriveFault>
-    ensures fault { MatchResult result (λ _. derive_fault parent.now plan.now ≡ None)
-        (λ f. derive_fault parent.now plan.now ≡ Some f) }
-    ensures shows { OnOk result (Shows buf.new (derived parent.now plan.now)) }
+/// parent's: owner and group of the plan, what is taken from the ACLs of the creator's descriptor, if there is one, and
+/// the copies of the parent's ACEs. The SACL is looked at before the DACL; after a fault the buffer is empty.
+pub fn derive(
+    parent: &SdView,
+    creator: Option<&SdView>,
+    plan: &Plan,
+    buf: &mut SdBuf,
+) -> Result<(), DeriveFault>
+    ensures fault { MatchResult result (λ _. derive_fault parent.now (option_copied creator) plan.now ≡ None)
+        (λ f. derive_fault parent.now (option_copied creator) plan.now ≡ Some f) }
+    ensures shows { OnOk result (Shows buf.new (derived parent.now (option_copied creator) plan.now)) }
     // In its one written form, and not only some bytes that show it.
-    ensures laid_out { OnOk result (buf.new ≡ layout (derived parent.now plan.now)) }
+    ensures laid_out { OnOk result (buf.new ≡ layout (derived parent.now (option_copied creator) plan.now)) }
     ensures empty { OnErr result (buf.new ≡ []) }
 {
-    let result = build(parent, plan, buf);
+    let result = build(parent, creator, plan, buf);
     if result.is_err() {
         buf.clear();
     }
@@ -39,38 +46,97 @@ pub fn derive(parent: &SdView, plan: &Plan, buf: &mut SdBuf) -> Result<(), Deriv
 }
 
 // The same, but for what the buffer holds after a fault.
-fn build(parent: &SdView, plan: &Plan, buf: &mut SdBuf) -> Result<(), DeriveFault>
-    ensures fault { MatchResult result (λ _. derive_fault parent.now plan.now ≡ None)
-        (λ f. derive_fault parent.now plan.now ≡ Some f) }
-    ensures shows { OnOk result (Shows buf.new (derived parent.now plan.now)) }
-    ensures laid_out { OnOk result (buf.new ≡ layout (derived parent.now plan.now)) }
+fn build(
+    parent: &SdView,
+    creator: Option<&SdView>,
+    plan: &Plan,
+    buf: &mut SdBuf,
+) -> Result<(), DeriveFault>
+    ensures fault { MatchResult result (λ _. derive_fault parent.now (option_copied creator) plan.now ≡ None)
+        (λ f. derive_fault parent.now (option_copied creator) plan.now ≡ Some f) }
+    ensures shows { OnOk result (Shows buf.new (derived parent.now (option_copied creator) plan.now)) }
+    ensures laid_out { OnOk result (buf.new ≡ layout (derived parent.now (option_copied creator) plan.now)) }
 {
     let mut builder = Builder::new(buf);
     builder.owner(buf, &plan.owner);
     builder.group(buf, &plan.group);
-    let Ok(has_sacl) = put_sacl(&mut builder, buf, plan, &parent.sacl()) else {
+    let sacl = creators_acl(Which::Sacl, creator);
+    let parents_sacl = parents_acl(Which::Sacl, creator, parent);
+    let Ok(has_sacl) = put_sacl(&mut builder, buf, plan, &sacl, &parents_sacl) else {
         return Err(DeriveFault::DerivedTooLarge(Which::Sacl));
     };
-    if let Err(_) = put_acl(&mut builder, buf, plan, Which::Dacl, &parent.dacl()) {
+    let dacl = creators_acl(Which::Dacl, creator);
+    let parents_dacl = parents_acl(Which::Dacl, creator, parent);
+    let Ok(()) = put_dacl(&mut builder, buf, plan, &dacl, &parents_dacl) else {
         return Err(DeriveFault::DerivedTooLarge(Which::Dacl));
-    }
-    builder.finish(buf, inherited_bits(has_sacl), 0);
+    };
+    let sacl_flags = new_flags(Which::Sacl, creator, has_sacl && !is_null(&sacl));
+    let dacl_flags = new_flags(Which::Dacl, creator, !is_null(&dacl));
+    builder.finish(buf, sacl_flags.bits(Which::Sacl) + dacl_flags.bits(Which::Dacl), 0);
     Ok(())
 }
 
-// That the ACLs that stand were made by inheritance.
-fn inherited_bits(has_sacl: bool) -> u16
-    ensures { result ≡ inherited_bits has_sacl }
+// An ACL of a descriptor.
+fn acl_of<'a>(which: Which, view: &SdView<'a>) -> AclPart<'a>
+    ensures { result ≡ acl_of which view.now }
 {
-    let sacl = AclFlags {
-        protected: false,
+    match which {
+        Which::Sacl => view.sacl(),
+        Which::Dacl => view.dacl(),
+    }
+}
+
+// The creator's ACL, from which is taken.
+fn creators_acl<'a>(which: Which, creator: Option<&SdView<'a>>) -> AclPart<'a>
+    ensures { result ≡ creators_acl which (option_copied creator) }
+{
+    match creator {
+        None => AclPart::Absent,
+        Some(creator) => acl_of(which, creator),
+    }
+}
+
+// Whether the creator has the ACL, and it is protected from inheritance.
+fn is_protected(which: Which, creator: Option<&SdView>) -> bool
+    ensures { result ≡ is_protected which (option_copied creator) }
+{
+    match creator {
+        None => false,
+        Some(creator) => is_present(&acl_of(which, creator)) && AclFlags::of(which, creator.control()).protected,
+    }
+}
+
+// The ACL from which is inherited.
+fn parents_acl<'a>(which: Which, creator: Option<&SdView>, parent: &SdView<'a>) -> AclPart<'a>
+    ensures { result ≡ parents_acl which (option_copied creator) parent.now }
+{
+    if is_protected(which, creator) {
+        AclPart::Absent
+    } else {
+        acl_of(which, parent)
+    }
+}
+
+fn is_present(part: &AclPart) -> bool
+    ensures { result ≡ is_present part.now }
+{
+    !matches!(part, AclPart::Absent)
+}
+
+fn is_null(part: &AclPart) -> bool
+    ensures { result ≡ is_null part.now }
+{
+    matches!(part, AclPart::Null)
+}
+
+// The flags of a new ACL, of which it is known whether it is a list.
+fn new_flags(which: Which, creator: Option<&SdView>, list: bool) -> AclFlags
+    ensures { result ≡ flags_beside (is_protected which (option_copied creator)) list }
+{
+    let protected = is_protected(which, creator);
+    AclFlags {
+        protected,
         auto_inherit_required: false,
-        auto_inherited: has_sacl,
-    };
-    let dacl = AclFlags {
-        protected: false,
-        auto_inherit_required: false,
-        auto_inherited: true,
-    };
-    sacl.bits(Which::Sacl) + dacl.bits(Which::Dacl)
+        auto_inherited: list && !protected,
+    }
 }

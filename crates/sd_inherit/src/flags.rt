@@ -1,9 +1,9 @@
 //! The flags of inheritance (MS-DTYP 2.4.4.1).
 
-ghost use Rattle.std.specs.Prelude.{◌≡◌, ◌<◌, ◌≤◌};
-ghost use Rattle.sd_inherit.specs.Copies.{copied_flags, onward_flags};
+ghost use Rattle.std.specs.Prelude.{◌≡◌, ◌<◌, ◌≤◌, ◌+◌, ◌/◌, ◌%◌};
+ghost use Rattle.sd_inherit.specs.Copies.{audit_flags, copied_flags, onward_flags};
 
-use sd_kinds::{FAILED_ACCESS, INHERITED, ONWARD, SUCCESSFUL_ACCESS};
+use sd_kinds::{FAILED_ACCESS, INHERITED, INHERIT_ONLY, ONWARD, SUCCESSFUL_ACCESS};
 
 /// The flags that say which access is audited.
 const AUDIT: u8 = SUCCESSFUL_ACCESS | FAILED_ACCESS;
@@ -14,6 +14,23 @@ pub fn onward_flags(flags: u8) -> u8
     ensures most { result ≤ 3 }
 {
     flags & ONWARD
+}
+
+/// The flags that say which access is audited, and no other.
+pub fn audit_flags(flags: u8) -> u8
+    ensures value { result ≡ audit_flags flags }
+    ensures clear { result / 0x20 % 2 ≡ 0 }
+{
+    flags & AUDIT
+}
+
+/// The flags, and that the ACE is for what is made below alone.
+pub fn inherit_only_flags(flags: u8) -> u8
+    requires { flags / 0x8 % 2 ≡ 0 }
+    ensures value { result ≡ flags + 0x8 }
+    ensures clear { flags / 0x20 % 2 ≡ 0 → result / 0x20 % 2 ≡ 0 }
+{
+    flags + INHERIT_ONLY
 }
 
 /// The flags of a copy: the audit flags as they were, that it is inherited, and those that are added.

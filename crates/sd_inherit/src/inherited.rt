@@ -1,4 +1,4 @@
-//! ACLs of copies, built.
+//! ACLs of what is taken and what is inherited, built.
 
 ghost use Rattle.std.specs.Prelude.{◌≡◌, ◌≤◌, ◌+◌, ◌^◌, ◌↔◌, ◌++◌, IsErr, IfOk, OnOk};
 ghost use Rattle.std.specs.List.{flat_map};
@@ -9,18 +9,57 @@ ghost use Rattle.sd_view.specs.declared.acl.AclPart.TheVariants as acl;
 ghost use Rattle.sd_control.specs.declared.control.Which.TheVariants as which;
 ghost use Rattle.sd_inherit.specs.Inner.Building.{HasOpen, listed, one_or_none, with_aces, with_part};
 ghost use Rattle.sd_inherit.specs.Copies.{copies};
-ghost use Rattle.sd_inherit.specs.Derived.{inherited, sacl_of};
+ghost use Rattle.sd_inherit.specs.Derived.{dacl_beside, gathered, inherited, sacl_beside, sacl_of};
+ghost use Rattle.sd_inherit.specs.Taken.{gives, taken};
 
 use crate::copies::{Copies, copies_of};
 use crate::plan::Plan;
+use crate::taken::taken_of;
 use sd_ace::Ace;
 use sd_buffer::SdBuf;
 use sd_builder::{AclTooLarge, Builder};
 use sd_control::Which;
 use sd_view::{Aces, AclPart};
 
-/// Appends the SACL, if a copy stands in it, and tells whether it does.
+/// Whose ACEs are gathered.
+#[derive(Clone, Copy, Debug, PartialEq, Eq)]
+pub enum Source {
+    /// The creator's descriptor.
+    Creator,
+    /// The container's.
+    Parent,
+}
+
+/// Appends the SACL that stands beside the creator's, if one does, and tells whether it does.
 pub fn put_sacl(
+    builder: &mut Builder,
+    buf: &mut SdBuf,
+    plan: &Plan,
+    creators: &AclPart,
+    parents: &AclPart,
+) -> Result<bool, AclTooLarge>
+    requires { (t : Draft) × Builds builder.old buf.old t × CanBegin which.Sacl t.parts }
+    ensures ok { (t : Draft) → Builds builder.old buf.old t → CanBegin which.Sacl t.parts
+        → OnOk result (Builds builder.new buf.new
+        (with_part which.Sacl (sacl_beside creators.now (gathered plan.now creators.now parents.now)) t)) }
+    ensures stands { IfOk result (λ stands. stands ≡ is_present (sacl_beside creators.now (gathered plan.now creators.now parents.now))) }
+    ensures full { IsErr result ↔ (2 ^ 16 ≤ acl_size (gathered plan.now creators.now parents.now)) }
+{
+    match creators {
+        AclPart::Absent => put_copied_sacl(builder, buf, plan, parents),
+        AclPart::Null => {
+            builder.null_acl(buf, Which::Sacl);
+            Ok(true)
+        }
+        AclPart::List(acl) => {
+            put_both(builder, buf, plan, Which::Sacl, acl.aces(), parents)?;
+            Ok(true)
+        }
+    }
+}
+
+// The same where the creator has none: the SACL stands if a copy does.
+fn put_copied_sacl(
     builder: &mut Builder,
     buf: &mut SdBuf,
     plan: &Plan,
@@ -62,49 +101,123 @@ fn put_from(
 {
     builder.begin_acl(buf, Which::Sacl);
     put_copies(builder, buf, first)?;
-    put_inherited(builder, buf, plan, others)?;
+    put_each(builder, buf, plan, Source::Parent, others)?;
     builder.end_acl(buf);
     Ok(())
 }
 
-/// Appends an ACL of the copies.
-pub fn put_acl(
+/// Appends the DACL that stands beside the creator's.
+pub fn put_dacl(
+    builder: &mut Builder,
+    buf: &mut SdBuf,
+    plan: &Plan,
+    creators: &AclPart,
+    parents: &AclPart,
+) -> Result<(), AclTooLarge>
+    requires { (t : Draft) × Builds builder.old buf.old t × CanBegin which.Dacl t.parts }
+    ensures ok { (t : Draft) → Builds builder.old buf.old t → CanBegin which.Dacl t.parts
+        → OnOk result (Builds builder.new buf.new
+        (with_part which.Dacl (dacl_beside creators.now (gathered plan.now creators.now parents.now)) t)) }
+    ensures full { IsErr result ↔ (2 ^ 16 ≤ acl_size (gathered plan.now creators.now parents.now)) }
+{
+    match creators {
+        AclPart::Absent => put_copied_dacl(builder, buf, plan, parents),
+        AclPart::Null => {
+            builder.null_acl(buf, Which::Dacl);
+            Ok(())
+        }
+        AclPart::List(acl) => put_both(builder, buf, plan, Which::Dacl, acl.aces(), parents),
+    }
+}
+
+// The same where the creator has none.
+fn put_copied_dacl(
+    builder: &mut Builder,
+    buf: &mut SdBuf,
+    plan: &Plan,
+    dacl: &AclPart,
+) -> Result<(), AclTooLarge>
+    requires { (t : Draft) × Builds builder.old buf.old t × CanBegin which.Dacl t.parts }
+    ensures ok { (t : Draft) → Builds builder.old buf.old t → CanBegin which.Dacl t.parts
+        → OnOk result (Builds builder.new buf.new (with_part which.Dacl (acl.List (inherited plan.now dacl.now)) t)) }
+    ensures full { IsErr result ↔ (2 ^ 16 ≤ acl_size (inherited plan.now dacl.now)) }
+{
+    builder.begin_acl(buf, Which::Dacl);
+    put_inherited(builder, buf, plan, dacl)?;
+    builder.end_acl(buf);
+    Ok(())
+}
+
+// Appends an ACL of what is taken, and then what is inherited.
+fn put_both(
     builder: &mut Builder,
     buf: &mut SdBuf,
     plan: &Plan,
     which: Which,
-    part: &AclPart,
+    creators: Aces<'_>,
+    parents: &AclPart,
 ) -> Result<(), AclTooLarge>
     requires { (t : Draft) × Builds builder.old buf.old t × CanBegin which t.parts }
     ensures ok { (t : Draft) → Builds builder.old buf.old t → CanBegin which t.parts
-        → OnOk result (Builds builder.new buf.new (with_part which (acl.List (inherited plan.now part.now)) t)) }
-    ensures full { IsErr result ↔ (2 ^ 16 ≤ acl_size (inherited plan.now part.now)) }
+        → OnOk result (Builds builder.new buf.new
+        (with_part which (acl.List (flat_map (taken plan.now) creators.entry ++ inherited plan.now parents.now)) t)) }
+    ensures full { IsErr result
+        ↔ (2 ^ 16 ≤ acl_size (flat_map (taken plan.now) creators.entry ++ inherited plan.now parents.now)) }
 {
     builder.begin_acl(buf, which);
-    if let AclPart::List(acl) = part {
-        put_inherited(builder, buf, plan, acl.aces())?;
-    }
+    put_each(builder, buf, plan, Source::Creator, creators)?;
+    put_inherited(builder, buf, plan, parents)?;
     builder.end_acl(buf);
     Ok(())
 }
 
-// Appends the copies of each ACE.
+// Appends what is inherited from an ACL.
 fn put_inherited(
     builder: &mut Builder,
     buf: &mut SdBuf,
     plan: &Plan,
+    part: &AclPart,
+) -> Result<(), AclTooLarge>
+    requires { (t : Draft) × Builds builder.old buf.old t × HasOpen t }
+    ensures ok { (t : Draft) → Builds builder.old buf.old t
+        → OnOk result (Builds builder.new buf.new (with_aces (inherited plan.now part.now) t)) }
+    ensures full { (t : Draft) → Builds builder.old buf.old t → HasOpen t
+        → (IsErr result ↔ (2 ^ 16 ≤ open_size t.parts + aces_size (inherited plan.now part.now))) }
+{
+    match part {
+        AclPart::List(acl) => put_each(builder, buf, plan, Source::Parent, acl.aces()),
+        AclPart::Absent | AclPart::Null => Ok(()),
+    }
+}
+
+// Appends what each ACE gives.
+fn put_each(
+    builder: &mut Builder,
+    buf: &mut SdBuf,
+    plan: &Plan,
+    source: Source,
     aces: Aces<'_>,
 ) -> Result<(), AclTooLarge>
     requires { (t : Draft) × Builds builder.old buf.old t × HasOpen t }
     ensures ok { (t : Draft) → Builds builder.old buf.old t
-        → OnOk result (Builds builder.new buf.new (with_aces (flat_map (copies plan.now) aces.entry) t)) }
+        → OnOk result (Builds builder.new buf.new (with_aces (flat_map (gives source plan.now) aces.entry) t)) }
     ensures full { (t : Draft) → Builds builder.old buf.old t → HasOpen t
-        → (IsErr result ↔ (2 ^ 16 ≤ open_size t.parts + aces_size (flat_map (copies plan.now) aces.entry))) }
+        → (IsErr result ↔ (2 ^ 16 ≤ open_size t.parts + aces_size (flat_map (gives source plan.now) aces.entry))) }
 {
     for ace in aces {
-        put_copies(builder, buf, &copies_of(plan, &ace.ace()))?;
+        put_copies(builder, buf, &given_by(source, plan, &ace.ace()))?;
     }
     Ok(())
+}
+
+// What one ACE gives.
+fn given_by(source: Source, plan: &Plan, ace: &Ace) -> Copies
+    ensures { listed result ≡ gives source plan.now ace.now }
+{
+    match source {
+        Source::Creator => taken_of(plan, ace),
+        Source::Parent => copies_of(plan, ace),
+    }
 }
 
 fn put_copies(builder: &mut Builder, buf: &mut SdBuf, copies: &Copies) -> Result<(), AclTooLarge>

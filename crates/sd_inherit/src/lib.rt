@@ -7,6 +7,7 @@ mod flags;
 mod heirs;
 mod inherited;
 mod plan;
+mod taken;
 
 pub use derivation::{DeriveFault, derive};
 pub use plan::{Plan, Target};

@@ -1,12 +1,11 @@
 -- What the code that copies has built so far. No definition of what is derived rests on it.
-use Rattle.std.specs.Prelude.{◌<◌, ℕ, ◌+◌, ◌^◌, Bool, List, [], ◌∷◌, ◌++◌, Option, Some, None}
+use Rattle.std.specs.Prelude.{◌<◌, ◌^◌, Bool, true, false, not, ◌&&◌, List, [], ◌∷◌, ◌++◌, Option, Some, None}
 use Rattle.sd_ace.specs.Ace.{AccessControlEntry}
-use Rattle.sd_control.specs.Control.{bit_if}
 use Rattle.sd_builder.specs.Draft.{Draft, IsOpen, open_size, part_of, with_acl}
 use Rattle.sd_view.specs.declared.acl.AclPart.{AclPart}
 use Rattle.sd_view.specs.declared.acl.AclPart.TheVariants as acl
+use Rattle.sd_control.specs.declared.control.AclFlags.{AclFlags}
 use Rattle.sd_control.specs.declared.control.Which.{Which}
-use Rattle.sd_control.specs.declared.control.TheConstants.{DACL_AUTO_INHERITED, SACL_AUTO_INHERITED}
 use Rattle.sd_inherit.specs.declared.copies.Copies.{Copies}
 
 -- at most one, as a list
@@ -39,6 +38,12 @@ with_part w acl.Null t = record t { parts = with_acl w acl.Null t.parts }
 with_part w (acl.List aces) t =
     record { parts = with_acl w (acl.List aces) t.parts; order = t.order ++ part_of w ∷ [] }
 
--- the bits that say that the ACLs were made by inheritance
-abbrev pub inherited_bits : Bool → ℕ
-inherited_bits has_sacl = bit_if has_sacl SACL_AUTO_INHERITED + DACL_AUTO_INHERITED
+-- the flags of an ACL that is protected or not, and that is a list or not
+abbrev pub flags_beside : Bool → Bool → AclFlags
+flags_beside protected list =
+    record { protected = protected; auto_inherit_required = false; auto_inherited = list && not protected }
+
+abbrev pub is_null : AclPart → Bool
+is_null acl.Absent = false
+is_null acl.Null = true
+is_null (acl.List aces) = false

@@ -4,8 +4,8 @@ use Rattle.sd_inherit.specs.Inner.Building.{listed}
 use Rattle.sd_inherit.specs.Copies.{copies}
 use Rattle.sd_inherit.specs.Derived.{inherited}
 use Rattle.sd_inherit.proofs.DerivedLaws.{sacl-stands}
-use Rattle.sd_inherit.proofs.inherited.put_sacl.Goals as goal
-use Rattle.sd_inherit.proofs.inherited.put_sacl.Goals.{After-is_empty}
+use Rattle.sd_inherit.proofs.inherited.put_copied_sacl.Goals as goal
+use Rattle.sd_inherit.proofs.inherited.put_copied_sacl.Goals.{After-is_empty}
 
 -- the copies from the first on are all
 from_the_first : (c : After-is_empty) → inherited c.args.plan.now c.args.sacl.now

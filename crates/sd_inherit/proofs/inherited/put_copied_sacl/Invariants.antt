@@ -2,7 +2,7 @@ use Rattle.std.proofs.Common.{◌≡◌, length}
 use Rattle.std.specs.List.{flat_map}
 use Rattle.sd_inherit.specs.Copies.{copies}
 use Rattle.sd_inherit.specs.Derived.{inherited}
-use Rattle.sd_inherit.proofs.inherited.put_sacl.Given as goal
+use Rattle.sd_inherit.proofs.inherited.put_copied_sacl.Given as goal
 
 -- the ACEs so far have no copy
 abbrev pub invariant-loop-ace : goal.invariant-loop-ace

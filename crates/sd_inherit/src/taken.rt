@@ -1,0 +1,75 @@
+//! What is taken from one ACE of the creator's descriptor.
+
+ghost use Rattle.std.specs.Prelude.{◌≡◌, false};
+ghost use Rattle.sd_inherit.specs.Inner.Building.{listed};
+ghost use Rattle.sd_inherit.specs.Taken.{handed_on, is_inherit_only, own_ace, taken, taken_for};
+
+use crate::copies::{Copies, changed, for_itself, one_copy};
+use crate::flags::{audit_flags, inherit_only_flags};
+use crate::heirs::differs;
+use crate::plan::{Plan, Target};
+use sd_ace::Ace;
+use sd_kinds::{CONTAINER_INHERIT, INHERITED, INHERIT_ONLY, OBJECT_INHERIT, has_flag};
+
+/// What a new object takes from an ACE of its creator's descriptor.
+#[tactic(auto, unfolding(crate::specs::Taken::taken))]
+pub fn taken_of(plan: &Plan, ace: &Ace) -> Copies
+    ensures { listed result ≡ taken plan.now ace.now }
+{
+    if has_flag(ace.flags(), INHERITED) {
+        return Copies {
+            effective: None,
+            inherit_only: None,
+        };
+    }
+    match plan.target {
+        Target::File => taken_by_file(plan, ace),
+        Target::Container => taken_by_container(plan, ace),
+    }
+}
+
+fn taken_by_file(plan: &Plan, ace: &Ace) -> Copies
+    ensures { listed result ≡ taken_for Target.File plan.now ace.now }
+{
+    if has_flag(ace.flags(), INHERIT_ONLY) {
+        return Copies {
+            effective: None,
+            inherit_only: None,
+        };
+    }
+    one_copy(own_ace(plan, ace))
+}
+
+fn taken_by_container(plan: &Plan, ace: &Ace) -> Copies
+    ensures { listed result ≡ taken_for Target.Container plan.now ace.now }
+{
+    let flags = ace.flags();
+    if has_flag(flags, INHERIT_ONLY) {
+        return one_copy(*ace);
+    }
+    if !has_flag(flags, OBJECT_INHERIT) && !has_flag(flags, CONTAINER_INHERIT) {
+        return one_copy(own_ace(plan, ace));
+    }
+    if !differs(ace) {
+        return one_copy(*ace);
+    }
+    Copies {
+        effective: Some(own_ace(plan, ace)),
+        inherit_only: Some(handed_on(ace)),
+    }
+}
+
+// For the new object itself.
+fn own_ace(plan: &Plan, ace: &Ace) -> Ace
+    ensures { result ≡ own_ace plan.now ace.now }
+{
+    for_itself(plan, ace, audit_flags(ace.flags()))
+}
+
+// To hand on.
+fn handed_on(ace: &Ace) -> Ace
+    requires { is_inherit_only ace.now ≡ false }
+    ensures { result ≡ handed_on ace.now }
+{
+    changed(ace, inherit_only_flags(ace.flags()), ace.mask(), ace.sid())
+}
