@@ -1,5 +1,5 @@
 -- What is derived, from the parts that the builder was given, and why it may not be.
-use Rattle.std.proofs.Common.{◌≡◌, ◌≤◌, ℕ, ◌+◌, ◌^◌, ◌↔◌, Bool, true, false, not, ◌&&◌, List, [], ◌∷◌, ◌++◌, Option, Some, None, refl, sym, ap}
+use Rattle.std.proofs.Common.{◌≡◌, ◌≤◌, ◌^◌, ◌↔◌, Bool, true, false, not, ◌&&◌, List, [], ◌∷◌, ◌++◌, Option, Some, None, refl, sym}
 use Rattle.std.proofs.lemmas.Bool.{le-leb, leb-true}
 use Rattle.sd_ace.specs.Ace.{AccessControlEntry}
 use Rattle.sd_view.specs.Acl.{acl_size}
@@ -9,7 +9,7 @@ use Rattle.sd_builder.specs.Draft.{CanBegin, Draft, Parts, built, is_present, no
 use Rattle.sd_view.specs.declared.acl.AclPart.{AclPart}
 use Rattle.sd_view.specs.declared.acl.AclPart.TheVariants as acl
 use Rattle.sd_control.specs.declared.control.Which.TheVariants.{Sacl, Dacl}
-use Rattle.sd_inherit.specs.Inner.Building.{is_null, with_part}
+use Rattle.sd_inherit.specs.Inner.Building.{bits_beside, is_null, with_part}
 use Rattle.sd_inherit.specs.Derived.{dacl_beside, derive_fault, derived, is_list, is_too_large, new_aces, new_dacl, new_flag_bits, new_sacl, sacl_beside, sacl_of}
 use Rattle.sd_inherit.specs.declared.derivation.DeriveFault.TheVariants.{DerivedTooLarge}
 use Rattle.sd_inherit.specs.declared.plan.Plan.{Plan}
@@ -123,6 +123,11 @@ pub dacl-is_list : (creators : AclPart) (aces : List AccessControlEntry)
 dacl-is_list acl.Absent aces = refl
 dacl-is_list acl.Null aces = refl
 dacl-is_list (acl.List others) aces = refl
+
+pub bits-are : (d : Descriptor) (creator : Option Descriptor) (plan : Plan) (sacl dacl : Bool)
+    → sacl ≡ is_list (new_sacl d creator plan) → dacl ≡ is_list (new_dacl d creator plan)
+    → bits_beside creator sacl dacl ≡ new_flag_bits creator (new_sacl d creator plan) (new_dacl d creator plan)
+bits-are d creator plan sacl dacl e f = rw (e, f) refl
 
 pub built-derived : (d : Descriptor) (creator : Option Descriptor) (plan : Plan)
     → built (new_flag_bits creator (new_sacl d creator plan) (new_dacl d creator plan)) 0 (parts_of d creator plan)

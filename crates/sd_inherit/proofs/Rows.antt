@@ -10,6 +10,7 @@ use Rattle.sd_view.specs.declared.acl.AclPart.{AclPart}
 use Rattle.sd_view.specs.declared.acl.AclPart.TheVariants as acl
 use Rattle.sd_inherit.specs.Copies.{copies}
 use Rattle.sd_inherit.specs.Derived.{derive_fault, derived}
+use Rattle.sd_inherit.specs.Taken.{taken}
 use Rattle.sd_inherit.specs.declared.plan.Plan.{Plan}
 use Rattle.sd_inherit.specs.declared.plan.Target.{Target}
 use Rattle.sd_inherit.specs.declared.plan.Target.TheVariants.{File, Container}
@@ -47,7 +48,7 @@ ace kind flags mask sid = record { kind = kind; flags = flags; mask = mask; obje
 
 -- `unfolding computed` lets `refl` compute a row
 computed : Unit {0}
-unfolding copies mapped derived derive_fault creator_owner creator_group user users everyone high plan ace
+unfolding copies taken mapped derived derive_fault creator_owner creator_group user users everyone high plan ace
 computed = tt
 
 -- CI with a generic right or for the creator: an effective copy, and one to hand on
@@ -121,22 +122,22 @@ child control sacl dacl = record {
   dacl = acl.List dacl;
 }
 
-null_dacl : derived (parent acl.Absent acl.Null) (plan File) ≡ child 0x8404 acl.Absent []
+null_dacl : derived (parent acl.Absent acl.Null) None (plan File) ≡ child 0x8404 acl.Absent []
 unfolding computed parent child
 null_dacl = refl
 
-no_copy_in_the_sacl : derived (parent (acl.List (ace kinds.Label 0x2 0x1 high ∷ [])) acl.Absent) (plan File)
+no_copy_in_the_sacl : derived (parent (acl.List (ace kinds.Label 0x2 0x1 high ∷ [])) acl.Absent) None (plan File)
     ≡ child 0x8404 acl.Absent []
 unfolding computed parent child
 no_copy_in_the_sacl = refl
 
 copy_in_the_sacl : derived
     (parent (acl.List (ace kinds.Label 0x1 0x1 high ∷ [])) (acl.List (ace kinds.Allow 0x1 0x1 users ∷ [])))
-    (plan File)
+    None (plan File)
     ≡ child 0x8c14 (acl.List (ace kinds.Label 0x10 0x1 high ∷ [])) (ace kinds.Allow 0x10 0x1 users ∷ [])
 unfolding computed parent child
 copy_in_the_sacl = refl
 
-nothing_too_large : derive_fault (parent acl.Null acl.Null) (plan Container) ≡ None
+nothing_too_large : derive_fault (parent acl.Null acl.Null) None (plan Container) ≡ None
 unfolding computed parent
 nothing_too_large = refl

@@ -1,11 +1,11 @@
 //! The descriptor of a new object.
 
-ghost use Rattle.std.specs.Prelude.{◌≡◌, [], None, Some, MatchResult, OnOk, OnErr};
+ghost use Rattle.std.specs.Prelude.{◌≡◌, ◌&&◌, not, [], None, Some, MatchResult, OnOk, OnErr};
 ghost use Rattle.std.specs.Option.{option_copied};
 ghost use Rattle.sd_view.specs.Descriptor.{Shows};
 ghost use Rattle.sd_view.specs.Layout.{layout};
 ghost use Rattle.sd_builder.specs.Draft.{is_present};
-ghost use Rattle.sd_inherit.specs.Inner.Building.{flags_beside, is_null};
+ghost use Rattle.sd_inherit.specs.Inner.Building.{bits_beside, flags_beside, is_null};
 ghost use Rattle.sd_inherit.specs.Derived.{acl_of, creators_acl, derive_fault, derived, is_protected, parents_acl};
 
 use crate::inherited::{put_dacl, put_sacl};
@@ -31,11 +31,11 @@ pub fn derive(
     plan: &Plan,
     buf: &mut SdBuf,
 ) -> Result<(), DeriveFault>
-    ensures fault { MatchResult result (λ _. derive_fault parent.now (option_copied creator) plan.now ≡ None)
-        (λ f. derive_fault parent.now (option_copied creator) plan.now ≡ Some f) }
-    ensures shows { OnOk result (Shows buf.new (derived parent.now (option_copied creator) plan.now)) }
+    ensures fault { MatchResult result (λ _. derive_fault parent.now (option_copied creator.entry) plan.now ≡ None)
+        (λ f. derive_fault parent.now (option_copied creator.entry) plan.now ≡ Some f) }
+    ensures shows { OnOk result (Shows buf.new (derived parent.now (option_copied creator.entry) plan.now)) }
     // In its one written form, and not only some bytes that show it.
-    ensures laid_out { OnOk result (buf.new ≡ layout (derived parent.now (option_copied creator) plan.now)) }
+    ensures laid_out { OnOk result (buf.new ≡ layout (derived parent.now (option_copied creator.entry) plan.now)) }
     ensures empty { OnErr result (buf.new ≡ []) }
 {
     let result = build(parent, creator, plan, buf);
@@ -52,10 +52,10 @@ fn build(
     plan: &Plan,
     buf: &mut SdBuf,
 ) -> Result<(), DeriveFault>
-    ensures fault { MatchResult result (λ _. derive_fault parent.now (option_copied creator) plan.now ≡ None)
-        (λ f. derive_fault parent.now (option_copied creator) plan.now ≡ Some f) }
-    ensures shows { OnOk result (Shows buf.new (derived parent.now (option_copied creator) plan.now)) }
-    ensures laid_out { OnOk result (buf.new ≡ layout (derived parent.now (option_copied creator) plan.now)) }
+    ensures fault { MatchResult result (λ _. derive_fault parent.now (option_copied creator.entry) plan.now ≡ None)
+        (λ f. derive_fault parent.now (option_copied creator.entry) plan.now ≡ Some f) }
+    ensures shows { OnOk result (Shows buf.new (derived parent.now (option_copied creator.entry) plan.now)) }
+    ensures laid_out { OnOk result (buf.new ≡ layout (derived parent.now (option_copied creator.entry) plan.now)) }
 {
     let mut builder = Builder::new(buf);
     builder.owner(buf, &plan.owner);
@@ -70,9 +70,8 @@ fn build(
     let Ok(()) = put_dacl(&mut builder, buf, plan, &dacl, &parents_dacl) else {
         return Err(DeriveFault::DerivedTooLarge(Which::Dacl));
     };
-    let sacl_flags = new_flags(Which::Sacl, creator, has_sacl && !is_null(&sacl));
-    let dacl_flags = new_flags(Which::Dacl, creator, !is_null(&dacl));
-    builder.finish(buf, sacl_flags.bits(Which::Sacl) + dacl_flags.bits(Which::Dacl), 0);
+    let flags = flag_bits(creator, is_list(has_sacl, &sacl), is_list(true, &dacl));
+    builder.finish(buf, flags, 0);
     Ok(())
 }
 
@@ -88,7 +87,7 @@ fn acl_of<'a>(which: Which, view: &SdView<'a>) -> AclPart<'a>
 
 // The creator's ACL, from which is taken.
 fn creators_acl<'a>(which: Which, creator: Option<&SdView<'a>>) -> AclPart<'a>
-    ensures { result ≡ creators_acl which (option_copied creator) }
+    ensures { result ≡ creators_acl which (option_copied creator.entry) }
 {
     match creator {
         None => AclPart::Absent,
@@ -98,17 +97,18 @@ fn creators_acl<'a>(which: Which, creator: Option<&SdView<'a>>) -> AclPart<'a>
 
 // Whether the creator has the ACL, and it is protected from inheritance.
 fn is_protected(which: Which, creator: Option<&SdView>) -> bool
-    ensures { result ≡ is_protected which (option_copied creator) }
+    ensures { result ≡ is_protected which (option_copied creator.entry) }
 {
     match creator {
         None => false,
-        Some(creator) => is_present(&acl_of(which, creator)) && AclFlags::of(which, creator.control()).protected,
+        Some(creator) => is_present(&acl_of(which, creator))
+            && AclFlags::of(which, creator.control()).protected,
     }
 }
 
 // The ACL from which is inherited.
 fn parents_acl<'a>(which: Which, creator: Option<&SdView>, parent: &SdView<'a>) -> AclPart<'a>
-    ensures { result ≡ parents_acl which (option_copied creator) parent.now }
+    ensures { result ≡ parents_acl which (option_copied creator.entry) parent.now }
 {
     if is_protected(which, creator) {
         AclPart::Absent
@@ -123,15 +123,25 @@ fn is_present(part: &AclPart) -> bool
     !matches!(part, AclPart::Absent)
 }
 
-fn is_null(part: &AclPart) -> bool
-    ensures { result ≡ is_null part.now }
+// Whether the new ACL is a list: it stands, and is not null because the creator's is.
+fn is_list(stands: bool, creators: &AclPart) -> bool
+    ensures { result ≡ (stands && not (is_null creators.now)) }
 {
-    matches!(part, AclPart::Null)
+    stands && !matches!(creators, AclPart::Null)
 }
 
-// The flags of a new ACL, of which it is known whether it is a list.
+// The bits of the control word that are flags of the new ACLs, of which it is known whether they are lists.
+fn flag_bits(creator: Option<&SdView>, sacl_is_list: bool, dacl_is_list: bool) -> u16
+    ensures { result ≡ bits_beside (option_copied creator.entry) sacl_is_list dacl_is_list }
+{
+    let sacl = new_flags(Which::Sacl, creator, sacl_is_list);
+    let dacl = new_flags(Which::Dacl, creator, dacl_is_list);
+    sacl.bits(Which::Sacl) + dacl.bits(Which::Dacl)
+}
+
+// The flags of a new ACL.
 fn new_flags(which: Which, creator: Option<&SdView>, list: bool) -> AclFlags
-    ensures { result ≡ flags_beside (is_protected which (option_copied creator)) list }
+    ensures { result ≡ flags_beside (is_protected which (option_copied creator.entry)) list }
 {
     let protected = is_protected(which, creator);
     AclFlags {

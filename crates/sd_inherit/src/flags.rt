@@ -3,7 +3,7 @@
 ghost use Rattle.std.specs.Prelude.{◌≡◌, ◌<◌, ◌≤◌, ◌+◌, ◌/◌, ◌%◌};
 ghost use Rattle.sd_inherit.specs.Copies.{audit_flags, copied_flags, onward_flags};
 
-use sd_kinds::{FAILED_ACCESS, INHERITED, INHERIT_ONLY, ONWARD, SUCCESSFUL_ACCESS};
+use sd_kinds::{FAILED_ACCESS, INHERIT_ONLY, INHERITED, ONWARD, SUCCESSFUL_ACCESS};
 
 /// The flags that say which access is audited.
 const AUDIT: u8 = SUCCESSFUL_ACCESS | FAILED_ACCESS;

@@ -9,7 +9,7 @@ use crate::flags::{audit_flags, inherit_only_flags};
 use crate::heirs::differs;
 use crate::plan::{Plan, Target};
 use sd_ace::Ace;
-use sd_kinds::{CONTAINER_INHERIT, INHERITED, INHERIT_ONLY, OBJECT_INHERIT, has_flag};
+use sd_kinds::{CONTAINER_INHERIT, INHERIT_ONLY, INHERITED, OBJECT_INHERIT, has_flag};
 
 /// What a new object takes from an ACE of its creator's descriptor.
 #[tactic(auto, unfolding(crate::specs::Taken::taken))]
@@ -71,5 +71,7 @@ fn handed_on(ace: &Ace) -> Ace
     requires { is_inherit_only ace.now ≡ false }
     ensures { result ≡ handed_on ace.now }
 {
+    // Flag 0x20 is clear in an ACE.
+    let _ = ace.size();
     changed(ace, inherit_only_flags(ace.flags()), ace.mask(), ace.sid())
 }

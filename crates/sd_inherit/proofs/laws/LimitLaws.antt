@@ -1,19 +1,28 @@
 -- What is derived from a descriptor has the limits of one.
-use Rattle.std.proofs.Common.{◌≡◌, ◌<◌, ℕ, ◌^◌, Bool, true, false, cond, not, ◌&&◌, List, [], ◌∷◌, ◌++◌, Some, None, refl, arith, lit≤}
+use Rattle.std.proofs.Common.{◌≡◌, ◌<◌, ℕ, ◌+◌, ◌/◌, ◌%◌, ◌^◌, Bool, true, false, cond, not, ◌&&◌, List, [], ◌∷◌, ◌++◌, Option, Some, None, refl, arith, lit≤}
 use Rattle.std.proofs.lemmas.Bool.Decides.{nat_tests}
 use Rattle.std.proofs.lemmas.Nat.{or_lt}
 use Rattle.std.specs.List.{AllByRecursion, flat_map}
+use Rattle.std.specs.Option.{IfSome}
+use Rattle.std.proofs.lemmas.Bool.{eqb-false}
 use Rattle.sd_ace.specs.Ace.{AccessControlEntry, IsAce}
 use Rattle.sd_rights.specs.Mapping.{GenericMapping, IsMapping, carries, mapped, mask_if}
 use Rattle.sd_sid.specs.Sid.{IsSid, SecurityId}
 use Rattle.sd_sid.specs.SidText.{same_sid}
 use Rattle.sd_rights.specs.Rights.{is_label}
 use Rattle.sd_view.specs.Acl.{IsAcl, acl_size}
+use Rattle.sd_builder.specs.Draft.{is_present}
+use Rattle.sd_control.proofs.laws.ControlLaws.{bit_if-most, control-bits}
+use Rattle.sd_control.specs.Control.{dacl_present, flag_bits, sacl_present}
+use Rattle.sd_control.specs.declared.control.AclFlags.{AclFlags}
+use Rattle.sd_control.specs.declared.control.Which.{Which}
+use Rattle.sd_control.specs.declared.control.Which.TheVariants.{Dacl, Sacl}
 use Rattle.sd_view.specs.Descriptor.{Descriptor, IsAclPart, IsDescriptor}
 use Rattle.sd_view.specs.declared.acl.AclPart.{AclPart}
 use Rattle.sd_view.specs.declared.acl.AclPart.TheVariants as acl
 use Rattle.sd_inherit.specs.Copies.{copies, copies_for, creator_group, creator_owner, differs, effective_copy, heir, heir_mask, inherit_only_copy, is_for_containers, is_for_files, is_for_one_level, onward_flags}
-use Rattle.sd_inherit.specs.Derived.{derive_fault, derived, derived_control, inherited, is_too_large, sacl_of}
+use Rattle.sd_inherit.specs.Derived.{acl_of, creators_acl, dacl_beside, derive_fault, derived, gathered, inherited, is_protected, is_too_large, new_aces, new_dacl, new_flag_bits, new_flags, new_sacl, parents_acl, sacl_beside}
+use Rattle.sd_inherit.specs.Taken.{handed_on, is_inherit_only, is_inherited, own_ace, taken, taken_for}
 use Rattle.sd_inherit.specs.PlanLimits.{IsPlan}
 use Rattle.sd_inherit.specs.declared.derivation.DeriveFault.{DeriveFault}
 use Rattle.sd_inherit.specs.declared.plan.Plan.{Plan}
@@ -24,6 +33,10 @@ use Rattle.sd_inherit.specs.declared.plan.Target.TheVariants.{Container, File}
 one_of : {A : Type 0} (P : A → Type 0) (b : Bool) (x y : A) → P x → P y → P (cond b x y)
 one_of P true x y p q = p
 one_of P false x y p q = q
+
+one_when : {A : Type 0} (P : A → Type 0) (b : Bool) (x y : A) → P x → (b ≡ false → P y) → P (cond b x y)
+one_when P true x y p q = p
+one_when P false x y p q = q refl
 
 mask_if-limits : (b : Bool) (mask : ℕ) → mask < 2 ^ 25 → mask_if b mask < 2 ^ 32
 mask_if-limits true mask h = omega (arith, h)
@@ -108,33 +121,60 @@ module _ (plan : Plan) (keeps : IsPlan plan) where
   inherited-limits present acl.Null h = tt
   inherited-limits present (acl.List aces) h = all-limits aces h.1.each
 
-  -- a DACL stands, and a SACL where it has an ACE
-  made-limits : (sacl dacl : List AccessControlEntry) → IsAcl sacl → IsAcl dacl → let d : Descriptor = record {
-    control = derived_control (sacl_of sacl);
-    rm = 0;
-    owner = Some plan.owner;
-    group = Some plan.group;
-    sacl = sacl_of sacl;
-    dacl = acl.List dacl;
-  } in IsDescriptor d
-  made-limits [] dacl s t = record {
-    control = lit≤ tt;
-    relative = refl;
-    rm = lit≤ tt;
-    owner = keeps.owner;
-    group = keeps.group;
-    sacl = refl;
-    dacl = (refl, t);
+  own-limits : (a : AccessControlEntry) → IsAce a → IsAce (own_ace plan a)
+  own-limits a h = record {
+    flags = omega arith;
+    clear = omega arith;
+    mask = mask-limits a h;
+    fit = h.fit;
+    object = h.object;
+    inherited = h.inherited;
+    sid = heir-limits a.sid h.sid;
   }
-  made-limits (a ∷ others) dacl s t = record {
-    control = lit≤ tt;
-    relative = refl;
-    rm = lit≤ tt;
-    owner = keeps.owner;
-    group = keeps.group;
-    sacl = (refl, s);
-    dacl = (refl, t);
-  }
+
+  handed_on-limits : (a : AccessControlEntry) → is_inherit_only a ≡ false → IsAce a → IsAce (handed_on a)
+  handed_on-limits a off h =
+      let bit : (a.flags / 8 % 2 ≡ 1) → ⊥ = eqb-false (a.flags / 8 % 2) 1 off in
+      let below = h.flags in
+      let clear = h.clear in
+      record {
+        flags = omega (arith, bit, below);
+        clear = omega (arith, bit, below, clear);
+        mask = h.mask;
+        fit = h.fit;
+        object = h.object;
+        inherited = h.inherited;
+        sid = h.sid;
+      }
+
+  taken_for-limits : (target : Target) (a : AccessControlEntry) → IsAce a
+      → AllByRecursion IsAce (taken_for target plan a)
+  taken_for-limits File a h =
+      one_of (AllByRecursion IsAce) (is_inherit_only a) [] (own_ace plan a ∷ []) tt (own-limits a h, tt)
+  taken_for-limits Container a h =
+      one_when (AllByRecursion IsAce) (is_inherit_only a) _ _ (h, tt) (λ off.
+      one_of (AllByRecursion IsAce) (not (is_for_files a) && not (is_for_containers a)) _ _ (own-limits a h, tt)
+      (one_of (AllByRecursion IsAce) (differs a) _ _ (own-limits a h, (handed_on-limits a off h, tt)) (h, tt)))
+
+  taken-limits : (a : AccessControlEntry) → IsAce a → AllByRecursion IsAce (taken plan a)
+  unfolding taken
+  taken-limits a h =
+      one_of (AllByRecursion IsAce) (is_inherited a) [] (taken_for plan.target plan a) tt
+      (taken_for-limits plan.target a h)
+
+  all_taken-limits : (aces : List AccessControlEntry) → AllByRecursion IsAce aces
+      → AllByRecursion IsAce (flat_map (taken plan) aces)
+  all_taken-limits [] h = tt
+  all_taken-limits (a ∷ others) h =
+      both-limits (taken plan a) (flat_map (taken plan) others) (taken-limits a h.0) (all_taken-limits others h.1)
+
+  gathered-limits : (mine present : Bool) (creators parents : AclPart) → IsAclPart mine creators
+      → IsAclPart present parents → AllByRecursion IsAce (gathered plan creators parents)
+  gathered-limits mine present acl.Absent parents g h = inherited-limits present parents h
+  gathered-limits mine present acl.Null parents g h = tt
+  gathered-limits mine present (acl.List aces) parents g h =
+      both-limits (flat_map (taken plan) aces) (inherited plan parents) (all_taken-limits aces g.1.each)
+      (inherited-limits present parents h)
 
 -- an ACL that is not too large is one
 fits : (aces : List AccessControlEntry) → is_too_large aces ≡ false → acl_size aces < 2 ^ 16
@@ -146,11 +186,73 @@ neither true c f g e = absurd (cc)
 neither false true f g e = absurd (cc)
 neither false false f g e = (refl, refl)
 
-pub derived-limits : (d : Descriptor) (plan : Plan) → IsDescriptor d → IsPlan plan → derive_fault d plan ≡ None
-    → IsDescriptor (derived d plan)
+pub flags-lt : (f g : AclFlags) → flag_bits Sacl f + flag_bits Dacl g < 2 ^ 16
+flags-lt f g =
+    let a = bit_if-most f.protected 0x2000 in
+    let b = bit_if-most f.auto_inherit_required 0x200 in
+    let c = bit_if-most f.auto_inherited 0x800 in
+    let d = bit_if-most g.protected 0x1000 in
+    let e = bit_if-most g.auto_inherit_required 0x100 in
+    let h = bit_if-most g.auto_inherited 0x400 in
+    omega (arith, a, b, c, d, e, h)
+
+sacl-limits : (creators : AclPart) (aces : List AccessControlEntry) (present : Bool)
+    → present ≡ is_present (sacl_beside creators aces) → IsAcl aces → IsAclPart present (sacl_beside creators aces)
+sacl-limits acl.Absent [] present e h = e
+sacl-limits acl.Absent (a ∷ aces) present e h = (e, h)
+sacl-limits acl.Null aces present e h = e
+sacl-limits (acl.List others) aces present e h = (e, h)
+
+dacl-limits : (creators : AclPart) (aces : List AccessControlEntry) (present : Bool)
+    → present ≡ is_present (dacl_beside creators aces) → IsAcl aces → IsAclPart present (dacl_beside creators aces)
+dacl-limits acl.Absent aces present e h = (e, h)
+dacl-limits acl.Null aces present e h = e
+dacl-limits (acl.List others) aces present e h = (e, h)
+
+-- the ACL that is taken from, and the one that is inherited from, are some descriptor's
+abbrev IsSomeAcl : AclPart → Type 0
+IsSomeAcl part = (present : Bool) × IsAclPart present part
+
+acl-limits : (w : Which) (d : Descriptor) → IsDescriptor d → IsSomeAcl (acl_of w d)
+acl-limits Sacl d h = (sacl_present d.control, h.sacl)
+acl-limits Dacl d h = (dacl_present d.control, h.dacl)
+
+creators-limits : (w : Which) (creator : Option Descriptor) → IfSome creator IsDescriptor
+    → IsSomeAcl (creators_acl w creator)
+creators-limits w None h = (false, refl)
+creators-limits w (Some c) h = acl-limits w c h
+
+parents-limits : (w : Which) (creator : Option Descriptor) (d : Descriptor) → IsDescriptor d
+    → IsSomeAcl (parents_acl w creator d)
+parents-limits w creator d h =
+    one_of IsSomeAcl (is_protected w creator) acl.Absent (acl_of w d) (false, refl) (acl-limits w d h)
+
+new-limits : (w : Which) (d : Descriptor) (creator : Option Descriptor) (plan : Plan) → IsDescriptor d
+    → IfSome creator IsDescriptor → IsPlan plan → AllByRecursion IsAce (new_aces w d creator plan)
+new-limits w d creator plan h g keeps =
+    let mine = creators-limits w creator g in
+    let theirs = parents-limits w creator d h in
+    gathered-limits plan keeps mine.0 theirs.0 (creators_acl w creator) (parents_acl w creator d) mine.1 theirs.1
+
+pub derived-limits : (d : Descriptor) (creator : Option Descriptor) (plan : Plan) → IsDescriptor d
+    → IfSome creator IsDescriptor → IsPlan plan → derive_fault d creator plan ≡ None
+    → IsDescriptor (derived d creator plan)
 unfolding derived derive_fault
-derived-limits d plan h keeps none =
-    let small = neither (is_too_large (inherited plan d.sacl)) (is_too_large (inherited plan d.dacl)) _ _ none in
-    made-limits plan keeps (inherited plan d.sacl) (inherited plan d.dacl)
-    (record { each = inherited-limits plan keeps _ d.sacl h.sacl; fits = fits _ small.0 })
-    (record { each = inherited-limits plan keeps _ d.dacl h.dacl; fits = fits _ small.1 })
+derived-limits d creator plan h g keeps none =
+    let small = neither (is_too_large (new_aces Sacl d creator plan)) (is_too_large (new_aces Dacl d creator plan)) _ _
+    none in
+    let sacl = new_sacl d creator plan in
+    let dacl = new_dacl d creator plan in
+    let word = control-bits (new_flag_bits creator sacl dacl) (is_present sacl) (is_present dacl)
+    (flags-lt (new_flags Sacl creator sacl) (new_flags Dacl creator dacl)) in
+    record {
+      control = word.small;
+      relative = word.relative;
+      rm = lit≤ tt;
+      owner = keeps.owner;
+      group = keeps.group;
+      sacl = sacl-limits (creators_acl Sacl creator) (new_aces Sacl d creator plan) _ word.sacl
+          (record { each = new-limits Sacl d creator plan h g keeps; fits = fits _ small.0 });
+      dacl = dacl-limits (creators_acl Dacl creator) (new_aces Dacl d creator plan) _ word.dacl
+          (record { each = new-limits Dacl d creator plan h g keeps; fits = fits _ small.1 });
+    }

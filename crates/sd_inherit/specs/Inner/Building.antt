@@ -1,11 +1,15 @@
 -- What the code that copies has built so far. No definition of what is derived rests on it.
-use Rattle.std.specs.Prelude.{◌<◌, ◌^◌, Bool, true, false, not, ◌&&◌, List, [], ◌∷◌, ◌++◌, Option, Some, None}
+use Rattle.std.specs.Prelude.{◌<◌, ℕ, ◌+◌, ◌^◌, Bool, true, false, not, ◌&&◌, List, [], ◌∷◌, ◌++◌, Option, Some, None}
 use Rattle.sd_ace.specs.Ace.{AccessControlEntry}
 use Rattle.sd_builder.specs.Draft.{Draft, IsOpen, open_size, part_of, with_acl}
 use Rattle.sd_view.specs.declared.acl.AclPart.{AclPart}
 use Rattle.sd_view.specs.declared.acl.AclPart.TheVariants as acl
 use Rattle.sd_control.specs.declared.control.AclFlags.{AclFlags}
+use Rattle.sd_control.specs.Control.{flag_bits}
 use Rattle.sd_control.specs.declared.control.Which.{Which}
+use Rattle.sd_control.specs.declared.control.Which.TheVariants.{Dacl, Sacl}
+use Rattle.sd_view.specs.Descriptor.{Descriptor}
+use Rattle.sd_inherit.specs.Derived.{is_protected}
 use Rattle.sd_inherit.specs.declared.copies.Copies.{Copies}
 
 -- at most one, as a list
@@ -47,3 +51,9 @@ abbrev pub is_null : AclPart → Bool
 is_null acl.Absent = false
 is_null acl.Null = true
 is_null (acl.List aces) = false
+
+-- the bits of both ACLs' flags, where these ACLs are lists or not
+abbrev pub bits_beside : Option Descriptor → Bool → Bool → ℕ
+bits_beside creator sacl dacl =
+    flag_bits Sacl (flags_beside (is_protected Sacl creator) sacl)
+    + flag_bits Dacl (flags_beside (is_protected Dacl creator) dacl)
