@@ -1,4 +1,5 @@
--- Worked rows, computed: the copies of single ACEs on files and containers, and what is derived around them.
+-- Worked rows, computed: the copies of single ACEs on files and containers, what is taken of a creator's ACEs, and what
+-- is derived around them.
 use Rattle.std.proofs.Common.{◌≡◌, ℕ, List, [], ◌∷◌, Some, None, refl}
 use Rattle.sd_ace.specs.Ace.{AccessControlEntry}
 use Rattle.sd_rights.specs.Mapping.{mapped}
@@ -107,6 +108,63 @@ not_to_a_file : copies (plan File) (ace kinds.Allow 0x2 0x1f01ff everyone) ≡ [
 unfolding computed
 not_to_a_file = refl
 
+-- of a creator's ACEs: one with ID gives nothing
+
+inherited_before : taken (plan Container) (ace kinds.Allow 0x13 0x1f01ff everyone) ≡ []
+unfolding computed
+inherited_before = refl
+
+-- a file takes what is effective there, with no flag that goes on; flags of audit stay
+
+file_takes : taken (plan File) (ace kinds.Audit 0xc7 0x8000_0000 creator_owner)
+    ≡ ace kinds.Audit 0xc0 0x120089 user ∷ []
+unfolding computed
+file_takes = refl
+
+file_takes_a_label : taken (plan File) (ace kinds.Label 0x7 0x8000_0000 high)
+    ≡ ace kinds.Label 0x0 0x8000_0000 high ∷ []
+unfolding computed
+file_takes_a_label = refl
+
+file_does_not_hand_on : taken (plan File) (ace kinds.Allow 0xb 0x1f01ff everyone) ≡ []
+unfolding computed
+file_does_not_hand_on = refl
+
+-- a container keeps what it only hands on as it was, and takes for itself what does not go on
+
+container_hands_on : taken (plan Container) (ace kinds.Allow 0xd 0x1000_0000 creator_owner)
+    ≡ ace kinds.Allow 0xd 0x1000_0000 creator_owner ∷ []
+unfolding computed
+container_hands_on = refl
+
+container_takes : taken (plan Container) (ace kinds.Deny 0x4 0x1000_0000 creator_group)
+    ≡ ace kinds.Deny 0x0 0x1f01ff everyone ∷ []
+unfolding computed
+container_takes = refl
+
+-- what goes on, and means something else there, is split
+
+creator_splits : taken (plan Container) (ace kinds.Allow 0x3 0x1000_0000 creator_owner)
+    ≡ ace kinds.Allow 0x0 0x1f01ff user ∷ ace kinds.Allow 0xb 0x1000_0000 creator_owner ∷ []
+unfolding computed
+creator_splits = refl
+
+generic_splits : taken (plan Container) (ace kinds.Audit 0x46 0x8000_0000 users)
+    ≡ ace kinds.Audit 0x40 0x120089 users ∷ ace kinds.Audit 0x4e 0x8000_0000 users ∷ []
+unfolding computed
+generic_splits = refl
+
+-- all else is as it was
+
+label_does_not_split : taken (plan Container) (ace kinds.Label 0x2 0x8000_0000 high)
+    ≡ ace kinds.Label 0x2 0x8000_0000 high ∷ []
+unfolding computed
+label_does_not_split = refl
+
+as_it_was : taken (plan Container) (ace kinds.Allow 0x45 0x1 users) ≡ ace kinds.Allow 0x45 0x1 users ∷ []
+unfolding computed
+as_it_was = refl
+
 -- whole descriptors
 
 parent : AclPart → AclPart → Descriptor
@@ -141,3 +199,93 @@ copy_in_the_sacl = refl
 nothing_too_large : derive_fault (parent acl.Null acl.Null) None (plan Container) ≡ None
 unfolding computed parent
 nothing_too_large = refl
+
+-- beside a creator's descriptor
+
+system : SecurityId
+system = record { authority = 5; subs = 18 ∷ [] }
+
+-- the container hands its first ACE on to files
+handing_on : Descriptor
+handing_on = parent acl.Absent (acl.List (ace kinds.Allow 0x3 0x1f01ff system ∷ []))
+
+creator : ℕ → AclPart → AclPart → Descriptor
+creator control sacl dacl = record {
+  control = control;
+  rm = 0xff;
+  owner = Some everyone;
+  group = None;
+  sacl = sacl;
+  dacl = dacl;
+}
+
+made : ℕ → AclPart → AclPart → Descriptor
+made control sacl dacl = record {
+  control = control;
+  rm = 0;
+  owner = Some user;
+  group = Some everyone;
+  sacl = sacl;
+  dacl = dacl;
+}
+
+-- what is taken comes before the copies, and what the creator's object had inherited is not taken
+taken_then_inherited : derived handing_on
+    (Some (creator 0x8004 acl.Absent
+    (acl.List (ace kinds.Allow 0x0 0x120089 users ∷ ace kinds.Allow 0x10 0x1f01ff everyone ∷ []))))
+    (plan File)
+    ≡ made 0x8404 acl.Absent (acl.List (ace kinds.Allow 0x0 0x120089 users ∷ ace kinds.Allow 0x10 0x1f01ff system ∷ []))
+unfolding computed parent system handing_on creator made
+taken_then_inherited = refl
+
+-- AR and AI of the creator's ACL are not looked at
+flags_of_inheritance : derived handing_on
+    (Some (creator 0x8504 acl.Absent (acl.List (ace kinds.Allow 0x0 0x120089 users ∷ [])))) (plan File)
+    ≡ made 0x8404 acl.Absent (acl.List (ace kinds.Allow 0x0 0x120089 users ∷ ace kinds.Allow 0x10 0x1f01ff system ∷ []))
+unfolding computed parent system handing_on creator made
+flags_of_inheritance = refl
+
+-- nothing is inherited beside a protected list, which is not auto-inherited
+protected_list : derived handing_on
+    (Some (creator 0x9004 acl.Absent (acl.List (ace kinds.Allow 0x0 0x120089 users ∷ [])))) (plan File)
+    ≡ made 0x9004 acl.Absent (acl.List (ace kinds.Allow 0x0 0x120089 users ∷ []))
+unfolding computed parent system handing_on creator made
+protected_list = refl
+
+-- a null DACL stays null, and keeps P
+null_creators_dacl : derived handing_on (Some (creator 0x8004 acl.Absent acl.Null)) (plan File)
+    ≡ made 0x8004 acl.Absent acl.Null
+unfolding computed parent system handing_on creator made
+null_creators_dacl = refl
+
+protected_null_dacl : derived handing_on (Some (creator 0x9004 acl.Absent acl.Null)) (plan File)
+    ≡ made 0x9004 acl.Absent acl.Null
+unfolding computed parent system handing_on creator made
+protected_null_dacl = refl
+
+-- an empty SACL stands, protected or not; beside it the DACL is inherited
+protected_empty_sacl : derived handing_on (Some (creator 0xa010 (acl.List []) acl.Absent)) (plan File)
+    ≡ made 0xa414 (acl.List []) (acl.List (ace kinds.Allow 0x10 0x1f01ff system ∷ []))
+unfolding computed parent system handing_on creator made
+protected_empty_sacl = refl
+
+empty_sacl : derived handing_on (Some (creator 0x8010 (acl.List []) acl.Absent)) (plan File)
+    ≡ made 0x8c14 (acl.List []) (acl.List (ace kinds.Allow 0x10 0x1f01ff system ∷ []))
+unfolding computed parent system handing_on creator made
+empty_sacl = refl
+
+-- P of an ACL that is absent is not kept
+protected_but_absent : derived handing_on (Some (creator 0xb000 acl.Absent acl.Absent)) (plan File)
+    ≡ made 0x8404 acl.Absent (acl.List (ace kinds.Allow 0x10 0x1f01ff system ∷ []))
+unfolding computed parent system handing_on creator made
+protected_but_absent = refl
+
+-- a container takes an ACE for the creator's owner, and inherits
+container_takes_and_inherits : derived handing_on
+    (Some (creator 0x8004 acl.Absent (acl.List (ace kinds.Allow 0x3 0x1000_0000 creator_owner ∷ []))))
+    (plan Container)
+    ≡ made 0x8404 acl.Absent
+    (acl.List (ace kinds.Allow 0x0 0x1f01ff user ∷ ace kinds.Allow 0xb 0x1000_0000 creator_owner
+    ∷ ace kinds.Allow 0x13 0x1f01ff system ∷ []))
+unfolding computed parent system handing_on creator made
+container_takes_and_inherits = refl
