@@ -75,21 +75,25 @@ EXPLAIN, EXPLAIN_SDDL = ["explain"], ["explain", "--from", "sddl"]
 TO_BASE64, FROM_BASE64 = ["convert", "--to", "base64"], ["convert", "--from", "base64"]
 CHECK = ["check", "--token", "WD,!SY", "--maximum"]
 DERIVE = ["derive", "--kind", "container", "--owner", "BA", "--group", "SY"]
+CHECK_AT_LEVEL = ["check", "--token", "WD,!SY", "--maximum", "--level", "4096"]
+DERIVE_WITH_CREATOR = [*DERIVE, "--creator", "O:WDD:(A;OICI;GA;;;CO)(A;;FR;;;BU)S:P(ML;;NW;;;HI)"]
 DERIVE_SDDL_TO_HEX = [*DERIVE, "--from", "sddl", "--to", "hex"]
 SHORT_JOBS = [Job(HEX, SHORT_HEX, 1), Job(SDDL, SHORT_HEX, 1), Job(SDDL_TO_SDDL, SHORT_SDDL, 1),
               Job(SDDL_TO_HEX, SHORT_SDDL, 1), Job(EXPLAIN, SHORT_HEX, 1), Job(CHECK, SHORT_HEX, 1),
-              Job(DERIVE, SHORT_HEX, 1), Job(TO_BASE64, SHORT_HEX, 1), Job(FROM_BASE64, SHORT_BASE64, 1),
+              Job(CHECK_AT_LEVEL, SHORT_HEX, 1), Job(DERIVE, SHORT_HEX, 1), Job(DERIVE_WITH_CREATOR, SHORT_HEX, 1),
+              Job(TO_BASE64, SHORT_HEX, 1), Job(FROM_BASE64, SHORT_BASE64, 1),
               Job(HEX, TWO_LINES, 1, 1)]
 LARGE_JOBS = [Job(HEX, MANY_HEX), Job(SDDL, MANY_HEX), Job(SDDL_TO_SDDL, MANY_SDDL), Job(SDDL_TO_HEX, MANY_SDDL),
               Job(SDDL, SHORT_HEX + b"\n" + BOTH_LONG + b"\n" + SHORT_HEX), Job(EXPLAIN, MANY_HEX),
               Job(EXPLAIN, SHORT_HEX + b"\n" + BOTH_LONG + b"\n" + SHORT_HEX),
               Job(SDDL_TO_HEX, SHORT_SDDL + b"\n" + LONG_SDDL + b"\n" + SHORT_SDDL), Job(DERIVE, MANY_HEX),
               Job(DERIVE_SDDL_TO_HEX, SHORT_SDDL + b"\n" + LONG_SDDL + b"\n" + SHORT_SDDL),
+              Job(CHECK_AT_LEVEL, MANY_HEX), Job(DERIVE_WITH_CREATOR, MANY_HEX),
               Job(TO_BASE64, SHORT_HEX + b"\n" + BOTH_LONG + b"\n" + SHORT_HEX), Job(FROM_BASE64, MANY_BASE64)]
 # Pieces in which several lines end, an input that is one piece, and writes that take a few bytes.
 CUT_JOBS = [*(Job(HEX, SHORT_HEX, piece) for piece in (7, 50, 0)),
             *(Job(SDDL_TO_SDDL, SHORT_SDDL, piece) for piece in (3, 0)), Job(EXPLAIN_SDDL, SHORT_SDDL, 3),
-            Job(DERIVE_SDDL_TO_HEX, SHORT_SDDL, 3),
+            Job(DERIVE_SDDL_TO_HEX, SHORT_SDDL, 3), Job([*DERIVE_WITH_CREATOR, "--from", "sddl"], SHORT_SDDL, 3),
             Job(HEX, SHORT_HEX, 0, 4), Job(SDDL, SHORT_HEX, 5, 2), Job(SDDL_TO_SDDL, SHORT_SDDL, 0, 1),
             Job(HEX, MANY_HEX, 0, 3000), Job(EXPLAIN, SHORT_HEX, 0, 7),
             Job(FROM_BASE64, SHORT_BASE64, 5), Job(TO_BASE64, SHORT_HEX, 0, 3)]

@@ -4,7 +4,7 @@
 Refuses the program's allocations, by a small library (refuse.c) that is preloaded under it.
 First each allocation of a few command lines in turn: the program says `sdtool: no memory`, ends with status 4, and has
 neither read nor written anything. One allocation of each may be dispensable: refused, it changes nothing.
-Before its first read the program takes memory for the token, in two allocations, and for the engine, in three that are
+Before its first read the program takes memory for the token, in two allocations, and for the engine, in four that are
 as large as a descriptor or larger: none of them is dispensable.
 Then every allocation from the first read on: there is none, so nothing changes.
 The last line is 'N passed, M failed'.
@@ -43,7 +43,8 @@ FAULTY_ACLS = [WITH_DACL[:-2], WITH_DACL[:-40] + b"09" + ACE[2:], WITH_DACL[:-40
 # The list of words is copied to a block that just fits; where there is no such block, it stays where it is.
 DISPENSABLE = 1
 # What the library tells of the token, the engine and the first read.
-TOKEN, ENGINE, READ = b"mm", b"lll", b"r"
+TOKEN, ENGINE, READ = b"mm", b"llll", b"r"
+CREATOR, LONG_CREATOR = ("O:DAG:DUD:P" + "(A;OICI;FA;;;CO)" * count + "S:(ML;;NW;;;HI)" for count in (200, 3000))
 COMMAND_LINES = [
     ["convert"],
     ["convert", "--from", "hex", "--to=hex"],
@@ -66,10 +67,15 @@ COMMAND_LINES = [
     ["check", "--token", ",".join(["!WD"] * 1024), "--maximum", "--domain", DOMAIN],
     ["check", "--token", "WD", "--type", "ds", "--want", "RP", "--object", "bf967aba-0de6-11d0-a285-00aa003049e2",
      "--self", "BA", "--security", "--take-ownership"],
+    ["check", "--token", "WD,!BA", "--maximum", "--level", "0000004096"],
+    ["check", "--token", "WD", "--maximum", "--level", "4294967296"],
     ["check", "--token", ",".join(["WD"] * 1025)],
     ["check", "--token", "WD"],
     ["derive", "--kind", "container", "--owner", "DA", "--group", "DU", "--domain", DOMAIN, "--from=sddl", "--to=hex",
      "--type", "key", "--numeric"],
+    ["derive", "--kind", "file", "--owner", "BA", "--group", "SY", "--domain", DOMAIN, "--creator", CREATOR],
+    ["derive", "--kind", "file", "--owner", "BA", "--group", "SY", "--creator", ""],
+    ["derive", "--kind", "file", "--owner", "BA", "--group", "SY", "--creator", "O:ZZ"],
     ["derive", "--kind", "file", "--owner", "BA", "--group", "DU"],
     ["derive", "--kind", "file", "--owner", "BA"],
     ["--help"],
@@ -92,6 +98,10 @@ ROWS = [
     (["check", "--from", "sddl", "--token", f"{USER},!BA", "--want", "FR"], b"D:(A;;FA;;;BA)", b"denied 0x00120089"),
     (["derive", "--from", "sddl", "--kind", "container", "--owner", USER, "--group", "WD"], b"D:(A;OICIIO;GA;;;CO)",
      b"O:S-1-5-21-1-2-3-1001G:WDD:AI(A;ID;FA;;;S-1-5-21-1-2-3-1001)(A;OICIIOID;GA;;;CO)"),
+    (["check", "--from", "sddl", "--token", "WD", "--level", "8192", "--maximum"], b"D:(A;;FA;;;WD)S:(ML;;NW;;;HI)",
+     b"granted 0x001200a9"),
+    (["derive", "--from", "sddl", "--kind", "container", "--owner", "BA", "--group", "SY", "--creator", "D:(A;OICI;GA;;;CO)"],
+     b"D:(A;OICI;FA;;;SY)", b"O:BAG:SYD:AI(A;;FA;;;BA)(A;OICIIO;GA;;;CO)(A;OICIID;FA;;;SY)"),
     (["explain"], WORKED, EXPLANATION),
 ]
 # The longest line of hex: two SIDs of fifteen sub-authorities and two ACLs of 65,535 bytes.
@@ -131,6 +141,11 @@ READING = [
     (["check", "--token", "WD,!BA", "--want", "RC", "--from", "sddl"], SDDL_LINES * 5),
     (["derive", "--kind", "container", "--owner", "BA", "--group", "SY"], HEX_LINES * 5),
     (["derive", "--kind", "file", "--owner", "BA", "--group", "SY", "--from", "sddl", "--to", "hex"], SDDL_LINES * 5),
+    (["check", "--token", "WD,!BA", "--maximum", "--level", "4096"], HEX_LINES * 5),
+    (["check", "--token", "WD,!BA", "--want", "RC", "--level", "8191", "--from", "sddl"], SDDL_LINES * 5),
+    (["derive", "--kind", "container", "--owner", "BA", "--group", "SY", "--creator", "D:(A;OICI;GA;;;CO)S:P"], HEX_LINES * 5),
+    (["derive", "--kind", "file", "--owner", "BA", "--group", "SY", "--from", "sddl", "--to", "hex", "--domain", DOMAIN,
+      "--creator", LONG_CREATOR], SDDL_LINES * 5),
 ]
 
 

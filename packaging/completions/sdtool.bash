@@ -10,15 +10,16 @@ _sdtool() {
     case $previous in
         --from | --to) mapfile -t COMPREPLY < <(compgen -W "$forms" -- "$current"); return ;;
         --type) mapfile -t COMPREPLY < <(compgen -W 'file key ds' -- "$current"); return ;;
+        --level) mapfile -t COMPREPLY < <(compgen -W '4096 8192 8448 12288 16384' -- "$current"); return ;;
         --kind) mapfile -t COMPREPLY < <(compgen -W 'file container' -- "$current"); return ;;
-        --domain | --token | --want | --object | --self | --owner | --group) return ;;
+        --domain | --token | --want | --object | --self | --owner | --group | --creator) return ;;
     esac
     local options=''
     case $command in
         convert) options='--from --to --domain --numeric --help' ;;
         explain) options='--from --domain --numeric --help' ;;
-        check) options='--from --domain --token --want --maximum --type --object --self --security --take-ownership --help' ;;
-        derive) options='--from --to --domain --numeric --kind --owner --group --type --help' ;;
+        check) options='--from --domain --token --want --maximum --type --object --self --level --security --take-ownership --help' ;;
+        derive) options='--from --to --domain --numeric --kind --owner --group --type --creator --help' ;;
         help) ((COMP_CWORD == 2)) && options='convert explain check derive' ;;
     esac
     mapfile -t COMPREPLY < <(compgen -W "$options" -- "$current")

@@ -40,7 +40,8 @@ fn used(rt: &(impl Abort + AllocGlobal)) -> SdBuf {
 fn used_engine(rt: &(impl Abort + AllocGlobal), source: Form, target: Form) -> Engine {
     let mut text = TextBuf::new(rt.alloc()).expect(rt, "memory for a text");
     assert!(rt; text.extend(b"AQAE!").is_ok());
-    Engine::over(job(source, Act::Convert(target)), used(rt), used(rt), text)
+    let job = job(source, Act::Convert(target));
+    Engine::over(job, used(rt), used(rt), used(rt), text)
 }
 
 // What is answered to an input, in reads of at most so many bytes: a line for each of its lines, so many of them an

@@ -123,9 +123,11 @@ fn leaves_nothing_of_an_acl_that_is_too_large(rt: HostRuntime) {
         assert!(rt; read_sddl(line.as_bytes(), None, &mut buf) == Ok(()));
         assert!(rt; buf.bytes().len() == 20 + 65_528);
         let parent = read(buf.bytes()).expect(&rt, "a descriptor");
-        assert!(rt; made.from_hex(b"00") == Ok(()));
         let fault = Err(DeriveFault::DerivedTooLarge(which));
-        assert!(rt; derive(&parent, &plan, &mut made) == fault);
-        assert!(rt; made.bytes().is_empty());
+        for creator in [None, Some(&parent)] {
+            assert!(rt; made.from_hex(b"00") == Ok(()));
+            assert!(rt; derive(&parent, creator, &plan, &mut made) == fault);
+            assert!(rt; made.bytes().is_empty());
+        }
     }
 }

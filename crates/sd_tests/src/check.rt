@@ -1,8 +1,7 @@
 //! The access check: how often it compares an entry of the token, and beside a plain program that tells the definition.
 //! Many verdicts stand in `tests/rows/access_check.json`.
 
-ghost use Rattle.std.specs.Prelude.{◌<◌, length};
-
+use crate::numbers::{Numbers, TYPES, Words, push_acl};
 use crate::plain_check::Question;
 use sd_access::{Ask, Privileges, check};
 use sd_binary::{SdBuf, read};
@@ -23,6 +22,7 @@ fn compared(
     for (sid, kind) in question.entries {
         assert!(rt; token.add(*sid, *kind) == Ok(()));
     }
+    token.set_level(question.level);
     let ask = Ask::new(
         question.desired,
         question.maximum,
@@ -38,7 +38,8 @@ fn compared(
     let seen = check(&view, &mut token, &ask);
     let entries = question.entries.len();
     let most = need.saturating_add(1).saturating_mul(entries as u64);
-    let is_sound = token.compared() <= most && token.len() == entries;
+    let is_kept = token.len() == entries && token.level() == question.level;
+    let is_sound = token.compared() <= most && is_kept;
     assert!(rt; seen == verdict && is_sound, "{line}");
     token.compared()
 }
@@ -103,6 +104,7 @@ fn compares_no_more_than_it_needs(rt: HostRuntime) {
                 security: false,
                 take_ownership: false,
             },
+            level: None,
         };
         let line = words.next().unwrap_or("");
         let compared = compared(&rt, &mut buf, line, &question);
@@ -110,46 +112,30 @@ fn compares_no_more_than_it_needs(rt: HostRuntime) {
     }
 }
 
-// Numbers that look random, and are the same in each run.
-#[derive(Drop)]
-struct Numbers {
-    state: u64,
-}
-
-impl Numbers {
-    fn below(&mut self, limit: usize) -> usize
-        requires { 0 < limit }
-        ensures { result < limit }
-    {
-        let next = self.state.wrapping_mul(6364136223846793005);
-        self.state = next.wrapping_add(1442695040888963407);
-        (self.state >> 33) as usize % limit
-    }
-
-    fn one_of<T: Copy>(&mut self, choices: &[T]) -> T
-        requires { 0 < length choices.now }
-    {
-        choices[self.below(choices.len())]
-    }
-
-    // Of words between blanks.
-    fn word_of<'a>(&mut self, words: &'a str) -> &'a str {
-        let at = self.below(words.split(' ').count().max(1));
-        words.split(' ').nth(at).unwrap_or("")
-    }
-}
-
 const TRUSTEES: &str = "WD BA SY AU PS OW S-1-5-21-1-2-3-1001";
 
-const KINDS: &str = "A D A D OA OD AU ML";
+const OF_DACLS: Words<'static> = Words {
+    kinds: "A D A D OA OD AU ML",
+    flags: "  ID IO OICIIO",
+    rights: " CC DC CCDCLC RC WD RCWDWO CR FR FW FA GA GR GW GX 0x11f01ff",
+    trustees: TRUSTEES,
+};
 
-const FLAGS: &str = "  ID IO OICIIO";
+const DACLS: &str = " D:NO_ACCESS_CONTROL D: D: D: D: D: D: D: D: D:";
 
-const RIGHTS: &str = " CC DC CCDCLC RC WD RCWDWO CR FR FW FA GA GR GW GX 0x11f01ff";
+// Labels, those that are for heirs alone, and SIDs that name no level.
+const OF_SACLS: Words<'static> = Words {
+    kinds: "ML ML ML ML AU A",
+    flags: "   IO OICI OICIIO",
+    rights: " NW NR NX NWNR NWNX NRNX NWNRNX 0xfffffff8 0xffffffff",
+    trustees: "LW ME MP HI S-1-16-0 S-1-16 S-1-16-4096-1 S-1-5-12288 S-1-16-4294967295",
+};
 
-const DACLS: &str = " D:NO_ACCESS_CONTROL D: D: D: D: D: D: D: D: D: D:";
+const SACLS: &str = "  S:NO_ACCESS_CONTROL S: S: S: S: S: S:";
 
-const TYPES: &str = " bf967aba-0de6-11d0-a285-00aa003049e2 bf967a86-0de6-11d0-a285-00aa003049e2";
+const LEVELS: [u32; 9] = [
+    0, 4095, 4096, 8191, 8192, 8193, 12288, 4294967294, 4294967295,
+];
 
 // 0 asks for the maximum, and so does 0x2000000.
 const DESIRED: [u32; 13] = [
@@ -157,31 +143,15 @@ const DESIRED: [u32; 13] = [
     0x1080000, 0x2000000,
 ];
 
-fn some_ace(rt: &(impl Abort + AllocGlobal), numbers: &mut Numbers) -> String {
-    let kind = numbers.word_of(KINDS);
-    let flags = numbers.word_of(FLAGS);
-    let rights = numbers.word_of(RIGHTS);
-    let types = if kind.starts_with('O') { TYPES } else { "" };
-    let (object, inherited) = (numbers.word_of(types), numbers.word_of(types));
-    let trustee = numbers.word_of(TRUSTEES);
-    let text = format!(in rt.alloc(); "({kind};{flags};{rights};{object};{inherited};{trustee})");
-    text.expect(rt, "memory for an ACE")
-}
-
 fn some_line(rt: &(impl Abort + AllocGlobal), numbers: &mut Numbers) -> String {
     let (part, owner) = match numbers.below(3) {
         0 => ("", ""),
         _ => ("O:", numbers.word_of(TRUSTEES)),
     };
-    let dacl = numbers.word_of(DACLS);
-    let line = format!(in rt.alloc(); "{part}{owner}{dacl}");
+    let line = format!(in rt.alloc(); "{part}{owner}");
     let mut line = line.expect(rt, "memory for a line");
-    if dacl == "D:" {
-        for _ in 0..numbers.below(9) {
-            let ace = some_ace(rt, numbers);
-            line.push_str(&ace).expect(rt, "memory for an ACE");
-        }
-    }
+    push_acl(rt, numbers, DACLS, &OF_DACLS, &mut line);
+    push_acl(rt, numbers, SACLS, &OF_SACLS, &mut line);
     line
 }
 
@@ -209,6 +179,10 @@ fn agrees_with_the_definition(rt: HostRuntime) {
             privileges: Privileges {
                 security: numbers.below(4) == 0,
                 take_ownership: numbers.below(4) == 0,
+            },
+            level: match numbers.below(4) {
+                0 => None,
+                _ => Some(numbers.one_of(&LEVELS)),
             },
         };
         compared(&rt, &mut buf, &line, &question);

@@ -28,6 +28,7 @@ pub struct Question<'a> {
     pub object: Option<Uuid>,
     pub principal_self: Option<Sid>,
     pub privileges: Privileges,
+    pub level: Option<u32>,
 }
 
 impl<'a> Question<'a> {
@@ -68,6 +69,25 @@ impl<'a> Question<'a> {
             || right == WRITE_OWNER && self.privileges.take_ownership
     }
 
+    // Whether the object's label leaves the right to the token (MS-DTYP 2.5.3.3).
+    fn is_left(&self, view: &SdView, right: u32) -> bool
+        requires { right < 32 }
+    {
+        let (level, policy) = label_of(view);
+        let mut left = 0;
+        if policy & 1 == 0 {
+            left |= self.mapping.write();
+        }
+        if policy & 2 == 0 {
+            left |= self.mapping.read();
+        }
+        if policy & 4 == 0 {
+            left |= self.mapping.execute();
+        }
+        let is_lower = self.level.is_some_and(|held| held < level);
+        !is_lower || left >> right & 1 == 1
+    }
+
     // Whether the right is granted, and how many first ACEs of the DACL have to be looked at for it.
     fn answer(&self, view: &SdView, right: u32) -> (bool, u64)
         requires { right < 32 }
@@ -101,7 +121,8 @@ impl<'a> Question<'a> {
         for right in 0..25 {
             let bit = 1 << right;
             let (granted, place) = self.answer(view, right);
-            if !granted {
+            let is_limited = right != ACCESS_SYSTEM_SECURITY && !self.is_left(view, right);
+            if !granted || is_limited {
                 missing |= wanted & bit;
             } else {
                 won |= pool & bit;
@@ -116,6 +137,22 @@ impl<'a> Question<'a> {
             (Verdict::Denied(missing), need)
         }
     }
+}
+
+// The level and the policy of the object's label: those of the first ACE of the SACL that is a label for the object
+// itself and names one level (MS-DTYP 2.4.4.13), else medium and no write up.
+fn label_of(view: &SdView) -> (u32, u32) {
+    if let AclPart::List(acl) = view.sacl() {
+        for ace in acl.aces() {
+            let sid = ace.sid();
+            if ace.kind() == AceKind::Label && ace.flags() & 0x8 == 0 && sid.authority() == 16 {
+                if sid.subs().len() == 1 {
+                    return (sid.subs().first().copied().unwrap_or(0), ace.mask() & 7);
+                }
+            }
+        }
+    }
+    (8192, 1)
 }
 
 fn allows(ace: &AceView) -> bool {

@@ -42,3 +42,21 @@ fn meets_and_counts(rt: HostRuntime) {
     }
     assert!(rt; token.compared() == 5);
 }
+
+// The level is no entry: it takes no room and is never compared.
+#[test]
+fn keeps_its_level(rt: HostRuntime) {
+    let system = Sid::new(5, &[18]).expect(&rt, "a SID");
+    let mut token = Token::new(rt.alloc()).expect(&rt, "memory for a token");
+    assert!(rt; token.level() == None);
+    for level in [None, Some(0), Some(8192), Some(u32::MAX), None, Some(4096)] {
+        token.set_level(level);
+        assert!(rt; token.level() == level);
+        assert!(rt; token.len() == 0 && token.compared() == 0);
+    }
+    assert!(rt; token.add(system, EntryKind::Enabled) == Ok(()));
+    if token.len() == 1 {
+        assert!(rt; token.meets(0, &system, false));
+    }
+    assert!(rt; token.level() == Some(4096) && token.len() == 1 && token.compared() == 1);
+}
