@@ -2,6 +2,7 @@
 use Rattle.std.specs.Prelude.{◌<◌, ℕ, ◌%◌, ◌^◌, ◌==◌, Bool, not, ◌&&◌, ◌||◌, if◌then◌else◌, List, Option, Some, None}
 use Rattle.sd_rights.specs.Mapping.{GenericMapping, carries, mapped}
 use Rattle.sd_sid.specs.Sid.{SecurityId}
+use Rattle.sd_check.specs.AccessRights.{first_reserved, maximum_allowed, second_reserved}
 use Rattle.sd_check.specs.declared.ask.AskFault.{AskFault}
 use Rattle.sd_check.specs.declared.ask.AskFault.TheVariants.{EmptyRequest, ReservedBits}
 
@@ -27,14 +28,14 @@ pub record AreRights (ask : Asked) : Type 0 where
 
 -- 2.4.3: bit 25, MAXIMUM_ALLOWED, asks for the maximum, and bits 26 and 27 are reserved
 abbrev pub asks_maximum : ℕ → Bool
-asks_maximum desired = carries desired 25
+asks_maximum desired = carries desired maximum_allowed
 
 -- why nothing can be asked
 abbrev pub ask_fault : ℕ → Bool → Option AskFault
 ask_fault desired maximum =
     if desired == 0 && not maximum then Some EmptyRequest
-    else if carries desired 26 || carries desired 27 then Some ReservedBits else None
+    else if carries desired first_reserved || carries desired second_reserved then Some ReservedBits else None
 
 -- the mapped mask without bit 25: bits 26 and 27 were refused, and those above are the generic rights
 abbrev pub wanted_of : GenericMapping → ℕ → ℕ
-wanted_of m desired = mapped m desired % 2 ^ 25
+wanted_of m desired = mapped m desired % 2 ^ maximum_allowed

@@ -8,23 +8,11 @@ use Rattle.sd_token.specs.Token.{Entry, Holder}
 use Rattle.sd_view.specs.Descriptor.{Descriptor}
 use Rattle.sd_view.specs.declared.acl.AclPart.{AclPart}
 use Rattle.sd_view.specs.declared.acl.AclPart.TheVariants as acl
+use Rattle.sd_check.specs.AccessRights.{read_control, system_security, write_dac, write_owner}
 use Rattle.sd_check.specs.Acl.{listed_aces}
 use Rattle.sd_check.specs.Ask.{Asked}
 use Rattle.sd_check.specs.Applies.{applies, is_allow, is_effective, owner_rights, some_meets}
 use Rattle.sd_check.specs.Label.{label_allows}
-
--- 2.4.3: the places of READ_CONTROL, WRITE_DAC, WRITE_OWNER and ACCESS_SYSTEM_SECURITY
-abbrev pub read_control : ℕ
-read_control = 17
-
-abbrev pub write_dac : ℕ
-write_dac = 18
-
-abbrev pub write_owner : ℕ
-write_owner = 19
-
-abbrev pub system_security : ℕ
-system_security = 24
 
 -- 1. Without an ACE.
 

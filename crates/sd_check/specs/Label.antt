@@ -35,13 +35,23 @@ abbrev pub is_lower : Option ℕ → Label → Bool
 is_lower None label = false
 is_lower (Some level) label = nat_lt level label.level
 
--- Bit 0 of the policy is NO_WRITE_UP, bit 1 NO_READ_UP and bit 2 NO_EXECUTE_UP. What is not forbidden is left: the
--- rights of generic read, write and execute.
+-- the places of the policy's bits
+
+abbrev pub no_write_up : ℕ
+no_write_up = 0
+
+abbrev pub no_read_up : ℕ
+no_read_up = 1
+
+abbrev pub no_execute_up : ℕ
+no_execute_up = 2
+
+-- What the policy does not forbid is left: the rights of generic read, write and execute.
 abbrev pub is_left : ℕ → Label → GenericMapping → Bool
 is_left right label m =
-    (not (carries label.policy 1) && carries m.read right)
-    || (not (carries label.policy 0) && carries m.write right)
-    || (not (carries label.policy 2) && carries m.execute right)
+    (not (carries label.policy no_read_up) && carries m.read right)
+    || (not (carries label.policy no_write_up) && carries m.write right)
+    || (not (carries label.policy no_execute_up) && carries m.execute right)
 
 -- the label lets the holder have the right, if something grants it
 abbrev pub label_allows : ℕ → Descriptor → Holder → Asked → Bool

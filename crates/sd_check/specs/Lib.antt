@@ -1,3 +1,4 @@
+pub mod AccessRights
 pub mod Acl
 pub mod Applies
 pub mod Ask

@@ -3,17 +3,11 @@
 ghost use Rattle.std.specs.Prelude.{◌≡◌, ◌||◌, None, Some, IfOk, MatchResult};
 ghost use Rattle.sd_check.specs.Ask.{AreRights, ask_fault, asks_maximum, wanted_of};
 
+use crate::access_rights::{FIRST_RESERVED, MAXIMUM_ALLOWED, SECOND_RESERVED};
 use sd_rights::{Mapping, carries};
 use sd_sid::Sid;
 use std::marker::Model;
 use uuid::Uuid;
-
-/// The places of MAXIMUM_ALLOWED and of the two reserved bits (MS-DTYP 2.4.3).
-const MAXIMUM_ALLOWED: u32 = 25;
-
-const FIRST_RESERVED: u32 = 26;
-
-const SECOND_RESERVED: u32 = 27;
 
 /// The privileges that grant a right, where the token holds them.
 #[derive(Clone, Copy, Debug, PartialEq, Eq)]

@@ -1,27 +1,19 @@
 //! The rights that are granted without an ACE.
 
 ghost use Rattle.std.specs.Prelude.{◌≡◌, ◌≤◌, ◌+◌, false, length};
-ghost use Rattle.sd_rights.specs.Mapping.{mask_if};
 ghost use Rattle.sd_token.specs.Token.{Asks};
 ghost use Rattle.sd_check.specs.Granted.{is_for_owner_rights, is_open, is_owned, names_owner_rights};
 ghost use Rattle.sd_check.specs.Inner.Scan.{asks_owner, given_mask};
 
+use crate::access_rights::{
+    ACCESS_SYSTEM_SECURITY, BELOW_SYSTEM_SECURITY, READ_CONTROL, WRITE_DAC, WRITE_OWNER,
+};
 use crate::applies::is_effective;
 use crate::ask::Ask;
 use crate::trustee::{is_owner_rights, some_meets};
+use sd_rights::mask_if;
 use sd_token::Token;
 use sd_view::{AceView, AclPart, AclView, SdView};
-
-/// Access rights of MS-DTYP 2.4.3.
-pub const ACCESS_SYSTEM_SECURITY: u32 = 0x100_0000;
-
-const WRITE_OWNER: u32 = 0x8_0000;
-
-const WRITE_DAC: u32 = 0x4_0000;
-
-const READ_CONTROL: u32 = 0x2_0000;
-
-const BELOW_SYSTEM_SECURITY: u32 = 0xff_ffff;
 
 /// The rights that are granted whatever the ACEs say, as far as they are in question.
 #[tactic(auto, unfolding(crate::specs::Inner::Scan::given_mask))]
@@ -35,13 +27,6 @@ pub fn given(view: &SdView, token: &mut Token, ask: &Ask, question: u32) -> u32
         | mask_if(ask.take_ownership(), WRITE_OWNER)
         | mask_if(owned, READ_CONTROL | WRITE_DAC)
         | mask_if(is_open(view), BELOW_SYSTEM_SECURITY)
-}
-
-/// The mask where it is carried, and else no right.
-pub fn mask_if(carried: bool, mask: u32) -> u32
-    ensures { result ≡ mask_if carried mask }
-{
-    if carried { mask } else { 0 }
 }
 
 // Whether the DACL is null or absent.

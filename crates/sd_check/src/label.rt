@@ -5,10 +5,10 @@ ghost use Rattle.std.specs.List.{find};
 ghost use Rattle.sd_check.specs.Inner.Scan.{left_mask, permitted_mask};
 ghost use Rattle.sd_check.specs.Label.{is_lower, is_mandatory_label, label, label_of, names_level};
 
+use crate::access_rights::{ACCESS_SYSTEM_SECURITY, ALL_RIGHTS};
 use crate::ask::Ask;
-use crate::grants::{ACCESS_SYSTEM_SECURITY, mask_if};
 use sd_kinds::{AceKind, INHERIT_ONLY, has_flag};
-use sd_rights::{Mapping, carries};
+use sd_rights::{Mapping, carries, mask_if};
 use sd_sid::Sid;
 use sd_token::Token;
 use sd_view::{AceView, AclPart, AclView, SdView};
@@ -35,9 +35,6 @@ const DEFAULT: Label = Label {
     level: 8192,
     policy: 1,
 };
-
-/// Each right, 0 to 24.
-const ALL_RIGHTS: u32 = 0x1ff_ffff;
 
 /// The rights that the label leaves to the token, ACCESS_SYSTEM_SECURITY among them: no label limits that one. The
 /// SACL is searched only for a token with a level.

@@ -3,15 +3,18 @@
 ghost use Rattle.std.specs.Prelude.{◌≡◌, ◌≤◌, ◌+◌, ◌*◌, ◌^◌, ◌-◌, bit_and, bit_or, false, length};
 ghost use Rattle.sd_rights.specs.Mapping.{mask_if as mask_if_of};
 ghost use Rattle.sd_token.specs.Token.{Asks, Compares};
+ghost use Rattle.sd_check.specs.AccessRights.{system_security_mask};
 ghost use Rattle.sd_check.specs.Ask.{AreRights};
 ghost use Rattle.sd_check.specs.Need.{check_bound, need, owner_matters};
 ghost use Rattle.sd_check.specs.Inner.Scan.{HasGranted, question_of};
 ghost use Rattle.sd_check.specs.Verdict.{verdict};
 
+use crate::access_rights::ACCESS_SYSTEM_SECURITY;
 use crate::ask::Ask;
-use crate::grants::{ACCESS_SYSTEM_SECURITY, given, mask_if};
+use crate::grants::given;
 use crate::label::permitted;
 use crate::scan::scan;
+use sd_rights::mask_if;
 use sd_token::Token;
 use sd_view::SdView;
 
@@ -25,11 +28,13 @@ pub enum Verdict {
     Denied(u32),
 }
 
-/// Whether the descriptor grants what is asked to the token (MS-DTYP 2.5.3). Where the token has an integrity level, the
-/// first mandatory label of the SACL is found first: it may leave a lower token only some rights, whatever grants the
-/// others. The ACEs are walked once for the rights in question, and only until each of them is decided. Before that, only where READ_CONTROL or WRITE_DAC is in question
-/// and the DACL is neither null nor absent, the token's entries are compared with the owner; where one of them is the
-/// owner, the DACL is also searched for an ACE for OWNER RIGHTS.
+/// Whether the descriptor grants what is asked to the token (MS-DTYP 2.5.3).
+///
+/// If the token has an integrity level, the first mandatory label of the SACL is found first. It may leave a token of
+/// lower level only some rights, whatever grants the others. If READ_CONTROL or WRITE_DAC is in question and the DACL
+/// is neither null nor absent, the token's entries are compared with the owner. If one of them is the owner, the DACL
+/// is also searched for an ACE for OWNER RIGHTS. Then the ACEs are walked once for the rights in question that the
+/// label leaves, and only until each of them is decided.
 pub fn check(view: &SdView, token: &mut Token, ask: &Ask) -> Verdict
     ensures verdict { result ≡ verdict view.now token.old.holder ask.now }
     // Each entry is compared at most once with the owner, and at most once for each ACE that is needed.
@@ -74,7 +79,7 @@ fn question(ask: &Ask) -> u32
 
 // Those of the rights in question that the ACEs alone can decide.
 fn undecided(question: u32, given: u32) -> u32
-    ensures { result ≡ bit_and question (2 ^ 32 - 1 - bit_or given 0x100_0000) }
+    ensures { result ≡ bit_and question (2 ^ 32 - 1 - bit_or given system_security_mask) }
 {
     question & !(given | ACCESS_SYSTEM_SECURITY)
 }
