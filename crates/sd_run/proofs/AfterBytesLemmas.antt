@@ -3,16 +3,14 @@ use Rattle.std.proofs.Common.{◌≡◌, ◌≢◌, ℕ, ◌+◌, ◌-◌, ◌<�
 use Rattle.std.proofs.lemmas.List.{length_push, take_more, take-append-drop, take_rest, length-drop, get_or-drop}
 use Rattle.std.proofs.Math.Seq.{take-add}
 use Rattle.std.proofs.KnownBytes.{Appends-trans}
-use Rattle.sd_token.specs.Token.{Entry, TokenShown}
+use Rattle.sd_token.specs.Token.{Compares, Holder, TokenShown}
 use Rattle.sd_sink.specs.Sink.{SinkTold, PutAll, PutSome}
 use Rattle.sd_sink.proofs.laws.SinkLemmas.{PutAll-nil, PutAll-trans}
 use Rattle.sd_run.specs.Lines.{cut_at_line_feeds, ended, lines, last_line, without_cr, has_lf}
 use Rattle.sd_run.specs.Answers.{answer, answers, bound, bounds, errors, is_error}
-use Rattle.sd_run.specs.Outcome.{Compares}
-use Rattle.sd_run.specs.Inner.Running.{Holds, Answered, Failed, AfterBytes}
-use Rattle.sd_run.specs.declared.job.Job.{Job}
-use Rattle.sd_run.specs.declared.engine.RunState.{RunState}
-use Rattle.sd_run.specs.declared.engine.Report.{Report}
+use Rattle.sd_run.specs.Inner.Running.{AfterBytes, Answered, Failed, Holds, Standing}
+use Rattle.sd_run.specs.declared.job.Task.{Task}
+use Rattle.sd_run.specs.declared.line.Line.{Line}
 use Rattle.sd_run.proofs.LineCutLemmas.{NoLf, has_lf-none, ended-more, rest-more, ended-lf, rest-lf, ended-append}
 use Rattle.sd_run.proofs.AnswersLemmas.{answers-one, answers-push, errors-push, bounds-push}
 
@@ -26,41 +24,55 @@ Compares-more token0 token token' n more h further =
     let then_high = further.at_most in
     record { goes_on = omega arith; at_most = omega arith }
 
+-- the line in hand does not matter to what is answered
+pub Answered-line : {task : Task} {token0 : TokenShown} {sink0 : SinkTold} {all : List (List ℕ)} {old : Standing}
+    {line : Line} → Answered task token0 sink0 all old
+    → Answered task token0 sink0 all (record old { state = record old.state { line = line } })
+Answered-line h = record {
+  put = h.put;
+  lines_counted = h.lines_counted;
+  faults_counted = h.faults_counted;
+  same_holder = h.same_holder;
+  compared = h.compared;
+}
+
 -- one line more is answered
-pub Answered-push : (job : Job) (token0 token token' : TokenShown) (sink0 sink sink' : SinkTold) (all : List (List ℕ))
-    (text : List ℕ) (report report' : Report)
-    → Answered job token0 sink0 all token sink report
-    → PutAll sink sink' (answer job token.entries text)
-    → token'.entries ≡ token.entries
-    → Compares token token' (bound job token.entries text)
-    → report'.lines ≡ report.lines + 1
-    → report'.faults ≡ report.faults + cond (is_error job text) 1 0
-    → Answered job token0 sink0 (all ++ text ∷ []) token' sink' report'
-Answered-push job token0 token token' sink0 sink sink' all text report report' h put same further more_lines
-    more_faults =
-    let put0 : PutAll sink sink' (answer job token0.entries text) = subst
-    (λ (e : List Entry). PutAll sink sink' (answer job e text)) h.same_entries put in
+pub Answered-push : (task : Task) (token0 : TokenShown) (sink0 : SinkTold) (all : List (List ℕ)) (text : List ℕ)
+    (old new : Standing)
+    → Answered task token0 sink0 all old
+    → PutAll old.sink new.sink (answer task old.token.holder text)
+    → new.token.holder ≡ old.token.holder
+    → Compares old.token new.token (bound task old.token.holder text)
+    → new.state.report.lines ≡ old.state.report.lines + 1
+    → new.state.report.faults ≡ old.state.report.faults + cond (is_error task old.token.holder text) 1 0
+    → Answered task token0 sink0 (all ++ text ∷ []) new
+Answered-push task token0 sink0 all text old new h put same further more_lines more_faults =
+    let put0 : PutAll old.sink new.sink (answer task token0.holder text) = subst
+    (λ (e : Holder). PutAll old.sink new.sink (answer task e text)) h.same_holder put in
+    let faults0 : new.state.report.faults ≡ old.state.report.faults + cond (is_error task token0.holder text) 1 0 =
+    subst (λ (e : Holder). new.state.report.faults ≡ old.state.report.faults + cond (is_error task e text) 1 0)
+    h.same_holder more_faults in
     record {
-      put = rw (answers-push job token0.entries all text) (PutAll-trans _ _ _ _ _ h.put put0);
+      put = rw (answers-push task token0.holder all text) (PutAll-trans _ _ _ _ _ h.put put0);
       lines_counted = more_lines ∙ ap (λ n. n + 1) h.lines_counted ∙ sym (length_push all text);
-      faults_counted = more_faults ∙ ap (λ n. n + cond (is_error job text) 1 0) h.faults_counted
-          ∙ sym (errors-push job all text);
-      same_entries = same ∙ h.same_entries;
-      compared = rw (bounds-push job token0.entries all text) (Compares-more token0 token token' _ _ h.compared
-          (subst (λ (e : List Entry). Compares token token' (bound job e text)) h.same_entries further));
+      faults_counted = faults0 ∙ ap (λ n. n + cond (is_error task token0.holder text) 1 0) h.faults_counted
+          ∙ sym (errors-push task token0.holder all text);
+      same_holder = same ∙ h.same_holder;
+      compared = rw (bounds-push task token0.holder all text) (Compares-more token0 old.token new.token _ _ h.compared
+          (subst (λ (e : Holder). Compares old.token new.token (bound task e text)) h.same_holder further));
     }
 
 -- the answer to one line more breaks off
-pub Failed-push : (job : Job) (token0 token token' : TokenShown) (sink0 sink sink' : SinkTold) (all : List (List ℕ))
-    (text : List ℕ) (report : Report)
-    → Answered job token0 sink0 all token sink report
-    → PutSome sink sink' (answer job token.entries text)
-    → token'.entries ≡ token.entries
-    → Compares token token' (bound job token.entries text)
-    → Failed job token0 sink0 all (all ++ text ∷ []) token' sink'
-Failed-push job token0 token token' sink0 sink sink' all text report h put same further =
-    let put0 : PutSome sink sink' (answer job token0.entries text) = subst
-    (λ (e : List Entry). PutSome sink sink' (answer job e text)) h.same_entries put in
+pub Failed-push : (task : Task) (token0 : TokenShown) (sink0 : SinkTold) (all : List (List ℕ)) (text : List ℕ)
+    (old new : Standing)
+    → Answered task token0 sink0 all old
+    → PutSome old.sink new.sink (answer task old.token.holder text)
+    → new.token.holder ≡ old.token.holder
+    → Compares old.token new.token (bound task old.token.holder text)
+    → Failed task token0 sink0 all (all ++ text ∷ []) new
+Failed-push task token0 sink0 all text old new h put same further =
+    let put0 : PutSome old.sink new.sink (answer task token0.holder text) = subst
+    (λ (e : Holder). PutSome old.sink new.sink (answer task e text)) h.same_holder put in
     record {
       whole = all;
       broken = text ∷ [];
@@ -69,18 +81,18 @@ Failed-push job token0 token token' sink0 sink sink' all text report h put same 
       split = sym (append-nil (all ++ text ∷ []));
       begins = ([], sym (append-nil all));
       one = omega arith;
-      is_prefix = rw (answers-one job token0.entries text) put0.is_prefix;
+      is_prefix = rw (answers-one task token0.holder text) put0.is_prefix;
       appended = Appends-trans _ _ _ _ _ h.put.appended put0.appended;
       failed = let none = h.put.no_failure in let rose = put0.failed in omega arith;
-      same_entries = same ∙ h.same_entries;
-      compared = rw (bounds-push job token0.entries all text) (Compares-more token0 token token' _ _ h.compared
-          (subst (λ (e : List Entry). Compares token token' (bound job e text)) h.same_entries further));
+      same_holder = same ∙ h.same_holder;
+      compared = rw (bounds-push task token0.holder all text) (Compares-more token0 old.token new.token _ _ h.compared
+          (subst (λ (e : Holder). Compares old.token new.token (bound task e text)) h.same_holder further));
     }
 
 -- further lines are not answered either
-Failed-more : (job : Job) (token0 token : TokenShown) (sink0 sink : SinkTold) (before all more : List (List ℕ))
-    → Failed job token0 sink0 before all token sink → Failed job token0 sink0 before (all ++ more) token sink
-Failed-more job token0 token sink0 sink before all more h = record {
+Failed-more : (task : Task) (token0 : TokenShown) (sink0 : SinkTold) (before all more : List (List ℕ)) (now : Standing)
+    → Failed task token0 sink0 before all now → Failed task token0 sink0 before (all ++ more) now
+Failed-more task token0 sink0 before all more now h = record {
   whole = h.whole;
   broken = h.broken;
   more = h.more ++ more;
@@ -91,66 +103,69 @@ Failed-more job token0 token sink0 sink before all more h = record {
   is_prefix = h.is_prefix;
   appended = h.appended;
   failed = h.failed;
-  same_entries = h.same_entries;
+  same_holder = h.same_holder;
   compared = h.compared;
 }
 
 -- nothing was read
-pub AfterBytes-nil : (token0 : TokenShown) (sink0 : SinkTold) (state : RunState) (report : Report)
-    → Holds state.job state.line [] → report.lines ≡ 0 → report.faults ≡ 0
-    → AfterBytes token0 sink0 [] state token0 sink0 report
+pub AfterBytes-nil : (task : Task) (now : Standing) → Holds task.job now.state.line []
+    → now.state.report.lines ≡ 0 → now.state.report.faults ≡ 0
+    → AfterBytes task now.token now.sink [] now
 unfolding cut_at_line_feeds ended answers errors bounds
-AfterBytes-nil token0 sink0 state report h no_lines no_faults = record {
+AfterBytes-nil task now h no_lines no_faults = record {
   holds = h;
   answered = record {
-    put = PutAll-nil sink0;
+    put = PutAll-nil now.sink;
     lines_counted = no_lines;
     faults_counted = no_faults;
-    same_entries = refl;
+    same_holder = refl;
     compared = record { goes_on = omega arith; at_most = omega arith };
   };
 }
 
--- bytes that are no LF
-pub AfterBytes-more : (token0 token : TokenShown) (sink0 sink : SinkTold) (got bytes : List ℕ) (state state' : RunState)
-    (report : Report)
+-- bytes that are no LF: nothing but the line in hand changes
+pub AfterBytes-more : (task : Task) (token0 : TokenShown) (sink0 : SinkTold) (got bytes : List ℕ) (old new : Standing)
     → NoLf bytes
-    → AfterBytes token0 sink0 got state token sink report
-    → state'.job ≡ state.job
-    → Holds state'.job state'.line ((cut_at_line_feeds got).rest ++ bytes)
-    → AfterBytes token0 sink0 (got ++ bytes) state' token sink report
-AfterBytes-more token0 token sink0 sink got bytes state state' report none h same holds = record {
+    → AfterBytes task token0 sink0 got old
+    → new.state.report ≡ old.state.report → new.token ≡ old.token → new.sink ≡ old.sink
+    → Holds task.job new.state.line ((cut_at_line_feeds got).rest ++ bytes)
+    → AfterBytes task token0 sink0 (got ++ bytes) new
+AfterBytes-more task token0 sink0 got bytes old new none h report token sink holds = record {
   holds = rw (rest-more got bytes none) holds;
-  answered = rw (same, ended-more got bytes none) h.answered;
+  answered = rw (ended-more got bytes none) (record {
+    put = rw sink h.answered.put;
+    lines_counted = rw report h.answered.lines_counted;
+    faults_counted = rw report h.answered.faults_counted;
+    same_holder = rw token h.answered.same_holder;
+    compared = rw token h.answered.compared;
+  });
 }
 
 -- the rest of a line, and its LF
-pub AfterBytes-line : (token0 token : TokenShown) (sink0 sink : SinkTold) (got bytes : List ℕ) (state : RunState)
-    (report : Report)
+pub AfterBytes-line : (task : Task) (token0 : TokenShown) (sink0 : SinkTold) (got bytes : List ℕ) (now : Standing)
     → NoLf bytes
-    → Answered state.job token0 sink0
-    (ended got ++ without_cr ((cut_at_line_feeds got).rest ++ bytes) ∷ []) token sink report
-    → Holds state.job state.line []
-    → AfterBytes token0 sink0 (got ++ bytes ++ 10 ∷ []) state token sink report
-AfterBytes-line token0 token sink0 sink got bytes state report none h holds = record {
+    → Answered task token0 sink0 (ended got ++ without_cr ((cut_at_line_feeds got).rest ++ bytes) ∷ []) now
+    → Holds task.job now.state.line []
+    → AfterBytes task token0 sink0 (got ++ bytes ++ 10 ∷ []) now
+AfterBytes-line task token0 sink0 got bytes now none h holds = record {
   holds = rw (rest-lf (got ++ bytes)) holds;
   answered = rw (ended-lf (got ++ bytes), ended-more got bytes none, rest-more got bytes none) h;
 }
 
-pub Failed-line : (job : Job) (token0 token : TokenShown) (sink0 sink : SinkTold) (before : List (List ℕ))
-    (got bytes : List ℕ) → NoLf bytes
-    → Failed job token0 sink0 before (ended got ++ without_cr ((cut_at_line_feeds got).rest ++ bytes) ∷ []) token sink
-    → Failed job token0 sink0 before (ended (got ++ bytes ++ 10 ∷ [])) token sink
-Failed-line job token0 token sink0 sink before got bytes none
-    h = rw (ended-lf (got ++ bytes), ended-more got bytes none, rest-more got bytes none) h
+pub Failed-line : (task : Task) (token0 : TokenShown) (sink0 : SinkTold) (before : List (List ℕ))
+    (got bytes : List ℕ) (now : Standing) → NoLf bytes
+    → Failed task token0 sink0 before (ended got ++ without_cr ((cut_at_line_feeds got).rest ++ bytes) ∷ []) now
+    → Failed task token0 sink0 before (ended (got ++ bytes ++ 10 ∷ [])) now
+Failed-line task token0 sink0 before got bytes now none h =
+    rw (ended-lf (got ++ bytes), ended-more got bytes none, rest-more got bytes none) h
 
 -- more bytes after a failure
-Failed-bytes : (job : Job) (token0 token : TokenShown) (sink0 sink : SinkTold) (before : List (List ℕ))
-    (got more : List ℕ) → Failed job token0 sink0 before (ended got) token sink
-    → Failed job token0 sink0 before (ended (got ++ more)) token sink
-Failed-bytes job token0 token sink0 sink before got more h =
+Failed-bytes : (task : Task) (token0 : TokenShown) (sink0 : SinkTold) (before : List (List ℕ)) (got more : List ℕ)
+    (now : Standing) → Failed task token0 sink0 before (ended got) now
+    → Failed task token0 sink0 before (ended (got ++ more)) now
+Failed-bytes task token0 sink0 before got more now h =
     let e = ended-append got more in
-    rw e.1 (Failed-more job token0 token sink0 sink before (ended got) e.0 h)
+    rw e.1 (Failed-more task token0 sink0 before (ended got) e.0 now h)
 
 -- the end of the input
 pub lines-empty : (got : List ℕ) → (cut_at_line_feeds got).rest ≡ [] → lines got ≡ ended got
@@ -182,10 +197,10 @@ piece_line piece start n h e =
     ∙ ap (λ l. l ++ 10 ∷ []) (take-add start n piece)
 
 -- fewer lines before are among them too
-Failed-since : (job : Job) (token0 token : TokenShown) (sink0 sink : SinkTold) (got more : List ℕ)
-    (all : List (List ℕ)) → Failed job token0 sink0 (ended (got ++ more)) all token sink
-    → Failed job token0 sink0 (ended got) all token sink
-Failed-since job token0 token sink0 sink got more all h =
+Failed-since : (task : Task) (token0 : TokenShown) (sink0 : SinkTold) (got more : List ℕ) (all : List (List ℕ))
+    (now : Standing) → Failed task token0 sink0 (ended (got ++ more)) all now
+    → Failed task token0 sink0 (ended got) all now
+Failed-since task token0 sink0 got more all now h =
     let e = ended-append got more in
     record {
       whole = h.whole;
@@ -201,24 +216,24 @@ Failed-since job token0 token sink0 sink got more all h =
       is_prefix = h.is_prefix;
       appended = h.appended;
       failed = h.failed;
-      same_entries = h.same_entries;
+      same_holder = h.same_holder;
       compared = h.compared;
     }
 
-pub Failed-in : (job : Job) (token0 token : TokenShown) (sink0 sink : SinkTold) (got piece : List ℕ) (start n : ℕ)
-    → start + n < length piece → get_or piece (start + n) 0 ≡ 10
-    → Failed job token0 sink0 (ended (got ++ take start piece))
-    (ended (got ++ take start piece ++ take n (drop start piece) ++ 10 ∷ [])) token sink
-    → Failed job token0 sink0 (ended got) (ended (got ++ piece)) token sink
-Failed-in job token0 token sink0 sink got piece start n h e f =
+pub Failed-in : (task : Task) (token0 : TokenShown) (sink0 : SinkTold) (got piece : List ℕ) (start n : ℕ)
+    (now : Standing) → start + n < length piece → get_or piece (start + n) 0 ≡ 10
+    → Failed task token0 sink0 (ended (got ++ take start piece))
+    (ended (got ++ take start piece ++ take n (drop start piece) ++ 10 ∷ [])) now
+    → Failed task token0 sink0 (ended got) (ended (got ++ piece)) now
+Failed-in task token0 sink0 got piece start n now h e f =
     let whole : got ++ piece ≡ got ++ take start piece ++ take n (drop start piece) ++ 10 ∷ []
     ++ drop (start + (n + 1)) piece =
     ap (λ l. got ++ l) (sym (take-append-drop (start + (n + 1)) piece)
     ∙ ap (λ l. l ++ drop (start + (n + 1)) piece) (piece_line piece start n h e))
     ∙ (simp append_assoc) in
-    Failed-since job token0 token sink0 sink got (take start piece) _
-    (subst (λ (l : List ℕ). Failed job token0 sink0 (ended (got ++ take start piece)) (ended l) token sink) (sym whole)
-    (Failed-bytes job token0 token sink0 sink _ _ (drop (start + (n + 1)) piece) f))
+    Failed-since task token0 sink0 got (take start piece) _ now
+    (subst (λ (l : List ℕ). Failed task token0 sink0 (ended (got ++ take start piece)) (ended l) now) (sym whole)
+    (Failed-bytes task token0 sink0 _ _ (drop (start + (n + 1)) piece) now f))
 
 pub fed_line : (got piece : List ℕ) (start n : ℕ) → start + n < length piece → get_or piece (start + n) 0 ≡ 10
     → got ++ take start piece ++ take n (drop start piece) ++ 10 ∷ [] ≡ got ++ take (start + (n + 1)) piece

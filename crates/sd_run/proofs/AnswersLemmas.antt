@@ -2,40 +2,40 @@
 use Rattle.std.proofs.Common.{◌≡◌, ℕ, ◌+◌, List, [], ◌∷◌, ◌++◌, cond, ◌∙◌, ap, append-nil}
 use Rattle.std.proofs.lemmas.Grind.{flat_map-append, fold-append}
 use Rattle.std.proofs.lemmas.List.Sums.{sum_by-append}
-use Rattle.sd_token.specs.Token.{Entry}
-use Rattle.sd_run.specs.declared.job.Job.{Job}
+use Rattle.sd_token.specs.Token.{Holder}
+use Rattle.sd_run.specs.declared.job.Task.{Task}
 use Rattle.sd_run.specs.Answers.{answer, answers, bound, bounds, errors, is_error}
 
-pub answers-append : (job : Job) (entries : List Entry) (all more : List (List ℕ))
-    → answers job entries (all ++ more) ≡ answers job entries all ++ answers job entries more
+pub answers-append : (task : Task) (holder : Holder) (all more : List (List ℕ))
+    → answers task holder (all ++ more) ≡ answers task holder all ++ answers task holder more
 unfolding answers
-answers-append job entries all more = flat_map-append (answer job entries) all more
+answers-append task holder all more = flat_map-append (answer task holder) all more
 
-pub answers-one : (job : Job) (entries : List Entry) (line : List ℕ)
-    → answers job entries (line ∷ []) ≡ answer job entries line
+pub answers-one : (task : Task) (holder : Holder) (line : List ℕ)
+    → answers task holder (line ∷ []) ≡ answer task holder line
 unfolding answers
-answers-one job entries line = append-nil (answer job entries line)
+answers-one task holder line = append-nil (answer task holder line)
 
-pub answers-push : (job : Job) (entries : List Entry) (all : List (List ℕ)) (line : List ℕ)
-    → answers job entries (all ++ line ∷ []) ≡ answers job entries all ++ answer job entries line
-answers-push job entries all line = answers-append job entries all (line ∷ [])
-    ∙ ap (λ l. answers job entries all ++ l) (answers-one job entries line)
+pub answers-push : (task : Task) (holder : Holder) (all : List (List ℕ)) (line : List ℕ)
+    → answers task holder (all ++ line ∷ []) ≡ answers task holder all ++ answer task holder line
+answers-push task holder all line = answers-append task holder all (line ∷ [])
+    ∙ ap (λ l. answers task holder all ++ l) (answers-one task holder line)
 
-pub errors-append : (job : Job) (all more : List (List ℕ)) → errors job (all ++ more) ≡ errors job all + errors job more
+pub errors-append : (task : Task) (holder : Holder) (all more : List (List ℕ)) → errors task holder (all ++ more) ≡ errors task holder all + errors task holder more
 unfolding errors
-errors-append job all more = sum_by-append (λ line. cond (is_error job line) 1 0) all more
+errors-append task holder all more = sum_by-append (λ line. cond (is_error task holder line) 1 0) all more
 
-pub errors-push : (job : Job) (all : List (List ℕ)) (line : List ℕ)
-    → errors job (all ++ line ∷ []) ≡ errors job all + cond (is_error job line) 1 0
+pub errors-push : (task : Task) (holder : Holder) (all : List (List ℕ)) (line : List ℕ)
+    → errors task holder (all ++ line ∷ []) ≡ errors task holder all + cond (is_error task holder line) 1 0
 unfolding errors
-errors-push job all line = fold-append _ 0 all (line ∷ [])
+errors-push task holder all line = fold-append _ 0 all (line ∷ [])
 
-pub bounds-append : (job : Job) (entries : List Entry) (all more : List (List ℕ))
-    → bounds job entries (all ++ more) ≡ bounds job entries all + bounds job entries more
+pub bounds-append : (task : Task) (holder : Holder) (all more : List (List ℕ))
+    → bounds task holder (all ++ more) ≡ bounds task holder all + bounds task holder more
 unfolding bounds
-bounds-append job entries all more = sum_by-append (bound job entries) all more
+bounds-append task holder all more = sum_by-append (bound task holder) all more
 
-pub bounds-push : (job : Job) (entries : List Entry) (all : List (List ℕ)) (line : List ℕ)
-    → bounds job entries (all ++ line ∷ []) ≡ bounds job entries all + bound job entries line
+pub bounds-push : (task : Task) (holder : Holder) (all : List (List ℕ)) (line : List ℕ)
+    → bounds task holder (all ++ line ∷ []) ≡ bounds task holder all + bound task holder line
 unfolding bounds
-bounds-push job entries all line = fold-append _ 0 all (line ∷ [])
+bounds-push task holder all line = fold-append _ 0 all (line ∷ [])

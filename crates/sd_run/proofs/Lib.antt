@@ -1,6 +1,7 @@
 pub mod AfterBytesLemmas
 pub mod AnswersLemmas
 pub mod Base64Lemmas
+pub mod CreatorLemmas
 pub mod DrainLemmas
 pub mod FaultLemmas
 pub mod HexTextLemmas

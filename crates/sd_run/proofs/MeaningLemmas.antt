@@ -1,35 +1,38 @@
 -- What a line means, case by case, and what is answered to it.
-use Rattle.std.proofs.Common.{◌≡◌, ◌≢◌, ◌≤◌, ◌<◌, ℕ, List, [], ◌∷◌, Bool, length, Option, Some, Result, Ok, Err, refl, sym, ◌∙◌, ap, arith}
+use Rattle.std.proofs.Common.{◌≡◌, ◌≢◌, ◌≤◌, ◌<◌, ℕ, List, [], ◌∷◌, Bool, length, Option, Some, Result, Ok, Err, refl, sym, ◌∙◌, ap, subst, arith}
 use Rattle.std.proofs.lemmas.Bool.Decides.{nat_tests}
 use Rattle.sd_sid.specs.Sid.{SecurityId}
-use Rattle.sd_token.specs.Token.{Entry, TokenShown}
+use Rattle.sd_token.specs.Token.{Compares, Holder, TokenShown}
 use Rattle.sd_sink.specs.Print.{Begins, Finishes, PrintTold}
 use Rattle.sd_sink.specs.Sink.{SinkTold, PutSome}
 use Rattle.sd_sink.specs.declared.sink.SinkFault.{SinkFault}
 use Rattle.sd_view.specs.Descriptor.{Descriptor}
-use Rattle.sd_run.specs.Answers.{Meaning, answer, bound, bound_of_meaning, is_error, is_error_of_meaning, line_limit, line_means, meaning, text_means, text_of_meaning}
-use Rattle.sd_run.specs.Outcome.{Compares}
+use Rattle.sd_run.specs.Answers.{Meaning, answer, bound, is_error, line_limit, line_means, meaning, outcome_of_meaning, text_means}
 use Rattle.sd_run.specs.Inner.Running.{PrintsAnswer, PutsAnswer}
 use Rattle.sd_sink.proofs.laws.PrintLemmas.{printed}
 use Rattle.sd_run.specs.declared.fault.LineFault.{LineFault}
 use Rattle.sd_run.specs.declared.fault.LineFault.TheVariants.{TooLong}
 use Rattle.sd_run.specs.declared.job.Form.{Form}
 use Rattle.sd_run.specs.declared.job.Job.{Job}
+use Rattle.sd_run.specs.declared.job.Task.{Task}
 
 -- what is printed for what a line means is its answer
-pub answered : (job : Job) (entries : List Entry) (line : List ℕ) (old new : PrintTold) (m : Meaning) (faulty : Bool)
-    → meaning job line ≡ m
-    → PrintsAnswer old new (text_of_meaning job entries m) (is_error_of_meaning job.act m) faulty
-    → PrintsAnswer old new (answer job entries line) (is_error job line) faulty
+pub answered : (task : Task) (holder : Holder) (line : List ℕ) (old new : PrintTold) (m : Meaning) (faulty : Bool)
+    → meaning task.job line ≡ m
+    → PrintsAnswer old new (outcome_of_meaning task holder m).text (outcome_of_meaning task holder m).is_error faulty
+    → PrintsAnswer old new (answer task holder line) (is_error task holder line) faulty
 unfolding answer is_error
-answered job entries line old new m faulty e h = rw e h
+answered task holder line old new m faulty e h =
+    subst (λ (x : Meaning). PrintsAnswer old new (outcome_of_meaning task holder x).text
+    (outcome_of_meaning task holder x).is_error faulty) (sym e) h
 
 -- what is compared for what a line means is what the line may compare
-pub compared : (job : Job) (entries : List Entry) (line : List ℕ) (token token' : TokenShown) (m : Meaning)
-    → meaning job line ≡ m
-    → Compares token token' (bound_of_meaning job.act entries m) → Compares token token' (bound job entries line)
+pub compared : (task : Task) (holder : Holder) (line : List ℕ) (token token' : TokenShown) (m : Meaning)
+    → meaning task.job line ≡ m
+    → Compares token token' (outcome_of_meaning task holder m).bound → Compares token token' (bound task holder line)
 unfolding bound
-compared job entries line token token' m e h = rw e h
+compared task holder line token token' m e h =
+    subst (λ (x : Meaning). Compares token token' (outcome_of_meaning task holder x).bound) (sym e) h
 
 -- no entry was compared
 pub Compares-none : (token : TokenShown) (n : ℕ) → Compares token token n

@@ -15,6 +15,8 @@ use Rattle.sd_run.specs.declared.fault.LineFault.TheVariants.{Sd}
 use Rattle.sd_run.specs.declared.job.Act.TheVariants.{Convert}
 use Rattle.sd_run.specs.declared.job.Form.TheVariants.{Base64, Hex}
 use Rattle.sd_run.specs.declared.job.Job.{Job}
+use Rattle.sd_run.specs.declared.job.Task.{Task}
+use Rattle.sd_token.specs.Token.{Holder}
 use Rattle.sd_run.specs.Answers.{answer, form_text, line_means}
 use Rattle.sd_run.specs.Faults.{fault_text}
 use Rattle.sd_run.specs.Lines.{ended, lines, cut_at_line_feeds, without_cr}
@@ -41,24 +43,30 @@ pub overlap_text : fault_text (Sd (sd.Overlap part.Owner part.Group)) ≡ codes 
 unfolding fault_text
 overlap_text = refl
 
+abbrev nobody : Holder
+nobody = record { entries = []; level = None }
+
+abbrev alone : Job → Task
+alone job = record { job = job; creator = None }
+
 abbrev hex_to_hex : Job
 hex_to_hex = record { source = Hex; act = Convert Hex; domain = None; numeric = false }
 
-pub empty_answer : answer hex_to_hex [] [] ≡ 10 ∷ []
+pub empty_answer : answer (alone hex_to_hex) nobody [] ≡ 10 ∷ []
 unfolding answer
 empty_answer = refl
 
-pub short_answer : answer hex_to_hex [] (codes "0100048014") ≡ codes "error 5 short" ++ 10 ∷ []
+pub short_answer : answer (alone hex_to_hex) nobody (codes "0100048014") ≡ codes "error 5 short" ++ 10 ∷ []
 unfolding answer line_means hex_spells hex_on_literals reading fault header_fault fault_text
 short_answer = refl
 
-pub sid_answer : answer hex_to_hex [] (codes "01000080140000000000000000000000000000000110000000000005") ≡ codes
+pub sid_answer : answer (alone hex_to_hex) nobody (codes "01000080140000000000000000000000000000000110000000000005") ≡ codes
     "error 9 sid owner" ++ 10 ∷ []
 unfolding answer line_means hex_spells hex_on_literals reading fault header_fault parts_fault sid_fault sid_at u16_at
     u32_at fault_text
 sid_answer = refl
 
-pub header_answer : answer hex_to_hex [] (codes "01FF008000000000000000000000000000000000") ≡ codes
+pub header_answer : answer (alone hex_to_hex) nobody (codes "01FF008000000000000000000000000000000000") ≡ codes
     "01ff008000000000000000000000000000000000" ++ 10 ∷ []
 unfolding answer line_means form_text hex_spells hex_on_literals reading fault header_fault parts_fault sid_fault
     sid_shown acl_part_fault acl_shown overlaps_fault overlap_fault u16_at u32_at header_bytes
@@ -67,7 +75,7 @@ header_answer = refl
 abbrev base64_to_hex : Job
 base64_to_hex = record { source = Base64; act = Convert Hex; domain = None; numeric = false }
 
-pub base64_answer : answer base64_to_hex [] (codes "Af8AgAAAAAAAAAAAAAAAAAAAAAA=") ≡ codes
+pub base64_answer : answer (alone base64_to_hex) nobody (codes "Af8AgAAAAAAAAAAAAAAAAAAAAAA=") ≡ codes
     "01ff008000000000000000000000000000000000" ++ 10 ∷ []
 unfolding answer line_means form_text base64_spells base64_on_literals hex_on_literals reading fault header_fault
     parts_fault sid_fault sid_shown acl_part_fault acl_shown overlaps_fault overlap_fault u16_at u32_at header_bytes
@@ -76,7 +84,7 @@ base64_answer = refl
 abbrev hex_to_base64 : Job
 hex_to_base64 = record { source = Hex; act = Convert Base64; domain = None; numeric = false }
 
-pub answer_in_base64 : answer hex_to_base64 [] (codes "01FF008000000000000000000000000000000000") ≡ codes
+pub answer_in_base64 : answer (alone hex_to_base64) nobody (codes "01FF008000000000000000000000000000000000") ≡ codes
     "Af8AgAAAAAAAAAAAAAAAAAAAAAA=" ++ 10 ∷ []
 unfolding answer line_means form_text hex_spells base64_on_literals hex_on_literals reading fault header_fault
     parts_fault sid_fault sid_shown acl_part_fault acl_shown overlaps_fault overlap_fault u16_at u32_at header_bytes

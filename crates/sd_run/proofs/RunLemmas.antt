@@ -6,14 +6,13 @@ use Rattle.std.proofs.KnownBytes.{Consumes-nil, Consumes-trans, Consumes-kept}
 use Rattle.sd_sink.specs.Counts.{counted}
 use Rattle.sd_token.specs.Token.{TokenShown}
 use Rattle.sd_sink.specs.Sink.{SinkTold, IsPrefix}
-use Rattle.sd_run.specs.Told.{SourceTold, DrainTold, sink_of, reads_after, ends_after, failed_reads_after}
+use Rattle.sd_run.specs.Told.{DrainTold, RunTold, sink_of, reads_after, ends_after, failed_reads_after}
 use Rattle.sd_run.specs.Lines.{AreBytes, ended, last_line, lines, cut_at_line_feeds}
 use Rattle.sd_run.specs.Answers.{answers}
-use Rattle.sd_run.specs.Inner.Running.{Holds, Answered, Failed, AfterBytes, BeforeRead}
+use Rattle.sd_run.specs.Inner.Running.{AfterBytes, Answered, BeforeRead, Failed, Holds, Standing, standing}
 use Rattle.sd_run.specs.Outcome.{Finished, FaultSays, HandedOn, IsFront, most_of_a_read}
-use Rattle.sd_run.specs.declared.job.Job.{Job}
+use Rattle.sd_run.specs.declared.job.Task.{Task}
 use Rattle.sd_run.specs.declared.engine.RunState.{RunState}
-use Rattle.sd_run.specs.declared.engine.Report.{Report}
 use Rattle.sd_run.specs.declared.engine.RunFault.TheVariants.{Read, Write, TooManyReads}
 use Rattle.sd_run.proofs.AnswersLemmas.{answers-append}
 use Rattle.sd_run.proofs.AfterBytesLemmas.{AfterBytes-nil}
@@ -31,12 +30,12 @@ AreBytes-append : (xs ys : List ℕ) → AreBytes xs → AreBytes ys → AreByte
 AreBytes-append xs ys h more = All-append (λ b. b < 256) xs ys h more
 
 -- a flush after the last answer
-pub Answered-flush : (job : Job) (token0 token : TokenShown) (sink0 : SinkTold) (drain drain' : DrainTold)
-    (all : List (List ℕ)) (report : Report)
-    → Answered job token0 sink0 all token (sink_of drain) report → Keeps drain.taken drain'.taken
-    → drain'.failures ≡ drain.failures
-    → Answered job token0 sink0 all token (sink_of drain') report
-Answered-flush job token0 token sink0 drain drain' all report h keeps same = record {
+pub Answered-flush : (task : Task) (token0 : TokenShown) (sink0 : SinkTold) (all : List (List ℕ)) (state : RunState)
+    (token : TokenShown) (drain drain' : DrainTold)
+    → Answered task token0 sink0 all (record { state = state; token = token; sink = sink_of drain })
+    → Keeps drain.taken drain'.taken → drain'.failures ≡ drain.failures
+    → Answered task token0 sink0 all (record { state = state; token = token; sink = sink_of drain' })
+Answered-flush task token0 sink0 all state token drain drain' h keeps same = record {
   put = record {
     identity = h.put.identity;
     appended = Appends-kept _ _ _ _ h.put.appended keeps;
@@ -46,19 +45,19 @@ Answered-flush job token0 token sink0 drain drain' all report h keeps same = rec
   };
   lines_counted = h.lines_counted;
   faults_counted = h.faults_counted;
-  same_entries = h.same_entries;
+  same_holder = h.same_holder;
   compared = h.compared;
 }
 
 -- the same in the middle of a run
-pub AfterBytes-flush : (token0 token : TokenShown) (sink0 : SinkTold) (drain drain' : DrainTold) (got : List ℕ)
-    (state : RunState) (report : Report)
-    → AfterBytes token0 sink0 got state token (sink_of drain) report → Keeps drain.taken drain'.taken
-    → drain'.failures ≡ drain.failures
-    → AfterBytes token0 sink0 got state token (sink_of drain') report
-AfterBytes-flush token0 token sink0 drain drain' got state report h keeps same = record {
+pub AfterBytes-flush : (task : Task) (token0 : TokenShown) (sink0 : SinkTold) (got : List ℕ) (state : RunState)
+    (token : TokenShown) (drain drain' : DrainTold)
+    → AfterBytes task token0 sink0 got (record { state = state; token = token; sink = sink_of drain })
+    → Keeps drain.taken drain'.taken → drain'.failures ≡ drain.failures
+    → AfterBytes task token0 sink0 got (record { state = state; token = token; sink = sink_of drain' })
+AfterBytes-flush task token0 sink0 got state token drain drain' h keeps same = record {
   holds = h.holds;
-  answered = Answered-flush _ token0 token sink0 drain drain' _ report h.answered keeps same;
+  answered = Answered-flush task token0 sink0 _ state token drain drain' h.answered keeps same;
 }
 
 none_ended : (xs : List (List ℕ)) → length xs ≡ 0 → xs ≡ []
@@ -76,12 +75,12 @@ HandedOn-more got got' a b c lines lines' (inr flushed) counted counted' (inl (s
     inr (ap (λ (d : DrainTold). d.flushed) still ∙ flushed)
 
 -- a flush that fails
-pub Failed-flush : (job : Job) (token0 token : TokenShown) (sink0 : SinkTold) (drain drain' : DrainTold)
-    (before all : List (List ℕ)) (report : Report)
-    → Answered job token0 sink0 all token (sink_of drain) report → Keeps drain.taken drain'.taken
-    → drain'.failures ≡ counted drain.failures → IsFront before all
-    → Failed job token0 sink0 before all token (sink_of drain')
-Failed-flush job token0 token sink0 drain drain' before all report h keeps failed front = record {
+pub Failed-flush : (task : Task) (token0 : TokenShown) (sink0 : SinkTold) (before all : List (List ℕ))
+    (state : RunState) (token : TokenShown) (drain drain' : DrainTold)
+    → Answered task token0 sink0 all (record { state = state; token = token; sink = sink_of drain })
+    → Keeps drain.taken drain'.taken → drain'.failures ≡ counted drain.failures → IsFront before all
+    → Failed task token0 sink0 before all (record { state = state; token = token; sink = sink_of drain' })
+Failed-flush task token0 sink0 before all state token drain drain' h keeps failed front = record {
   whole = all;
   broken = [];
   more = [];
@@ -89,10 +88,10 @@ Failed-flush job token0 token sink0 drain drain' before all report h keeps faile
   split = sym (append-nil (all ++ []) ∙ append-nil all);
   begins = front;
   one = omega arith;
-  is_prefix = (answers job token0.entries [], refl);
+  is_prefix = (answers task token0.holder [], refl);
   appended = rw append-nil (Appends-kept _ _ _ _ h.put.appended keeps);
   failed = let same = h.put.no_failure in omega arith;
-  same_entries = h.same_entries;
+  same_holder = h.same_holder;
   compared = rw append-nil h.compared;
 }
 
@@ -106,15 +105,14 @@ unfolding ended cut_at_line_feeds
 ended-nil = refl
 
 -- before the first read
-pub BeforeRead-start :
-    (token0 : TokenShown) (source0 : SourceTold) (drain0 : DrainTold) (state : RunState) (report : Report)
-    → Holds state.job state.line [] → report.lines ≡ 0 → report.faults ≡ 0
-    → BeforeRead 0 token0 source0 drain0 state token0 source0 drain0 report
-BeforeRead-start token0 source0 drain0 state report h no_lines no_faults = record {
+pub BeforeRead-start : (task : Task) (state : RunState) (now : RunTold)
+    → Holds task.job state.line [] → state.report.lines ≡ 0 → state.report.faults ≡ 0
+    → BeforeRead task 0 now state now
+BeforeRead-start task state now h no_lines no_faults = record {
   got = [];
-  read = Consumes-nil source0.left;
+  read = Consumes-nil now.source.left;
   bytes = All-nil _;
-  after = AfterBytes-nil token0 (sink_of drain0) state report h no_lines no_faults;
+  after = AfterBytes-nil task (standing state now) h no_lines no_faults;
   handed_on = inl (ended-nil, refl);
   reads = record { at_least = omega arith; at_most = omega arith };
   ends = refl;
@@ -122,36 +120,35 @@ BeforeRead-start token0 source0 drain0 state report h no_lines no_faults = recor
 }
 
 -- the answers to some lines, and a part of the answer to one more, are a prefix of the answers to all
-written-prefix : (job : Job) (token0 token : TokenShown) (sink0 sink : SinkTold) (before all : List (List ℕ))
-    (h : Failed job token0 sink0 before all token sink)
-    → IsPrefix (answers job token0.entries h.whole ++ h.part) (answers job token0.entries all)
-written-prefix job token0 token sink0 sink before all h =
-    let a = answers job token0.entries in (
+written-prefix : (task : Task) (token0 : TokenShown) (sink0 : SinkTold) (before all : List (List ℕ)) (now : Standing)
+    (h : Failed task token0 sink0 before all now)
+    → IsPrefix (answers task token0.holder h.whole ++ h.part) (answers task token0.holder all)
+written-prefix task token0 sink0 before all now h =
+    let a = answers task token0.holder in (
       h.is_prefix.0 ++ a h.more,
-      ap a h.split ∙ answers-append job token0.entries (h.whole ++ h.broken) h.more
+      ap a h.split ∙ answers-append task token0.holder (h.whole ++ h.broken) h.more
           ∙ ap (λ (t : List ℕ). t ++ a h.more)
-          (answers-append job token0.entries h.whole h.broken ∙ ap (λ (t : List ℕ). a h.whole ++ t) h.is_prefix.1)
+          (answers-append task token0.holder h.whole h.broken ∙ ap (λ (t : List ℕ). a h.whole ++ t) h.is_prefix.1)
           ∙ simp append_assoc,
     )
 
-module _ (most turn : ℕ) (token0 token : TokenShown) (source0 source source' : SourceTold) (drain0 drain : DrainTold)
-    (state : RunState) (report : Report)
-    (r : BeforeRead turn token0 source0 drain0 state token source drain report) (low : turn < most) where
+module _ (task : Task) (most turn : ℕ) (old : RunTold) (state : RunState) (now : RunTold)
+    (r : BeforeRead task turn old state now) (low : turn < most) where
   -- a piece was read and its lines are answered
-  pub BeforeRead-more :
-      (piece : List ℕ) (token' : TokenShown) (drain' : DrainTold) (state' : RunState) (report' : Report)
-      → AreBytes piece → Consumes source.left source'.left piece → source'.reads ≡ counted source.reads → source'.ends ≡ source.ends
-      → source'.failures ≡ source.failures
-      → AfterBytes token0 (sink_of drain0) (r.got ++ piece) state' token' (sink_of drain') report'
-      → ((drain' ≡ drain) × (report'.lines ≡ report.lines)) ⊎ (drain'.flushed ≡ true)
-      → BeforeRead (turn + 1) token0 source0 drain0 state' token' source' drain' report'
-  BeforeRead-more piece token' drain' state' report' bytes consumed reads ends failures after handed = record {
+  pub BeforeRead-more : (piece : List ℕ) (state' : RunState) (new : RunTold)
+      → AreBytes piece → Consumes now.source.left new.source.left piece
+      → new.source.reads ≡ counted now.source.reads → new.source.ends ≡ now.source.ends
+      → new.source.failures ≡ now.source.failures
+      → AfterBytes task old.token (sink_of old.drain) (r.got ++ piece) (standing state' new)
+      → ((new.drain ≡ now.drain) × (state'.report.lines ≡ state.report.lines)) ⊎ (new.drain.flushed ≡ true)
+      → BeforeRead task (turn + 1) old state' new
+  BeforeRead-more piece state' new bytes consumed reads ends failures after handed = record {
     got = r.got ++ piece;
     read = Consumes-trans _ _ _ _ _ r.read consumed;
     bytes = AreBytes-append r.got piece r.bytes bytes;
     after = after;
-    handed_on = HandedOn-more r.got (r.got ++ piece) drain0 drain drain' _ _ r.handed_on r.after.answered.lines_counted
-        after.answered.lines_counted handed;
+    handed_on = HandedOn-more r.got (r.got ++ piece) old.drain now.drain new.drain _ _ r.handed_on
+        r.after.answered.lines_counted after.answered.lines_counted handed;
     reads = record {
       at_least = let before = r.reads.at_least in omega arith;
       at_most = let before = r.reads.at_most in omega arith;
@@ -160,32 +157,34 @@ module _ (most turn : ℕ) (token0 token : TokenShown) (source0 source source' :
     failures = failures ∙ r.failures;
   }
 
-  -- a read failed
-  pub broken-read : Keeps source.left source'.left → source'.reads ≡ counted source.reads → source'.ends ≡ source.ends
-      → source'.failures ≡ counted source.failures
-      → FaultSays most state.job token0 token source0 source' drain0 drain Read
-  broken-read keeps reads ends failed = (
+  -- a read failed, and nothing else changed
+  pub broken-read : (new : RunTold) → new.token ≡ now.token → new.drain ≡ now.drain
+      → Keeps now.source.left new.source.left → new.source.reads ≡ counted now.source.reads
+      → new.source.ends ≡ now.source.ends → new.source.failures ≡ counted now.source.failures
+      → FaultSays most task old new Read
+  broken-read new token drain keeps reads ends failed = (
     record {
       got = r.got;
       read = Consumes-kept _ _ _ _ r.read keeps;
       bytes = r.bytes;
       reads = let before = r.reads.at_most in omega arith;
       no_end = ends ∙ r.ends;
-      written = r.after.answered.put.appended;
-      handed_on = r.handed_on;
-      no_failed_write = r.after.answered.put.no_failure;
-      compared = r.after.answered.compared;
+      written = rw drain r.after.answered.put.appended;
+      handed_on = rw drain r.handed_on;
+      no_failed_write = rw drain r.after.answered.put.no_failure;
+      compared = rw token r.after.answered.compared;
     },
     failed ∙ ap counted r.failures,
   )
 
   -- the end was read
-  pub finished : (token' : TokenShown) (drain' : DrainTold) (report' : Report)
-      → Consumes source.left source'.left [] → IsAtEnd source'.left
-      → source'.reads ≡ counted source.reads → source'.ends ≡ counted source.ends → source'.failures ≡ source.failures
-      → Answered state.job token0 (sink_of drain0) (lines r.got) token' (sink_of drain') report' → drain'.flushed ≡ true
-      → Finished most state.job token0 token' source0 source' drain0 drain' report'
-  finished token' drain' report' consumed none reads ends failures answered flushed = record {
+  pub finished : (state' : RunState) (new : RunTold)
+      → Consumes now.source.left new.source.left [] → IsAtEnd new.source.left
+      → new.source.reads ≡ counted now.source.reads → new.source.ends ≡ counted now.source.ends
+      → new.source.failures ≡ now.source.failures
+      → Answered task old.token (sink_of old.drain) (lines r.got) (standing state' new) → new.drain.flushed ≡ true
+      → Finished most task old new state'.report
+  finished state' new consumed none reads ends failures answered flushed = record {
     got = r.got;
     read = Consumes-none _ _ _ _ r.read consumed;
     bytes = r.bytes;
@@ -202,12 +201,13 @@ module _ (most turn : ℕ) (token0 token : TokenShown) (source0 source source' :
   }
 
   -- a write or the flush failed after the end was read
-  pub broken-close : (token' : TokenShown) (drain' : DrainTold)
-      → Consumes source.left source'.left []
-      → source'.reads ≡ counted source.reads → source'.ends ≡ counted source.ends → source'.failures ≡ source.failures
-      → Failed state.job token0 (sink_of drain0) (ended r.got) (lines r.got) token' (sink_of drain')
-      → FaultSays most state.job token0 token' source0 source' drain0 drain' Write
-  broken-close token' drain' consumed reads ends failures failed = record {
+  pub broken-close : (state' : RunState) (new : RunTold)
+      → Consumes now.source.left new.source.left []
+      → new.source.reads ≡ counted now.source.reads → new.source.ends ≡ counted now.source.ends
+      → new.source.failures ≡ now.source.failures
+      → Failed task old.token (sink_of old.drain) (ended r.got) (lines r.got) (standing state' new)
+      → FaultSays most task old new Write
+  broken-close state' new consumed reads ends failures failed = record {
     got = r.got;
     read = Consumes-none _ _ _ _ r.read consumed;
     bytes = r.bytes;
@@ -215,9 +215,9 @@ module _ (most turn : ℕ) (token0 token : TokenShown) (source0 source source' :
     no_failed_read = failures ∙ r.failures;
     all = lines r.got;
     these = inl (ends ∙ ap counted r.ends, refl);
-    written = answers state.job token0.entries failed.whole ++ failed.part;
+    written = answers task old.token.holder failed.whole ++ failed.part;
     wrote = failed.appended;
-    is_prefix = written-prefix _ _ _ _ _ _ _ failed;
+    is_prefix = written-prefix _ _ _ _ _ _ failed;
     failed = failed.failed;
     whole = failed.whole;
     broken = failed.broken;
@@ -236,12 +236,13 @@ module _ (most turn : ℕ) (token0 token : TokenShown) (source0 source source' :
   }
 
   -- a write failed before
-  pub broken-write : (piece : List ℕ) (token' : TokenShown) (drain' : DrainTold)
-      → AreBytes piece → length piece ≤ most_of_a_read → Consumes source.left source'.left piece
-      → source'.reads ≡ counted source.reads → source'.ends ≡ source.ends → source'.failures ≡ source.failures
-      → Failed state.job token0 (sink_of drain0) (ended r.got) (ended (r.got ++ piece)) token' (sink_of drain')
-      → FaultSays most state.job token0 token' source0 source' drain0 drain' Write
-  broken-write piece token' drain' bytes size consumed reads ends failures failed = record {
+  pub broken-write : (piece : List ℕ) (state' : RunState) (new : RunTold)
+      → AreBytes piece → length piece ≤ most_of_a_read → Consumes now.source.left new.source.left piece
+      → new.source.reads ≡ counted now.source.reads → new.source.ends ≡ now.source.ends
+      → new.source.failures ≡ now.source.failures
+      → Failed task old.token (sink_of old.drain) (ended r.got) (ended (r.got ++ piece)) (standing state' new)
+      → FaultSays most task old new Write
+  broken-write piece state' new bytes size consumed reads ends failures failed = record {
     got = r.got ++ piece;
     read = Consumes-trans _ _ _ _ _ r.read consumed;
     bytes = AreBytes-append r.got piece r.bytes bytes;
@@ -249,9 +250,9 @@ module _ (most turn : ℕ) (token0 token : TokenShown) (source0 source source' :
     no_failed_read = failures ∙ r.failures;
     all = ended (r.got ++ piece);
     these = inr (ends ∙ r.ends, refl);
-    written = answers state.job token0.entries failed.whole ++ failed.part;
+    written = answers task old.token.holder failed.whole ++ failed.part;
     wrote = failed.appended;
-    is_prefix = written-prefix _ _ _ _ _ _ _ failed;
+    is_prefix = written-prefix _ _ _ _ _ _ failed;
     failed = failed.failed;
     whole = failed.whole;
     broken = failed.broken;
@@ -270,11 +271,9 @@ module _ (most turn : ℕ) (token0 token : TokenShown) (source0 source source' :
   }
 
 -- the reads are used up
-pub broken-most : (most : ℕ) (token0 token : TokenShown) (source0 source : SourceTold) (drain0 drain : DrainTold)
-    (state : RunState) (report : Report)
-    → BeforeRead most token0 source0 drain0 state token source drain report
-    → FaultSays most state.job token0 token source0 source drain0 drain TooManyReads
-broken-most most token0 token source0 source drain0 drain state report r = (
+pub broken-most : (task : Task) (most : ℕ) (old : RunTold) (state : RunState) (now : RunTold)
+    → BeforeRead task most old state now → FaultSays most task old now TooManyReads
+broken-most task most old state now r = (
   record {
     got = r.got;
     read = r.read;

@@ -3,8 +3,7 @@ use Rattle.std.proofs.Common.{◌≡◌, IfSome, ◌≤◌, ℕ, ◌+◌, ◌*�
 use Rattle.std.proofs.lemmas.List.Elements.{All-from_get_or}
 use Rattle.hex.specs.Hex.{lower_digits}
 use Rattle.hex.proofs.HexLemmas.{length-encode_with}
-use Rattle.sd_sid.specs.Sid.{IsSid}
-use Rattle.sd_token.specs.Token.{Entry}
+use Rattle.sd_token.specs.Token.{Holder}
 use Rattle.sd_view.specs.Descriptor.{Descriptor, IsDescriptor}
 use Rattle.sd_view.specs.Layout.{layout, size}
 use Rattle.sd_view.proofs.laws.LayoutLaws.{length-layout}
@@ -18,8 +17,8 @@ use Rattle.sd_inherit.specs.PlanLimits.{IsPlan}
 use Rattle.sd_inherit.specs.declared.derivation.DeriveFault.{DeriveFault}
 use Rattle.sd_inherit.specs.declared.plan.Plan.{Plan}
 use Rattle.sd_sddl_printer.proofs.laws.SizeLaws.{sddl-length}
-use Rattle.sd_run.specs.Inner.ActLimits.{ActLimits}
-use Rattle.sd_run.specs.Answers.{AnswersAreShort, HasShortAnswer, Meaning, act_prints, act_text, answer, as_line_fault, form_text, meaning, naming_of, printed_of_meaning, printed_size, text_of_meaning, unless_fault, unless_refused, verdict_text}
+use Rattle.sd_run.specs.Inner.TaskLimits.{ActLimits, TaskLimits}
+use Rattle.sd_run.specs.Answers.{AnswersAreShort, HasShortAnswer, LineOutcome, Meaning, act_outcome, answer, converted, form_text, meaning, naming_of, outcome_of_meaning, printed_size, unless_too_large, verdict_text}
 use Rattle.sd_run.specs.Faults.{fault_text}
 use Rattle.sd_run.specs.Lines.{lines}
 use Rattle.sd_run.specs.declared.fault.LineFault.{LineFault}
@@ -33,6 +32,7 @@ use Rattle.sd_run.specs.declared.job.Act.TheVariants as act
 use Rattle.sd_run.specs.declared.job.Form.{Form}
 use Rattle.sd_run.specs.declared.job.Form.TheVariants as form
 use Rattle.sd_run.specs.declared.job.Job.{Job}
+use Rattle.sd_run.specs.declared.job.Task.{Task}
 
 -- two characters a byte, of base64 two more at most, or those of the SDDL; and the LF
 form-short : (job : Job) (form : Form) (d : Descriptor) → IsDescriptor d
@@ -56,34 +56,38 @@ line-short : (job : Job) (form : Form) (d : Descriptor) → IsDescriptor d
     → length (form_text job form d ++ 10 ∷ []) ≤ 8 * size d + 64
 line-short job form d h = omega (arith, length-append (form_text job form d) (10 ∷ []), form-short job form d h)
 
+-- what comes of a line has a short text
+abbrev IsShort : LineOutcome → Type 0
+IsShort outcome = length outcome.text ≤ 8 * printed_size outcome.printed + 64
+
 -- what is derived has the limits of a descriptor, unless it is refused
-derived-short : (job : Job) (form : Form) (plan : Plan) (d : Descriptor) (f : Option DeriveFault)
-    → derive_fault d plan ≡ f → IsPlan plan → IsDescriptor d
-    → length (unless_fault (as_line_fault f) (form_text job form (derived d plan) ++ 10 ∷ []))
-    ≤ 8 * printed_size (unless_refused f (derived d plan)) + 64
-derived-short job form plan d None e k h = line-short job form (derived d plan) (derived-limits d plan h k e)
-derived-short job form plan d (Some fault) e k h = fault-short (Derive fault)
+derived-short : (task : Task) (form : Form) (plan : Plan) (d : Descriptor) (f : Option DeriveFault)
+    → derive_fault d task.creator plan ≡ f → IsPlan plan → IfSome task.creator IsDescriptor → IsDescriptor d
+    → IsShort (unless_too_large f (converted task.job form (derived d task.creator plan)))
+derived-short task form plan d None e k c h =
+    line-short task.job form (derived d task.creator plan) (derived-limits d task.creator plan h c k e)
+derived-short task form plan d (Some fault) e k c h = fault-short (Derive fault)
 
-act-short : (job : Job) (act : Act) (entries : List Entry) (d : Descriptor) → ActLimits act → IsDescriptor d
-    → length (act_text job act entries d) ≤ 8 * printed_size (act_prints act d) + 64
-act-short job (Convert form) entries d k h = line-short job form d h
-act-short job Explain entries d k h = explain-length (naming_of job) d h
-act-short job (Check ask) entries d k h = verdict-short (verdict d entries ask)
-act-short job (act.Derive plan form) entries d k h = derived-short job form plan d (derive_fault d plan) refl k h
+act-short : (task : Task) (holder : Holder) (act : Act) (d : Descriptor) → ActLimits act
+    → IfSome task.creator IsDescriptor → IsDescriptor d → IsShort (act_outcome task holder act d)
+act-short task holder (Convert form) d k c h = line-short task.job form d h
+act-short task holder Explain d k c h = explain-length (naming_of task.job) d h
+act-short task holder (Check ask) d k c h = verdict-short (verdict d holder ask)
+act-short task holder (act.Derive plan form) d k c h =
+    derived-short task form plan d (derive_fault d task.creator plan) refl k c h
 
-text-short : (job : Job) (entries : List Entry) (m : Meaning) → ActLimits job.act → MeansLimits m
-    → length (text_of_meaning job entries m) ≤ 8 * printed_size (printed_of_meaning job.act m) + 64
-text-short job entries None k h = omega arith
-text-short job entries (Some (Err fault)) k h = fault-short fault
-text-short job entries (Some (Ok d)) k h = act-short job job.act entries d k h
+outcome-short : (task : Task) (holder : Holder) (m : Meaning) → TaskLimits task → MeansLimits m
+    → IsShort (outcome_of_meaning task holder m)
+outcome-short task holder None k h = omega arith
+outcome-short task holder (Some (Err fault)) k h = fault-short fault
+outcome-short task holder (Some (Ok d)) k h = act-short task holder task.job.act d k.act k.creator h
 
-answer-short : (job : Job) (entries : List Entry) → IfSome job.domain IsSid → ActLimits job.act → (line : List ℕ)
-    → HasShortAnswer job entries line
+answer-short : (task : Task) (holder : Holder) → TaskLimits task → (line : List ℕ) → HasShortAnswer task holder line
 unfolding answer
-answer-short job entries k a line = text-short job entries (meaning job line) a (meaning-limits job line k)
+answer-short task holder k line =
+    outcome-short task holder (meaning task.job line) k (meaning-limits task.job line k.domain)
 
-pub answers-short : (job : Job) (entries : List Entry) → IfSome job.domain IsSid → ActLimits job.act
-    → AnswersAreShort job entries
-answers-short job entries k a input bytes =
-    All-from_get_or (HasShortAnswer job entries) (lines input) []
-    (λ i below. answer-short job entries k a (get_or (lines input) i []))
+pub answers-short : (task : Task) (holder : Holder) → TaskLimits task → AnswersAreShort task holder
+answers-short task holder k input bytes =
+    All-from_get_or (HasShortAnswer task holder) (lines input) []
+    (λ i below. answer-short task holder k (get_or (lines input) i []))

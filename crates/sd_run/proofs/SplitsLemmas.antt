@@ -1,8 +1,8 @@
 -- What follows an LF is cut into lines by itself.
 use Rattle.std.proofs.Common.{◌≡◌, ℕ, List, [], ◌∷◌, ◌++◌, Bool, true, false, ◌==◌, map, sym, refl, ap, ◌∙◌, append_assoc, append-nil, length-append}
 use Rattle.std.proofs.lemmas.List.{map-append}
-use Rattle.sd_token.specs.Token.{Entry}
-use Rattle.sd_run.specs.declared.job.Job.{Job}
+use Rattle.sd_token.specs.Token.{Holder}
+use Rattle.sd_run.specs.declared.job.Task.{Task}
 use Rattle.sd_run.specs.Lines.{LineCut, ended, last_line, lines, cut_at_line_feeds, without_cr}
 use Rattle.sd_run.specs.Splits.{AnswersSplit}
 use Rattle.sd_run.proofs.AnswersLemmas.{answers-append, errors-append}
@@ -47,11 +47,11 @@ lines-after xs ys =
     ∙ append_assoc (ended (xs ++ 10 ∷ [])) (ended ys) (last_line (cut_at_line_feeds ys).rest)
     ∙ ap (λ l. l ++ (ended ys ++ last_line (cut_at_line_feeds ys).rest)) (sym (lines-lf xs))
 
-pub answers-split : (job : Job) (entries : List Entry) → AnswersSplit job entries
-answers-split job entries xs ys =
+pub answers-split : (task : Task) (holder : Holder) → AnswersSplit task holder
+answers-split task holder xs ys =
     let cut = lines-after xs ys in
     record {
-      answered = rw cut (answers-append job entries (lines (xs ++ 10 ∷ [])) (lines ys));
+      answered = rw cut (answers-append task holder (lines (xs ++ 10 ∷ [])) (lines ys));
       line_count = rw cut (length-append (lines (xs ++ 10 ∷ [])) (lines ys));
-      error_count = rw cut (errors-append job (lines (xs ++ 10 ∷ [])) (lines ys));
+      error_count = rw cut (errors-append task holder (lines (xs ++ 10 ∷ [])) (lines ys));
     }

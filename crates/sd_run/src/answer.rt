@@ -145,13 +145,7 @@ fn print_act<P: Print>(
 
 // Prints a descriptor in a form.
 #[tactic(auto, unfolding(crate::specs::Answers::form_text))]
-fn print_form<P: Print>(
-    job: &Job,
-    form: Form,
-    view: &SdView<'_>,
-    stores: &mut Stores,
-    out: &mut P,
-)
+fn print_form<P: Print>(job: &Job, form: Form, view: &SdView<'_>, stores: &mut Stores, out: &mut P)
     ensures { Prints (P.told out.old) (P.told out.new) (form_text job.now form view.now) }
 {
     match form {

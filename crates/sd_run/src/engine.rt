@@ -69,13 +69,7 @@ impl Engine {
 
     /// An engine over these buffers, whatever they hold: the bytes of a line's descriptor, those of the one that is
     /// printed, those of the creator's, and the text of a line of base64. There is no creator. It takes no memory.
-    pub fn over(
-        job: Job,
-        read: SdBuf,
-        written: SdBuf,
-        mut creator: SdBuf,
-        held: TextBuf,
-    ) -> Engine
+    pub fn over(job: Job, read: SdBuf, written: SdBuf, mut creator: SdBuf, held: TextBuf) -> Engine
         ensures task { result ≡ record { job = job; creator = None } }
     {
         creator.clear();
@@ -105,7 +99,8 @@ impl Engine {
             (λ fault. (result ≡ Err fault) × (self.new.creator ≡ None)) }
         ensures job { self.new.job ≡ self.old.job }
     {
-        read_sddl(text, self.job.domain.as_ref(), &mut self.creator)
+        let domain = self.job.domain;
+        read_sddl(text, domain.as_ref(), &mut self.creator)
     }
 }
 

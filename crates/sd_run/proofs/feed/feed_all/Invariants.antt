@@ -11,14 +11,14 @@ invariant-loop-n g l = record {
   within : l.start ≤ length l.piece;
   ready : IsReady l.state.line;
   after : (token0 : TokenShown) (sink0 : SinkTold) (got : List ℕ)
-      → AfterBytes token0 sink0 got l.fn.state l.fn.token (sink_of (g.W.Drain.told l.fn.drain)) l.fn.report
-      → AfterBytes token0 sink0 (got ++ take l.start l.piece) l.state l.token (sink_of (g.W.Drain.told l.drain))
-      l.report;
+      → AfterBytes l.task token0 sink0 got
+      (record { state = l.fn.state; token = l.fn.token; sink = sink_of (g.W.Drain.told l.fn.drain) })
+      → AfterBytes l.task token0 sink0 (got ++ take l.start l.piece)
+      (record { state = l.state; token = l.token; sink = sink_of (g.W.Drain.told l.drain) });
   found : 0 < l.start → has_lf l.piece ≡ true;
   quiet : l.start ≡ 0 → g.W.Drain.told l.drain ≡ g.W.Drain.told l.fn.drain;
-  none_counted : l.start ≡ 0 → l.report.lines ≡ l.fn.report.lines;
-  job : l.state.job ≡ l.fn.state.job;
-  rose : RoseWithin l.start l.fn.report l.report;
+  none_counted : l.start ≡ 0 → l.state.report.lines ≡ l.fn.state.report.lines;
+  rose : RoseWithin l.start l.fn.state.report l.state.report;
 }
 
 abbrev pub decreases-loop-n : goal.decreases-loop-n

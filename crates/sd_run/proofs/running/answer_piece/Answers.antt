@@ -5,7 +5,7 @@ use Rattle.sd_run.proofs.running.answer_piece.Goals as goal
 
 pub returns-in-Err-flush-clause-fed : goal.returns-in-Err-flush-clause-fed
 returns-in-Err-flush-clause-fed g c = λ token0 sink0 got h.
-    Failed-flush _ token0 _ sink0 (g.W.Drain.told c.feed_all.new.drain) (g.W.Drain.told c.flush.new.self) _ _ _
+    Failed-flush _ token0 sink0 _ _ _ _ (g.W.Drain.told c.feed_all.new.drain) (g.W.Drain.told c.flush.new.self)
     (c.in-Ok.ensures.fed token0 sink0 got h).answered c.in-Err-flush.ensures.bytes c.in-Err-flush.ensures.failures
     (ended-append got c.args.piece.now)
 
