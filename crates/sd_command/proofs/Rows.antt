@@ -10,7 +10,7 @@ use Rattle.sd_run.specs.declared.job.Job.{Job}
 use Rattle.sd_command.specs.declared.settings.OptionName.TheVariants as name
 use Rattle.sd_command.specs.declared.settings.UsageFault.TheVariants.{Value}
 use Rattle.sd_command.specs.CommandLine.{bare_line, check_line, convert_line, derive_line, explain_line, line}
-use Rattle.sd_command.specs.Settings.{command_settings, convert_act, derive_act, settings_of, given_domain, given_kind, given_mapping, given_source, given_target, is_set, needed_sid}
+use Rattle.sd_command.specs.Settings.{command_chosen, convert_own, derive_own, given_creator, nobody, settings_of, given_domain, given_kind, given_mapping, given_source, given_target, is_set, needed_sid, task_with, with_creator}
 use Rattle.sd_rights.specs.Mapping.{file_mapping}
 
 abbrev hex_to_hex : Job
@@ -30,13 +30,15 @@ pub no_fault : fault_of line to_hex ≡ []
 unfolding line bare_line convert_line explain_line check_line derive_line clap_on_literals
 no_fault = refl
 
-pub settled : settings_of to_hex ≡ Ok (record { job = hex_to_hex; entries = [] })
-unfolding settings_of command_settings convert_act given_domain given_source given_target is_set
+pub settled : settings_of to_hex ≡ Ok (record { task = record { job = hex_to_hex; creator = None }; holder = nobody })
+unfolding settings_of command_chosen convert_own with_creator task_with given_creator given_domain given_source
+    given_target is_set
     line bare_line convert_line explain_line check_line derive_line clap_on_literals
 settled = refl
 
 pub not_settled : settings_of to_xml ≡ Err (Value name.To)
-unfolding settings_of command_settings convert_act given_domain given_source given_target is_set
+unfolding settings_of command_chosen convert_own with_creator task_with given_creator given_domain given_source
+    given_target is_set
     line bare_line convert_line explain_line check_line derive_line clap_on_literals
 not_settled = refl
 
@@ -44,10 +46,11 @@ abbrev pub explain_sddl : List Text
 explain_sddl = codes "sdtool" ∷ codes "explain" ∷ codes "--numeric" ∷ codes "--from" ∷ codes "sddl" ∷ []
 
 pub explained : settings_of explain_sddl ≡ Ok (record {
-  job = record { source = Sddl; act = Explain; domain = None; numeric = true };
-  entries = [];
+  task = record { job = record { source = Sddl; act = Explain; domain = None; numeric = true }; creator = None };
+  holder = nobody;
 })
-unfolding settings_of command_settings convert_act given_domain given_source given_target is_set
+unfolding settings_of command_chosen convert_own with_creator task_with given_creator given_domain given_source
+    given_target is_set
     line bare_line convert_line explain_line check_line derive_line clap_on_literals
 explained = refl
 
@@ -63,22 +66,25 @@ derive_file =
 
 -- SYSTEM is the owner and Everyone the group of a new file
 pub derived : settings_of derive_file ≡ Ok (record {
-  job = record {
-    source = Hex;
-    act = Derive (record {
-      target = File;
-      owner = record { authority = 5; subs = 18 ∷ [] };
-      group = record { authority = 1; subs = 0 ∷ [] };
-      mapping = file_mapping;
-    }) Sddl;
-    domain = None;
-    numeric = false;
+  task = record {
+    job = record {
+      source = Hex;
+      act = Derive (record {
+        target = File;
+        owner = record { authority = 5; subs = 18 ∷ [] };
+        group = record { authority = 1; subs = 0 ∷ [] };
+        mapping = file_mapping;
+      }) Sddl;
+      domain = None;
+      numeric = false;
+    };
+    creator = None;
   };
-  entries = [];
+  holder = nobody;
 })
-unfolding settings_of command_settings derive_act given_domain given_source given_target given_mapping given_kind
-    needed_sid is_set sid_reads has_form numbers_read line bare_line convert_line explain_line check_line derive_line
-    clap_on_literals
+unfolding settings_of command_chosen derive_own with_creator task_with given_creator given_domain given_source
+    given_target given_mapping given_kind needed_sid is_set sid_reads has_form numbers_read line bare_line convert_line
+    explain_line check_line derive_line clap_on_literals
 derived = refl
 
 -- a kind has to be given

@@ -37,7 +37,7 @@ explain_line =
 unfoldable pub check_line : App
 check_line =
     with_rule (with_rule (with_rule (with_rule (with_rule (with_rule (with_rule (with_rule (with_rule (with_rule
-    (new_app (codes "check"))
+    (with_rule (new_app (codes "check"))
     (option_rule (codes "from")))
     (option_rule (codes "domain")))
     (required_rule (codes "token")))
@@ -47,12 +47,13 @@ check_line =
     (option_rule (codes "object")))
     (option_rule (codes "self")))
     (flag_rule (codes "security")))
-    (flag_rule (codes "take-ownership"))
+    (flag_rule (codes "take-ownership")))
+    (option_rule (codes "level"))
 
 -- `sdtool derive` and its options
 unfoldable pub derive_line : App
 derive_line =
-    with_rule (with_rule (with_rule (with_rule (with_rule (with_rule (with_rule (with_rule
+    with_rule (with_rule (with_rule (with_rule (with_rule (with_rule (with_rule (with_rule (with_rule
     (new_app (codes "derive"))
     (option_rule (codes "from")))
     (option_rule (codes "to")))
@@ -61,7 +62,8 @@ derive_line =
     (required_rule (codes "kind")))
     (required_rule (codes "owner")))
     (required_rule (codes "group")))
-    (option_rule (codes "type"))
+    (option_rule (codes "type")))
+    (option_rule (codes "creator"))
 
 -- `sdtool`, which wants a command
 unfoldable pub bare_line : App

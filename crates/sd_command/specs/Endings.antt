@@ -5,7 +5,7 @@ use Rattle.clap.specs.Words.{Text, IsAmong, fault_of}
 use Rattle.clap.specs.declared.error.ErrorKind.TheVariants as kind
 use Rattle.sd_sink.specs.Sink.{PutAll, PutSome}
 use Rattle.sd_token.specs.Token.{TokenShown}
-use Rattle.sd_run.specs.Told.{SourceTold, DrainTold, sink_of}
+use Rattle.sd_run.specs.Told.{SourceTold, DrainTold, RunTold, sink_of}
 use Rattle.sd_run.specs.Outcome.{Outcome}
 use Rattle.sd_command.specs.CommandLine.{line}
 use Rattle.sd_command.specs.Refusing.{is_mistake}
@@ -36,14 +36,15 @@ IsIdle source source' output output' = (source' ≡ source) × (output' ≡ outp
 
 -- ---- a run
 
--- the outcome of a run for what the words settle: their job, and a token with their entries
+-- the outcome of a run for what the words settle: their task, and a token of their holder
 pub record RunOf (settings : Settings) (source source' : SourceTold) (output output' : DrainTold)
     (result : Result Report RunFault) : Type 0 where
   pub token : TokenShown
   pub token' : TokenShown
-  pub entries : token.entries ≡ settings.entries
+  pub holder : token.holder ≡ settings.holder
   pub none_compared : token.compared ≡ 0
-  pub outcome : Outcome (2 ^ 40) settings.job token token' source source' output output' result
+  pub outcome : Outcome (2 ^ 40) settings.task (record { token = token; source = source; drain = output })
+      (record { token = token'; source = source'; drain = output' }) result
 
 -- ---- the endings
 

@@ -1,16 +1,19 @@
 -- What the matches of a command line settle.
-use Rattle.std.specs.Prelude.{ℕ, Bool, ◌||◌, false, if◌then◌else◌, List, [], Option, Some, None, Result, Ok, Err, codes, option_map}
+use Rattle.std.specs.Prelude.{ℕ, Bool, ◌&&◌, ◌||◌, ◌^◌, false, nat_le, nat_lt, if◌then◌else◌, List, [], length, Option, Some, None, Result, Ok, Err, codes, option_map}
 use Rattle.std.specs.Str.{bytes_eq}
 use Rattle.std.specs.Option.{ok_or}
 use Rattle.std.specs.Result.{result_ok}
 use Rattle.sd_text.specs.Chains.{◌>>=◌, unless}
+use Rattle.sd_text.specs.Numbers.{number}
 use Rattle.clap.specs.Words.{Row, Text, first_of, subcommand_of}
 use Rattle.sd_sid.specs.Sid.{SecurityId}
 use Rattle.sd_sid.specs.SidText.{sid_reads, usable}
 use Rattle.sd_ace.specs.GuidText.{guid_reads}
-use Rattle.sd_token.specs.Token.{Entry}
+use Rattle.sd_token.specs.Token.{Entry, Holder}
+use Rattle.sd_view.specs.Descriptor.{Descriptor}
 use Rattle.sd_rights.specs.Rights.{rights_reads}
 use Rattle.sd_check.specs.Ask.{Asked, ask_fault, asks_maximum, wanted_of}
+use Rattle.sd_sddl_reader.specs.Meaning.{means}
 use Rattle.sd_inherit.specs.declared.plan.Target.{Target}
 use Rattle.sd_inherit.specs.declared.plan.Target.TheVariants.{File, Container}
 use Rattle.sd_command.specs.CommandLine.{line}
@@ -21,6 +24,7 @@ use Rattle.sd_run.specs.declared.job.Form.TheVariants.{Base64, Hex, Sddl}
 use Rattle.sd_run.specs.declared.job.Act.{Act}
 use Rattle.sd_run.specs.declared.job.Act.TheVariants.{Check, Convert, Derive, Explain}
 use Rattle.sd_run.specs.declared.job.Job.{Job}
+use Rattle.sd_run.specs.declared.job.Task.{Task}
 use Rattle.sd_command.specs.declared.settings.CommandName.{CommandName}
 use Rattle.sd_command.specs.declared.settings.CommandName.TheVariants as command
 use Rattle.sd_command.specs.declared.settings.OptionName.{OptionName}
@@ -40,6 +44,8 @@ option_text name.Token = codes "token"
 option_text name.Want = codes "want"
 option_text name.Object = codes "object"
 option_text name.PrincipalSelf = codes "self"
+option_text name.Level = codes "level"
+option_text name.Creator = codes "creator"
 
 abbrev pub form_reads : Text → Option Form
 form_reads text =
@@ -120,6 +126,14 @@ given_want rows = given name.Want (value_or 0 rights_reads (first_of (codes "wan
 unfoldable pub given_object : List Row → Result (Option (List ℕ)) UsageFault
 given_object rows = given name.Object (value_if guid_reads (first_of (codes "object") rows))
 
+-- an integrity level: one to ten decimal digits below 2 ^ 32
+abbrev pub level_reads : Text → Option ℕ
+level_reads text = if nat_lt 0 (length text) && nat_le (length text) 10 then number 10 (2 ^ 32) text else None
+
+-- none where the option is left out
+unfoldable pub given_level : List Row → Result (Option ℕ) UsageFault
+given_level rows = given name.Level (value_if level_reads (first_of (codes "level") rows))
+
 -- a desired mask on a type of object, and the rest of what is asked, or why nothing can be
 unfoldable pub asked :
     GenericMapping → ℕ → Option (List ℕ) → Option SecurityId → List Row → Result Asked UsageFault
@@ -149,6 +163,13 @@ given_kind rows = given name.Kind (value_needed target_reads (first_of (codes "k
 unfoldable pub needed_sid : OptionName → Option SecurityId → List Row → Result SecurityId UsageFault
 needed_sid option domain rows = given option (value_needed (sid_under domain) (first_of (option_text option) rows))
 
+-- the creator's descriptor, an SDDL text whose aliases are read under the domain
+abbrev pub creator_reads : Option SecurityId → Text → Option Descriptor
+creator_reads domain text = result_ok (means text domain)
+
+unfoldable pub given_creator : Option SecurityId → Option Text → Result (Option Descriptor) UsageFault
+given_creator domain text = given name.Creator (value_if (creator_reads domain) text)
+
 -- ---- the commands
 
 -- by their names
@@ -160,73 +181,101 @@ command_reads text =
     else if bytes_eq text (codes "derive") then Some command.Derive
     else None
 
-unfoldable pub convert_act : List Row → Result Act UsageFault
-convert_act rows = do
-  target ← given_target rows
-  Ok (Convert target)
-
-unfoldable pub derive_act : Option SecurityId → List Row → Result Act UsageFault
-derive_act domain rows = do
-  target ← given_target rows
-  mapping ← given_mapping rows
-  kind ← given_kind rows
-  owner ← needed_sid name.Owner domain rows
-  group ← needed_sid name.Group domain rows
-  Ok (Derive (record { target = kind; owner = owner; group = group; mapping = mapping }) target)
-
--- what is done with each line, and the entries of the token that asks
-pub record ActWithEntries : Type 0 where
+-- what is a command's own: what is done with each line, who asks, and the text of the creator's descriptor
+pub record Own : Type 0 where
   pub act : Act
-  pub entries : List Entry
+  pub holder : Holder
+  pub creator : Option Text
 
-unfoldable pub check_act : Option SecurityId → List Row → Result ActWithEntries UsageFault
-check_act domain rows = do
+-- the holder of a command that asks for nobody
+abbrev pub nobody : Holder
+nobody = record { entries = []; level = None }
+
+unfoldable pub convert_own : List Row → Result Own UsageFault
+convert_own rows = do
+  target ← given_target rows
+  Ok (record { act = Convert target; holder = nobody; creator = None })
+
+abbrev pub explain_own : Result Own UsageFault
+explain_own = Ok (record { act = Explain; holder = nobody; creator = None })
+
+unfoldable pub check_own : Option SecurityId → List Row → Result Own UsageFault
+check_own domain rows = do
   mapping ← given_mapping rows
   entries ← given_token domain rows
   want ← given_want rows
   object ← given_object rows
   principal ← given_sid name.PrincipalSelf domain rows
+  level ← given_level rows
   ask ← asked mapping want object principal rows
-  Ok (record { act = Check ask; entries = entries })
+  Ok (record { act = Check ask; holder = record { entries = entries; level = level }; creator = None })
 
-abbrev pub act_with_entries : List Entry → Result Act UsageFault → Result ActWithEntries UsageFault
-act_with_entries entries (Err fault) = Err fault
-act_with_entries entries (Ok act) = Ok (record { act = act; entries = entries })
+unfoldable pub derive_own : Option SecurityId → List Row → Result Own UsageFault
+derive_own domain rows = do
+  target ← given_target rows
+  mapping ← given_mapping rows
+  kind ← given_kind rows
+  owner ← needed_sid name.Owner domain rows
+  group ← needed_sid name.Group domain rows
+  Ok (record {
+    act = Derive (record { target = kind; owner = owner; group = group; mapping = mapping }) target;
+    holder = nobody;
+    creator = first_of (codes "creator") rows;
+  })
 
--- what is a command's own: `check` alone has a token
-abbrev pub command_act : CommandName → Option SecurityId → List Row → Result ActWithEntries UsageFault
-command_act command.Convert domain rows = act_with_entries [] (convert_act rows)
-command_act command.Explain domain rows = act_with_entries [] (Ok Explain)
-command_act command.Check domain rows = check_act domain rows
-command_act command.Derive domain rows = act_with_entries [] (derive_act domain rows)
+abbrev pub command_own : CommandName → Option SecurityId → List Row → Result Own UsageFault
+command_own command.Convert domain rows = convert_own rows
+command_own command.Explain domain rows = explain_own
+command_own command.Check domain rows = check_own domain rows
+command_own command.Derive domain rows = derive_own domain rows
 
--- what the words settle: what is done with each line, and the entries of the token that asks
-pub record Settings : Type 0 where
+-- what is settled while the creator's descriptor is not read: its text, the job, and who asks
+pub record Chosen : Type 0 where
   pub job : Job
-  pub entries : List Entry
-
-abbrev pub with_entries : List Entry → Result Job UsageFault → Result Settings UsageFault
-with_entries entries (Err fault) = Err fault
-with_entries entries (Ok job) = Ok (record { job = job; entries = entries })
+  pub holder : Holder
+  pub creator : Option Text
 
 -- the first option that does not read, or the job: the domain and the form, which all commands have, are looked at
 -- before what is the command's own. The line gives `check` no `--numeric`, and a check prints no SID.
-unfoldable pub command_settings : CommandName → List Row → Result Settings UsageFault
-command_settings command rows = do
+unfoldable pub command_chosen : CommandName → List Row → Result Chosen UsageFault
+command_chosen command rows = do
   domain ← given_domain rows
   source ← given_source rows
-  own ← command_act command domain rows
+  own ← command_own command domain rows
   Ok (record {
     job = record { source = source; act = own.act; domain = domain; numeric = is_set (codes "numeric") rows };
-    entries = own.entries;
+    holder = own.holder;
+    creator = own.creator;
   })
 
 -- a command's name and its matches
-abbrev pub settings : Option (Text × List Row) → Result Settings UsageFault
-settings None = Err NoCommand
-settings (Some matches) = do
+abbrev pub chosen : Option (Text × List Row) → Result Chosen UsageFault
+chosen None = Err NoCommand
+chosen (Some matches) = do
   command ← ok_or (command_reads matches.0) NoCommand
-  command_settings command matches.1
+  command_chosen command matches.1
+
+-- what the words settle: what is done with each line, and who asks
+pub record Settings : Type 0 where
+  pub task : Task
+  pub holder : Holder
+
+-- a job with the creator's descriptor that a text means
+unfoldable pub task_with : Job → Option Text → Result Task UsageFault
+task_with job text = do
+  creator ← given_creator job.domain text
+  Ok (record { job = job; creator = creator })
+
+-- the creator's descriptor is read last
+unfoldable pub with_creator : Chosen → Result Settings UsageFault
+with_creator choice = do
+  task ← task_with choice.job choice.creator
+  Ok (record { task = task; holder = choice.holder })
+
+abbrev pub settings : Option (Text × List Row) → Result Settings UsageFault
+settings matches = do
+  choice ← chosen matches
+  with_creator choice
 
 -- what words settle that the command line takes
 unfoldable pub settings_of : List Text → Result Settings UsageFault

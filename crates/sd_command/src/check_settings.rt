@@ -1,15 +1,16 @@
 // What the matches of `check` settle.
-ghost use Rattle.std.specs.Prelude.{◌≡◌, []};
+ghost use Rattle.std.specs.Prelude.{◌≡◌, ◌<◌, ◌^◌, [], None, IfOk, IfSome};
 ghost use Rattle.std.specs.Option.{option_copied};
 ghost use Rattle.clap.specs.Words.{found_of, rows_of};
 ghost use Rattle.sd_ace.specs.GuidText.{guid_reads};
 ghost use Rattle.sd_rights.specs.Rights.{rights_reads};
 ghost use Rattle.sd_command.specs.Inner.Adding.{gives};
 ghost use Rattle.sd_command.specs.Settings as specs;
-ghost use Rattle.sd_command.specs.Settings.{act_with_entries};
+ghost use Rattle.sd_command.specs.Inner.Choosing.{own_with};
 
 use crate::settings::{
-    OptionName, UsageFault, given_mapping, given_sid, is_set, text_of, value_of,
+    OptionName, Own, UsageFault, given_mapping, given_sid, is_set, text_of, value_of,
+    without_creator,
 };
 use crate::token_text::add_entries;
 use clap::ArgMatches;
@@ -18,19 +19,24 @@ use sd_check::{Ask, Privileges};
 use sd_rights::{Mapping, rights_from_text};
 use sd_run::Act;
 use sd_sid::Sid;
+use sd_text::read_number;
 use sd_token::Token;
 use uuid::Uuid;
 
+/// The digits of an integrity level at most: those of 2^32.
+const MOST_LEVEL_DIGITS: usize = 10;
+
 // The values in the order in which they are looked at.
-#[tactic(auto, unfolding(crate::specs::Settings::check_act))]
-pub(crate) fn check_act(
-    matches: &ArgMatches<'_>,
+#[tactic(auto, unfolding(crate::specs::Settings::check_own))]
+pub(crate) fn check_own<'a>(
+    matches: &ArgMatches<'a>,
     domain: Option<&Sid>,
     token: &mut Token,
-) -> Result<Act, UsageFault>
-    requires empty { token.old.entries ≡ [] }
-    ensures settled { act_with_entries token.new.entries result
-        ≡ specs.check_act (option_copied domain.entry) (rows_of (found_of matches.now)) }
+) -> Result<Own<'a>, UsageFault>
+    requires empty { token.old.holder.entries ≡ [] }
+    ensures chosen { own_with token.new.holder result
+        ≡ specs.check_own (option_copied domain.entry) (rows_of (found_of matches.now)) }
+    ensures none { IfOk result (λ own. own.creator ≡ None) }
     ensures compared { token.new.compared ≡ token.old.compared }
 {
     let mapping = given_mapping(matches)?;
@@ -38,8 +44,10 @@ pub(crate) fn check_act(
     let want = given_want(matches)?;
     let object = given_object(matches)?;
     let principal = given_sid(matches, OptionName::PrincipalSelf, domain)?;
+    let level = given_level(matches)?;
     let ask = asked(matches, mapping, want, object, principal)?;
-    Ok(Act::Check(ask))
+    token.set_level(level);
+    Ok(without_creator(Act::Check(ask)))
 }
 
 // The entries go into the token.
@@ -49,8 +57,8 @@ fn given_token(
     domain: Option<&Sid>,
     token: &mut Token,
 ) -> Result<(), UsageFault>
-    requires empty { token.old.entries ≡ [] }
-    ensures entries { gives token.new.entries result
+    requires empty { token.old.holder.entries ≡ [] }
+    ensures entries { gives token.new.holder.entries result
         ≡ specs.given_token (option_copied domain.entry) (rows_of (found_of matches.now)) }
     ensures compared { token.new.compared ≡ token.old.compared }
 {
@@ -87,6 +95,25 @@ fn object_from_text(text: &str) -> Option<Uuid>
     ensures { result ≡ guid_reads text.now }
 {
     guid_from_text(text.as_bytes())
+}
+
+// None where the option is left out.
+fn given_level(matches: &ArgMatches<'_>) -> Result<Option<u32>, UsageFault>
+    ensures { result ≡ specs.given_level (rows_of (found_of matches.now)) }
+{
+    value_of(matches, OptionName::Level, level_from_text)
+}
+
+// One to ten decimal digits, below 2^32.
+fn level_from_text(text: &str) -> Option<u32>
+    ensures { result ≡ specs.level_reads text.now }
+{
+    let digits = text.as_bytes();
+    if digits.is_empty() || digits.len() > MOST_LEVEL_DIGITS {
+        return None;
+    }
+    let level = read_number(10, 1 << 32, digits)?;
+    Some(level as u32)
 }
 
 // What is asked, or why nothing can be.

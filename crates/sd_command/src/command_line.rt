@@ -56,11 +56,15 @@ const SECURITY_HELP: &str = "The token holds SeSecurityPrivilege";
 
 const TAKE_OWNERSHIP_HELP: &str = "The token holds SeTakeOwnershipPrivilege";
 
+const LEVEL_HELP: &str = "The integrity level of the token, as 8192 for Medium";
+
 const KIND_HELP: &str = "What is made: file or container";
 
 const OWNER_HELP: &str = "The SID of the owner of what is made";
 
 const GROUP_HELP: &str = "The SID of the group of what is made";
+
+const CREATOR_HELP: &str = "The descriptor that the creator brings, in SDDL";
 
 /// The command line of the program.
 pub fn command_line<'a>(alloc: Global) -> Result<Command<'a>, AllocError>
@@ -128,7 +132,8 @@ fn check_command<'a>(alloc: Global) -> Result<Command<'a>, AllocError>
     let command = with_option(alloc, command, "object", OBJECT_HELP);
     let command = with_option(alloc, command, "self", SELF_HELP);
     let command = with_flag(alloc, command, "security", SECURITY_HELP);
-    with_flag(alloc, command, "take-ownership", TAKE_OWNERSHIP_HELP)
+    let command = with_flag(alloc, command, "take-ownership", TAKE_OWNERSHIP_HELP);
+    with_option(alloc, command, "level", LEVEL_HELP)
 }
 
 fn derive_command<'a>(alloc: Global) -> Result<Command<'a>, AllocError>
@@ -147,7 +152,8 @@ fn derive_command<'a>(alloc: Global) -> Result<Command<'a>, AllocError>
     let command = with_required(alloc, command, "kind", KIND_HELP);
     let command = with_required(alloc, command, "owner", OWNER_HELP);
     let command = with_required(alloc, command, "group", GROUP_HELP);
-    with_option(alloc, command, "type", TYPE_HELP)
+    let command = with_option(alloc, command, "type", TYPE_HELP);
+    with_option(alloc, command, "creator", CREATOR_HELP)
 }
 
 // A command without options so far. It is a result, since a chain of options begins with it.

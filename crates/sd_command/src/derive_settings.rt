@@ -1,20 +1,30 @@
 // What the matches of `derive` settle.
-ghost use Rattle.std.specs.Prelude.{◌≡◌};
+ghost use Rattle.std.specs.Prelude.{◌≡◌, None, IfOk, IfSome, option_map};
 ghost use Rattle.std.specs.Option.{option_copied};
 ghost use Rattle.clap.specs.Words.{found_of, rows_of};
+ghost use Rattle.sd_command.specs.Inner.Adding.{gives};
+ghost use Rattle.sd_command.specs.Inner.Choosing.{own_with};
 ghost use Rattle.sd_command.specs.Settings as specs;
+ghost use Rattle.sd_command.specs.Settings.{nobody};
+ghost use Rattle.sd_run.specs.Task.{IsDerivation};
 
-use crate::settings::{OptionName, UsageFault, given_mapping, given_sid, given_target, value_of};
+use crate::settings::{
+    OptionName, Own, UsageFault, given_mapping, given_sid, given_target, text_of, value_of,
+};
 use clap::ArgMatches;
 use sd_inherit::{Plan, Target};
-use sd_run::Act;
+use sd_run::{Act, Engine};
 use sd_sid::Sid;
 
-// The values in the order in which they are looked at.
-#[tactic(auto, unfolding(crate::specs::Settings::derive_act))]
-pub(crate) fn derive_act(matches: &ArgMatches<'_>, domain: Option<&Sid>) -> Result<Act, UsageFault>
-    ensures { result
-        ≡ specs.derive_act (option_copied domain.entry) (rows_of (found_of matches.now)) }
+// The values in the order in which they are looked at. The creator's descriptor comes last: `give_creator` reads it.
+#[tactic(auto, unfolding(crate::specs::Settings::derive_own))]
+pub(crate) fn derive_own<'a>(
+    matches: &ArgMatches<'a>,
+    domain: Option<&Sid>,
+) -> Result<Own<'a>, UsageFault>
+    ensures chosen { own_with nobody result
+        ≡ specs.derive_own (option_copied domain.entry) (rows_of (found_of matches.now)) }
+    ensures derives { IfOk result (λ own. IfSome own.creator (λ _. IsDerivation own.act)) }
 {
     let form = given_target(matches)?;
     let mapping = given_mapping(matches)?;
@@ -27,7 +37,27 @@ pub(crate) fn derive_act(matches: &ArgMatches<'_>, domain: Option<&Sid>) -> Resu
         group,
         mapping,
     };
-    Ok(Act::Derive(plan, form))
+    Ok(Own {
+        act: Act::Derive(plan, form),
+        creator: text_of(matches, OptionName::Creator.text()),
+    })
+}
+
+// Gives an engine without a creator the descriptor that the text means, if there is one.
+#[tactic(auto, unfolding(crate::specs::Settings::task_with, crate::specs::Settings::given_creator))]
+pub(crate) fn give_creator(engine: &mut Engine, text: Option<&str>) -> Result<(), UsageFault>
+    requires none { engine.old.creator ≡ None }
+    requires derives { IfSome text (λ _. IsDerivation engine.old.job.act) }
+    ensures { gives engine.new result
+        ≡ specs.task_with engine.old.job (option_map (λ s. s.now) text.entry) }
+{
+    match text {
+        Some(text) => match engine.set_creator(text.as_bytes()) {
+            Ok(()) => Ok(()),
+            Err(_) => Err(UsageFault::Value(OptionName::Creator)),
+        },
+        None => Ok(()),
+    }
 }
 
 fn given_kind(matches: &ArgMatches<'_>) -> Result<Target, UsageFault>

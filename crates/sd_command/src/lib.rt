@@ -11,4 +11,4 @@ mod token_text;
 
 pub use parse::{Refusal, parse_words};
 pub use program::command;
-pub use settings::{OptionName, UsageFault, settle};
+pub use settings::{Choice, OptionName, UsageFault, choose};

@@ -7,8 +7,9 @@ ghost use Rattle.sd_command.specs.Usage.{fault_line};
 ghost use Rattle.sd_command.specs.Endings as ends;
 ghost use Rattle.sd_command.specs.Inner.Preparing as steps;
 
+use crate::derive_settings::give_creator;
 use crate::parse::{Refusal, parse_words};
-use crate::settings::{UsageFault, settle};
+use crate::settings::{UsageFault, choose};
 use sd_run::{Drain, Engine, RunFault, Source, run, write_whole};
 use sd_token::Token;
 use std::alloc::Global;
@@ -57,7 +58,7 @@ pub enum Stop {
 }
 
 // All that takes memory.
-#[tactic(auto, unfolding(crate::specs::Settings::settings_of))]
+#[tactic(auto, unfolding(crate::specs::Settings::settings_of, crate::specs::Settings::with_creator))]
 fn prepare(alloc: Global, words: &[String]) -> Result<Prepared, Stop>
     ensures taken { takes line (map string_bytes words.now) ≡ true → steps.StopsTaken result }
     ensures kinds { steps.PreparesBy (map string_bytes words.now) result }
@@ -70,13 +71,17 @@ fn prepare(alloc: Global, words: &[String]) -> Result<Prepared, Stop>
         Ok(token) => token,
         Err(_) => return Err(Stop::Refused(Refusal::NoMemory)),
     };
-    let job = match settle(&matches, &mut token) {
-        Ok(job) => job,
+    let choice = match choose(&matches, &mut token) {
+        Ok(choice) => choice,
         Err(fault) => return Err(Stop::Value(fault)),
     };
-    match Engine::new(alloc, job) {
-        Ok(engine) => Ok(Prepared { engine, token }),
-        Err(_) => Err(Stop::Refused(Refusal::NoMemory)),
+    let mut engine = match Engine::new(alloc, choice.job) {
+        Ok(engine) => engine,
+        Err(_) => return Err(Stop::Refused(Refusal::NoMemory)),
+    };
+    match give_creator(&mut engine, choice.creator) {
+        Ok(()) => Ok(Prepared { engine, token }),
+        Err(fault) => Err(Stop::Value(fault)),
     }
 }
 

@@ -1,15 +1,17 @@
 // What the matches of a command line settle.
-ghost use Rattle.std.specs.Prelude.{◌≡◌, [], option_map};
+ghost use Rattle.std.specs.Prelude.{◌≡◌, None, option_map, IfOk, IfSome};
 ghost use Rattle.clap.specs.Words.{first_of, found_of, rows_of, subcommand_rows_of};
 ghost use Rattle.sd_command.specs.Usage.{usage_line};
 ghost use Rattle.std.specs.Fn.{FnOnceReturnsAt};
 ghost use Rattle.std.specs.Option.{option_copied};
 ghost use Rattle.sd_command.specs.Inner.Given.{GivenBy};
 ghost use Rattle.sd_command.specs.Settings as specs;
-ghost use Rattle.sd_command.specs.Settings.{act_with_entries, option_text, with_entries};
+ghost use Rattle.sd_command.specs.Settings.{nobody, option_text};
+ghost use Rattle.sd_command.specs.Inner.Choosing.{choice_with, own_with};
+ghost use Rattle.sd_run.specs.Task.{IsDerivation};
 
-use crate::check_settings::check_act;
-use crate::derive_settings::derive_act;
+use crate::check_settings::check_own;
+use crate::derive_settings::derive_own;
 use crate::token_text::sid_under;
 use clap::ArgMatches;
 use sd_check::AskFault;
@@ -33,11 +35,13 @@ pub enum OptionName {
     Want,
     Object,
     PrincipalSelf,
+    Level,
+    Creator,
 }
 
 impl OptionName {
     // The word that names it, behind two dashes.
-    fn text(self) -> &'static str
+    pub(crate) fn text(self) -> &'static str
         ensures { result.now ≡ option_text self }
     {
         match self {
@@ -52,6 +56,8 @@ impl OptionName {
             OptionName::Want => "want",
             OptionName::Object => "object",
             OptionName::PrincipalSelf => "self",
+            OptionName::Level => "level",
+            OptionName::Creator => "creator",
         }
     }
 }
@@ -114,23 +120,33 @@ impl UsageFault {
             UsageFault::Value(OptionName::Want) => "sdtool: usage: --want\n",
             UsageFault::Value(OptionName::Object) => "sdtool: usage: --object\n",
             UsageFault::Value(OptionName::PrincipalSelf) => "sdtool: usage: --self\n",
+            UsageFault::Value(OptionName::Level) => "sdtool: usage: --level\n",
+            UsageFault::Value(OptionName::Creator) => "sdtool: usage: --creator\n",
             UsageFault::Unasked(AskFault::EmptyRequest) => "sdtool: error 50 empty-request\n",
             UsageFault::Unasked(AskFault::ReservedBits) => "sdtool: error 51 reserved-bits\n",
         }
     }
 }
 
-/// The first option that does not read, or why nothing can be asked, or the job, with the entries
-/// of the token that asks. The token has to have none before. After a fault it may have some.
-pub fn settle(matches: &ArgMatches<'_>, token: &mut Token) -> Result<Job, UsageFault>
-    requires empty { token.old.entries ≡ [] }
-    ensures settled { with_entries token.new.entries result
-        ≡ specs.settings (subcommand_rows_of matches.now) }
+/// What the words choose: the job of a run, and what its engine is given before the run.
+#[derive(Clone, Copy)]
+pub struct Choice<'a> {
+    pub job: Job,
+    /// The creator's descriptor in SDDL, which nothing has read. Only a derivation has one.
+    pub creator: Option<&'a str>,
+}
+
+/// The first option that does not read, or why nothing can be asked, or what the words choose. The token becomes the
+/// one that asks: it must be new. After a fault it may have entries.
+pub fn choose<'a>(matches: &ArgMatches<'a>, token: &mut Token) -> Result<Choice<'a>, UsageFault>
+    requires nobody { token.old.holder ≡ nobody }
+    ensures chosen { choice_with token.new.holder result ≡ specs.chosen (subcommand_rows_of matches.now) }
+    ensures derives { IfOk result (λ choice. IfSome choice.creator (λ _. IsDerivation choice.job.act)) }
     ensures compared { token.new.compared ≡ token.old.compared }
 {
     match matches.subcommand() {
         Some((name, found)) => match CommandName::from_text(name) {
-            Some(command) => command_settings(command, found, token),
+            Some(command) => command_choice(command, found, token),
             None => Err(UsageFault::NoCommand),
         },
         None => Err(UsageFault::NoCommand),
@@ -139,54 +155,77 @@ pub fn settle(matches: &ArgMatches<'_>, token: &mut Token) -> Result<Job, UsageF
 
 // The domain and the form, which all commands have, are looked at before what is the command's own. `check` has no
 // `--numeric`, so there it is never set.
-#[tactic(auto, unfolding(crate::specs::Settings::command_settings))]
-fn command_settings(
+#[tactic(auto, unfolding(crate::specs::Settings::command_chosen))]
+fn command_choice<'a>(
     command: CommandName,
-    matches: &ArgMatches<'_>,
+    matches: &ArgMatches<'a>,
     token: &mut Token,
-) -> Result<Job, UsageFault>
-    requires empty { token.old.entries ≡ [] }
-    ensures settled { with_entries token.new.entries result
-        ≡ specs.command_settings command (rows_of (found_of matches.now)) }
+) -> Result<Choice<'a>, UsageFault>
+    requires nobody { token.old.holder ≡ nobody }
+    ensures chosen { choice_with token.new.holder result
+        ≡ specs.command_chosen command (rows_of (found_of matches.now)) }
+    ensures derives { IfOk result (λ choice. IfSome choice.creator (λ _. IsDerivation choice.job.act)) }
     ensures compared { token.new.compared ≡ token.old.compared }
 {
     let domain = given_domain(matches)?;
     let source = given_source(matches)?;
-    let act = command_act(command, matches, domain.as_ref(), token)?;
+    let own = match command_own(command, matches, domain.as_ref(), token) {
+        Ok(own) => own,
+        Err(fault) => return Err(fault),
+    };
     let numeric = is_set(matches, "numeric");
-    Ok(Job {
-        source,
-        act,
-        domain,
-        numeric,
+    Ok(Choice {
+        job: Job {
+            source,
+            act: own.act,
+            domain,
+            numeric,
+        },
+        creator: own.creator,
     })
 }
 
-fn command_act(
+// What is a command's own.
+#[derive(Clone, Copy)]
+pub struct Own<'a> {
+    pub act: Act,
+    pub creator: Option<&'a str>,
+}
+
+fn command_own<'a>(
     command: CommandName,
-    matches: &ArgMatches<'_>,
+    matches: &ArgMatches<'a>,
     domain: Option<&Sid>,
     token: &mut Token,
-) -> Result<Act, UsageFault>
-    requires empty { token.old.entries ≡ [] }
-    ensures settled { act_with_entries token.new.entries result
-        ≡ specs.command_act command (option_copied domain.entry) (rows_of (found_of matches.now)) }
+) -> Result<Own<'a>, UsageFault>
+    requires nobody { token.old.holder ≡ nobody }
+    ensures chosen { own_with token.new.holder result
+        ≡ specs.command_own command (option_copied domain.entry) (rows_of (found_of matches.now)) }
+    ensures derives { IfOk result (λ own. IfSome own.creator (λ _. IsDerivation own.act)) }
     ensures compared { token.new.compared ≡ token.old.compared }
 {
     match command {
-        CommandName::Convert => convert_act(matches),
-        CommandName::Explain => Ok(Act::Explain),
-        CommandName::Check => check_act(matches, domain, token),
-        CommandName::Derive => derive_act(matches, domain),
+        CommandName::Convert => convert_own(matches),
+        CommandName::Explain => Ok(without_creator(Act::Explain)),
+        CommandName::Check => check_own(matches, domain, token),
+        CommandName::Derive => derive_own(matches, domain),
     }
 }
 
-#[tactic(auto, unfolding(crate::specs::Settings::convert_act))]
-fn convert_act(matches: &ArgMatches<'_>) -> Result<Act, UsageFault>
-    ensures { result ≡ specs.convert_act (rows_of (found_of matches.now)) }
+pub(crate) fn without_creator<'a>(act: Act) -> Own<'a>
+    ensures act { result.act ≡ act }
+    ensures creator { result.creator ≡ None }
+{
+    Own { act, creator: None }
+}
+
+#[tactic(auto, unfolding(crate::specs::Settings::convert_own))]
+fn convert_own<'a>(matches: &ArgMatches<'a>) -> Result<Own<'a>, UsageFault>
+    ensures chosen { own_with nobody result ≡ specs.convert_own (rows_of (found_of matches.now)) }
+    ensures none { IfOk result (λ own. own.creator ≡ None) }
 {
     let target = given_target(matches)?;
-    Ok(Act::Convert(target))
+    Ok(without_creator(Act::Convert(target)))
 }
 
 // What an option's text reads as. None where the option is left out.

@@ -9,8 +9,8 @@ use sd_token::{EntryKind, Token};
 
 // Adds the entries of all pieces. None where one does not read, or finds no room.
 pub(crate) fn add_entries(text: &str, domain: Option<&Sid>, token: &mut Token) -> Option<()>
-    requires empty { token.old.entries ≡ [] }
-    ensures entries { option_map (λ _. token.new.entries) result
+    requires empty { token.old.holder.entries ≡ [] }
+    ensures entries { option_map (λ _. token.new.holder.entries) result
         ≡ specs.entries_read (option_copied domain.entry) text.now }
     ensures compared { token.new.compared ≡ token.old.compared }
 {
@@ -23,8 +23,8 @@ pub(crate) fn add_entries(text: &str, domain: Option<&Sid>, token: &mut Token) -
 }
 
 fn add_entry(piece: &str, domain: Option<&Sid>, token: &mut Token) -> Option<()>
-    ensures entries { option_map (λ _. token.new.entries) result
-        ≡ with_entry token.old.entries (specs.entry_reads (option_copied domain.entry) piece.now) }
+    ensures entries { option_map (λ _. token.new.holder.entries) result
+        ≡ with_entry token.old.holder.entries (specs.entry_reads (option_copied domain.entry) piece.now) }
     ensures compared { token.new.compared ≡ token.old.compared }
 {
     let (text, kind) = marked(piece.as_bytes());

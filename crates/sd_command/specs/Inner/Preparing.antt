@@ -16,9 +16,9 @@ abbrev pub StopsTaken : Result Prepared Stop → Type 0
 StopsTaken (Err (stop.Refused refusal)) = refusal ≡ NoMemory
 StopsTaken _ = Unit {0}
 
--- the job that the engine runs, and the entries of the token
+-- the task of the engine, and the holder of the token
 abbrev pub settled : Prepared → Settings
-settled prepared = record { job = prepared.engine; entries = prepared.token.entries }
+settled prepared = record { task = prepared.engine; holder = prepared.token.holder }
 
 -- what the words allow
 abbrev pub PreparesBy : List Text → Result Prepared Stop → Type 0

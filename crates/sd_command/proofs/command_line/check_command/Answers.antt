@@ -13,4 +13,5 @@ returns c =
     let object = c.with_option-command-5.ensures _ type in
     let self = c.with_option-command-6.ensures _ object in
     let security = c.with_flag-command-2.ensures _ self in
-    c.with_flag.ensures _ security
+    let take_ownership = c.with_flag-command-3.ensures _ security in
+    c.with_option.ensures _ take_ownership

@@ -11,4 +11,5 @@ returns c =
     let kind = c.with_required-command.ensures _ numeric in
     let owner = c.with_required-command-2.ensures _ kind in
     let group = c.with_required-command-3.ensures _ owner in
-    c.with_option.ensures _ group
+    let type = c.with_option-command-4.ensures _ group in
+    c.with_option.ensures _ type

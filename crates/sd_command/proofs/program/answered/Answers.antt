@@ -7,7 +7,7 @@ returns-in-Err g c = record {
   run = record {
     token = c.args.prepared.now.token;
     token' = c.run.new.token;
-    entries = refl;
+    holder = refl;
     none_compared = c.requires.none_compared;
     outcome = c.run.ensures.outcome;
   };

@@ -8,7 +8,7 @@ use Rattle.sd_command.proofs.token_text.add_entries.Given as goal
 
 abbrev pub invariant-loop-piece : goal.invariant-loop-piece
 invariant-loop-piece l = shadow (Utf8 l.rest)
-    × (with_pieces (option_copied l.domain) (cut_at_commas l.rest) l.token.entries
+    × (with_pieces (option_copied l.domain) (cut_at_commas l.rest) l.token.holder.entries
     ≡ with_pieces (option_copied l.fn.domain) (cut_at_commas l.fn.text) [])
     × (l.token.compared ≡ l.fn.token.compared)
 
