@@ -14,6 +14,7 @@ const SDDL_LINE_LIMIT: usize = 1_049_872;
 const TEXT_LIMIT: usize = 183;
 
 const HEADER_SIZE: usize = 20;
+const CONTROL_AT: usize = 2;
 const OFFSETS_AT: usize = 4;
 const SID_HEADER_SIZE: usize = 8;
 const ACL_HEADER_SIZE: usize = 8;
@@ -28,6 +29,8 @@ const DACL_PRESENT: u16 = 0x0004;
 const SACL_PRESENT: u16 = 0x0010;
 const DACL_AUTO_INHERITED: u16 = 0x0400;
 const SACL_AUTO_INHERITED: u16 = 0x0800;
+const DACL_PROTECTED: u16 = 0x1000;
+const SACL_PROTECTED: u16 = 0x2000;
 const UNKNOWN_FLAG: u8 = 0x20;
 const OBJECT_TYPE_PRESENT: u32 = 0x1;
 const INHERITED_OBJECT_TYPE_PRESENT: u32 = 0x2;
@@ -1306,6 +1309,22 @@ struct Ask {
     wanted: u32,
     maximum: bool,
     mapping: Mapping,
+    level: Option<u32>,
+}
+
+const LABEL_TYPE: u8 = 0x11;
+/// The SID of a label up to its one sub-authority.
+const LEVEL_SID: &[u8] = &[1, 1, 0, 0, 0, 0, 0, 16];
+const MEDIUM: u32 = 0x2000;
+const NO_WRITE_UP: u32 = 1;
+
+/// The level and the policy of the label of a canonical layout.
+fn label(layout: &[u8]) -> (u32, u32) {
+    let is_label = |(ace, at): &(&[u8], usize)| {
+        ace[0] == LABEL_TYPE && ace[1] & INHERIT_ONLY == 0 && ace[*at..].starts_with(LEVEL_SID)
+    };
+    let found = part_at(layout, Part::Sacl).and_then(|sacl| aces(sacl).find(is_label));
+    found.map_or((MEDIUM, NO_WRITE_UP), |(ace, at)| (u32_at(ace, at + LEVEL_SID.len()), u32_at(ace, 4) & 7))
 }
 
 fn entry_of_text(text: &str, domain: Option<&Sid>) -> Option<Entry> {
@@ -1362,10 +1381,24 @@ impl Ask {
         granted
     }
 
+    /// The rights that the label of a canonical layout leaves to the token.
+    fn left(&self, layout: &[u8]) -> u32 {
+        let Some(level) = self.level else {
+            return !0;
+        };
+        let (of_object, policy) = label(layout);
+        if level >= of_object {
+            return !0;
+        }
+        let [_, execute, write, read] = self.mapping;
+        let ways = [write, read, execute].into_iter().enumerate();
+        ways.filter(|(bit, _)| policy >> bit & 1 == 0).fold(0, |left, (_, rights)| left | rights)
+    }
+
     /// Appends the verdict on the descriptor of a canonical layout.
     fn put_verdict(&self, layout: &[u8], text: &mut Vec<u8>) {
         let of_all = if self.maximum { self.mapping[0] } else { 0 };
-        let granted = self.granted(layout, (self.wanted | of_all) & !SYSTEM_SECURITY);
+        let granted = self.granted(layout, (self.wanted | of_all) & self.left(layout) & !SYSTEM_SECURITY);
         let missing = self.wanted & !granted;
         let answered = self.wanted | granted & of_all;
         let is_granted = missing == 0 && answered != 0;
@@ -1379,13 +1412,54 @@ struct Plan {
     owner: Vec<u8>,
     group: Vec<u8>,
     mapping: Mapping,
+    /// A canonical layout.
+    creator: Option<Vec<u8>>,
 }
 
 impl Plan {
+    /// Appends the ACE for the object itself.
+    fn put_own(&self, ace: &[u8], sid_at: usize, flags: u8, acl: &mut Vec<u8>) {
+        let (mask, start) = (u32_at(ace, 4), acl.len());
+        acl.extend_from_slice(&ace[..sid_at]);
+        acl.extend_from_slice(match &ace[sid_at..] {
+            CREATOR_OWNER => &self.owner,
+            CREATOR_GROUP => &self.group,
+            sid => sid,
+        });
+        acl[start + 1] = flags;
+        let size = acl.len() - start;
+        set_u16(acl, start + 2, size);
+        set_u32(acl, start + 4, if ace[0] == LABEL_TYPE { mask } else { mapped(mask, &self.mapping) });
+    }
+
+    /// Appends what is taken of an ACE of the creator's descriptor; how many ACEs that is.
+    fn put_taken(&self, ace: &[u8], sid_at: usize, acl: &mut Vec<u8>) -> u16 {
+        let flags = ace[1];
+        let goes_on = flags & (OBJECT_INHERIT | CONTAINER_INHERIT) != 0;
+        let is_for_heirs = flags & INHERIT_ONLY != 0;
+        if flags & INHERITED != 0 || is_for_heirs && !self.is_container {
+            return 0;
+        }
+        let is_generic = ace[0] != LABEL_TYPE && u32_at(ace, 4) >> FIRST_GENERIC != 0;
+        let differs = is_generic || matches!(&ace[sid_at..], CREATOR_OWNER | CREATOR_GROUP);
+        if self.is_container && (is_for_heirs || goes_on && !differs) {
+            acl.extend_from_slice(ace);
+            return 1;
+        }
+        self.put_own(ace, sid_at, flags & AUDIT_FLAGS, acl);
+        if !self.is_container || !goes_on {
+            return 1;
+        }
+        let start = acl.len();
+        acl.extend_from_slice(ace);
+        acl[start + 1] |= INHERIT_ONLY;
+        2
+    }
+
     /// Appends the copies of an ACE; how many there are.
     fn put_copies(&self, ace: &[u8], sid_at: usize, acl: &mut Vec<u8>) -> u16 {
         let (flags, mask, sid) = (ace[1], u32_at(ace, 4), &ace[sid_at..]);
-        let is_label = ace[0] == 0x11;
+        let is_label = ace[0] == LABEL_TYPE;
         let mut put = |flags: u8, mask: u32, sid: &[u8]| {
             let start = acl.len();
             acl.extend_from_slice(&ace[..sid_at]);
@@ -1426,17 +1500,23 @@ impl Plan {
         }
     }
 
-    /// Makes the ACL of the copies of an ACL's ACEs.
-    fn derive_acl(&self, parent: Option<&[u8]>, acl: &mut Vec<u8>) {
+    /// Makes the ACL of what is taken of the creator's ACEs, and of the copies of the parent's.
+    fn derive_acl(&self, creator: Option<&[u8]>, parent: Option<&[u8]>, acl: &mut Vec<u8>) {
         acl.clear();
         acl.extend_from_slice(&[2, 0, 0, 0, 0, 0, 0, 0]);
         let mut count = 0;
-        for (ace, sid_at) in parent.into_iter().flat_map(aces) {
-            let copies = self.put_copies(ace, sid_at, acl);
-            if copies > 0 && matches!(ace[0], 0x05 | 0x06 | 0x07) {
+        let of_creator = creator.into_iter().flat_map(aces).map(|ace| (ace, true));
+        let of_parent = parent.into_iter().flat_map(aces).map(|ace| (ace, false));
+        for ((ace, sid_at), is_brought) in of_creator.chain(of_parent) {
+            let more = if is_brought {
+                self.put_taken(ace, sid_at, acl)
+            } else {
+                self.put_copies(ace, sid_at, acl)
+            };
+            if more > 0 && matches!(ace[0], 0x05 | 0x06 | 0x07) {
                 acl[0] = 4;
             }
-            count += copies;
+            count += more;
         }
         let size = acl.len();
         set_u16(acl, 2, size);
@@ -1447,17 +1527,29 @@ impl Plan {
     fn derive(&self, parent: &[u8], bytes: &mut [Vec<u8>; PARTS.len()], layout: &mut Vec<u8>) -> Result<(), Fault> {
         bytes[Part::Owner as usize].clone_from(&self.owner);
         bytes[Part::Group as usize].clone_from(&self.group);
-        for acl in [Part::Sacl, Part::Dacl] {
-            self.derive_acl(part_at(parent, acl), &mut bytes[acl as usize]);
-            if bytes[acl as usize].len() > MAX_ACL_SIZE {
+        let mut control = SELF_RELATIVE;
+        for (acl, present, protected, auto_inherited) in [
+            (Part::Sacl, SACL_PRESENT, SACL_PROTECTED, SACL_AUTO_INHERITED),
+            (Part::Dacl, DACL_PRESENT, DACL_PROTECTED, DACL_AUTO_INHERITED),
+        ] {
+            let brought = self.creator.as_deref().filter(|creator| u16_at(creator, CONTROL_AT) & present != 0);
+            let protected = brought.map_or(0, |creator| u16_at(creator, CONTROL_AT) & protected);
+            let list = brought.and_then(|creator| part_at(creator, acl));
+            let made = &mut bytes[acl as usize];
+            if brought.is_some() && list.is_none() {
+                made.clear();
+                control |= present | protected;
+                continue;
+            }
+            self.derive_acl(list, part_at(parent, acl).filter(|_| protected == 0), made);
+            if made.len() > MAX_ACL_SIZE {
                 return Err(Fault::DerivedTooLarge(acl));
             }
-        }
-        let mut control = SELF_RELATIVE | DACL_PRESENT | DACL_AUTO_INHERITED;
-        if bytes[Part::Sacl as usize].len() > ACL_HEADER_SIZE {
-            control |= SACL_PRESENT | SACL_AUTO_INHERITED;
-        } else {
-            bytes[Part::Sacl as usize].clear();
+            if brought.is_some() || matches!(acl, Part::Dacl) || made.len() > ACL_HEADER_SIZE {
+                control |= present | if protected != 0 { protected } else { auto_inherited };
+            } else {
+                made.clear();
+            }
         }
         join_parts(control, bytes, layout);
         Ok(())
@@ -1598,6 +1690,10 @@ impl Words {
             wanted: mapped(want, &mapping) & !MAXIMUM_ALLOWED,
             maximum: self.0.remove("maximum").is_some() || want & MAXIMUM_ALLOWED != 0,
             mapping,
+            level: match self.0.remove("level") {
+                Some(text) => Some(text.parse().ok()?),
+                None => None,
+            },
         })
     }
 
@@ -1611,6 +1707,14 @@ impl Words {
             },
             owner: self.take_sid("owner", domain)?,
             group: self.take_sid("group", domain)?,
+            creator: match self.0.remove("creator") {
+                Some(text) => {
+                    let mut layout = Vec::new();
+                    read_sddl(text.as_bytes(), domain, &mut Default::default(), &mut layout).ok()?;
+                    Some(layout)
+                }
+                None => None,
+            },
         })
     }
 }

@@ -44,6 +44,10 @@ USUAL_TOKEN = ["WD", "AU", "IU", "BU", *accounts(1105, 513, *range(40_000, 40_01
 LARGEST_TOKEN = accounts(*range(40_000, 41_024))
 CHECKED, CHECKED_IN_VAIN = (["check", "--want", "FR", "--token", ",".join(token)] for token in (USUAL_TOKEN, LARGEST_TOKEN))
 DERIVED = ["derive", "--kind", "container", "--owner", *accounts(1105), "--group", *accounts(513)]
+# A folder that its user creates with labels and ACEs of its own.
+CREATOR = f"D:(A;OICI;GA;;;CO)(A;OICI;0x1301bf;;;{DOMAIN_TEXT}-1105)(D;;WD;;;WD)S:(ML;OICI;NW;;;ME)"
+CREATED = [*DERIVED, "--creator", CREATOR]
+LOW = [*CHECKED, "--level", "4096"]
 TO_HEX, TO_BASE64, TO_SDDL = (["convert", "--to", form] for form in ("hex", "base64", "sddl"))
 LONGEST = "longest"
 # What is measured: the form of the lines, the number of ACEs of each, or None for the mixture, and what is asked.
@@ -58,8 +62,10 @@ MEASURED = {
     "the mixture from SDDL to hex": ("sddl", None, TO_HEX),
     "the mixture from SDDL to SDDL": ("sddl", None, TO_SDDL),
     "the mixture checked for a token of 20": ("hex", None, CHECKED),
+    "the mixture checked for the same token at the level Low": ("hex", None, LOW),
     "the mixture derived from": ("hex", None, [*DERIVED, "--to", "hex"]),
     "the mixture derived from, SDDL to SDDL": ("sddl", None, DERIVED),
+    "the mixture derived from with a creator's descriptor": ("hex", None, [*CREATED, "--to", "hex"]),
     "375 ACEs a line to hex": ("hex", 375, TO_HEX),
     "750 ACEs a line to hex": ("hex", 750, TO_HEX),
     "1,500 ACEs a line to hex": ("hex", 1500, TO_HEX),

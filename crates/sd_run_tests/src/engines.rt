@@ -4,8 +4,9 @@ use crate::devices::{ANSWERS, TEXT, answers_to, count};
 use crate::memory::{Failing, Input, Output};
 use sd_access::{Ask, Plan, Privileges, Target};
 use sd_binary::{SdBuf, TextBuf};
-use sd_core::{EntryKind, Mapping, Sid, Token};
+use sd_core::{EntryKind, Mapping, Sid, SidFault, Token};
 use sd_filter::{Act, Engine, Form, FromRead, Job, Report, RunFault, ToWrite, run};
+use sd_sddl::SddlFault;
 use std::io::Error;
 use std::io::ErrorKind::{Interrupted, Other, WouldBlock};
 use std::process::Abort;
@@ -98,6 +99,52 @@ fn runs_the_longest_line_over_used_buffers(rt: HostRuntime) {
     for most in [usize::MAX, 1] {
         expect_answers(&rt, &mut engine, &mut token, most, &input, answers, 1);
     }
+}
+
+// What an engine answers for a new file that was given two creators' descriptors, the second with this outcome, run after
+// run.
+fn expect_created(
+    rt: &(impl Abort + AllocGlobal),
+    first: &[u8],
+    second: &[u8],
+    want: Result<(), SddlFault>,
+    answers: &str,
+) {
+    let sid = Sid::from_text(b"BA", None).expect(rt, "a SID");
+    let plan = Plan {
+        target: Target::File,
+        owner: sid,
+        group: sid,
+        mapping: Mapping::FILE,
+    };
+    let job = Job {
+        source: Form::Sddl,
+        act: Act::Derive(plan, Form::Sddl),
+        domain: None,
+        numeric: false,
+    };
+    let mut engine = Engine::new(rt.alloc(), job).expect(rt, "memory for an engine");
+    let mut token = Token::new(rt.alloc()).expect(rt, "memory for a token");
+    assert!(rt; engine.set_creator(first) == Ok(()));
+    assert!(rt; engine.set_creator(second) == want);
+    for most in [usize::MAX, 1] {
+        let lines = "D:(A;OI;FA;;;SY)\nO:ZZ\nD:(A;OI;FA;;;SY)\n";
+        expect_answers(rt, &mut engine, &mut token, most, lines, answers, 1);
+    }
+}
+
+// The second takes the place of the first. After one that does not read there is none.
+#[test]
+fn keeps_a_creator_over_runs(rt: HostRuntime) {
+    let text = "O:BAG:BAD:AI(A;;FR;;;BU)(A;ID;FA;;;SY)\nerror 22 alias\nO:BAG:BAD:AI(A;;FR;;;BU)(A;ID;FA;;;SY)\n";
+    expect_created(&rt, b"D:P", b"D:(A;;FR;;;BU)", Ok(()), text);
+    let text = "O:BAG:BAD:P\nerror 22 alias\nO:BAG:BAD:P\n";
+    expect_created(&rt, b"D:(A;;FR;;;BU)", b"D:P", Ok(()), text);
+    let text = "O:BAG:BAD:AI(A;ID;FA;;;SY)\nerror 22 alias\nO:BAG:BAD:AI(A;ID;FA;;;SY)\n";
+    expect_created(&rt, b"D:P", b"", Ok(()), text);
+    expect_created(&rt, b"D:P", b"D:(A;;FR;;;BU", Err(SddlFault::Shape), text);
+    let fault = Err(SddlFault::Sid(SidFault::Alias));
+    expect_created(&rt, b"D:P", b"O:ZZD:(A;;FR;;;BU)", fault, text);
 }
 
 // A run that checks leaves the token's entries as they are, and compares each at most once for an ACE; one that derives
