@@ -1,4 +1,4 @@
-// The line of an ACE (MS-DTYP 2.4.4).
+//! The line of an ACE (MS-DTYP 2.4.4).
 ghost use Rattle.std.specs.Prelude.{◌≡◌, ◌/◌, ◌%◌, ◌++◌, codes};
 ghost use Rattle.sd_sink.specs.Print.{Prints};
 ghost use Rattle.sd_kinds.specs.Flags.{flags_text};

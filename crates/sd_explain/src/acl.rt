@@ -1,4 +1,4 @@
-// The lines of an ACL (MS-DTYP 2.4.5).
+//! The lines of an ACL (MS-DTYP 2.4.5).
 ghost use Rattle.std.specs.Prelude.{◌<◌};
 ghost use Rattle.sd_sink.specs.Print.{Prints};
 ghost use Rattle.sd_explain.specs.Explain.{ace_lines, acl_lines, count_line};

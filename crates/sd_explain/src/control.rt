@@ -1,4 +1,4 @@
-// The lines of the control word and of the resource manager byte (MS-DTYP 2.4.6).
+//! The lines of the control word and of the resource manager byte (MS-DTYP 2.4.6).
 ghost use Rattle.std.specs.Prelude.{◌<◌};
 ghost use Rattle.std.specs.List.{flat_map};
 ghost use Rattle.sd_sink.specs.Print.{Prints};

@@ -1,4 +1,4 @@
-// The explanation of a descriptor (MS-DTYP 2.4.6).
+//! The explanation of a descriptor (MS-DTYP 2.4.6).
 ghost use Rattle.std.specs.Prelude.{◌≤◌, ◌+◌, ◌*◌, Bool, length, Option};
 ghost use Rattle.std.specs.Option.{option_copied};
 ghost use Rattle.sd_sid.specs.Naming.{naming_by};
@@ -27,9 +27,11 @@ pub fn put_explain<S: Sink>(
     numeric: bool,
     sink: &mut S,
 ) -> Result<(), SinkFault>
-    ensures put { Puts (S.told sink.old) (S.told sink.new) (explain (naming_by (option_copied domain.entry) numeric) view.now) result }
+    ensures put { Puts (S.told sink.old) (S.told sink.new)
+        (explain (naming_by (option_copied domain.entry) numeric) view.now) result }
     // Under any domain, and with numbers alone too.
-    ensures short { (any : Option SecurityId) (numbers : Bool) → length (explain (naming_by any numbers) view.now) ≤ 8 * size view.now + 64 }
+    ensures short { (any : Option SecurityId) (numbers : Bool)
+        → length (explain (naming_by any numbers) view.now) ≤ 8 * size view.now + 64 }
 {
     let mut out = Gather::new(sink);
     print_explain(view, domain, numeric, &mut out);
@@ -38,7 +40,8 @@ pub fn put_explain<S: Sink>(
 
 /// Prints what a descriptor has, as `put_explain` puts it.
 pub fn print_explain<P: Print>(view: &SdView<'_>, domain: Option<&Sid>, numeric: bool, out: &mut P)
-    ensures printed { Prints (P.told out.old) (P.told out.new) (explain (naming_by (option_copied domain.entry) numeric) view.now) }
+    ensures printed { Prints (P.told out.old) (P.told out.new)
+        (explain (naming_by (option_copied domain.entry) numeric) view.now) }
     ensures limits { IsDescriptor view.now }
 {
     let naming = Naming {

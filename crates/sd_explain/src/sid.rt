@@ -1,4 +1,4 @@
-// SIDs with their aliases, and the lines of owner and group (MS-DTYP 2.4.2).
+//! SIDs with their aliases, and the lines of owner and group (MS-DTYP 2.4.2).
 ghost use Rattle.sd_sink.specs.Print.{Prints};
 ghost use Rattle.sd_explain.specs.Explain.{name_after, sid_line, sid_or_none, sid_words};
 

@@ -25,7 +25,7 @@ use Rattle.sd_sddl_reader.specs.FoldedReading.{Field, FieldsRead, ace_fields, gr
 use Rattle.sd_sddl_reader.specs.Line.{ace, byte, has_aces}
 use Rattle.sd_text.specs.Chains.{and_then}
 use Rattle.std.specs.Option.{option_or}
-use Rattle.sd_sddl_reader.proofs.laws.FlagRuns.{or-none}
+use Rattle.sd_sddl_fields.proofs.laws.FlagRuns.{or-none}
 use Rattle.sd_sddl_printer.specs.Printed.{trustee_text}
 use Rattle.sd_sddl_reader.proofs.laws.FoldedSections.{read-append}
 use Rattle.sd_sddl_printer.proofs.AceTexts.{field_at, inner-fields, inner_text, inner_text-is}

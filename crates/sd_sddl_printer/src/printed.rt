@@ -29,11 +29,14 @@ pub fn put_sddl<S: Sink>(
     numeric: bool,
     sink: &mut S,
 ) -> Result<(), SinkFault>
-    ensures put { Puts (S.told sink.old) (S.told sink.new) (sddl (naming_by (option_copied domain.entry) numeric) view.now) result }
+    ensures put { Puts (S.told sink.old) (S.told sink.new)
+        (sddl (naming_by (option_copied domain.entry) numeric) view.now) result }
     // Under any domain, and with numbers alone too.
-    ensures short { (any : Option SecurityId) (numbers : Bool) → length (sddl (naming_by any numbers) view.now) ≤ 8 * size view.now + 63 }
+    ensures short { (any : Option SecurityId) (numbers : Bool)
+        → length (sddl (naming_by any numbers) view.now) ≤ 8 * size view.now + 63 }
     // The text means the descriptor, but for what is dropped.
-    ensures back { means (sddl (naming_by (option_copied domain.entry) numeric) view.now) (option_copied domain.entry) ≡ Ok (plain view.now) }
+    ensures back { means (sddl (naming_by (option_copied domain.entry) numeric) view.now) (option_copied domain.entry)
+        ≡ Ok (plain view.now) }
 {
     let mut out = Gather::new(sink);
     print_sddl(view, domain, numeric, &mut out);
@@ -42,7 +45,8 @@ pub fn put_sddl<S: Sink>(
 
 /// Prints a descriptor as SDDL, as `put_sddl` puts it.
 pub fn print_sddl<P: Print>(view: &SdView<'_>, domain: Option<&Sid>, numeric: bool, out: &mut P)
-    ensures printed { Prints (P.told out.old) (P.told out.new) (sddl (naming_by (option_copied domain.entry) numeric) view.now) }
+    ensures printed { Prints (P.told out.old) (P.told out.new)
+        (sddl (naming_by (option_copied domain.entry) numeric) view.now) }
     ensures limits { IsDescriptor view.now }
 {
     let naming = Naming {

@@ -8,12 +8,12 @@ use Rattle.sd_kinds.specs.declared.kinds.AceKind.{AceKind}
 use Rattle.sd_builder.specs.Draft.{Parts, built, closed}
 use Rattle.sd_builder.specs.declared.builder.Builder.{Builder}
 use Rattle.sd_sddl_reader.specs.FoldedReading.{FieldsRead, begun_or_null, described, finished, no_fields, take_front, with_flags}
-use Rattle.sd_sddl_reader.specs.FieldTexts.{object_reads}
+use Rattle.sd_sddl_fields.specs.FieldTexts.{object_reads}
 use Rattle.sd_sddl_reader.specs.Meaning.{control_flags, unless_large}
 use Rattle.sd_sddl_reader.specs.Inner.Reads.{AreAceFields, BuildsParts, HasReadFields}
 use Rattle.sd_control.specs.declared.control.AclFlags.{AclFlags}
 use Rattle.sd_sddl_reader.specs.declared.reading.AceFields.{AceFields}
-use Rattle.sd_sddl_reader.specs.declared.reading.AclFront.{AclFront}
+use Rattle.sd_sddl_fields.specs.declared.field_texts.AclFront.{AclFront}
 use Rattle.sd_control.specs.declared.control.Which.{Which}
 use Rattle.sd_control.specs.declared.control.Which.TheVariants as which
 use Rattle.sd_sddl_reader.specs.declared.reading.FieldReader.{FieldReader}

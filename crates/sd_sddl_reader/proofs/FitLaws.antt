@@ -14,8 +14,8 @@ use Rattle.sd_sddl_reader.specs.Line.{same_head}
 use Rattle.sd_sddl_reader.specs.FoldedReading.{FieldsRead, ace_of_fields, begun_or_null, fault_of, nothing_read, take_ace_field, take_field, take_front, take_readable, with_flags, with_owner_or_group, with_sid, with_trustee, with_value}
 use Rattle.sd_text.specs.Chains.{and_then, unless}
 use Rattle.sd_sddl_reader.specs.Meaning.{is_unreadable}
-use Rattle.sd_sddl_reader.specs.FieldTexts.{front_reads, kind_reads, object_reads}
-use Rattle.sd_sddl_reader.specs.Inner.Held.{Held, held_text}
+use Rattle.sd_sddl_fields.specs.FieldTexts.{front_reads, kind_reads, object_reads}
+use Rattle.sd_sddl_fields.specs.Held.{Held, held_text}
 use Rattle.sd_sddl_reader.specs.Inner.Progress.{ended_with, is_seen, state_of, with_head}
 use Rattle.sd_sddl_reader.proofs.Steps.{seen_with}
 use Rattle.sd_sddl_reader.specs.Inner.Reads.{CanTake, Fits, HasReadFields, LineHasRead, Lacks, is_at_front, is_in_acl}
@@ -35,7 +35,7 @@ use Rattle.sd_sddl_reader.specs.declared.line.Slot.{Slot}
 use Rattle.sd_sddl_reader.specs.declared.line.Slot.TheVariants as slot
 use Rattle.sd_sddl_reader.specs.declared.reader.SddlReader.{SddlReader}
 use Rattle.sd_sddl_reader.specs.declared.reading.AceFields.{AceFields}
-use Rattle.sd_sddl_reader.specs.declared.reading.AclFront.{AclFront}
+use Rattle.sd_sddl_fields.specs.declared.field_texts.AclFront.{AclFront}
 use Rattle.sd_control.specs.declared.control.Which.{Which}
 use Rattle.sd_control.specs.declared.control.Which.TheVariants as which
 

@@ -3,7 +3,6 @@ pub mod FieldTexts
 pub mod FitLaws
 mod LineRows
 pub mod MeansLimits
-pub mod PlainFields
 pub mod Runs
 pub mod Steps
 pub mod TrusteeLaws

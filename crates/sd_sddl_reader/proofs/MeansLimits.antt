@@ -27,7 +27,7 @@ use Rattle.sd_sddl_reader.specs.FoldedReading.{Field, FieldsRead, ace_of_fields,
 use Rattle.sd_sddl_reader.specs.Line.{has_twice, is_shaped, sections_of}
 use Rattle.sd_text.specs.Chains.{and_then}
 use Rattle.sd_sddl_reader.specs.Meaning.{is_unreadable, means, unless_large}
-use Rattle.sd_sddl_reader.specs.FieldTexts.{front_reads, kind_reads, object_reads}
+use Rattle.sd_sddl_fields.specs.FieldTexts.{front_reads, kind_reads, object_reads}
 use Rattle.sd_sddl_reader.specs.Inner.Reads.{AreAceFields}
 use Rattle.sd_control.specs.declared.control.AclFlags.{AclFlags}
 use Rattle.sd_sddl_reader.specs.declared.fault.SddlFault.{SddlFault}
@@ -39,7 +39,7 @@ use Rattle.sd_sddl_reader.specs.declared.line.SidPart.TheVariants as sid_part
 use Rattle.sd_sddl_reader.specs.declared.line.Slot.{Slot}
 use Rattle.sd_sddl_reader.specs.declared.line.Slot.TheVariants as slot
 use Rattle.sd_sddl_reader.specs.declared.reading.AceFields.{AceFields}
-use Rattle.sd_sddl_reader.specs.declared.reading.AclFront.{AclFront}
+use Rattle.sd_sddl_fields.specs.declared.field_texts.AclFront.{AclFront}
 use Rattle.sd_control.proofs.laws.ControlLaws.{control-bits}
 use Rattle.sd_sddl_reader.proofs.laws.ControlFlags.{flags-small}
 use Rattle.sd_sddl_reader.proofs.laws.FoldedMeaning.{folded-means}

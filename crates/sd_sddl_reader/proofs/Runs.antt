@@ -1,10 +1,9 @@
 -- Bytes that only go onto the text of the field at hand, taken all at once.
-use Rattle.std.proofs.Common.{◌≡◌, ℕ, ◌+◌, ◌<◌, ◌≤◌, Bool, true, false, ◌||◌, List, [], ◌∷◌, ◌++◌, length, take, drop, refl, ap, sym, ◌∙◌, arith, append_assoc, length-append, true≢false}
+use Rattle.std.proofs.Common.{◌≡◌, ℕ, Bool, true, false, ◌||◌, List, [], ◌∷◌, ◌++◌, length, take, drop, refl, ap, sym, ◌∙◌, arith, append_assoc, true≢false}
 use Rattle.std.specs.Prelude.{◌==◌, not, if◌then◌else◌, Result, Option, Some, None}
 use Rattle.std.specs.List.{list_all}
 use Rattle.std.specs.Option.{is_none, is_some}
 use Rattle.std.proofs.lemmas.List.{take-append-drop}
-use Rattle.std.proofs.lemmas.Bool.Decides.{nat_tests}
 use Rattle.std.proofs.lemmas.Bool.{and_parts}
 use Rattle.sd_sid.specs.Sid.{SecurityId}
 use Rattle.sd_sddl_reader.specs.declared.fault.SddlFault.{SddlFault}
@@ -12,8 +11,10 @@ use Rattle.sd_sddl_reader.specs.declared.line.AceField.{AceField}
 use Rattle.sd_sddl_reader.specs.declared.line.State.TheVariants as state
 use Rattle.sd_sddl_reader.specs.declared.line.Seen.{Seen}
 use Rattle.sd_sddl_reader.specs.declared.line.SidPart.{SidPart}
-use Rattle.sd_sddl_reader.specs.Inner.Held.{Held, IsHeld, broken_text, held_run, held_with, is_plain_inside, is_plain_outside}
-use Rattle.sd_sddl_reader.specs.Line.{head_of, is_blank}
+use Rattle.sd_sddl_fields.specs.Held.{Held, IsHeld, broken_text, held_run, held_with, is_plain_inside}
+use Rattle.sd_sddl_reader.specs.Inner.Progress.{is_plain_outside}
+use Rattle.sd_sddl_reader.specs.Line.{head_of}
+use Rattle.sd_sddl_fields.specs.FieldTexts.{is_blank}
 use Rattle.sd_sddl_reader.specs.FoldedReading.{FieldsRead}
 use Rattle.sd_text.specs.Chains.{unless}
 use Rattle.sd_sddl_reader.specs.Inner.Progress.{rest_answer}
@@ -22,80 +23,7 @@ use Rattle.sd_sddl_reader.specs.declared.reader.SddlReader.{SddlReader}
 use Rattle.sd_sddl_reader.proofs.FieldTexts.{append_nothing, same_inner, same_text, with_held}
 use Rattle.sd_sddl_reader.proofs.Steps.{entry_text, no_head, sid_text}
 
--- 1. The text of a field.
-
-with_broken : (h : Held) (b : ℕ) → h.broken ≡ true → held_with h b ≡ broken_text
-with_broken h b e = rw e refl
-
-with_gap : (h : Held) (b : ℕ) → h.gap ≡ true → held_with h b ≡ broken_text
-with_gap h b e = by_broken h.broken
-  where
-    by_broken : (x : Bool)
-        → (if x || (h.gap || length h.text == 183) then broken_text else record {
-          text = h.text ++ b ∷ [];
-          gap =
-              false;
-          broken = false;
-        }) ≡ broken_text
-    by_broken true = refl
-    by_broken false = rw e refl
-
-run-broken : (bs : List ℕ) → held_run broken_text bs ≡ broken_text
-run-broken [] = refl
-run-broken (b ∷ bs) = run-broken bs
-
--- a text that can no longer read stays so, and so does one after which blanks stood
-pub run-spoilt : (h : Held) (bs : List ℕ) → (h.broken || h.gap) ≡ true → 0 < length bs → held_run h bs ≡ broken_text
-run-spoilt h [] e some = absurd (omega arith)
-run-spoilt h (b ∷ bs) e some = ap (λ x. held_run x bs) (by_broken h.broken h.gap e) ∙ run-broken bs
-  where
-    by_broken : (x y : Bool) → (x || y) ≡ true
-        → (if x || (y || length h.text == 183) then broken_text else record {
-          text = h.text ++ b ∷ [];
-          gap =
-              false;
-          broken = false;
-        }) ≡ broken_text
-    by_broken true y f = refl
-    by_broken false true f = refl
-    by_broken false false f = absurd cc
-
-pub run-fits : (t bs : List ℕ) → length t + length bs ≤ 183
-    → held_run (record { text = t; gap = false; broken = false }) bs
-    ≡ record { text = t ++ bs; gap = false; broken = false }
-run-fits t [] fits = rw (append_nothing t) refl
-run-fits t (b ∷ bs) fits =
-    let room : (length t == 183) ≡ false = grind (arith, nat_tests) in
-    rw room (run-fits (t ++ b ∷ []) bs (omega (arith, length-append t (b ∷ []))) ∙ rw (append_assoc t (b ∷ []) bs) refl)
-
-pub run-long : (t bs : List ℕ) → length t ≤ 183 → 183 < length t + length bs
-    → held_run (record { text = t; gap = false; broken = false }) bs ≡ broken_text
-run-long t [] fits long = absurd (omega arith)
-run-long t (b ∷ bs) fits long =
-    by_room (length t == 183) refl
-    (λ room. run-long (t ++ b ∷ []) bs (omega (arith, length-append t (b ∷ [])))
-    (omega (arith, length-append t (b ∷ []))))
-  where
-    by_room : (full : Bool) → (length t == 183) ≡ full
-        → (length t < 183 → held_run (record { text = t ++ b ∷ []; gap = false; broken = false }) bs ≡ broken_text)
-        → held_run (if full then broken_text else record { text = t ++ b ∷ []; gap = false; broken = false }) bs
-        ≡ broken_text
-    by_room true e more = run-broken bs
-    by_room false e more = more (grind (arith, nat_tests))
-
-whole : (h : Held) → h.broken ≡ false → h.gap ≡ false → h ≡ record { text = h.text; gap = false; broken = false }
-whole h eb eg = ap (λ g. record { text = h.text; gap = g; broken = h.broken }) eg
-    ∙ ap (λ x. record { text = h.text; gap = false; broken = x }) eb
-
-pub run-more : (h : Held) (bs : List ℕ) → h.broken ≡ false → h.gap ≡ false → length h.text + length bs ≤ 183
-    → held_run h bs ≡ record { text = h.text ++ bs; gap = false; broken = false }
-run-more h bs eb eg fits = ap (λ x. held_run x bs) (whole h eb eg) ∙ run-fits h.text bs fits
-
-pub run-too-long : (h : Held) (bs : List ℕ) → h.broken ≡ false → h.gap ≡ false → length h.text ≤ 183
-    → 183 < length h.text + length bs → held_run h bs ≡ broken_text
-run-too-long h bs eb eg fits long = ap (λ x. held_run x bs) (whole h eb eg) ∙ run-long h.text bs fits long
-
--- 2. What is held stays clean.
+-- 1. What is held stays clean.
 
 pub record IsPlain (b : ℕ) : Type 0 where
   pub opens : (b == 40) ≡ false
@@ -155,7 +83,7 @@ outside-held h (b ∷ bs) k e =
     let p = outside_parts b bs e in
     outside-held (held_with h b) bs (with_held h b k (plain-is b p.0).blank) p.3
 
--- 3. The answer to a run.
+-- 2. The answer to a run.
 
 module _ (dm : Option SecurityId) (so tw : Bool) (se : Seen) (r : Result FieldsRead SddlFault) where
   pub inside-run : (c : AceField) (h : Held) (bs rest : List ℕ) → IsHeld h → h.gap ≡ false
@@ -181,7 +109,7 @@ module _ (dm : Option SecurityId) (so tw : Bool) (se : Seen) (r : Result FieldsR
       ∙ sid_text dm so tw se r b (bs ++ rest) l.opens l.closes (no_head _ _ o.2) p h (held_with h b) o.1
       (λ u. same_text h b u k l.blank)
 
--- 4. The reader after a run.
+-- 3. The reader after a run.
 
 -- with a run on the text of the field at hand, it has read the run
 abbrev pub Goes : SddlReader → List ℕ → Type 0
@@ -235,7 +163,7 @@ outside-goes s p bs here none plain buf r = (
       (unless s.fault t) p s.field bs rest r.calm.held plain)) h,
 )
 
--- 5. A text fed in runs.
+-- 4. A text fed in runs.
 
 pub none-if : {X : Type 0} → (x : Option X) (b : Bool) → b ≡ true → is_some x ≡ not b → x ≡ None
 none-if None b e f = refl

@@ -22,8 +22,9 @@ use Rattle.sd_sddl_reader.specs.declared.line.SidPart.{SidPart}
 use Rattle.sd_sddl_reader.specs.declared.line.SidPart.TheVariants as sid_part
 use Rattle.sd_sddl_reader.specs.declared.line.Slot.{Slot}
 use Rattle.sd_sddl_reader.specs.declared.line.Slot.TheVariants as slot
-use Rattle.sd_sddl_reader.specs.Inner.Held.{Held, IsHeld, no_text, held_text}
-use Rattle.sd_sddl_reader.specs.Line.{is_blank, is_paired, Piece, byte, ace, pieces_from, sections, Section, Sections, is_sid_body, are_aces, is_acl_body, are_shaped, cut_at_semicolons, front, aces, has_aces, has_twice, has_head, head_at, head_of, sections_of, begins_with_colon, same_head, is_body}
+use Rattle.sd_sddl_fields.specs.Held.{Held, IsHeld, no_text, held_text}
+use Rattle.sd_sddl_reader.specs.Line.{is_paired, Piece, byte, ace, pieces_from, sections, Section, Sections, is_sid_body, are_aces, is_acl_body, are_shaped, cut_at_semicolons, front, aces, has_aces, has_twice, has_head, head_at, head_of, sections_of, begins_with_colon, same_head, is_body}
+use Rattle.sd_sddl_fields.specs.FieldTexts.{is_blank}
 use Rattle.sd_sddl_reader.specs.FoldedReading.{Field, FieldsRead, ace_fields, ace_fields_from, fields_in, fields_of, next_field, nothing_read, read_fields, reads_as, take_field, if_shaped}
 use Rattle.sd_text.specs.Chains.{and_then, unless}
 use Rattle.sd_sddl_reader.specs.Inner.Progress.{is_inside, fields_left, is_shaped_here, text_with, inner_with, fields_here, is_seen, with_head, has_seen, judged, rest_answer, state_of, ended_with}

@@ -1,13 +1,12 @@
 -- An ACE that stands whole in what comes, read where it stands.
-use Rattle.std.proofs.Common.{◌≡◌, ℕ, ◌+◌, ◌≤◌, Bool, true, false, List, [], ◌∷◌, ◌++◌, length, take, drop, Ok, Err, Some, None, refl, ap, sym, ◌∙◌, subst, arith, append_assoc, ◌<◌, ◌-◌, get_or}
+use Rattle.std.proofs.Common.{◌≡◌, ℕ, ◌≤◌, Bool, true, false, List, [], ◌∷◌, ◌++◌, length, Ok, Err, Some, None, refl, ap, sym, ◌∙◌, subst, arith, append_assoc}
 use Rattle.std.specs.Prelude.{Result, Option}
-use Rattle.std.proofs.lemmas.Grind.{common_steps}
 use Rattle.std.specs.List.{list_all}
 use Rattle.sd_sid.specs.Sid.{SecurityId}
 use Rattle.sd_sid.specs.SidText.{sid_reads}
 use Rattle.sd_kinds.specs.Flags.{flags_reads}
 use Rattle.sd_rights.specs.Rights.{rights_reads}
-use Rattle.sd_sddl_reader.specs.FieldTexts.{kind_reads}
+use Rattle.sd_sddl_fields.specs.FieldTexts.{kind_reads}
 use Rattle.sd_sddl_reader.specs.declared.fault.SddlFault.{SddlFault}
 use Rattle.sd_sddl_reader.specs.declared.line.AceField.{AceField}
 use Rattle.sd_sddl_reader.specs.declared.line.AceField.TheVariants as field
@@ -17,17 +16,19 @@ use Rattle.sd_sddl_reader.specs.declared.line.Slot.TheVariants as slot
 use Rattle.sd_sddl_reader.specs.declared.reading.AceFields.{AceFields}
 use Rattle.sd_sddl_reader.specs.declared.reading.FieldReader.{FieldReader}
 use Rattle.sd_sddl_reader.specs.FoldedReading.{FieldsRead, take_ace_field, take_field, with_trustee}
-use Rattle.sd_sddl_reader.specs.Inner.Held.{IsHeld, is_plain_inside, no_text}
+use Rattle.sd_sddl_fields.specs.Held.{IsHeld, is_plain_inside, no_text}
 use Rattle.sd_sddl_reader.specs.Inner.Progress.{rest_answer, end_of, state_after}
 use Rattle.sd_sddl_reader.specs.Inner.Reads.{AreAceFields, FedTo, Fits, IsReader, LineHasRead, Steps}
 use Rattle.sd_sddl_reader.specs.declared.reader.SddlReader.{SddlReader}
-use Rattle.sd_sddl_reader.specs.Inner.WholeAce.{AceTexts, EndsAce, FieldAt, ObjectsAt, AreWhole, TakesAce, ace_before, with_field, with_texts}
+use Rattle.sd_sddl_reader.specs.Inner.WholeAce.{AceTexts, EndsAce, AreWhole, TakesAce, ace_before, with_field, with_texts}
+use Rattle.sd_sddl_fields.specs.FieldFronts.{FieldAt, ObjectsAt}
 use Rattle.sd_text.specs.Chains.{and_then, unless}
 use Rattle.sd_sddl_reader.specs.Meaning.{is_unreadable}
 use Rattle.sd_sddl_reader.proofs.FieldLaws.{sound-inherited, sound-object}
 use Rattle.sd_sddl_reader.proofs.FieldTexts.{held-readable}
 use Rattle.sd_sddl_reader.proofs.FitLaws.{fits-field, fits-next}
-use Rattle.sd_sddl_reader.proofs.Runs.{inside-held, inside-run, run-fits}
+use Rattle.sd_sddl_fields.proofs.laws.HeldRuns.{run-fits}
+use Rattle.sd_sddl_reader.proofs.Runs.{inside-held, inside-run}
 use Rattle.sd_sddl_reader.proofs.Steps.{close_last, cut, open_next}
 
 -- 1. The text of a field.
@@ -202,11 +203,6 @@ sound-objects f object inherited text rest sound h =
     sound-inherited (record f { object = object }) h.second.field inherited
     (sound-object f h.first.field object sound h.first.reads)
     h.second.reads
-
--- a field that ends at this place
-pub cut-at : (text : List ℕ) (place end : ℕ) → place < length text → get_or text place 0 ≡ end
-    → text ≡ take place text ++ end ∷ take (length text - (place + 1)) (drop (place + 1) text)
-cut-at text place end within is = grind (arith, common_steps)
 
 -- 5. The reader after an ACE.
 

@@ -1,6 +1,5 @@
 -- Laws of the definitions alone, which crates above may cite.
 pub mod ControlFlags
-pub mod FlagRuns
 pub mod FoldedMeaning
 pub mod FoldedSections
 pub mod MeaningLimits

@@ -21,7 +21,7 @@ use Rattle.sd_control.specs.declared.control.Which.TheVariants as which
 use Rattle.sd_control.specs.Control.{no_flags}
 use Rattle.sd_control.specs.declared.control.AclFlags.{AclFlags}
 use Rattle.std.specs.Option.{option_or}
-use Rattle.sd_sddl_reader.specs.FieldTexts.{front_reads, kind_reads, object_reads}
+use Rattle.sd_sddl_fields.specs.FieldTexts.{front_reads, kind_reads, object_reads}
 use Rattle.sd_sddl_reader.specs.Line.{Piece, Section, aces, cut_at_semicolons, front, has_aces, has_twice, is_shaped, sections_of, trim}
 use Rattle.sd_text.specs.Chains.{and_then}
 use Rattle.sd_sddl_reader.specs.Meaning.{control_flags, is_unreadable, unless_large}
@@ -36,7 +36,7 @@ use Rattle.sd_sddl_reader.specs.declared.line.SidPart.TheVariants as sid_part
 use Rattle.sd_sddl_reader.specs.declared.line.Slot.{Slot}
 use Rattle.sd_sddl_reader.specs.declared.line.Slot.TheVariants as slot
 use Rattle.sd_sddl_reader.specs.declared.reading.AceFields.{AceFields}
-use Rattle.sd_sddl_reader.specs.declared.reading.AclFront.{AclFront}
+use Rattle.sd_sddl_fields.specs.declared.field_texts.AclFront.{AclFront}
 
 -- 1. The fields of a line, from the left, each with what it is.
 

@@ -1,4 +1,3 @@
-pub mod FieldTexts
 pub mod FoldedReading
 pub mod Inner
 pub mod Line

@@ -21,8 +21,9 @@ use Rattle.sd_control.specs.declared.control.Which.{Which}
 use Rattle.sd_control.specs.declared.control.Which.TheVariants as which
 use Rattle.sd_control.specs.declared.control.AclFlags.{AclFlags}
 use Rattle.sd_control.specs.declared.control.TheConstants.{DACL_PRESENT, SACL_PRESENT, SELF_RELATIVE}
-use Rattle.sd_sddl_reader.specs.FieldTexts.{front_reads, kind_reads, object_reads}
-use Rattle.sd_sddl_reader.specs.Line.{Piece, Section, ace_cuts, aces, front, has_aces, has_twice, is_blank, is_shaped, sections_of, same_head, trim}
+use Rattle.sd_sddl_fields.specs.FieldTexts.{front_reads, kind_reads, object_reads}
+use Rattle.sd_sddl_reader.specs.Line.{Piece, Section, ace_cuts, aces, front, has_aces, has_twice, is_shaped, sections_of, same_head, trim}
+use Rattle.sd_sddl_fields.specs.FieldTexts.{is_blank}
 use Rattle.sd_sddl_reader.specs.declared.fault.SddlFault.{SddlFault}
 use Rattle.sd_sddl_reader.specs.declared.fault.SddlFault.TheVariants as fault
 use Rattle.sd_sddl_reader.specs.declared.line.Head.{Head}

@@ -2,12 +2,9 @@
 #![tactic(auto)]
 
 mod fault;
-mod field_text;
-mod field_texts;
 mod line;
 mod reader;
 mod reading;
-mod whole_ace;
 
 pub use fault::SddlFault;
 pub use reader::{SddlReader, read_sddl};

@@ -2,12 +2,15 @@
 
 ghost use Rattle.std.specs.Prelude.{◌≡◌, ◌≤◌, length, take, true};
 ghost use Rattle.std.specs.List.{list_all};
-ghost use Rattle.sd_sddl_reader.specs.Inner.Held.{is_plain_inside, is_plain_outside};
-ghost use Rattle.sd_sddl_reader.specs.Line.{head_of, is_blank};
+ghost use Rattle.sd_sddl_fields.specs.Held.{is_plain_inside};
+ghost use Rattle.sd_sddl_reader.specs.Inner.Progress.{is_plain_outside};
+ghost use Rattle.sd_sddl_reader.specs.Line.{head_of};
+ghost use Rattle.sd_sddl_fields.specs.FieldTexts.{is_blank};
 ghost use Rattle.sd_sddl_reader.specs.FoldedReading.{next_field};
 ghost use Rattle.sd_sddl_reader.specs.Inner.Progress.{state_of};
 
 use sd_control::Which;
+use sd_sddl_fields::is_plain_inside;
 
 /// A part that is a SID.
 #[derive(Clone, Copy)]
@@ -134,24 +137,6 @@ pub fn next_field(field: AceField) -> AceField
     }
 }
 
-/// A space or a tab.
-pub fn is_blank(byte: u8) -> bool
-    ensures { result ≡ is_blank byte }
-{
-    byte == b' ' || byte == b'\t'
-}
-
-/// A byte that only goes onto the text of a field inside parentheses.
-fn is_plain_inside(byte: u8) -> bool
-    ensures { result ≡ is_plain_inside byte }
-{
-    // Digits, dashes and letters are told by these two tests.
-    if byte > b')' {
-        return byte != b';';
-    }
-    !(byte == b'(' || byte == b')' || is_blank(byte))
-}
-
 /// A byte that only goes onto the text of a field outside parentheses.
 fn is_plain_outside(byte: u8) -> bool
     ensures { result ≡ is_plain_outside byte }
@@ -161,20 +146,6 @@ fn is_plain_outside(byte: u8) -> bool
         return true;
     }
     is_plain_inside(byte) && byte != b':' && head_of(byte).is_none()
-}
-
-/// How many bytes at the front only go onto the text of a field inside parentheses.
-#[inline(never)]
-pub fn plain_inside(text: &[u8]) -> usize
-    ensures within { result ≤ length text.now }
-    ensures plain { list_all is_plain_inside (take result text.now) ≡ true }
-{
-    for (i, byte) in text.iter().enumerate() {
-        if !is_plain_inside(*byte) {
-            return i;
-        }
-    }
-    text.len()
 }
 
 /// How many bytes at the front only go onto the text of a field outside parentheses.

@@ -1,11 +1,12 @@
 //! A line, read as it comes: byte by byte, and together what stands whole in a piece.
 
-ghost use Rattle.std.specs.Prelude.{◌≡◌, ◌≤◌, ℕ, List, [], ◌∷◌, ◌++◌, codes, length, take, ◌||◌, if◌then◌else◌, true, false, Option, Some, None, Ok, Err, IfOk, IfSome, OnErr, MatchResult};
+ghost use Rattle.std.specs.Prelude.{◌≡◌, ◌≤◌, ℕ, List, [], ◌∷◌, ◌++◌, codes, length, take, ◌||◌, if◌then◌else◌, true};
+ghost use Rattle.std.specs.Prelude.{false, Option, Some, None, Ok, Err, IfOk, IfSome, OnErr, MatchResult};
 ghost use Rattle.std.specs.Option.{option_copied};
 ghost use Rattle.sd_sid.specs.Sid.{IsSid, SecurityId};
 ghost use Rattle.sd_view.specs.Descriptor.{IsDescriptor, Shows};
 ghost use Rattle.sd_builder.specs.Draft.{IsWritten};
-ghost use Rattle.sd_sddl_reader.specs.Inner.Held.{IsHeld, no_text, held_text};
+ghost use Rattle.sd_sddl_fields.specs.Held.{IsHeld, no_text, held_text};
 ghost use Rattle.sd_sddl_reader.specs.Line.{byte, head_at, head_of as head_named, pieces_from};
 ghost use Rattle.sd_sddl_reader.specs.FoldedReading.{FieldsRead, finished, take_field};
 ghost use Rattle.sd_text.specs.Chains.{and_then, unless};
@@ -14,13 +15,12 @@ ghost use Rattle.sd_sddl_reader.specs.Inner.Reads.{CanTake, HasReadFields, Takes
 ghost use Rattle.sd_sddl_reader.specs.Inner.Progress.{ended_with, is_inside, is_seen, state_of, with_head};
 
 use crate::fault::SddlFault;
-use crate::field_text::FieldText;
 use crate::line::{
-    AceField, Head, Seen, Slot, State, head_of, is_blank, next_field, plain_inside, plain_outside,
-    state_of,
+    AceField, Head, Seen, Slot, State, head_of, next_field, plain_outside, state_of,
 };
 use crate::reading::{FieldReader, fault_of};
 use sd_buffer::SdBuf;
+use sd_sddl_fields::{FieldText, is_blank, plain_inside};
 use sd_sid::Sid;
 
 /// A reader of one line, by bytes or pieces, beside the buffer in which the descriptor is built.
@@ -41,7 +41,8 @@ pub struct SddlReader {
 
 impl SddlReader {
     ghost use Rattle.sd_sddl_reader.specs.SddlReading.{IsReading, ReadsSddl};
-    ghost use Rattle.sd_sddl_reader.specs.Inner.Reads.{CanStep, Ends, FedTo, HasReadFields, LineHasRead, IsCalm, IsReader, IsText, Reads, Steps, StepsOn, StepsText, answer_at};
+    ghost use Rattle.sd_sddl_reader.specs.Inner.Reads.{CanStep, Ends, FedTo, HasReadFields, LineHasRead, IsCalm};
+    ghost use Rattle.sd_sddl_reader.specs.Inner.Reads.{IsReader, IsText, Reads, Steps, StepsOn, StepsText, answer_at};
 
     /// A reader that was fed nothing.
     pub fn new(domain: Option<Sid>, buf: &mut SdBuf) -> Self
@@ -172,7 +173,8 @@ impl SddlReader {
         requires here { is_inside self.old.state ≡ false }
         requires calm { IsCalm self.old }
         requires text { IsText b }
-        ensures answers { (t : FieldsRead) (rest : List ℕ) → head_at (byte b) (pieces_from false rest).after ≡ None → answer_at self.new t rest ≡ answer_at self.old t (b ∷ rest) }
+        ensures answers { (t : FieldsRead) (rest : List ℕ) → head_at (byte b) (pieces_from false rest).after ≡ None
+            → answer_at self.new t rest ≡ answer_at self.old t (b ∷ rest) }
         ensures calm { IsCalm self.new }
         ensures same { self.new ≡ record self.old { sound = self.new.sound; field = self.new.field } }
     {
@@ -204,8 +206,15 @@ impl SddlReader {
         ensures state { self.new.state ≡ state_of head }
         ensures twice { self.new.twice ≡ (self.old.twice || is_seen self.old.seen head) }
         ensures seen { self.new.seen ≡ with_head self.old.seen head }
-        ensures fault { self.new.fault ≡ (if is_seen self.old.seen head then Some SddlFault.PartTwice else self.old.fault) }
-        ensures same { self.new ≡ record self.old { state = self.new.state; twice = self.new.twice; seen = self.new.seen; fault = self.new.fault } }
+        ensures fault { self.new.fault
+            ≡ (if is_seen self.old.seen head then Some SddlFault.PartTwice else self.old.fault) }
+        ensures same { self.new
+            ≡ record self.old {
+              state = self.new.state;
+              twice = self.new.twice;
+              seen = self.new.seen;
+              fault = self.new.fault;
+            } }
     {
         if self.seen.has(head) {
             self.twice = true;
@@ -219,11 +228,14 @@ impl SddlReader {
     fn end_part(&mut self, buf: &mut SdBuf)
         requires here { is_inside self.old.state ≡ false }
         requires ready { CanStep self.old buf.old }
-        ensures read { (t : FieldsRead) → LineHasRead self.old buf.old t → (u : FieldsRead) × (self.new.fault ≡ None → HasReadFields self.new.fields buf.new u)
-            × (unless self.new.fault u ≡ ended_with self.old.fields.domain self.old.state self.old.field (unless self.old.fault t)) }
+        ensures read { (t : FieldsRead) → LineHasRead self.old buf.old t → (u : FieldsRead)
+            × (self.new.fault ≡ None → HasReadFields self.new.fields buf.new u)
+            × (unless self.new.fault u
+            ≡ ended_with self.old.fields.domain self.old.state self.old.field (unless self.old.fault t)) }
         ensures cleared { self.new.field ≡ no_text }
         ensures domain { self.new.fields.domain ≡ self.old.fields.domain }
-        ensures same { self.new ≡ record self.old { field = self.new.field; fault = self.new.fault; fields = self.new.fields } }
+        ensures same { self.new
+            ≡ record self.old { field = self.new.field; fault = self.new.fault; fields = self.new.fields } }
     {
         match self.state {
             State::Sid(part) => end_field(
@@ -282,7 +294,8 @@ impl SddlReader {
     pub fn feed(&mut self, buf: &mut SdBuf, byte: u8)
         requires { IsReading self.old buf.old }
         ensures reader { IsReading self.new buf.new }
-        ensures read { (domain : Option SecurityId) (text : List ℕ) → ReadsSddl self.old buf.old domain text → ReadsSddl self.new buf.new domain (text ++ byte ∷ []) }
+        ensures read { (domain : Option SecurityId) (text : List ℕ) → ReadsSddl self.old buf.old domain text
+            → ReadsSddl self.new buf.new domain (text ++ byte ∷ []) }
     {
         if !self.sound {
             return;
@@ -300,7 +313,8 @@ impl SddlReader {
     pub fn feed_all(&mut self, buf: &mut SdBuf, bytes: &[u8])
         requires { IsReading self.old buf.old }
         ensures reader { IsReading self.new buf.new }
-        ensures read { (domain : Option SecurityId) (text : List ℕ) → ReadsSddl self.old buf.old domain text → ReadsSddl self.new buf.new domain (text ++ bytes.now) }
+        ensures read { (domain : Option SecurityId) (text : List ℕ) → ReadsSddl self.old buf.old domain text
+            → ReadsSddl self.new buf.new domain (text ++ bytes.now) }
     {
         let mut rest = bytes;
         while let Some((byte, after)) = rest.split_first() {
@@ -342,7 +356,8 @@ impl SddlReader {
     fn feed_run(&mut self, text: &[u8]) -> usize
         ensures within { result ≤ length text.now }
         ensures reader { (buf : List ℕ) → IsReader self.old buf → IsReader self.new buf }
-        ensures read { (buf : List ℕ) (domain : Option SecurityId) (before : List ℕ) → IsReader self.old buf → Reads self.old buf domain before
+        ensures read { (buf : List ℕ) (domain : Option SecurityId) (before : List ℕ) → IsReader self.old buf
+            → Reads self.old buf domain before
             → Reads self.new buf domain (before ++ take result text.now) }
     {
         match self.state {
@@ -363,11 +378,13 @@ impl SddlReader {
     /// The end of the line: the buffer holds what it means, or nothing where it has a fault.
     pub fn finish(mut self, buf: &mut SdBuf) -> Result<(), SddlFault>
         requires { IsReading self buf.old }
-        ensures exact { (domain : Option SecurityId) (text : List ℕ) → ReadsSddl self buf.old domain text → MatchResult (means text domain)
+        ensures exact { (domain : Option SecurityId) (text : List ℕ) → ReadsSddl self buf.old domain text
+            → MatchResult (means text domain)
             (λ d. (result ≡ Ok tt) × Shows buf.new d)
             (λ e. (result ≡ Err e) × (buf.new ≡ [])) }
         // Without gaps, and each part in its one written form.
-        ensures written { (domain : Option SecurityId) (text : List ℕ) → ReadsSddl self buf.old domain text → IfOk (means text domain) (IsWritten buf.new) }
+        ensures written { (domain : Option SecurityId) (text : List ℕ) → ReadsSddl self buf.old domain text
+            → IfOk (means text domain) (IsWritten buf.new) }
         ensures empty { OnErr result (buf.new ≡ []) }
     {
         if let Some(letter) = self.pending {
@@ -382,7 +399,8 @@ impl SddlReader {
         ensures exact { (t : FieldsRead) → LineHasRead self buf.old t → MatchResult (finished (answer_at self t []))
             (λ d. (result ≡ Ok tt) × Shows buf.new d)
             (λ e. (result ≡ Err e) × (buf.new ≡ [])) }
-        ensures written { (t : FieldsRead) → LineHasRead self buf.old t → IfOk (finished (answer_at self t [])) (IsWritten buf.new) }
+        ensures written { (t : FieldsRead) → LineHasRead self buf.old t
+            → IfOk (finished (answer_at self t [])) (IsWritten buf.new) }
         ensures empty { OnErr result (buf.new ≡ []) }
     {
         match self.end_line(buf) {
@@ -426,8 +444,10 @@ fn end_field(
 )
     requires clean { IsHeld field.old }
     requires held { (t : FieldsRead) × (fault.old ≡ None → HasReadFields fields.old buf.old t × CanTake slot t) }
-    ensures read { (t : FieldsRead) → (fault.old ≡ None → HasReadFields fields.old buf.old t) → (u : FieldsRead) × (fault.new ≡ None → HasReadFields fields.new buf.new u)
-        × (unless fault.new u ≡ and_then (unless fault.old t) (λ r. take_field fields.old.domain r slot (held_text field.old))) }
+    ensures read { (t : FieldsRead) → (fault.old ≡ None → HasReadFields fields.old buf.old t) → (u : FieldsRead)
+        × (fault.new ≡ None → HasReadFields fields.new buf.new u)
+        × (unless fault.new u ≡ and_then (unless fault.old t)
+        (λ r. take_field fields.old.domain r slot (held_text field.old))) }
     ensures cleared { field.new ≡ no_text }
     ensures domain { fields.new.domain ≡ fields.old.domain }
 {
@@ -445,8 +465,10 @@ fn read_held(
 )
     requires clean { IsHeld field.now }
     requires held { (t : FieldsRead) × (fault.old ≡ None → HasReadFields fields.old buf.old t × CanTake slot t) }
-    ensures read { (t : FieldsRead) → (fault.old ≡ None → HasReadFields fields.old buf.old t) → (u : FieldsRead) × (fault.new ≡ None → HasReadFields fields.new buf.new u)
-        × (unless fault.new u ≡ and_then (unless fault.old t) (λ r. take_field fields.old.domain r slot (held_text field.now))) }
+    ensures read { (t : FieldsRead) → (fault.old ≡ None → HasReadFields fields.old buf.old t) → (u : FieldsRead)
+        × (fault.new ≡ None → HasReadFields fields.new buf.new u)
+        × (unless fault.new u ≡ and_then (unless fault.old t)
+        (λ r. take_field fields.old.domain r slot (held_text field.now))) }
     ensures domain { fields.new.domain ≡ fields.old.domain }
 {
     if fault.is_some() {
@@ -465,7 +487,8 @@ fn take_held(
 ) -> Result<(), SddlFault>
     requires clean { IsHeld field.now }
     requires held { (t : FieldsRead) × HasReadFields fields.old buf.old t × CanTake slot t }
-    ensures read { (t : FieldsRead) → HasReadFields fields.old buf.old t → Takes (take_field fields.old.domain t slot (held_text field.now)) result fields.new buf.new }
+    ensures read { (t : FieldsRead) → HasReadFields fields.old buf.old t
+        → Takes (take_field fields.old.domain t slot (held_text field.now)) result fields.new buf.new }
     ensures domain { fields.new.domain ≡ fields.old.domain }
 {
     if field.is_broken() {
@@ -484,8 +507,9 @@ fn note_limits(domain: Option<&Sid>)
     }
 }
 
-/// Reads a line of SDDL (MS-DTYP 2.5.1), as `O:BAD:(A;;FA;;;WD)`, with the aliases of a domain. The buffer holds bytes that show the descriptor that
-/// the line means. After a refusal, by the first fault, it is empty.
+/// Reads a line of SDDL (MS-DTYP 2.5.1), such as `O:BAD:(A;;FA;;;WD)`, with the aliases of a domain. The buffer then
+/// holds bytes that show the descriptor that the line means. If the line has a fault, `read_sddl` returns the first one
+/// and leaves the buffer empty.
 pub fn read_sddl(text: &[u8], domain: Option<&Sid>, buf: &mut SdBuf) -> Result<(), SddlFault>
     ensures exact { MatchResult (means text.now (option_copied domain.entry))
         (λ d. (result ≡ Ok tt) × Shows buf.new d)

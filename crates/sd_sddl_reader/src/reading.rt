@@ -2,21 +2,24 @@
 
 ghost use Rattle.std.specs.Prelude.{◌≡◌, Option, Ok, false, MatchOption};
 ghost use Rattle.sd_sid.specs.SidText.{sid_reads};
-ghost use Rattle.sd_sddl_reader.specs.FoldedReading.{FieldsRead, fault_of, no_fields, take_ace_field, take_field, take_front, with_sid, with_trustee};
+ghost use Rattle.sd_sddl_reader.specs.FoldedReading.{FieldsRead, fault_of, no_fields, take_ace_field, take_field};
+ghost use Rattle.sd_sddl_reader.specs.FoldedReading.{take_front, with_sid, with_trustee};
 ghost use Rattle.sd_sddl_reader.specs.Meaning.{control_flags, is_unreadable};
-ghost use Rattle.sd_sddl_reader.specs.FieldTexts.{front_reads};
+ghost use Rattle.sd_sddl_fields.specs.FieldTexts.{front_reads};
 ghost use Rattle.sd_sddl_reader.specs.Inner.WholeAce.{EndsAce, EndsWithObjects, TakesAce};
 
 use crate::fault::SddlFault;
-use crate::field_texts::{NO_FLAGS, front_from_text, object_from_text};
 use crate::line::{AceField, SidPart, Slot};
-use crate::whole_ace::{after, behind, cut, front_flags, front_kind, front_objects};
 use sd_ace::Ace;
 use sd_buffer::SdBuf;
 use sd_builder::Builder;
 use sd_control::{AclFlags, Which};
 use sd_kinds::{AceKind, flags_from_text};
 use sd_rights::rights_from_text;
+use sd_sddl_fields::{
+    NO_FLAGS, after, behind, cut, front_flags, front_from_text, front_kind, front_objects,
+    object_from_text,
+};
 use sd_sid::{Sid, SidFault};
 use uuid::Uuid;
 
@@ -28,13 +31,6 @@ pub struct AceFields {
     pub mask: u32,
     pub object: Option<Uuid>,
     pub inherited: Option<Uuid>,
-}
-
-/// What stands in an ACL before its ACEs: its flags, and whether it is null.
-#[derive(Clone, Copy)]
-pub struct AclFront {
-    pub flags: AclFlags,
-    pub null: bool,
 }
 
 /// Reads fields, and builds the descriptor in a buffer beside it.
@@ -53,7 +49,8 @@ impl FieldReader {
     ghost use Rattle.std.specs.Prelude.{◌≡◌, ◌/◌, Ok, Err, Some, None, Option};
     ghost use Rattle.sd_builder.specs.Draft.{IsOpen, closed};
     ghost use Rattle.sd_sddl_reader.specs.declared.line.Head.TheVariants as head;
-    ghost use Rattle.sd_sddl_reader.specs.FoldedReading.{FieldsRead, begun_or_null, finished, nothing_read, with_owner_or_group};
+    ghost use Rattle.sd_sddl_reader.specs.FoldedReading.{FieldsRead, begun_or_null, finished, nothing_read};
+    ghost use Rattle.sd_sddl_reader.specs.FoldedReading.{with_owner_or_group};
     ghost use Rattle.sd_sddl_reader.specs.Inner.Reads.{AreAceFields, CanTake, Ends, HasReadFields, Lacks, Takes};
 
     /// A reader that has read nothing.
@@ -83,7 +80,8 @@ impl FieldReader {
     ) -> Result<(), SddlFault>
         requires clean { is_unreadable text.now ≡ false }
         requires held { (t : FieldsRead) × HasReadFields self.old buf.old t × CanTake slot t }
-        ensures read { (t : FieldsRead) → HasReadFields self.old buf.old t → Takes (take_field self.old.domain t slot text.now) result self.new buf.new }
+        ensures read { (t : FieldsRead) → HasReadFields self.old buf.old t
+            → Takes (take_field self.old.domain t slot text.now) result self.new buf.new }
         ensures domain { self.new.domain ≡ self.old.domain }
     {
         match slot {
@@ -96,7 +94,9 @@ impl FieldReader {
     // An owner or a group.
     fn take_sid(&mut self, buf: &mut SdBuf, part: SidPart, text: &[u8]) -> Result<(), SddlFault>
         requires { (t : FieldsRead) × HasReadFields self.old buf.old t × Lacks (head.Sid part) t }
-        ensures read { (t : FieldsRead) → HasReadFields self.old buf.old t → Takes (with_sid (with_owner_or_group part t) (sid_reads text.now self.old.domain)) result self.new buf.new }
+        ensures read { (t : FieldsRead) → HasReadFields self.old buf.old t
+            → Takes (with_sid (with_owner_or_group part t) (sid_reads text.now self.old.domain))
+            result self.new buf.new }
         ensures domain { self.new.domain ≡ self.old.domain }
     {
         match Sid::from_text(text, self.domain.as_ref()) {
@@ -110,7 +110,8 @@ impl FieldReader {
 
     fn put_sid(&mut self, buf: &mut SdBuf, part: SidPart, sid: &Sid)
         requires { (t : FieldsRead) × HasReadFields self.old buf.old t × Lacks (head.Sid part) t }
-        ensures held { (t : FieldsRead) → HasReadFields self.old buf.old t → HasReadFields self.new buf.new (with_owner_or_group part t sid.now) }
+        ensures held { (t : FieldsRead) → HasReadFields self.old buf.old t
+            → HasReadFields self.new buf.new (with_owner_or_group part t sid.now) }
         ensures domain { self.new.domain ≡ self.old.domain }
     {
         self.close_acl(buf);
@@ -125,7 +126,8 @@ impl FieldReader {
     // Ends the ACL at hand, where one is open.
     fn close_acl(&mut self, buf: &mut SdBuf)
         requires { (t : FieldsRead) × HasReadFields self.old buf.old t }
-        ensures held { (t : FieldsRead) → HasReadFields self.old buf.old t → HasReadFields self.new buf.new (record t { parts = closed t.parts }) }
+        ensures held { (t : FieldsRead) → HasReadFields self.old buf.old t
+            → HasReadFields self.new buf.new (record t { parts = closed t.parts }) }
         ensures same { self.new ≡ record self.old { builder = self.new.builder; open_acl = self.new.open_acl } }
     {
         if self.large.is_none() && self.open_acl.is_some() {
@@ -144,7 +146,8 @@ impl FieldReader {
         text: &[u8],
     ) -> Result<(), SddlFault>
         requires { (t : FieldsRead) × HasReadFields self.old buf.old t × Lacks (head.Acl which) t }
-        ensures read { (t : FieldsRead) → HasReadFields self.old buf.old t → Takes (take_front which has_aces t (front_reads text.now)) result self.new buf.new }
+        ensures read { (t : FieldsRead) → HasReadFields self.old buf.old t
+            → Takes (take_front which has_aces t (front_reads text.now)) result self.new buf.new }
         ensures domain { self.new.domain ≡ self.old.domain }
     {
         let Some(front) = front_from_text(text) else {
@@ -163,7 +166,8 @@ impl FieldReader {
 
     fn begin_acl(&mut self, buf: &mut SdBuf, which: Which, null: bool)
         requires { (t : FieldsRead) × HasReadFields self.old buf.old t × Lacks (head.Acl which) t }
-        ensures held { (t : FieldsRead) → HasReadFields self.old buf.old t → HasReadFields self.new buf.new (record t { parts = begun_or_null which null (closed t.parts) }) }
+        ensures held { (t : FieldsRead) → HasReadFields self.old buf.old t
+            → HasReadFields self.new buf.new (record t { parts = begun_or_null which null (closed t.parts) }) }
         ensures domain { self.new.domain ≡ self.old.domain }
     {
         self.close_acl(buf);
@@ -179,7 +183,7 @@ impl FieldReader {
     }
 
     // A field of the ACE at hand.
-    #[tactic(auto, unfolding(crate::specs::FoldedReading::take_ace_field, crate::specs::FieldTexts::kind_reads))]
+    #[tactic(auto, unfolding(crate::specs::FoldedReading::take_ace_field, sd_sddl_fields::specs::FieldTexts::kind_reads))]
     fn take_ace_field(
         &mut self,
         buf: &mut SdBuf,
@@ -187,7 +191,8 @@ impl FieldReader {
         text: &[u8],
     ) -> Result<(), SddlFault>
         requires { (t : FieldsRead) × HasReadFields self.old buf.old t × IsOpen t.parts }
-        ensures read { (t : FieldsRead) → HasReadFields self.old buf.old t → Takes (take_ace_field self.old.domain t field text.now) result self.new buf.new }
+        ensures read { (t : FieldsRead) → HasReadFields self.old buf.old t
+            → Takes (take_ace_field self.old.domain t field text.now) result self.new buf.new }
         ensures domain { self.new.domain ≡ self.old.domain }
     {
         match field {
@@ -226,8 +231,8 @@ impl FieldReader {
         Ok(())
     }
 
-    /// Reads the ACE at the front of the text, from behind its first parenthesis, appends it, and answers what follows its
-    /// last one. None where none stands there whole, or where a field does not read: then nothing has changed.
+    /// Reads the ACE at the front of the text, which begins after the ACE's first parenthesis, appends it, and returns
+    /// what follows its last one. `None` if no whole ACE is there, or if a field does not read: then nothing has changed.
     pub fn take_ace<'a>(&mut self, buf: &mut SdBuf, text: &'a [u8]) -> Option<&'a [u8]>
         requires held { (t : FieldsRead) × HasReadFields self.old buf.old t × IsOpen t.parts }
         ensures read { MatchOption result ((self.new ≡ self.old) × (buf.new ≡ buf.old))
@@ -296,7 +301,8 @@ impl FieldReader {
     // The SID of the ACE at hand, which ends it.
     fn take_trustee(&mut self, buf: &mut SdBuf, text: &[u8]) -> Result<(), SddlFault>
         requires { (t : FieldsRead) × HasReadFields self.old buf.old t × IsOpen t.parts }
-        ensures read { (t : FieldsRead) → HasReadFields self.old buf.old t → Takes (with_sid (with_trustee t) (sid_reads text.now self.old.domain)) result self.new buf.new }
+        ensures read { (t : FieldsRead) → HasReadFields self.old buf.old t
+            → Takes (with_sid (with_trustee t) (sid_reads text.now self.old.domain)) result self.new buf.new }
         ensures domain { self.new.domain ≡ self.old.domain }
     {
         match Sid::from_text(text, self.domain.as_ref()) {
@@ -312,7 +318,8 @@ impl FieldReader {
     #[inline(always)]
     fn put_ace(&mut self, buf: &mut SdBuf, sid: Sid)
         requires { (t : FieldsRead) × HasReadFields self.old buf.old t × IsOpen t.parts }
-        ensures held { (t : FieldsRead) → HasReadFields self.old buf.old t → HasReadFields self.new buf.new (with_trustee t sid) }
+        ensures held { (t : FieldsRead) → HasReadFields self.old buf.old t
+            → HasReadFields self.new buf.new (with_trustee t sid) }
         ensures domain { self.new.domain ≡ self.old.domain }
     {
         if self.large.is_some() {

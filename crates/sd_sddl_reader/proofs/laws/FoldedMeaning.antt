@@ -15,7 +15,7 @@ use Rattle.sd_view.specs.declared.acl.AclPart.TheVariants as acl
 use Rattle.sd_control.specs.declared.control.Which.{Which}
 use Rattle.sd_control.specs.declared.control.Which.TheVariants as which
 use Rattle.std.specs.Option.{option_or}
-use Rattle.sd_sddl_reader.specs.FieldTexts.{front_reads}
+use Rattle.sd_sddl_fields.specs.FieldTexts.{front_reads}
 use Rattle.sd_sddl_reader.specs.FoldedReading.{FieldsRead, described, fields_of, finished, folded, large_in, nothing_read, read_fields, reads_as, if_shaped}
 use Rattle.sd_sddl_reader.specs.Line.{Piece, Section, are_shaped, front, has_head, has_twice, is_blank_piece, is_paired, is_shaped, sections_of, same_head, trim}
 use Rattle.sd_text.specs.Chains.{and_then}
@@ -27,9 +27,9 @@ use Rattle.sd_sddl_reader.specs.declared.line.Head.{Head}
 use Rattle.sd_sddl_reader.specs.declared.line.Head.TheVariants as head
 use Rattle.sd_sddl_reader.specs.declared.line.SidPart.TheVariants as sid_part
 use Rattle.sd_sddl_reader.specs.declared.reading.AceFields.{AceFields}
-use Rattle.sd_sddl_reader.specs.declared.reading.AclFront.{AclFront}
+use Rattle.sd_sddl_fields.specs.declared.field_texts.AclFront.{AclFront}
 use Rattle.sd_sddl_reader.proofs.laws.ControlFlags.{flags-stay}
-use Rattle.sd_sddl_reader.proofs.laws.FlagRuns.{or-none}
+use Rattle.sd_sddl_fields.proofs.laws.FlagRuns.{or-none}
 use Rattle.sd_sddl_reader.proofs.laws.FoldedSections.{Found, before_sid, sections-read, with_all, with_entries, with_said}
 
 -- 1. What the fold holds after a section.

@@ -16,9 +16,10 @@ use Rattle.sd_builder.specs.Draft.{begun, closed, with_ace, with_acl}
 use Rattle.sd_view.specs.declared.acl.AclPart.{AclPart}
 use Rattle.sd_view.specs.declared.acl.AclPart.TheVariants as acl
 use Rattle.sd_control.specs.declared.control.Which.{Which}
-use Rattle.sd_sddl_reader.specs.FieldTexts.{front_reads, kind_reads, object_reads}
+use Rattle.sd_sddl_fields.specs.FieldTexts.{front_reads, kind_reads, object_reads}
 use Rattle.sd_sddl_reader.specs.FoldedReading.{Field, FieldsRead, ace_fields, ace_fields_from, ace_of_fields, fields_in, fields_of, grown, no_fields, read_fields, take_ace_field, take_field, take_front, with_flags, with_owner_or_group, with_sid, with_trustee, with_value}
-use Rattle.sd_sddl_reader.specs.Line.{Piece, Section, ace, ace_cuts, aces, are_aces, are_shaped, byte, cut_at_semicolons, front, has_aces, has_six_fields, is_acl_body, is_blank, is_body, trim}
+use Rattle.sd_sddl_reader.specs.Line.{Piece, Section, ace, ace_cuts, aces, are_aces, are_shaped, byte, cut_at_semicolons, front, has_aces, has_six_fields, is_acl_body, is_body, trim}
+use Rattle.sd_sddl_fields.specs.FieldTexts.{is_blank}
 use Rattle.sd_text.specs.Chains.{and_then}
 use Rattle.sd_sddl_reader.specs.Meaning.{Said, acl_said, ace_reads, body_reads, each, acl_part_reads, field_reads, is_unreadable, section_reads, sid_field_reads, sid_or_fault, sid_said}
 use Rattle.sd_control.specs.declared.control.AclFlags.{AclFlags}
@@ -30,7 +31,7 @@ use Rattle.sd_sddl_reader.specs.declared.line.Head.{Head}
 use Rattle.sd_sddl_reader.specs.declared.line.Head.TheVariants as head
 use Rattle.sd_sddl_reader.specs.declared.line.Slot.TheVariants as slot
 use Rattle.sd_sddl_reader.specs.declared.reading.AceFields.{AceFields}
-use Rattle.sd_sddl_reader.specs.declared.reading.AclFront.{AclFront}
+use Rattle.sd_sddl_fields.specs.declared.field_texts.AclFront.{AclFront}
 
 -- 1. One step after the other.
 

@@ -1,12 +1,14 @@
 -- A reader in the middle of a line: what it answers if the line goes on by a text and ends there.
-use Rattle.std.specs.Prelude.{ℕ, Bool, true, false, ◌&&◌, ◌||◌, ◌==◌, if◌then◌else◌, List, [], ◌∷◌, ◌++◌, codes, length, Option, Result}
+use Rattle.std.specs.Prelude.{ℕ, Bool, true, false, ◌&&◌, ◌||◌, not, ◌==◌, if◌then◌else◌, List, [], ◌∷◌, ◌++◌, codes, length, Option, Result}
 use Rattle.std.specs.List.{list_all, flat_map}
+use Rattle.std.specs.Option.{is_none}
 use Rattle.std.specs.Str.{byte as char}
 use Rattle.sd_sid.specs.Sid.{SecurityId}
 use Rattle.sd_control.specs.declared.control.Which.TheVariants as which
-use Rattle.sd_sddl_reader.specs.Inner.Held.{Held, held_text}
+use Rattle.sd_sddl_fields.specs.Held.{Held, held_text, is_plain_inside}
 use Rattle.sd_sddl_reader.specs.FoldedReading.{Field, FieldsRead, ace_fields, ace_fields_from, fields_of, read_fields, take_field, if_shaped}
-use Rattle.sd_sddl_reader.specs.Line.{Piece, Section, Sections, aces, are_aces, are_shaped, cut_at_semicolons, front, has_aces, has_twice, is_acl_body, is_blank, is_blank_piece, is_paired, is_sid_body, pieces_from, sections, trim}
+use Rattle.sd_sddl_reader.specs.Line.{Piece, Section, Sections, aces, are_aces, are_shaped, cut_at_semicolons, front, has_aces, has_twice, head_of, is_acl_body, is_blank_piece, is_paired, is_sid_body, pieces_from, sections, trim}
+use Rattle.sd_sddl_fields.specs.FieldTexts.{is_blank}
 use Rattle.sd_text.specs.Chains.{and_then}
 use Rattle.sd_sddl_reader.specs.declared.fault.SddlFault.{SddlFault}
 use Rattle.sd_sddl_reader.specs.declared.line.AceField.{AceField}
@@ -128,3 +130,7 @@ ended_with domain (state.Sid p) h r = and_then r (λ b. take_field domain b (slo
 ended_with domain (state.AclFlags w) h r = and_then r (λ b. take_field domain b (slot.AclFlags w false) (held_text h))
 ended_with domain state.AfterAce h r = r
 ended_with domain (state.Ace f) h r = r
+
+-- a byte that only goes onto the text of a field outside parentheses, where a letter may begin a head
+abbrev pub is_plain_outside : ℕ → Bool
+is_plain_outside b = is_plain_inside b && (not (b == char ":") && is_none (head_of b))

@@ -11,7 +11,7 @@ use Rattle.sd_view.specs.declared.fault.Part.{Part}
 use Rattle.sd_builder.specs.Builds.{Builds}
 use Rattle.sd_builder.specs.declared.builder.Builder.{Builder}
 use Rattle.sd_builder.specs.Draft.{IsOpen, IsWritten, Parts, acl_for, closed}
-use Rattle.sd_sddl_reader.specs.Inner.Held.{IsHeld}
+use Rattle.sd_sddl_fields.specs.Held.{IsHeld}
 use Rattle.sd_sddl_reader.specs.Line.{byte, head_at, pieces_from, same_head}
 use Rattle.sd_sddl_reader.specs.FoldedReading.{FieldsRead, reads_as}
 use Rattle.sd_text.specs.Chains.{unless}

@@ -1,14 +1,10 @@
 -- An ACE that stands whole in what comes of a line: the texts of its fields, and what they read as.
-use Rattle.std.specs.Prelude.{◌≡◌, ℕ, ◌≤◌, true, List, ◌∷◌, ◌++◌, length, Option, Some, Result, Ok}
-use Rattle.std.specs.List.{list_all}
+use Rattle.std.specs.Prelude.{◌≡◌, ℕ, List, ◌∷◌, ◌++◌, Option, Result, Ok}
 use Rattle.std.specs.Str.{byte as char}
 use Rattle.sd_sid.specs.Sid.{SecurityId}
 use Rattle.sd_sid.specs.SidText.{sid_reads}
-use Rattle.sd_text.specs.Limits.{most_field}
-use Rattle.sd_kinds.specs.declared.kinds.AceKind.{AceKind}
-use Rattle.sd_sddl_reader.specs.FieldTexts.{object_reads}
 use Rattle.sd_sddl_reader.specs.FoldedReading.{FieldsRead, take_field, with_trustee}
-use Rattle.sd_sddl_reader.specs.Inner.Held.{is_plain_inside}
+use Rattle.sd_sddl_fields.specs.FieldFronts.{FieldAt, IsWhole, ObjectsAt}
 use Rattle.sd_sddl_reader.specs.Inner.Reads.{HasReadFields}
 use Rattle.sd_text.specs.Chains.{and_then}
 use Rattle.sd_sddl_reader.specs.declared.fault.SddlFault.{SddlFault}
@@ -19,11 +15,6 @@ use Rattle.sd_sddl_reader.specs.declared.reading.AceFields.{AceFields}
 use Rattle.sd_sddl_reader.specs.declared.reading.FieldReader.{FieldReader}
 
 -- 1. The texts.
-
--- a field's text with no blank, and not too long
-pub record IsWhole (text : List ℕ) : Type 0 where
-  pub plain : list_all is_plain_inside text ≡ true
-  pub fits : length text ≤ most_field
 
 -- the texts of the fields of an ACE
 pub record AceTexts : Type 0 where
@@ -63,22 +54,7 @@ with_texts domain a read =
     (with_field domain field.Flags a.flags
     (with_field domain field.Kind a.kind read)))))
 
--- 2. What stands at the front of a text.
-
--- a field of which this holds, the byte that ends it, and a rest
-pub record FieldAt (Reads : List ℕ → Type 0) (end : ℕ) (text rest : List ℕ) : Type 0 where
-  pub field : List ℕ
-  pub whole : IsWhole field
-  pub stands : text ≡ field ++ end ∷ rest
-  pub reads : Reads field
-
--- the object type and the inherited object type
-pub record ObjectsAt (kind : AceKind) (object inherited : Option (List ℕ)) (text rest : List ℕ) : Type 0 where
-  pub between : List ℕ
-  pub first : FieldAt (λ t. object_reads kind t ≡ Some object) (char ";") text between
-  pub second : FieldAt (λ t. object_reads kind t ≡ Some inherited) (char ";") between rest
-
--- 3. A step over an ACE that reads.
+-- 2. A step over an ACE that reads.
 
 -- a SID ends the ACE of these fields, which was read
 pub record EndsAce (old : FieldReader) (before : List ℕ) (f : AceFields) (text : List ℕ) (new : FieldReader)

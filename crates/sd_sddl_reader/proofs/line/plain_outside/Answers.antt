@@ -1,6 +1,6 @@
 use Rattle.std.proofs.Common.{arith}
 use Rattle.std.proofs.lemmas.List.Folds.{list_all_more}
-use Rattle.sd_sddl_reader.specs.Inner.Held.{is_plain_outside}
+use Rattle.sd_sddl_reader.specs.Inner.Progress.{is_plain_outside}
 use Rattle.sd_sddl_reader.proofs.line.plain_outside.Goals as goal
 
 pub loop-i-preserved : goal.loop-i-preserved

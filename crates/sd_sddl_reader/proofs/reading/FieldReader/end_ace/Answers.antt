@@ -1,7 +1,7 @@
 use Rattle.std.proofs.Common.{sym, ◌∙◌}
 use Rattle.sd_sid.specs.SidText.{sid_front}
 use Rattle.sd_sddl_reader.proofs.FieldLaws.{holds-ace}
-use Rattle.sd_sddl_reader.proofs.PlainFields.{sid-front-whole}
+use Rattle.sd_sddl_fields.proofs.laws.PlainFields.{sid-front-whole}
 use Rattle.sd_sddl_reader.proofs.reading.FieldReader.end_ace.Goals as goal
 
 pub put_ace-requires : goal.put_ace-requires

@@ -1,6 +1,6 @@
 use Rattle.std.proofs.Common.{[], ◌∷◌, refl, sym, ◌∙◌, arith}
-use Rattle.sd_sddl_reader.specs.FieldTexts.{object_reads}
-use Rattle.sd_sddl_reader.proofs.PlainFields.{rights-whole}
+use Rattle.sd_sddl_fields.specs.FieldTexts.{object_reads}
+use Rattle.sd_sddl_fields.proofs.laws.PlainFields.{rights-whole}
 use Rattle.sd_sddl_reader.proofs.WholeFields.{takes-ace}
 use Rattle.sd_sddl_reader.proofs.reading.FieldReader.take_ace.Goals as goal
 

@@ -1,5 +1,5 @@
 use Rattle.std.proofs.Common.{sym, ◌∙◌, refl}
-use Rattle.sd_sddl_reader.specs.FieldTexts.{kind_reads}
+use Rattle.sd_sddl_fields.specs.FieldTexts.{kind_reads}
 use Rattle.sd_sddl_reader.specs.FoldedReading.{take_ace_field}
 use Rattle.sd_sddl_reader.proofs.FieldLaws.{holds-ace, sound-flags, sound-inherited, sound-kind, sound-mask, sound-object}
 use Rattle.sd_sddl_reader.proofs.reading.FieldReader.take_ace_field.Goals as goal

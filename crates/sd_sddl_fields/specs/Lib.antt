@@ -1,0 +1,3 @@
+pub mod FieldFronts
+pub mod FieldTexts
+pub mod Held
