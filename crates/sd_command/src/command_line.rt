@@ -9,62 +9,62 @@ use std::alloc::{AllocError, Global};
 
 /// What the program reads and writes: shown below its help.
 const STREAMS: &str =
-    "Each line of standard input is a descriptor, and its answer goes to standard output, in the
-same order. A line that is none is answered by an error line in its place.
+    "Reads one descriptor per line from standard input and writes one answer per line to standard
+output, in the same order. A line that is not a valid descriptor gets an error line as its answer.
 
-Status: 0 where each line was answered, 1 where some answer is an error line, 2 where the words
-do not read, 3 where input or output failed, 4 where there was no memory at the start.";
+Exit status: 0 if every line was answered, 1 if some answers are error lines, 2 if the command line
+is wrong, 3 if input or output failed, 4 if memory ran out before the first read. A denied access
+check is an answer, so its status is 0.";
 
 // Below the help of each command stands an example.
 const CONVERT_EXAMPLE: &str = "Example: echo 'D:(A;;FA;;;WD)' | sdtool convert --from sddl --to hex
-'sdtool --help' says what is read and written.";
+See 'sdtool --help' for input, output and exit status.";
 
 const EXPLAIN_EXAMPLE: &str = "Example: echo 'D:(A;;FA;;;WD)' | sdtool explain --from sddl
-'sdtool --help' says what is read and written.";
+See 'sdtool --help' for input, output and exit status.";
 
 const CHECK_EXAMPLE: &str =
     "Example: echo 'D:(A;;FA;;;BU)' | sdtool check --from sddl --token WD,AU,BU --want FR
-'sdtool --help' says what is read and written.";
+See 'sdtool --help' for input, output and exit status.";
 
 const DERIVE_EXAMPLE: &str =
     "Example: echo 'D:(A;OICI;FA;;;CO)' | sdtool derive --from sddl --kind file --owner BA --group SY
-'sdtool --help' says what is read and written.";
+See 'sdtool --help' for input, output and exit status.";
 
 // What is said of the options.
-const FROM_HELP: &str = "The form of the lines: hex, the default, base64 or sddl";
+const FROM_HELP: &str = "Input format: hex (default), base64 or sddl";
 
-const TO_HELP: &str = "The form of the answers: sddl, the default, hex or base64";
+const TO_HELP: &str = "Output format: sddl (default), hex or base64";
 
-const DOMAIN_HELP: &str = "The SID of the domain whose aliases are read and printed";
+const DOMAIN_HELP: &str = "SID of the domain, for aliases such as DA";
 
-const NUMERIC_HELP: &str = "Print SIDs without aliases";
+const NUMERIC_HELP: &str = "Print SIDs as numbers, without aliases";
 
-const TOKEN_HELP: &str =
-    "The SIDs of the token, parted by commas, with ! before one that only denies";
+const TOKEN_HELP: &str = "SIDs of the token, separated by commas; a ! before a SID makes it deny-only";
 
-const WANT_HELP: &str = "The rights that are wanted, as SDDL has them";
+const WANT_HELP: &str = "Rights to ask for, as in SDDL";
 
-const MAXIMUM_HELP: &str = "Ask for all that is granted";
+const MAXIMUM_HELP: &str = "Ask for all rights that are granted";
 
-const TYPE_HELP: &str = "The type of object: file, the default, key or ds";
+const TYPE_HELP: &str = "Object type: file (default), key or ds";
 
-const OBJECT_HELP: &str = "The GUID of the object type that is asked for";
+const OBJECT_HELP: &str = "GUID of the object type to ask for";
 
-const SELF_HELP: &str = "The SID that PRINCIPAL SELF stands for";
+const SELF_HELP: &str = "SID that PRINCIPAL SELF stands for";
 
 const SECURITY_HELP: &str = "The token holds SeSecurityPrivilege";
 
 const TAKE_OWNERSHIP_HELP: &str = "The token holds SeTakeOwnershipPrivilege";
 
-const LEVEL_HELP: &str = "The integrity level of the token, as 8192 for Medium";
+const LEVEL_HELP: &str = "Integrity level of the token, such as 8192 for Medium";
 
-const KIND_HELP: &str = "What is made: file or container";
+const KIND_HELP: &str = "What is created: file or container";
 
-const OWNER_HELP: &str = "The SID of the owner of what is made";
+const OWNER_HELP: &str = "SID of the new object's owner";
 
-const GROUP_HELP: &str = "The SID of the group of what is made";
+const GROUP_HELP: &str = "SID of the new object's group";
 
-const CREATOR_HELP: &str = "The descriptor that the creator brings, in SDDL";
+const CREATOR_HELP: &str = "Descriptor that the creator provides, in SDDL";
 
 /// The command line of the program.
 pub fn command_line<'a>(alloc: Global) -> Result<Command<'a>, AllocError>
@@ -80,7 +80,7 @@ fn bare_line<'a>(alloc: Global) -> Command<'a>
     ensures { app_of result ≡ bare_line }
 {
     Command::new(alloc, "sdtool")
-        .about("Work on Windows security descriptors, one a line")
+        .about("Convert, explain, check and derive Windows security descriptors, one per line")
         .after_help(STREAMS)
         .subcommand_required(true)
 }
@@ -91,7 +91,7 @@ fn convert_command<'a>(alloc: Global) -> Result<Command<'a>, AllocError>
     let command = named(
         alloc,
         "convert",
-        "Print each descriptor in a canonical form",
+        "Print each descriptor in hex, base64 or SDDL",
         CONVERT_EXAMPLE,
     );
     let command = with_option(alloc, command, "from", FROM_HELP);
@@ -106,7 +106,7 @@ fn explain_command<'a>(alloc: Global) -> Result<Command<'a>, AllocError>
     let command = named(
         alloc,
         "explain",
-        "Say what each descriptor has, in a block of lines",
+        "Print the contents of each descriptor, one item per line",
         EXPLAIN_EXAMPLE,
     );
     let command = with_option(alloc, command, "from", FROM_HELP);
@@ -120,7 +120,7 @@ fn check_command<'a>(alloc: Global) -> Result<Command<'a>, AllocError>
     let command = named(
         alloc,
         "check",
-        "Say what each descriptor grants to a token",
+        "Print what each descriptor grants to a token",
         CHECK_EXAMPLE,
     );
     let command = with_option(alloc, command, "from", FROM_HELP);
@@ -142,7 +142,7 @@ fn derive_command<'a>(alloc: Global) -> Result<Command<'a>, AllocError>
     let command = named(
         alloc,
         "derive",
-        "Print what a new object inherits from each descriptor",
+        "Print the descriptor of a new object inside each container",
         DERIVE_EXAMPLE,
     );
     let command = with_option(alloc, command, "from", FROM_HELP);
