@@ -9,7 +9,8 @@ that it was made from.
 Checks ask for what has to do with the descriptors: by tokens of SIDs that stand in them, about rights and object types of
 their ACEs, at levels near those of their labels. What is derived comes from descriptors whose ACEs are handed on, for
 owners and groups that stand in them, and from creators' descriptors of the same kind.
-With --only it runs some of its parts. There are as many checks, and as many derivations, as --lines says.
+With --only it runs some of its parts. There are as many checks, and as many derivations, as --lines says:
+--only checks derivations --lines 100000 takes about four minutes on an idle processor.
 The same seed gives the same lines. The last line is 'N passed, M failed'.
 """
 import argparse

@@ -136,7 +136,8 @@ fn expect_created(
 // The second takes the place of the first. After one that does not read there is none.
 #[test]
 fn keeps_a_creator_over_runs(rt: HostRuntime) {
-    let text = "O:BAG:BAD:AI(A;;FR;;;BU)(A;ID;FA;;;SY)\nerror 22 alias\nO:BAG:BAD:AI(A;;FR;;;BU)(A;ID;FA;;;SY)\n";
+    let text =
+        "O:BAG:BAD:AI(A;;FR;;;BU)(A;ID;FA;;;SY)\nerror 22 alias\nO:BAG:BAD:AI(A;;FR;;;BU)(A;ID;FA;;;SY)\n";
     expect_created(&rt, b"D:P", b"D:(A;;FR;;;BU)", Ok(()), text);
     let text = "O:BAG:BAD:P\nerror 22 alias\nO:BAG:BAD:P\n";
     expect_created(&rt, b"D:(A;;FR;;;BU)", b"D:P", Ok(()), text);

@@ -16,11 +16,9 @@ const ACES: Words<'static> = Words {
     trustees: "CO CG OW BA WD HI S-1-3-2 S-1-5-21-1-2-3-1001",
 };
 
-const DACLS: &str =
-    " D:NO_ACCESS_CONTROL D:PNO_ACCESS_CONTROL D: D: D: D: D:P D:AI D:PARAI";
+const DACLS: &str = " D:NO_ACCESS_CONTROL D:PNO_ACCESS_CONTROL D: D: D: D: D:P D:AI D:PARAI";
 
-const SACLS: &str =
-    "   S:NO_ACCESS_CONTROL S:PNO_ACCESS_CONTROL S: S: S: S:P S:AR S:PARAI";
+const SACLS: &str = "   S:NO_ACCESS_CONTROL S:PNO_ACCESS_CONTROL S: S: S: S:P S:AR S:PARAI";
 
 fn some_line(rt: &(impl Abort + AllocGlobal), numbers: &mut Numbers) -> String {
     let line = format!(in rt.alloc(); "{}", numbers.word_of(" O:WD O:BAG:CO"));

@@ -119,14 +119,7 @@ fn differs(ace: &Ace) -> bool {
 
 fn with_flags(ace: &Ace, flags: u8) -> Option<Ace> {
     let (object, inherited) = (ace.object(), ace.inherited());
-    Ace::new(
-        ace.kind(),
-        flags,
-        ace.mask(),
-        object,
-        inherited,
-        ace.sid(),
-    )
+    Ace::new(ace.kind(), flags, ace.mask(), object, inherited, ace.sid())
 }
 
 // The ACE for the object itself.
@@ -180,9 +173,7 @@ fn taken(ace: &Ace, plan: &Plan) -> [Option<Ace>; 2] {
         Target::File => [own, None],
         Target::Container if has(ace, INHERIT_ONLY) => [Some(*ace), None],
         Target::Container if !goes_on => [own, None],
-        Target::Container if differs(ace) => {
-            [own, with_flags(ace, ace.flags() | INHERIT_ONLY)]
-        }
+        Target::Container if differs(ace) => { [own, with_flags(ace, ace.flags() | INHERIT_ONLY)] }
         Target::Container => [Some(*ace), None],
     }
 }
