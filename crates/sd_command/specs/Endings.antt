@@ -5,7 +5,7 @@ use Rattle.clap.specs.Words.{Text, IsAmong, fault_of}
 use Rattle.clap.specs.declared.error.ErrorKind.TheVariants as kind
 use Rattle.sd_sink.specs.Sink.{PutAll, PutSome}
 use Rattle.sd_token.specs.Token.{TokenShown}
-use Rattle.sd_run.specs.Told.{SourceTold, DrainTold, RunTold, sink_of}
+use Rattle.sd_run.specs.Told.{SourceTold, DrainTold, sink_of}
 use Rattle.sd_run.specs.Outcome.{Outcome}
 use Rattle.sd_command.specs.CommandLine.{line}
 use Rattle.sd_command.specs.Refusing.{is_mistake}
