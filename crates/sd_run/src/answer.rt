@@ -1,5 +1,5 @@
 // The answer to one line.
-ghost use Rattle.std.specs.Prelude.{◌≡◌, ℕ, List, ◌++◌, [], ◌∷◌, true, Ok, Err};
+ghost use Rattle.std.specs.Prelude.{◌≡◌, ℕ, List, [], ◌∷◌, true, Ok, Err};
 ghost use Rattle.sd_run.specs.Lines.{line_feed};
 ghost use Rattle.sd_sink.specs.Print.{Prints};
 ghost use Rattle.sd_run.specs.Answers.{act_outcome, answer, bound, converted, form_text, is_error, naming_of, refused, unless_too_large, verdict_text};

@@ -4,7 +4,7 @@ use Rattle.std.specs.Prelude.{◌≡◌, ◌<◌, ◌≤◌, ℕ, ◌+◌, ◌-�
 use Rattle.std.specs.Io.KnownBytes.{Consumes, Appends}
 use Rattle.sd_run.specs.Inner.Reading.{CanRead, HasRead, form_of}
 use Rattle.sd_run.specs.Told.{RunTold, sink_of}
-use Rattle.sd_token.specs.Token.{Compares, Holder, TokenShown}
+use Rattle.sd_token.specs.Token.{Compares, TokenShown}
 use Rattle.sd_sink.specs.Print.{PrintTold, Prints}
 use Rattle.sd_sink.specs.Sink.{SinkTold, PutAll, PutSome, IsPrefix}
 use Rattle.sd_sink.specs.declared.sink.SinkFault.{SinkFault}
@@ -12,7 +12,7 @@ use Rattle.sd_sink.specs.Counts.{counted}
 use Rattle.sd_view.specs.Descriptor.{Descriptor}
 use Rattle.sd_view.specs.Reading.{reading}
 use Rattle.sd_run.specs.Lines.{AreBytes, cut_at_line_feeds, ended, without_cr, carriage_return}
-use Rattle.sd_run.specs.Answers.{LineOutcome, answers, errors, bounds, line_limit, or_byte_fault}
+use Rattle.sd_run.specs.Answers.{answers, errors, bounds, line_limit, or_byte_fault}
 use Rattle.sd_run.specs.Outcome.{HandedOn, IsFront, RoseBy}
 use Rattle.sd_run.specs.declared.job.Job.{Job}
 use Rattle.sd_run.specs.declared.job.Task.{Task}

@@ -1,4 +1,4 @@
-use Rattle.std.proofs.Common.{sym, ◌∙◌, arith, refl, ◌+◌, ◌-◌, take, drop}
+use Rattle.std.proofs.Common.{sym, arith, refl, ◌+◌, ◌-◌, take, drop}
 use Rattle.std.proofs.lemmas.Grind.{common_steps}
 use Rattle.std.proofs.lemmas.Result.{err_from_is_err_and}
 use Rattle.sd_run.proofs.LineCutLemmas.{NoLf, has_lf-at}
