@@ -8,17 +8,19 @@ ZSH_COMPLETION := zsh/site-functions/_sdtool
 FISH_COMPLETION := fish/vendor_completions.d/sdtool.fish
 COMPLETIONS := $(BASH_COMPLETION) $(ZSH_COMPLETION) $(FISH_COMPLETION)
 PROGRAM := crates/sdtool/out/sdtool
+LIBRARY := out/lib/libsdtool.so
 EXAMPLES := examples/descriptors.hex
 SOURCES := crates.txt $(shell find crates -path '*/out' -prune -o -path '*/must-fail' -prune -o -type f -print)
 
 need_toolchain = $(if $(shell command -v rt 2>&1),,$(error the Rattle toolchain is missing: there is no command 'rt' on the PATH))
 
-.PHONY: help program run quick check rows test edits figures bench install uninstall deb dist clean
+.PHONY: help program library run quick check rows test edits figures bench install uninstall deb dist clean
 
 # The first target, so `make` alone lists the targets.
 help:
 	@echo 'make run               builds the program and shows the examples, each with its answer (10 to 18 minutes, then seconds)'
 	@echo 'make program           builds the program alone: crates/sdtool/out/sdtool'
+	@echo 'make library           builds the library for C and Python: out/lib/libsdtool.a and out/lib/libsdtool.so'
 	@echo 'make quick             builds the program without a proof, and tries it on rows and random lines (a minute)'
 	@echo 'make check CRATE=NAME  proves a crate, reusing the work of earlier checks (seconds to 2 minutes)'
 	@echo 'make rows ID=WORD      runs the rows whose names contain WORD on the built program (seconds; ID= for all)'
@@ -40,6 +42,14 @@ program: $(PROGRAM)
 $(PROGRAM): $(SOURCES)
 	$(need_toolchain)
 	cd crates/sdtool && rt run -- convert < /dev/null
+	@touch $@
+
+library: $(LIBRARY)
+
+$(LIBRARY): $(SOURCES) packaging/library.sh packaging/library.map
+	$(need_toolchain)
+	cd crates/sdtool_c && rt lib
+	packaging/library.sh
 	@touch $@
 
 # The program's status is 1 if a line has an error. Here that is an answer and not a failure.

@@ -1,0 +1,67 @@
+-- What each call gives.
+use Rattle.std.specs.Prelude.{ℕ, List, Bool, if◌then◌else◌, nat_eq, nat_lt, length, Option, Some, None, Result, Ok, Err}
+use Rattle.sd_text.specs.Chains.{◌>>=◌, fault_as}
+use Rattle.sd_text.specs.Limits.{most_sddl_text}
+use Rattle.sd_control.specs.declared.limits.TheConstants.{CAPACITY}
+use Rattle.sd_sid.specs.Sid.{SecurityId, sid_at}
+use Rattle.sd_sid.specs.Naming.{naming_by}
+use Rattle.sd_view.specs.Descriptor.{Descriptor}
+use Rattle.sd_view.specs.Layout.{layout}
+use Rattle.sd_view.specs.Reading.{reading}
+use Rattle.sd_sddl_reader.specs.Meaning.{means}
+use Rattle.sd_sddl_printer.specs.Printed.{sddl}
+use Rattle.sd_explain.specs.Explain.{explain}
+use Rattle.sd_sid.specs.declared.naming.Naming.{Naming}
+use Rattle.sdtool_c.specs.declared.printing.Text.{Text}
+use Rattle.sdtool_c.specs.declared.printing.Text.TheVariants as text
+use Rattle.sdtool_c.specs.declared.outcome.CallFault.{CallFault}
+use Rattle.sdtool_c.specs.declared.outcome.CallFault.TheVariants.{Argument, Sd, Sddl, TooLong}
+
+-- a SID that takes all of the bytes
+abbrev pub whole_sid : ℕ → Option (SecurityId × ℕ) → Result (Option SecurityId) CallFault
+whole_sid n None = Err Argument
+whole_sid n (Some found) = if nat_eq found.1 n then Ok (Some found.0) else Err Argument
+
+-- the domain that an argument names: none where it is empty
+unfoldable pub domain_in : List ℕ → Result (Option SecurityId) CallFault
+domain_in bytes = if nat_eq (length bytes) 0 then Ok None else whole_sid (length bytes) (sid_at bytes)
+
+-- what some bytes show; as in the program, more bytes than a descriptor ever has are too long
+unfoldable pub descriptor_in : List ℕ → Result Descriptor CallFault
+descriptor_in bytes = if nat_lt CAPACITY (length bytes) then Err TooLong else fault_as Sd (reading bytes)
+
+-- what a text means
+unfoldable pub text_in : Option SecurityId → List ℕ → Result Descriptor CallFault
+text_in domain text = if nat_lt most_sddl_text (length text) then Err TooLong else fault_as Sddl (means text domain)
+
+-- a text of a descriptor
+abbrev pub text_of : Text → Naming → Descriptor → List ℕ
+text_of text.Sddl naming d = sddl naming d
+text_of text.Explanation naming d = explain naming d
+
+abbrev pub printed : Text → List ℕ → List ℕ → Bool → Result (List ℕ) CallFault
+printed what bytes domain numeric = do
+  named ← domain_in domain
+  d ← descriptor_in bytes
+  Ok (text_of what (naming_by named numeric) d)
+
+abbrev pub to_sddl : List ℕ → List ℕ → Bool → Result (List ℕ) CallFault
+to_sddl bytes domain numeric = printed text.Sddl bytes domain numeric
+
+abbrev pub explained : List ℕ → List ℕ → Bool → Result (List ℕ) CallFault
+explained bytes domain numeric = printed text.Explanation bytes domain numeric
+
+abbrev pub normalized : List ℕ → Result (List ℕ) CallFault
+normalized bytes = do
+  d ← descriptor_in bytes
+  Ok (layout d)
+
+-- the one layout of what a text means
+abbrev pub laid_out : Result Descriptor CallFault → Result (List ℕ) CallFault
+laid_out (Ok d) = Ok (layout d)
+laid_out (Err fault) = Err fault
+
+abbrev pub from_sddl : List ℕ → List ℕ → Result (List ℕ) CallFault
+from_sddl text domain = do
+  named ← domain_in domain
+  laid_out (text_in named text)

@@ -1,0 +1,157 @@
+//! The calls that convert descriptors.
+
+ghost use Rattle.std.specs.Prelude.{◌≡◌, codes, MatchResult, Ok, Err};
+ghost use Rattle.std.specs.Option.{option_copied};
+ghost use Rattle.sd_view.specs.Descriptor.{Descriptor, Shows};
+ghost use Rattle.sd_view.specs.Layout.{layout};
+ghost use Rattle.sdtool_c.specs.Outcomes.{Answers, AnswersText, AnswersWithin, Gives};
+ghost use Rattle.sdtool_c.specs.Calls.{explained, from_sddl, laid_out, normalized, printed, text_in, to_sddl};
+
+use crate::input::{descriptor_in, domain_in};
+use crate::outcome::{CallFault, Outcome, done, failed, no_memory, too_small};
+use crate::output::{Front, give};
+use crate::printing::{Text, give_text};
+use sd_buffer::SdBuf;
+use sd_sddl_reader::read_sddl;
+use sd_sid::Sid;
+use sd_text::MOST_SDDL_TEXT;
+use sd_view::{SdView, put_layout, read};
+use std::alloc::Global;
+
+/// Gives the library's version.
+#[unsafe(no_mangle)]
+pub extern "C" fn sdtool_version(text: &mut [u8]) -> Outcome
+    ensures { Gives (codes "0.1.0") text.old text.new result }
+{
+    give(b"0.1.0", text)
+}
+
+/// Gives a descriptor as SDDL.
+#[unsafe(no_mangle)]
+pub extern "C" fn sdtool_to_sddl(
+    alloc: Global,
+    bytes: &[u8],
+    domain: &[u8],
+    numeric: bool,
+    text: &mut [u8],
+) -> Outcome
+    ensures { AnswersText (to_sddl bytes.now domain.now numeric) text.old text.new result }
+{
+    print(alloc, Text::Sddl, bytes, domain, numeric, text)
+}
+
+/// Gives the explanation of a descriptor.
+#[unsafe(no_mangle)]
+pub extern "C" fn sdtool_explain(
+    alloc: Global,
+    bytes: &[u8],
+    domain: &[u8],
+    numeric: bool,
+    text: &mut [u8],
+) -> Outcome
+    ensures { AnswersText (explained bytes.now domain.now numeric) text.old text.new result }
+{
+    print(alloc, Text::Explanation, bytes, domain, numeric, text)
+}
+
+// Gives a text of a descriptor.
+fn print(
+    alloc: Global,
+    what: Text,
+    bytes: &[u8],
+    domain: &[u8],
+    numeric: bool,
+    text: &mut [u8],
+) -> Outcome
+    ensures { AnswersText (printed what bytes.now domain.now numeric) text.old text.new result }
+{
+    let domain = match domain_in(domain) {
+        Ok(domain) => domain,
+        Err(fault) => return failed(fault),
+    };
+    match descriptor_in(bytes) {
+        Ok(view) => give_text(alloc, &view, what, domain.as_ref(), numeric, text),
+        Err(fault) => failed(fault),
+    }
+}
+
+/// Gives the one layout of a descriptor.
+#[unsafe(no_mangle)]
+pub extern "C" fn sdtool_normalize(bytes: &[u8], output: &mut [u8]) -> Outcome
+    ensures { Answers (normalized bytes.now) output.old output.new result }
+{
+    match descriptor_in(bytes) {
+        Ok(view) => give_layout(&view, output),
+        Err(fault) => failed(fault),
+    }
+}
+
+/// Gives the bytes of the descriptor that a text of SDDL means.
+#[unsafe(no_mangle)]
+pub extern "C" fn sdtool_from_sddl(
+    alloc: Global,
+    text: &[u8],
+    domain: &[u8],
+    output: &mut [u8],
+) -> Outcome
+    ensures { AnswersWithin (from_sddl text.now domain.now) output.old output.new result }
+{
+    let domain = match domain_in(domain) {
+        Ok(domain) => domain,
+        Err(fault) => return failed(fault),
+    };
+    let Ok(mut buf) = SdBuf::new(alloc) else {
+        return no_memory();
+    };
+    give_meant(text, domain.as_ref(), &mut buf, output)
+}
+
+// Gives the layout of the descriptor that a text means.
+fn give_meant(text: &[u8], domain: Option<&Sid>, buf: &mut SdBuf, output: &mut [u8]) -> Outcome
+    ensures { Answers (laid_out (text_in (option_copied domain.entry) text.now)) output.old output.new result }
+{
+    match read_text(text, domain, buf) {
+        Ok(()) => give_read(buf.bytes(), output),
+        Err(fault) => failed(fault),
+    }
+}
+
+// Gives the layout of the descriptor that some bytes show.
+fn give_read(bytes: &[u8], output: &mut [u8]) -> Outcome
+    ensures { (d : Descriptor) → Shows bytes.now d → Gives (layout d) output.old output.new result }
+{
+    match read(bytes) {
+        Ok(view) => give_layout(&view, output),
+        // The bytes show a descriptor.
+        Err(fault) => failed(CallFault::Sd(fault)),
+    }
+}
+
+// Gives the layout of a descriptor.
+fn give_layout(view: &SdView<'_>, output: &mut [u8]) -> Outcome
+    ensures { Gives (layout view.now) output.old output.new result }
+{
+    let size = view.size() as usize;
+    let mut sink = Front {
+        cells: output,
+        held: 0,
+        failures: 0,
+    };
+    match put_layout(view, &mut sink) {
+        Ok(()) => done(size),
+        Err(_) => too_small(size),
+    }
+}
+
+// Reads a text into the buffer, as bytes that show its descriptor.
+#[tactic(auto, unfolding(crate::specs::Calls::text_in))]
+fn read_text(text: &[u8], domain: Option<&Sid>, buf: &mut SdBuf) -> Result<(), CallFault>
+    ensures { MatchResult (text_in (option_copied domain.entry) text.now)
+        (λ d. (result ≡ Ok tt) × Shows buf.new d)
+        (λ fault. result ≡ Err fault) }
+{
+    if text.len() > MOST_SDDL_TEXT {
+        return Err(CallFault::TooLong);
+    }
+    read_sddl(text, domain, buf).map_err(CallFault::Sddl)
+}

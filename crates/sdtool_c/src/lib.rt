@@ -1,0 +1,8 @@
+//! The library that C programs call.
+#![tactic(auto)]
+
+mod conversions;
+mod input;
+mod outcome;
+mod output;
+mod printing;

@@ -1,0 +1,149 @@
+//! What a call hands back.
+
+ghost use Rattle.std.specs.Prelude.{◌≡◌};
+ghost use Rattle.sdtool_c.specs.Outcomes.{done, failed, named_parts, no_memory, number, part_number, too_small};
+
+use sd_control::Which;
+use sd_sddl_reader::SddlFault;
+use sd_sid::SidFault;
+use sd_view::{Part, SdFault};
+
+/// The output has too little room.
+const TOO_SMALL: u32 = 71;
+
+const NO_MEMORY: u32 = 72;
+
+/// What a call hands back: `struct sdtool_outcome` of the header.
+#[repr(C)]
+#[derive(Clone, Copy)]
+pub struct Outcome {
+    /// 0, or the number of the fault.
+    pub fault: u32,
+    /// The part that the fault names, or 0.
+    pub part: u32,
+    /// The second part that the fault names, or 0.
+    pub other_part: u32,
+    /// How many bytes the output has, or needs.
+    pub length: usize,
+}
+
+/// Why a call gives nothing, but for want of room or memory.
+#[derive(Clone, Copy)]
+pub enum CallFault {
+    /// 1: there are more bytes than any descriptor or its text has.
+    TooLong,
+    /// 5 to 14: the bytes show no descriptor.
+    Sd(SdFault),
+    /// 20 to 30: the text is no SDDL.
+    Sddl(SddlFault),
+    /// 70: an argument is no SID.
+    Argument,
+}
+
+/// So many bytes are at the front of the output.
+pub fn done(length: usize) -> Outcome
+    ensures { result ≡ done length }
+{
+    Outcome {
+        fault: 0,
+        part: 0,
+        other_part: 0,
+        length,
+    }
+}
+
+/// The output has no room for so many bytes.
+pub fn too_small(length: usize) -> Outcome
+    ensures { result ≡ too_small length }
+{
+    Outcome {
+        fault: TOO_SMALL,
+        part: 0,
+        other_part: 0,
+        length,
+    }
+}
+
+/// An allocation was refused.
+pub fn no_memory() -> Outcome
+    ensures { result ≡ no_memory }
+{
+    Outcome {
+        fault: NO_MEMORY,
+        part: 0,
+        other_part: 0,
+        length: 0,
+    }
+}
+
+/// The call gives nothing.
+pub fn failed(fault: CallFault) -> Outcome
+    ensures { result ≡ failed fault }
+{
+    let parts = named_parts(fault);
+    Outcome {
+        fault: number(fault),
+        part: part_number(parts.0),
+        other_part: part_number(parts.1),
+        length: 0,
+    }
+}
+
+fn number(fault: CallFault) -> u32
+    ensures { result ≡ number fault }
+{
+    match fault {
+        CallFault::TooLong => 1,
+        CallFault::Sd(SdFault::Short) => 5,
+        CallFault::Sd(SdFault::Revision) => 6,
+        CallFault::Sd(SdFault::NotSelfRelative) => 7,
+        CallFault::Sd(SdFault::Offset(_)) => 8,
+        CallFault::Sd(SdFault::Sid(_)) => 9,
+        CallFault::Sd(SdFault::Acl(_)) => 10,
+        CallFault::Sd(SdFault::AceSize(_)) => 11,
+        CallFault::Sd(SdFault::AceType(_)) => 12,
+        CallFault::Sd(SdFault::AceFlags(_)) => 13,
+        CallFault::Sd(SdFault::Overlap(_, _)) => 14,
+        CallFault::Sddl(SddlFault::Shape) => 20,
+        CallFault::Sddl(SddlFault::PartTwice) => 21,
+        CallFault::Sddl(SddlFault::Sid(SidFault::Alias)) => 22,
+        CallFault::Sddl(SddlFault::Sid(SidFault::NeedsDomain)) => 23,
+        CallFault::Sddl(SddlFault::Sid(SidFault::Number)) => 24,
+        CallFault::Sddl(SddlFault::Sid(SidFault::SidForm)) => 25,
+        CallFault::Sddl(SddlFault::Flags) => 26,
+        CallFault::Sddl(SddlFault::Rights) => 27,
+        CallFault::Sddl(SddlFault::Guid) => 28,
+        CallFault::Sddl(SddlFault::Kind) => 29,
+        CallFault::Sddl(SddlFault::AclTooLarge(_)) => 30,
+        CallFault::Argument => 70,
+    }
+}
+
+fn named_parts(fault: CallFault) -> (Option<Part>, Option<Part>)
+    ensures { result ≡ named_parts fault }
+{
+    match fault {
+        CallFault::Sd(SdFault::Offset(part)) => (Some(part), None),
+        CallFault::Sd(SdFault::Sid(part)) => (Some(part), None),
+        CallFault::Sd(SdFault::Acl(part)) => (Some(part), None),
+        CallFault::Sd(SdFault::AceSize(part)) => (Some(part), None),
+        CallFault::Sd(SdFault::AceType(part)) => (Some(part), None),
+        CallFault::Sd(SdFault::AceFlags(part)) => (Some(part), None),
+        CallFault::Sd(SdFault::Overlap(first, second)) => (Some(first), Some(second)),
+        CallFault::Sddl(SddlFault::AclTooLarge(Which::Sacl)) => (Some(Part::Sacl), None),
+        CallFault::Sddl(SddlFault::AclTooLarge(Which::Dacl)) => (Some(Part::Dacl), None),
+        _ => (None, None),
+    }
+}
+
+fn part_number(part: Option<Part>) -> u32
+    ensures { result ≡ part_number part }
+{
+    match part {
+        None => 0,
+        Some(Part::Owner) => 1,
+        Some(Part::Group) => 2,
+        Some(Part::Sacl) => 3,
+        Some(Part::Dacl) => 4,
+    }
+}

@@ -1,0 +1,262 @@
+/*
+ * calls convert|explain|normalize|from_sddl [DOMAIN] [numeric]
+ *
+ * Makes one call for each line of standard input, hex or SDDL, and prints its answer as the program does; a fault as
+ * 'error NUMBER PART PART'. DOMAIN is a SID as hex digits, or -. Each call is made again with outputs that are too small, with each
+ * allocation refused, and from eight threads at the end. What goes wrong there is printed to standard error, and the
+ * status is then 1.
+ */
+#include <pthread.h>
+#include <stdio.h>
+#include <stdlib.h>
+#include <string.h>
+
+#include "sdtool.h"
+
+enum { THREADS = 8, ROUNDS = 250, MOST_KEPT = 64 };
+
+struct bytes {
+    uint8_t *cells;
+    size_t size;
+};
+
+static const char *job;
+static struct bytes domain;
+static bool numeric;
+static int wrong;
+
+/* The linker puts these in the place of malloc and realloc of the library: see tests/c_library.py. */
+void *__real_malloc(size_t size);
+void *__wrap_malloc(size_t size);
+void *__real_realloc(void *block, size_t size);
+void *__wrap_realloc(void *block, size_t size);
+
+static _Thread_local long allocations_left = -1;
+static _Thread_local long allocations;
+
+static bool refused(void)
+{
+    allocations++;
+    return allocations_left >= 0 && allocations_left-- == 0;
+}
+
+void *__wrap_malloc(size_t size)
+{
+    return refused() ? NULL : __real_malloc(size);
+}
+
+void *__wrap_realloc(void *block, size_t size)
+{
+    return refused() ? NULL : __real_realloc(block, size);
+}
+
+static void complain(const char *what)
+{
+    fprintf(stderr, "%s: %s\n", job, what);
+    wrong = 1;
+}
+
+/* A block of exactly this size, so that a sanitizer sees each byte beyond it; null for none. */
+static uint8_t *block(size_t size)
+{
+    uint8_t *cells = size == 0 ? NULL : __real_malloc(size);
+
+    if (size != 0 && cells == NULL)
+        abort();
+    return cells;
+}
+
+static struct sdtool_outcome call(const struct bytes *in, uint8_t *out, size_t size)
+{
+    if (strcmp(job, "convert") == 0)
+        return sdtool_to_sddl(in->cells, in->size, domain.cells, domain.size, numeric, out, size);
+    if (strcmp(job, "explain") == 0)
+        return sdtool_explain(in->cells, in->size, domain.cells, domain.size, numeric, out, size);
+    if (strcmp(job, "normalize") == 0)
+        return sdtool_normalize(in->cells, in->size, out, size);
+    return sdtool_from_sddl(in->cells, in->size, domain.cells, domain.size, out, size);
+}
+
+static bool is_fault(const struct sdtool_outcome *o, uint32_t fault, size_t length)
+{
+    return o->fault == fault && o->part == 0 && o->other_part == 0 && o->length == length;
+}
+
+static void try_size(const struct bytes *in, const struct bytes *answer, size_t size)
+{
+    uint8_t *cells = block(size);
+    struct sdtool_outcome o = call(in, cells, size);
+
+    if (size < answer->size) {
+        if (!is_fault(&o, SDTOOL_TOO_SMALL, answer->size))
+            complain("an output that is too small");
+    } else if (!is_fault(&o, SDTOOL_OK, answer->size)
+               || (answer->size != 0 && memcmp(cells, answer->cells, answer->size) != 0)) {
+        complain("an output that is large enough");
+    }
+    free(cells);
+}
+
+static void try_sizes(const struct bytes *in, const struct bytes *answer)
+{
+    size_t step = answer->size <= 300 ? 1 : answer->size / 7;
+
+    for (size_t size = 0; size <= answer->size; size += step)
+        try_size(in, answer, size);
+    if (answer->size > 0)
+        try_size(in, answer, answer->size - 1);
+    try_size(in, answer, answer->size);
+    try_size(in, answer, answer->size + 9);
+}
+
+static void try_refusals(const struct bytes *in, size_t size)
+{
+    long most;
+
+    allocations = 0;
+    uint8_t *cells = block(size);
+    struct sdtool_outcome whole = call(in, cells, size);
+    most = allocations;
+    for (long n = 0; n < most; n++) {
+        allocations_left = n;
+        struct sdtool_outcome o = call(in, cells, size);
+        allocations_left = -1;
+        if (!is_fault(&o, SDTOOL_NO_MEMORY, 0))
+            complain("a refused allocation");
+    }
+    struct sdtool_outcome again = call(in, cells, size);
+    if (again.fault != whole.fault || again.length != whole.length)
+        complain("a call after refused allocations");
+    free(cells);
+}
+
+static void print(const struct bytes *answer)
+{
+    if (strcmp(job, "convert") == 0 || strcmp(job, "explain") == 0) {
+        fwrite(answer->cells, 1, answer->size, stdout);
+        if (strcmp(job, "convert") == 0)
+            putchar('\n');
+        return;
+    }
+    for (size_t i = 0; i < answer->size; i++)
+        printf("%02x", answer->cells[i]);
+    putchar('\n');
+}
+
+static struct bytes answer_to(const struct bytes *in)
+{
+    static const char *const parts[] = {"", " owner", " group", " sacl", " dacl"};
+    size_t most = strcmp(job, "convert") == 0 || strcmp(job, "explain") == 0 ? SDTOOL_TEXT_SIZE(in->size) : SDTOOL_MOST_BYTES;
+    struct bytes answer = {block(most), 0};
+    struct sdtool_outcome o = call(in, answer.cells, most);
+
+    if (o.fault == SDTOOL_OK) {
+        answer.size = o.length;
+        print(&answer);
+        try_sizes(in, &answer);
+        try_refusals(in, 0);
+    } else {
+        if (o.length != 0 || o.part > 4 || o.other_part > 4)
+            complain("what a fault tells");
+        else
+            printf("error %u%s%s\n", (unsigned)o.fault, parts[o.part], parts[o.other_part]);
+    }
+    try_refusals(in, most);
+    return answer;
+}
+
+static int digit(int c)
+{
+    static const char digits[] = "0123456789abcdef";
+    const char *at = c == 0 ? NULL : strchr(digits, c);
+
+    return at == NULL ? -1 : (int)(at - digits);
+}
+
+/* The bytes that hex digits spell. */
+static struct bytes spelled(const char *text, size_t length)
+{
+    struct bytes bytes = {block(length / 2), length / 2};
+
+    for (size_t i = 0; i < bytes.size; i++)
+        bytes.cells[i] = (uint8_t)(16 * digit(text[2 * i]) + digit(text[2 * i + 1]));
+    return bytes;
+}
+
+static struct bytes copied(const char *text, size_t length)
+{
+    struct bytes bytes = {block(length), length};
+
+    if (length != 0)
+        memcpy(bytes.cells, text, length);
+    return bytes;
+}
+
+struct kept {
+    struct bytes in;
+    struct bytes answer;
+};
+
+static struct kept kept[MOST_KEPT];
+static size_t kept_count;
+
+static void *repeat(void *unused)
+{
+    (void)unused;
+    for (int round = 0; round < ROUNDS; round++) {
+        for (size_t i = 0; i < kept_count; i++) {
+            uint8_t *cells = block(kept[i].answer.size);
+            struct sdtool_outcome o = call(&kept[i].in, cells, kept[i].answer.size);
+
+            if (!is_fault(&o, SDTOOL_OK, kept[i].answer.size) || memcmp(cells, kept[i].answer.cells, o.length) != 0)
+                complain("a call in a thread");
+            free(cells);
+        }
+    }
+    return NULL;
+}
+
+int main(int count, char **words)
+{
+    pthread_t threads[THREADS];
+    char *line = NULL;
+    size_t room = 0;
+    ssize_t got;
+    char version[16] = "";
+    struct sdtool_outcome o = sdtool_version((uint8_t *)version, sizeof version - 1);
+
+    if (count < 2)
+        return 2;
+    job = words[1];
+    if (!is_fault(&o, SDTOOL_OK, strlen(version)))
+        complain("the version");
+    if (count > 2 && strcmp(words[2], "-") != 0)
+        domain = spelled(words[2], strlen(words[2]));
+    numeric = count > 3;
+    while ((got = getline(&line, &room, stdin)) > 0) {
+        size_t length = (size_t)got - (line[got - 1] == '\n');
+        struct bytes in = strcmp(job, "from_sddl") == 0 ? copied(line, length) : spelled(line, length);
+        struct bytes answer = answer_to(&in);
+
+        if (kept_count < MOST_KEPT && answer.size != 0 && answer.size < 2000) {
+            kept[kept_count].in = in;
+            kept[kept_count++].answer = answer;
+        } else {
+            free(in.cells);
+            free(answer.cells);
+        }
+    }
+    for (int i = 0; i < THREADS; i++)
+        if (pthread_create(&threads[i], NULL, repeat, NULL) != 0)
+            return 2;
+    for (int i = 0; i < THREADS; i++)
+        pthread_join(threads[i], NULL);
+    while (kept_count > 0) {
+        kept_count--;
+        free(kept[kept_count].in.cells);
+        free(kept[kept_count].answer.cells);
+    }
+    free(domain.cells);
+    free(line);
+    return wrong;
+}
