@@ -44,6 +44,12 @@ if "${MAKE:-make}" --no-print-directory program; then
     count tests/tables.py "$program"
     count tests/run_examples.py "$program"
     count tests/completions.py "$program"
+    if "${MAKE:-make}" --no-print-directory library; then
+        count tests/c_library.py "$program"
+    else
+        echo "the library is not built, so its tests have not run"
+        ((failed += 1))
+    fi
     count tests/system_calls.py "$program"
     count tests/memory.py "$program"
     count tests/device_faults.py "$program"

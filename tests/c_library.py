@@ -181,7 +181,7 @@ def test_python(count, program, lines):
 def main():
     parser = argparse.ArgumentParser(description="Tests the library from C and Python.")
     parser.add_argument("program", type=os.path.abspath)
-    parser.add_argument("--lines", type=int, default=2000)
+    parser.add_argument("--lines", type=int, default=400)
     arguments = parser.parse_args()
     count = preload.Count()
     choices = random.Random(29)
