@@ -76,8 +76,7 @@ def text(value):
 def rows_in(file):
     """The rows of a subject, each with a source: its own, or that of the file."""
     subject = json.loads(file.read_text(encoding="utf-8"))
-    rows, source = (subject["rows"], subject["source"]) if isinstance(subject, dict) else (subject, None)
-    return [{"source": source, **row} for row in rows]
+    return [{"source": subject["source"], **row} for row in subject["rows"]]
 
 
 def all_rows():
