@@ -25,7 +25,7 @@ ROW_OF_AN_EDIT = re.compile(r"^\| `(\w+)` \| `(\w+)` \|", re.M)
 
 def crates():
     rows = (TOP / "crates.txt").read_text(encoding="utf-8").splitlines()
-    return [row.partition(":")[0].strip() for row in rows if row.strip() and not row.startswith("#")]
+    return [row.partition(":")[0].split()[0] for row in rows if row.strip() and not row.startswith("#")]
 
 
 def texts(folder):
