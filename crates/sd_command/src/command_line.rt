@@ -40,7 +40,8 @@ const DOMAIN_HELP: &str = "SID of the domain, for aliases such as DA";
 
 const NUMERIC_HELP: &str = "Print SIDs as numbers, without aliases";
 
-const TOKEN_HELP: &str = "SIDs of the token, separated by commas; a ! before a SID makes it deny-only";
+const TOKEN_HELP: &str =
+    "SIDs of the token, separated by commas; a ! before a SID makes it deny-only";
 
 const WANT_HELP: &str = "Rights to ask for, as in SDDL";
 
