@@ -1,5 +1,5 @@
 //! Tests over public calls, for what no clause says and no row shows: values, buffers, builders, tokens, the access
-//! check and derivations beside plain programs, and sinks that fail. Values of the built program are in `tests/rows/`.
+//! check beside a plain program, and sinks that fail. Values of the built program are in `tests/rows/`.
 //! A crate with tests is proved twice, so all tests are here and in `sd_run_tests`.
 #![tactic(auto)]
 
@@ -10,13 +10,9 @@ mod builder;
 #[cfg(test)]
 mod check;
 #[cfg(test)]
-mod derive;
-#[cfg(test)]
 mod numbers;
 #[cfg(test)]
 mod plain_check;
-#[cfg(test)]
-mod plain_derive;
 #[cfg(test)]
 mod sinks;
 #[cfg(test)]
