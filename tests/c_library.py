@@ -9,7 +9,6 @@ The last line is 'N passed, M failed'.
 """
 import argparse
 import doctest
-import json
 import os
 import pathlib
 import random
@@ -21,6 +20,7 @@ import tempfile
 
 sys.dont_write_bytecode = True
 import preload  # noqa: E402
+import run_rows  # noqa: E402
 
 TOP = pathlib.Path(__file__).resolve().parent.parent
 LIBRARIES = TOP / "out" / "lib"
@@ -51,14 +51,13 @@ def expand(text):
 def lines_of_rows():
     """The lines of the rows in hex, and those in SDDL."""
     of_hex, of_sddl = set(), set()
-    for path in sorted((TOP / "tests" / "rows").glob("*.json")):
-        for row in json.loads(path.read_text(encoding="utf-8")):
-            for text in (expand(row.get("stdin", "")), expand(row.get("stdout", ""))):
-                for line in (text or "").split("\n"):
-                    if HEX.fullmatch(line):
-                        of_hex.add(line)
-                    elif line and "\r" not in line and len(line) < 100_000 and "sddl" in row["words"]:
-                        of_sddl.add(line)
+    for row in run_rows.all_rows():
+        for text in (expand(row.get("stdin", "")), expand(row.get("stdout", ""))):
+            for line in (text or "").split("\n"):
+                if HEX.fullmatch(line):
+                    of_hex.add(line)
+                elif line and "\r" not in line and len(line) < 100_000 and "sddl" in row["words"]:
+                    of_sddl.add(line)
     return sorted(of_hex), sorted(of_sddl)
 
 
