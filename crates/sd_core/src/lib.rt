@@ -1,7 +1,34 @@
-//! What every layer of `sdtool` speaks of: security identifiers (MS-DTYP 2.4.2), ACEs (2.4.4), access masks (2.4.3),
-//! GUIDs (2.3.4), tokens (2.5.2), and the sinks that texts are put into.
+//! The values that every layer of `sdtool` uses: security identifiers (MS-DTYP 2.4.2), ACEs (2.4.4), access masks
+//! (2.4.3), GUIDs (2.3.4), tokens (2.5.2), and the sinks that texts are written to.
 //!
-//! This crate re-exports the rooms below it: `sd_sink`, `sd_text`, `sd_kinds`, `sd_rights`, `sd_sid`, `sd_ace` and
+//! Does the generic right `GA` of Administrators let them change a file's DACL?
+//!
+//! ```
+//! use sd_core::{Mapping, Sid, carries, rights_from_text};
+//! use std::io;
+//!
+//! /// The number of the right WRITE_DAC (MS-DTYP 2.4.3).
+//! const WRITE_DAC: u32 = 18;
+//!
+//! fn main(rt: HostRuntime) -> io::Result<()> {
+//!     match (Sid::from_text(b"BA", None), rights_from_text(b"GA")) {
+//!         (Ok(sid), Some(rights)) => {
+//!             let mask = Mapping::FILE.map(rights);
+//!             let may = carries(mask, WRITE_DAC);
+//!             println!(rt; "{} {:?}: {mask:#x} {may}", sid.authority(), sid.subs())
+//!         }
+//!         (sid, rights) => println!(rt; "{sid:?} {rights:?}"),
+//!     }
+//! }
+//! ```
+//!
+//! It prints:
+//!
+//! ```text
+//! 5 [32, 544]: 0x1f01ff true
+//! ```
+//!
+//! This crate re-exports the crates below it: `sd_sink`, `sd_text`, `sd_kinds`, `sd_rights`, `sd_sid`, `sd_ace` and
 //! `sd_token`.
 #![tactic(auto)]
 

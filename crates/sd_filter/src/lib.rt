@@ -1,6 +1,43 @@
-//! The line filter: a descriptor a line is read, an answer a line is written, and a command line says which.
+//! The line filter: `run` reads a descriptor per line and writes an answer per line. `command` does what a command line
+//! asks for.
 //!
-//! This crate re-exports the rooms below it: `sd_run`, the run over lines, and `sd_command`, the words and the program.
+//! Two lines of SDDL as hex, the second of them malformed:
+//!
+//! ```
+//! use sd_core::Token;
+//! use sd_filter::{Act, Engine, Form, FromRead, Job, ToWrite, run};
+//! use std::io;
+//!
+//! fn main(rt: HostRuntime) -> io::Result<()> {
+//!     let job = Job {
+//!         source: Form::Sddl,
+//!         act: Act::Convert(Form::Hex),
+//!         domain: None,
+//!         numeric: false,
+//!     };
+//!     let (engine, token) = (Engine::new(rt.alloc(), job), Token::new(rt.alloc()));
+//!     let (Ok(mut engine), Ok(mut token)) = (engine, token) else {
+//!         return println!(rt; "out of memory");
+//!     };
+//!     let mut lines = FromRead::new(b"D:\nO:Everyone\n".as_slice());
+//!     let mut answers = ToWrite::new(rt.stdout());
+//!     match run(&mut engine, &mut token, &mut lines, &mut answers) {
+//!         Ok(report) => println!(rt; "{} lines, {} error", report.lines, report.faults),
+//!         Err(fault) => println!(rt; "{fault}"),
+//!     }
+//! }
+//! ```
+//!
+//! It prints:
+//!
+//! ```text
+//! 01000480000000000000000000000000140000000200080000000000
+//! error 25 sid-form
+//! 2 lines, 1 error
+//! ```
+//!
+//! This crate re-exports the crates below it: `sd_run`, the run over lines, and `sd_command`, the command line and the
+//! program.
 #![tactic(auto)]
 
 pub use sd_command::command;

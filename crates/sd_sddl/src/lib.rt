@@ -1,32 +1,39 @@
 //! Descriptors as SDDL, the text form of security descriptors (MS-DTYP 2.5.1): read as they stream, printed, and
 //! explained line by line.
 //!
-//! A program that reads a line and prints `64 bytes, 1 ACE`:
+//! How large is this descriptor in bytes, and how many ACEs does it have?
 //!
 //! ```
 //! use sd_binary::{AclPart, SdBuf, read};
 //! use sd_sddl::read_sddl;
-//! use std::process::ExitCode;
+//! use std::io;
 //!
-//! fn main(rt: HostRuntime) -> ExitCode {
+//! fn main(rt: HostRuntime) -> io::Result<()> {
 //!     let Ok(mut buf) = SdBuf::new(rt.alloc()) else {
-//!         return ExitCode::FAILURE;
+//!         return println!(rt; "out of memory");
 //!     };
 //!     if let Err(fault) = read_sddl(b"O:BAD:(A;;FA;;;WD)", None, &mut buf) {
-//!         let _ = println!(rt; "{fault:?}");
-//!         return ExitCode::FAILURE;
+//!         return println!(rt; "{fault:?}");
 //!     }
-//!     let Ok(view) = read(buf.bytes()) else {
-//!         return ExitCode::FAILURE;
-//!     };
-//!     if let AclPart::List(acl) = view.dacl() {
-//!         let _ = println!(rt; "{} bytes, {} ACE", buf.bytes().len(), acl.count());
+//!     match read(buf.bytes()) {
+//!         Ok(view) => match view.dacl() {
+//!             AclPart::List(acl) => {
+//!                 println!(rt; "{} bytes, {} ACE", buf.bytes().len(), acl.count())
+//!             }
+//!             AclPart::Absent | AclPart::Null => println!(rt; "no ACE, and all is granted"),
+//!         },
+//!         Err(fault) => println!(rt; "{fault:?}"),
 //!     }
-//!     ExitCode::SUCCESS
 //! }
 //! ```
 //!
-//! This crate re-exports the rooms below it: `sd_sddl_reader`, `sd_sddl_printer` and `sd_explain`.
+//! It prints:
+//!
+//! ```text
+//! 64 bytes, 1 ACE
+//! ```
+//!
+//! This crate re-exports the crates below it: `sd_sddl_reader`, `sd_sddl_printer` and `sd_explain`.
 #![tactic(auto)]
 
 pub use sd_explain::{print_explain, put_explain};
