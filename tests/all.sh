@@ -31,6 +31,7 @@ count() {
 rm -f "$program"
 count tests/layers.py
 count tests/figures.py --check
+count tests/names.py
 count tests/edits.py --apply
 count rt ci
 count tests/run_rows.py --reference
@@ -43,6 +44,7 @@ if "${MAKE:-make}" --no-print-directory program; then
     count tests/refused_allocations.py "$program"
     count tests/tables.py "$program"
     count tests/run_examples.py "$program"
+    count tests/door_examples.py
     count tests/completions.py "$program"
     if "${MAKE:-make}" --no-print-directory library; then
         count tests/c_library.py "$program"

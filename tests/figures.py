@@ -1,9 +1,10 @@
 #!/usr/bin/env python3
 """figures.py [--check]
 
-Rewrites the table of figures in docs/GATE.md, between its two marker comments, from the files of the crates.
-With --check it writes nothing: a stale table is a failure, and so is an edit of the gate that docs/GATE.md does not
-name, or names without there being one. The last line is then 'N passed, M failed'.
+Rewrites the table of figures in docs/GATE.md, between its two marker comments, from the files of the crates, and in
+docs/DEFINITIONS.md how many lines of definitions there are to read. With --check it writes nothing: stale figures are
+a failure, and so is an edit of the gate that docs/GATE.md does not name, or names without there being one. The last
+line is then 'N passed, M failed'.
 """
 import argparse
 import pathlib
@@ -15,12 +16,23 @@ import preload  # noqa: E402
 
 TOP = pathlib.Path(__file__).resolve().parent.parent
 DOCUMENT = TOP / "docs/GATE.md"
+DEFINITIONS = TOP / "docs/DEFINITIONS.md"
 MARKERS = ("<!-- figures, written by make figures -->\n", "<!-- end of the figures -->\n")
 HEADS = ("Crate", "Functions", "Lines of `src`", "Lines of `specs`", "Lines of `proofs`", "Edits in the gate",
          "Further edits")
 ITEM = re.compile(r"\bfn\s+\w+")
 COMMENT = re.compile(r"//.*")
 ROW_OF_AN_EDIT = re.compile(r"^\| `(\w+)` \| `(\w+)` \|", re.M)
+OF_THE_LIBRARY = "sdtool_c"  # its definitions are counted apart
+# Files of definitions that only other definitions or contracts between crates cite; DEFINITIONS names them.
+BETWEEN_CRATES = {"Held.antt", "FieldFronts.antt"}
+SECOND_FORM = {"FoldedReading.antt"}
+ALL = re.compile(r"(definitions of the program have )[\d,]+( lines, )[\d,]+( of them comments)")
+MORE = re.compile(r"(The library for C has )[\d,]+( more)")
+BETWEEN = re.compile(r"(`FieldFronts.antt` have )[\d,]+( more lines)")
+SECOND = re.compile(r"(`sd_sddl_reader/specs/FoldedReading.antt` has another )[\d,]+")
+ROWS = re.compile(r"^\| Subject \| Crate and lines \|\n(?:\|.*\n)*", re.M)
+ROW_OF_A_CRATE = re.compile(r"`(\w+)` [\d,]+")
 
 
 def crates():
@@ -55,6 +67,39 @@ def table():
     return "".join(f"| {' | '.join(row)} |\n" for row in rows)
 
 
+def lines_of_definitions():
+    """For each crate and file of definitions its lines that are neither empty nor `use`, and how many are comments."""
+    for path in sorted((TOP / "crates").glob("*/specs/*.antt")):
+        if path.name not in ("Lib.antt", "Inner.antt"):
+            lines = [line.strip() for line in path.read_text(encoding="utf-8").splitlines()]
+            lines = [line for line in lines if line and not line.startswith("use ")]
+            comments = sum(line.startswith("--") for line in lines)
+            yield path.parent.parent.name, path.name, len(lines), comments
+
+
+def counted(document):
+    """docs/DEFINITIONS.md with the figures of today."""
+    files = list(lines_of_definitions())
+    main = [file for file in files if file[0] != OF_THE_LIBRARY and file[1] not in BETWEEN_CRATES | SECOND_FORM]
+
+    def lines(kept):
+        return f"{sum(count for crate, name, count, _ in files if kept(crate, name)):,}"
+
+    def of_crate(found):
+        return f"`{found[1]}` {sum(count for crate, _, count, _ in main if crate == found[1]):,}"
+
+    total, comments = (f"{sum(file[at] for file in main):,}" for at in (2, 3))
+    document = ALL.sub(rf"\g<1>{total}\g<2>{comments}\g<3>", document)
+    document = MORE.sub(rf"\g<1>{lines(lambda crate, name: crate == OF_THE_LIBRARY)}\g<2>", document)
+    document = BETWEEN.sub(rf"\g<1>{lines(lambda crate, name: name in BETWEEN_CRATES)}\g<2>", document)
+    document = SECOND.sub(rf"\g<1>{lines(lambda crate, name: name in SECOND_FORM)}", document)
+    return ROWS.sub(lambda table: ROW_OF_A_CRATE.sub(of_crate, table[0]), document)
+
+
+def crates_in_rows(document):
+    return sorted(crate for table in ROWS.findall(document) for crate in ROW_OF_A_CRATE.findall(table))
+
+
 def parts_of(document):
     """What comes before the figures, the figures, and what comes after them."""
     if any(document.count(marker) != 1 for marker in MARKERS):
@@ -67,6 +112,11 @@ def parts_of(document):
 def check(document):
     count = preload.Count(most_shown=1000)
     count.add(parts_of(document)[1] == table(), "the figures in docs/GATE.md are stale: run make figures")
+    definitions = DEFINITIONS.read_text(encoding="utf-8")
+    count.add(definitions == counted(definitions), "the figures in docs/DEFINITIONS.md are stale: run make figures")
+    told = crates_in_rows(definitions)
+    there = sorted({crate for crate, *_ in lines_of_definitions()} - {OF_THE_LIBRARY})
+    count.add(told == there, f"docs/DEFINITIONS.md counts the lines of {told}, and these have definitions: {there}")
     named = ROW_OF_AN_EDIT.findall(document)
     there = [(crate, edit) for crate in crates() for edit in in_gate(crate)]
     for edit in sorted({*named, *there}):
@@ -76,13 +126,14 @@ def check(document):
 
 
 def main():
-    parser = argparse.ArgumentParser(description="Rewrites the figures in docs/GATE.md.")
+    parser = argparse.ArgumentParser(description="Rewrites the figures in docs/GATE.md and DEFINITIONS.md.")
     parser.add_argument("--check", action="store_true", help="writes nothing, and fails where they are stale")
     document = DOCUMENT.read_text(encoding="utf-8")
     if parser.parse_args().check:
         return check(document)
     before, _, after = parts_of(document)
     DOCUMENT.write_text(before + MARKERS[0] + table() + MARKERS[1] + after, encoding="utf-8")
+    DEFINITIONS.write_text(counted(DEFINITIONS.read_text(encoding="utf-8")), encoding="utf-8")
     return 0
 
 

@@ -3,7 +3,8 @@
 
 Refuses a name in backticks, in the documents that describe the sources, that the sources do not have: a word that
 occurs in no file of crates/, tests/, packaging/ or the Makefile, and a file that is not there. So a document cannot
-keep the name of what was moved or renamed. The last line is 'N passed, M failed'.
+keep the name of what was moved or renamed. It also refuses a file of definitions that docs/DEFINITIONS.md does not
+name. The last line is 'N passed, M failed'.
 """
 import pathlib
 import re
@@ -14,11 +15,14 @@ import preload  # noqa: E402
 
 TOP = pathlib.Path(__file__).resolve().parent.parent
 DOCUMENTS = ["docs/ARCHITECTURE.md", "docs/DEFINITIONS.md", "docs/PROVED.md"]
+OF_DEFINITIONS = "docs/DEFINITIONS.md"
 FOLDERS = ["crates", "tests", "packaging", "include", "python", "examples", "bench", "docs"]
 # What edits and kept work say is not what the sources say.
 LEFT_OUT = {"out", "must-fail", "edits", "__pycache__"}
-# Words of the toolchain, of its libraries and of the definitions that these bring along.
-OTHERS = set()
+NO_DEFINITIONS = {"Lib.antt", "Inner.antt"}  # these only list modules
+# Files of the toolchain's libraries.
+OTHERS = {"Rfc4648.antt", "GeneralPurpose.antt", "Engines.antt", "std/specs/Io/KnownBytes.antt", "core/specs"}
+TOOLCHAIN = "rattle-kit-"  # its line of identity
 FILE = re.compile(r"[\w./*-]*\.(?:rt|antt|py|sh|md|json|txt|c|h|1)")
 WORD = re.compile(r"[A-Za-z_]\w*")
 
@@ -33,7 +37,13 @@ def files():
 
 
 def is_source(path):
-    return path.name == "Makefile" or path.relative_to(TOP).parts[0] in ("crates", "tests", "packaging")
+    is_below = path.relative_to(TOP).parts[0] in ("crates", "tests", "packaging")
+    return path.name == "Makefile" or is_below and path != pathlib.Path(__file__).resolve()
+
+
+def is_definitions(path):
+    parts = path.relative_to(TOP).parts
+    return parts[0] == "crates" and "specs" in parts and path.suffix == ".antt" and path.name not in NO_DEFINITIONS
 
 
 def spans_in(text):
@@ -46,21 +56,31 @@ def spans_in(text):
             yield from ((number, span) for span in re.findall(r"`([^`]+)`", line))
 
 
+def is_known(word, words):
+    """A word that ends in _ is the front of names."""
+    return word in words or word.endswith("_") and any(name.startswith(word) for name in words)
+
+
 def main():
     count = preload.Count()
-    paths, words = [], set(OTHERS)
-    for path in files():
-        paths.append("/" + str(path.relative_to(TOP)))
-        if is_source(path):
-            words.update(WORD.findall(path.read_text(encoding="utf-8", errors="ignore")), path.parts)
+    paths, words = list(files()), set()
+    for path in filter(is_source, paths):
+        words.update(WORD.findall(path.read_text(encoding="utf-8", errors="ignore")), path.relative_to(TOP).parts)
+    names = ["/" + str(path.relative_to(TOP)) for path in paths]
     for document in DOCUMENTS:
         for number, span in spans_in((TOP / document).read_text(encoding="utf-8")):
+            if span in OTHERS or span.startswith(TOOLCHAIN):
+                continue
             if FILE.fullmatch(span):
                 pattern = re.compile("/" + re.escape(span).replace(r"\*", "[^/]*") + "$")
-                count.add(any(map(pattern.search, paths)), f"{document}:{number}: there is no file {span}")
+                count.add(any(map(pattern.search, names)), f"{document}:{number}: there is no file {span}")
             else:
-                missing = [word for word in WORD.findall(span) if word not in words]
+                missing = [word for word in WORD.findall(span) if not is_known(word, words)]
                 count.add(not missing, f"{document}:{number}: nothing is named {', '.join(missing)}")
+    named = (TOP / OF_DEFINITIONS).read_text(encoding="utf-8")
+    for path in filter(is_definitions, paths):
+        is_named = re.search(rf"`(?:[\w/]*/)?{path.stem}(?:\.antt)?`", named)
+        count.add(is_named, f"{OF_DEFINITIONS}: it does not name {path.relative_to(TOP)}")
     return count.end()
 
 
