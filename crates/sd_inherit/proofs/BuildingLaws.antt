@@ -1,5 +1,6 @@
 -- An ACL that is open, and its size, as copies are appended to it.
-use Rattle.std.proofs.Common.{◌≡◌, ◌<◌, ◌≤◌, ◌+◌, ◌^◌, ◌↔◌, Bool, true, false, List, [], ◌∷◌, ◌++◌, Option, Some, None, append-nil, append_assoc, refl, ap, sym, ◌∙◌, ⊎_elim, arith}
+use Rattle.std.proofs.Common.{◌≡◌, ◌<◌, ◌≤◌, ◌+◌, ◌^◌, ◌↔◌, Bool, true, false, List, [], ◌∷◌, ◌++◌, Option, Some, None}
+use Rattle.std.proofs.Common.{append-nil, append_assoc, refl, ap, sym, ◌∙◌, ⊎_elim, arith}
 use Rattle.std.specs.List.{flat_map}
 use Rattle.std.proofs.lemmas.Bool.{cases_lt}
 use Rattle.std.proofs.lemmas.List.Concat.{flat_map-append}
@@ -29,14 +30,16 @@ is_open-more : (o : Option (Which × Aces)) (xs : Aces) → IsOpenIn o → IsOpe
 is_open-more None xs h = absurd h
 is_open-more (Some o) xs h = tt
 
-pub open_size-with : (t : Draft) (xs : Aces) → HasOpen t → open_size (with_aces xs t).parts ≡ open_size t.parts + aces_size xs
+pub open_size-with : (t : Draft) (xs : Aces) → HasOpen t
+    → open_size (with_aces xs t).parts ≡ open_size t.parts + aces_size xs
 open_size-with t xs h = size_in-more t.parts.«open» xs h.open
 
 -- after a call that did not fail
 pub stays_open : (t : Draft) (xs : Aces) → HasOpen t → FailsFor false t xs → HasOpen (with_aces xs t)
 stays_open t xs h full = record {
   «open» = is_open-more t.parts.«open» xs h.open;
-  fits = ⊎_elim (λ (small : open_size t.parts + aces_size xs < 2 ^ 16). let e = open_size-with t xs h in omega (arith, e))
+  fits = ⊎_elim
+      (λ (small : open_size t.parts + aces_size xs < 2 ^ 16). let e = open_size-with t xs h in omega (arith, e))
       (λ (large : 2 ^ 16 ≤ open_size t.parts + aces_size xs). let no = full.1 large in absurd (cc))
       (cases_lt (open_size t.parts + aces_size xs) (2 ^ 16));
 }
@@ -67,7 +70,8 @@ more_aces-append (Some o) xs ys = ap (λ (zs : Aces). Some (o.0, zs)) (append_as
 
 -- first these, and then those
 pub with_both : (t : Draft) (xs ys : Aces) → with_aces ys (with_aces xs t) ≡ with_aces (xs ++ ys) t
-with_both t xs ys = ap (λ (o : Option (Which × Aces)). let d : Draft = record t { parts = record t.parts { «open» = o } } in d)
+with_both t xs ys =
+    ap (λ (o : Option (Which × Aces)). let d : Draft = record t { parts = record t.parts { «open» = o } } in d)
     (more_aces-append t.parts.«open» xs ys)
 
 -- The ACEs of an ACL are taken one after the other, and their copies appended.

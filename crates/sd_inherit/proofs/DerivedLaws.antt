@@ -1,5 +1,6 @@
 -- What is derived, from the parts that the builder was given, and why it may not be.
-use Rattle.std.proofs.Common.{◌≡◌, ◌≤◌, ◌^◌, ◌↔◌, Bool, true, false, not, ◌&&◌, List, [], ◌∷◌, ◌++◌, Option, Some, None, refl, sym}
+use Rattle.std.proofs.Common.{◌≡◌, ◌≤◌, ◌^◌, ◌↔◌, Bool, true, false, not, ◌&&◌, List, [], ◌∷◌, ◌++◌, Option, Some, None}
+use Rattle.std.proofs.Common.{refl, sym}
 use Rattle.std.proofs.lemmas.Bool.{le-leb, leb-true}
 use Rattle.sd_ace.specs.Ace.{AccessControlEntry}
 use Rattle.sd_view.specs.Acl.{acl_size}
@@ -10,7 +11,8 @@ use Rattle.sd_view.specs.declared.acl.AclPart.{AclPart}
 use Rattle.sd_view.specs.declared.acl.AclPart.TheVariants as acl
 use Rattle.sd_control.specs.declared.control.Which.TheVariants.{Sacl, Dacl}
 use Rattle.sd_inherit.specs.Inner.Building.{bits_beside, is_null, with_part}
-use Rattle.sd_inherit.specs.Derived.{dacl_beside, derive_fault, derived, is_list, is_too_large, new_aces, new_dacl, new_flag_bits, new_sacl, sacl_beside, sacl_of}
+use Rattle.sd_inherit.specs.Derived.{dacl_beside, derive_fault, derived, is_list, is_too_large, new_aces, new_dacl}
+use Rattle.sd_inherit.specs.Derived.{new_flag_bits, new_sacl, sacl_beside, sacl_of}
 use Rattle.sd_inherit.specs.declared.derivation.DeriveFault.TheVariants.{DerivedTooLarge}
 use Rattle.sd_inherit.specs.declared.plan.Plan.{Plan}
 
@@ -69,46 +71,34 @@ can-begin plan acl.Absent = (refl, refl)
 can-begin plan acl.Null = (refl, refl)
 can-begin plan (acl.List aces) = (refl, refl)
 
-parts-are : (plan : Plan) (sacl dacl : AclPart)
-    → (with_part Dacl dacl (with_part Sacl sacl (with_sids plan))).parts
-    ≡ record {
+-- where the builder stands then: its parts, in the order of the layout
+with-both : (plan : Plan) (sacl dacl : AclPart)
+    → let t = with_part Dacl dacl (with_part Sacl sacl (with_sids plan)) in
+    (t.parts ≡ record {
       owner = Some plan.owner;
       group = Some plan.group;
       sacl = sacl;
       dacl = dacl;
       «open» = None;
-    }
-parts-are plan acl.Absent acl.Absent = refl
-parts-are plan acl.Absent acl.Null = refl
-parts-are plan acl.Absent (acl.List aces) = refl
-parts-are plan acl.Null acl.Absent = refl
-parts-are plan acl.Null acl.Null = refl
-parts-are plan acl.Null (acl.List aces) = refl
-parts-are plan (acl.List others) acl.Absent = refl
-parts-are plan (acl.List others) acl.Null = refl
-parts-are plan (acl.List others) (acl.List aces) = refl
+    })
+    × (t.order ≡ layout_order t.parts)
+with-both plan acl.Absent acl.Absent = (refl, refl)
+with-both plan acl.Absent acl.Null = (refl, refl)
+with-both plan acl.Absent (acl.List aces) = (refl, refl)
+with-both plan acl.Null acl.Absent = (refl, refl)
+with-both plan acl.Null acl.Null = (refl, refl)
+with-both plan acl.Null (acl.List aces) = (refl, refl)
+with-both plan (acl.List others) acl.Absent = (refl, refl)
+with-both plan (acl.List others) acl.Null = (refl, refl)
+with-both plan (acl.List others) (acl.List aces) = (refl, refl)
 
 pub draft-parts : (d : Descriptor) (creator : Option Descriptor) (plan : Plan)
     → (draft_of d creator plan).parts ≡ parts_of d creator plan
-draft-parts d creator plan = parts-are plan (new_sacl d creator plan) (new_dacl d creator plan)
+draft-parts d creator plan = (with-both plan (new_sacl d creator plan) (new_dacl d creator plan)).0
 
-in-order : (plan : Plan) (sacl dacl : AclPart)
-    → (with_part Dacl dacl (with_part Sacl sacl (with_sids plan))).order
-    ≡ layout_order (with_part Dacl dacl (with_part Sacl sacl (with_sids plan))).parts
-in-order plan acl.Absent acl.Absent = refl
-in-order plan acl.Absent acl.Null = refl
-in-order plan acl.Absent (acl.List aces) = refl
-in-order plan acl.Null acl.Absent = refl
-in-order plan acl.Null acl.Null = refl
-in-order plan acl.Null (acl.List aces) = refl
-in-order plan (acl.List others) acl.Absent = refl
-in-order plan (acl.List others) acl.Null = refl
-in-order plan (acl.List others) (acl.List aces) = refl
-
--- which is the order of the layout
 pub draft-in-order : (d : Descriptor) (creator : Option Descriptor) (plan : Plan)
     → (draft_of d creator plan).order ≡ layout_order (draft_of d creator plan).parts
-draft-in-order d creator plan = in-order plan (new_sacl d creator plan) (new_dacl d creator plan)
+draft-in-order d creator plan = (with-both plan (new_sacl d creator plan) (new_dacl d creator plan)).1
 
 -- the SACL is a list where it stands and the creator's is not null
 pub sacl-is_list : (creators : AclPart) (aces : List AccessControlEntry)

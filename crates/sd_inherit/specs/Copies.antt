@@ -6,7 +6,8 @@ use Rattle.sd_rights.specs.Mapping.{carries, mapped}
 use Rattle.sd_rights.specs.Rights.{is_label}
 use Rattle.sd_sid.specs.Sid.{SecurityId}
 use Rattle.sd_sid.specs.SidText.{same_sid}
-use Rattle.sd_kinds.specs.declared.flags.TheConstants.{CONTAINER_INHERIT, FAILED_ACCESS, INHERITED, INHERIT_ONLY, NO_PROPAGATE, OBJECT_INHERIT, SUCCESSFUL_ACCESS}
+use Rattle.sd_kinds.specs.declared.flags.TheConstants.{CONTAINER_INHERIT, FAILED_ACCESS, INHERITED, INHERIT_ONLY}
+use Rattle.sd_kinds.specs.declared.flags.TheConstants.{NO_PROPAGATE, OBJECT_INHERIT, SUCCESSFUL_ACCESS}
 use Rattle.sd_inherit.specs.declared.plan.Plan.{Plan}
 use Rattle.sd_inherit.specs.declared.plan.Target.{Target}
 use Rattle.sd_inherit.specs.declared.plan.Target.TheVariants.{File, Container}

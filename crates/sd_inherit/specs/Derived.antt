@@ -1,6 +1,7 @@
 -- The descriptor of a new object (MS-DTYP 2.5.3.4): what it takes from the descriptor of its creator, if there is one,
 -- what it inherits from its container, and whom it belongs to.
-use Rattle.std.specs.Prelude.{ℕ, ◌+◌, nat_lt, Bool, true, false, not, ◌&&◌, if◌then◌else◌, List, [], ◌∷◌, ◌++◌, Option, Some, None}
+use Rattle.std.specs.Prelude.{ℕ, ◌+◌, nat_lt, Bool, true, false, not, ◌&&◌, if◌then◌else◌, List, [], ◌∷◌, ◌++◌, Option}
+use Rattle.std.specs.Prelude.{Some, None}
 use Rattle.std.specs.List.{flat_map}
 use Rattle.sd_text.specs.Limits.{most_acl}
 use Rattle.sd_ace.specs.Ace.{AccessControlEntry}

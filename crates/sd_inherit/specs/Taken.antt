@@ -3,9 +3,7 @@ use Rattle.std.specs.Prelude.{◌+◌, Bool, not, ◌&&◌, if◌then◌else◌,
 use Rattle.sd_ace.specs.Ace.{AccessControlEntry}
 use Rattle.sd_text.specs.Bits.{has_bit}
 use Rattle.sd_kinds.specs.declared.flags.TheConstants.{INHERITED, INHERIT_ONLY}
-use Rattle.sd_inherit.specs.Copies.{audit_flags, copies, differs, for_itself, is_for_containers, is_for_files}
-use Rattle.sd_inherit.specs.declared.inherited.Source.{Source}
-use Rattle.sd_inherit.specs.declared.inherited.Source.TheVariants as source
+use Rattle.sd_inherit.specs.Copies.{audit_flags, differs, for_itself, is_for_containers, is_for_files}
 use Rattle.sd_inherit.specs.declared.plan.Plan.{Plan}
 use Rattle.sd_inherit.specs.declared.plan.Target.{Target}
 use Rattle.sd_inherit.specs.declared.plan.Target.TheVariants.{File, Container}
@@ -35,8 +33,3 @@ taken_for Container plan a =
 -- an ACE that the creator's object had inherited is not taken
 unfoldable pub taken : Plan → AccessControlEntry → List AccessControlEntry
 taken plan a = if is_inherited a then [] else taken_for plan.target plan a
-
--- what one ACE of either descriptor gives
-abbrev pub gives : Source → Plan → AccessControlEntry → List AccessControlEntry
-gives source.Creator plan a = taken plan a
-gives source.Parent plan a = copies plan a

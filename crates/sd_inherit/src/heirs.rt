@@ -1,13 +1,12 @@
-//! Who and what stands in a copy for the creator, and for generic rights.
+//! The SID and the mask of a copied ACE: CREATOR_OWNER, CREATOR_GROUP and generic rights are replaced.
 
 ghost use Rattle.std.specs.Prelude.{◌≡◌};
-ghost use Rattle.sd_rights.specs.Rights.{is_label};
 ghost use Rattle.sd_sid.specs.SidText.{same_sid};
 ghost use Rattle.sd_inherit.specs.Copies.{creator_group, creator_owner, has_generic, heir, heir_mask, differs};
 
 use crate::plan::Plan;
 use sd_ace::Ace;
-use sd_kinds::AceKind;
+use sd_rights::is_label;
 use sd_sid::Sid;
 
 /// The generic rights (MS-DTYP 2.4.3).
@@ -57,12 +56,6 @@ fn is_creator_group(sid: &Sid) -> bool
     ensures { result ≡ same_sid sid.now creator_group }
 {
     sid.authority() == 3 && sid.subs() == [1].as_slice()
-}
-
-fn is_label(kind: AceKind) -> bool
-    ensures { result ≡ is_label kind }
-{
-    matches!(kind, AceKind::Label)
 }
 
 fn has_generic(mask: u32) -> bool

@@ -7,10 +7,10 @@ ghost use Rattle.sd_builder.specs.Builds.{Builds};
 ghost use Rattle.sd_builder.specs.Draft.{CanBegin, Draft, is_present, open_size};
 ghost use Rattle.sd_view.specs.declared.acl.AclPart.TheVariants as acl;
 ghost use Rattle.sd_control.specs.declared.control.Which.TheVariants as which;
-ghost use Rattle.sd_inherit.specs.Inner.Building.{HasOpen, listed, one_or_none, with_aces, with_part};
+ghost use Rattle.sd_inherit.specs.Inner.Building.{HasOpen, gives, listed, one_or_none, with_aces, with_part};
 ghost use Rattle.sd_inherit.specs.Copies.{copies};
 ghost use Rattle.sd_inherit.specs.Derived.{dacl_beside, gathered, inherited, sacl_beside, sacl_of};
-ghost use Rattle.sd_inherit.specs.Taken.{gives, taken};
+ghost use Rattle.sd_inherit.specs.Taken.{taken};
 
 use crate::copies::{Copies, copies_of};
 use crate::plan::Plan;
@@ -42,7 +42,8 @@ pub fn put_sacl(
     ensures ok { (t : Draft) → Builds builder.old buf.old t → CanBegin which.Sacl t.parts
         → OnOk result (Builds builder.new buf.new
         (with_part which.Sacl (sacl_beside creators.now (gathered plan.now creators.now parents.now)) t)) }
-    ensures stands { IfOk result (λ stands. stands ≡ is_present (sacl_beside creators.now (gathered plan.now creators.now parents.now))) }
+    ensures stands { IfOk result
+        (λ stands. stands ≡ is_present (sacl_beside creators.now (gathered plan.now creators.now parents.now))) }
     ensures full { IsErr result ↔ (2 ^ 16 ≤ acl_size (gathered plan.now creators.now parents.now)) }
 {
     match creators {

@@ -7,5 +7,5 @@ mod rights_reading;
 mod rights_table;
 
 pub use mapping::{Mapping, carries, mask_if};
-pub use rights::{print_rights, put_rights};
+pub use rights::{is_label, print_rights, put_rights};
 pub use rights_reading::rights_from_text;

@@ -52,7 +52,9 @@ pub fn print_rights<P: Print>(kind: AceKind, mask: u32, out: &mut P)
     }
 }
 
-fn is_label(kind: AceKind) -> bool
+/// Whether an ACE is a mandatory label (MS-DTYP 2.4.4.13), whose mask is a policy and no access rights.
+#[inline(always)]
+pub fn is_label(kind: AceKind) -> bool
     ensures { result ≡ is_label kind }
 {
     matches!(kind, AceKind::Label)

@@ -1,5 +1,6 @@
 -- What is derived from a descriptor has the limits of one.
-use Rattle.std.proofs.Common.{◌≡◌, ◌<◌, ℕ, ◌+◌, ◌/◌, ◌%◌, ◌^◌, Bool, true, false, cond, not, ◌&&◌, List, [], ◌∷◌, ◌++◌, Option, Some, None, refl, arith, lit≤}
+use Rattle.std.proofs.Common.{◌≡◌, ◌<◌, ℕ, ◌+◌, ◌/◌, ◌%◌, ◌^◌, Bool, true, false, cond, not, ◌&&◌, List, [], ◌∷◌, ◌++◌}
+use Rattle.std.proofs.Common.{Option, Some, None, refl, arith, lit≤}
 use Rattle.std.proofs.lemmas.Bool.Decides.{nat_tests}
 use Rattle.std.proofs.lemmas.Nat.{or_lt}
 use Rattle.std.specs.List.{AllByRecursion, flat_map}
@@ -20,8 +21,12 @@ use Rattle.sd_control.specs.declared.control.Which.TheVariants.{Dacl, Sacl}
 use Rattle.sd_view.specs.Descriptor.{Descriptor, IsAclPart, IsDescriptor}
 use Rattle.sd_view.specs.declared.acl.AclPart.{AclPart}
 use Rattle.sd_view.specs.declared.acl.AclPart.TheVariants as acl
-use Rattle.sd_inherit.specs.Copies.{copies, copies_for, creator_group, creator_owner, differs, effective_copy, heir, heir_mask, inherit_only_copy, is_for_containers, is_for_files, is_for_one_level, onward_flags}
-use Rattle.sd_inherit.specs.Derived.{acl_of, creators_acl, dacl_beside, derive_fault, derived, gathered, inherited, is_protected, is_too_large, new_aces, new_dacl, new_flag_bits, new_flags, new_sacl, parents_acl, sacl_beside}
+use Rattle.sd_inherit.specs.Copies.{copies, copies_for, creator_group, creator_owner, differs, effective_copy, heir}
+use Rattle.sd_inherit.specs.Copies.{heir_mask, inherit_only_copy, is_for_containers, is_for_files, is_for_one_level}
+use Rattle.sd_inherit.specs.Copies.{onward_flags}
+use Rattle.sd_inherit.specs.Derived.{acl_of, creators_acl, dacl_beside, derive_fault, derived, gathered, inherited}
+use Rattle.sd_inherit.specs.Derived.{is_protected, is_too_large, new_aces, new_dacl, new_flag_bits, new_flags, new_sacl}
+use Rattle.sd_inherit.specs.Derived.{parents_acl, sacl_beside}
 use Rattle.sd_inherit.specs.Taken.{handed_on, is_inherit_only, is_inherited, own_ace, taken, taken_for}
 use Rattle.sd_inherit.specs.PlanLimits.{IsPlan}
 use Rattle.sd_inherit.specs.declared.derivation.DeriveFault.{DeriveFault}
@@ -110,16 +115,17 @@ module _ (plan : Plan) (keeps : IsPlan plan) where
   both-limits [] ys p q = q
   both-limits (x ∷ xs) ys p q = (p.0, both-limits xs ys p.1 q)
 
-  all-limits : (aces : List AccessControlEntry) → AllByRecursion IsAce aces
-      → AllByRecursion IsAce (flat_map (copies plan) aces)
-  all-limits [] h = tt
-  all-limits (a ∷ others) h =
-      both-limits (copies plan a) (flat_map (copies plan) others) (copies-limits a h.0) (all-limits others h.1)
+  all-limits : (f : AccessControlEntry → List AccessControlEntry)
+      → ((a : AccessControlEntry) → IsAce a → AllByRecursion IsAce (f a))
+      → (aces : List AccessControlEntry) → AllByRecursion IsAce aces → AllByRecursion IsAce (flat_map f aces)
+  all-limits f each [] h = tt
+  all-limits f each (a ∷ others) h =
+      both-limits (f a) (flat_map f others) (each a h.0) (all-limits f each others h.1)
 
   inherited-limits : (present : Bool) (p : AclPart) → IsAclPart present p → AllByRecursion IsAce (inherited plan p)
   inherited-limits present acl.Absent h = tt
   inherited-limits present acl.Null h = tt
-  inherited-limits present (acl.List aces) h = all-limits aces h.1.each
+  inherited-limits present (acl.List aces) h = all-limits (copies plan) copies-limits aces h.1.each
 
   own-limits : (a : AccessControlEntry) → IsAce a → IsAce (own_ace plan a)
   own-limits a h = record {
@@ -162,19 +168,13 @@ module _ (plan : Plan) (keeps : IsPlan plan) where
       one_of (AllByRecursion IsAce) (is_inherited a) [] (taken_for plan.target plan a) tt
       (taken_for-limits plan.target a h)
 
-  all_taken-limits : (aces : List AccessControlEntry) → AllByRecursion IsAce aces
-      → AllByRecursion IsAce (flat_map (taken plan) aces)
-  all_taken-limits [] h = tt
-  all_taken-limits (a ∷ others) h =
-      both-limits (taken plan a) (flat_map (taken plan) others) (taken-limits a h.0) (all_taken-limits others h.1)
-
   gathered-limits : (mine present : Bool) (creators parents : AclPart) → IsAclPart mine creators
       → IsAclPart present parents → AllByRecursion IsAce (gathered plan creators parents)
   gathered-limits mine present acl.Absent parents g h = inherited-limits present parents h
   gathered-limits mine present acl.Null parents g h = tt
   gathered-limits mine present (acl.List aces) parents g h =
-      both-limits (flat_map (taken plan) aces) (inherited plan parents) (all_taken-limits aces g.1.each)
-      (inherited-limits present parents h)
+      both-limits (flat_map (taken plan) aces) (inherited plan parents)
+      (all-limits (taken plan) taken-limits aces g.1.each) (inherited-limits present parents h)
 
 -- an ACL that is not too large is one
 fits : (aces : List AccessControlEntry) → is_too_large aces ≡ false → acl_size aces < 2 ^ 16

@@ -10,7 +10,12 @@ use Rattle.sd_control.specs.declared.control.Which.{Which}
 use Rattle.sd_control.specs.declared.control.Which.TheVariants.{Dacl, Sacl}
 use Rattle.sd_view.specs.Descriptor.{Descriptor}
 use Rattle.sd_inherit.specs.Derived.{is_protected}
+use Rattle.sd_inherit.specs.Copies.{copies}
+use Rattle.sd_inherit.specs.Taken.{taken}
 use Rattle.sd_inherit.specs.declared.copies.Copies.{Copies}
+use Rattle.sd_inherit.specs.declared.inherited.Source.{Source}
+use Rattle.sd_inherit.specs.declared.inherited.Source.TheVariants as source
+use Rattle.sd_inherit.specs.declared.plan.Plan.{Plan}
 
 -- at most one, as a list
 abbrev pub one_or_none : Option AccessControlEntry → List AccessControlEntry
@@ -20,6 +25,11 @@ one_or_none (Some a) = a ∷ []
 -- the copies of an ACE, in order
 abbrev pub listed : Copies → List AccessControlEntry
 listed c = one_or_none c.effective ++ one_or_none c.inherit_only
+
+-- what one ACE of either descriptor gives
+abbrev pub gives : Source → Plan → AccessControlEntry → List AccessControlEntry
+gives source.Creator plan a = taken plan a
+gives source.Parent plan a = copies plan a
 
 -- an ACL is open, and is no larger than an ACL may be
 pub record HasOpen (t : Draft) : Type 0 where

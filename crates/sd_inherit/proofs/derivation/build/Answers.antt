@@ -6,7 +6,9 @@ use Rattle.sd_builder.specs.Draft.{Parts, built, nothing_given, with_owner}
 use Rattle.sd_builder.proofs.laws.BuiltBytes.{built-layout}
 use Rattle.sd_inherit.specs.Inner.Building.{with_part}
 use Rattle.sd_inherit.specs.Derived.{creators_acl, derived, new_aces, new_sacl}
-use Rattle.sd_inherit.proofs.DerivedLaws.{bits-are, built-derived, can-begin, dacl-is_list, draft-in-order, draft-parts, draft_of, fault-dacl, fault-none, fault-sacl, parts_of, sacl-is_list, with_sids}
+use Rattle.sd_inherit.proofs.DerivedLaws.{bits-are, built-derived, can-begin, dacl-is_list, draft-in-order, draft-parts}
+use Rattle.sd_inherit.proofs.DerivedLaws.{draft_of, fault-dacl, fault-none, fault-sacl, parts_of, sacl-is_list}
+use Rattle.sd_inherit.proofs.DerivedLaws.{with_sids}
 use Rattle.sd_inherit.proofs.derivation.build.Goals as goal
 use Rattle.sd_inherit.proofs.derivation.build.Goals.{After-flag_bits-flags}
 

@@ -1,7 +1,6 @@
 use Rattle.std.proofs.Common.{◌≡◌, ap, ◌∙◌, refl}
 use Rattle.std.specs.List.{flat_map}
-use Rattle.sd_inherit.specs.Inner.Building.{listed, with_aces}
-use Rattle.sd_inherit.specs.Taken.{gives}
+use Rattle.sd_inherit.specs.Inner.Building.{gives, listed, with_aces}
 use Rattle.sd_inherit.proofs.BuildingLaws.{full_all, full_one, parts_one, stays_open, with_one}
 use Rattle.sd_inherit.proofs.inherited.put_each.Goals as goal
 use Rattle.sd_inherit.proofs.inherited.put_each.Goals.{After-given_by}

@@ -2,8 +2,7 @@ use Rattle.std.proofs.Common.{◌≡◌, ◌++◌}
 use Rattle.std.specs.List.{flat_map}
 use Rattle.sd_builder.specs.Builds.{Builds}
 use Rattle.sd_builder.specs.Draft.{Draft}
-use Rattle.sd_inherit.specs.Inner.Building.{HasOpen, with_aces}
-use Rattle.sd_inherit.specs.Taken.{gives}
+use Rattle.sd_inherit.specs.Inner.Building.{HasOpen, gives, with_aces}
 use Rattle.sd_inherit.proofs.inherited.put_each.Given as goal
 
 -- the copies of the ACEs so far are appended
