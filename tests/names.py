@@ -2,7 +2,7 @@
 """names.py
 
 Refuses a name in backticks, in the documents that describe the sources, that the sources do not have: a word that
-occurs in no file of crates/, tests/, packaging/ or the Makefile, and a file that is not there. So a document cannot
+occurs in no file of crates/, tests/, packaging/ or the Makefile beside comments, and a file that is not there. So a document cannot
 keep the name of what was moved or renamed. It also refuses a file of definitions that docs/DEFINITIONS.md does not
 name. The last line is 'N passed, M failed'.
 """
@@ -25,6 +25,8 @@ OTHERS = {"Rfc4648.antt", "GeneralPurpose.antt", "Engines.antt", "std/specs/Io/K
 TOOLCHAIN = "rattle-kit-"  # its line of identity
 FILE = re.compile(r"[\w./*-]*\.(?:rt|antt|py|sh|md|json|txt|c|h|1)")
 WORD = re.compile(r"[A-Za-z_]\w*")
+COMMENT = {".rt": re.compile(r"//.*"), ".antt": re.compile(r"--.*")}
+NONE = re.compile(r"(?!)")
 
 
 def files():
@@ -65,7 +67,8 @@ def main():
     count = preload.Count()
     paths, words = list(files()), set()
     for path in filter(is_source, paths):
-        words.update(WORD.findall(path.read_text(encoding="utf-8", errors="ignore")), path.relative_to(TOP).parts)
+        text = path.read_text(encoding="utf-8", errors="ignore")
+        words.update(WORD.findall(COMMENT.get(path.suffix, NONE).sub("", text)), path.relative_to(TOP).parts)
     names = ["/" + str(path.relative_to(TOP)) for path in paths]
     for document in DOCUMENTS:
         for number, span in spans_in((TOP / document).read_text(encoding="utf-8")):
