@@ -4,7 +4,7 @@
 Refuses a name in backticks, in the documents that describe the sources, that the sources do not have: a word that
 occurs in no file of crates/, tests/, packaging/ or the Makefile beside comments, and a file that is not there. So a document cannot
 keep the name of what was moved or renamed. It also refuses a file of definitions that docs/DEFINITIONS.md does not
-name. The last line is 'N passed, M failed'.
+name, and a link of any document to a file or a heading that is not there. The last line is 'N passed, M failed'.
 """
 import pathlib
 import re
@@ -27,6 +27,9 @@ FILE = re.compile(r"[\w./*-]*\.(?:rt|antt|py|sh|md|json|txt|c|h|1)")
 WORD = re.compile(r"[A-Za-z_]\w*")
 COMMENT = {".rt": re.compile(r"//.*"), ".antt": re.compile(r"--.*")}
 NONE = re.compile(r"(?!)")
+LINK = re.compile(r"\[[^\]]*\]\(([^)#:]*)(?:#([^)]*))?\)")
+HEADING = re.compile(r"^#+ (.*)$", re.M)
+BLOCK = re.compile(r"^```.*?^```$", re.S | re.M)
 
 
 def files():
@@ -58,6 +61,21 @@ def spans_in(text):
             yield from ((number, span) for span in re.findall(r"`([^`]+)`", line))
 
 
+def anchor_of(heading):
+    """What a link names a heading by."""
+    return re.sub(r"[^\w\- ]", "", heading.lower()).replace(" ", "-")
+
+
+def judge_links(count, document):
+    for path, anchor in LINK.findall(BLOCK.sub("", document.read_text(encoding="utf-8"))):
+        target = document.parent / path if path else document
+        is_there = target.exists()
+        if is_there and anchor:
+            headings = HEADING.findall(BLOCK.sub("", target.read_text(encoding="utf-8")))
+            is_there = anchor in map(anchor_of, headings)
+        count.add(is_there, f"{document.relative_to(TOP)}: a link leads to {path}#{anchor}, which is not there")
+
+
 def is_known(word, words):
     """A word that ends in _ is the front of names."""
     return word in words or word.endswith("_") and any(name.startswith(word) for name in words)
@@ -80,6 +98,8 @@ def main():
             else:
                 missing = [word for word in WORD.findall(span) if not is_known(word, words)]
                 count.add(not missing, f"{document}:{number}: nothing is named {', '.join(missing)}")
+    for document in [*TOP.glob("*.md"), *TOP.glob("docs/*.md")]:
+        judge_links(count, document)
     named = (TOP / OF_DEFINITIONS).read_text(encoding="utf-8")
     for path in filter(is_definitions, paths):
         is_named = re.search(rf"`(?:[\w/]*/)?{path.stem}(?:\.antt)?`", named)
