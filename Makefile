@@ -1,5 +1,6 @@
 # `make help` lists the targets. Times are for four idle processors.
 PREFIX ?= /usr/local
+LIBDIR ?= $(PREFIX)/lib
 DESTDIR ?=
 
 DOCUMENTS := $(PREFIX)/share/doc/sdtool
@@ -9,6 +10,9 @@ FISH_COMPLETION := fish/vendor_completions.d/sdtool.fish
 COMPLETIONS := $(BASH_COMPLETION) $(ZSH_COMPLETION) $(FISH_COMPLETION)
 PROGRAM := crates/sdtool/out/sdtool
 LIBRARY := out/lib/libsdtool.so
+VERSION := $(shell sed -n 's/^Version: //p' packaging/control)
+# Programs that link to the library look for it by this name.
+SONAME := libsdtool.so.$(shell sed -n 's/^major=//p' packaging/library.sh)
 EXAMPLES := examples/descriptors.hex
 SOURCES := crates.txt $(shell find crates -path '*/out' -prune -o -path '*/must-fail' -prune -o -type f -print)
 
@@ -29,10 +33,11 @@ help:
 	@echo '                       CRATE=NAME tries those of a crate, EDIT=WORD those with WORD in their names (10 to 30 seconds each)'
 	@echo 'make figures           rewrites the figures in docs/GATE.md and docs/DEFINITIONS.md (seconds)'
 	@echo 'make bench             measures the program against a plain one in Rust, and cat (8 minutes)'
-	@echo 'make install           installs the program, its man page, documents and completions below PREFIX ($(PREFIX))'
+	@echo 'make install           installs the program, its man page, documents and completions below PREFIX ($(PREFIX)),'
+	@echo '                       and the library for C, its header and its pkg-config file; libraries go to LIBDIR ($(LIBDIR))'
 	@echo 'make uninstall         removes them again'
-	@echo 'make deb               builds a Debian package of them in out/ (seconds if the program is built)'
-	@echo 'make dist              builds one archive of them in out/, with checksums (seconds if the program is built)'
+	@echo 'make deb               builds Debian packages of them in out/ (seconds if program and library are built)'
+	@echo 'make dist              builds one archive of them in out/, with checksums (seconds if both are built)'
 	@echo 'make clean             removes what was built'
 
 program: $(PROGRAM)
@@ -82,7 +87,7 @@ figures:
 bench: program
 	bench/run.py $(PROGRAM)
 
-install: program
+install: program library
 	install -d '$(DESTDIR)$(PREFIX)/bin' '$(DESTDIR)$(PREFIX)/share/man/man1' '$(DESTDIR)$(DOCUMENTS)/docs'
 	install -m 755 $(PROGRAM) '$(DESTDIR)$(PREFIX)/bin/sdtool'
 	install -m 644 docs/sdtool.1 '$(DESTDIR)$(PREFIX)/share/man/man1/sdtool.1'
@@ -93,17 +98,28 @@ install: program
 	install -m 644 packaging/completions/sdtool.bash '$(DESTDIR)$(PREFIX)/share/$(BASH_COMPLETION)'
 	install -m 644 packaging/completions/_sdtool '$(DESTDIR)$(PREFIX)/share/$(ZSH_COMPLETION)'
 	install -m 644 packaging/completions/sdtool.fish '$(DESTDIR)$(PREFIX)/share/$(FISH_COMPLETION)'
+	install -d '$(DESTDIR)$(PREFIX)/include' '$(DESTDIR)$(LIBDIR)/pkgconfig'
+	install -m 644 include/sdtool.h '$(DESTDIR)$(PREFIX)/include/sdtool.h'
+	install -m 644 out/lib/libsdtool.a '$(DESTDIR)$(LIBDIR)/libsdtool.a'
+	install -m 644 out/lib/$(SONAME) '$(DESTDIR)$(LIBDIR)/libsdtool.so.$(VERSION)'
+	ln -sf libsdtool.so.$(VERSION) '$(DESTDIR)$(LIBDIR)/$(SONAME)'
+	ln -sf $(SONAME) '$(DESTDIR)$(LIBDIR)/libsdtool.so'
+	sed -e 's|@PREFIX@|$(PREFIX)|' -e 's|@LIBDIR@|$(LIBDIR:$(PREFIX)/%=$${prefix}/%)|' -e 's|@VERSION@|$(VERSION)|' \
+	    packaging/sdtool.pc.in > '$(DESTDIR)$(LIBDIR)/pkgconfig/sdtool.pc'
+	chmod 644 '$(DESTDIR)$(LIBDIR)/pkgconfig/sdtool.pc'
 
 uninstall:
 	rm -f '$(DESTDIR)$(PREFIX)/bin/sdtool' '$(DESTDIR)$(PREFIX)/share/man/man1/sdtool.1'
+	rm -f '$(DESTDIR)$(PREFIX)/include/sdtool.h' '$(DESTDIR)$(LIBDIR)/pkgconfig/sdtool.pc'
+	rm -f $(foreach file,libsdtool.a libsdtool.so $(SONAME) libsdtool.so.$(VERSION),'$(DESTDIR)$(LIBDIR)/$(file)')
 	rm -f $(foreach file,$(COMPLETIONS),'$(DESTDIR)$(PREFIX)/share/$(file)')
 	rm -rf '$(DESTDIR)$(DOCUMENTS)'
 
 # Package the tree that install makes.
-deb: program
+deb: program library
 	MAKE='$(MAKE)' packaging/deb.sh
 
-dist: program
+dist: program library
 	MAKE='$(MAKE)' packaging/dist.sh
 
 clean:

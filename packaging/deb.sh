@@ -1,22 +1,78 @@
 #!/usr/bin/env bash
-# Builds a Debian package of the built program, its man page, documents and completions: out/sdtool_VERSION_ARCHITECTURE.deb.
+# Builds Debian packages from what `make install` installs: the program with its man page, documents and completions, the
+# shared library, and what a C compiler needs to use it. out/PACKAGE_VERSION_ARCHITECTURE.deb
 set -eu
 cd "$(dirname "$0")/.."
 version=$(sed -n 's/^Version: //p' packaging/control)
 architecture=$(dpkg --print-architecture)
-tree=$(mktemp -d)
-trap 'rm -rf "$tree"' EXIT
-chmod 755 "$tree"
-"${MAKE:-make}" --no-print-directory install PREFIX=/usr DESTDIR="$tree" > /dev/null
-mv "$tree/usr/share/doc/sdtool/LICENSE" "$tree/usr/share/doc/sdtool/copyright"
-gzip -9nc CHANGELOG.md > "$tree/usr/share/doc/sdtool/changelog.gz"
-gzip -9n "$tree/usr/share/man/man1/sdtool.1"
+libraries=usr/lib/$(dpkg-architecture -qDEB_HOST_MULTIARCH)
+work=$(mktemp -d)
+trap 'rm -rf "$work"' EXIT
+program=$work/sdtool
+library=$work/libsdtool0
+development=$work/libsdtool-dev
+
+# Moves what the second package has from the tree of the first.
+move() {
+    for path in "${@:3}"; do
+        mkdir -p "$2/$(dirname "$path")"
+        mv "$1/$path" "$2/$path"
+    done
+}
+
+# The control file of a package: the first paragraph of packaging/control and the package's own. The file, if there is
+# one, names the versions of the C library that the package needs.
+control() {
+    local depends=
+    if [[ -n ${2-} ]]; then
+        depends="libc6 (>= $(grep -aoE 'GLIBC_[0-9.]+' "$2" | sort -Vu | tail -n 1 | cut -d_ -f2))"
+    fi
+    awk -v RS= -v ORS='\n' -v package="$1" 'NR == 1 || $2 == package' packaging/control |
+        sed -e "/^Package:/a Architecture: $architecture" -e "s/\${shlibs:Depends}/$depends/" \
+            -e "s/\${binary:Version}/$version/"
+}
+
+# The changes in the form that Debian's tools read.
+changelog() {
+    echo "sdtool ($version) unstable; urgency=medium"
+    echo
+    sed -n 's/^ *- //p' CHANGELOG.md | while read -r change; do
+        fold -sw 74 <<< "$change" | sed -e 's/ *$//' -e '1s/^/  * /' -e '2,$s/^/    /'
+    done
+    echo
+    echo " -- $(sed -n 's/^Maintainer: //p' packaging/control)  $(git log -1 --format=%cD)"
+}
+
+# Builds a package. The file, if there is one, links to the C library.
+build() {
+    local package=$1 tree=$work/$1 documents=$work/$1/usr/share/doc/$1
+    install -d "$documents" "$tree/DEBIAN"
+    cp packaging/copyright "$documents"
+    changelog | gzip -9n > "$documents/changelog.gz"
+    control "$package" "${2-}" > "$tree/DEBIAN/control"
+    (cd "$tree" && find usr -type f -print0 | sort -z | xargs -0 md5sum > DEBIAN/md5sums)
+    chmod -R u=rwX,go=rX "$tree"
+    dpkg-deb --root-owner-group --build "$tree" "out/${package}_${version}_$architecture.deb"
+}
+
+"${MAKE:-make}" --no-print-directory install PREFIX=/usr LIBDIR="/$libraries" DESTDIR="$program" > /dev/null
+rm "$program/usr/share/doc/sdtool/LICENSE"
+strip "$program/usr/bin/sdtool"
+gzip -9n "$program/usr/share/man/man1/sdtool.1"
 # Debian's zsh looks for the completions of packages in a folder of its own.
-mv "$tree/usr/share/zsh/site-functions" "$tree/usr/share/zsh/vendor-completions"
-# The oldest C library that has all versions of symbols that the program names.
-libc=$(grep -aoE 'GLIBC_[0-9.]+' "$tree/usr/bin/sdtool" | sort -Vu | tail -n 1)
-install -d "$tree/DEBIAN"
-sed -e "s/^Architecture:.*/Architecture: $architecture/" -e "s/^Depends: libc6$/Depends: libc6 (>= ${libc#GLIBC_})/" \
-    packaging/control > "$tree/DEBIAN/control"
+mv "$program/usr/share/zsh/site-functions" "$program/usr/share/zsh/vendor-completions"
+move "$program" "$library" "$libraries"
+move "$library" "$development" "$libraries"/{libsdtool.a,libsdtool.so,pkgconfig}
+move "$program" "$development" usr/include
+rmdir "$program/usr/lib"
+
+# What other packages that link to the library depend on, and that the system finds the library.
+install -d "$library/DEBIAN"
+soname=$(basename "$library/$libraries"/libsdtool.so.?)
+echo "libsdtool ${soname##*.} libsdtool0 (>= $version)" > "$library/DEBIAN/shlibs"
+echo 'activate-noawait ldconfig' > "$library/DEBIAN/triggers"
+
 mkdir -p out
-dpkg-deb --root-owner-group --build "$tree" "out/sdtool_${version}_$architecture.deb"
+build sdtool "$program/usr/bin/sdtool"
+build libsdtool0 "$library/$libraries/$soname"
+build libsdtool-dev

@@ -48,6 +48,7 @@ if "${MAKE:-make}" --no-print-directory program; then
     count tests/completions.py "$program"
     if "${MAKE:-make}" --no-print-directory library; then
         count tests/c_library.py "$program"
+        count tests/c_install.py
     else
         echo "the library is not built, so its tests have not run"
         ((failed += 1))
