@@ -4,9 +4,9 @@ use Rattle.clap.specs.Words.{Text, fault_of, takes}
 use Rattle.clap.proofs.OnLiterals.{clap_on_literals}
 use Rattle.sd_sid.specs.SidText.{has_form, numbers_read, sid_reads}
 use Rattle.sd_inherit.specs.declared.plan.Target.TheVariants.{File}
-use Rattle.sd_run.specs.declared.job.Act.TheVariants.{Convert, Derive, Explain}
-use Rattle.sd_run.specs.declared.job.Form.TheVariants.{Hex, Sddl}
-use Rattle.sd_run.specs.declared.job.Job.{Job}
+use Rattle.sd_answer.specs.declared.job.Act.TheVariants.{Convert, Derive, Explain}
+use Rattle.sd_answer.specs.declared.job.Form.TheVariants.{Hex, Sddl}
+use Rattle.sd_answer.specs.declared.job.Job.{Job}
 use Rattle.sd_command.specs.declared.settings.OptionName.TheVariants as name
 use Rattle.sd_command.specs.declared.settings.UsageFault.TheVariants.{Value}
 use Rattle.sd_command.specs.CommandLine.{bare_line, check_line, convert_line, derive_line, explain_line, line}

@@ -19,12 +19,12 @@ use Rattle.sd_inherit.specs.declared.plan.Target.TheVariants.{File, Container}
 use Rattle.sd_command.specs.CommandLine.{line}
 use Rattle.sd_rights.specs.Mapping.{GenericMapping, directory_mapping, file_mapping, key_mapping}
 use Rattle.sd_command.specs.TokenText.{entries_read, sid_under}
-use Rattle.sd_run.specs.declared.job.Form.{Form}
-use Rattle.sd_run.specs.declared.job.Form.TheVariants.{Base64, Hex, Sddl}
-use Rattle.sd_run.specs.declared.job.Act.{Act}
-use Rattle.sd_run.specs.declared.job.Act.TheVariants.{Check, Convert, Derive, Explain}
-use Rattle.sd_run.specs.declared.job.Job.{Job}
-use Rattle.sd_run.specs.declared.job.Task.{Task}
+use Rattle.sd_answer.specs.declared.job.Form.{Form}
+use Rattle.sd_answer.specs.declared.job.Form.TheVariants.{Base64, Hex, Sddl}
+use Rattle.sd_answer.specs.declared.job.Act.{Act}
+use Rattle.sd_answer.specs.declared.job.Act.TheVariants.{Check, Convert, Derive, Explain}
+use Rattle.sd_answer.specs.declared.job.Job.{Job}
+use Rattle.sd_answer.specs.declared.job.Task.{Task}
 use Rattle.sd_command.specs.declared.settings.CommandName.{CommandName}
 use Rattle.sd_command.specs.declared.settings.CommandName.TheVariants as command
 use Rattle.sd_command.specs.declared.settings.OptionName.{OptionName}

@@ -15,9 +15,9 @@ use crate::settings::{
 use crate::token_text::add_entries;
 use clap::ArgMatches;
 use sd_ace::guid_from_text;
+use sd_answer::Act;
 use sd_check::{Ask, Privileges};
 use sd_rights::{Mapping, rights_from_text};
-use sd_run::Act;
 use sd_sid::Sid;
 use sd_text::read_number;
 use sd_token::Token;

@@ -6,14 +6,15 @@ ghost use Rattle.sd_command.specs.Inner.Adding.{gives};
 ghost use Rattle.sd_command.specs.Inner.Choosing.{own_with};
 ghost use Rattle.sd_command.specs.Settings as specs;
 ghost use Rattle.sd_command.specs.Settings.{nobody};
-ghost use Rattle.sd_run.specs.Task.{IsDerivation};
+ghost use Rattle.sd_answer.specs.Task.{IsDerivation};
 
 use crate::settings::{
     OptionName, Own, UsageFault, given_mapping, given_sid, given_target, text_of, value_of,
 };
 use clap::ArgMatches;
+use sd_answer::Act;
 use sd_inherit::{Plan, Target};
-use sd_run::{Act, Engine};
+use sd_run::Engine;
 use sd_sid::Sid;
 
 // The values in the order in which they are looked at. The creator's descriptor comes last: `give_creator` reads it.

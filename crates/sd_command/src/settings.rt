@@ -8,15 +8,15 @@ ghost use Rattle.sd_command.specs.Inner.Given.{GivenBy};
 ghost use Rattle.sd_command.specs.Settings as specs;
 ghost use Rattle.sd_command.specs.Settings.{nobody, option_text};
 ghost use Rattle.sd_command.specs.Inner.Choosing.{choice_with, own_with};
-ghost use Rattle.sd_run.specs.Task.{IsDerivation};
+ghost use Rattle.sd_answer.specs.Task.{IsDerivation};
 
 use crate::check_settings::check_own;
 use crate::derive_settings::derive_own;
 use crate::token_text::sid_under;
 use clap::ArgMatches;
+use sd_answer::{Act, Form, Job};
 use sd_check::AskFault;
 use sd_rights::Mapping;
-use sd_run::{Act, Form, Job};
 use sd_sid::Sid;
 use sd_text::MOST_SUBS;
 use sd_token::Token;

@@ -36,12 +36,10 @@
 //! 2 lines, 1 error
 //! ```
 //!
-//! This crate re-exports the crates below it: `sd_run`, the run over lines, and `sd_command`, the command line and the
-//! program.
+//! This crate re-exports the crates below it: `sd_answer`, the answer to a line, `sd_run`, the run over lines, and
+//! `sd_command`, the command line and the program.
 #![tactic(auto)]
 
+pub use sd_answer::{Act, Form, Job, LineFault, put_fault};
 pub use sd_command::command;
-pub use sd_run::{
-    Act, DeviceFault, Drain, Engine, Form, FromRead, Job, LineFault, Report, RunFault, Source,
-    ToWrite, put_fault, run,
-};
+pub use sd_run::{DeviceFault, Drain, Engine, FromRead, Report, RunFault, Source, ToWrite, run};

@@ -6,11 +6,14 @@ use Rattle.std.proofs.KnownBytes.{Appends-trans}
 use Rattle.sd_token.specs.Token.{Compares, Holder, TokenShown}
 use Rattle.sd_sink.specs.Sink.{SinkTold, PutAll, PutSome}
 use Rattle.sd_sink.proofs.laws.SinkLemmas.{PutAll-nil, PutAll-trans}
-use Rattle.sd_run.specs.Lines.{cut_at_line_feeds, ended, lines, last_line, without_cr, has_lf}
-use Rattle.sd_run.specs.Answers.{answer, answers, bound, bounds, errors, is_error}
-use Rattle.sd_run.specs.Inner.Running.{AfterBytes, Answered, Failed, Holds, Standing}
-use Rattle.sd_run.specs.declared.job.Task.{Task}
-use Rattle.sd_run.specs.declared.line.Line.{Line}
+use Rattle.sd_run.specs.Lines.{cut_at_line_feeds, ended, lines, last_line, has_lf}
+use Rattle.sd_answer.specs.LineEnd.{without_cr}
+use Rattle.sd_answer.specs.Answer.{answer, bound, is_error}
+use Rattle.sd_run.specs.Answers.{answers, bounds, errors}
+use Rattle.sd_run.specs.Inner.Running.{AfterBytes, Answered, Failed, Standing}
+use Rattle.sd_answer.specs.LineInHand.{Holds}
+use Rattle.sd_answer.specs.declared.job.Task.{Task}
+use Rattle.sd_answer.specs.declared.line.Line.{Line}
 use Rattle.sd_run.proofs.LineCutLemmas.{NoLf, has_lf-none, ended-more, rest-more, ended-lf, rest-lf, ended-append}
 use Rattle.sd_run.proofs.AnswersLemmas.{answers-one, answers-push, errors-push, bounds-push}
 

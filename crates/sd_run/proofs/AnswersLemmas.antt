@@ -3,8 +3,9 @@ use Rattle.std.proofs.Common.{◌≡◌, ℕ, ◌+◌, List, [], ◌∷◌, ◌+
 use Rattle.std.proofs.lemmas.Grind.{flat_map-append, fold-append}
 use Rattle.std.proofs.lemmas.List.Sums.{sum_by-append}
 use Rattle.sd_token.specs.Token.{Holder}
-use Rattle.sd_run.specs.declared.job.Task.{Task}
-use Rattle.sd_run.specs.Answers.{answer, answers, bound, bounds, errors, is_error}
+use Rattle.sd_answer.specs.declared.job.Task.{Task}
+use Rattle.sd_answer.specs.Answer.{answer, bound, is_error}
+use Rattle.sd_run.specs.Answers.{answers, bounds, errors}
 
 pub answers-append : (task : Task) (holder : Holder) (all more : List (List ℕ))
     → answers task holder (all ++ more) ≡ answers task holder all ++ answers task holder more

@@ -4,7 +4,8 @@ use Rattle.std.proofs.lemmas.List.{map_push, get_or-take, get_or-drop, length-ta
 use Rattle.std.proofs.lemmas.Bool.{cases_lt}
 use Rattle.std.proofs.lemmas.List.Elements.{All-from_get_or}
 use Rattle.std.proofs.lemmas.List.Folds.{list_any_at, list_any_none}
-use Rattle.sd_run.specs.Lines.{IsCut, LinesAreCut, LineCut, cut_at_line_feeds, onto_first_line, without_cr, ended, has_lf}
+use Rattle.sd_run.specs.Lines.{IsCut, LinesAreCut, LineCut, cut_at_line_feeds, onto_first_line, ended, has_lf}
+use Rattle.sd_answer.specs.LineEnd.{without_cr}
 
 -- one byte in front of these parts
 abbrev pub with_front : Bool → ℕ → LineCut → LineCut

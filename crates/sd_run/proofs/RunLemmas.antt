@@ -9,9 +9,10 @@ use Rattle.sd_sink.specs.Sink.{SinkTold, IsPrefix}
 use Rattle.sd_run.specs.Told.{DrainTold, RunTold, sink_of, reads_after, ends_after, failed_reads_after}
 use Rattle.sd_run.specs.Lines.{AreBytes, ended, last_line, lines, cut_at_line_feeds}
 use Rattle.sd_run.specs.Answers.{answers}
-use Rattle.sd_run.specs.Inner.Running.{AfterBytes, Answered, BeforeRead, Failed, Holds, Standing, standing}
+use Rattle.sd_run.specs.Inner.Running.{AfterBytes, Answered, BeforeRead, Failed, Standing, standing}
+use Rattle.sd_answer.specs.LineInHand.{Holds}
 use Rattle.sd_run.specs.Outcome.{Finished, FaultSays, HandedOn, IsFront, most_of_a_read}
-use Rattle.sd_run.specs.declared.job.Task.{Task}
+use Rattle.sd_answer.specs.declared.job.Task.{Task}
 use Rattle.sd_run.specs.declared.engine.RunState.{RunState}
 use Rattle.sd_run.specs.declared.engine.RunFault.TheVariants.{Read, Write, TooManyReads}
 use Rattle.sd_run.proofs.AnswersLemmas.{answers-append}

@@ -2,8 +2,9 @@
 use Rattle.std.proofs.Common.{◌≡◌, ℕ, List, [], ◌∷◌, ◌++◌, Bool, true, false, ◌==◌, map, sym, refl, ap, ◌∙◌, append_assoc, append-nil, length-append}
 use Rattle.std.proofs.lemmas.List.{map-append}
 use Rattle.sd_token.specs.Token.{Holder}
-use Rattle.sd_run.specs.declared.job.Task.{Task}
-use Rattle.sd_run.specs.Lines.{LineCut, ended, last_line, lines, cut_at_line_feeds, without_cr}
+use Rattle.sd_answer.specs.declared.job.Task.{Task}
+use Rattle.sd_run.specs.Lines.{LineCut, ended, last_line, lines, cut_at_line_feeds}
+use Rattle.sd_answer.specs.LineEnd.{without_cr}
 use Rattle.sd_run.specs.Splits.{AnswersSplit}
 use Rattle.sd_run.proofs.AnswersLemmas.{answers-append, errors-append}
 use Rattle.sd_run.proofs.LineCutLemmas.{with_front, cut-lf, rest-lf}

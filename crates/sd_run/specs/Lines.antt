@@ -1,17 +1,11 @@
 -- The lines of some bytes.
 use Rattle.std.specs.Prelude.{◌≡◌, ◌<◌, ℕ, Bool, false, All, List, [], ◌∷◌, ◌++◌, ◌==◌, if◌then◌else◌, map}
 use Rattle.std.specs.List.{flat_map, list_any}
-use Rattle.std.specs.Str.{byte as char}
+use Rattle.sd_answer.specs.LineEnd.{line_feed, without_cr}
 
 -- numbers that are bytes
 abbrev pub AreBytes : List ℕ → Type 0
 AreBytes bytes = All (λ b. b < 256) bytes
-
-abbrev pub line_feed : ℕ
-line_feed = char "\n"
-
-abbrev pub carriage_return : ℕ
-carriage_return = char "\r"
 
 -- what each LF ends, in order, and what follows the last LF
 pub record LineCut : Type 0 where
@@ -29,12 +23,6 @@ cut_at_line_feeds (b ∷ bytes) =
     if b == line_feed
     then record { ended = [] ∷ (cut_at_line_feeds bytes).ended; rest = (cut_at_line_feeds bytes).rest }
     else onto_first_line b (cut_at_line_feeds bytes).ended (cut_at_line_feeds bytes).rest
-
--- a line without the one CR at its end, if it has one
-unfoldable pub without_cr : List ℕ → List ℕ
-without_cr [] = []
-without_cr (b ∷ []) = if b == carriage_return then [] else b ∷ []
-without_cr (b ∷ c ∷ bytes) = b ∷ without_cr (c ∷ bytes)
 
 -- the lines that an LF ended
 unfoldable pub ended : List ℕ → List (List ℕ)

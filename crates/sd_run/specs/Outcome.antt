@@ -7,7 +7,7 @@ use Rattle.sd_sink.specs.Sink.{IsPrefix}
 use Rattle.sd_run.specs.Told.{DrainTold, RunTold}
 use Rattle.sd_run.specs.Lines.{AreBytes, lines, ended}
 use Rattle.sd_run.specs.Answers.{answers, errors, bounds}
-use Rattle.sd_run.specs.declared.job.Task.{Task}
+use Rattle.sd_answer.specs.declared.job.Task.{Task}
 use Rattle.sd_run.specs.declared.engine.Report.{Report}
 use Rattle.sd_run.specs.declared.engine.RunFault.{RunFault}
 use Rattle.sd_run.specs.declared.engine.RunFault.TheVariants.{Read, Write, TooManyReads}

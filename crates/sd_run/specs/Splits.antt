@@ -1,9 +1,10 @@
 -- An input that is answered in pieces.
 use Rattle.std.specs.Prelude.{◌≡◌, ℕ, ◌+◌, List, [], ◌∷◌, ◌++◌, length}
 use Rattle.sd_token.specs.Token.{Holder}
-use Rattle.sd_run.specs.declared.job.Task.{Task}
+use Rattle.sd_answer.specs.declared.job.Task.{Task}
 use Rattle.sd_run.specs.Answers.{answers, errors}
-use Rattle.sd_run.specs.Lines.{lines, line_feed}
+use Rattle.sd_run.specs.Lines.{lines}
+use Rattle.sd_answer.specs.LineEnd.{line_feed}
 
 -- Cut behind an LF, an input has the answers of its pieces, one after the other, and as many lines and `error` lines as
 -- they have together: so each piece may be answered by itself.

@@ -1,4 +1,5 @@
-// What a run reads from and writes to.
+//! What a run reads from and writes to.
+
 ghost use Rattle.std.specs.Prelude.{◌≡◌, ◌≤◌, length, take, false, MatchResult};
 ghost use Rattle.std.specs.Io.KnownBytes.{ReadConsumes, Keeps, Appends};
 ghost use Rattle.sd_run.specs.Told.{SourceTold, DrainTold, reads_after, ends_after, failed_reads_after, failed_writes_after, failed_flushes_after, is_flush};

@@ -1,11 +1,10 @@
-// The engine, which has every buffer of a run.
+//! The engine, which has every buffer of a run.
+
 ghost use Rattle.std.specs.Prelude.{◌≡◌, IfOk, MatchResult, None, Some, Ok, Err};
 ghost use Rattle.sd_sddl_reader.specs.Meaning.{means};
-ghost use Rattle.sd_run.specs.Task.{IsDerivation};
+ghost use Rattle.sd_answer.specs.Task.{IsDerivation};
 
-use crate::hex_text::GATHERED;
-use crate::job::Job;
-use crate::line::Line;
+use sd_answer::{Job, Line, Stores};
 use sd_buffer::{SdBuf, TextBuf};
 use sd_sddl_reader::{SddlFault, read_sddl};
 use sd_sink::NoMemory;
@@ -47,7 +46,7 @@ pub struct Engine {
 impl Model for Engine {
     ghost use Rattle.std.specs.Result.{result_ok};
     ghost use Rattle.sd_view.specs.Reading.{reading};
-    ghost use Rattle.sd_run.specs.declared.job.Task.{Task};
+    ghost use Rattle.sd_answer.specs.declared.job.Task.{Task};
 
     ghost Value = { Task };
 
@@ -78,10 +77,7 @@ impl Engine {
             creator,
             state: RunState {
                 line: Line::over(read, held),
-                stores: Stores {
-                    written,
-                    spelled: [0; GATHERED],
-                },
+                stores: Stores::over(written),
                 report: Report {
                     lines: 0,
                     faults: 0,
@@ -110,11 +106,4 @@ pub struct RunState {
     pub line: Line,
     pub stores: Stores,
     pub report: Report,
-}
-
-// The bytes of the descriptor that is printed, and a piece of the text that spells them.
-#[derive(Drop)]
-pub struct Stores {
-    pub written: SdBuf,
-    pub spelled: [u8; GATHERED],
 }

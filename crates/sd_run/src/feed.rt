@@ -1,15 +1,19 @@
-// Splits the input at LFs and answers each line.
+//! Splits the input at LFs and answers each line.
+
 ghost use Rattle.std.specs.Prelude.{◌≡◌, ◌+◌, ◌<◌, ℕ, List, ◌++◌, [], ◌∷◌, length, ◌≢◌, slice_index, MatchResult, IfOk, IsOk, Ok, false, unwrap_or, IfSome};
 ghost use Rattle.sd_sink.specs.Sink.{SinkTold};
-ghost use Rattle.sd_token.specs.Token.{TokenShown};
-ghost use Rattle.sd_run.specs.Lines.{ended, has_lf, lines, line_feed};
-ghost use Rattle.sd_run.specs.Inner.Running.{Answered, Failed, Feeds, HasRoom, Holds, HoldsText, IsReady, RoseWithin, AfterBytes};
+ghost use Rattle.sd_token.specs.Token.{Compares, TokenShown};
+ghost use Rattle.sd_answer.specs.Answer.{answer, bound, is_error};
+ghost use Rattle.sd_run.specs.Lines.{ended, has_lf, lines};
+ghost use Rattle.sd_answer.specs.LineEnd.{line_feed};
+ghost use Rattle.sd_run.specs.Inner.Running.{Answered, Failed, Feeds, HasRoom, RoseWithin, AfterBytes};
+ghost use Rattle.sd_answer.specs.LineInHand.{Holds, HoldsText, IsReady, PutsAnswer};
 ghost use Rattle.sd_run.specs.Told.{sink_of};
 
-use crate::answer::put_answer;
 use crate::device::Drain;
 use crate::engine::RunState;
-use crate::job::Task;
+use crate::sink::DrainSink;
+use sd_answer::{Line, Stores, Task, put_answer};
 use sd_sink::SinkFault;
 use sd_token::Token;
 
@@ -38,13 +42,33 @@ fn answer_line<W: Drain>(
     ensures ready { IsOk result → IsReady state.new.line }
     ensures rose { RoseWithin 1 state.old.report state.new.report }
 {
-    let faulty = put_answer(task, &mut state.line, &mut state.stores, token, drain)?;
+    let faulty = write_answer(task, &mut state.line, &mut state.stores, token, drain)?;
     state.line.start(&task.job);
     state.report.lines += 1;
     if faulty {
         state.report.faults += 1;
     }
     Ok(())
+}
+
+// Writes the answer to the line in hand, with its LF. Returns whether it is an `error` line.
+fn write_answer<W: Drain>(
+    task: &Task<'_>,
+    line: &mut Line,
+    stores: &mut Stores,
+    token: &mut Token,
+    drain: &mut W,
+) -> Result<bool, SinkFault>
+    requires { IsReady line.old }
+    ensures put { (text : List ℕ) → HoldsText task.now.job line.old text
+        → PutsAnswer (sink_of (W.told drain.old)) (sink_of (W.told drain.new))
+        (answer task.now token.old.holder text) (is_error task.now token.old.holder text) result }
+    ensures holder { token.new.holder ≡ token.old.holder }
+    ensures compared { (text : List ℕ) → HoldsText task.now.job line.old text
+        → Compares token.old token.new (bound task.now token.old.holder text) }
+{
+    let mut sink = DrainSink { drain };
+    put_answer(task, line, stores, token, &mut sink)
 }
 
 /// Reads one more piece, wherever the input is cut. Returns whether a line ended in it; if none did, nothing was written.

@@ -1,19 +1,21 @@
-// A run from the first read to the last flush.
+//! A run from the first read to the last flush.
+
 ghost use Rattle.std.specs.Prelude.{◌≡◌, ◌⊎◌, ◌<◌, ◌≤◌, ◌^◌, ℕ, List, length, true, IsOk, MatchResult};
 ghost use Rattle.sd_token.specs.Token.{TokenShown};
 ghost use Rattle.sd_sink.specs.Sink.{SinkTold};
 ghost use Rattle.sd_run.specs.Told.{sink_of};
-ghost use Rattle.sd_run.specs.Answers.{AnswersAreShort};
+ghost use Rattle.sd_answer.specs.Answer.{AnswersAreShort};
 ghost use Rattle.sd_run.specs.Lines.{AreBytes, LinesAreCut, ended, lines};
 ghost use Rattle.sd_run.specs.Splits.{AnswersSplit};
-ghost use Rattle.sd_run.specs.Inner.Running.{Answered, Failed, Feeds, HasRoom, IsReady, RoseWithin, AfterBytes};
-ghost use Rattle.sd_run.specs.Inner.TaskLimits.{TaskLimits};
+ghost use Rattle.sd_run.specs.Inner.Running.{Answered, Failed, Feeds, HasRoom, RoseWithin, AfterBytes};
+ghost use Rattle.sd_answer.specs.LineInHand.{IsReady};
+ghost use Rattle.sd_answer.specs.Task.{TaskLimits};
 ghost use Rattle.sd_run.specs.Outcome.{Outcome};
 
 use crate::device::{Drain, Source};
 use crate::engine::{Engine, Report, RunFault, RunState};
 use crate::feed::{feed_all, finish};
-use crate::job::Task;
+use sd_answer::Task;
 use sd_sink::SinkFault;
 use sd_token::Token;
 

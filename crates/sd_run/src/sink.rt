@@ -1,4 +1,5 @@
-// A sink over a drain.
+//! A sink over a drain.
+
 ghost use Rattle.sd_sink.specs.Sink.{Puts};
 ghost use Rattle.sd_run.specs.Told.{sink_of};
 

@@ -1,4 +1,5 @@
-// The readers and writers of std as a source and a drain.
+//! The readers and writers of std as a source and a drain.
+
 ghost use Rattle.std.specs.Prelude.{◌≡◌, false};
 
 use crate::device::{DeviceFault, Drain, Source};

@@ -1,63 +1,18 @@
--- A run in the middle: the line in hand, and what stands of the lines before it. Private contracts alone
--- cite these words; they promise nothing to a caller.
-use Rattle.std.specs.Prelude.{◌≡◌, ◌<◌, ◌≤◌, ℕ, ◌+◌, ◌-◌, ◌^◌, min, List, [], ◌∷◌, ◌++◌, length, Bool, true, false, MatchResult, Result, Ok, Err}
+-- A run in the middle: the line in hand, and what was answered of the lines before it.
+use Rattle.std.specs.Prelude.{◌≡◌, ◌<◌, ◌≤◌, ℕ, ◌+◌, ◌^◌, List, [], ◌++◌, length, MatchResult, Result}
 use Rattle.std.specs.Io.KnownBytes.{Consumes, Appends}
-use Rattle.sd_run.specs.Inner.Reading.{CanRead, HasRead, form_of}
-use Rattle.sd_run.specs.Told.{RunTold, sink_of}
-use Rattle.sd_token.specs.Token.{Compares, TokenShown}
-use Rattle.sd_sink.specs.Print.{PrintTold, Prints}
-use Rattle.sd_sink.specs.Sink.{SinkTold, PutAll, PutSome, IsPrefix}
-use Rattle.sd_sink.specs.declared.sink.SinkFault.{SinkFault}
 use Rattle.sd_sink.specs.Counts.{counted}
-use Rattle.sd_view.specs.Descriptor.{Descriptor}
-use Rattle.sd_view.specs.Reading.{reading}
-use Rattle.sd_run.specs.Lines.{AreBytes, cut_at_line_feeds, ended, without_cr, carriage_return}
-use Rattle.sd_run.specs.Answers.{answers, errors, bounds, line_limit, or_byte_fault}
+use Rattle.sd_sink.specs.Sink.{SinkTold, PutAll, IsPrefix}
+use Rattle.sd_sink.specs.declared.sink.SinkFault.{SinkFault}
+use Rattle.sd_token.specs.Token.{Compares, TokenShown}
+use Rattle.sd_answer.specs.LineInHand.{Holds}
+use Rattle.sd_answer.specs.declared.job.Task.{Task}
+use Rattle.sd_run.specs.Answers.{answers, errors, bounds}
+use Rattle.sd_run.specs.Lines.{AreBytes, cut_at_line_feeds, ended}
 use Rattle.sd_run.specs.Outcome.{HandedOn, IsFront, RoseBy}
-use Rattle.sd_run.specs.declared.job.Job.{Job}
-use Rattle.sd_run.specs.declared.job.Task.{Task}
-use Rattle.sd_run.specs.declared.engine.RunState.{RunState}
+use Rattle.sd_run.specs.Told.{RunTold, sink_of}
 use Rattle.sd_run.specs.declared.engine.Report.{Report}
-use Rattle.sd_run.specs.declared.fault.LineFault.{LineFault}
-use Rattle.sd_run.specs.declared.line.Line.{Line}
-
--- ---- the line in hand
-
--- the reader of the line in hand may go on
-abbrev pub IsReady : Line → Type 0
-IsReady line = CanRead line.reader line.read
-
--- the line in hand has this text: it was read whole, or it passes the limit
-pub record HoldsText (job : Job) (line : Line) (text : List ℕ) : Type 0 where
-  pub form : form_of line.reader ≡ job.source
-  pub counted : line.count ≡ min (length text) (2 ^ 64 - 1)
-  pub whole : length text ≤ line_limit job.source → HasRead line.reader line.read line.held job.domain text
-
--- a CR that waits for the next byte
-abbrev pub pending : Bool → List ℕ
-pending true = carriage_return ∷ []
-pending false = []
-
--- the line in hand has the bytes since the last LF
-pub record Holds (job : Job) (line : Line) (raw : List ℕ) : Type 0 where
-  pub text : HoldsText job line (without_cr raw)
-  pub waits : raw ≡ without_cr raw ++ pending line.cr
-
--- the end of a line leaves the bytes of what it means, or there is none
-abbrev pub Leaves : Result Descriptor LineFault → Result (Unit {0}) LineFault → List ℕ → Type 0
-Leaves wanted (Ok x) bytes = wanted ≡ or_byte_fault (reading bytes)
-Leaves wanted (Err fault) bytes = wanted ≡ Err fault
-
--- ---- its answer
-
--- the answer and its LF were put, with whether it is an error; or a part of it was
-abbrev pub PutsAnswer : SinkTold → SinkTold → List ℕ → Bool → Result Bool SinkFault → Type 0
-PutsAnswer old new text error (Ok faulty) = PutAll old new text × (faulty ≡ error)
-PutsAnswer old new text error (Err fault) = PutSome old new text
-
--- the answer and its LF were printed, with whether it is an error
-abbrev pub PrintsAnswer : PrintTold → PrintTold → List ℕ → Bool → Bool → Type 0
-PrintsAnswer old new text error faulty = Prints old new text × (faulty ≡ error)
+use Rattle.sd_run.specs.declared.engine.RunState.{RunState}
 
 -- n lines and n faults more may be counted
 abbrev pub HasRoom : Report → ℕ → Type 0

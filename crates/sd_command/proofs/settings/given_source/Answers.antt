@@ -1,6 +1,6 @@
 use Rattle.std.proofs.Common.{rules, ◌≡◌, Err, ◌∙◌}
 use Rattle.sd_command.specs.Settings as specs
-use Rattle.sd_run.specs.declared.job.Form.TheVariants.{Hex}
+use Rattle.sd_answer.specs.declared.job.Form.TheVariants.{Hex}
 use Rattle.sd_command.proofs.GivenLemmas.{given-or-is, given-or-fault}
 use Rattle.sd_command.proofs.settings.given_source.Goals as goal
 

@@ -1,7 +1,8 @@
 use Rattle.std.proofs.Common.{◌≡◌, ◌<◌, ◌≤◌, ◌-◌, ℕ, List, true, ◌++◌, length, take}
 use Rattle.sd_token.specs.Token.{TokenShown}
 use Rattle.sd_sink.specs.Sink.{SinkTold}
-use Rattle.sd_run.specs.Inner.Running.{IsReady, RoseWithin, AfterBytes}
+use Rattle.sd_answer.specs.LineInHand.{IsReady}
+use Rattle.sd_run.specs.Inner.Running.{RoseWithin, AfterBytes}
 use Rattle.sd_run.specs.Lines.{has_lf}
 use Rattle.sd_run.specs.Told.{sink_of}
 use Rattle.sd_run.proofs.feed.feed_all.Given as goal

@@ -1,6 +1,6 @@
 use Rattle.sd_run.proofs.LineCutLemmas.{lines-are-cut}
 use Rattle.sd_run.proofs.SplitsLemmas.{answers-split}
-use Rattle.sd_run.proofs.ShortLemmas.{answers-short}
+use Rattle.sd_answer.proofs.laws.ShortAnswers.{answers-short}
 use Rattle.sd_run.proofs.running.run.Goals as goal
 
 pub returns-clause-answers_are_short : goal.returns-clause-answers_are_short

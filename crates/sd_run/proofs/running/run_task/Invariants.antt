@@ -1,5 +1,6 @@
 use Rattle.std.proofs.Common.{◌≡◌, ◌≤◌, ◌*◌, length}
-use Rattle.sd_run.specs.Inner.Running.{BeforeRead, IsReady}
+use Rattle.sd_run.specs.Inner.Running.{BeforeRead}
+use Rattle.sd_answer.specs.LineInHand.{IsReady}
 use Rattle.sd_run.proofs.running.run_task.Given as goal
 
 abbrev pub invariant-loop-turn : goal.invariant-loop-turn

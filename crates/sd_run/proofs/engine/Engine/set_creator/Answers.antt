@@ -1,5 +1,5 @@
 use Rattle.std.proofs.Common.{ap, ◌∙◌}
-use Rattle.sd_run.specs.declared.job.Task.{Task}
+use Rattle.sd_answer.specs.declared.job.Task.{Task}
 use Rattle.sd_run.proofs.CreatorLemmas.{creator-read}
 use Rattle.sd_run.proofs.engine.Engine.set_creator.Goals as goal
 

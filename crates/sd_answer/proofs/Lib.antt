@@ -1,0 +1,9 @@
+pub mod Base64Lemmas
+pub mod FaultLemmas
+pub mod HexTextLemmas
+pub mod HoldsLemmas
+pub mod LimitLemmas
+pub mod MeaningLemmas
+pub mod ReadingLemmas
+mod Rows
+pub mod laws

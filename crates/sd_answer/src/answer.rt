@@ -1,0 +1,232 @@
+//! The answer to a line.
+
+ghost use Rattle.std.specs.Prelude.{◌≡◌, ℕ, List, [], ◌∷◌, true, Ok, Err};
+ghost use Rattle.sd_answer.specs.LineEnd.{line_feed};
+ghost use Rattle.sd_sink.specs.Print.{Prints};
+ghost use Rattle.sd_answer.specs.Answer.{act_outcome, answer, bound, converted, form_text, is_error, naming_of, refused, unless_too_large, verdict_text};
+ghost use Rattle.sd_explain.specs.Explain.{explain};
+ghost use Rattle.sd_token.specs.Token.{Compares};
+ghost use Rattle.sd_answer.specs.LineInHand.{HoldsText, IsReady, PutsAnswer};
+ghost use Rattle.sd_answer.specs.Inner.Printing.{PrintsAnswer};
+ghost use Rattle.sd_inherit.specs.Derived.{derive_fault, derived};
+ghost use Rattle.sd_view.specs.Descriptor.{Descriptor, Shows};
+ghost use Rattle.sd_view.specs.Layout.{layout};
+
+use crate::base64_text::print_base64;
+use crate::fault::{LineFault, print_fault};
+use crate::hex_text::{GATHERED, print_hex};
+use crate::job::{Act, Form, Job, Task};
+use crate::line::Line;
+use sd_buffer::SdBuf;
+use sd_builder::write_layout;
+use sd_check::{Verdict, check};
+use sd_explain::print_explain;
+use sd_inherit::{Plan, derive};
+use sd_sddl_printer::print_sddl;
+use sd_sid::Sid;
+use sd_sink::{Gather, Print, Sink, SinkFault};
+use sd_text::print_hex as print_hex_digits;
+use sd_token::Token;
+use sd_view::{SdView, read};
+
+/// What an answer is made in: the bytes of the descriptor that is printed, and a piece of the text that spells them.
+#[derive(Drop)]
+pub struct Stores {
+    pub written: SdBuf,
+    pub spelled: [u8; GATHERED],
+}
+
+impl Stores {
+    /// Stores over this buffer, whatever it holds.
+    pub fn over(written: SdBuf) -> Stores {
+        Stores {
+            written,
+            spelled: [0; GATHERED],
+        }
+    }
+}
+
+/// Puts the answer to the line in hand, with its LF. Returns whether it is an `error` line. Small texts go out together.
+pub fn put_answer<S: Sink>(
+    task: &Task<'_>,
+    line: &mut Line,
+    stores: &mut Stores,
+    token: &mut Token,
+    sink: &mut S,
+) -> Result<bool, SinkFault>
+    requires { IsReady line.old }
+    ensures put { (text : List ℕ) → HoldsText task.now.job line.old text
+        → PutsAnswer (S.told sink.old) (S.told sink.new)
+        (answer task.now token.old.holder text) (is_error task.now token.old.holder text) result }
+    ensures holder { token.new.holder ≡ token.old.holder }
+    ensures compared { (text : List ℕ) → HoldsText task.now.job line.old text
+        → Compares token.old token.new (bound task.now token.old.holder text) }
+{
+    let mut out = Gather::new(sink);
+    let faulty = print_answer(task, line, stores, token, &mut out);
+    match out.finish() {
+        Ok(()) => Ok(faulty),
+        Err(sink_fault) => Err(sink_fault),
+    }
+}
+
+// A line over its limit was not read, so that is its only error.
+fn print_answer<P: Print>(
+    task: &Task<'_>,
+    line: &mut Line,
+    stores: &mut Stores,
+    token: &mut Token,
+    out: &mut P,
+) -> bool
+    requires { IsReady line.old }
+    ensures printed { (text : List ℕ) → HoldsText task.now.job line.old text
+        → PrintsAnswer (P.told out.old) (P.told out.new)
+        (answer task.now token.old.holder text) (is_error task.now token.old.holder text) result }
+    ensures holder { token.new.holder ≡ token.old.holder }
+    ensures compared { (text : List ℕ) → HoldsText task.now.job line.old text
+        → Compares token.old token.new (bound task.now token.old.holder text) }
+{
+    if line.is_too_long() {
+        return print_error(&LineFault::TooLong, out);
+    }
+    if line.is_empty() {
+        return print_end(false, out);
+    }
+    match line.end() {
+        Ok(view) => print_act(task, &view, stores, token, out),
+        Err(fault) => print_error(&fault, out),
+    }
+}
+
+// Prints an `error` line.
+fn print_error<P: Print>(fault: &LineFault, out: &mut P) -> bool
+    ensures { PrintsAnswer (P.told out.old) (P.told out.new) (refused fault.now).text true result }
+{
+    print_fault(fault, out);
+    print_end(true, out)
+}
+
+// Prints what is answered to a descriptor.
+fn print_act<P: Print>(
+    task: &Task<'_>,
+    view: &SdView<'_>,
+    stores: &mut Stores,
+    token: &mut Token,
+    out: &mut P,
+) -> bool
+    ensures printed { PrintsAnswer (P.told out.old) (P.told out.new)
+        (act_outcome task.now token.old.holder task.now.job.act view.now).text
+        (act_outcome task.now token.old.holder task.now.job.act view.now).is_error result }
+    ensures holder { token.new.holder ≡ token.old.holder }
+    ensures compared { Compares token.old token.new
+        (act_outcome task.now token.old.holder task.now.job.act view.now).bound }
+{
+    let job = &task.job;
+    match job.act {
+        Act::Convert(form) => {
+            print_form(job, form, view, stores, out);
+            print_end(false, out)
+        }
+        Act::Explain => {
+            print_explanation(job, view, out);
+            false
+        }
+        Act::Check(ask) => {
+            print_verdict(check(view, token, &ask), out);
+            print_end(false, out)
+        }
+        Act::Derive(plan, form) => print_derived(task, view, &plan, form, stores, out),
+    }
+}
+
+// Prints a descriptor in a form.
+#[tactic(auto, unfolding(crate::specs::Answer::form_text))]
+fn print_form<P: Print>(job: &Job, form: Form, view: &SdView<'_>, stores: &mut Stores, out: &mut P)
+    ensures { Prints (P.told out.old) (P.told out.new) (form_text job.now form view.now) }
+{
+    match form {
+        Form::Hex => {
+            write_layout(view, &mut stores.written);
+            print_hex(stores.written.bytes(), &mut stores.spelled, out);
+        }
+        Form::Base64 => {
+            write_layout(view, &mut stores.written);
+            print_base64(stores.written.bytes(), &mut stores.spelled, out);
+        }
+        Form::Sddl => print_sddl(view, job.domain.as_ref(), job.numeric, out),
+    }
+}
+
+// Prints the descriptor of a new object in a form, or why there is none.
+fn print_derived<P: Print>(
+    task: &Task<'_>,
+    parent: &SdView<'_>,
+    plan: &Plan,
+    form: Form,
+    stores: &mut Stores,
+    out: &mut P,
+) -> bool
+    ensures { PrintsAnswer (P.told out.old) (P.told out.new)
+        (unless_too_large (derive_fault parent.now task.now.creator plan.now)
+        (converted task.now.job form (derived parent.now task.now.creator plan.now))).text
+        (unless_too_large (derive_fault parent.now task.now.creator plan.now)
+        (converted task.now.job form (derived parent.now task.now.creator plan.now))).is_error result }
+{
+    match derive(parent, task.creator.as_ref(), plan, &mut stores.written) {
+        Ok(()) => {
+            print_written(&task.job, form, stores, out);
+            print_end(false, out)
+        }
+        Err(fault) => print_error(&LineFault::Derive(fault), out),
+    }
+}
+
+// Prints the descriptor that is written in the buffer. As hex and base64 its bytes are spelled
+// where they are.
+#[tactic(auto, unfolding(crate::specs::Answer::form_text))]
+fn print_written<P: Print>(job: &Job, form: Form, stores: &mut Stores, out: &mut P)
+    ensures { (d : Descriptor) → Shows stores.old.written d → stores.old.written ≡ layout d
+        → Prints (P.told out.old) (P.told out.new) (form_text job.now form d) }
+{
+    match form {
+        Form::Hex => print_hex(stores.written.bytes(), &mut stores.spelled, out),
+        Form::Base64 => print_base64(stores.written.bytes(), &mut stores.spelled, out),
+        Form::Sddl => {
+            // Its bytes show a descriptor, so they are read.
+            if let Ok(view) = read(stores.written.bytes()) {
+                print_sddl(&view, job.domain.as_ref(), job.numeric, out);
+            }
+        }
+    }
+}
+
+// Prints what a descriptor has, on lines that each have an LF already.
+fn print_explanation<P: Print>(job: &Job, view: &SdView<'_>, out: &mut P)
+    ensures { Prints (P.told out.old) (P.told out.new) (explain (naming_of job.now) view.now) }
+{
+    print_explain(view, job.domain.as_ref(), job.numeric, out);
+}
+
+// Prints a verdict: its word, and its mask in eight hex digits.
+fn print_verdict<P: Print>(verdict: Verdict, out: &mut P)
+    ensures { Prints (P.told out.old) (P.told out.new) (verdict_text verdict) }
+{
+    match verdict {
+        Verdict::Granted(mask) => {
+            out.put(b"granted 0x");
+            print_hex_digits(8, u64::from(mask), out);
+        }
+        Verdict::Denied(mask) => {
+            out.put(b"denied 0x");
+            print_hex_digits(8, u64::from(mask), out);
+        }
+    }
+}
+
+// Ends a line.
+fn print_end<P: Print>(faulty: bool, out: &mut P) -> bool
+    ensures { PrintsAnswer (P.told out.old) (P.told out.new) (line_feed ∷ []) faulty result }
+{
+    out.put(b"\n");
+    faulty
+}

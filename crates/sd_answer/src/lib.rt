@@ -1,0 +1,14 @@
+//! The answer to one line: what a line means in its form, what is done with its descriptor, and the text of the answer.
+#![tactic(auto)]
+
+mod answer;
+mod base64_text;
+mod fault;
+mod hex_text;
+mod job;
+mod line;
+
+pub use answer::{Stores, put_answer};
+pub use fault::{LineFault, put_fault};
+pub use job::{Act, Form, Job, Task};
+pub use line::Line;

@@ -1,0 +1,198 @@
+//! The line in hand, whose bytes go into a reader as they come.
+
+ghost use Rattle.std.specs.Prelude.{◌≡◌, ◌≤◌, ◌<◌, ◌≢◌, ℕ, List, ◌++◌, [], length, nat_lt, false, true};
+ghost use Rattle.sd_answer.specs.Answer.{line_limit, text_means};
+ghost use Rattle.sd_answer.specs.Inner.Reading.{CanRead, HasRead, form_of};
+
+use crate::fault::LineFault;
+use crate::job::{Form, Job};
+use sd_buffer::{HexReader, SdBuf, TextBuf};
+use sd_sddl_reader::SddlReader;
+use sd_text::{MOST_BASE64_TEXT, MOST_HEX_TEXT, MOST_SDDL_TEXT};
+use sd_view::{SdView, read};
+use std::mem;
+
+/// What reads a line of a form. Of base64 the text is held, and read at the end of the line.
+#[derive(Drop)]
+pub enum LineReader {
+    Hex(HexReader),
+    Base64,
+    Sddl(SddlReader),
+}
+
+impl LineReader {
+    // A reader of a line for the job, that has read nothing.
+    fn new(job: &Job, read: &mut SdBuf) -> LineReader
+        ensures form { form_of result ≡ job.now.source }
+        ensures ready { CanRead result read.new }
+        ensures read { HasRead result read.new [] job.now.domain [] }
+    {
+        match job.source {
+            Form::Hex => LineReader::Hex(HexReader::new(read)),
+            Form::Base64 => LineReader::Base64,
+            Form::Sddl => LineReader::Sddl(SddlReader::new(job.domain, read)),
+        }
+    }
+
+    // The bytes that a line may have.
+    fn limit(&self) -> usize
+        ensures { result ≡ line_limit (form_of self.now) }
+    {
+        match self {
+            LineReader::Hex(_) => MOST_HEX_TEXT,
+            LineReader::Base64 => MOST_BASE64_TEXT,
+            LineReader::Sddl(_) => MOST_SDDL_TEXT,
+        }
+    }
+}
+
+/// The bytes since the last LF.
+#[derive(Drop)]
+pub struct Line {
+    reader: LineReader,
+    // The bytes of the descriptor that were read so far, and the text that is held.
+    read: SdBuf,
+    held: TextBuf,
+    // How many bytes the line has, without a CR that waits. Where they pass its limit, those past it were not read.
+    count: usize,
+    // A CR is the last byte so far. Before an LF it is dropped, and before any other byte it is one of the line.
+    cr: bool,
+}
+
+impl Line {
+    ghost use Rattle.sd_answer.specs.LineInHand.{Holds, HoldsText, IsReady};
+    ghost use Rattle.sd_answer.specs.Inner.Reading.{Leaves};
+
+    /// A line over these buffers, whatever they hold. Call `start` before the first byte.
+    pub fn over(read: SdBuf, held: TextBuf) -> Line
+        ensures read { result.read ≡ read }
+        ensures held { result.held ≡ held }
+        ensures none_counted { result.count ≡ 0 }
+        ensures none_waits { result.cr ≡ false }
+    {
+        Line {
+            reader: LineReader::Base64,
+            read,
+            held,
+            count: 0,
+            cr: false,
+        }
+    }
+
+    /// Starts an empty line for the job.
+    pub fn start(&mut self, job: &Job)
+        ensures empty { Holds job.now self.new [] }
+        ensures ready { IsReady self.new }
+    {
+        self.reader = LineReader::new(job, &mut self.read);
+        self.held.clear();
+        self.count = 0;
+        self.cr = false;
+    }
+
+    /// Bytes more, none of which is an LF.
+    pub fn take(&mut self, bytes: &[u8])
+        requires { IsReady self.old }
+        ensures ready { IsReady self.new }
+        ensures holds { (job : Job) (raw : List ℕ) → Holds job self.old raw → Holds job self.new (raw ++ bytes.now) }
+    {
+        let Some((last, front)) = bytes.split_last() else {
+            return;
+        };
+        self.settle();
+        if *last == b'\r' {
+            self.feed(front);
+            self.cr = true;
+        } else {
+            self.feed(bytes);
+        }
+    }
+
+    /// The CR that waits is a byte of the line.
+    pub fn settle(&mut self)
+        requires { IsReady self.old }
+        ensures ready { IsReady self.new }
+        ensures text { (job : Job) (raw : List ℕ) → Holds job self.old raw → HoldsText job self.new raw }
+        ensures cr { self.new.cr ≡ false }
+    {
+        if self.cr {
+            self.cr = false;
+            self.feed(b"\r");
+        }
+    }
+
+    // Bytes more of the line. None goes into the reader where they pass the limit.
+    fn feed(&mut self, bytes: &[u8])
+        requires { IsReady self.old }
+        ensures ready { IsReady self.new }
+        ensures text { (job : Job) (text : List ℕ) → HoldsText job self.old text
+            → HoldsText job self.new (text ++ bytes.now) }
+        ensures nothing_past { line_limit (form_of self.old.reader) < self.new.count
+            → self.new ≡ record self.old { count = self.new.count } }
+        ensures cr { self.new.cr ≡ self.old.cr }
+    {
+        self.count = self.count.saturating_add(bytes.len());
+        if self.is_too_long() {
+            return;
+        }
+        match &mut self.reader {
+            LineReader::Hex(reader) => reader.feed_all(&mut self.read, bytes),
+            LineReader::Base64 => {
+                let _ = self.held.extend(bytes);
+            }
+            LineReader::Sddl(reader) => reader.feed_all(&mut self.read, bytes),
+        }
+    }
+
+    /// Nothing came yet.
+    pub fn is_untouched(&self) -> bool
+        ensures { (job : Job) (raw : List ℕ) → Holds job self.now raw
+            → (result ≡ true → raw ≡ []) × (result ≡ false → raw ≢ []) }
+    {
+        self.count == 0 && !self.cr
+    }
+
+    /// The line has no byte.
+    pub fn is_empty(&self) -> bool
+        ensures { (job : Job) (text : List ℕ) → HoldsText job self.now text
+            → (result ≡ true → text ≡ []) × (result ≡ false → text ≢ []) }
+    {
+        self.count == 0
+    }
+
+    /// The line has more bytes than it may.
+    pub fn is_too_long(&self) -> bool
+        ensures value { result ≡ nat_lt (line_limit (form_of self.now.reader)) self.now.count }
+        ensures meaning { (job : Job) (text : List ℕ) → HoldsText job self.now text
+            → (result ≡ true → line_limit job.source < length text)
+            × (result ≡ false → length text ≤ line_limit job.source) }
+    {
+        self.count > self.reader.limit()
+    }
+
+    /// The end of a line that is not too long: the descriptor that it means.
+    pub fn end(&mut self) -> Result<SdView<'_>, LineFault>
+        requires { IsReady self.old }
+        ensures { (job : Job) (text : List ℕ) → HoldsText job self.old text → length text ≤ line_limit job.source
+            → result ≡ text_means job.source job.domain text }
+    {
+        self.finish()?;
+        read(self.read.bytes()).map_err(LineFault::Sd)
+    }
+
+    // The bytes of the line's descriptor, in the buffer.
+    fn finish(&mut self) -> Result<(), LineFault>
+        requires { IsReady self.old }
+        ensures { (job : Job) (text : List ℕ) → HoldsText job self.old text → length text ≤ line_limit job.source
+            → Leaves (text_means job.source job.domain text) result self.new.read }
+    {
+        match mem::replace(&mut self.reader, LineReader::Base64) {
+            LineReader::Hex(reader) => reader.finish(&mut self.read).map_err(LineFault::Text),
+            LineReader::Base64 => self
+                .read
+                .from_base64(self.held.bytes())
+                .map_err(LineFault::Text),
+            LineReader::Sddl(reader) => reader.finish(&mut self.read).map_err(LineFault::Sddl),
+        }
+    }
+}

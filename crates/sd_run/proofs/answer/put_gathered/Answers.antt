@@ -1,8 +1,0 @@
-use Rattle.std.proofs.Common.{rules}
-use Rattle.sd_run.proofs.MeaningLemmas.{broken}
-use Rattle.sd_run.proofs.answer.put_gathered.Goals as goal
-
-pub returns-in-Err-clause-put : goal.returns-in-Err-clause-put
-returns-in-Err-clause-put g c = λ line h.
-    broken c.in-Err.sink_fault c.new-out.ensures.begins (search rules) c.in-Err.ensures
-    (c.print_answer-faulty.ensures.printed line h)

@@ -1,6 +1,0 @@
-use Rattle.std.proofs.Common.{refl}
-use Rattle.sd_run.proofs.HoldsLemmas.{Holds-nil}
-use Rattle.sd_run.proofs.line.Line.start.Goals as goal
-
-pub returns-clause-empty : goal.returns-clause-empty
-returns-clause-empty c = Holds-nil _ _ c.new-self.ensures.form refl refl (rw c.clear.ensures c.new-self.ensures.read)
