@@ -32,7 +32,7 @@ MORE = re.compile(r"(The library for C has )[\d,]+( more)")
 BETWEEN = re.compile(r"(`FieldFronts.antt` have )[\d,]+( more lines)")
 SECOND = re.compile(r"(`sd_sddl_reader/specs/FoldedReading.antt` has another )[\d,]+")
 ROWS = re.compile(r"^\| Subject \| Crate and lines \|\n(?:\|.*\n)*", re.M)
-ROW_OF_A_CRATE = re.compile(r"`(\w+)` [\d,]+")
+ROW_OF_A_CRATE = re.compile(r"`(\w+)` \d+(?:,\d{3})*")
 
 
 def crates():
