@@ -14,15 +14,17 @@ sys.dont_write_bytecode = True
 import preload  # noqa: E402
 
 TOP = pathlib.Path(__file__).resolve().parent.parent
-DOCUMENTS = ["docs/ARCHITECTURE.md", "docs/DEFINITIONS.md", "docs/PROVED.md"]
+DOCUMENTS = [f"docs/{name}.md" for name in ("ARCHITECTURE", "DECISIONS", "DEFINITIONS", "GATE", "PROVED")]
 OF_DEFINITIONS = "docs/DEFINITIONS.md"
 FOLDERS = ["crates", "tests", "packaging", "include", "python", "examples", "bench", "docs"]
 # What edits and kept work say is not what the sources say.
 LEFT_OUT = {"out", "must-fail", "edits", "__pycache__"}
 NO_DEFINITIONS = {"Lib.antt", "Inner.antt"}  # these only list modules
-# Files of the toolchain's libraries.
-OTHERS = {"Rfc4648.antt", "GeneralPurpose.antt", "Engines.antt", "std/specs/Io/KnownBytes.antt", "core/specs"}
-TOOLCHAIN = "rattle-kit-"  # its line of identity
+EDITS = ["crates/*/must-fail/*.edit", "tests/edits/*/*.edit"]
+# Names and files of the toolchain's libraries.
+OTHERS = {"Stdin", "Rfc4648.antt", "GeneralPurpose.antt", "Engines.antt", "std/specs/Io/KnownBytes.antt",
+          "core/specs"}
+TOOLCHAIN = ("rattle-kit-", "rt ")  # its line of identity, its commands
 FILE = re.compile(r"[\w./*-]*\.(?:rt|antt|py|sh|md|json|txt|c|h|1)")
 WORD = re.compile(r"[A-Za-z_]\w*")
 COMMENT = {".rt": re.compile(r"//.*"), ".antt": re.compile(r"--.*")}
@@ -87,6 +89,7 @@ def main():
     for path in filter(is_source, paths):
         text = path.read_text(encoding="utf-8", errors="ignore")
         words.update(WORD.findall(COMMENT.get(path.suffix, NONE).sub("", text)), path.relative_to(TOP).parts)
+    words.update(path.stem for place in EDITS for path in TOP.glob(place))
     names = ["/" + str(path.relative_to(TOP)) for path in paths]
     for document in DOCUMENTS:
         for number, span in spans_in((TOP / document).read_text(encoding="utf-8")):
