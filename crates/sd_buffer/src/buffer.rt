@@ -1,11 +1,12 @@
 // The buffers that hold the bytes of a descriptor, or the text of a line.
-ghost use Rattle.std.specs.Prelude.{◌≡◌, ◌≤◌, ◌<◌, ◌*◌, ◌/◌, ◌%◌, take, drop, ◌++◌, ◌∷◌, ◌+◌, ◌-◌, ◌↔◌, [], length, Ok, Err, IfOk, OnOk, OnErr, IsErr, MatchResult};
+ghost use Rattle.std.specs.Prelude.{◌≡◌, ◌≤◌, ◌<◌, ◌*◌, ◌/◌, ◌%◌, take, drop, ◌++◌, ◌∷◌, ◌+◌, ◌-◌, ◌↔◌, [], length, vec_capacity, Ok, Err, IfOk, OnOk, OnErr, IsErr, MatchResult};
 ghost use Rattle.base64.specs.Decode.{decoded_estimate};
 ghost use Rattle.sd_text.specs.Limits.{most_base64_text, most_hex_text};
 ghost use Rattle.sd_buffer.specs.Text.{IsOneEncoding, base64_spells, hex_spells};
 ghost use Rattle.sd_control.specs.declared.limits.TheConstants.{CAPACITY};
 
 use crate::hex_reader::HexReader;
+use base64::decoded_len_estimate;
 use base64::engine::general_purpose::STANDARD;
 use sd_control::CAPACITY;
 use sd_sink::NoMemory;
@@ -31,9 +32,14 @@ pub enum TextFault {
 /// At most `MOST` bytes, in memory that is taken once.
 #[derive(Drop)]
 pub struct ByteBuf<const MOST: usize> {
+    // Room for `MOST` cells is there from the start. Those that no byte has reached yet are not filled, so that a short
+    // run does not pay for them.
     cells: Vec<u8>,
     held: usize,
 }
+
+/// Cells are filled so many at a time.
+const STEP: usize = 4096;
 
 /// The bytes of a descriptor, at most 131,226.
 pub type SdBuf = ByteBuf<CAPACITY>;
@@ -42,13 +48,13 @@ pub type SdBuf = ByteBuf<CAPACITY>;
 pub type TextBuf = ByteBuf<MOST_BASE64_TEXT>;
 
 impl<const MOST: usize> Model for ByteBuf<MOST> {
-    ghost use Rattle.std.specs.Prelude.{◌≡◌, ◌≤◌, ℕ, List, length, take};
+    ghost use Rattle.std.specs.Prelude.{◌≤◌, ℕ, List, length, take, vec_capacity};
 
     ghost Value = { List ℕ };
 
     ghost view = { λ b. take b.held b.cells.items };
 
-    ghost invariant = { λ b. (length b.cells.items ≡ MOST) × (b.held ≤ MOST) };
+    ghost invariant = { λ b. (b.held ≤ length b.cells.items) × (length b.cells.items ≤ MOST) × (MOST ≤ vec_capacity b.cells) };
 }
 
 impl<const MOST: usize> ByteBuf<MOST> {
@@ -56,7 +62,7 @@ impl<const MOST: usize> ByteBuf<MOST> {
     pub fn new(alloc: Global) -> Result<Self, NoMemory>
         ensures { IfOk result (λ b. b ≡ []) }
     {
-        match vec![in alloc; 0; MOST] {
+        match Vec::with_capacity(alloc, MOST) {
             Ok(cells) => Ok(ByteBuf { cells, held: 0 }),
             Err(_) => Err(NoMemory),
         }
@@ -71,8 +77,7 @@ impl<const MOST: usize> ByteBuf<MOST> {
         if self.held == MOST {
             return Err(Full);
         }
-        self.cells[self.held] = byte;
-        self.held += 1;
+        self.append(&[byte]);
         Ok(())
     }
 
@@ -96,8 +101,10 @@ impl<const MOST: usize> ByteBuf<MOST> {
         requires { length self.old + length bytes.now ≤ MOST }
         ensures { self.new ≡ self.old ++ bytes.now }
     {
+        let end = self.held + bytes.len();
+        reach(&mut self.cells, end, MOST);
         write_at(&mut self.cells, self.held, bytes);
-        self.held += bytes.len();
+        self.held = end;
     }
 
     // Appends the first of some cells. There is room for all of them, so that they are copied at once.
@@ -107,6 +114,7 @@ impl<const MOST: usize> ByteBuf<MOST> {
         requires within { count ≤ length cells.now }
         ensures { self.new ≡ self.old ++ take count cells.now }
     {
+        reach(&mut self.cells, self.held + cells.len(), MOST);
         write_at(&mut self.cells, self.held, cells);
         self.held += count;
     }
@@ -161,6 +169,7 @@ impl SdBuf {
         if count > CAPACITY - self.held {
             return Err(TextFault::HexDigit);
         }
+        reach(&mut self.cells, self.held + count, CAPACITY);
         decode_hex(pairs, &mut self.cells, self.held)?;
         self.held += count;
         Ok(())
@@ -177,10 +186,44 @@ impl SdBuf {
         ensures encoding { IsOneEncoding text.now }
     {
         self.clear();
+        reach(&mut self.cells, decoded_len_estimate(text.len()), CAPACITY);
         let held = decode_base64(text, &mut self.cells)?;
         self.held = held;
         Ok(())
     }
+}
+
+// Sees to it that there are so many cells, of at most as many as there is room for. The test alone is inlined.
+#[inline(always)]
+fn reach(cells: &mut Vec<u8>, end: usize, most: usize)
+    requires within { end ≤ most }
+    requires few { length cells.old.items ≤ most }
+    requires room { most ≤ vec_capacity cells.old }
+    ensures cells { take (length cells.old.items) cells.new.items ≡ cells.old.items }
+    ensures reached { end ≤ length cells.new.items }
+    ensures longer { length cells.old.items ≤ length cells.new.items }
+    ensures few { length cells.new.items ≤ most }
+    ensures room { most ≤ vec_capacity cells.new }
+{
+    if cells.len() < end {
+        fill(cells, end, most);
+    }
+}
+
+// Fills cells up to an end or a few more, which takes no memory, since there is room for them.
+#[cold]
+#[inline(never)]
+fn fill(cells: &mut Vec<u8>, end: usize, most: usize)
+    requires more { length cells.old.items < end }
+    requires within { end ≤ most }
+    requires room { most ≤ vec_capacity cells.old }
+    ensures cells { take (length cells.old.items) cells.new.items ≡ cells.old.items }
+    ensures reached { end ≤ length cells.new.items }
+    ensures few { length cells.new.items ≤ most }
+    ensures room { most ≤ vec_capacity cells.new }
+{
+    let target = end.saturating_add(STEP).min(most);
+    let _ = cells.resize(target, 0);
 }
 
 // Copies the bytes into the cells from an offset on.
