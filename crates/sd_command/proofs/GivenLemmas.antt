@@ -4,7 +4,7 @@ use Rattle.std.specs.Option.{unwrap_or}
 use Rattle.clap.specs.Words.{Text}
 use Rattle.sd_command.specs.Settings.{given, value_if, value_needed, value_or}
 use Rattle.sd_command.specs.Inner.Given.{GivenBy}
-use Rattle.sd_command.specs.declared.settings.OptionName.{OptionName}
+use Rattle.sd_command.specs.declared.options.OptionName.{OptionName}
 use Rattle.sd_command.specs.declared.settings.UsageFault.{UsageFault}
 use Rattle.sd_command.specs.declared.settings.UsageFault.TheVariants.{Value}
 

@@ -16,7 +16,7 @@ use Rattle.sd_check.specs.Ask.{Asked, ask_fault, asks_maximum, wanted_of}
 use Rattle.sd_sddl_reader.specs.Meaning.{means}
 use Rattle.sd_inherit.specs.declared.plan.Target.{Target}
 use Rattle.sd_inherit.specs.declared.plan.Target.TheVariants.{File, Container}
-use Rattle.sd_command.specs.CommandLine.{line}
+use Rattle.sd_command.specs.CommandLine.{line, option_text}
 use Rattle.sd_rights.specs.Mapping.{GenericMapping, directory_mapping, file_mapping, key_mapping}
 use Rattle.sd_command.specs.TokenText.{entries_read, sid_under}
 use Rattle.sd_answer.specs.declared.job.Form.{Form}
@@ -27,25 +27,10 @@ use Rattle.sd_answer.specs.declared.job.Job.{Job}
 use Rattle.sd_answer.specs.declared.job.Task.{Task}
 use Rattle.sd_command.specs.declared.settings.CommandName.{CommandName}
 use Rattle.sd_command.specs.declared.settings.CommandName.TheVariants as command
-use Rattle.sd_command.specs.declared.settings.OptionName.{OptionName}
-use Rattle.sd_command.specs.declared.settings.OptionName.TheVariants as name
+use Rattle.sd_command.specs.declared.options.OptionName.{OptionName}
+use Rattle.sd_command.specs.declared.options.OptionName.TheVariants as name
 use Rattle.sd_command.specs.declared.settings.UsageFault.{UsageFault}
 use Rattle.sd_command.specs.declared.settings.UsageFault.TheVariants.{NoCommand, Unasked, Value}
-
-abbrev pub option_text : OptionName → Text
-option_text name.Domain = codes "domain"
-option_text name.From = codes "from"
-option_text name.To = codes "to"
-option_text name.Type = codes "type"
-option_text name.Kind = codes "kind"
-option_text name.Owner = codes "owner"
-option_text name.Group = codes "group"
-option_text name.Token = codes "token"
-option_text name.Want = codes "want"
-option_text name.Object = codes "object"
-option_text name.PrincipalSelf = codes "self"
-option_text name.Level = codes "level"
-option_text name.Creator = codes "creator"
 
 abbrev pub form_reads : Text → Option Form
 form_reads text =
@@ -78,23 +63,23 @@ abbrev pub given : {A : Type 0} → OptionName → Option A → Result A UsageFa
 given option value = ok_or value (Value option)
 
 unfoldable pub given_domain : List Row → Result (Option SecurityId) UsageFault
-given_domain rows = given name.Domain (value_if domain_reads (first_of (codes "domain") rows))
+given_domain rows = given name.Domain (value_if domain_reads (first_of (option_text name.Domain) rows))
 
 -- hex where the option is left out
 unfoldable pub given_source : List Row → Result Form UsageFault
-given_source rows = given name.From (value_or Hex form_reads (first_of (codes "from") rows))
+given_source rows = given name.From (value_or Hex form_reads (first_of (option_text name.From) rows))
 
 -- SDDL where the option is left out
 unfoldable pub given_target : List Row → Result Form UsageFault
-given_target rows = given name.To (value_or Sddl form_reads (first_of (codes "to") rows))
+given_target rows = given name.To (value_or Sddl form_reads (first_of (option_text name.To) rows))
 
 -- a flag's text is `true` where it is given
 abbrev pub is_true : Option Text → Bool
 is_true None = false
 is_true (Some text) = bytes_eq text (codes "true")
 
-unfoldable pub is_set : Text → List Row → Bool
-is_set flag rows = is_true (first_of flag rows)
+unfoldable pub is_set : OptionName → List Row → Bool
+is_set flag rows = is_true (first_of (option_text flag) rows)
 
 -- ---- what `check` and `derive` both have
 
@@ -107,7 +92,7 @@ mapping_reads text =
 
 -- that of files where the option is left out
 unfoldable pub given_mapping : List Row → Result GenericMapping UsageFault
-given_mapping rows = given name.Type (value_or file_mapping mapping_reads (first_of (codes "type") rows))
+given_mapping rows = given name.Type (value_or file_mapping mapping_reads (first_of (option_text name.Type) rows))
 
 -- the SID of an option, read under the domain
 unfoldable pub given_sid : OptionName → Option SecurityId → List Row → Result (Option SecurityId) UsageFault
@@ -117,14 +102,14 @@ given_sid option domain rows = given option (value_if (sid_under domain) (first_
 
 -- the entries of the token, whose SIDs are read under the domain
 unfoldable pub given_token : Option SecurityId → List Row → Result (List Entry) UsageFault
-given_token domain rows = given name.Token (value_needed (entries_read domain) (first_of (codes "token") rows))
+given_token domain rows = given name.Token (value_needed (entries_read domain) (first_of (option_text name.Token) rows))
 
 -- no right where the option is left out
 unfoldable pub given_want : List Row → Result ℕ UsageFault
-given_want rows = given name.Want (value_or 0 rights_reads (first_of (codes "want") rows))
+given_want rows = given name.Want (value_or 0 rights_reads (first_of (option_text name.Want) rows))
 
 unfoldable pub given_object : List Row → Result (Option (List ℕ)) UsageFault
-given_object rows = given name.Object (value_if guid_reads (first_of (codes "object") rows))
+given_object rows = given name.Object (value_if guid_reads (first_of (option_text name.Object) rows))
 
 -- an integrity level: one to ten decimal digits below 2 ^ 32
 abbrev pub level_reads : Text → Option ℕ
@@ -132,20 +117,20 @@ level_reads text = if nat_lt 0 (length text) && nat_le (length text) 10 then num
 
 -- none where the option is left out
 unfoldable pub given_level : List Row → Result (Option ℕ) UsageFault
-given_level rows = given name.Level (value_if level_reads (first_of (codes "level") rows))
+given_level rows = given name.Level (value_if level_reads (first_of (option_text name.Level) rows))
 
 -- a desired mask on a type of object, and the rest of what is asked, or why nothing can be
 unfoldable pub asked :
     GenericMapping → ℕ → Option (List ℕ) → Option SecurityId → List Row → Result Asked UsageFault
 asked mapping want object principal rows =
-    unless (option_map Unasked (ask_fault want (is_set (codes "maximum") rows))) (record {
+    unless (option_map Unasked (ask_fault want (is_set name.Maximum rows))) (record {
       wanted = wanted_of mapping want;
-      maximum = is_set (codes "maximum") rows || asks_maximum want;
+      maximum = is_set name.Maximum rows || asks_maximum want;
       mapping = mapping;
       object = object;
       principal_self = principal;
-      security = is_set (codes "security") rows;
-      take_ownership = is_set (codes "take-ownership") rows;
+      security = is_set name.Security rows;
+      take_ownership = is_set name.TakeOwnership rows;
     })
 
 -- ---- what `derive` makes, and for whom
@@ -157,7 +142,7 @@ target_reads text =
     else None
 
 unfoldable pub given_kind : List Row → Result Target UsageFault
-given_kind rows = given name.Kind (value_needed target_reads (first_of (codes "kind") rows))
+given_kind rows = given name.Kind (value_needed target_reads (first_of (option_text name.Kind) rows))
 
 -- the owner or the group of what is made, a SID that may not be left out
 unfoldable pub needed_sid : OptionName → Option SecurityId → List Row → Result SecurityId UsageFault
@@ -220,7 +205,7 @@ derive_own domain rows = do
   Ok (record {
     act = Derive (record { target = kind; owner = owner; group = group; mapping = mapping }) target;
     holder = nobody;
-    creator = first_of (codes "creator") rows;
+    creator = first_of (option_text name.Creator) rows;
   })
 
 abbrev pub command_own : CommandName → Option SecurityId → List Row → Result Own UsageFault
@@ -243,7 +228,7 @@ command_chosen command rows = do
   source ← given_source rows
   own ← command_own command domain rows
   Ok (record {
-    job = record { source = source; act = own.act; domain = domain; numeric = is_set (codes "numeric") rows };
+    job = record { source = source; act = own.act; domain = domain; numeric = is_set name.Numeric rows };
     holder = own.holder;
     creator = own.creator;
   })

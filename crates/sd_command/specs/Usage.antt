@@ -3,7 +3,8 @@ use Rattle.std.specs.Prelude.{◌++◌, codes}
 use Rattle.clap.specs.Words.{Text}
 use Rattle.sd_check.specs.declared.ask.AskFault.{AskFault}
 use Rattle.sd_check.specs.declared.ask.AskFault.TheVariants.{EmptyRequest, ReservedBits}
-use Rattle.sd_command.specs.Settings.{option_text}
+use Rattle.sd_command.specs.CommandLine.{option_text}
+use Rattle.sd_command.specs.declared.options.OptionName.{OptionName}
 use Rattle.sd_command.specs.declared.settings.UsageFault.{UsageFault}
 use Rattle.sd_command.specs.declared.settings.UsageFault.TheVariants.{NoCommand, Unasked, Value}
 
@@ -11,11 +12,15 @@ use Rattle.sd_command.specs.declared.settings.UsageFault.TheVariants.{NoCommand,
 abbrev pub fault_line : Text → Text
 fault_line text = codes "sdtool: " ++ text ++ codes "\n"
 
+-- the value of an option does not read
+abbrev pub value_line : OptionName → Text
+value_line option = fault_line (codes "usage: --" ++ option_text option)
+
 abbrev pub ask_text : AskFault → Text
 ask_text EmptyRequest = codes "50 empty-request"
 ask_text ReservedBits = codes "51 reserved-bits"
 
 abbrev pub usage_line : UsageFault → Text
 usage_line NoCommand = fault_line (codes "usage")
-usage_line (Value option) = fault_line (codes "usage: --" ++ option_text option)
+usage_line (Value option) = value_line option
 usage_line (Unasked fault) = fault_line (codes "error " ++ ask_text fault)

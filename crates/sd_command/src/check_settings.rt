@@ -1,16 +1,16 @@
-// What the matches of `check` settle.
+//! What the matches of `check` settle.
 ghost use Rattle.std.specs.Prelude.{◌≡◌, [], None, IfOk};
 ghost use Rattle.std.specs.Option.{option_copied};
 ghost use Rattle.clap.specs.Words.{found_of, rows_of};
 ghost use Rattle.sd_ace.specs.GuidText.{guid_reads};
 ghost use Rattle.sd_rights.specs.Rights.{rights_reads};
-ghost use Rattle.sd_command.specs.Inner.Adding.{gives};
 ghost use Rattle.sd_command.specs.Settings as specs;
+ghost use Rattle.sd_command.specs.Inner.Adding.{gives};
 ghost use Rattle.sd_command.specs.Inner.Choosing.{own_with};
 
+use crate::options::OptionName;
 use crate::settings::{
-    OptionName, Own, UsageFault, given_mapping, given_sid, is_set, text_of, value_of,
-    without_creator,
+    Own, UsageFault, given_mapping, given_sid, is_set, text_of, value_of, without_creator,
 };
 use crate::token_text::add_entries;
 use clap::ArgMatches;
@@ -62,7 +62,7 @@ fn given_token(
         ≡ specs.given_token (option_copied domain.entry) (rows_of (found_of matches.now)) }
     ensures compared { token.new.compared ≡ token.old.compared }
 {
-    match text_of(matches, "token") {
+    match text_of(matches, OptionName::Token) {
         Some(text) => match add_entries(text, domain, token) {
             Some(()) => Ok(()),
             None => Err(UsageFault::Value(OptionName::Token)),
@@ -127,10 +127,10 @@ fn asked(
 ) -> Result<Ask, UsageFault>
     ensures { result ≡ specs.asked mapping want object principal (rows_of (found_of matches.now)) }
 {
-    let maximum = is_set(matches, "maximum");
+    let maximum = is_set(matches, OptionName::Maximum);
     let privileges = Privileges {
-        security: is_set(matches, "security"),
-        take_ownership: is_set(matches, "take-ownership"),
+        security: is_set(matches, OptionName::Security),
+        take_ownership: is_set(matches, OptionName::TakeOwnership),
     };
     match Ask::new(want, maximum, mapping, object, principal, privileges) {
         Ok(ask) => Ok(ask),

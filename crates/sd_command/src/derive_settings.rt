@@ -1,16 +1,15 @@
-// What the matches of `derive` settle.
+//! What the matches of `derive` settle.
 ghost use Rattle.std.specs.Prelude.{◌≡◌, None, IfOk, IfSome, option_map};
 ghost use Rattle.std.specs.Option.{option_copied};
 ghost use Rattle.clap.specs.Words.{found_of, rows_of};
-ghost use Rattle.sd_command.specs.Inner.Adding.{gives};
-ghost use Rattle.sd_command.specs.Inner.Choosing.{own_with};
+ghost use Rattle.sd_answer.specs.Task.{IsDerivation};
 ghost use Rattle.sd_command.specs.Settings as specs;
 ghost use Rattle.sd_command.specs.Settings.{nobody};
-ghost use Rattle.sd_answer.specs.Task.{IsDerivation};
+ghost use Rattle.sd_command.specs.Inner.Adding.{gives};
+ghost use Rattle.sd_command.specs.Inner.Choosing.{own_with};
 
-use crate::settings::{
-    OptionName, Own, UsageFault, given_mapping, given_sid, given_target, text_of, value_of,
-};
+use crate::options::OptionName;
+use crate::settings::{Own, UsageFault, given_mapping, given_sid, given_target, text_of, value_of};
 use clap::ArgMatches;
 use sd_answer::Act;
 use sd_inherit::{Plan, Target};
@@ -40,7 +39,7 @@ pub(crate) fn derive_own<'a>(
     };
     Ok(Own {
         act: Act::Derive(plan, form),
-        creator: text_of(matches, OptionName::Creator.text()),
+        creator: text_of(matches, OptionName::Creator),
     })
 }
 

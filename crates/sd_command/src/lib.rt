@@ -4,11 +4,13 @@
 mod check_settings;
 mod command_line;
 mod derive_settings;
+mod options;
 mod parse;
 mod program;
 mod settings;
 mod token_text;
 
+pub use options::OptionName;
 pub use parse::{Refusal, parse_words};
 pub use program::command;
-pub use settings::{Choice, OptionName, UsageFault, choose};
+pub use settings::{Choice, UsageFault, choose};

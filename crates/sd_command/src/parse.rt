@@ -1,10 +1,10 @@
-// What `clap` makes of the words.
+//! What `clap` makes of the words.
 ghost use Rattle.std.specs.Prelude.{◌≡◌, IfOk, IfErr, MatchResult, true, map, []};
 ghost use Rattle.std.specs.String.{string_bytes};
 ghost use Rattle.clap.specs.Words.{subcommand_of, subcommand_rows_of, takes, fault_of};
 ghost use Rattle.sd_command.specs.CommandLine.{line};
-ghost use Rattle.sd_command.specs.declared.parse.Refusal.TheVariants.{NoMemory};
 ghost use Rattle.sd_command.specs.Refusing.{RefusedBy};
+ghost use Rattle.sd_command.specs.declared.parse.Refusal.TheVariants.{NoMemory};
 ghost use Rattle.sd_command.specs.Inner.Refused.{RefusedFor};
 
 use crate::command_line::command_line;

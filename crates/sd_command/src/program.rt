@@ -1,10 +1,10 @@
-// The whole program over a reader and two writers.
+//! The whole program over a reader and two writers.
 ghost use Rattle.std.specs.Prelude.{◌≡◌, true, map, codes};
 ghost use Rattle.std.specs.String.{string_bytes};
 ghost use Rattle.clap.specs.Words.{takes};
 ghost use Rattle.sd_command.specs.CommandLine.{line};
-ghost use Rattle.sd_command.specs.Usage.{fault_line};
 ghost use Rattle.sd_command.specs.Endings as ends;
+ghost use Rattle.sd_command.specs.Usage.{fault_line};
 ghost use Rattle.sd_command.specs.Inner.Preparing as steps;
 
 use crate::derive_settings::give_creator;

@@ -1,17 +1,19 @@
-// What the matches of a command line settle.
+//! What the matches of a command line settle.
 ghost use Rattle.std.specs.Prelude.{◌≡◌, None, option_map, IfOk, IfSome};
-ghost use Rattle.clap.specs.Words.{first_of, found_of, rows_of, subcommand_rows_of};
-ghost use Rattle.sd_command.specs.Usage.{usage_line};
 ghost use Rattle.std.specs.Fn.{FnOnceReturnsAt};
 ghost use Rattle.std.specs.Option.{option_copied};
-ghost use Rattle.sd_command.specs.Inner.Given.{GivenBy};
-ghost use Rattle.sd_command.specs.Settings as specs;
-ghost use Rattle.sd_command.specs.Settings.{nobody, option_text};
-ghost use Rattle.sd_command.specs.Inner.Choosing.{choice_with, own_with};
+ghost use Rattle.clap.specs.Words.{first_of, found_of, rows_of, subcommand_rows_of};
 ghost use Rattle.sd_answer.specs.Task.{IsDerivation};
+ghost use Rattle.sd_command.specs.CommandLine.{option_text};
+ghost use Rattle.sd_command.specs.Settings as specs;
+ghost use Rattle.sd_command.specs.Settings.{nobody};
+ghost use Rattle.sd_command.specs.Usage.{usage_line};
+ghost use Rattle.sd_command.specs.Inner.Choosing.{choice_with, own_with};
+ghost use Rattle.sd_command.specs.Inner.Given.{GivenBy};
 
 use crate::check_settings::check_own;
 use crate::derive_settings::derive_own;
+use crate::options::OptionName;
 use crate::token_text::sid_under;
 use clap::ArgMatches;
 use sd_answer::{Act, Form, Job};
@@ -20,47 +22,6 @@ use sd_rights::Mapping;
 use sd_sid::Sid;
 use sd_text::MOST_SUBS;
 use sd_token::Token;
-
-/// The options whose values are read.
-#[derive(Clone, Copy, Debug, PartialEq, Eq)]
-pub enum OptionName {
-    Domain,
-    From,
-    To,
-    Type,
-    Kind,
-    Owner,
-    Group,
-    Token,
-    Want,
-    Object,
-    PrincipalSelf,
-    Level,
-    Creator,
-}
-
-impl OptionName {
-    // The word that names it, behind two dashes.
-    pub(crate) fn text(self) -> &'static str
-        ensures { result.now ≡ option_text self }
-    {
-        match self {
-            OptionName::Domain => "domain",
-            OptionName::From => "from",
-            OptionName::To => "to",
-            OptionName::Type => "type",
-            OptionName::Kind => "kind",
-            OptionName::Owner => "owner",
-            OptionName::Group => "group",
-            OptionName::Token => "token",
-            OptionName::Want => "want",
-            OptionName::Object => "object",
-            OptionName::PrincipalSelf => "self",
-            OptionName::Level => "level",
-            OptionName::Creator => "creator",
-        }
-    }
-}
 
 // The commands.
 #[derive(Clone, Copy)]
@@ -109,19 +70,7 @@ impl UsageFault {
     {
         match self {
             UsageFault::NoCommand => "sdtool: usage\n",
-            UsageFault::Value(OptionName::Domain) => "sdtool: usage: --domain\n",
-            UsageFault::Value(OptionName::From) => "sdtool: usage: --from\n",
-            UsageFault::Value(OptionName::To) => "sdtool: usage: --to\n",
-            UsageFault::Value(OptionName::Type) => "sdtool: usage: --type\n",
-            UsageFault::Value(OptionName::Kind) => "sdtool: usage: --kind\n",
-            UsageFault::Value(OptionName::Owner) => "sdtool: usage: --owner\n",
-            UsageFault::Value(OptionName::Group) => "sdtool: usage: --group\n",
-            UsageFault::Value(OptionName::Token) => "sdtool: usage: --token\n",
-            UsageFault::Value(OptionName::Want) => "sdtool: usage: --want\n",
-            UsageFault::Value(OptionName::Object) => "sdtool: usage: --object\n",
-            UsageFault::Value(OptionName::PrincipalSelf) => "sdtool: usage: --self\n",
-            UsageFault::Value(OptionName::Level) => "sdtool: usage: --level\n",
-            UsageFault::Value(OptionName::Creator) => "sdtool: usage: --creator\n",
+            UsageFault::Value(option) => option.row().fault_line,
             UsageFault::Unasked(AskFault::EmptyRequest) => "sdtool: error 50 empty-request\n",
             UsageFault::Unasked(AskFault::ReservedBits) => "sdtool: error 51 reserved-bits\n",
         }
@@ -173,7 +122,7 @@ fn command_choice<'a>(
         Ok(own) => own,
         Err(fault) => return Err(fault),
     };
-    let numeric = is_set(matches, "numeric");
+    let numeric = is_set(matches, OptionName::Numeric);
     Ok(Choice {
         job: Job {
             source,
@@ -238,7 +187,7 @@ pub(crate) fn value_of<T, R: FnOnce(&str) -> Option<T>>(
     ensures { GivenBy (λ text value. FnOnceReturnsAt R.FnOnce read text value) option
         (first_of (option_text option) (rows_of (found_of matches.now))) result }
 {
-    match text_of(matches, option.text()) {
+    match text_of(matches, option) {
         Some(text) => match read(text) {
             Some(value) => Ok(Some(value)),
             None => Err(UsageFault::Value(option)),
@@ -334,7 +283,7 @@ pub(crate) fn given_sid(
     ensures { result
         ≡ specs.given_sid option (option_copied domain.entry) (rows_of (found_of matches.now)) }
 {
-    match text_of(matches, option.text()) {
+    match text_of(matches, option) {
         Some(text) => match sid_under(text.as_bytes(), domain) {
             Some(sid) => Ok(Some(sid)),
             None => Err(UsageFault::Value(option)),
@@ -345,18 +294,19 @@ pub(crate) fn given_sid(
 
 // A flag's text is `true` where it is given, and else `false`.
 #[tactic(auto, unfolding(crate::specs::Settings::is_set))]
-pub(crate) fn is_set(matches: &ArgMatches<'_>, id: &str) -> bool
-    ensures { result ≡ specs.is_set id.now (rows_of (found_of matches.now)) }
+pub(crate) fn is_set(matches: &ArgMatches<'_>, flag: OptionName) -> bool
+    ensures { result ≡ specs.is_set flag (rows_of (found_of matches.now)) }
 {
-    match text_of(matches, id) {
+    match text_of(matches, flag) {
         Some(text) => text == "true",
         None => false,
     }
 }
 
 // The text of an option.
-pub(crate) fn text_of<'a>(matches: &ArgMatches<'a>, id: &str) -> Option<&'a str>
-    ensures { option_map (λ s. s.now) result ≡ first_of id.now (rows_of (found_of matches.now)) }
+pub(crate) fn text_of<'a>(matches: &ArgMatches<'a>, option: OptionName) -> Option<&'a str>
+    ensures { option_map (λ s. s.now) result
+        ≡ first_of (option_text option) (rows_of (found_of matches.now)) }
 {
-    matches.get_str(id)
+    matches.get_str(option.text())
 }

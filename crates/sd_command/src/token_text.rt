@@ -1,8 +1,8 @@
-// The text of a token: SIDs parted by commas.
+//! The text of a token: SIDs parted by commas.
 ghost use Rattle.std.specs.Prelude.{◌≡◌, [], option_map};
 ghost use Rattle.std.specs.Option.{option_copied};
-ghost use Rattle.sd_command.specs.Inner.Adding.{with_entry};
 ghost use Rattle.sd_command.specs.TokenText as specs;
+ghost use Rattle.sd_command.specs.Inner.Adding.{with_entry};
 
 use sd_sid::Sid;
 use sd_token::{EntryKind, Token};

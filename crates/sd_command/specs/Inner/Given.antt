@@ -3,7 +3,7 @@
 use Rattle.std.specs.Prelude.{◌≡◌, Option, Some, None, Result, Ok, option_map}
 use Rattle.clap.specs.Words.{Text}
 use Rattle.sd_command.specs.Settings.{given}
-use Rattle.sd_command.specs.declared.settings.OptionName.{OptionName}
+use Rattle.sd_command.specs.declared.options.OptionName.{OptionName}
 use Rattle.sd_command.specs.declared.settings.UsageFault.{UsageFault}
 
 abbrev pub GivenBy :
