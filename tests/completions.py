@@ -2,7 +2,8 @@
 """completions.py PROGRAM
 
 Compares the completions of packaging/completions/ with the program's help: each shell's file offers for each command
-exactly the options that the command's help lists, and exactly the commands that help lists.
+exactly the options that the command's help lists, with a value exactly if help names one, and exactly the commands
+that help lists.
 The last line is 'N passed, M failed'.
 """
 import argparse
@@ -31,16 +32,22 @@ def commands_of(program):
     return re.findall(r"^  ([a-z]+)\b", listed.partition("\n\n")[0], re.M)
 
 
+def marked(name, has_value):
+    """An option's name, with a sign if it has a value."""
+    return f"{name}=" if has_value else name
+
+
 def options_of(program, command):
     _, _, listed = help_of(program, command).partition("Options:\n")
-    return set(re.findall(r"^ +(?:-\w, )?--([a-z][a-z-]*)", listed, re.M))
+    return {marked(*found) for found in re.findall(r"^ +(?:-\w, )?--([a-z][a-z-]*)( <)?", listed, re.M)}
 
 
 def of_bash(command):
-    """The options of a command, from the one line that sets them."""
+    """The options of a command, from the one line that sets them. Those after which a value comes are words of a case."""
     text = (FOLDER / "sdtool.bash").read_text(encoding="utf-8")
     found = re.search(rf"^ +{command}\) options='([^']*)'", text, re.M)
-    return set(OPTION.findall(found[1])) if found else set()
+    valued = OPTION.findall(" ".join(re.findall(r"^ +(--[^)]*)\)", text, re.M)))
+    return {marked(name, name in valued) for name in OPTION.findall(found[1])} if found else set()
 
 
 def of_zsh(command):
@@ -48,7 +55,8 @@ def of_zsh(command):
     text = (FOLDER / "_sdtool").read_text(encoding="utf-8")
     common = re.search(r"^common=\(\n(.*?)^\)", text, re.M | re.S)[1]
     own = re.search(rf"^    {command}\)\n(.*?)^        ;;", text, re.M | re.S)
-    return set(re.findall(r"^ +'--([a-z-]+)\[", common + (own[1] if own else ""), re.M))
+    rows = re.findall(r"^ +'--([a-z-]+)\[[^]]*\](:?)", common + (own[1] if own else ""), re.M)
+    return {marked(*row) for row in rows}
 
 
 def of_fish(command):
@@ -59,7 +67,7 @@ def of_fish(command):
     for row in text.replace("$every", every).splitlines():
         option, condition = re.search(r" -l ([a-z-]+)", row), re.search(r"from ([a-z ]+)[\"']", row)
         if row.startswith("complete") and option and (condition is None or command in condition[1].split()):
-            options.add(option[1])
+            options.add(marked(option[1], " -x" in row))
     return options
 
 
