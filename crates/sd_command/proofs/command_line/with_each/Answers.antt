@@ -1,6 +1,5 @@
-use Rattle.std.proofs.Common.{ap, ap₂, sym, ◌∙◌, ◌||◌, arith, rules}
-use Rattle.clap.specs.Words.{app_of, with_rule}
-use Rattle.sd_command.specs.CommandLine.{with_options}
+use Rattle.std.proofs.Common.{ap₂, sym, ◌∙◌, ◌||◌, arith}
+use Rattle.clap.specs.Words.{with_rule}
 use Rattle.sd_command.proofs.LineLemmas.{all-there, none-more, one-more}
 use Rattle.sd_command.proofs.command_line.with_each.Goals as goal
 
