@@ -1,6 +1,6 @@
 #!/usr/bin/env bash
-# Builds Debian packages from what `make install` installs: the program with its man page, documents and completions, the
-# shared library, and what a C compiler needs to use it. out/PACKAGE_VERSION_ARCHITECTURE.deb
+# Builds Debian packages from what `make install` installs, the program with its man page, documents and completions, the
+# shared library, and what a C compiler needs to use it; and from the Python module. out/PACKAGE_VERSION_ARCHITECTURE.deb
 set -eu
 cd "$(dirname "$0")/.."
 version=$(sed -n 's/^Version: //p' packaging/control)
@@ -11,6 +11,7 @@ trap 'rm -rf "$work"' EXIT
 program=$work/sdtool
 library=$work/libsdtool0
 development=$work/libsdtool-dev
+module=$work/python3-sdtool/usr/lib/python3/dist-packages/sdtool
 
 # Moves what the second package has from the tree of the first.
 move() {
@@ -28,7 +29,7 @@ control() {
         depends="libc6 (>= $(grep -aoE 'GLIBC_[0-9.]+' "$2" | sort -Vu | tail -n 1 | cut -d_ -f2))"
     fi
     awk -v RS= -v ORS='\n' -v package="$1" 'NR == 1 || $2 == package' packaging/control |
-        sed -e "/^Package:/a Architecture: $architecture" -e "s/\${shlibs:Depends}/$depends/" \
+        sed -e "s/^Architecture: any/Architecture: $architecture/" -e "s/\${shlibs:Depends}/$depends/" \
             -e "s/\${binary:Version}/$version/"
 }
 
@@ -52,7 +53,8 @@ build() {
     control "$package" "${2-}" > "$tree/DEBIAN/control"
     (cd "$tree" && find usr -type f -print0 | sort -z | xargs -0 md5sum > DEBIAN/md5sums)
     chmod -R u=rwX,go=rX "$tree"
-    dpkg-deb --root-owner-group --build "$tree" "out/${package}_${version}_$architecture.deb"
+    dpkg-deb --root-owner-group --build "$tree" \
+        "out/${package}_${version}_$(sed -n 's/^Architecture: //p' "$tree/DEBIAN/control").deb"
 }
 
 "${MAKE:-make}" --no-print-directory install PREFIX=/usr LIBDIR="/$libraries" DESTDIR="$program" > /dev/null
@@ -65,6 +67,8 @@ move "$program" "$library" "$libraries"
 move "$library" "$development" "$libraries"/{libsdtool.a,libsdtool.so,pkgconfig}
 move "$program" "$development" usr/include
 rmdir "$program/usr/lib"
+install -d "$module"
+install -m 644 python/sdtool/*.py python/sdtool/py.typed "$module"
 
 # What other packages that link to the library depend on, and that the system finds the library.
 install -d "$library/DEBIAN"
@@ -76,3 +80,4 @@ mkdir -p out
 build sdtool "$program/usr/bin/sdtool"
 build libsdtool0 "$library/$libraries/$soname"
 build libsdtool-dev
+build python3-sdtool

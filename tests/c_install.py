@@ -41,6 +41,7 @@ FILES_OF_PACKAGES = {
     "sdtool": {"sdtool", "sdtool.1.gz", "_sdtool", "sdtool.fish"},
     "libsdtool0": {f"libsdtool.so.{VERSION}", "libsdtool.so.0"},
     "libsdtool-dev": {"sdtool.h", "libsdtool.a", "libsdtool.so", "sdtool.pc"},
+    "python3-sdtool": {"__init__.py", "py.typed"},
 }
 EXPECTED = f"{VERSION}\n{LAYOUT} {SDDL}\nerror 20\n"
 
@@ -151,8 +152,7 @@ def test_packages(count, folder):
         print("skipped: there is no dpkg-deb or no dpkg-architecture")
         return
     make("deb")
-    architecture = ran(["dpkg", "--print-architecture"])[0].strip()
-    packages = [TOP / f"out/{name}_{VERSION}_{architecture}.deb" for name in FILES_OF_PACKAGES]
+    packages = [next((TOP / "out").glob(f"{name}_{VERSION}_*.deb")) for name in FILES_OF_PACKAGES]
     root = folder / "packages"
     for path, wanted in zip(packages, FILES_OF_PACKAGES.values()):
         printed, status = ran(["dpkg-deb", "-x", path, root])
@@ -161,6 +161,9 @@ def test_packages(count, folder):
         files = {pathlib.Path(name).name for name in listed if "/doc/" not in name and not name.endswith("/")}
         count.add(wanted == files, f"{path} has {files}")
     libraries = next(root.rglob("libsdtool.a")).parent
+    answer = ran([sys.executable, "-B", "-c", "import sdtool; print(sdtool.version())"],
+                 env={**os.environ, "PYTHONPATH": str(next(root.rglob("dist-packages"))), "LD_LIBRARY_PATH": str(libraries)})
+    count.add(answer == (VERSION + "\n", 0), f"python3-sdtool: {answer}")
     test_programs(count, "make deb", folder, environment(root, libraries))
     if shutil.which("lintian"):
         printed, status = ran(["lintian", "--allow-root", "--fail-on", "error,warning", *packages])
