@@ -1,5 +1,6 @@
 -- Access control entries (MS-DTYP 2.4.4): what one is, and how many bytes it takes.
-use Rattle.std.specs.Prelude.{◌≡◌, ◌<◌, ℕ, ◌+◌, ◌/◌, ◌%◌, ◌^◌, Bool, true, false, if◌then◌else◌, List, length, Option, Some, None, IfSome}
+use Rattle.std.specs.Prelude.{◌≡◌, ◌<◌, ℕ, ◌+◌, ◌/◌, ◌%◌, ◌^◌, Bool, true, false, if◌then◌else◌, List, length, Option}
+use Rattle.std.specs.Prelude.{Some, None, IfSome}
 use Rattle.std.specs.List.{All}
 use Rattle.sd_sid.specs.Sid.{SecurityId, IsSid, sid_size}
 use Rattle.sd_kinds.specs.Kinds.{is_object}

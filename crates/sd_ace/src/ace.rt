@@ -37,11 +37,14 @@ impl Model for Ace {
 
     ghost Value = { AccessControlEntry };
 
-    ghost view = { λ a. record { kind = a.kind; flags = a.flags; mask = a.mask; object = a.object; inherited = a.inherited; sid = a.sid } };
+    ghost view = { λ a.
+        record { kind = a.kind; flags = a.flags; mask = a.mask; object = a.object; inherited = a.inherited; sid = a.sid } };
 
-    ghost invariant = { λ a. (a.flags < 256) × (a.flags / 0x20 % 2 ≡ 0) × (a.mask < 2 ^ 32) × GuidsFit (is_object a.kind) a.object a.inherited };
+    ghost invariant = { λ a. (a.flags < 256) × (a.flags / 0x20 % 2 ≡ 0) × (a.mask < 2 ^ 32)
+        × GuidsFit (is_object a.kind) a.object a.inherited };
 
-    ghost inverse = { λ a. record { kind = a.kind; flags = a.flags; mask = a.mask; object = a.object; inherited = a.inherited; sid = a.sid } };
+    ghost inverse = { λ a.
+        record { kind = a.kind; flags = a.flags; mask = a.mask; object = a.object; inherited = a.inherited; sid = a.sid } };
 }
 
 impl Ace {
@@ -56,7 +59,8 @@ impl Ace {
         sid: Sid,
     ) -> Option<Ace>
         ensures found { IsSome result ↔ ((flags / 0x20 % 2 ≡ 0) × GuidsFit (is_object kind) object inherited) }
-        ensures value { IfSome result (λ a. a ≡ record { kind = kind; flags = flags; mask = mask; object = object; inherited = inherited; sid = sid }) }
+        ensures value { IfSome result (λ a. a
+            ≡ record { kind = kind; flags = flags; mask = mask; object = object; inherited = inherited; sid = sid }) }
     {
         if flags & UNUSED_FLAG != 0 || !guids_fit(kind, &object, &inherited) {
             return None;

@@ -1,5 +1,6 @@
 -- The masks of a check are those of the verdict.
-use Rattle.std.proofs.Common.{◌≡◌, ◌<◌, ◌≤◌, ℕ, zero, suc, ◌+◌, ◌-◌, ◌*◌, ◌^◌, Bool, true, false, not, ◌&&◌, ◌||◌, cond, eqb, List, length, take, refl, sym, ap, ◌∙◌, ⊎_elim, arith, lit<, bit_and, bit_or}
+use Rattle.std.proofs.Common.{◌≡◌, ◌<◌, ◌≤◌, ℕ, zero, suc, ◌+◌, ◌-◌, ◌*◌, ◌^◌, Bool, true, false, not, ◌&&◌, ◌||◌, cond}
+use Rattle.std.proofs.Common.{eqb, List, length, take, refl, sym, ap, ◌∙◌, ⊎_elim, arith, lit<, bit_and, bit_or}
 use Rattle.std.specs.List.{list_any}
 use Rattle.std.proofs.lemmas.Bool.{agree_below, agree_below_at, eq-eqb, eqb-true, ne_eqb, or_cases, or_left, or_right}
 use Rattle.std.proofs.lemmas.Nat.{and_le_l, mul-le, or_lt, pow_pos}
@@ -10,12 +11,14 @@ use Rattle.sd_check.specs.Acl.{listed_aces}
 use Rattle.sd_check.specs.Ask.{AreRights, Asked}
 use Rattle.sd_check.specs.Granted.{decides, granted, is_allowed, is_open, is_owned, needs_no_ace}
 use Rattle.sd_check.specs.Need.{check_bound, in_question, least, need, owner_matters}
-use Rattle.sd_check.specs.Inner.Scan.{HasGranted, asks_owner, given_mask, left_mask, permitted_mask, question_of, scan_need, undecided_of}
+use Rattle.sd_check.specs.Inner.Scan.{HasGranted, asks_owner, given_mask, left_mask, permitted_mask, question_of}
+use Rattle.sd_check.specs.Inner.Scan.{scan_need, undecided_of}
 use Rattle.sd_check.specs.Label.{is_left, is_lower, label, label_allows}
 use Rattle.sd_check.specs.declared.label.Label.{Label}
 use Rattle.sd_check.specs.Verdict.{missing, verdict, won}
 use Rattle.sd_check.specs.declared.verdict.Verdict.TheVariants.{Granted, Denied}
-use Rattle.sd_check.proofs.Masks.{carries-and, carries-or, carries-and_not, carries-mask_if, has_owner_right, is_rights_below}
+use Rattle.sd_check.proofs.Masks.{carries-and, carries-or, carries-and_not, carries-mask_if, has_owner_right}
+use Rattle.sd_check.proofs.Masks.{is_rights_below}
 use Rattle.sd_check.proofs.ScanLaws.{all_below_mono, least_mono}
 
 -- 1. What is granted without an ACE: the four parts of the mask, right by right.

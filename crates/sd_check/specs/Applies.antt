@@ -1,5 +1,6 @@
 -- Which ACEs speak of a token (MS-DTYP 2.5.3.2).
-use Rattle.std.specs.Prelude.{ℕ, Bool, true, false, not, ◌&&◌, if◌then◌else◌, List, [], ◌∷◌, Option, Some, None, unwrap_or}
+use Rattle.std.specs.Prelude.{ℕ, Bool, true, false, not, ◌&&◌, if◌then◌else◌, List, [], ◌∷◌, Option, Some, None}
+use Rattle.std.specs.Prelude.{unwrap_or}
 use Rattle.std.specs.Str.{bytes_eq}
 use Rattle.sd_ace.specs.Ace.{AccessControlEntry}
 use Rattle.sd_text.specs.Bits.{has_bit}

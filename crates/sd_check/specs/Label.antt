@@ -1,5 +1,6 @@
 -- Mandatory labels (MS-DTYP 2.4.4.13): what a token of a lower integrity level may have at most (2.5.3.3).
-use Rattle.std.specs.Prelude.{ℕ, ◌%◌, ◌==◌, nat_lt, Bool, false, not, ◌&&◌, ◌||◌, Option, Some, None, length, slice_index}
+use Rattle.std.specs.Prelude.{ℕ, ◌%◌, ◌==◌, nat_lt, Bool, false, not, ◌&&◌, ◌||◌, Option, Some, None, length}
+use Rattle.std.specs.Prelude.{slice_index}
 use Rattle.std.specs.List.{find}
 use Rattle.sd_ace.specs.Ace.{AccessControlEntry}
 use Rattle.sd_rights.specs.Mapping.{GenericMapping, carries}

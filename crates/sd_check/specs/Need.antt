@@ -1,5 +1,6 @@
 -- How many comparisons a check may need.
-use Rattle.std.specs.Prelude.{ℕ, zero, suc, ◌+◌, ◌*◌, ◌==◌, Bool, true, not, ◌&&◌, ◌||◌, if◌then◌else◌, List, length, take}
+use Rattle.std.specs.Prelude.{ℕ, zero, suc, ◌+◌, ◌*◌, ◌==◌, Bool, true, not, ◌&&◌, ◌||◌, if◌then◌else◌, List, length}
+use Rattle.std.specs.Prelude.{take}
 use Rattle.std.specs.List.{list_any}
 use Rattle.sd_ace.specs.Ace.{AccessControlEntry}
 use Rattle.sd_rights.specs.Mapping.{carries}

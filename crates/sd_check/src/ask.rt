@@ -79,7 +79,8 @@ impl Ask {
         principal_self: Option<Sid>,
         privileges: Privileges,
     ) -> Result<Ask, AskFault>
-        ensures fault { MatchResult result (λ _. ask_fault desired maximum ≡ None) (λ f. ask_fault desired maximum ≡ Some f) }
+        ensures fault { MatchResult result (λ _. ask_fault desired maximum ≡ None)
+            (λ f. ask_fault desired maximum ≡ Some f) }
         ensures value { IfOk result (λ a. a ≡ record {
           wanted = wanted_of mapping desired;
           maximum = maximum || asks_maximum desired;

@@ -16,8 +16,10 @@ use sd_view::{AceView, AclPart, AclView, SdView};
 /// The rights of a mask that the ACEs grant.
 pub fn scan(view: &SdView, token: &mut Token, ask: &Ask, question: u32) -> u32
     requires { question < 2 ^ 25 }
-    ensures rights { (right : ℕ) → carries result right ≡ (carries question right && is_allowed right view.now token.old.holder.entries ask.now) }
-    ensures asks { Asks token.old token.new (scan_need question view.now token.old.holder.entries ask.now (listed_aces view.now.dacl)) }
+    ensures rights { (right : ℕ) → carries result right
+        ≡ (carries question right && is_allowed right view.now token.old.holder.entries ask.now) }
+    ensures asks { Asks token.old token.new
+        (scan_need question view.now token.old.holder.entries ask.now (listed_aces view.now.dacl)) }
 {
     match view.dacl() {
         AclPart::List(acl) => scan_aces(&acl, view, token, ask, question),
@@ -28,7 +30,8 @@ pub fn scan(view: &SdView, token: &mut Token, ask: &Ask, question: u32) -> u32
 // An ACE decides the rights that none before it did; where no right is left, no further ACE is looked at.
 fn scan_aces(acl: &AclView, view: &SdView, token: &mut Token, ask: &Ask, question: u32) -> u32
     requires { question < 2 ^ 25 }
-    ensures rights { (right : ℕ) → carries result right ≡ (carries question right && allows (find (decides right view.now token.old.holder.entries ask.now) acl.now)) }
+    ensures rights { (right : ℕ) → carries result right ≡ (carries question right
+        && allows (find (decides right view.now token.old.holder.entries ask.now) acl.now)) }
     ensures asks { Asks token.old token.new (scan_need question view.now token.old.holder.entries ask.now acl.now) }
 {
     let mut undecided = question;
@@ -48,9 +51,11 @@ fn scan_aces(acl: &AclView, view: &SdView, token: &mut Token, ask: &Ask, questio
 
 // The rights of a mask that the ACE decides. One that has none of them is not compared.
 fn decided(ace: &AceView, view: &SdView, token: &mut Token, ask: &Ask, undecided: u32) -> u32
-    ensures rights { (right : ℕ) → carries result right ≡ (carries undecided right && decides right view.now token.old.holder.entries ask.now ace.now) }
+    ensures rights { (right : ℕ) → carries result right
+        ≡ (carries undecided right && decides right view.now token.old.holder.entries ask.now ace.now) }
     ensures asks { Asks token.old token.new 1 }
-    ensures spared { bit_and undecided (mapped ask.now.mapping ace.now.mask) ≡ 0 → token.new.compared ≡ token.old.compared }
+    ensures spared { bit_and undecided (mapped ask.now.mapping ace.now.mask) ≡ 0
+        → token.new.compared ≡ token.old.compared }
 {
     let rights = undecided & ask.mapping().map(ace.mask());
     if rights == 0 {

@@ -40,7 +40,8 @@ pub fn check(view: &SdView, token: &mut Token, ask: &Ask) -> Verdict
     // Each entry is compared at most once with the owner, and at most once for each ACE that is needed.
     ensures asks { Asks token.old token.new (need view.now token.old.holder.entries ask.now + 1) }
     // Where it does not matter who the owner is, no entry is compared with it.
-    ensures spared { owner_matters view.now ask.now ≡ false → token.new.compared ≤ token.old.compared + need view.now token.old.holder.entries ask.now * length token.old.holder.entries }
+    ensures spared { owner_matters view.now ask.now ≡ false → token.new.compared
+        ≤ token.old.compared + need view.now token.old.holder.entries ask.now * length token.old.holder.entries }
     ensures bound { Compares token.old token.new (check_bound view.now (length token.old.holder.entries)) }
 {
     let granted = granted(view, token, ask);
@@ -59,7 +60,8 @@ pub fn check(view: &SdView, token: &mut Token, ask: &Ask) -> Verdict
 fn granted(view: &SdView, token: &mut Token, ask: &Ask) -> u32
     ensures rights { HasGranted view.now token.old.holder ask.now result }
     ensures asks { Asks token.old token.new (need view.now token.old.holder.entries ask.now + 1) }
-    ensures spared { owner_matters view.now ask.now ≡ false → token.new.compared ≤ token.old.compared + need view.now token.old.holder.entries ask.now * length token.old.holder.entries }
+    ensures spared { owner_matters view.now ask.now ≡ false → token.new.compared
+        ≤ token.old.compared + need view.now token.old.holder.entries ask.now * length token.old.holder.entries }
 {
     let question = question(ask);
     let permitted = permitted(view, token, ask);

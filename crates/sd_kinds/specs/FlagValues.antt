@@ -1,7 +1,8 @@
 -- The flags of an ACE, written out: numbers as in MS-DTYP 2.4.4.1, names as in 2.5.1.1 (ace-flag-string).
 use Rattle.std.specs.Prelude.{◌≡◌, [], ◌∷◌, codes, map}
 use Rattle.sd_text.specs.Names.{named_row}
-use Rattle.sd_kinds.specs.declared.flags.TheConstants.{CONTAINER_INHERIT, FAILED_ACCESS, FLAGS, INHERITED, INHERIT_ONLY, NO_PROPAGATE, OBJECT_INHERIT, ONWARD, SUCCESSFUL_ACCESS}
+use Rattle.sd_kinds.specs.declared.flags.TheConstants.{CONTAINER_INHERIT, FAILED_ACCESS, FLAGS, INHERITED, INHERIT_ONLY}
+use Rattle.sd_kinds.specs.declared.flags.TheConstants.{NO_PROPAGATE, OBJECT_INHERIT, ONWARD, SUCCESSFUL_ACCESS}
 
 -- the table of names has these rows, in the order in which they are printed
 unfoldable pub FlagNames : Type 0

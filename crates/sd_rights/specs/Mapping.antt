@@ -1,6 +1,9 @@
 -- Access masks (MS-DTYP 2.4.3), right by right, and what their generic rights mean.
 use Rattle.std.specs.Prelude.{◌<◌, ℕ, ◌/◌, ◌%◌, ◌^◌, ◌==◌, Bool, if◌then◌else◌, bit_or}
-use Rattle.sd_rights.specs.declared.mapping.TheConstants.{DS_GENERIC_ALL, DS_GENERIC_EXECUTE, DS_GENERIC_READ, DS_GENERIC_WRITE, FILE_ALL_ACCESS, FILE_GENERIC_EXECUTE, FILE_GENERIC_READ, FILE_GENERIC_WRITE, KEY_ALL_ACCESS, KEY_EXECUTE, KEY_READ, KEY_WRITE}
+use Rattle.sd_rights.specs.declared.mapping.TheConstants.{DS_GENERIC_ALL, DS_GENERIC_EXECUTE, DS_GENERIC_READ}
+use Rattle.sd_rights.specs.declared.mapping.TheConstants.{DS_GENERIC_WRITE, FILE_ALL_ACCESS, FILE_GENERIC_EXECUTE}
+use Rattle.sd_rights.specs.declared.mapping.TheConstants.{FILE_GENERIC_READ, FILE_GENERIC_WRITE, KEY_ALL_ACCESS}
+use Rattle.sd_rights.specs.declared.mapping.TheConstants.{KEY_EXECUTE, KEY_READ, KEY_WRITE}
 
 -- the mask has the right, a bit by its number
 abbrev pub carries : ℕ → ℕ → Bool

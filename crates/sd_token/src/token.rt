@@ -1,6 +1,7 @@
 //! Tokens (MS-DTYP 2.5.2).
 
-ghost use Rattle.std.specs.Prelude.{◌≡◌, ◌≤◌, ◌<◌, ◌↔◌, ◌++◌, [], ◌∷◌, None, length, slice_index_or, IfOk, OnOk, OnErr, IsErr};
+ghost use Rattle.std.specs.Prelude.{◌≡◌, ◌≤◌, ◌<◌, ◌↔◌, ◌++◌, [], ◌∷◌, None, length, slice_index_or, IfOk, OnOk, OnErr};
+ghost use Rattle.std.specs.Prelude.{IsErr};
 ghost use Rattle.sd_sink.specs.Counts.{counted};
 ghost use Rattle.sd_text.specs.Limits.{most_entries};
 ghost use Rattle.sd_sid.specs.SidText.{same_sid};
@@ -53,7 +54,8 @@ impl Model for Token {
       room = vec_capacity t.entries;
     } };
 
-    ghost invariant = { λ t. (most_entries ≤ vec_capacity t.entries) × (most_entries ≤ vec_capacity t.keys) × (vec_len t.entries ≤ most_entries) × (t.keys.items ≡ keys_of t.entries.items) };
+    ghost invariant = { λ t. (most_entries ≤ vec_capacity t.entries) × (most_entries ≤ vec_capacity t.keys)
+        × (vec_len t.entries ≤ most_entries) × (t.keys.items ≡ keys_of t.entries.items) };
 }
 
 impl Token {
@@ -80,7 +82,8 @@ impl Token {
     /// Where it has 1,024 entries, nothing changes.
     pub fn add(&mut self, sid: Sid, kind: EntryKind) -> Result<(), TokenFull>
         ensures full { IsErr result ↔ (most_entries ≤ length self.old.holder.entries) }
-        ensures added { OnOk result (self.new.holder ≡ record self.old.holder { entries = self.old.holder.entries ++ (sid, kind) ∷ [] }) }
+        ensures added { OnOk result
+            (self.new.holder ≡ record self.old.holder { entries = self.old.holder.entries ++ (sid, kind) ∷ [] }) }
         ensures unchanged { OnErr result (self.new ≡ self.old) }
         ensures compared { self.new.compared ≡ self.old.compared }
         ensures room { self.old.room ≤ self.new.room }
@@ -131,7 +134,8 @@ impl Token {
     pub fn meets(&mut self, index: usize, sid: &Sid, deny: bool) -> bool
         requires { index < length self.old.holder.entries }
         // The default pair is never used: the index is in range.
-        ensures value { result ≡ entry_meets sid.now deny (slice_index_or self.old.holder.entries index (sid.now, EntryKind.DenyOnly)) }
+        ensures value { result
+            ≡ entry_meets sid.now deny (slice_index_or self.old.holder.entries index (sid.now, EntryKind.DenyOnly)) }
         ensures holder { self.new.holder ≡ self.old.holder }
         ensures compared { self.new.compared ≡ counted self.old.compared }
         ensures goes_on { self.old.compared ≤ self.new.compared }
@@ -148,7 +152,8 @@ impl Token {
     #[inline(never)]
     fn is_met(&self, index: usize, sid: &Sid, deny: bool) -> bool
         requires { index < length self.now.holder.entries }
-        ensures { result ≡ entry_meets sid.now deny (slice_index_or self.now.holder.entries index (sid.now, EntryKind.DenyOnly)) }
+        ensures { result
+            ≡ entry_meets sid.now deny (slice_index_or self.now.holder.entries index (sid.now, EntryKind.DenyOnly)) }
     {
         let entry = &self.entries[index];
         is_same(&entry.0, sid) && (is_enabled(entry.1) || deny)

@@ -1,12 +1,14 @@
 -- The masks of the code that scans a DACL. No definition of what is granted rests on them.
-use Rattle.std.specs.Prelude.{◌≡◌, ◌<◌, ℕ, ◌-◌, ◌^◌, ◌==◌, Bool, true, not, ◌&&◌, ◌||◌, if◌then◌else◌, List, length, take, bit_and, bit_or}
+use Rattle.std.specs.Prelude.{◌≡◌, ◌<◌, ℕ, ◌-◌, ◌^◌, ◌==◌, Bool, true, not, ◌&&◌, ◌||◌, if◌then◌else◌, List, length}
+use Rattle.std.specs.Prelude.{take, bit_and, bit_or}
 use Rattle.std.specs.List.{list_any}
 use Rattle.sd_ace.specs.Ace.{AccessControlEntry}
 use Rattle.sd_rights.specs.Mapping.{GenericMapping, carries, mask_if}
 use Rattle.sd_token.specs.Token.{Entry, Holder}
 use Rattle.sd_view.specs.Descriptor.{Descriptor}
 use Rattle.sd_view.specs.declared.acl.AclPart.{AclPart}
-use Rattle.sd_check.specs.AccessRights.{below_system_security, every_right, owner_mask, system_security_mask, write_owner_mask}
+use Rattle.sd_check.specs.AccessRights.{below_system_security, every_right, owner_mask, system_security_mask}
+use Rattle.sd_check.specs.AccessRights.{write_owner_mask}
 use Rattle.sd_check.specs.Ask.{Asked}
 use Rattle.sd_check.specs.Granted.{decides, granted, is_open, is_owned}
 use Rattle.sd_check.specs.Label.{is_lower, label, no_execute_up, no_read_up, no_write_up}

@@ -1,5 +1,6 @@
 -- An explanation has at most eight characters for each byte of the written descriptor, and 64.
-use Rattle.std.proofs.Common.{◌≡◌, ◌≤◌, ◌<◌, ℕ, zero, suc, ◌+◌, ◌*◌, ◌/◌, ◌%◌, ◌^◌, Bool, true, false, cond, List, [], ◌∷◌, ◌++◌, length, Option, Some, None, refl, arith, length-append}
+use Rattle.std.proofs.Common.{◌≡◌, ◌≤◌, ◌<◌, ℕ, zero, suc, ◌+◌, ◌*◌, ◌/◌, ◌%◌, ◌^◌, Bool, true, false, cond, List, []}
+use Rattle.std.proofs.Common.{◌∷◌, ◌++◌, length, Option, Some, None, refl, arith, length-append}
 use Rattle.std.specs.Prelude.{IfSome, codes}
 use Rattle.std.specs.Fmt.{decimal, digit_glyph}
 use Rattle.std.specs.List.{flat_map, enumerate_from, AllByRecursion}
@@ -31,7 +32,8 @@ use Rattle.sd_view.specs.declared.acl.AclPart.{AclPart}
 use Rattle.sd_view.specs.declared.acl.AclPart.TheVariants as acl
 use Rattle.sd_control.specs.declared.control.ControlBit.{ControlBit}
 use Rattle.sd_control.specs.declared.control.TheConstants.{CONTROL_BITS}
-use Rattle.sd_explain.specs.Explain.{ace_head, ace_line, ace_rights, ace_trustee, acl_lines, code_if, control_line, count_line, explain, guid_words, name_after, or_none, rm_line, sid_line, sid_words}
+use Rattle.sd_explain.specs.Explain.{ace_head, ace_line, ace_rights, ace_trustee, acl_lines, code_if, control_line}
+use Rattle.sd_explain.specs.Explain.{count_line, explain, guid_words, name_after, or_none, rm_line, sid_line, sid_words}
 
 -- 1. The header: at most 57 and 8 characters.
 

@@ -1,5 +1,6 @@
 -- A flag among those of an ACE, and that these read back from their names.
-use Rattle.std.proofs.Common.{◌≡◌, ◌≤◌, ℕ, ◌*◌, ◌/◌, ◌%◌, ◌^◌, ◌<◌, zero, suc, Bool, true, false, List, [], ◌∷◌, length, Some, bit_and, arith, refl, sym, ap, ◌∙◌, subst, eqb-true, zero-mul}
+use Rattle.std.proofs.Common.{◌≡◌, ◌≤◌, ℕ, ◌*◌, ◌/◌, ◌%◌, ◌^◌, ◌<◌, zero, suc, Bool, true, false, List, [], ◌∷◌, length}
+use Rattle.std.proofs.Common.{Some, bit_and, arith, refl, sym, ap, ◌∙◌, subst, eqb-true, zero-mul}
 use Rattle.std.specs.Prelude.{Option, IfSome, not, ◌==◌, ◌&&◌, ◌||◌, nat_lt}
 use Rattle.std.specs.Int.{IsPowerOfTwo, bit_at}
 use Rattle.std.specs.List.{AllByRecursion, list_all, list_any}

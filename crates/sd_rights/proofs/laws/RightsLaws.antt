@@ -1,5 +1,6 @@
 -- Access rights read back from their text, and the text is short.
-use Rattle.std.proofs.Common.{◌≡◌, ℕ, ◌^◌, ◌<◌, ◌≤◌, Bool, true, false, List, [], ◌∷◌, length, Some, None, arith, refl, sym, ap, ◌∙◌, eqb-true, lt-ltb}
+use Rattle.std.proofs.Common.{◌≡◌, ℕ, ◌^◌, ◌<◌, ◌≤◌, Bool, true, false, List, [], ◌∷◌, length, Some, None, arith, refl}
+use Rattle.std.proofs.Common.{sym, ap, ◌∙◌, eqb-true, lt-ltb}
 use Rattle.std.specs.Prelude.{Option, bit_and, ◌==◌, not, nat_lt, if◌then◌else◌, option_map, unwrap_or}
 use Rattle.std.specs.List.{find, list_all}
 use Rattle.std.specs.Char.{is_digit, digit_value}
@@ -9,13 +10,15 @@ use Rattle.std.proofs.lemmas.Fmt.{digits_is_IsNumeral}
 use Rattle.std.proofs.lemmas.Bool.Decides.{nat_tests}
 use Rattle.std.proofs.lemmas.Bool.{not-true}
 use Rattle.sd_text.specs.Names.{run_of, names_of, named_bits}
-use Rattle.sd_rights.specs.Rights.{all_rights, mask_reads, short_rights_reads, rights_reads, is_label, hex_text, names_or_hex, rights_text, name_letters}
+use Rattle.sd_rights.specs.Rights.{all_rights, mask_reads, short_rights_reads, rights_reads, is_label, hex_text}
+use Rattle.sd_rights.specs.Rights.{names_or_hex, rights_text, name_letters}
 use Rattle.sd_kinds.specs.declared.kinds.AceKind.{AceKind}
 use Rattle.sd_text.specs.declared.names.NamedBits.{NamedBits}
 use Rattle.sd_rights.specs.declared.rights_table.TheConstants.{SINGLES, SINGLE_BITS, COMPOUNDS, LABELS, LABEL_BITS}
 use Rattle.sd_text.proofs.laws.Bits.{or_zero}
 use Rattle.sd_text.proofs.laws.HexDigits.{all_digits, length-digits}
-use Rattle.sd_text.proofs.laws.NameLaws.{AreSingle, named_bits-single, reads_in, reads_in-rule, run-names, length-names, and_first, and_second}
+use Rattle.sd_text.proofs.laws.NameLaws.{AreSingle, named_bits-single, reads_in, reads_in-rule, run-names, length-names}
+use Rattle.sd_text.proofs.laws.NameLaws.{and_first, and_second}
 
 -- 1. The test of a table, and the rule at its entries.
 

@@ -2,7 +2,8 @@ use Rattle.std.proofs.Common.{◌≡◌, ◌∷◌, ◌++◌, ◌&&◌, ℕ, Lis
 use Rattle.sd_rights.specs.Mapping.{carries}
 use Rattle.sd_token.specs.Token.{Entry, Holder}
 use Rattle.sd_check.specs.Granted.{decides}
-use Rattle.sd_check.proofs.ScanLaws.{IsDecided, count_step, not_decided, parts_step, passed_step, rights_allow, rights_deny, scan_bound, undecided_step}
+use Rattle.sd_check.proofs.ScanLaws.{IsDecided, count_step, not_decided, parts_step, passed_step, rights_allow}
+use Rattle.sd_check.proofs.ScanLaws.{rights_deny, scan_bound, undecided_step}
 use Rattle.sd_check.proofs.scan.scan_aces.Goals as goal
 use Rattle.sd_check.proofs.scan.scan_aces.Goals.{then-is_allow, else-is_allow}
 

@@ -14,7 +14,8 @@ invariant-loop-ace l = record {
   count : l.token.compared ≤ l.fn.token.compared + length l.yielded * length l.fn.token.holder.entries;
   rights : (right : ℕ)
       → (carries l.granted right
-      || (carries l.undecided right && allows (find (decides right l.view l.fn.token.holder.entries l.ask) l.ace-iterator)))
+      || (carries l.undecided right
+      && allows (find (decides right l.view l.fn.token.holder.entries l.ask) l.ace-iterator)))
       ≡ (carries l.question right && allows (find (decides right l.view l.fn.token.holder.entries l.ask) l.acl));
   undecided : (right : ℕ)
       → carries l.undecided right

@@ -1,7 +1,8 @@
 use Rattle.std.proofs.Common.{◌≡◌, ℕ, ◌+◌, ◌-◌, ◌/◌, ◌%◌, false, ◌∷◌, drop, slice_set, arith, sym, ap, ◌∙◌, length-set}
 use Rattle.std.specs.Fmt.{digit_glyph, digits_onto}
 use Rattle.std.proofs.lemmas.List.{drop_all}
-use Rattle.sd_text.proofs.laws.HexDigits.{digits_onto-nil, digits_onto_last, digits_onto_step, drop-set_before, two_digits, one_less}
+use Rattle.sd_text.proofs.laws.HexDigits.{digits_onto-nil, digits_onto_last, digits_onto_step, drop-set_before}
+use Rattle.sd_text.proofs.laws.HexDigits.{two_digits, one_less}
 use Rattle.sd_rights.proofs.rights.write_digits.Goals as goal
 
 pub loop-rest-init : goal.loop-rest-init

@@ -1,6 +1,7 @@
 use Rattle.std.proofs.Common.{◌≡◌, ℕ, ◌/◌, ◌%◌, ◌*◌, bit_and, arith, refl}
 use Rattle.std.proofs.lemmas.Nat.Bits.{and_high}
-use Rattle.sd_ace.proofs.ace.Ace.new.Goals.{then-flags-ne0-via-then-flags-ne0, then-flags-ne0-via-else-flags-ne0+then-not-guids_fit}
+use Rattle.sd_ace.proofs.ace.Ace.new.Goals.{then-flags-ne0-via-then-flags-ne0}
+use Rattle.sd_ace.proofs.ace.Ace.new.Goals.{then-flags-ne0-via-else-flags-ne0+then-not-guids_fit}
 use Rattle.sd_ace.proofs.ace.Ace.new.Goals as goal
 
 bit_0x20 : (n : ℕ) → bit_and n 0x20 ≡ n / 0x20 % 2 * 0x20

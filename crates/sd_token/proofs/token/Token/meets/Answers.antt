@@ -23,6 +23,7 @@ other_key s deny entries i k e within at differ =
 pub returns-then-index-key_of-clause-value : goal.returns-then-index-key_of-clause-value
 returns-then-index-key_of-clause-value c =
     let entries = ap (λ (t : TokenShown). t.holder.entries) c.self.view_is in
-    let keys : c.self.inside.keys.items ≡ keys_of c.args.self.now.holder.entries = c.self.invariant.3 ∙ ap keys_of entries in
+    let keys : c.self.inside.keys.items ≡ keys_of c.args.self.now.holder.entries =
+    c.self.invariant.3 ∙ ap keys_of entries in
     let differ : c.index.result.now ≡ sid_key c.args.sid.now → ⊥ = rw (← c.key_of.ensures) c.if-index-key_of.true in
     other_key _ _ _ _ c.index.result.now _ c.requires (rw (← keys) c.index.ensures) differ
