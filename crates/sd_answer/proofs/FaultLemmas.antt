@@ -2,8 +2,8 @@
 use Rattle.std.proofs.Common.{◌≤◌, ◌<◌, length, Option, Some, None, arith, length-append, lit≤}
 use Rattle.sd_answer.specs.Faults.{fault_text, number_and_name, part_text, named_parts, parts_text, NamedParts}
 use Rattle.sd_buffer.specs.declared.buffer.TextFault.TheVariants as text
-use Rattle.sd_view.specs.declared.fault.Part.{Part}
-use Rattle.sd_view.specs.declared.fault.Part.TheVariants as part
+use Rattle.sd_control.specs.declared.part.Part.{Part}
+use Rattle.sd_control.specs.declared.part.Part.TheVariants as part
 use Rattle.sd_view.specs.declared.fault.SdFault.TheVariants as sd
 use Rattle.sd_inherit.specs.declared.derivation.DeriveFault.TheVariants.{DerivedTooLarge}
 use Rattle.sd_answer.specs.declared.fault.LineFault.{LineFault}

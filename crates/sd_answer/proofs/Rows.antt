@@ -6,10 +6,10 @@ use Rattle.sd_sid.specs.Sid.{sid_at}
 use Rattle.sd_text.specs.Limits.{most_base64_text, most_hex_text, most_sddl_text}
 use Rattle.sd_view.specs.Bytes.{u16_at, u32_at}
 use Rattle.sd_control.specs.declared.limits.TheConstants.{CAPACITY}
-use Rattle.sd_view.specs.Layout.{header_bytes}
+use Rattle.sd_control.specs.Header.{header_bytes}
 use Rattle.sd_view.specs.Reading.{acl_part_fault, acl_shown, fault, header_fault, overlap_fault, overlaps_fault, parts_fault, reading, sid_fault, sid_shown}
 use Rattle.sd_buffer.specs.Text.{base64_spells, hex_spells}
-use Rattle.sd_view.specs.declared.fault.Part.TheVariants as part
+use Rattle.sd_control.specs.declared.part.Part.TheVariants as part
 use Rattle.sd_view.specs.declared.fault.SdFault.TheVariants as sd
 use Rattle.sd_answer.specs.declared.fault.LineFault.TheVariants.{Sd}
 use Rattle.sd_answer.specs.declared.job.Act.TheVariants.{Convert}

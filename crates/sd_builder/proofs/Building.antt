@@ -15,42 +15,27 @@ use Rattle.sd_sid.specs.Sid.{SecurityId, IsSid, sid_bytes}
 use Rattle.sd_view.specs.Acl.{acl_size, has_object}
 use Rattle.sd_view.specs.AclLayout.{ace_bytes, acl_bytes, acl_header, revision_if}
 use Rattle.sd_builder.specs.Builds.{Builds}
-use Rattle.sd_builder.specs.Inner.Building.{AclStands, Building, OpenAt, OpenIsFree, OpenStands, PartsStand, SidStands, StandsInOrder, placed}
-use Rattle.sd_builder.specs.Draft.{CanBegin, Draft, IsOpen, IsOpenIn, Parts, acl_for, begun, closed_in, ended, ended_in, nothing_given, open_size, open_size_in, part_of, with_ace, with_acl, with_group, with_owner}
+use Rattle.sd_builder.specs.Inner.Building.{Building, OpenAt, OpenIsFree, OpenStands, PartStands, PartsStand, StandsInOrder}
+use Rattle.sd_builder.specs.Inner.Building.{given, given_acl, list, nothing, placed, sid}
+use Rattle.sd_builder.specs.Draft.{CanBegin, Draft, IsOpen, IsOpenIn, Parts, acl_for, begun, closed_in, ended, ended_in, nothing_given, open_size, open_size_in, with_ace, with_acl, with_sid}
 use Rattle.sd_view.specs.declared.acl.AclPart.{AclPart}
 use Rattle.sd_view.specs.declared.acl.AclPart.TheVariants as acl
 use Rattle.sd_builder.specs.declared.builder.Builder.{Builder}
 use Rattle.sd_builder.specs.declared.builder.OpenAcl.{OpenAcl}
-use Rattle.sd_control.specs.declared.control.Which.{Which}
-use Rattle.sd_control.specs.declared.control.Which.TheVariants as lists
+use Rattle.sd_control.specs.declared.part.Which.{Which}
+use Rattle.sd_control.specs.declared.part.Which.TheVariants as lists
+use Rattle.sd_control.specs.Parts.{each_part, get_part, part_of, same_part, sid_part_of}
+use Rattle.sd_control.specs.declared.part.Part.{Part}
+use Rattle.sd_control.specs.declared.part.Part.TheVariants as part
+use Rattle.sd_control.specs.declared.part.SidPart.{SidPart}
+use Rattle.sd_control.specs.declared.part.SidPart.TheVariants as sids
+use Rattle.sd_view.proofs.laws.ApartLaws.{six-apart}
 use Rattle.sd_view.proofs.laws.AceLists.{all-more, size-more}
 use Rattle.sd_view.proofs.laws.AclLayoutLaws.{aces-many, length-aces}
-use Rattle.sd_builder.proofs.Order.{group-order, kept_acl, list-order, null-order, order-reopened, owner-order}
-use Rattle.sd_builder.proofs.Standing.{group-stands, list-stands, null-stands, owner-stands, room}
+use Rattle.sd_builder.proofs.Order.{given-reopened, more-order, null-order, order-reopened}
+use Rattle.sd_builder.proofs.Standing.{IsOneMore, given-none, list-more, none-given, null-more, room, sid-more}
 
--- what the builder keeps and what it was given agree on which parts there are
-sid-given : (bytes : List ℕ) (offset : ℕ) (o : Option SecurityId) → SidStands bytes offset o → o ≡ None → offset ≡ 0
-sid-given bytes offset None h e = h
-sid-given bytes offset (Some s) h e = absurd (cc)
-
-given-sid : (bytes : List ℕ) (offset : ℕ) (o : Option SecurityId) → SidStands bytes offset o → offset ≡ 0 → o ≡ None
-given-sid bytes offset None h e = refl
-given-sid bytes offset (Some s) h e = absurd (omega (arith, e, h.1.low))
-
-acl-given : (bytes : List ℕ) (offset : Option ℕ) (p : AclPart) → AclStands bytes offset p → p ≡ acl.Absent
-    → offset ≡ None
-acl-given bytes None p h e = refl
-acl-given bytes (Some offset) acl.Absent h e = absurd h
-acl-given bytes (Some offset) acl.Null h e = absurd (cc)
-acl-given bytes (Some offset) (acl.List aces) h e = absurd (cc)
-
-given-acl : (bytes : List ℕ) (offset : Option ℕ) (p : AclPart) → AclStands bytes offset p → offset ≡ None
-    → p ≡ acl.Absent
-given-acl bytes None acl.Absent h e = refl
-given-acl bytes None acl.Null h e = absurd h
-given-acl bytes None (acl.List aces) h e = absurd h
-given-acl bytes (Some offset) p h e = absurd (cc)
-
+-- what the builder keeps and what it was given agree on which ACL is open
 open-given : (front tail : List ℕ) (o : Option OpenAcl) (u : Option (Which × List AccessControlEntry))
     → OpenStands front tail o u → u ≡ None → o ≡ None
 open-given front tail None u h e = refl
@@ -113,8 +98,11 @@ building b bytes t parts order kept given = record {
 reopened : (bytes : List ℕ) (b : Builder) (t : Parts) (o : Option OpenAcl)
     (u : Option (Which × List AccessControlEntry)) → PartsStand bytes b t
     → PartsStand bytes (record b { «open» = o }) (record t { «open» = u })
-reopened bytes b t o u
-    h = record { owner = h.owner; group = h.group; sacl = h.sacl; dacl = h.dacl; apart = h.apart; size = h.size }
+reopened bytes b t o u h = record {
+  each = λ p. subst (λ g. PartStands bytes (get_part p b.offsets) g) (sym (given-reopened t u p)) (h.each p);
+  apart = h.apart;
+  size = h.size;
+}
 
 acl_for-open : (w : Which) (t : Parts) (u : Option (Which × List AccessControlEntry))
     → acl_for w (record t { «open» = u }) ≡ acl_for w t
@@ -123,83 +111,92 @@ acl_for-open lists.Dacl t u = refl
 
 -- new
 pub new-builds : (bytes : List ℕ) → length bytes ≡ 20
-    → Builds (record { owner = 0; group = 0; sacl = None; dacl = None; «open» = None }) bytes nothing_given
+    → Builds (record { offsets = each_part None; «open» = None }) bytes nothing_given
 unfolding Builds
 new-builds bytes long =
     building _ bytes nothing_given
     (record {
-      owner = refl;
-      group = refl;
-      sacl = tt;
-      dacl = tt;
-      apart = record {
-        owner_group = tt;
-        owner_sacl = tt;
-        owner_dacl = tt;
-        group_sacl = tt;
-        group_dacl = tt;
-        sacl_dacl = tt;
-      };
+      each = elim [ part.Owner ↦ refl | part.Group ↦ refl | part.Sacl ↦ refl | part.Dacl ↦ refl ];
+      apart = six-apart (each_part None) tt tt tt tt tt tt;
       size = long;
     })
-    (record { shape = drop_all 20 bytes (omega (arith, long)); owner = refl; group = refl; sacl = refl; dacl = refl })
+    (record {
+      shape = drop_all 20 bytes (omega (arith, long));
+      offset = elim [ part.Owner ↦ refl | part.Group ↦ refl | part.Sacl ↦ refl | part.Dacl ↦ refl ];
+    })
     refl refl
 
--- owner
-owner-none : (b : Builder) (bytes : List ℕ) (t : Draft) → IsClosed b bytes t → t.parts.owner ≡ None → b.owner ≡ 0
-owner-none b bytes t h e = sid-given bytes b.owner t.parts.owner h.parts.owner e
-
-pub owner-room : (b : Builder) (bytes : List ℕ) (t : Draft) → Builds b bytes t → t.parts.owner ≡ None
-    → t.parts.«open» ≡ None → length bytes + 68 ≤ 131226
+-- a SID that is not given yet
+pub sid-room : (b : Builder) (bytes : List ℕ) (t : Draft) (p : SidPart) → Builds b bytes t
+    → given t.parts (sid_part_of p) ≡ nothing → t.parts.«open» ≡ None → length bytes + 68 ≤ 131226
 unfolding Builds
-owner-room b bytes t h free e = (room bytes b t.parts (closed-from b bytes t t h e h).parts).owner free
+sid-room b bytes t sids.Owner h free e = (room bytes b t.parts (closed-from b bytes t t h e h).parts).left part.Owner free
+sid-room b bytes t sids.Group h free e = (room bytes b t.parts (closed-from b bytes t t h e h).parts).left part.Group free
 
-pub owner-builds : (b : Builder) (bytes : List ℕ) (t0 t : Draft) (s : SecurityId) → Builds b bytes t0
-    → t0.parts.owner ≡ None → t0.parts.«open» ≡ None → IsSid s → Builds b bytes t
-    → Builds (record b { owner = length bytes }) (bytes ++ sid_bytes s) (with_owner s t)
+-- one draft lacks a part, and so each does
+still-free : (b : Builder) (bytes : List ℕ) (t0 t : Draft) (p : Part) → IsClosed b bytes t0 → IsClosed b bytes t
+    → given t0.parts p ≡ nothing → (get_part p b.offsets ≡ None) × (given t.parts p ≡ nothing)
+still-free b bytes t0 t p h0 h free =
+    let none = given-none bytes (get_part p b.offsets) (given t0.parts p) (h0.parts.each p) free in
+    (none, none-given bytes (get_part p b.offsets) (given t.parts p) (h.parts.each p) none)
+
+but-sid : (t : Parts) (p : SidPart) (s : SecurityId) (q : Part) → same_part (sid_part_of p) q ≡ false
+    → given (with_sid p s t) q ≡ given t q
+but-sid t sids.Owner s part.Owner e = absurd (cc)
+but-sid t sids.Group s part.Group e = absurd (cc)
+but-sid t p s q e = refl
+
+with-sid : (t : Parts) (p : SidPart) (s : SecurityId) → given t (sid_part_of p) ≡ nothing
+    → IsOneMore t (with_sid p s t) (sid_part_of p) (sid s)
+with-sid t sids.Owner s free = record { is = refl; free = free; others = but-sid t sids.Owner s }
+with-sid t sids.Group s free = record { is = refl; free = free; others = but-sid t sids.Group s }
+
+sid-open : (t : Parts) (p : SidPart) (s : SecurityId) → (with_sid p s t).«open» ≡ t.«open»
+sid-open t sids.Owner s = refl
+sid-open t sids.Group s = refl
+
+pub sid-builds : (b : Builder) (bytes : List ℕ) (t0 t : Draft) (p : SidPart) (s : SecurityId) → Builds b bytes t0
+    → given t0.parts (sid_part_of p) ≡ nothing → t0.parts.«open» ≡ None → IsSid s → Builds b bytes t
+    → Builds (placed (sid_part_of p) (length bytes) b) (bytes ++ sid_bytes s)
+    (record { parts = with_sid p s t.parts; order = t.order ++ sid_part_of p ∷ [] })
 unfolding Builds
-owner-builds b bytes t0 t s h0 free e limits h =
+sid-builds b bytes t0 t p s h0 free e limits h =
     let now = closed-from b bytes t0 t h0 e h in
-    let none = owner-none b bytes t0 (closed-from b bytes t0 t0 h0 e h0) free in
-    building _ _ _
-    (owner-stands bytes b t.parts s (given-sid bytes b.owner t.parts.owner now.parts.owner none) limits now.parts)
-    (owner-order bytes b t s none (room bytes b t.parts now.parts).low now.order) now.kept now.given
-
--- group
-group-none : (b : Builder) (bytes : List ℕ) (t : Draft) → IsClosed b bytes t → t.parts.group ≡ None → b.group ≡ 0
-group-none b bytes t h e = sid-given bytes b.group t.parts.group h.parts.group e
-
-pub group-room : (b : Builder) (bytes : List ℕ) (t : Draft) → Builds b bytes t → t.parts.group ≡ None
-    → t.parts.«open» ≡ None → length bytes + 68 ≤ 131226
-unfolding Builds
-group-room b bytes t h free e = (room bytes b t.parts (closed-from b bytes t t h e h).parts).group free
-
-pub group-builds : (b : Builder) (bytes : List ℕ) (t0 t : Draft) (s : SecurityId) → Builds b bytes t0
-    → t0.parts.group ≡ None → t0.parts.«open» ≡ None → IsSid s → Builds b bytes t
-    → Builds (record b { group = length bytes }) (bytes ++ sid_bytes s) (with_group s t)
-unfolding Builds
-group-builds b bytes t0 t s h0 free e limits h =
-    let now = closed-from b bytes t0 t h0 e h in
-    let none = group-none b bytes t0 (closed-from b bytes t0 t0 h0 e h0) free in
-    building _ _ _
-    (group-stands bytes b t.parts s (given-sid bytes b.group t.parts.group now.parts.group none) limits now.parts)
-    (group-order bytes b t s none (room bytes b t.parts now.parts).low now.order) now.kept now.given
+    let none = still-free b bytes t0 t (sid_part_of p) (closed-from b bytes t0 t0 h0 e h0) now free in
+    let more = with-sid t.parts p s none.1 in
+    building _ _ _ (sid-more bytes b t.parts _ (sid_part_of p) s more limits now.parts)
+    (more-order bytes b t _ (sid_part_of p) (sid s) more none.0 (room bytes b t.parts now.parts).low now.order)
+    now.kept (sid-open t.parts p s ∙ now.given)
 
 -- an ACL that is not given yet
-acl-none : (bytes : List ℕ) (b : Builder) (w : Which) (t : Parts) → PartsStand bytes b t → acl_for w t ≡ acl.Absent
-    → kept_acl w b ≡ None
-acl-none bytes b lists.Sacl t h e = acl-given bytes b.sacl t.sacl h.sacl e
-acl-none bytes b lists.Dacl t h e = acl-given bytes b.dacl t.dacl h.dacl e
+absent-acl : (a : AclPart) → given_acl a ≡ nothing → a ≡ acl.Absent
+absent-acl acl.Absent e = refl
+absent-acl acl.Null e = absurd (cc)
+absent-acl (acl.List aces) e = absurd (cc)
 
-acl-free : (bytes : List ℕ) (b : Builder) (w : Which) (t : Parts) → PartsStand bytes b t → kept_acl w b ≡ None
-    → acl_for w t ≡ acl.Absent
-acl-free bytes b lists.Sacl t h e = given-acl bytes b.sacl t.sacl h.sacl e
-acl-free bytes b lists.Dacl t h e = given-acl bytes b.dacl t.dacl h.dacl e
+acl-absent : (w : Which) (t : Parts) → given t (part_of w) ≡ nothing → acl_for w t ≡ acl.Absent
+acl-absent lists.Sacl t e = absent-acl t.sacl e
+acl-absent lists.Dacl t e = absent-acl t.dacl e
+
+absent-given : (w : Which) (t : Parts) → acl_for w t ≡ acl.Absent → given t (part_of w) ≡ nothing
+absent-given lists.Sacl t e = ap given_acl e
+absent-given lists.Dacl t e = ap given_acl e
 
 acl-left : (b : Builder) (bytes : List ℕ) (w : Which) (t : Parts) → PartsStand bytes b t → acl_for w t ≡ acl.Absent
     → length bytes + 65535 ≤ 131226
-acl-left b bytes lists.Sacl t h e = (room bytes b t h).sacl e
-acl-left b bytes lists.Dacl t h e = (room bytes b t h).dacl e
+acl-left b bytes lists.Sacl t h e = (room bytes b t h).left part.Sacl (ap given_acl e)
+acl-left b bytes lists.Dacl t h e = (room bytes b t h).left part.Dacl (ap given_acl e)
+
+but-acl : (w : Which) (t : Parts) (a : AclPart) (q : Part) → same_part (part_of w) q ≡ false
+    → given (with_acl w a t) q ≡ given t q
+but-acl lists.Sacl t a part.Sacl e = absurd (cc)
+but-acl lists.Dacl t a part.Dacl e = absurd (cc)
+but-acl w t a q e = refl
+
+with-acl : (w : Which) (t : Parts) (a : AclPart) → given t (part_of w) ≡ nothing
+    → IsOneMore t (with_acl w a t) (part_of w) (given_acl a)
+with-acl lists.Sacl t a free = record { is = refl; free = free; others = but-acl lists.Sacl t a }
+with-acl lists.Dacl t a free = record { is = refl; free = free; others = but-acl lists.Dacl t a }
 
 pub begin-room : (b : Builder) (bytes : List ℕ) (w : Which) (t : Draft) → Builds b bytes t → CanBegin w t.parts
     → length bytes + 8 ≤ 131226
@@ -214,7 +211,8 @@ pub begin-builds : (b : Builder) (bytes front : List ℕ) (w : Which) (t0 t : Dr
 unfolding Builds
 begin-builds b bytes front w t0 t h0 can eight h =
     let now = closed-from b bytes t0 t h0 can.0 h in
-    let none = acl-none bytes b w t0.parts (closed-from b bytes t0 t0 h0 can.0 h0).parts can.1 in
+    let none = still-free b bytes t0 t (part_of w) (closed-from b bytes t0 t0 h0 can.0 h0) now
+    (absent-given w t0.parts can.1) in
     record {
       closed = bytes;
       tail = front;
@@ -231,26 +229,23 @@ begin-builds b bytes front w t0 t h0 can eight h =
         eight = eight;
         shape = sym (append-nil front);
       };
-      free = acl_for-open w t.parts (Some (w, [])) ∙ acl-free bytes b w t.parts now.parts none;
+      free = acl_for-open w t.parts (Some (w, [])) ∙ acl-absent w t.parts none.1;
     }
 
 with_acl-open : (w : Which) (a : AclPart) (t : Parts) → (with_acl w a t).«open» ≡ t.«open»
 with_acl-open lists.Sacl a t = refl
 with_acl-open lists.Dacl a t = refl
 
-placed-same : (w : Which) (n : ℕ) (b : Builder) → (placed w n b).open ≡ b.open
-placed-same lists.Sacl n b = refl
-placed-same lists.Dacl n b = refl
-
 pub null-builds : (b : Builder) (bytes : List ℕ) (w : Which) (t0 t : Draft) → Builds b bytes t0 → CanBegin w t0.parts
-    → Builds b bytes t → Builds (placed w 0 b) bytes (record t { parts = with_acl w acl.Null t.parts })
+    → Builds b bytes t → Builds (placed (part_of w) 0 b) bytes (record t { parts = with_acl w acl.Null t.parts })
 unfolding Builds
 null-builds b bytes w t0 t h0 can h =
     let now = closed-from b bytes t0 t h0 can.0 h in
-    let none = acl-none bytes b w t0.parts (closed-from b bytes t0 t0 h0 can.0 h0).parts can.1 in
-    let free = acl-free bytes b w t.parts now.parts none in
-    building _ bytes _ (null-stands bytes b t.parts w free now.parts) (null-order bytes b t w none free now.order)
-    (placed-same w 0 b ∙ now.kept) (with_acl-open w acl.Null t.parts ∙ now.given)
+    let none = still-free b bytes t0 t (part_of w) (closed-from b bytes t0 t0 h0 can.0 h0) now
+    (absent-given w t0.parts can.1) in
+    let more = with-acl w t.parts acl.Null none.1 in
+    building _ bytes _ (null-more bytes b t.parts _ (part_of w) more now.parts)
+    (null-order bytes b t _ (part_of w) more none.0 now.order) now.kept (with_acl-open w acl.Null t.parts ∙ now.given)
 
 -- the ACL that is open
 pub record IsBegun (b : Builder) (bytes : List ℕ) (t : Draft) (o : OpenAcl) : Type 0 where
@@ -420,14 +415,9 @@ header-written front header eight aces long =
     rw (before, after) refl
 
 -- the ACL ended
-placed-open : (b : Builder) (w : Which) (n : ℕ)
-    → placed w n (record b { «open» = None }) ≡ record (placed w n b) { «open» = None }
-placed-open b lists.Sacl n = refl
-placed-open b lists.Dacl n = refl
-
-pub kept-is : (b : Builder) (o : OpenAcl) (w : Which) (n : ℕ) → o.which ≡ w → o.start ≡ n
-    → placed o.which o.start (record b { «open» = None }) ≡ record (placed w n b) { «open» = None }
-kept-is b o w n e f = rw (e, f) (placed-open b w n)
+kept-is : (b : Builder) (o : OpenAcl) (w : Which) (n : ℕ) → o.which ≡ w → o.start ≡ n
+    → placed (part_of o.which) o.start (record b { «open» = None }) ≡ record (placed (part_of w) n b) { «open» = None }
+kept-is b o w n e f = rw (e, f) refl
 
 closed-open : (t : Parts) (w : Which) (p : AclPart)
     → with_acl w p (record t { «open» = None }) ≡ record (with_acl w p t) { «open» = None }
@@ -476,20 +466,23 @@ end-bytes b bytes t o size header found total e =
 pub end-builds : (b : Builder) (bytes : List ℕ) (t : Draft) (o : OpenAcl) (size : ℕ) (header : List ℕ) → b.open ≡ Some o
     → o.start + size ≡ length bytes
     → header ≡ header_by o.object size o.count → Builds b bytes t
-    → Builds (placed o.which o.start (record b { «open» = None }))
+    → Builds (placed (part_of o.which) o.start (record b { «open» = None }))
     (take o.start bytes ++ (header ++ drop (o.start + length header) bytes)) (ended t)
 unfolding Builds
 end-builds b bytes t o size header e total front h =
     let found = is_begun b bytes t o h e in
     let w = found.which in
     let n = length found.closed in
-    let stands = list-stands found.closed b t.parts w found.aces found.free found.at.limits found.parts in
-    let none = acl-none found.closed b w t.parts found.parts found.free in
+    let p = part_of w in
+    let none = given-none found.closed (get_part p b.offsets) _ (found.parts.each p)
+    (absent-given w t.parts found.free) in
+    let more = with-acl w t.parts (acl.List found.aces) (absent-given w t.parts found.free) in
+    let stands = list-more found.closed b t.parts _ p found.aces more found.at.limits found.parts in
     let low = (room found.closed b t.parts found.parts).low in
-    let order = list-order found.closed b t w found.aces none low found.order in
+    let order = more-order found.closed b t _ p (list found.aces) more none low found.order in
     let kept = kept-is b o w n found.at.list found.at.start in
     let given = given-ended w found.aces t found.given in
     let there = end-bytes b bytes t o size header found total front in
     rw (kept, given, there)
-    (building _ _ _ (reopened _ (placed w n b) (with_acl w (acl.List found.aces) t.parts) None None stands)
-    (order-reopened _ (placed w n b) _ None None order) refl refl)
+    (building _ _ _ (reopened _ (placed p n b) (with_acl w (acl.List found.aces) t.parts) None None stands)
+    (order-reopened _ (placed p n b) _ None None order) refl refl)

@@ -5,27 +5,22 @@ use Rattle.std.specs.List.{flat_map}
 use Rattle.std.proofs.lemmas.Grind.{flat_map-append}
 use Rattle.std.proofs.lemmas.List.{append-nil, drop-append-le}
 use Rattle.sd_ace.specs.Ace.{AccessControlEntry}
-use Rattle.sd_sid.specs.Sid.{SecurityId, sid_bytes}
-use Rattle.sd_view.specs.AclLayout.{acl_bytes}
-use Rattle.sd_view.specs.Layout.{acl_part}
+use Rattle.sd_sid.specs.Sid.{SecurityId}
+use Rattle.sd_view.specs.Layout.{acl_part, sid_part}
 use Rattle.sd_view.specs.declared.acl.AclPart.{AclPart}
 use Rattle.sd_view.specs.declared.acl.AclPart.TheVariants as acl
-use Rattle.sd_control.specs.declared.control.Which.{Which}
-use Rattle.sd_control.specs.declared.control.Which.TheVariants as lists
-use Rattle.sd_view.specs.declared.fault.Part.{Part}
-use Rattle.sd_view.specs.declared.fault.Part.TheVariants as part
-use Rattle.sd_builder.specs.Draft.{Draft, Parts, acl_for, bytes_in_order, offset_among, offset_of, part_bytes, part_of, same_part, with_acl, with_group, with_owner}
-use Rattle.sd_builder.specs.Inner.Building.{StandsInOrder, placed}
+use Rattle.sd_control.specs.declared.part.Which.{Which}
+use Rattle.sd_control.specs.Parts.{get_part, same_part}
+use Rattle.sd_control.proofs.laws.PartLaws.{each-part, get-other, get-set, same-self, same-sym}
+use Rattle.sd_control.specs.declared.part.Part.{Part}
+use Rattle.sd_control.specs.declared.part.Part.TheVariants as part
+use Rattle.sd_builder.specs.Draft.{Draft, Parts, bytes_in_order, offset_among, offset_of, part_bytes}
+use Rattle.sd_builder.specs.Inner.Building.{Given, StandsInOrder, given, given_acl, given_bytes, given_sid, null, placed}
+use Rattle.sd_builder.proofs.Standing.{IsOneMore}
 use Rattle.sd_builder.specs.declared.builder.Builder.{Builder}
 use Rattle.sd_builder.specs.declared.builder.OpenAcl.{OpenAcl}
 
 -- ---- offsets among parts
-
-same-self : (p : Part) → same_part p p ≡ true
-same-self part.Owner = refl
-same-self part.Group = refl
-same-self part.Sacl = refl
-same-self part.Dacl = refl
 
 -- a part without an offset is not the first one
 not-first : (c : Bool) (start n : ℕ) → 0 < start → (if c then start else n) ≡ 0 → (c ≡ false) × (n ≡ 0)
@@ -109,153 +104,83 @@ appended-part bytes new t u p same is none low shape =
           ∙ sym (others-stay 20 u t.order q p other);
     }
 
-but-owner : (t : Parts) (o : Option SecurityId) (q : Part) → same_part part.Owner q ≡ false
-    → part_bytes (record t { owner = o }) q ≡ part_bytes t q
-but-owner t o part.Owner e = absurd (cc)
-but-owner t o part.Group e = refl
-but-owner t o part.Sacl e = refl
-but-owner t o part.Dacl e = refl
+-- what is given of a part has the part's bytes
+given-sid : (o : Option SecurityId) → given_bytes (given_sid o) ≡ sid_part o
+given-sid None = refl
+given-sid (Some s) = refl
 
-but-group : (t : Parts) (o : Option SecurityId) (q : Part) → same_part part.Group q ≡ false
-    → part_bytes (record t { group = o }) q ≡ part_bytes t q
-but-group t o part.Owner e = refl
-but-group t o part.Group e = absurd (cc)
-but-group t o part.Sacl e = refl
-but-group t o part.Dacl e = refl
+given-acl : (a : AclPart) → given_bytes (given_acl a) ≡ acl_part a
+given-acl acl.Absent = refl
+given-acl acl.Null = refl
+given-acl (acl.List aces) = refl
 
-pub owner-order : (bytes : List ℕ) (b : Builder) (t : Draft) (s : SecurityId) → b.owner ≡ 0 → 20 ≤ length bytes
-    → StandsInOrder bytes b t
-    → StandsInOrder (bytes ++ sid_bytes s) (record b { owner = length bytes }) (with_owner s t)
-owner-order bytes b t s free low h =
-    let more = appended-part bytes (sid_bytes s) t (record t.parts { owner = Some s }) part.Owner
-    (but-owner t.parts (Some s)) refl (sym h.owner ∙ free) low h.shape in
+given-part : (t : Parts) (p : Part) → given_bytes (given t p) ≡ part_bytes t p
+given-part t part.Owner = given-sid t.owner
+given-part t part.Group = given-sid t.group
+given-part t part.Sacl = given-acl t.sacl
+given-part t part.Dacl = given-acl t.dacl
+
+same-bytes : (t u : Parts) (p : Part) → given_bytes (given u p) ≡ given_bytes (given t p)
+    → part_bytes u p ≡ part_bytes t p
+same-bytes t u p e = sym (given-part u p) ∙ e ∙ given-part t p
+
+-- a part with bytes more
+pub more-order : (bytes : List ℕ) (b : Builder) (t : Draft) (u : Parts) (p : Part) (g : Given)
+    → IsOneMore t.parts u p g → get_part p b.offsets ≡ None → 20 ≤ length bytes → StandsInOrder bytes b t
+    → StandsInOrder (bytes ++ given_bytes g) (placed p (length bytes) b)
+    (record { parts = u; order = t.order ++ p ∷ [] })
+more-order bytes b t u p g more none low h =
+    let kept = λ (o : Option ℕ). unwrap_or o 0 in
+    let new = appended-part bytes (given_bytes g) t u p
+    (λ q other. same-bytes t.parts u q (ap given_bytes (more.others q other)))
+    (sym (given-part u p) ∙ ap given_bytes more.is) (sym (h.offset p) ∙ ap kept none) low h.shape in
     record {
-      shape = more.shape;
-      owner = more.here;
-      group = more.others b.group part.Group refl h.group;
-      sacl = more.others (unwrap_or b.sacl 0) part.Sacl refl h.sacl;
-      dacl = more.others (unwrap_or b.dacl 0) part.Dacl refl h.dacl;
+      shape = new.shape;
+      offset = each-part (λ q. unwrap_or (get_part q (placed p (length bytes) b).offsets) 0
+          ≡ offset_among 20 u (t.order ++ p ∷ []) q) p
+          (ap kept (get-set p (Some (length bytes)) b.offsets) ∙ new.here)
+          (λ q other. new.others _ q (same-sym p q other)
+          (ap kept (get-other p q (Some (length bytes)) b.offsets other) ∙ h.offset q));
     }
 
-pub group-order : (bytes : List ℕ) (b : Builder) (t : Draft) (s : SecurityId) → b.group ≡ 0 → 20 ≤ length bytes
-    → StandsInOrder bytes b t
-    → StandsInOrder (bytes ++ sid_bytes s) (record b { group = length bytes }) (with_group s t)
-group-order bytes b t s free low h =
-    let more = appended-part bytes (sid_bytes s) t (record t.parts { group = Some s }) part.Group
-    (but-group t.parts (Some s)) refl (sym h.group ∙ free) low h.shape in
-    record {
-      shape = more.shape;
-      owner = more.others b.owner part.Owner refl h.owner;
-      group = more.here;
-      sacl = more.others (unwrap_or b.sacl 0) part.Sacl refl h.sacl;
-      dacl = more.others (unwrap_or b.dacl 0) part.Dacl refl h.dacl;
-    }
-
--- ---- ACLs
-
--- what is open is no matter of the bytes and the offsets
-reopened-same : (t : Parts) (o : Option (Which × List AccessControlEntry)) (q : Part)
-    → part_bytes (record t { «open» = o }) q ≡ part_bytes t q
-reopened-same t o part.Owner = refl
-reopened-same t o part.Group = refl
-reopened-same t o part.Sacl = refl
-reopened-same t o part.Dacl = refl
-
+-- parts of the same bytes stand as they are
 order-alike : (bytes : List ℕ) (b : Builder) (t : Draft) (u : Parts)
     → ((q : Part) → part_bytes u q ≡ part_bytes t.parts q) → StandsInOrder bytes b t
     → StandsInOrder bytes b (record t { parts = u })
-order-alike bytes b t u same h =
-    let at = λ (q : Part). sym (offset-alike t.parts u same 20 t.order q) in
-    record {
-      shape = h.shape ∙ sym (bytes-alike t.parts u same t.order);
-      owner = h.owner ∙ at part.Owner;
-      group = h.group ∙ at part.Group;
-      sacl = h.sacl ∙ at part.Sacl;
-      dacl = h.dacl ∙ at part.Dacl;
-    }
+order-alike bytes b t u same h = record {
+  shape = h.shape ∙ sym (bytes-alike t.parts u same t.order);
+  offset = λ q. h.offset q ∙ sym (offset-alike t.parts u same 20 t.order q);
+}
+
+-- which ACL is open, and how far, is no matter of the parts that are given
+pub given-reopened : (t : Parts) (o : Option (Which × List AccessControlEntry)) (p : Part)
+    → given (record t { «open» = o }) p ≡ given t p
+given-reopened t o part.Owner = refl
+given-reopened t o part.Group = refl
+given-reopened t o part.Sacl = refl
+given-reopened t o part.Dacl = refl
 
 pub order-reopened : (bytes : List ℕ) (b : Builder) (t : Draft) (o : Option OpenAcl)
     (u : Option (Which × List AccessControlEntry)) → StandsInOrder bytes b t
     → StandsInOrder bytes (record b { «open» = o }) (record t { parts = record t.parts { «open» = u } })
 order-reopened bytes b t o u h =
-    let new = order-alike bytes b t (record t.parts { «open» = u }) (reopened-same t.parts u) h in
-    record { shape = new.shape; owner = new.owner; group = new.group; sacl = new.sacl; dacl = new.dacl }
-
-but-acl : (w : Which) (t : Parts) (a : AclPart) (q : Part) → same_part (part_of w) q ≡ false
-    → part_bytes (with_acl w a t) q ≡ part_bytes t q
-but-acl lists.Sacl t a part.Owner e = refl
-but-acl lists.Sacl t a part.Group e = refl
-but-acl lists.Sacl t a part.Sacl e = absurd (cc)
-but-acl lists.Sacl t a part.Dacl e = refl
-but-acl lists.Dacl t a part.Owner e = refl
-but-acl lists.Dacl t a part.Group e = refl
-but-acl lists.Dacl t a part.Sacl e = refl
-but-acl lists.Dacl t a part.Dacl e = absurd (cc)
-
--- the offset that is kept of an ACL
-abbrev pub kept_acl : Which → Builder → Option ℕ
-kept_acl lists.Sacl b = b.sacl
-kept_acl lists.Dacl b = b.dacl
-
-pub list-order : (bytes : List ℕ) (b : Builder) (t : Draft) (w : Which) (aces : List AccessControlEntry)
-    → kept_acl w b ≡ None → 20 ≤ length bytes → StandsInOrder bytes b t
-    → StandsInOrder (bytes ++ acl_bytes aces) (placed w (length bytes) b)
-    (record { parts = with_acl w (acl.List aces) t.parts; order = t.order ++ part_of w ∷ [] })
-list-order bytes b t lists.Sacl aces free low h =
-    let none = sym h.sacl ∙ ap (λ (o : Option ℕ). unwrap_or o 0) free in
-    let more = appended-part bytes (acl_bytes aces) t (with_acl lists.Sacl (acl.List aces) t.parts) part.Sacl
-    (but-acl lists.Sacl t.parts (acl.List aces)) refl none low h.shape in
-    record {
-      shape = more.shape;
-      owner = more.others b.owner part.Owner refl h.owner;
-      group = more.others b.group part.Group refl h.group;
-      sacl = more.here;
-      dacl = more.others (unwrap_or b.dacl 0) part.Dacl refl h.dacl;
-    }
-list-order bytes b t lists.Dacl aces free low h =
-    let none = sym h.dacl ∙ ap (λ (o : Option ℕ). unwrap_or o 0) free in
-    let more = appended-part bytes (acl_bytes aces) t (with_acl lists.Dacl (acl.List aces) t.parts) part.Dacl
-    (but-acl lists.Dacl t.parts (acl.List aces)) refl none low h.shape in
-    record {
-      shape = more.shape;
-      owner = more.others b.owner part.Owner refl h.owner;
-      group = more.others b.group part.Group refl h.group;
-      sacl = more.others (unwrap_or b.sacl 0) part.Sacl refl h.sacl;
-      dacl = more.here;
-    }
+    let parts = record t.parts { «open» = u } in
+    let new = order-alike bytes b t parts
+    (λ q. same-bytes t.parts parts q (ap given_bytes (given-reopened t.parts u q))) h in
+    record { shape = new.shape; offset = new.offset }
 
 -- a null ACL has no bytes, as one that is not given
-null-same : (w : Which) (t : Parts) → acl_for w t ≡ acl.Absent → (q : Part)
-    → part_bytes (with_acl w acl.Null t) q ≡ part_bytes t q
-null-same lists.Sacl t e part.Owner = refl
-null-same lists.Sacl t e part.Group = refl
-null-same lists.Sacl t e part.Sacl = sym (ap acl_part e)
-null-same lists.Sacl t e part.Dacl = refl
-null-same lists.Dacl t e part.Owner = refl
-null-same lists.Dacl t e part.Group = refl
-null-same lists.Dacl t e part.Sacl = refl
-null-same lists.Dacl t e part.Dacl = sym (ap acl_part e)
-
-null-kept : (w : Which) (bytes : List ℕ) (b : Builder) (t : Draft) → kept_acl w b ≡ None → StandsInOrder bytes b t
-    → StandsInOrder bytes (placed w 0 b) t
-null-kept lists.Sacl bytes b t free h = record {
-  shape = h.shape;
-  owner = h.owner;
-  group = h.group;
-  sacl = sym (ap (λ (o : Option ℕ). unwrap_or o 0) free) ∙ h.sacl;
-  dacl = h.dacl;
-}
-null-kept lists.Dacl bytes b t free h = record {
-  shape = h.shape;
-  owner = h.owner;
-  group = h.group;
-  sacl = h.sacl;
-  dacl = sym (ap (λ (o : Option ℕ). unwrap_or o 0) free) ∙ h.dacl;
-}
-
-pub null-order : (bytes : List ℕ) (b : Builder) (t : Draft) (w : Which) → kept_acl w b ≡ None
-    → acl_for w t.parts ≡ acl.Absent → StandsInOrder bytes b t
-    → StandsInOrder bytes (placed w 0 b) (record t { parts = with_acl w acl.Null t.parts })
-null-order bytes b t w free absent h =
-    order-alike bytes (placed w 0 b) t (with_acl w acl.Null t.parts) (null-same w t.parts absent)
-    (null-kept w bytes b t free h)
+pub null-order : (bytes : List ℕ) (b : Builder) (t : Draft) (u : Parts) (p : Part) → IsOneMore t.parts u p null
+    → get_part p b.offsets ≡ None → StandsInOrder bytes b t
+    → StandsInOrder bytes (placed p 0 b) (record t { parts = u })
+null-order bytes b t u p more none h =
+    let kept = λ (o : Option ℕ). unwrap_or o 0 in
+    let empty = ap given_bytes more.is ∙ sym (ap given_bytes more.free) in
+    let same = each-part (λ q. part_bytes u q ≡ part_bytes t.parts q) p (same-bytes t.parts u p empty)
+    (λ q other. same-bytes t.parts u q (ap given_bytes (more.others q other))) in
+    order-alike bytes (placed p 0 b) t u same (record {
+      shape = h.shape;
+      offset = each-part (λ q. unwrap_or (get_part q (placed p 0 b).offsets) 0 ≡ offset_of t q) p
+          (ap kept (get-set p (Some 0) b.offsets) ∙ sym (ap kept none) ∙ h.offset p)
+          (λ q other. ap kept (get-other p q (Some 0) b.offsets other) ∙ h.offset q);
+    })

@@ -9,16 +9,17 @@ use Rattle.sd_kinds.specs.Kinds.{kind_code, kind_entry, kind_of}
 use Rattle.sd_sid.specs.Sid.{SecurityId, sid_at, sid_bytes}
 use Rattle.sd_buffer.specs.declared.buffer.TextFault.{TextFault}
 use Rattle.sd_buffer.specs.declared.buffer.TextFault.TheVariants.{Base64, HexDigit, HexOdd}
-use Rattle.sd_view.specs.declared.fault.Part.TheVariants.{Owner, Group, Sacl, Dacl}
+use Rattle.sd_control.specs.declared.part.Part.TheVariants.{Owner, Group, Sacl, Dacl}
 use Rattle.sd_view.specs.declared.fault.SdFault.TheVariants as faults
 use Rattle.sd_view.specs.Bytes.{u16_at, u32_at}
 use Rattle.sd_control.specs.Control.{acl_flags, flag_bits}
-use Rattle.sd_control.specs.declared.control.Which.TheVariants as which
+use Rattle.sd_control.specs.declared.part.Which.TheVariants as which
 use Rattle.sd_control.specs.declared.control.AclFlags.{AclFlags}
 use Rattle.sd_control.specs.declared.control.ControlBit.{ControlBit}
 use Rattle.sd_control.specs.declared.control.TheConstants.{CONTROL_BITS}
 use Rattle.sd_view.specs.Descriptor.{Descriptor}
-use Rattle.sd_view.specs.Layout.{header_bytes, layout, size}
+use Rattle.sd_control.specs.Header.{header_bytes}
+use Rattle.sd_view.specs.Layout.{layout, size}
 use Rattle.sd_view.specs.Ace.{announces_inherited, announces_object}
 use Rattle.sd_view.specs.AclReading.{ace_fault, aces_fault, aces_of, acl_fault, guid_if, inherited_in, kind_in, object_in, extent_fault, sid_offset_in}
 use Rattle.sd_view.specs.declared.acl.AclPart.TheVariants as acl

@@ -1,23 +1,26 @@
 -- Parts that stand in a builder's buffer: they stay where they are when more is appended, and when the header is
 -- written.
-use Rattle.std.proofs.Common.{◌≡◌, ◌≤◌, ◌<◌, inl, inr, ℕ, ◌+◌, ◌^◌, List, [], ◌++◌, length, drop, Option, Some, None, refl, sym, ap, ◌∙◌, append_assoc, arith, length-append, length-drop}
+use Rattle.std.proofs.Common.{◌≡◌, ◌≤◌, ◌<◌, inr, ℕ, ◌+◌, ◌^◌, List, [], ◌++◌, length, drop, false, Option, Some, None, refl, sym, ap, ◌∙◌, append_assoc, arith, length-append, length-drop}
+use Rattle.std.specs.Prelude.{unwrap_or}
 use Rattle.std.proofs.lemmas.List.{append-nil, drop-append-le}
 use Rattle.std.proofs.lemmas.Slice.{drop-append-drop}
 use Rattle.std.proofs.Math.Seq.{drop-append_seam}
 use Rattle.sd_ace.specs.Ace.{AccessControlEntry}
-use Rattle.sd_sid.specs.Sid.{SecurityId, IsSid, sid_bytes, sid_size}
+use Rattle.sd_sid.specs.Sid.{SecurityId, IsSid, sid_bytes}
 use Rattle.sd_sid.proofs.laws.SidLaws.{length-sid_bytes}
-use Rattle.sd_view.specs.Acl.{IsAcl, acl_size}
+use Rattle.sd_view.specs.Acl.{IsAcl}
 use Rattle.sd_view.specs.AclLayout.{acl_bytes}
-use Rattle.sd_builder.specs.Inner.Building.{AclStands, PartsStand, SidStands, Stands, acl_extent_of, placed}
-use Rattle.sd_view.specs.Descriptor.{Apart, Extent, sid_extent}
-use Rattle.sd_builder.specs.Draft.{Parts, acl_for, with_acl}
-use Rattle.sd_view.specs.Layout.{acl_part_size, sid_part_size}
+use Rattle.sd_builder.specs.Inner.Building.{Given, PartStands, PartsStand, Stands, closed_size, extent_at, extents_kept, given, given_acl, given_bytes, given_sid, given_size, list, nothing, null, placed, sid}
+use Rattle.sd_view.specs.Descriptor.{Apart, Extent}
+use Rattle.sd_builder.specs.Draft.{Parts}
 use Rattle.sd_view.specs.declared.acl.AclPart.{AclPart}
 use Rattle.sd_view.specs.declared.acl.AclPart.TheVariants as acl
 use Rattle.sd_builder.specs.declared.builder.Builder.{Builder}
-use Rattle.sd_control.specs.declared.control.Which.{Which}
-use Rattle.sd_control.specs.declared.control.Which.TheVariants as lists
+use Rattle.sd_control.specs.Parts.{get_part, same_part}
+use Rattle.sd_control.specs.declared.part.Part.{Part}
+use Rattle.sd_control.specs.declared.part.Part.TheVariants as part
+use Rattle.sd_control.proofs.laws.PartLaws.{each-part, get-other, get-set}
+use Rattle.sd_view.proofs.laws.ApartLaws.{apart-with}
 use Rattle.sd_view.proofs.laws.AclLayoutLaws.{length-acl_bytes}
 
 -- what stands in some bytes stands in others
@@ -50,227 +53,168 @@ stands-last bytes part h = record {
   shape = drop-append_seam bytes part ∙ sym (append-nil part);
 }
 
-pub sid-kept : (bytes new : List ℕ) (offset : ℕ) (o : Option SecurityId) → Kept bytes new → SidStands bytes offset o
-    → SidStands new offset o
-sid-kept bytes new offset None k h = h
-sid-kept bytes new offset (Some s) k h = (h.0, k offset (sid_bytes s) h.1)
+pub part-kept : (bytes new : List ℕ) (offset : Option ℕ) (g : Given) → Kept bytes new → PartStands bytes offset g
+    → PartStands new offset g
+part-kept bytes new None g k h = h
+part-kept bytes new (Some offset) nothing k h = h
+part-kept bytes new (Some offset) null k h = h
+part-kept bytes new (Some offset) (sid s) k h = (h.0, k offset (sid_bytes s) h.1)
+part-kept bytes new (Some offset) (list aces) k h = (h.0, k offset (acl_bytes aces) h.1)
 
-pub acl-kept : (bytes new : List ℕ) (offset : Option ℕ) (p : AclPart) → Kept bytes new → AclStands bytes offset p
-    → AclStands new offset p
-acl-kept bytes new None acl.Absent k h = tt
-acl-kept bytes new None acl.Null k h = h
-acl-kept bytes new None (acl.List aces) k h = h
-acl-kept bytes new (Some offset) acl.Absent k h = h
-acl-kept bytes new (Some offset) acl.Null k h = h
-acl-kept bytes new (Some offset) (acl.List aces) k h = (h.0, k offset (acl_bytes aces) h.1)
+-- what the builder keeps and what it was given agree on which parts there are
+pub given-none : (bytes : List ℕ) (offset : Option ℕ) (g : Given) → PartStands bytes offset g → g ≡ nothing
+    → offset ≡ None
+given-none bytes None g h e = refl
+given-none bytes (Some offset) nothing h e = absurd h
+given-none bytes (Some offset) null h e = absurd (cc)
+given-none bytes (Some offset) (sid s) h e = absurd (cc)
+given-none bytes (Some offset) (list aces) h e = absurd (cc)
+
+pub none-given : (bytes : List ℕ) (offset : Option ℕ) (g : Given) → PartStands bytes offset g → offset ≡ None
+    → g ≡ nothing
+none-given bytes None g h e = h
+none-given bytes (Some offset) g h e = absurd (cc)
 
 -- each extent ends within the bytes
 abbrev EndsWithin : Extent → ℕ → Type 0
 EndsWithin None n = Unit {0}
 EndsWithin (Some p) n = p.1 ≤ n
 
-sid-ends : (bytes : List ℕ) (offset : ℕ) (o : Option SecurityId) → SidStands bytes offset o
-    → EndsWithin (sid_extent offset o) (length bytes)
-sid-ends bytes offset None h = tt
-sid-ends bytes offset (Some s) h = omega (arith, h.1.inside, length-sid_bytes s)
-
-acl-ends : (bytes : List ℕ) (offset : Option ℕ) (p : AclPart) → AclStands bytes offset p
-    → EndsWithin (acl_extent_of offset p) (length bytes)
-acl-ends bytes None p h = tt
-acl-ends bytes (Some offset) acl.Absent h = tt
-acl-ends bytes (Some offset) acl.Null h = tt
-acl-ends bytes (Some offset) (acl.List aces) h = omega (arith, h.1.inside, length-acl_bytes aces)
+part-ends : (bytes : List ℕ) (offset : Option ℕ) (g : Given) → PartStands bytes offset g
+    → EndsWithin (extent_at offset g) (length bytes)
+part-ends bytes None g h = tt
+part-ends bytes (Some offset) nothing h = tt
+part-ends bytes (Some offset) null h = tt
+part-ends bytes (Some offset) (sid s) h = omega (arith, h.1.inside, length-sid_bytes s)
+part-ends bytes (Some offset) (list aces) h = omega (arith, h.1.inside, length-acl_bytes aces)
 
 -- so an extent at the end of the bytes shares none with another
-last-apart : (e : Extent) (n m : ℕ) → EndsWithin e n → Apart (Some (n, m)) e
-last-apart None n m h = tt
-last-apart (Some p) n m h = inr h
-
-apart-last : (e : Extent) (n m : ℕ) → EndsWithin e n → Apart e (Some (n, m))
-apart-last None n m h = tt
-apart-last (Some p) n m h = inl h
-
-apart-none : (e : Extent) → Apart e None
-apart-none None = tt
-apart-none (Some p) = tt
+last-apart : (n m : ℕ) (e : Extent) → EndsWithin e n → Apart (Some (n, m)) e
+last-apart n m None h = tt
+last-apart n m (Some p) h = inr h
 
 -- the offsets and the number of the bytes are small
-pub sid-small : (bytes : List ℕ) (offset : ℕ) (o : Option SecurityId) → SidStands bytes offset o → length bytes ≤ 131226
-    → offset < 2 ^ 32
-sid-small bytes offset None h room = omega arith
-sid-small bytes offset (Some s) h room = omega (arith, h.1.inside, room)
+pub part-small : (bytes : List ℕ) (offset : Option ℕ) (g : Given) → PartStands bytes offset g → length bytes ≤ 131226
+    → unwrap_or offset 0 < 2 ^ 32
+part-small bytes None g h room = omega arith
+part-small bytes (Some offset) nothing h room = absurd h
+part-small bytes (Some offset) null h room = omega (arith, h)
+part-small bytes (Some offset) (sid s) h room = omega (arith, h.1.inside, room)
+part-small bytes (Some offset) (list aces) h room = omega (arith, h.1.inside, room)
+
+sid-most : (bytes : List ℕ) (offset : Option ℕ) (o : Option SecurityId) → PartStands bytes offset (given_sid o)
+    → length (given_bytes (given_sid o)) ≤ 68
+sid-most bytes offset None h = omega arith
+sid-most bytes None (Some s) h = absurd (cc)
+sid-most bytes (Some offset) (Some s) h = omega (arith, h.0.count, length-sid_bytes s)
+
+acl-most : (bytes : List ℕ) (offset : Option ℕ) (p : AclPart) → PartStands bytes offset (given_acl p)
+    → length (given_bytes (given_acl p)) ≤ 65535
+acl-most bytes offset acl.Absent h = omega arith
+acl-most bytes offset acl.Null h = omega arith
+acl-most bytes None (acl.List aces) h = absurd (cc)
+acl-most bytes (Some offset) (acl.List aces) h = omega (arith, h.0.fits, length-acl_bytes aces)
+
+-- the bytes that a part has at most
+abbrev pub most_of : Part → ℕ
+most_of part.Owner = 68
+most_of part.Group = 68
+most_of part.Sacl = 65535
+most_of part.Dacl = 65535
 
 -- the header stands, and there is room for the parts that are not given yet
-low : (bytes : List ℕ) (b : Builder) (t : Parts) → PartsStand bytes b t → 20 ≤ length bytes
-low bytes b t h = omega (arith, h.size)
-
-sid-most : (bytes : List ℕ) (offset : ℕ) (o : Option SecurityId) → SidStands bytes offset o → sid_part_size o ≤ 68
-sid-most bytes offset None h = omega arith
-sid-most bytes offset (Some s) h = omega (arith, h.0.count)
-
-acl-most : (bytes : List ℕ) (offset : Option ℕ) (p : AclPart) → AclStands bytes offset p → acl_part_size p ≤ 65535
-acl-most bytes None acl.Absent h = omega arith
-acl-most bytes None acl.Null h = omega arith
-acl-most bytes None (acl.List aces) h = absurd h
-acl-most bytes (Some offset) acl.Absent h = omega arith
-acl-most bytes (Some offset) acl.Null h = omega arith
-acl-most bytes (Some offset) (acl.List aces) h = omega (arith, h.0.fits)
-
-pub record Room (bytes : List ℕ) (b : Builder) (t : Parts) : Type 0 where
+pub record Room (bytes : List ℕ) (t : Parts) : Type 0 where
   pub low : 20 ≤ length bytes
   pub most : length bytes ≤ 131226
-  pub owner : t.owner ≡ None → length bytes + 68 ≤ 131226
-  pub group : t.group ≡ None → length bytes + 68 ≤ 131226
-  pub sacl : t.sacl ≡ acl.Absent → length bytes + 65535 ≤ 131226
-  pub dacl : t.dacl ≡ acl.Absent → length bytes + 65535 ≤ 131226
+  pub left : (p : Part) → given t p ≡ nothing → length bytes + most_of p ≤ 131226
 
-pub room : (bytes : List ℕ) (b : Builder) (t : Parts) → PartsStand bytes b t → Room bytes b t
+pub room : (bytes : List ℕ) (b : Builder) (t : Parts) → PartsStand bytes b t → Room bytes t
 room bytes b t h =
-    let owner = sid-most bytes b.owner t.owner h.owner in
-    let group = sid-most bytes b.group t.group h.group in
-    let sacl = acl-most bytes b.sacl t.sacl h.sacl in
-    let dacl = acl-most bytes b.dacl t.dacl h.dacl in
+    let owner = sid-most bytes b.offsets.owner t.owner (h.each part.Owner) in
+    let group = sid-most bytes b.offsets.group t.group (h.each part.Group) in
+    let sacl = acl-most bytes b.offsets.sacl t.sacl (h.each part.Sacl) in
+    let dacl = acl-most bytes b.offsets.dacl t.dacl (h.each part.Dacl) in
     record {
       low = omega (arith, h.size);
       most = omega (arith, h.size);
-      owner = λ e. let none : sid_part_size t.owner ≡ 0 = ap sid_part_size e in omega (arith, h.size);
-      group = λ e. let none : sid_part_size t.group ≡ 0 = ap sid_part_size e in omega (arith, h.size);
-      sacl = λ e. let none : acl_part_size t.sacl ≡ 0 = ap acl_part_size e in omega (arith, h.size);
-      dacl = λ e. let none : acl_part_size t.dacl ≡ 0 = ap acl_part_size e in omega (arith, h.size);
+      left = elim [
+        | part.Owner ↦ λ e. omega (arith, h.size, ap given_size e)
+        | part.Group ↦ λ e. omega (arith, h.size, ap given_size e)
+        | part.Sacl ↦ λ e. omega (arith, h.size, ap given_size e)
+        | part.Dacl ↦ λ e. omega (arith, h.size, ap given_size e)
+      ];
     }
 
--- an owner more
-pub owner-stands : (bytes : List ℕ) (b : Builder) (t : Parts) (s : SecurityId) → t.owner ≡ None → IsSid s
-    → PartsStand bytes b t
-    → PartsStand (bytes ++ sid_bytes s) (record b { owner = length bytes }) (record t { owner = Some s })
-owner-stands bytes b t s free limits h =
-    let new = bytes ++ sid_bytes s in
-    let keep = appended bytes (sid_bytes s) in
-    let long : length new ≡ length bytes + sid_size s = length-append bytes (sid_bytes s)
-    ∙ ap (λ (n : ℕ). length bytes + n) (length-sid_bytes s) in
-    let left : sid_part_size t.owner ≡ 0 = ap sid_part_size free in
+-- one part more is given
+pub record IsOneMore (t u : Parts) (p : Part) (g : Given) : Type 0 where
+  pub is : given u p ≡ g
+  pub free : given t p ≡ nothing
+  pub others : (q : Part) → same_part p q ≡ false → given u q ≡ given t q
+
+closed-more : (t u : Parts) (p : Part) (g : Given) → IsOneMore t u p g → closed_size u ≡ closed_size t + given_size g
+closed-more t u p g h =
+    let is = ap given_size h.is in
+    let free = ap given_size h.free in
+    let same = λ (q : Part) (e : same_part p q ≡ false). ap given_size (h.others q e) in
+    by_part p is free same
+  where
+    by_part : (p : Part) → given_size (given u p) ≡ given_size g → given_size (given t p) ≡ 0
+        → ((q : Part) → same_part p q ≡ false → given_size (given u q) ≡ given_size (given t q))
+        → closed_size u ≡ closed_size t + given_size g
+    by_part part.Owner is free same =
+        omega (arith, is, free, same part.Group refl, same part.Sacl refl, same part.Dacl refl)
+    by_part part.Group is free same =
+        omega (arith, is, free, same part.Owner refl, same part.Sacl refl, same part.Dacl refl)
+    by_part part.Sacl is free same =
+        omega (arith, is, free, same part.Owner refl, same part.Group refl, same part.Dacl refl)
+    by_part part.Dacl is free same =
+        omega (arith, is, free, same part.Owner refl, same part.Group refl, same part.Sacl refl)
+
+-- where a part stands, by what is kept and what is given of it
+extent-kept : (b : Builder) (t : Parts) (p : Part)
+    → get_part p (extents_kept b t) ≡ extent_at (get_part p b.offsets) (given t p)
+extent-kept b t part.Owner = refl
+extent-kept b t part.Group = refl
+extent-kept b t part.Sacl = refl
+extent-kept b t part.Dacl = refl
+
+one-more : (bytes new : List ℕ) (b : Builder) (t u : Parts) (p : Part) (n : ℕ) (g : Given) → IsOneMore t u p g
+    → Kept bytes new → PartStands new (Some n) g → length new ≡ length bytes + given_size g
+    → ((e : Extent) → EndsWithin e (length bytes) → Apart (extent_at (Some n) g) e)
+    → PartsStand bytes b t → PartsStand new (placed p n b) u
+one-more bytes new b t u p n g more keep stands long beside h =
+    let there = get-set p (Some n) b.offsets in
+    let same = λ (q : Part) (other : same_part p q ≡ false). get-other p q (Some n) b.offsets other in
+    let here : get_part p (extents_kept (placed p n b) u) ≡ extent_at (Some n) g =
+    extent-kept (placed p n b) u p ∙ rw (there, more.is) refl in
     record {
-      owner = (limits, stands-last bytes (sid_bytes s) (low bytes b t h));
-      group = sid-kept bytes new b.group t.group keep h.group;
-      sacl = acl-kept bytes new b.sacl t.sacl keep h.sacl;
-      dacl = acl-kept bytes new b.dacl t.dacl keep h.dacl;
-      apart = record {
-        owner_group = last-apart _ _ _ (sid-ends bytes b.group t.group h.group);
-        owner_sacl = last-apart _ _ _ (acl-ends bytes b.sacl t.sacl h.sacl);
-        owner_dacl = last-apart _ _ _ (acl-ends bytes b.dacl t.dacl h.dacl);
-        group_sacl = h.apart.group_sacl;
-        group_dacl = h.apart.group_dacl;
-        sacl_dacl = h.apart.sacl_dacl;
-      };
-      size = omega (arith, h.size, long, left);
+      each = each-part (λ q. PartStands new (get_part q (placed p n b).offsets) (given u q)) p
+          (rw (there, more.is) stands)
+          (λ q other. rw (same q other, more.others q other) (part-kept bytes new _ _ keep (h.each q)));
+      apart = apart-with (extents_kept b t) (extents_kept (placed p n b) u) p h.apart
+          (λ q other.
+          extent-kept (placed p n b) u q ∙ rw (same q other, more.others q other) (sym (extent-kept b t q)))
+          (λ q other. rw (here, extent-kept b t q) (beside _ (part-ends bytes _ _ (h.each q))));
+      size = omega (arith, h.size, long, closed-more t u p g more);
     }
 
--- a group more
-pub group-stands : (bytes : List ℕ) (b : Builder) (t : Parts) (s : SecurityId) → t.group ≡ None → IsSid s
-    → PartsStand bytes b t
-    → PartsStand (bytes ++ sid_bytes s) (record b { group = length bytes }) (record t { group = Some s })
-group-stands bytes b t s free limits h =
-    let new = bytes ++ sid_bytes s in
-    let keep = appended bytes (sid_bytes s) in
-    let long : length new ≡ length bytes + sid_size s = length-append bytes (sid_bytes s)
-    ∙ ap (λ (n : ℕ). length bytes + n) (length-sid_bytes s) in
-    let left : sid_part_size t.group ≡ 0 = ap sid_part_size free in
-    record {
-      owner = sid-kept bytes new b.owner t.owner keep h.owner;
-      group = (limits, stands-last bytes (sid_bytes s) (low bytes b t h));
-      sacl = acl-kept bytes new b.sacl t.sacl keep h.sacl;
-      dacl = acl-kept bytes new b.dacl t.dacl keep h.dacl;
-      apart = record {
-        owner_group = apart-last _ _ _ (sid-ends bytes b.owner t.owner h.owner);
-        owner_sacl = h.apart.owner_sacl;
-        owner_dacl = h.apart.owner_dacl;
-        group_sacl = last-apart _ _ _ (acl-ends bytes b.sacl t.sacl h.sacl);
-        group_dacl = last-apart _ _ _ (acl-ends bytes b.dacl t.dacl h.dacl);
-        sacl_dacl = h.apart.sacl_dacl;
-      };
-      size = omega (arith, h.size, long, left);
-    }
+-- a SID, a list or a null ACL more
+pub sid-more : (bytes : List ℕ) (b : Builder) (t u : Parts) (p : Part) (s : SecurityId) → IsOneMore t u p (sid s)
+    → IsSid s → PartsStand bytes b t → PartsStand (bytes ++ sid_bytes s) (placed p (length bytes) b) u
+sid-more bytes b t u p s more limits h =
+    one-more bytes _ b t u p (length bytes) (sid s) more (appended bytes (sid_bytes s))
+    (limits, stands-last bytes (sid_bytes s) (room bytes b t h).low) (length-append bytes (sid_bytes s))
+    (last-apart (length bytes) _) h
 
--- an ACL more
-pub list-stands : (bytes : List ℕ) (b : Builder) (t : Parts) (w : Which) (aces : List AccessControlEntry)
-    → acl_for w t ≡ acl.Absent → IsAcl aces
-    → PartsStand bytes b t
-    → PartsStand (bytes ++ acl_bytes aces) (placed w (length bytes) b) (with_acl w (acl.List aces) t)
-list-stands bytes b t lists.Sacl aces free limits h =
-    let new = bytes ++ acl_bytes aces in
-    let keep = appended bytes (acl_bytes aces) in
-    let long : length new ≡ length bytes + acl_size aces = length-append bytes (acl_bytes aces)
-    ∙ ap (λ (n : ℕ). length bytes + n) (length-acl_bytes aces) in
-    let left : acl_part_size t.sacl ≡ 0 = ap acl_part_size free in
-    record {
-      owner = sid-kept bytes new b.owner t.owner keep h.owner;
-      group = sid-kept bytes new b.group t.group keep h.group;
-      sacl = (limits, stands-last bytes (acl_bytes aces) (low bytes b t h));
-      dacl = acl-kept bytes new b.dacl t.dacl keep h.dacl;
-      apart = record {
-        owner_group = h.apart.owner_group;
-        owner_sacl = apart-last _ _ _ (sid-ends bytes b.owner t.owner h.owner);
-        owner_dacl = h.apart.owner_dacl;
-        group_sacl = apart-last _ _ _ (sid-ends bytes b.group t.group h.group);
-        group_dacl = h.apart.group_dacl;
-        sacl_dacl = last-apart _ _ _ (acl-ends bytes b.dacl t.dacl h.dacl);
-      };
-      size = omega (arith, h.size, long, left);
-    }
-list-stands bytes b t lists.Dacl aces free limits h =
-    let new = bytes ++ acl_bytes aces in
-    let keep = appended bytes (acl_bytes aces) in
-    let long : length new ≡ length bytes + acl_size aces = length-append bytes (acl_bytes aces)
-    ∙ ap (λ (n : ℕ). length bytes + n) (length-acl_bytes aces) in
-    let left : acl_part_size t.dacl ≡ 0 = ap acl_part_size free in
-    record {
-      owner = sid-kept bytes new b.owner t.owner keep h.owner;
-      group = sid-kept bytes new b.group t.group keep h.group;
-      sacl = acl-kept bytes new b.sacl t.sacl keep h.sacl;
-      dacl = (limits, stands-last bytes (acl_bytes aces) (low bytes b t h));
-      apart = record {
-        owner_group = h.apart.owner_group;
-        owner_sacl = h.apart.owner_sacl;
-        owner_dacl = apart-last _ _ _ (sid-ends bytes b.owner t.owner h.owner);
-        group_sacl = h.apart.group_sacl;
-        group_dacl = apart-last _ _ _ (sid-ends bytes b.group t.group h.group);
-        sacl_dacl = apart-last _ _ _ (acl-ends bytes b.sacl t.sacl h.sacl);
-      };
-      size = omega (arith, h.size, long, left);
-    }
+pub list-more : (bytes : List ℕ) (b : Builder) (t u : Parts) (p : Part) (aces : List AccessControlEntry)
+    → IsOneMore t u p (list aces) → IsAcl aces → PartsStand bytes b t
+    → PartsStand (bytes ++ acl_bytes aces) (placed p (length bytes) b) u
+list-more bytes b t u p aces more limits h =
+    one-more bytes _ b t u p (length bytes) (list aces) more (appended bytes (acl_bytes aces))
+    (limits, stands-last bytes (acl_bytes aces) (room bytes b t h).low) (length-append bytes (acl_bytes aces))
+    (last-apart (length bytes) _) h
 
--- a null ACL more
-pub null-stands : (bytes : List ℕ) (b : Builder) (t : Parts) (w : Which) → acl_for w t ≡ acl.Absent
-    → PartsStand bytes b t → PartsStand bytes (placed w 0 b) (with_acl w acl.Null t)
-null-stands bytes b t lists.Sacl free h =
-    let left : acl_part_size t.sacl ≡ 0 = ap acl_part_size free in record {
-      owner = h.owner;
-      group = h.group;
-      sacl = refl;
-      dacl = h.dacl;
-      apart = record {
-        owner_group = h.apart.owner_group;
-        owner_sacl = apart-none _;
-        owner_dacl = h.apart.owner_dacl;
-        group_sacl = apart-none _;
-        group_dacl = h.apart.group_dacl;
-        sacl_dacl = tt;
-      };
-      size = omega (arith, h.size, left);
-    }
-null-stands bytes b t lists.Dacl free h =
-    let left : acl_part_size t.dacl ≡ 0 = ap acl_part_size free in record {
-      owner = h.owner;
-      group = h.group;
-      sacl = h.sacl;
-      dacl = refl;
-      apart = record {
-        owner_group = h.apart.owner_group;
-        owner_sacl = h.apart.owner_sacl;
-        owner_dacl = apart-none _;
-        group_sacl = h.apart.group_sacl;
-        group_dacl = apart-none _;
-        sacl_dacl = apart-none _;
-      };
-      size = omega (arith, h.size, left);
-    }
+pub null-more : (bytes : List ℕ) (b : Builder) (t u : Parts) (p : Part) → IsOneMore t u p null
+    → PartsStand bytes b t → PartsStand bytes (placed p 0 b) u
+null-more bytes b t u p more h =
+    one-more bytes bytes b t u p 0 null more (λ offset part stands. stands) refl (omega arith) (λ e ends. tt) h

@@ -7,13 +7,17 @@ use Rattle.sd_view.specs.Acl.{acl_size}
 use Rattle.sd_view.specs.AclLayout.{acl_bytes}
 use Rattle.sd_control.specs.Control.{control_of}
 use Rattle.sd_view.specs.Descriptor.{Descriptor, dacl_at, sacl_at}
-use Rattle.sd_view.specs.Layout.{acl_part, header_bytes, sid_part, size}
+use Rattle.sd_control.specs.Header.{header_bytes}
+use Rattle.sd_view.specs.Layout.{acl_part, sid_part, size}
 use Rattle.sd_view.specs.declared.acl.AclPart.{AclPart}
 use Rattle.sd_view.specs.declared.acl.AclPart.TheVariants as acl
-use Rattle.sd_view.specs.declared.fault.Part.{Part}
-use Rattle.sd_view.specs.declared.fault.Part.TheVariants as part
-use Rattle.sd_control.specs.declared.control.Which.{Which}
-use Rattle.sd_control.specs.declared.control.Which.TheVariants as which
+use Rattle.sd_control.specs.Parts.{part_of, same_part}
+use Rattle.sd_control.specs.declared.part.Part.{Part}
+use Rattle.sd_control.specs.declared.part.Part.TheVariants as part
+use Rattle.sd_control.specs.declared.part.SidPart.{SidPart}
+use Rattle.sd_control.specs.declared.part.SidPart.TheVariants as sids
+use Rattle.sd_control.specs.declared.part.Which.{Which}
+use Rattle.sd_control.specs.declared.part.Which.TheVariants as which
 
 -- 1. The parts.
 
@@ -28,6 +32,10 @@ pub record Parts : Type 0 where
 abbrev pub no_parts : Parts
 no_parts = record { owner = None; group = None; sacl = acl.Absent; dacl = acl.Absent; «open» = None }
 
+abbrev pub with_sid : SidPart → SecurityId → Parts → Parts
+with_sid sids.Owner s t = record t { owner = Some s }
+with_sid sids.Group s t = record t { group = Some s }
+
 abbrev pub acl_for : Which → Parts → AclPart
 acl_for which.Sacl t = t.sacl
 acl_for which.Dacl t = t.dacl
@@ -35,10 +43,6 @@ acl_for which.Dacl t = t.dacl
 abbrev pub with_acl : Which → AclPart → Parts → Parts
 with_acl which.Sacl part t = record t { sacl = part }
 with_acl which.Dacl part t = record t { dacl = part }
-
-abbrev pub part_of : Which → Part
-part_of which.Sacl = part.Sacl
-part_of which.Dacl = part.Dacl
 
 -- no ACL is open, and the part is not given yet
 abbrev pub CanBegin : Which → Parts → Type 0
@@ -92,10 +96,10 @@ abbrev pub nothing_given : Draft
 nothing_given = record { parts = no_parts; order = [] }
 
 abbrev pub with_owner : SecurityId → Draft → Draft
-with_owner s t = record { parts = record t.parts { owner = Some s }; order = t.order ++ part.Owner ∷ [] }
+with_owner s t = record { parts = with_sid sids.Owner s t.parts; order = t.order ++ part.Owner ∷ [] }
 
 abbrev pub with_group : SecurityId → Draft → Draft
-with_group s t = record { parts = record t.parts { group = Some s }; order = t.order ++ part.Group ∷ [] }
+with_group s t = record { parts = with_sid sids.Group s t.parts; order = t.order ++ part.Group ∷ [] }
 
 abbrev pub ended_in : Option (Which × List AccessControlEntry) → Draft → Draft
 ended_in None t = t
@@ -132,13 +136,6 @@ part_bytes t part.Group = sid_part t.group
 part_bytes t part.Sacl = acl_part t.sacl
 part_bytes t part.Dacl = acl_part t.dacl
 
-abbrev pub same_part : Part → Part → Bool
-same_part part.Owner part.Owner = true
-same_part part.Group part.Group = true
-same_part part.Sacl part.Sacl = true
-same_part part.Dacl part.Dacl = true
-same_part _ _ = false
-
 -- where a part begins among parts that stand one after the other from there on, and 0 where it is none of them
 abbrev pub offset_among : ℕ → Parts → List Part → Part → ℕ
 offset_among start t [] p = 0
@@ -154,8 +151,12 @@ bytes_in_order t = flat_map (part_bytes t.parts) t.order
 
 abbrev pub built_bytes : ℕ → ℕ → Draft → List ℕ
 built_bytes flags rm t =
-    header_bytes rm (control_of flags (is_present t.parts.sacl) (is_present t.parts.dacl))
-    (offset_of t part.Owner) (offset_of t part.Group) (offset_of t part.Sacl) (offset_of t part.Dacl)
+    header_bytes rm (control_of flags (is_present t.parts.sacl) (is_present t.parts.dacl)) (record {
+      owner = offset_of t part.Owner;
+      group = offset_of t part.Group;
+      sacl = offset_of t part.Sacl;
+      dacl = offset_of t part.Dacl;
+    })
     ++ bytes_in_order t
 
 -- 5. Bytes that have no gap, and the one written form of each part.

@@ -1,4 +1,5 @@
-// SIDs and ACEs appended to a buffer.
+//! SIDs and ACEs appended to a buffer.
+
 ghost use Rattle.std.specs.Prelude.{◌≡◌, ◌≤◌, ◌+◌, ◌*◌, ◌++◌, ◌∷◌, length};
 ghost use Rattle.std.specs.List.{flat_map};
 ghost use Rattle.byteorder.specs.Endian.{big_bytes, little_bytes};

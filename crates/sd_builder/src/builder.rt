@@ -1,34 +1,34 @@
-// Descriptors built part by part in a buffer.
+//! Descriptors built part by part in a buffer.
+
 ghost use Rattle.std.specs.Prelude.{◌≡◌, ◌≤◌, ◌<◌, ◌+◌, ◌^◌, ◌↔◌, ◌||◌, None, IsErr, OnOk, OnErr};
 ghost use Rattle.sd_ace.specs.Ace.{ace_size};
 ghost use Rattle.sd_builder.specs.Builds.{Builds};
 ghost use Rattle.sd_builder.specs.Inner.Building.{placed};
 ghost use Rattle.sd_view.specs.Descriptor.{Shows};
-ghost use Rattle.sd_builder.specs.Draft.{CanBegin, Draft, IsOpen, begun, built, built_bytes, ended, nothing_given, open_size, with_ace, with_acl, with_group, with_owner};
+ghost use Rattle.sd_builder.specs.Draft.{CanBegin, Draft, IsOpen, begun, built, built_bytes, ended, nothing_given};
+ghost use Rattle.sd_builder.specs.Draft.{open_size, with_ace, with_acl, with_group, with_owner};
 ghost use Rattle.sd_view.specs.declared.acl.AclPart.TheVariants as acl;
 
 use crate::append::{append_ace, append_sid_at};
 use sd_ace::Ace;
 use sd_buffer::SdBuf;
-use sd_control::{ACL_HEADER_SIZE, HEADER_SIZE, MOST_ACL_SIZE, Which, control_of};
+use sd_control::{
+    ACL_HEADER_SIZE, HEADER_SIZE, MOST_ACL_SIZE, Part, Parts, Which, control_of, header,
+};
 use sd_sid::Sid;
-use sd_view::{acl_header, header};
+use sd_view::acl_header;
 
 /// The ACL would pass 65,535 bytes.
 #[derive(Clone, Copy, Debug, PartialEq, Eq)]
 pub struct AclTooLarge;
 
-/// A descriptor that is built in a buffer beside it (MS-DTYP 2.4.6): owner, group and the two ACLs, each at most once and
-/// in any order, and then `finish`. Each call takes the buffer as the builder's last call left it. The parts stand in the
-/// buffer in the order of the calls, without gaps.
+/// A descriptor that is built in a buffer beside it (MS-DTYP 2.4.6): owner, group and the two ACLs, each at most once
+/// and in any order, and then `finish`. Each call takes the buffer as the builder's last call left it. The parts stand
+/// in the buffer in the order of the calls, without gaps.
 #[derive(Drop)]
 pub struct Builder {
-    // The offsets of the SIDs, and 0 where there is none.
-    owner: u32,
-    group: u32,
-    // The offsets of the ACLs that are present, and 0 where one is null.
-    sacl: Option<u32>,
-    dacl: Option<u32>,
+    // The offsets of the parts that were given, and 0 for an ACL that is null.
+    offsets: Parts<Option<u32>>,
     open: Option<OpenAcl>,
 }
 
@@ -62,10 +62,7 @@ impl Builder {
         // Room for the header, which `finish` writes.
         buf.append(&[0; HEADER_SIZE]);
         Builder {
-            owner: 0,
-            group: 0,
-            sacl: None,
-            dacl: None,
+            offsets: Parts::each(None),
             open: None,
         }
     }
@@ -75,7 +72,8 @@ impl Builder {
         requires { (t : Draft) × Builds self.old buf.old t × (t.parts.owner ≡ None) × (t.parts.«open» ≡ None) }
         ensures value { (t : Draft) → Builds self.old buf.old t → Builds self.new buf.new (with_owner sid.now t) }
     {
-        self.owner = append_sid_at(buf, sid);
+        let offset = append_sid_at(buf, sid);
+        self.keep(Part::Owner, offset);
     }
 
     /// Appends the SID of the primary group (MS-DTYP 2.4.2).
@@ -83,7 +81,8 @@ impl Builder {
         requires { (t : Draft) × Builds self.old buf.old t × (t.parts.group ≡ None) × (t.parts.«open» ≡ None) }
         ensures value { (t : Draft) → Builds self.old buf.old t → Builds self.new buf.new (with_group sid.now t) }
     {
-        self.group = append_sid_at(buf, sid);
+        let offset = append_sid_at(buf, sid);
+        self.keep(Part::Group, offset);
     }
 
     /// Begins an ACL (MS-DTYP 2.4.5), to which `ace` appends, until `end_acl`.
@@ -102,8 +101,8 @@ impl Builder {
         buf.append(&[0; ACL_HEADER_SIZE]);
     }
 
-    /// Appends an ACE (MS-DTYP 2.4.4) to the ACL that is open. AclTooLarge exactly where the ACL would pass 65,535 bytes,
-    /// and then nothing is changed.
+    /// Appends an ACE (MS-DTYP 2.4.4) to the ACL that is open. AclTooLarge exactly where the ACL would pass 65,535
+    /// bytes, and then nothing is changed.
     pub fn ace(&mut self, buf: &mut SdBuf, ace: &Ace) -> Result<(), AclTooLarge>
         requires { (t : Draft) × Builds self.old buf.old t × IsOpen t.parts }
         ensures full { (t : Draft) → Builds self.old buf.old t
@@ -124,8 +123,8 @@ impl Builder {
         Ok(())
     }
 
-    /// Ends the ACL that is open, and writes its header (MS-DTYP 2.4.5): revision 4 exactly where an object ACE stands in
-    /// it, and else 2.
+    /// Ends the ACL that is open, and writes its header (MS-DTYP 2.4.5): revision 4 exactly where an object ACE stands
+    /// in it, and else 2.
     pub fn end_acl(&mut self, buf: &mut SdBuf)
         requires { (t : Draft) × Builds self.old buf.old t × IsOpen t.parts }
         ensures value { (t : Draft) → Builds self.old buf.old t → Builds self.new buf.new (ended t) }
@@ -135,7 +134,7 @@ impl Builder {
         let size = (buf.bytes().len() - start) as u16;
         buf.patch(start, &acl_header(open.object, size, open.count));
         self.open = None;
-        self.keep(open.which, open.start);
+        self.keep(open.which.into(), open.start);
     }
 
     /// An ACL that is present and null (MS-DTYP 2.4.6): its offset is 0.
@@ -144,36 +143,32 @@ impl Builder {
         ensures value { (t : Draft) → Builds self.old buf.old t
             → Builds self.new buf.new (record t { parts = with_acl which acl.Null t.parts }) }
     {
-        self.keep(which, 0);
+        self.keep(which.into(), 0);
     }
 
-    // Keeps the offset of an ACL that is present.
-    fn keep(&mut self, which: Which, offset: u32)
-        ensures { self.new ≡ placed which offset self.old }
+    // Keeps the offset of a part that was given.
+    fn keep(&mut self, part: Part, offset: u32)
+        ensures { self.new ≡ placed part offset self.old }
     {
-        match which {
-            Which::Sacl => self.sacl = Some(offset),
-            Which::Dacl => self.dacl = Some(offset),
-        }
+        self.offsets.set(part, Some(offset));
     }
 
-    /// Writes the header (MS-DTYP 2.4.6). Of the flags the bits 0x8000, 0x10 and 0x4 don't count: the first is set, and the
-    /// others tell which ACLs stand.
+    /// Writes the header (MS-DTYP 2.4.6). Of the flags the bits 0x8000, 0x10 and 0x4 don't count: the first is set, and
+    /// the others tell which ACLs stand.
     pub fn finish(self, buf: &mut SdBuf, flags: u16, rm: u8)
         requires { (t : Draft) × Builds self buf.old t × (t.parts.«open» ≡ None) }
         // The header, and the parts in the order of the calls.
         ensures exact { (t : Draft) → Builds self buf.old t → buf.new ≡ built_bytes flags rm t }
         ensures shows { (t : Draft) → Builds self buf.old t → Shows buf.new (built flags rm t.parts) }
     {
-        let control = control_of(flags, self.sacl.is_some(), self.dacl.is_some());
-        let bytes = header(
-            rm,
-            control,
-            self.owner,
-            self.group,
-            self.sacl.unwrap_or(0),
-            self.dacl.unwrap_or(0),
-        );
-        buf.patch(0, &bytes);
+        let kept = self.offsets;
+        let control = control_of(flags, kept.sacl.is_some(), kept.dacl.is_some());
+        let offsets = Parts {
+            owner: kept.owner.unwrap_or(0),
+            group: kept.group.unwrap_or(0),
+            sacl: kept.sacl.unwrap_or(0),
+            dacl: kept.dacl.unwrap_or(0),
+        };
+        buf.patch(0, &header(rm, control, offsets));
     }
 }

@@ -1,4 +1,5 @@
-// The written form of a descriptor in a buffer.
+//! The written form of a descriptor in a buffer.
+
 ghost use Rattle.std.specs.Prelude.{◌≡◌};
 ghost use Rattle.sd_view.specs.Layout.{layout};
 

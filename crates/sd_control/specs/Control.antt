@@ -3,8 +3,8 @@
 -- `AreListedBits` say which numbers these are.
 use Rattle.std.specs.Prelude.{◌≡◌, ℕ, ◌+◌, ◌-◌, Bool, true, false, List, [], ◌∷◌, codes, map}
 use Rattle.sd_text.specs.Bits.{bit_of, has_bit}
-use Rattle.sd_control.specs.declared.control.Which.{Which}
-use Rattle.sd_control.specs.declared.control.Which.TheVariants as which
+use Rattle.sd_control.specs.declared.part.Which.{Which}
+use Rattle.sd_control.specs.declared.part.Which.TheVariants as which
 use Rattle.sd_control.specs.declared.control.AclFlags.{AclFlags}
 use Rattle.sd_control.specs.declared.control.ControlBit.{ControlBit}
 use Rattle.sd_control.specs.declared.control.TheConstants.{DACL_AUTO_INHERITED, DACL_AUTO_INHERIT_REQUIRED, DACL_DEFAULTED, DACL_PRESENT, DACL_PROTECTED, GROUP_DEFAULTED, OWNER_DEFAULTED, RM_CONTROL_VALID, SACL_AUTO_INHERITED, SACL_AUTO_INHERIT_REQUIRED, SACL_DEFAULTED, SACL_PRESENT, SACL_PROTECTED, SELF_RELATIVE}

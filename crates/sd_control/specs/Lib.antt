@@ -1,2 +1,4 @@
 pub mod Control
+pub mod Header
 pub mod Limits
+pub mod Parts

@@ -1,14 +1,11 @@
-// The control word of a descriptor (MS-DTYP 2.4.6).
+//! The control word of a descriptor (MS-DTYP 2.4.6).
+
 ghost use Rattle.std.specs.Prelude.{◌≡◌, ◌<◌, ◌+◌, ◌^◌, ℕ, false};
 ghost use Rattle.sd_text.specs.Bits.{bit_of, has_bit};
-ghost use Rattle.sd_control.specs.Control.{AreListedBits, acl_flags, all_flags, bit_if, flag_bits, no_flags, other_acl, control_of};
+ghost use Rattle.sd_control.specs.Control.{AreListedBits, acl_flags, all_flags, bit_if, flag_bits, no_flags, other_acl};
+ghost use Rattle.sd_control.specs.Control.{control_of};
 
-/// One of the two ACLs of a descriptor (MS-DTYP 2.4.6).
-#[derive(Clone, Copy, Debug, PartialEq, Eq)]
-pub enum Which {
-    Sacl,
-    Dacl,
-}
+use crate::part::Which;
 
 /// OD: the owner came from a default.
 pub const OWNER_DEFAULTED: u16 = 0x1;
@@ -72,78 +69,33 @@ impl ControlBit {
     }
 }
 
+// So that a row is one line.
+macro_rules! bit {
+    ($first:literal, $second:literal, $bit:ident) => {
+        ControlBit {
+            first: $first,
+            second: $second,
+            bit: $bit,
+        }
+    };
+}
+
 /// The bits of the control word that have names, in rising order. 0x40 and 0x80 are kept and have none.
 pub const CONTROL_BITS: [ControlBit; 14] = [
-    ControlBit {
-        first: b'O',
-        second: b'D',
-        bit: OWNER_DEFAULTED,
-    },
-    ControlBit {
-        first: b'G',
-        second: b'D',
-        bit: GROUP_DEFAULTED,
-    },
-    ControlBit {
-        first: b'D',
-        second: b'P',
-        bit: DACL_PRESENT,
-    },
-    ControlBit {
-        first: b'D',
-        second: b'D',
-        bit: DACL_DEFAULTED,
-    },
-    ControlBit {
-        first: b'S',
-        second: b'P',
-        bit: SACL_PRESENT,
-    },
-    ControlBit {
-        first: b'S',
-        second: b'D',
-        bit: SACL_DEFAULTED,
-    },
-    ControlBit {
-        first: b'D',
-        second: b'C',
-        bit: DACL_AUTO_INHERIT_REQUIRED,
-    },
-    ControlBit {
-        first: b'S',
-        second: b'C',
-        bit: SACL_AUTO_INHERIT_REQUIRED,
-    },
-    ControlBit {
-        first: b'D',
-        second: b'I',
-        bit: DACL_AUTO_INHERITED,
-    },
-    ControlBit {
-        first: b'S',
-        second: b'I',
-        bit: SACL_AUTO_INHERITED,
-    },
-    ControlBit {
-        first: b'P',
-        second: b'D',
-        bit: DACL_PROTECTED,
-    },
-    ControlBit {
-        first: b'P',
-        second: b'S',
-        bit: SACL_PROTECTED,
-    },
-    ControlBit {
-        first: b'R',
-        second: b'M',
-        bit: RM_CONTROL_VALID,
-    },
-    ControlBit {
-        first: b'S',
-        second: b'R',
-        bit: SELF_RELATIVE,
-    },
+    bit!(b'O', b'D', OWNER_DEFAULTED),
+    bit!(b'G', b'D', GROUP_DEFAULTED),
+    bit!(b'D', b'P', DACL_PRESENT),
+    bit!(b'D', b'D', DACL_DEFAULTED),
+    bit!(b'S', b'P', SACL_PRESENT),
+    bit!(b'S', b'D', SACL_DEFAULTED),
+    bit!(b'D', b'C', DACL_AUTO_INHERIT_REQUIRED),
+    bit!(b'S', b'C', SACL_AUTO_INHERIT_REQUIRED),
+    bit!(b'D', b'I', DACL_AUTO_INHERITED),
+    bit!(b'S', b'I', SACL_AUTO_INHERITED),
+    bit!(b'P', b'D', DACL_PROTECTED),
+    bit!(b'P', b'S', SACL_PROTECTED),
+    bit!(b'R', b'M', RM_CONTROL_VALID),
+    bit!(b'S', b'R', SELF_RELATIVE),
 ];
 
 /// The flags of one of the two ACLs, which stand in the control word (MS-DTYP 2.4.6): P, AR and AI in SDDL.
@@ -177,12 +129,14 @@ impl AclFlags {
     pub fn bits(self, which: Which) -> u16
         ensures value { result ≡ flag_bits which self }
         // Beside any other bits of a control word they are read back,
-        ensures back { (others : ℕ) → acl_flags which others ≡ no_flags → acl_flags which (others + flag_bits which self) ≡ self }
+        ensures back { (others : ℕ) → acl_flags which others ≡ no_flags
+            → acl_flags which (others + flag_bits which self) ≡ self }
         // the flags of the other ACL are as they were,
         ensures apart { (others : ℕ) → acl_flags which others ≡ no_flags
             → acl_flags (other_acl which) (others + flag_bits which self) ≡ acl_flags (other_acl which) others }
         // and so is each bit that is no flag of this ACL.
-        ensures same { (others bit : ℕ) → acl_flags which others ≡ no_flags → has_bit (2 ^ bit) (flag_bits which all_flags) ≡ false
+        ensures same { (others bit : ℕ) → acl_flags which others ≡ no_flags
+            → has_bit (2 ^ bit) (flag_bits which all_flags) ≡ false
             → has_bit (2 ^ bit) (others + flag_bits which self) ≡ has_bit (2 ^ bit) others }
     {
         match which {

@@ -1,4 +1,4 @@
-// The sizes of the parts of a descriptor, and how large they may be.
+//! The sizes of the parts of a descriptor, and how large they may be.
 
 /// The bytes of a descriptor's header (MS-DTYP 2.4.6): revision, resource manager byte, control word and four offsets.
 pub const HEADER_SIZE: usize = 20;

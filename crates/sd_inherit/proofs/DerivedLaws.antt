@@ -9,7 +9,7 @@ use Rattle.sd_builder.proofs.laws.BuiltBytes.{layout_order}
 use Rattle.sd_builder.specs.Draft.{CanBegin, Draft, Parts, built, is_present, nothing_given, with_group, with_owner}
 use Rattle.sd_view.specs.declared.acl.AclPart.{AclPart}
 use Rattle.sd_view.specs.declared.acl.AclPart.TheVariants as acl
-use Rattle.sd_control.specs.declared.control.Which.TheVariants.{Sacl, Dacl}
+use Rattle.sd_control.specs.declared.part.Which.TheVariants.{Sacl, Dacl}
 use Rattle.sd_inherit.specs.Inner.Building.{bits_beside, is_null, with_part}
 use Rattle.sd_inherit.specs.Derived.{dacl_beside, derive_fault, derived, is_list, is_too_large, new_aces, new_dacl}
 use Rattle.sd_inherit.specs.Derived.{new_flag_bits, new_sacl, sacl_beside, sacl_of}

@@ -6,7 +6,7 @@ ghost use Rattle.sd_view.specs.Acl.{aces_size, acl_size};
 ghost use Rattle.sd_builder.specs.Builds.{Builds};
 ghost use Rattle.sd_builder.specs.Draft.{CanBegin, Draft, is_present, open_size};
 ghost use Rattle.sd_view.specs.declared.acl.AclPart.TheVariants as acl;
-ghost use Rattle.sd_control.specs.declared.control.Which.TheVariants as which;
+ghost use Rattle.sd_control.specs.declared.part.Which.TheVariants as which;
 ghost use Rattle.sd_inherit.specs.Inner.Building.{HasOpen, gives, listed, one_or_none, with_aces, with_part};
 ghost use Rattle.sd_inherit.specs.Copies.{copies};
 ghost use Rattle.sd_inherit.specs.Derived.{dacl_beside, gathered, inherited, sacl_beside, sacl_of};

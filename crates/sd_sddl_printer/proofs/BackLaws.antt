@@ -15,8 +15,8 @@ use Rattle.sd_sddl_reader.specs.declared.line.Head.TheVariants as head
 use Rattle.sd_sddl_reader.specs.declared.line.SidPart.{SidPart}
 use Rattle.sd_sddl_reader.specs.declared.line.SidPart.TheVariants as sid_part
 use Rattle.sd_sid.specs.declared.naming.Naming.{Naming}
-use Rattle.sd_control.specs.declared.control.Which.{Which}
-use Rattle.sd_control.specs.declared.control.Which.TheVariants as which
+use Rattle.sd_control.specs.declared.part.Which.{Which}
+use Rattle.sd_control.specs.declared.part.Which.TheVariants as which
 use Rattle.sd_builder.specs.Draft.{is_present, no_parts}
 use Rattle.sd_sddl_reader.specs.FoldedReading.{Field, FieldsRead, described, fields_of, finished, folded, nothing_read, read_fields, reads_as, if_shaped}
 use Rattle.sd_sddl_reader.specs.Line.{Sections, has_twice, is_shaped, sections_of}

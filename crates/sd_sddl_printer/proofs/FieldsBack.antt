@@ -22,7 +22,7 @@ use Rattle.sd_sddl_reader.specs.declared.line.SidPart.{SidPart}
 use Rattle.sd_sddl_reader.specs.declared.line.Slot.{Slot}
 use Rattle.sd_sddl_reader.specs.declared.line.Slot.TheVariants as slot
 use Rattle.sd_control.specs.declared.control.AclFlags.{AclFlags}
-use Rattle.sd_control.specs.declared.control.Which.{Which}
+use Rattle.sd_control.specs.declared.part.Which.{Which}
 use Rattle.sd_sddl_reader.specs.FoldedReading.{FieldsRead, begun_or_null, no_fields, take_ace_field, take_field, take_front, take_readable, with_flags, with_owner_or_group, with_sid, with_trustee, with_value}
 use Rattle.sd_sddl_fields.specs.FieldTexts.{front_reads, kind_reads, object_reads}
 use Rattle.sd_builder.specs.Draft.{closed}

@@ -18,8 +18,8 @@ use Rattle.sd_sddl_reader.specs.declared.line.SidPart.{SidPart}
 use Rattle.sd_sddl_reader.specs.declared.line.Slot.TheVariants as slot
 use Rattle.sd_sid.specs.declared.naming.Naming.{Naming}
 use Rattle.sd_sddl_reader.specs.declared.reading.AceFields.{AceFields}
-use Rattle.sd_control.specs.declared.control.Which.{Which}
-use Rattle.sd_control.specs.declared.control.Which.TheVariants as which
+use Rattle.sd_control.specs.declared.part.Which.{Which}
+use Rattle.sd_control.specs.declared.part.Which.TheVariants as which
 use Rattle.sd_builder.specs.Draft.{Parts, begun, closed, with_ace, with_acl}
 use Rattle.sd_sddl_reader.specs.FoldedReading.{Field, FieldsRead, ace_fields, grown, large_in, no_fields, read_fields, take_field, with_flags, with_owner_or_group, with_trustee}
 use Rattle.sd_sddl_reader.specs.Line.{ace, byte, has_aces}

@@ -14,8 +14,8 @@ use Rattle.sd_sddl_reader.specs.Inner.Reads.{AreAceFields, BuildsParts, HasReadF
 use Rattle.sd_control.specs.declared.control.AclFlags.{AclFlags}
 use Rattle.sd_sddl_reader.specs.declared.reading.AceFields.{AceFields}
 use Rattle.sd_sddl_fields.specs.declared.field_texts.AclFront.{AclFront}
-use Rattle.sd_control.specs.declared.control.Which.{Which}
-use Rattle.sd_control.specs.declared.control.Which.TheVariants as which
+use Rattle.sd_control.specs.declared.part.Which.{Which}
+use Rattle.sd_control.specs.declared.part.Which.TheVariants as which
 use Rattle.sd_sddl_reader.specs.declared.reading.FieldReader.{FieldReader}
 
 module _ (r : FieldReader) (buf : List ℕ) (t : FieldsRead) (h : HasReadFields r buf t) where

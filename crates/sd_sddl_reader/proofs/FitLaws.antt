@@ -36,8 +36,8 @@ use Rattle.sd_sddl_reader.specs.declared.line.Slot.TheVariants as slot
 use Rattle.sd_sddl_reader.specs.declared.reader.SddlReader.{SddlReader}
 use Rattle.sd_sddl_reader.specs.declared.reading.AceFields.{AceFields}
 use Rattle.sd_sddl_fields.specs.declared.field_texts.AclFront.{AclFront}
-use Rattle.sd_control.specs.declared.control.Which.{Which}
-use Rattle.sd_control.specs.declared.control.Which.TheVariants as which
+use Rattle.sd_control.specs.declared.part.Which.{Which}
+use Rattle.sd_control.specs.declared.part.Which.TheVariants as which
 
 -- 1. Where no fault is found, none was there, and the field was read.
 pub taken : (fault : Option SddlFault) (t u : FieldsRead) (next : FieldsRead → Result FieldsRead SddlFault)

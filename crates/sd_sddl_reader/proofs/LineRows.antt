@@ -13,8 +13,8 @@ use Rattle.sd_sid.specs.declared.sid_text.SidFault.TheVariants as sid_fault
 use Rattle.sd_view.specs.Descriptor.{Descriptor}
 use Rattle.sd_view.specs.declared.acl.AclPart.{AclPart}
 use Rattle.sd_view.specs.declared.acl.AclPart.TheVariants as acl
-use Rattle.sd_control.specs.declared.control.Which.{Which}
-use Rattle.sd_control.specs.declared.control.Which.TheVariants as which
+use Rattle.sd_control.specs.declared.part.Which.{Which}
+use Rattle.sd_control.specs.declared.part.Which.TheVariants as which
 use Rattle.sd_sddl_reader.specs.declared.fault.SddlFault.{SddlFault}
 use Rattle.sd_control.specs.Control.{no_flags}
 use Rattle.sd_sddl_fields.specs.FieldTexts.{front_reads, kind_reads, object_reads}

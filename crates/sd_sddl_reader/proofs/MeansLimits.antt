@@ -21,8 +21,8 @@ use Rattle.sd_view.specs.Descriptor.{Descriptor, IsAclPart, IsDescriptor}
 use Rattle.sd_builder.specs.Draft.{Parts, closed, closed_in, is_present, more_in, with_acl}
 use Rattle.sd_view.specs.declared.acl.AclPart.{AclPart}
 use Rattle.sd_view.specs.declared.acl.AclPart.TheVariants as acl
-use Rattle.sd_control.specs.declared.control.Which.{Which}
-use Rattle.sd_control.specs.declared.control.Which.TheVariants as which
+use Rattle.sd_control.specs.declared.part.Which.{Which}
+use Rattle.sd_control.specs.declared.part.Which.TheVariants as which
 use Rattle.sd_sddl_reader.specs.FoldedReading.{Field, FieldsRead, ace_of_fields, begun_or_null, described, fault_of, fields_of, finished, folded, large_in, no_fields, nothing_read, read_fields, reads_as, take_ace_field, take_field, take_front, take_readable, if_shaped, with_flags, with_owner_or_group, with_sid, with_trustee, with_value}
 use Rattle.sd_sddl_reader.specs.Line.{has_twice, is_shaped, sections_of}
 use Rattle.sd_text.specs.Chains.{and_then}

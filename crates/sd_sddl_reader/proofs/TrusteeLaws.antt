@@ -12,7 +12,7 @@ use Rattle.sd_sddl_reader.specs.FoldedReading.{FieldsRead, ace_of_fields, large_
 use Rattle.sd_sddl_reader.specs.Inner.Reads.{BuildsParts, HasReadFields}
 use Rattle.sd_sddl_reader.specs.declared.reading.FieldReader.{FieldReader}
 use Rattle.sd_builder.specs.declared.builder.Builder.{Builder}
-use Rattle.sd_control.specs.declared.control.Which.{Which}
+use Rattle.sd_control.specs.declared.part.Which.{Which}
 
 -- the ACL that is open is the same one, where one is
 is_open_with : (x y : Option (Which × List AccessControlEntry)) → option_map (λ o. o.0) x ≡ option_map (λ o. o.0) y

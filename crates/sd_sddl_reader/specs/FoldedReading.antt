@@ -16,8 +16,8 @@ use Rattle.sd_view.specs.Acl.{acl_size}
 use Rattle.sd_view.specs.Descriptor.{Descriptor}
 use Rattle.sd_builder.specs.Draft.{Parts, begun, built, closed, no_parts, with_ace, with_acl}
 use Rattle.sd_view.specs.declared.acl.AclPart.TheVariants as acl
-use Rattle.sd_control.specs.declared.control.Which.{Which}
-use Rattle.sd_control.specs.declared.control.Which.TheVariants as which
+use Rattle.sd_control.specs.declared.part.Which.{Which}
+use Rattle.sd_control.specs.declared.part.Which.TheVariants as which
 use Rattle.sd_control.specs.Control.{no_flags}
 use Rattle.sd_control.specs.declared.control.AclFlags.{AclFlags}
 use Rattle.std.specs.Option.{option_or}

@@ -9,8 +9,8 @@ use Rattle.sd_sid.specs.Sid.{SecurityId, IsSid, BeginsWithSid, sid_at, sid_of, s
 use Rattle.sd_sid.proofs.laws.Numbers.{AreBytes, AreBytes-drop, AreBytes-take}
 use Rattle.sd_sid.proofs.laws.SidLaws.{sid_at-bytes, sid_at-found}
 use Rattle.sd_view.specs.Bytes.{u16_at}
-use Rattle.sd_view.specs.declared.fault.Part.{Part}
-use Rattle.sd_view.specs.declared.fault.Part.TheVariants.{Owner, Group, Sacl, Dacl}
+use Rattle.sd_control.specs.declared.part.Part.{Part}
+use Rattle.sd_control.specs.declared.part.Part.TheVariants.{Owner, Group, Sacl, Dacl}
 use Rattle.sd_view.specs.declared.fault.SdFault.{SdFault}
 use Rattle.sd_view.specs.declared.fault.AclFault.{AclFault}
 use Rattle.sd_view.specs.declared.acl.AclPart.{AclPart}
@@ -18,10 +18,13 @@ use Rattle.sd_view.specs.declared.acl.AclPart.TheVariants as acl
 use Rattle.sd_ace.specs.Ace.{AccessControlEntry}
 use Rattle.sd_view.specs.Acl.{BeginsWithAcl}
 use Rattle.sd_view.specs.AclReading.{acl_fault, acl_of, acl_at_front}
-use Rattle.sd_view.specs.Descriptor.{Apart, AreApart, Descriptor, Extent, Extents, IsAclPart, IsDescriptor, Shows, ShowsAclPart, ShowsSid, control_at, dacl_at, extents_of, group_at, owner_at, sacl_at}
+use Rattle.sd_view.specs.Descriptor.{Apart, AreApart, Descriptor, Extent, IsAclPart, IsDescriptor, Shows, ShowsAclPart, ShowsSid, control_at, dacl_at, extents_of, group_at, owner_at, sacl_at}
 use Rattle.sd_control.specs.Control.{dacl_present, sacl_present, self_relative}
 use Rattle.sd_view.specs.Reading.{acl_part_fault, acl_shown, fault, fault_in, header_fault, overlap_fault, overlaps_fault, parts_fault, reading, share_a_byte, shown, sid_fault, sid_shown}
 use Rattle.sd_view.specs.Inner.Readable.{IsAclAt, IsSidAt, Readable}
+use Rattle.sd_control.specs.Parts.{get_part, same_part}
+use Rattle.sd_control.specs.declared.part.Parts.{Parts}
+use Rattle.sd_view.proofs.laws.ApartLaws.{six-apart}
 use Rattle.sd_view.proofs.AclLaws.{acl-begins, acl-readable, begins-acl, shows-acl-limits}
 use Rattle.sd_view.proofs.FirstFault.{first_none, none_first, otherwise, passed, went_on}
 
@@ -217,25 +220,25 @@ apart-share_a_byte (Some a) None h = refl
 apart-share_a_byte (Some a) (Some b) h = from_apart a.0 a.1 b.0 b.1 h
 
 -- no overlap where no byte is shared
-overlap_none : (p q : Part) (a b : Extent) → overlap_fault p a q b ≡ None → Apart a b
+overlap_none : (p q : Part) (e : Parts Extent) → overlap_fault p q e ≡ None → Apart (get_part p e) (get_part q e)
 unfolding overlap_fault
-overlap_none p q a b e = share_a_byte-apart a b (went_on _ _ _ e).0
+overlap_none p q e h = share_a_byte-apart (get_part p e) (get_part q e) (went_on _ _ _ h).0
 
-none_overlap : (p q : Part) (a b : Extent) → Apart a b → overlap_fault p a q b ≡ None
+none_overlap : (p q : Part) (e : Parts Extent) → Apart (get_part p e) (get_part q e) → overlap_fault p q e ≡ None
 unfolding overlap_fault
-none_overlap p q a b h = let e = apart-share_a_byte a b h in rw e refl
+none_overlap p q e h = let none = apart-share_a_byte (get_part p e) (get_part q e) h in rw none refl
 
-none_overlaps : (e : Extents) → AreApart e → overlaps_fault e ≡ None
+none_overlaps : (e : Parts Extent) → AreApart e → overlaps_fault e ≡ None
 unfolding overlaps_fault
 none_overlaps e h =
-    none_first _ _ (none_overlap Owner Group e.owner e.group h.owner_group)
-    (none_first _ _ (none_overlap Owner Sacl e.owner e.sacl h.owner_sacl)
-    (none_first _ _ (none_overlap Owner Dacl e.owner e.dacl h.owner_dacl)
-    (none_first _ _ (none_overlap Group Sacl e.group e.sacl h.group_sacl)
-    (none_first _ _ (none_overlap Group Dacl e.group e.dacl h.group_dacl)
-    (none_overlap Sacl Dacl e.sacl e.dacl h.sacl_dacl)))))
+    let none = λ (p q : Part) (other : same_part p q ≡ false). none_overlap p q e (h p q other) in
+    none_first _ _ (none Owner Group refl)
+    (none_first _ _ (none Owner Sacl refl)
+    (none_first _ _ (none Owner Dacl refl)
+    (none_first _ _ (none Group Sacl refl)
+    (none_first _ _ (none Group Dacl refl) (none Sacl Dacl refl)))))
 
-overlaps_none : (e : Extents) → overlaps_fault e ≡ None → AreApart e
+overlaps_none : (e : Parts Extent) → overlaps_fault e ≡ None → AreApart e
 unfolding overlaps_fault
 overlaps_none e h =
     let a = first_none _ _ h in
@@ -243,14 +246,8 @@ overlaps_none e h =
     let c = first_none _ _ b.1 in
     let d = first_none _ _ c.1 in
     let f = first_none _ _ d.1 in
-    record {
-      owner_group = overlap_none Owner Group e.owner e.group a.0;
-      owner_sacl = overlap_none Owner Sacl e.owner e.sacl b.0;
-      owner_dacl = overlap_none Owner Dacl e.owner e.dacl c.0;
-      group_sacl = overlap_none Group Sacl e.group e.sacl d.0;
-      group_dacl = overlap_none Group Dacl e.group e.dacl f.0;
-      sacl_dacl = overlap_none Sacl Dacl e.sacl e.dacl f.1;
-    }
+    six-apart e (overlap_none Owner Group e a.0) (overlap_none Owner Sacl e b.0) (overlap_none Owner Dacl e c.0)
+    (overlap_none Group Sacl e d.0) (overlap_none Group Dacl e f.0) (overlap_none Sacl Dacl e f.1)
 
 sid-limits : (bytes : List ℕ) (offset : ℕ) (o : Option SecurityId) → ShowsSid bytes offset o → IfSome o IsSid
 sid-limits bytes offset None h = tt

@@ -1,11 +1,12 @@
 -- No bytes that show a descriptor are fewer than its size says.
-use Rattle.std.proofs.Common.{◌≡◌, ◌≤◌, ◌⊎◌, inl, inr, ℕ, ◌+◌, Bool, List, length, drop, Option, Some, None, ap, ◌∙◌, arith, length-append, length-drop}
+use Rattle.std.proofs.Common.{◌≡◌, ◌≤◌, ◌⊎◌, inl, inr, ℕ, ◌+◌, Bool, List, length, drop, Option, Some, None, refl, ap, ◌∙◌, arith, length-append, length-drop}
 use Rattle.sd_ace.specs.Ace.{AccessControlEntry}
 use Rattle.sd_sid.specs.Sid.{SecurityId}
 use Rattle.sd_view.specs.Acl.{BeginsWithAcl, acl_size}
 use Rattle.sd_view.specs.Bytes.{u16_at}
 use Rattle.sd_view.specs.Descriptor.{Apart, AreApart, Descriptor, Extent, Shows, ShowsAclPart, ShowsSid, acl_extent, dacl_at, group_at, owner_at, sacl_at, sid_extent}
 use Rattle.sd_control.specs.Control.{dacl_present, sacl_present}
+use Rattle.sd_control.specs.declared.part.Part.TheVariants.{Owner, Group, Sacl, Dacl}
 use Rattle.sd_view.specs.Layout.{acl_part_size, sid_part_size, size}
 use Rattle.sd_view.specs.declared.acl.AclPart.{AclPart}
 use Rattle.sd_view.specs.declared.acl.AclPart.TheVariants as acl
@@ -66,12 +67,12 @@ four-fit : (e f g h : Extent) (k l m n total : ℕ) → HoldsExtent e k total �
     → HoldsExtent h n total
     → AreApart (record { owner = e; group = f; sacl = g; dacl = h }) → 20 + k + l + m + n ≤ total
 four-fit e f g h k l m n total owner group sacl dacl apart =
-    let owner_group = follows e f apart.owner_group owner.low group.low in
-    let owner_sacl = follows e g apart.owner_sacl owner.low sacl.low in
-    let owner_dacl = follows e h apart.owner_dacl owner.low dacl.low in
-    let group_sacl = follows f g apart.group_sacl group.low sacl.low in
-    let group_dacl = follows f h apart.group_dacl group.low dacl.low in
-    let sacl_dacl = follows g h apart.sacl_dacl sacl.low dacl.low in
+    let owner_group = follows e f (apart Owner Group refl) owner.low group.low in
+    let owner_sacl = follows e g (apart Owner Sacl refl) owner.low sacl.low in
+    let owner_dacl = follows e h (apart Owner Dacl refl) owner.low dacl.low in
+    let group_sacl = follows f g (apart Group Sacl refl) group.low sacl.low in
+    let group_dacl = follows f h (apart Group Dacl refl) group.low dacl.low in
+    let sacl_dacl = follows g h (apart Sacl Dacl refl) sacl.low dacl.low in
     grind arith
 
 -- bytes that show a descriptor are at least as many as its size says

@@ -4,7 +4,9 @@ use Rattle.sd_sid.specs.Sid.{SecurityId, IsSid, BeginsWithSid, sid_size}
 use Rattle.sd_view.specs.Acl.{BeginsWithAcl, IsAcl}
 use Rattle.sd_view.specs.Bytes.{u16_at, u32_at}
 use Rattle.sd_control.specs.Control.{self_relative, sacl_present, dacl_present}
-use Rattle.sd_text.specs.Bits.{has_bit}
+use Rattle.sd_control.specs.Parts.{get_part, same_part}
+use Rattle.sd_control.specs.declared.part.Part.{Part}
+use Rattle.sd_control.specs.declared.part.Parts.{Parts}
 use Rattle.sd_view.specs.declared.acl.AclPart.{AclPart}
 use Rattle.sd_view.specs.declared.acl.AclPart.TheVariants as acl
 
@@ -61,14 +63,7 @@ acl_extent bytes offset acl.Absent = None
 acl_extent bytes offset acl.Null = None
 acl_extent bytes offset (acl.List aces) = Some (offset, offset + u16_at 2 (drop offset bytes))
 
--- the extents of the parts
-pub record Extents : Type 0 where
-  pub owner : Extent
-  pub group : Extent
-  pub sacl : Extent
-  pub dacl : Extent
-
-abbrev pub extents_of : List ℕ → Descriptor → Extents
+abbrev pub extents_of : List ℕ → Descriptor → Parts Extent
 extents_of bytes d = record {
   owner = sid_extent (owner_at bytes) d.owner;
   group = sid_extent (group_at bytes) d.group;
@@ -82,14 +77,9 @@ Apart None other = Unit {0}
 Apart (Some a) None = Unit {0}
 Apart (Some a) (Some b) = (a.1 ≤ b.0) ⊎ (b.1 ≤ a.0)
 
--- no two extents share a byte
-pub record AreApart (e : Extents) : Type 0 where
-  pub owner_group : Apart e.owner e.group
-  pub owner_sacl : Apart e.owner e.sacl
-  pub owner_dacl : Apart e.owner e.dacl
-  pub group_sacl : Apart e.group e.sacl
-  pub group_dacl : Apart e.group e.dacl
-  pub sacl_dacl : Apart e.sacl e.dacl
+-- no two parts share a byte
+abbrev pub AreApart : Parts Extent → Type 0
+AreApart e = (p q : Part) → same_part p q ≡ false → Apart (get_part p e) (get_part q e)
 
 -- The bytes show the descriptor: each of its parts stands at the offset that the header names, and
 -- what stands between and after them is free.

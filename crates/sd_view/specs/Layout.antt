@@ -1,6 +1,7 @@
 -- The one written form of a descriptor (MS-DTYP 2.4.6).
-use Rattle.std.specs.Prelude.{ℕ, ◌+◌, ◌==◌, if◌then◌else◌, List, [], ◌∷◌, ◌++◌, Option, Some, None}
-use Rattle.byteorder.specs.Endian.{little_bytes}
+use Rattle.std.specs.Prelude.{ℕ, ◌+◌, ◌==◌, if◌then◌else◌, List, [], ◌++◌, Option, Some, None}
+use Rattle.sd_control.specs.Header.{header_bytes}
+use Rattle.sd_control.specs.declared.part.Parts.{Parts}
 use Rattle.sd_sid.specs.Sid.{SecurityId, sid_bytes, sid_size}
 use Rattle.sd_view.specs.Acl.{acl_size}
 use Rattle.sd_view.specs.AclLayout.{acl_bytes}
@@ -45,17 +46,16 @@ dacl_offset d = sacl_offset d + acl_part_size d.sacl
 abbrev pub size : Descriptor → ℕ
 size d = dacl_offset d + acl_part_size d.dacl
 
--- revision, resource manager byte, control word, offsets of owner, group, SACL and DACL
-unfoldable pub header_bytes : ℕ → ℕ → ℕ → ℕ → ℕ → ℕ → List ℕ
-header_bytes rm control owner group sacl dacl =
-    1 ∷ rm ∷ little_bytes 2 control ++ little_bytes 4 owner ++ little_bytes 4 group ++ little_bytes 4 sacl
-    ++ little_bytes 4 dacl
+abbrev pub offsets : Descriptor → Parts ℕ
+offsets d = record {
+  owner = offset_if 20 (sid_part_size d.owner);
+  group = offset_if (group_offset d) (sid_part_size d.group);
+  sacl = offset_if (sacl_offset d) (acl_part_size d.sacl);
+  dacl = offset_if (dacl_offset d) (acl_part_size d.dacl);
+}
 
 abbrev pub descriptor_header : Descriptor → List ℕ
-descriptor_header d =
-    header_bytes d.rm d.control (offset_if 20 (sid_part_size d.owner))
-    (offset_if (group_offset d) (sid_part_size d.group))
-    (offset_if (sacl_offset d) (acl_part_size d.sacl)) (offset_if (dacl_offset d) (acl_part_size d.dacl))
+descriptor_header d = header_bytes d.rm d.control (offsets d)
 
 -- the parts that stand, in their order and without gaps
 abbrev pub parts_bytes : Descriptor → List ℕ

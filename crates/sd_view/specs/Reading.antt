@@ -2,8 +2,8 @@
 -- `read` promises that this agrees with `Shows`.
 use Rattle.std.specs.Prelude.{ℕ, ◌+◌, ◌==◌, ◌||◌, ◌&&◌, not, nat_lt, Bool, false, if◌then◌else◌, List, length, drop, slice_index, Option, Some, None, option_map, is_some, Result}
 use Rattle.sd_sid.specs.Sid.{SecurityId, sid_at}
-use Rattle.sd_view.specs.declared.fault.Part.{Part}
-use Rattle.sd_view.specs.declared.fault.Part.TheVariants.{Owner, Group, Sacl, Dacl}
+use Rattle.sd_control.specs.declared.part.Part.{Part}
+use Rattle.sd_control.specs.declared.part.Part.TheVariants.{Owner, Group, Sacl, Dacl}
 use Rattle.sd_view.specs.declared.fault.SdFault.{SdFault}
 use Rattle.sd_view.specs.declared.fault.SdFault.TheVariants as faults
 use Rattle.sd_view.specs.declared.fault.AclFault.{AclFault}
@@ -13,8 +13,10 @@ use Rattle.sd_view.specs.declared.acl.AclPart.TheVariants as acl
 use Rattle.std.specs.Option.{option_or}
 use Rattle.sd_text.specs.Chains.{unless}
 use Rattle.sd_view.specs.AclReading.{acl_fault, acl_of, acl_at_front}
-use Rattle.sd_view.specs.Descriptor.{Descriptor, Extent, Extents, control_at, dacl_at, extents_of, group_at, owner_at, sacl_at}
+use Rattle.sd_view.specs.Descriptor.{Descriptor, Extent, control_at, dacl_at, extents_of, group_at, owner_at, sacl_at}
 use Rattle.sd_control.specs.Control.{dacl_present, sacl_present, self_relative}
+use Rattle.sd_control.specs.Parts.{get_part}
+use Rattle.sd_control.specs.declared.part.Parts.{Parts}
 
 -- the SID at an offset; an offset of 0 means that there is none
 unfoldable pub sid_shown : List ℕ → ℕ → Option SecurityId
@@ -83,18 +85,15 @@ share_a_byte None other = false
 share_a_byte (Some a) None = false
 share_a_byte (Some a) (Some b) = nat_lt b.0 a.1 && nat_lt a.0 b.1
 
-unfoldable pub overlap_fault : Part → Extent → Part → Extent → Option SdFault
-overlap_fault p a q b = if share_a_byte a b then Some (faults.Overlap p q) else None
+unfoldable pub overlap_fault : Part → Part → Parts Extent → Option SdFault
+overlap_fault p q e = if share_a_byte (get_part p e) (get_part q e) then Some (faults.Overlap p q) else None
 
 -- the first pair that shares a byte: 14
-unfoldable pub overlaps_fault : Extents → Option SdFault
+unfoldable pub overlaps_fault : Parts Extent → Option SdFault
 overlaps_fault e =
-    option_or (overlap_fault Owner e.owner Group e.group)
-    (option_or (overlap_fault Owner e.owner Sacl e.sacl)
-    (option_or (overlap_fault Owner e.owner Dacl e.dacl)
-    (option_or (overlap_fault Group e.group Sacl e.sacl)
-    (option_or (overlap_fault Group e.group Dacl e.dacl)
-    (overlap_fault Sacl e.sacl Dacl e.dacl)))))
+    option_or (overlap_fault Owner Group e) (option_or (overlap_fault Owner Sacl e)
+    (option_or (overlap_fault Owner Dacl e) (option_or (overlap_fault Group Sacl e)
+    (option_or (overlap_fault Group Dacl e) (overlap_fault Sacl Dacl e)))))
 
 -- The first condition that holds: this is what says which fault comes first.
 unfoldable pub fault : List ℕ → Option SdFault

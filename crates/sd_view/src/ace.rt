@@ -1,4 +1,5 @@
-// Access control entries read in place.
+//! Access control entries read in place.
+
 ghost use Rattle.std.specs.Prelude.{◌≡◌, ◌≤◌, ◌<◌, ◌+◌, ◌%◌, length, take, drop, Some, IfOk};
 ghost use Rattle.uuid.specs.Parts.{swap_fields};
 ghost use Rattle.sd_ace.specs.Ace.{IsAce, ace_size};
@@ -111,7 +112,8 @@ fn check_extent(extent: &[u8]) -> Result<usize, AclFault>
 pub(crate) fn check_ace(left: &[u8]) -> Result<Checked, AclFault>
     ensures fault { FailsBy (ace_fault left.now) result }
     ensures taken { IfOk result (λ c. (c.taken ≡ u16_of 2 left.now) × (c.taken ≤ length left.now)) }
-    ensures size { IfOk result (λ c. (c.size ≡ ace_size (ace_of (take (u16_of 2 left.now) left.now))) × (c.size ≤ c.taken)) }
+    ensures size { IfOk result
+        (λ c. (c.size ≡ ace_size (ace_of (take (u16_of 2 left.now) left.now))) × (c.size ≤ c.taken)) }
     ensures object { IfOk result (λ c. c.object ≡ is_object (kind_in (take (u16_of 2 left.now) left.now))) }
 {
     if left.len() < LEAST_SIZE {

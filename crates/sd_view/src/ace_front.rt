@@ -1,4 +1,5 @@
-// What stands in an ACE before its GUIDs and its SID, as it is written.
+//! What stands in an ACE before its GUIDs and its SID, as it is written.
+
 ghost use Rattle.std.specs.Prelude.{◌≡◌, ◌+◌, ◌++◌, ◌∷◌, [], length, take, if◌then◌else◌};
 ghost use Rattle.byteorder.specs.Endian.{little_bytes};
 ghost use Rattle.sd_kinds.specs.Kinds.{is_object, kind_code};

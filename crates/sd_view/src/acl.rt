@@ -1,4 +1,5 @@
-// Access control lists read in place.
+//! Access control lists read in place.
+
 ghost use Rattle.std.specs.Prelude.{◌≡◌, ◌≤◌, ◌<◌, ◌+◌, ◌^◌, length, take, drop, None, IfOk};
 ghost use Rattle.std.specs.Iterator.{YieldsFirst, item_count};
 ghost use Rattle.sd_view.specs.Acl.{IsAcl, acl_size, has_object};
@@ -87,7 +88,8 @@ impl<'a> Model for AclView<'a> {
 
     ghost view = { λ v. acl_of v.extent.now };
 
-    ghost invariant = { λ v. IsReadableAcl v.extent.now × (v.written.size ≡ acl_size (acl_of v.extent.now)) × (v.written.object ≡ has_object (acl_of v.extent.now)) };
+    ghost invariant = { λ v. IsReadableAcl v.extent.now × (v.written.size ≡ acl_size (acl_of v.extent.now))
+        × (v.written.object ≡ has_object (acl_of v.extent.now)) };
 }
 
 // The view of an extent that was checked.

@@ -1,4 +1,5 @@
-// Numbers at offsets, low byte first.
+//! Numbers at offsets, low byte first.
+
 ghost use Rattle.std.specs.Prelude.{◌≡◌, ◌≤◌, ◌+◌, length};
 ghost use Rattle.sd_view.specs.Bytes.{u16_at as u16_of, u32_at as u32_of};
 

@@ -1,13 +1,6 @@
-// Why bytes show no descriptor.
+//! Why bytes show no descriptor.
 
-/// A part of a descriptor.
-#[derive(Clone, Copy, Debug, PartialEq, Eq)]
-pub enum Part {
-    Owner,
-    Group,
-    Sacl,
-    Dacl,
-}
+use sd_control::Part;
 
 /// Why bytes show no descriptor: the first condition that holds. 5, 6 and 7 are looked at first; then 8
 /// to 13, part by part in the order of `Part`, and within an ACL ACE by ACE; then 14.

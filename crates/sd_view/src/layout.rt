@@ -1,15 +1,16 @@
-// The written form of a descriptor.
+//! The written form of a descriptor.
+
 ghost use Rattle.std.specs.Prelude.{◌≡◌, ◌≤◌, ◌<◌, ◌+◌, ℕ, List, length};
 ghost use Rattle.sd_sink.specs.Print.{Prints};
 ghost use Rattle.sd_sink.specs.Sink.{Puts};
 ghost use Rattle.sd_view.specs.Descriptor.{IsDescriptor, Shows};
 ghost use Rattle.sd_control.specs.Limits.{AreLimits};
-ghost use Rattle.sd_view.specs.Layout.{acl_part, descriptor_header, header_bytes, layout, offset_if, size};
+ghost use Rattle.sd_view.specs.Layout.{acl_part, descriptor_header, layout, offset_if, size};
 
 use crate::acl::AclPart;
 use crate::acl_layout::print_acl;
 use crate::view::SdView;
-use sd_control::HEADER_SIZE;
+use sd_control::{HEADER_SIZE, Parts, header};
 use sd_sink::{Print, Printer, Sink, SinkFault};
 
 /// Puts the one layout of a descriptor (MS-DTYP 2.4.6): header, owner, group, SACL, DACL, those that
@@ -61,14 +62,13 @@ fn header_of(view: &SdView<'_>) -> [u8; HEADER_SIZE]
     let acls = view.acls();
     let sacl = acls.sacl.size as u32;
     let dacl = acls.dacl.size as u32;
-    header(
-        view.rm(),
-        view.control(),
-        offset_if(first, owner),
-        offset_if(first + owner, group),
-        offset_if(first + owner + group, sacl),
-        offset_if(first + owner + group + sacl, dacl),
-    )
+    let offsets = Parts {
+        owner: offset_if(first, owner),
+        group: offset_if(first + owner, group),
+        sacl: offset_if(first + owner + group, sacl),
+        dacl: offset_if(first + owner + group + sacl, dacl),
+    };
+    header(view.rm(), view.control(), offsets)
 }
 
 // The offset of a part of this size that begins there.
@@ -76,27 +76,4 @@ fn offset_if(start: u32, size: u32) -> u32
     ensures { result ≡ offset_if start size }
 {
     if size == 0 { 0 } else { start }
-}
-
-/// A header of these fields.
-#[tactic(auto, unfolding(crate::specs::Layout::header_bytes))]
-pub fn header(
-    rm: u8,
-    control: u16,
-    owner: u32,
-    group: u32,
-    sacl: u32,
-    dacl: u32,
-) -> [u8; HEADER_SIZE]
-    ensures { result ≡ header_bytes rm control owner group sacl dacl }
-{
-    let c = control.to_le_bytes();
-    let o = owner.to_le_bytes();
-    let g = group.to_le_bytes();
-    let s = sacl.to_le_bytes();
-    let d = dacl.to_le_bytes();
-    [
-        1, rm, c[0], c[1], o[0], o[1], o[2], o[3], g[0], g[1], g[2], g[3], s[0], s[1], s[2], s[3],
-        d[0], d[1], d[2], d[3],
-    ]
 }

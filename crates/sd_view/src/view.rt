@@ -1,17 +1,20 @@
-// Descriptors read in place.
+//! Descriptors read in place.
+
 ghost use Rattle.std.specs.Prelude.{◌≡◌, ◌≤◌, ◌<◌, ◌+◌, ◌*◌, ℕ, List, length, Ok, IfOk, OnOk, MatchResult};
 ghost use Rattle.sd_control.specs.Control.{AreControlBits};
 ghost use Rattle.sd_view.specs.Descriptor.{Descriptor, Shows, IsDescriptor, acl_extent, extents_of, sid_extent};
 ghost use Rattle.sd_view.specs.Layout.{layout, sid_part, size};
-ghost use Rattle.sd_view.specs.Inner.Found.{FailsBy, extents_seen, shown_written, written_of};
-ghost use Rattle.sd_view.specs.Reading.{acl_part_fault, acl_shown, fault, fault_in, header_fault, share_a_byte as share_of, overlap_fault, overlaps_fault, parts_fault, reading, shown, sid_fault, sid_shown};
+ghost use Rattle.sd_view.specs.Inner.Found.{FailsBy, shown_written, written_of};
+ghost use Rattle.sd_view.specs.Reading.{acl_part_fault, acl_shown, fault, fault_in, header_fault, overlap_fault};
+ghost use Rattle.sd_view.specs.Reading.{overlaps_fault, parts_fault, reading, share_a_byte as share_of, shown};
+ghost use Rattle.sd_view.specs.Reading.{sid_fault, sid_shown};
 ghost use Rattle.sd_view.specs.Inner.Readable.{IsAclAt, IsSidAt};
 ghost use Rattle.sd_control.specs.declared.limits.TheConstants.{HEADER_SIZE, MOST_SID_SIZE};
 
 use crate::acl::{AclPart, Written, acl_view, check_acl};
 use crate::bytes::{u16_at, u32_at};
-use crate::fault::{AclFault, Part, SdFault};
-use sd_control::{DACL_PRESENT, HEADER_SIZE, SACL_PRESENT, SELF_RELATIVE, has_bit};
+use crate::fault::{AclFault, SdFault};
+use sd_control::{DACL_PRESENT, HEADER_SIZE, Part, Parts, SACL_PRESENT, SELF_RELATIVE, has_bit};
 use sd_sid::Sid;
 use std::marker::Model;
 
@@ -50,14 +53,8 @@ pub struct Acls {
     pub dacl: Written,
 }
 
-/// Where the parts stand: the first byte, and the first one after the part.
-#[derive(Drop)]
-pub struct PartExtents {
-    pub owner: Option<(u64, u64)>,
-    pub group: Option<(u64, u64)>,
-    pub sacl: Option<(u64, u64)>,
-    pub dacl: Option<(u64, u64)>,
-}
+/// Where a part stands, if it does: its first byte, and the first one after it.
+pub type Extent = Option<(u64, u64)>;
 
 /// The descriptor that the bytes show (MS-DTYP 2.4.6), or the first fault of the bytes.
 pub fn read(bytes: &[u8]) -> Result<SdView<'_>, SdFault>
@@ -111,30 +108,20 @@ fn check_header(bytes: &[u8]) -> Result<(), SdFault>
 
 // The first fault of the parts, or where they stand and what the written form of the ACLs needs.
 #[tactic(auto, unfolding(crate::specs::Reading::parts_fault))]
-fn check_parts(bytes: &[u8]) -> Result<(PartExtents, Acls), SdFault>
+fn check_parts(bytes: &[u8]) -> Result<(Parts<Extent>, Acls), SdFault>
     requires { HEADER_SIZE ≤ length bytes.now }
     ensures fault { FailsBy (parts_fault bytes.now) result }
-    ensures extents { IfOk result (λ r. extents_seen r.0 ≡ extents_of bytes.now (shown bytes.now)) }
+    ensures extents { IfOk result (λ r. r.0 ≡ extents_of bytes.now (shown bytes.now)) }
     ensures acls { IfOk result (λ r. r.1 ≡ shown_written (shown bytes.now)) }
 {
     let control = u16_at(bytes, 2);
     let owner = check_sid(Part::Owner, bytes, u32_at(bytes, 4))?;
     let group = check_sid(Part::Group, bytes, u32_at(bytes, 8))?;
-    let sacl_is_present = has_bit(SACL_PRESENT, control);
-    let (sacl, sacl_written) = check_acl_part(
-        Part::Sacl,
-        bytes,
-        sacl_is_present,
-        u32_at(bytes, 12),
-    )?;
-    let dacl_is_present = has_bit(DACL_PRESENT, control);
-    let (dacl, dacl_written) = check_acl_part(
-        Part::Dacl,
-        bytes,
-        dacl_is_present,
-        u32_at(bytes, 16),
-    )?;
-    let extents = PartExtents {
+    let has_sacl = has_bit(SACL_PRESENT, control);
+    let (sacl, sacl_written) = check_acl_part(Part::Sacl, bytes, has_sacl, u32_at(bytes, 12))?;
+    let has_dacl = has_bit(DACL_PRESENT, control);
+    let (dacl, dacl_written) = check_acl_part(Part::Dacl, bytes, has_dacl, u32_at(bytes, 16))?;
+    let extents = Parts {
         owner,
         group,
         sacl,
@@ -149,7 +136,7 @@ fn check_parts(bytes: &[u8]) -> Result<(PartExtents, Acls), SdFault>
 
 // The extent of the SID at an offset, where one is meant.
 #[tactic(auto, unfolding(crate::specs::Reading::sid_fault, crate::specs::Reading::sid_shown))]
-fn check_sid(part: Part, bytes: &[u8], offset: u32) -> Result<Option<(u64, u64)>, SdFault>
+fn check_sid(part: Part, bytes: &[u8], offset: u32) -> Result<Extent, SdFault>
     ensures { MatchResult result
         (λ extent. (sid_fault part bytes.now offset ≡ None) × (extent ≡ sid_extent offset (sid_shown bytes.now offset)))
         (λ f. sid_fault part bytes.now offset ≡ Some f) }
@@ -174,7 +161,7 @@ fn check_acl_part(
     bytes: &[u8],
     present: bool,
     offset: u32,
-) -> Result<(Option<(u64, u64)>, Written), SdFault>
+) -> Result<(Extent, Written), SdFault>
     ensures fault { FailsBy (acl_part_fault part bytes.now present offset) result }
     ensures extent { IfOk result (λ r. r.0 ≡ acl_extent bytes.now offset (acl_shown bytes.now present offset)) }
     ensures written { IfOk result (λ r. r.1 ≡ written_of (acl_shown bytes.now present offset)) }
@@ -210,40 +197,35 @@ fn fault_in(part: Part, fault: AclFault) -> SdFault
 
 // The first pair of parts that shares a byte.
 #[tactic(auto, unfolding(crate::specs::Reading::overlaps_fault))]
-fn check_overlaps(extents: &PartExtents) -> Result<(), SdFault>
-    ensures { FailsBy (overlaps_fault (extents_seen extents.now)) result }
+fn check_overlaps(extents: &Parts<Extent>) -> Result<(), SdFault>
+    ensures { FailsBy (overlaps_fault extents.now) result }
 {
-    check_apart(Part::Owner, extents.owner, Part::Group, extents.group)?;
-    check_apart(Part::Owner, extents.owner, Part::Sacl, extents.sacl)?;
-    check_apart(Part::Owner, extents.owner, Part::Dacl, extents.dacl)?;
-    check_apart(Part::Group, extents.group, Part::Sacl, extents.sacl)?;
-    check_apart(Part::Group, extents.group, Part::Dacl, extents.dacl)?;
-    check_apart(Part::Sacl, extents.sacl, Part::Dacl, extents.dacl)
+    check_apart(Part::Owner, Part::Group, extents)?;
+    check_apart(Part::Owner, Part::Sacl, extents)?;
+    check_apart(Part::Owner, Part::Dacl, extents)?;
+    check_apart(Part::Group, Part::Sacl, extents)?;
+    check_apart(Part::Group, Part::Dacl, extents)?;
+    check_apart(Part::Sacl, Part::Dacl, extents)
+}
+
+#[tactic(auto, unfolding(crate::specs::Reading::overlap_fault))]
+fn check_apart(p: Part, q: Part, extents: &Parts<Extent>) -> Result<(), SdFault>
+    ensures { FailsBy (overlap_fault p q extents.now) result }
+{
+    if share_a_byte(extents.get(p), extents.get(q)) {
+        return Err(SdFault::Overlap(p, q));
+    }
+    Ok(())
 }
 
 // Whether two extents share a byte.
-fn share_a_byte(a: Option<(u64, u64)>, b: Option<(u64, u64)>) -> bool
+fn share_a_byte(a: Extent, b: Extent) -> bool
     ensures { result ≡ share_of a b }
 {
     match (a, b) {
         (Some(a), Some(b)) => b.0 < a.1 && a.0 < b.1,
         _ => false,
     }
-}
-
-#[tactic(auto, unfolding(crate::specs::Reading::overlap_fault))]
-fn check_apart(
-    p: Part,
-    a: Option<(u64, u64)>,
-    q: Part,
-    b: Option<(u64, u64)>,
-) -> Result<(), SdFault>
-    ensures { FailsBy (overlap_fault p a q b) result }
-{
-    if share_a_byte(a, b) {
-        return Err(SdFault::Overlap(p, q));
-    }
-    Ok(())
 }
 
 impl<'a> SdView<'a> {

@@ -1,11 +1,11 @@
 -- What a call hands back: the number of its fault, the parts that the fault names, and how many bytes there are.
 use Rattle.std.specs.Prelude.{◌≡◌, ◌≤◌, ◌<◌, ◌⊎◌, ℕ, List, length, take, Option, Some, None, Result, Ok, Err}
 use Rattle.sd_sid.specs.declared.sid_text.SidFault.TheVariants as sid
-use Rattle.sd_view.specs.declared.fault.Part.{Part}
-use Rattle.sd_view.specs.declared.fault.Part.TheVariants as part
+use Rattle.sd_control.specs.declared.part.Part.{Part}
+use Rattle.sd_control.specs.declared.part.Part.TheVariants as part
 use Rattle.sd_view.specs.declared.fault.SdFault.{SdFault}
 use Rattle.sd_view.specs.declared.fault.SdFault.TheVariants as sd
-use Rattle.sd_builder.specs.Draft.{part_of}
+use Rattle.sd_control.specs.Parts.{part_of}
 use Rattle.sd_sddl_reader.specs.declared.fault.SddlFault.{SddlFault}
 use Rattle.sd_sddl_reader.specs.declared.fault.SddlFault.TheVariants as sddl
 use Rattle.sdtool_c.specs.declared.outcome.Outcome.{Outcome}

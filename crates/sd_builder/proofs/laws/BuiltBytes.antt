@@ -5,14 +5,16 @@ use Rattle.std.specs.Prelude.{if◌then◌else◌, is_some}
 use Rattle.std.specs.List.{filter, flat_map}
 use Rattle.sd_sid.specs.Sid.{SecurityId}
 use Rattle.sd_control.specs.Control.{control_of}
-use Rattle.sd_view.specs.Layout.{acl_part, acl_part_size, header_bytes, layout, offset_if, parts_bytes, sid_part, sid_part_size}
+use Rattle.sd_view.specs.Layout.{acl_part, acl_part_size, layout, offset_if, parts_bytes, sid_part, sid_part_size}
 use Rattle.sd_view.specs.declared.acl.AclPart.{AclPart}
 use Rattle.sd_view.specs.declared.acl.AclPart.TheVariants as acl
-use Rattle.sd_view.specs.declared.fault.Part.{Part}
-use Rattle.sd_view.specs.declared.fault.Part.TheVariants as part
+use Rattle.sd_control.specs.declared.part.Part.{Part}
+use Rattle.sd_control.specs.declared.part.Part.TheVariants as part
 use Rattle.sd_view.proofs.laws.LayoutLaws.{length-acl_part, length-sid_part, offset-stands}
 use Rattle.sd_builder.specs.Builds.{Builds}
-use Rattle.sd_builder.specs.Draft.{Draft, IsWritten, Parts, built, built_bytes, is_present, offset_among, part_bytes, same_part}
+use Rattle.sd_builder.specs.Draft.{Draft, IsWritten, Parts, built, built_bytes, is_present, offset_among, part_bytes}
+use Rattle.sd_control.specs.Parts.{same_part}
+use Rattle.sd_control.proofs.laws.PartLaws.{same-is}
 use Rattle.sd_builder.specs.declared.builder.Builder.{Builder}
 use Rattle.sd_builder.proofs.Building.{closed-from}
 use Rattle.sd_builder.proofs.Finished.{exact, is-written}
@@ -64,24 +66,6 @@ no-bytes t part.Group e = no-sid t.group e
 no-bytes t part.Sacl e = no-acl t.sacl e
 no-bytes t part.Dacl e = no-acl t.dacl e
 
-same-is : (p q : Part) → same_part p q ≡ true → p ≡ q
-same-is part.Owner part.Owner e = refl
-same-is part.Owner part.Group e = absurd (cc)
-same-is part.Owner part.Sacl e = absurd (cc)
-same-is part.Owner part.Dacl e = absurd (cc)
-same-is part.Group part.Owner e = absurd (cc)
-same-is part.Group part.Group e = refl
-same-is part.Group part.Sacl e = absurd (cc)
-same-is part.Group part.Dacl e = absurd (cc)
-same-is part.Sacl part.Owner e = absurd (cc)
-same-is part.Sacl part.Group e = absurd (cc)
-same-is part.Sacl part.Sacl e = refl
-same-is part.Sacl part.Dacl e = absurd (cc)
-same-is part.Dacl part.Owner e = absurd (cc)
-same-is part.Dacl part.Group e = absurd (cc)
-same-is part.Dacl part.Sacl e = absurd (cc)
-same-is part.Dacl part.Dacl e = refl
-
 has-same : (t : Parts) (p q : Part) → same_part p q ≡ true → has_bytes t p ≡ has_bytes t q
 has-same t p q e = ap (has_bytes t) (same-is p q e)
 
@@ -121,10 +105,6 @@ offset-of-those start t (p ∷ ps) q =
         let still : start ≡ start + 0 = omega arith in
         rw (e, f, no-bytes t p e) (rest start ∙ ap (λ (n : ℕ). offset_if_any n t ps q) still)
 
-same-fields : (rm k o p g h s u d v : ℕ) → o ≡ p → g ≡ h → s ≡ u → d ≡ v
-    → header_bytes rm k o g s d ≡ header_bytes rm k p h u v
-same-fields rm k o p g h s u d v f i j l = rw (f, i, j, l) refl
-
 -- an offset by whether the part has bytes is one by its size
 sid-offset : (o : Option SecurityId) (n m : ℕ) → n ≡ m → (if is_some o then n else 0) ≡ offset_if m (sid_part_size o)
 sid-offset None n m e = refl
@@ -145,19 +125,15 @@ built-layout flags rm t e =
     let o = length-sid_part u.owner in
     let g = length-sid_part u.group in
     let s = length-acl_part u.sacl in
-    let head = same-fields rm word _ _ _ _ _ _ _ _
-    (at part.Owner ∙ sid-offset u.owner 20 20 refl)
-    (at part.Group ∙ sid-offset u.group _ (20 + sid_part_size u.owner) (omega (arith, o)))
-    (at part.Sacl ∙ acl-offset u.sacl _ (20 + sid_part_size u.owner + sid_part_size u.group) (omega (arith, o, g)))
-    (at part.Dacl ∙ acl-offset u.dacl _ (20 + sid_part_size u.owner + sid_part_size u.group + acl_part_size u.sacl)
-    (omega (arith, o, g, s))) in
+    let owner = at part.Owner ∙ sid-offset u.owner 20 20 refl in
+    let group = at part.Group ∙ sid-offset u.group _ (20 + sid_part_size u.owner) (omega (arith, o)) in
+    let sacl = at part.Sacl
+    ∙ acl-offset u.sacl _ (20 + sid_part_size u.owner + sid_part_size u.group) (omega (arith, o, g)) in
+    let dacl = at part.Dacl
+    ∙ acl-offset u.dacl _ (20 + sid_part_size u.owner + sid_part_size u.group + acl_part_size u.sacl)
+    (omega (arith, o, g, s)) in
     let rest : flat_map (part_bytes u) t.order ≡ parts_bytes (built flags rm u) =
     ap (flat_map (part_bytes u)) e ∙ bytes-of-those u all_parts
     ∙ ap (λ (x : List ℕ). sid_part u.owner ++ (sid_part u.group ++ (acl_part u.sacl ++ x)))
     (append-nil (acl_part u.dacl)) in
-    ap (λ (x : List ℕ). x ++ flat_map (part_bytes u) t.order) head
-    ∙ ap (λ (x : List ℕ). header_bytes rm word (offset_if 20 (sid_part_size u.owner))
-    (offset_if (20 + sid_part_size u.owner) (sid_part_size u.group))
-    (offset_if (20 + sid_part_size u.owner + sid_part_size u.group) (acl_part_size u.sacl))
-    (offset_if (20 + sid_part_size u.owner + sid_part_size u.group + acl_part_size u.sacl) (acl_part_size u.dacl))
-    ++ x) rest
+    rw (owner, group, sacl, dacl, rest) refl

@@ -3,19 +3,20 @@
 use Rattle.std.specs.Prelude.{◌≡◌, ◌≤◌, ℕ, ◌+◌, List, [], length, drop, ◌++◌, Option, Some, None, unwrap_or}
 use Rattle.std.specs.List.{flat_map}
 use Rattle.sd_ace.specs.Ace.{AccessControlEntry}
-use Rattle.sd_sid.specs.Sid.{SecurityId, IsSid, sid_bytes}
+use Rattle.sd_sid.specs.Sid.{SecurityId, IsSid, sid_bytes, sid_size}
 use Rattle.sd_view.specs.Acl.{IsAcl, acl_size, has_object}
 use Rattle.sd_view.specs.AclLayout.{ace_bytes, acl_bytes}
-use Rattle.sd_view.specs.Descriptor.{AreApart, Extent, Extents, sid_extent}
+use Rattle.sd_view.specs.Descriptor.{AreApart, Extent}
 use Rattle.sd_builder.specs.Draft.{Draft, Parts, acl_for, bytes_in_order, offset_of}
-use Rattle.sd_view.specs.Layout.{acl_part_size, sid_part_size}
 use Rattle.sd_view.specs.declared.acl.AclPart.{AclPart}
 use Rattle.sd_view.specs.declared.acl.AclPart.TheVariants as acl
 use Rattle.sd_builder.specs.declared.builder.Builder.{Builder}
 use Rattle.sd_builder.specs.declared.builder.OpenAcl.{OpenAcl}
-use Rattle.sd_control.specs.declared.control.Which.{Which}
-use Rattle.sd_control.specs.declared.control.Which.TheVariants as which
-use Rattle.sd_view.specs.declared.fault.Part.TheVariants as part
+use Rattle.sd_control.specs.declared.part.Which.{Which}
+use Rattle.sd_control.specs.Parts.{get_part, set_part}
+use Rattle.sd_control.specs.declared.part.Part.{Part}
+use Rattle.sd_control.specs.declared.part.Parts.{Parts as PartsOf}
+use Rattle.sd_control.specs.declared.part.Part.TheVariants as part
 
 -- a part's bytes at its offset, past the header
 pub record Stands (bytes : List ℕ) (offset : ℕ) (part : List ℕ) : Type 0 where
@@ -24,60 +25,82 @@ pub record Stands (bytes : List ℕ) (offset : ℕ) (part : List ℕ) : Type 0 w
   pub rest : List ℕ
   pub shape : drop offset bytes ≡ part ++ rest
 
--- a SID that was given stands at its offset; 0 means that there is none
-abbrev pub SidStands : List ℕ → ℕ → Option SecurityId → Type 0
-SidStands bytes offset None = offset ≡ 0
-SidStands bytes offset (Some s) = IsSid s × Stands bytes offset (sid_bytes s)
+-- what is given of a part
+pub data Given : Type 0 where
+  nothing : Given
+  null : Given
+  sid : SecurityId → Given
+  list : List AccessControlEntry → Given
 
--- an ACL that is present has an offset, which is 0 where it is null
-abbrev pub AclStands : List ℕ → Option ℕ → AclPart → Type 0
-AclStands bytes None acl.Absent = Unit {0}
-AclStands bytes None acl.Null = ⊥
-AclStands bytes None (acl.List aces) = ⊥
-AclStands bytes (Some offset) acl.Absent = ⊥
-AclStands bytes (Some offset) acl.Null = offset ≡ 0
-AclStands bytes (Some offset) (acl.List aces) = IsAcl aces × Stands bytes offset (acl_bytes aces)
+abbrev pub given_sid : Option SecurityId → Given
+given_sid None = nothing
+given_sid (Some s) = sid s
 
--- an ACL's offset is kept
-abbrev pub placed : Which → ℕ → Builder → Builder
-placed which.Sacl offset b = record b { sacl = Some offset }
-placed which.Dacl offset b = record b { dacl = Some offset }
+abbrev pub given_acl : AclPart → Given
+given_acl acl.Absent = nothing
+given_acl acl.Null = null
+given_acl (acl.List aces) = list aces
 
--- the extents of the parts
-abbrev pub acl_extent_of : Option ℕ → AclPart → Extent
-acl_extent_of None p = None
-acl_extent_of (Some offset) acl.Absent = None
-acl_extent_of (Some offset) acl.Null = None
-acl_extent_of (Some offset) (acl.List aces) = Some (offset, offset + acl_size aces)
+abbrev pub given : Parts → Part → Given
+given t part.Owner = given_sid t.owner
+given t part.Group = given_sid t.group
+given t part.Sacl = given_acl t.sacl
+given t part.Dacl = given_acl t.dacl
 
-abbrev pub extents_kept : Builder → Parts → Extents
+-- its bytes, and how many there are
+abbrev pub given_bytes : Given → List ℕ
+given_bytes nothing = []
+given_bytes null = []
+given_bytes (sid s) = sid_bytes s
+given_bytes (list aces) = acl_bytes aces
+
+abbrev pub given_size : Given → ℕ
+given_size g = length (given_bytes g)
+
+-- a part that is given stands at the offset that is kept of it, which is 0 where it is null
+abbrev pub PartStands : List ℕ → Option ℕ → Given → Type 0
+PartStands bytes None g = g ≡ nothing
+PartStands bytes (Some offset) nothing = ⊥
+PartStands bytes (Some offset) null = offset ≡ 0
+PartStands bytes (Some offset) (sid s) = IsSid s × Stands bytes offset (sid_bytes s)
+PartStands bytes (Some offset) (list aces) = IsAcl aces × Stands bytes offset (acl_bytes aces)
+
+-- the offset of a part is kept
+abbrev pub placed : Part → ℕ → Builder → Builder
+placed p offset b = record b { offsets = set_part p (Some offset) b.offsets }
+
+-- where a part stands that has bytes
+abbrev pub extent_at : Option ℕ → Given → Extent
+extent_at None g = None
+extent_at (Some offset) nothing = None
+extent_at (Some offset) null = None
+extent_at (Some offset) (sid s) = Some (offset, offset + sid_size s)
+extent_at (Some offset) (list aces) = Some (offset, offset + acl_size aces)
+
+abbrev pub extents_kept : Builder → Parts → PartsOf Extent
 extents_kept b t = record {
-  owner = sid_extent b.owner t.owner;
-  group = sid_extent b.group t.group;
-  sacl = acl_extent_of b.sacl t.sacl;
-  dacl = acl_extent_of b.dacl t.dacl;
+  owner = extent_at b.offsets.owner (given_sid t.owner);
+  group = extent_at b.offsets.group (given_sid t.group);
+  sacl = extent_at b.offsets.sacl (given_acl t.sacl);
+  dacl = extent_at b.offsets.dacl (given_acl t.dacl);
 }
 
 -- the bytes of the header and of the parts
 abbrev pub closed_size : Parts → ℕ
-closed_size t = 20 + sid_part_size t.owner + sid_part_size t.group + acl_part_size t.sacl + acl_part_size t.dacl
+closed_size t =
+    20 + given_size (given t part.Owner) + given_size (given t part.Group) + given_size (given t part.Sacl)
+    + given_size (given t part.Dacl)
 
 -- the parts that are closed, without gaps
 pub record PartsStand (bytes : List ℕ) (b : Builder) (t : Parts) : Type 0 where
-  pub owner : SidStands bytes b.owner t.owner
-  pub group : SidStands bytes b.group t.group
-  pub sacl : AclStands bytes b.sacl t.sacl
-  pub dacl : AclStands bytes b.dacl t.dacl
+  pub each : (p : Part) → PartStands bytes (get_part p b.offsets) (given t p)
   pub apart : AreApart (extents_kept b t)
   pub size : length bytes ≡ closed_size t
 
 -- they stand behind the header in the order of the calls, and the offsets that are kept are theirs
 pub record StandsInOrder (bytes : List ℕ) (b : Builder) (t : Draft) : Type 0 where
   pub shape : drop 20 bytes ≡ bytes_in_order t
-  pub owner : b.owner ≡ offset_of t part.Owner
-  pub group : b.group ≡ offset_of t part.Group
-  pub sacl : unwrap_or b.sacl 0 ≡ offset_of t part.Sacl
-  pub dacl : unwrap_or b.dacl 0 ≡ offset_of t part.Dacl
+  pub offset : (p : Part) → unwrap_or (get_part p b.offsets) 0 ≡ offset_of t p
 
 -- an open ACL after them: eight bytes for its header, and its ACEs so far
 pub record OpenAt (closed tail : List ℕ) (o : OpenAcl) (w : Which) (aces : List AccessControlEntry) : Type 0 where

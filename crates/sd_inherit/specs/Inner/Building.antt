@@ -1,13 +1,14 @@
 -- What the code that copies has built so far. No definition of what is derived rests on it.
 use Rattle.std.specs.Prelude.{◌<◌, ℕ, ◌+◌, ◌^◌, Bool, true, false, not, ◌&&◌, List, [], ◌∷◌, ◌++◌, Option, Some, None}
 use Rattle.sd_ace.specs.Ace.{AccessControlEntry}
-use Rattle.sd_builder.specs.Draft.{Draft, IsOpen, open_size, part_of, with_acl}
+use Rattle.sd_builder.specs.Draft.{Draft, IsOpen, open_size, with_acl}
+use Rattle.sd_control.specs.Parts.{part_of}
 use Rattle.sd_view.specs.declared.acl.AclPart.{AclPart}
 use Rattle.sd_view.specs.declared.acl.AclPart.TheVariants as acl
 use Rattle.sd_control.specs.declared.control.AclFlags.{AclFlags}
 use Rattle.sd_control.specs.Control.{flag_bits}
-use Rattle.sd_control.specs.declared.control.Which.{Which}
-use Rattle.sd_control.specs.declared.control.Which.TheVariants.{Dacl, Sacl}
+use Rattle.sd_control.specs.declared.part.Which.{Which}
+use Rattle.sd_control.specs.declared.part.Which.TheVariants.{Dacl, Sacl}
 use Rattle.sd_view.specs.Descriptor.{Descriptor}
 use Rattle.sd_inherit.specs.Derived.{is_protected}
 use Rattle.sd_inherit.specs.Copies.{copies}

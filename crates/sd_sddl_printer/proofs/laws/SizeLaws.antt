@@ -23,7 +23,7 @@ use Rattle.sd_view.specs.Layout.{acl_part_size, sid_part_size, size}
 use Rattle.sd_view.specs.declared.acl.AclPart.{AclPart}
 use Rattle.sd_view.specs.declared.acl.AclPart.TheVariants as acl
 use Rattle.sd_sid.specs.declared.naming.Naming.{Naming}
-use Rattle.sd_control.specs.declared.control.Which.TheVariants as which
+use Rattle.sd_control.specs.declared.part.Which.TheVariants as which
 use Rattle.sd_control.specs.declared.control.AclFlags.{AclFlags}
 use Rattle.std.specs.Option.{unwrap_or}
 use Rattle.sd_sddl_printer.specs.Printed.{ace_text, acl_flags_text, acl_text, dacl_text, flags_field, group_text, kind_field, kind_text, object_field, object_text, owner_text, rights_field, sacl_text, sddl, sid_text_of, text_if, trustee_field, trustee_text}

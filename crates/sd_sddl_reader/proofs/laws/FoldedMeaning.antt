@@ -12,8 +12,8 @@ use Rattle.sd_builder.specs.Draft.{Parts, built, closed, closed_in, is_present, 
 use Rattle.sd_view.specs.Layout.{acl_part_size}
 use Rattle.sd_view.specs.declared.acl.AclPart.{AclPart}
 use Rattle.sd_view.specs.declared.acl.AclPart.TheVariants as acl
-use Rattle.sd_control.specs.declared.control.Which.{Which}
-use Rattle.sd_control.specs.declared.control.Which.TheVariants as which
+use Rattle.sd_control.specs.declared.part.Which.{Which}
+use Rattle.sd_control.specs.declared.part.Which.TheVariants as which
 use Rattle.std.specs.Option.{option_or}
 use Rattle.sd_sddl_fields.specs.FieldTexts.{front_reads}
 use Rattle.sd_sddl_reader.specs.FoldedReading.{FieldsRead, described, fields_of, finished, folded, large_in, nothing_read, read_fields, reads_as, if_shaped}

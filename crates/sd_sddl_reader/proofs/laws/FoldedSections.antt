@@ -15,7 +15,7 @@ use Rattle.sd_sid.specs.declared.sid_text.SidFault.TheVariants.{SidForm}
 use Rattle.sd_builder.specs.Draft.{begun, closed, with_ace, with_acl}
 use Rattle.sd_view.specs.declared.acl.AclPart.{AclPart}
 use Rattle.sd_view.specs.declared.acl.AclPart.TheVariants as acl
-use Rattle.sd_control.specs.declared.control.Which.{Which}
+use Rattle.sd_control.specs.declared.part.Which.{Which}
 use Rattle.sd_sddl_fields.specs.FieldTexts.{front_reads, kind_reads, object_reads}
 use Rattle.sd_sddl_reader.specs.FoldedReading.{Field, FieldsRead, ace_fields, ace_fields_from, ace_of_fields, fields_in, fields_of, grown, no_fields, read_fields, take_ace_field, take_field, take_front, with_flags, with_owner_or_group, with_sid, with_trustee, with_value}
 use Rattle.sd_sddl_reader.specs.Line.{Piece, Section, ace, ace_cuts, aces, are_aces, are_shaped, byte, cut_at_semicolons, front, has_aces, has_six_fields, is_acl_body, is_body, trim}

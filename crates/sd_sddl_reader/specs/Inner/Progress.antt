@@ -4,7 +4,7 @@ use Rattle.std.specs.List.{list_all, flat_map}
 use Rattle.std.specs.Option.{is_none}
 use Rattle.std.specs.Str.{byte as char}
 use Rattle.sd_sid.specs.Sid.{SecurityId}
-use Rattle.sd_control.specs.declared.control.Which.TheVariants as which
+use Rattle.sd_control.specs.declared.part.Which.TheVariants as which
 use Rattle.sd_sddl_fields.specs.Held.{Held, held_text, is_plain_inside}
 use Rattle.sd_sddl_reader.specs.FoldedReading.{Field, FieldsRead, ace_fields, ace_fields_from, fields_of, read_fields, take_field, if_shaped}
 use Rattle.sd_sddl_reader.specs.Line.{Piece, Section, Sections, aces, are_aces, are_shaped, cut_at_semicolons, front, has_aces, has_twice, head_of, is_acl_body, is_blank_piece, is_paired, is_sid_body, pieces_from, sections, trim}

@@ -7,7 +7,7 @@ use Rattle.sd_kinds.specs.Kinds.{is_object}
 use Rattle.sd_sid.specs.Sid.{SecurityId}
 use Rattle.sd_view.specs.Descriptor.{Descriptor, Shows}
 use Rattle.sd_view.specs.declared.acl.AclPart.TheVariants as acl
-use Rattle.sd_view.specs.declared.fault.Part.{Part}
+use Rattle.sd_control.specs.declared.part.Part.{Part}
 use Rattle.sd_builder.specs.Builds.{Builds}
 use Rattle.sd_builder.specs.declared.builder.Builder.{Builder}
 use Rattle.sd_builder.specs.Draft.{IsOpen, IsWritten, Parts, acl_for, closed}

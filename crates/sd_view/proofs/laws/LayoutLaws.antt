@@ -12,10 +12,13 @@ use Rattle.sd_view.specs.Acl.{IsAcl, acl_size}
 use Rattle.sd_view.specs.AclLayout.{acl_bytes, ace_bytes}
 use Rattle.sd_view.specs.Bytes.{u16_at, u32_at}
 use Rattle.sd_view.specs.Descriptor.{Apart, AreApart, Descriptor, Extent, IsAclPart, IsDescriptor, Shows, ShowsAclPart, ShowsSid, acl_extent, control_at, dacl_at, group_at, owner_at, sacl_at, sid_extent}
-use Rattle.sd_view.specs.Layout.{acl_part, acl_part_size, dacl_offset, descriptor_header, group_offset, header_bytes, layout, offset_if, sacl_offset, sid_part, sid_part_size, size}
+use Rattle.sd_view.specs.Layout.{acl_part, acl_part_size, dacl_offset, descriptor_header, group_offset, layout, offset_if, offsets, parts_bytes, sacl_offset, sid_part, sid_part_size, size}
+use Rattle.sd_control.specs.Header.{header_bytes}
+use Rattle.sd_control.specs.declared.part.Parts.{Parts}
 use Rattle.sd_view.specs.declared.acl.AclPart.{AclPart}
 use Rattle.sd_view.specs.declared.acl.AclPart.TheVariants as acl
 use Rattle.sd_sid.proofs.laws.SidLaws.{length-sid_bytes}
+use Rattle.sd_view.proofs.laws.ApartLaws.{six-apart}
 use Rattle.sd_view.proofs.laws.AclLayoutLaws.{acl_bytes-shows, acl_size-most, length-acl_bytes}
 
 -- a part has as many bytes as its size says, and is no larger than the largest SID or ACL
@@ -38,44 +41,36 @@ acl_part_size-most present acl.Null h = omega arith
 acl_part_size-most present (acl.List aces) h = acl_size-most aces h.1
 
 -- the fields of a header
-pub header-control : (rm control owner group sacl dacl : ℕ) (rest : List ℕ) → control < 2 ^ 16
-    → u16_at 2 (header_bytes rm control owner group sacl dacl ++ rest) ≡ control
-unfolding u16_at header_bytes
-header-control rm control owner group sacl dacl rest h =
-    little_number-reads_back 2 control
-    (little_bytes 4 owner ++ (little_bytes 4 group ++ (little_bytes 4 sacl ++ (little_bytes 4 dacl ++ rest)))) h
+module _ (rm control : ℕ) (o : Parts ℕ) (rest : List ℕ) where
+  pub header-revision : slice_index (header_bytes rm control o ++ rest) 0 ≡ 1
+  unfolding header_bytes
+  header-revision = refl
 
-pub header-owner : (rm control owner group sacl dacl : ℕ) (rest : List ℕ) → owner < 2 ^ 32
-    → u32_at 4 (header_bytes rm control owner group sacl dacl ++ rest) ≡ owner
-unfolding u32_at header_bytes
-header-owner rm control owner group sacl dacl rest h =
-    little_number-reads_back 4 owner (little_bytes 4 group ++ (little_bytes 4 sacl ++ (little_bytes 4 dacl ++ rest))) h
+  pub header-rm : slice_index (header_bytes rm control o ++ rest) 1 ≡ rm
+  unfolding header_bytes
+  header-rm = refl
 
-pub header-group : (rm control owner group sacl dacl : ℕ) (rest : List ℕ) → group < 2 ^ 32
-    → u32_at 8 (header_bytes rm control owner group sacl dacl ++ rest) ≡ group
-unfolding u32_at header_bytes
-header-group rm control owner group sacl dacl rest h =
-    little_number-reads_back 4 group (little_bytes 4 sacl ++ (little_bytes 4 dacl ++ rest)) h
+  pub header-control : control < 2 ^ 16 → u16_at 2 (header_bytes rm control o ++ rest) ≡ control
+  unfolding u16_at header_bytes
+  header-control h =
+      little_number-reads_back 2 control
+      (little_bytes 4 o.owner ++ (little_bytes 4 o.group ++ (little_bytes 4 o.sacl ++ (little_bytes 4 o.dacl ++ rest)))) h
 
-pub header-sacl : (rm control owner group sacl dacl : ℕ) (rest : List ℕ) → sacl < 2 ^ 32
-    → u32_at 12 (header_bytes rm control owner group sacl dacl ++ rest) ≡ sacl
-unfolding u32_at header_bytes
-header-sacl rm control owner group sacl dacl rest h = little_number-reads_back 4 sacl (little_bytes 4 dacl ++ rest) h
+  pub header-owner : o.owner < 2 ^ 32 → u32_at 4 (header_bytes rm control o ++ rest) ≡ o.owner
+  unfolding u32_at header_bytes
+  header-owner h = little_number-reads_back 4 o.owner (little_bytes 4 o.group ++ (little_bytes 4 o.sacl ++ (little_bytes 4 o.dacl ++ rest))) h
 
-pub header-dacl : (rm control owner group sacl dacl : ℕ) (rest : List ℕ) → dacl < 2 ^ 32
-    → u32_at 16 (header_bytes rm control owner group sacl dacl ++ rest) ≡ dacl
-unfolding u32_at header_bytes
-header-dacl rm control owner group sacl dacl rest h = little_number-reads_back 4 dacl rest h
+  pub header-group : o.group < 2 ^ 32 → u32_at 8 (header_bytes rm control o ++ rest) ≡ o.group
+  unfolding u32_at header_bytes
+  header-group h = little_number-reads_back 4 o.group (little_bytes 4 o.sacl ++ (little_bytes 4 o.dacl ++ rest)) h
 
-pub header-revision : (rm control owner group sacl dacl : ℕ) (rest : List ℕ)
-    → slice_index (header_bytes rm control owner group sacl dacl ++ rest) 0 ≡ 1
-unfolding header_bytes
-header-revision rm control owner group sacl dacl rest = refl
+  pub header-sacl : o.sacl < 2 ^ 32 → u32_at 12 (header_bytes rm control o ++ rest) ≡ o.sacl
+  unfolding u32_at header_bytes
+  header-sacl h = little_number-reads_back 4 o.sacl (little_bytes 4 o.dacl ++ rest) h
 
-pub header-rm : (rm control owner group sacl dacl : ℕ) (rest : List ℕ)
-    → slice_index (header_bytes rm control owner group sacl dacl ++ rest) 1 ≡ rm
-unfolding header_bytes
-header-rm rm control owner group sacl dacl rest = refl
+  pub header-dacl : o.dacl < 2 ^ 32 → u32_at 16 (header_bytes rm control o ++ rest) ≡ o.dacl
+  unfolding u32_at header_bytes
+  header-dacl h = little_number-reads_back 4 o.dacl rest h
 
 -- it has 20 bytes
 length-header : (d : Descriptor) → length (descriptor_header d) ≡ 20
@@ -119,14 +114,10 @@ parts-apart : (p k l m n : ℕ)
       sacl = extent_if (p + k + l) m;
       dacl = extent_if (p + k + l + m) n;
     })
-parts-apart p k l m n = record {
-  owner_group = apart p k (p + k) l (omega arith);
-  owner_sacl = apart p k (p + k + l) m (omega arith);
-  owner_dacl = apart p k (p + k + l + m) n (omega arith);
-  group_sacl = apart (p + k) l (p + k + l) m (omega arith);
-  group_dacl = apart (p + k) l (p + k + l + m) n (omega arith);
-  sacl_dacl = apart (p + k + l) m (p + k + l + m) n (omega arith);
-}
+parts-apart p k l m n =
+    six-apart _ (apart p k (p + k) l (omega arith)) (apart p k (p + k + l) m (omega arith))
+    (apart p k (p + k + l + m) n (omega arith)) (apart (p + k) l (p + k + l) m (omega arith))
+    (apart (p + k) l (p + k + l + m) n (omega arith)) (apart (p + k + l) m (p + k + l + m) n (omega arith))
 
 -- what stands after a part
 after : (start n : ℕ) (whole part rest : List ℕ) → length part ≡ n → drop start whole ≡ part ++ rest
@@ -211,23 +202,16 @@ record Header (d : Descriptor) : Type 0 where
 header : (d : Descriptor) → IsDescriptor d → Header d
 header d h =
     let most = size-most d h in
-    let owner = offset_if 20 (sid_part_size d.owner) in
-    let group = offset_if (group_offset d) (sid_part_size d.group) in
-    let sacl = offset_if (sacl_offset d) (acl_part_size d.sacl) in
-    let dacl = offset_if (dacl_offset d) (acl_part_size d.dacl) in
-    let rest = sid_part d.owner ++ (sid_part d.group ++ (acl_part d.sacl ++ acl_part d.dacl)) in
+    let o = offsets d in
+    let rest = parts_bytes d in
     record {
-      revision = header-revision d.rm d.control owner group sacl dacl rest;
-      rm = header-rm d.rm d.control owner group sacl dacl rest;
-      control = header-control d.rm d.control owner group sacl dacl rest h.control;
-      owner = header-owner d.rm d.control owner group sacl dacl rest
-          (offset-small 20 (sid_part_size d.owner) (omega arith));
-      group = header-group d.rm d.control owner group sacl dacl rest
-          (offset-small (group_offset d) (sid_part_size d.group) (omega arith));
-      sacl = header-sacl d.rm d.control owner group sacl dacl rest
-          (offset-small (sacl_offset d) (acl_part_size d.sacl) (omega arith));
-      dacl = header-dacl d.rm d.control owner group sacl dacl rest
-          (offset-small (dacl_offset d) (acl_part_size d.dacl) (omega arith));
+      revision = header-revision d.rm d.control o rest;
+      rm = header-rm d.rm d.control o rest;
+      control = header-control d.rm d.control o rest h.control;
+      owner = header-owner d.rm d.control o rest (offset-small 20 (sid_part_size d.owner) (omega arith));
+      group = header-group d.rm d.control o rest (offset-small (group_offset d) (sid_part_size d.group) (omega arith));
+      sacl = header-sacl d.rm d.control o rest (offset-small (sacl_offset d) (acl_part_size d.sacl) (omega arith));
+      dacl = header-dacl d.rm d.control o rest (offset-small (dacl_offset d) (acl_part_size d.dacl) (omega arith));
     }
 
 -- what stands from the first byte of each part on

@@ -25,7 +25,7 @@ returns c = record {
       let r = open-roomy _ _ c.requires.0 _ c.requires.1 c.unwrap-open.ensures in
       let total : o.start + (length c.bytes.result.now - o.start) ≡ length
       c.args.buf.now = omega (arith, r.start, ap length c.bytes.ensures.value) in
-      rw (c.keep.ensures, c.patch.ensures)
+      rw (c.keep.ensures, c.into.ensures, c.patch.ensures)
       (end-builds c.args.self.now c.args.buf.now t o (length c.bytes.result.now - o.start) c.acl_header.result
       c.unwrap-open.ensures total c.acl_header.ensures h);
 }

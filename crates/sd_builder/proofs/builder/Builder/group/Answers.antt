@@ -1,13 +1,17 @@
-use Rattle.sd_builder.proofs.Building.{group-builds, group-room}
+use Rattle.std.proofs.Common.{ap}
+use Rattle.sd_control.specs.declared.part.SidPart.TheVariants.{Group}
+use Rattle.sd_builder.specs.Inner.Building.{given_sid}
+use Rattle.sd_builder.proofs.Building.{sid-builds, sid-room}
 use Rattle.sd_builder.proofs.builder.Builder.group.Goals as goal
 
-pub append_sid_at-self-requires : goal.append_sid_at-self-requires
-append_sid_at-self-requires c = group-room _ _ c.requires.0 c.requires.1 c.requires.2 c.requires.3
+pub append_sid_at-offset-requires : goal.append_sid_at-offset-requires
+append_sid_at-offset-requires c = sid-room _ _ c.requires.0 Group c.requires.1 (ap given_sid c.requires.2) c.requires.3
 
 pub returns : goal.returns
 returns c = record {
   value =
       λ t h.
-      rw (c.append_sid_at-self.ensures.value, c.append_sid_at-self.ensures.offset)
-      (group-builds _ _ c.requires.0 t _ c.requires.1 c.requires.2 c.requires.3 c.append_sid_at-self.ensures.limits h);
+      rw (c.keep.ensures, c.append_sid_at-offset.ensures.value, c.append_sid_at-offset.ensures.offset)
+      (sid-builds _ _ c.requires.0 t Group _ c.requires.1 (ap given_sid c.requires.2) c.requires.3
+      c.append_sid_at-offset.ensures.limits h);
 }

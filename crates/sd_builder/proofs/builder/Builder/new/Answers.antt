@@ -5,5 +5,5 @@ use Rattle.sd_builder.proofs.builder.Builder.new.Goals as goal
 pub returns : goal.returns
 returns c = record {
   value =
-      rw (c.append.ensures, c.clear.ensures) (new-builds _ refl);
+      rw (c.append.ensures, c.clear.ensures, c.each.ensures) (new-builds _ refl);
 }
