@@ -6,7 +6,7 @@ use Rattle.std.proofs.lemmas.Bool.{and_parts}
 use Rattle.sd_control.specs.declared.part.Which.TheVariants as which
 use Rattle.sd_sddl_reader.specs.declared.line.Head.{Head}
 use Rattle.sd_sddl_reader.specs.declared.line.Head.TheVariants as head
-use Rattle.sd_sddl_reader.specs.declared.line.SidPart.TheVariants as sid_part
+use Rattle.sd_control.specs.declared.part.SidPart.TheVariants as sid_part
 use Rattle.sd_sddl_reader.specs.Line.{Piece, LinePieces, Section, Sections, ace, begins_with_colon, byte, has_six_fields, head_of, is_paired, sections_of, pieces_from, sections}
 use Rattle.sd_sddl_printer.proofs.PlainTexts.{IsPlain, is_plain_byte, no_mark}
 

@@ -5,7 +5,7 @@ use Rattle.std.proofs.lemmas.Bool.{and_parts}
 use Rattle.sd_control.specs.declared.part.Which.TheVariants as which
 use Rattle.sd_sddl_reader.specs.declared.line.Head.{Head}
 use Rattle.sd_sddl_reader.specs.declared.line.Head.TheVariants as head
-use Rattle.sd_sddl_reader.specs.declared.line.SidPart.TheVariants as sid_part
+use Rattle.sd_control.specs.declared.part.SidPart.TheVariants as sid_part
 use Rattle.sd_sddl_reader.specs.declared.line.Slot.TheVariants as slot
 use Rattle.sd_sddl_reader.specs.FoldedReading.{Field, ace_fields, fields_in, fields_of}
 use Rattle.sd_sddl_reader.specs.Line.{Sections, ace, aces, are_aces, are_shaped, byte, front, has_aces, has_twice, is_acl_body, is_blank_piece, is_body, is_shaped, is_sid_body, sections_of, trim, trim_end}

@@ -14,7 +14,7 @@ use Rattle.sd_control.specs.declared.control.AclFlags.{AclFlags}
 use Rattle.sd_sddl_reader.specs.declared.fault.SddlFault.{SddlFault}
 use Rattle.sd_sddl_reader.specs.declared.line.AceField.TheVariants as field
 use Rattle.sd_sddl_reader.specs.declared.line.Head.TheVariants as head
-use Rattle.sd_sddl_reader.specs.declared.line.SidPart.{SidPart}
+use Rattle.sd_control.specs.declared.part.SidPart.{SidPart}
 use Rattle.sd_sddl_reader.specs.declared.line.Slot.TheVariants as slot
 use Rattle.sd_sid.specs.declared.naming.Naming.{Naming}
 use Rattle.sd_sddl_reader.specs.declared.reading.AceFields.{AceFields}

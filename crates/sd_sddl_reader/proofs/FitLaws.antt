@@ -10,13 +10,15 @@ use Rattle.sd_sid.specs.SidText.{sid_reads}
 use Rattle.sd_sid.specs.declared.sid_text.SidFault.{SidFault}
 use Rattle.sd_view.specs.declared.acl.AclPart.TheVariants as acl
 use Rattle.sd_builder.specs.Draft.{Parts, IsOpen, IsOpenIn, closed, closed_in, acl_for, more_in, with_ace}
-use Rattle.sd_sddl_reader.specs.Line.{same_head}
+use Rattle.sd_control.specs.Parts.{each_part}
+use Rattle.sd_control.proofs.laws.PartLaws.{same-self}
+use Rattle.sd_sddl_reader.specs.Line.{part_of_head, same_head}
 use Rattle.sd_sddl_reader.specs.FoldedReading.{FieldsRead, ace_of_fields, begun_or_null, fault_of, nothing_read, take_ace_field, take_field, take_front, take_readable, with_flags, with_owner_or_group, with_sid, with_trustee, with_value}
 use Rattle.sd_text.specs.Chains.{and_then, unless}
 use Rattle.sd_sddl_reader.specs.Meaning.{is_unreadable}
 use Rattle.sd_sddl_fields.specs.FieldTexts.{front_reads, kind_reads, object_reads}
 use Rattle.sd_sddl_fields.specs.Held.{Held, held_text}
-use Rattle.sd_sddl_reader.specs.Inner.Progress.{ended_with, is_seen, state_of, with_head}
+use Rattle.sd_sddl_reader.specs.Inner.Progress.{Seen, ended_with, is_seen, state_of, with_head}
 use Rattle.sd_sddl_reader.proofs.Steps.{seen_with}
 use Rattle.sd_sddl_reader.specs.Inner.Reads.{CanTake, Fits, HasReadFields, LineHasRead, Lacks, is_at_front, is_in_acl}
 use Rattle.sd_control.specs.declared.control.AclFlags.{AclFlags}
@@ -28,9 +30,8 @@ use Rattle.sd_sddl_reader.specs.declared.line.Head.{Head}
 use Rattle.sd_sddl_reader.specs.declared.line.Head.TheVariants as head
 use Rattle.sd_sddl_reader.specs.declared.line.State.{State}
 use Rattle.sd_sddl_reader.specs.declared.line.State.TheVariants as state
-use Rattle.sd_sddl_reader.specs.declared.line.Seen.{Seen}
-use Rattle.sd_sddl_reader.specs.declared.line.SidPart.{SidPart}
-use Rattle.sd_sddl_reader.specs.declared.line.SidPart.TheVariants as sid_part
+use Rattle.sd_control.specs.declared.part.SidPart.{SidPart}
+use Rattle.sd_control.specs.declared.part.SidPart.TheVariants as sid_part
 use Rattle.sd_sddl_reader.specs.declared.line.Slot.{Slot}
 use Rattle.sd_sddl_reader.specs.declared.line.Slot.TheVariants as slot
 use Rattle.sd_sddl_reader.specs.declared.reader.SddlReader.{SddlReader}
@@ -326,27 +327,10 @@ same-head (head.Sid sid_part.Owner) (head.Sid sid_part.Owner) e = refl
 same-head (head.Sid sid_part.Group) (head.Sid sid_part.Group) e = refl
 same-head (head.Acl which.Sacl) (head.Acl which.Sacl) e = refl
 same-head (head.Acl which.Dacl) (head.Acl which.Dacl) e = refl
-same-head (head.Sid sid_part.Owner) (head.Sid sid_part.Group) e = absurd cc
-same-head (head.Sid sid_part.Group) (head.Sid sid_part.Owner) e = absurd cc
-same-head (head.Acl which.Sacl) (head.Acl which.Dacl) e = absurd cc
-same-head (head.Acl which.Dacl) (head.Acl which.Sacl) e = absurd cc
-same-head (head.Sid sid_part.Owner) (head.Acl which.Sacl) e = absurd cc
-same-head (head.Sid sid_part.Owner) (head.Acl which.Dacl) e = absurd cc
-same-head (head.Sid sid_part.Group) (head.Acl which.Sacl) e = absurd cc
-same-head (head.Sid sid_part.Group) (head.Acl which.Dacl) e = absurd cc
-same-head (head.Acl which.Sacl) (head.Sid sid_part.Owner) e = absurd cc
-same-head (head.Acl which.Sacl) (head.Sid sid_part.Group) e = absurd cc
-same-head (head.Acl which.Dacl) (head.Sid sid_part.Owner) e = absurd cc
-same-head (head.Acl which.Dacl) (head.Sid sid_part.Group) e = absurd cc
-
-head-itself : (h : Head) → same_head h h ≡ true
-head-itself (head.Sid sid_part.Owner) = refl
-head-itself (head.Sid sid_part.Group) = refl
-head-itself (head.Acl which.Sacl) = refl
-head-itself (head.Acl which.Dacl) = refl
+same-head h k e = absurd cc
 
 pub itself-or : (x : Bool) (h : Head) → (x || same_head h h) ≡ true
-itself-or x h = or_right x (same_head h h) (head-itself h)
+itself-or x h = or_right x (same_head h h) (same-self (part_of_head h))
 
 front-of : (h k : Head) → is_at_front (state_of h) k ≡ same_head h k
 front-of (head.Sid p) k = refl
@@ -428,7 +412,7 @@ unseen-head false f fault e = (refl, e)
 
 -- 7. The start.
 
-pub fits-start : Fits state.Before (record { owner = false; group = false; sacl = false; dacl = false }) nothing_read
+pub fits-start : Fits state.Before (each_part false) nothing_read
 fits-start = record { here = λ h e. absurd cc; lacks = λ h e. nothing h; opened = λ e. absurd cc }
   where
     nothing : (h : Head) → Lacks h nothing_read

@@ -9,15 +9,14 @@ use Rattle.sd_sid.specs.Sid.{SecurityId}
 use Rattle.sd_sddl_reader.specs.declared.fault.SddlFault.{SddlFault}
 use Rattle.sd_sddl_reader.specs.declared.line.AceField.{AceField}
 use Rattle.sd_sddl_reader.specs.declared.line.State.TheVariants as state
-use Rattle.sd_sddl_reader.specs.declared.line.Seen.{Seen}
-use Rattle.sd_sddl_reader.specs.declared.line.SidPart.{SidPart}
+use Rattle.sd_control.specs.declared.part.SidPart.{SidPart}
 use Rattle.sd_sddl_fields.specs.Held.{Held, IsHeld, broken_text, held_run, held_with, is_plain_inside}
 use Rattle.sd_sddl_reader.specs.Inner.Progress.{is_plain_outside}
 use Rattle.sd_sddl_reader.specs.Line.{head_of}
 use Rattle.sd_sddl_fields.specs.FieldTexts.{is_blank}
 use Rattle.sd_sddl_reader.specs.FoldedReading.{FieldsRead}
 use Rattle.sd_text.specs.Chains.{unless}
-use Rattle.sd_sddl_reader.specs.Inner.Progress.{rest_answer}
+use Rattle.sd_sddl_reader.specs.Inner.Progress.{Seen, rest_answer}
 use Rattle.sd_sddl_reader.specs.Inner.Reads.{IsReader, Reads, answer_at}
 use Rattle.sd_sddl_reader.specs.declared.reader.SddlReader.{SddlReader}
 use Rattle.sd_sddl_reader.proofs.FieldTexts.{append_nothing, same_inner, same_text, with_held}

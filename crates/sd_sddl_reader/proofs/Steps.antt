@@ -17,17 +17,19 @@ use Rattle.sd_sddl_reader.specs.declared.line.Head.{Head}
 use Rattle.sd_sddl_reader.specs.declared.line.Head.TheVariants as head
 use Rattle.sd_sddl_reader.specs.declared.line.State.{State}
 use Rattle.sd_sddl_reader.specs.declared.line.State.TheVariants as state
-use Rattle.sd_sddl_reader.specs.declared.line.Seen.{Seen}
-use Rattle.sd_sddl_reader.specs.declared.line.SidPart.{SidPart}
-use Rattle.sd_sddl_reader.specs.declared.line.SidPart.TheVariants as sid_part
+use Rattle.sd_control.specs.Parts.{each_part, get_part, same_part, set_part}
+use Rattle.sd_control.specs.declared.part.Part.{Part}
+use Rattle.sd_control.specs.declared.part.Part.TheVariants as part
+use Rattle.sd_control.specs.declared.part.SidPart.{SidPart}
+use Rattle.sd_control.specs.declared.part.SidPart.TheVariants as sid_part
 use Rattle.sd_sddl_reader.specs.declared.line.Slot.{Slot}
 use Rattle.sd_sddl_reader.specs.declared.line.Slot.TheVariants as slot
 use Rattle.sd_sddl_fields.specs.Held.{Held, IsHeld, no_text, held_text}
-use Rattle.sd_sddl_reader.specs.Line.{is_paired, Piece, byte, ace, pieces_from, sections, Section, Sections, is_sid_body, are_aces, is_acl_body, are_shaped, cut_at_semicolons, front, aces, has_aces, has_twice, has_head, head_at, head_of, sections_of, begins_with_colon, same_head, is_body}
+use Rattle.sd_sddl_reader.specs.Line.{is_paired, Piece, byte, ace, pieces_from, sections, Section, Sections, is_sid_body, are_aces, is_acl_body, are_shaped, cut_at_semicolons, front, aces, has_aces, has_twice, has_head, head_at, head_of, sections_of, begins_with_colon, part_of_head, same_head, is_body}
 use Rattle.sd_sddl_fields.specs.FieldTexts.{is_blank}
 use Rattle.sd_sddl_reader.specs.FoldedReading.{Field, FieldsRead, ace_fields, ace_fields_from, fields_in, fields_of, next_field, nothing_read, read_fields, reads_as, take_field, if_shaped}
 use Rattle.sd_text.specs.Chains.{and_then, unless}
-use Rattle.sd_sddl_reader.specs.Inner.Progress.{is_inside, fields_left, is_shaped_here, text_with, inner_with, fields_here, is_seen, with_head, has_seen, judged, rest_answer, state_of, ended_with}
+use Rattle.sd_sddl_reader.specs.Inner.Progress.{Seen, is_inside, fields_left, is_shaped_here, text_with, inner_with, fields_here, is_seen, with_head, has_seen, judged, rest_answer, state_of, ended_with}
 use Rattle.sd_sddl_reader.proofs.FieldTexts.{Same, same_reads, text_ended, inner_ended}
 
 -- 1. Small facts.
@@ -316,23 +318,15 @@ mixed false true v y z = refl
 mixed false false true y z = refl
 mixed false false false y z = refl
 
+set-seen : (se : Seen) (p q : Part) → get_part q (set_part p true se) ≡ (get_part q se || same_part p q)
+set-seen se part.Owner part.Owner = rw or-true refl
+set-seen se part.Group part.Group = rw or-true refl
+set-seen se part.Sacl part.Sacl = rw or-true refl
+set-seen se part.Dacl part.Dacl = rw or-true refl
+set-seen se p q = rw or-false refl
+
 pub seen_with : (se : Seen) (p q : Head) → is_seen (with_head se p) q ≡ (is_seen se q || same_head p q)
-seen_with se (head.Sid sid_part.Owner) (head.Sid sid_part.Owner) = rw or-true refl
-seen_with se (head.Sid sid_part.Owner) (head.Sid sid_part.Group) = rw or-false refl
-seen_with se (head.Sid sid_part.Owner) (head.Acl which.Sacl) = rw or-false refl
-seen_with se (head.Sid sid_part.Owner) (head.Acl which.Dacl) = rw or-false refl
-seen_with se (head.Sid sid_part.Group) (head.Sid sid_part.Owner) = rw or-false refl
-seen_with se (head.Sid sid_part.Group) (head.Sid sid_part.Group) = rw or-true refl
-seen_with se (head.Sid sid_part.Group) (head.Acl which.Sacl) = rw or-false refl
-seen_with se (head.Sid sid_part.Group) (head.Acl which.Dacl) = rw or-false refl
-seen_with se (head.Acl which.Sacl) (head.Sid sid_part.Owner) = rw or-false refl
-seen_with se (head.Acl which.Sacl) (head.Sid sid_part.Group) = rw or-false refl
-seen_with se (head.Acl which.Sacl) (head.Acl which.Sacl) = rw or-true refl
-seen_with se (head.Acl which.Sacl) (head.Acl which.Dacl) = rw or-false refl
-seen_with se (head.Acl which.Dacl) (head.Sid sid_part.Owner) = rw or-false refl
-seen_with se (head.Acl which.Dacl) (head.Sid sid_part.Group) = rw or-false refl
-seen_with se (head.Acl which.Dacl) (head.Acl which.Sacl) = rw or-false refl
-seen_with se (head.Acl which.Dacl) (head.Acl which.Dacl) = rw or-true refl
+seen_with se p q = set-seen se (part_of_head p) (part_of_head q)
 
 four : (a b c d : Bool) → ((a || b) || (c || d)) ≡ ((a || c) || (b || d))
 four true b c d = refl
@@ -454,21 +448,21 @@ unfinished dm so tw se r c h = unshaped _ _ _ (and_right so _ refl)
 -- 8. The start.
 
 pub started : (dm : Option SecurityId) (h : Held) (text : List ℕ)
-    → rest_answer dm true false (record { owner = false; group = false; dacl = false; sacl = false }) (Ok nothing_read)
+    → rest_answer dm true false (each_part false) (Ok nothing_read)
     state.Before h text ≡ reads_as dm text
 unfolding rest_answer judged reads_as
 started dm h text = rw (nothing_seen (sections_of text).parts) refl
   where
     nothing_seen : (ss : List Section)
-        → has_seen (record { owner = false; group = false; dacl = false; sacl = false }) ss ≡ false
+        → has_seen (each_part false) ss ≡ false
     nothing_seen [] = refl
-    nothing_seen (s ∷ ss) = rw (none s.head, nothing_seen ss) refl
+    nothing_seen (s ∷ ss) = rw (none (part_of_head s.head), nothing_seen ss) refl
       where
-        none : (p : Head) → is_seen (record { owner = false; group = false; dacl = false; sacl = false }) p ≡ false
-        none (head.Sid sid_part.Owner) = refl
-        none (head.Sid sid_part.Group) = refl
-        none (head.Acl which.Sacl) = refl
-        none (head.Acl which.Dacl) = refl
+        none : (p : Part) → get_part p (each_part false) ≡ false
+        none part.Owner = refl
+        none part.Group = refl
+        none part.Sacl = refl
+        none part.Dacl = refl
 
 -- a column that is not the last has a semicolon after it
 pub column_more : (c : AceField) → (c ≡ field.Sid → ⊥) → (fields_left c == 0) ≡ false

@@ -11,13 +11,12 @@ use Rattle.sd_sddl_reader.specs.declared.fault.SddlFault.{SddlFault}
 use Rattle.sd_sddl_reader.specs.declared.line.AceField.{AceField}
 use Rattle.sd_sddl_reader.specs.declared.line.AceField.TheVariants as field
 use Rattle.sd_sddl_reader.specs.declared.line.State.TheVariants as state
-use Rattle.sd_sddl_reader.specs.declared.line.Seen.{Seen}
 use Rattle.sd_sddl_reader.specs.declared.line.Slot.TheVariants as slot
 use Rattle.sd_sddl_reader.specs.declared.reading.AceFields.{AceFields}
 use Rattle.sd_sddl_reader.specs.declared.reading.FieldReader.{FieldReader}
 use Rattle.sd_sddl_reader.specs.FoldedReading.{FieldsRead, take_ace_field, take_field, with_trustee}
 use Rattle.sd_sddl_fields.specs.Held.{IsHeld, is_plain_inside, no_text}
-use Rattle.sd_sddl_reader.specs.Inner.Progress.{rest_answer, end_of, state_after}
+use Rattle.sd_sddl_reader.specs.Inner.Progress.{Seen, rest_answer, end_of, state_after}
 use Rattle.sd_sddl_reader.specs.Inner.Reads.{AreAceFields, FedTo, Fits, IsReader, LineHasRead, Steps}
 use Rattle.sd_sddl_reader.specs.declared.reader.SddlReader.{SddlReader}
 use Rattle.sd_sddl_reader.specs.Inner.WholeAce.{AceTexts, EndsAce, AreWhole, TakesAce, ace_before, with_field, with_texts}

@@ -5,8 +5,10 @@ use Rattle.std.specs.List.{list_all}
 use Rattle.std.specs.Str.{byte as char}
 use Rattle.sd_text.specs.Cuts.{Cuts, all_cuts, cut_at}
 use Rattle.sd_control.specs.declared.part.Which.TheVariants as which
+use Rattle.sd_control.specs.Parts.{part_of, same_part, sid_part_of}
+use Rattle.sd_control.specs.declared.part.Part.{Part}
 use Rattle.sd_sddl_fields.specs.FieldTexts.{is_blank}
-use Rattle.sd_sddl_reader.specs.declared.line.SidPart.TheVariants as sid_part
+use Rattle.sd_control.specs.declared.part.SidPart.TheVariants as sid_part
 use Rattle.sd_sddl_reader.specs.declared.line.Head.{Head}
 use Rattle.sd_sddl_reader.specs.declared.line.Head.TheVariants as head
 
@@ -171,12 +173,12 @@ is_shaped text =
 
 -- 5. Two heads with one letter.
 
+abbrev pub part_of_head : Head → Part
+part_of_head (head.Sid p) = sid_part_of p
+part_of_head (head.Acl w) = part_of w
+
 abbrev pub same_head : Head → Head → Bool
-same_head (head.Sid sid_part.Owner) (head.Sid sid_part.Owner) = true
-same_head (head.Sid sid_part.Group) (head.Sid sid_part.Group) = true
-same_head (head.Acl which.Sacl) (head.Acl which.Sacl) = true
-same_head (head.Acl which.Dacl) (head.Acl which.Dacl) = true
-same_head _ _ = false
+same_head h k = same_part (part_of_head h) (part_of_head k)
 
 abbrev pub has_head : Head → List Section → Bool
 has_head h [] = false

@@ -4,20 +4,13 @@ ghost use Rattle.std.specs.Prelude.{◌≡◌, ◌≤◌, length, take, true};
 ghost use Rattle.std.specs.List.{list_all};
 ghost use Rattle.sd_sddl_fields.specs.Held.{is_plain_inside};
 ghost use Rattle.sd_sddl_reader.specs.Inner.Progress.{is_plain_outside};
-ghost use Rattle.sd_sddl_reader.specs.Line.{head_of};
+ghost use Rattle.sd_sddl_reader.specs.Line.{head_of, part_of_head};
 ghost use Rattle.sd_sddl_fields.specs.FieldTexts.{is_blank};
 ghost use Rattle.sd_sddl_reader.specs.FoldedReading.{next_field};
 ghost use Rattle.sd_sddl_reader.specs.Inner.Progress.{state_of};
 
-use sd_control::Which;
+use sd_control::{Part, SidPart, Which};
 use sd_sddl_fields::is_plain_inside;
-
-/// A part that is a SID.
-#[derive(Clone, Copy)]
-pub enum SidPart {
-    Owner,
-    Group,
-}
 
 /// What a letter announces, with a colon after it.
 #[derive(Clone, Copy)]
@@ -63,40 +56,13 @@ pub enum State {
     Ace(AceField),
 }
 
-/// The heads that stood in the line so far.
-#[derive(Clone, Copy)]
-pub struct Seen {
-    pub owner: bool,
-    pub group: bool,
-    pub sacl: bool,
-    pub dacl: bool,
-}
+impl From<Head> for Part {
+    ghost from_gives = { λ head part. part ≡ part_of_head head };
 
-impl Seen {
-    ghost use Rattle.std.specs.Prelude.{◌≡◌};
-    ghost use Rattle.sd_sddl_reader.specs.Inner.Progress.{is_seen, with_head};
-
-    /// Whether a head stood.
-    pub fn has(&self, head: Head) -> bool
-        ensures { result ≡ is_seen self.now head }
-    {
+    fn from(head: Head) -> Part {
         match head {
-            Head::Sid(SidPart::Owner) => self.owner,
-            Head::Sid(SidPart::Group) => self.group,
-            Head::Acl(Which::Sacl) => self.sacl,
-            Head::Acl(Which::Dacl) => self.dacl,
-        }
-    }
-
-    /// Notes a head.
-    pub fn add(&mut self, head: Head)
-        ensures { self.new ≡ with_head self.old head }
-    {
-        match head {
-            Head::Sid(SidPart::Owner) => self.owner = true,
-            Head::Sid(SidPart::Group) => self.group = true,
-            Head::Acl(Which::Sacl) => self.sacl = true,
-            Head::Acl(Which::Dacl) => self.dacl = true,
+            Head::Sid(part) => part.into(),
+            Head::Acl(which) => which.into(),
         }
     }
 }

@@ -15,11 +15,10 @@ ghost use Rattle.sd_sddl_reader.specs.Inner.Reads.{CanTake, HasReadFields, Takes
 ghost use Rattle.sd_sddl_reader.specs.Inner.Progress.{ended_with, is_inside, is_seen, state_of, with_head};
 
 use crate::fault::SddlFault;
-use crate::line::{
-    AceField, Head, Seen, Slot, State, head_of, next_field, plain_outside, state_of,
-};
+use crate::line::{AceField, Head, Slot, State, head_of, next_field, plain_outside, state_of};
 use crate::reading::{FieldReader, fault_of};
 use sd_buffer::SdBuf;
+use sd_control::Parts;
 use sd_sddl_fields::{FieldText, is_blank, plain_inside};
 use sd_sid::Sid;
 
@@ -31,7 +30,8 @@ pub struct SddlReader {
     pending: Option<u8>,
     sound: bool,
     twice: bool,
-    seen: Seen,
+    // The heads that stood in the line so far.
+    seen: Parts<bool>,
     // The text of the field at hand.
     field: FieldText,
     // The first field that did not read.
@@ -54,12 +54,7 @@ impl SddlReader {
             pending: None,
             sound: true,
             twice: false,
-            seen: Seen {
-                owner: false,
-                group: false,
-                sacl: false,
-                dacl: false,
-            },
+            seen: Parts::each(false),
             field: FieldText::new(),
             fault: None,
             fields: FieldReader::new(domain, buf),
@@ -216,11 +211,12 @@ impl SddlReader {
               fault = self.new.fault;
             } }
     {
-        if self.seen.has(head) {
+        let part = head.into();
+        if self.seen.get(part) {
             self.twice = true;
             self.fault = Some(SddlFault::PartTwice);
         }
-        self.seen.add(head);
+        self.seen.set(part, true);
         self.state = state_of(head);
     }
 

@@ -9,11 +9,11 @@ ghost use Rattle.sd_sddl_fields.specs.FieldTexts.{front_reads};
 ghost use Rattle.sd_sddl_reader.specs.Inner.WholeAce.{EndsAce, EndsWithObjects, TakesAce};
 
 use crate::fault::SddlFault;
-use crate::line::{AceField, SidPart, Slot};
+use crate::line::{AceField, Slot};
 use sd_ace::Ace;
 use sd_buffer::SdBuf;
 use sd_builder::Builder;
-use sd_control::{AclFlags, Which};
+use sd_control::{AclFlags, SidPart, Which};
 use sd_kinds::{AceKind, flags_from_text};
 use sd_rights::rights_from_text;
 use sd_sddl_fields::{

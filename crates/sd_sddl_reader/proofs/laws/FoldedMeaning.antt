@@ -25,7 +25,7 @@ use Rattle.sd_control.specs.declared.control.AclFlags.{AclFlags}
 use Rattle.sd_sddl_reader.specs.declared.fault.SddlFault.TheVariants as fault
 use Rattle.sd_sddl_reader.specs.declared.line.Head.{Head}
 use Rattle.sd_sddl_reader.specs.declared.line.Head.TheVariants as head
-use Rattle.sd_sddl_reader.specs.declared.line.SidPart.TheVariants as sid_part
+use Rattle.sd_control.specs.declared.part.SidPart.TheVariants as sid_part
 use Rattle.sd_sddl_reader.specs.declared.reading.AceFields.{AceFields}
 use Rattle.sd_sddl_fields.specs.declared.field_texts.AclFront.{AclFront}
 use Rattle.sd_sddl_reader.proofs.laws.ControlFlags.{flags-stay}

@@ -4,10 +4,9 @@ use Rattle.std.specs.List.{list_all, flat_map}
 use Rattle.std.specs.Option.{is_none}
 use Rattle.std.specs.Str.{byte as char}
 use Rattle.sd_sid.specs.Sid.{SecurityId}
-use Rattle.sd_control.specs.declared.part.Which.TheVariants as which
 use Rattle.sd_sddl_fields.specs.Held.{Held, held_text, is_plain_inside}
 use Rattle.sd_sddl_reader.specs.FoldedReading.{Field, FieldsRead, ace_fields, ace_fields_from, fields_of, read_fields, take_field, if_shaped}
-use Rattle.sd_sddl_reader.specs.Line.{Piece, Section, Sections, aces, are_aces, are_shaped, cut_at_semicolons, front, has_aces, has_twice, head_of, is_acl_body, is_blank_piece, is_paired, is_sid_body, pieces_from, sections, trim}
+use Rattle.sd_sddl_reader.specs.Line.{Piece, Section, Sections, aces, are_aces, are_shaped, cut_at_semicolons, front, has_aces, has_twice, head_of, is_acl_body, is_blank_piece, is_paired, is_sid_body, part_of_head, pieces_from, sections, trim}
 use Rattle.sd_sddl_fields.specs.FieldTexts.{is_blank}
 use Rattle.sd_text.specs.Chains.{and_then}
 use Rattle.sd_sddl_reader.specs.declared.fault.SddlFault.{SddlFault}
@@ -17,8 +16,8 @@ use Rattle.sd_sddl_reader.specs.declared.line.Head.{Head}
 use Rattle.sd_sddl_reader.specs.declared.line.Head.TheVariants as head
 use Rattle.sd_sddl_reader.specs.declared.line.State.{State}
 use Rattle.sd_sddl_reader.specs.declared.line.State.TheVariants as state
-use Rattle.sd_sddl_reader.specs.declared.line.Seen.{Seen}
-use Rattle.sd_sddl_reader.specs.declared.line.SidPart.TheVariants as sid_part
+use Rattle.sd_control.specs.Parts.{get_part, set_part}
+use Rattle.sd_control.specs.declared.part.Parts.{Parts}
 use Rattle.sd_sddl_reader.specs.declared.line.Slot.TheVariants as slot
 
 abbrev pub is_inside : State → Bool
@@ -70,17 +69,15 @@ fields_here (state.Ace f) h held ps =
     ace_fields_from f (inner_with h (cut_at_semicolons held).first) (cut_at_semicolons held).others
     ++ flat_map ace_fields (aces ps)
 
+-- the parts whose heads stood in the line so far
+abbrev pub Seen : Type 0
+Seen = Parts Bool
+
 abbrev pub is_seen : Seen → Head → Bool
-is_seen s (head.Sid sid_part.Owner) = s.owner
-is_seen s (head.Sid sid_part.Group) = s.group
-is_seen s (head.Acl which.Sacl) = s.sacl
-is_seen s (head.Acl which.Dacl) = s.dacl
+is_seen s h = get_part (part_of_head h) s
 
 abbrev pub with_head : Seen → Head → Seen
-with_head s (head.Sid sid_part.Owner) = record s { owner = true }
-with_head s (head.Sid sid_part.Group) = record s { group = true }
-with_head s (head.Acl which.Sacl) = record s { sacl = true }
-with_head s (head.Acl which.Dacl) = record s { dacl = true }
+with_head s h = set_part (part_of_head h) true s
 
 abbrev pub has_seen : Seen → List Section → Bool
 has_seen seen [] = false

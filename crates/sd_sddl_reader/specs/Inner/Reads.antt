@@ -15,14 +15,13 @@ use Rattle.sd_sddl_fields.specs.Held.{IsHeld}
 use Rattle.sd_sddl_reader.specs.Line.{byte, head_at, pieces_from, same_head}
 use Rattle.sd_sddl_reader.specs.FoldedReading.{FieldsRead, reads_as}
 use Rattle.sd_text.specs.Chains.{unless}
-use Rattle.sd_sddl_reader.specs.Inner.Progress.{rest_answer, is_inside, is_seen}
+use Rattle.sd_sddl_reader.specs.Inner.Progress.{Seen, rest_answer, is_inside, is_seen}
 use Rattle.sd_sddl_reader.specs.declared.fault.SddlFault.{SddlFault}
 use Rattle.sd_sddl_reader.specs.declared.line.Head.{Head}
 use Rattle.sd_sddl_reader.specs.declared.line.Head.TheVariants as head
 use Rattle.sd_sddl_reader.specs.declared.line.State.{State}
 use Rattle.sd_sddl_reader.specs.declared.line.State.TheVariants as state
-use Rattle.sd_sddl_reader.specs.declared.line.Seen.{Seen}
-use Rattle.sd_sddl_reader.specs.declared.line.SidPart.TheVariants as sid_part
+use Rattle.sd_control.specs.declared.part.SidPart.TheVariants as sid_part
 use Rattle.sd_sddl_reader.specs.declared.line.Slot.{Slot}
 use Rattle.sd_sddl_reader.specs.declared.line.Slot.TheVariants as slot
 use Rattle.sd_sddl_reader.specs.declared.reading.AceFields.{AceFields}

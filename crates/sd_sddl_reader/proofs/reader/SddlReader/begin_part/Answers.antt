@@ -1,8 +1,7 @@
 use Rattle.std.proofs.Common.{◌≡◌, false, ap, sym, ◌∙◌, None}
-use Rattle.sd_sddl_reader.specs.declared.line.Seen.{Seen}
 use Rattle.sd_sddl_reader.specs.declared.reader.SddlReader.{SddlReader}
 use Rattle.sd_text.specs.Chains.{unless}
-use Rattle.sd_sddl_reader.specs.Inner.Progress.{is_seen}
+use Rattle.sd_sddl_reader.specs.Inner.Progress.{Seen, is_seen}
 use Rattle.sd_sddl_reader.proofs.Steps.{begin-noted}
 use Rattle.sd_sddl_reader.proofs.FitLaws.{fits-head, lacks-ended, none-ended, unseen-head}
 use Rattle.sd_sddl_reader.proofs.reader.SddlReader.begin_part.Goals as goal

@@ -10,8 +10,8 @@ pub returns-clause-read : goal.returns-clause-read
 returns-clause-read c =
     let domain = c.new-2.ensures.domain in (
       nothing_read,
-      record { fields = λ _. c.new-2.ensures.held; fits = λ _. fits-start },
-      λ rest. started _ _ rest ∙ ap (λ (d : Option SecurityId). reads_as d rest) domain,
+      record { fields = λ _. c.new-2.ensures.held; fits = λ _. rw (c.each.ensures) fits-start },
+      λ rest. rw (c.each.ensures) (started _ _ rest) ∙ ap (λ (d : Option SecurityId). reads_as d rest) domain,
     )
 
 pub returns-clause-reader : goal.returns-clause-reader
@@ -20,5 +20,5 @@ returns-clause-reader c = record {
   still = λ e. refl;
   letter = λ b e. absurd cc;
   read = nothing_read;
-  held = record { fields = λ _. c.new-2.ensures.held; fits = λ _. fits-start };
+  held = record { fields = λ _. c.new-2.ensures.held; fits = λ _. rw (c.each.ensures) fits-start };
 }
