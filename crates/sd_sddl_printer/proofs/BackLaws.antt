@@ -6,7 +6,7 @@ use Rattle.std.proofs.lemmas.Grind.{flat_map-append}
 use Rattle.sd_ace.specs.Ace.{AccessControlEntry}
 use Rattle.sd_sid.specs.Sid.{SecurityId}
 use Rattle.sd_view.specs.Descriptor.{Descriptor, IsDescriptor}
-use Rattle.sd_control.specs.Control.{dacl_present, sacl_present, acl_flags, bit_if, flag_bits, no_flags, control_of}
+use Rattle.sd_control.specs.Control.{dacl_present, sacl_present, acl_flags, bit_if, flag_bits, no_flags, control_of, present_bit}
 use Rattle.sd_view.specs.declared.acl.AclPart.{AclPart}
 use Rattle.sd_view.specs.declared.acl.AclPart.TheVariants as acl
 use Rattle.sd_control.specs.declared.control.AclFlags.{AclFlags}
@@ -217,17 +217,12 @@ whole-described o g df (acl.List xs) sf acl.Null = refl
 whole-described o g df (acl.List xs) sf (acl.List ys) = refl
 
 -- the flags of an ACL, and the bit that says that it stands
-dacl-bits : (c : ℕ) (part : AclPart) (f : AclFlags) → f ≡ flags_of part (dacl_of c)
-    → flag_bits which.Dacl f + bit_if (is_present part) 0x4 ≡ kept_bits which.Dacl c part
-dacl-bits c acl.Absent f e = rw e refl
-dacl-bits c acl.Null f e = rw e (omega arith)
-dacl-bits c (acl.List aces) f e = rw e (omega arith)
-
-sacl-bits : (c : ℕ) (part : AclPart) (f : AclFlags) → f ≡ flags_of part (sacl_flags_of c)
-    → flag_bits which.Sacl f + bit_if (is_present part) 0x10 ≡ kept_bits which.Sacl c part
-sacl-bits c acl.Absent f e = rw e refl
-sacl-bits c acl.Null f e = rw e (omega arith)
-sacl-bits c (acl.List aces) f e = rw e (omega arith)
+acl-bits : (w : Which) (c : ℕ) (part : AclPart)
+    → flag_bits w (flags_of part (acl_flags w c)) + bit_if (is_present part) (present_bit w) ≡ kept_bits w c part
+acl-bits which.Sacl c acl.Absent = refl
+acl-bits which.Dacl c acl.Absent = refl
+acl-bits w c acl.Null = omega arith
+acl-bits w c (acl.List aces) = omega arith
 
 abbrev made_control : ℕ → AclPart → AclPart → ℕ
 made_control c dacl sacl = control_of (control_flags (flags_of sacl (sacl_flags_of c)) (flags_of dacl (dacl_of c)))
@@ -238,8 +233,8 @@ control-made : (c : ℕ) (dacl sacl : AclPart)
 control-made c dacl sacl =
     let df = flags_of dacl (dacl_of c) in
     let sf = flags_of sacl (sacl_flags_of c) in
-    let low = dacl-bits c dacl df refl in
-    let high = sacl-bits c sacl sf refl in
+    let low = acl-bits which.Dacl c dacl in
+    let high = acl-bits which.Sacl c sacl in
     ap (λ (n : ℕ). n + 0x8000 + bit_if (is_present sacl) 0x10 + bit_if (is_present dacl) 0x4) (flags-stay sf df)
     ∙ omega (arith, low, high)
 

@@ -10,8 +10,8 @@ use Rattle.sd_sid.specs.SidText.{sid_reads}
 use Rattle.sd_sid.specs.declared.sid_text.SidFault.{SidFault}
 use Rattle.sd_view.specs.declared.acl.AclPart.TheVariants as acl
 use Rattle.sd_builder.specs.Draft.{Parts, IsOpen, IsOpenIn, closed, closed_in, acl_for, more_in, with_ace}
-use Rattle.sd_control.specs.Parts.{each_part}
-use Rattle.sd_control.proofs.laws.PartLaws.{same-self}
+use Rattle.sd_control.specs.Parts.{each_part, get_part}
+use Rattle.sd_control.proofs.laws.PartLaws.{same-is, same-self}
 use Rattle.sd_sddl_reader.specs.Line.{part_of_head, same_head}
 use Rattle.sd_sddl_reader.specs.FoldedReading.{FieldsRead, ace_of_fields, begun_or_null, fault_of, nothing_read, take_ace_field, take_field, take_front, take_readable, with_flags, with_owner_or_group, with_sid, with_trustee, with_value}
 use Rattle.sd_text.specs.Chains.{and_then, unless}
@@ -322,13 +322,6 @@ module _ (fault fault' : Option SddlFault) (t u : FieldsRead) (next : FieldsRead
 
 -- 6. A head.
 
-same-head : (h k : Head) → same_head h k ≡ true → h ≡ k
-same-head (head.Sid sid_part.Owner) (head.Sid sid_part.Owner) e = refl
-same-head (head.Sid sid_part.Group) (head.Sid sid_part.Group) e = refl
-same-head (head.Acl which.Sacl) (head.Acl which.Sacl) e = refl
-same-head (head.Acl which.Dacl) (head.Acl which.Dacl) e = refl
-same-head h k e = absurd cc
-
 pub itself-or : (x : Bool) (h : Head) → (x || same_head h h) ≡ true
 itself-or x h = or_right x (same_head h h) (same-self (part_of_head h))
 
@@ -359,7 +352,8 @@ fits-head p seen t u h keeps unseen k = record {
 
     by_same : (x : Head) (b : Bool) → same_head h x ≡ b
         → (not (is_seen seen x || same_head h x) || same_head h x) ≡ true → Lacks x u
-    by_same x true e f = subst (λ (y : Head). Lacks y u) (same-head h x e) (lacking h unseen)
+    by_same x true e f =
+        lacking x (subst (λ p. get_part p seen ≡ false) (same-is (part_of_head h) (part_of_head x) e) unseen)
     by_same x false e f = lacking x (not_or (is_seen seen x) (same_head h x) f e)
 
 -- an ACL at its front, whose flags may be taken
