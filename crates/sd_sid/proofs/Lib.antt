@@ -1,4 +1,5 @@
 pub mod AliasLemmas
+pub mod AliasPlaces
 pub mod Cutting
 pub mod FormLemmas
 pub mod SidFronts

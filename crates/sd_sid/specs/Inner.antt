@@ -1,2 +1,4 @@
 -- What private contracts and invariants cite. No definition rests on these files.
+pub mod Places
+pub mod Read
 pub mod SidFields

@@ -1,13 +1,16 @@
 //! The two-letter names of SIDs (MS-DTYP 2.5.1.1).
 
-ghost use Rattle.std.specs.Prelude.{◌≡◌, ℕ, [], ◌∷◌, ◌==◌, ◌&&◌, IfSome, Some, Ok, slice_index, true, ◌<◌};
+ghost use Rattle.std.specs.Prelude.{◌≡◌, ℕ, [], ◌∷◌, ◌==◌, ◌&&◌, IfSome, Some, Ok, slice_get, slice_index, true, ◌<◌};
 ghost use Rattle.std.specs.Char.{is_ascii_uppercase, to_ascii_uppercase};
 ghost use Rattle.std.specs.List.{find, list_all};
 ghost use Rattle.std.specs.Option.{option_copied, option_map};
 ghost use Rattle.std.specs.Str.{bytes_eq};
 ghost use Rattle.sd_sid.specs.AliasValues.{KnownAliases, RelativeAliases};
-ghost use Rattle.sd_sid.specs.SidText.{alias_of, known_alias, known_sid, letters_read, relative_alias, same_sid, sid_in, sid_reads, usable};
+ghost use Rattle.sd_sid.specs.SidText.{alias_of, known_alias, known_sid, known_named, letters_read, relative_alias, relative_named, same_sid, sid_reads, usable};
+ghost use Rattle.sd_sid.specs.Inner.Places.{place_of};
+ghost use Rattle.sd_sid.specs.Inner.Read.{IsRead};
 
+use crate::alias_places::{LETTERS, NO, PLACES};
 use crate::sid::Sid;
 use crate::sid_text::SidFault;
 use sd_text::MOST_SUBS;
@@ -159,61 +162,72 @@ fn find_relative(table: &[DomainRelative], last: u32) -> Option<DomainRelative>
     table.iter().copied().find(|entry| entry.last == last)
 }
 
-/// The SID that two letters name, in either case.
+/// Gives a SID the value that two letters name, in either case.
 #[tactic(auto, unfolding(crate::specs::SidText::letters_read))]
-pub(crate) fn read_letters(first: u8, second: u8, domain: Option<&Sid>) -> Result<Sid, SidFault>
-    ensures { result ≡ letters_read first second (option_copied domain.entry) }
+pub(crate) fn read_letters(
+    first: u8,
+    second: u8,
+    domain: Option<&Sid>,
+    sid: &mut Sid,
+) -> Result<(), SidFault>
+    ensures { IsRead (letters_read first second (option_copied domain.entry)) result sid.new }
 {
-    if let Some(entry) = named_known(&WELL_KNOWN, first, second) {
-        return known_sid(&entry).ok_or(SidFault::Alias);
+    if let Some(entry) = named_known(first, second) {
+        let count = entry.count.min(MOST_KNOWN);
+        sid.set(u64::from(entry.authority), &entry.subs[..count]);
+        return Ok(());
     }
-    let Some(entry) = named_relative(&DOMAIN_RELATIVE, first, second) else {
+    let Some(entry) = named_relative(first, second) else {
         return Err(SidFault::Alias);
     };
-    let Some(domain) = domain else {
+    let Some(domain) = usable(domain) else {
         return Err(SidFault::NeedsDomain);
     };
-    sid_in(domain, &entry).ok_or(SidFault::NeedsDomain)
+    sid.set(domain.authority(), domain.subs());
+    sid.push(entry.last);
+    Ok(())
 }
 
-fn named_known(table: &[WellKnown], first: u8, second: u8) -> Option<WellKnown>
-    ensures { result ≡ find (λ e. e.first == to_ascii_uppercase first && e.second == to_ascii_uppercase second) table.now }
+fn named_known(first: u8, second: u8) -> Option<&'static WellKnown>
+    ensures { option_copied result ≡ known_named first second }
 {
     let (first, second) = (first.to_ascii_uppercase(), second.to_ascii_uppercase());
-    table
-        .iter()
-        .copied()
-        .find(|entry| entry.first == first && entry.second == second)
+    match entry_at(&WELL_KNOWN, place_of(first, second)) {
+        Some(entry) if entry.first == first && entry.second == second => Some(entry),
+        _ => None,
+    }
 }
 
-fn named_relative(table: &[DomainRelative], first: u8, second: u8) -> Option<DomainRelative>
-    ensures { result ≡ find (λ e. e.first == to_ascii_uppercase first && e.second == to_ascii_uppercase second) table.now }
+fn named_relative(first: u8, second: u8) -> Option<&'static DomainRelative>
+    ensures { option_copied result ≡ relative_named first second }
 {
     let (first, second) = (first.to_ascii_uppercase(), second.to_ascii_uppercase());
-    table
-        .iter()
-        .copied()
-        .find(|entry| entry.first == first && entry.second == second)
-}
-
-fn known_sid(entry: &WellKnown) -> Option<Sid>
-    ensures { result ≡ Some (known_sid entry.now) }
-{
-    let count = entry.count.min(MOST_KNOWN);
-    Sid::new(u64::from(entry.authority), &entry.subs[..count])
-}
-
-fn sid_in(domain: &Sid, entry: &DomainRelative) -> Option<Sid>
-    ensures { result ≡ option_map (λ d. sid_in d entry.now) (usable (Some domain.now)) }
-{
-    let count = domain.subs().len();
-    if count == MOST_SUBS {
+    let place = place_of(first, second);
+    if place < WELL_KNOWN.len() {
         return None;
     }
-    let mut subs = [0; MOST_SUBS];
-    subs[..count].copy_from_slice(domain.subs());
-    subs[count] = entry.last;
-    Sid::new(domain.authority(), &subs[..count + 1])
+    match entry_at(&DOMAIN_RELATIVE, place - WELL_KNOWN.len()) {
+        Some(entry) if entry.first == first && entry.second == second => Some(entry),
+        _ => None,
+    }
+}
+
+// Where the entry with these letters stands, if there is one.
+fn place_of(first: u8, second: u8) -> usize
+    ensures { result ≡ place_of first second }
+{
+    let row = usize::from(first.saturating_sub(b'A'));
+    let column = usize::from(second.saturating_sub(b'A'));
+    match entry_at(&PLACES, LETTERS * row + column) {
+        Some(place) => usize::from(*place),
+        None => usize::from(NO),
+    }
+}
+
+fn entry_at<T>(table: &[T], place: usize) -> Option<&T>
+    ensures { option_copied result ≡ slice_get table.now place }
+{
+    table.get(place)
 }
 
 // A line of the first table: the sub-authorities, and zeros up to six.

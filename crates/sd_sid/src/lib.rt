@@ -2,6 +2,7 @@
 #![tactic(auto)]
 
 mod alias;
+mod alias_places;
 mod naming;
 mod sid;
 mod sid_text;

@@ -52,13 +52,9 @@ impl Sid {
         if authority >= 1 << 48 || subs.len() > MOST_SUBS {
             return None;
         }
-        let mut kept = [0; MOST_SUBS];
-        kept[..subs.len()].copy_from_slice(subs);
-        Some(Sid {
-            authority,
-            count: subs.len(),
-            subs: kept,
-        })
+        let mut sid = Sid::blank();
+        sid.set(authority, subs);
+        Some(sid)
     }
 
     /// A SID of authority 0 and without sub-authorities, to be filled in.
@@ -70,6 +66,21 @@ impl Sid {
             count: 0,
             subs: [0; MOST_SUBS],
         }
+    }
+
+    /// Gives it these parts.
+    pub(crate) fn set(&mut self, authority: u64, subs: &[u32])
+        requires authority { authority < 2 ^ 48 }
+        requires few { length subs.now ≤ most_subs }
+        ensures { self.new ≡ record { authority = authority; subs = subs.now } }
+    {
+        let mut kept = [0; MOST_SUBS];
+        kept[..subs.len()].copy_from_slice(subs);
+        *self = Sid {
+            authority,
+            count: subs.len(),
+            subs: kept,
+        };
     }
 
     pub(crate) fn set_authority(&mut self, authority: u32)

@@ -9,6 +9,7 @@ ghost use Rattle.sd_sink.specs.Sink.{Puts};
 ghost use Rattle.sd_text.specs.Limits.{most_subs};
 ghost use Rattle.sd_text.specs.Numbers.{number};
 ghost use Rattle.sd_text.specs.Cuts.{all_cuts};
+ghost use Rattle.sd_sid.specs.Inner.Read.{IsRead};
 ghost use Rattle.sd_sid.specs.SidText.{decimals_read, are_letters, are_numbers, are_subs, authority_reads, authority_text, begins_with_s1, decimal_reads, has_form, is_decimal, is_hex, is_sid_byte, numbers_read, or_number_fault, cut_at_dashes, sid_front, sid_reads, sid_text, sub_text};
 
 use crate::alias::read_letters;
@@ -75,22 +76,21 @@ impl Sid {
     /// letters in either case, and numbers of at most ten digits below 2^32. The form is looked at before
     /// the numbers. So `BA`, `ba` and `S-1-5-32-544` are one SID.
     #[tactic(auto, unfolding(crate::specs::SidText::sid_reads))]
+    #[inline(always)]
     pub fn from_text(text: &[u8], domain: Option<&Sid>) -> Result<Sid, SidFault>
         ensures exact { result ≡ sid_reads text.now (option_copied domain.entry) }
     {
-        if are_letters(text) {
-            return read_letters(text[0], text[1], domain);
-        }
         let mut sid = Sid::blank();
-        if read_usual(text, &mut sid) == Some(text.len()) {
-            return Ok(sid);
+        match read_text(text, domain, &mut sid) {
+            Ok(()) => Ok(sid),
+            Err(fault) => Err(fault),
         }
-        read_any(text)
     }
 
     /// Reads the SID at the front of a text, as `from_text` does, and returns it with its length. For `S-1-5-32-544)`
     /// that is the SID of `BA`, and 12.
     #[tactic(auto, unfolding(crate::specs::SidText::sid_reads))]
+    #[inline(always)]
     pub fn front_text(text: &[u8], domain: Option<&Sid>) -> (Result<Sid, SidFault>, usize)
         ensures exact { result.0 ≡ sid_reads (sid_front text.now) (option_copied domain.entry) }
         ensures size { result.1 ≡ length (sid_front text.now) }
@@ -98,27 +98,48 @@ impl Sid {
         ensures front { take result.1 text.now ≡ sid_front text.now }
         ensures within { result.1 ≤ length text.now }
     {
-        if front_is_letters(text) {
-            return (read_letters(text[0], text[1], domain), 2);
-        }
         let mut sid = Sid::blank();
-        if let Some(size) = read_usual(text, &mut sid) {
-            return (Ok(sid), size);
+        match read_front(text, domain, &mut sid) {
+            (Ok(()), size) => (Ok(sid), size),
+            (Err(fault), size) => (Err(fault), size),
         }
-        read_any_front(text)
     }
 }
 
-// Reads a SID in any form but an alias, and returns it with its length. Not inlined because it is rare.
+// Reads the SID of a text into one that is blank. The SID is written where it stays, since it is large.
 #[inline(never)]
-fn read_any_front(text: &[u8]) -> (Result<Sid, SidFault>, usize)
+#[tactic(auto, unfolding(crate::specs::SidText::sid_reads))]
+fn read_text(text: &[u8], domain: Option<&Sid>, sid: &mut Sid) -> Result<(), SidFault>
+    requires { sid.old.subs ≡ [] }
+    ensures { IsRead (sid_reads text.now (option_copied domain.entry)) result sid.new }
+{
+    if are_letters(text) {
+        return read_letters(text[0], text[1], domain, sid);
+    }
+    if read_usual(text, sid) == Some(text.len()) {
+        return Ok(());
+    }
+    read_any(text, sid)
+}
+
+// The same for what stands at the front of a text, and its length.
+#[inline(never)]
+#[tactic(auto, unfolding(crate::specs::SidText::sid_reads))]
+fn read_front(text: &[u8], domain: Option<&Sid>, sid: &mut Sid) -> (Result<(), SidFault>, usize)
+    requires { sid.old.subs ≡ [] }
+    ensures read { IsRead (sid_reads (sid_front text.now) (option_copied domain.entry)) result.0 sid.new }
     ensures front { take result.1 text.now ≡ sid_front text.now }
     ensures within { result.1 ≤ length text.now }
-    ensures value { result.0 ≡ (if has_form (sid_front text.now) then or_number_fault
-        (numbers_read (cut_at_dashes (drop 4 (sid_front text.now)))) else Err SidFault.SidForm) }
+    ensures size { result.1 ≡ length (sid_front text.now) }
 {
+    if front_is_letters(text) {
+        return (read_letters(text[0], text[1], domain, sid), 2);
+    }
+    if let Some(size) = read_usual(text, sid) {
+        return (Ok(()), size);
+    }
     let size = front_size(text);
-    (read_any(&text[..size]), size)
+    (read_any(&text[..size], sid), size)
 }
 
 fn front_size(text: &[u8]) -> usize
@@ -163,14 +184,20 @@ fn front_is_letters(text: &[u8]) -> bool
 
 // Reads the SID of a text that is not an alias. Not inlined: it is rare and needs much stack.
 #[inline(never)]
-fn read_any(text: &[u8]) -> Result<Sid, SidFault>
-    ensures { result ≡ (if has_form text.now then or_number_fault (numbers_read (cut_at_dashes (drop 4 text.now)))
-        else Err SidFault.SidForm) }
+fn read_any(text: &[u8], sid: &mut Sid) -> Result<(), SidFault>
+    ensures { IsRead (if has_form text.now then or_number_fault (numbers_read (cut_at_dashes (drop 4 text.now)))
+        else Err SidFault.SidForm) result sid.new }
 {
     if !has_form(text) {
         return Err(SidFault::SidForm);
     }
-    read_numbers(&text[4..]).ok_or(SidFault::Number)
+    match read_numbers(&text[4..]) {
+        Some(read) => {
+            *sid = read;
+            Ok(())
+        }
+        None => Err(SidFault::Number),
+    }
 }
 
 // Decimal below 2^32, and else twelve hex digits.

@@ -1,0 +1,159 @@
+-- The entry of two letters stands at their place.
+use Rattle.std.proofs.Common.{◌≡◌, ◌<◌, ◌≤◌, ◌-◌, get_or, ℕ, zero, suc, ◌+◌, ◌*◌, Bool, true, false, cond, ◌&&◌, List, [], ◌∷◌, length, Option, Some, None, refl, sym, ap, ◌∙◌, arith}
+use Rattle.std.specs.Prelude.{◌==◌, slice_get}
+use Rattle.std.specs.Char.{to_ascii_uppercase}
+use Rattle.std.specs.List.{find}
+use Rattle.std.proofs.lemmas.Bool.{and_parts}
+use Rattle.std.proofs.lemmas.Bool.Decides.{nat_tests}
+use Rattle.sd_sid.specs.Inner.Places.{place_of}
+use Rattle.sd_sid.specs.SidText.{known_named, relative_named}
+use Rattle.sd_sid.specs.declared.alias.DomainRelative.{DomainRelative}
+use Rattle.sd_sid.specs.declared.alias.TheConstants.{DOMAIN_RELATIVE, WELL_KNOWN}
+use Rattle.sd_sid.specs.declared.alias.WellKnown.{WellKnown}
+use Rattle.sd_sid.specs.declared.alias_places.TheConstants.{NO, PLACES}
+
+-- each element has the place at which it stands, where the list begins at the place i
+placed : {X : Type 0} → (X → ℕ) → ℕ → List X → Bool
+placed place i [] = true
+placed place i (x ∷ xs) = place x == i && placed place (suc i) xs
+
+-- an element that passes a test
+abbrev pub passing : {X : Type 0} → (X → Bool) → Option X → Option X
+passing p None = None
+passing p (Some x) = cond (p x) (Some x) None
+
+same_number : (m n : ℕ) → (m == n) ≡ true → m ≡ n
+same_number m n e = grind (arith, nat_tests)
+
+-- what passes has one place only; a list that begins behind it has no such element
+none-behind : {X : Type 0} (p : X → Bool) (place : X → ℕ) (at : ℕ) → ((x : X) → p x ≡ true → place x ≡ at)
+    → (i : ℕ) (xs : List X) → placed place i xs ≡ true → at < i → find p xs ≡ None
+unfolding placed
+none-behind p place at only i [] all behind = refl
+none-behind p place at only i (x ∷ xs) all behind =
+    let parts = and_parts (place x == i) _ all in
+    by_test (p x) refl (same_number (place x) i parts.0)
+    (none-behind p place at only (suc i) xs parts.1 (omega arith))
+  where
+    by_test : (b : Bool) → p x ≡ b → place x ≡ i → find p xs ≡ None → cond b (Some x) (find p xs) ≡ None
+    by_test true e here later = let other = only x e in absurd (omega arith)
+    by_test false e here later = later
+
+-- the element at that place is found, if it passes
+find-placed : {X : Type 0} (p : X → Bool) (place : X → ℕ) (at : ℕ) → ((x : X) → p x ≡ true → place x ≡ at)
+    → (i k : ℕ) (xs : List X) → placed place i xs ≡ true → at ≡ i + k → find p xs ≡ passing p (slice_get xs k)
+unfolding placed
+find-placed p place at only i k [] all is = refl
+find-placed p place at only i zero (x ∷ xs) all is =
+    let parts = and_parts (place x == i) _ all in
+    ap (λ o. cond (p x) (Some x) o) (none-behind p place at only (suc i) xs parts.1 (omega arith))
+find-placed p place at only i (suc k) (x ∷ xs) all is =
+    let parts = and_parts (place x == i) _ all in
+    by_test (p x) refl (same_number (place x) i parts.0)
+    (find-placed p place at only (suc i) k xs parts.1 (omega arith))
+  where
+    by_test : (b : Bool) → p x ≡ b → place x ≡ i → find p xs ≡ passing p (slice_get xs k)
+        → cond b (Some x) (find p xs) ≡ passing p (slice_get xs k)
+    by_test true e here later = let other = only x e in absurd (omega arith)
+    by_test false e here later = later
+
+-- the letters of an entry, against others
+abbrev has_letters : ℕ → ℕ → ℕ → ℕ → Bool
+has_letters a b first second = first == a && second == b
+
+only_place : (a b first second : ℕ) → has_letters a b first second ≡ true → place_of first second ≡ place_of a b
+only_place a b first second e =
+    let parts = and_parts (first == a) _ e in
+    rw (same_number first a parts.0, same_number second b parts.1) refl
+
+known_placed : placed (λ e. place_of e.first e.second) 0 WELL_KNOWN ≡ true
+unfolding placed place_of
+known_placed = refl
+
+relative_placed : placed (λ e. place_of e.first e.second) (length WELL_KNOWN) DOMAIN_RELATIVE ≡ true
+unfolding placed place_of
+relative_placed = refl
+
+abbrev is_known : ℕ → ℕ → WellKnown → Bool
+is_known a b e = e.first == a && e.second == b
+
+abbrev is_relative : ℕ → ℕ → DomainRelative → Bool
+is_relative a b e = e.first == a && e.second == b
+
+known-at : (a b : ℕ) → find (is_known a b) WELL_KNOWN ≡ passing (is_known a b) (slice_get WELL_KNOWN (place_of a b))
+known-at a b =
+    find-placed (is_known a b) (λ e. place_of e.first e.second) (place_of a b)
+    (λ e. only_place a b e.first e.second) 0 (place_of a b) WELL_KNOWN known_placed (omega arith)
+
+relative-at : (a b k : ℕ) → place_of a b ≡ length WELL_KNOWN + k
+    → find (is_relative a b) DOMAIN_RELATIVE ≡ passing (is_relative a b) (slice_get DOMAIN_RELATIVE k)
+relative-at a b k is =
+    find-placed (is_relative a b) (λ e. place_of e.first e.second) (place_of a b)
+    (λ e. only_place a b e.first e.second) (length WELL_KNOWN) k DOMAIN_RELATIVE relative_placed is
+
+-- what is looked up at the place of letters, and its test
+pub known-looked-up : (a b x y i : ℕ) (found : Option WellKnown) → a ≡ x → b ≡ y → i ≡ place_of a b
+    → found ≡ slice_get WELL_KNOWN i → passing (is_known x y) found ≡ find (is_known x y) WELL_KNOWN
+known-looked-up a b x y i found first second at e =
+    ap (passing (is_known x y)) (e ∙ ap (slice_get WELL_KNOWN) (at ∙ ap (λ n. place_of n b) first
+    ∙ ap (place_of x) second))
+    ∙ sym (known-at x y)
+
+pub relative-looked-up : (a b x y i : ℕ) (found : Option DomainRelative) → a ≡ x → b ≡ y → i ≡ place_of a b
+    → length WELL_KNOWN ≤ i → found ≡ slice_get DOMAIN_RELATIVE (i - length WELL_KNOWN)
+    → passing (is_relative x y) found ≡ find (is_relative x y) DOMAIN_RELATIVE
+relative-looked-up a b x y i found first second at late e =
+    let same : i ≡ place_of x y = at ∙ ap (λ n. place_of n b) first ∙ ap (place_of x) second in
+    ap (passing (is_relative x y)) e ∙ sym (relative-at x y (i - length WELL_KNOWN) (omega arith))
+
+pub relative-before : (a b x y i : ℕ) → a ≡ x → b ≡ y → i ≡ place_of a b → i < length WELL_KNOWN
+    → None ≡ find (is_relative x y) DOMAIN_RELATIVE
+relative-before a b x y i first second at low =
+    let same : i ≡ place_of x y = at ∙ ap (λ n. place_of n b) first ∙ ap (place_of x) second in
+    sym (none-behind (is_relative x y) (λ e. place_of e.first e.second) (place_of x y)
+    (λ e. only_place x y e.first e.second) (length WELL_KNOWN) DOMAIN_RELATIVE relative_placed (omega arith))
+
+-- an entry with both letters passes, and one with another letter does not
+pub passes : {X : Type 0} (m n x y : ℕ) (e : X) → m ≡ x → n ≡ y → Some e ≡ cond (m == x && n == y) (Some e) None
+passes m n x y e first second =
+    let test : (m == x && n == y) ≡ true = grind (arith, nat_tests) in
+    ap (λ (t : Bool). cond t (Some e) None) (sym test)
+
+pub fails-first : {X : Type 0} (m n x y : ℕ) (e : X) → (m ≡ x → ⊥) → None ≡ cond (m == x && n == y) (Some e) None
+fails-first m n x y e other =
+    let test : (m == x && n == y) ≡ false = grind (arith, nat_tests) in
+    ap (λ (t : Bool). cond t (Some e) None) (sym test)
+
+pub fails-second : {X : Type 0} (m n x y : ℕ) (e : X) → (n ≡ y → ⊥) → None ≡ cond (m == x && n == y) (Some e) None
+fails-second m n x y e other =
+    let test : (m == x && n == y) ≡ false = grind (arith, nat_tests) in
+    ap (λ (t : Bool). cond t (Some e) None) (sym test)
+
+-- a value of a list, and the default behind its end
+default-some : (xs : List ℕ) (i v d : ℕ) → slice_get xs i ≡ Some v → get_or xs i d ≡ v
+default-some [] i v d e = absurd cc
+default-some (x ∷ xs) zero v d e = cc
+default-some (x ∷ xs) (suc i) v d e = default-some xs i v d e
+
+default-none : (xs : List ℕ) (i d : ℕ) → slice_get xs i ≡ None → get_or xs i d ≡ d
+default-none [] i d e = refl
+default-none (x ∷ xs) zero d e = absurd cc
+default-none (x ∷ xs) (suc i) d e = default-none xs i d e
+
+pub place-some : (row column first second v n : ℕ) → row ≡ first - 65 → column ≡ second - 65
+    → Some v ≡ slice_get PLACES (26 * row + column) → n ≡ v → n ≡ place_of first second
+unfolding place_of
+place-some row column first second v n of_first of_second found is =
+    is
+    ∙ sym (default-some PLACES (26 * row + column) v NO (sym found))
+    ∙ ap (λ k. get_or PLACES (26 * k + column) NO) of_first
+    ∙ ap (λ k. get_or PLACES (26 * (first - 65) + k) NO) of_second
+
+pub place-none : (row column first second n : ℕ) → row ≡ first - 65 → column ≡ second - 65
+    → None ≡ slice_get PLACES (26 * row + column) → n ≡ NO → n ≡ place_of first second
+unfolding place_of
+place-none row column first second n of_first of_second found is =
+    is
+    ∙ sym (default-none PLACES (26 * row + column) NO (sym found))
+    ∙ ap (λ k. get_or PLACES (26 * k + column) NO) of_first
+    ∙ ap (λ k. get_or PLACES (26 * (first - 65) + k) NO) of_second

@@ -1,0 +1,27 @@
+use Rattle.std.proofs.Common.{arith, ap, sym, ◌∙◌}
+use Rattle.std.specs.Option.{option_copied}
+use Rattle.sd_sid.proofs.AliasPlaces.{fails-first, fails-second, passes, known-looked-up}
+use Rattle.sd_sid.proofs.alias.named_known.Goals as goal
+use Rattle.sd_sid.proofs.alias.named_known.Goals.{in_default-via-in-Some+then-entry-first+else-entry-second, in_default-via-in-Some+else-entry-first, in_default-via-in_default}
+
+pub returns-in-Some : goal.returns-in-Some
+returns-in-Some c =
+    let first = c.to_ascii_uppercase-first.ensures.value in
+    let second = c.to_ascii_uppercase-second.ensures.value in
+    passes _ _ _ _ _ (c.if-entry-first.true ∙ first) (c.if-entry-second.true ∙ second)
+    ∙ known-looked-up _ _ _ _ _ _ first second c.place_of.ensures (sym (ap option_copied c.in-Some.is) ∙ c.entry_at.ensures)
+
+pub returns-in_default : goal.returns-in_default
+returns-in_default c =
+    let first = c.to_ascii_uppercase-first.ensures.value in
+    let second = c.to_ascii_uppercase-second.ensures.value in
+    elim c.in_default.branch [
+      | in_default-via-in-Some+then-entry-first+else-entry-second w ↦
+          fails-second _ _ _ _ _ (λ e. w.if-entry-second.false (e ∙ sym second))
+          ∙ known-looked-up _ _ _ _ _ _ first second c.place_of.ensures (sym (ap option_copied w.in-Some.is) ∙ c.entry_at.ensures)
+      | in_default-via-in-Some+else-entry-first w ↦
+          fails-first _ _ _ _ _ (λ e. w.if-entry-first.false (e ∙ sym first))
+          ∙ known-looked-up _ _ _ _ _ _ first second c.place_of.ensures (sym (ap option_copied w.in-Some.is) ∙ c.entry_at.ensures)
+      | in_default-via-in_default w ↦
+          known-looked-up _ _ _ _ _ _ first second c.place_of.ensures (sym (ap option_copied w.in_default.is) ∙ c.entry_at.ensures)
+    ]
