@@ -2,9 +2,11 @@
 """c_library.py PROGRAM [--lines N]
 
 Tests the built library, out/lib, from C and from Python. Each answer of a call has to be what PROGRAM answers to the same
-line: for each line of the worked rows, and N random changes of them. tests/c/calls.c also tries each size of the output,
-refused allocations and threads; it runs under the address sanitizer if the compiler has it, and under valgrind if that
-is there. Also tested: the symbols of the libraries, the header in C and C++, and the Python module's examples.
+line: for each line of the worked rows, and N random changes of them. Checks and derivations have to answer what the
+worked rows say, and N random ones what PROGRAM answers; also tried are arguments that no words spell. tests/c/calls.c also
+tries each size of the output, refused allocations and threads; it runs under the address sanitizer if the compiler has
+it, and under valgrind if that is there. Also tested: the symbols of the libraries, the header in C and C++, the names of
+faults, and the Python module's examples.
 The last line is 'N passed, M failed'.
 """
 import argparse
@@ -19,7 +21,9 @@ import sys
 import tempfile
 
 sys.dont_write_bytecode = True
+import compare  # noqa: E402
 import preload  # noqa: E402
+import reference  # noqa: E402
 import run_rows  # noqa: E402
 
 TOP = pathlib.Path(__file__).resolve().parent.parent
@@ -29,6 +33,8 @@ WARNINGS = ["-std=c11", "-Wall", "-Wextra", "-Werror", "-O1", "-g", "-D_GNU_SOUR
 WRAPS = ["-Wl,--wrap=malloc", "-Wl,--wrap=realloc"]
 SECONDS = 300
 DOMAIN = bytes.fromhex("010400000000000515000000010000000200000003000000")  # S-1-5-21-1-2-3
+MAPPINGS, KINDS = ["file", "key", "ds"], ["file", "container"]
+QUESTIONS_OF_A_RUN = 20
 HEX = re.compile(r"(?:[0-9a-f]{2})+")
 # The job of calls.c, the program's words, and whether its lines are hex.
 JOBS = (("convert", ["convert"], True), ("explain", ["explain"], True), ("normalize", ["convert", "--to", "hex"], True),
@@ -137,6 +143,146 @@ def compare_calls(count, runner, program, lines, name):
                       f"{name} {job} {more}: status {ended.returncode}, {wrong} {ended.stderr.decode()[:500]}")
 
 
+class Question:
+    """A call of check or derive: a line of calls.c, and what the same call of the Python module gives."""
+
+    def __init__(self, words, descriptor):
+        settings, ask = reference.settings_of(words), reference.settings_of(words).ask
+        given = dict(zip(words, words[1:]))
+        self.job, self.descriptor = words[0].decode(), descriptor
+        self.mapping = given.get(b"--type", b"file").decode()
+        if ask:
+            self.token = [(sid.to_bytes(), only_denies) for sid, only_denies in ask.token]
+            self.wanted = reference.rights_of_text(given[b"--want"]) if b"--want" in given else 0
+            self.maximum, self.security = b"--maximum" in words, ask.security
+            self.take_ownership, self.level = ask.take_ownership, ask.level
+            self.object_type = ask.object_type or b""
+            self.principal_self = ask.principal_self.to_bytes() if ask.principal_self else b""
+        else:
+            self.kind = given[b"--kind"].decode()
+            self.owner, self.group = settings.plan.owner.to_bytes(), settings.plan.group.to_bytes()
+            self.creator = reference.layout(settings.creator) if settings.creator else b""
+
+    def line(self):
+        if self.job == "check":
+            fields = (self.descriptor, b"".join(sid for sid, _ in self.token), bytes(deny for _, deny in self.token),
+                      self.object_type, self.principal_self)
+            flags = self.maximum + 2 * self.security + 4 * self.take_ownership
+            numbers = (self.wanted, MAPPINGS.index(self.mapping), flags, "-" if self.level is None else self.level)
+        else:
+            fields = (self.descriptor, self.creator, self.owner, self.group)
+            numbers = (KINDS.index(self.kind), MAPPINGS.index(self.mapping))
+        return " ".join([*(field.hex() or "-" for field in fields), *map(str, numbers)])
+
+    def asked(self, sdtool):
+        """The answer of the Python module, as a line."""
+        if self.job == "derive":
+            return sdtool.derive(self.descriptor, self.owner, self.group, kind=self.kind, creator=self.creator,
+                                 mapping=self.mapping).hex()
+        sids, deny_only = ([sid for sid, deny in self.token if deny == which] for which in (False, True))
+        verdict = sdtool.check(self.descriptor, sids, deny_only=deny_only, wanted=self.wanted, maximum=self.maximum,
+                               mapping=self.mapping, level=self.level, object_type=self.object_type,
+                               principal_self=self.principal_self, security=self.security,
+                               take_ownership=self.take_ownership)
+        return f"{'granted' if verdict.granted else 'denied'} 0x{verdict.mask:08x}"
+
+
+def questions_of_rows(job):
+    """The questions of the worked rows, each with the answer of its row."""
+    for row in run_rows.all_rows():
+        data, words = run_rows.text(row.get("stdin", "")), [run_rows.text(word) for word in row["words"]]
+        is_help = any(word.encode() in words for word in run_rows.HELP)
+        if words[:1] != [job.encode()] or row.get("status", 0) > 1 or is_help or len(data) > 100_000:
+            continue
+        settings = reference.settings_of(words)
+        answers = run_rows.text(row.get("stdout", "")).decode("latin-1").split("\n")
+        for found, answer in zip(reference.all_shown(data, settings), answers):
+            if isinstance(found, reference.Descriptor):
+                yield Question(words, reference.layout(found)), as_hex(job, answer, settings)
+
+
+def as_hex(job, answer, settings):
+    """A derived descriptor as hex, whatever form the row has it in; any other answer as it is."""
+    if job == "check" or answer.startswith("error"):
+        return without_name(answer)
+    shown = reference.all_shown(answer.encode("latin-1") + b"\n", settings._replace(source=settings.to))[0]
+    return reference.layout(shown).hex() if isinstance(shown, reference.Descriptor) else ""
+
+
+def random_questions(job, number, program, choices):
+    """Random questions, each with what the program answers."""
+    maker = compare.Lines(choices)
+    for _ in range(number // QUESTIONS_OF_A_RUN):
+        found = [reference.read(maker.descriptor().data) for _ in range(QUESTIONS_OF_A_RUN)]
+        descriptors = [maker.labelled(one) if job == "check" else maker.parent(one) for one in found]
+        words = compare.check_words(maker, descriptors) if job == "check" else compare.derive_words(maker, descriptors)
+        if "--to" in words:
+            del words[words.index("--to"):words.index("--to") + 2]
+        words = [word for word in words if word != "--numeric"] + (["--to", "hex"] if job == "derive" else [])
+        lines = [change_bytes(one, choices) if choices.random() < 0.2 else one
+                 for one in (reference.layout(one).hex() for one in descriptors)]
+        answers = ran([program, *words], "".join(line + "\n" for line in lines)).stdout.decode("latin-1").split("\n")
+        for line, answer in zip(lines, answers):
+            if line:
+                yield Question([word.encode() for word in words], bytes.fromhex(line)), without_name(answer)
+
+
+def test_questions(count, runners, job, asked):
+    """Each question in one call of calls.c for all of them, by each runner."""
+    text = "".join(question.line() + "\n" for question, _ in asked)
+    expected = "".join(answer + "\n" for _, answer in asked)
+    for name, runner, most in runners:
+        ended = ran([*runner, job], "".join(text.splitlines(True)[:most]))
+        found, wanted = ended.stdout.decode("latin-1").split("\n"), "".join(expected.splitlines(True)[:most]).split("\n")
+        wrong = next((f"{a!r} in place of {b!r} for {c[0].line()}" for a, b, c in zip(found, wanted, asked) if a != b), "")
+        count.add(found == wanted and ended.returncode == 0 and not ended.stderr,
+                  f"{name} {job}: status {ended.returncode}, {wrong} {ended.stderr.decode()[:500]}")
+
+
+def test_arguments(count, runner):
+    """Arguments that no words spell: a SID cut short or with a byte behind it, a flag or a number too high."""
+    sid, none = "010100000000000512000000", "-"
+    empty = "0100008000000000000000000000000000000000"
+    whole = {"check": [empty, sid * 2, "0001", "00" * 16, sid, "131072", "0", "0", none],
+             "derive": [empty, none, sid, sid, "0", "0"]}
+    not_sids = [none, sid + "00", sid[:-2]]
+    wrong = {"check": {1: [none, sid, sid[:-2] + sid, sid * 2 + "01", sid * 3, "02" + sid[2:] + sid],
+                       2: [none, "00", "000000", "0002", "ff00"], 3: ["00", "00" * 15, "00" * 17],
+                       4: [sid[:-2], sid + "00", "00"], 6: ["3", "4294967295"]},
+             "derive": {1: ["00", "01" * 20], 2: not_sids, 3: not_sids, 4: ["2", "4294967295"], 5: ["3", "4294967295"]}}
+    for job, places in wrong.items():
+        lines = [[*whole[job][:place], value, *whole[job][place + 1:]]
+                 for place, values in places.items() for value in values]
+        ended = ran([*runner, job], "".join(" ".join(line) + "\n" for line in lines))
+        count.add(ended.stdout.decode() == "error 70\n" * len(lines) and ended.returncode == 0,
+                  f"arguments of {job}: {ended.stdout.decode()!r} {ended.stderr.decode()!r}")
+    # The right ones, the most SIDs and one more, no right, a reserved bit, and no descriptor.
+    check, most = whole["check"], 1024
+    granted = "granted 0x00020000"  # without a DACL
+    cases = [(check, granted), ([empty, sid * most, "00" * most, *check[3:]], granted),
+             ([empty, sid * (most + 1), "00" * (most + 1), *check[3:]], "error 70"),
+             ([empty, none, none, *check[3:]], granted), ([*check[:5], "0", *check[6:]], "error 50"),
+             ([*check[:5], str(1 << 26), *check[6:]], "error 51"), ([none, *check[1:]], "error 5"),
+             ([none, *check[1:5], "0", *check[6:]], "error 50")]
+    ended = ran([*runner, "check"], "".join(" ".join(line) + "\n" for line, _ in cases))
+    found = ended.stdout.decode().splitlines()
+    count.add(found == [answer for _, answer in cases], f"cases of check: {found} {ended.stderr.decode()}")
+
+
+def test_fault_texts(count):
+    """Each number below 200 has the name that docs/FORMAT.md gives it, or none."""
+    import sdtool  # noqa: PLC0415
+    document = (TOP / "docs" / "FORMAT.md").read_text(encoding="utf-8")
+    names = {int(number): name for number, name in re.findall(r"(?m)^\| `error (\d+) ([a-z0-9-]+)", document)}
+    names.update((int(number), name) for number, name in re.findall(r"(?m)^\| (7\d) \| `([a-z-]+)` \|", document))
+    for number in [*range(200), 1 << 16, (1 << 32) - 1]:
+        try:
+            found = sdtool.fault_text(number)
+        except sdtool.ArgumentFault:
+            found = None
+        count.add(found == names.get(number), f"fault {number} is {found}, not {names.get(number)}")
+
+
 def test_symbols(count):
     for words in (["nm", "-D", "--defined-only", LIBRARIES / "libsdtool.so"],
                   ["nm", "-g", "--defined-only", LIBRARIES / "libsdtool.a"]):
@@ -154,7 +300,7 @@ def test_header(count):
         count.add(ended.returncode == 0 or b"cc1plus" in ended.stderr, f"the header in {language}: {ended.stderr.decode()}")
 
 
-def test_python(count, program, lines):
+def test_python(count, program, lines, asked):
     os.environ["SDTOOL_LIBRARY"] = str(LIBRARIES / "libsdtool.so")
     sys.path.insert(0, str(TOP / "python"))
     import sdtool  # noqa: PLC0415
@@ -175,6 +321,9 @@ def test_python(count, program, lines):
         expected = without_name(ran([program, *words], "".join(line + "\n" for line in chosen)).stdout.decode("latin-1"))
         found = "".join(answer(call, line) for line in chosen)
         count.add(found == expected, f"Python's {job}")
+    for job, questions in asked.items():
+        found = [answer(lambda question: question.asked(sdtool), question).rstrip("\n") for question, _ in questions]
+        count.add(found == [expected for _, expected in questions], f"Python's {job}")
 
 
 def main():
@@ -198,11 +347,20 @@ def main():
         checked, _ = built(folder, "checked", ["-fsanitize=address,undefined"])
         if checked is not None:
             compare_calls(count, [checked], arguments.program, rows, "sanitized")
+        valgrind = ["valgrind", "-q", "--leak-check=full", "--error-exitcode=9", str(plain)]
         if plain is not None and shutil.which("valgrind"):
             few = tuple(of_rows[:30] for of_rows in rows)
-            words = ["valgrind", "-q", "--leak-check=full", "--error-exitcode=9", str(plain)]
-            compare_calls(count, words, arguments.program, few, "valgrind")
-    test_python(count, arguments.program, lines)
+            compare_calls(count, valgrind, arguments.program, few, "valgrind")
+        asked = {job: [*questions_of_rows(job), *random_questions(job, arguments.lines, arguments.program, choices)]
+                 for job in ("check", "derive")}
+        runners = [("plain", [plain], None)] * (plain is not None) + [("sanitized", [checked], None)] * (checked is not None)
+        runners += [("valgrind", valgrind, 30)] * bool(plain is not None and shutil.which("valgrind"))
+        for job, questions in asked.items():
+            test_questions(count, runners, job, questions)
+        for _, runner, _ in runners[:2]:
+            test_arguments(count, runner)
+    test_python(count, arguments.program, lines, asked)
+    test_fault_texts(count)
     return count.end()
 
 

@@ -9,13 +9,16 @@ names. Calls hold no lock, so threads run side by side.
 """
 import ctypes
 import os
-from typing import Optional
+from typing import NamedTuple, NoReturn, Optional, Sequence
 
-__all__ = ["ArgumentFault", "Fault", "explain", "from_sddl", "normalize", "to_sddl", "version"]
+__all__ = ["ArgumentFault", "Fault", "Verdict", "check", "derive", "explain", "fault_text", "from_sddl", "normalize",
+           "to_sddl", "version"]
 
 _FIRST_SIZE = 4096  # larger answers take a second call
 _OK, _ARGUMENT, _TOO_SMALL, _NO_MEMORY = 0, 70, 71, 72
 _PARTS = (None, "owner", "group", "sacl", "dacl")
+_MAPPINGS = {"file": 0, "key": 1, "ds": 2}
+_KINDS = {"file": 0, "container": 1}
 
 
 class Fault(ValueError):
@@ -39,7 +42,18 @@ class Fault(ValueError):
 
 
 class ArgumentFault(ValueError):
-    """A domain that is no SID."""
+    """An argument beside the descriptor or the text that the call does not take, such as a domain that is no SID."""
+
+
+class Verdict(NamedTuple):
+    """The answer of an access check.
+
+    With granted, mask has the granted rights: those that were wanted and, with maximum, each other that is granted.
+    Otherwise it has the wanted rights that are missing.
+    """
+
+    granted: bool
+    mask: int
 
 
 class _Outcome(ctypes.Structure):
@@ -47,15 +61,30 @@ class _Outcome(ctypes.Structure):
                 ("length", ctypes.c_size_t)]
 
 
+class _Request(ctypes.Structure):
+    _fields_ = [("wanted", ctypes.c_uint32), ("mapping", ctypes.c_uint32), ("level", ctypes.c_uint32),
+                ("has_level", ctypes.c_bool), ("maximum", ctypes.c_bool), ("security", ctypes.c_bool),
+                ("take_ownership", ctypes.c_bool)]
+
+
+class _Verdict(ctypes.Structure):
+    _fields_ = [("fault", ctypes.c_uint32), ("part", ctypes.c_uint32), ("other_part", ctypes.c_uint32),
+                ("mask", ctypes.c_uint32), ("granted", ctypes.c_bool)]
+
+
 def _load() -> ctypes.CDLL:
     library = ctypes.CDLL(os.environ.get("SDTOOL_LIBRARY", "libsdtool.so.0"))
     bytes_in = [ctypes.c_char_p, ctypes.c_size_t]
     bytes_out = [ctypes.c_void_p, ctypes.c_size_t]
     for name, arguments in (("version", []), ("normalize", bytes_in), ("from_sddl", bytes_in * 2),
-                            ("to_sddl", [*bytes_in * 2, ctypes.c_bool]), ("explain", [*bytes_in * 2, ctypes.c_bool])):
+                            ("to_sddl", [*bytes_in * 2, ctypes.c_bool]), ("explain", [*bytes_in * 2, ctypes.c_bool]),
+                            ("derive", [*bytes_in * 4, ctypes.c_uint32, ctypes.c_uint32]),
+                            ("fault_text", [ctypes.c_uint32])):
         call = getattr(library, "sdtool_" + name)
         call.argtypes = [*arguments, *bytes_out]
         call.restype = _Outcome
+    library.sdtool_check.argtypes = [*bytes_in * 5, ctypes.POINTER(_Request)]
+    library.sdtool_check.restype = _Verdict
     return library
 
 
@@ -73,11 +102,23 @@ def _answer(call, *arguments) -> bytes:
         if outcome.fault != _TOO_SMALL:
             break
         size = outcome.length
+    _refuse(outcome)
+
+
+def _refuse(outcome) -> NoReturn:
+    """Raises the fault of an outcome."""
     if outcome.fault == _NO_MEMORY:
         raise MemoryError
     if outcome.fault == _ARGUMENT:
-        raise ArgumentFault("the domain is no SID in binary")
+        raise ArgumentFault("an argument is none that the call takes, such as a SID that is not one SID in binary")
     raise Fault(outcome.fault, _PARTS[outcome.part], _PARTS[outcome.other_part])
+
+
+def _number(names, name: str) -> int:
+    """The number of a name."""
+    if name not in names:
+        raise ArgumentFault(f"{name!r} is none of {', '.join(names)}")
+    return names[name]
 
 
 def version() -> str:
@@ -144,3 +185,55 @@ def explain(descriptor: bytes, *, domain: bytes = b"", numeric: bool = False) ->
     """
     answer = _answer(_library.sdtool_explain, descriptor, len(descriptor), domain, len(domain), numeric)
     return answer.decode("ascii")
+
+
+def check(descriptor: bytes, sids: Sequence[bytes], *, deny_only: Sequence[bytes] = (), wanted: int = 0,
+          maximum: bool = False, mapping: str = "file", level: Optional[int] = None, object_type: bytes = b"",
+          principal_self: bytes = b"", security: bool = False, take_ownership: bool = False) -> Verdict:
+    """Whether a descriptor grants what is asked for, as 'sdtool check' says it.
+
+    The token is sids and deny_only, SIDs in binary; those of deny_only count only for ACEs that deny. wanted is an access
+    mask, and with maximum all that is granted is asked for as well. mapping is "file", "key" or "ds". level is an
+    integrity level, such as 8192. object_type has the 16 bytes of a GUID, as bytes_le of uuid.UUID, and principal_self is
+    the SID that PRINCIPAL SELF stands for. security and take_ownership are the two privileges.
+
+    >>> users = bytes.fromhex("01020000000000052000000021020000")
+    >>> check(from_sddl("O:BAD:(A;;FR;;;BU)"), [users], wanted=0x120089)
+    Verdict(granted=True, mask=1179785)
+    >>> check(from_sddl("O:BAD:(A;;FR;;;BU)"), [users], wanted=0x2)
+    Verdict(granted=False, mask=2)
+    >>> hex(check(from_sddl("D:(A;;FA;;;BU)"), [users], maximum=True, level=4096).mask)
+    '0x1200a9'
+    """
+    entries = bytes(len(sids)) + b"\1" * len(deny_only)
+    token = b"".join([*sids, *deny_only])
+    request = _Request(wanted, _number(_MAPPINGS, mapping), level or 0, level is not None, maximum, security, take_ownership)
+    verdict = _library.sdtool_check(descriptor, len(descriptor), token, len(token), entries, len(entries), object_type,
+                                    len(object_type), principal_self, len(principal_self), request)
+    if verdict.fault != _OK:
+        _refuse(verdict)
+    return Verdict(verdict.granted, verdict.mask)
+
+
+def derive(parent: bytes, owner: bytes, group: bytes, *, kind: str = "file", creator: bytes = b"",
+           mapping: str = "file") -> bytes:
+    """The descriptor of a new object in a folder that has the descriptor parent, in its canonical layout.
+
+    owner and group are SIDs in binary, and kind is "file" or "container". creator is the descriptor that the creator
+    brings, or empty. mapping is "file", "key" or "ds".
+
+    >>> system = bytes.fromhex("010100000000000512000000")
+    >>> to_sddl(derive(from_sddl("D:(A;OICI;FA;;;SY)"), system, system))
+    'O:SYG:SYD:AI(A;ID;FA;;;SY)'
+    """
+    return _answer(_library.sdtool_derive, parent, len(parent), creator, len(creator), owner, len(owner), group, len(group),
+                   _number(_KINDS, kind), _number(_MAPPINGS, mapping))
+
+
+def fault_text(number: int) -> str:
+    """The name of a fault, by its number.
+
+    >>> fault_text(25)
+    'sid-form'
+    """
+    return _answer(_library.sdtool_fault_text, number).decode("ascii")

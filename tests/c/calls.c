@@ -1,10 +1,16 @@
 /*
- * calls convert|explain|normalize|from_sddl [DOMAIN] [numeric]
+ * calls convert|explain|normalize|from_sddl|check|derive [DOMAIN] [numeric]
  *
- * Makes one call for each line of standard input, hex or SDDL, and prints its answer as the program does; a fault as
- * 'error NUMBER PART PART'. DOMAIN is a SID as hex digits, or -. Each call is made again with outputs that are too small, with each
- * allocation refused, and from eight threads at the end. What goes wrong there is printed to standard error, and the
- * status is then 1.
+ * Makes one call for each line of standard input and prints its answer as the program does; a fault as
+ * 'error NUMBER PART PART'. DOMAIN is a SID as hex digits, or -. A line is hex digits, or SDDL for from_sddl. For check
+ * and derive it has words, of which - is an empty one:
+ *
+ *   check    DESCRIPTOR SIDS ENTRIES OBJECT SELF in hex, WANTED MAPPING FLAGS LEVEL in decimal, where - is no level;
+ *            FLAGS adds up 1 for the maximum, 2 for SeSecurityPrivilege and 4 for SeTakeOwnershipPrivilege
+ *   derive   PARENT CREATOR OWNER GROUP in hex, KIND MAPPING in decimal
+ *
+ * Each call is made again with outputs that are too small, with each allocation refused, and from eight threads at the
+ * end. What goes wrong there is printed to standard error, and the status is then 1.
  */
 #include <pthread.h>
 #include <stdio.h>
@@ -13,11 +19,18 @@
 
 #include "sdtool.h"
 
-enum { THREADS = 8, ROUNDS = 250, MOST_KEPT = 64 };
+enum { THREADS = 8, ROUNDS = 250, MOST_KEPT = 64, MOST_FIELDS = 5, MOST_NUMBERS = 4, VERDICT = 18 };
 
 struct bytes {
     uint8_t *cells;
     size_t size;
+};
+
+/* The arguments of a call. */
+struct question {
+    struct bytes fields[MOST_FIELDS];
+    uint32_t numbers[MOST_NUMBERS];
+    bool has_level;
 };
 
 static const char *job;
@@ -66,14 +79,48 @@ static uint8_t *block(size_t size)
     return cells;
 }
 
-static struct sdtool_outcome call(const struct bytes *in, uint8_t *out, size_t size)
+/* A verdict as the program prints it, with the room that there is for it. */
+static struct sdtool_outcome check(const struct question *q, uint8_t *out, size_t size)
 {
+    const struct bytes *in = q->fields;
+    struct sdtool_request request = {
+        .wanted = q->numbers[0], .mapping = q->numbers[1], .level = q->numbers[3], .has_level = q->has_level,
+        .maximum = (q->numbers[2] & 1) != 0, .security = (q->numbers[2] & 2) != 0,
+        .take_ownership = (q->numbers[2] & 4) != 0,
+    };
+    struct sdtool_verdict v = sdtool_check(in[0].cells, in[0].size, in[1].cells, in[1].size, in[2].cells, in[2].size,
+                                           in[3].cells, in[3].size, in[4].cells, in[4].size, &request);
+    struct sdtool_outcome o = {v.fault, v.part, v.other_part, 0};
+    char text[VERDICT + 2];
+
+    if (v.fault != SDTOOL_OK) {
+        if (v.mask != 0 || v.granted)
+            complain("a verdict beside a fault");
+        return o;
+    }
+    o.length = (size_t)snprintf(text, sizeof text, "%s 0x%08x", v.granted ? "granted" : "denied", (unsigned)v.mask);
+    if (size < o.length)
+        o.fault = SDTOOL_TOO_SMALL;
+    else
+        memcpy(out, text, o.length);
+    return o;
+}
+
+static struct sdtool_outcome call(const struct question *q, uint8_t *out, size_t size)
+{
+    const struct bytes *in = q->fields;
+
     if (strcmp(job, "convert") == 0)
         return sdtool_to_sddl(in->cells, in->size, domain.cells, domain.size, numeric, out, size);
     if (strcmp(job, "explain") == 0)
         return sdtool_explain(in->cells, in->size, domain.cells, domain.size, numeric, out, size);
     if (strcmp(job, "normalize") == 0)
         return sdtool_normalize(in->cells, in->size, out, size);
+    if (strcmp(job, "check") == 0)
+        return check(q, out, size);
+    if (strcmp(job, "derive") == 0)
+        return sdtool_derive(in[0].cells, in[0].size, in[1].cells, in[1].size, in[2].cells, in[2].size, in[3].cells,
+                             in[3].size, q->numbers[0], q->numbers[1], out, size);
     return sdtool_from_sddl(in->cells, in->size, domain.cells, domain.size, out, size);
 }
 
@@ -82,7 +129,7 @@ static bool is_fault(const struct sdtool_outcome *o, uint32_t fault, size_t leng
     return o->fault == fault && o->part == 0 && o->other_part == 0 && o->length == length;
 }
 
-static void try_size(const struct bytes *in, const struct bytes *answer, size_t size)
+static void try_size(const struct question *in, const struct bytes *answer, size_t size)
 {
     uint8_t *cells = block(size);
     struct sdtool_outcome o = call(in, cells, size);
@@ -97,7 +144,7 @@ static void try_size(const struct bytes *in, const struct bytes *answer, size_t 
     free(cells);
 }
 
-static void try_sizes(const struct bytes *in, const struct bytes *answer)
+static void try_sizes(const struct question *in, const struct bytes *answer)
 {
     size_t step = answer->size <= 300 ? 1 : answer->size / 7;
 
@@ -109,7 +156,7 @@ static void try_sizes(const struct bytes *in, const struct bytes *answer)
     try_size(in, answer, answer->size + 9);
 }
 
-static void try_refusals(const struct bytes *in, size_t size)
+static void try_refusals(const struct question *in, size_t size)
 {
     long most;
 
@@ -130,11 +177,16 @@ static void try_refusals(const struct bytes *in, size_t size)
     free(cells);
 }
 
+static bool gives_text(void)
+{
+    return strcmp(job, "convert") == 0 || strcmp(job, "explain") == 0 || strcmp(job, "check") == 0;
+}
+
 static void print(const struct bytes *answer)
 {
-    if (strcmp(job, "convert") == 0 || strcmp(job, "explain") == 0) {
+    if (gives_text()) {
         fwrite(answer->cells, 1, answer->size, stdout);
-        if (strcmp(job, "convert") == 0)
+        if (strcmp(job, "explain") != 0)
             putchar('\n');
         return;
     }
@@ -143,10 +195,10 @@ static void print(const struct bytes *answer)
     putchar('\n');
 }
 
-static struct bytes answer_to(const struct bytes *in)
+static struct bytes answer_to(const struct question *in)
 {
     static const char *const parts[] = {"", " owner", " group", " sacl", " dacl"};
-    size_t most = strcmp(job, "convert") == 0 || strcmp(job, "explain") == 0 ? SDTOOL_TEXT_SIZE(in->size) : SDTOOL_MOST_BYTES;
+    size_t most = gives_text() ? SDTOOL_TEXT_SIZE(in->fields[0].size) : SDTOOL_MOST_BYTES;
     struct bytes answer = {block(most), 0};
     struct sdtool_outcome o = call(in, answer.cells, most);
 
@@ -192,8 +244,37 @@ static struct bytes copied(const char *text, size_t length)
     return bytes;
 }
 
+/* The call that a line asks for. */
+static struct question question_in(char *line, size_t length)
+{
+    struct question q = {0};
+    size_t fields = strcmp(job, "check") == 0 ? 5 : 4;
+    size_t at = 0;
+    char *rest = NULL;
+
+    if (strcmp(job, "from_sddl") == 0)
+        q.fields[0] = copied(line, length);
+    else if (strcmp(job, "check") != 0 && strcmp(job, "derive") != 0)
+        q.fields[0] = spelled(line, length);
+    else
+        for (char *word = strtok_r(line, " \n", &rest); word != NULL; word = strtok_r(NULL, " \n", &rest), at++) {
+            if (at < fields)
+                q.fields[at] = strcmp(word, "-") == 0 ? spelled("", 0) : spelled(word, strlen(word));
+            else if (at < fields + MOST_NUMBERS && strcmp(word, "-") != 0)
+                q.numbers[at - fields] = (uint32_t)strtoul(word, NULL, 10);
+            q.has_level = at == fields + 3 && strcmp(word, "-") != 0;
+        }
+    return q;
+}
+
+static void free_question(const struct question *q)
+{
+    for (size_t i = 0; i < MOST_FIELDS; i++)
+        free(q->fields[i].cells);
+}
+
 struct kept {
-    struct bytes in;
+    struct question in;
     struct bytes answer;
 };
 
@@ -235,14 +316,14 @@ int main(int count, char **words)
     numeric = count > 3;
     while ((got = getline(&line, &room, stdin)) > 0) {
         size_t length = (size_t)got - (line[got - 1] == '\n');
-        struct bytes in = strcmp(job, "from_sddl") == 0 ? copied(line, length) : spelled(line, length);
+        struct question in = question_in(line, length);
         struct bytes answer = answer_to(&in);
 
         if (kept_count < MOST_KEPT && answer.size != 0 && answer.size < 2000) {
             kept[kept_count].in = in;
             kept[kept_count++].answer = answer;
         } else {
-            free(in.cells);
+            free_question(&in);
             free(answer.cells);
         }
     }
@@ -253,7 +334,7 @@ int main(int count, char **words)
         pthread_join(threads[i], NULL);
     while (kept_count > 0) {
         kept_count--;
-        free(kept[kept_count].in.cells);
+        free_question(&kept[kept_count].in);
         free(kept[kept_count].answer.cells);
     }
     free(domain.cells);

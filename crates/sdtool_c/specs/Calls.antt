@@ -3,6 +3,7 @@ use Rattle.std.specs.Prelude.{ℕ, List, Bool, if◌then◌else◌, nat_eq, nat_
 use Rattle.sd_text.specs.Chains.{◌>>=◌, fault_as}
 use Rattle.sd_text.specs.Limits.{most_sddl_text}
 use Rattle.sd_control.specs.declared.limits.TheConstants.{CAPACITY}
+use Rattle.sd_rights.specs.Mapping.{GenericMapping, directory_mapping, file_mapping, key_mapping}
 use Rattle.sd_sid.specs.Sid.{SecurityId, sid_at}
 use Rattle.sd_sid.specs.Naming.{naming_by}
 use Rattle.sd_view.specs.Descriptor.{Descriptor}
@@ -18,13 +19,29 @@ use Rattle.sdtool_c.specs.declared.outcome.CallFault.{CallFault}
 use Rattle.sdtool_c.specs.declared.outcome.CallFault.TheVariants.{Argument, Sd, Sddl, TooLong}
 
 -- a SID that takes all of the bytes
-abbrev pub whole_sid : ℕ → Option (SecurityId × ℕ) → Result (Option SecurityId) CallFault
+abbrev pub whole_sid : ℕ → Option (SecurityId × ℕ) → Result SecurityId CallFault
 whole_sid n None = Err Argument
-whole_sid n (Some found) = if nat_eq found.1 n then Ok (Some found.0) else Err Argument
+whole_sid n (Some found) = if nat_eq found.1 n then Ok found.0 else Err Argument
 
--- the domain that an argument names: none where it is empty
+-- the SID that an argument is
+abbrev pub sid_in : List ℕ → Result SecurityId CallFault
+sid_in bytes = whole_sid (length bytes) (sid_at bytes)
+
+abbrev pub some_sid : Result SecurityId CallFault → Result (Option SecurityId) CallFault
+some_sid (Ok sid) = Ok (Some sid)
+some_sid (Err fault) = Err fault
+
+-- the same, and none where the argument is empty
 unfoldable pub domain_in : List ℕ → Result (Option SecurityId) CallFault
-domain_in bytes = if nat_eq (length bytes) 0 then Ok None else whole_sid (length bytes) (sid_at bytes)
+domain_in bytes = if nat_eq (length bytes) 0 then Ok None else some_sid (sid_in bytes)
+
+-- the kind of object whose generic rights are meant, by its number
+abbrev pub mapping_in : ℕ → Result GenericMapping CallFault
+mapping_in number =
+    if nat_eq number 0 then Ok file_mapping
+    else if nat_eq number 1 then Ok key_mapping
+    else if nat_eq number 2 then Ok directory_mapping
+    else Err Argument
 
 -- what some bytes show; as in the program, more bytes than a descriptor ever has are too long
 unfoldable pub descriptor_in : List ℕ → Result Descriptor CallFault

@@ -1,2 +1,5 @@
 pub mod Calls
+pub mod Checks
+pub mod Derivations
+pub mod FaultNames
 pub mod Outcomes

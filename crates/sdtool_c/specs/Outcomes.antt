@@ -1,18 +1,19 @@
 -- What a call hands back: the number of its fault, the parts that the fault names, and how many bytes there are.
 use Rattle.std.specs.Prelude.{◌≡◌, ◌≤◌, ◌<◌, ◌⊎◌, ℕ, List, length, take, Option, Some, None, Result, Ok, Err}
+use Rattle.sd_check.specs.declared.ask.AskFault.TheVariants as ask
+use Rattle.sd_inherit.specs.declared.derivation.DeriveFault.TheVariants.{DerivedTooLarge}
 use Rattle.sd_sid.specs.declared.sid_text.SidFault.TheVariants as sid
 use Rattle.sd_control.specs.declared.part.Part.{Part}
 use Rattle.sd_control.specs.declared.part.Part.TheVariants as part
 use Rattle.sd_view.specs.declared.fault.SdFault.{SdFault}
 use Rattle.sd_view.specs.declared.fault.SdFault.TheVariants as sd
 use Rattle.sd_control.specs.Parts.{part_of}
-use Rattle.sd_sddl_reader.specs.declared.fault.SddlFault.{SddlFault}
 use Rattle.sd_sddl_reader.specs.declared.fault.SddlFault.TheVariants as sddl
 use Rattle.sdtool_c.specs.declared.outcome.Outcome.{Outcome}
 use Rattle.sdtool_c.specs.declared.outcome.CallFault.{CallFault}
-use Rattle.sdtool_c.specs.declared.outcome.CallFault.TheVariants.{Argument, Sd, Sddl, TooLong}
+use Rattle.sdtool_c.specs.declared.outcome.CallFault.TheVariants.{Argument, Ask, Derive, Sd, Sddl, TooLong}
 
--- the number of a fault, as in the program's `error` lines; 70 where an argument is no SID
+-- the number of a fault, as in the program's `error` lines; 70 where an argument is none that the call takes
 abbrev pub number : CallFault → ℕ
 number TooLong = 1
 number (Sd sd.Short) = 5
@@ -36,6 +37,9 @@ number (Sddl sddl.Rights) = 27
 number (Sddl sddl.Guid) = 28
 number (Sddl sddl.Kind) = 29
 number (Sddl (sddl.AclTooLarge w)) = 30
+number (Derive (DerivedTooLarge w)) = 40
+number (Ask ask.EmptyRequest) = 50
+number (Ask ask.ReservedBits) = 51
 number Argument = 70
 
 abbrev pub NamedParts : Type 0
@@ -65,6 +69,8 @@ named_parts (Sddl sddl.Rights) = (None, None)
 named_parts (Sddl sddl.Guid) = (None, None)
 named_parts (Sddl sddl.Kind) = (None, None)
 named_parts (Sddl (sddl.AclTooLarge w)) = (Some (part_of w), None)
+named_parts (Derive (DerivedTooLarge w)) = (Some (part_of w), None)
+named_parts (Ask fault) = (None, None)
 named_parts Argument = (None, None)
 
 -- a part as a number; 0 where none is named

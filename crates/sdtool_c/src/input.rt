@@ -1,14 +1,25 @@
 //! Arguments as the values that they spell.
 
 ghost use Rattle.std.specs.Prelude.{◌≡◌};
-ghost use Rattle.sdtool_c.specs.Calls.{descriptor_in, domain_in};
+ghost use Rattle.sdtool_c.specs.Calls.{descriptor_in, domain_in, mapping_in, sid_in};
 
 use crate::outcome::CallFault;
 use sd_control::CAPACITY;
+use sd_rights::Mapping;
 use sd_sid::Sid;
 use sd_view::{SdView, read};
 
-/// The domain that an argument names: none where it is empty.
+/// The SID that an argument is.
+pub fn sid_in(bytes: &[u8]) -> Result<Sid, CallFault>
+    ensures { result ≡ sid_in bytes.now }
+{
+    match Sid::read(bytes) {
+        Some((sid, size)) if size == bytes.len() => Ok(sid),
+        _ => Err(CallFault::Argument),
+    }
+}
+
+/// The SID that an argument is: none where it is empty.
 #[tactic(auto, unfolding(crate::specs::Calls::domain_in))]
 pub fn domain_in(bytes: &[u8]) -> Result<Option<Sid>, CallFault>
     ensures { result ≡ domain_in bytes.now }
@@ -16,8 +27,18 @@ pub fn domain_in(bytes: &[u8]) -> Result<Option<Sid>, CallFault>
     if bytes.is_empty() {
         return Ok(None);
     }
-    match Sid::read(bytes) {
-        Some((sid, size)) if size == bytes.len() => Ok(Some(sid)),
+    let sid = sid_in(bytes)?;
+    Ok(Some(sid))
+}
+
+/// The kind of object whose generic rights are meant, by its number.
+pub fn mapping_in(number: u32) -> Result<Mapping, CallFault>
+    ensures { result ≡ mapping_in number }
+{
+    match number {
+        0 => Ok(Mapping::FILE),
+        1 => Ok(Mapping::KEY),
+        2 => Ok(Mapping::DS),
         _ => Err(CallFault::Argument),
     }
 }

@@ -3,7 +3,9 @@
 ghost use Rattle.std.specs.Prelude.{◌≡◌};
 ghost use Rattle.sdtool_c.specs.Outcomes.{done, failed, named_parts, no_memory, number, part_number, too_small};
 
+use sd_check::AskFault;
 use sd_control::Which;
+use sd_inherit::DeriveFault;
 use sd_sddl_reader::SddlFault;
 use sd_sid::SidFault;
 use sd_view::{Part, SdFault};
@@ -36,7 +38,11 @@ pub enum CallFault {
     Sd(SdFault),
     /// 20 to 30: the text is no SDDL.
     Sddl(SddlFault),
-    /// 70: an argument is no SID.
+    /// 40: an ACL of the new descriptor would be too large.
+    Derive(DeriveFault),
+    /// 50 and 51: nothing can be asked.
+    Ask(AskFault),
+    /// 70: an argument beside the text or the descriptor is none that the call takes.
     Argument,
 }
 
@@ -115,6 +121,9 @@ fn number(fault: CallFault) -> u32
         CallFault::Sddl(SddlFault::Guid) => 28,
         CallFault::Sddl(SddlFault::Kind) => 29,
         CallFault::Sddl(SddlFault::AclTooLarge(_)) => 30,
+        CallFault::Derive(DeriveFault::DerivedTooLarge(_)) => 40,
+        CallFault::Ask(AskFault::EmptyRequest) => 50,
+        CallFault::Ask(AskFault::ReservedBits) => 51,
         CallFault::Argument => 70,
     }
 }
@@ -132,6 +141,8 @@ fn named_parts(fault: CallFault) -> (Option<Part>, Option<Part>)
         CallFault::Sd(SdFault::Overlap(first, second)) => (Some(first), Some(second)),
         CallFault::Sddl(SddlFault::AclTooLarge(Which::Sacl)) => (Some(Part::Sacl), None),
         CallFault::Sddl(SddlFault::AclTooLarge(Which::Dacl)) => (Some(Part::Dacl), None),
+        CallFault::Derive(DeriveFault::DerivedTooLarge(Which::Sacl)) => (Some(Part::Sacl), None),
+        CallFault::Derive(DeriveFault::DerivedTooLarge(Which::Dacl)) => (Some(Part::Dacl), None),
         _ => (None, None),
     }
 }

@@ -57,49 +57,17 @@ fn print_to(
     ensures { MatchOption result (length cells.old < length (text_of what (naming_by (option_copied domain.entry) numeric) view.now))
         (λ n. Fills n (text_of what (naming_by (option_copied domain.entry) numeric) view.now) cells.old cells.new) }
 {
-    match what {
-        Text::Sddl => sddl_to(view, domain, numeric, cells),
-        Text::Explanation => explanation_to(view, domain, numeric, cells),
-    }
-}
-
-fn sddl_to(
-    view: &SdView<'_>,
-    domain: Option<&Sid>,
-    numeric: bool,
-    cells: &mut [u8],
-) -> Option<usize>
-    ensures { MatchOption result (length cells.old < length (text_of Text.Sddl (naming_by (option_copied domain.entry) numeric) view.now))
-        (λ n. Fills n (text_of Text.Sddl (naming_by (option_copied domain.entry) numeric) view.now) cells.old cells.new) }
-{
     let most = cells.len();
     let mut sink = Front {
         cells,
         held: 0,
         failures: 0,
     };
-    match put_sddl(view, domain, numeric, &mut sink) {
-        Ok(()) => Some(sink.held.min(most)),
-        Err(_) => None,
-    }
-}
-
-fn explanation_to(
-    view: &SdView<'_>,
-    domain: Option<&Sid>,
-    numeric: bool,
-    cells: &mut [u8],
-) -> Option<usize>
-    ensures { MatchOption result (length cells.old < length (text_of Text.Explanation (naming_by (option_copied domain.entry) numeric) view.now))
-        (λ n. Fills n (text_of Text.Explanation (naming_by (option_copied domain.entry) numeric) view.now) cells.old cells.new) }
-{
-    let most = cells.len();
-    let mut sink = Front {
-        cells,
-        held: 0,
-        failures: 0,
+    let put = match what {
+        Text::Sddl => put_sddl(view, domain, numeric, &mut sink),
+        Text::Explanation => put_explain(view, domain, numeric, &mut sink),
     };
-    match put_explain(view, domain, numeric, &mut sink) {
+    match put {
         Ok(()) => Some(sink.held.min(most)),
         Err(_) => None,
     }

@@ -1,0 +1,68 @@
+//! What an access check hands back.
+
+ghost use Rattle.std.specs.Prelude.{◌≡◌};
+ghost use Rattle.sdtool_c.specs.Checks.{told, untold};
+
+use crate::outcome::{CallFault, failed, no_memory};
+use sd_check::Verdict;
+
+/// What an access check hands back: `struct sdtool_verdict` of the header.
+#[repr(C)]
+#[derive(Clone, Copy)]
+pub struct VerdictOutcome {
+    /// 0, or the number of the fault.
+    pub fault: u32,
+    /// The part that the fault names, or 0.
+    pub part: u32,
+    /// The second part that the fault names, or 0.
+    pub other_part: u32,
+    /// The rights that are granted, or those that are missing.
+    pub mask: u32,
+    /// Whether each wanted right is granted.
+    pub granted: bool,
+}
+
+/// The outcome that tells an answer.
+pub fn told(answer: Result<Verdict, CallFault>) -> VerdictOutcome
+    ensures { result ≡ told answer }
+{
+    match answer {
+        Ok(Verdict::Granted(mask)) => decided(mask, true),
+        Ok(Verdict::Denied(mask)) => decided(mask, false),
+        Err(fault) => {
+            let outcome = failed(fault);
+            VerdictOutcome {
+                fault: outcome.fault,
+                part: outcome.part,
+                other_part: outcome.other_part,
+                mask: 0,
+                granted: false,
+            }
+        }
+    }
+}
+
+fn decided(mask: u32, granted: bool) -> VerdictOutcome
+    ensures { result ≡ record { fault = 0; part = 0; other_part = 0; mask = mask; granted = granted } }
+{
+    VerdictOutcome {
+        fault: 0,
+        part: 0,
+        other_part: 0,
+        mask,
+        granted,
+    }
+}
+
+/// An allocation was refused.
+pub fn untold() -> VerdictOutcome
+    ensures { result ≡ untold }
+{
+    VerdictOutcome {
+        fault: no_memory().fault,
+        part: 0,
+        other_part: 0,
+        mask: 0,
+        granted: false,
+    }
+}
