@@ -18,7 +18,7 @@ SOURCES := crates.txt $(shell find crates -path '*/out' -prune -o -path '*/must-
 
 need_toolchain = $(if $(shell command -v rt 2>&1),,$(error the Rattle toolchain is missing: there is no command 'rt' on the PATH))
 
-.PHONY: help program library run quick check rows test edits figures bench install uninstall deb dist clean
+.PHONY: help program library run quick check rows test edits figures bench bench-library install uninstall deb dist clean
 
 # The first target, so `make` alone lists the targets.
 help:
@@ -33,6 +33,7 @@ help:
 	@echo '                       CRATE=NAME tries those of a crate, EDIT=WORD those with WORD in their names (10 to 30 seconds each)'
 	@echo 'make figures           rewrites the figures in docs/GATE.md and docs/DEFINITIONS.md (seconds)'
 	@echo 'make bench             measures the program against a plain one in Rust, and cat (8 minutes)'
+	@echo 'make bench-library     measures calls of the library beside those of Samba, from C and Python (a minute)'
 	@echo 'make install           installs the program, its man page, documents and completions below PREFIX ($(PREFIX)),'
 	@echo '                       and the library for C, its header and its pkg-config file; libraries go to LIBDIR ($(LIBDIR))'
 	@echo 'make uninstall         removes them again'
@@ -86,6 +87,9 @@ figures:
 
 bench: program
 	bench/run.py $(PROGRAM)
+
+bench-library: library
+	bench/library.py
 
 install: program library
 	install -d '$(DESTDIR)$(PREFIX)/bin' '$(DESTDIR)$(PREFIX)/share/man/man1' '$(DESTDIR)$(DOCUMENTS)/docs'

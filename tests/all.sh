@@ -49,6 +49,7 @@ if "${MAKE:-make}" --no-print-directory program; then
     if "${MAKE:-make}" --no-print-directory library; then
         count tests/c_library.py "$program"
         count tests/c_install.py
+        count tests/c_examples.py
     else
         echo "the library is not built, so its tests have not run"
         ((failed += 1))

@@ -1,0 +1,180 @@
+#!/usr/bin/env python3
+"""library.py [--descriptors N] [--rounds N]
+
+Measures one call at a time of libsdtool beside Samba's libraries, from C (library.c) and from Python, all in one run:
+SDDL to bytes, bytes to SDDL, and an access check for a token of 20 SIDs. All have the same descriptors, those of a file
+server that generate.py makes, and have to give the same answers.
+
+Samba's calls work on a structure of its own. 'call' is what they take with that structure at hand. 'with bytes' adds
+reading it from bytes, or writing it to bytes, as files and protocols have descriptors, and as libsdtool takes and gives
+them.
+
+It needs Debian's packages samba-dev and python3-samba, and runs in /usr/bin/python3 where that has Samba's modules and
+the caller's Python has not. Time is processor time, the median of the rounds, in each of which all calls take turns.
+"""
+import argparse
+import os
+import pathlib
+import statistics
+import subprocess
+import sys
+import tempfile
+import time
+
+sys.dont_write_bytecode = True
+import generate  # noqa: E402  (which finds the folder of the tests)
+import reference  # noqa: E402
+
+TOP = pathlib.Path(__file__).resolve().parent.parent
+LIBRARY = TOP / "out/lib"
+LEAST_SECONDS = 0.2
+OTHER_PYTHON = "/usr/bin/python3"
+DOMAIN_TEXT = "-".join(["S-1", *map(str, generate.HOME)])
+# A user in groups that descriptors name, and in others that they do not.
+TOKEN = ["S-1-1-0", "S-1-5-11", "S-1-5-4", "S-1-5-32-545",
+         *(f"{DOMAIN_TEXT}-{number}" for number in (1105, 513, *range(40_000, 40_014)))]
+WANTED = 0x120089  # FILE_GENERIC_READ
+GENERIC_RIGHTS = 0xf0000000
+JOBS = {"from_sddl": "SDDL to bytes", "to_sddl": "bytes to SDDL", "check": "access check"}
+
+
+# Samba 4.17 checks no object ACE, reads no label in SDDL, and takes generic rights as mapped.
+TYPES = {0, 1, 2}
+SAMBA = "/usr/lib/{}/samba"
+SAMBA_LIBRARIES = ["-l:libsamba-security-samba4.so.0", "-l:libndr-samba-samba4.so.0", "-lndr", "-ltalloc"]
+
+
+def is_for_both(descriptor):
+    aces = [ace for acl in (descriptor.dacl, descriptor.sacl) if acl is not None for ace in acl.aces]
+    return all(ace.type in TYPES and not ace.mask & GENERIC_RIGHTS for ace in aces)
+
+
+def descriptors(count):
+    """So many descriptors, each as bytes and SDDL. Samba 4.17 reads FA as 0x1ff, so the mask is written as a number."""
+    generator = generate.Generator(1)
+    while count > 0:
+        descriptor = reference.read(generator.descriptor())
+        if is_for_both(descriptor):
+            sddl = reference.sddl(descriptor, generate.PRINTING)
+            yield reference.layout(descriptor), sddl.replace(";FA;", ";0x1f01ff;")
+            count -= 1
+
+
+def build(folder):
+    """library.c, linked to both libraries as programs are: to shared ones."""
+    machine = subprocess.run(["gcc", "-print-multiarch"], stdout=subprocess.PIPE, check=True, text=True).stdout.strip()
+    private = SAMBA.format(machine)
+    program = folder / "library"
+    subprocess.run(["gcc", "-O2", "-I", TOP / "include", "-isystem", "/usr/include/samba-4.0", "-o", program,
+                    TOP / "bench/library.c", LIBRARY / "libsdtool.so", f"-L{private}", *SAMBA_LIBRARIES,
+                    f"-Wl,-rpath,{private}:{LIBRARY}"], check=True)
+    return program
+
+
+class Calls:
+    """Each call from Python, as a function of an item."""
+
+    def __init__(self, sdtool):
+        from samba import NTSTATUSError, security as samba_security
+        from samba.dcerpc import security
+        from samba.ndr import ndr_pack, ndr_unpack
+        sid_of = lambda text: sdtool.from_sddl("O:" + text)[reference.HEADER.size:]  # noqa: E731
+        token = security.token()
+        token.sids = list(map(security.dom_sid, TOKEN))
+        token.num_sids = len(TOKEN)
+        sids, domain, domain_of_samba = list(map(sid_of, TOKEN)), sid_of(DOMAIN_TEXT), security.dom_sid(DOMAIN_TEXT)
+        of_samba = security.descriptor
+
+        def is_granted(descriptor):
+            try:
+                return samba_security.access_check(descriptor, token, WANTED) == WANTED
+            except NTSTATUSError:
+                return False
+
+        self.item = lambda data, text: (data, text, ndr_unpack(of_samba, data))
+        self.calls = {
+            ("from_sddl", "sdtool"): lambda item: sdtool.from_sddl(item[1], domain=domain),
+            ("from_sddl", "samba"): lambda item: of_samba.from_sddl(item[1], domain_of_samba),
+            ("from_sddl", "samba-bytes"): lambda item: ndr_pack(of_samba.from_sddl(item[1], domain_of_samba)),
+            ("to_sddl", "sdtool"): lambda item: sdtool.to_sddl(item[0], domain=domain),
+            ("to_sddl", "samba"): lambda item: item[2].as_sddl(domain_of_samba),
+            ("to_sddl", "samba-bytes"): lambda item: ndr_unpack(of_samba, item[0]).as_sddl(domain_of_samba),
+            ("check", "sdtool"): lambda item: sdtool.check(item[0], sids, wanted=WANTED).granted,
+            ("check", "samba"): lambda item: is_granted(item[2]),
+            ("check", "samba-bytes"): lambda item: is_granted(ndr_unpack(of_samba, item[0])),
+        }
+
+    def compare(self, items):
+        """Both have to give the same verdicts; library.c compares the rest."""
+        for item in items:
+            verdicts = {bool(self.calls["check", library](item)) for library in ("sdtool", "samba", "samba-bytes")}
+            if len(verdicts) != 1:
+                sys.exit(f"bench: Python's verdicts differ on {item[1]}")
+
+
+def nanoseconds(call, items):
+    began, calls = time.process_time(), 0
+    while time.process_time() - began < LEAST_SECONDS:
+        for item in items:
+            call(item)
+        calls += len(items)
+    return (time.process_time() - began) / calls * 1e9
+
+
+def measure(program, given, calls, items, rounds):
+    """Of each call, from C and from Python, the nanoseconds of each round."""
+    taken = {}
+    for _ in range(rounds):
+        printed = subprocess.run([program, given, "1"], stdout=subprocess.PIPE, check=True, text=True).stdout
+        for line in printed.splitlines()[1:]:
+            job, library, time_taken = line.split()
+            taken.setdefault(("C", job, library), []).append(float(time_taken))
+        for (job, library), call in calls.items():
+            taken.setdefault(("Python", job, library), []).append(nanoseconds(call, items))
+    return {name: statistics.median(times) for name, times in taken.items()}
+
+
+def show(taken):
+    print(f"{'':24}{'sdtool':>12}{'Samba, call':>14}{'with bytes':>12}{'ratio, call':>13}{'with bytes':>12}")
+    for language in ("C", "Python"):
+        for job, name in JOBS.items():
+            ours, alone, whole = (taken[language, job, library] for library in ("sdtool", "samba", "samba-bytes"))
+            print(f"{language + ', ' + name:24}{ours:9,.0f} ns{alone:11,.0f} ns{whole:9,.0f} ns{alone / ours:13.1f}"
+                  f"{whole / ours:12.1f}")
+
+
+def main():
+    parser = argparse.ArgumentParser(description="Measures the library beside Samba's, from C and from Python.")
+    parser.add_argument("--descriptors", type=int, default=2000, help="(%(default)s)")
+    parser.add_argument("--rounds", type=int, default=9, help="(%(default)s)")
+    wanted = parser.parse_args()
+    try:
+        import samba  # noqa: F401
+    except ImportError:
+        if sys.executable != OTHER_PYTHON and os.access(OTHER_PYTHON, os.X_OK):
+            os.execv(OTHER_PYTHON, [OTHER_PYTHON, *sys.argv])
+        sys.exit("bench: no Python here has Samba's modules, of Debian's package python3-samba")
+    if not os.access(LIBRARY / "libsdtool.so", os.R_OK):
+        sys.exit(f"bench: there is no library in {LIBRARY}; 'make library' builds it")
+    os.environ["SDTOOL_LIBRARY"] = str(LIBRARY / "libsdtool.so")
+    sys.path.insert(0, str(TOP / "python"))
+    import sdtool
+    calls = Calls(sdtool)
+    with tempfile.TemporaryDirectory() as name:
+        folder = pathlib.Path(name)
+        program, given = build(folder), folder / "descriptors"
+        pairs = list(descriptors(wanted.descriptors))
+        question = " ".join([DOMAIN_TEXT, hex(WANTED), *TOKEN])
+        given.write_text("".join(f"{line}\n" for line in [question, *(f"{data.hex()} {text}" for data, text in pairs)]))
+        items = [calls.item(data, text) for data, text in pairs]
+        calls.compare(items)
+        taken = measure(program, given, calls.calls, items, wanted.rounds)
+    size = sum(len(data) for data, _ in pairs) / len(pairs)
+    print(f"{len(pairs):,} descriptors of {size:.0f} bytes on average, a token of {len(TOKEN)} SIDs")
+    print(f"beside Samba {samba.version}, processor time of a call, medians of {wanted.rounds} rounds; the answers are equal")
+    show(taken)
+    return 0
+
+
+if __name__ == "__main__":
+    sys.exit(main())

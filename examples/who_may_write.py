@@ -1,0 +1,139 @@
+#!/usr/bin/env python3
+"""who_may_write.py DIRECTORY [ATTRIBUTE]
+
+Prints for DIRECTORY and everything below it the SIDs of those who may change it, by the security descriptor in its
+attribute security.NTACL, as Samba keeps it, or system.ntfs_acl, as ntfs-3g shows it. ATTRIBUTE is another one, in
+Samba's form if its name ends with NTACL. Files whose descriptor is missing or malformed are 'unknown'. who_may_write.c
+says more; both print the same.
+"""
+import errno
+import os
+import re
+import stat
+import struct
+import sys
+
+import sdtool
+
+# FILE_WRITE_DATA, FILE_APPEND_DATA, FILE_DELETE_CHILD, DELETE, WRITE_DAC, WRITE_OWNER
+CHANGES = 0x2 | 0x4 | 0x40 | 0x10000 | 0x40000 | 0x80000
+HEADER = 20
+ATTRIBUTES = ["security.NTACL", "system.ntfs_acl"]
+
+
+class Unknown(Exception):
+    """Why there is no answer."""
+
+
+def descriptor_at(data):
+    """Where the descriptor begins in Samba's attribute, xattr_NTACL of its xattr.idl; 0 if there is none.
+
+    The attribute has its version twice and a reference to what follows. In version 1 that is the descriptor. Later
+    versions have a reference to the descriptor, hashes, and in version 4 a text and a time, and then the descriptor.
+    """
+    if len(data) < 12:
+        return 0
+    version, again, reference, descriptor = struct.unpack_from("<HHII", data)
+    if version != again or not reference or version > 1 and not descriptor:
+        return 0
+    if version == 4:
+        end = data.find(b"\0", 78)  # of the text, behind which are a time and a hash, from a multiple of 4 on
+        return 0 if end < 0 else (end + 4) // 4 * 4 + 8 + 64
+    return {1: 8, 2: 28, 3: 80}.get(version, 0)
+
+
+def unwrapped(data):
+    """The descriptor of Samba's attribute. Its offsets count from the attribute's first byte, so they are moved."""
+    at = descriptor_at(data)
+    if not at or len(data) < at + HEADER:
+        raise Unknown("no descriptor in the attribute")
+    offsets = struct.unpack_from("<4I", data, at + 4)
+    if any(0 < offset < at + HEADER for offset in offsets):
+        raise Unknown("no descriptor in the attribute")
+    moved = struct.pack("<4I", *(offset and offset - at for offset in offsets))
+    return data[at:at + 4] + moved + data[at + HEADER:]
+
+
+def descriptor_of(path, attributes):
+    for name in attributes:
+        try:
+            data = os.getxattr(path, name, follow_symlinks=False)
+        except OSError as error:
+            if error.errno not in (errno.ENODATA, errno.ENOTSUP):
+                raise
+            continue
+        return unwrapped(data) if name.endswith("NTACL") else data
+    raise Unknown("no attribute")
+
+
+def sids_in(descriptor):
+    """The SIDs that may have rights: Everyone, the owner, and those of ACEs that allow."""
+    yield "S-1-1-0"
+    for line in sdtool.explain(descriptor, numeric=True).splitlines():
+        words = line.split()
+        if words[0] == "owner" and words[1] != "none" or words[0] == "dacl" and words[2:3] in (["A"], ["OA"]):
+            yield words[-1]
+
+
+def bytes_of(sid):
+    """A SID in binary: what follows the header of a descriptor that has only this owner."""
+    return sdtool.from_sddl("O:" + sid)[HEADER:]
+
+
+def may_change(descriptor, sid):
+    """Whether a token with this SID and Everyone may change the file."""
+    verdict = sdtool.check(descriptor, [bytes_of("S-1-1-0"), bytes_of(sid)], maximum=True)
+    return verdict.granted and verdict.mask & CHANGES != 0
+
+
+def answer(path, attributes):
+    descriptor = descriptor_of(path, attributes)
+    sids = dict.fromkeys(sids_in(descriptor))  # each once
+    return ", ".join(sid for sid in sids if may_change(descriptor, sid)) or "nobody"
+
+
+def tell(path, text):
+    # Other characters than these would let the name of a file pretend to be an answer.
+    sys.stdout.buffer.write(re.sub(rb"[\0-\x1f\x7f]", b"?", path) + b": " + text.encode() + b"\n")
+
+
+def walk(path, attributes):
+    """Tells who may change a file or folder, and all below it. Gives whether nothing is unknown."""
+    known = True
+    is_folder = False
+    try:
+        mode = os.lstat(path).st_mode
+        if stat.S_ISLNK(mode):
+            return True  # a symbolic link has no permissions
+        is_folder = stat.S_ISDIR(mode)
+        tell(path, answer(path, attributes))
+    except Unknown as why:
+        tell(path, f"unknown, {why}")
+        known = False
+    except sdtool.Fault as fault:
+        parts = filter(None, [sdtool.fault_text(fault.number), fault.part, fault.other_part])
+        tell(path, " ".join([f"unknown, error {fault.number}", *parts]))
+        known = False
+    except OSError as error:
+        tell(path, f"unknown, {error.strerror}")
+        known = False
+    if is_folder:
+        try:
+            names = sorted(os.listdir(path))
+        except OSError as error:
+            tell(os.path.join(path, b"*"), f"unknown, {error.strerror}")
+            return False
+        for name in names:
+            known = walk(os.path.join(path, name), attributes) and known
+    return known
+
+
+def main():
+    if len(sys.argv) not in (2, 3):
+        print("usage: who_may_write.py DIRECTORY [ATTRIBUTE]", file=sys.stderr)
+        return 2
+    return 0 if walk(os.fsencode(sys.argv[1]), sys.argv[2:] or ATTRIBUTES) else 1
+
+
+if __name__ == "__main__":
+    sys.exit(main())
