@@ -136,7 +136,7 @@ impl Ace {
         self.sid
     }
 
-    /// The trustee, where it stands.
+    /// The trustee, by reference.
     pub fn trustee(&self) -> &Sid
         ensures { result.now ≡ self.now.sid }
     {
@@ -144,7 +144,7 @@ impl Ace {
     }
 }
 
-// Whether GUIDs stand in object kinds alone.
+// Whether only object kinds have GUIDs.
 fn guids_fit(kind: AceKind, object: &Option<Uuid>, inherited: &Option<Uuid>) -> bool
     ensures { (result ≡ true) ↔ GuidsFit (is_object kind) object.now inherited.now }
 {
@@ -162,7 +162,7 @@ fn guid_size(guid: Option<Uuid>) -> u16
     }
 }
 
-// How many bytes there are. A slice tells that each is below 256, as an array does not.
+// How many bytes there are. A slice shows that each is below 256; an array does not.
 fn byte_count(bytes: &[u8]) -> usize
     ensures value { result ≡ length bytes.now }
     ensures bytes { All (λ b. b < 256) bytes.now }

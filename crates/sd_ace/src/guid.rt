@@ -12,7 +12,7 @@ use uuid::Uuid;
 /// The characters of a GUID's text: 32 digits and four hyphens.
 pub const GUID_TEXT_SIZE: usize = 36;
 
-/// The GUID of these bytes (MS-DTYP 2.3.4.2): its first three fields stand low byte first.
+/// The GUID of these bytes (MS-DTYP 2.3.4.2): the low byte of its first three fields comes first.
 pub fn guid_read(bytes: &[u8; 16]) -> Uuid
     ensures value { result ≡ swap_fields bytes.now }
     // `guid_bytes` gives the bytes back.
@@ -27,7 +27,7 @@ pub fn guid_bytes(guid: &Uuid) -> [u8; 16]
     // `guid_read` gives the GUID back.
     ensures back { swap_fields result ≡ guid.now }
 {
-    // Its array tells that a GUID has 16 bytes.
+    // Its array shows that a GUID has 16 bytes.
     let _ = guid.into_bytes();
     guid.to_bytes_le()
 }

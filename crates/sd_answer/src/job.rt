@@ -48,7 +48,7 @@ pub struct Job {
     pub numeric: bool,
 }
 
-/// What a run does with each line: its job, and the descriptor that the creator of a new object brings, if there is
+/// What a run does with each line: its job, and the descriptor that the creator of a new object supplies, if there is
 /// one (MS-DTYP 2.5.3.4). Only a derivation looks at that.
 #[derive(Drop)]
 pub struct Task<'a> {

@@ -1,5 +1,7 @@
-// The buffers that hold the bytes of a descriptor, or the text of a line.
-ghost use Rattle.std.specs.Prelude.{◌≡◌, ◌≤◌, ◌<◌, ◌*◌, ◌/◌, ◌%◌, take, drop, ◌++◌, ◌∷◌, ◌+◌, ◌-◌, ◌↔◌, [], length, vec_capacity, Ok, Err, IfOk, OnOk, OnErr, IsErr, MatchResult};
+//! The buffers that hold the bytes of a descriptor, or the text of a line.
+
+ghost use Rattle.std.specs.Prelude.{◌≡◌, ◌≤◌, ◌<◌, ◌*◌, ◌/◌, ◌%◌, take, drop, ◌++◌, ◌∷◌, ◌+◌, ◌-◌, ◌↔◌, [], length};
+ghost use Rattle.std.specs.Prelude.{vec_capacity, Ok, Err, IfOk, OnOk, OnErr, IsErr, MatchResult};
 ghost use Rattle.base64.specs.Decode.{decoded_estimate};
 ghost use Rattle.sd_text.specs.Limits.{most_base64_text, most_hex_text};
 ghost use Rattle.sd_buffer.specs.Text.{IsOneEncoding, base64_spells, hex_spells};
@@ -119,7 +121,7 @@ impl<const MOST: usize> ByteBuf<MOST> {
         self.held += count;
     }
 
-    // Writes bytes over those that stand from an offset on.
+    // Writes bytes over those from an offset on.
     pub fn patch(&mut self, at: usize, bytes: &[u8])
         requires { at + length bytes.now ≤ length self.old }
         ensures { self.new ≡ take at self.old ++ (bytes.now ++ drop (at + length bytes.now) self.old) }

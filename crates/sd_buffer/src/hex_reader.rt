@@ -1,5 +1,7 @@
-// A line of hex, read as it streams.
-ghost use Rattle.std.specs.Prelude.{◌≡◌, ◌≤◌, ◌<◌, ◌+◌, ◌%◌, ◌++◌, ◌∷◌, ℕ, List, [], length, None, Ok, Err, MatchResult};
+//! A line of hex, read as it streams.
+
+ghost use Rattle.std.specs.Prelude.{◌≡◌, ◌≤◌, ◌<◌, ◌+◌, ◌%◌, ◌++◌, ◌∷◌, ℕ, List, [], length, None, Ok, Err};
+ghost use Rattle.std.specs.Prelude.{MatchResult};
 ghost use Rattle.sd_text.specs.Limits.{most_hex_text};
 ghost use Rattle.sd_buffer.specs.Text.{hex_spells};
 

@@ -1,6 +1,7 @@
 -- How each call of a builder goes on with what was built. A call's condition speaks of one draft; what the builder
 -- keeps shows that the condition then holds of each draft that it was given.
-use Rattle.std.proofs.Common.{◌≡◌, ◌≤◌, ◌<◌, ℕ, ◌+◌, ◌^◌, ◌||◌, Bool, false, List, [], ◌∷◌, ◌++◌, length, take, drop, Option, Some, None, refl, sym, ap, subst, ◌∙◌, append_assoc, arith, length-append}
+use Rattle.std.proofs.Common.{◌≡◌, ◌≤◌, ◌<◌, ℕ, ◌+◌, ◌^◌, ◌||◌, Bool, false, List, [], ◌∷◌, ◌++◌, length, take, drop}
+use Rattle.std.proofs.Common.{Option, Some, None, refl, sym, ap, subst, ◌∙◌, append_assoc, arith, length-append}
 use Rattle.std.specs.Prelude.{IsSome}
 use Rattle.std.specs.List.{flat_map}
 use Rattle.std.proofs.lemmas.Grind.{flat_map-append}
@@ -15,9 +16,11 @@ use Rattle.sd_sid.specs.Sid.{SecurityId, IsSid, sid_bytes}
 use Rattle.sd_view.specs.Acl.{acl_size, has_object}
 use Rattle.sd_view.specs.AclLayout.{ace_bytes, acl_bytes, acl_header, revision_if}
 use Rattle.sd_builder.specs.Builds.{Builds}
-use Rattle.sd_builder.specs.Inner.Building.{Building, OpenAt, OpenIsFree, OpenStands, PartStands, PartsStand, StandsInOrder}
+use Rattle.sd_builder.specs.Inner.Building.{Building, OpenAt, OpenIsFree, OpenStands, PartStands, PartsStand}
+use Rattle.sd_builder.specs.Inner.Building.{StandsInOrder}
 use Rattle.sd_builder.specs.Inner.Building.{given, given_acl, list, nothing, placed, sid}
-use Rattle.sd_builder.specs.Draft.{CanBegin, Draft, IsOpen, IsOpenIn, Parts, acl_for, begun, closed_in, ended, ended_in, nothing_given, open_size, open_size_in, with_ace, with_acl, with_sid}
+use Rattle.sd_builder.specs.Draft.{CanBegin, Draft, IsOpen, IsOpenIn, Parts, acl_for, begun, closed_in, ended, ended_in}
+use Rattle.sd_builder.specs.Draft.{nothing_given, open_size, open_size_in, with_ace, with_acl, with_sid}
 use Rattle.sd_view.specs.declared.acl.AclPart.{AclPart}
 use Rattle.sd_view.specs.declared.acl.AclPart.TheVariants as acl
 use Rattle.sd_builder.specs.declared.builder.Builder.{Builder}

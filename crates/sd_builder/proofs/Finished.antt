@@ -1,16 +1,19 @@
 -- What a finished builder's buffer shows.
-use Rattle.std.proofs.Common.{◌≡◌, ◌≤◌, ◌<◌, ℕ, ◌+◌, ◌^◌, Bool, List, ◌++◌, length, drop, Option, Some, None, refl, sym, ap, subst, ◌∙◌, arith, length-append, length-drop}
+use Rattle.std.proofs.Common.{◌≡◌, ◌≤◌, ◌<◌, ℕ, ◌+◌, ◌^◌, Bool, List, ◌++◌, length, drop, Option, Some, None, refl, sym}
+use Rattle.std.proofs.Common.{ap, subst, ◌∙◌, arith, length-append, length-drop}
 use Rattle.std.specs.Prelude.{is_some, unwrap_or}
 use Rattle.sd_sid.specs.Sid.{SecurityId}
 use Rattle.sd_view.specs.AclLayout.{acl_bytes}
 use Rattle.sd_builder.specs.Builds.{Builds}
-use Rattle.sd_builder.specs.Inner.Building.{PartStands, PartsStand, StandsInOrder, extent_at, given, given_acl, given_sid, given_size}
+use Rattle.sd_builder.specs.Inner.Building.{PartStands, PartsStand, StandsInOrder, extent_at, given, given_acl}
+use Rattle.sd_builder.specs.Inner.Building.{given_sid, given_size}
 use Rattle.sd_control.specs.Parts.{get_part}
 use Rattle.sd_control.specs.declared.part.Part.{Part}
 use Rattle.sd_control.specs.declared.part.Part.TheVariants as part
 use Rattle.sd_control.specs.declared.part.Parts.{Parts as PartsOf}
 use Rattle.sd_control.specs.Control.{control_of}
-use Rattle.sd_view.specs.Descriptor.{Shows, ShowsAclPart, ShowsSid, acl_extent, dacl_at, group_at, owner_at, sacl_at, sid_extent}
+use Rattle.sd_view.specs.Descriptor.{Shows, ShowsAclPart, ShowsSid, acl_extent, dacl_at, group_at, owner_at, sacl_at}
+use Rattle.sd_view.specs.Descriptor.{sid_extent}
 use Rattle.sd_builder.specs.Draft.{AclIsWritten, Draft, IsWritten, Parts, built, built_bytes, is_present}
 use Rattle.sd_control.specs.Header.{header_bytes}
 use Rattle.sd_view.specs.declared.acl.AclPart.{AclPart}
@@ -21,7 +24,8 @@ use Rattle.sd_view.specs.Layout.{acl_part_size, sid_part_size}
 use Rattle.sd_view.proofs.laws.AclLayoutLaws.{acl_bytes-shows, length-acl_bytes}
 use Rattle.sd_control.proofs.laws.ControlLaws.{control-bits}
 use Rattle.sd_builder.proofs.Building.{closed-from}
-use Rattle.sd_view.proofs.laws.LayoutLaws.{acl_size-read, header-control, header-dacl, header-group, header-owner, header-revision, header-rm, header-sacl}
+use Rattle.sd_view.proofs.laws.LayoutLaws.{acl_size-read, header-control, header-dacl, header-group, header-owner}
+use Rattle.sd_view.proofs.laws.LayoutLaws.{header-revision, header-rm, header-sacl}
 use Rattle.sd_builder.proofs.Standing.{headed, part-kept, part-small, room}
 
 -- what stands is shown

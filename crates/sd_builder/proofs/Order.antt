@@ -1,5 +1,6 @@
 -- The order of the calls: where a part more stands, and that the others stay where they are.
-use Rattle.std.proofs.Common.{◌≡◌, ◌≤◌, ◌<◌, ℕ, ◌+◌, Bool, true, false, List, [], ◌∷◌, ◌++◌, length, drop, Option, Some, None, refl, sym, ap, ◌∙◌, arith, length-append, length-drop}
+use Rattle.std.proofs.Common.{◌≡◌, ◌≤◌, ◌<◌, ℕ, ◌+◌, Bool, true, false, List, [], ◌∷◌, ◌++◌, length, drop, Option, Some}
+use Rattle.std.proofs.Common.{None, refl, sym, ap, ◌∙◌, arith, length-append, length-drop}
 use Rattle.std.specs.Prelude.{if◌then◌else◌, unwrap_or}
 use Rattle.std.specs.List.{flat_map}
 use Rattle.std.proofs.lemmas.Grind.{flat_map-append}
@@ -15,7 +16,8 @@ use Rattle.sd_control.proofs.laws.PartLaws.{each-part, get-other, get-set, same-
 use Rattle.sd_control.specs.declared.part.Part.{Part}
 use Rattle.sd_control.specs.declared.part.Part.TheVariants as part
 use Rattle.sd_builder.specs.Draft.{Draft, Parts, bytes_in_order, offset_among, offset_of, part_bytes}
-use Rattle.sd_builder.specs.Inner.Building.{Given, StandsInOrder, given, given_acl, given_bytes, given_sid, null, placed}
+use Rattle.sd_builder.specs.Inner.Building.{Given, StandsInOrder, given, given_acl, given_bytes, given_sid, null}
+use Rattle.sd_builder.specs.Inner.Building.{placed}
 use Rattle.sd_builder.proofs.Standing.{IsOneMore}
 use Rattle.sd_builder.specs.declared.builder.Builder.{Builder}
 use Rattle.sd_builder.specs.declared.builder.OpenAcl.{OpenAcl}

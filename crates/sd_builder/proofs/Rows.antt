@@ -1,5 +1,6 @@
 -- Worked rows, computed: what hex and base64 texts spell, what their bytes are read as, and what is laid out.
-use Rattle.std.proofs.Common.{◌≡◌, ℕ, Bool, true, false, List, [], ◌∷◌, map, Some, None, Result, Ok, Err, codes, refl, replicate}
+use Rattle.std.proofs.Common.{◌≡◌, ℕ, Bool, true, false, List, [], ◌∷◌, map, Some, None, Result, Ok, Err, codes, refl}
+use Rattle.std.proofs.Common.{replicate}
 use Prim.Native.String.{String}
 use Rattle.base64.proofs.OnLiterals.{base64_on_literals}
 use Rattle.base64.specs.Engines.{standard}
@@ -21,11 +22,13 @@ use Rattle.sd_view.specs.Descriptor.{Descriptor}
 use Rattle.sd_control.specs.Header.{header_bytes}
 use Rattle.sd_view.specs.Layout.{layout, size}
 use Rattle.sd_view.specs.Ace.{announces_inherited, announces_object}
-use Rattle.sd_view.specs.AclReading.{ace_fault, aces_fault, aces_of, acl_fault, guid_if, inherited_in, kind_in, object_in, extent_fault, sid_offset_in}
+use Rattle.sd_view.specs.AclReading.{ace_fault, aces_fault, aces_of, acl_fault, guid_if, inherited_in, kind_in}
+use Rattle.sd_view.specs.AclReading.{object_in, extent_fault, sid_offset_in}
 use Rattle.sd_view.specs.declared.acl.AclPart.TheVariants as acl
 use Rattle.sd_ace.specs.Ace.{AccessControlEntry}
 use Rattle.sd_kinds.specs.declared.kinds.AceKind.TheVariants as kinds
-use Rattle.sd_view.specs.Reading.{acl_part_fault, acl_shown, fault, header_fault, overlap_fault, overlaps_fault, parts_fault, reading, sid_fault, sid_shown}
+use Rattle.sd_view.specs.Reading.{acl_part_fault, acl_shown, fault, header_fault, overlap_fault, overlaps_fault}
+use Rattle.sd_view.specs.Reading.{parts_fault, reading, sid_fault, sid_shown}
 use Rattle.sd_buffer.specs.Text.{base64_spells, hex_spells}
 
 spelled : Result (List ℕ) TextFault → List ℕ

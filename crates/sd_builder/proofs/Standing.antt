@@ -1,6 +1,7 @@
 -- Parts that stand in a builder's buffer: they stay where they are when more is appended, and when the header is
 -- written.
-use Rattle.std.proofs.Common.{◌≡◌, ◌≤◌, ◌<◌, inr, ℕ, ◌+◌, ◌^◌, List, [], ◌++◌, length, drop, false, Option, Some, None, refl, sym, ap, ◌∙◌, append_assoc, arith, length-append, length-drop}
+use Rattle.std.proofs.Common.{◌≡◌, ◌≤◌, ◌<◌, inr, ℕ, ◌+◌, ◌^◌, List, [], ◌++◌, length, drop, false, Option, Some, None}
+use Rattle.std.proofs.Common.{refl, sym, ap, ◌∙◌, append_assoc, arith, length-append, length-drop}
 use Rattle.std.specs.Prelude.{unwrap_or}
 use Rattle.std.proofs.lemmas.List.{append-nil, drop-append-le}
 use Rattle.std.proofs.lemmas.Slice.{drop-append-drop}
@@ -10,7 +11,9 @@ use Rattle.sd_sid.specs.Sid.{SecurityId, IsSid, sid_bytes}
 use Rattle.sd_sid.proofs.laws.SidLaws.{length-sid_bytes}
 use Rattle.sd_view.specs.Acl.{IsAcl}
 use Rattle.sd_view.specs.AclLayout.{acl_bytes}
-use Rattle.sd_builder.specs.Inner.Building.{Given, PartStands, PartsStand, Stands, closed_size, extent_at, extents_kept, given, given_acl, given_bytes, given_sid, given_size, list, nothing, null, placed, sid}
+use Rattle.sd_builder.specs.Inner.Building.{Given, PartStands, PartsStand, Stands, closed_size, extent_at, extents_kept}
+use Rattle.sd_builder.specs.Inner.Building.{given, given_acl, given_bytes, given_sid, given_size, list, nothing, null}
+use Rattle.sd_builder.specs.Inner.Building.{placed, sid}
 use Rattle.sd_view.specs.Descriptor.{Apart, Extent}
 use Rattle.sd_builder.specs.Draft.{Parts}
 use Rattle.sd_view.specs.declared.acl.AclPart.{AclPart}

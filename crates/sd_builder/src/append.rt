@@ -66,7 +66,7 @@ fn append_subs(buf: &mut SdBuf, subs: &[u32])
     }
 }
 
-// Appends a SID, and tells where it stands.
+// Appends a SID, and returns its offset.
 pub(crate) fn append_sid_at(buf: &mut SdBuf, sid: &Sid) -> u32
     requires { length buf.old + MOST_SID_SIZE ≤ CAPACITY }
     ensures offset { result ≡ length buf.old }
@@ -74,7 +74,7 @@ pub(crate) fn append_sid_at(buf: &mut SdBuf, sid: &Sid) -> u32
     ensures limits { IsSid sid.now }
 {
     let offset = buf.bytes().len() as u32;
-    // Its size tells that it has at most 15 sub-authorities.
+    // Its size shows that it has at most 15 sub-authorities.
     let _ = sid.size();
     append_sid(buf, sid);
     offset
@@ -90,7 +90,7 @@ pub(crate) fn append_ace(buf: &mut SdBuf, ace: &Ace)
     append_sid(buf, ace.trustee());
 }
 
-// Appends what stands before the GUIDs. There is room for the longest, so that its cells are copied at once.
+// Appends what comes before the GUIDs. There is room for the longest, so that its cells are copied at once.
 fn append_front(buf: &mut SdBuf, ace: &Ace)
     requires { length buf.old + 12 ≤ CAPACITY }
     ensures { buf.new ≡ buf.old ++ ace_front ace.now }
@@ -99,7 +99,7 @@ fn append_front(buf: &mut SdBuf, ace: &Ace)
     buf.append_front(front.cells(), front.len());
 }
 
-// Appends the GUIDs, which stand in object kinds alone.
+// Appends the GUIDs, which only object kinds have.
 fn append_guids(buf: &mut SdBuf, ace: &Ace)
     requires { length buf.old + length (guids (is_object ace.now.kind) ace.now.object ace.now.inherited) ≤ CAPACITY }
     ensures { buf.new ≡ buf.old ++ guids (is_object ace.now.kind) ace.now.object ace.now.inherited }

@@ -32,7 +32,7 @@ pub struct Builder {
     open: Option<OpenAcl>,
 }
 
-/// An ACL that is built, which stands at the end of the buffer.
+/// An ACL that is being built, at the end of the buffer.
 #[derive(Clone, Copy)]
 pub struct OpenAcl {
     which: Which,
@@ -154,7 +154,7 @@ impl Builder {
     }
 
     /// Writes the header (MS-DTYP 2.4.6). Of the flags the bits 0x8000, 0x10 and 0x4 don't count: the first is set, and
-    /// the others tell which ACLs stand.
+    /// the others say which ACLs are present.
     pub fn finish(self, buf: &mut SdBuf, flags: u16, rm: u8)
         requires { (t : Draft) × Builds self buf.old t × (t.parts.«open» ≡ None) }
         // The header, and the parts in the order of the calls.

@@ -70,7 +70,7 @@ impl Model for Ask {
 impl Ask {
     /// What is asked: the rights of the desired mask, whose generic rights mean what the mapping says, and with
     /// `maximum`, or with bit 25 in the mask, all that is granted. ACEs with an object type count where it is
-    /// `object`; the SID PRINCIPAL SELF stands for `principal_self`.
+    /// `object`; the SID PRINCIPAL SELF means `principal_self`.
     pub fn new(
         desired: u32,
         maximum: bool,
@@ -138,7 +138,7 @@ impl Ask {
         self.object
     }
 
-    // Whom PRINCIPAL SELF stands for.
+    // Whom PRINCIPAL SELF means.
     pub(crate) fn principal_self(&self) -> Option<Sid>
         ensures { result ≡ self.now.principal_self }
     {

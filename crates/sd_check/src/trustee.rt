@@ -1,4 +1,4 @@
-//! Whom a SID stands for, and whether a token has it.
+//! Whom a SID means, and whether a token has it.
 
 ghost use Rattle.std.specs.Prelude.{◌≡◌, ◌≤◌, ◌+◌, [], ◌∷◌, length};
 ghost use Rattle.sd_sid.specs.SidText.{same_sid};
@@ -36,7 +36,7 @@ pub fn some_meets(token: &mut Token, sid: Option<Sid>, deny: bool) -> bool
     }
 }
 
-/// Whom an ACE's SID stands for. One replacement is made.
+/// Whom an ACE's SID means. One replacement is made.
 pub fn subject(view: &SdView, principal_self: Option<Sid>, sid: Sid) -> Option<Sid>
     ensures { result ≡ subject view.now.owner principal_self sid }
 {

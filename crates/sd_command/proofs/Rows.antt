@@ -10,7 +10,9 @@ use Rattle.sd_answer.specs.declared.job.Job.{Job}
 use Rattle.sd_command.specs.declared.options.OptionName.TheVariants as name
 use Rattle.sd_command.specs.declared.settings.UsageFault.TheVariants.{Value}
 use Rattle.sd_command.specs.CommandLine.{bare_line, check_line, convert_line, derive_line, explain_line, line}
-use Rattle.sd_command.specs.Settings.{command_chosen, convert_own, derive_own, given_creator, nobody, settings_of, given_domain, given_kind, given_mapping, given_source, given_target, is_set, needed_sid, task_with, with_creator}
+use Rattle.sd_command.specs.Settings.{command_chosen, convert_own, derive_own, given_creator, nobody, settings_of}
+use Rattle.sd_command.specs.Settings.{given_domain, given_kind, given_mapping, given_source, given_target, is_set}
+use Rattle.sd_command.specs.Settings.{needed_sid, task_with, with_creator}
 use Rattle.sd_rights.specs.Mapping.{file_mapping}
 
 abbrev hex_to_hex : Job

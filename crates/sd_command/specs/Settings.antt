@@ -1,5 +1,6 @@
 -- What the matches of a command line settle.
-use Rattle.std.specs.Prelude.{ℕ, Bool, ◌&&◌, ◌||◌, ◌^◌, false, nat_le, nat_lt, if◌then◌else◌, List, [], length, Option, Some, None, Result, Ok, Err, codes, option_map}
+use Rattle.std.specs.Prelude.{ℕ, Bool, ◌&&◌, ◌||◌, ◌^◌, false, nat_le, nat_lt, if◌then◌else◌, List, [], length, Option}
+use Rattle.std.specs.Prelude.{Some, None, Result, Ok, Err, codes, option_map}
 use Rattle.std.specs.Str.{bytes_eq}
 use Rattle.std.specs.Option.{ok_or}
 use Rattle.std.specs.Result.{result_ok}

@@ -20,7 +20,7 @@ Exit status: 0 if every line was answered, 1 if some answers are error lines, 2 
 is wrong, 3 if input or output failed, 4 if memory ran out before the first read. A denied access
 check is an answer, so its status is 0.";
 
-// Below the help of each command stands an example.
+// The help of each command ends with an example.
 const CONVERT_EXAMPLE: &str = "Example: echo 'D:(A;;FA;;;WD)' | sdtool convert --from sddl --to hex
 See 'sdtool --help' for input, output and exit status.";
 

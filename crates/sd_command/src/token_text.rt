@@ -32,7 +32,7 @@ fn add_entry(piece: &str, domain: Option<&Sid>, token: &mut Token) -> Option<()>
     token.add(sid, kind).ok()
 }
 
-// An exclamation mark stands before an entry that is deny-only.
+// An exclamation mark before an entry makes it deny-only.
 fn marked(piece: &[u8]) -> (&[u8], EntryKind)
     ensures { (result.0.now, result.1) ≡ specs.marked piece.now }
 {

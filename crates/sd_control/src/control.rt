@@ -13,13 +13,13 @@ pub const OWNER_DEFAULTED: u16 = 0x1;
 /// GD: the primary group came from a default.
 pub const GROUP_DEFAULTED: u16 = 0x2;
 
-/// DP: a DACL stands, which may be null.
+/// DP: there is a DACL, which may be null.
 pub const DACL_PRESENT: u16 = 0x4;
 
 /// DD: the DACL came from a default.
 pub const DACL_DEFAULTED: u16 = 0x8;
 
-/// SP: a SACL stands, which may be null.
+/// SP: there is a SACL, which may be null.
 pub const SACL_PRESENT: u16 = 0x10;
 
 /// SD: the SACL came from a default.
@@ -98,7 +98,7 @@ pub const CONTROL_BITS: [ControlBit; 14] = [
     bit!(b'S', b'R', SELF_RELATIVE),
 ];
 
-/// The flags of one of the two ACLs, which stand in the control word (MS-DTYP 2.4.6): P, AR and AI in SDDL.
+/// The flags of one of the two ACLs, which are in the control word (MS-DTYP 2.4.6): P, AR and AI in SDDL.
 #[derive(Clone, Copy, Debug, PartialEq, Eq)]
 pub struct AclFlags {
     pub protected: bool,
@@ -177,7 +177,7 @@ fn bit_of(bit: u16, word: u16) -> u16
     word / bit % 2 * bit
 }
 
-/// The control word: the flags without SR, SP and DP, and then SR and the present bits of the ACLs that stand.
+/// The control word: the flags without SR, SP and DP, and then SR and the present bits of the ACLs that are there.
 pub fn control_of(flags: u16, sacl: bool, dacl: bool) -> u16
     ensures { result ≡ control_of flags sacl dacl }
 {

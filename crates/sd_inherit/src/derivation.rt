@@ -123,7 +123,7 @@ fn is_present(part: &AclPart) -> bool
     !matches!(part, AclPart::Absent)
 }
 
-// Whether the new ACL is a list: it stands, and is not null because the creator's is.
+// Whether the new ACL is a list: it is there, and is not null because the creator's is.
 fn is_list(stands: bool, creators: &AclPart) -> bool
     ensures { result ≡ (stands && not (is_null creators.now)) }
 {

@@ -12,7 +12,7 @@ use sd_sid::Sid;
 /// The generic rights (MS-DTYP 2.4.3).
 const GENERIC_RIGHTS: u32 = 0xf000_0000;
 
-/// CREATOR_OWNER and CREATOR_GROUP stand for the new object's owner and group, and any other SID for itself.
+/// The new object's owner and group replace CREATOR_OWNER and CREATOR_GROUP; any other SID stays.
 pub fn heir(plan: &Plan, sid: Sid) -> Sid
     ensures { result ≡ heir plan.now sid }
 {

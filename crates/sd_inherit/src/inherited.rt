@@ -30,7 +30,7 @@ pub enum Source {
     Parent,
 }
 
-/// Appends the SACL that stands beside the creator's, if one does, and tells whether it does.
+/// Appends the new SACL, if there is one, and returns whether there is.
 pub fn put_sacl(
     builder: &mut Builder,
     buf: &mut SdBuf,
@@ -59,7 +59,7 @@ pub fn put_sacl(
     }
 }
 
-// The same where the creator has none: the SACL stands if a copy does.
+// The same where the creator has none: there is a SACL if there is a copy.
 fn put_copied_sacl(
     builder: &mut Builder,
     buf: &mut SdBuf,
@@ -107,7 +107,7 @@ fn put_from(
     Ok(())
 }
 
-/// Appends the DACL that stands beside the creator's.
+/// Appends the new DACL.
 pub fn put_dacl(
     builder: &mut Builder,
     buf: &mut SdBuf,

@@ -1,5 +1,5 @@
 //! The descriptor of a new object (MS-DTYP 2.5.3.4): what it takes from its creator's descriptor, if there is one, and
-//! what it inherits from its container. docs/DEFINITIONS.md tells which part of the standard is covered.
+//! what it inherits from its container. docs/DEFINITIONS.md says which part of the standard is covered.
 #![tactic(auto)]
 
 mod copies;

@@ -15,7 +15,7 @@ const GENERIC_WRITE: u32 = 30;
 
 const GENERIC_READ: u32 = 31;
 
-// What they stand for on files and folders.
+// What they mean for files and folders.
 const FILE_GENERIC_READ: u32 = 0x12_0089;
 
 const FILE_GENERIC_WRITE: u32 = 0x12_0116;
@@ -42,7 +42,7 @@ const DS_GENERIC_EXECUTE: u32 = 0x2_0004;
 
 const DS_GENERIC_ALL: u32 = 0xf_01ff;
 
-/// The rights that the four generic rights stand for, on one kind of object. There are these three, and no
+/// The rights that the four generic rights mean for one kind of object. There are these three, and no
 /// other can be made.
 #[derive(Clone, Copy, Debug, PartialEq, Eq)]
 pub struct Mapping {
@@ -121,7 +121,7 @@ impl Mapping {
         self.all
     }
 
-    /// The mask with each generic right replaced by the rights that it stands for.
+    /// The mask with each generic right replaced by the rights that it means.
     #[tactic(auto, unfolding(crate::specs::Mapping::mapped, crate::specs::MappingValues::MappingValues))]
     pub fn map(&self, mask: u32) -> u32
         ensures value { result ≡ mapped self.now mask }

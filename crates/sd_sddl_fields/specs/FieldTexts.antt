@@ -1,7 +1,8 @@
 -- The texts of fields that stand in SDDL alone (MS-DTYP 2.5.1.1): kinds of ACEs, what stands in an ACL before its ACEs,
 -- and object types. Names are read in either case. The texts of SIDs, rights, flags of ACEs and GUIDs are those of
 -- sd_sid, sd_rights, sd_kinds and sd_ace.
-use Rattle.std.specs.Prelude.{ℕ, ◌-◌, ◌&&◌, ◌||◌, Bool, true, false, ◌==◌, nat_le, if◌then◌else◌, List, [], ◌∷◌, length, take, drop, codes, Option, Some, None}
+use Rattle.std.specs.Prelude.{ℕ, ◌-◌, ◌&&◌, ◌||◌, Bool, true, false, ◌==◌, nat_le, if◌then◌else◌, List, [], ◌∷◌, length}
+use Rattle.std.specs.Prelude.{take, drop, codes, Option, Some, None}
 use Rattle.std.specs.Char.{to_ascii_uppercase}
 use Rattle.std.specs.Option.{option_and_then, option_map, option_or}
 use Rattle.std.specs.Str.{byte as char, str_eq_ignore_ascii_case}

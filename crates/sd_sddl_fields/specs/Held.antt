@@ -1,5 +1,6 @@
 -- What a reader keeps of the text of one field.
-use Rattle.std.specs.Prelude.{◌≡◌, ℕ, ◌≤◌, Bool, true, false, ◌||◌, not, ◌==◌, if◌then◌else◌, List, [], ◌∷◌, ◌++◌, codes, length}
+use Rattle.std.specs.Prelude.{◌≡◌, ℕ, ◌≤◌, Bool, true, false, ◌||◌, not, ◌==◌, if◌then◌else◌, List, [], ◌∷◌, ◌++◌}
+use Rattle.std.specs.Prelude.{codes, length}
 use Rattle.std.specs.List.{list_any}
 use Rattle.std.specs.Str.{byte as char}
 use Rattle.sd_text.specs.Limits.{most_field}

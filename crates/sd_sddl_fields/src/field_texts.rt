@@ -1,4 +1,4 @@
-//! The texts of fields that stand in SDDL alone (MS-DTYP 2.5.1.1).
+//! The texts of fields that only SDDL has (MS-DTYP 2.5.1.1).
 
 ghost use Rattle.std.specs.Prelude.{◌≡◌, Some, None};
 ghost use Rattle.std.specs.Str.{str_eq_ignore_ascii_case};
@@ -10,14 +10,14 @@ use sd_control::AclFlags;
 use sd_kinds::AceKind;
 use uuid::Uuid;
 
-/// What stands in an ACL before its ACEs: its flags, and whether it is null.
+/// The text of an ACL before its ACEs: its flags, and whether it is null.
 #[derive(Clone, Copy)]
 pub struct AclFront {
     pub flags: AclFlags,
     pub null: bool,
 }
 
-/// What stands in an ACL that is null.
+/// The text of an ACL that is null.
 const NULL_NAME: &str = "NO_ACCESS_CONTROL";
 
 /// No flag of an ACL.
@@ -35,7 +35,7 @@ fn is_same(first: &[u8], second: &[u8]) -> bool
 }
 
 /// The object type, or the inherited object type, of an ACE of this kind: nothing for an empty text, and else a GUID,
-/// which stands in object kinds alone.
+/// which only object kinds may have.
 #[tactic(auto, unfolding(crate::specs::FieldTexts::object_reads))]
 pub fn object_from_text(kind: AceKind, text: &[u8]) -> Option<Option<Uuid>>
     ensures { result ≡ object_reads kind text.now }
@@ -49,7 +49,7 @@ pub fn object_from_text(kind: AceKind, text: &[u8]) -> Option<Option<Uuid>>
     guid_from_text(text).map(Some)
 }
 
-/// What stands in an ACL before its ACEs: flags, and `NO_ACCESS_CONTROL` where the ACL is null.
+/// The text of an ACL before its ACEs: flags, and `NO_ACCESS_CONTROL` if the ACL is null.
 #[tactic(auto, unfolding(crate::specs::FieldTexts::front_reads))]
 pub fn front_from_text(text: &[u8]) -> Option<AclFront>
     ensures { result ≡ front_reads text.now }

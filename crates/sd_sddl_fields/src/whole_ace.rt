@@ -1,4 +1,4 @@
-//! The fields of an ACE that stands whole at the front of a text, read where they stand and not copied.
+//! The fields of an ACE that is whole at the front of a text, read in place.
 
 ghost use Rattle.std.specs.Prelude.{◌≡◌, ◌≤◌, ◌/◌, ◌%◌, ◌∷◌, ◌++◌, take, IfSome, Some};
 ghost use Rattle.std.specs.Str.{byte as char};
@@ -105,7 +105,7 @@ fn front_object(kind: AceKind, text: &[u8]) -> Option<(Option<Uuid>, &[u8])>
     Some((object, &text[size + 1..]))
 }
 
-/// What stands before the first semicolon, and what follows it. None where it stands behind the places of a field.
+/// The text before the first semicolon, and what follows it. None if the semicolon is further than a field reaches.
 #[inline(always)]
 pub fn cut(text: &[u8]) -> Option<(&[u8], &[u8])>
     ensures { IfSome result (λ r. text.now ≡ r.0.now ++ char ";" ∷ r.1.now) }

@@ -14,9 +14,11 @@ use Rattle.sd_sddl_reader.specs.declared.line.Slot.TheVariants as slot
 use Rattle.sd_text.specs.Cuts.{Cuts, with_byte}
 use Rattle.sd_sddl_reader.specs.Line.{cut_at_semicolons}
 use Rattle.sd_sddl_reader.specs.FoldedReading.{Field, ace_fields, ace_fields_from}
-use Rattle.sd_sddl_printer.specs.Printed.{ace_text, flags_field, kind_field, kind_text, object_field, object_text, rights_field, trustee_field, trustee_text}
+use Rattle.sd_sddl_printer.specs.Printed.{ace_text, flags_field, kind_field, kind_text, object_field, object_text}
+use Rattle.sd_sddl_printer.specs.Printed.{rights_field, trustee_field, trustee_text}
 use Rattle.sd_sddl_printer.proofs.LineCuts.{IsInner, in_parentheses, is_inner_byte}
-use Rattle.sd_sddl_printer.proofs.PlainTexts.{IsPlain, flags-plain, is_plain_byte, kind-plain, no_mark, object-plain, rights-plain, trustee-plain}
+use Rattle.sd_sddl_printer.proofs.PlainTexts.{IsPlain, flags-plain, is_plain_byte, kind-plain, no_mark, object-plain}
+use Rattle.sd_sddl_printer.proofs.PlainTexts.{rights-plain, trustee-plain}
 
 -- 1. Texts with semicolons between them.
 

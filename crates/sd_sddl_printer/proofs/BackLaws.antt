@@ -1,12 +1,14 @@
 -- A printed descriptor reads back, but for what SDDL has no letters for.
-use Rattle.std.proofs.Common.{◌≡◌, ℕ, ◌+◌, Bool, true, false, List, [], ◌∷◌, ◌++◌, map, Option, Some, None, Result, Ok, refl, ap, sym, ◌∙◌, arith, append-nil}
+use Rattle.std.proofs.Common.{◌≡◌, ℕ, ◌+◌, Bool, true, false, List, [], ◌∷◌, ◌++◌, map, Option, Some, None, Result, Ok}
+use Rattle.std.proofs.Common.{refl, ap, sym, ◌∙◌, arith, append-nil}
 use Rattle.std.specs.Prelude.{codes}
 use Rattle.std.specs.List.{AllByRecursion, flat_map}
 use Rattle.std.proofs.lemmas.Grind.{flat_map-append}
 use Rattle.sd_ace.specs.Ace.{AccessControlEntry}
 use Rattle.sd_sid.specs.Sid.{SecurityId}
 use Rattle.sd_view.specs.Descriptor.{Descriptor, IsDescriptor}
-use Rattle.sd_control.specs.Control.{dacl_present, sacl_present, acl_flags, bit_if, flag_bits, no_flags, control_of, present_bit}
+use Rattle.sd_control.specs.Control.{dacl_present, sacl_present, acl_flags, bit_if, flag_bits, no_flags, control_of}
+use Rattle.sd_control.specs.Control.{present_bit}
 use Rattle.sd_view.specs.declared.acl.AclPart.{AclPart}
 use Rattle.sd_view.specs.declared.acl.AclPart.TheVariants as acl
 use Rattle.sd_control.specs.declared.control.AclFlags.{AclFlags}
@@ -18,16 +20,19 @@ use Rattle.sd_sid.specs.declared.naming.Naming.{Naming}
 use Rattle.sd_control.specs.declared.part.Which.{Which}
 use Rattle.sd_control.specs.declared.part.Which.TheVariants as which
 use Rattle.sd_builder.specs.Draft.{is_present, no_parts}
-use Rattle.sd_sddl_reader.specs.FoldedReading.{Field, FieldsRead, described, fields_of, finished, folded, nothing_read, read_fields, reads_as, if_shaped}
+use Rattle.sd_sddl_reader.specs.FoldedReading.{Field, FieldsRead, described, fields_of, finished, folded, nothing_read}
+use Rattle.sd_sddl_reader.specs.FoldedReading.{read_fields, reads_as, if_shaped}
 use Rattle.sd_sddl_reader.specs.Line.{Sections, has_twice, is_shaped, sections_of}
 use Rattle.sd_sddl_reader.specs.Meaning.{control_flags}
-use Rattle.sd_sddl_printer.specs.Printed.{ace_text, acl_text, dacl_text, group_text, kept_bits, owner_text, plain, sacl_text, sddl, sid_text_of, trustee_text}
+use Rattle.sd_sddl_printer.specs.Printed.{ace_text, acl_text, dacl_text, group_text, kept_bits, owner_text, plain}
+use Rattle.sd_sddl_printer.specs.Printed.{sacl_text, sddl, sid_text_of, trustee_text}
 use Rattle.sd_sddl_reader.proofs.laws.ControlFlags.{flags-stay}
 use Rattle.sd_sddl_printer.proofs.AceTexts.{ace_text-inner, inner_text}
 use Rattle.sd_sddl_printer.proofs.FieldsBack.{front_text}
 use Rattle.sd_sddl_printer.proofs.LineCuts.{IsPart, Part, in_parentheses, letter_of, line-parts, printed_part}
 use Rattle.sd_sddl_printer.proofs.LineFields.{line-fields, line-shaped, listed_parts, never_twice, part_fields}
-use Rattle.sd_sddl_printer.proofs.PartsBack.{acl-back, acl-is_part, acl_body, read-on, sid-back, sid-is_part, sid_body, with_acl_part, with_sid_part}
+use Rattle.sd_sddl_printer.proofs.PartsBack.{acl-back, acl-is_part, acl_body, read-on, sid-back, sid-is_part, sid_body}
+use Rattle.sd_sddl_printer.proofs.PartsBack.{with_acl_part, with_sid_part}
 
 -- 1. The parts that are printed.
 

@@ -1,5 +1,6 @@
 -- Each printed field reads back.
-use Rattle.std.proofs.Common.{◌≡◌, ◌≤◌, ◌<◌, ℕ, ◌/◌, ◌%◌, ◌^◌, Bool, true, false, List, [], ◌∷◌, ◌++◌, length, Option, Some, None, Ok, refl, ap, ◌∙◌, arith, length-append}
+use Rattle.std.proofs.Common.{◌≡◌, ◌≤◌, ◌<◌, ℕ, ◌/◌, ◌%◌, ◌^◌, Bool, true, false, List, [], ◌∷◌, ◌++◌, length, Option}
+use Rattle.std.proofs.Common.{Some, None, Ok, refl, ap, ◌∙◌, arith, length-append}
 use Rattle.std.specs.Prelude.{IfSome, codes, if◌then◌else◌}
 use Rattle.sd_ace.specs.Ace.{IsGuid}
 use Rattle.sd_kinds.specs.Kinds.{is_object}
@@ -23,12 +24,15 @@ use Rattle.sd_sddl_reader.specs.declared.line.Slot.{Slot}
 use Rattle.sd_sddl_reader.specs.declared.line.Slot.TheVariants as slot
 use Rattle.sd_control.specs.declared.control.AclFlags.{AclFlags}
 use Rattle.sd_control.specs.declared.part.Which.{Which}
-use Rattle.sd_sddl_reader.specs.FoldedReading.{FieldsRead, begun_or_null, no_fields, take_ace_field, take_field, take_front, take_readable, with_flags, with_owner_or_group, with_sid, with_trustee, with_value}
+use Rattle.sd_sddl_reader.specs.FoldedReading.{FieldsRead, begun_or_null, no_fields, take_ace_field, take_field}
+use Rattle.sd_sddl_reader.specs.FoldedReading.{take_front, take_readable, with_flags, with_owner_or_group, with_sid}
+use Rattle.sd_sddl_reader.specs.FoldedReading.{with_trustee, with_value}
 use Rattle.sd_sddl_fields.specs.FieldTexts.{front_reads, kind_reads, object_reads}
 use Rattle.sd_builder.specs.Draft.{closed}
 use Rattle.std.specs.Option.{unwrap_or}
 use Rattle.sd_sddl_printer.specs.Printed.{acl_flags_text, kind_text, object_text, trustee_text}
-use Rattle.sd_sddl_printer.proofs.PlainTexts.{IsPlain, acl_flags_text-plain, flags-plain, kind-plain, object-plain, plain-append, plain-readable, rights-plain, trustee-plain}
+use Rattle.sd_sddl_printer.proofs.PlainTexts.{IsPlain, acl_flags_text-plain, flags-plain, kind-plain, object-plain}
+use Rattle.sd_sddl_printer.proofs.PlainTexts.{plain-append, plain-readable, rights-plain, trustee-plain}
 use Rattle.sd_sddl_printer.proofs.laws.SizeLaws.{flags-length, kind-length, trustee-length}
 
 readable : (domain : Option SecurityId) (r : FieldsRead) (s : Slot) (text : List ℕ) → IsPlain text → length text ≤ 183

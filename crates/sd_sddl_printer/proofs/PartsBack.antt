@@ -1,5 +1,6 @@
 -- Printed parts read back: ACEs one after the other, ACLs, owners and groups.
-use Rattle.std.proofs.Common.{◌≡◌, ◌<◌, ℕ, ◌+◌, ◌^◌, Bool, true, false, List, [], ◌∷◌, ◌++◌, map, Option, Some, None, Result, Ok, refl, ap, sym, ◌∙◌, arith, append-nil, append_assoc}
+use Rattle.std.proofs.Common.{◌≡◌, ◌<◌, ℕ, ◌+◌, ◌^◌, Bool, true, false, List, [], ◌∷◌, ◌++◌, map, Option, Some, None}
+use Rattle.std.proofs.Common.{Result, Ok, refl, ap, sym, ◌∙◌, arith, append-nil, append_assoc}
 use Rattle.std.specs.Prelude.{IfSome, nat_lt}
 use Rattle.std.specs.List.{AllByRecursion, flat_map}
 use Rattle.std.proofs.lemmas.Bool.Decides.{nat_tests}
@@ -21,7 +22,8 @@ use Rattle.sd_sddl_reader.specs.declared.reading.AceFields.{AceFields}
 use Rattle.sd_control.specs.declared.part.Which.{Which}
 use Rattle.sd_control.specs.declared.part.Which.TheVariants as which
 use Rattle.sd_builder.specs.Draft.{Parts, begun, closed, with_ace, with_acl}
-use Rattle.sd_sddl_reader.specs.FoldedReading.{Field, FieldsRead, ace_fields, grown, large_in, no_fields, read_fields, take_field, with_flags, with_owner_or_group, with_trustee}
+use Rattle.sd_sddl_reader.specs.FoldedReading.{Field, FieldsRead, ace_fields, grown, large_in, no_fields, read_fields}
+use Rattle.sd_sddl_reader.specs.FoldedReading.{take_field, with_flags, with_owner_or_group, with_trustee}
 use Rattle.sd_sddl_reader.specs.Line.{ace, byte, has_aces}
 use Rattle.sd_text.specs.Chains.{and_then}
 use Rattle.std.specs.Option.{option_or}
@@ -29,7 +31,9 @@ use Rattle.sd_sddl_fields.proofs.laws.FlagRuns.{or-none}
 use Rattle.sd_sddl_printer.specs.Printed.{trustee_text}
 use Rattle.sd_sddl_reader.proofs.laws.FoldedSections.{read-append}
 use Rattle.sd_sddl_printer.proofs.AceTexts.{field_at, inner-fields, inner_text, inner_text-is}
-use Rattle.sd_sddl_printer.proofs.FieldsBack.{front_text, front_text-plain, null_front_text, null_front_text-plain, take-flags, take-inherited, take-kind, take-list, take-null, take-object, take-rights, take-sid, take-trustee}
+use Rattle.sd_sddl_printer.proofs.FieldsBack.{front_text, front_text-plain, null_front_text, null_front_text-plain}
+use Rattle.sd_sddl_printer.proofs.FieldsBack.{take-flags, take-inherited, take-kind, take-list, take-null, take-object}
+use Rattle.sd_sddl_printer.proofs.FieldsBack.{take-rights, take-sid, take-trustee}
 use Rattle.sd_sddl_printer.proofs.LineCuts.{Body, IsInner, IsPart}
 use Rattle.sd_sddl_printer.proofs.LineFields.{listed_parts, part_fields, text-no_aces}
 use Rattle.sd_sddl_printer.proofs.PlainTexts.{trustee-plain}

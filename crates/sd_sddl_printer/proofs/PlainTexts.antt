@@ -1,5 +1,6 @@
 -- What is printed in a field is plain: letters, digits, dashes and underscores; and no field is long.
-use Rattle.std.proofs.Common.{◌≡◌, ◌≤◌, ◌<◌, ℕ, zero, suc, ◌^◌, Bool, true, false, ◌&&◌, ◌||◌, List, [], ◌∷◌, ◌++◌, length, Option, Some, None, refl, ap, ◌∙◌, arith}
+use Rattle.std.proofs.Common.{◌≡◌, ◌≤◌, ◌<◌, ℕ, zero, suc, ◌^◌, Bool, true, false, ◌&&◌, ◌||◌, List, [], ◌∷◌, ◌++◌}
+use Rattle.std.proofs.Common.{length, Option, Some, None, refl, ap, ◌∙◌, arith}
 use Rattle.std.specs.Prelude.{IfSome, ◌==◌, bit_and, codes, if◌then◌else◌, nat_lt}
 use Rattle.std.specs.Char.{digit_value, is_ascii_uppercase}
 use Rattle.std.specs.Fmt.{digits}

@@ -18,7 +18,7 @@ use sd_sid::{Naming, Sid};
 use sd_sink::{Gather, Print, Sink, SinkFault};
 use sd_view::SdView;
 
-/// Puts a descriptor as SDDL: owner, group, DACL and SACL, those that stand, without blanks, in at most
+/// Puts a descriptor as SDDL: owner, group, DACL and SACL, as far as they are there, without blanks, in at most
 /// eight characters for each byte of its written layout, and 63. SIDs have their aliases, those of the
 /// domain too, unless numbers alone are asked for; a domain of 15 sub-authorities counts as none. What SDDL
 /// has no letters for is dropped: the resource manager byte, and of the control word all but the present

@@ -1,5 +1,6 @@
 -- What a reader of fields holds, after one field more.
-use Rattle.std.proofs.Common.{◌≡◌, ℕ, ◌/◌, ◌%◌, List, [], ◌∷◌, Option, Some, None, Bool, true, false, refl, sym, ap, ◌∙◌}
+use Rattle.std.proofs.Common.{◌≡◌, ℕ, ◌/◌, ◌%◌, List, [], ◌∷◌, Option, Some, None, Bool, true, false, refl, sym, ap}
+use Rattle.std.proofs.Common.{◌∙◌}
 use Rattle.std.specs.Prelude.{◌&&◌, Ok}
 use Rattle.std.specs.Option.{option_map}
 use Rattle.sd_ace.specs.Ace.{AccessControlEntry, GuidsFit}
@@ -7,7 +8,8 @@ use Rattle.sd_kinds.specs.Kinds.{is_object}
 use Rattle.sd_kinds.specs.declared.kinds.AceKind.{AceKind}
 use Rattle.sd_builder.specs.Draft.{Parts, built, closed}
 use Rattle.sd_builder.specs.declared.builder.Builder.{Builder}
-use Rattle.sd_sddl_reader.specs.FoldedReading.{FieldsRead, begun_or_null, described, finished, no_fields, take_front, with_flags}
+use Rattle.sd_sddl_reader.specs.FoldedReading.{FieldsRead, begun_or_null, described, finished, no_fields, take_front}
+use Rattle.sd_sddl_reader.specs.FoldedReading.{with_flags}
 use Rattle.sd_sddl_fields.specs.FieldTexts.{object_reads}
 use Rattle.sd_sddl_reader.specs.Meaning.{control_flags, unless_large}
 use Rattle.sd_sddl_reader.specs.Inner.Reads.{AreAceFields, BuildsParts, HasReadFields}

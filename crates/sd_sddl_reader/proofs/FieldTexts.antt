@@ -1,5 +1,6 @@
 -- The text of a field: what is held of it stands for the whole of it.
-use Rattle.std.proofs.Common.{◌≡◌, ℕ, ◌+◌, ◌<◌, ◌≤◌, Bool, true, false, ◌||◌, List, [], ◌∷◌, ◌++◌, length, refl, ap, ◌∙◌, arith, length-append, append_assoc}
+use Rattle.std.proofs.Common.{◌≡◌, ℕ, ◌+◌, ◌<◌, ◌≤◌, Bool, true, false, ◌||◌, List, [], ◌∷◌, ◌++◌, length, refl, ap}
+use Rattle.std.proofs.Common.{◌∙◌, arith, length-append, append_assoc}
 use Rattle.std.specs.Prelude.{◌==◌, nat_lt, if◌then◌else◌, Option}
 use Rattle.std.specs.List.{list_all, list_any}
 use Rattle.std.proofs.lemmas.Bool.Decides.{nat_tests}
@@ -11,7 +12,8 @@ use Rattle.sd_sddl_reader.specs.Line.{trim, trim_end}
 use Rattle.sd_sddl_fields.specs.FieldTexts.{is_blank}
 use Rattle.sd_sddl_reader.specs.FoldedReading.{FieldsRead, take_field}
 use Rattle.sd_sddl_reader.specs.Meaning.{is_unreadable}
-use Rattle.sd_sddl_fields.specs.Held.{Held, IsHeld, broken_text, held_with, held_blank, outer_with, within_with, held_text}
+use Rattle.sd_sddl_fields.specs.Held.{Held, IsHeld, broken_text, held_with, held_blank, outer_with, within_with}
+use Rattle.sd_sddl_fields.specs.Held.{held_text}
 use Rattle.sd_sddl_reader.specs.Inner.Progress.{unreadable, text_with, inner_with}
 
 -- two texts that read as the same in each field

@@ -1,5 +1,6 @@
 -- Which parts are given, and which ACL is open, after one field more.
-use Rattle.std.proofs.Common.{◌≡◌, ℕ, List, Option, Some, None, Bool, true, false, refl, sym, ap, ◌∙◌, subst, true≢false}
+use Rattle.std.proofs.Common.{◌≡◌, ℕ, List, Option, Some, None, Bool, true, false, refl, sym, ap, ◌∙◌, subst}
+use Rattle.std.proofs.Common.{true≢false}
 use Rattle.std.specs.Prelude.{if◌then◌else◌, ◌&&◌, ◌||◌, not, IfOk, Result, Ok, Err}
 use Rattle.std.proofs.lemmas.Bool.{or_left, or_right, not_from_false}
 use Rattle.sd_ace.specs.Ace.{AccessControlEntry}
@@ -13,7 +14,9 @@ use Rattle.sd_builder.specs.Draft.{Parts, IsOpen, IsOpenIn, closed, closed_in, a
 use Rattle.sd_control.specs.Parts.{each_part, get_part}
 use Rattle.sd_control.proofs.laws.PartLaws.{same-is, same-self}
 use Rattle.sd_sddl_reader.specs.Line.{part_of_head, same_head}
-use Rattle.sd_sddl_reader.specs.FoldedReading.{FieldsRead, ace_of_fields, begun_or_null, fault_of, nothing_read, take_ace_field, take_field, take_front, take_readable, with_flags, with_owner_or_group, with_sid, with_trustee, with_value}
+use Rattle.sd_sddl_reader.specs.FoldedReading.{FieldsRead, ace_of_fields, begun_or_null, fault_of, nothing_read}
+use Rattle.sd_sddl_reader.specs.FoldedReading.{take_ace_field, take_field, take_front, take_readable, with_flags}
+use Rattle.sd_sddl_reader.specs.FoldedReading.{with_owner_or_group, with_sid, with_trustee, with_value}
 use Rattle.sd_text.specs.Chains.{and_then, unless}
 use Rattle.sd_sddl_reader.specs.Meaning.{is_unreadable}
 use Rattle.sd_sddl_fields.specs.FieldTexts.{front_reads, kind_reads, object_reads}

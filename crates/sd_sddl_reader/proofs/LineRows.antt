@@ -18,7 +18,8 @@ use Rattle.sd_control.specs.declared.part.Which.TheVariants as which
 use Rattle.sd_sddl_reader.specs.declared.fault.SddlFault.{SddlFault}
 use Rattle.sd_control.specs.Control.{no_flags}
 use Rattle.sd_sddl_fields.specs.FieldTexts.{front_reads, kind_reads, object_reads}
-use Rattle.sd_sddl_reader.specs.Meaning.{Said, acl_said, ace_reads, body_reads, each, acl_part_reads, first_large, means, section_reads, sections_mean}
+use Rattle.sd_sddl_reader.specs.Meaning.{Said, acl_said, ace_reads, body_reads, each, acl_part_reads, first_large}
+use Rattle.sd_sddl_reader.specs.Meaning.{means, section_reads, sections_mean}
 use Rattle.sd_sddl_reader.specs.Line.{Section}
 use Rattle.sd_sddl_reader.specs.declared.fault.SddlFault.TheVariants as fault
 

@@ -1,5 +1,6 @@
 -- A descriptor that a line means keeps the limits of a descriptor's fields.
-use Rattle.std.proofs.Common.{◌≡◌, ◌<◌, ℕ, ◌^◌, List, [], ◌∷◌, ◌++◌, Option, Some, None, IfSome, Result, Ok, Err, IfOk, Bool, true, false, refl, subst, arith}
+use Rattle.std.proofs.Common.{◌≡◌, ◌<◌, ℕ, ◌^◌, List, [], ◌∷◌, ◌++◌, Option, Some, None, IfSome, Result, Ok, Err, IfOk}
+use Rattle.std.proofs.Common.{Bool, true, false, refl, subst, arith}
 use Rattle.std.specs.Prelude.{◌&&◌, nat_lt, if◌then◌else◌}
 use Rattle.std.specs.Option.{option_map, option_or}
 use Rattle.std.proofs.lemmas.Bool.Decides.{nat_tests}
@@ -23,7 +24,11 @@ use Rattle.sd_view.specs.declared.acl.AclPart.{AclPart}
 use Rattle.sd_view.specs.declared.acl.AclPart.TheVariants as acl
 use Rattle.sd_control.specs.declared.part.Which.{Which}
 use Rattle.sd_control.specs.declared.part.Which.TheVariants as which
-use Rattle.sd_sddl_reader.specs.FoldedReading.{Field, FieldsRead, ace_of_fields, begun_or_null, described, fault_of, fields_of, finished, folded, large_in, no_fields, nothing_read, read_fields, reads_as, take_ace_field, take_field, take_front, take_readable, if_shaped, with_flags, with_owner_or_group, with_sid, with_trustee, with_value}
+use Rattle.sd_sddl_reader.specs.FoldedReading.{Field, FieldsRead, ace_of_fields, begun_or_null, described, fault_of}
+use Rattle.sd_sddl_reader.specs.FoldedReading.{fields_of, finished, folded, large_in, no_fields, nothing_read}
+use Rattle.sd_sddl_reader.specs.FoldedReading.{read_fields, reads_as, take_ace_field, take_field, take_front}
+use Rattle.sd_sddl_reader.specs.FoldedReading.{take_readable, if_shaped, with_flags, with_owner_or_group, with_sid}
+use Rattle.sd_sddl_reader.specs.FoldedReading.{with_trustee, with_value}
 use Rattle.sd_sddl_reader.specs.Line.{has_twice, is_shaped, sections_of}
 use Rattle.sd_text.specs.Chains.{and_then}
 use Rattle.sd_sddl_reader.specs.Meaning.{is_unreadable, means, unless_large}

@@ -1,5 +1,6 @@
 -- Steps of a reader: what the answer to one byte more is.
-use Rattle.std.proofs.Common.{◌≡◌, ℕ, suc, Bool, true, false, ◌&&◌, ◌||◌, List, [], ◌∷◌, ◌++◌, length, refl, ap, sym, ◌∙◌, arith, ◌⊎◌, inl, inr}
+use Rattle.std.proofs.Common.{◌≡◌, ℕ, suc, Bool, true, false, ◌&&◌, ◌||◌, List, [], ◌∷◌, ◌++◌, length, refl, ap, sym}
+use Rattle.std.proofs.Common.{◌∙◌, arith, ◌⊎◌, inl, inr}
 use Rattle.std.specs.Prelude.{◌==◌, if◌then◌else◌, Result, Ok, Err, Option, Some, None}
 use Rattle.std.specs.List.{flat_map}
 use Rattle.std.proofs.Math.Dec.{eqb-suc-zero}
@@ -25,11 +26,17 @@ use Rattle.sd_control.specs.declared.part.SidPart.TheVariants as sid_part
 use Rattle.sd_sddl_reader.specs.declared.line.Slot.{Slot}
 use Rattle.sd_sddl_reader.specs.declared.line.Slot.TheVariants as slot
 use Rattle.sd_sddl_fields.specs.Held.{Held, IsHeld, no_text, held_text}
-use Rattle.sd_sddl_reader.specs.Line.{is_paired, Piece, byte, ace, pieces_from, sections, Section, Sections, is_sid_body, are_aces, is_acl_body, are_shaped, cut_at_semicolons, front, aces, has_aces, has_twice, has_head, head_at, head_of, sections_of, begins_with_colon, part_of_head, same_head, is_body}
+use Rattle.sd_sddl_reader.specs.Line.{is_paired, Piece, byte, ace, pieces_from, sections, Section, Sections}
+use Rattle.sd_sddl_reader.specs.Line.{is_sid_body, are_aces, is_acl_body, are_shaped, cut_at_semicolons, front, aces}
+use Rattle.sd_sddl_reader.specs.Line.{has_aces, has_twice, has_head, head_at, head_of, sections_of, begins_with_colon}
+use Rattle.sd_sddl_reader.specs.Line.{part_of_head, same_head, is_body}
 use Rattle.sd_sddl_fields.specs.FieldTexts.{is_blank}
-use Rattle.sd_sddl_reader.specs.FoldedReading.{Field, FieldsRead, ace_fields, ace_fields_from, fields_in, fields_of, next_field, nothing_read, read_fields, reads_as, take_field, if_shaped}
+use Rattle.sd_sddl_reader.specs.FoldedReading.{Field, FieldsRead, ace_fields, ace_fields_from, fields_in, fields_of}
+use Rattle.sd_sddl_reader.specs.FoldedReading.{next_field, nothing_read, read_fields, reads_as, take_field, if_shaped}
 use Rattle.sd_text.specs.Chains.{and_then, unless}
-use Rattle.sd_sddl_reader.specs.Inner.Progress.{Seen, is_inside, fields_left, is_shaped_here, text_with, inner_with, fields_here, is_seen, with_head, has_seen, judged, rest_answer, state_of, ended_with}
+use Rattle.sd_sddl_reader.specs.Inner.Progress.{Seen, is_inside, fields_left, is_shaped_here, text_with, inner_with}
+use Rattle.sd_sddl_reader.specs.Inner.Progress.{fields_here, is_seen, with_head, has_seen, judged, rest_answer}
+use Rattle.sd_sddl_reader.specs.Inner.Progress.{state_of, ended_with}
 use Rattle.sd_sddl_reader.proofs.FieldTexts.{Same, same_reads, text_ended, inner_ended}
 
 -- 1. Small facts.

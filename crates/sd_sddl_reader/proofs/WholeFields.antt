@@ -1,5 +1,6 @@
 -- An ACE that stands whole in what comes, read where it stands.
-use Rattle.std.proofs.Common.{◌≡◌, ℕ, ◌≤◌, Bool, true, false, List, [], ◌∷◌, ◌++◌, length, Ok, Err, Some, None, refl, ap, sym, ◌∙◌, subst, arith, append_assoc}
+use Rattle.std.proofs.Common.{◌≡◌, ℕ, ◌≤◌, Bool, true, false, List, [], ◌∷◌, ◌++◌, length, Ok, Err, Some, None, refl}
+use Rattle.std.proofs.Common.{ap, sym, ◌∙◌, subst, arith, append_assoc}
 use Rattle.std.specs.Prelude.{Result, Option}
 use Rattle.std.specs.List.{list_all}
 use Rattle.sd_sid.specs.Sid.{SecurityId}
@@ -19,7 +20,8 @@ use Rattle.sd_sddl_fields.specs.Held.{IsHeld, is_plain_inside, no_text}
 use Rattle.sd_sddl_reader.specs.Inner.Progress.{Seen, rest_answer, end_of, state_after}
 use Rattle.sd_sddl_reader.specs.Inner.Reads.{AreAceFields, FedTo, Fits, IsReader, LineHasRead, Steps}
 use Rattle.sd_sddl_reader.specs.declared.reader.SddlReader.{SddlReader}
-use Rattle.sd_sddl_reader.specs.Inner.WholeAce.{AceTexts, EndsAce, AreWhole, TakesAce, ace_before, with_field, with_texts}
+use Rattle.sd_sddl_reader.specs.Inner.WholeAce.{AceTexts, EndsAce, AreWhole, TakesAce, ace_before, with_field}
+use Rattle.sd_sddl_reader.specs.Inner.WholeAce.{with_texts}
 use Rattle.sd_sddl_fields.specs.FieldFronts.{FieldAt, ObjectsAt}
 use Rattle.sd_text.specs.Chains.{and_then, unless}
 use Rattle.sd_sddl_reader.specs.Meaning.{is_unreadable}

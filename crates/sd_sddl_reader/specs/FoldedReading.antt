@@ -1,7 +1,8 @@
 -- A second form of what a line means: field by field from the left, each onto what was read so far, which is kept as a
 -- builder keeps it. Nobody has to believe it: `folded-means` (proofs/laws/FoldedMeaning.antt) proves that it is `means`.
 -- Laws about printed lines cite it.
-use Rattle.std.specs.Prelude.{ℕ, ◌&&◌, Bool, true, false, nat_lt, if◌then◌else◌, List, [], ◌∷◌, ◌++◌, Option, Some, None, Result, Ok, Err}
+use Rattle.std.specs.Prelude.{ℕ, ◌&&◌, Bool, true, false, nat_lt, if◌then◌else◌, List, [], ◌∷◌, ◌++◌, Option, Some}
+use Rattle.std.specs.Prelude.{None, Result, Ok, Err}
 use Rattle.std.specs.List.{flat_map}
 use Rattle.sd_text.specs.Limits.{most_acl}
 use Rattle.sd_ace.specs.Ace.{AccessControlEntry}
@@ -22,7 +23,8 @@ use Rattle.sd_control.specs.Control.{no_flags}
 use Rattle.sd_control.specs.declared.control.AclFlags.{AclFlags}
 use Rattle.std.specs.Option.{option_or}
 use Rattle.sd_sddl_fields.specs.FieldTexts.{front_reads, kind_reads, object_reads}
-use Rattle.sd_sddl_reader.specs.Line.{Piece, Section, aces, cut_at_semicolons, front, has_aces, has_twice, is_shaped, sections_of, trim}
+use Rattle.sd_sddl_reader.specs.Line.{Piece, Section, aces, cut_at_semicolons, front, has_aces, has_twice, is_shaped}
+use Rattle.sd_sddl_reader.specs.Line.{sections_of, trim}
 use Rattle.sd_text.specs.Chains.{and_then}
 use Rattle.sd_sddl_reader.specs.Meaning.{control_flags, is_unreadable, unless_large}
 use Rattle.sd_sddl_reader.specs.declared.fault.SddlFault.{SddlFault}

@@ -1,6 +1,7 @@
 -- A line of SDDL as a whole (MS-DTYP 2.5.1): its parentheses, its heads, and the texts of its fields. The
 -- parts may stand in any order, with blanks around them.
-use Rattle.std.specs.Prelude.{ℕ, Bool, true, false, ◌&&◌, ◌||◌, not, ◌==◌, if◌then◌else◌, List, [], ◌∷◌, length, drop, Option, Some, None}
+use Rattle.std.specs.Prelude.{ℕ, Bool, true, false, ◌&&◌, ◌||◌, not, ◌==◌, if◌then◌else◌, List, [], ◌∷◌, length, drop}
+use Rattle.std.specs.Prelude.{Option, Some, None}
 use Rattle.std.specs.List.{list_all}
 use Rattle.std.specs.Str.{byte as char}
 use Rattle.sd_text.specs.Cuts.{Cuts, all_cuts, cut_at}

@@ -1,5 +1,6 @@
 -- What a line of SDDL means (MS-DTYP 2.5.1): the descriptor that its parts give, or the first fault.
-use Rattle.std.specs.Prelude.{ℕ, ◌+◌, ◌||◌, not, Bool, true, false, nat_lt, if◌then◌else◌, List, [], ◌∷◌, length, Option, Some, None, Result, Ok, Err}
+use Rattle.std.specs.Prelude.{ℕ, ◌+◌, ◌||◌, not, Bool, true, false, nat_lt, if◌then◌else◌, List, [], ◌∷◌, length}
+use Rattle.std.specs.Prelude.{Option, Some, None, Result, Ok, Err}
 use Rattle.std.specs.List.{list_any}
 use Rattle.std.specs.Option.{ok_or, option_map}
 use Rattle.sd_text.specs.Chains.{◌>>=◌, unless, fault_as}
@@ -22,7 +23,8 @@ use Rattle.sd_control.specs.declared.part.Which.TheVariants as which
 use Rattle.sd_control.specs.declared.control.AclFlags.{AclFlags}
 use Rattle.sd_control.specs.declared.control.TheConstants.{DACL_PRESENT, SACL_PRESENT, SELF_RELATIVE}
 use Rattle.sd_sddl_fields.specs.FieldTexts.{front_reads, kind_reads, object_reads}
-use Rattle.sd_sddl_reader.specs.Line.{Piece, Section, ace_cuts, aces, front, has_aces, has_twice, is_shaped, sections_of, same_head, trim}
+use Rattle.sd_sddl_reader.specs.Line.{Piece, Section, ace_cuts, aces, front, has_aces, has_twice, is_shaped}
+use Rattle.sd_sddl_reader.specs.Line.{sections_of, same_head, trim}
 use Rattle.sd_sddl_fields.specs.FieldTexts.{is_blank}
 use Rattle.sd_sddl_reader.specs.declared.fault.SddlFault.{SddlFault}
 use Rattle.sd_sddl_reader.specs.declared.fault.SddlFault.TheVariants as fault

@@ -17,7 +17,7 @@ pub enum SddlFault {
     Flags,
     /// 27: an access mask does not read.
     Rights,
-    /// 28: an object type does not read, or stands in a kind of ACE that has none.
+    /// 28: an object type is no GUID, or the kind of ACE has none.
     Guid,
     /// 29: there is no such kind of ACE.
     Kind,

@@ -35,13 +35,13 @@ pub enum AceField {
 pub enum Slot {
     /// An owner or a group.
     Sid(SidPart),
-    /// What stands in an ACL before its ACEs, and whether there are ACEs.
+    /// The text of an ACL before its ACEs, and whether there are ACEs.
     AclFlags(Which, bool),
     /// A field of an ACE of the ACL at hand.
     Ace(AceField),
 }
 
-/// Where in a line the next byte stands.
+/// Where in a line the next byte is.
 #[derive(Clone, Copy)]
 pub enum State {
     /// Before the first head.

@@ -1,4 +1,4 @@
-//! A line, read as it comes: byte by byte, and together what stands whole in a piece.
+//! A line, read as it comes: byte by byte, or at once what is whole in a piece.
 
 ghost use Rattle.std.specs.Prelude.{◌≡◌, ◌≤◌, ℕ, List, [], ◌∷◌, ◌++◌, codes, length, take, ◌||◌, if◌then◌else◌, true};
 ghost use Rattle.std.specs.Prelude.{false, Option, Some, None, Ok, Err, IfOk, IfSome, OnErr, MatchResult};
@@ -321,7 +321,7 @@ impl SddlReader {
         }
     }
 
-    // Takes the ACEs that stand whole at the front of the text, from behind the first parenthesis of the first one, and
+    // Takes the ACEs that are whole at the front of the text, from behind the first parenthesis of the first one, and
     // answers what follows them.
     fn feed_aces<'a>(&mut self, buf: &mut SdBuf, text: &'a [u8]) -> &'a [u8]
         requires { IsReader self.old buf.old }
@@ -494,7 +494,7 @@ fn take_held(
     }
 }
 
-// The limits of the domain: its size tells that it keeps them.
+// The limits of the domain: its size shows that it keeps them.
 fn note_limits(domain: Option<&Sid>)
     ensures { IfSome (option_copied domain.entry) IsSid }
 {

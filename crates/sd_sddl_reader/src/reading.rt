@@ -23,7 +23,7 @@ use sd_sddl_fields::{
 use sd_sid::{Sid, SidFault};
 use uuid::Uuid;
 
-/// The fields of an ACE that stand before its SID.
+/// The fields of an ACE before its SID.
 #[derive(Clone, Copy)]
 pub struct AceFields {
     pub kind: AceKind,
@@ -136,7 +136,7 @@ impl FieldReader {
         self.open_acl = None;
     }
 
-    // What stands in an ACL before its ACEs.
+    // The text of an ACL before its ACEs.
     #[tactic(auto, unfolding(crate::specs::FoldedReading::take_front))]
     fn take_front(
         &mut self,

@@ -1,5 +1,7 @@
 -- The letters, digits and dashes at the front of a text.
-use Rattle.std.proofs.Common.{◌≡◌, ℕ, ◌+◌, ◌≤◌, Bool, true, false, ◌&&◌, List, [], ◌∷◌, ◌++◌, length, take, drop, get_or, Some, refl, ap, subst, take-append-drop, sym, ◌∙◌, arith, append-nil, length-append}
+use Rattle.std.proofs.Common.{◌≡◌, ℕ, ◌+◌, ◌≤◌, Bool, true, false, ◌&&◌, List, [], ◌∷◌, ◌++◌, length, take, drop}
+use Rattle.std.proofs.Common.{get_or, Some, refl, ap, subst, take-append-drop, sym, ◌∙◌, arith, append-nil}
+use Rattle.std.proofs.Common.{length-append}
 use Rattle.std.proofs.lemmas.List.{length-take-le}
 use Rattle.std.specs.Prelude.{◌==◌, nat_le, nat_lt, not}
 use Rattle.std.specs.Char.{is_ascii_alphabetic, is_digit, to_ascii_uppercase}
@@ -7,7 +9,8 @@ use Rattle.std.specs.List.{list_all}
 use Rattle.std.proofs.lemmas.Bool.Decides.{nat_tests}
 use Rattle.std.proofs.lemmas.List.Sums.{take_while-cons}
 use Rattle.std.proofs.lemmas.Bool.{and_parts}
-use Rattle.sd_sid.specs.SidText.{are_letters, are_numbers, begins_with_s1, has_form, is_sid_byte, cut_at_dashes, sid_front}
+use Rattle.sd_sid.specs.SidText.{are_letters, are_numbers, begins_with_s1, has_form, is_sid_byte, cut_at_dashes}
+use Rattle.sd_sid.specs.SidText.{sid_front}
 use Rattle.sd_text.specs.Numbers.{number_after}
 use Rattle.sd_sid.proofs.laws.TextLaws.{cut-digits}
 use Rattle.sd_sid.proofs.UsualNumbers.{digits}

@@ -1,5 +1,6 @@
 -- The text of a SID, from the last sub-authority to the first.
-use Rattle.std.proofs.Common.{◌≡◌, ◌≤◌, ◌<◌, ℕ, suc, refl, slice_index, codes, drop, drop-cons, take, take_all, sym, ◌-◌, List, [], ◌∷◌, ◌++◌, length, ap, ◌∙◌, arith}
+use Rattle.std.proofs.Common.{◌≡◌, ◌≤◌, ◌<◌, ℕ, suc, refl, slice_index, codes, drop, drop-cons, take, take_all, sym}
+use Rattle.std.proofs.Common.{◌-◌, List, [], ◌∷◌, ◌++◌, length, ap, ◌∙◌, arith}
 use Rattle.std.specs.List.{flat_map}
 use Rattle.std.specs.Fmt.{decimal, digits}
 use Rattle.sd_sid.specs.Sid.{SecurityId}

@@ -6,7 +6,8 @@ ghost use Rattle.std.specs.List.{find, list_all};
 ghost use Rattle.std.specs.Option.{option_copied, option_map};
 ghost use Rattle.std.specs.Str.{bytes_eq};
 ghost use Rattle.sd_sid.specs.AliasValues.{KnownAliases, RelativeAliases};
-ghost use Rattle.sd_sid.specs.SidText.{alias_of, known_alias, known_sid, known_named, letters_read, relative_alias, relative_named, same_sid, sid_reads, usable};
+ghost use Rattle.sd_sid.specs.SidText.{alias_of, known_alias, known_sid, known_named, letters_read, relative_alias};
+ghost use Rattle.sd_sid.specs.SidText.{relative_named, same_sid, sid_reads, usable};
 ghost use Rattle.sd_sid.specs.Inner.Places.{place_of};
 ghost use Rattle.sd_sid.specs.Inner.Read.{IsRead};
 
@@ -24,7 +25,7 @@ const NT: u64 = 5;
 /// The first sub-authority of the groups that each machine has.
 const BUILTIN: u32 = 32;
 
-/// Where the names of SIDs `S-1-5-N` begin in the table of names that stand everywhere, and where they end.
+/// Where the names of SIDs `S-1-5-N` begin in the table of well-known names, and where they end.
 const NT_NAMES: usize = 4;
 
 const NT_NAMES_END: usize = 16;
@@ -34,7 +35,7 @@ const BUILTIN_NAMES: usize = 17;
 
 const BUILTIN_NAMES_END: usize = 41;
 
-/// A name, and the SID that it stands for everywhere.
+/// A name, and the SID that it means everywhere.
 #[derive(Clone, Copy)]
 pub struct WellKnown {
     pub first: u8,
@@ -45,7 +46,7 @@ pub struct WellKnown {
     pub count: usize,
 }
 
-/// A name, and the last sub-authority of the SID that it stands for in a domain.
+/// A name, and the last sub-authority of the SID that it means in a domain.
 #[derive(Clone, Copy)]
 pub struct DomainRelative {
     pub first: u8,
@@ -101,7 +102,7 @@ fn known_alias(sid: &Sid) -> Option<[u8; 2]>
 fn known_entry(sid: &Sid) -> Option<WellKnown>
     ensures { result ≡ find (λ e. same_sid (known_sid e) sid.now) WELL_KNOWN }
 {
-    // Most SIDs are of a domain, with five sub-authorities; no name stands for one with three to five.
+    // Most SIDs are of a domain, with five sub-authorities; no name means one with three to five.
     let count = sid.subs().len();
     if 3 <= count && count <= 5 {
         return None;
@@ -253,7 +254,7 @@ macro_rules! relative {
     };
 }
 
-/// The names that stand for one SID everywhere (MS-DTYP 2.4.2.4).
+/// The names that mean one SID everywhere (MS-DTYP 2.4.2.4).
 pub const WELL_KNOWN: [WellKnown; 49] = [
     known!(b'W', b'D', 1, 1, [0, 0, 0, 0, 0, 0]),
     known!(b'C', b'O', 3, 1, [0, 0, 0, 0, 0, 0]),
@@ -306,7 +307,7 @@ pub const WELL_KNOWN: [WellKnown; 49] = [
     known!(b'S', b'S', 18, 1, [2, 0, 0, 0, 0, 0]),
 ];
 
-/// The names that stand for a SID in each domain, by its last sub-authority (MS-DTYP 2.4.2.4).
+/// The names that mean a SID in each domain, by its last sub-authority (MS-DTYP 2.4.2.4).
 pub const DOMAIN_RELATIVE: [DomainRelative; 17] = [
     relative!(b'R', b'O', 498),
     relative!(b'L', b'A', 500),

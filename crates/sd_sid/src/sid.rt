@@ -1,6 +1,7 @@
 //! Security identifiers (MS-DTYP 2.4.2).
 
-ghost use Rattle.std.specs.Prelude.{◌≡◌, ◌≤◌, ◌<◌, ◌+◌, ◌*◌, ◌^◌, ◌↔◌, [], ◌∷◌, ◌++◌, length, slice_index, IsSome, IfSome, Some};
+ghost use Rattle.std.specs.Prelude.{◌≡◌, ◌≤◌, ◌<◌, ◌+◌, ◌*◌, ◌^◌, ◌↔◌, [], ◌∷◌, ◌++◌, length, slice_index, IsSome};
+ghost use Rattle.std.specs.Prelude.{IfSome, Some};
 ghost use Rattle.sd_text.specs.Limits.{most_subs};
 ghost use Rattle.sd_sid.specs.Sid.{SecurityId, IsSid, BeginsWithSid, sid_at, sid_of, sid_size};
 
@@ -104,9 +105,9 @@ impl Sid {
     /// The SID at the front of the bytes, and its size in bytes (MS-DTYP 2.4.2.2). None where the
     /// revision is not 1, the count is over 15 or the bytes end too soon.
     pub fn read(bytes: &[u8]) -> Option<(Sid, usize)>
-        // What is found stands there.
+        // What is found is there.
         ensures found { IfSome result (λ r. BeginsWithSid bytes.now r.0 × (r.1 ≡ sid_size r.0)) }
-        // What stands there is found, and nothing else stands there.
+        // What is there is found, and nothing else is there.
         ensures only { (s : SecurityId) → BeginsWithSid bytes.now s → result ≡ Some (s, sid_size s) }
         // The same as a function of the bytes.
         ensures exact { result ≡ sid_at bytes.now }

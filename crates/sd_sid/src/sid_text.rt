@@ -1,5 +1,6 @@
 //! The texts of SIDs (MS-DTYP 2.4.2.1).
-ghost use Rattle.std.specs.Prelude.{◌≡◌, false, true, ◌+◌, ◌*◌, ◌<◌, ◌≤◌, ◌^◌, [], ◌∷◌, length, take, drop, slice_index, nat_lt, if◌then◌else◌, IfSome, MatchOption, Option, None, Ok, Err};
+ghost use Rattle.std.specs.Prelude.{◌≡◌, false, true, ◌+◌, ◌*◌, ◌<◌, ◌≤◌, ◌^◌, [], ◌∷◌, length, take, drop};
+ghost use Rattle.std.specs.Prelude.{slice_index, nat_lt, if◌then◌else◌, IfSome, MatchOption, Option, None, Ok, Err};
 ghost use Rattle.std.specs.Char.{is_digit};
 ghost use Rattle.std.specs.List.{flat_map, list_all};
 ghost use Rattle.std.specs.Option.{option_copied, option_map};
@@ -10,7 +11,10 @@ ghost use Rattle.sd_text.specs.Limits.{most_subs};
 ghost use Rattle.sd_text.specs.Numbers.{number};
 ghost use Rattle.sd_text.specs.Cuts.{all_cuts};
 ghost use Rattle.sd_sid.specs.Inner.Read.{IsRead};
-ghost use Rattle.sd_sid.specs.SidText.{decimals_read, are_letters, are_numbers, are_subs, authority_reads, authority_text, begins_with_s1, decimal_reads, has_form, is_decimal, is_hex, is_sid_byte, numbers_read, or_number_fault, cut_at_dashes, sid_front, sid_reads, sid_text, sub_text};
+ghost use Rattle.sd_sid.specs.SidText.{decimals_read, are_letters, are_numbers, are_subs, authority_reads};
+ghost use Rattle.sd_sid.specs.SidText.{authority_text, begins_with_s1, decimal_reads, has_form, is_decimal, is_hex};
+ghost use Rattle.sd_sid.specs.SidText.{is_sid_byte, numbers_read, or_number_fault, cut_at_dashes, sid_front, sid_reads};
+ghost use Rattle.sd_sid.specs.SidText.{sid_text, sub_text};
 
 use crate::alias::read_letters;
 use crate::sid::Sid;
@@ -157,7 +161,7 @@ fn front_size(text: &[u8]) -> usize
 pub(crate) fn is_sid_byte(byte: u8) -> bool
     ensures { result ≡ is_sid_byte byte }
 {
-    // Most texts end before a byte that the first test tells.
+    // Most texts end before a byte that the first test finds.
     b'-' <= byte && (byte == b'-' || byte.is_ascii_alphanumeric())
 }
 
@@ -170,7 +174,7 @@ fn begins_as_sid(text: &[u8]) -> bool
     }
 }
 
-// Whether what stands at the front is two letters.
+// Whether two letters are at the front.
 fn front_is_letters(text: &[u8]) -> bool
     ensures letters { result ≡ are_letters (sid_front text.now) }
     ensures two { result ≡ true → sid_front text.now ≡ slice_index text.now 0 ∷ slice_index text.now 1 ∷ [] }
@@ -246,7 +250,7 @@ pub(crate) fn begins_with_s1(text: &[u8]) -> bool
     (text[0] == b'S' || text[0] == b's') && text[1] == b'-' && text[2] == b'1' && text[3] == b'-'
 }
 
-// Whether an authority and then at most 15 numbers stand between the dashes.
+// Whether an authority and then at most 15 numbers are between the dashes.
 fn are_numbers(text: &[u8]) -> bool
     ensures { result ≡ are_numbers (cut_at_dashes text.now) }
 {
@@ -278,7 +282,7 @@ fn are_subs(text: &[u8]) -> bool
     }
 }
 
-// What stands before the first dash, and what follows it.
+// What comes before the first dash, and what follows it.
 fn cut(text: &[u8]) -> (&[u8], Option<&[u8]>)
     ensures cut { MatchOption result.1 (cut_at_dashes text.now ≡ record { first = result.0.now; others = [] })
         (λ rest. cut_at_dashes text.now ≡ record { first = result.0.now; others = all_cuts (cut_at_dashes rest.now) }) }

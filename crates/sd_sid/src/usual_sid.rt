@@ -1,11 +1,13 @@
 //! The usual text of a SID, with decimal numbers alone, read in one pass from the front of a longer text.
 
-ghost use Rattle.std.specs.Prelude.{◌≡◌, ◌≤◌, ◌<◌, ◌+◌, ◌^◌, [], List, ℕ, length, take, drop, true, IfSome, MatchOption, Some};
+ghost use Rattle.std.specs.Prelude.{◌≡◌, ◌≤◌, ◌<◌, ◌+◌, ◌^◌, [], List, ℕ, length, take, drop, true, IfSome};
+ghost use Rattle.std.specs.Prelude.{MatchOption, Some};
 ghost use Rattle.std.specs.Char.{is_digit};
 ghost use Rattle.std.specs.List.{list_all};
 ghost use Rattle.sd_text.specs.Numbers.{number_after};
 ghost use Rattle.sd_text.specs.Cuts.{all_cuts};
-ghost use Rattle.sd_sid.specs.SidText.{decimals_read, are_numbers, are_subs, decimal_reads, has_form, is_decimal, numbers_read, cut_at_dashes, sid_front};
+ghost use Rattle.sd_sid.specs.SidText.{decimals_read, are_numbers, are_subs, decimal_reads, has_form, is_decimal};
+ghost use Rattle.sd_sid.specs.SidText.{numbers_read, cut_at_dashes, sid_front};
 
 use crate::sid::Sid;
 use crate::sid_text::{begins_with_s1, is_sid_byte};
@@ -18,7 +20,7 @@ const ZERO: u64 = b'0' as u64;
 
 const NINE: u64 = b'9' as u64;
 
-/// The digits that are read at once, where as many stand there.
+/// The digits that are read at once, if there are as many.
 const BLOCK: usize = 8;
 
 /// Reads a SID in its usual form, with all numbers decimal and below 2^32, and returns its length. `None` means only
@@ -55,7 +57,7 @@ fn usual_numbers(text: &[u8], sid: &mut Sid) -> Option<usize>
     Some(text.len() - rest.len())
 }
 
-// Appends the numbers that stand behind dashes to a SID that has none, and gives what follows them.
+// Appends the numbers after dashes to a SID that has none, and returns what follows them.
 #[inline(always)]
 fn usual_subs<'a>(text: &'a [u8], sid: &mut Sid) -> Option<&'a [u8]>
     requires none { sid.old.subs ≡ [] }
@@ -77,7 +79,7 @@ fn usual_subs<'a>(text: &'a [u8], sid: &mut Sid) -> Option<&'a [u8]>
     Some(rest)
 }
 
-// What follows the dash at the front. None where nothing of a SID stands there.
+// What follows the dash at the front. None if nothing of a SID is there.
 #[inline(always)]
 fn behind_dash(text: &[u8]) -> Option<&[u8]>
     requires ends { (cut_at_dashes (sid_front text.now)).first ≡ [] }
@@ -109,7 +111,7 @@ fn front_number(text: &[u8]) -> Option<(u32, &[u8])>
     Some((number as u32, after))
 }
 
-// Whether a dash stands at the front, or what is of no SID.
+// Whether a dash is at the front, or what is of no SID.
 #[inline(always)]
 fn ends_number(text: &[u8]) -> bool
     ensures { result ≡ true → (cut_at_dashes (sid_front text.now)).first ≡ [] }

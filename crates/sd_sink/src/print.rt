@@ -7,7 +7,7 @@ use crate::sink::SinkFault;
 
 /// Prints texts, and remembers a failure: after it nothing is handed down.
 pub trait Print {
-    /// What it holds, what the sink below it tells, and whether a call failed.
+    /// What it holds, what a contract sees of the sink below it, and whether a call failed.
     ghost told: { Self → PrintTold };
 
     /// Prints the bytes.

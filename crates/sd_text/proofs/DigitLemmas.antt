@@ -1,5 +1,7 @@
 -- The texts of numbers, from the last digit to the first.
-use Rattle.std.proofs.Common.{◌≡◌, ◌≤◌, ◌<◌, ℕ, List, zero, suc, false, true, Bool, ◌&&◌, get_or, eqb-true, eq-zero-or-pos, inl, inr, ◌-◌, ◌+◌, ◌*◌, ◌/◌, ◌%◌, ◌^◌, [], ◌∷◌, ◌++◌, length, take, drop, slice_set, ap, sym, refl, ◌∙◌, arith, append_assoc, append-nil, length-append}
+use Rattle.std.proofs.Common.{◌≡◌, ◌≤◌, ◌<◌, ℕ, List, zero, suc, false, true, Bool, ◌&&◌, get_or, eqb-true}
+use Rattle.std.proofs.Common.{eq-zero-or-pos, inl, inr, ◌-◌, ◌+◌, ◌*◌, ◌/◌, ◌%◌, ◌^◌, [], ◌∷◌, ◌++◌, length, take, drop}
+use Rattle.std.proofs.Common.{slice_set, ap, sym, refl, ◌∙◌, arith, append_assoc, append-nil, length-append}
 use Rattle.std.proofs.Math.Seq.{take-append_seam}
 use Rattle.std.proofs.lemmas.List.{drop-set, take-take}
 use Rattle.std.specs.Fmt.{decimal, digit_glyph}

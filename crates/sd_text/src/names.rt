@@ -1,4 +1,4 @@
-//! Names of two letters that stand for bits.
+//! Names of two letters for bits.
 
 ghost use Rattle.std.specs.Prelude.{◌≡◌, ◌≤◌, length, take};
 ghost use Rattle.std.specs.List.{flat_map};
@@ -7,7 +7,7 @@ ghost use Rattle.sd_sink.specs.Print.{Prints};
 
 use sd_sink::{FRONT, Print};
 
-/// A name of two capital letters, and the bits that it stands for.
+/// A name of two capital letters, and the bits that it means.
 #[derive(Clone, Copy)]
 pub struct NamedBits {
     pub first: u8,

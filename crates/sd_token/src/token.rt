@@ -105,7 +105,7 @@ impl Token {
         self.entries.len()
     }
 
-    /// Gives the token an integrity level (MS-DTYP 2.5.2), or takes it away. Mandatory labels limit a token with a
+    /// Sets or clears the integrity level of the token (MS-DTYP 2.5.2). Mandatory labels limit a token with a
     /// level alone.
     pub fn set_level(&mut self, level: Option<u32>)
         ensures holder { self.new.holder ≡ record self.old.holder { level = level } }

@@ -1,11 +1,14 @@
 -- An extent shows an ACL exactly where it has no fault, and then it is the one that reading gives.
-use Rattle.std.proofs.Common.{◌≡◌, ◌≤◌, ◌<◌, ◌⊎◌, inl, inr, ℕ, zero, suc, ◌+◌, ◌/◌, ◌%◌, ◌^◌, ◌||◌, ◌&&◌, Bool, true, false, not, cond, eqb, ltb, List, [], ◌∷◌, ◌++◌, length, take, drop, slice_index, Option, Some, None, IfSome, refl, sym, ap, ◌∙◌, subst, rules, arith, length-append, length-drop}
+use Rattle.std.proofs.Common.{◌≡◌, ◌≤◌, ◌<◌, ◌⊎◌, inl, inr, ℕ, zero, suc, ◌+◌, ◌/◌, ◌%◌, ◌^◌, ◌||◌, ◌&&◌, Bool, true}
+use Rattle.std.proofs.Common.{false, not, cond, eqb, ltb, List, [], ◌∷◌, ◌++◌, length, take, drop, slice_index, Option}
+use Rattle.std.proofs.Common.{Some, None, IfSome, refl, sym, ap, ◌∙◌, subst, rules, arith, length-append, length-drop}
 use Rattle.std.specs.Prelude.{is_some, unwrap_or}
 use Rattle.std.specs.List.{All, AllByRecursion}
 use Rattle.std.proofs.lemmas.Bool.Decides.{nat_tests}
 use Rattle.std.proofs.lemmas.Bool.{cases_eq, eqb-true, not-false, ltb-false, le-ltb}
 use Rattle.std.proofs.lemmas.List.Elements.{All-from_recursion}
-use Rattle.std.proofs.lemmas.List.{take-append-drop, take_at, drop_at, drop-append-le, get_or-take, get_or_append_left, length-take-le}
+use Rattle.std.proofs.lemmas.List.{take-append-drop, take_at, drop_at, drop-append-le, get_or-take, get_or_append_left}
+use Rattle.std.proofs.lemmas.List.{length-take-le}
 use Rattle.byteorder.specs.Endian.{little_number}
 use Rattle.byteorder.specs.Numbers.{little_from-append, little_from-lt}
 use Rattle.uuid.specs.Parts.{swap_fields}
@@ -23,7 +26,8 @@ use Rattle.sd_view.specs.declared.fault.AclFault.TheVariants as faults
 use Rattle.sd_view.specs.Ace.{ShowsAce, ShowsGuid, announces_inherited, announces_object}
 use Rattle.sd_view.specs.Acl.{BeginsWithAcl, IsAcl, ShowsAces, ShowsAcl, acl_size, aces_size}
 use Rattle.std.specs.Option.{option_or}
-use Rattle.sd_view.specs.AclReading.{ace_fault, ace_of, aces_fault, aces_of, acl_fault, acl_of, acl_at_front, guid_if, inherited_in, kind_in, object_in, extent_fault, sid_offset_in}
+use Rattle.sd_view.specs.AclReading.{ace_fault, ace_of, aces_fault, aces_of, acl_fault, acl_of, acl_at_front, guid_if}
+use Rattle.sd_view.specs.AclReading.{inherited_in, kind_in, object_in, extent_fault, sid_offset_in}
 use Rattle.sd_view.specs.Inner.ReadableAcl.{IsReadableAce, IsReadableAcl}
 use Rattle.sd_view.proofs.FirstFault.{first_none, went_on, passed}
 

@@ -1,5 +1,6 @@
 -- The GUIDs and the SID of an ACE in its extent.
-use Rattle.std.proofs.Common.{◌≡◌, ◌≤◌, ◌/◌, ◌%◌, ◌+◌, ◌&&◌, ◌++◌, Bool, true, false, cond, eqb, ℕ, List, length, take, drop, slice_index, refl, sym, ap, ◌∙◌, arith, append_assoc, length-append, length-drop}
+use Rattle.std.proofs.Common.{◌≡◌, ◌≤◌, ◌/◌, ◌%◌, ◌+◌, ◌&&◌, ◌++◌, Bool, true, false, cond, eqb, ℕ, List, length, take}
+use Rattle.std.proofs.Common.{drop, slice_index, refl, sym, ap, ◌∙◌, arith, append_assoc, length-append, length-drop}
 use Rattle.std.proofs.lemmas.List.{drop-drop, get_or-drop, length-take-le, take-append-drop, take_at}
 use Rattle.uuid.specs.Parts.{swap_fields}
 use Rattle.uuid.proofs.RoundTrips.{swap_twice}

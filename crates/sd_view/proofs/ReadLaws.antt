@@ -1,5 +1,7 @@
 -- Bytes show a descriptor exactly where they have no fault, and then it is the one that reading gives.
-use Rattle.std.proofs.Common.{◌≡◌, ◌≤◌, ◌<◌, ◌⊎◌, inl, inr, ℕ, ◌+◌, ◌*◌, ◌^◌, ◌||◌, ◌&&◌, ◌++◌, Bool, true, false, cond, eqb, ltb, List, length, take, drop, slice_index, Option, Some, None, Ok, Err, refl, sym, ap, ◌∙◌, subst, arith, length-append, length-drop}
+use Rattle.std.proofs.Common.{◌≡◌, ◌≤◌, ◌<◌, ◌⊎◌, inl, inr, ℕ, ◌+◌, ◌*◌, ◌^◌, ◌||◌, ◌&&◌, ◌++◌, Bool, true, false, cond}
+use Rattle.std.proofs.Common.{eqb, ltb, List, length, take, drop, slice_index, Option, Some, None, Ok, Err, refl, sym}
+use Rattle.std.proofs.Common.{ap, ◌∙◌, subst, arith, length-append, length-drop}
 use Rattle.std.specs.Prelude.{is_some, option_map, IfSome}
 use Rattle.std.proofs.lemmas.Bool.Decides.{nat_tests}
 use Rattle.std.proofs.lemmas.Bool.{cases_eq, cases_lt, eqb-true, eq-eqb, not-false, or_parts, ltb-false, le-ltb}
@@ -18,9 +20,11 @@ use Rattle.sd_view.specs.declared.acl.AclPart.TheVariants as acl
 use Rattle.sd_ace.specs.Ace.{AccessControlEntry}
 use Rattle.sd_view.specs.Acl.{BeginsWithAcl}
 use Rattle.sd_view.specs.AclReading.{acl_fault, acl_of, acl_at_front}
-use Rattle.sd_view.specs.Descriptor.{Apart, AreApart, Descriptor, Extent, IsAclPart, IsDescriptor, Shows, ShowsAclPart, ShowsSid, control_at, dacl_at, extents_of, group_at, owner_at, sacl_at}
+use Rattle.sd_view.specs.Descriptor.{Apart, AreApart, Descriptor, Extent, IsAclPart, IsDescriptor, Shows, ShowsAclPart}
+use Rattle.sd_view.specs.Descriptor.{ShowsSid, control_at, dacl_at, extents_of, group_at, owner_at, sacl_at}
 use Rattle.sd_control.specs.Control.{dacl_present, sacl_present, self_relative}
-use Rattle.sd_view.specs.Reading.{acl_part_fault, acl_shown, fault, fault_in, header_fault, overlap_fault, overlaps_fault, parts_fault, reading, share_a_byte, shown, sid_fault, sid_shown}
+use Rattle.sd_view.specs.Reading.{acl_part_fault, acl_shown, fault, fault_in, header_fault, overlap_fault}
+use Rattle.sd_view.specs.Reading.{overlaps_fault, parts_fault, reading, share_a_byte, shown, sid_fault, sid_shown}
 use Rattle.sd_view.specs.Inner.Readable.{IsAclAt, IsSidAt, Readable}
 use Rattle.sd_control.specs.Parts.{get_part, same_part}
 use Rattle.sd_control.specs.declared.part.Parts.{Parts}

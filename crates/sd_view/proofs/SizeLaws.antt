@@ -1,10 +1,12 @@
 -- No bytes that show a descriptor are fewer than its size says.
-use Rattle.std.proofs.Common.{◌≡◌, ◌≤◌, ◌⊎◌, inl, inr, ℕ, ◌+◌, Bool, List, length, drop, Option, Some, None, refl, ap, ◌∙◌, arith, length-append, length-drop}
+use Rattle.std.proofs.Common.{◌≡◌, ◌≤◌, ◌⊎◌, inl, inr, ℕ, ◌+◌, Bool, List, length, drop, Option, Some, None, refl, ap}
+use Rattle.std.proofs.Common.{◌∙◌, arith, length-append, length-drop}
 use Rattle.sd_ace.specs.Ace.{AccessControlEntry}
 use Rattle.sd_sid.specs.Sid.{SecurityId}
 use Rattle.sd_view.specs.Acl.{BeginsWithAcl, acl_size}
 use Rattle.sd_view.specs.Bytes.{u16_at}
-use Rattle.sd_view.specs.Descriptor.{Apart, AreApart, Descriptor, Extent, Shows, ShowsAclPart, ShowsSid, acl_extent, dacl_at, group_at, owner_at, sacl_at, sid_extent}
+use Rattle.sd_view.specs.Descriptor.{Apart, AreApart, Descriptor, Extent, Shows, ShowsAclPart, ShowsSid, acl_extent}
+use Rattle.sd_view.specs.Descriptor.{dacl_at, group_at, owner_at, sacl_at, sid_extent}
 use Rattle.sd_control.specs.Control.{dacl_present, sacl_present}
 use Rattle.sd_control.specs.declared.part.Part.TheVariants.{Owner, Group, Sacl, Dacl}
 use Rattle.sd_view.specs.Layout.{acl_part_size, sid_part_size, size}

@@ -1,5 +1,7 @@
 -- An ACL that has the header of its written form, and whose object flags are all named, stands in that form.
-use Rattle.std.proofs.Common.{◌≡◌, ◌≤◌, ℕ, zero, suc, ◌+◌, ◌/◌, ◌%◌, ◌||◌, ◌&&◌, Bool, true, false, not, cond, eqb, leb, List, [], ◌∷◌, ◌++◌, length, take, drop, slice_index, None, refl, sym, ap, ◌∙◌, arith, append_assoc, length-drop}
+use Rattle.std.proofs.Common.{◌≡◌, ◌≤◌, ℕ, zero, suc, ◌+◌, ◌/◌, ◌%◌, ◌||◌, ◌&&◌, Bool, true, false, not, cond, eqb, leb}
+use Rattle.std.proofs.Common.{List, [], ◌∷◌, ◌++◌, length, take, drop, slice_index, None, refl, sym, ap, ◌∙◌, arith}
+use Rattle.std.proofs.Common.{append_assoc, length-drop}
 use Rattle.std.specs.List.{flat_map}
 use Rattle.std.proofs.lemmas.Bool.Decides.{nat_tests}
 use Rattle.std.proofs.Math.Seq.{take-add}
@@ -13,7 +15,8 @@ use Rattle.sd_sid.proofs.laws.Numbers.{AreBytes, AreBytes-drop, AreBytes-take, b
 use Rattle.sd_view.specs.Bytes.{u16_at, u32_at}
 use Rattle.sd_view.specs.Ace.{ShowsAce, announces_inherited, announces_object}
 use Rattle.sd_view.specs.Acl.{acl_size, aces_size, has_object}
-use Rattle.sd_view.specs.AclLayout.{ace_body, ace_bytes, ace_front, acl_bytes, acl_header, flag_if, front_size, object_flags}
+use Rattle.sd_view.specs.AclLayout.{ace_body, ace_bytes, ace_front, acl_bytes, acl_header, flag_if, front_size}
+use Rattle.sd_view.specs.AclLayout.{object_flags}
 use Rattle.sd_view.specs.AclReading.{ace_of, aces_fault, aces_of, acl_of, guid_if, inherited_in, kind_in, object_in}
 use Rattle.sd_view.specs.Inner.ReadableAcl.{IsReadableAce, IsReadableAcl}
 use Rattle.sd_view.specs.Inner.Written.{all_named_flags, named_flags}

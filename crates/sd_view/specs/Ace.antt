@@ -1,5 +1,6 @@
 -- Access control entries as bytes (MS-DTYP 2.4.4): which extent shows which.
-use Rattle.std.specs.Prelude.{◌≡◌, ℕ, ◌+◌, ◌/◌, ◌%◌, ◌==◌, ◌&&◌, Bool, true, false, List, length, drop, take, slice_index, Option, Some, None}
+use Rattle.std.specs.Prelude.{◌≡◌, ℕ, ◌+◌, ◌/◌, ◌%◌, ◌==◌, ◌&&◌, Bool, true, false, List, length, drop, take}
+use Rattle.std.specs.Prelude.{slice_index, Option, Some, None}
 use Rattle.uuid.specs.Parts.{swap_fields}
 use Rattle.sd_ace.specs.Ace.{AccessControlEntry, guid_size, sid_offset}
 use Rattle.sd_kinds.specs.Kinds.{is_object, kind_code}

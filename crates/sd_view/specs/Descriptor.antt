@@ -1,5 +1,6 @@
 -- Self-relative security descriptors (MS-DTYP 2.4.6): what one is, and which bytes show which.
-use Rattle.std.specs.Prelude.{◌≡◌, ◌≤◌, ◌<◌, ℕ, ◌+◌, ◌^◌, ◌⊎◌, Bool, true, false, List, length, drop, slice_index, Option, Some, None, IfSome}
+use Rattle.std.specs.Prelude.{◌≡◌, ◌≤◌, ◌<◌, ℕ, ◌+◌, ◌^◌, ◌⊎◌, Bool, true, false, List, length, drop, slice_index}
+use Rattle.std.specs.Prelude.{Option, Some, None, IfSome}
 use Rattle.sd_sid.specs.Sid.{SecurityId, IsSid, BeginsWithSid, sid_size}
 use Rattle.sd_view.specs.Acl.{BeginsWithAcl, IsAcl}
 use Rattle.sd_view.specs.Bytes.{u16_at, u32_at}

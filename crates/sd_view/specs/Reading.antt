@@ -1,6 +1,7 @@
 -- The first fault of some bytes, and the descriptor that they show where there is none.
 -- `read` promises that this agrees with `Shows`.
-use Rattle.std.specs.Prelude.{ℕ, ◌+◌, ◌==◌, ◌||◌, ◌&&◌, not, nat_lt, Bool, false, if◌then◌else◌, List, length, drop, slice_index, Option, Some, None, option_map, is_some, Result}
+use Rattle.std.specs.Prelude.{ℕ, ◌+◌, ◌==◌, ◌||◌, ◌&&◌, not, nat_lt, Bool, false, if◌then◌else◌, List, length, drop}
+use Rattle.std.specs.Prelude.{slice_index, Option, Some, None, option_map, is_some, Result}
 use Rattle.sd_sid.specs.Sid.{SecurityId, sid_at}
 use Rattle.sd_control.specs.declared.part.Part.{Part}
 use Rattle.sd_control.specs.declared.part.Part.TheVariants.{Owner, Group, Sacl, Dacl}

@@ -26,7 +26,7 @@ const LEAST_SIZE: usize = 16;
 /// The bytes before the SID, or the object flags: type, flags, size and mask.
 pub(crate) const FRONT_SIZE: usize = 8;
 
-/// The bytes before the GUIDs in object kinds: the object flags stand there too.
+/// The bytes before the GUIDs in object kinds: the object flags are there too.
 pub(crate) const OBJECT_FRONT_SIZE: usize = 12;
 
 const GUID_SIZE: usize = 16;
@@ -51,7 +51,7 @@ fn kind_at(extent: &[u8]) -> AceKind
     AceKind::from_code(extent[0]).unwrap_or(AceKind::Allow)
 }
 
-// Whether the object type's GUID stands in the extent.
+// Whether the extent has the object type's GUID.
 #[tactic(auto, unfolding(crate::specs::Ace::announces_object))]
 fn has_object(extent: &[u8]) -> bool
     requires { 16 ≤ length extent.now }
@@ -60,7 +60,7 @@ fn has_object(extent: &[u8]) -> bool
     kind_at(extent).is_object() && u32_at(extent, 8) % 2 == 1
 }
 
-// Whether the inherited object type's GUID stands in the extent.
+// Whether the extent has the inherited object type's GUID.
 #[tactic(auto, unfolding(crate::specs::Ace::announces_inherited))]
 fn has_inherited(extent: &[u8]) -> bool
     requires { 16 ≤ length extent.now }
@@ -69,7 +69,7 @@ fn has_inherited(extent: &[u8]) -> bool
     kind_at(extent).is_object() && u32_at(extent, 8) / 2 % 2 == 1
 }
 
-// Where the SID stands in the extent.
+// Where the SID is in the extent.
 #[tactic(auto, unfolding(crate::specs::AclReading::sid_offset_in, crate::specs::AclReading::object_in, crate::specs::AclReading::inherited_in, crate::specs::AclReading::guid_if))]
 fn sid_offset(extent: &[u8]) -> usize
     requires { 16 ≤ length extent.now }
@@ -223,7 +223,7 @@ impl<'a> AceView<'a> {
         Sid::at_front(&self.extent[sid_offset(self.extent)..])
     }
 
-    /// The written size in bytes, without what stands after the SID: at most 112.
+    /// The written size in bytes, without what follows the SID: at most 112.
     pub fn size(&self) -> u16
         ensures value { result ≡ ace_size self.now }
         ensures most { ace_size self.now ≤ 112 }

@@ -69,7 +69,7 @@ impl AceFront {
     }
 }
 
-// Which GUIDs stand (MS-DTYP 2.4.4.3).
+// Which GUIDs are present (MS-DTYP 2.4.4.3).
 #[inline(always)]
 fn object_flags(object: bool, inherited: bool) -> u32
     ensures { result ≡ (if object then 1 else 0) + (if inherited then 2 else 0) }

@@ -122,7 +122,7 @@ impl<'a> AclView<'a> {
         }
     }
 
-    // Its bytes as they stand.
+    // Its bytes as they are.
     pub(crate) fn extent(&self) -> &'a [u8]
         ensures value { acl_of result.now ≡ self.now }
         ensures limits { IsReadableAcl result.now }

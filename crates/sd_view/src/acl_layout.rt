@@ -18,7 +18,7 @@ use byteorder::{ByteOrder, LittleEndian};
 use sd_control::{ACL_HEADER_SIZE, ACL_REVISION, ACL_REVISION_DS};
 use sd_sink::Print;
 
-/// Prints an ACL: its header, and its ACEs one after the other; where it stands in this form, at once.
+/// Prints an ACL: its header, and its ACEs one after the other; at once if it has this form already.
 #[inline(always)]
 pub(crate) fn print_acl<P: Print>(acl: &AclView<'_>, out: &mut P)
     ensures { Prints (P.told out.old) (P.told out.new) (acl_bytes acl.now) }
@@ -33,7 +33,7 @@ pub(crate) fn print_acl<P: Print>(acl: &AclView<'_>, out: &mut P)
     }
 }
 
-// Whether an ACL stands in its written form: it has this header, and so no spare bytes, and its object flags are all
+// Whether an ACL has its written form: it has this header, and so no spare bytes, and its object flags are all
 // named.
 fn is_written(extent: &[u8], object: bool, header: &[u8]) -> bool
     requires extent { IsReadableAcl extent.now }
@@ -71,7 +71,7 @@ fn header_of(acl: &AclView<'_>) -> [u8; 8]
     acl_header(written.object, written.size as u16, acl.count())
 }
 
-// The header of an ACL, by whether an object ACE stands in it, its size and the number of its ACEs.
+// The header of an ACL, by whether it has an object ACE, its size and the number of its ACEs.
 pub fn acl_header(object: bool, size: u16, count: u16) -> [u8; 8]
     ensures { result ≡ revision_if object ∷ 0 ∷ little_bytes 2 size ++ (little_bytes 2 count ++ (0 ∷ 0 ∷ [])) }
 {

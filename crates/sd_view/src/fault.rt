@@ -14,7 +14,7 @@ pub enum SdFault {
     NotSelfRelative,
     /// 8: the part's offset is below 20, or less than 8 bytes follow it.
     Offset(Part),
-    /// 9: no SID stands there: another revision than 1, a count over 15, or the bytes or the ACE end
+    /// 9: there is no SID: another revision than 1, a count over 15, or the bytes or the ACE end
     /// too soon.
     Sid(Part),
     /// 10: the ACL's revision is neither 2 nor 4, its size is below 8, or it passes the bytes.

@@ -18,7 +18,7 @@ use sd_control::{DACL_PRESENT, HEADER_SIZE, Part, Parts, SACL_PRESENT, SELF_RELA
 use sd_sid::Sid;
 use std::marker::Model;
 
-/// What is kept of an ACL that does not stand.
+/// What is kept of an ACL that is not there.
 const NOTHING: Written = Written {
     size: 0,
     object: false,
@@ -106,7 +106,7 @@ fn check_header(bytes: &[u8]) -> Result<(), SdFault>
     Ok(())
 }
 
-// The first fault of the parts, or where they stand and what the written form of the ACLs needs.
+// The first fault of the parts, or where they are and what the written form of the ACLs needs.
 #[tactic(auto, unfolding(crate::specs::Reading::parts_fault))]
 fn check_parts(bytes: &[u8]) -> Result<(Parts<Extent>, Acls), SdFault>
     requires { HEADER_SIZE ≤ length bytes.now }

@@ -1,4 +1,5 @@
-// `sdtool` over the standard streams.
+//! `sdtool` over the standard streams.
+
 #![tactic(auto)]
 
 use sd_filter::{FromRead, ToWrite, command};

@@ -1,5 +1,6 @@
 -- The SIDs of a token, one after the other.
-use Rattle.std.proofs.Common.{◌≡◌, ◌≤◌, ◌-◌, ℕ, List, [], ◌∷◌, ◌++◌, length, take, drop, MatchResult, Some, Result, Ok, Err, ap, ◌∙◌, append_assoc, length-append, length-drop, arith, subst}
+use Rattle.std.proofs.Common.{◌≡◌, ◌≤◌, ◌-◌, ℕ, List, [], ◌∷◌, ◌++◌, length, take, drop, MatchResult, Some, Result, Ok}
+use Rattle.std.proofs.Common.{Err, ap, ◌∙◌, append_assoc, length-append, length-drop, arith, subst}
 use Rattle.std.proofs.lemmas.List.{take_all}
 use Rattle.sd_text.specs.Chains.{and_then}
 use Rattle.sd_sid.specs.Sid.{BeginsWithSid, SecurityId, sid_at, sid_bytes, sid_size}

@@ -1,5 +1,6 @@
 -- What the access check gives: a verdict, or why there is none.
-use Rattle.std.specs.Prelude.{◌≡◌, ◌⊎◌, ℕ, List, [], ◌∷◌, true, false, ◌||◌, if◌then◌else◌, nat_eq, nat_lt, length, drop, Option, Some, None, Result, Ok, Err}
+use Rattle.std.specs.Prelude.{◌≡◌, ◌⊎◌, ℕ, List, [], ◌∷◌, true, false, ◌||◌, if◌then◌else◌, nat_eq, nat_lt, length}
+use Rattle.std.specs.Prelude.{drop, Option, Some, None, Result, Ok, Err}
 use Rattle.uuid.specs.Parts.{swap_fields}
 use Rattle.sd_text.specs.Chains.{◌>>=◌, fault_as, unless}
 use Rattle.sd_text.specs.Limits.{most_entries}

@@ -22,7 +22,7 @@ pub enum Text {
     Explanation,
 }
 
-/// Gives a text of the descriptor. If there is no room for it, the text is printed once more, to tell its length.
+/// Gives a text of the descriptor. If there is no room for it, the text is printed once more, to find its length.
 pub fn give_text(
     alloc: Global,
     view: &SdView<'_>,

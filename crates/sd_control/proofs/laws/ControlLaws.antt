@@ -1,11 +1,13 @@
 -- The flags of an ACL beside the other bits of a control word.
-use Rattle.std.proofs.Common.{◌≡◌, ◌≤◌, ◌<◌, ℕ, ◌+◌, ◌*◌, ◌/◌, ◌%◌, ◌^◌, eqb, Bool, true, false, bit_or, refl, sym, ap, ◌∙◌, arith}
+use Rattle.std.proofs.Common.{◌≡◌, ◌≤◌, ◌<◌, ℕ, ◌+◌, ◌*◌, ◌/◌, ◌%◌, ◌^◌, eqb, Bool, true, false, bit_or, refl, sym, ap}
+use Rattle.std.proofs.Common.{◌∙◌, arith}
 use Rattle.std.specs.Int.{bit_at}
 use Rattle.std.proofs.lemmas.Bool.Decides.{nat_tests}
 use Rattle.std.proofs.lemmas.Nat.{or_disjoint}
 use Rattle.std.proofs.lemmas.Nat.Bits.{and_pow, bit_at_or, bit_at-pow_other}
 use Rattle.sd_text.specs.Bits.{has_bit}
-use Rattle.sd_control.specs.Control.{acl_flags, all_flags, bit_if, control_of, flag_bits, no_flags, other_acl, dacl_present, sacl_present, self_relative}
+use Rattle.sd_control.specs.Control.{acl_flags, all_flags, bit_if, control_of, flag_bits, no_flags, other_acl}
+use Rattle.sd_control.specs.Control.{dacl_present, sacl_present, self_relative}
 use Rattle.sd_control.specs.declared.part.Which.{Which}
 use Rattle.sd_control.specs.declared.part.Which.TheVariants as lists
 use Rattle.sd_control.specs.declared.control.AclFlags.{AclFlags}

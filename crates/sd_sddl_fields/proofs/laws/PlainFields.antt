@@ -1,6 +1,7 @@
 -- What reads as a kind, as flags or as access rights consists of letters and digits, and is not too long: so no byte in
 -- it ends a field.
-use Rattle.std.proofs.Common.{get_or, ◌<◌, ◌∙◌, true≢false, ◌≡◌, ℕ, ◌^◌, ◌≤◌, Bool, true, false, ◌&&◌, ◌||◌, List, [], ◌∷◌, length, map, Option, Some, None, refl, ap, sym, subst, arith, cond, take, ◌+◌}
+use Rattle.std.proofs.Common.{get_or, ◌<◌, ◌∙◌, true≢false, ◌≡◌, ℕ, ◌^◌, ◌≤◌, Bool, true, false, ◌&&◌, ◌||◌, List, []}
+use Rattle.std.proofs.Common.{◌∷◌, length, map, Option, Some, None, refl, ap, sym, subst, arith, cond, take, ◌+◌}
 use Rattle.std.specs.Option.{option_map}
 use Rattle.std.specs.Prelude.{slice_index, suc, ◌==◌, nat_le, nat_lt, if◌then◌else◌, IfSome}
 use Rattle.std.specs.Char.{is_digit, to_ascii_lowercase, to_ascii_uppercase}
@@ -21,7 +22,8 @@ use Rattle.std.proofs.lemmas.Bool.{and_parts}
 use Rattle.sd_kinds.proofs.laws.KindLaws.{kind_named-some, letters-few}
 use Rattle.sd_ace.specs.GuidText.{guid_reads}
 use Rattle.sd_sid.specs.SidText.{is_sid_byte, sid_front}
-use Rattle.uuid.specs.Text.{by_index, byte_of_digits, digit_place, digits_of, has_hyphens, hyphen_place, is_hex_digit, is_hyphen_place, parsed_hyphenated}
+use Rattle.uuid.specs.Text.{by_index, byte_of_digits, digit_place, digits_of, has_hyphens, hyphen_place, is_hex_digit}
+use Rattle.uuid.specs.Text.{is_hyphen_place, parsed_hyphenated}
 use Rattle.uuid.proofs.TextLemmas.{by_index_at, by_index_length}
 use Rattle.std.proofs.lemmas.List.Folds.{list_all_at}
 use Rattle.sd_sddl_fields.specs.FieldTexts.{kind_reads, object_reads}

@@ -1,5 +1,6 @@
 -- SDDL has at most eight characters for each byte of the written descriptor, and 63.
-use Rattle.std.proofs.Common.{◌≡◌, ◌≤◌, ◌<◌, ℕ, ◌+◌, ◌*◌, ◌^◌, Bool, true, false, cond, List, [], ◌∷◌, ◌++◌, length, Option, Some, None, refl, arith, length-append}
+use Rattle.std.proofs.Common.{◌≡◌, ◌≤◌, ◌<◌, ℕ, ◌+◌, ◌*◌, ◌^◌, Bool, true, false, cond, List, [], ◌∷◌, ◌++◌, length}
+use Rattle.std.proofs.Common.{Option, Some, None, refl, arith, length-append}
 use Rattle.std.specs.Prelude.{IfSome, codes}
 use Rattle.std.specs.List.{flat_map, AllByRecursion}
 use Rattle.sd_ace.specs.Ace.{AccessControlEntry, IsAce, ace_size, guid_size}
@@ -26,7 +27,9 @@ use Rattle.sd_sid.specs.declared.naming.Naming.{Naming}
 use Rattle.sd_control.specs.declared.part.Which.TheVariants as which
 use Rattle.sd_control.specs.declared.control.AclFlags.{AclFlags}
 use Rattle.std.specs.Option.{unwrap_or}
-use Rattle.sd_sddl_printer.specs.Printed.{ace_text, acl_flags_text, acl_text, dacl_text, flags_field, group_text, kind_field, kind_text, object_field, object_text, owner_text, rights_field, sacl_text, sddl, sid_text_of, text_if, trustee_field, trustee_text}
+use Rattle.sd_sddl_printer.specs.Printed.{ace_text, acl_flags_text, acl_text, dacl_text, flags_field, group_text}
+use Rattle.sd_sddl_printer.specs.Printed.{kind_field, kind_text, object_field, object_text, owner_text, rights_field}
+use Rattle.sd_sddl_printer.specs.Printed.{sacl_text, sddl, sid_text_of, text_if, trustee_field, trustee_text}
 
 -- a SID takes at most 18 characters, and 11 for each sub-authority
 named-length : (o : Option (List ℕ)) (text : List ℕ) (n : ℕ) → IsName o → 2 ≤ n → length text ≤ n

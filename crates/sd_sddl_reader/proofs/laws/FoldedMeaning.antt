@@ -1,5 +1,6 @@
 -- The machine's reading of a line, folded over its fields, is what the line means.
-use Rattle.std.proofs.Common.{◌≡◌, ◌≤◌, ℕ, ◌+◌, Bool, true, false, ◌||◌, List, [], ◌∷◌, ◌++◌, Option, Some, None, Ok, Err, refl, ap, sym, ◌∙◌, arith, append-nil, append_assoc}
+use Rattle.std.proofs.Common.{◌≡◌, ◌≤◌, ℕ, ◌+◌, Bool, true, false, ◌||◌, List, [], ◌∷◌, ◌++◌, Option, Some, None, Ok}
+use Rattle.std.proofs.Common.{Err, refl, ap, sym, ◌∙◌, arith, append-nil, append_assoc}
 use Rattle.std.specs.Prelude.{nat_lt, not, if◌then◌else◌}
 use Rattle.std.specs.List.{list_all}
 use Rattle.std.proofs.lemmas.Bool.Decides.{nat_tests}
@@ -16,10 +17,14 @@ use Rattle.sd_control.specs.declared.part.Which.{Which}
 use Rattle.sd_control.specs.declared.part.Which.TheVariants as which
 use Rattle.std.specs.Option.{option_or}
 use Rattle.sd_sddl_fields.specs.FieldTexts.{front_reads}
-use Rattle.sd_sddl_reader.specs.FoldedReading.{FieldsRead, described, fields_of, finished, folded, large_in, nothing_read, read_fields, reads_as, if_shaped}
-use Rattle.sd_sddl_reader.specs.Line.{Piece, Section, are_shaped, front, has_head, has_twice, is_blank_piece, is_paired, is_shaped, sections_of, same_head, trim}
+use Rattle.sd_sddl_reader.specs.FoldedReading.{FieldsRead, described, fields_of, finished, folded, large_in}
+use Rattle.sd_sddl_reader.specs.FoldedReading.{nothing_read, read_fields, reads_as, if_shaped}
+use Rattle.sd_sddl_reader.specs.Line.{Piece, Section, are_shaped, front, has_head, has_twice, is_blank_piece, is_paired}
+use Rattle.sd_sddl_reader.specs.Line.{is_shaped, sections_of, same_head, trim}
 use Rattle.sd_text.specs.Chains.{and_then}
-use Rattle.sd_sddl_reader.specs.Meaning.{Said, acl_said, body_reads, control_flags, descriptor_of, each, acl_part_reads, field_reads, first_large, means, section_reads, sections_mean, sid_field_reads, sid_said, unless_large, picked_acl, picked_flags, picked_sid}
+use Rattle.sd_sddl_reader.specs.Meaning.{Said, acl_said, body_reads, control_flags, descriptor_of, each, acl_part_reads}
+use Rattle.sd_sddl_reader.specs.Meaning.{field_reads, first_large, means, section_reads, sections_mean, sid_field_reads}
+use Rattle.sd_sddl_reader.specs.Meaning.{sid_said, unless_large, picked_acl, picked_flags, picked_sid}
 use Rattle.sd_control.specs.Control.{bit_if}
 use Rattle.sd_control.specs.declared.control.AclFlags.{AclFlags}
 use Rattle.sd_sddl_reader.specs.declared.fault.SddlFault.TheVariants as fault
@@ -30,7 +35,8 @@ use Rattle.sd_sddl_reader.specs.declared.reading.AceFields.{AceFields}
 use Rattle.sd_sddl_fields.specs.declared.field_texts.AclFront.{AclFront}
 use Rattle.sd_sddl_reader.proofs.laws.ControlFlags.{flags-stay}
 use Rattle.sd_sddl_fields.proofs.laws.FlagRuns.{or-none}
-use Rattle.sd_sddl_reader.proofs.laws.FoldedSections.{Found, before_sid, sections-read, with_all, with_entries, with_said}
+use Rattle.sd_sddl_reader.proofs.laws.FoldedSections.{Found, before_sid, sections-read, with_all, with_entries}
+use Rattle.sd_sddl_reader.proofs.laws.FoldedSections.{with_said}
 
 -- 1. What the fold holds after a section.
 

@@ -1,5 +1,6 @@
 -- The machine's reading of sections, folded over their fields, gives what each section says, one onto the other.
-use Rattle.std.proofs.Common.{◌≡◌, ℕ, Bool, true, false, List, [], ◌∷◌, ◌++◌, length, Option, Some, None, Result, Ok, Err, refl, ap, ◌∙◌, arith}
+use Rattle.std.proofs.Common.{◌≡◌, ℕ, Bool, true, false, List, [], ◌∷◌, ◌++◌, length, Option, Some, None, Result, Ok}
+use Rattle.std.proofs.Common.{Err, refl, ap, ◌∙◌, arith}
 use Rattle.std.specs.Prelude.{◌==◌, if◌then◌else◌}
 use Rattle.std.specs.List.{AllByRecursion, flat_map}
 use Rattle.std.specs.Option.{ok_or}
@@ -17,11 +18,16 @@ use Rattle.sd_view.specs.declared.acl.AclPart.{AclPart}
 use Rattle.sd_view.specs.declared.acl.AclPart.TheVariants as acl
 use Rattle.sd_control.specs.declared.part.Which.{Which}
 use Rattle.sd_sddl_fields.specs.FieldTexts.{front_reads, kind_reads, object_reads}
-use Rattle.sd_sddl_reader.specs.FoldedReading.{Field, FieldsRead, ace_fields, ace_fields_from, ace_of_fields, fields_in, fields_of, grown, no_fields, read_fields, take_ace_field, take_field, take_front, with_flags, with_owner_or_group, with_sid, with_trustee, with_value}
-use Rattle.sd_sddl_reader.specs.Line.{Piece, Section, ace, ace_cuts, aces, are_aces, are_shaped, byte, cut_at_semicolons, front, has_aces, has_six_fields, is_acl_body, is_body, trim}
+use Rattle.sd_sddl_reader.specs.FoldedReading.{Field, FieldsRead, ace_fields, ace_fields_from, ace_of_fields, fields_in}
+use Rattle.sd_sddl_reader.specs.FoldedReading.{fields_of, grown, no_fields, read_fields, take_ace_field, take_field}
+use Rattle.sd_sddl_reader.specs.FoldedReading.{take_front, with_flags, with_owner_or_group, with_sid, with_trustee}
+use Rattle.sd_sddl_reader.specs.FoldedReading.{with_value}
+use Rattle.sd_sddl_reader.specs.Line.{Piece, Section, ace, ace_cuts, aces, are_aces, are_shaped, byte}
+use Rattle.sd_sddl_reader.specs.Line.{cut_at_semicolons, front, has_aces, has_six_fields, is_acl_body, is_body, trim}
 use Rattle.sd_sddl_fields.specs.FieldTexts.{is_blank}
 use Rattle.sd_text.specs.Chains.{and_then}
-use Rattle.sd_sddl_reader.specs.Meaning.{Said, acl_said, ace_reads, body_reads, each, acl_part_reads, field_reads, is_unreadable, section_reads, sid_field_reads, sid_or_fault, sid_said}
+use Rattle.sd_sddl_reader.specs.Meaning.{Said, acl_said, ace_reads, body_reads, each, acl_part_reads, field_reads}
+use Rattle.sd_sddl_reader.specs.Meaning.{is_unreadable, section_reads, sid_field_reads, sid_or_fault, sid_said}
 use Rattle.sd_control.specs.declared.control.AclFlags.{AclFlags}
 use Rattle.sd_sddl_reader.specs.declared.fault.SddlFault.{SddlFault}
 use Rattle.sd_sddl_reader.specs.declared.fault.SddlFault.TheVariants as fault

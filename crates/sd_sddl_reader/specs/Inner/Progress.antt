@@ -1,12 +1,16 @@
 -- A reader in the middle of a line: what it answers if the line goes on by a text and ends there.
-use Rattle.std.specs.Prelude.{ℕ, Bool, true, false, ◌&&◌, ◌||◌, not, ◌==◌, if◌then◌else◌, List, [], ◌∷◌, ◌++◌, codes, length, Option, Result}
+use Rattle.std.specs.Prelude.{ℕ, Bool, true, false, ◌&&◌, ◌||◌, not, ◌==◌, if◌then◌else◌, List, [], ◌∷◌, ◌++◌, codes}
+use Rattle.std.specs.Prelude.{length, Option, Result}
 use Rattle.std.specs.List.{list_all, flat_map}
 use Rattle.std.specs.Option.{is_none}
 use Rattle.std.specs.Str.{byte as char}
 use Rattle.sd_sid.specs.Sid.{SecurityId}
 use Rattle.sd_sddl_fields.specs.Held.{Held, held_text, is_plain_inside}
-use Rattle.sd_sddl_reader.specs.FoldedReading.{Field, FieldsRead, ace_fields, ace_fields_from, fields_of, read_fields, take_field, if_shaped}
-use Rattle.sd_sddl_reader.specs.Line.{Piece, Section, Sections, aces, are_aces, are_shaped, cut_at_semicolons, front, has_aces, has_twice, head_of, is_acl_body, is_blank_piece, is_paired, is_sid_body, part_of_head, pieces_from, sections, trim}
+use Rattle.sd_sddl_reader.specs.FoldedReading.{Field, FieldsRead, ace_fields, ace_fields_from, fields_of, read_fields}
+use Rattle.sd_sddl_reader.specs.FoldedReading.{take_field, if_shaped}
+use Rattle.sd_sddl_reader.specs.Line.{Piece, Section, Sections, aces, are_aces, are_shaped, cut_at_semicolons, front}
+use Rattle.sd_sddl_reader.specs.Line.{has_aces, has_twice, head_of, is_acl_body, is_blank_piece, is_paired, is_sid_body}
+use Rattle.sd_sddl_reader.specs.Line.{part_of_head, pieces_from, sections, trim}
 use Rattle.sd_sddl_fields.specs.FieldTexts.{is_blank}
 use Rattle.sd_text.specs.Chains.{and_then}
 use Rattle.sd_sddl_reader.specs.declared.fault.SddlFault.{SddlFault}

@@ -1,5 +1,6 @@
 -- What an alias reads as, and that no SID has two aliases.
-use Rattle.std.proofs.Common.{◌≡◌, ℕ, Bool, true, false, ◌&&◌, List, [], ◌∷◌, ◌++◌, take, drop, length, ◌≤◌, Option, Some, None, IfSome, subst, Ok, Err, refl, sym, ap, ◌∙◌, arith, true≢false}
+use Rattle.std.proofs.Common.{◌≡◌, ℕ, Bool, true, false, ◌&&◌, List, [], ◌∷◌, ◌++◌, take, drop, length, ◌≤◌, Option}
+use Rattle.std.proofs.Common.{Some, None, IfSome, subst, Ok, Err, refl, sym, ap, ◌∙◌, arith, true≢false}
 use Rattle.std.specs.Prelude.{◌==◌, nat_le, not, if◌then◌else◌}
 use Rattle.std.specs.Cmp.Lexicographic.{same_text}
 use Rattle.std.specs.Char.{is_ascii_alphabetic, is_ascii_uppercase, to_ascii_uppercase}
@@ -17,7 +18,9 @@ use Rattle.sd_sid.specs.declared.alias.WellKnown.{WellKnown}
 use Rattle.sd_sid.specs.declared.alias.DomainRelative.{DomainRelative}
 use Rattle.sd_sid.specs.declared.alias.TheConstants.{WELL_KNOWN, DOMAIN_RELATIVE}
 use Rattle.sd_sid.specs.declared.sid_text.SidFault.TheVariants as faults
-use Rattle.sd_sid.specs.SidText.{alias_of, has_form, known_alias, known_named, known_sid, letters_read, name_reads, numbers_read, or_number_fault, cut_at_dashes, relative_alias, relative_named, same_sid, sid_in, sid_reads, usable}
+use Rattle.sd_sid.specs.SidText.{alias_of, has_form, known_alias, known_named, known_sid, letters_read, name_reads}
+use Rattle.sd_sid.specs.SidText.{numbers_read, or_number_fault, cut_at_dashes, relative_alias, relative_named, same_sid}
+use Rattle.sd_sid.specs.SidText.{sid_in, sid_reads, usable}
 
 -- 1. Tests over the tables.
 

@@ -1,5 +1,7 @@
 -- What a text reads as keeps the limits of SIDs.
-use Rattle.std.proofs.Common.{◌≡◌, ◌≤◌, ◌<◌, ℕ, zero, suc, ◌+◌, ◌*◌, ◌^◌, Bool, true, false, ◌&&◌, ◌||◌, List, [], ◌∷◌, ◌++◌, length, take, drop, slice_index, Option, Some, None, IfSome, Result, Ok, Err, IfOk, refl, ap, subst, arith, eqb-true, length-append}
+use Rattle.std.proofs.Common.{◌≡◌, ◌≤◌, ◌<◌, ℕ, zero, suc, ◌+◌, ◌*◌, ◌^◌, Bool, true, false, ◌&&◌, ◌||◌, List, [], ◌∷◌}
+use Rattle.std.proofs.Common.{◌++◌, length, take, drop, slice_index, Option, Some, None, IfSome, Result, Ok, Err, IfOk}
+use Rattle.std.proofs.Common.{refl, ap, subst, arith, eqb-true, length-append}
 use Rattle.std.specs.Prelude.{◌==◌, nat_lt, nat_le, if◌then◌else◌}
 use Rattle.std.specs.Char.{to_ascii_uppercase}
 use Rattle.std.specs.List.{find, list_all}
@@ -7,7 +9,10 @@ use Rattle.std.specs.Option.{option_and_then, option_map}
 use Rattle.std.proofs.lemmas.Bool.Decides.{nat_tests}
 use Rattle.std.proofs.lemmas.List.Elements.{All-from_get_or}
 use Rattle.sd_sid.specs.Sid.{AreWords, IsSid, SecurityId}
-use Rattle.sd_sid.specs.SidText.{decimals_read, are_letters, are_numbers, are_subs, authority_reads, begins_with_s1, decimal_reads, has_form, is_decimal, is_hex, known_named, known_sid, letters_read, name_reads, numbers_read, or_number_fault, cut_at_dashes, relative_named, sid_in, sid_of_numbers, sid_reads, usable}
+use Rattle.sd_sid.specs.SidText.{decimals_read, are_letters, are_numbers, are_subs, authority_reads, begins_with_s1}
+use Rattle.sd_sid.specs.SidText.{decimal_reads, has_form, is_decimal, is_hex, known_named, known_sid, letters_read}
+use Rattle.sd_sid.specs.SidText.{name_reads, numbers_read, or_number_fault, cut_at_dashes, relative_named, sid_in}
+use Rattle.sd_sid.specs.SidText.{sid_of_numbers, sid_reads, usable}
 use Rattle.sd_text.specs.Numbers.{number_after, number as number_below}
 use Rattle.sd_text.specs.Cuts.{Cuts}
 use Rattle.sd_sid.specs.declared.alias.WellKnown.{WellKnown}

@@ -1,5 +1,7 @@
 -- A SID's bytes read as the SID, and what reads as a SID is its bytes.
-use Rattle.std.proofs.Common.{◌≡◌, ◌≤◌, ℕ, zero, suc, ◌+◌, ◌*◌, Bool, true, cond, List, [], ◌∷◌, ◌++◌, length, take, drop, slice_index, Option, Some, None, IfSome, refl, sym, ap, ◌∙◌, arith, append_assoc, length-append, length-drop, subst}
+use Rattle.std.proofs.Common.{◌≡◌, ◌≤◌, ℕ, zero, suc, ◌+◌, ◌*◌, Bool, true, cond, List, [], ◌∷◌, ◌++◌, length, take}
+use Rattle.std.proofs.Common.{drop, slice_index, Option, Some, None, IfSome, refl, sym, ap, ◌∙◌, arith, append_assoc}
+use Rattle.std.proofs.Common.{length-append, length-drop, subst}
 use Rattle.std.proofs.lemmas.Bool.Decides.{nat_tests}
 use Rattle.std.proofs.lemmas.Option.{cond_some}
 use Rattle.std.proofs.lemmas.List.{take-append-drop}
@@ -7,7 +9,8 @@ use Rattle.std.proofs.Math.Seq.{take-add}
 use Rattle.std.specs.List.{flat_map}
 use Rattle.byteorder.specs.Endian.{big_bytes, big_number, little_bytes, little_number}
 use Rattle.byteorder.specs.Numbers.{big_number-reads_back, little_number-reads_back, little_from-lt, big_from-lt}
-use Rattle.sd_sid.specs.Sid.{SecurityId, IsSid, AreWords, BeginsWithSid, sid_at, sid_bytes, sid_of, sid_size, sid_stands, words}
+use Rattle.sd_sid.specs.Sid.{SecurityId, IsSid, AreWords, BeginsWithSid, sid_at, sid_bytes, sid_of, sid_size}
+use Rattle.sd_sid.specs.Sid.{sid_stands, words}
 use Rattle.sd_sid.proofs.laws.Numbers.{AreBytes, AreBytes-drop, bytes_high_first-big_from, bytes_low_first-little_from}
 
 -- what the test says

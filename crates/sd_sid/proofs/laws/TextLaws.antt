@@ -1,5 +1,7 @@
 -- What is printed of a SID reads back.
-use Rattle.std.proofs.Common.{◌≡◌, ◌<◌, ◌≤◌, ℕ, zero, suc, ◌+◌, ◌*◌, ◌/◌, ◌%◌, ◌^◌, Bool, true, false, ◌&&◌, ◌||◌, List, [], ◌∷◌, ◌++◌, length, drop, map, Option, Some, None, Ok, Err, refl, ap, ◌∙◌, arith, append-nil, length-append}
+use Rattle.std.proofs.Common.{◌≡◌, ◌<◌, ◌≤◌, ℕ, zero, suc, ◌+◌, ◌*◌, ◌/◌, ◌%◌, ◌^◌, Bool, true, false, ◌&&◌, ◌||◌, List}
+use Rattle.std.proofs.Common.{[], ◌∷◌, ◌++◌, length, drop, map, Option, Some, None, Ok, Err, refl, ap, ◌∙◌, arith}
+use Rattle.std.proofs.Common.{append-nil, length-append}
 use Rattle.std.specs.Prelude.{◌==◌, nat_lt, nat_le, if◌then◌else◌}
 use Rattle.std.specs.List.{flat_map, list_all}
 use Rattle.std.specs.Option.{option_and_then}
@@ -18,7 +20,10 @@ use Rattle.sd_text.proofs.laws.HexDigits.{all_digits}
 use Rattle.sd_sid.specs.Sid.{SecurityId, IsSid, AreWords}
 use Rattle.sd_sid.specs.declared.sid_text.SidFault.TheVariants as faults
 use Rattle.sd_text.specs.Cuts.{Cuts, with_byte}
-use Rattle.sd_sid.specs.SidText.{decimals_read, are_letters, are_numbers, are_subs, authority_reads, authority_text, decimal_reads, has_form, is_decimal, is_hex, is_sid_byte, numbers_read, or_number_fault, letters_read, cut_at_dashes, sid_of_numbers, sid_reads, sid_text, sub_text}
+use Rattle.sd_sid.specs.SidText.{decimals_read, are_letters, are_numbers, are_subs, authority_reads, authority_text}
+use Rattle.sd_sid.specs.SidText.{decimal_reads, has_form, is_decimal, is_hex, is_sid_byte, numbers_read}
+use Rattle.sd_sid.specs.SidText.{or_number_fault, letters_read, cut_at_dashes, sid_of_numbers, sid_reads, sid_text}
+use Rattle.sd_sid.specs.SidText.{sub_text}
 use Rattle.sd_text.specs.Numbers.{hex_digits, number, number_after}
 
 -- 1. Digits.

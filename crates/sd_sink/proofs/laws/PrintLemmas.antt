@@ -1,5 +1,6 @@
 -- Several calls of a printer, one after another.
-use Rattle.std.proofs.Common.{◌≡◌, ℕ, List, [], ◌++◌, Bool, true, false, Result, subst, refl, sym, ◌∙◌, ap, append_assoc, append-nil}
+use Rattle.std.proofs.Common.{◌≡◌, ℕ, List, [], ◌++◌, Bool, true, false, Result, subst, refl, sym, ◌∙◌, ap}
+use Rattle.std.proofs.Common.{append_assoc, append-nil}
 use Rattle.sd_sink.specs.Sink.{SinkTold, PutSome, Puts}
 use Rattle.sd_sink.specs.declared.sink.SinkFault.{SinkFault}
 use Rattle.sd_sink.proofs.laws.SinkLemmas.{PutAll-nil, PutAll-trans, PutSome-after, PutSome-more, Puts-after}

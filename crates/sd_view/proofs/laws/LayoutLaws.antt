@@ -1,5 +1,6 @@
 -- The layout of a descriptor shows it, and is as long as its size says.
-use Rattle.std.proofs.Common.{◌≡◌, ◌≤◌, ◌<◌, inl, ℕ, ◌+◌, ◌^◌, eqb, Bool, true, false, cond, List, [], ◌∷◌, ◌++◌, length, drop, slice_index, Option, Some, None, refl, sym, ap, ◌∙◌, arith, length-append}
+use Rattle.std.proofs.Common.{◌≡◌, ◌≤◌, ◌<◌, inl, ℕ, ◌+◌, ◌^◌, eqb, Bool, true, false, cond, List, [], ◌∷◌, ◌++◌}
+use Rattle.std.proofs.Common.{length, drop, slice_index, Option, Some, None, refl, sym, ap, ◌∙◌, arith, length-append}
 use Rattle.std.specs.Prelude.{◌==◌, if◌then◌else◌, IfSome}
 use Rattle.std.proofs.lemmas.Bool.Decides.{nat_tests}
 use Rattle.std.proofs.lemmas.List.{append-nil, drop_at, drop-drop}
@@ -11,8 +12,10 @@ use Rattle.sd_sid.specs.Sid.{SecurityId, IsSid, sid_size}
 use Rattle.sd_view.specs.Acl.{IsAcl, acl_size}
 use Rattle.sd_view.specs.AclLayout.{acl_bytes, ace_bytes}
 use Rattle.sd_view.specs.Bytes.{u16_at, u32_at}
-use Rattle.sd_view.specs.Descriptor.{Apart, AreApart, Descriptor, Extent, IsAclPart, IsDescriptor, Shows, ShowsAclPart, ShowsSid, acl_extent, control_at, dacl_at, group_at, owner_at, sacl_at, sid_extent}
-use Rattle.sd_view.specs.Layout.{acl_part, acl_part_size, dacl_offset, descriptor_header, group_offset, layout, offset_if, offsets, parts_bytes, sacl_offset, sid_part, sid_part_size, size}
+use Rattle.sd_view.specs.Descriptor.{Apart, AreApart, Descriptor, Extent, IsAclPart, IsDescriptor, Shows, ShowsAclPart}
+use Rattle.sd_view.specs.Descriptor.{ShowsSid, acl_extent, control_at, dacl_at, group_at, owner_at, sacl_at, sid_extent}
+use Rattle.sd_view.specs.Layout.{acl_part, acl_part_size, dacl_offset, descriptor_header, group_offset, layout}
+use Rattle.sd_view.specs.Layout.{offset_if, offsets, parts_bytes, sacl_offset, sid_part, sid_part_size, size}
 use Rattle.sd_control.specs.Header.{header_bytes}
 use Rattle.sd_control.specs.declared.part.Parts.{Parts}
 use Rattle.sd_view.specs.declared.acl.AclPart.{AclPart}

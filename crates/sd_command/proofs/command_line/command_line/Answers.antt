@@ -2,7 +2,8 @@ use Rattle.std.proofs.Common.{◌≡◌, ◌∙◌}
 use Rattle.std.proofs.lemmas.Result.{IfOk-weaker}
 use Rattle.clap.specs.Words.{app_of, with_subcommand}
 use Rattle.sd_command.specs.CommandLine.{check_line, convert_line, derive_line, explain_line, line, with_options}
-use Rattle.sd_command.specs.declared.options.TheConstants.{CHECK_OPTIONS, CONVERT_OPTIONS, DERIVE_OPTIONS, EXPLAIN_OPTIONS}
+use Rattle.sd_command.specs.declared.options.TheConstants.{CHECK_OPTIONS, CONVERT_OPTIONS, DERIVE_OPTIONS}
+use Rattle.sd_command.specs.declared.options.TheConstants.{EXPLAIN_OPTIONS}
 use Rattle.sd_command.proofs.LineLemmas.{one-below}
 use Rattle.sd_command.proofs.command_line.command_line.Goals as goal
 

@@ -2,7 +2,8 @@ use Rattle.std.proofs.Common.{arith, ap, sym, ◌∙◌}
 use Rattle.std.specs.Option.{option_copied}
 use Rattle.sd_sid.proofs.AliasPlaces.{fails-first, fails-second, passes, known-looked-up}
 use Rattle.sd_sid.proofs.alias.named_known.Goals as goal
-use Rattle.sd_sid.proofs.alias.named_known.Goals.{in_default-via-in-Some+then-entry-first+else-entry-second, in_default-via-in-Some+else-entry-first, in_default-via-in_default}
+use Rattle.sd_sid.proofs.alias.named_known.Goals.{in_default-via-in-Some+then-entry-first+else-entry-second}
+use Rattle.sd_sid.proofs.alias.named_known.Goals.{in_default-via-in-Some+else-entry-first, in_default-via-in_default}
 
 pub returns-in-Some : goal.returns-in-Some
 returns-in-Some c =

@@ -2,7 +2,8 @@ use Rattle.std.proofs.Common.{arith, ap, sym, ◌∙◌}
 use Rattle.std.specs.Option.{option_copied}
 use Rattle.sd_sid.proofs.AliasPlaces.{fails-first, fails-second, passes, relative-before, relative-looked-up}
 use Rattle.sd_sid.proofs.alias.named_relative.Goals as goal
-use Rattle.sd_sid.proofs.alias.named_relative.Goals.{in_default-via-in-Some+then-entry-first+else-entry-second, in_default-via-in-Some+else-entry-first, in_default-via-in_default}
+use Rattle.sd_sid.proofs.alias.named_relative.Goals.{in_default-via-in-Some+then-entry-first+else-entry-second}
+use Rattle.sd_sid.proofs.alias.named_relative.Goals.{in_default-via-in-Some+else-entry-first, in_default-via-in_default}
 
 pub returns-then-place-lt49 : goal.returns-then-place-lt49
 returns-then-place-lt49 c =

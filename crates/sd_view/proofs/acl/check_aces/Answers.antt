@@ -1,4 +1,5 @@
-use Rattle.std.proofs.Common.{◌≡◌, ◌-◌, ◌+◌, ◌||◌, Bool, true, false, ℕ, List, drop, length, arith, sym, ap, ◌∙◌, refl, length-drop}
+use Rattle.std.proofs.Common.{◌≡◌, ◌-◌, ◌+◌, ◌||◌, Bool, true, false, ℕ, List, drop, length, arith, sym, ap, ◌∙◌, refl}
+use Rattle.std.proofs.Common.{length-drop}
 use Rattle.std.proofs.lemmas.List.{take_rest}
 use Rattle.std.proofs.lemmas.Result.{err_from_is_err_and}
 use Rattle.sd_view.specs.Acl.{aces_size, has_object}

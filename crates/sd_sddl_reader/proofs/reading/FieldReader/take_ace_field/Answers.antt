@@ -1,7 +1,8 @@
 use Rattle.std.proofs.Common.{sym, ◌∙◌, refl}
 use Rattle.sd_sddl_fields.specs.FieldTexts.{kind_reads}
 use Rattle.sd_sddl_reader.specs.FoldedReading.{take_ace_field}
-use Rattle.sd_sddl_reader.proofs.FieldLaws.{holds-ace, sound-flags, sound-inherited, sound-kind, sound-mask, sound-object}
+use Rattle.sd_sddl_reader.proofs.FieldLaws.{holds-ace, sound-flags, sound-inherited, sound-kind, sound-mask}
+use Rattle.sd_sddl_reader.proofs.FieldLaws.{sound-object}
 use Rattle.sd_sddl_reader.proofs.reading.FieldReader.take_ace_field.Goals as goal
 
 pub returns-in-Some-clause-read : goal.returns-in-Some-clause-read

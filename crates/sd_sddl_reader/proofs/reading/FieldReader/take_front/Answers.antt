@@ -3,7 +3,8 @@ use Rattle.std.specs.Prelude.{◌&&◌}
 use Rattle.std.proofs.lemmas.Bool.{and_left, and_right}
 use Rattle.sd_sddl_reader.proofs.FieldLaws.{dacl-taken, holds-dacl, holds-sacl, sacl-taken}
 use Rattle.sd_sddl_reader.proofs.reading.FieldReader.take_front.Goals as goal
-use Rattle.sd_sddl_reader.proofs.reading.FieldReader.take_front.Goals.{else-front-via-then-front+else-has_aces, else-front-via-else-front}
+use Rattle.sd_sddl_reader.proofs.reading.FieldReader.take_front.Goals.{else-front-via-then-front+else-has_aces}
+use Rattle.sd_sddl_reader.proofs.reading.FieldReader.take_front.Goals.{else-front-via-else-front}
 
 pub returns-in-Sacl-clause-read : goal.returns-in-Sacl-clause-read
 returns-in-Sacl-clause-read c = λ t h.

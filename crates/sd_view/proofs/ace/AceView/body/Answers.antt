@@ -1,4 +1,5 @@
-use Rattle.std.proofs.Common.{◌≡◌, ◌≤◌, ◌+◌, ◌-◌, ◌*◌, ℕ, List, length, take, drop, slice_index, sym, ap, ◌∙◌, arith, rules, length-drop}
+use Rattle.std.proofs.Common.{◌≡◌, ◌≤◌, ◌+◌, ◌-◌, ◌*◌, ℕ, List, length, take, drop, slice_index, sym, ap, ◌∙◌, arith}
+use Rattle.std.proofs.Common.{rules, length-drop}
 use Rattle.std.proofs.lemmas.List.{length-take-le}
 use Rattle.sd_ace.specs.Ace.{AccessControlEntry, ace_size}
 use Rattle.sd_sid.specs.Sid.{sid_of}
