@@ -1,6 +1,11 @@
 -- What the matches of a command line settle.
+<<<<<<< HEAD
 use Rattle.std.specs.Prelude.{ℕ, Bool, ◌&&◌, ◌||◌, ◌^◌, false, nat_le, nat_lt, if◌then◌else◌, List, [], length, Option}
 use Rattle.std.specs.Prelude.{Some, None, Result, Ok, Err, codes, option_map}
+=======
+use Rattle.std.specs.Prelude.{ℕ, Bool, ◌&&◌, ◌||◌, ◌^◌, false, nat_le, nat_lt, if◌then◌else◌, List, [], length}
+use Rattle.std.specs.Prelude.{Option, Some, None, Result, Ok, Err, codes, option_map}
+>>>>>>> 99d130e (An option's value is read by one of three functions, whose contracts are for any reader; two edits that did not reach the prover are mended; sd_command is checked over the crates of 48f86f4, those above it are not)
 use Rattle.std.specs.Str.{bytes_eq}
 use Rattle.std.specs.Option.{ok_or}
 use Rattle.std.specs.Result.{result_ok}
@@ -63,16 +68,29 @@ value_needed reads (Some text) = reads text
 abbrev pub given : {A : Type 0} → OptionName → Option A → Result A UsageFault
 given option value = ok_or value (Value option)
 
+-- the text that the words give an option
+abbrev pub text_given : OptionName → List Row → Option Text
+text_given option rows = first_of (option_text option) rows
+
+abbrev pub given_or : {A : Type 0} → OptionName → A → (Text → Option A) → List Row → Result A UsageFault
+given_or option default reads rows = given option (value_or default reads (text_given option rows))
+
+abbrev pub given_if : {A : Type 0} → OptionName → (Text → Option A) → List Row → Result (Option A) UsageFault
+given_if option reads rows = given option (value_if reads (text_given option rows))
+
+abbrev pub given_needed : {A : Type 0} → OptionName → (Text → Option A) → List Row → Result A UsageFault
+given_needed option reads rows = given option (value_needed reads (text_given option rows))
+
 unfoldable pub given_domain : List Row → Result (Option SecurityId) UsageFault
-given_domain rows = given name.Domain (value_if domain_reads (first_of (option_text name.Domain) rows))
+given_domain rows = given_if name.Domain domain_reads rows
 
 -- hex where the option is left out
 unfoldable pub given_source : List Row → Result Form UsageFault
-given_source rows = given name.From (value_or Hex form_reads (first_of (option_text name.From) rows))
+given_source rows = given_or name.From Hex form_reads rows
 
 -- SDDL where the option is left out
 unfoldable pub given_target : List Row → Result Form UsageFault
-given_target rows = given name.To (value_or Sddl form_reads (first_of (option_text name.To) rows))
+given_target rows = given_or name.To Sddl form_reads rows
 
 -- a flag's text is `true` where it is given
 abbrev pub is_true : Option Text → Bool
@@ -80,7 +98,7 @@ is_true None = false
 is_true (Some text) = bytes_eq text (codes "true")
 
 unfoldable pub is_set : OptionName → List Row → Bool
-is_set flag rows = is_true (first_of (option_text flag) rows)
+is_set flag rows = is_true (text_given flag rows)
 
 -- ---- what `check` and `derive` both have
 
@@ -93,24 +111,24 @@ mapping_reads text =
 
 -- that of files where the option is left out
 unfoldable pub given_mapping : List Row → Result GenericMapping UsageFault
-given_mapping rows = given name.Type (value_or file_mapping mapping_reads (first_of (option_text name.Type) rows))
+given_mapping rows = given_or name.Type file_mapping mapping_reads rows
 
 -- the SID of an option, read under the domain
 unfoldable pub given_sid : OptionName → Option SecurityId → List Row → Result (Option SecurityId) UsageFault
-given_sid option domain rows = given option (value_if (sid_under domain) (first_of (option_text option) rows))
+given_sid option domain rows = given_if option (sid_under domain) rows
 
 -- ---- what `check` asks
 
 -- the entries of the token, whose SIDs are read under the domain
 unfoldable pub given_token : Option SecurityId → List Row → Result (List Entry) UsageFault
-given_token domain rows = given name.Token (value_needed (entries_read domain) (first_of (option_text name.Token) rows))
+given_token domain rows = given_needed name.Token (entries_read domain) rows
 
 -- no right where the option is left out
 unfoldable pub given_want : List Row → Result ℕ UsageFault
-given_want rows = given name.Want (value_or 0 rights_reads (first_of (option_text name.Want) rows))
+given_want rows = given_or name.Want 0 rights_reads rows
 
 unfoldable pub given_object : List Row → Result (Option (List ℕ)) UsageFault
-given_object rows = given name.Object (value_if guid_reads (first_of (option_text name.Object) rows))
+given_object rows = given_if name.Object guid_reads rows
 
 -- an integrity level: one to ten decimal digits below 2 ^ 32
 abbrev pub level_reads : Text → Option ℕ
@@ -118,7 +136,7 @@ level_reads text = if nat_lt 0 (length text) && nat_le (length text) 10 then num
 
 -- none where the option is left out
 unfoldable pub given_level : List Row → Result (Option ℕ) UsageFault
-given_level rows = given name.Level (value_if level_reads (first_of (option_text name.Level) rows))
+given_level rows = given_if name.Level level_reads rows
 
 -- a desired mask on a type of object, and the rest of what is asked, or why nothing can be
 unfoldable pub asked :
@@ -143,11 +161,11 @@ target_reads text =
     else None
 
 unfoldable pub given_kind : List Row → Result Target UsageFault
-given_kind rows = given name.Kind (value_needed target_reads (first_of (option_text name.Kind) rows))
+given_kind rows = given_needed name.Kind target_reads rows
 
 -- the owner or the group of what is made, a SID that may not be left out
 unfoldable pub needed_sid : OptionName → Option SecurityId → List Row → Result SecurityId UsageFault
-needed_sid option domain rows = given option (value_needed (sid_under domain) (first_of (option_text option) rows))
+needed_sid option domain rows = given_needed option (sid_under domain) rows
 
 -- the creator's descriptor, an SDDL text whose aliases are read under the domain
 abbrev pub creator_reads : Option SecurityId → Text → Option Descriptor
@@ -206,7 +224,7 @@ derive_own domain rows = do
   Ok (record {
     act = Derive (record { target = kind; owner = owner; group = group; mapping = mapping }) target;
     holder = nobody;
-    creator = first_of (option_text name.Creator) rows;
+    creator = text_given name.Creator rows;
   })
 
 abbrev pub command_own : CommandName → Option SecurityId → List Row → Result Own UsageFault

@@ -1,4 +1,4 @@
-//! What the matches of `check` settle.
+//! The options of `check`: what is asked, and who asks.
 ghost use Rattle.std.specs.Prelude.{◌≡◌, [], None, IfOk};
 ghost use Rattle.std.specs.Option.{option_copied};
 ghost use Rattle.clap.specs.Words.{found_of, rows_of};
@@ -10,7 +10,7 @@ ghost use Rattle.sd_command.specs.Inner.Choosing.{own_with};
 
 use crate::options::OptionName;
 use crate::settings::{
-    Own, UsageFault, given_mapping, given_sid, is_set, text_of, value_of, without_creator,
+    Own, UsageFault, given_if, given_mapping, given_or, given_sid, is_set, text_of, without_creator,
 };
 use crate::token_text::add_entries;
 use clap::ArgMatches;
@@ -75,8 +75,7 @@ fn given_token(
 fn given_want(matches: &ArgMatches<'_>) -> Result<u32, UsageFault>
     ensures { result ≡ specs.given_want (rows_of (found_of matches.now)) }
 {
-    let want = value_of(matches, OptionName::Want, want_from_text)?;
-    Ok(want.unwrap_or(0))
+    given_or(matches, OptionName::Want, 0, want_from_text)
 }
 
 fn want_from_text(text: &str) -> Option<u32>
@@ -88,7 +87,7 @@ fn want_from_text(text: &str) -> Option<u32>
 fn given_object(matches: &ArgMatches<'_>) -> Result<Option<Uuid>, UsageFault>
     ensures { result ≡ specs.given_object (rows_of (found_of matches.now)) }
 {
-    value_of(matches, OptionName::Object, object_from_text)
+    given_if(matches, OptionName::Object, object_from_text)
 }
 
 fn object_from_text(text: &str) -> Option<Uuid>
@@ -101,7 +100,7 @@ fn object_from_text(text: &str) -> Option<Uuid>
 fn given_level(matches: &ArgMatches<'_>) -> Result<Option<u32>, UsageFault>
     ensures { result ≡ specs.given_level (rows_of (found_of matches.now)) }
 {
-    value_of(matches, OptionName::Level, level_from_text)
+    given_if(matches, OptionName::Level, level_from_text)
 }
 
 // One to ten decimal digits, below 2^32.

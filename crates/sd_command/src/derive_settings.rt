@@ -1,4 +1,4 @@
-//! What the matches of `derive` settle.
+//! The options of `derive`: what is made, for whom, and the descriptor of its creator.
 ghost use Rattle.std.specs.Prelude.{◌≡◌, None, IfOk, IfSome, option_map};
 ghost use Rattle.std.specs.Option.{option_copied};
 ghost use Rattle.clap.specs.Words.{found_of, rows_of};
@@ -9,7 +9,9 @@ ghost use Rattle.sd_command.specs.Inner.Adding.{gives};
 ghost use Rattle.sd_command.specs.Inner.Choosing.{own_with};
 
 use crate::options::OptionName;
-use crate::settings::{Own, UsageFault, given_mapping, given_sid, given_target, text_of, value_of};
+use crate::settings::{
+    Own, UsageFault, given_mapping, given_needed, given_sid, given_target, text_of,
+};
 use clap::ArgMatches;
 use sd_answer::Act;
 use sd_inherit::{Plan, Target};
@@ -63,8 +65,7 @@ pub(crate) fn give_creator(engine: &mut Engine, text: Option<&str>) -> Result<()
 fn given_kind(matches: &ArgMatches<'_>) -> Result<Target, UsageFault>
     ensures { result ≡ specs.given_kind (rows_of (found_of matches.now)) }
 {
-    let kind = value_of(matches, OptionName::Kind, kind_from_text)?;
-    kind.ok_or(UsageFault::Value(OptionName::Kind))
+    given_needed(matches, OptionName::Kind, kind_from_text)
 }
 
 fn kind_from_text(text: &str) -> Option<Target>

@@ -1,15 +1,15 @@
-//! What the matches of a command line settle.
-ghost use Rattle.std.specs.Prelude.{◌≡◌, None, option_map, IfOk, IfSome};
+//! The options that several commands share, and the job that the words ask for.
+ghost use Rattle.std.specs.Prelude.{◌≡◌, None, Option, option_map, IfOk, IfSome};
 ghost use Rattle.std.specs.Fn.{FnOnceReturnsAt};
 ghost use Rattle.std.specs.Option.{option_copied};
-ghost use Rattle.clap.specs.Words.{first_of, found_of, rows_of, subcommand_rows_of};
+ghost use Rattle.clap.specs.Words.{Text, first_of, found_of, rows_of, subcommand_rows_of};
 ghost use Rattle.sd_answer.specs.Task.{IsDerivation};
 ghost use Rattle.sd_command.specs.CommandLine.{option_text};
 ghost use Rattle.sd_command.specs.Settings as specs;
 ghost use Rattle.sd_command.specs.Settings.{nobody};
 ghost use Rattle.sd_command.specs.Usage.{usage_line};
 ghost use Rattle.sd_command.specs.Inner.Choosing.{choice_with, own_with};
-ghost use Rattle.sd_command.specs.Inner.Given.{GivenBy};
+ghost use Rattle.sd_command.specs.Inner.Given.{Reads};
 
 use crate::check_settings::check_own;
 use crate::derive_settings::derive_own;
@@ -177,15 +177,15 @@ fn convert_own<'a>(matches: &ArgMatches<'a>) -> Result<Own<'a>, UsageFault>
     Ok(without_creator(Act::Convert(target)))
 }
 
-// What an option's text reads as. None where the option is left out.
-pub(crate) fn value_of<T, R: FnOnce(&str) -> Option<T>>(
+// What the text of an option reads as. None where the option is left out.
+pub(crate) fn given_if<T, R: FnOnce(&str) -> Option<T>>(
     matches: &ArgMatches<'_>,
     option: OptionName,
     read: R,
 ) -> Result<Option<T>, UsageFault>
     requires { R.IsAlwaysCallable read }
-    ensures { GivenBy (λ text value. FnOnceReturnsAt R.FnOnce read text value) option
-        (first_of (option_text option) (rows_of (found_of matches.now))) result }
+    ensures { (reads : Text → Option T) → Reads (λ text value. FnOnceReturnsAt R.FnOnce read text value) reads
+        → result ≡ specs.given_if option reads (rows_of (found_of matches.now)) }
 {
     match text_of(matches, option) {
         Some(text) => match read(text) {
@@ -196,10 +196,39 @@ pub(crate) fn value_of<T, R: FnOnce(&str) -> Option<T>>(
     }
 }
 
+// The same with a value for an option that is left out.
+pub(crate) fn given_or<T: Drop, R: FnOnce(&str) -> Option<T>>(
+    matches: &ArgMatches<'_>,
+    option: OptionName,
+    default: T,
+    read: R,
+) -> Result<T, UsageFault>
+    requires { R.IsAlwaysCallable read }
+    ensures { (reads : Text → Option T) → Reads (λ text value. FnOnceReturnsAt R.FnOnce read text value) reads
+        → result ≡ specs.given_or option default reads (rows_of (found_of matches.now)) }
+{
+    let value = given_if(matches, option, read)?;
+    Ok(value.unwrap_or(default))
+}
+
+// The same where the option may not be left out.
+pub(crate) fn given_needed<T, R: FnOnce(&str) -> Option<T>>(
+    matches: &ArgMatches<'_>,
+    option: OptionName,
+    read: R,
+) -> Result<T, UsageFault>
+    requires { R.IsAlwaysCallable read }
+    ensures { (reads : Text → Option T) → Reads (λ text value. FnOnceReturnsAt R.FnOnce read text value) reads
+        → result ≡ specs.given_needed option reads (rows_of (found_of matches.now)) }
+{
+    let value = given_if(matches, option, read)?;
+    value.ok_or(UsageFault::Value(option))
+}
+
 fn given_domain(matches: &ArgMatches<'_>) -> Result<Option<Sid>, UsageFault>
     ensures { result ≡ specs.given_domain (rows_of (found_of matches.now)) }
 {
-    value_of(matches, OptionName::Domain, domain_from_text)
+    given_if(matches, OptionName::Domain, domain_from_text)
 }
 
 // A SID with room for one more sub-authority, read without a domain.
@@ -223,16 +252,14 @@ fn domain_from_text(text: &str) -> Option<Sid>
 fn given_source(matches: &ArgMatches<'_>) -> Result<Form, UsageFault>
     ensures { result ≡ specs.given_source (rows_of (found_of matches.now)) }
 {
-    let form = value_of(matches, OptionName::From, form_from_text)?;
-    Ok(form.unwrap_or(Form::Hex))
+    given_or(matches, OptionName::From, Form::Hex, form_from_text)
 }
 
 // SDDL where the option is left out.
 pub(crate) fn given_target(matches: &ArgMatches<'_>) -> Result<Form, UsageFault>
     ensures { result ≡ specs.given_target (rows_of (found_of matches.now)) }
 {
-    let form = value_of(matches, OptionName::To, form_from_text)?;
-    Ok(form.unwrap_or(Form::Sddl))
+    given_or(matches, OptionName::To, Form::Sddl, form_from_text)
 }
 
 fn form_from_text(text: &str) -> Option<Form>
@@ -254,8 +281,7 @@ fn form_from_text(text: &str) -> Option<Form>
 pub(crate) fn given_mapping(matches: &ArgMatches<'_>) -> Result<Mapping, UsageFault>
     ensures { result ≡ specs.given_mapping (rows_of (found_of matches.now)) }
 {
-    let mapping = value_of(matches, OptionName::Type, mapping_from_text)?;
-    Ok(mapping.unwrap_or(Mapping::FILE))
+    given_or(matches, OptionName::Type, Mapping::FILE, mapping_from_text)
 }
 
 fn mapping_from_text(text: &str) -> Option<Mapping>

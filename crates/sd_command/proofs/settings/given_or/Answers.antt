@@ -1,0 +1,13 @@
+use Rattle.std.proofs.Common.{rules, ◌≡◌, Err, ◌∙◌, sym}
+use Rattle.sd_command.proofs.GivenLemmas.{or-fault, or-is}
+use Rattle.sd_command.proofs.settings.given_or.Goals as goal
+
+pub returns-in_err-value : goal.returns-in_err-value
+returns-in_err-value g c = λ reads is.
+    let e : c.from_residual.result ≡ Err c.in_err-value.field-0.0 = search rules in
+    e ∙ or-fault reads c.args.option c.args.default _ _ (sym (c.given_if.ensures reads is) ∙ c.in_err-value.was)
+
+pub returns : goal.returns
+returns g c = λ reads is.
+    rw c.unwrap_or.ensures
+    (or-is reads c.args.option c.args.default _ _ (sym (c.given_if.ensures reads is) ∙ c.in_ok-value.was))
