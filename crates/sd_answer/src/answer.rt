@@ -46,7 +46,7 @@ impl Stores {
     }
 }
 
-/// Puts the answer to the line in hand, with its LF. Returns whether it is an `error` line. Small texts go out together.
+/// Puts the answer to the line in hand, with its LF. Returns whether it is an `error` line. Small texts are gathered.
 pub fn put_answer<S: Sink>(
     task: &Task<'_>,
     line: &mut Line,

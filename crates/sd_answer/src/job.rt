@@ -33,7 +33,8 @@ pub enum Act {
     Explain,
     /// It is said whether it grants what is asked (MS-DTYP 2.5.3).
     Check(Ask),
-    /// What a new object inherits from its container (MS-DTYP 2.5.3.4) is printed in this form.
+    /// The descriptor of a new object (MS-DTYP 2.5.3.4) is printed in this form: what the object inherits from its
+    /// container, and what it takes from the descriptor of its creator, if there is one (`Task::creator`).
     Derive(Plan, Form),
 }
 

@@ -71,7 +71,7 @@ fn write_answer<W: Drain>(
     put_answer(task, line, stores, token, &mut sink)
 }
 
-/// Reads one more piece, wherever the input is cut. Returns whether a line ended in it; if none did, nothing was written.
+/// Reads one more piece, wherever the input is cut. Returns whether a line ended in it. If none did, it writes nothing.
 pub fn feed_all<W: Drain>(
     task: &Task<'_>,
     state: &mut RunState,

@@ -34,8 +34,8 @@ const PIECE: usize = 8192;
 ///
 /// - `Read` (60): a read failed. The lines that an LF ended are answered and their answers handed on. The line in hand
 ///   is not answered.
-/// - `Write` (61): a write or a flush failed. A prefix of the answers is written, and nothing after the failed call. The
-///   run ends at the first answers that do not go out, not at the end of the input: only lines that end in the last
+/// - `Write` (61): a write or a flush failed. A prefix of the answers is written, and nothing after the failed call.
+///   The run ends at the first answers that do not go out, not at the end of the input: only lines that end in the last
 ///   read, or with the input, can lack an answer.
 /// - `TooManyReads` (62): 2^40 reads brought no end. What is answered is as after a failed read.
 ///
