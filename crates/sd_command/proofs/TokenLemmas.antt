@@ -1,11 +1,6 @@
 -- The pieces of a token's text, one after the other.
-<<<<<<< HEAD
-use Rattle.std.proofs.Common.{◌≡◌, ◌≤◌, ◌<◌, ◌+◌, ℕ, Bool, true, false, List, [], ◌∷◌, ◌++◌, length, Option, Some, None}
-use Rattle.std.proofs.Common.{option_map, append_assoc, append-nil, length-append, ap, sym, ◌∙◌, refl, arith}
-=======
 use Rattle.std.proofs.Common.{◌≡◌, ◌≤◌, ◌<◌, ◌+◌, ℕ, Bool, true, false, List, [], ◌∷◌, ◌++◌, length, Option, Some}
 use Rattle.std.proofs.Common.{None, option_map, append_assoc, append-nil, length-append, ap, sym, ◌∙◌, refl, arith}
->>>>>>> 99d130e (An option's value is read by one of three functions, whose contracts are for any reader; two edits that did not reach the prover are mended; sd_command is checked over the crates of 48f86f4, those above it are not)
 use Rattle.std.specs.Prelude.{◌==◌, nat_lt, if◌then◌else◌}
 use Rattle.std.specs.Option.{option_and_then}
 use Rattle.std.specs.List.{position_or_len, before_first, after_first}

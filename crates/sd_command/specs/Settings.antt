@@ -1,11 +1,6 @@
 -- What the matches of a command line settle.
-<<<<<<< HEAD
-use Rattle.std.specs.Prelude.{ℕ, Bool, ◌&&◌, ◌||◌, ◌^◌, false, nat_le, nat_lt, if◌then◌else◌, List, [], length, Option}
-use Rattle.std.specs.Prelude.{Some, None, Result, Ok, Err, codes, option_map}
-=======
 use Rattle.std.specs.Prelude.{ℕ, Bool, ◌&&◌, ◌||◌, ◌^◌, false, nat_le, nat_lt, if◌then◌else◌, List, [], length}
 use Rattle.std.specs.Prelude.{Option, Some, None, Result, Ok, Err, codes, option_map}
->>>>>>> 99d130e (An option's value is read by one of three functions, whose contracts are for any reader; two edits that did not reach the prover are mended; sd_command is checked over the crates of 48f86f4, those above it are not)
 use Rattle.std.specs.Str.{bytes_eq}
 use Rattle.std.specs.Option.{ok_or}
 use Rattle.std.specs.Result.{result_ok}
