@@ -1,21 +1,26 @@
 -- What a base64 text spells is bytes; and the base64 of some bytes, piece by piece and how long it is.
-use Rattle.std.proofs.Common.{◌≡◌, ◌<◌, ◌≤◌, ℕ, zero, suc, ◌+◌, ◌*◌, ◌-◌, ◌%◌, ◌==◌, nat_lt, Bool, true, false, cond, List, [], ◌∷◌, ◌++◌, length, take, drop, replicate, slice_index, slice_set, Option, Some, None, Result, Ok, Err, refl, subst, ap, ◌∙◌, inl, inr, lit≤, arith}
+use Rattle.std.proofs.Common.{◌≡◌, ◌<◌, ◌≤◌, ℕ, zero, suc, ◌+◌, ◌*◌, ◌-◌, ◌%◌, ◌==◌, nat_lt, Bool, true, false}
+use Rattle.std.proofs.Common.{cond, List, [], ◌∷◌, ◌++◌, length, take, drop, replicate, slice_index, slice_set}
+use Rattle.std.proofs.Common.{Option, Some, None, Result, Ok, Err, refl, subst, ap, ◌∙◌, inl, inr, lit≤, arith}
 use Rattle.std.proofs.Math.Seq.{take-add}
 use Rattle.std.proofs.lemmas.Bool.{cases_Bool, cases_eq, cases_lt}
-use Rattle.std.proofs.lemmas.List.{get_or-set_other, get_or-set_same, get_or_past, length-append, length-replicate, length-take-le, set_past}
-use Rattle.base64.specs.Decode.{IsDecodeTable, decode_group, decode_outcome, group_bytes, group_error, groups_before_last, groups_bytes, groups_error, no_leftover, or_else, push_leftover, scan_bytes, scan_last, scan_steps, suffix_bytes, symbol_error}
+use Rattle.std.proofs.lemmas.List.{get_or-set_other, get_or-set_same, get_or_past}
+use Rattle.std.proofs.lemmas.List.{length-append, length-replicate, length-take-le, set_past}
+use Rattle.base64.proofs.EngineFacts.{encode_of-append}
+use Rattle.base64.proofs.Tables.{IsDecodeTable_from, are_tables_inverse}
+use Rattle.base64.specs.Decode.{IsDecodeTable, decode_group, decode_outcome, group_bytes, group_error}
+use Rattle.base64.specs.Decode.{groups_before_last, groups_bytes, groups_error, no_leftover, or_else}
+use Rattle.base64.specs.Decode.{push_leftover, scan_bytes, scan_last, scan_steps, suffix_bytes, symbol_error}
 use Rattle.base64.specs.Engines.{standard}
 use Rattle.base64.specs.GeneralPurpose.{decode_of, encode_of}
 use Rattle.base64.specs.Rfc4648.{encode, encode_symbols, padding_len}
 use Rattle.base64.specs.declared.decode.DecodeError.{DecodeError}
 use Rattle.base64.specs.declared.engine.general_purpose.GeneralPurpose.{GeneralPurpose}
-use Rattle.base64.proofs.EngineFacts.{encode_of-append}
-use Rattle.base64.proofs.Tables.{IsDecodeTable_from, are_tables_inverse}
-use Rattle.sd_sid.proofs.laws.Numbers.{AreBytes, AreBytes-tail, AreBytes-take}
-use Rattle.sd_buffer.specs.Text.{base64_spells}
-use Rattle.sd_buffer.proofs.laws.SpelledBase64.{decoded-base64}
-use Rattle.sd_sink.specs.Print.{PrintTold, Prints}
 use Rattle.sd_sink.proofs.laws.PrintLemmas.{prints_then}
+use Rattle.sd_sink.specs.Print.{PrintTold, Prints}
+use Rattle.sd_sid.proofs.laws.Numbers.{AreBytes, AreBytes-tail, AreBytes-take}
+use Rattle.sd_buffer.proofs.laws.SpelledBase64.{decoded-base64}
+use Rattle.sd_buffer.specs.Text.{base64_spells}
 
 -- ---- what is spelled is bytes
 

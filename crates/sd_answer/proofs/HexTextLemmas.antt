@@ -1,9 +1,10 @@
 -- The hex text of some bytes, piece by piece.
-use Rattle.std.proofs.Common.{◌≡◌, ℕ, ◌+◌, ◌-◌, ◌/◌, ◌%◌, ◌∷◌, slice_index, List, [], ◌++◌, take, drop, refl, ◌∙◌, ap, arith}
+use Rattle.std.proofs.Common.{◌≡◌, ℕ, ◌+◌, ◌-◌, ◌/◌, ◌%◌, ◌∷◌, slice_index}
+use Rattle.std.proofs.Common.{List, [], ◌++◌, take, drop, refl, ◌∙◌, ap, arith}
 use Rattle.std.proofs.Math.Seq.{take-add}
 use Rattle.hex.specs.Hex.{encode_with, encode_lower, lower_digits}
-use Rattle.sd_sink.specs.Print.{PrintTold, Prints}
 use Rattle.sd_sink.proofs.laws.PrintLemmas.{prints_then}
+use Rattle.sd_sink.specs.Print.{PrintTold, Prints}
 
 encode_with-append : (t xs ys : List ℕ) → encode_with t (xs ++ ys) ≡ encode_with t xs ++ encode_with t ys
 unfolding encode_with

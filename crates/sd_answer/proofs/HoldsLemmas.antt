@@ -1,7 +1,8 @@
 -- What the line in hand has after more bytes.
-use Rattle.std.proofs.Common.{◌≡◌, ℕ, List, [], ◌∷◌, ◌++◌, Bool, true, false, ◌==◌, cond, refl, sym, ap, append-nil, append_assoc, rules}
-use Rattle.sd_answer.specs.LineEnd.{without_cr}
+use Rattle.std.proofs.Common.{◌≡◌, ℕ, List, [], ◌∷◌, ◌++◌, Bool, true, false, ◌==◌}
+use Rattle.std.proofs.Common.{cond, refl, sym, ap, append-nil, append_assoc, rules}
 use Rattle.sd_answer.specs.Inner.Reading.{HasRead, form_of}
+use Rattle.sd_answer.specs.LineEnd.{without_cr}
 use Rattle.sd_answer.specs.LineInHand.{HoldsText, Holds}
 use Rattle.sd_answer.specs.declared.job.Job.{Job}
 use Rattle.sd_answer.specs.declared.line.Line.{Line}

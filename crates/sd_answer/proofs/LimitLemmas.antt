@@ -1,23 +1,25 @@
 -- What a line means has the limits of a descriptor.
-use Rattle.std.proofs.Common.{◌≡◌, ℕ, Bool, true, false, cond, eqb, List, [], ◌∷◌, length, ◌%◌, Option, Some, None, Result, Ok, Err, refl}
+use Rattle.std.proofs.Common.{◌≡◌, ℕ, Bool, true, false, cond, eqb, List, [], ◌∷◌}
+use Rattle.std.proofs.Common.{length, ◌%◌, Option, Some, None, Result, Ok, Err, refl}
 use Rattle.std.specs.Prelude.{IfSome, nat_lt}
-use Rattle.sd_buffer.proofs.laws.HexPairs.{decoded-ok}
+use Rattle.hex.proofs.HexLemmas.{decode_pairs-ok}
 use Rattle.hex.specs.Hex.{decode_of, decode_pairs}
 use Rattle.hex.specs.declared.error.FromHexError.TheVariants.{OddLength}
-use Rattle.hex.proofs.HexLemmas.{decode_pairs-ok}
 use Rattle.sd_sid.proofs.laws.Numbers.{AreBytes}
 use Rattle.sd_sid.specs.Sid.{IsSid, SecurityId}
-use Rattle.sd_sddl_reader.specs.Meaning.{means}
-use Rattle.sd_sddl_reader.specs.declared.fault.SddlFault.{SddlFault}
-use Rattle.sd_sddl_reader.proofs.laws.MeaningLimits.{means-limits}
-use Rattle.sd_view.specs.Descriptor.{Descriptor, IsDescriptor}
-use Rattle.sd_view.specs.Reading.{reading}
+use Rattle.sd_buffer.proofs.laws.HexPairs.{decoded-ok}
 use Rattle.sd_buffer.specs.Text.{base64_spells, hex_spells}
 use Rattle.sd_buffer.specs.declared.buffer.TextFault.{TextFault}
-use Rattle.sd_view.specs.declared.fault.SdFault.{SdFault}
 use Rattle.sd_view.proofs.laws.ReadingLaws.{read-limits}
-use Rattle.sd_answer.specs.Answer.{Meaning, bytes_mean, line_limit, line_means, meaning, or_byte_fault, or_sddl_fault, text_means}
+use Rattle.sd_view.specs.Descriptor.{Descriptor, IsDescriptor}
+use Rattle.sd_view.specs.Reading.{reading}
+use Rattle.sd_view.specs.declared.fault.SdFault.{SdFault}
+use Rattle.sd_sddl_reader.proofs.laws.MeaningLimits.{means-limits}
+use Rattle.sd_sddl_reader.specs.Meaning.{means}
+use Rattle.sd_sddl_reader.specs.declared.fault.SddlFault.{SddlFault}
 use Rattle.sd_answer.proofs.Base64Lemmas.{spelled-base64}
+use Rattle.sd_answer.specs.Answer.{Meaning, bytes_mean, line_limit, line_means}
+use Rattle.sd_answer.specs.Answer.{meaning, or_byte_fault, or_sddl_fault, text_means}
 use Rattle.sd_answer.specs.declared.fault.LineFault.{LineFault}
 use Rattle.sd_answer.specs.declared.fault.LineFault.TheVariants.{TooLong}
 use Rattle.sd_answer.specs.declared.job.Form.{Form}

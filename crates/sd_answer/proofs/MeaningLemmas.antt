@@ -1,16 +1,18 @@
 -- What a line means, case by case, and what is answered to it.
-use Rattle.std.proofs.Common.{◌≡◌, ◌≢◌, ◌≤◌, ◌<◌, ℕ, List, [], ◌∷◌, Bool, length, Option, Some, Result, Ok, Err, refl, sym, ◌∙◌, ap, subst, arith}
+use Rattle.std.proofs.Common.{◌≡◌, ◌≢◌, ◌≤◌, ◌<◌, ℕ, List, [], ◌∷◌, Bool, length, Option}
+use Rattle.std.proofs.Common.{Some, Result, Ok, Err, refl, sym, ◌∙◌, ap, subst, arith}
 use Rattle.std.proofs.lemmas.Bool.Decides.{nat_tests}
-use Rattle.sd_sid.specs.Sid.{SecurityId}
-use Rattle.sd_token.specs.Token.{Compares, Holder, TokenShown}
+use Rattle.sd_sink.proofs.laws.PrintLemmas.{printed}
 use Rattle.sd_sink.specs.Print.{Begins, Finishes, PrintTold}
 use Rattle.sd_sink.specs.Sink.{SinkTold, PutSome}
 use Rattle.sd_sink.specs.declared.sink.SinkFault.{SinkFault}
+use Rattle.sd_sid.specs.Sid.{SecurityId}
 use Rattle.sd_view.specs.Descriptor.{Descriptor}
-use Rattle.sd_answer.specs.Answer.{Meaning, answer, bound, is_error, line_limit, line_means, meaning, outcome_of_meaning, text_means}
+use Rattle.sd_token.specs.Token.{Compares, Holder, TokenShown}
+use Rattle.sd_answer.specs.Answer.{Meaning, answer, bound, is_error, line_limit}
+use Rattle.sd_answer.specs.Answer.{line_means, meaning, outcome_of_meaning, text_means}
 use Rattle.sd_answer.specs.Inner.Printing.{PrintsAnswer}
 use Rattle.sd_answer.specs.LineInHand.{PutsAnswer}
-use Rattle.sd_sink.proofs.laws.PrintLemmas.{printed}
 use Rattle.sd_answer.specs.declared.fault.LineFault.{LineFault}
 use Rattle.sd_answer.specs.declared.fault.LineFault.TheVariants.{TooLong}
 use Rattle.sd_answer.specs.declared.job.Form.{Form}

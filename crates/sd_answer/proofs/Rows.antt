@@ -1,25 +1,27 @@
 -- Worked rows of lines and answers, computed.
 use Rattle.std.proofs.Common.{◌≡◌, ◌+◌, ◌*◌, ◌/◌, [], ◌∷◌, ◌++◌, None, false, codes, refl}
+use Rattle.std.specs.Fmt.{digits}
 use Rattle.base64.proofs.OnLiterals.{base64_on_literals}
 use Rattle.hex.proofs.OnLiterals.{hex_on_literals}
-use Rattle.sd_sid.specs.Sid.{sid_at}
 use Rattle.sd_text.specs.Limits.{most_base64_text, most_hex_text, most_sddl_text}
-use Rattle.sd_view.specs.Bytes.{u16_at, u32_at}
+use Rattle.sd_sid.specs.Sid.{sid_at}
 use Rattle.sd_control.specs.declared.limits.TheConstants.{CAPACITY}
 use Rattle.sd_control.specs.Header.{header_bytes}
-use Rattle.sd_view.specs.Reading.{acl_part_fault, acl_shown, fault, header_fault, overlap_fault, overlaps_fault, parts_fault, reading, sid_fault, sid_shown}
-use Rattle.sd_buffer.specs.Text.{base64_spells, hex_spells}
 use Rattle.sd_control.specs.declared.part.Part.TheVariants as part
+use Rattle.sd_buffer.specs.Text.{base64_spells, hex_spells}
+use Rattle.sd_view.specs.Bytes.{u16_at, u32_at}
+use Rattle.sd_view.specs.Reading.{acl_part_fault, acl_shown, fault, header_fault, overlap_fault}
+use Rattle.sd_view.specs.Reading.{overlaps_fault, parts_fault, reading, sid_fault, sid_shown}
 use Rattle.sd_view.specs.declared.fault.SdFault.TheVariants as sd
+use Rattle.sd_token.specs.Token.{Holder}
+use Rattle.sd_answer.specs.Answer.{answer, form_text, line_means}
+use Rattle.sd_answer.specs.Faults.{fault_text}
+use Rattle.sd_answer.specs.LineEnd.{without_cr}
 use Rattle.sd_answer.specs.declared.fault.LineFault.TheVariants.{Sd}
 use Rattle.sd_answer.specs.declared.job.Act.TheVariants.{Convert}
 use Rattle.sd_answer.specs.declared.job.Form.TheVariants.{Base64, Hex}
 use Rattle.sd_answer.specs.declared.job.Job.{Job}
 use Rattle.sd_answer.specs.declared.job.Task.{Task}
-use Rattle.sd_token.specs.Token.{Holder}
-use Rattle.sd_answer.specs.Answer.{answer, form_text, line_means}
-use Rattle.sd_answer.specs.Faults.{fault_text}
-use Rattle.sd_answer.specs.LineEnd.{without_cr}
 
 -- the longest descriptor that is held, and the limits of a line that follow from it
 pub longest : CAPACITY ≡ 131226
@@ -30,7 +32,7 @@ pub longest_lines : (most_hex_text ≡ 2 * CAPACITY) × (most_base64_text ≡ 4 
 longest_lines = (refl, refl, refl)
 
 pub overlap_text : fault_text (Sd (sd.Overlap part.Owner part.Group)) ≡ codes "error 14 overlap owner group"
-unfolding fault_text
+unfolding fault_text digits
 overlap_text = refl
 
 abbrev nobody : Holder
@@ -47,13 +49,13 @@ unfolding answer
 empty_answer = refl
 
 pub short_answer : answer (alone hex_to_hex) nobody (codes "0100048014") ≡ codes "error 5 short" ++ 10 ∷ []
-unfolding answer line_means hex_spells hex_on_literals reading fault header_fault fault_text
+unfolding answer line_means hex_spells hex_on_literals reading fault header_fault fault_text digits
 short_answer = refl
 
-pub sid_answer : answer (alone hex_to_hex) nobody (codes "01000080140000000000000000000000000000000110000000000005") ≡ codes
-    "error 9 sid owner" ++ 10 ∷ []
+pub sid_answer : answer (alone hex_to_hex) nobody
+    (codes "01000080140000000000000000000000000000000110000000000005") ≡ codes "error 9 sid owner" ++ 10 ∷ []
 unfolding answer line_means hex_spells hex_on_literals reading fault header_fault parts_fault sid_fault sid_at u16_at
-    u32_at fault_text
+    u32_at fault_text digits
 sid_answer = refl
 
 pub header_answer : answer (alone hex_to_hex) nobody (codes "01FF008000000000000000000000000000000000") ≡ codes

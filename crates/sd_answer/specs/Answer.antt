@@ -1,18 +1,34 @@
 -- The answer to a line, which rests on that line alone.
-use Rattle.std.specs.Prelude.{◌≤◌, ℕ, ◌+◌, ◌*◌, List, [], ◌∷◌, ◌++◌, if◌then◌else◌, nat_lt, length, Bool, true, false, Option, Some, None, Result, Ok, Err, codes}
-use Rattle.sd_text.specs.Chains.{◌>>=◌, fault_as}
-use Rattle.sd_answer.specs.LineEnd.{line_feed}
+use Rattle.std.specs.Prelude.{◌≤◌, ℕ, ◌+◌, ◌*◌, List, [], ◌∷◌, ◌++◌, if◌then◌else◌, nat_lt, length}
+use Rattle.std.specs.Prelude.{Bool, true, false, Option, Some, None, Result, Ok, Err, codes}
 use Rattle.base64.specs.Engines.{standard}
 use Rattle.base64.specs.GeneralPurpose.{encode_of}
 use Rattle.hex.specs.Hex.{encode_lower}
+use Rattle.sd_text.specs.Chains.{◌>>=◌, fault_as}
+use Rattle.sd_text.specs.Limits.{most_base64_text, most_hex_text, most_sddl_text}
+use Rattle.sd_text.specs.Numbers.{hex_digits}
 use Rattle.sd_sid.specs.Sid.{SecurityId}
-use Rattle.sd_token.specs.Token.{Holder}
+use Rattle.sd_sid.specs.declared.naming.Naming.{Naming}
+use Rattle.sd_buffer.specs.Text.{base64_spells, hex_spells}
+use Rattle.sd_buffer.specs.declared.buffer.TextFault.{TextFault}
 use Rattle.sd_view.specs.Descriptor.{Descriptor}
 use Rattle.sd_view.specs.Layout.{layout, size}
 use Rattle.sd_view.specs.Reading.{reading}
-use Rattle.sd_buffer.specs.Text.{base64_spells, hex_spells}
-use Rattle.sd_buffer.specs.declared.buffer.TextFault.{TextFault}
 use Rattle.sd_view.specs.declared.fault.SdFault.{SdFault}
+use Rattle.sd_token.specs.Token.{Holder}
+use Rattle.sd_check.specs.Ask.{Asked}
+use Rattle.sd_check.specs.Need.{check_bound}
+use Rattle.sd_check.specs.Verdict.{verdict}
+use Rattle.sd_check.specs.declared.verdict.Verdict.{Verdict}
+use Rattle.sd_check.specs.declared.verdict.Verdict.TheVariants.{Denied, Granted}
+use Rattle.sd_inherit.specs.Derived.{derive_fault, derived}
+use Rattle.sd_inherit.specs.declared.derivation.DeriveFault.{DeriveFault}
+use Rattle.sd_explain.specs.Explain.{explain}
+use Rattle.sd_sddl_reader.specs.Meaning.{means}
+use Rattle.sd_sddl_reader.specs.declared.fault.SddlFault.{SddlFault}
+use Rattle.sd_sddl_printer.specs.Printed.{sddl}
+use Rattle.sd_answer.specs.Faults.{fault_text}
+use Rattle.sd_answer.specs.LineEnd.{line_feed}
 use Rattle.sd_answer.specs.declared.fault.LineFault.{LineFault}
 use Rattle.sd_answer.specs.declared.fault.LineFault.TheVariants.{TooLong, Text, Sd, Sddl, Derive}
 use Rattle.sd_answer.specs.declared.job.Act.{Act}
@@ -22,21 +38,6 @@ use Rattle.sd_answer.specs.declared.job.Form.{Form}
 use Rattle.sd_answer.specs.declared.job.Form.TheVariants as form
 use Rattle.sd_answer.specs.declared.job.Job.{Job}
 use Rattle.sd_answer.specs.declared.job.Task.{Task}
-use Rattle.sd_sid.specs.declared.naming.Naming.{Naming}
-use Rattle.sd_check.specs.Need.{check_bound}
-use Rattle.sd_check.specs.Verdict.{verdict}
-use Rattle.sd_check.specs.Ask.{Asked}
-use Rattle.sd_check.specs.declared.verdict.Verdict.{Verdict}
-use Rattle.sd_check.specs.declared.verdict.Verdict.TheVariants.{Denied, Granted}
-use Rattle.sd_inherit.specs.Derived.{derive_fault, derived}
-use Rattle.sd_inherit.specs.declared.derivation.DeriveFault.{DeriveFault}
-use Rattle.sd_explain.specs.Explain.{explain}
-use Rattle.sd_text.specs.Limits.{most_base64_text, most_hex_text, most_sddl_text}
-use Rattle.sd_text.specs.Numbers.{hex_digits}
-use Rattle.sd_sddl_reader.specs.Meaning.{means}
-use Rattle.sd_sddl_printer.specs.Printed.{sddl}
-use Rattle.sd_sddl_reader.specs.declared.fault.SddlFault.{SddlFault}
-use Rattle.sd_answer.specs.Faults.{fault_text}
 
 -- ---- what a line means
 

@@ -1,47 +1,56 @@
--- The text of an `error` line: its number and name, and the part or parts where it has any.
+-- What each fault of a line is called, and the text of its `error` line.
+use Rattle.std.specs.Fmt.{decimal}
 use Rattle.std.specs.Prelude.{ℕ, List, [], ◌++◌, Option, Some, None, codes}
+use Rattle.sd_sid.specs.declared.sid_text.SidFault.TheVariants as sid
 use Rattle.sd_buffer.specs.declared.buffer.TextFault.TheVariants as text
 use Rattle.sd_control.specs.declared.part.Part.{Part}
 use Rattle.sd_control.specs.declared.part.Part.TheVariants as part
 use Rattle.sd_view.specs.declared.fault.SdFault.TheVariants as sd
 use Rattle.sd_control.specs.Parts.{part_of}
-use Rattle.sd_sid.specs.declared.sid_text.SidFault.TheVariants as sid
-use Rattle.sd_sddl_reader.specs.declared.fault.SddlFault.TheVariants as sddl
 use Rattle.sd_inherit.specs.declared.derivation.DeriveFault.TheVariants.{DerivedTooLarge}
+use Rattle.sd_sddl_reader.specs.declared.fault.SddlFault.TheVariants as sddl
 use Rattle.sd_answer.specs.declared.fault.LineFault.{LineFault}
 use Rattle.sd_answer.specs.declared.fault.LineFault.TheVariants.{TooLong, Text, Sd, Sddl, Derive}
 
-abbrev pub number_and_name : LineFault → List ℕ
-number_and_name TooLong = codes "error 1 too-long"
-number_and_name (Text text.HexDigit) = codes "error 2 hex-digit"
-number_and_name (Text text.HexOdd) = codes "error 3 hex-odd"
-number_and_name (Text text.Base64) = codes "error 4 base64"
-number_and_name (Sd sd.Short) = codes "error 5 short"
-number_and_name (Sd sd.Revision) = codes "error 6 revision"
-number_and_name (Sd sd.NotSelfRelative) = codes "error 7 not-self-relative"
-number_and_name (Sd (sd.Offset p)) = codes "error 8 offset"
-number_and_name (Sd (sd.Sid p)) = codes "error 9 sid"
-number_and_name (Sd (sd.Acl p)) = codes "error 10 acl"
-number_and_name (Sd (sd.AceSize p)) = codes "error 11 ace-size"
-number_and_name (Sd (sd.AceType p)) = codes "error 12 ace-type"
-number_and_name (Sd (sd.AceFlags p)) = codes "error 13 ace-flags"
-number_and_name (Sd (sd.Overlap p q)) = codes "error 14 overlap"
-number_and_name (Sddl sddl.Shape) = codes "error 20 shape"
-number_and_name (Sddl sddl.PartTwice) = codes "error 21 part-twice"
-number_and_name (Sddl (sddl.Sid sid.Alias)) = codes "error 22 alias"
-number_and_name (Sddl (sddl.Sid sid.NeedsDomain)) = codes "error 23 needs-domain"
-number_and_name (Sddl (sddl.Sid sid.Number)) = codes "error 24 number"
-number_and_name (Sddl (sddl.Sid sid.SidForm)) = codes "error 25 sid-form"
-number_and_name (Sddl sddl.Flags) = codes "error 26 flags"
-number_and_name (Sddl sddl.Rights) = codes "error 27 rights"
-number_and_name (Sddl sddl.Guid) = codes "error 28 guid"
-number_and_name (Sddl sddl.Kind) = codes "error 29 kind"
-number_and_name (Sddl (sddl.AclTooLarge w)) = codes "error 30 acl-too-large"
-number_and_name (Derive (DerivedTooLarge w)) = codes "error 40 derived-too-large"
+-- its number and its name
+abbrev pub number_and_name : LineFault → ℕ × List ℕ
+number_and_name TooLong = (1, codes "too-long")
+number_and_name (Text text.HexDigit) = (2, codes "hex-digit")
+number_and_name (Text text.HexOdd) = (3, codes "hex-odd")
+number_and_name (Text text.Base64) = (4, codes "base64")
+number_and_name (Sd sd.Short) = (5, codes "short")
+number_and_name (Sd sd.Revision) = (6, codes "revision")
+number_and_name (Sd sd.NotSelfRelative) = (7, codes "not-self-relative")
+number_and_name (Sd (sd.Offset p)) = (8, codes "offset")
+number_and_name (Sd (sd.Sid p)) = (9, codes "sid")
+number_and_name (Sd (sd.Acl p)) = (10, codes "acl")
+number_and_name (Sd (sd.AceSize p)) = (11, codes "ace-size")
+number_and_name (Sd (sd.AceType p)) = (12, codes "ace-type")
+number_and_name (Sd (sd.AceFlags p)) = (13, codes "ace-flags")
+number_and_name (Sd (sd.Overlap p q)) = (14, codes "overlap")
+number_and_name (Sddl sddl.Shape) = (20, codes "shape")
+number_and_name (Sddl sddl.PartTwice) = (21, codes "part-twice")
+number_and_name (Sddl (sddl.Sid sid.Alias)) = (22, codes "alias")
+number_and_name (Sddl (sddl.Sid sid.NeedsDomain)) = (23, codes "needs-domain")
+number_and_name (Sddl (sddl.Sid sid.Number)) = (24, codes "number")
+number_and_name (Sddl (sddl.Sid sid.SidForm)) = (25, codes "sid-form")
+number_and_name (Sddl sddl.Flags) = (26, codes "flags")
+number_and_name (Sddl sddl.Rights) = (27, codes "rights")
+number_and_name (Sddl sddl.Guid) = (28, codes "guid")
+number_and_name (Sddl sddl.Kind) = (29, codes "kind")
+number_and_name (Sddl (sddl.AclTooLarge w)) = (30, codes "acl-too-large")
+number_and_name (Derive (DerivedTooLarge w)) = (40, codes "derived-too-large")
+
+abbrev pub number : LineFault → ℕ
+number fault = (number_and_name fault).0
+
+abbrev pub name : LineFault → List ℕ
+name fault = (number_and_name fault).1
 
 abbrev pub NamedParts : Type 0
 NamedParts = Option Part × Option Part
 
+-- the part or parts where it has any
 abbrev pub named_parts : LineFault → NamedParts
 named_parts TooLong = (None, None)
 named_parts (Text fault) = (None, None)
@@ -77,4 +86,5 @@ abbrev pub parts_text : NamedParts → List ℕ
 parts_text parts = part_text parts.0 ++ part_text parts.1
 
 unfoldable pub fault_text : LineFault → List ℕ
-fault_text fault = number_and_name fault ++ parts_text (named_parts fault)
+fault_text fault =
+    codes "error " ++ decimal (number fault) ++ codes " " ++ name fault ++ parts_text (named_parts fault)

@@ -1,5 +1,6 @@
 -- The line in hand, and what is put of its answer. Callers never look inside `IsReady`, `HoldsText` and `Holds`.
-use Rattle.std.specs.Prelude.{◌≡◌, ◌≤◌, ℕ, ◌-◌, ◌^◌, min, List, [], ◌∷◌, ◌++◌, length, Bool, true, false, Result, Ok, Err}
+use Rattle.std.specs.Prelude.{◌≡◌, ◌≤◌, ℕ, ◌-◌, ◌^◌, min, List, [], ◌∷◌, ◌++◌}
+use Rattle.std.specs.Prelude.{length, Bool, true, false, Result, Ok, Err}
 use Rattle.sd_sink.specs.Sink.{SinkTold, PutAll, PutSome}
 use Rattle.sd_sink.specs.declared.sink.SinkFault.{SinkFault}
 use Rattle.sd_answer.specs.Answer.{line_limit}

@@ -1,8 +1,8 @@
 -- What a task asks of its job, and the limits of what it has.
 use Rattle.std.specs.Prelude.{IfSome}
-use Rattle.sd_inherit.specs.PlanLimits.{IsPlan}
 use Rattle.sd_sid.specs.Sid.{IsSid}
 use Rattle.sd_view.specs.Descriptor.{IsDescriptor}
+use Rattle.sd_inherit.specs.PlanLimits.{IsPlan}
 use Rattle.sd_answer.specs.declared.job.Act.{Act}
 use Rattle.sd_answer.specs.declared.job.Act.TheVariants.{Check, Convert, Derive, Explain}
 use Rattle.sd_answer.specs.declared.job.Task.{Task}

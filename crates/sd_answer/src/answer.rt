@@ -1,16 +1,17 @@
 //! The answer to a line.
 
 ghost use Rattle.std.specs.Prelude.{◌≡◌, ℕ, List, [], ◌∷◌, true, Ok, Err};
-ghost use Rattle.sd_answer.specs.LineEnd.{line_feed};
 ghost use Rattle.sd_sink.specs.Print.{Prints};
-ghost use Rattle.sd_answer.specs.Answer.{act_outcome, answer, bound, converted, form_text, is_error, naming_of, refused, unless_too_large, verdict_text};
-ghost use Rattle.sd_explain.specs.Explain.{explain};
-ghost use Rattle.sd_token.specs.Token.{Compares};
-ghost use Rattle.sd_answer.specs.LineInHand.{HoldsText, IsReady, PutsAnswer};
-ghost use Rattle.sd_answer.specs.Inner.Printing.{PrintsAnswer};
-ghost use Rattle.sd_inherit.specs.Derived.{derive_fault, derived};
 ghost use Rattle.sd_view.specs.Descriptor.{Descriptor, Shows};
 ghost use Rattle.sd_view.specs.Layout.{layout};
+ghost use Rattle.sd_token.specs.Token.{Compares};
+ghost use Rattle.sd_inherit.specs.Derived.{derive_fault, derived};
+ghost use Rattle.sd_explain.specs.Explain.{explain};
+ghost use Rattle.sd_answer.specs.Answer.{act_outcome, answer, bound, converted, form_text, is_error};
+ghost use Rattle.sd_answer.specs.Answer.{naming_of, refused, unless_too_large, verdict_text};
+ghost use Rattle.sd_answer.specs.Inner.Printing.{PrintsAnswer};
+ghost use Rattle.sd_answer.specs.LineEnd.{line_feed};
+ghost use Rattle.sd_answer.specs.LineInHand.{HoldsText, IsReady, PutsAnswer};
 
 use crate::base64_text::print_base64;
 use crate::fault::{LineFault, print_fault};
@@ -64,10 +65,8 @@ pub fn put_answer<S: Sink>(
 {
     let mut out = Gather::new(sink);
     let faulty = print_answer(task, line, stores, token, &mut out);
-    match out.finish() {
-        Ok(()) => Ok(faulty),
-        Err(sink_fault) => Err(sink_fault),
-    }
+    out.finish()?;
+    Ok(faulty)
 }
 
 // A line over its limit was not read, so that is its only error.

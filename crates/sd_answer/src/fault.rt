@@ -3,7 +3,7 @@
 ghost use Rattle.std.specs.Prelude.{◌≡◌, ◌<◌, length};
 ghost use Rattle.sd_sink.specs.Print.{Prints};
 ghost use Rattle.sd_sink.specs.Sink.{Puts};
-ghost use Rattle.sd_answer.specs.Faults.{fault_text, number_and_name, part_text, named_parts};
+ghost use Rattle.sd_answer.specs.Faults.{fault_text, name, named_parts, number, part_text};
 
 use sd_buffer::TextFault;
 use sd_control::Which;
@@ -11,6 +11,7 @@ use sd_inherit::DeriveFault;
 use sd_sddl_reader::SddlFault;
 use sd_sid::SidFault;
 use sd_sink::{Print, Printer, Sink, SinkFault};
+use sd_text::print_decimal;
 use sd_view::{Part, SdFault};
 
 /// Why a line has no answer but an `error` line: the first condition that holds.
@@ -43,61 +44,77 @@ pub fn put_fault<S: Sink>(fault: &LineFault, sink: &mut S) -> Result<(), SinkFau
 pub fn print_fault<P: Print>(fault: &LineFault, out: &mut P)
     ensures { Prints (P.told out.old) (P.told out.new) (fault_text fault.now) }
 {
-    let parts = named_parts(*fault);
-    out.put(number_and_name(*fault).as_bytes());
-    out.put(part_text(parts.0).as_bytes());
-    out.put(part_text(parts.1).as_bytes());
+    let (number, name) = number_and_name(*fault);
+    let (first, second) = fault.named_parts();
+    out.put(b"error ");
+    print_decimal(number, out);
+    out.put(b" ");
+    out.put(name.as_bytes());
+    out.put(part_text(first).as_bytes());
+    out.put(part_text(second).as_bytes());
 }
 
-fn number_and_name(fault: LineFault) -> &'static str
-    ensures { result.now ≡ number_and_name fault }
-{
-    match fault {
-        LineFault::TooLong => "error 1 too-long",
-        LineFault::Text(TextFault::HexDigit) => "error 2 hex-digit",
-        LineFault::Text(TextFault::HexOdd) => "error 3 hex-odd",
-        LineFault::Text(TextFault::Base64) => "error 4 base64",
-        LineFault::Sd(SdFault::Short) => "error 5 short",
-        LineFault::Sd(SdFault::Revision) => "error 6 revision",
-        LineFault::Sd(SdFault::NotSelfRelative) => "error 7 not-self-relative",
-        LineFault::Sd(SdFault::Offset(_)) => "error 8 offset",
-        LineFault::Sd(SdFault::Sid(_)) => "error 9 sid",
-        LineFault::Sd(SdFault::Acl(_)) => "error 10 acl",
-        LineFault::Sd(SdFault::AceSize(_)) => "error 11 ace-size",
-        LineFault::Sd(SdFault::AceType(_)) => "error 12 ace-type",
-        LineFault::Sd(SdFault::AceFlags(_)) => "error 13 ace-flags",
-        LineFault::Sd(SdFault::Overlap(_, _)) => "error 14 overlap",
-        LineFault::Sddl(SddlFault::Shape) => "error 20 shape",
-        LineFault::Sddl(SddlFault::PartTwice) => "error 21 part-twice",
-        LineFault::Sddl(SddlFault::Sid(SidFault::Alias)) => "error 22 alias",
-        LineFault::Sddl(SddlFault::Sid(SidFault::NeedsDomain)) => "error 23 needs-domain",
-        LineFault::Sddl(SddlFault::Sid(SidFault::Number)) => "error 24 number",
-        LineFault::Sddl(SddlFault::Sid(SidFault::SidForm)) => "error 25 sid-form",
-        LineFault::Sddl(SddlFault::Flags) => "error 26 flags",
-        LineFault::Sddl(SddlFault::Rights) => "error 27 rights",
-        LineFault::Sddl(SddlFault::Guid) => "error 28 guid",
-        LineFault::Sddl(SddlFault::Kind) => "error 29 kind",
-        LineFault::Sddl(SddlFault::AclTooLarge(_)) => "error 30 acl-too-large",
-        LineFault::Derive(DeriveFault::DerivedTooLarge(_)) => "error 40 derived-too-large",
+impl LineFault {
+    /// The number of the fault in its `error` line.
+    pub fn number(&self) -> u32
+        ensures { result ≡ number self.now }
+    {
+        number_and_name(*self).0
+    }
+
+    /// The parts that the fault names, if it names any.
+    pub fn named_parts(&self) -> (Option<Part>, Option<Part>)
+        ensures { result ≡ named_parts self.now }
+    {
+        match *self {
+            Self::Sd(SdFault::Offset(part)) => (Some(part), None),
+            Self::Sd(SdFault::Sid(part)) => (Some(part), None),
+            Self::Sd(SdFault::Acl(part)) => (Some(part), None),
+            Self::Sd(SdFault::AceSize(part)) => (Some(part), None),
+            Self::Sd(SdFault::AceType(part)) => (Some(part), None),
+            Self::Sd(SdFault::AceFlags(part)) => (Some(part), None),
+            Self::Sd(SdFault::Overlap(first, second)) => (Some(first), Some(second)),
+            Self::Sddl(SddlFault::AclTooLarge(Which::Sacl)) => (Some(Part::Sacl), None),
+            Self::Sddl(SddlFault::AclTooLarge(Which::Dacl)) => (Some(Part::Dacl), None),
+            Self::Derive(DeriveFault::DerivedTooLarge(Which::Sacl)) => (Some(Part::Sacl), None),
+            Self::Derive(DeriveFault::DerivedTooLarge(Which::Dacl)) => (Some(Part::Dacl), None),
+            _ => (None, None),
+        }
     }
 }
 
-fn named_parts(fault: LineFault) -> (Option<Part>, Option<Part>)
-    ensures { result ≡ named_parts fault }
+// The number of a fault, and its name in the `error` line.
+fn number_and_name(fault: LineFault) -> (u32, &'static str)
+    ensures number { result.0 ≡ number fault }
+    ensures name { result.1.now ≡ name fault }
 {
     match fault {
-        LineFault::Sd(SdFault::Offset(part)) => (Some(part), None),
-        LineFault::Sd(SdFault::Sid(part)) => (Some(part), None),
-        LineFault::Sd(SdFault::Acl(part)) => (Some(part), None),
-        LineFault::Sd(SdFault::AceSize(part)) => (Some(part), None),
-        LineFault::Sd(SdFault::AceType(part)) => (Some(part), None),
-        LineFault::Sd(SdFault::AceFlags(part)) => (Some(part), None),
-        LineFault::Sd(SdFault::Overlap(first, second)) => (Some(first), Some(second)),
-        LineFault::Sddl(SddlFault::AclTooLarge(Which::Sacl)) => (Some(Part::Sacl), None),
-        LineFault::Sddl(SddlFault::AclTooLarge(Which::Dacl)) => (Some(Part::Dacl), None),
-        LineFault::Derive(DeriveFault::DerivedTooLarge(Which::Sacl)) => (Some(Part::Sacl), None),
-        LineFault::Derive(DeriveFault::DerivedTooLarge(Which::Dacl)) => (Some(Part::Dacl), None),
-        _ => (None, None),
+        LineFault::TooLong => (1, "too-long"),
+        LineFault::Text(TextFault::HexDigit) => (2, "hex-digit"),
+        LineFault::Text(TextFault::HexOdd) => (3, "hex-odd"),
+        LineFault::Text(TextFault::Base64) => (4, "base64"),
+        LineFault::Sd(SdFault::Short) => (5, "short"),
+        LineFault::Sd(SdFault::Revision) => (6, "revision"),
+        LineFault::Sd(SdFault::NotSelfRelative) => (7, "not-self-relative"),
+        LineFault::Sd(SdFault::Offset(_)) => (8, "offset"),
+        LineFault::Sd(SdFault::Sid(_)) => (9, "sid"),
+        LineFault::Sd(SdFault::Acl(_)) => (10, "acl"),
+        LineFault::Sd(SdFault::AceSize(_)) => (11, "ace-size"),
+        LineFault::Sd(SdFault::AceType(_)) => (12, "ace-type"),
+        LineFault::Sd(SdFault::AceFlags(_)) => (13, "ace-flags"),
+        LineFault::Sd(SdFault::Overlap(_, _)) => (14, "overlap"),
+        LineFault::Sddl(SddlFault::Shape) => (20, "shape"),
+        LineFault::Sddl(SddlFault::PartTwice) => (21, "part-twice"),
+        LineFault::Sddl(SddlFault::Sid(SidFault::Alias)) => (22, "alias"),
+        LineFault::Sddl(SddlFault::Sid(SidFault::NeedsDomain)) => (23, "needs-domain"),
+        LineFault::Sddl(SddlFault::Sid(SidFault::Number)) => (24, "number"),
+        LineFault::Sddl(SddlFault::Sid(SidFault::SidForm)) => (25, "sid-form"),
+        LineFault::Sddl(SddlFault::Flags) => (26, "flags"),
+        LineFault::Sddl(SddlFault::Rights) => (27, "rights"),
+        LineFault::Sddl(SddlFault::Guid) => (28, "guid"),
+        LineFault::Sddl(SddlFault::Kind) => (29, "kind"),
+        LineFault::Sddl(SddlFault::AclTooLarge(_)) => (30, "acl-too-large"),
+        LineFault::Derive(DeriveFault::DerivedTooLarge(_)) => (40, "derived-too-large"),
     }
 }
 

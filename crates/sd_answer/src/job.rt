@@ -2,9 +2,9 @@
 
 ghost use Rattle.std.specs.Prelude.{◌≡◌, IfSome};
 ghost use Rattle.std.specs.Result.{result_ok};
-ghost use Rattle.sd_inherit.specs.PlanLimits.{IsPlan};
 ghost use Rattle.sd_sid.specs.Sid.{IsSid};
 ghost use Rattle.sd_view.specs.Reading.{reading};
+ghost use Rattle.sd_inherit.specs.PlanLimits.{IsPlan};
 ghost use Rattle.sd_answer.specs.Task.{ActLimits, TaskLimits};
 
 use sd_buffer::SdBuf;

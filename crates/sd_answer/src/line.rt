@@ -60,23 +60,23 @@ pub struct Line {
 }
 
 impl Line {
-    ghost use Rattle.sd_answer.specs.LineInHand.{Holds, HoldsText, IsReady};
     ghost use Rattle.sd_answer.specs.Inner.Reading.{Leaves};
+    ghost use Rattle.sd_answer.specs.LineInHand.{Holds, HoldsText, IsReady};
 
-    /// A line over these buffers, whatever they hold. Call `start` before the first byte.
-    pub fn over(read: SdBuf, held: TextBuf) -> Line
-        ensures read { result.read ≡ read }
-        ensures held { result.held ≡ held }
-        ensures none_counted { result.count ≡ 0 }
-        ensures none_waits { result.cr ≡ false }
+    /// An empty line for the job, over these buffers, whatever they hold.
+    pub fn over(job: &Job, read: SdBuf, held: TextBuf) -> Line
+        ensures empty { Holds job.now result [] }
+        ensures ready { IsReady result }
     {
-        Line {
+        let mut line = Line {
             reader: LineReader::Base64,
             read,
             held,
             count: 0,
             cr: false,
-        }
+        };
+        line.start(job);
+        line
     }
 
     /// Starts an empty line for the job.
@@ -100,9 +100,9 @@ impl Line {
             return;
         };
         self.settle();
-        if *last == b'\r' {
+        self.cr = *last == b'\r';
+        if self.cr {
             self.feed(front);
-            self.cr = true;
         } else {
             self.feed(bytes);
         }
@@ -113,7 +113,6 @@ impl Line {
         requires { IsReady self.old }
         ensures ready { IsReady self.new }
         ensures text { (job : Job) (raw : List ℕ) → Holds job self.old raw → HoldsText job self.new raw }
-        ensures cr { self.new.cr ≡ false }
     {
         if self.cr {
             self.cr = false;
@@ -152,16 +151,16 @@ impl Line {
         self.count == 0 && !self.cr
     }
 
-    /// The line has no byte.
-    pub fn is_empty(&self) -> bool
+    // The line has no byte.
+    pub(crate) fn is_empty(&self) -> bool
         ensures { (job : Job) (text : List ℕ) → HoldsText job self.now text
             → (result ≡ true → text ≡ []) × (result ≡ false → text ≢ []) }
     {
         self.count == 0
     }
 
-    /// The line has more bytes than it may.
-    pub fn is_too_long(&self) -> bool
+    // The line has more bytes than it may.
+    pub(crate) fn is_too_long(&self) -> bool
         ensures value { result ≡ nat_lt (line_limit (form_of self.now.reader)) self.now.count }
         ensures meaning { (job : Job) (text : List ℕ) → HoldsText job self.now text
             → (result ≡ true → line_limit job.source < length text)
@@ -170,8 +169,8 @@ impl Line {
         self.count > self.reader.limit()
     }
 
-    /// The end of a line that is not too long: the descriptor that it means.
-    pub fn end(&mut self) -> Result<SdView<'_>, LineFault>
+    // The end of a line that is not too long: the descriptor that it means.
+    pub(crate) fn end(&mut self) -> Result<SdView<'_>, LineFault>
         requires { IsReady self.old }
         ensures { (job : Job) (text : List ℕ) → HoldsText job self.old text → length text ≤ line_limit job.source
             → result ≡ text_means job.source job.domain text }

@@ -1,5 +1,7 @@
 -- The parts of a text with one more byte.
-use Rattle.std.proofs.Common.{◌≡◌, ℕ, List, [], ◌∷◌, ◌++◌, Bool, true, false, ◌==◌, cond, map, refl, sym, ◌∙◌, ap, rules, append-nil, append_assoc, suc, length, get_or, take, drop, ◌<◌, ◌≤◌, ◌+◌, ◌-◌, inl, inr, arith}
+use Rattle.std.proofs.Common.{◌≡◌, ℕ, List, [], ◌∷◌, ◌++◌, Bool, true, false, ◌==◌, cond, map, refl, sym, ◌∙◌, ap}
+use Rattle.std.proofs.Common.{rules, append-nil, append_assoc, suc, length, get_or, take, drop, ◌<◌, ◌≤◌, ◌+◌, ◌-◌, inl}
+use Rattle.std.proofs.Common.{inr, arith}
 use Rattle.std.proofs.lemmas.List.{map_push, get_or-take, get_or-drop, length-take-le, length-drop}
 use Rattle.std.proofs.lemmas.Bool.{cases_lt}
 use Rattle.std.proofs.lemmas.List.Elements.{All-from_get_or}

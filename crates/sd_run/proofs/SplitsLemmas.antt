@@ -1,5 +1,6 @@
 -- What follows an LF is cut into lines by itself.
-use Rattle.std.proofs.Common.{◌≡◌, ℕ, List, [], ◌∷◌, ◌++◌, Bool, true, false, ◌==◌, map, sym, refl, ap, ◌∙◌, append_assoc, append-nil, length-append}
+use Rattle.std.proofs.Common.{◌≡◌, ℕ, List, [], ◌∷◌, ◌++◌, Bool, true, false, ◌==◌, map, sym, refl, ap, ◌∙◌}
+use Rattle.std.proofs.Common.{append_assoc, append-nil, length-append}
 use Rattle.std.proofs.lemmas.List.{map-append}
 use Rattle.sd_token.specs.Token.{Holder}
 use Rattle.sd_answer.specs.declared.job.Task.{Task}

@@ -2,7 +2,8 @@
 
 ghost use Rattle.std.specs.Prelude.{◌≡◌, ◌≤◌, length, take, false, MatchResult};
 ghost use Rattle.std.specs.Io.KnownBytes.{ReadConsumes, Keeps, Appends};
-ghost use Rattle.sd_run.specs.Told.{SourceTold, DrainTold, reads_after, ends_after, failed_reads_after, failed_writes_after, failed_flushes_after, is_flush};
+ghost use Rattle.sd_run.specs.Told.{SourceTold, DrainTold, reads_after, ends_after, failed_reads_after};
+ghost use Rattle.sd_run.specs.Told.{failed_writes_after, failed_flushes_after, is_flush};
 
 /// A call of a device failed.
 #[derive(Clone, Copy, Debug, PartialEq, Eq)]

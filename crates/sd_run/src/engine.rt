@@ -76,7 +76,7 @@ impl Engine {
             job,
             creator,
             state: RunState {
-                line: Line::over(read, held),
+                line: Line::over(&job, read, held),
                 stores: Stores::over(written),
                 report: Report {
                     lines: 0,

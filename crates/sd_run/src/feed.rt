@@ -1,6 +1,7 @@
 //! Splits the input at LFs and answers each line.
 
-ghost use Rattle.std.specs.Prelude.{◌≡◌, ◌+◌, ◌<◌, ℕ, List, ◌++◌, [], ◌∷◌, length, ◌≢◌, slice_index, MatchResult, IfOk, IsOk, Ok, false, unwrap_or, IfSome};
+ghost use Rattle.std.specs.Prelude.{◌≡◌, ◌+◌, ◌<◌, ℕ, List, ◌++◌, [], ◌∷◌, length, ◌≢◌, slice_index, MatchResult, IfOk};
+ghost use Rattle.std.specs.Prelude.{IsOk, Ok, false, unwrap_or, IfSome};
 ghost use Rattle.sd_sink.specs.Sink.{SinkTold};
 ghost use Rattle.sd_token.specs.Token.{Compares, TokenShown};
 ghost use Rattle.sd_answer.specs.Answer.{answer, bound, is_error};

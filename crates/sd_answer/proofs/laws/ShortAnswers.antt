@@ -1,29 +1,31 @@
 -- Each answer is short.
-use Rattle.std.proofs.Common.{◌≡◌, IfSome, ◌≤◌, ℕ, ◌+◌, ◌*◌, List, [], ◌∷◌, ◌++◌, length, lit≤, Option, Some, None, Ok, Err, refl, arith, length-append}
-use Rattle.hex.specs.Hex.{lower_digits}
+use Rattle.std.proofs.Common.{◌≡◌, IfSome, ◌≤◌, ℕ, ◌+◌, ◌*◌, List, [], ◌∷◌, ◌++◌, length}
+use Rattle.std.proofs.Common.{lit≤, Option, Some, None, Ok, Err, refl, arith, length-append}
 use Rattle.hex.proofs.HexLemmas.{length-encode_with}
-use Rattle.sd_token.specs.Token.{Holder}
+use Rattle.hex.specs.Hex.{lower_digits}
+use Rattle.sd_view.proofs.laws.LayoutLaws.{length-layout}
 use Rattle.sd_view.specs.Descriptor.{Descriptor, IsDescriptor}
 use Rattle.sd_view.specs.Layout.{layout, size}
-use Rattle.sd_view.proofs.laws.LayoutLaws.{length-layout}
+use Rattle.sd_token.specs.Token.{Holder}
 use Rattle.sd_check.specs.Verdict.{verdict}
 use Rattle.sd_check.specs.declared.verdict.Verdict.{Verdict}
 use Rattle.sd_check.specs.declared.verdict.Verdict.TheVariants.{Denied, Granted}
-use Rattle.sd_explain.proofs.laws.SizeLaws.{explain-length}
 use Rattle.sd_inherit.proofs.laws.LimitLaws.{derived-limits}
 use Rattle.sd_inherit.specs.Derived.{derive_fault, derived}
 use Rattle.sd_inherit.specs.PlanLimits.{IsPlan}
 use Rattle.sd_inherit.specs.declared.derivation.DeriveFault.{DeriveFault}
 use Rattle.sd_inherit.specs.declared.plan.Plan.{Plan}
+use Rattle.sd_explain.proofs.laws.SizeLaws.{explain-length}
 use Rattle.sd_sddl_printer.proofs.laws.SizeLaws.{sddl-length}
-use Rattle.sd_answer.specs.Task.{ActLimits, TaskLimits}
-use Rattle.sd_answer.specs.Answer.{AnswersAreShort, LineOutcome, Meaning, act_outcome, answer, converted, form_text, meaning, naming_of, outcome_of_meaning, printed_size, unless_too_large, verdict_text}
-use Rattle.sd_answer.specs.Faults.{fault_text}
-use Rattle.sd_answer.specs.declared.fault.LineFault.{LineFault}
-use Rattle.sd_answer.specs.declared.fault.LineFault.TheVariants.{Derive}
 use Rattle.sd_answer.proofs.Base64Lemmas.{base64-short}
 use Rattle.sd_answer.proofs.FaultLemmas.{fault_text-short}
 use Rattle.sd_answer.proofs.LimitLemmas.{MeansLimits, meaning-limits}
+use Rattle.sd_answer.specs.Answer.{AnswersAreShort, LineOutcome, Meaning, act_outcome, answer, converted, form_text}
+use Rattle.sd_answer.specs.Answer.{meaning, naming_of, outcome_of_meaning, printed_size, unless_too_large, verdict_text}
+use Rattle.sd_answer.specs.Faults.{fault_text}
+use Rattle.sd_answer.specs.Task.{ActLimits, TaskLimits}
+use Rattle.sd_answer.specs.declared.fault.LineFault.{LineFault}
+use Rattle.sd_answer.specs.declared.fault.LineFault.TheVariants.{Derive}
 use Rattle.sd_answer.specs.declared.job.Act.{Act}
 use Rattle.sd_answer.specs.declared.job.Act.TheVariants.{Check, Convert, Explain}
 use Rattle.sd_answer.specs.declared.job.Act.TheVariants as act

@@ -2,9 +2,9 @@
 use Rattle.std.specs.Prelude.{◌≡◌, ℕ, List, Option, Result, Ok, Err}
 use Rattle.sd_sid.specs.Sid.{SecurityId}
 use Rattle.sd_buffer.specs.HexReading.{ReadsHex}
-use Rattle.sd_sddl_reader.specs.SddlReading.{IsReading, ReadsSddl}
 use Rattle.sd_view.specs.Descriptor.{Descriptor}
 use Rattle.sd_view.specs.Reading.{reading}
+use Rattle.sd_sddl_reader.specs.SddlReading.{IsReading, ReadsSddl}
 use Rattle.sd_answer.specs.Answer.{or_byte_fault}
 use Rattle.sd_answer.specs.declared.fault.LineFault.{LineFault}
 use Rattle.sd_answer.specs.declared.job.Form.{Form}

@@ -1,7 +1,7 @@
 use Rattle.std.proofs.Common.{◌≡◌, ℕ, List, Ok, Err, subst, sym}
 use Rattle.sd_view.specs.Descriptor.{Shows}
-use Rattle.sd_answer.specs.Answer.{form_text}
 use Rattle.sd_answer.proofs.answer.print_written.Goals as goal
+use Rattle.sd_answer.specs.Answer.{form_text}
 
 -- what is read is the descriptor that the bytes show
 pub returns-in-Ok : goal.returns-in-Ok

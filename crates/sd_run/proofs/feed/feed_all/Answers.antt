@@ -2,7 +2,8 @@ use Rattle.std.proofs.Common.{sym, arith, refl, ◌+◌, ◌-◌, take, drop}
 use Rattle.std.proofs.lemmas.Grind.{common_steps}
 use Rattle.std.proofs.lemmas.Result.{err_from_is_err_and}
 use Rattle.sd_run.proofs.LineCutLemmas.{NoLf, has_lf-at}
-use Rattle.sd_run.proofs.AfterBytesLemmas.{Answered-line, Failed-in, Failed-line, AfterBytes-line, AfterBytes-more, fed_line, fed_rest, found_any, found_in, line_in}
+use Rattle.sd_run.proofs.AfterBytesLemmas.{Answered-line, Failed-in, Failed-line, AfterBytes-line, AfterBytes-more}
+use Rattle.sd_run.proofs.AfterBytesLemmas.{fed_line, fed_rest, found_any, found_in, line_in}
 use Rattle.sd_run.proofs.feed.feed_all.Goals as goal
 
 pub loop-n-preserved : goal.loop-n-preserved

@@ -1,7 +1,9 @@
 use Rattle.std.proofs.Common.{rules, ◌≡◌, ◌<◌, ◌≤◌, length, take, refl, ◌∙◌, arith}
 use Rattle.std.proofs.lemmas.List.{length-take}
 use Rattle.sd_run.specs.Told.{sink_of}
-use Rattle.sd_run.proofs.RunLemmas.{BeforeRead-start, BeforeRead-more, broken-read, finished, broken-close, broken-write, broken-most, reads-some, ends-zero, ends-some, ends-failed, failures-ok}
+use Rattle.sd_run.proofs.RunLemmas.{BeforeRead-start, BeforeRead-more, broken-read, finished, broken-close}
+use Rattle.sd_run.proofs.RunLemmas.{broken-write, broken-most, reads-some, ends-zero, ends-some, ends-failed}
+use Rattle.sd_run.proofs.RunLemmas.{failures-ok}
 use Rattle.sd_run.proofs.running.run_task.Goals as goal
 
 pub loop-turn-init : goal.loop-turn-init
