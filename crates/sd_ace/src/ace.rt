@@ -75,7 +75,7 @@ impl Ace {
         })
     }
 
-    /// The bytes that it takes (MS-DTYP 2.4.4.2 and 2.4.4.3): a multiple of 4, at least 16 and at most 112.
+    /// The size in bytes (MS-DTYP 2.4.4.2 and 2.4.4.3): a multiple of 4, at least 16 and at most 112.
     pub fn size(&self) -> u16
         ensures value { result ≡ ace_size self.now }
         ensures aligned { result % 4 ≡ 0 }

@@ -90,7 +90,7 @@ impl Line {
         self.cr = false;
     }
 
-    /// Bytes more, none of which is an LF.
+    /// Reads more bytes, none of which is an LF.
     pub fn take(&mut self, bytes: &[u8])
         requires { IsReady self.old }
         ensures ready { IsReady self.new }

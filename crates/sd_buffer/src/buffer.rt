@@ -31,7 +31,7 @@ pub enum TextFault {
     Base64,
 }
 
-/// At most `MOST` bytes, in memory that is taken once.
+/// At most `MOST` bytes, in memory that is allocated once.
 #[derive(Drop)]
 pub struct ByteBuf<const MOST: usize> {
     // Room for `MOST` cells is there from the start. Those that no byte has reached yet are not filled, so that a short
@@ -83,7 +83,7 @@ impl<const MOST: usize> ByteBuf<MOST> {
         Ok(())
     }
 
-    /// Appends all of the bytes, or none exactly where there is no room for them.
+    /// Appends all of the bytes, or none if there is no room for all.
     pub fn extend(&mut self, bytes: &[u8]) -> Result<(), Full>
         ensures full { IsErr result ↔ (MOST - length self.old < length bytes.now) }
         ensures ok { OnOk result (self.new ≡ self.old ++ bytes.now) }

@@ -82,8 +82,8 @@ impl HexReader {
         self.wrong = self.wrong || buf.append_hex(pairs).is_err();
     }
 
-    /// Ends the line: 3 where the number of its characters is odd, else 2 where one is no digit. After a fault the
-    /// buffer is empty.
+    /// Ends the line. Error 3: the number of characters is odd; else 2: one is no digit. After an error the buffer is
+    /// empty.
     pub fn finish(self, buf: &mut SdBuf) -> Result<(), TextFault>
         ensures { (text : List ℕ) → ReadsHex self buf.old text → MatchResult (hex_spells text)
             (λ bytes. (result ≡ Ok tt) × (buf.new ≡ bytes))

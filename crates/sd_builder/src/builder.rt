@@ -123,8 +123,8 @@ impl Builder {
         Ok(())
     }
 
-    /// Ends the ACL that is open, and writes its header (MS-DTYP 2.4.5): revision 4 exactly where an object ACE stands
-    /// in it, and else 2.
+    /// Ends the ACL that is open, and writes its header (MS-DTYP 2.4.5): revision 4 if an object ACE is in it,
+    /// else 2.
     pub fn end_acl(&mut self, buf: &mut SdBuf)
         requires { (t : Draft) × Builds self.old buf.old t × IsOpen t.parts }
         ensures value { (t : Draft) → Builds self.old buf.old t → Builds self.new buf.new (ended t) }

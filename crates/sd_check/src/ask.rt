@@ -9,7 +9,7 @@ use sd_sid::Sid;
 use std::marker::Model;
 use uuid::Uuid;
 
-/// The privileges that grant a right, where the token holds them.
+/// The privileges of a token that grant a right.
 #[derive(Clone, Copy, Debug, PartialEq, Eq)]
 pub struct Privileges {
     /// SeSecurityPrivilege: it grants ACCESS_SYSTEM_SECURITY, and nothing else does.

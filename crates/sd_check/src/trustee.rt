@@ -25,7 +25,7 @@ fn meets_any(token: &mut Token, sid: Sid, deny: bool) -> bool
     false
 }
 
-/// The same where there may be no SID: then nothing is looked at.
+/// The same for a SID that may be missing; without one, nothing is compared.
 pub fn some_meets(token: &mut Token, sid: Option<Sid>, deny: bool) -> bool
     ensures value { result ≡ some_meets sid deny token.old.holder.entries }
     ensures asks { Asks token.old token.new 1 }

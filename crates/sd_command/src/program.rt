@@ -14,9 +14,9 @@ use sd_run::{Drain, Engine, RunFault, Source, run, write_whole};
 use sd_token::Token;
 use std::alloc::Global;
 
-/// Reads the words, answers the input, and gives the exit status: 0; 1 where a line was answered by an
-/// `error` line; 2 where the words do not read; 3 after a fault of the run; 4 where there was no memory
-/// before the first read. What is wrong is said on the fault stream.
+/// Reads the words, answers the input, and returns the exit status: 0; 1 if a line was answered by an `error` line;
+/// 2 if the words are wrong; 3 after a fault of the run; 4 if memory ran out before the first read. Statuses 2 to 4
+/// come with a message on the fault stream.
 pub fn command<R: Source, W: Drain, E: Drain>(
     alloc: Global,
     words: Vec<String>,

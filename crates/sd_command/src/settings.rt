@@ -52,7 +52,7 @@ impl CommandName {
     }
 }
 
-/// Words that the command line takes and that settle no job.
+/// Why words that the parser accepts make no job.
 #[derive(Clone, Copy, Debug, PartialEq, Eq)]
 pub enum UsageFault {
     /// No command is named.

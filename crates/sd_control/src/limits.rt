@@ -12,7 +12,7 @@ pub const MOST_SID_SIZE: usize = 68;
 /// The bytes of an ACL without ACEs (MS-DTYP 2.4.5): revision, size and count.
 pub const ACL_HEADER_SIZE: usize = 8;
 
-/// The bytes that an ACL takes at most, since its size has 16 bits.
+/// The most bytes of an ACL, since its size has 16 bits.
 pub const MOST_ACL_SIZE: usize = 65_535;
 
 /// The revisions of ACLs (MS-DTYP 2.4.5): the second one may have object ACEs.

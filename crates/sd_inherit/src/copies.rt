@@ -21,7 +21,7 @@ pub struct Copies {
 }
 
 impl Copies {
-    /// Whether there is none.
+    /// Whether there is no copy.
     pub fn is_empty(&self) -> bool
         ensures { result ≡ not (is_present (sacl_of (listed self.now))) }
     {

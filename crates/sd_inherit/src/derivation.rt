@@ -22,9 +22,10 @@ pub enum DeriveFault {
     DerivedTooLarge(Which),
 }
 
-/// Replaces the contents of the buffer by the descriptor of a new object (MS-DTYP 2.5.3.4) whose container has the
-/// parent's: owner and group of the plan, what is taken from the ACLs of the creator's descriptor, if there is one, and
-/// the copies of the parent's ACEs. The SACL is looked at before the DACL; after a fault the buffer is empty.
+/// Replaces the contents of the buffer by the descriptor of a new object (MS-DTYP 2.5.3.4) in a container with the
+/// parent's descriptor. It has the owner and group of the plan, what is taken from the ACLs of the creator's
+/// descriptor, if there is one, and the copies of the parent's ACEs. Of two faults the SACL's is reported. After a
+/// fault the buffer is empty.
 pub fn derive(
     parent: &SdView,
     creator: Option<&SdView>,

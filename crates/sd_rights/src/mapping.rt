@@ -145,7 +145,7 @@ pub fn carries(mask: u32, right: u32) -> bool
     (mask >> right) % 2 == 1
 }
 
-/// The mask where it is carried, and else no right.
+/// The mask if it is carried, else no right.
 pub fn mask_if(carried: bool, mask: u32) -> u32
     ensures value { result ≡ mask_if carried mask }
     ensures most { result ≤ mask }

@@ -18,8 +18,8 @@ use sd_text::{NamedBits, hex_digit, print_names};
 /// `0x` and the eight digits of the largest mask.
 const HEX_SIZE: usize = 10;
 
-/// Puts the text of an access mask (MS-DTYP 2.5.1.1): names where the mask is made of bits that have
-/// names in an ACE of this kind, and hex digits elsewhere. So 1 is `CC`, and `NW` in a label.
+/// Puts the text of an access mask (MS-DTYP 2.5.1.1): names if every bit of the mask has a name in an
+/// ACE of this kind, else hex digits. So 1 is `CC`, and `NW` in a label.
 pub fn put_rights<S: Sink>(kind: AceKind, mask: u32, sink: &mut S) -> Result<(), SinkFault>
     ensures put { Puts (S.told sink.old) (S.told sink.new) (rights_text kind mask) result }
     // The text reads as the mask.

@@ -14,8 +14,8 @@ pub trait Source {
     /// The bytes that it has still to give, and its counts of calls.
     ghost told: { Self → SourceTold };
 
-    /// `Ok(n)` gives the first n bytes of the buffer, and `Err` gives none. 0 is the end of the input
-    /// where the buffer has room; a call with an empty buffer is no read.
+    /// Reads into the buffer. `Ok(n)` fills its first n bytes, `Err` fills none. 0 is the end of the input if the
+    /// buffer has room; a call with an empty buffer is no read.
     fn read(&mut self, buf: &mut [u8]) -> Result<usize, DeviceFault>
         ensures within { MatchResult result (λ n. n ≤ length buf.new) (λ _. Unit {0}) }
         ensures bytes { ReadConsumes (told self.old).left (told self.new).left result buf.new }
@@ -30,7 +30,7 @@ pub trait Drain {
     /// succeeded.
     ghost told: { Self → DrainTold };
 
-    /// `Ok(n)` takes the first n bytes, and `Err` takes none.
+    /// Writes the bytes. `Ok(n)` accepts the first n of them, `Err` accepts none.
     fn write(&mut self, bytes: &[u8]) -> Result<usize, DeviceFault>
         ensures within { MatchResult result (λ n. n ≤ length bytes.now) (λ _. Unit {0}) }
         ensures bytes { MatchResult result
@@ -39,7 +39,7 @@ pub trait Drain {
         ensures failures { (told self.new).failures ≡ failed_writes_after result bytes.now (told self.old).failures }
         ensures flushed { (told self.new).flushed ≡ false };
 
-    /// Hands on what was taken.
+    /// Passes on everything that was written.
     fn flush(&mut self) -> Result<(), DeviceFault>
         ensures bytes { Keeps (told self.old).taken (told self.new).taken }
         ensures failures { (told self.new).failures ≡ failed_flushes_after result (told self.old).failures }

@@ -33,8 +33,8 @@ pub enum RunFault {
     TooManyReads,
 }
 
-/// What a run works with: its job, the creator's descriptor if there is one, and memory that was taken before the first
-/// read. That is three buffers of a descriptor's 131,226 bytes, one of a base64 line's 174,968, and arrays.
+/// What a run works with: its job, the creator's descriptor if there is one, and memory that was allocated before the
+/// first read. That is three buffers of a descriptor's 131,226 bytes, one of a base64 line's 174,968, and arrays.
 #[derive(Drop)]
 pub struct Engine {
     pub(crate) job: Job,

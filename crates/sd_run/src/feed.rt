@@ -134,7 +134,7 @@ fn has_lf(bytes: &[u8]) -> bool
     found
 }
 
-/// The end of the input: what follows the last LF is a line where it is not empty.
+/// Ends the input: what follows the last LF is a line unless it is empty.
 pub fn finish<W: Drain>(
     task: &Task<'_>,
     state: &mut RunState,

@@ -62,7 +62,7 @@ pub fn run<R: Source, W: Drain>(
     run_engine(engine, token, source, drain, MOST_READS)
 }
 
-/// A run as `run` makes it, which gives up after any smaller number of reads: so a test can reach the last of them.
+/// The same as `run` with another limit of reads, so that a test can reach it.
 pub fn run_at_most<R: Source, W: Drain>(
     engine: &mut Engine,
     token: &mut Token,

@@ -20,7 +20,7 @@ impl<'a, W: Drain> Sink for DrainSink<'a, W> {
     }
 }
 
-/// Writes all of the bytes, in as many writes as the drain takes.
+/// Writes all of the bytes, in as many calls as the drain needs.
 pub fn write_whole<W: Drain>(drain: &mut W, bytes: &[u8]) -> Result<(), SinkFault>
     ensures { Puts (sink_of (W.told drain.old)) (sink_of (W.told drain.new)) bytes.now result }
 {

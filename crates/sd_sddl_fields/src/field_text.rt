@@ -74,7 +74,7 @@ impl FieldText {
         }
     }
 
-    /// Bytes more, none of them a blank.
+    /// Appends bytes, none of which is a blank.
     pub fn push_run(&mut self, run: &[u8])
         ensures { self.new ≡ held_run self.old run.now }
     {

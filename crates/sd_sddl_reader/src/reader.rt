@@ -371,7 +371,7 @@ impl SddlReader {
         }
     }
 
-    /// The end of the line: the buffer holds what it means, or nothing where it has a fault.
+    /// Ends the line. The buffer then holds what the line means, or nothing if it has a fault.
     pub fn finish(mut self, buf: &mut SdBuf) -> Result<(), SddlFault>
         requires { IsReading self buf.old }
         ensures exact { (domain : Option SecurityId) (text : List ℕ) → ReadsSddl self buf.old domain text

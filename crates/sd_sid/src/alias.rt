@@ -55,8 +55,7 @@ pub struct DomainRelative {
 }
 
 impl Sid {
-    /// The two letters that name it: everywhere, or in the domain, which counts as none where it has 15
-    /// sub-authorities.
+    /// The two letters that name it, everywhere or in the domain. A domain of 15 sub-authorities has no aliases.
     pub fn alias(&self, domain: Option<&Sid>) -> Option<[u8; 2]>
         ensures exact { result ≡ alias_of self.now (option_copied domain.entry) }
         ensures letters { IfSome result (λ name. list_all is_ascii_uppercase name ≡ true) }

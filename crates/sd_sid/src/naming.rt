@@ -5,7 +5,7 @@ ghost use Rattle.sd_sid.specs.Naming.{alias_by};
 
 use crate::sid::Sid;
 
-/// How SIDs are printed: by their aliases, those of a domain too where there is one, or by numbers alone.
+/// How SIDs are printed: by aliases, with those of the domain if there is one, or by numbers alone.
 #[derive(Clone, Copy)]
 pub struct Naming {
     pub domain: Option<Sid>,

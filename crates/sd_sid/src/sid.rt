@@ -149,7 +149,7 @@ impl Sid {
         }
     }
 
-    /// The bytes that it takes: 8, and 4 for each sub-authority.
+    /// The size in bytes: 8, and 4 for each sub-authority.
     pub fn size(&self) -> usize
         ensures value { result ≡ sid_size self.now }
         ensures limits { IsSid self.now }

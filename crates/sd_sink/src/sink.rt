@@ -2,7 +2,7 @@
 
 ghost use Rattle.sd_sink.specs.Sink.{SinkTold, Puts};
 
-/// The sink did not take all of the bytes.
+/// The sink did not accept all of the bytes.
 #[derive(Clone, Copy, Debug, PartialEq, Eq)]
 pub struct SinkFault;
 

@@ -3,7 +3,7 @@
 ghost use Rattle.std.specs.Prelude.{◌≡◌, ◌<◌, ◌≤◌, ◌^◌, IfSome};
 ghost use Rattle.sd_text.specs.Numbers.{number};
 
-/// The number that the digits write, where each is a digit and it is below the limit. No digits write 0.
+/// The number that the text writes, if each byte is a digit and the number is below the limit. No digits write 0.
 pub fn read_number(base: u32, limit: u64, text: &[u8]) -> Option<u64>
     requires low { 2 ≤ base }
     requires high { base ≤ 16 }

@@ -34,8 +34,8 @@ const GUID_SIZE: usize = 16;
 /// The object flags that MS-DTYP 2.4.4.3 names.
 const NAMED_OBJECT_FLAGS: u32 = 3;
 
-/// What a check finds of the ACE at the front of some bytes: the bytes that it takes there, its written
-/// size, and whether it is an object ACE.
+/// What a check finds about the ACE at the front of some bytes: its size there, its written size, and whether it is an
+/// object ACE.
 #[derive(Clone, Copy)]
 pub struct Checked {
     pub taken: usize,

@@ -14,8 +14,7 @@ use crate::fault::AclFault;
 use sd_control::{ACL_HEADER_SIZE, ACL_REVISION, ACL_REVISION_DS};
 use std::marker::Model;
 
-/// What the front of a written ACL is made from, besides the count: its size, and whether an object ACE
-/// stands in it.
+/// What the header of a written ACL needs besides the count: its size, and whether it has an object ACE.
 #[derive(Clone, Copy)]
 pub struct Written {
     pub size: usize,

@@ -13,8 +13,8 @@ use crate::view::SdView;
 use sd_control::{HEADER_SIZE, Parts, header};
 use sd_sink::{Print, Printer, Sink, SinkFault};
 
-/// Puts the one layout of a descriptor (MS-DTYP 2.4.6): header, owner, group, SACL, DACL, those that
-/// stand, without gaps, and 0 for each offset without a part.
+/// Puts the one layout of a descriptor (MS-DTYP 2.4.6): header, owner, group, SACL, DACL, without
+/// gaps. A part that is absent has offset 0.
 pub fn put_layout<S: Sink>(view: &SdView<'_>, sink: &mut S) -> Result<(), SinkFault>
     ensures put { Puts (S.told sink.old) (S.told sink.new) (layout view.now) result }
     // What is put shows the descriptor.

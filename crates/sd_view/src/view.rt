@@ -53,7 +53,7 @@ pub struct Acls {
     pub dacl: Written,
 }
 
-/// Where a part stands, if it does: its first byte, and the first one after it.
+/// Where a part is, if there is one: its first byte, and the first one after it.
 pub type Extent = Option<(u64, u64)>;
 
 /// The descriptor that the bytes show (MS-DTYP 2.4.6), or the first fault of the bytes.

@@ -19,7 +19,7 @@ pub fn sid_in(bytes: &[u8]) -> Result<Sid, CallFault>
     }
 }
 
-/// The SID that an argument is: none where it is empty.
+/// The domain that an argument names, if it is not empty.
 #[tactic(auto, unfolding(crate::specs::Calls::domain_in))]
 pub fn domain_in(bytes: &[u8]) -> Result<Option<Sid>, CallFault>
     ensures { result ≡ domain_in bytes.now }

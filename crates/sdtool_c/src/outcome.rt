@@ -29,7 +29,7 @@ pub struct Outcome {
     pub length: usize,
 }
 
-/// Why a call gives nothing, but for want of room or memory.
+/// Why a call has no answer, apart from a small output or refused memory.
 #[derive(Clone, Copy)]
 pub enum CallFault {
     /// 1: there are more bytes than any descriptor or its text has.
@@ -82,7 +82,7 @@ pub fn no_memory() -> Outcome
     }
 }
 
-/// The call gives nothing.
+/// The call has no answer.
 pub fn failed(fault: CallFault) -> Outcome
     ensures { result ≡ failed fault }
 {

@@ -8,7 +8,7 @@ pub struct Request {
     pub wanted: u32,
     /// The number of the kind of object: 0 for files, 1 for keys, 2 for objects of a directory service.
     pub mapping: u32,
-    /// The integrity level of the token, where it has one.
+    /// The integrity level of the token, if it has one.
     pub level: u32,
     pub has_level: bool,
     /// Whether all that is granted is asked for as well.

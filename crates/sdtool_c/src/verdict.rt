@@ -22,7 +22,7 @@ pub struct VerdictOutcome {
     pub granted: bool,
 }
 
-/// The outcome that tells an answer.
+/// The struct for an answer.
 pub fn told(answer: Result<Verdict, CallFault>) -> VerdictOutcome
     ensures { result ≡ told answer }
 {
