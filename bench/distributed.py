@@ -1,5 +1,5 @@
 #!/usr/bin/env python3
-"""distributed.py [PROGRAM] [--megabytes N] [--rounds N]
+"""distributed.py [PROGRAM] [--megabytes N] [--rounds N] [--job WORD]
 
 Measures ways to answer one large file on one machine: one program (crates/sdtool/out/sdtool where none is given), GNU
 parallel with --pipepart, and examples/distributed.py, in one process, and over a scheduler with one, two and four
@@ -8,7 +8,8 @@ workers. These are processes on 127.0.0.1 with one thread each, which are sent t
 The input is the mixture that generate.py makes, in hex, 1 GB of it, kept in the folder sdtool-bench among the temporary
 files. Each way writes its answers to a file there, which has to be equal to that of one program. Time is wall clock,
 the median of the rounds, in each of which all ways run once; the start of Python and the connection count. What Dask
-costs is the time of one worker beyond that of one program, as a share of the latter.
+costs is the time of one worker beyond that of one program, as a share of the latter. --job takes only the commands that
+have the word.
 
 It needs parallel, and Python with dask and distributed (Debian: parallel, python3-dask, python3-distributed). Figures
 may be compared within one run, on a machine that does nothing else.
@@ -120,6 +121,7 @@ def main():
     parser.add_argument("program", nargs="?", default=run.PROGRAM, type=os.path.abspath)
     parser.add_argument("--megabytes", type=int, default=1000, help="of the input (%(default)s)")
     parser.add_argument("--rounds", type=int, default=3, help="(%(default)s)")
+    parser.add_argument("--job", default="", help="takes only the commands that have this word")
     wanted = parser.parse_args()
     if not os.access(wanted.program, os.X_OK):
         sys.exit(f"bench: there is no program at {wanted.program}; 'make program' builds it")
@@ -137,7 +139,7 @@ def main():
             ways = list(Ways(processes, given, pathlib.Path(name)).all())
             print(f"{given.stat().st_size / 1e6:.0f} MB, {run.lines_in(given):,} lines, {os.cpu_count()} processors, "
                   f"medians of {wanted.rounds} rounds")
-            for words in COMMANDS:
+            for words in (words for words in COMMANDS if wanted.job in shlex.join(words)):
                 medians = measure(ways, words, wanted.rounds)
                 if medians is None:
                     return 1

@@ -7,9 +7,19 @@ program=crates/sdtool/out/sdtool
 passed=0
 failed=0
 comparison=
-log=$(mktemp) || exit 2
-log_of_comparison=$(mktemp) || exit 2
-trap 'rm -f "$log" "$log_of_comparison"; [[ -z $comparison ]] || kill "$comparison" 2>/dev/null' EXIT
+library=
+logs=$(mktemp -d) || exit 2
+log=$logs/part
+copy=$logs/tree
+trap end EXIT
+
+# Nothing goes on in the background after the tests, however they end.
+end() {
+    [[ -z $comparison ]] || kill "$comparison" 2>/dev/null
+    [[ -z $library ]] || kill -- "-$library" 2>/dev/null
+    wait
+    rm -rf "$logs"
+}
 
 # Adds what a part printed, by its log and its status.
 add() {
@@ -27,17 +37,39 @@ count() {
     add "$log" "${PIPESTATUS[0]}"
 }
 
-# No older program is to be tested where the gate stops before it has built one.
-rm -f "$program"
+# Builds the library in a copy of the tree, where the gate does not set aside what it has proved.
+build_library() {
+    mkdir "$copy" &&
+        tar --create --exclude=./.git --exclude=./out --exclude='./crates/*/out' . | tar --extract --directory "$copy" &&
+        exec setsid nice "${MAKE:-make}" --no-print-directory --directory "$copy" library
+}
+
+# Waits for the library, and puts it where its tests look.
+take_library() {
+    local status
+    wait "$library"
+    status=$?
+    library=
+    echo "== make library"
+    cat "$logs/library"
+    ((status == 0)) && rm -rf out/lib && mkdir -p out && cp -r "$copy/out/lib" out
+}
+
+# No older program or library is to be tested where the gate stops before it has built one.
+rm -rf "$program" out/lib
 count tests/layers.py
 count tests/figures.py --check
 count tests/names.py
 count tests/edits.py --apply
+# The gate keeps no work that the library could be built over, so its crates are proved once more. That takes the
+# processors that the gate leaves idle.
+build_library >"$logs/library" 2>&1 &
+library=$!
 count rt ci
 count tests/run_rows.py --reference
 if "${MAKE:-make}" --no-print-directory program; then
     # The longest part keeps one processor busy, so the others run beside it.
-    tests/compare.py "$program" >"$log_of_comparison" 2>&1 &
+    tests/compare.py "$program" >"$logs/comparison" 2>&1 &
     comparison=$!
     count tests/run_rows.py "$program"
     count tests/run_rows.py "$program" --one-byte
@@ -46,7 +78,11 @@ if "${MAKE:-make}" --no-print-directory program; then
     count tests/run_examples.py "$program"
     count tests/door_examples.py
     count tests/completions.py "$program"
-    if "${MAKE:-make}" --no-print-directory library; then
+    count tests/system_calls.py "$program"
+    count tests/memory.py "$program"
+    count tests/device_faults.py "$program"
+    count tests/distributed.py "$program"
+    if take_library; then
         count tests/c_library.py "$program"
         count tests/c_install.py
         count tests/c_examples.py
@@ -54,16 +90,12 @@ if "${MAKE:-make}" --no-print-directory program; then
         echo "the library is not built, so its tests have not run"
         ((failed += 1))
     fi
-    count tests/system_calls.py "$program"
-    count tests/memory.py "$program"
-    count tests/device_faults.py "$program"
-    count tests/distributed.py "$program"
     wait "$comparison"
     status=$?
     comparison=
     echo "== tests/compare.py $program"
-    cat "$log_of_comparison"
-    add "$log_of_comparison" "$status"
+    cat "$logs/comparison"
+    add "$logs/comparison" "$status"
 else
     echo "the program is not built, so its tests have not run"
     ((failed += 1))
