@@ -37,22 +37,20 @@ count() {
     add "$log" "${PIPESTATUS[0]}"
 }
 
-# Builds the library in a copy of the tree, where the gate does not set aside what it has proved.
-build_library() {
+# Builds the library in a copy of the tree, where the gate does not set aside what was proved.
+start_library() {
     mkdir "$copy" &&
-        tar --create --exclude=./.git --exclude=./out --exclude='./crates/*/out' . | tar --extract --directory "$copy" &&
-        exec setsid nice "${MAKE:-make}" --no-print-directory --directory "$copy" library
+        tar --create --exclude=./.git --exclude=./out --exclude='./crates/*/out' . | tar --extract --directory "$copy"
+    setsid nice "${MAKE:-make}" --no-print-directory --directory "$copy" library >"$logs/library" 2>&1 &
+    library=$!
 }
 
-# Waits for the library, and puts it where its tests look.
+# Puts the library where its tests look. If its build was stopped, as for memory, it goes on alone.
 take_library() {
-    local status
     wait "$library"
-    status=$?
     library=
-    echo "== make library"
     cat "$logs/library"
-    ((status == 0)) && rm -rf out/lib && mkdir -p out && cp -r "$copy/out/lib" out
+    "${MAKE:-make}" --no-print-directory --directory "$copy" library && mkdir -p out && cp -r "$copy/out/lib" out
 }
 
 # No older program or library is to be tested where the gate stops before it has built one.
@@ -63,8 +61,7 @@ count tests/names.py
 count tests/edits.py --apply
 # The gate keeps no work that the library could be built over, so its crates are proved once more. That takes the
 # processors that the gate leaves idle.
-build_library >"$logs/library" 2>&1 &
-library=$!
+start_library
 count rt ci
 count tests/run_rows.py --reference
 if "${MAKE:-make}" --no-print-directory program; then
