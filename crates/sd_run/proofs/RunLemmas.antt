@@ -1,19 +1,25 @@
 -- What each return of a run says.
-use Rattle.std.proofs.Common.{zero, suc, ◌≡◌, ℕ, ◌+◌, ◌<◌, ◌≤◌, List, [], ◌∷◌, ◌++◌, length, true, Option, None, Some}
-use Rattle.std.proofs.Common.{Result, Ok, Err, refl, sym, ◌∙◌, ap, arith, append-nil, append_assoc, inl, inr, ◌⊎◌}
+use Rattle.std.proofs.Common.{zero, suc, ◌≡◌, ℕ, ◌+◌, ◌<◌, ◌≤◌, List, [], ◌∷◌, ◌++◌, length, take, true}
+use Rattle.std.proofs.Common.{◌⊎◌, Option, None, Some, Result, Ok, Err, refl, sym, ◌∙◌, ap, arith, append-nil}
+use Rattle.std.proofs.Common.{append_assoc, inl, inr}
 use Rattle.std.proofs.lemmas.List.Elements.{All-append, All-nil}
-use Rattle.std.specs.Io.KnownBytes.{Consumes, Appends, Keeps, IsAtEnd}
+use Rattle.std.proofs.lemmas.Result.{err_from_is_err_and}
+use Rattle.std.specs.Io.KnownBytes.{Consumes, Appends, Keeps, ReadConsumes}
+use Rattle.std.specs.Result.{MatchResult, IsErrAnd}
 use Rattle.std.proofs.KnownBytes.{Consumes-nil, Consumes-trans, Consumes-kept}
 use Rattle.sd_sink.specs.Counts.{counted}
 use Rattle.sd_token.specs.Token.{TokenShown}
 use Rattle.sd_sink.specs.Sink.{SinkTold, IsPrefix}
-use Rattle.sd_run.specs.Told.{DrainTold, RunTold, sink_of, reads_after, ends_after, failed_reads_after}
+use Rattle.sd_run.specs.Told.{DrainTold, RunTold, SourceTold, sink_of, reads_after, ends_after, failed_reads_after}
 use Rattle.sd_run.specs.Lines.{AreBytes, ended, last_line, lines, cut_at_line_feeds}
 use Rattle.sd_run.specs.Answers.{answers}
 use Rattle.sd_run.specs.Inner.Running.{AfterBytes, Answered, BeforeRead, Failed, Standing, standing}
+use Rattle.sd_run.specs.Inner.Running.{ReadFailed, ReadNone, ReadSome, ReadsPiece}
 use Rattle.sd_answer.specs.LineInHand.{Holds}
 use Rattle.sd_run.specs.Outcome.{Finished, FaultSays, HandedOn, IsFront, most_of_a_read}
 use Rattle.sd_answer.specs.declared.job.Task.{Task}
+use Rattle.sd_run.specs.declared.device.DeviceFault.{DeviceFault}
+use Rattle.sd_run.specs.declared.engine.RunFault.{RunFault}
 use Rattle.sd_run.specs.declared.engine.RunState.{RunState}
 use Rattle.sd_run.specs.declared.engine.RunFault.TheVariants.{Read, Write, TooManyReads}
 use Rattle.sd_run.proofs.AnswersLemmas.{answers-append}
@@ -138,62 +144,56 @@ module _ (task : Task) (most turn : ℕ) (old : RunTold) (state : RunState) (now
     (r : BeforeRead task turn old state now) (low : turn < most) where
   -- a piece was read and its lines are answered
   pub BeforeRead-more : (piece : List ℕ) (state' : RunState) (new : RunTold)
-      → AreBytes piece → Consumes now.source.left new.source.left piece
-      → new.source.reads ≡ counted now.source.reads → new.source.ends ≡ now.source.ends
-      → new.source.failures ≡ now.source.failures
+      → AreBytes piece → ReadSome now.source new.source piece
       → AfterBytes task old.token (sink_of old.drain) (r.got ++ piece) (standing state' new)
       → ((new.drain ≡ now.drain) × (state'.report.lines ≡ state.report.lines)) ⊎ (new.drain.flushed ≡ true)
       → BeforeRead task (turn + 1) old state' new
-  BeforeRead-more piece state' new bytes consumed reads ends failures after handed = record {
+  BeforeRead-more piece state' new bytes some after handed = record {
     got = r.got ++ piece;
-    read = Consumes-trans _ _ _ _ _ r.read consumed;
+    read = Consumes-trans _ _ _ _ _ r.read some.read;
     bytes = AreBytes-append r.got piece r.bytes bytes;
     after = after;
     handed_on = HandedOn-more r.got (r.got ++ piece) old.drain now.drain new.drain _ _ r.handed_on
         r.after.answered.lines_counted after.answered.lines_counted handed;
-    reads = record {
+    reads = let reads = some.reads in record {
       at_least = let before = r.reads.at_least in omega arith;
       at_most = let before = r.reads.at_most in omega arith;
     };
-    ends = ends ∙ r.ends;
-    failures = failures ∙ r.failures;
+    ends = some.ends ∙ r.ends;
+    failures = some.failures ∙ r.failures;
   }
 
   -- a read failed, and nothing else changed
   pub broken-read : (new : RunTold) → new.token ≡ now.token → new.drain ≡ now.drain
-      → Keeps now.source.left new.source.left → new.source.reads ≡ counted now.source.reads
-      → new.source.ends ≡ now.source.ends → new.source.failures ≡ counted now.source.failures
-      → FaultSays most task old new Read
-  broken-read new token drain keeps reads ends failed = (
+      → ReadFailed now.source new.source → FaultSays most task old new Read
+  broken-read new token drain failed = (
     record {
       got = r.got;
-      read = Consumes-kept _ _ _ _ r.read keeps;
+      read = Consumes-kept _ _ _ _ r.read failed.keeps;
       bytes = r.bytes;
-      reads = let before = r.reads.at_most in omega arith;
-      no_end = ends ∙ r.ends;
+      reads = let before = r.reads.at_most in let reads = failed.reads in omega arith;
+      no_end = failed.ends ∙ r.ends;
       written = rw drain r.after.answered.put.appended;
       handed_on = rw drain r.handed_on;
       no_failed_write = rw drain r.after.answered.put.no_failure;
       compared = rw token r.after.answered.compared;
     },
-    failed ∙ ap counted r.failures,
+    failed.failures ∙ ap counted r.failures,
   )
 
   -- the end was read
   pub finished : (state' : RunState) (new : RunTold)
-      → Consumes now.source.left new.source.left [] → IsAtEnd new.source.left
-      → new.source.reads ≡ counted now.source.reads → new.source.ends ≡ counted now.source.ends
-      → new.source.failures ≡ now.source.failures
+      → ReadNone now.source new.source
       → Answered task old.token (sink_of old.drain) (lines r.got) (standing state' new) → new.drain.flushed ≡ true
       → Finished most task old new state'.report
-  finished state' new consumed none reads ends failures answered flushed = record {
+  finished state' new none answered flushed = record {
     got = r.got;
-    read = Consumes-none _ _ _ _ r.read consumed;
+    read = Consumes-none _ _ _ _ r.read none.read;
     bytes = r.bytes;
-    reads = let before = r.reads.at_most in omega arith;
-    end = ends ∙ ap counted r.ends;
-    at_end = none;
-    no_failed_read = failures ∙ r.failures;
+    reads = let before = r.reads.at_most in let reads = none.reads in omega arith;
+    end = none.ends ∙ ap counted r.ends;
+    at_end = none.at_end;
+    no_failed_read = none.failures ∙ r.failures;
     written = answered.put.appended;
     no_failed_write = answered.put.no_failure;
     flushed = flushed;
@@ -203,20 +203,17 @@ module _ (task : Task) (most turn : ℕ) (old : RunTold) (state : RunState) (now
   }
 
   -- a write or the flush failed after the end was read
-  pub broken-close : (state' : RunState) (new : RunTold)
-      → Consumes now.source.left new.source.left []
-      → new.source.reads ≡ counted now.source.reads → new.source.ends ≡ counted now.source.ends
-      → new.source.failures ≡ now.source.failures
+  pub broken-close : (state' : RunState) (new : RunTold) → ReadNone now.source new.source
       → Failed task old.token (sink_of old.drain) (ended r.got) (lines r.got) (standing state' new)
       → FaultSays most task old new Write
-  broken-close state' new consumed reads ends failures failed = record {
+  broken-close state' new none failed = record {
     got = r.got;
-    read = Consumes-none _ _ _ _ r.read consumed;
+    read = Consumes-none _ _ _ _ r.read none.read;
     bytes = r.bytes;
-    reads = let before = r.reads.at_most in omega arith;
-    no_failed_read = failures ∙ r.failures;
+    reads = let before = r.reads.at_most in let reads = none.reads in omega arith;
+    no_failed_read = none.failures ∙ r.failures;
     all = lines r.got;
-    these = inl (ends ∙ ap counted r.ends, refl);
+    these = inl (none.ends ∙ ap counted r.ends, refl);
     written = answers task old.token.holder failed.whole ++ failed.part;
     wrote = failed.appended;
     is_prefix = written-prefix _ _ _ _ _ _ failed;
@@ -239,19 +236,17 @@ module _ (task : Task) (most turn : ℕ) (old : RunTold) (state : RunState) (now
 
   -- a write failed before
   pub broken-write : (piece : List ℕ) (state' : RunState) (new : RunTold)
-      → AreBytes piece → length piece ≤ most_of_a_read → Consumes now.source.left new.source.left piece
-      → new.source.reads ≡ counted now.source.reads → new.source.ends ≡ now.source.ends
-      → new.source.failures ≡ now.source.failures
+      → AreBytes piece → length piece ≤ most_of_a_read → ReadSome now.source new.source piece
       → Failed task old.token (sink_of old.drain) (ended r.got) (ended (r.got ++ piece)) (standing state' new)
       → FaultSays most task old new Write
-  broken-write piece state' new bytes size consumed reads ends failures failed = record {
+  broken-write piece state' new bytes size some failed = record {
     got = r.got ++ piece;
-    read = Consumes-trans _ _ _ _ _ r.read consumed;
+    read = Consumes-trans _ _ _ _ _ r.read some.read;
     bytes = AreBytes-append r.got piece r.bytes bytes;
-    reads = let before = r.reads.at_most in omega arith;
-    no_failed_read = failures ∙ r.failures;
+    reads = let before = r.reads.at_most in let reads = some.reads in omega arith;
+    no_failed_read = some.failures ∙ r.failures;
     all = ended (r.got ++ piece);
-    these = inr (ends ∙ r.ends, refl);
+    these = inr (some.ends ∙ r.ends, refl);
     written = answers task old.token.holder failed.whole ++ failed.part;
     wrote = failed.appended;
     is_prefix = written-prefix _ _ _ _ _ _ failed;
@@ -291,24 +286,32 @@ broken-most task most old state now r = (
   r.failures,
 )
 
--- what a read into a buffer with room says of the counts: one that answered 0, or more, or that failed
-pub reads-some : (buf : List ℕ) (reads : ℕ) → 0 < length buf → reads_after buf reads ≡ counted reads
-reads-some [] reads room = absurd (omega arith)
-reads-some (b ∷ buf) reads room = refl
+-- what a read into a buffer with room returned, with a run's fault for the device's
+pub reads_piece : (old new : SourceTold) (buf : List ℕ) (r : Result ℕ DeviceFault) (m : Result ℕ RunFault)
+    → MatchResult r (λ n. m ≡ Ok n) (λ _. IsErrAnd m (λ fault. fault ≡ Read)) → 0 < length buf
+    → ReadConsumes old.left new.left r buf → new.reads ≡ reads_after buf old.reads
+    → new.ends ≡ ends_after r buf old.ends → new.failures ≡ failed_reads_after r old.failures
+    → ReadsPiece old new buf m
+reads_piece old new [] r m mapped room bytes reads ends failures = absurd (omega arith)
+reads_piece old new (b ∷ buf) (Ok zero) m mapped room bytes reads ends failures = rw mapped (record {
+  read = bytes.0;
+  at_end = bytes.1 refl room;
+  reads = reads;
+  ends = ends;
+  failures = failures;
+})
+reads_piece old new (b ∷ buf) (Ok (suc n)) m mapped room bytes reads ends failures = rw mapped (record {
+  read = bytes.0;
+  reads = reads;
+  ends = ends;
+  failures = failures;
+})
+reads_piece old new (b ∷ buf) (Err fault) m mapped room bytes reads ends failures =
+    let p = err_from_is_err_and m mapped in
+    rw p.1 (p.2, record { keeps = bytes; reads = reads; ends = ends; failures = failures })
 
-pub ends-zero : {E : Type 0} (r : Result ℕ E) (buf : List ℕ) (n ends : ℕ) → r ≡ Ok n → n ≡ 0 → 0 < length buf
-    → ends_after r buf ends ≡ counted ends
-ends-zero {E} r [] n ends e z room = absurd (omega arith)
-ends-zero {E} r (b ∷ buf) n ends e z room = rw (e, z)
-
-pub ends-some : {E : Type 0} (r : Result ℕ E) (buf : List ℕ) (n ends : ℕ) → r ≡ Ok n → (n ≡ 0 → ⊥)
-    → ends_after r buf ends ≡ ends
-ends-some {E} r buf zero ends e z = absurd (z refl)
-ends-some {E} r buf (suc n) ends e z = rw e
-
-pub ends-failed : {E : Type 0} (r : Result ℕ E) (buf : List ℕ) (e : E) (ends : ℕ) → r ≡ Err e
-    → ends_after r buf ends ≡ ends
-ends-failed {E} r buf e ends is = rw is
-
-pub failures-ok : {E : Type 0} (r : Result ℕ E) (n failures : ℕ) → r ≡ Ok n → failed_reads_after r failures ≡ failures
-failures-ok {E} r n failures e = rw e
+-- the bytes of a read that is not the last
+pub read_some : (old new : SourceTold) (buf : List ℕ) (n : ℕ) → (n ≡ 0 → ⊥) → ReadsPiece old new buf (Ok n)
+    → ReadSome old new (take n buf)
+read_some old new buf zero some read = absurd (some refl)
+read_some old new buf (suc n) some read = read

@@ -5,9 +5,17 @@ ghost use Rattle.std.specs.Io.KnownBytes.{ReadConsumes, Keeps, Appends};
 ghost use Rattle.sd_run.specs.Told.{SourceTold, DrainTold, reads_after, ends_after, failed_reads_after};
 ghost use Rattle.sd_run.specs.Told.{failed_writes_after, failed_flushes_after, is_flush};
 
+use sd_sink::SinkFault;
+
 /// A call of a device failed.
 #[derive(Clone, Copy, Debug, PartialEq, Eq)]
 pub struct DeviceFault;
+
+impl From<DeviceFault> for SinkFault {
+    fn from(_fault: DeviceFault) -> SinkFault {
+        SinkFault
+    }
+}
 
 /// What a run reads from.
 pub trait Source {

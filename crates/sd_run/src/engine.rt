@@ -3,11 +3,12 @@
 ghost use Rattle.std.specs.Prelude.{◌≡◌, IfOk, MatchResult, None, Some, Ok, Err};
 ghost use Rattle.sd_sddl_reader.specs.Meaning.{means};
 ghost use Rattle.sd_answer.specs.Task.{IsDerivation};
+ghost use Rattle.sd_run.specs.declared.engine.RunFault.TheVariants.{Write};
 
 use sd_answer::{Job, Line, Stores};
 use sd_buffer::{SdBuf, TextBuf};
 use sd_sddl_reader::{SddlFault, read_sddl};
-use sd_sink::NoMemory;
+use sd_sink::{NoMemory, SinkFault};
 use std::alloc::Global;
 use std::marker::Model;
 use thiserror::Error;
@@ -31,6 +32,14 @@ pub enum RunFault {
     /// 62: 2^40 reads brought no end.
     #[error("62 too-many-reads")]
     TooManyReads,
+}
+
+impl From<SinkFault> for RunFault {
+    ghost from_gives = { λ _ fault. fault ≡ Write };
+
+    fn from(_fault: SinkFault) -> RunFault {
+        RunFault::Write
+    }
 }
 
 /// What a run works with: its job, the creator's descriptor if there is one, and memory that was allocated before the

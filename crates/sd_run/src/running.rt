@@ -1,15 +1,14 @@
 //! A run from the first read to the last flush.
 
-ghost use Rattle.std.specs.Prelude.{◌≡◌, ◌⊎◌, ◌<◌, ◌≤◌, ◌^◌, ℕ, List, length, true, IsOk, MatchResult};
+ghost use Rattle.std.specs.Prelude.{◌≡◌, ◌⊎◌, ◌<◌, ◌≤◌, ◌^◌, ℕ, List, length, true, IfOk, IsOk, MatchResult};
 ghost use Rattle.sd_token.specs.Token.{TokenShown};
 ghost use Rattle.sd_sink.specs.Sink.{SinkTold};
 ghost use Rattle.sd_run.specs.Told.{sink_of};
 ghost use Rattle.sd_answer.specs.Answer.{AnswersAreShort};
 ghost use Rattle.sd_run.specs.Lines.{AreBytes, LinesAreCut, ended, lines};
 ghost use Rattle.sd_run.specs.Splits.{AnswersSplit};
-ghost use Rattle.sd_run.specs.Inner.Running.{Answered, Failed, Feeds, HasRoom, RoseWithin, AfterBytes};
+ghost use Rattle.sd_run.specs.Inner.Running.{Answered, Failed, Feeds, HasRoom, RoseWithin, AfterBytes, ReadsPiece};
 ghost use Rattle.sd_answer.specs.LineInHand.{IsReady};
-ghost use Rattle.sd_answer.specs.Task.{TaskLimits};
 ghost use Rattle.sd_run.specs.Outcome.{Outcome};
 
 use crate::device::{Drain, Source};
@@ -59,7 +58,7 @@ pub fn run<R: Source, W: Drain>(
     ensures task { engine.new ≡ engine.old }
     ensures holder { token.new.holder ≡ token.old.holder }
 {
-    run_engine(engine, token, source, drain, MOST_READS)
+    run_at_most(engine, token, source, drain, MOST_READS)
 }
 
 /// The same as `run` with another limit of reads, so that a test can reach it.
@@ -74,28 +73,11 @@ pub fn run_at_most<R: Source, W: Drain>(
     ensures outcome { Outcome most engine.old
         (record { token = token.old; source = R.told source.old; drain = W.told drain.old })
         (record { token = token.new; source = R.told source.new; drain = W.told drain.new }) result }
+    ensures answers_are_short { AnswersAreShort engine.old token.old.holder }
     ensures task { engine.new ≡ engine.old }
     ensures holder { token.new.holder ≡ token.old.holder }
 {
-    run_engine(engine, token, source, drain, most)
-}
-
-// Reads the creator's descriptor, once, and then the lines.
-fn run_engine<R: Source, W: Drain>(
-    engine: &mut Engine,
-    token: &mut Token,
-    source: &mut R,
-    drain: &mut W,
-    most: u64,
-) -> Result<Report, RunFault>
-    requires { most ≤ 2 ^ 40 }
-    ensures outcome { Outcome most engine.old
-        (record { token = token.old; source = R.told source.old; drain = W.told drain.old })
-        (record { token = token.new; source = R.told source.new; drain = W.told drain.new }) result }
-    ensures limits { TaskLimits engine.old }
-    ensures task { engine.new ≡ engine.old }
-    ensures holder { token.new.holder ≡ token.old.holder }
-{
+    // The creator's descriptor is read once, before the lines.
     let task = Task::new(engine.job, &engine.creator);
     run_task(&task, &mut engine.state, token, source, drain, most)
 }
@@ -122,22 +104,23 @@ fn run_task<R: Source, W: Drain>(
     };
     let mut buf = [0u8; PIECE];
     for turn in 0..most {
-        let n = match source.read(&mut buf) {
-            Ok(n) => n,
-            Err(_) => return Err(RunFault::Read),
-        };
+        let n = read_piece(source, &mut buf)?;
         if n == 0 {
-            return match close(task, state, token, drain) {
-                Ok(()) => Ok(state.report),
-                Err(_) => Err(RunFault::Write),
-            };
+            close(task, state, token, drain)?;
+            return Ok(state.report);
         }
-        match answer_piece(task, state, &buf[..n], token, drain) {
-            Ok(()) => {}
-            Err(_) => return Err(RunFault::Write),
-        }
+        answer_piece(task, state, &buf[..n], token, drain)?;
     }
     Err(RunFault::TooManyReads)
+}
+
+// Reads a piece. Returns how many bytes it has: none at the end of the input.
+fn read_piece<R: Source>(source: &mut R, buf: &mut [u8]) -> Result<usize, RunFault>
+    requires room { 0 < length buf.old }
+    ensures within { IfOk result (λ n. n ≤ length buf.new) }
+    ensures read { ReadsPiece (R.told source.old) (R.told source.new) buf.new result }
+{
+    source.read(buf).map_err(|_| RunFault::Read)
 }
 
 // Answers the lines that end in a piece, and hands their answers on, so that they are out before more is read.
@@ -160,15 +143,9 @@ fn answer_piece<W: Drain>(
     ensures ready { IsOk result → IsReady state.new.line }
     ensures rose { RoseWithin (length piece.now) state.old.report state.new.report }
 {
-    let a_line_ended = match feed_all(task, state, piece, token, drain) {
-        Ok(a_line_ended) => a_line_ended,
-        Err(sink_fault) => return Err(sink_fault),
-    };
-    if !a_line_ended {
-        return Ok(());
-    }
-    if let Err(_) = drain.flush() {
-        return Err(SinkFault);
+    let a_line_ended = feed_all(task, state, piece, token, drain)?;
+    if a_line_ended {
+        drain.flush()?;
     }
     Ok(())
 }
@@ -192,12 +169,7 @@ fn close<W: Drain>(
         (record { state = state.new; token = token.new; sink = sink_of (W.told drain.new) })) }
     ensures flushed { IsOk result → (W.told drain.new).flushed ≡ true }
 {
-    match finish(task, state, token, drain) {
-        Ok(()) => {}
-        Err(sink_fault) => return Err(sink_fault),
-    }
-    match drain.flush() {
-        Ok(()) => Ok(()),
-        Err(_) => Err(SinkFault),
-    }
+    finish(task, state, token, drain)?;
+    drain.flush()?;
+    Ok(())
 }

@@ -26,11 +26,11 @@ pub fn write_whole<W: Drain>(drain: &mut W, bytes: &[u8]) -> Result<(), SinkFaul
 {
     let mut at = 0;
     while at < bytes.len() {
-        match drain.write(&bytes[at..]) {
-            Ok(0) => return Err(SinkFault),
-            Ok(n) => at += n,
-            Err(_) => return Err(SinkFault),
+        let n = drain.write(&bytes[at..])?;
+        if n == 0 {
+            return Err(SinkFault);
         }
+        at += n;
     }
     Ok(())
 }

@@ -17,7 +17,8 @@ pub struct FromRead<R: Read> {
 impl<R: Read> FromRead<R> {
     /// No call is counted yet.
     pub fn new(reader: R) -> Self
-        ensures told { ⟦<FromRead<R> as Source>⟧.told result ≡ record { left = R.remaining reader; reads = 0; ends = 0; failures = 0 } }
+        ensures told { ⟦<FromRead<R> as Source>⟧.told result
+            ≡ record { left = R.remaining reader; reads = 0; ends = 0; failures = 0 } }
     {
         FromRead {
             reader,
@@ -62,7 +63,8 @@ pub struct ToWrite<W: Write> {
 impl<W: Write> ToWrite<W> {
     /// No call is counted yet.
     pub fn new(writer: W) -> Self
-        ensures told { ⟦<ToWrite<W> as Drain>⟧.told result ≡ record { taken = W.contents writer; failures = 0; flushed = false } }
+        ensures told { ⟦<ToWrite<W> as Drain>⟧.told result
+            ≡ record { taken = W.contents writer; failures = 0; flushed = false } }
     {
         ToWrite {
             writer,

@@ -1,6 +1,7 @@
 -- A run in the middle: the line in hand, and what was answered of the lines before it.
-use Rattle.std.specs.Prelude.{◌≡◌, ◌<◌, ◌≤◌, ℕ, ◌+◌, ◌^◌, List, [], ◌++◌, length, MatchResult, Result}
-use Rattle.std.specs.Io.KnownBytes.{Consumes, Appends}
+use Rattle.std.specs.Prelude.{zero, suc, ◌≡◌, ◌<◌, ◌≤◌, ℕ, ◌+◌, ◌^◌, List, [], ◌++◌, length, take}
+use Rattle.std.specs.Prelude.{MatchResult, Result, Ok, Err}
+use Rattle.std.specs.Io.KnownBytes.{Consumes, Appends, IsAtEnd, Keeps}
 use Rattle.sd_sink.specs.Counts.{counted}
 use Rattle.sd_sink.specs.Sink.{SinkTold, PutAll, IsPrefix}
 use Rattle.sd_sink.specs.declared.sink.SinkFault.{SinkFault}
@@ -10,8 +11,10 @@ use Rattle.sd_answer.specs.declared.job.Task.{Task}
 use Rattle.sd_run.specs.Answers.{answers, errors, bounds}
 use Rattle.sd_run.specs.Lines.{AreBytes, cut_at_line_feeds, ended}
 use Rattle.sd_run.specs.Outcome.{HandedOn, IsFront, RoseBy}
-use Rattle.sd_run.specs.Told.{RunTold, sink_of}
+use Rattle.sd_run.specs.Told.{RunTold, SourceTold, sink_of}
 use Rattle.sd_run.specs.declared.engine.Report.{Report}
+use Rattle.sd_run.specs.declared.engine.RunFault.{RunFault}
+use Rattle.sd_run.specs.declared.engine.RunFault.TheVariants.{Read}
 use Rattle.sd_run.specs.declared.engine.RunState.{RunState}
 
 -- n lines and n faults more may be counted
@@ -67,6 +70,34 @@ Feeds task piece old new result =
     → MatchResult result
     (λ _. AfterBytes task token0 sink0 (got ++ piece) new)
     (λ _. Failed task token0 sink0 (ended got) (ended (got ++ piece)) new)
+
+-- a read gave these bytes
+pub record ReadSome (old new : SourceTold) (bytes : List ℕ) : Type 0 where
+  pub read : Consumes old.left new.left bytes
+  pub reads : new.reads ≡ counted old.reads
+  pub ends : new.ends ≡ old.ends
+  pub failures : new.failures ≡ old.failures
+
+-- a read met the end
+pub record ReadNone (old new : SourceTold) : Type 0 where
+  pub read : Consumes old.left new.left []
+  pub at_end : IsAtEnd new.left
+  pub reads : new.reads ≡ counted old.reads
+  pub ends : new.ends ≡ counted old.ends
+  pub failures : new.failures ≡ old.failures
+
+-- a read failed
+pub record ReadFailed (old new : SourceTold) : Type 0 where
+  pub keeps : Keeps old.left new.left
+  pub reads : new.reads ≡ counted old.reads
+  pub ends : new.ends ≡ old.ends
+  pub failures : new.failures ≡ counted old.failures
+
+-- what a read into a buffer with room returned, and what the buffer holds
+abbrev pub ReadsPiece : SourceTold → SourceTold → List ℕ → Result ℕ RunFault → Type 0
+ReadsPiece old new buf (Ok zero) = ReadNone old new
+ReadsPiece old new buf (Ok (suc n)) = ReadSome old new (take (suc n) buf)
+ReadsPiece old new buf (Err fault) = (fault ≡ Read) × ReadFailed old new
 
 -- where a run stands with a drain for its sink
 abbrev pub standing : RunState → RunTold → Standing

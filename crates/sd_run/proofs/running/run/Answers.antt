@@ -1,10 +1,6 @@
 use Rattle.sd_run.proofs.LineCutLemmas.{lines-are-cut}
 use Rattle.sd_run.proofs.SplitsLemmas.{answers-split}
-use Rattle.sd_answer.proofs.laws.ShortAnswers.{answers-short}
 use Rattle.sd_run.proofs.running.run.Goals as goal
-
-pub returns-clause-answers_are_short : goal.returns-clause-answers_are_short
-returns-clause-answers_are_short g c = answers-short _ _ c.run_engine.ensures.limits
 
 pub returns-clause-lines_are_cut : goal.returns-clause-lines_are_cut
 returns-clause-lines_are_cut g c = lines-are-cut
