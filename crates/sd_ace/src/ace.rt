@@ -37,14 +37,26 @@ impl Model for Ace {
 
     ghost Value = { AccessControlEntry };
 
-    ghost view = { λ a.
-        record { kind = a.kind; flags = a.flags; mask = a.mask; object = a.object; inherited = a.inherited; sid = a.sid } };
+    ghost view = { λ a. record {
+      kind = a.kind;
+      flags = a.flags;
+      mask = a.mask;
+      object = a.object;
+      inherited = a.inherited;
+      sid = a.sid;
+    } };
 
     ghost invariant = { λ a. (a.flags < 256) × (a.flags / 0x20 % 2 ≡ 0) × (a.mask < 2 ^ 32)
         × GuidsFit (is_object a.kind) a.object a.inherited };
 
-    ghost inverse = { λ a.
-        record { kind = a.kind; flags = a.flags; mask = a.mask; object = a.object; inherited = a.inherited; sid = a.sid } };
+    ghost inverse = { λ a. record {
+      kind = a.kind;
+      flags = a.flags;
+      mask = a.mask;
+      object = a.object;
+      inherited = a.inherited;
+      sid = a.sid;
+    } };
 }
 
 impl Ace {

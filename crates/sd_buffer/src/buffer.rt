@@ -56,7 +56,8 @@ impl<const MOST: usize> Model for ByteBuf<MOST> {
 
     ghost view = { λ b. take b.held b.cells.items };
 
-    ghost invariant = { λ b. (b.held ≤ length b.cells.items) × (length b.cells.items ≤ MOST) × (MOST ≤ vec_capacity b.cells) };
+    ghost invariant = { λ b.
+        (b.held ≤ length b.cells.items) × (length b.cells.items ≤ MOST) × (MOST ≤ vec_capacity b.cells) };
 }
 
 impl<const MOST: usize> ByteBuf<MOST> {

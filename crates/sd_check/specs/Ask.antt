@@ -2,7 +2,7 @@
 use Rattle.std.specs.Prelude.{◌<◌, ℕ, ◌%◌, ◌^◌, ◌==◌, Bool, not, ◌&&◌, ◌||◌, if◌then◌else◌, List, Option, Some, None}
 use Rattle.sd_rights.specs.Mapping.{GenericMapping, carries, mapped}
 use Rattle.sd_sid.specs.Sid.{SecurityId}
-use Rattle.sd_check.specs.AccessRights.{first_reserved, maximum_allowed, second_reserved}
+use Rattle.sd_rights.specs.AccessRights.{first_reserved, maximum_allowed, second_reserved}
 use Rattle.sd_check.specs.declared.ask.AskFault.{AskFault}
 use Rattle.sd_check.specs.declared.ask.AskFault.TheVariants.{EmptyRequest, ReservedBits}
 

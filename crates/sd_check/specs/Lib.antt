@@ -1,4 +1,3 @@
-pub mod AccessRights
 pub mod Acl
 pub mod Applies
 pub mod Ask

@@ -6,7 +6,7 @@ use Rattle.sd_ace.specs.Ace.{AccessControlEntry}
 use Rattle.sd_rights.specs.Mapping.{carries}
 use Rattle.sd_token.specs.Token.{Entry}
 use Rattle.sd_view.specs.Descriptor.{Descriptor}
-use Rattle.sd_check.specs.AccessRights.{read_control, system_security, write_dac}
+use Rattle.sd_rights.specs.AccessRights.{read_control, system_security, write_dac}
 use Rattle.sd_check.specs.Acl.{listed_aces}
 use Rattle.sd_check.specs.Ask.{Asked}
 use Rattle.sd_check.specs.Granted.{decides, is_open, needs_no_ace}

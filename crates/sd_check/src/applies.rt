@@ -1,6 +1,6 @@
 //! When an ACE applies.
 
-ghost use Rattle.std.specs.Prelude.{◌≡◌, ◌≤◌, ◌+◌, length};
+ghost use Rattle.std.specs.Prelude.{◌≡◌};
 ghost use Rattle.sd_token.specs.Token.{Asks};
 ghost use Rattle.sd_check.specs.Applies.{applies, is_access, is_allow, is_deny, is_effective, is_for};
 

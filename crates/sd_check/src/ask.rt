@@ -3,8 +3,7 @@
 ghost use Rattle.std.specs.Prelude.{◌≡◌, ◌||◌, None, Some, IfOk, MatchResult};
 ghost use Rattle.sd_check.specs.Ask.{AreRights, ask_fault, asks_maximum, wanted_of};
 
-use crate::access_rights::{FIRST_RESERVED, MAXIMUM_ALLOWED, SECOND_RESERVED};
-use sd_rights::{Mapping, carries};
+use sd_rights::{FIRST_RESERVED, MAXIMUM_ALLOWED, Mapping, SECOND_RESERVED, carries};
 use sd_sid::Sid;
 use std::marker::Model;
 use uuid::Uuid;

@@ -1,17 +1,16 @@
 //! The rights that are granted without an ACE.
 
-ghost use Rattle.std.specs.Prelude.{◌≡◌, ◌≤◌, ◌+◌, false, length};
+ghost use Rattle.std.specs.Prelude.{◌≡◌, false};
 ghost use Rattle.sd_token.specs.Token.{Asks};
 ghost use Rattle.sd_check.specs.Granted.{is_for_owner_rights, is_open, is_owned, names_owner_rights};
 ghost use Rattle.sd_check.specs.Inner.Scan.{asks_owner, given_mask};
 
-use crate::access_rights::{
-    ACCESS_SYSTEM_SECURITY, BELOW_SYSTEM_SECURITY, READ_CONTROL, WRITE_DAC, WRITE_OWNER,
-};
 use crate::applies::is_effective;
 use crate::ask::Ask;
 use crate::trustee::{is_owner_rights, some_meets};
-use sd_rights::mask_if;
+use sd_rights::{
+    ACCESS_SYSTEM_SECURITY, BELOW_SYSTEM_SECURITY, READ_CONTROL, WRITE_DAC, WRITE_OWNER, mask_if,
+};
 use sd_token::Token;
 use sd_view::{AceView, AclPart, AclView, SdView};
 

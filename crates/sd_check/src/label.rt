@@ -3,12 +3,11 @@
 ghost use Rattle.std.specs.Prelude.{◌≡◌};
 ghost use Rattle.std.specs.List.{find};
 ghost use Rattle.sd_check.specs.Inner.Scan.{left_mask, permitted_mask};
-ghost use Rattle.sd_check.specs.Label.{is_lower, is_mandatory_label, label, label_of, names_level};
+ghost use Rattle.sd_check.specs.Label.{is_mandatory_label, label, label_of, names_level};
 
-use crate::access_rights::{ACCESS_SYSTEM_SECURITY, ALL_RIGHTS};
 use crate::ask::Ask;
-use sd_kinds::{AceKind, INHERIT_ONLY, has_flag};
-use sd_rights::{Mapping, carries, mask_if};
+use sd_kinds::{INHERIT_ONLY, has_flag};
+use sd_rights::{ACCESS_SYSTEM_SECURITY, ALL_RIGHTS, Mapping, carries, is_label, mask_if};
 use sd_sid::Sid;
 use sd_token::Token;
 use sd_view::{AceView, AclPart, AclView, SdView};
@@ -30,10 +29,13 @@ const NO_EXECUTE_UP: u32 = 2;
 
 const MANDATORY_LABEL_AUTHORITY: u64 = 16;
 
+/// The level of S-1-16-8192.
+const MEDIUM_LEVEL: u32 = 8192;
+
 /// The label of an object without one: medium level, not to be written from below (MS-DTYP 2.5.3.3).
 const DEFAULT: Label = Label {
-    level: 8192,
-    policy: 1,
+    level: MEDIUM_LEVEL,
+    policy: 1 << NO_WRITE_UP,
 };
 
 /// The rights that the label leaves to the token, ACCESS_SYSTEM_SECURITY among them: no label limits that one. The
@@ -92,9 +94,7 @@ fn first_label(acl: &AclView) -> Label
 fn is_mandatory_label(ace: &AceView) -> bool
     ensures { result ≡ is_mandatory_label ace.now }
 {
-    matches!(ace.kind(), AceKind::Label)
-        && !has_flag(ace.flags(), INHERIT_ONLY)
-        && names_level(&ace.sid())
+    is_label(ace.kind()) && !has_flag(ace.flags(), INHERIT_ONLY) && names_level(&ace.sid())
 }
 
 // Whether it is a SID of the label authority with one number (MS-DTYP 2.4.2.4).

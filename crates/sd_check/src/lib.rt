@@ -1,7 +1,6 @@
 //! The access check (MS-DTYP 2.5.3).
 #![tactic(auto)]
 
-mod access_rights;
 mod applies;
 mod ask;
 mod grants;

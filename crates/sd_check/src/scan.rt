@@ -1,6 +1,6 @@
 //! The one walk through the DACL.
 
-ghost use Rattle.std.specs.Prelude.{◌≡◌, ◌<◌, ◌≤◌, ◌+◌, ◌*◌, ◌^◌, ◌&&◌, ℕ, bit_and, length};
+ghost use Rattle.std.specs.Prelude.{◌≡◌, ◌<◌, ◌^◌, ◌&&◌, ℕ, bit_and};
 ghost use Rattle.std.specs.List.{find};
 ghost use Rattle.sd_rights.specs.Mapping.{carries, mapped};
 ghost use Rattle.sd_token.specs.Token.{Asks};

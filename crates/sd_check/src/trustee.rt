@@ -1,6 +1,6 @@
 //! Whom a SID means, and whether a token has it.
 
-ghost use Rattle.std.specs.Prelude.{◌≡◌, ◌≤◌, ◌+◌, [], ◌∷◌, length};
+ghost use Rattle.std.specs.Prelude.{◌≡◌, [], ◌∷◌};
 ghost use Rattle.sd_sid.specs.SidText.{same_sid};
 ghost use Rattle.sd_token.specs.Token.{Asks, meets};
 ghost use Rattle.sd_check.specs.Applies.{owner_rights, some_meets, subject};

@@ -3,18 +3,17 @@
 ghost use Rattle.std.specs.Prelude.{◌≡◌, ◌≤◌, ◌+◌, ◌*◌, ◌^◌, ◌-◌, bit_and, bit_or, false, length};
 ghost use Rattle.sd_rights.specs.Mapping.{mask_if as mask_if_of};
 ghost use Rattle.sd_token.specs.Token.{Asks, Compares};
-ghost use Rattle.sd_check.specs.AccessRights.{system_security_mask};
+ghost use Rattle.sd_rights.specs.AccessRights.{system_security_mask};
 ghost use Rattle.sd_check.specs.Ask.{AreRights};
 ghost use Rattle.sd_check.specs.Need.{check_bound, need, owner_matters};
 ghost use Rattle.sd_check.specs.Inner.Scan.{HasGranted, question_of};
 ghost use Rattle.sd_check.specs.Verdict.{verdict};
 
-use crate::access_rights::ACCESS_SYSTEM_SECURITY;
 use crate::ask::Ask;
 use crate::grants::given;
 use crate::label::permitted;
 use crate::scan::scan;
-use sd_rights::mask_if;
+use sd_rights::{ACCESS_SYSTEM_SECURITY, mask_if};
 use sd_token::Token;
 use sd_view::SdView;
 

@@ -2,6 +2,7 @@
 use Rattle.std.specs.Prelude.{ℕ, ◌+◌, Bool, not, ◌&&◌, ◌||◌, if◌then◌else◌, List, [], ◌∷◌}
 use Rattle.sd_ace.specs.Ace.{AccessControlEntry}
 use Rattle.sd_text.specs.Bits.{bit_of, has_bit}
+use Rattle.sd_rights.specs.AccessRights.{generic_all, generic_execute, generic_read, generic_write}
 use Rattle.sd_rights.specs.Mapping.{carries, mapped}
 use Rattle.sd_rights.specs.Rights.{is_label}
 use Rattle.sd_sid.specs.Sid.{SecurityId}
@@ -39,9 +40,10 @@ heir plan s =
     if same_sid s creator_owner then plan.owner
     else if same_sid s creator_group then plan.group else s
 
--- 2.4.3: GENERIC_ALL, GENERIC_EXECUTE, GENERIC_WRITE or GENERIC_READ
+-- the mask has a generic right (2.4.3)
 abbrev pub has_generic : ℕ → Bool
-has_generic mask = carries mask 28 || carries mask 29 || carries mask 30 || carries mask 31
+has_generic mask =
+    carries mask generic_all || carries mask generic_execute || carries mask generic_write || carries mask generic_read
 
 -- the mask of a label has no rights of an object, and is left alone
 abbrev pub heir_mask : Plan → AccessControlEntry → ℕ

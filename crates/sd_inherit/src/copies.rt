@@ -46,10 +46,7 @@ fn file_copies(plan: &Plan, ace: &Ace) -> Copies
     if has_flag(ace.flags(), OBJECT_INHERIT) {
         return one_copy(effective_copy(plan, ace, 0));
     }
-    Copies {
-        effective: None,
-        inherit_only: None,
-    }
+    no_copy()
 }
 
 fn container_copies(plan: &Plan, ace: &Ace) -> Copies
@@ -76,6 +73,16 @@ fn container_copies(plan: &Plan, ace: &Ace) -> Copies
         } else {
             None
         },
+    }
+}
+
+/// Nothing.
+pub fn no_copy() -> Copies
+    ensures value { result ≡ record { effective = None; inherit_only = None } }
+{
+    Copies {
+        effective: None,
+        inherit_only: None,
     }
 }
 

@@ -1,6 +1,8 @@
 //! The flags of inheritance (MS-DTYP 2.4.4.1).
 
-ghost use Rattle.std.specs.Prelude.{◌≡◌, ◌<◌, ◌≤◌, ◌+◌, ◌/◌, ◌%◌};
+ghost use Rattle.std.specs.Prelude.{◌≡◌, ◌<◌, ◌≤◌, ◌+◌, ◌/◌, ◌%◌, false};
+ghost use Rattle.sd_text.specs.Bits.{has_bit};
+ghost use Rattle.sd_kinds.specs.declared.flags.TheConstants.{INHERIT_ONLY};
 ghost use Rattle.sd_inherit.specs.Copies.{audit_flags, copied_flags, onward_flags};
 
 use sd_kinds::{FAILED_ACCESS, INHERIT_ONLY, INHERITED, ONWARD, SUCCESSFUL_ACCESS};
@@ -26,8 +28,8 @@ pub fn audit_flags(flags: u8) -> u8
 
 /// The flags, and that the ACE is for what is made below alone.
 pub fn inherit_only_flags(flags: u8) -> u8
-    requires { flags / 0x8 % 2 ≡ 0 }
-    ensures value { result ≡ flags + 0x8 }
+    requires { has_bit INHERIT_ONLY flags ≡ false }
+    ensures value { result ≡ flags + INHERIT_ONLY }
     ensures clear { flags / 0x20 % 2 ≡ 0 → result / 0x20 % 2 ≡ 0 }
 {
     flags + INHERIT_ONLY
@@ -38,5 +40,5 @@ pub fn copied_flags(flags: u8, added: u8) -> u8
     requires { added < 16 }
     ensures { result ≡ copied_flags flags added }
 {
-    (flags & AUDIT) + INHERITED + added
+    audit_flags(flags) + INHERITED + added
 }

@@ -6,11 +6,8 @@ ghost use Rattle.sd_inherit.specs.Copies.{creator_group, creator_owner, has_gene
 
 use crate::plan::Plan;
 use sd_ace::Ace;
-use sd_rights::is_label;
+use sd_rights::{GENERIC_RIGHTS, is_label};
 use sd_sid::Sid;
-
-/// The generic rights (MS-DTYP 2.4.3).
-const GENERIC_RIGHTS: u32 = 0xf000_0000;
 
 /// The new object's owner and group replace CREATOR_OWNER and CREATOR_GROUP; any other SID stays.
 pub fn heir(plan: &Plan, sid: Sid) -> Sid

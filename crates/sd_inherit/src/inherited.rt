@@ -23,7 +23,7 @@ use sd_view::{Aces, AclPart};
 
 /// Whose ACEs are gathered.
 #[derive(Clone, Copy, Debug, PartialEq, Eq)]
-pub enum Source {
+pub enum Origin {
     /// The creator's descriptor.
     Creator,
     /// The container's.
@@ -102,7 +102,7 @@ fn put_from(
 {
     builder.begin_acl(buf, Which::Sacl);
     put_copies(builder, buf, first)?;
-    put_each(builder, buf, plan, Source::Parent, others)?;
+    put_each(builder, buf, plan, Origin::Parent, others)?;
     builder.end_acl(buf);
     Ok(())
 }
@@ -166,7 +166,7 @@ fn put_both(
         ↔ (2 ^ 16 ≤ acl_size (flat_map (taken plan.now) creators.entry ++ inherited plan.now parents.now)) }
 {
     builder.begin_acl(buf, which);
-    put_each(builder, buf, plan, Source::Creator, creators)?;
+    put_each(builder, buf, plan, Origin::Creator, creators)?;
     put_inherited(builder, buf, plan, parents)?;
     builder.end_acl(buf);
     Ok(())
@@ -186,7 +186,7 @@ fn put_inherited(
         → (IsErr result ↔ (2 ^ 16 ≤ open_size t.parts + aces_size (inherited plan.now part.now))) }
 {
     match part {
-        AclPart::List(acl) => put_each(builder, buf, plan, Source::Parent, acl.aces()),
+        AclPart::List(acl) => put_each(builder, buf, plan, Origin::Parent, acl.aces()),
         AclPart::Absent | AclPart::Null => Ok(()),
     }
 }
@@ -196,28 +196,28 @@ fn put_each(
     builder: &mut Builder,
     buf: &mut SdBuf,
     plan: &Plan,
-    source: Source,
+    origin: Origin,
     aces: Aces<'_>,
 ) -> Result<(), AclTooLarge>
     requires { (t : Draft) × Builds builder.old buf.old t × HasOpen t }
     ensures ok { (t : Draft) → Builds builder.old buf.old t
-        → OnOk result (Builds builder.new buf.new (with_aces (flat_map (gives source plan.now) aces.entry) t)) }
+        → OnOk result (Builds builder.new buf.new (with_aces (flat_map (gives origin plan.now) aces.entry) t)) }
     ensures full { (t : Draft) → Builds builder.old buf.old t → HasOpen t
-        → (IsErr result ↔ (2 ^ 16 ≤ open_size t.parts + aces_size (flat_map (gives source plan.now) aces.entry))) }
+        → (IsErr result ↔ (2 ^ 16 ≤ open_size t.parts + aces_size (flat_map (gives origin plan.now) aces.entry))) }
 {
     for ace in aces {
-        put_copies(builder, buf, &given_by(source, plan, &ace.ace()))?;
+        put_copies(builder, buf, &given_by(origin, plan, &ace.ace()))?;
     }
     Ok(())
 }
 
 // What one ACE gives.
-fn given_by(source: Source, plan: &Plan, ace: &Ace) -> Copies
-    ensures { listed result ≡ gives source plan.now ace.now }
+fn given_by(origin: Origin, plan: &Plan, ace: &Ace) -> Copies
+    ensures { listed result ≡ gives origin plan.now ace.now }
 {
-    match source {
-        Source::Creator => taken_of(plan, ace),
-        Source::Parent => copies_of(plan, ace),
+    match origin {
+        Origin::Creator => taken_of(plan, ace),
+        Origin::Parent => copies_of(plan, ace),
     }
 }
 

@@ -4,7 +4,7 @@ ghost use Rattle.std.specs.Prelude.{◌≡◌, false};
 ghost use Rattle.sd_inherit.specs.Inner.Building.{listed};
 ghost use Rattle.sd_inherit.specs.Taken.{handed_on, is_inherit_only, own_ace, taken, taken_for};
 
-use crate::copies::{Copies, changed, for_itself, one_copy};
+use crate::copies::{Copies, changed, for_itself, no_copy, one_copy};
 use crate::flags::{audit_flags, inherit_only_flags};
 use crate::heirs::differs;
 use crate::plan::{Plan, Target};
@@ -17,10 +17,7 @@ pub fn taken_of(plan: &Plan, ace: &Ace) -> Copies
     ensures { listed result ≡ taken plan.now ace.now }
 {
     if has_flag(ace.flags(), INHERITED) {
-        return Copies {
-            effective: None,
-            inherit_only: None,
-        };
+        return no_copy();
     }
     match plan.target {
         Target::File => taken_by_file(plan, ace),
@@ -32,10 +29,7 @@ fn taken_by_file(plan: &Plan, ace: &Ace) -> Copies
     ensures { listed result ≡ taken_for Target.File plan.now ace.now }
 {
     if has_flag(ace.flags(), INHERIT_ONLY) {
-        return Copies {
-            effective: None,
-            inherit_only: None,
-        };
+        return no_copy();
     }
     one_copy(own_ace(plan, ace))
 }

@@ -9,7 +9,7 @@ ghost use Rattle.sd_sink.specs.Print.{Prints};
 ghost use Rattle.sd_sink.specs.Sink.{Puts};
 
 use sd_sink::{Print, Printer, Sink, SinkFault};
-use sd_text::{MOST_FIELD_SIZE, NamedBits, print_names, read_names};
+use sd_text::{MOST_FIELD_SIZE, NamedBits, named, print_names, read_names};
 
 /// OBJECT_INHERIT_ACE: files inherit the ACE.
 pub const OBJECT_INHERIT: u8 = 0x1;
@@ -37,41 +37,13 @@ pub const ONWARD: u8 = OBJECT_INHERIT | CONTAINER_INHERIT;
 
 /// The flags of an ACE (MS-DTYP 2.4.4.1 and 2.5.1.1), in the order in which they are printed.
 pub const FLAGS: [NamedBits; 7] = [
-    NamedBits {
-        first: b'O',
-        second: b'I',
-        bits: OBJECT_INHERIT as u32,
-    },
-    NamedBits {
-        first: b'C',
-        second: b'I',
-        bits: CONTAINER_INHERIT as u32,
-    },
-    NamedBits {
-        first: b'N',
-        second: b'P',
-        bits: NO_PROPAGATE as u32,
-    },
-    NamedBits {
-        first: b'I',
-        second: b'O',
-        bits: INHERIT_ONLY as u32,
-    },
-    NamedBits {
-        first: b'I',
-        second: b'D',
-        bits: INHERITED as u32,
-    },
-    NamedBits {
-        first: b'S',
-        second: b'A',
-        bits: SUCCESSFUL_ACCESS as u32,
-    },
-    NamedBits {
-        first: b'F',
-        second: b'A',
-        bits: FAILED_ACCESS as u32,
-    },
+    named!(b'O', b'I', OBJECT_INHERIT as u32),
+    named!(b'C', b'I', CONTAINER_INHERIT as u32),
+    named!(b'N', b'P', NO_PROPAGATE as u32),
+    named!(b'I', b'O', INHERIT_ONLY as u32),
+    named!(b'I', b'D', INHERITED as u32),
+    named!(b'S', b'A', SUCCESSFUL_ACCESS as u32),
+    named!(b'F', b'A', FAILED_ACCESS as u32),
 ];
 
 /// Whether a flag is set among those of an ACE. It is one of `FLAGS`, and not several at once.

@@ -1,3 +1,4 @@
+pub mod AccessRights
 pub mod Mapping
 pub mod MappingValues
 pub mod RightValues

@@ -4,6 +4,7 @@ use Rattle.sd_rights.specs.declared.mapping.TheConstants.{DS_GENERIC_ALL, DS_GEN
 use Rattle.sd_rights.specs.declared.mapping.TheConstants.{DS_GENERIC_WRITE, FILE_ALL_ACCESS, FILE_GENERIC_EXECUTE}
 use Rattle.sd_rights.specs.declared.mapping.TheConstants.{FILE_GENERIC_READ, FILE_GENERIC_WRITE, KEY_ALL_ACCESS}
 use Rattle.sd_rights.specs.declared.mapping.TheConstants.{KEY_EXECUTE, KEY_READ, KEY_WRITE}
+use Rattle.sd_rights.specs.AccessRights.{generic_all, generic_execute, generic_read, generic_write}
 
 -- the mask has the right, a bit by its number
 abbrev pub carries : ℕ → ℕ → Bool
@@ -53,11 +54,11 @@ directory_mapping = record {
 abbrev pub mask_if : Bool → ℕ → ℕ
 mask_if carried mask = if carried then mask else 0
 
--- the mask without the generic rights 28 to 31, and for each of them that it had the mapping's mask
+-- the mask without the generic rights, which are its last bits, and for each of them that it had the mapping's mask
 unfoldable pub mapped : GenericMapping → ℕ → ℕ
 mapped m mask =
-    bit_or (bit_or (bit_or (bit_or (mask % 2 ^ 28)
-    (mask_if (carries mask 28) m.all))
-    (mask_if (carries mask 29) m.execute))
-    (mask_if (carries mask 30) m.write))
-    (mask_if (carries mask 31) m.read)
+    bit_or (bit_or (bit_or (bit_or (mask % 2 ^ generic_all)
+    (mask_if (carries mask generic_all) m.all))
+    (mask_if (carries mask generic_execute) m.execute))
+    (mask_if (carries mask generic_write) m.write))
+    (mask_if (carries mask generic_read) m.read)

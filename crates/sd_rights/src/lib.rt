@@ -1,11 +1,16 @@
 //! Access rights (MS-DTYP 2.4.3): their names in SDDL, and what the generic ones mean.
 #![tactic(auto)]
 
+mod access_rights;
 mod mapping;
 mod rights;
 mod rights_reading;
 mod rights_table;
 
+pub use access_rights::{
+    ACCESS_SYSTEM_SECURITY, ALL_RIGHTS, BELOW_SYSTEM_SECURITY, FIRST_RESERVED, GENERIC_RIGHTS,
+    MAXIMUM_ALLOWED, READ_CONTROL, SECOND_RESERVED, WRITE_DAC, WRITE_OWNER,
+};
 pub use mapping::{Mapping, carries, mask_if};
 pub use rights::{is_label, print_rights, put_rights};
 pub use rights_reading::rights_from_text;

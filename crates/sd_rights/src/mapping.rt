@@ -4,18 +4,10 @@ ghost use Rattle.std.specs.Prelude.{◌≡◌, ◌≤◌, ◌<◌, ◌^◌};
 ghost use Rattle.sd_rights.specs.Mapping.{IsMapping, carries, mapped, mask_if};
 ghost use Rattle.sd_rights.specs.MappingValues.{MappingValues};
 
+use crate::access_rights::{GENERIC_ALL, GENERIC_EXECUTE, GENERIC_READ, GENERIC_WRITE};
 use std::marker::Model;
 
-/// The numbers of the generic rights.
-const GENERIC_ALL: u32 = 28;
-
-const GENERIC_EXECUTE: u32 = 29;
-
-const GENERIC_WRITE: u32 = 30;
-
-const GENERIC_READ: u32 = 31;
-
-// What they mean for files and folders.
+// What the generic rights mean for files and folders.
 const FILE_GENERIC_READ: u32 = 0x12_0089;
 
 const FILE_GENERIC_WRITE: u32 = 0x12_0116;
@@ -133,7 +125,7 @@ impl Mapping {
         let execute = mask_if(carries(mask, GENERIC_EXECUTE), self.execute);
         let write = mask_if(carries(mask, GENERIC_WRITE), self.write);
         let read = mask_if(carries(mask, GENERIC_READ), self.read);
-        mask % (1 << 28) | all | execute | write | read
+        mask % (1 << GENERIC_ALL) | all | execute | write | read
     }
 }
 

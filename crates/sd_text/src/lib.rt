@@ -1,5 +1,5 @@
-//! Numbers in digits, and names of two letters for bits: what the readers and printers of texts share. And the limits of
-//! texts, SIDs and tokens.
+//! What the readers and printers of texts share: numbers in digits, and names of two letters for bits. It also has the
+//! limits of texts, SIDs and tokens.
 #![tactic(auto)]
 
 mod digits;

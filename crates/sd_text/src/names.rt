@@ -15,6 +15,18 @@ pub struct NamedBits {
     pub bits: u32,
 }
 
+/// A row of a table of names: both letters, and the bits.
+#[macro_export]
+macro_rules! named {
+    ($first:literal, $second:literal, $bits:expr) => {
+        $crate::NamedBits {
+            first: $first,
+            second: $second,
+            bits: $bits,
+        }
+    };
+}
+
 /// The names of the largest table.
 const MOST_NAMES: usize = 17;
 

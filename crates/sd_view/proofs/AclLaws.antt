@@ -412,12 +412,6 @@ inherited-room extent e =
     (drop 12 extent)
     (drop (12 + guid_size (object_in extent)) extent) e
 
-pub object-size : (b : Bool) (extent : List ℕ) → b ≡ announces_object (kind_in extent) extent
-    → guid_size (object_in extent) ≡ cond b 16 0
-unfolding object_in guid_if
-object-size true extent e = rw (← e) refl
-object-size false extent e = rw (← e) refl
-
 pub sid-room : (n : ℕ) (extent : List ℕ) (s : SecurityId) → BeginsWithSid (drop n extent) s
     → n + sid_size s ≤ length extent
 sid-room n extent s h = omega (

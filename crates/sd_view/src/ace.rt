@@ -2,11 +2,12 @@
 
 ghost use Rattle.std.specs.Prelude.{◌≡◌, ◌≤◌, ◌<◌, ◌+◌, ◌%◌, length, take, drop, Some, IfOk};
 ghost use Rattle.uuid.specs.Parts.{swap_fields};
-ghost use Rattle.sd_ace.specs.Ace.{IsAce, ace_size};
+ghost use Rattle.sd_ace.specs.Ace.{IsAce, ace_size, guid_size};
 ghost use Rattle.sd_kinds.specs.Kinds.{is_object};
 ghost use Rattle.sd_view.specs.Ace.{announces_inherited, announces_object};
 ghost use Rattle.sd_view.specs.AclLayout.{ace_body, ace_bytes, front_size};
-ghost use Rattle.sd_view.specs.AclReading.{ace_fault, ace_of, kind_in, extent_fault, sid_offset_in};
+ghost use Rattle.sd_view.specs.AclReading.{ace_fault, ace_of, extent_fault, inherited_in, kind_in, object_in};
+ghost use Rattle.sd_view.specs.AclReading.{sid_offset_in};
 ghost use Rattle.sd_view.specs.Inner.ReadableAcl.{IsReadableAce};
 ghost use Rattle.sd_view.specs.Bytes.{u16_at as u16_of};
 ghost use Rattle.sd_view.specs.Inner.Found.{FailsBy};
@@ -69,8 +70,26 @@ fn has_inherited(extent: &[u8]) -> bool
     kind_at(extent).is_object() && u32_at(extent, 8) / 2 % 2 == 1
 }
 
+// The bytes of the object type's GUID in the extent: none where it is absent.
+#[tactic(auto, unfolding(crate::specs::AclReading::object_in, crate::specs::AclReading::guid_if))]
+fn object_size(extent: &[u8]) -> usize
+    requires { 16 ≤ length extent.now }
+    ensures { result ≡ guid_size (object_in extent.now) }
+{
+    if has_object(extent) { GUID_SIZE } else { 0 }
+}
+
+// The bytes of the inherited object type's GUID.
+#[tactic(auto, unfolding(crate::specs::AclReading::inherited_in, crate::specs::AclReading::guid_if))]
+fn inherited_size(extent: &[u8]) -> usize
+    requires { 16 ≤ length extent.now }
+    ensures { result ≡ guid_size (inherited_in extent.now) }
+{
+    if has_inherited(extent) { GUID_SIZE } else { 0 }
+}
+
 // Where the SID is in the extent.
-#[tactic(auto, unfolding(crate::specs::AclReading::sid_offset_in, crate::specs::AclReading::object_in, crate::specs::AclReading::inherited_in, crate::specs::AclReading::guid_if))]
+#[tactic(auto, unfolding(crate::specs::AclReading::sid_offset_in))]
 fn sid_offset(extent: &[u8]) -> usize
     requires { 16 ≤ length extent.now }
     ensures value { result ≡ sid_offset_in extent.now }
@@ -79,9 +98,7 @@ fn sid_offset(extent: &[u8]) -> usize
     if !kind_at(extent).is_object() {
         return FRONT_SIZE;
     }
-    let object = if has_object(extent) { GUID_SIZE } else { 0 };
-    let inherited = if has_inherited(extent) { GUID_SIZE } else { 0 };
-    OBJECT_FRONT_SIZE + object + inherited
+    OBJECT_FRONT_SIZE + object_size(extent) + inherited_size(extent)
 }
 
 // The written size of the ACE in the extent.
@@ -201,19 +218,14 @@ impl<'a> AceView<'a> {
     }
 
     /// The GUID of the inherited object type, if there is one: in object kinds alone.
-    #[tactic(auto, unfolding(crate::specs::AclReading::inherited_in, crate::specs::AclReading::object_in, crate::specs::AclReading::guid_if))]
+    #[tactic(auto, unfolding(crate::specs::AclReading::inherited_in, crate::specs::AclReading::guid_if))]
     pub fn inherited(&self) -> Option<Uuid>
         ensures { result ≡ self.now.inherited }
     {
         if !has_inherited(self.extent) {
             return None;
         }
-        let object = if has_object(self.extent) {
-            GUID_SIZE
-        } else {
-            0
-        };
-        guid_at(self.extent, OBJECT_FRONT_SIZE + object)
+        guid_at(self.extent, OBJECT_FRONT_SIZE + object_size(self.extent))
     }
 
     /// The SID of the trustee.

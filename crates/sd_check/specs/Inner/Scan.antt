@@ -7,8 +7,8 @@ use Rattle.sd_rights.specs.Mapping.{GenericMapping, carries, mask_if}
 use Rattle.sd_token.specs.Token.{Entry, Holder}
 use Rattle.sd_view.specs.Descriptor.{Descriptor}
 use Rattle.sd_view.specs.declared.acl.AclPart.{AclPart}
-use Rattle.sd_check.specs.AccessRights.{below_system_security, every_right, owner_mask, system_security_mask}
-use Rattle.sd_check.specs.AccessRights.{write_owner_mask}
+use Rattle.sd_rights.specs.AccessRights.{below_system_security, every_right, owner_mask, system_security_mask}
+use Rattle.sd_rights.specs.AccessRights.{write_owner_mask}
 use Rattle.sd_check.specs.Ask.{Asked}
 use Rattle.sd_check.specs.Granted.{decides, granted, is_open, is_owned}
 use Rattle.sd_check.specs.Label.{is_lower, label, no_execute_up, no_read_up, no_write_up}

@@ -14,8 +14,8 @@ use Rattle.sd_inherit.specs.Derived.{is_protected}
 use Rattle.sd_inherit.specs.Copies.{copies}
 use Rattle.sd_inherit.specs.Taken.{taken}
 use Rattle.sd_inherit.specs.declared.copies.Copies.{Copies}
-use Rattle.sd_inherit.specs.declared.inherited.Source.{Source}
-use Rattle.sd_inherit.specs.declared.inherited.Source.TheVariants as source
+use Rattle.sd_inherit.specs.declared.inherited.Origin.{Origin}
+use Rattle.sd_inherit.specs.declared.inherited.Origin.TheVariants as origin
 use Rattle.sd_inherit.specs.declared.plan.Plan.{Plan}
 
 -- at most one, as a list
@@ -28,9 +28,9 @@ abbrev pub listed : Copies → List AccessControlEntry
 listed c = one_or_none c.effective ++ one_or_none c.inherit_only
 
 -- what one ACE of either descriptor gives
-abbrev pub gives : Source → Plan → AccessControlEntry → List AccessControlEntry
-gives source.Creator plan a = taken plan a
-gives source.Parent plan a = copies plan a
+abbrev pub gives : Origin → Plan → AccessControlEntry → List AccessControlEntry
+gives origin.Creator plan a = taken plan a
+gives origin.Parent plan a = copies plan a
 
 -- an ACL is open, and is no larger than an ACL may be
 pub record HasOpen (t : Draft) : Type 0 where

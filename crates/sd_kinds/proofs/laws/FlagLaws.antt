@@ -3,7 +3,7 @@ use Rattle.std.proofs.Common.{◌≡◌, ◌≤◌, ℕ, ◌*◌, ◌/◌, ◌%�
 use Rattle.std.proofs.Common.{Some, bit_and, arith, refl, sym, ap, ◌∙◌, subst, eqb-true, zero-mul}
 use Rattle.std.specs.Prelude.{Option, IfSome, not, ◌==◌, ◌&&◌, ◌||◌, nat_lt}
 use Rattle.std.specs.Int.{IsPowerOfTwo, bit_at}
-use Rattle.std.specs.List.{AllByRecursion, list_all, list_any}
+use Rattle.std.specs.List.{list_all, list_any}
 use Rattle.std.proofs.lemmas.Bool.Decides.{nat_tests}
 use Rattle.std.proofs.lemmas.Nat.{le_or_l, pow_pos}
 use Rattle.std.proofs.lemmas.Nat.Bits.{and_pow}
@@ -12,7 +12,8 @@ use Rattle.sd_text.specs.Names.{run_of, names_of, named_bits}
 use Rattle.sd_kinds.specs.Flags.{flags_reads, flags_text, is_flag}
 use Rattle.sd_kinds.specs.declared.flags.TheConstants.{FLAGS}
 use Rattle.sd_text.specs.declared.names.NamedBits.{NamedBits}
-use Rattle.sd_text.proofs.laws.NameLaws.{reads_in, run-names, run-among, among, length-names, and_first, and_second}
+use Rattle.sd_text.proofs.laws.NameLaws.{is_single, single-power, reads_in, run-names, run-among, among, length-names}
+use Rattle.sd_text.proofs.laws.NameLaws.{and_first, and_second}
 
 -- a test of each number below another
 abbrev passes_below : ℕ → (ℕ → Bool) → Bool
@@ -37,23 +38,25 @@ and-bit place word =
     rw (and_pow word place) (times-bit (bit_at word place) (2 ^ place) (omega arith) (pow_pos place))
 
 -- each flag is one bit
-each_one_bit : AllByRecursion (λ e. IsPowerOfTwo e.bits) FLAGS
-each_one_bit =
-    ((0, refl), ((1, refl), ((2, refl), ((3, refl), ((4, refl), ((6, refl), ((7, refl), tt)))))))
+flags_single : list_all is_single FLAGS ≡ true
+unfolding is_single
+flags_single = refl
 
-one_bit : (flag : ℕ) (table : List NamedBits) → AllByRecursion (λ e. IsPowerOfTwo e.bits) table
+one_bit : (flag : ℕ) (table : List NamedBits) → list_all is_single table ≡ true
     → list_any (λ e. e.bits == flag) table ≡ true → IsPowerOfTwo flag
 one_bit flag [] each found = absurd cc
-one_bit flag (e ∷ es) each found = by_first (e.bits == flag) refl found (one_bit flag es each.1)
+one_bit flag (e ∷ es) each found =
+    by_first (e.bits == flag) refl found (one_bit flag es (and_second (is_single e) _ each))
   where
     by_first : (b : Bool) → (e.bits == flag) ≡ b → (b || list_any (λ e. e.bits == flag) es) ≡ true
         → (list_any (λ e. e.bits == flag) es ≡ true → IsPowerOfTwo flag) → IsPowerOfTwo flag
-    by_first true same here later = subst IsPowerOfTwo (eqb-true e.bits flag same) each.0
+    by_first true same here later =
+        subst IsPowerOfTwo (eqb-true e.bits flag same) (single-power e (and_first (is_single e) _ each))
     by_first false other there later = later there
 
 pub and-flag : (flag flags : ℕ) → is_flag flag ≡ true → not (bit_and flags flag == 0) ≡ has_bit flag flags
 and-flag flag flags h =
-    let one = one_bit flag FLAGS each_one_bit h in
+    let one = one_bit flag FLAGS flags_single h in
     rw one.1 (and-bit one.0 flags)
 
 flags_read : list_all (reads_in FLAGS) FLAGS ≡ true

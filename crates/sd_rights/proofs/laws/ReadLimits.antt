@@ -1,6 +1,6 @@
 -- What a text reads as keeps the limits of access rights and flags.
 use Rattle.std.proofs.Common.{◌≡◌, ◌<◌, ℕ, ◌/◌, ◌%◌, ◌^◌, Bool, true, false, ◌&&◌, ◌||◌, List, [], ◌∷◌, length, Option}
-use Rattle.std.proofs.Common.{Some, None, IfSome, refl, sym, subst, arith, eqb-true}
+use Rattle.std.proofs.Common.{Some, None, IfSome, refl, sym, arith, eqb-true}
 use Rattle.std.specs.Prelude.{◌==◌, nat_lt, if◌then◌else◌}
 use Rattle.std.specs.Char.{is_digit}
 use Rattle.std.specs.List.{list_all}

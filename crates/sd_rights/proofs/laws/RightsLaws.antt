@@ -3,9 +3,9 @@ use Rattle.std.proofs.Common.{◌≡◌, ℕ, ◌^◌, ◌<◌, ◌≤◌, Bool,
 use Rattle.std.proofs.Common.{sym, ap, ◌∙◌, eqb-true, lt-ltb}
 use Rattle.std.specs.Prelude.{Option, bit_and, ◌==◌, not, nat_lt, if◌then◌else◌, option_map, unwrap_or}
 use Rattle.std.specs.List.{find, list_all}
-use Rattle.std.specs.Char.{is_digit, digit_value}
+use Rattle.std.specs.Char.{is_digit}
 use Rattle.std.specs.Fmt.{digits}
-use Rattle.std.specs.Str.Parse.{AllDigits, IsNumeral, digits_value}
+use Rattle.std.specs.Str.Parse.{IsNumeral, digits_value}
 use Rattle.std.proofs.lemmas.Fmt.{digits_is_IsNumeral}
 use Rattle.std.proofs.lemmas.Bool.Decides.{nat_tests}
 use Rattle.std.proofs.lemmas.Bool.{not-true}
@@ -17,7 +17,7 @@ use Rattle.sd_text.specs.declared.names.NamedBits.{NamedBits}
 use Rattle.sd_rights.specs.declared.rights_table.TheConstants.{SINGLES, SINGLE_BITS, COMPOUNDS, LABELS, LABEL_BITS}
 use Rattle.sd_text.proofs.laws.Bits.{or_zero}
 use Rattle.sd_text.proofs.laws.HexDigits.{all_digits, length-digits}
-use Rattle.sd_text.proofs.laws.NameLaws.{AreSingle, named_bits-single, reads_in, reads_in-rule, run-names, length-names}
+use Rattle.sd_text.proofs.laws.NameLaws.{is_single, named_bits-single, reads_in, reads_in-rule, run-names, length-names}
 use Rattle.sd_text.proofs.laws.NameLaws.{and_first, and_second}
 
 -- 1. The test of a table, and the rule at its entries.
@@ -56,53 +56,19 @@ no_digit e h = not-true _ h
 
 -- each of the names of one bit, and so the bits that a mask shares with all of them have names
 
-singles_single : AreSingle SINGLES
-singles_single = (
-  (0, refl),
-  (
-    (1, refl),
-    (
-      (2, refl),
-      (
-        (3, refl),
-        (
-          (4, refl),
-          (
-            (5, refl),
-            (
-              (6, refl),
-              (
-                (7, refl),
-                (
-                  (8, refl),
-                  (
-                    (16, refl),
-                    (
-                      (17, refl),
-                      (
-                        (18, refl),
-                        (
-                          (19, refl),
-                          ((28, refl), ((29, refl), ((30, refl), ((31, refl), tt)))),
-                        ),
-                      ),
-                    ),
-                  ),
-                ),
-              ),
-            ),
-          ),
-        ),
-      ),
-    ),
-  ),
-)
+singles_single : list_all is_single SINGLES ≡ true
+unfolding is_single
+singles_single = refl
 
 pub singles_named : (mask : ℕ) → named_bits SINGLES mask ≡ bit_and mask SINGLE_BITS
 singles_named mask = named_bits-single SINGLES mask singles_single
 
+labels_single : list_all is_single LABELS ≡ true
+unfolding is_single
+labels_single = refl
+
 pub labels_named : (mask : ℕ) → named_bits LABELS mask ≡ bit_and mask LABEL_BITS
-labels_named mask = named_bits-single LABELS mask ((0, refl), ((1, refl), ((2, refl), tt)))
+labels_named mask = named_bits-single LABELS mask labels_single
 
 -- 2. Names read back.
 

@@ -2,9 +2,9 @@
 use Rattle.std.proofs.Common.{◌≡◌, ◌≤◌, ℕ, zero, suc, ◌+◌, ◌*◌, ◌^◌, ◌<◌, Bool, true, false, List, [], ◌∷◌, ◌++◌}
 use Rattle.std.proofs.Common.{length, drop, get_or, bit_and, bit_or, Some, None, Bor, arith, sym, ap, ◌∙◌, refl, eq-eqb}
 use Rattle.std.proofs.Common.{eqb-true, ne_eqb}
-use Rattle.std.specs.Prelude.{Option, IfSome, ◌==◌, ◌&&◌, if◌then◌else◌}
+use Rattle.std.specs.Prelude.{Option, IfSome, ◌==◌, ◌&&◌, ◌||◌, if◌then◌else◌}
 use Rattle.std.specs.Char.{to_ascii_uppercase}
-use Rattle.std.specs.Int.{bit_at}
+use Rattle.std.specs.Int.{IsPowerOfTwo, bit_at}
 use Rattle.std.specs.List.{flat_map, list_all}
 use Rattle.std.specs.Option.{option_or}
 use Rattle.std.proofs.lemmas.List.{at_drop_more}
@@ -24,28 +24,56 @@ without_name : (e : NamedBits) (es : List NamedBits) (mask : ℕ) → bit_and ma
 without_name e es mask h = ap (λ (b : Bool). if b then named_bits es mask else bit_or e.bits (named_bits es mask))
     (eq-eqb _ 0 h)
 
--- each name stands for one bit
-abbrev pub AreSingle : List NamedBits → Type 0
-AreSingle [] = Unit {0}
-AreSingle (e ∷ es) = ((k : ℕ) × (e.bits ≡ 2 ^ k)) × AreSingle es
+pub and_first : (x y : Bool) → (x && y) ≡ true → x ≡ true
+and_first true y e = refl
+and_first false y e = absurd cc
+
+pub and_second : (x y : Bool) → (x && y) ≡ true → y ≡ true
+and_second true y e = e
+and_second false y e = absurd cc
+
+-- a number is one of the first bits by itself
+abbrev pub is_bit_below : ℕ → ℕ → Bool
+is_bit_below zero bits = false
+is_bit_below (suc n) bits = bits == 2 ^ n || is_bit_below n bits
+
+bit_below-power : (n bits : ℕ) → is_bit_below n bits ≡ true → IsPowerOfTwo bits
+bit_below-power zero bits h = absurd cc
+bit_below-power (suc n) bits h = by_last (bits == 2 ^ n) refl h (bit_below-power n bits)
+  where
+    by_last : (b : Bool) → (bits == 2 ^ n) ≡ b → (b || is_bit_below n bits) ≡ true
+        → (is_bit_below n bits ≡ true → IsPowerOfTwo bits) → IsPowerOfTwo bits
+    by_last true same here later = (n, eqb-true bits (2 ^ n) same)
+    by_last false other there later = later there
+
+-- the name stands for one bit
+unfoldable pub is_single : NamedBits → Bool
+is_single e = is_bit_below 32 e.bits
+
+pub single-power : (e : NamedBits) → is_single e ≡ true → IsPowerOfTwo e.bits
+unfolding is_single
+single-power e h = bit_below-power 32 e.bits h
 
 abbrev pub all_bits : List NamedBits → ℕ
 all_bits [] = 0
 all_bits (e ∷ es) = bit_or e.bits (all_bits es)
 
--- then the bits that are named are those that a mask shares with all of them
-pub named_bits-single : (es : List NamedBits) (mask : ℕ) → AreSingle es
+-- where each name stands for one bit, the bits that are named are those that a mask shares with all of them
+pub named_bits-single : (es : List NamedBits) (mask : ℕ) → list_all is_single es ≡ true
     → named_bits es mask ≡ bit_and mask (all_bits es)
 named_bits-single [] mask h = sym (and_zero mask)
 named_bits-single (e ∷ es) mask h =
     sym (and_or mask e.bits (all_bits es)
-    ∙ ap (bit_or (bit_and mask e.bits)) (sym (named_bits-single es mask h.1))
-    ∙ by_bit (bit_at mask h.0.0) refl (bit_at-lt mask h.0.0))
+    ∙ ap (bit_or (bit_and mask e.bits)) (sym (named_bits-single es mask (and_second (is_single e) _ h)))
+    ∙ by_bit (bit_at mask one.0) refl (bit_at-lt mask one.0))
   where
-    shared : bit_and mask e.bits ≡ bit_at mask h.0.0 * e.bits
-    shared = ap (bit_and mask) h.0.1 ∙ and_pow mask h.0.0 ∙ ap (λ (n : ℕ). bit_at mask h.0.0 * n) (sym h.0.1)
+    one : IsPowerOfTwo e.bits
+    one = single-power e (and_first (is_single e) _ h)
 
-    by_bit : (b : ℕ) → bit_at mask h.0.0 ≡ b → b < 2
+    shared : bit_and mask e.bits ≡ bit_at mask one.0 * e.bits
+    shared = ap (bit_and mask) one.1 ∙ and_pow mask one.0 ∙ ap (λ (n : ℕ). bit_at mask one.0 * n) (sym one.1)
+
+    by_bit : (b : ℕ) → bit_at mask one.0 ≡ b → b < 2
         → bit_or (bit_and mask e.bits) (named_bits es mask) ≡ named_bits (e ∷ es) mask
     by_bit zero at small =
         let none : bit_and mask e.bits ≡ 0 = shared ∙ ap (λ (n : ℕ). n * e.bits) at ∙ omega arith in
@@ -53,7 +81,7 @@ named_bits-single (e ∷ es) mask h =
         ∙ sym (without_name e es mask none)
     by_bit (suc zero) at small =
         let all : bit_and mask e.bits ≡ e.bits = shared ∙ ap (λ (n : ℕ). n * e.bits) at ∙ omega arith in
-        let some : 0 < e.bits = omega (arith, pow_pos h.0.0, h.0.1) in
+        let some : 0 < e.bits = omega (arith, pow_pos one.0, one.1) in
         ap (λ (n : ℕ). bit_or n (named_bits es mask)) all
         ∙ sym (with_name e es mask (λ (none : bit_and mask e.bits ≡ 0). omega arith))
     by_bit (suc (suc b)) at small = absurd (omega arith)
@@ -100,14 +128,6 @@ pub run-end : (table : List NamedBits) (bits : ℕ) (text : List ℕ) → length
 unfolding run_of
 run-end table bits [] e = ap Some (sym (or_zero bits))
 run-end table bits (a ∷ tail) e = absurd (omega arith)
-
-pub and_first : (x y : Bool) → (x && y) ≡ true → x ≡ true
-and_first true y e = refl
-and_first false y e = absurd cc
-
-pub and_second : (x y : Bool) → (x && y) ≡ true → y ≡ true
-and_second true y e = e
-and_second false y e = absurd cc
 
 -- every bit of a mask is among these
 abbrev pub among : ℕ → ℕ → Bool

@@ -1,5 +1,5 @@
 -- Parts that share no byte.
-use Rattle.std.proofs.Common.{◌≡◌, inl, inr, false, Option, Some, None, subst, sym}
+use Rattle.std.proofs.Common.{◌≡◌, inl, inr, false, Some, None, subst, sym}
 use Rattle.sd_control.specs.Parts.{get_part, same_part}
 use Rattle.sd_control.specs.declared.part.Part.{Part}
 use Rattle.sd_control.specs.declared.part.Part.TheVariants.{Owner, Group, Sacl, Dacl}

@@ -10,7 +10,7 @@ abbrev pub invariant-loop-ace : goal.invariant-loop-ace
 invariant-loop-ace l = record {
   parts : l.fn.aces ≡ l.yielded ++ l.ace-iterator;
   writes : (t : Draft) → Builds l.fn.builder l.fn.buf t
-      → Builds l.builder l.buf (with_aces (flat_map (gives l.source l.plan) l.yielded) t);
+      → Builds l.builder l.buf (with_aces (flat_map (gives l.origin l.plan) l.yielded) t);
   room : (t : Draft) → Builds l.fn.builder l.fn.buf t → HasOpen t
-      → HasOpen (with_aces (flat_map (gives l.source l.plan) l.yielded) t);
+      → HasOpen (with_aces (flat_map (gives l.origin l.plan) l.yielded) t);
 }

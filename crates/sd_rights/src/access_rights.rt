@@ -15,9 +15,21 @@ pub const BELOW_SYSTEM_SECURITY: u32 = 0xff_ffff;
 /// Each right, 0 to 24.
 pub const ALL_RIGHTS: u32 = 0x1ff_ffff;
 
+/// The generic rights.
+pub const GENERIC_RIGHTS: u32 = 0xf000_0000;
+
 /// The places of the bits that are no rights: MAXIMUM_ALLOWED and the two reserved ones.
 pub const MAXIMUM_ALLOWED: u32 = 25;
 
 pub const FIRST_RESERVED: u32 = 26;
 
 pub const SECOND_RESERVED: u32 = 27;
+
+/// The places of the generic rights.
+pub const GENERIC_ALL: u32 = 28;
+
+pub const GENERIC_EXECUTE: u32 = 29;
+
+pub const GENERIC_WRITE: u32 = 30;
+
+pub const GENERIC_READ: u32 = 31;

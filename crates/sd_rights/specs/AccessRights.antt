@@ -24,6 +24,20 @@ first_reserved = 26
 abbrev pub second_reserved : ℕ
 second_reserved = 27
 
+-- the generic rights, which mean others
+
+abbrev pub generic_all : ℕ
+generic_all = 28
+
+abbrev pub generic_execute : ℕ
+generic_execute = 29
+
+abbrev pub generic_write : ℕ
+generic_write = 30
+
+abbrev pub generic_read : ℕ
+generic_read = 31
+
 -- the masks of single rights, of those that an owner has, of those below ACCESS_SYSTEM_SECURITY, and of all
 
 abbrev pub write_owner_mask : ℕ
