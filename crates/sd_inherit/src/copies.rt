@@ -76,7 +76,7 @@ fn container_copies(plan: &Plan, ace: &Ace) -> Copies
     }
 }
 
-/// Nothing.
+/// No ACE.
 pub fn no_copy() -> Copies
     ensures value { result ≡ record { effective = None; inherit_only = None } }
 {

@@ -15,7 +15,8 @@ const FORMS: [Form; 3] = [Form::Hex, Form::Base64, Form::Sddl];
 
 // One descriptor in each of them; its base64 is that of another program.
 pub const LINES: [&str; 3] = [
-    "01000480140000002400000000000000300000000102000000000005200000002002000001010000000000051200000002001c000100000000001400ff011f00010100000000000100000000\n",
+    "010004801400000024000000000000003000000001020000000000052000000020020000\
+     01010000000000051200000002001c000100000000001400ff011f00010100000000000100000000\n",
     "AQAEgBQAAAAkAAAAAAAAADAAAAABAgAAAAAABSAAAAAgAgAAAQEAAAAAAAUSAAAAAgAcAAEAAAAAABQA/wEfAAEBAAAAAAABAAAAAA==\n",
     "O:BAG:SYD:(A;;FA;;;WD)\n",
 ];
@@ -86,8 +87,10 @@ fn runs_over_used_buffers(rt: HostRuntime) {
 fn runs_the_longest_line_over_used_buffers(rt: HostRuntime) {
     let (sid, acl, rest) = ("010f000000000005", "0200ffff00000000", "");
     let line = format!(in rt.alloc();
-        "0100148014000000580000009c0000009b000100{sid:0<136}{sid:0<136}{acl:0<65535}{rest:0<65535}{acl:0<65535}{rest:0<65535}"
-    ).expect(&rt, "memory for a line");
+        "0100148014000000580000009c0000009b000100{sid:0<136}{sid:0<136}\
+         {acl:0<65535}{rest:0<65535}{acl:0<65535}{rest:0<65535}"
+    )
+    .expect(&rt, "memory for a line");
     assert!(rt; line.len() == 262_452);
     let [last, _, _] = LINES;
     let input = format!(in rt.alloc(); "{line}\n{line}\r\n{line}00\n{last}").expect(&rt, "memory");
@@ -101,8 +104,8 @@ fn runs_the_longest_line_over_used_buffers(rt: HostRuntime) {
     }
 }
 
-// What an engine answers for a new file that was given two creators' descriptors, the second with this outcome, run after
-// run.
+// What an engine answers, run after run, for a new file. It was given two creators' descriptors, the second with this
+// outcome.
 fn expect_created(
     rt: &(impl Abort + AllocGlobal),
     first: &[u8],

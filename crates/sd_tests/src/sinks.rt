@@ -41,7 +41,8 @@ impl FailingSink {
 
     fn fail(&mut self, bytes: &[u8]) -> Result<(), SinkFault>
         requires { 0 < length bytes.now }
-        ensures { Puts (⟦<FailingSink as Sink>⟧.told self.old) (⟦<FailingSink as Sink>⟧.told self.new) bytes.now result }
+        ensures { Puts (⟦<FailingSink as Sink>⟧.told self.old)
+            (⟦<FailingSink as Sink>⟧.told self.new) bytes.now result }
     {
         self.failed = Some(self.calls);
         self.failures = self.failures.saturating_add(1);
@@ -164,8 +165,8 @@ const WITH_GAPS: &str = "0100048040000000500000000000000015000000aa0200280001000
      01020000000000052000000020020000010100000000000512000000\
      0000";
 
-const LAYOUT: &str =
-    "01000480140000002400000000000000300000000102000000000005200000002002000001010000000000051200000002001c000100000000001400ff011f00010100000000000100000000";
+const LAYOUT: &str = "010004801400000024000000000000003000000001020000000000052000000020020000\
+     01010000000000051200000002001c000100000000001400ff011f00010100000000000100000000";
 
 const EXPLANATION: &str =
     "control 0x8004 DP SR\nrm 0x00\nowner S-1-5-32-544 BA\ngroup S-1-5-18 SY\ndacl list 1\n\
