@@ -3,6 +3,7 @@
 ghost use Rattle.std.specs.Prelude.{◌≡◌, ◌≤◌, ◌/◌, ◌%◌, ◌∷◌, ◌++◌, take, IfSome, Some};
 ghost use Rattle.std.specs.Str.{byte as char};
 ghost use Rattle.sd_kinds.specs.Flags.{flags_reads};
+ghost use Rattle.sd_rights.specs.Rights.{rights_reads};
 ghost use Rattle.sd_text.specs.Limits.{most_field};
 ghost use Rattle.sd_sddl_fields.specs.FieldTexts.{kind_reads, object_reads};
 ghost use Rattle.sd_sddl_fields.specs.FieldFronts.{FieldAt, ObjectsAt};
@@ -10,21 +11,42 @@ ghost use Rattle.sd_sddl_fields.specs.FieldFronts.{FieldAt, ObjectsAt};
 use crate::field_texts::object_from_text;
 use sd_ace::GUID_TEXT_SIZE;
 use sd_kinds::{AceKind, INHERIT_ONLY, INHERITED, ONWARD, flags_from_text};
+use sd_rights::rights_from_text;
 use sd_text::MOST_FIELD_SIZE;
 use uuid::Uuid;
+
+/// Where most masks end: after one name, after two, and after six digits of hex.
+const USUAL_ENDS: [usize; 3] = [2, 4, 8];
 
 /// The kind at the front of a text, and what follows its semicolon. None where there is none.
 #[inline(always)]
 pub fn front_kind(text: &[u8]) -> Option<(AceKind, &[u8])>
     ensures { IfSome result (λ r. FieldAt (λ t. kind_reads t ≡ Some r.0) (char ";") text.now r.1.now) }
 {
-    // Most ACEs allow.
-    if text.len() > 1 && text[0] == b'A' && text[1] == b';' {
-        return Some((AceKind::Allow, &text[2..]));
+    if let Some(usual) = usual_kind(text) {
+        return Some(usual);
     }
     let (field, rest) = cut(text)?;
     let kind = AceKind::from_text(field)?;
     Some((kind, rest))
+}
+
+// The same, for the kinds that most ACEs are of.
+#[inline(always)]
+fn usual_kind(text: &[u8]) -> Option<(AceKind, &[u8])>
+    ensures { IfSome result (λ r. FieldAt (λ t. kind_reads t ≡ Some r.0) (char ";") text.now r.1.now) }
+{
+    if let Some(rest) = after(text, b"A;") {
+        return Some((AceKind::Allow, rest));
+    }
+    if let Some(rest) = after(text, b"OA;") {
+        return Some((AceKind::ObjectAllow, rest));
+    }
+    if let Some(rest) = after(text, b"D;") {
+        return Some((AceKind::Deny, rest));
+    }
+    let rest = after(text, b"AU;")?;
+    Some((AceKind::Audit, rest))
 }
 
 /// The flags, and what follows their semicolon.
@@ -68,6 +90,35 @@ fn usual_flags(text: &[u8]) -> Option<(u8, &[u8])>
     Some((ONWARD + INHERIT_ONLY + INHERITED, rest))
 }
 
+/// The access mask, and what follows its semicolon.
+#[inline(always)]
+pub fn front_rights(text: &[u8]) -> Option<(u32, &[u8])>
+    ensures { IfSome result (λ r. FieldAt (λ t. rights_reads t ≡ Some r.0) (char ";") text.now r.1.now) }
+{
+    if let Some((field, rest)) = usual_cut(text) {
+        if let Some(mask) = rights_from_text(field) {
+            return Some((mask, rest));
+        }
+    }
+    let (field, rest) = cut(text)?;
+    let mask = rights_from_text(field)?;
+    Some((mask, rest))
+}
+
+// The text before a semicolon where most masks end, and what follows it. It need not be the first semicolon: a text
+// with another one in it does not read.
+#[inline(always)]
+fn usual_cut(text: &[u8]) -> Option<(&[u8], &[u8])>
+    ensures { IfSome result (λ r. text.now ≡ r.0.now ++ char ";" ∷ r.1.now) }
+{
+    for end in USUAL_ENDS {
+        if end < text.len() && text[end] == b';' {
+            return Some((&text[..end], &text[end + 1..]));
+        }
+    }
+    None
+}
+
 /// What follows this text at the front.
 #[inline(always)]
 pub fn after<'a>(text: &'a [u8], front: &[u8]) -> Option<&'a [u8]>
@@ -105,9 +156,9 @@ fn front_object(kind: AceKind, text: &[u8]) -> Option<(Option<Uuid>, &[u8])>
     Some((object, &text[size + 1..]))
 }
 
-/// The text before the first semicolon, and what follows it. None if the semicolon is further than a field reaches.
+// The text before the first semicolon, and what follows it. None if the semicolon is further than a field reaches.
 #[inline(always)]
-pub fn cut(text: &[u8]) -> Option<(&[u8], &[u8])>
+fn cut(text: &[u8]) -> Option<(&[u8], &[u8])>
     ensures { IfSome result (λ r. text.now ≡ r.0.now ++ char ";" ∷ r.1.now) }
 {
     for place in 0..text.len().min(MOST_FIELD_SIZE + 1) {

@@ -12,6 +12,9 @@ ghost use Rattle.sd_sddl_reader.specs.Inner.Progress.{state_of};
 use sd_control::{Part, SidPart, Which};
 use sd_sddl_fields::is_plain_inside;
 
+/// The bytes of a SID's numbers that are looked at together.
+const BLOCK: usize = 8;
+
 /// What a letter announces, with a colon after it.
 #[derive(Clone, Copy)]
 pub enum Head {
@@ -119,10 +122,37 @@ pub fn plain_outside(text: &[u8]) -> usize
     ensures within { result ≤ length text.now }
     ensures plain { list_all is_plain_outside (take result text.now) ≡ true }
 {
-    for (i, byte) in text.iter().enumerate() {
-        if !is_plain_outside(*byte) {
-            return i;
+    let blocks = numeric_blocks(text);
+    for place in blocks..text.len() {
+        if !is_plain_outside(text[place]) {
+            return place;
         }
     }
     text.len()
+}
+
+// How many bytes at the front stand in whole blocks of digits and dashes.
+#[inline(always)]
+fn numeric_blocks(text: &[u8]) -> usize
+    ensures within { result ≤ length text.now }
+    ensures plain { list_all is_plain_outside (take result text.now) ≡ true }
+{
+    let mut count = 0;
+    while text.len() - count >= BLOCK && are_numeric(&text[count..count + BLOCK]) {
+        count += BLOCK;
+    }
+    count
+}
+
+// Whether all bytes are between `*` and `9`, as digits and dashes are. It looks at all of them and at each in the same
+// way, and so at several at a time.
+#[inline(always)]
+fn are_numeric(text: &[u8]) -> bool
+    ensures { result ≡ true → list_all is_plain_outside text.now ≡ true }
+{
+    let mut other = false;
+    for byte in text {
+        other |= (*byte < b'*') | (b'9' < *byte);
+    }
+    !other
 }

@@ -61,6 +61,21 @@ impl SddlReader {
         }
     }
 
+    /// Begins another line, as a reader of this domain that was fed nothing.
+    pub fn restart(&mut self, domain: Option<Sid>, buf: &mut SdBuf)
+        ensures reader { IsReading self.new buf.new }
+        ensures read { ReadsSddl self.new buf.new domain [] }
+    {
+        self.state = State::Before;
+        self.pending = None;
+        self.sound = true;
+        self.twice = false;
+        self.seen = Parts::each(false);
+        self.field.clear();
+        self.fault = None;
+        self.fields = FieldReader::new(domain, buf);
+    }
+
     // A byte inside parentheses.
     fn put_inside(&mut self, buf: &mut SdBuf, field: AceField, byte: u8)
         requires here { self.old.state ≡ State.Ace field }
@@ -253,6 +268,7 @@ impl SddlReader {
     }
 
     // A byte outside parentheses with none that waits before it.
+    #[inline(always)]
     fn feed_alone(&mut self, buf: &mut SdBuf, byte: u8)
         requires here { is_inside self.old.state ≡ false }
         requires ready { CanStep self.old buf.old }
@@ -371,7 +387,26 @@ impl SddlReader {
         }
     }
 
-    /// Ends the line. The buffer then holds what the line means, or nothing if it has a fault.
+    /// Ends the line. The buffer then holds what the line means, or nothing if it has a fault. The reader can only be
+    /// restarted after it.
+    pub fn end(&mut self, buf: &mut SdBuf) -> Result<(), SddlFault>
+        requires { IsReading self.old buf.old }
+        ensures exact { (domain : Option SecurityId) (text : List ℕ) → ReadsSddl self.old buf.old domain text
+            → MatchResult (means text domain)
+            (λ d. (result ≡ Ok tt) × Shows buf.new d)
+            (λ e. (result ≡ Err e) × (buf.new ≡ [])) }
+        // Without gaps, and each part in its one written form.
+        ensures written { (domain : Option SecurityId) (text : List ℕ) → ReadsSddl self.old buf.old domain text
+            → IfOk (means text domain) (IsWritten buf.new) }
+        ensures empty { OnErr result (buf.new ≡ []) }
+    {
+        if let Some(letter) = self.pending {
+            self.put_text(letter);
+        }
+        self.finish_alone(buf)
+    }
+
+    /// Ends the line, as `end` does.
     pub fn finish(mut self, buf: &mut SdBuf) -> Result<(), SddlFault>
         requires { IsReading self buf.old }
         ensures exact { (domain : Option SecurityId) (text : List ℕ) → ReadsSddl self buf.old domain text
@@ -383,20 +418,18 @@ impl SddlReader {
             → IfOk (means text domain) (IsWritten buf.new) }
         ensures empty { OnErr result (buf.new ≡ []) }
     {
-        if let Some(letter) = self.pending {
-            self.put_text(letter);
-        }
-        self.finish_alone(buf)
+        self.end(buf)
     }
 
     // The end of a line with no byte that waits.
-    fn finish_alone(mut self, buf: &mut SdBuf) -> Result<(), SddlFault>
-        requires { CanStep self buf.old }
-        ensures exact { (t : FieldsRead) → LineHasRead self buf.old t → MatchResult (finished (answer_at self t []))
+    fn finish_alone(&mut self, buf: &mut SdBuf) -> Result<(), SddlFault>
+        requires { CanStep self.old buf.old }
+        ensures exact { (t : FieldsRead) → LineHasRead self.old buf.old t
+            → MatchResult (finished (answer_at self.old t []))
             (λ d. (result ≡ Ok tt) × Shows buf.new d)
             (λ e. (result ≡ Err e) × (buf.new ≡ [])) }
-        ensures written { (t : FieldsRead) → LineHasRead self buf.old t
-            → IfOk (finished (answer_at self t [])) (IsWritten buf.new) }
+        ensures written { (t : FieldsRead) → LineHasRead self.old buf.old t
+            → IfOk (finished (answer_at self.old t [])) (IsWritten buf.new) }
         ensures empty { OnErr result (buf.new ≡ []) }
     {
         match self.end_line(buf) {
@@ -409,9 +442,10 @@ impl SddlReader {
     }
 
     // What a line gives that ends here, with no byte that waits.
-    fn end_line(mut self, buf: &mut SdBuf) -> Result<(), SddlFault>
-        requires { CanStep self buf.old }
-        ensures { (t : FieldsRead) → LineHasRead self buf.old t → Ends (finished (answer_at self t [])) result buf.new }
+    fn end_line(&mut self, buf: &mut SdBuf) -> Result<(), SddlFault>
+        requires { CanStep self.old buf.old }
+        ensures { (t : FieldsRead) → LineHasRead self.old buf.old t
+            → Ends (finished (answer_at self.old t [])) result buf.new }
     {
         if !self.sound {
             return Err(SddlFault::Shape);
@@ -518,5 +552,5 @@ pub fn read_sddl(text: &[u8], domain: Option<&Sid>, buf: &mut SdBuf) -> Result<(
     note_limits(domain);
     let mut reader = SddlReader::new(domain.copied(), buf);
     reader.feed_all(buf, text);
-    reader.finish(buf)
+    reader.end(buf)
 }

@@ -17,7 +17,7 @@ use sd_control::{AclFlags, SidPart, Which};
 use sd_kinds::{AceKind, flags_from_text};
 use sd_rights::rights_from_text;
 use sd_sddl_fields::{
-    NO_FLAGS, after, behind, cut, front_flags, front_from_text, front_kind, front_objects,
+    NO_FLAGS, after, behind, front_flags, front_from_text, front_kind, front_objects, front_rights,
     object_from_text,
 };
 use sd_sid::{Sid, SidFault};
@@ -241,8 +241,7 @@ impl FieldReader {
     {
         let (kind, rest) = front_kind(text)?;
         let (flags, rest) = front_flags(rest)?;
-        let (text, rest) = cut(rest)?;
-        let mask = rights_from_text(text)?;
+        let (mask, rest) = front_rights(rest)?;
         let start = AceFields {
             flags,
             mask,
@@ -336,9 +335,9 @@ impl FieldReader {
 
     /// Ends the descriptor.
     #[tactic(auto, unfolding(crate::specs::FoldedReading::finished))]
-    pub fn finish(mut self, buf: &mut SdBuf) -> Result<(), SddlFault>
-        requires { (t : FieldsRead) × HasReadFields self buf.old t }
-        ensures { (t : FieldsRead) → HasReadFields self buf.old t → Ends (finished (Ok t)) result buf.new }
+    pub fn finish(&mut self, buf: &mut SdBuf) -> Result<(), SddlFault>
+        requires { (t : FieldsRead) × HasReadFields self.old buf.old t }
+        ensures { (t : FieldsRead) → HasReadFields self.old buf.old t → Ends (finished (Ok t)) result buf.new }
     {
         if let Some(which) = self.large {
             return Err(SddlFault::AclTooLarge(which));

@@ -16,7 +16,7 @@ patch-requires c = omega (
 pub returns-clause-shows : goal.returns-clause-shows
 returns-clause-shows c =
     λ t h.
-    let b = c.args.self in
+    let b = c.args.self.now in
     let word = control_of c.args.flags (is_some b.offsets.sacl) (is_some b.offsets.dacl) in
     let head : c.header.result ≡ header_for c.args.rm word b = cc in
     let long : 0 + length c.header.result ≡ 20 = omega (arith, ap length head, length-header_for c.args.rm word b) in
@@ -26,7 +26,7 @@ returns-clause-shows c =
 pub returns-clause-exact : goal.returns-clause-exact
 returns-clause-exact c =
     λ t h.
-    let b = c.args.self in
+    let b = c.args.self.now in
     let word = control_of c.args.flags (is_some b.offsets.sacl) (is_some b.offsets.dacl) in
     let head : c.header.result ≡ header_for c.args.rm word b = cc in
     let long : 0 + length c.header.result ≡ 20 = omega (arith, ap length head, length-header_for c.args.rm word b) in

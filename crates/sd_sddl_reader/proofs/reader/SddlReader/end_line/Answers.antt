@@ -12,7 +12,7 @@ use Rattle.sd_sddl_reader.proofs.reader.SddlReader.end_line.Goals as goal
 pub returns-then-not-self : goal.returns-then-not-self
 unfolding finished
 returns-then-not-self c = λ t k.
-    let s = c.args.self in
+    let s = c.args.self.now in
     let lost : answer_at s t [] ≡ Err fault.Shape = rw (c.if-not-self.true)
     (unsound s.fields.domain true s.twice s.seen (unless s.fault t) s.field [] s.state) in
     ap finished lost
@@ -20,7 +20,7 @@ returns-then-not-self c = λ t k.
 pub returns-in-Ace : goal.returns-in-Ace
 unfolding finished
 returns-in-Ace c = λ t k.
-    let s = c.args.self in
+    let s = c.args.self.now in
     let lost : answer_at s t [] ≡ Err fault.Shape = rw (c.in-Ace.is)
     (unfinished s.fields.domain s.sound s.twice s.seen (unless s.fault t) _ s.field) in
     ap finished lost
@@ -28,7 +28,7 @@ returns-in-Ace c = λ t k.
 pub returns-then-self : goal.returns-then-self
 unfolding finished
 returns-then-self c = λ t k.
-    let s = c.args.self in
+    let s = c.args.self.now in
     let twice : s.twice ≡ true = sym (ap (λ (x : SddlReader). x.twice) c.end_part.ensures.same) ∙ c.if-self.true in
     let lost : answer_at s t [] ≡ Err fault.PartTwice =
     rw (c.if-not-self.false)
@@ -39,7 +39,7 @@ returns-then-self c = λ t k.
 pub returns-in-Some : goal.returns-in-Some
 unfolding finished
 returns-in-Some c = λ t k.
-    let s = c.args.self in
+    let s = c.args.self.now in
     let once : s.twice ≡ false = sym (ap (λ (x : SddlReader). x.twice) c.end_part.ensures.same) ∙ c.if-self.false in
     let e = c.end_part.ensures.read t k in
     let read : answer_at s t [] ≡ unless c.end_part.new.self.fault e.0 =
@@ -50,7 +50,7 @@ returns-in-Some c = λ t k.
 
 pub returns-in-None : goal.returns-in-None
 returns-in-None c = λ t k.
-    let s = c.args.self in
+    let s = c.args.self.now in
     let once : s.twice ≡ false = sym (ap (λ (x : SddlReader). x.twice) c.end_part.ensures.same) ∙ c.if-self.false in
     let e = c.end_part.ensures.read t k in
     let read : answer_at s t [] ≡ unless c.end_part.new.self.fault e.0 =

@@ -13,7 +13,7 @@ no-some (Some y) h = absurd (h y refl)
 pub returns : goal.returns
 returns c = λ t h.
     let now = c.close_acl.ensures.held t h in
-    let none : t.large ≡ None = sym h.large ∙ no-some c.args.self.large c.in_default.not-Some in
+    let none : t.large ≡ None = sym h.large ∙ no-some c.args.self.now.large c.in_default.not-Some in
     let built_so = now.builds none in
     let given : Draft = record { parts = closed t.parts; order = built_so.0 } in
     let flags = c.control_flags-flags.result in

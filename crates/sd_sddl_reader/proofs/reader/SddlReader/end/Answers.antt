@@ -8,8 +8,8 @@ use Rattle.sd_sddl_reader.specs.Inner.Reads.{LineHasRead, Reads, answer_at}
 use Rattle.sd_sddl_reader.proofs.FieldTexts.{append_nothing}
 use Rattle.sd_sddl_reader.proofs.FitLaws.{keeps-same}
 use Rattle.sd_sddl_reader.proofs.laws.FoldedMeaning.{folded-means}
-use Rattle.sd_sddl_reader.proofs.reader.SddlReader.finish.Goals.{in-Some, in_default}
-use Rattle.sd_sddl_reader.proofs.reader.SddlReader.finish.Goals as goal
+use Rattle.sd_sddl_reader.proofs.reader.SddlReader.end.Goals.{in-Some, in_default}
+use Rattle.sd_sddl_reader.proofs.reader.SddlReader.end.Goals as goal
 
 -- what the last step starts from, and what it gives
 record AtEnd (c : goal.After-finish_alone) (domain : Option SecurityId) (text : List ℕ) (t : FieldsRead) : Type 0 where
@@ -17,10 +17,10 @@ record AtEnd (c : goal.After-finish_alone) (domain : Option SecurityId) (text : 
   meant : finished (answer_at c.match-self.self t []) ≡ means text domain
 
 at-end : (c : goal.After-finish_alone) (domain : Option SecurityId) (text : List ℕ)
-    (h : Reads c.args.self c.args.buf.now domain text) → AtEnd c domain text h.0
+    (h : Reads c.args.self.now c.args.buf.now domain text) → AtEnd c domain text h.0
 unfolding folded
 at-end c domain text h =
-    let s = c.args.self in
+    let s = c.args.self.now in
     let whole : answer_at s h.0 (option_to_list s.pending ++ []) ≡ reads_as domain text =
     h.2 [] ∙ ap (reads_as domain) (append_nothing text) in
     let flushed : answer_at c.match-self.self h.0 [] ≡ reads_as domain text = elim c.match-self.branch [
