@@ -6,8 +6,9 @@ pub const LETTERS: usize = 26;
 /// No name.
 pub const NO: u8 = 255;
 
-/// The place of the entry of each two capital letters, or `NO`. There are 26 cells for each first letter, and in them one
-/// for each second letter. The entries of `WELL_KNOWN` have the first places, and those of `DOMAIN_RELATIVE` the next ones.
+/// The place of the entry of each two capital letters, or `NO`. There are 26 cells for each first letter, and in them
+/// one for each second letter. The entries of `WELL_KNOWN` have the first places, and those of `DOMAIN_RELATIVE` the
+/// next ones.
 pub const PLACES: [u8; LETTERS * LETTERS] = [
     39, NO, 41, NO, NO, NO, NO, NO, NO, NO, NO, NO, NO, 7, 21, 62, NO, NO, 47, NO, 10, NO, NO, NO,
     NO, NO, 17, NO, NO, NO, NO, NO, 19, NO, NO, NO, NO, NO, NO, NO, 24, NO, NO, NO, NO, NO, 18, NO,

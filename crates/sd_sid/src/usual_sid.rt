@@ -63,7 +63,8 @@ fn usual_subs<'a>(text: &'a [u8], sid: &mut Sid) -> Option<&'a [u8]>
     requires none { sid.old.subs ≡ [] }
     requires ends { (cut_at_dashes (sid_front text.now)).first ≡ [] }
     ensures form { IfSome result (λ _. are_subs 0 (cut_at_dashes (sid_front text.now)).others ≡ true) }
-    ensures numbers { IfSome result (λ _. decimals_read (cut_at_dashes (sid_front text.now)).others ≡ Some sid.new.subs) }
+    ensures numbers { IfSome result
+        (λ _. decimals_read (cut_at_dashes (sid_front text.now)).others ≡ Some sid.new.subs) }
     ensures size { IfSome result (λ r. length (sid_front text.now) + length r.now ≡ length text.now) }
     ensures authority { sid.new.authority ≡ sid.old.authority }
 {
@@ -98,7 +99,8 @@ fn behind_dash(text: &[u8]) -> Option<&[u8]>
 #[inline(always)]
 fn front_number(text: &[u8]) -> Option<(u32, &[u8])>
     ensures number { IfSome result (λ r. (first : List ℕ) × (is_decimal first ≡ true) × (decimal_reads first ≡ Some r.0)
-        × (cut_at_dashes (sid_front text.now) ≡ record { first = first; others = (cut_at_dashes (sid_front r.1.now)).others })) }
+        × (cut_at_dashes (sid_front text.now)
+        ≡ record { first = first; others = (cut_at_dashes (sid_front r.1.now)).others })) }
     ensures ends { IfSome result (λ r. (cut_at_dashes (sid_front r.1.now)).first ≡ []) }
     ensures size { IfSome result (λ r. length (sid_front text.now) + length r.1.now
         ≡ length (sid_front r.1.now) + length text.now) }

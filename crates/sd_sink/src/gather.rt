@@ -33,7 +33,8 @@ impl<'a, S: Sink> Gather<'a, S> {
     #[cold]
     #[inline(never)]
     fn put_over(&mut self, text: &[u8])
-        ensures { Prints (⟦<Gather<'a, S> as Print>⟧.told self.old) (⟦<Gather<'a, S> as Print>⟧.told self.new) text.now }
+        ensures { Prints (⟦<Gather<'a, S> as Print>⟧.told self.old) (⟦<Gather<'a, S> as Print>⟧.told self.new)
+            text.now }
     {
         self.hand_down();
         if !self.failed {
@@ -43,7 +44,8 @@ impl<'a, S: Sink> Gather<'a, S> {
 
     // Hands down what is held.
     fn hand_down(&mut self)
-        ensures prints { Prints (⟦<Gather<'a, S> as Print>⟧.told self.old) (⟦<Gather<'a, S> as Print>⟧.told self.new) [] }
+        ensures prints { Prints (⟦<Gather<'a, S> as Print>⟧.told self.old)
+            (⟦<Gather<'a, S> as Print>⟧.told self.new) [] }
         ensures empty { self.new.failed ≡ false → self.new.held ≡ [] }
     {
         if !self.failed {
@@ -55,7 +57,8 @@ impl<'a, S: Sink> Gather<'a, S> {
     // Hands down a text, where nothing is held.
     fn pass(&mut self, text: &[u8])
         requires { self.old.held ≡ [] }
-        ensures { Prints (⟦<Gather<'a, S> as Print>⟧.told self.old) (⟦<Gather<'a, S> as Print>⟧.told self.new) text.now }
+        ensures { Prints (⟦<Gather<'a, S> as Print>⟧.told self.old) (⟦<Gather<'a, S> as Print>⟧.told self.new)
+            text.now }
     {
         if !self.failed {
             self.failed = self.sink.put(text).is_err();
@@ -64,7 +67,8 @@ impl<'a, S: Sink> Gather<'a, S> {
 }
 
 impl<'a, S: Sink> Print for Gather<'a, S> {
-    ghost told = { λ s. record { identity = s.sink.ghost_name; failed = s.failed; below = S.told s.sink.now; held = s.held } };
+    ghost told = { λ s.
+        record { identity = s.sink.ghost_name; failed = s.failed; below = S.told s.sink.now; held = s.held } };
 
     // Where a text is known when the program is built, its few bytes are then written at once.
     #[inline(always)]

@@ -30,7 +30,8 @@ impl<'a, S: Sink> Printer<'a, S> {
 impl<'a, S: Sink> Print for Printer<'a, S> {
     ghost use Rattle.std.specs.Prelude.{[]};
 
-    ghost told = { λ s. record { identity = s.sink.ghost_name; failed = s.failed; below = S.told s.sink.now; held = [] } };
+    ghost told = { λ s.
+        record { identity = s.sink.ghost_name; failed = s.failed; below = S.told s.sink.now; held = [] } };
 
     fn put(&mut self, bytes: &[u8]) {
         if !self.failed {
