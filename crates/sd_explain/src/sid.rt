@@ -24,6 +24,7 @@ fn print_sid_or_none<P: Print>(naming: &Naming, sid: Option<Sid>, out: &mut P)
 }
 
 /// Prints the text of a SID, and its alias behind it.
+#[inline(always)]
 pub fn print_sid<P: Print>(naming: &Naming, sid: &Sid, out: &mut P)
     ensures { Prints (P.told out.old) (P.told out.new) (sid_words naming.now sid.now) }
 {

@@ -7,6 +7,7 @@ use sd_sid::{Naming, Sid};
 use sd_sink::Print;
 
 /// Prints the alias of a SID, or its text.
+#[inline(always)]
 #[tactic(auto, unfolding(crate::specs::Printed::trustee_text))]
 pub fn print_trustee<P: Print>(naming: &Naming, sid: &Sid, out: &mut P)
     ensures { Prints (P.told out.old) (P.told out.new) (trustee_text naming.now sid.now) }

@@ -25,7 +25,13 @@ const NT: u64 = 5;
 /// The first sub-authority of the groups that each machine has.
 const BUILTIN: u32 = 32;
 
-/// Where the names of SIDs `S-1-5-N` begin in the table of well-known names, and where they end.
+/// The authority of creators, `S-1-3`.
+const CREATOR: u64 = 3;
+
+/// Where the names of SIDs `S-1-3-N` begin in the table of well-known names.
+const CREATOR_NAMES: usize = 1;
+
+/// Where those of SIDs `S-1-5-N` begin, and where they end.
 const NT_NAMES: usize = 4;
 
 const NT_NAMES_END: usize = 16;
@@ -56,6 +62,7 @@ pub struct DomainRelative {
 
 impl Sid {
     /// The two letters that name it, everywhere or in the domain. A domain of 15 sub-authorities has no aliases.
+    #[inline(always)]
     pub fn alias(&self, domain: Option<&Sid>) -> Option<[u8; 2]>
         ensures exact { result ≡ alias_of self.now (option_copied domain.entry) }
         ensures letters { IfSome result (λ name. list_all is_ascii_uppercase name ≡ true) }
@@ -72,6 +79,7 @@ impl Sid {
     }
 }
 
+#[inline(always)]
 #[tactic(auto, unfolding(crate::specs::SidText::alias_of))]
 fn alias_in(sid: &Sid, domain: Option<&Sid>) -> Option<[u8; 2]>
     ensures { result ≡ alias_of sid.now (option_copied domain.entry) }
@@ -91,7 +99,21 @@ fn usable(domain: Option<&Sid>) -> Option<&Sid>
     }
 }
 
+// Most SIDs are of a domain, with five sub-authorities, and no name means one with three to five. So the test for these
+// is inlined, and the search is a call.
+#[inline(always)]
 fn known_alias(sid: &Sid) -> Option<[u8; 2]>
+    ensures { result ≡ known_alias sid.now }
+{
+    let count = sid.subs().len();
+    if 3 <= count && count <= 5 {
+        return None;
+    }
+    find_alias(sid)
+}
+
+#[inline(never)]
+fn find_alias(sid: &Sid) -> Option<[u8; 2]>
     ensures { result ≡ known_alias sid.now }
 {
     let entry = known_entry(sid)?;
@@ -101,12 +123,8 @@ fn known_alias(sid: &Sid) -> Option<[u8; 2]>
 fn known_entry(sid: &Sid) -> Option<WellKnown>
     ensures { result ≡ find (λ e. same_sid (known_sid e) sid.now) WELL_KNOWN }
 {
-    // Most SIDs are of a domain, with five sub-authorities; no name means one with three to five.
-    let count = sid.subs().len();
-    if 3 <= count && count <= 5 {
-        return None;
-    }
     match (sid.authority(), sid.subs()) {
+        (CREATOR, [sub]) => find_known_at(0, *sub, &WELL_KNOWN[CREATOR_NAMES..NT_NAMES]),
         (NT, [sub]) => find_known_at(0, *sub, &WELL_KNOWN[NT_NAMES..NT_NAMES_END]),
         (NT, [BUILTIN, sub]) => find_known_at(
             1,
@@ -128,7 +146,12 @@ fn find_known_at(at: usize, sub: u32, table: &[WellKnown]) -> Option<WellKnown>
 fn find_known(table: &[WellKnown], sid: &Sid) -> Option<WellKnown>
     ensures { result ≡ find (λ e. same_sid (known_sid e) sid.now) table.now }
 {
-    table.iter().copied().find(|entry| is_known(entry, sid))
+    for entry in table {
+        if is_known(entry, sid) {
+            return Some(*entry);
+        }
+    }
+    None
 }
 
 fn is_known(entry: &WellKnown, sid: &Sid) -> bool
@@ -138,6 +161,7 @@ fn is_known(entry: &WellKnown, sid: &Sid) -> bool
     u64::from(entry.authority) == sid.authority() && &entry.subs[..count] == sid.subs()
 }
 
+#[inline(never)]
 fn relative_alias(sid: &Sid, domain: &Sid) -> Option<[u8; 2]>
     ensures { result ≡ relative_alias sid.now domain.now }
 {

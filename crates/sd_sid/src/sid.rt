@@ -32,9 +32,14 @@ impl Model for Sid {
 
     ghost view = { λ s. record { authority = s.authority; subs = take s.count s.subs } };
 
-    ghost invariant = { λ s. (s.authority < 2 ^ 48) × (s.count ≤ most_subs) × (length s.subs ≡ most_subs) × (drop s.count s.subs ≡ replicate (most_subs - s.count) 0) × AreWords s.subs };
+    ghost invariant = { λ s. (s.authority < 2 ^ 48) × (s.count ≤ most_subs) × (length s.subs ≡ most_subs)
+        × (drop s.count s.subs ≡ replicate (most_subs - s.count) 0) × AreWords s.subs };
 
-    ghost inverse = { λ s. record { authority = s.authority; count = length s.subs; subs = s.subs ++ replicate (most_subs - length s.subs) 0 } };
+    ghost inverse = { λ s. record {
+      authority = s.authority;
+      count = length s.subs;
+      subs = s.subs ++ replicate (most_subs - length s.subs) 0;
+    } };
 
     ghost inverse_ok = { λ s h i. record {
       authority = s.authority;
@@ -138,15 +143,15 @@ impl Sid {
     {
         let count = usize::from(bytes[1]);
         let authority = BigEndian::read_u48(&bytes[2..]);
-        let mut subs = [0; MOST_SUBS];
-        for i in 0..count {
-            subs[i] = LittleEndian::read_u32(&bytes[HEADER_SIZE + 4 * i..]);
-        }
-        Sid {
+        let mut sid = Sid {
             authority,
             count,
-            subs,
+            subs: [0; MOST_SUBS],
+        };
+        for i in 0..count {
+            sid.subs[i] = LittleEndian::read_u32(&bytes[HEADER_SIZE + 4 * i..]);
         }
+        sid
     }
 
     /// The size in bytes: 8, and 4 for each sub-authority.

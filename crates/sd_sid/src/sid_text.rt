@@ -56,6 +56,7 @@ impl Sid {
     }
 
     /// Prints the text, as `put_text` puts it.
+    #[inline(always)]
     pub fn print_text<P: Print>(&self, out: &mut P)
         ensures put { Prints (P.told out.old) (P.told out.new) (sid_text self.now) }
         ensures limits { IsSid self.now }
@@ -66,11 +67,7 @@ impl Sid {
                 out.put(b"S-1-5-21");
                 print_subs(rest, out);
             }
-            (authority, subs) => {
-                out.put(b"S-1-");
-                print_authority(authority, out);
-                print_subs(subs, out);
-            }
+            _ => print_any(self, out),
         }
     }
 
@@ -202,6 +199,16 @@ fn read_any(text: &[u8], sid: &mut Sid) -> Result<(), SidFault>
         }
         None => Err(SidFault::Number),
     }
+}
+
+// Prints the text of any SID. Not inlined: most SIDs without an alias are of a domain.
+#[inline(never)]
+fn print_any<P: Print>(sid: &Sid, out: &mut P)
+    ensures { Prints (P.told out.old) (P.told out.new) (sid_text sid.now) }
+{
+    out.put(b"S-1-");
+    print_authority(sid.authority(), out);
+    print_subs(sid.subs(), out);
 }
 
 // Decimal below 2^32, and else twelve hex digits.

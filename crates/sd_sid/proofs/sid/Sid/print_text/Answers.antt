@@ -9,9 +9,3 @@ returns-in-5-eq21-clause-put g c =
     let first : slice_index subs 0 ≡ 21 = omega arith in
     prints_as (domain_text c.args.self.now subs (cc) c.subs.ensures.value c.in-5-eq21.len_at_least first)
     (prints_then c.put.ensures c.print_subs.ensures)
-
-pub returns-in_default-clause-put : goal.returns-in_default-clause-put
-returns-in_default-clause-put g c =
-    prints_then c.put-in_default.ensures
-    (prints_then (rw c.authority.ensures.value at c.print_authority.ensures)
-    (rw c.subs.ensures.value at c.print_subs-in_default.ensures))
