@@ -15,6 +15,10 @@ loop-count-preserved c =
     record {
       within = omega (arith, c.loop-count-test.true);
       plain =
-          rw (take-add count 8 text, list_all-append is_plain_outside (take count text) (take 8 (drop count text)),
-          c.loop-count.invariant.plain, block) refl;
+          rw (
+            take-add count 8 text,
+            list_all-append is_plain_outside (take count text) (take 8 (drop count text)),
+            c.loop-count.invariant.plain,
+            block,
+          ) refl;
     }
