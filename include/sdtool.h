@@ -163,7 +163,8 @@ struct sdtool_verdict {
  *
  * SDTOOL_ARGUMENT comes first, then 50 and 51, then the faults of the descriptor. SDTOOL_ARGUMENT means that the
  * token is not exactly SID_COUNT SIDs or more than SDTOOL_MOST_SIDS, or that an entry, the mapping, OBJECT or
- * PRINCIPAL_SELF is none of the above. It allocates less than 128 KiB.
+ * PRINCIPAL_SELF is none of the above. It allocates less than 128 KiB before it looks at its arguments, so
+ * SDTOOL_NO_MEMORY comes before any other fault.
  */
 struct sdtool_verdict sdtool_check(const uint8_t *descriptor, size_t descriptor_size, const uint8_t *sids,
                                    size_t sids_size, const uint8_t *entries, size_t sid_count, const uint8_t *object,
@@ -176,7 +177,8 @@ struct sdtool_verdict sdtool_check(const uint8_t *descriptor, size_t descriptor_
  * are a SID in binary each. KIND is one of enum sdtool_kind and MAPPING one of enum sdtool_mapping.
  *
  * SDTOOL_ARGUMENT means that OWNER, GROUP, KIND or MAPPING is none of these or that CREATOR is no descriptor; it
- * comes first. It allocates 131,226 bytes.
+ * comes first. It allocates 131,226 bytes before it looks at its arguments, so SDTOOL_NO_MEMORY comes before any other
+ * fault.
  */
 struct sdtool_outcome sdtool_derive(const uint8_t *parent, size_t parent_size, const uint8_t *creator,
                                     size_t creator_size, const uint8_t *owner, size_t owner_size,
