@@ -84,7 +84,9 @@ enum {
     /* No token has more SIDs. */
     SDTOOL_MOST_SIDS = 1024,
     /* No text of sdtool_fault_text has more bytes. */
-    SDTOOL_MOST_FAULT_TEXT = 32
+    SDTOOL_MOST_FAULT_TEXT = 32,
+    /* No message of sdtool_run has more bytes. */
+    SDTOOL_MOST_MESSAGE = 64
 };
 
 /*
@@ -184,6 +186,48 @@ struct sdtool_outcome sdtool_derive(const uint8_t *parent, size_t parent_size, c
                                     size_t creator_size, const uint8_t *owner, size_t owner_size,
                                     const uint8_t *group, size_t group_size, uint32_t kind, uint32_t mapping,
                                     uint8_t *output, size_t output_size);
+
+/* How sdtool_run ends: the exit status of the program. */
+enum sdtool_status {
+    /* Each line was answered, and no answer is an error line. After words that ask for help, help is the output. */
+    SDTOOL_STATUS_ANSWERED = 0,
+    /* Each line was answered, and at least one answer is an error line. */
+    SDTOOL_STATUS_ERRORS = 1,
+    /* The words are wrong: nothing was read. */
+    SDTOOL_STATUS_USAGE = 2,
+    /* The output is too small. It has the answers to the first lines. */
+    SDTOOL_STATUS_STOPPED = 3,
+    /* malloc failed: nothing was read. */
+    SDTOOL_STATUS_NO_MEMORY = 4
+};
+
+/* What a run answers. */
+struct sdtool_ending {
+    /* One of enum sdtool_status. */
+    uint32_t status;
+    /* The length of the output. */
+    size_t length;
+    /* The length of the message, 0 with status 0 and 1. */
+    size_t message_length;
+};
+
+/*
+ * Runs the program on INPUT: one descriptor a line, one answer a line. WORDS are those of the command line, without
+ * the program's name and each with a NUL behind it, such as "convert\0--to\0sddl\0" of WORDS_SIZE 18. OUTPUT gets
+ * what the program prints to standard output, and MESSAGE what it prints to standard error, as "sdtool: usage\n".
+ *
+ * If the output is too small, the status is 3, the message is "sdtool: error 61 write\n", and the output has the whole
+ * answers that fit, those to the first lines. An answer has at most SDTOOL_TEXT_SIZE(bytes) bytes with its LF, where
+ * the descriptor that it prints has BYTES, so SDTOOL_MOST_TEXT bytes a line always suffice. For lines of hex,
+ * 4 * INPUT_SIZE bytes and 64 a line suffice, but not always for those that derive. Help that does not fit is cut, with
+ * status 0, as on a full disk: if LENGTH is OUTPUT_SIZE, try a larger output. A message that does not fit is cut and
+ * changes nothing else.
+ *
+ * Words that are not UTF-8, or of which the last lacks its NUL, are status 2 with the message "sdtool: usage\n". The
+ * run allocates less than 2 MiB, and nothing after it has begun to read.
+ */
+struct sdtool_ending sdtool_run(const uint8_t *words, size_t words_size, const uint8_t *input, size_t input_size,
+                                uint8_t *output, size_t output_size, uint8_t *message, size_t message_size);
 
 /*
  * Gives the name of a fault, such as sid-form for 25: the numbers of docs/FORMAT.md and of enum sdtool_fault. It is

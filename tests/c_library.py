@@ -5,8 +5,9 @@ Tests the built library, out/lib, from C and from Python. Each answer of a call 
 line: for each line of the worked rows, and N random changes of them. Checks and derivations have to answer what the
 worked rows say, and N random ones what PROGRAM answers; also tried are arguments that no words spell. tests/c/calls.c also
 tries each size of the output, refused allocations and threads; it runs under the address sanitizer if the compiler has
-it, and under valgrind if that is there. Also tested: the symbols of the libraries, the header in C and C++, the names of
-faults, and the Python module's examples.
+it, and under valgrind if that is there. tests/c/runs.c does the same for runs: each row without devices of its own,
+and whole answers in each size of the output. Also tested: the symbols of the libraries, the header in C and C++, the
+names of faults, and the Python module's examples.
 The last line is 'N passed, M failed'.
 """
 import argparse
@@ -31,6 +32,8 @@ LIBRARIES = TOP / "out" / "lib"
 COMPILER = os.environ.get("CC", "cc")
 WARNINGS = ["-std=c11", "-Wall", "-Wextra", "-Werror", "-O1", "-g", "-D_GNU_SOURCE"]
 WRAPS = ["-Wl,--wrap=malloc", "-Wl,--wrap=realloc"]
+SANITIZERS = ["-fsanitize=address,undefined"]
+VALGRIND = ["valgrind", "-q", "--leak-check=full", "--error-exitcode=9"]
 SECONDS = 300
 DOMAIN = bytes.fromhex("010400000000000515000000010000000200000003000000")  # S-1-5-21-1-2-3
 MAPPINGS, KINDS = ["file", "key", "ds"], ["file", "container"]
@@ -113,10 +116,10 @@ def without_name(answers):
     return re.sub(r"(?m)^(error \d+) \S+", r"\1", answers)
 
 
-def built(folder, name, flags):
-    """calls.c as a program, or None where the compiler refuses the flags."""
-    program = folder / name
-    words = [COMPILER, *WARNINGS, *flags, f"-I{TOP / 'include'}", str(TOP / "tests" / "c" / "calls.c"),
+def built(folder, source, name, flags):
+    """A file of tests/c as a program, or None where the compiler refuses the flags."""
+    program = folder / f"{source}-{name}"
+    words = [COMPILER, *WARNINGS, *flags, f"-I{TOP / 'include'}", str(TOP / "tests" / "c" / f"{source}.c"),
              str(LIBRARIES / "libsdtool.a"), *WRAPS, "-pthread", "-o", str(program)]
     compiled = subprocess.run(words, stdout=subprocess.PIPE, stderr=subprocess.STDOUT, check=False)
     return (program if compiled.returncode == 0 else None), compiled.stdout.decode()
@@ -269,6 +272,103 @@ def test_arguments(count, runner):
     count.add(found == [answer for _, answer in cases], f"cases of check: {found} {ended.stderr.decode()}")
 
 
+def rows_in_memory():
+    """The words and the input of each row that runs without devices of its own."""
+    for row in run_rows.all_rows():
+        if not {"talk", "input", "output", "faults"} & set(row):
+            yield row["id"], [run_rows.text(word) for word in row["words"]], run_rows.text(row.get("stdin", ""))
+
+
+def of_program(words, data, **others):
+    """A run of the program, or of a test in C: what it prints, and its exit status."""
+    ended = subprocess.run(words, input=data, capture_output=True, timeout=SECONDS, check=False, **others)
+    return ended.stdout, ended.stderr, ended.returncode
+
+
+def test_runs(count, runner, program, name, rows):
+    """Runs of rows: the program's output, message and status."""
+    for task in ("plain", "refusals"):
+        for row, words, data in rows if task == "plain" else rows[::20]:
+            expected = of_program(["sdtool", *words], data, executable=program)
+            found = of_program([*runner, task, *words], data)
+            count.add(found == expected, f"{name} {task} {row}: {found} in place of {expected}"[:900])
+
+
+def answers_of_each_line(program, words, lines):
+    """The lengths of the answers to the first lines, for each number of lines."""
+    total = 0
+    yield total
+    for line in lines:
+        total += len(of_program([program, *words], line + b"\n")[0])
+        yield total
+
+
+# Lines of some lengths, with an error and an empty one among them, and without an LF at the end.
+SIZED = b"O:BAG:SYD:PAI(A;OICI;FA;;;SY)(D;;FW;;;WD)S:(AU;SAFA;FA;;;WD)\nD:\nzz\n\nO:BA\nD:(A;;FA;;;S-1-5-21-1-2-3-4)"
+SIZED_WORDS = ([b"convert"], [b"convert", b"--to", b"hex"], [b"convert", b"--to", b"base64"], [b"explain"],
+               [b"check", b"--token", b"WD", b"--maximum"],
+               [b"derive", b"--kind", b"file", b"--owner", b"BA", b"--group", b"BA"])
+
+
+def test_sizes(count, runner, program, name):
+    """In each size of the output are the whole answers that fit."""
+    full = b"sdtool: error 61 write\n"
+    for own in SIZED_WORDS:
+        words = [own[0], b"--from", b"sddl", *own[1:]]
+        fronts = list(answers_of_each_line(program, words, SIZED.split(b"\n")))
+        most, status = fronts[-1], of_program([program, *words], SIZED)[2]
+        expected = b"".join(
+            b"%d %d %d %s" % ((size, status, most, b"\n") if size >= most
+                              else (size, 3, max(front for front in fronts if front <= size), full))
+            for size in range(most + 2))
+        found = of_program([*runner, "sizes", *words], SIZED)
+        pairs = zip(found[0].split(b"\n"), expected.split(b"\n"))
+        wrong = next((f"{a!r} in place of {b!r}" for a, b in pairs if a != b), "")
+        count.add(found == (expected, b"", status), f"{name} sizes of {words}: {found[1:]} {wrong}")
+
+
+def test_words(count, runner, program):
+    """Words that no process gets, or that are no text."""
+    usage = (b"", b"sdtool: usage\n", 2)
+    for task, words in (("plain", []), ("plain", [b"convert", b"--domain", b"\xff"]), ("plain", [b"\xc3"]),
+                        ("cut", [b"convert"]), ("cut", [b"convert", b"--to", b"hex"]), ("cut", [b""])):
+        expected = (of_program([program], b"D:\n") if task == "cut" and words == [b""] else usage)
+        found = of_program([*runner, task, *words], b"D:\n")
+        count.add(found == expected, f"{task} {words}: {found} in place of {expected}")
+
+
+def test_runs_in_c(count, folder, program):
+    rows = list(rows_in_memory())
+    plain, said = built(folder, "runs", "plain", [])
+    count.add(plain is not None, said)
+    if plain is None:
+        return
+    test_runs(count, [plain], program, "plain", rows)
+    test_sizes(count, [plain], program, "plain")
+    for words in SIZED_WORDS:
+        words = [words[0], b"--from", b"sddl", *words[1:]]
+        found, expected = of_program([plain, "threads", *words], SIZED), of_program([program, *words], SIZED)
+        count.add(found == expected, f"threads {words}: {found}")
+    checked, _ = built(folder, "runs", "checked", SANITIZERS)
+    if checked is not None:
+        test_runs(count, [checked], program, "sanitized", [row for row in rows if len(row[2]) < 100_000])
+        test_sizes(count, [checked], program, "sanitized")
+        test_words(count, [checked], program)
+    else:
+        test_words(count, [plain], program)
+    if shutil.which("valgrind"):
+        test_runs(count, [*VALGRIND, plain], program, "valgrind", rows[::40])
+
+
+def test_python_runs(count, program, rows):
+    import sdtool  # noqa: PLC0415
+    for row, words, data in rows:
+        # The module's words are texts; each other byte is one that no text has.
+        answers = sdtool.run([word.decode("utf-8", "surrogateescape") for word in words], data)
+        expected = of_program(["sdtool", *words], data, executable=program)
+        count.add((answers.output, answers.message.encode(), answers.status) == expected, f"Python's run of {row}")
+
+
 def test_fault_texts(count):
     """Each number below 200 has the name that docs/FORMAT.md gives it, or none."""
     import sdtool  # noqa: PLC0415
@@ -340,14 +440,15 @@ def main():
     test_header(count)
     with tempfile.TemporaryDirectory() as name:
         folder = pathlib.Path(name)
-        plain, said = built(folder, "plain", [])
+        test_runs_in_c(count, folder, arguments.program)
+        plain, said = built(folder, "calls", "plain", [])
         count.add(plain is not None, said)
         if plain is not None:
             compare_calls(count, [plain], arguments.program, lines, "plain")
-        checked, _ = built(folder, "checked", ["-fsanitize=address,undefined"])
+        checked, _ = built(folder, "calls", "checked", SANITIZERS)
         if checked is not None:
             compare_calls(count, [checked], arguments.program, rows, "sanitized")
-        valgrind = ["valgrind", "-q", "--leak-check=full", "--error-exitcode=9", str(plain)]
+        valgrind = [*VALGRIND, str(plain)]
         if plain is not None and shutil.which("valgrind"):
             few = tuple(of_rows[:30] for of_rows in rows)
             compare_calls(count, valgrind, arguments.program, few, "valgrind")
@@ -360,6 +461,7 @@ def main():
         for _, runner, _ in runners[:2]:
             test_arguments(count, runner)
     test_python(count, arguments.program, lines, asked)
+    test_python_runs(count, arguments.program, list(rows_in_memory()))
     test_fault_texts(count)
     return count.end()
 

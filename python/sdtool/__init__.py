@@ -11,11 +11,13 @@ import ctypes
 import os
 from typing import NamedTuple, NoReturn, Optional, Sequence
 
-__all__ = ["ArgumentFault", "Fault", "Verdict", "check", "derive", "explain", "fault_text", "from_sddl", "normalize",
-           "to_sddl", "version"]
+__all__ = ["Answers", "ArgumentFault", "Fault", "Verdict", "check", "derive", "explain", "fault_text", "from_sddl",
+           "normalize", "run", "to_sddl", "version"]
 
 _FIRST_SIZE = 4096  # larger answers take a second call
 _OK, _ARGUMENT, _TOO_SMALL, _NO_MEMORY = 0, 70, 71, 72
+_STATUS_STOPPED, _STATUS_NO_MEMORY = 3, 4
+_MOST_MESSAGE = 64
 _PARTS = (None, "owner", "group", "sacl", "dacl")
 _MAPPINGS = {"file": 0, "key": 1, "ds": 2}
 _KINDS = {"file": 0, "container": 1}
@@ -56,6 +58,19 @@ class Verdict(NamedTuple):
     mask: int
 
 
+class Answers(NamedTuple):
+    """What a run prints.
+
+    status is the exit status of the program: 0, 1 if at least one answer is an error line, or 2 if the words are wrong.
+    output has the answers, one after the other. message is what the program prints to standard error,
+    which is empty with 0 and 1.
+    """
+
+    status: int
+    output: bytes
+    message: str
+
+
 class _Outcome(ctypes.Structure):
     _fields_ = [("fault", ctypes.c_uint32), ("part", ctypes.c_uint32), ("other_part", ctypes.c_uint32),
                 ("length", ctypes.c_size_t)]
@@ -72,6 +87,10 @@ class _Verdict(ctypes.Structure):
                 ("mask", ctypes.c_uint32), ("granted", ctypes.c_bool)]
 
 
+class _Ending(ctypes.Structure):
+    _fields_ = [("status", ctypes.c_uint32), ("length", ctypes.c_size_t), ("message_length", ctypes.c_size_t)]
+
+
 def _load() -> ctypes.CDLL:
     library = ctypes.CDLL(os.environ.get("SDTOOL_LIBRARY", "libsdtool.so.0"))
     bytes_in = [ctypes.c_char_p, ctypes.c_size_t]
@@ -85,6 +104,8 @@ def _load() -> ctypes.CDLL:
         call.restype = _Outcome
     library.sdtool_check.argtypes = [*bytes_in * 5, ctypes.POINTER(_Request)]
     library.sdtool_check.restype = _Verdict
+    library.sdtool_run.argtypes = [*bytes_in * 2, *bytes_out * 2]
+    library.sdtool_run.restype = _Ending
     return library
 
 
@@ -228,6 +249,35 @@ def derive(parent: bytes, owner: bytes, group: bytes, *, kind: str = "file", cre
     """
     return _answer(_library.sdtool_derive, parent, len(parent), creator, len(creator), owner, len(owner), group, len(group),
                    _number(_KINDS, kind), _number(_MAPPINGS, mapping))
+
+
+def run(words: Sequence[str], input: bytes) -> Answers:
+    r"""What the program prints to an input, one descriptor a line.
+
+    words are those of the command line, without the program's name. Errors are lines of the output, and wrong words are
+    a message: see Answers.
+
+    >>> run(["convert", "--from", "sddl", "--to", "hex"], b"D:P\nD:(A;;FA;;;WD\n")
+    Answers(status=1, output=b'01000490000000000000000000000000140000000200080000000000\nerror 20 shape\n', message='')
+    >>> run(["convert", "--to", "xml"], b"")
+    Answers(status=2, output=b'', message='sdtool: usage: --to\n')
+    """
+    if any("\0" in word for word in words):
+        raise ArgumentFault("a word has a NUL")
+    # What is no text stays none, and the run refuses it.
+    spelled = b"".join(word.encode("utf-8", "surrogatepass") + b"\0" for word in words)
+    message = ctypes.create_string_buffer(_MOST_MESSAGE)
+    size = _FIRST_SIZE + 4 * len(input)
+    while True:
+        output = ctypes.create_string_buffer(size)
+        ending = _library.sdtool_run(spelled, len(spelled), input, len(input), output, size, message, _MOST_MESSAGE)
+        if ending.status == _STATUS_NO_MEMORY:
+            raise MemoryError
+        # Help that was cut ends with 0.
+        if ending.status != _STATUS_STOPPED and ending.length < size:
+            said = ctypes.string_at(message, ending.message_length)
+            return Answers(ending.status, ctypes.string_at(output, ending.length), said.decode("ascii"))
+        size *= 4
 
 
 def fault_text(number: int) -> str:

@@ -1,7 +1,11 @@
 -- What a run makes of words that settle a job.
-use Rattle.std.proofs.Common.{ℕ, inr, List, Result, Ok, sym, subst}
+use Rattle.std.proofs.Common.{◌≡◌, ◌++◌, ℕ, inr, List, Option, None, Some, Result, Ok, Err, sym, subst}
+use Rattle.std.specs.Io.KnownBytes.{Appends, Keeps}
 use Rattle.clap.specs.Words.{Text}
-use Rattle.sd_command.specs.Endings.{Told, EndsBy, EndsTaken, EndsSettled, EndsRun, settled}
+use Rattle.sd_sink.specs.Sink.{Puts}
+use Rattle.sd_sink.specs.declared.sink.SinkFault.{SinkFault}
+use Rattle.sd_run.specs.Told.{DrainTold, sink_of}
+use Rattle.sd_command.specs.Endings.{Told, EndsBy, EndsTaken, EndsSettled, EndsRun, Grows, settled}
 use Rattle.sd_command.specs.Inner.Preparing.{PreparesBy, settled as of}
 use Rattle.sd_command.specs.Settings.{Settings}
 use Rattle.sd_command.specs.declared.settings.UsageFault.{UsageFault}
@@ -20,3 +24,18 @@ pub by-run : (words : List Text) (prepared : Prepared) (told told' : Told) (stat
     → EndsBy words told told' status
 by-run words prepared told told' status p run = settled p.0
     (subst (λ (s : Result Settings UsageFault). EndsSettled s told told' status) (sym p.1) run)
+
+keeps-appended : (old mid new : Option (List ℕ)) (bytes : List ℕ) → Appends old mid bytes → Keeps mid new
+    → Appends old new bytes
+keeps-appended None mid new bytes appended keeps = tt
+keeps-appended (Some xs) None new bytes appended keeps = absurd appended
+keeps-appended (Some xs) (Some ys) None bytes appended keeps = absurd keeps
+keeps-appended (Some xs) (Some ys) (Some zs) bytes appended keeps = cc
+
+-- a text that is put and then passed on
+pub put-grows : (old mid new : DrainTold) (text : List ℕ) (result : Result (Unit {0}) SinkFault)
+    → Puts (sink_of old) (sink_of mid) text result → Keeps mid.taken new.taken → Grows old new
+put-grows old mid new text (Ok done) put keeps =
+    (text, keeps-appended old.taken mid.taken new.taken text put.appended keeps)
+put-grows old mid new text (Err fault) put keeps =
+    (put.part, keeps-appended old.taken mid.taken new.taken put.part put.appended keeps)

@@ -1,5 +1,6 @@
 -- How the program ends: its exit status, what it read, what it wrote, and what the fault stream got.
 use Rattle.std.specs.Prelude.{◌≡◌, ◌⊎◌, ◌++◌, ◌==◌, ℕ, ◌^◌, true, List, [], Result, Ok, Err, codes, if◌then◌else◌}
+use Rattle.std.specs.Io.KnownBytes.{Appends}
 use Rattle.std.specs.List.{list_any}
 use Rattle.clap.specs.Words.{Text, IsAmong, fault_of}
 use Rattle.clap.specs.declared.error.ErrorKind.TheVariants as kind
@@ -66,10 +67,14 @@ EndsWithoutMemory = EndsIdle 4 (fault_line (codes "no memory"))
 abbrev pub EndsRefused : Told → Told → ℕ → Type 0
 EndsRefused = EndsIdle 2 (fault_line (codes "usage"))
 
--- nothing was read and nothing was said; what help puts on the output is `clap`'s text
+-- a drain took some bytes more
+abbrev pub Grows : DrainTold → DrainTold → Type 0
+Grows drain drain' = (bytes : List ℕ) × Appends drain.taken drain'.taken bytes
+
+-- nothing was read and nothing was said; the output got help, which is `clap`'s text
 abbrev pub EndsWithHelp : Told → Told → ℕ → Type 0
 EndsWithHelp told told' status =
-    (status ≡ 0) × (told'.source ≡ told.source) × (told'.faults ≡ told.faults)
+    (status ≡ 0) × (told'.source ≡ told.source) × (told'.faults ≡ told.faults) × Grows told.output told'.output
 
 abbrev pub status_of : Result Report RunFault → ℕ
 status_of (Ok report) = if report.faults == 0 then 0 else 1

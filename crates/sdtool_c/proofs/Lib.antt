@@ -1,2 +1,5 @@
+pub mod CellsLemmas
 pub mod Meant
+pub mod RunLemmas
 pub mod TokenLemmas
+pub mod WordsLemmas

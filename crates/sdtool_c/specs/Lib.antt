@@ -3,3 +3,4 @@ pub mod Checks
 pub mod Derivations
 pub mod FaultNames
 pub mod Outcomes
+pub mod Runs

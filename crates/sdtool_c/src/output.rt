@@ -33,8 +33,8 @@ impl<'a> Sink for Front<'a> {
     }
 }
 
-// Copies the bytes into the cells from an offset on.
-fn write_at(cells: &mut [u8], at: usize, bytes: &[u8])
+/// Copies the bytes into the cells from an offset on.
+pub fn write_at(cells: &mut [u8], at: usize, bytes: &[u8])
     requires { at + length bytes.now ≤ length cells.old }
     ensures front { take (at + length bytes.now) cells.new ≡ take at cells.old ++ bytes.now }
     ensures same_length { length cells.new ≡ length cells.old }
