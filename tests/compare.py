@@ -37,7 +37,7 @@ NO_DIGITS = [byte for byte in range(256) if byte not in reference.HEX_DIGITS + b
 PARTS = range(4)   # owner, group, SACL, DACL, in the order of their offsets
 ACLS = (2, 3)
 SACL_PRESENT, DACL_PRESENT = 0x10, 0x4
-PLAIN_TYPES, OBJECT_TYPES, UNKNOWN_FLAG = [0, 1, 2, 0x11], [5, 6, 7], 0x20
+UNKNOWN_FLAG = 0x20
 HEX, SDDL, NUMERIC = ["convert", "--to", "hex"], ["convert"], ["convert", "--to", "sddl", "--numeric"]
 BASE64 = ["convert", "--to", "base64"]
 # A usual domain, one that is a well-known SID, the shortest one, and the longest one.
@@ -437,13 +437,13 @@ class Lines:
 
     def ace(self):
         """Of any kind, with any bits that announce nothing, and bytes after its SID."""
-        ace_type = self.chance.choice(PLAIN_TYPES + OBJECT_TYPES)
+        ace_type = self.chance.choice(list(reference.KINDS))
         flags = self.chance.choice([0, 0xff, self.chance.getrandbits(8)]) & ~UNKNOWN_FLAG
         one, other = (1 << self.chance.randrange(32) for _ in range(2))
         mask = self.chance.choice([0, 0xffff_ffff, one, one | other, self.chance.getrandbits(32),
                                    self.chance.choice(SOME_MASKS), self.chance.randrange(9), self.rights()])
         body = b""
-        if ace_type in OBJECT_TYPES:
+        if ace_type in reference.OBJECT_TYPES:
             bits = self.chance.randrange(4)
             others = self.chance.choice([0, 0, 0xffff_fffc, self.chance.getrandbits(30) << 2])
             body = (bits | others).to_bytes(4, "little") + self.chance.randbytes(16 * (bits % 2 + bits // 2))

@@ -19,7 +19,7 @@ fast, and nothing is shared with the program. What the tests take stands here; a
 from .access import RESERVED
 from .binary import DACL_PRESENT, HEADER, SACL_PRESENT, SELF_RELATIVE, layout, read
 from .command_line import Settings, Usage, settings_of
-from .parts import ACE_HEADER, ACL_HEADER, Ace, Acl, Descriptor, Sid
+from .parts import ACE_HEADER, ACL_HEADER, OBJECT_TYPES, Ace, Acl, Descriptor, Sid
 from .run import LINE_LIMITS, all_shown, answers, lines
 from .sddl_printing import aliases_under, guid_sddl, sddl
 from .sddl_reading import rights_of_text, sid_of_text

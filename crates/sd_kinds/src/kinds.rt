@@ -1,6 +1,6 @@
 //! The kinds of ACEs: their type bytes and their letters (MS-DTYP 2.4.4.1 and 2.5.1.1).
 
-ghost use Rattle.std.specs.Prelude.{◌≡◌, ◌≤◌, length, Some, IfSome, true};
+ghost use Rattle.std.specs.Prelude.{◌≡◌, ◌≤◌, ◌==◌, length, Some, IfSome, true};
 ghost use Rattle.std.specs.List.{find};
 ghost use Rattle.std.specs.Option.{option_copied};
 ghost use Rattle.std.specs.Str.{str_eq_ignore_ascii_case};
@@ -79,7 +79,7 @@ impl AceKind {
     }
 
     /// The kind of a type byte. None where no kind has it.
-    #[tactic(auto, unfolding(crate::specs::KindValues::KindValues))]
+    #[tactic(auto, unfolding(crate::specs::KindValues::KindValues, crate::specs::Kinds::kind_of))]
     #[inline(always)]
     pub fn from_code(code: u8) -> Option<AceKind>
         ensures exact { result ≡ kind_of code }
@@ -87,7 +87,8 @@ impl AceKind {
         // The type bytes and the letters of all kinds are those of MS-DTYP.
         ensures values { KindValues }
     {
-        with_code(code)
+        let entry = with_code(&KINDS, code)?;
+        Some(entry.kind)
     }
 
     /// The letters that name it in SDDL (MS-DTYP 2.5.1.1): one or two, in upper case.
@@ -112,41 +113,13 @@ impl AceKind {
     }
 }
 
-// The entries one by one, and no loop over them: so it is compiled as a match on the kinds.
+// The rows are in the order of the kinds.
 #[inline(always)]
 #[tactic(auto, unfolding(crate::specs::Kinds::kind_entry))]
 fn entry_of(kind: AceKind) -> Option<&'static KindEntry>
     ensures { option_copied result ≡ kind_entry kind }
 {
-    if is_same(KINDS[0].kind, kind) {
-        return Some(&KINDS[0]);
-    }
-    if is_same(KINDS[1].kind, kind) {
-        return Some(&KINDS[1]);
-    }
-    if is_same(KINDS[2].kind, kind) {
-        return Some(&KINDS[2]);
-    }
-    if is_same(KINDS[3].kind, kind) {
-        return Some(&KINDS[3]);
-    }
-    if is_same(KINDS[4].kind, kind) {
-        return Some(&KINDS[4]);
-    }
-    if is_same(KINDS[5].kind, kind) {
-        return Some(&KINDS[5]);
-    }
-    if is_same(KINDS[6].kind, kind) {
-        return Some(&KINDS[6]);
-    }
-    None
-}
-
-#[inline(always)]
-fn is_same(a: AceKind, b: AceKind) -> bool
-    ensures { result ≡ same_kind a b }
-{
-    a == b
+    KINDS.get(kind as usize)
 }
 
 #[tactic(auto, unfolding(crate::specs::Kinds::kind_letters))]
@@ -162,34 +135,11 @@ fn letters_of(entry: &KindEntry) -> &[u8]
     &entry.letters[..entry.count.min(MOST_LETTERS)]
 }
 
-// The entries one by one, and no loop over them: so it is compiled as a match on the numbers.
 #[inline(always)]
-#[tactic(auto, unfolding(crate::specs::Kinds::kind_of))]
-fn with_code(code: u8) -> Option<AceKind>
-    ensures { result ≡ kind_of code }
+fn with_code(table: &[KindEntry], code: u8) -> Option<KindEntry>
+    ensures { result ≡ find (λ e. e.code == code) table.now }
 {
-    if KINDS[0].code == code {
-        return Some(KINDS[0].kind);
-    }
-    if KINDS[1].code == code {
-        return Some(KINDS[1].kind);
-    }
-    if KINDS[2].code == code {
-        return Some(KINDS[2].kind);
-    }
-    if KINDS[3].code == code {
-        return Some(KINDS[3].kind);
-    }
-    if KINDS[4].code == code {
-        return Some(KINDS[4].kind);
-    }
-    if KINDS[5].code == code {
-        return Some(KINDS[5].kind);
-    }
-    if KINDS[6].code == code {
-        return Some(KINDS[6].kind);
-    }
-    None
+    table.iter().copied().find(|entry| entry.code == code)
 }
 
 fn with_letters(table: &[KindEntry], text: &[u8]) -> Option<KindEntry>

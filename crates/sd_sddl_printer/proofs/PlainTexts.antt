@@ -14,13 +14,12 @@ use Rattle.uuid.specs.Text.{by_index, digit_place, hex_digit, is_hyphen_place, n
 use Rattle.uuid.proofs.TextLemmas.{nibble_small}
 use Rattle.sd_kinds.specs.Flags.{flags_text}
 use Rattle.sd_ace.specs.GuidText.{guid_text}
-use Rattle.sd_kinds.specs.Kinds.{kind_entry, kind_letters}
+use Rattle.sd_kinds.proofs.laws.KindLaws.{letters-pass}
 use Rattle.sd_text.specs.Names.{named_bits, names_of}
 use Rattle.sd_rights.specs.Rights.{hex_text, is_label, names_or_hex, rights_text, name_letters}
 use Rattle.sd_sid.specs.Sid.{IsSid, SecurityId}
 use Rattle.sd_sid.specs.SidText.{alias_of, is_sid_byte, sid_text}
 use Rattle.sd_kinds.specs.declared.kinds.AceKind.{AceKind}
-use Rattle.sd_kinds.specs.declared.kinds.AceKind.TheVariants as kinds
 use Rattle.sd_kinds.specs.declared.flags.TheConstants.{FLAGS}
 use Rattle.sd_text.specs.declared.names.NamedBits.{NamedBits}
 use Rattle.sd_rights.specs.declared.rights_table.TheConstants.{COMPOUNDS, LABELS, SINGLES}
@@ -99,14 +98,7 @@ plain-readable text h short =
 -- 3. Kinds.
 
 pub kind-plain : (kind : AceKind) → IsPlain (kind_text kind)
-unfolding kind_letters kind_entry
-kind-plain kinds.Allow = refl
-kind-plain kinds.Deny = refl
-kind-plain kinds.Audit = refl
-kind-plain kinds.ObjectAllow = refl
-kind-plain kinds.ObjectDeny = refl
-kind-plain kinds.ObjectAudit = refl
-kind-plain kinds.Label = refl
+kind-plain kind = letters-pass (list_all is_plain_byte) refl kind
 
 -- 4. Names of bits: flags and rights.
 

@@ -86,18 +86,12 @@ guid-read true bytes (Some g) h = ap (λ (x : List ℕ). Some x) (sym h)
 guid-read false bytes None h = refl
 guid-read false bytes (Some g) h = absurd h
 
-eight_at : (b : Bool) (x : ℕ) → 8 ≤ cond b (12 + x) 8
-eight_at true x = omega arith
-eight_at false x = omega arith
-
 sid_offset-low : (k : AceKind) (o i : Option (List ℕ)) → 8 ≤ sid_offset k o i
-sid_offset-low kinds.Allow o i = omega arith
-sid_offset-low kinds.Deny o i = omega arith
-sid_offset-low kinds.Audit o i = omega arith
-sid_offset-low kinds.ObjectAllow o i = omega arith
-sid_offset-low kinds.ObjectDeny o i = omega arith
-sid_offset-low kinds.ObjectAudit o i = omega arith
-sid_offset-low kinds.Label o i = omega arith
+sid_offset-low k o i = by_object (is_object k)
+  where
+    by_object : (b : Bool) → 8 ≤ cond b (12 + guid_size o + guid_size i) 8
+    by_object true = omega arith
+    by_object false = omega arith
 
 -- what an extent without a fault shows
 pub extent-shows : (extent : List ℕ) → AreBytes extent → u16_at 2 extent ≡ length extent → length extent % 4 ≡ 0

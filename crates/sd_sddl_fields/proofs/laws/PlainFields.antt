@@ -11,15 +11,14 @@ use Rattle.std.specs.Str.{str_eq_ignore_ascii_case}
 use Rattle.std.specs.Str.Parse.{digits_value}
 use Rattle.std.proofs.lemmas.Bool.Decides.{nat_tests}
 use Rattle.sd_kinds.specs.Flags.{flags_reads}
-use Rattle.sd_kinds.specs.Kinds.{kind_entry, kind_letters, is_object}
+use Rattle.sd_kinds.specs.Kinds.{kind_letters, is_object}
 use Rattle.sd_text.specs.Names.{bits_named, joined, run_of}
 use Rattle.sd_rights.specs.Rights.{after_zero, all_rights, mask_reads, rights_reads, short_rights_reads}
 use Rattle.sd_kinds.specs.declared.flags.TheConstants.{FLAGS}
 use Rattle.sd_kinds.specs.declared.kinds.AceKind.{AceKind}
-use Rattle.sd_kinds.specs.declared.kinds.AceKind.TheVariants as kinds
 use Rattle.sd_text.specs.declared.names.NamedBits.{NamedBits}
 use Rattle.std.proofs.lemmas.Bool.{and_parts}
-use Rattle.sd_kinds.proofs.laws.KindLaws.{kind_named-some, letters-few}
+use Rattle.sd_kinds.proofs.laws.KindLaws.{kind_named-some, letters-few, letters-pass}
 use Rattle.sd_ace.specs.GuidText.{guid_reads}
 use Rattle.sd_sid.specs.SidText.{is_sid_byte, sid_front}
 use Rattle.uuid.specs.Text.{by_index, byte_of_digits, digit_place, digits_of, has_hyphens, hyphen_place, is_hex_digit}
@@ -85,15 +84,12 @@ spelled (a ∷ others) (b ∷ bs) is all =
     let plain = plain-letter b (lower-least b (rw first at least)) in
     (rw plain rest.0, ap (λ n. suc n) rest.1)
 
+are_low : List ℕ → Bool
+are_low letters = list_all (λ b. nat_le 97 (to_ascii_lowercase b)) letters
+
 letters-low : (k : AceKind) → list_all (λ b. nat_le 97 (to_ascii_lowercase b)) (kind_letters k) ≡ true
-unfolding kind_letters kind_entry
-letters-low kinds.Allow = refl
-letters-low kinds.Deny = refl
-letters-low kinds.Audit = refl
-letters-low kinds.ObjectAllow = refl
-letters-low kinds.ObjectDeny = refl
-letters-low kinds.ObjectAudit = refl
-letters-low kinds.Label = refl
+unfolding are_low
+letters-low k = letters-pass are_low refl k
 
 -- 3. Names of two letters.
 
