@@ -56,6 +56,7 @@ take_library() {
 # No older program or library is to be tested where the gate stops before it has built one.
 rm -rf "$program" out/lib
 count tests/layers.py
+count tests/alias_places.py --check
 count tests/figures.py --check
 count tests/names.py
 count tests/edits.py --apply

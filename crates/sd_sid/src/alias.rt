@@ -11,7 +11,10 @@ ghost use Rattle.sd_sid.specs.SidText.{relative_named, same_sid, sid_reads, usab
 ghost use Rattle.sd_sid.specs.Inner.Places.{place_of};
 ghost use Rattle.sd_sid.specs.Inner.Read.{IsRead};
 
-use crate::alias_places::{LETTERS, NO, PLACES};
+use crate::alias_places::{
+    BUILTIN_NAMES, BUILTIN_NAMES_END, CREATOR_NAMES, CREATOR_NAMES_END, LETTERS, NO, NT_NAMES,
+    NT_NAMES_END, PLACES,
+};
 use crate::sid::Sid;
 use crate::sid_text::SidFault;
 use sd_text::MOST_SUBS;
@@ -27,19 +30,6 @@ const BUILTIN: u32 = 32;
 
 /// The authority of creators, `S-1-3`.
 const CREATOR: u64 = 3;
-
-/// Where the names of SIDs `S-1-3-N` begin in the table of well-known names.
-const CREATOR_NAMES: usize = 1;
-
-/// Where those of SIDs `S-1-5-N` begin, and where they end.
-const NT_NAMES: usize = 4;
-
-const NT_NAMES_END: usize = 16;
-
-/// The same for SIDs `S-1-5-32-N`.
-const BUILTIN_NAMES: usize = 17;
-
-const BUILTIN_NAMES_END: usize = 41;
 
 /// A name, and the SID that it means everywhere.
 #[derive(Clone, Copy)]
@@ -124,7 +114,7 @@ fn known_entry(sid: &Sid) -> Option<WellKnown>
     ensures { result ≡ find (λ e. same_sid (known_sid e) sid.now) WELL_KNOWN }
 {
     match (sid.authority(), sid.subs()) {
-        (CREATOR, [sub]) => find_known_at(0, *sub, &WELL_KNOWN[CREATOR_NAMES..NT_NAMES]),
+        (CREATOR, [sub]) => find_known_at(0, *sub, &WELL_KNOWN[CREATOR_NAMES..CREATOR_NAMES_END]),
         (NT, [sub]) => find_known_at(0, *sub, &WELL_KNOWN[NT_NAMES..NT_NAMES_END]),
         (NT, [BUILTIN, sub]) => find_known_at(
             1,

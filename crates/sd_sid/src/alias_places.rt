@@ -1,10 +1,25 @@
-//! Where each name of two letters stands in the tables of aliases.
+//! Where each name of two letters is in the tables of aliases. `make figures` writes this file from `alias.rt`.
 
 /// The letters from A to Z.
 pub const LETTERS: usize = 26;
 
 /// No name.
 pub const NO: u8 = 255;
+
+/// Where the rows of `S-1-3-N` begin in the table of well-known names, and where they end.
+pub const CREATOR_NAMES: usize = 1;
+
+pub const CREATOR_NAMES_END: usize = 4;
+
+/// Where the rows of `S-1-5-N` begin in the table of well-known names, and where they end.
+pub const NT_NAMES: usize = 4;
+
+pub const NT_NAMES_END: usize = 16;
+
+/// Where the rows of `S-1-5-32-N` begin in the table of well-known names, and where they end.
+pub const BUILTIN_NAMES: usize = 17;
+
+pub const BUILTIN_NAMES_END: usize = 41;
 
 /// The place of the entry of each two capital letters, or `NO`. There are 26 cells for each first letter, and in them
 /// one for each second letter. The entries of `WELL_KNOWN` have the first places, and those of `DOMAIN_RELATIVE` the
