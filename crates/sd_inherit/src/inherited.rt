@@ -12,14 +12,15 @@ ghost use Rattle.sd_inherit.specs.Copies.{copies};
 ghost use Rattle.sd_inherit.specs.Derived.{dacl_beside, gathered, inherited, sacl_beside, sacl_of};
 ghost use Rattle.sd_inherit.specs.Taken.{taken};
 
-use crate::copies::{Copies, copies_of};
+use crate::copies::{Copies, copies_of, no_copy};
 use crate::plan::Plan;
 use crate::taken::taken_of;
 use sd_ace::Ace;
 use sd_buffer::SdBuf;
 use sd_builder::{AclTooLarge, Builder};
 use sd_control::Which;
-use sd_view::{Aces, AclPart};
+use sd_kinds::{CONTAINER_INHERIT, OBJECT_INHERIT, has_flag};
+use sd_view::{AceView, Aces, AclPart};
 
 /// Whose ACEs are gathered.
 #[derive(Clone, Copy, Debug, PartialEq, Eq)]
@@ -77,7 +78,7 @@ fn put_copied_sacl(
     };
     let mut aces = acl.aces();
     while let Some(ace) = aces.next() {
-        let copies = copies_of(plan, &ace.ace());
+        let copies = inherited_from(plan, &ace);
         if !copies.is_empty() {
             put_from(builder, buf, plan, &copies, aces)?;
             return Ok(true);
@@ -206,19 +207,31 @@ fn put_each(
         → (IsErr result ↔ (2 ^ 16 ≤ open_size t.parts + aces_size (flat_map (gives origin plan.now) aces.entry))) }
 {
     for ace in aces {
-        put_copies(builder, buf, &given_by(origin, plan, &ace.ace()))?;
+        put_copies(builder, buf, &given_by(origin, plan, &ace))?;
     }
     Ok(())
 }
 
 // What one ACE gives.
-fn given_by(origin: Origin, plan: &Plan, ace: &Ace) -> Copies
+fn given_by(origin: Origin, plan: &Plan, ace: &AceView<'_>) -> Copies
     ensures { listed result ≡ gives origin plan.now ace.now }
 {
     match origin {
-        Origin::Creator => taken_of(plan, ace),
-        Origin::Parent => copies_of(plan, ace),
+        Origin::Creator => taken_of(plan, &ace.ace()),
+        Origin::Parent => inherited_from(plan, ace),
     }
+}
+
+// The copies of one ACE. Many ACEs are for their container alone, so the flags are looked at before the rest is read.
+#[tactic(auto, unfolding(crate::specs::Copies::copies))]
+fn inherited_from(plan: &Plan, ace: &AceView<'_>) -> Copies
+    ensures { listed result ≡ copies plan.now ace.now }
+{
+    let flags = ace.flags();
+    if !has_flag(flags, OBJECT_INHERIT) && !has_flag(flags, CONTAINER_INHERIT) {
+        return no_copy();
+    }
+    copies_of(plan, &ace.ace())
 }
 
 fn put_copies(builder: &mut Builder, buf: &mut SdBuf, copies: &Copies) -> Result<(), AclTooLarge>

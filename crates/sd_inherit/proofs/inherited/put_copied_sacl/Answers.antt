@@ -9,16 +9,16 @@ use Rattle.sd_inherit.proofs.inherited.put_copied_sacl.Goals.{After-is_empty}
 
 -- the copies from the first on are all
 from_the_first : (c : After-is_empty) → inherited c.args.plan.now c.args.sacl.now
-    ≡ listed c.copies_of-copies.result ++ flat_map (copies c.args.plan.now) c.next.new.self
+    ≡ listed c.inherited_from-copies.result ++ flat_map (copies c.args.plan.now) c.next.new.self
 from_the_first c = sym c.loop-ace.invariant.aces
     ∙ ap (flat_map (copies c.args.plan.now)) c.in-Some.ensures.steps
     ∙ ap (λ xs. xs ++ flat_map (copies c.args.plan.now) c.next.new.self)
-    (sym (c.copies_of-copies.ensures ∙ ap (copies c.args.plan.now) c.ace.ensures))
+    (sym c.inherited_from-copies.ensures)
 
 pub returns-then-not-is_empty-clause-ok : goal.returns-then-not-is_empty-clause-ok
 returns-then-not-is_empty-clause-ok c = λ t h begin.
     let is = from_the_first (goal.at.returns-then-not-is_empty-clause-ok c).After-is_empty in
-    let stands = sacl-stands (listed c.copies_of-copies.result) (flat_map (copies c.args.plan.now) c.next.new.self)
+    let stands = sacl-stands (listed c.inherited_from-copies.result) (flat_map (copies c.args.plan.now) c.next.new.self)
     (sym c.is_empty.ensures ∙ c.if-not-is_empty.true) in
     rw (is, stands)
     (c.in_ok-put_from.ensures.ok t (rw (c.loop-ace.invariant.builder, c.loop-ace.invariant.buf) h) begin)

@@ -1,4 +1,4 @@
-use Rattle.std.proofs.Common.{◌≡◌, ap, ◌∙◌, refl}
+use Rattle.std.proofs.Common.{◌≡◌, refl}
 use Rattle.std.specs.List.{flat_map}
 use Rattle.sd_inherit.specs.Inner.Building.{gives, listed, with_aces}
 use Rattle.sd_inherit.proofs.BuildingLaws.{full_all, full_one, parts_one, stays_open, with_one}
@@ -6,7 +6,7 @@ use Rattle.sd_inherit.proofs.inherited.put_each.Goals as goal
 use Rattle.sd_inherit.proofs.inherited.put_each.Goals.{After-given_by}
 
 these : (c : After-given_by) → listed c.given_by.result ≡ gives c.args.origin c.args.plan.now c.in-Some.ace
-these c = c.given_by.ensures ∙ ap (gives c.args.origin c.args.plan.now) c.ace.ensures
+these c = c.given_by.ensures
 
 pub put_copies-requires : goal.put_copies-requires
 put_copies-requires c = let t = c.requires.0 in (
