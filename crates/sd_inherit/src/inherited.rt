@@ -241,19 +241,19 @@ fn put_copies(builder: &mut Builder, buf: &mut SdBuf, copies: &Copies) -> Result
     ensures full { (t : Draft) → Builds builder.old buf.old t → HasOpen t
         → (IsErr result ↔ (2 ^ 16 ≤ open_size t.parts + aces_size (listed copies.now))) }
 {
-    put_copy(builder, buf, copies.effective)?;
-    put_copy(builder, buf, copies.inherit_only)
+    put_copy(builder, buf, &copies.effective)?;
+    put_copy(builder, buf, &copies.inherit_only)
 }
 
-fn put_copy(builder: &mut Builder, buf: &mut SdBuf, copy: Option<Ace>) -> Result<(), AclTooLarge>
+fn put_copy(builder: &mut Builder, buf: &mut SdBuf, copy: &Option<Ace>) -> Result<(), AclTooLarge>
     requires { (t : Draft) × Builds builder.old buf.old t × HasOpen t }
     ensures ok { (t : Draft) → Builds builder.old buf.old t
-        → OnOk result (Builds builder.new buf.new (with_aces (one_or_none copy) t)) }
+        → OnOk result (Builds builder.new buf.new (with_aces (one_or_none copy.now) t)) }
     ensures full { (t : Draft) → Builds builder.old buf.old t → HasOpen t
-        → (IsErr result ↔ (2 ^ 16 ≤ open_size t.parts + aces_size (one_or_none copy))) }
+        → (IsErr result ↔ (2 ^ 16 ≤ open_size t.parts + aces_size (one_or_none copy.now))) }
 {
     match copy {
         None => Ok(()),
-        Some(ace) => builder.ace(buf, &ace),
+        Some(ace) => builder.ace(buf, ace),
     }
 }
