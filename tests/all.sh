@@ -57,6 +57,7 @@ take_library() {
 rm -rf "$program" out/lib
 count tests/layers.py
 count tests/alias_places.py --check
+count packaging/completions.py --check
 count tests/figures.py --check
 count tests/names.py
 count tests/edits.py --apply

@@ -62,10 +62,9 @@ def of_zsh(command):
 def of_fish(command):
     """The options whose condition names the command, or which have none."""
     text = (FOLDER / "sdtool.fish").read_text(encoding="utf-8")
-    every = re.search(r"^set -l every '([^']*)'", text, re.M)[1]
     options = set()
-    for row in text.replace("$every", every).splitlines():
-        option, condition = re.search(r" -l ([a-z-]+)", row), re.search(r"from ([a-z ]+)[\"']", row)
+    for row in text.splitlines():
+        option, condition = re.search(r" -l ([a-z-]+)", row), re.search(r"from ([a-z ]+)'", row)
         if row.startswith("complete") and option and (condition is None or command in condition[1].split()):
             options.add(marked(option[1], " -x" in row))
     return options

@@ -1,14 +1,13 @@
 # Completion of sdtool for bash.
 _sdtool() {
     local current=${COMP_WORDS[COMP_CWORD]} previous=${COMP_WORDS[COMP_CWORD - 1]} command=${COMP_WORDS[1]}
-    local commands='convert explain check derive help' forms='hex base64 sddl'
     COMPREPLY=()
     if ((COMP_CWORD == 1)); then
-        mapfile -t COMPREPLY < <(compgen -W "$commands --help" -- "$current")
+        mapfile -t COMPREPLY < <(compgen -W 'convert explain check derive help --help' -- "$current")
         return
     fi
     case $previous in
-        --from | --to) mapfile -t COMPREPLY < <(compgen -W "$forms" -- "$current"); return ;;
+        --from | --to) mapfile -t COMPREPLY < <(compgen -W 'hex base64 sddl' -- "$current"); return ;;
         --type) mapfile -t COMPREPLY < <(compgen -W 'file key ds' -- "$current"); return ;;
         --level) mapfile -t COMPREPLY < <(compgen -W '4096 8192 8448 12288 16384' -- "$current"); return ;;
         --kind) mapfile -t COMPREPLY < <(compgen -W 'file container' -- "$current"); return ;;
