@@ -1,6 +1,6 @@
 //! The kinds of ACEs: their type bytes and their letters (MS-DTYP 2.4.4.1 and 2.5.1.1).
 
-ghost use Rattle.std.specs.Prelude.{◌≡◌, ◌≤◌, ◌==◌, length, Some, IfSome, true};
+ghost use Rattle.std.specs.Prelude.{◌≡◌, ◌≤◌, length, Some, IfSome, true};
 ghost use Rattle.std.specs.List.{find};
 ghost use Rattle.std.specs.Option.{option_copied};
 ghost use Rattle.std.specs.Str.{str_eq_ignore_ascii_case};
@@ -79,7 +79,7 @@ impl AceKind {
     }
 
     /// The kind of a type byte. None where no kind has it.
-    #[tactic(auto, unfolding(crate::specs::KindValues::KindValues, crate::specs::Kinds::kind_of))]
+    #[tactic(auto, unfolding(crate::specs::KindValues::KindValues))]
     #[inline(always)]
     pub fn from_code(code: u8) -> Option<AceKind>
         ensures exact { result ≡ kind_of code }
@@ -87,8 +87,7 @@ impl AceKind {
         // The type bytes and the letters of all kinds are those of MS-DTYP.
         ensures values { KindValues }
     {
-        let entry = with_code(&KINDS, code)?;
-        Some(entry.kind)
+        with_code(code)
     }
 
     /// The letters that name it in SDDL (MS-DTYP 2.5.1.1): one or two, in upper case.
@@ -135,11 +134,24 @@ fn letters_of(entry: &KindEntry) -> &[u8]
     &entry.letters[..entry.count.min(MOST_LETTERS)]
 }
 
+// The rows one by one, and no loop over them: so it is compiled as a match on the numbers.
+macro_rules! kind_in_rows {
+    ($code:ident, $($row:literal),*) => {{
+        $(
+            if KINDS[$row].code == $code {
+                return Some(KINDS[$row].kind);
+            }
+        )*
+        None
+    }};
+}
+
 #[inline(always)]
-fn with_code(table: &[KindEntry], code: u8) -> Option<KindEntry>
-    ensures { result ≡ find (λ e. e.code == code) table.now }
+#[tactic(auto, unfolding(crate::specs::Kinds::kind_of))]
+fn with_code(code: u8) -> Option<AceKind>
+    ensures { result ≡ kind_of code }
 {
-    table.iter().copied().find(|entry| entry.code == code)
+    kind_in_rows!(code, 0, 1, 2, 3, 4, 5, 6)
 }
 
 fn with_letters(table: &[KindEntry], text: &[u8]) -> Option<KindEntry>
