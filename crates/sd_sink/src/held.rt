@@ -65,7 +65,7 @@ impl Held {
         ensures { self.new ≡ self.old ++ take count cells.now }
     {
         let end = self.len + FRONT;
-        self.bytes[self.len..end].copy_from_slice(&cells[..FRONT]);
+        copy_cells(cells, &mut self.bytes[self.len..end]);
         self.len += count;
     }
 
@@ -81,5 +81,19 @@ impl Held {
         ensures { result.now ≡ self.now }
     {
         &self.bytes[..self.len]
+    }
+}
+
+// Copies the first cells, all at once and not in a loop.
+#[inline(always)]
+fn copy_cells(cells: &[u8], place: &mut [u8])
+    requires cells { 16 ≤ length cells.now }
+    requires place { length place.old ≡ 16 }
+    ensures { place.new ≡ take 16 cells.now }
+{
+    if let Some(cells) = cells.first_chunk::<FRONT>() {
+        if let Some(place) = place.as_mut_array::<FRONT>() {
+            *place = *cells;
+        }
     }
 }

@@ -7,10 +7,10 @@ use Rattle.sd_sink.proofs.held.Held.append_front.Goals as goal
 pub returns : goal.returns
 returns c =
     let at = c.self.inside.len in
-    let copied : c.copy_from_slice.new.self ≡ take 16 c.args.cells.now = cc in
-    let long : length c.copy_from_slice.new.self ≡ 16 = ap length copied
+    let copied : c.copy_cells.new.place ≡ take 16 c.args.cells.now = cc in
+    let long : length c.copy_cells.new.place ≡ 16 = ap length copied
     ∙ length-take-le 16 c.args.cells.now (omega arith) in
-    let whole = take-put_mid at _ c.self.inside.bytes c.copy_from_slice.new.self (at + 16) (omega arith)
+    let whole = take-put_mid at _ c.self.inside.bytes c.copy_cells.new.place (at + 16) (omega arith)
     (omega arith) in
     take-front at c.args.count 16 _ c.self.inside.bytes c.args.cells.now (omega arith) c.requires.few
     (whole ∙ ap (λ (t : List ℕ). take at c.self.inside.bytes ++ t) copied)
