@@ -1,29 +1,27 @@
--- The texts of numbers, from the last digit to the first.
+-- The texts of numbers, and how they are written into cells.
 use Rattle.std.proofs.Common.{◌≡◌, ◌≤◌, ◌<◌, ℕ, List, zero, suc, false, true, Bool, ◌&&◌, get_or, eqb-true}
-use Rattle.std.proofs.Common.{eq-zero-or-pos, inl, inr, ◌-◌, ◌+◌, ◌*◌, ◌/◌, ◌%◌, ◌^◌, [], ◌∷◌, ◌++◌, length, take, drop}
-use Rattle.std.proofs.Common.{slice_set, ap, sym, refl, ◌∙◌, arith, append_assoc, append-nil, length-append}
-use Rattle.std.proofs.Math.Seq.{take-append_seam}
-use Rattle.std.proofs.lemmas.List.{drop-set, take-take}
+use Rattle.std.proofs.Common.{eq-zero-or-pos, inl, inr, ◌-◌, ◌+◌, ◌*◌, ◌/◌, ◌%◌, ◌^◌, [], ◌∷◌, ◌++◌, length, take}
+use Rattle.std.proofs.Common.{subst, ap, refl, ◌∙◌, arith, append_assoc, length-append, length-set, slice_set}
 use Rattle.std.specs.Fmt.{decimal, digit_glyph}
 use Rattle.std.specs.Prelude.{◌==◌}
 use Rattle.std.proofs.lemmas.Bool.{and_parts}
-use Rattle.sd_text.specs.declared.digits.TheConstants.{PAIRS}
-use Rattle.sd_text.specs.Numbers.{hex_digits}
 use Rattle.std.proofs.lemmas.Fmt.{decimal_digit, decimal_step}
-
-pub length-digit : (n : ℕ) → n < 10 → length (decimal n) ≡ 1
-length-digit n small = ap length (decimal_digit n small)
+use Rattle.std.proofs.lemmas.List.{take_more_set}
+use Rattle.sd_text.specs.declared.digits.TheConstants.{PAIRS}
+use Rattle.sd_text.specs.Inner.Digits.{IsWritten, four_digits, two_digits}
+use Rattle.sd_text.specs.Numbers.{hex_digits}
 
 -- the last two digits
-pub decimal-pair : (n : ℕ) (rest : List ℕ) → 100 ≤ n → n < 2 ^ 64
-    → decimal n ++ rest ≡ decimal (n / 100) ++ (48 + n % 100 / 10) ∷ (48 + n % 100 % 10) ∷ rest
-decimal-pair n rest large small =
+pub decimal-two : (n : ℕ) → 10 ≤ n → n < 100 → decimal n ≡ two_digits n
+decimal-two n large small = rw (decimal_step n large (omega arith), decimal_digit (n / 10) (omega arith)) refl
+
+pub decimal-pair : (n : ℕ) → 100 ≤ n → n < 2 ^ 64 → decimal n ≡ decimal (n / 100) ++ two_digits (n % 100)
+decimal-pair n large small =
     let tens : n / 10 % 10 ≡ n % 100 / 10 = omega arith in
     let ones : n % 10 ≡ n % 100 % 10 = omega arith in
     let hundreds : n / 10 / 10 ≡ n / 100 = omega arith in
     rw (
       decimal_step n (omega arith) small,
-      append_assoc,
       decimal_step (n / 10) (omega arith) (omega arith),
       append_assoc,
       hundreds,
@@ -31,31 +29,50 @@ decimal-pair n rest large small =
       ones,
     ) refl
 
-pub decimal-two : (n : ℕ) → 10 ≤ n → n < 100 → decimal n ≡ (48 + n / 10) ∷ (48 + n % 10) ∷ []
-decimal-two n large small = rw (decimal_step n large (omega arith), decimal_digit (n / 10) (omega arith)) refl
-
-pub length-decimal-pair : (n : ℕ) → 100 ≤ n → n < 2 ^ 64 → length (decimal n) ≡ length (decimal (n / 100)) + 2
-length-decimal-pair n large small =
-    ap length (sym (append-nil (decimal n)) ∙ decimal-pair n [] large small) ∙ length-append (decimal (n / 100)) _
-
 -- the last four digits
-pub decimal-four : (n : ℕ) (rest : List ℕ) → 10000 ≤ n → n < 2 ^ 64
-    → decimal n ++ rest
-    ≡ decimal (n / 10000) ++ (48 + n % 10000 / 100 / 10) ∷ (48 + n % 10000 / 100 % 10)
-    ∷ (48 + n % 10000 % 100 / 10) ∷ (48 + n % 10000 % 100 % 10) ∷ rest
-decimal-four n rest large small =
+pub decimal-four : (n : ℕ) → 10000 ≤ n → n < 2 ^ 64 → decimal n ≡ decimal (n / 10000) ++ four_digits (n % 10000)
+decimal-four n large small =
     let far : n / 100 / 100 ≡ n / 10000 = omega arith in
     let high : n / 100 % 100 ≡ n % 10000 / 100 = omega arith in
     let low : n % 10000 % 100 ≡ n % 100 = omega arith in
-    rw (decimal-pair n rest (omega arith) small, decimal-pair (n / 100) _ (omega arith) (omega arith), far, high, low)
-    refl
+    rw (
+      decimal-pair n (omega arith) small,
+      decimal-pair (n / 100) (omega arith) (omega arith),
+      append_assoc,
+      far,
+      high,
+      low,
+    ) refl
 
-pub length-decimal-four : (n : ℕ) → 10000 ≤ n → n < 2 ^ 64 → length (decimal n) ≡ length (decimal (n / 10000)) + 4
-length-decimal-four n large small =
-    ap length (sym (append-nil (decimal n)) ∙ decimal-four n [] large small) ∙ length-append (decimal (n / 10000)) _
+-- the last eight digits
+pub decimal-eight : (n : ℕ) → 100000000 ≤ n → n < 2 ^ 64
+    → decimal n ≡ decimal (n / 100000000) ++ (four_digits (n % 100000000 / 10000)
+    ++ four_digits (n % 100000000 % 10000))
+decimal-eight n large small =
+    let far : n / 10000 / 10000 ≡ n / 100000000 = omega arith in
+    let high : n / 10000 % 10000 ≡ n % 100000000 / 10000 = omega arith in
+    let low : n % 100000000 % 10000 ≡ n % 10000 = omega arith in
+    rw (
+      decimal-four n (omega arith) small,
+      decimal-four (n / 10000) (omega arith) (omega arith),
+      append_assoc (decimal (n / 10000 / 10000)),
+      far,
+      high,
+      low,
+    ) refl
 
-pub length-two : (n : ℕ) → 10 ≤ n → n < 100 → length (decimal n) ≡ 2
-length-two n large small = ap length (decimal-two n large small)
+-- a text that is written behind another
+pub written_then : {at between end : ℕ} {first second old middle new : List ℕ} → IsWritten at first between old middle
+    → IsWritten between second end middle new → IsWritten at (first ++ second) end old new
+written_then {at} {between} {end} {first} {second} {old} {middle} {new} p q = record {
+  ends = omega (arith, p.ends, q.ends, length-append first second);
+  written = q.written ∙ ap (λ (t : List ℕ). t ++ second) p.written ∙ append_assoc (take at old) first second;
+}
+
+-- the same text in other words
+pub written_as : {at end : ℕ} {text other old new : List ℕ} → text ≡ other → IsWritten at text end old new
+    → IsWritten at other end old new
+written_as {at} {end} {text} {other} {old} {new} e p = subst (λ (t : List ℕ). IsWritten at t end old new) e p
 
 -- the table of pairs holds the digits of each number below 100
 are_pairs : ℕ → Bool
@@ -79,18 +96,15 @@ pub pair-at : (p : ℕ) → p < 100 → (get_or PAIRS (2 * p) 0 ≡ 48 + p / 10)
 unfolding are_pairs
 pair-at p small = below 100 p refl small
 
--- a character that is written before the digits which end at 11
-pub behind : (character start : ℕ) (text cells rest : List ℕ) → 1 ≤ start → start + length text ≡ 11
-    → start ≤ length cells
-    → drop start cells ≡ text ++ rest
-    → take (11 - (start - 1))
-    (take (27 - (start - 1)) (drop (start - 1) (slice_set cells (start - 1) character))) ≡ character ∷ text
-behind character start text cells rest some ends within written =
-    let next : start - 1 + 1 ≡ start = omega arith in
-    let count : 11 - (start - 1) ≡ suc (length text) = omega arith in
-    take-take (11 - (start - 1)) (27 - (start - 1)) _ (omega arith)
-    ∙ rw (drop-set cells (start - 1) character (omega arith), next, count, written)
-    (ap (λ (t : List ℕ). character ∷ t) (take-append_seam text rest))
+-- two cells that are written from a place on
+pub two-cells : (cells : List ℕ) (at x y : ℕ) → at + 2 ≤ length cells
+    → take (at + 2) (slice_set (slice_set cells at x) (at + 1) y) ≡ take at cells ++ x ∷ y ∷ []
+two-cells cells at x y room =
+    let next : at + 1 + 1 ≡ at + 2 = omega arith in
+    rw (← next)
+    (take_more_set (slice_set cells at x) (at + 1) y (omega (arith, length-set cells at x))
+    ∙ ap (λ (t : List ℕ). t ++ y ∷ []) (take_more_set cells at x (omega arith))
+    ∙ append_assoc (take at cells) (x ∷ []) (y ∷ []))
 
 -- one hex digit of k more
 pub hex_digits-step : (k i n : ℕ) → i < k → hex_digits (k - i) n ≡ hex_digits (k - (i + 1)) (n / 16)

@@ -1,18 +1,12 @@
 //! Numbers in digits.
 
-ghost use Rattle.std.specs.Prelude.{◌≡◌, false, ◌+◌, ◌/◌, ◌%◌, ◌<◌, ◌≤◌, ◌∷◌, take, drop};
+ghost use Rattle.std.specs.Prelude.{◌≡◌, false, ◌+◌, ◌<◌, ◌≤◌, ◌∷◌, take};
 ghost use Rattle.std.specs.Fmt.{decimal, digit_glyph};
 ghost use Rattle.sd_sink.specs.Print.{Prints};
 ghost use Rattle.sd_text.specs.Numbers.{hex_digits};
-ghost use Rattle.sd_text.specs.Inner.Digits.{FitsBefore, StandsBefore};
+ghost use Rattle.sd_text.specs.Inner.Digits.{IsWritten, four_digits, two_digits};
 
 use sd_sink::{FRONT, Print};
-
-/// Where the digits of a decimal number end: ten at most, behind a character.
-const DECIMAL_END: usize = 11;
-
-/// A character, a number in decimal, and the cells that printing a few from the front wants.
-const DECIMAL_CELLS: usize = DECIMAL_END + FRONT;
 
 /// Both digits of each number below 100.
 static PAIRS: [u8; 200] =
@@ -30,19 +24,19 @@ pub fn print_decimal<P: Print>(number: u32, out: &mut P)
     if number < 10 {
         return out.put(&[b'0' + number as u8]);
     }
-    let mut cells = [0; DECIMAL_CELLS];
-    let start = write_decimal(number, &mut cells);
-    out.put_front(&cells[start..], DECIMAL_END - start);
+    let mut cells = [0; FRONT];
+    let end = write_decimal(number, &mut cells, 0);
+    out.put_front(&cells, end);
 }
 
 /// Prints a character and a number in decimal.
 pub fn print_decimal_behind<P: Print>(character: u8, number: u32, out: &mut P)
     ensures { Prints (P.told out.old) (P.told out.new) (character ∷ decimal number) }
 {
-    let mut cells = [0; DECIMAL_CELLS];
-    let start = write_decimal(number, &mut cells) - 1;
-    cells[start] = character;
-    out.put_front(&cells[start..], DECIMAL_END - start);
+    let mut cells = [0; FRONT];
+    cells[0] = character;
+    let end = write_decimal(number, &mut cells, 1);
+    out.put_front(&cells, end);
 }
 
 /// Prints the last hex digits of a number, as many as are asked for, with leading zeros.
@@ -78,60 +72,77 @@ pub fn hex_digit(value: u8) -> u8
     HEX_DIGITS[usize::from(value)]
 }
 
-// Writes a number in decimal to where decimal numbers end, and says where it begins.
+// Writes a number in decimal from a place on, and says where it ends. There is no loop: ten digits are the most.
 #[inline(always)]
-fn write_decimal(number: u32, cells: &mut [u8; DECIMAL_CELLS]) -> usize
-    ensures stands { StandsBefore 11 number result cells.old cells.new }
-    ensures behind { 1 ≤ result }
+fn write_decimal(number: u32, cells: &mut [u8; FRONT], at: usize) -> usize
+    requires { at ≤ 1 }
+    ensures written { IsWritten at (decimal number) result cells.old cells.new }
+    ensures within { result ≤ at + 10 }
 {
-    let mut left = number;
-    let mut at = DECIMAL_END;
-    // Four digits at a time, since each division waits for the one before.
-    while left >= 10_000 {
-        let four = left % 10_000;
-        left /= 10_000;
-        write_pair(four % 100, cells, at - 2);
-        write_pair(four / 100, cells, at - 4);
-        at -= 4;
+    if number < 10_000 {
+        return write_first_four(number, cells, at);
     }
-    write_short(left, cells, at)
+    if number < 100_000_000 {
+        let end = write_first_four(number / 10_000, cells, at);
+        write_four(number % 10_000, cells, end);
+        return end + 4;
+    }
+    let last = number % 100_000_000;
+    let end = write_first_two(number / 100_000_000, cells, at);
+    write_four(last / 10_000, cells, end);
+    write_four(last % 10_000, cells, end + 4);
+    end + 8
 }
 
-// Writes a number of at most four digits before a place, and says where it begins.
+// Writes a number of at most four digits, without leading zeros, and says where it ends.
 #[inline(always)]
-fn write_short(number: u32, cells: &mut [u8; DECIMAL_CELLS], end: usize) -> usize
+fn write_first_four(number: u32, cells: &mut [u8; FRONT], at: usize) -> usize
     requires short { number < 10000 }
-    requires fits { FitsBefore end number }
-    ensures { StandsBefore end number result cells.old cells.new }
+    requires room { at + 4 ≤ 16 }
+    ensures written { IsWritten at (decimal number) result cells.old cells.new }
+    ensures within { result ≤ at + 4 }
 {
     if number < 100 {
-        return write_first(number, cells, end);
+        return write_first_two(number, cells, at);
     }
-    write_pair(number % 100, cells, end - 2);
-    write_first(number / 100, cells, end - 2)
+    let end = write_first_two(number / 100, cells, at);
+    write_pair(number % 100, cells, end);
+    end + 2
 }
 
 // The same for one or two digits.
 #[inline(always)]
-fn write_first(number: u32, cells: &mut [u8; DECIMAL_CELLS], end: usize) -> usize
+fn write_first_two(number: u32, cells: &mut [u8; FRONT], at: usize) -> usize
     requires short { number < 100 }
-    requires fits { FitsBefore end number }
-    ensures { StandsBefore end number result cells.old cells.new }
+    requires room { at + 2 ≤ 16 }
+    ensures written { IsWritten at (decimal number) result cells.old cells.new }
+    ensures within { result ≤ at + 2 }
 {
     if number < 10 {
-        cells[end - 1] = b'0' + number as u8;
-        return end - 1;
+        cells[at] = b'0' + number as u8;
+        return at + 1;
     }
-    write_pair(number, cells, end - 2);
-    end - 2
+    write_pair(number, cells, at);
+    at + 2
+}
+
+// Writes four digits, leading zeros too.
+#[inline(always)]
+fn write_four(number: u32, cells: &mut [u8; FRONT], at: usize)
+    requires short { number < 10000 }
+    requires room { at + 4 ≤ 16 }
+    ensures { IsWritten at (four_digits number) (at + 4) cells.old cells.new }
+{
+    write_pair(number / 100, cells, at);
+    write_pair(number % 100, cells, at + 2);
 }
 
 // Writes both digits of a number below 100.
 #[inline(always)]
-fn write_pair(pair: u32, cells: &mut [u8; DECIMAL_CELLS], at: usize)
-    requires pair { pair < 100 }
-    requires within { at + 2 ≤ 27 }
-    ensures { drop at cells.new ≡ (48 + pair / 10) ∷ (48 + pair % 10) ∷ drop (at + 2) cells.old }
+fn write_pair(pair: u32, cells: &mut [u8; FRONT], at: usize)
+    requires short { pair < 100 }
+    requires room { at + 2 ≤ 16 }
+    ensures { IsWritten at (two_digits pair) (at + 2) cells.old cells.new }
 {
     let from = 2 * pair as usize;
     let (tens, ones) = (PAIRS[from], PAIRS[from + 1]);

@@ -1,13 +1,15 @@
--- Digits that are written into cells from the last to the first, before they are printed.
-use Rattle.std.specs.Prelude.{◌≡◌, ◌≤◌, ℕ, ◌+◌, List, ◌++◌, length, drop}
-use Rattle.std.specs.Fmt.{decimal}
+-- Digits that are written into cells from the first to the last, before they are printed.
+use Rattle.std.specs.Prelude.{◌≡◌, ℕ, ◌+◌, ◌/◌, ◌%◌, List, [], ◌∷◌, ◌++◌, length, take}
 
--- the digits of a number fit before a place in the 27 cells
-pub record FitsBefore (end number : ℕ) : Type 0 where
-  pub room : length (decimal number) ≤ end
-  pub within : end ≤ 27
+-- a text was written from a place on: what is before it is as it was
+pub record IsWritten (at : ℕ) (text : List ℕ) (end : ℕ) (old new : List ℕ) : Type 0 where
+  pub ends : end ≡ at + length text
+  pub written : take end new ≡ take at old ++ text
 
--- they stand there, from another place on, and what is behind them is as it was
-pub record StandsBefore (end number begin : ℕ) (old new : List ℕ) : Type 0 where
-  pub begins : begin + length (decimal number) ≡ end
-  pub written : drop begin new ≡ decimal number ++ drop end old
+-- both digits of a number below 100
+abbrev pub two_digits : ℕ → List ℕ
+two_digits n = (48 + n / 10) ∷ (48 + n % 10) ∷ []
+
+-- the four digits of a number below 10,000
+abbrev pub four_digits : ℕ → List ℕ
+four_digits n = two_digits (n / 100) ++ two_digits (n % 100)
