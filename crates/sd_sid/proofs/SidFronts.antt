@@ -1,6 +1,6 @@
 -- The letters, digits and dashes at the front of a text.
 use Rattle.std.proofs.Common.{◌≡◌, ℕ, ◌+◌, ◌≤◌, Bool, true, false, ◌&&◌, List, [], ◌∷◌, ◌++◌, length, take, drop}
-use Rattle.std.proofs.Common.{get_or, Some, refl, ap, subst, take-append-drop, sym, ◌∙◌, arith, append-nil}
+use Rattle.std.proofs.Common.{get_or, Option, None, Some, refl, ap, subst, take-append-drop, sym, ◌∙◌, arith, append-nil}
 use Rattle.std.proofs.Common.{length-append}
 use Rattle.std.proofs.lemmas.List.{length-take-le}
 use Rattle.std.specs.Prelude.{◌==◌, nat_le, nat_lt, not}
@@ -10,7 +10,11 @@ use Rattle.std.proofs.lemmas.Bool.Decides.{nat_tests}
 use Rattle.std.proofs.lemmas.List.Sums.{take_while-cons}
 use Rattle.std.proofs.lemmas.Bool.{and_parts}
 use Rattle.sd_sid.specs.SidText.{are_letters, are_numbers, begins_with_s1, has_form, is_sid_byte, cut_at_dashes}
-use Rattle.sd_sid.specs.SidText.{sid_front}
+use Rattle.sd_sid.specs.SidText.{decimals_read, numbers_read, sid_front, sid_of_numbers}
+use Rattle.sd_sid.specs.Sid.{SecurityId}
+use Rattle.std.specs.Option.{option_map}
+use Rattle.sd_sid.specs.Inner.Read.{HasBegun}
+use Rattle.sd_text.specs.Cuts.{all_cuts}
 use Rattle.sd_text.specs.Numbers.{number_after}
 use Rattle.sd_sid.proofs.laws.TextLaws.{cut-digits}
 use Rattle.sd_sid.proofs.UsualNumbers.{digits}
@@ -147,3 +151,39 @@ letters-are text more long first second e =
         let some : nat_lt 0 (length (c ∷ cs)) ≡ true = grind (arith, nat_tests) in
         let long : (length (get_or text 0 0 ∷ get_or text 1 0 ∷ c ∷ cs) == 2) ≡ false = grind (arith, nat_tests) in
         rw (e, some, long) refl
+
+-- the authority and what follows the first sub-authority
+subs-behind : (a n : ℕ) (read : Option (List ℕ))
+    → sid_of_numbers (Some a) (option_map (λ ns. n ∷ ns) read)
+    ≡ option_map (λ ns. record { authority = a; subs = n ∷ [] ++ ns }) read
+subs-behind a n None = refl
+subs-behind a n (Some ns) = refl
+
+-- the numbers of a domain's SID begin
+domain-front : (r : List ℕ)
+    → HasBegun (53 ∷ 45 ∷ 50 ∷ 49 ∷ 45 ∷ r) (45 ∷ r) (record { authority = 5; subs = 21 ∷ [] })
+unfolding numbers_read
+domain-front r =
+    let dash : sid_front (45 ∷ r) ≡ 45 ∷ sid_front r = front-more 45 r refl in
+    let front : sid_front (53 ∷ 45 ∷ 50 ∷ 49 ∷ 45 ∷ r) ≡ 53 ∷ 45 ∷ 50 ∷ 49 ∷ 45 ∷ sid_front r =
+    rw (
+      front-more 53 (45 ∷ 50 ∷ 49 ∷ 45 ∷ r) refl,
+      front-more 45 (50 ∷ 49 ∷ 45 ∷ r) refl,
+      front-more 50 (49 ∷ 45 ∷ r) refl,
+      front-more 49 (45 ∷ r) refl,
+      dash,
+    ) refl in
+    let count : 0 + length (all_cuts (record { first = 50 ∷ 49 ∷ []; others = all_cuts (cut_at_dashes (sid_front r)) }))
+    ≡ 1 + length (all_cuts (cut_at_dashes (sid_front r))) = omega arith in
+    record {
+      few = omega arith;
+      ends = rw dash refl;
+      form = rw (front, dash, count) refl;
+      numbers = rw (front, dash) (subs-behind 5 21 (decimals_read (cut_at_dashes (45 ∷ sid_front r)).others));
+      size = rw (front, dash) (omega arith);
+    }
+
+pub domain-begun : (text rest r : List ℕ) (sid : SecurityId) → text ≡ 53 ∷ 45 ∷ 50 ∷ 49 ∷ 45 ∷ r → rest ≡ 45 ∷ r
+    → sid ≡ record { authority = 5; subs = 21 ∷ [] }
+    → HasBegun text rest sid
+domain-begun text rest r sid e f g = rw (e, f, g) (domain-front r)

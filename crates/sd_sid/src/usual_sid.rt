@@ -1,17 +1,24 @@
 //! The usual text of a SID, with decimal numbers alone, read in one pass from the front of a longer text.
 
-ghost use Rattle.std.specs.Prelude.{◌≡◌, ◌≤◌, ◌<◌, ◌+◌, ◌^◌, [], List, ℕ, length, take, drop, true, IfSome};
-ghost use Rattle.std.specs.Prelude.{MatchOption, Some};
+ghost use Rattle.std.specs.Prelude.{◌≡◌, ◌≤◌, ◌<◌, ◌+◌, ◌^◌, ◌++◌, [], List, ℕ, codes, length, take, drop, true};
+ghost use Rattle.std.specs.Prelude.{IfSome, MatchOption, Some};
 ghost use Rattle.std.specs.Char.{is_digit};
 ghost use Rattle.std.specs.List.{list_all};
+ghost use Rattle.std.specs.Option.{option_map};
 ghost use Rattle.sd_text.specs.Numbers.{number_after};
 ghost use Rattle.sd_text.specs.Cuts.{all_cuts};
+ghost use Rattle.sd_sid.specs.Inner.Read.{HasBegun};
 ghost use Rattle.sd_sid.specs.SidText.{decimals_read, are_numbers, are_subs, decimal_reads, has_form, is_decimal};
 ghost use Rattle.sd_sid.specs.SidText.{numbers_read, cut_at_dashes, sid_front};
 
 use crate::sid::Sid;
 use crate::sid_text::{begins_with_s1, is_sid_byte};
 use sd_text::{MOST_FIELD_SIZE, MOST_SUBS};
+
+/// The authority of Windows itself, and the first sub-authority of a domain's SIDs: `S-1-5-21`.
+const NT: u32 = 5;
+
+const DOMAIN: u32 = 21;
 
 /// The digits that a decimal number has at most.
 const MOST_DIGITS: usize = 10;
@@ -44,27 +51,54 @@ pub(crate) fn read_usual(text: &[u8], sid: &mut Sid) -> Option<usize>
 
 // The same for what follows `S-1-`.
 #[inline(always)]
-#[tactic(auto, unfolding(crate::specs::SidText::numbers_read))]
 fn usual_numbers(text: &[u8], sid: &mut Sid) -> Option<usize>
     requires none { sid.old.subs ≡ [] }
     ensures size { IfSome result (λ n. n ≡ length (sid_front text.now)) }
     ensures form { IfSome result (λ _. are_numbers (cut_at_dashes (sid_front text.now)) ≡ true) }
     ensures numbers { IfSome result (λ _. numbers_read (cut_at_dashes (sid_front text.now)) ≡ Some sid.new) }
 {
-    let (authority, after) = front_number(text)?;
-    sid.set_authority(authority);
+    let after = first_numbers(text, sid)?;
     let rest = usual_subs(after, sid)?;
     Some(text.len() - rest.len())
 }
 
-// Appends the numbers after dashes to a SID that has none, and returns what follows them.
+// The authority, and the first sub-authority too where it is that of a domain. Returns what follows.
+#[inline(always)]
+#[tactic(auto, unfolding(crate::specs::SidText::numbers_read))]
+fn first_numbers<'a>(text: &'a [u8], sid: &mut Sid) -> Option<&'a [u8]>
+    requires none { sid.old.subs ≡ [] }
+    ensures { IfSome result (λ after. HasBegun text.now after.now sid.new) }
+{
+    // Most SIDs are of a domain.
+    if begins_with_domain(text) {
+        sid.set_authority(NT);
+        sid.push(DOMAIN);
+        return Some(&text[4..]);
+    }
+    let (authority, after) = front_number(text)?;
+    sid.set_authority(authority);
+    Some(after)
+}
+
+#[inline(always)]
+fn begins_with_domain(text: &[u8]) -> bool
+    ensures { result ≡ true → text.now ≡ codes "5-21-" ++ drop 5 text.now }
+{
+    if text.len() < 5 {
+        return false;
+    }
+    text[0] == b'5' && text[1] == b'-' && text[2] == b'2' && text[3] == b'1' && text[4] == b'-'
+}
+
+// Appends the numbers after dashes to a SID that has one at most, and returns what follows them.
 #[inline(always)]
 fn usual_subs<'a>(text: &'a [u8], sid: &mut Sid) -> Option<&'a [u8]>
-    requires none { sid.old.subs ≡ [] }
+    requires few { length sid.old.subs ≤ 1 }
     requires ends { (cut_at_dashes (sid_front text.now)).first ≡ [] }
-    ensures form { IfSome result (λ _. are_subs 0 (cut_at_dashes (sid_front text.now)).others ≡ true) }
-    ensures numbers { IfSome result
-        (λ _. decimals_read (cut_at_dashes (sid_front text.now)).others ≡ Some sid.new.subs) }
+    ensures form { IfSome result
+        (λ _. are_subs (length sid.old.subs) (cut_at_dashes (sid_front text.now)).others ≡ true) }
+    ensures numbers { IfSome result (λ _. option_map (λ ns. sid.old.subs ++ ns)
+        (decimals_read (cut_at_dashes (sid_front text.now)).others) ≡ Some sid.new.subs) }
     ensures size { IfSome result (λ r. length (sid_front text.now) + length r.now ≡ length text.now) }
     ensures authority { sid.new.authority ≡ sid.old.authority }
 {

@@ -9,9 +9,9 @@ invariant-loop-next l = record {
   authority : l.sid.authority ≡ l.initial.sid.authority;
   ends : (cut_at_dashes (sid_front l.rest)).first ≡ [];
   form : are_subs (length l.sid.subs) (cut_at_dashes (sid_front l.rest)).others
-      ≡ are_subs 0 (cut_at_dashes (sid_front l.text)).others;
+      ≡ are_subs (length l.initial.sid.subs) (cut_at_dashes (sid_front l.text)).others;
   numbers : option_map (λ ns. l.sid.subs ++ ns) (decimals_read (cut_at_dashes (sid_front l.rest)).others)
-      ≡ decimals_read (cut_at_dashes (sid_front l.text)).others;
+      ≡ option_map (λ ns. l.initial.sid.subs ++ ns) (decimals_read (cut_at_dashes (sid_front l.text)).others);
   size : length (sid_front l.text) + length l.rest ≡ length (sid_front l.rest) + length l.text;
 }
 
