@@ -49,13 +49,17 @@ fn print_aces<P: Print>(naming: &Naming, acl: &AclView<'_>, out: &mut P)
 fn print_acl_flags<P: Print>(flags: AclFlags, out: &mut P)
     ensures { Prints (P.told out.old) (P.told out.new) (acl_flags_text flags) }
 {
-    out.put(text_if(flags.protected, b"P"));
-    out.put(text_if(flags.auto_inherit_required, b"AR"));
-    out.put(text_if(flags.auto_inherited, b"AI"));
+    print_if(flags.protected, b"P", out);
+    print_if(flags.auto_inherit_required, b"AR", out);
+    print_if(flags.auto_inherited, b"AI", out);
 }
 
-fn text_if(stands: bool, text: &[u8]) -> &[u8]
-    ensures { result.now ≡ text_if stands text.now }
+// Prints a text that may be left out. Inlined, so that the text is known, and nothing is copied where it is left out.
+#[inline(always)]
+fn print_if<P: Print>(stands: bool, text: &[u8], out: &mut P)
+    ensures { Prints (P.told out.old) (P.told out.new) (text_if stands text.now) }
 {
-    if stands { text } else { &[] }
+    if stands {
+        out.put(text);
+    }
 }
