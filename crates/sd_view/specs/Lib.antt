@@ -7,3 +7,4 @@ pub mod Descriptor
 pub mod Inner
 pub mod Layout
 pub mod Reading
+pub mod WrittenForm

@@ -17,4 +17,4 @@ pub use acl_layout::acl_header;
 pub use fault::SdFault;
 pub use layout::{print_layout, put_layout};
 pub use sd_control::Part;
-pub use view::{SdView, read};
+pub use view::{SdView, read, view_written};

@@ -2,8 +2,10 @@
 
 ghost use Rattle.std.specs.Prelude.{◌≡◌, ◌≤◌, ◌<◌, ◌+◌, ◌*◌, ℕ, List, length, Ok, IfOk, OnOk, MatchResult};
 ghost use Rattle.sd_control.specs.Control.{AreControlBits};
-ghost use Rattle.sd_view.specs.Descriptor.{Descriptor, Shows, IsDescriptor, acl_extent, extents_of, sid_extent};
+ghost use Rattle.sd_view.specs.Descriptor.{Descriptor, Shows, IsAclPart, IsDescriptor, acl_extent, extents_of};
+ghost use Rattle.sd_view.specs.Descriptor.{sid_extent};
 ghost use Rattle.sd_view.specs.Layout.{layout, sid_part, size};
+ghost use Rattle.sd_view.specs.WrittenForm.{AclIsWritten, IsWrittenForm};
 ghost use Rattle.sd_view.specs.Inner.Found.{FailsBy, shown_written, written_of};
 ghost use Rattle.sd_view.specs.Reading.{acl_part_fault, acl_shown, fault, fault_in, header_fault, overlap_fault};
 ghost use Rattle.sd_view.specs.Reading.{overlaps_fault, parts_fault, reading, share_a_byte as share_of, shown};
@@ -14,7 +16,9 @@ ghost use Rattle.sd_control.specs.declared.limits.TheConstants.{HEADER_SIZE, MOS
 use crate::acl::{AclPart, Written, acl_view, check_acl};
 use crate::bytes::{u16_at, u32_at};
 use crate::fault::{AclFault, SdFault};
-use sd_control::{DACL_PRESENT, HEADER_SIZE, Part, Parts, SACL_PRESENT, SELF_RELATIVE, has_bit};
+use sd_control::{
+    ACL_REVISION_DS, DACL_PRESENT, HEADER_SIZE, Part, Parts, SACL_PRESENT, SELF_RELATIVE, has_bit,
+};
 use sd_sid::Sid;
 use std::marker::Model;
 
@@ -74,6 +78,45 @@ pub fn read(bytes: &[u8]) -> Result<SdView<'_>, SdFault>
 {
     let acls = check(bytes)?;
     Ok(SdView { bytes, acls })
+}
+
+/// The descriptor that bytes in their written form show (MS-DTYP 2.4.6). It reads what it needs of their headers and
+/// checks nothing again.
+pub fn view_written(bytes: &[u8]) -> SdView<'_>
+    requires { IsWrittenForm bytes.now }
+    ensures found { Shows bytes.now result }
+    ensures only { (d : Descriptor) → Shows bytes.now d → result ≡ d }
+    // What `read` gives.
+    ensures exact { reading bytes.now ≡ Ok result }
+    ensures limits { IsDescriptor result }
+    // Nothing but the descriptor is there.
+    ensures whole { length bytes.now ≡ size result }
+{
+    let control = u16_at(bytes, 2);
+    let has_sacl = has_bit(SACL_PRESENT, control);
+    let sacl = written_at(bytes, has_sacl, u32_at(bytes, 12));
+    let has_dacl = has_bit(DACL_PRESENT, control);
+    let dacl = written_at(bytes, has_dacl, u32_at(bytes, 16));
+    let acls = Acls { sacl, dacl };
+    SdView { bytes, acls }
+}
+
+// What the header of an ACL in its written form says, where an ACL is meant.
+#[tactic(auto, unfolding(crate::specs::Reading::acl_shown))]
+fn written_at(bytes: &[u8], present: bool, offset: u32) -> Written
+    requires extent { IsAclAt bytes.now present offset }
+    requires written { AclIsWritten bytes.now offset (acl_shown bytes.now present offset) }
+    requires limits { IsAclPart present (acl_shown bytes.now present offset) }
+    ensures { result ≡ written_of (acl_shown bytes.now present offset) }
+{
+    if !present || offset == 0 {
+        return NOTHING;
+    }
+    let acl = &bytes[offset as usize..];
+    Written {
+        size: usize::from(u16_at(acl, 2)),
+        object: acl[0] == ACL_REVISION_DS,
+    }
 }
 
 // The first fault of the bytes, or what it found for the written form of the ACLs.

@@ -16,6 +16,7 @@ use Rattle.sd_view.specs.Descriptor.{Apart, AreApart, Descriptor, Extent, IsAclP
 use Rattle.sd_view.specs.Descriptor.{ShowsSid, acl_extent, control_at, dacl_at, group_at, owner_at, sacl_at, sid_extent}
 use Rattle.sd_view.specs.Layout.{acl_part, acl_part_size, dacl_offset, descriptor_header, group_offset, layout}
 use Rattle.sd_view.specs.Layout.{offset_if, offsets, parts_bytes, sacl_offset, sid_part, sid_part_size, size}
+use Rattle.sd_view.specs.WrittenForm.{AclIsWritten, IsWritten, IsWrittenForm}
 use Rattle.sd_control.specs.Header.{header_bytes}
 use Rattle.sd_control.specs.declared.part.Parts.{Parts}
 use Rattle.sd_view.specs.declared.acl.AclPart.{AclPart}
@@ -263,3 +264,27 @@ layout-shows d h =
           (parts-apart 20 (sid_part_size d.owner) (sid_part_size d.group) (acl_part_size d.sacl)
           (acl_part_size d.dacl));
     }
+
+-- an ACL that stands where it begins stands in its written form
+acl-written : (bytes rest : List ℕ) (offset start : ℕ) (p : AclPart) → offset ≡ offset_if start (acl_part_size p)
+    → drop start bytes ≡ acl_part p ++ rest → AclIsWritten bytes offset p
+acl-written bytes rest offset start acl.Absent at shape = at
+acl-written bytes rest offset start acl.Null at shape = at
+acl-written bytes rest offset start (acl.List aces) at shape =
+    let same : offset ≡ start = at ∙ offset-stands start (acl_size aces) (omega arith) in
+    (rest, ap (λ (n : ℕ). drop n bytes) same ∙ shape)
+
+-- the layout of a descriptor is its written form
+pub layout-written : (d : Descriptor) → IsDescriptor d → IsWritten (layout d) d
+layout-written d h =
+    let bytes = layout d in
+    let first = header d h in
+    let rest = rests d h in
+    record {
+      size = length-layout d;
+      sacl = acl-written bytes _ (sacl_at bytes) (sacl_offset d) d.sacl first.sacl rest.sacl;
+      dacl = acl-written bytes _ (dacl_at bytes) (dacl_offset d) d.dacl first.dacl rest.dacl;
+    }
+
+pub layout-form : (d : Descriptor) → IsDescriptor d → IsWrittenForm (layout d)
+layout-form d h = record { descriptor = d; shows = layout-shows d h; written = layout-written d h }
