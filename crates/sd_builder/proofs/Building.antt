@@ -19,8 +19,8 @@ use Rattle.sd_builder.specs.Builds.{Builds}
 use Rattle.sd_builder.specs.Inner.Building.{Building, OpenAt, OpenIsFree, OpenStands, PartStands, PartsStand}
 use Rattle.sd_builder.specs.Inner.Building.{StandsInOrder}
 use Rattle.sd_builder.specs.Inner.Building.{given, given_acl, list, nothing, placed, sid}
-use Rattle.sd_builder.specs.Draft.{CanBegin, Draft, IsOpen, IsOpenIn, Parts, acl_for, begun, closed_in, ended, ended_in}
-use Rattle.sd_builder.specs.Draft.{nothing_given, open_size, open_size_in, with_ace, with_acl, with_sid}
+use Rattle.sd_builder.specs.Draft.{CanBegin, Draft, DraftParts, IsOpen, IsOpenIn, acl_for, begun, closed_in, ended}
+use Rattle.sd_builder.specs.Draft.{ended_in, nothing_given, open_size, open_size_in, with_ace, with_acl, with_sid}
 use Rattle.sd_view.specs.declared.acl.AclPart.{AclPart}
 use Rattle.sd_view.specs.declared.acl.AclPart.TheVariants as acl
 use Rattle.sd_builder.specs.declared.builder.Builder.{Builder}
@@ -81,7 +81,7 @@ no_open bytes None None e f = refl
 no_open bytes None (Some u) e f = absurd (cc)
 no_open bytes (Some o) u e f = absurd (cc)
 
-no_free : (u : Option (Which × List AccessControlEntry)) (t : Parts) → u ≡ None → OpenIsFree u t
+no_free : (u : Option (Which × List AccessControlEntry)) (t : DraftParts) → u ≡ None → OpenIsFree u t
 no_free None t e = tt
 no_free (Some u) t e = absurd (cc)
 
@@ -98,7 +98,7 @@ building b bytes t parts order kept given = record {
 }
 
 -- which ACL is open, and how far, is no matter of the parts
-reopened : (bytes : List ℕ) (b : Builder) (t : Parts) (o : Option OpenAcl)
+reopened : (bytes : List ℕ) (b : Builder) (t : DraftParts) (o : Option OpenAcl)
     (u : Option (Which × List AccessControlEntry)) → PartsStand bytes b t
     → PartsStand bytes (record b { «open» = o }) (record t { «open» = u })
 reopened bytes b t o u h = record {
@@ -107,7 +107,7 @@ reopened bytes b t o u h = record {
   size = h.size;
 }
 
-acl_for-open : (w : Which) (t : Parts) (u : Option (Which × List AccessControlEntry))
+acl_for-open : (w : Which) (t : DraftParts) (u : Option (Which × List AccessControlEntry))
     → acl_for w (record t { «open» = u }) ≡ acl_for w t
 acl_for-open lists.Sacl t u = refl
 acl_for-open lists.Dacl t u = refl
@@ -143,18 +143,18 @@ still-free b bytes t0 t p h0 h free =
     let none = given-none bytes (get_part p b.offsets) (given t0.parts p) (h0.parts.each p) free in
     (none, none-given bytes (get_part p b.offsets) (given t.parts p) (h.parts.each p) none)
 
-but-sid : (t : Parts) (p : SidPart) (s : SecurityId) (q : Part) → same_part (sid_part_of p) q ≡ false
+but-sid : (t : DraftParts) (p : SidPart) (s : SecurityId) (q : Part) → same_part (sid_part_of p) q ≡ false
     → given (with_sid p s t) q ≡ given t q
 but-sid t sids.Owner s part.Owner e = absurd (cc)
 but-sid t sids.Group s part.Group e = absurd (cc)
 but-sid t p s q e = refl
 
-with-sid : (t : Parts) (p : SidPart) (s : SecurityId) → given t (sid_part_of p) ≡ nothing
+with-sid : (t : DraftParts) (p : SidPart) (s : SecurityId) → given t (sid_part_of p) ≡ nothing
     → IsOneMore t (with_sid p s t) (sid_part_of p) (sid s)
 with-sid t sids.Owner s free = record { is = refl; free = free; others = but-sid t sids.Owner s }
 with-sid t sids.Group s free = record { is = refl; free = free; others = but-sid t sids.Group s }
 
-sid-open : (t : Parts) (p : SidPart) (s : SecurityId) → (with_sid p s t).«open» ≡ t.«open»
+sid-open : (t : DraftParts) (p : SidPart) (s : SecurityId) → (with_sid p s t).«open» ≡ t.«open»
 sid-open t sids.Owner s = refl
 sid-open t sids.Group s = refl
 
@@ -177,26 +177,26 @@ absent-acl acl.Absent e = refl
 absent-acl acl.Null e = absurd (cc)
 absent-acl (acl.List aces) e = absurd (cc)
 
-acl-absent : (w : Which) (t : Parts) → given t (part_of w) ≡ nothing → acl_for w t ≡ acl.Absent
+acl-absent : (w : Which) (t : DraftParts) → given t (part_of w) ≡ nothing → acl_for w t ≡ acl.Absent
 acl-absent lists.Sacl t e = absent-acl t.sacl e
 acl-absent lists.Dacl t e = absent-acl t.dacl e
 
-absent-given : (w : Which) (t : Parts) → acl_for w t ≡ acl.Absent → given t (part_of w) ≡ nothing
+absent-given : (w : Which) (t : DraftParts) → acl_for w t ≡ acl.Absent → given t (part_of w) ≡ nothing
 absent-given lists.Sacl t e = ap given_acl e
 absent-given lists.Dacl t e = ap given_acl e
 
-acl-left : (b : Builder) (bytes : List ℕ) (w : Which) (t : Parts) → PartsStand bytes b t → acl_for w t ≡ acl.Absent
+acl-left : (b : Builder) (bytes : List ℕ) (w : Which) (t : DraftParts) → PartsStand bytes b t → acl_for w t ≡ acl.Absent
     → length bytes + 65535 ≤ 131226
 acl-left b bytes lists.Sacl t h e = (room bytes b t h).left part.Sacl (ap given_acl e)
 acl-left b bytes lists.Dacl t h e = (room bytes b t h).left part.Dacl (ap given_acl e)
 
-but-acl : (w : Which) (t : Parts) (a : AclPart) (q : Part) → same_part (part_of w) q ≡ false
+but-acl : (w : Which) (t : DraftParts) (a : AclPart) (q : Part) → same_part (part_of w) q ≡ false
     → given (with_acl w a t) q ≡ given t q
 but-acl lists.Sacl t a part.Sacl e = absurd (cc)
 but-acl lists.Dacl t a part.Dacl e = absurd (cc)
 but-acl w t a q e = refl
 
-with-acl : (w : Which) (t : Parts) (a : AclPart) → given t (part_of w) ≡ nothing
+with-acl : (w : Which) (t : DraftParts) (a : AclPart) → given t (part_of w) ≡ nothing
     → IsOneMore t (with_acl w a t) (part_of w) (given_acl a)
 with-acl lists.Sacl t a free = record { is = refl; free = free; others = but-acl lists.Sacl t a }
 with-acl lists.Dacl t a free = record { is = refl; free = free; others = but-acl lists.Dacl t a }
@@ -235,7 +235,7 @@ begin-builds b bytes front w t0 t h0 can eight h =
       free = acl_for-open w t.parts (Some (w, [])) ∙ acl-absent w t.parts none.1;
     }
 
-with_acl-open : (w : Which) (a : AclPart) (t : Parts) → (with_acl w a t).«open» ≡ t.«open»
+with_acl-open : (w : Which) (a : AclPart) (t : DraftParts) → (with_acl w a t).«open» ≡ t.«open»
 with_acl-open lists.Sacl a t = refl
 with_acl-open lists.Dacl a t = refl
 
@@ -263,7 +263,7 @@ pub record IsBegun (b : Builder) (bytes : List ℕ) (t : Draft) (o : OpenAcl) : 
   pub at : OpenAt closed tail o which aces
   pub free : acl_for which t.parts ≡ acl.Absent
 
-begun-at : (t : Parts) (front tail : List ℕ) (o : OpenAcl) (u : Option (Which × List AccessControlEntry))
+begun-at : (t : DraftParts) (front tail : List ℕ) (o : OpenAcl) (u : Option (Which × List AccessControlEntry))
     → OpenStands front tail (Some o) u → OpenIsFree u t
     → (w : Which) × ((aces : List AccessControlEntry)
     × ((u ≡ Some (w, aces)) × OpenAt front tail o w aces × (acl_for w t ≡ acl.Absent)))
@@ -380,7 +380,7 @@ open-more front tail o w aces a h limits fits = record {
       ∙ sym (flat_map-append ace_bytes aces (a ∷ [])));
 }
 
-given-more : (a : AccessControlEntry) (w : Which) (aces : List AccessControlEntry) (t : Parts)
+given-more : (a : AccessControlEntry) (w : Which) (aces : List AccessControlEntry) (t : DraftParts)
     → t.«open» ≡ Some (w, aces)
     → with_ace a t ≡ record t { «open» = Some (w, aces ++ a ∷ []) }
 given-more a w aces t e = rw e refl
@@ -395,7 +395,7 @@ ace-builds b bytes t o a e limits fits h =
     let found = is_begun b bytes t o h e in
     let open_is : open_size t.parts ≡ acl_size found.aces = ap open_size_in found.given in
     let u : Option (Which × List AccessControlEntry) = Some (found.which, found.aces ++ a ∷ []) in
-    subst (λ (x : Parts). Building (record b { «open» = Some (with_more o a) }) (bytes ++ ace_bytes a)
+    subst (λ (x : DraftParts). Building (record b { «open» = Some (with_more o a) }) (bytes ++ ace_bytes a)
     (record t { parts = x })) (sym (given-more a found.which found.aces t.parts found.given))
     (record {
       closed = found.closed;
@@ -422,7 +422,7 @@ kept-is : (b : Builder) (o : OpenAcl) (w : Which) (n : ℕ) → o.which ≡ w �
     → placed (part_of o.which) o.start (record b { «open» = None }) ≡ record (placed (part_of w) n b) { «open» = None }
 kept-is b o w n e f = rw (e, f) refl
 
-closed-open : (t : Parts) (w : Which) (p : AclPart)
+closed-open : (t : DraftParts) (w : Which) (p : AclPart)
     → with_acl w p (record t { «open» = None }) ≡ record (with_acl w p t) { «open» = None }
 closed-open t lists.Sacl p = refl
 closed-open t lists.Dacl p = refl
@@ -434,7 +434,7 @@ given-ended : (w : Which) (aces : List AccessControlEntry) (t : Draft) → t.par
     }
 given-ended w aces t e =
     ap (λ (u : Option (Which × List AccessControlEntry)). ended_in u t) e
-    ∙ ap (λ (p : Parts). let d : Draft = record { parts = p; order = t.order ++ part_of w ∷ [] } in d)
+    ∙ ap (λ (p : DraftParts). let d : Draft = record { parts = p; order = t.order ++ part_of w ∷ [] } in d)
     (ap (λ (u : Option (Which × List AccessControlEntry)). closed_in u t.parts) e
     ∙ closed-open t.parts w (acl.List aces))
 

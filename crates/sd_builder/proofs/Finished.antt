@@ -10,11 +10,11 @@ use Rattle.sd_builder.specs.Inner.Building.{given_sid, given_size}
 use Rattle.sd_control.specs.Parts.{get_part}
 use Rattle.sd_control.specs.declared.part.Part.{Part}
 use Rattle.sd_control.specs.declared.part.Part.TheVariants as part
-use Rattle.sd_control.specs.declared.part.Parts.{Parts as PartsOf}
+use Rattle.sd_control.specs.declared.part.Parts.{Parts}
 use Rattle.sd_control.specs.Control.{control_of}
 use Rattle.sd_view.specs.Descriptor.{Shows, ShowsAclPart, ShowsSid, acl_extent, dacl_at, group_at, owner_at, sacl_at}
 use Rattle.sd_view.specs.Descriptor.{sid_extent}
-use Rattle.sd_builder.specs.Draft.{AclIsWritten, Draft, IsWritten, Parts, built, built_bytes, is_present}
+use Rattle.sd_builder.specs.Draft.{AclIsWritten, Draft, DraftParts, IsWritten, built, built_bytes, is_present}
 use Rattle.sd_control.specs.Header.{header_bytes}
 use Rattle.sd_view.specs.declared.acl.AclPart.{AclPart}
 use Rattle.sd_view.specs.declared.acl.AclPart.TheVariants as acl
@@ -71,7 +71,7 @@ acl-read : (bytes : List ℕ) (present bit : Bool) (offset field : ℕ) (p : Acl
 acl-read bytes present bit offset field p e f h = rw (e, f) h
 
 -- the offsets in the header that is written
-abbrev pub offsets_of : Builder → PartsOf ℕ
+abbrev pub offsets_of : Builder → Parts ℕ
 offsets_of b = record {
   owner = unwrap_or b.offsets.owner 0;
   group = unwrap_or b.offsets.group 0;
@@ -87,11 +87,11 @@ pub length-header_for : (rm control : ℕ) (b : Builder) → length (header_for 
 unfolding header_bytes
 length-header_for rm control b = refl
 
-part-in : (b : Builder) (bytes header : List ℕ) (t : Parts) (p : Part) → PartsStand bytes b t → length header ≡ 20
+part-in : (b : Builder) (bytes header : List ℕ) (t : DraftParts) (p : Part) → PartsStand bytes b t → length header ≡ 20
     → PartStands (header ++ drop 20 bytes) (get_part p b.offsets) (given t p)
 part-in b bytes header t p h long = part-kept bytes _ _ _ (headed bytes header long) (h.each p)
 
-shows : (b : Builder) (bytes : List ℕ) (t : Parts) (flags rm : ℕ) → flags < 2 ^ 16 → PartsStand bytes b t
+shows : (b : Builder) (bytes : List ℕ) (t : DraftParts) (flags rm : ℕ) → flags < 2 ^ 16 → PartsStand bytes b t
     → Shows (header_for rm (control_of flags (is_present t.sacl) (is_present t.dacl)) b ++ drop 20 bytes)
     (built flags rm t)
 shows b bytes t flags rm small h =
@@ -152,7 +152,7 @@ acl-size acl.Absent = refl
 acl-size acl.Null = refl
 acl-size (acl.List aces) = length-acl_bytes aces
 
-pub is-written : (b : Builder) (bytes : List ℕ) (t : Parts) (flags rm word : ℕ) → PartsStand bytes b t
+pub is-written : (b : Builder) (bytes : List ℕ) (t : DraftParts) (flags rm word : ℕ) → PartsStand bytes b t
     → IsWritten (header_for rm word b ++ drop 20 bytes) (built flags rm t)
 is-written b bytes t flags rm word h =
     let header = header_for rm word b in
@@ -181,7 +181,7 @@ exact b bytes t flags rm word h e =
     rw (h.shape, e, h.offset part.Owner, h.offset part.Group, h.offset part.Sacl, h.offset part.Dacl) refl
 
 -- the control word, by what the builder keeps
-word-is : (b : Builder) (bytes : List ℕ) (t : Parts) (flags : ℕ) → PartsStand bytes b t
+word-is : (b : Builder) (bytes : List ℕ) (t : DraftParts) (flags : ℕ) → PartsStand bytes b t
     → control_of flags (is_some b.offsets.sacl) (is_some b.offsets.dacl)
     ≡ control_of flags (is_present t.sacl) (is_present t.dacl)
 word-is b bytes t flags h =

@@ -15,7 +15,7 @@ use Rattle.sd_control.specs.Parts.{get_part, same_part}
 use Rattle.sd_control.proofs.laws.PartLaws.{each-part, get-other, get-set, same-self, same-sym}
 use Rattle.sd_control.specs.declared.part.Part.{Part}
 use Rattle.sd_control.specs.declared.part.Part.TheVariants as part
-use Rattle.sd_builder.specs.Draft.{Draft, Parts, bytes_in_order, offset_among, offset_of, part_bytes}
+use Rattle.sd_builder.specs.Draft.{Draft, DraftParts, bytes_in_order, offset_among, offset_of, part_bytes}
 use Rattle.sd_builder.specs.Inner.Building.{Given, StandsInOrder, given, given_acl, given_bytes, given_sid, null}
 use Rattle.sd_builder.specs.Inner.Building.{placed}
 use Rattle.sd_builder.proofs.Standing.{IsOneMore}
@@ -30,14 +30,14 @@ not-first true start n low e = absurd (omega (arith, low, e))
 not-first false start n low e = (refl, e)
 
 -- another part at the end moves none
-others-stay : (start : ℕ) (t : Parts) (order : List Part) (p q : Part) → same_part p q ≡ false
+others-stay : (start : ℕ) (t : DraftParts) (order : List Part) (p q : Part) → same_part p q ≡ false
     → offset_among start t (order ++ q ∷ []) p ≡ offset_among start t order p
 others-stay start t [] p q e = rw e refl
 others-stay start t (x ∷ xs) p q e =
     ap (λ (n : ℕ). if same_part p x then start else n) (others-stay (start + length (part_bytes t x)) t xs p q e)
 
 -- a part that was none of them begins where they end
-last-begins : (start : ℕ) (t : Parts) (order : List Part) (p : Part) → 0 < start → offset_among start t order p ≡ 0
+last-begins : (start : ℕ) (t : DraftParts) (order : List Part) (p : Part) → 0 < start → offset_among start t order p ≡ 0
     → offset_among start t (order ++ p ∷ []) p ≡ start + length (flat_map (part_bytes t) order)
 last-begins start t [] p low e = rw (same-self p) (omega arith)
 last-begins start t (x ∷ xs) p low e =
@@ -47,7 +47,8 @@ last-begins start t (x ∷ xs) p low e =
     rw none.0 (omega (arith, rest, length-append (part_bytes t x) (flat_map (part_bytes t) xs)))
 
 -- parts of which only one has other bytes, and it is none of them
-module _ (t u : Parts) (p : Part) (same : (q : Part) → same_part p q ≡ false → part_bytes u q ≡ part_bytes t q) where
+module _ (t u : DraftParts) (p : Part) (same : (q : Part) → same_part p q ≡ false
+    → part_bytes u q ≡ part_bytes t q) where
   bytes-same : (start : ℕ) (order : List Part) → 0 < start → offset_among start t order p ≡ 0
       → flat_map (part_bytes u) order ≡ flat_map (part_bytes t) order
   bytes-same start [] low e = refl
@@ -67,7 +68,7 @@ module _ (t u : Parts) (p : Part) (same : (q : Part) → same_part p q ≡ false
       (offset-same (start + n) xs q (omega (arith, low)) none.1))
 
 -- parts of the same bytes
-module _ (t u : Parts) (same : (q : Part) → part_bytes u q ≡ part_bytes t q) where
+module _ (t u : DraftParts) (same : (q : Part) → part_bytes u q ≡ part_bytes t q) where
   bytes-alike : (order : List Part) → flat_map (part_bytes u) order ≡ flat_map (part_bytes t) order
   bytes-alike [] = refl
   bytes-alike (x ∷ xs) = rw (same x, bytes-alike xs) refl
@@ -82,13 +83,13 @@ module _ (t u : Parts) (same : (q : Part) → part_bytes u q ≡ part_bytes t q)
 -- ---- a part more
 
 -- a part that was none of them is appended
-record IsAppended (bytes new : List ℕ) (t : Draft) (u : Parts) (p : Part) : Type 0 where
+record IsAppended (bytes new : List ℕ) (t : Draft) (u : DraftParts) (p : Part) : Type 0 where
   shape : drop 20 (bytes ++ new) ≡ flat_map (part_bytes u) (t.order ++ p ∷ [])
   here : length bytes ≡ offset_among 20 u (t.order ++ p ∷ []) p
   others : (n : ℕ) (q : Part) → same_part q p ≡ false → n ≡ offset_of t q
       → n ≡ offset_among 20 u (t.order ++ p ∷ []) q
 
-appended-part : (bytes new : List ℕ) (t : Draft) (u : Parts) (p : Part)
+appended-part : (bytes new : List ℕ) (t : Draft) (u : DraftParts) (p : Part)
     → ((q : Part) → same_part p q ≡ false → part_bytes u q ≡ part_bytes t.parts q)
     → part_bytes u p ≡ new → offset_of t p ≡ 0 → 20 ≤ length bytes → drop 20 bytes ≡ bytes_in_order t
     → IsAppended bytes new t u p
@@ -116,18 +117,18 @@ given-acl acl.Absent = refl
 given-acl acl.Null = refl
 given-acl (acl.List aces) = refl
 
-given-part : (t : Parts) (p : Part) → given_bytes (given t p) ≡ part_bytes t p
+given-part : (t : DraftParts) (p : Part) → given_bytes (given t p) ≡ part_bytes t p
 given-part t part.Owner = given-sid t.owner
 given-part t part.Group = given-sid t.group
 given-part t part.Sacl = given-acl t.sacl
 given-part t part.Dacl = given-acl t.dacl
 
-same-bytes : (t u : Parts) (p : Part) → given_bytes (given u p) ≡ given_bytes (given t p)
+same-bytes : (t u : DraftParts) (p : Part) → given_bytes (given u p) ≡ given_bytes (given t p)
     → part_bytes u p ≡ part_bytes t p
 same-bytes t u p e = sym (given-part u p) ∙ e ∙ given-part t p
 
 -- a part with bytes more
-pub more-order : (bytes : List ℕ) (b : Builder) (t : Draft) (u : Parts) (p : Part) (g : Given)
+pub more-order : (bytes : List ℕ) (b : Builder) (t : Draft) (u : DraftParts) (p : Part) (g : Given)
     → IsOneMore t.parts u p g → get_part p b.offsets ≡ None → 20 ≤ length bytes → StandsInOrder bytes b t
     → StandsInOrder (bytes ++ given_bytes g) (placed p (length bytes) b)
     (record { parts = u; order = t.order ++ p ∷ [] })
@@ -146,7 +147,7 @@ more-order bytes b t u p g more none low h =
     }
 
 -- parts of the same bytes stand as they are
-order-alike : (bytes : List ℕ) (b : Builder) (t : Draft) (u : Parts)
+order-alike : (bytes : List ℕ) (b : Builder) (t : Draft) (u : DraftParts)
     → ((q : Part) → part_bytes u q ≡ part_bytes t.parts q) → StandsInOrder bytes b t
     → StandsInOrder bytes b (record t { parts = u })
 order-alike bytes b t u same h = record {
@@ -155,7 +156,7 @@ order-alike bytes b t u same h = record {
 }
 
 -- which ACL is open, and how far, is no matter of the parts that are given
-pub given-reopened : (t : Parts) (o : Option (Which × List AccessControlEntry)) (p : Part)
+pub given-reopened : (t : DraftParts) (o : Option (Which × List AccessControlEntry)) (p : Part)
     → given (record t { «open» = o }) p ≡ given t p
 given-reopened t o part.Owner = refl
 given-reopened t o part.Group = refl
@@ -172,7 +173,7 @@ order-reopened bytes b t o u h =
     record { shape = new.shape; offset = new.offset }
 
 -- a null ACL has no bytes, as one that is not given
-pub null-order : (bytes : List ℕ) (b : Builder) (t : Draft) (u : Parts) (p : Part) → IsOneMore t.parts u p null
+pub null-order : (bytes : List ℕ) (b : Builder) (t : Draft) (u : DraftParts) (p : Part) → IsOneMore t.parts u p null
     → get_part p b.offsets ≡ None → StandsInOrder bytes b t
     → StandsInOrder bytes (placed p 0 b) (record t { parts = u })
 null-order bytes b t u p more none h =

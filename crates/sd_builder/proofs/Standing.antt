@@ -15,7 +15,7 @@ use Rattle.sd_builder.specs.Inner.Building.{Given, PartStands, PartsStand, Stand
 use Rattle.sd_builder.specs.Inner.Building.{given, given_acl, given_bytes, given_sid, given_size, list, nothing, null}
 use Rattle.sd_builder.specs.Inner.Building.{placed, sid}
 use Rattle.sd_view.specs.Descriptor.{Apart, Extent}
-use Rattle.sd_builder.specs.Draft.{Parts}
+use Rattle.sd_builder.specs.Draft.{DraftParts}
 use Rattle.sd_view.specs.declared.acl.AclPart.{AclPart}
 use Rattle.sd_view.specs.declared.acl.AclPart.TheVariants as acl
 use Rattle.sd_builder.specs.declared.builder.Builder.{Builder}
@@ -126,12 +126,12 @@ most_of part.Sacl = 65535
 most_of part.Dacl = 65535
 
 -- the header stands, and there is room for the parts that are not given yet
-pub record Room (bytes : List ℕ) (t : Parts) : Type 0 where
+pub record Room (bytes : List ℕ) (t : DraftParts) : Type 0 where
   pub low : 20 ≤ length bytes
   pub most : length bytes ≤ 131226
   pub left : (p : Part) → given t p ≡ nothing → length bytes + most_of p ≤ 131226
 
-pub room : (bytes : List ℕ) (b : Builder) (t : Parts) → PartsStand bytes b t → Room bytes t
+pub room : (bytes : List ℕ) (b : Builder) (t : DraftParts) → PartsStand bytes b t → Room bytes t
 room bytes b t h =
     let owner = sid-most bytes b.offsets.owner t.owner (h.each part.Owner) in
     let group = sid-most bytes b.offsets.group t.group (h.each part.Group) in
@@ -149,12 +149,13 @@ room bytes b t h =
     }
 
 -- one part more is given
-pub record IsOneMore (t u : Parts) (p : Part) (g : Given) : Type 0 where
+pub record IsOneMore (t u : DraftParts) (p : Part) (g : Given) : Type 0 where
   pub is : given u p ≡ g
   pub free : given t p ≡ nothing
   pub others : (q : Part) → same_part p q ≡ false → given u q ≡ given t q
 
-closed-more : (t u : Parts) (p : Part) (g : Given) → IsOneMore t u p g → closed_size u ≡ closed_size t + given_size g
+closed-more : (t u : DraftParts) (p : Part) (g : Given) → IsOneMore t u p g
+    → closed_size u ≡ closed_size t + given_size g
 closed-more t u p g h =
     let is = ap given_size h.is in
     let free = ap given_size h.free in
@@ -174,14 +175,14 @@ closed-more t u p g h =
         omega (arith, is, free, same part.Owner refl, same part.Group refl, same part.Sacl refl)
 
 -- where a part stands, by what is kept and what is given of it
-extent-kept : (b : Builder) (t : Parts) (p : Part)
+extent-kept : (b : Builder) (t : DraftParts) (p : Part)
     → get_part p (extents_kept b t) ≡ extent_at (get_part p b.offsets) (given t p)
 extent-kept b t part.Owner = refl
 extent-kept b t part.Group = refl
 extent-kept b t part.Sacl = refl
 extent-kept b t part.Dacl = refl
 
-one-more : (bytes new : List ℕ) (b : Builder) (t u : Parts) (p : Part) (n : ℕ) (g : Given) → IsOneMore t u p g
+one-more : (bytes new : List ℕ) (b : Builder) (t u : DraftParts) (p : Part) (n : ℕ) (g : Given) → IsOneMore t u p g
     → Kept bytes new → PartStands new (Some n) g → length new ≡ length bytes + given_size g
     → ((e : Extent) → EndsWithin e (length bytes) → Apart (extent_at (Some n) g) e)
     → PartsStand bytes b t → PartsStand new (placed p n b) u
@@ -202,14 +203,14 @@ one-more bytes new b t u p n g more keep stands long beside h =
     }
 
 -- a SID, a list or a null ACL more
-pub sid-more : (bytes : List ℕ) (b : Builder) (t u : Parts) (p : Part) (s : SecurityId) → IsOneMore t u p (sid s)
+pub sid-more : (bytes : List ℕ) (b : Builder) (t u : DraftParts) (p : Part) (s : SecurityId) → IsOneMore t u p (sid s)
     → IsSid s → PartsStand bytes b t → PartsStand (bytes ++ sid_bytes s) (placed p (length bytes) b) u
 sid-more bytes b t u p s more limits h =
     one-more bytes _ b t u p (length bytes) (sid s) more (appended bytes (sid_bytes s))
     (limits, stands-last bytes (sid_bytes s) (room bytes b t h).low) (length-append bytes (sid_bytes s))
     (last-apart (length bytes) _) h
 
-pub list-more : (bytes : List ℕ) (b : Builder) (t u : Parts) (p : Part) (aces : List AccessControlEntry)
+pub list-more : (bytes : List ℕ) (b : Builder) (t u : DraftParts) (p : Part) (aces : List AccessControlEntry)
     → IsOneMore t u p (list aces) → IsAcl aces → PartsStand bytes b t
     → PartsStand (bytes ++ acl_bytes aces) (placed p (length bytes) b) u
 list-more bytes b t u p aces more limits h =
@@ -217,7 +218,7 @@ list-more bytes b t u p aces more limits h =
     (limits, stands-last bytes (acl_bytes aces) (room bytes b t h).low) (length-append bytes (acl_bytes aces))
     (last-apart (length bytes) _) h
 
-pub null-more : (bytes : List ℕ) (b : Builder) (t u : Parts) (p : Part) → IsOneMore t u p null
+pub null-more : (bytes : List ℕ) (b : Builder) (t u : DraftParts) (p : Part) → IsOneMore t u p null
     → PartsStand bytes b t → PartsStand bytes (placed p 0 b) u
 null-more bytes b t u p more h =
     one-more bytes bytes b t u p 0 null more (λ offset part stands. stands) refl (omega arith) (λ e ends. tt) h

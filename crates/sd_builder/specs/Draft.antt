@@ -23,41 +23,41 @@ use Rattle.sd_control.specs.declared.part.Which.TheVariants as which
 -- 1. The parts.
 
 -- the parts that are given, and the ACL that is open, with its ACEs so far
-pub record Parts : Type 0 where
+pub record DraftParts : Type 0 where
   pub owner : Option SecurityId
   pub group : Option SecurityId
   pub sacl : AclPart
   pub dacl : AclPart
   pub «open» : Option (Which × List AccessControlEntry)
 
-abbrev pub no_parts : Parts
+abbrev pub no_parts : DraftParts
 no_parts = record { owner = None; group = None; sacl = acl.Absent; dacl = acl.Absent; «open» = None }
 
-abbrev pub with_sid : SidPart → SecurityId → Parts → Parts
+abbrev pub with_sid : SidPart → SecurityId → DraftParts → DraftParts
 with_sid sids.Owner s t = record t { owner = Some s }
 with_sid sids.Group s t = record t { group = Some s }
 
-abbrev pub acl_for : Which → Parts → AclPart
+abbrev pub acl_for : Which → DraftParts → AclPart
 acl_for which.Sacl t = t.sacl
 acl_for which.Dacl t = t.dacl
 
-abbrev pub with_acl : Which → AclPart → Parts → Parts
+abbrev pub with_acl : Which → AclPart → DraftParts → DraftParts
 with_acl which.Sacl part t = record t { sacl = part }
 with_acl which.Dacl part t = record t { dacl = part }
 
 -- no ACL is open, and the part is not given yet
-abbrev pub CanBegin : Which → Parts → Type 0
+abbrev pub CanBegin : Which → DraftParts → Type 0
 CanBegin w t = (t.«open» ≡ None) × (acl_for w t ≡ acl.Absent)
 
 -- an ACL is opened, without ACEs
-abbrev pub begun : Which → Parts → Parts
+abbrev pub begun : Which → DraftParts → DraftParts
 begun w t = record t { «open» = Some (w, []) }
 
 abbrev pub IsOpenIn : Option (Which × List AccessControlEntry) → Type 0
 IsOpenIn None = ⊥
 IsOpenIn (Some o) = Unit {0}
 
-abbrev pub IsOpen : Parts → Type 0
+abbrev pub IsOpen : DraftParts → Type 0
 IsOpen t = IsOpenIn t.«open»
 
 -- the size of the ACL that is open
@@ -65,7 +65,7 @@ abbrev pub open_size_in : Option (Which × List AccessControlEntry) → ℕ
 open_size_in None = 0
 open_size_in (Some o) = acl_size o.1
 
-abbrev pub open_size : Parts → ℕ
+abbrev pub open_size : DraftParts → ℕ
 open_size t = open_size_in t.«open»
 
 abbrev pub more_in : AccessControlEntry → Option (Which × List AccessControlEntry)
@@ -74,15 +74,15 @@ more_in a None = None
 more_in a (Some o) = Some (o.0, o.1 ++ a ∷ [])
 
 -- one ACE more at the end of the open ACL
-abbrev pub with_ace : AccessControlEntry → Parts → Parts
+abbrev pub with_ace : AccessControlEntry → DraftParts → DraftParts
 with_ace a t = record t { «open» = more_in a t.«open» }
 
-abbrev pub closed_in : Option (Which × List AccessControlEntry) → Parts → Parts
+abbrev pub closed_in : Option (Which × List AccessControlEntry) → DraftParts → DraftParts
 closed_in None t = t
 closed_in (Some o) t = with_acl o.0 (acl.List o.1) (record t { «open» = None })
 
 -- the open ACL is closed
-abbrev pub closed : Parts → Parts
+abbrev pub closed : DraftParts → DraftParts
 closed t = closed_in t.«open» t
 
 -- 2. The parts, and the order of the calls.
@@ -90,7 +90,7 @@ closed t = closed_in t.«open» t
 -- the parts, and those of them that stand in the buffer, in the order of the calls: a null ACL has no bytes, and one
 -- that is open does not count yet
 pub record Draft : Type 0 where
-  pub parts : Parts
+  pub parts : DraftParts
   pub order : List Part
 
 abbrev pub nothing_given : Draft
@@ -119,7 +119,7 @@ is_present acl.Null = true
 is_present (acl.List aces) = true
 
 -- the parts under a control word and a resource manager byte
-abbrev pub built : ℕ → ℕ → Parts → Descriptor
+abbrev pub built : ℕ → ℕ → DraftParts → Descriptor
 built flags rm t = record {
   control = control_of flags (is_present t.sacl) (is_present t.dacl);
   rm = rm;
@@ -131,14 +131,14 @@ built flags rm t = record {
 
 -- 4. Its bytes: the header, and the parts in the order of the calls.
 
-abbrev pub part_bytes : Parts → Part → List ℕ
+abbrev pub part_bytes : DraftParts → Part → List ℕ
 part_bytes t part.Owner = sid_part t.owner
 part_bytes t part.Group = sid_part t.group
 part_bytes t part.Sacl = acl_part t.sacl
 part_bytes t part.Dacl = acl_part t.dacl
 
 -- where a part begins among parts that stand one after the other from there on, and 0 where it is none of them
-abbrev pub offset_among : ℕ → Parts → List Part → Part → ℕ
+abbrev pub offset_among : ℕ → DraftParts → List Part → Part → ℕ
 offset_among start t [] p = 0
 offset_among start t (q ∷ qs) p =
     if same_part p q then start else offset_among (start + length (part_bytes t q)) t qs p

@@ -6,7 +6,8 @@ use Rattle.sd_ace.specs.Ace.{AccessControlEntry}
 use Rattle.sd_view.specs.Acl.{acl_size}
 use Rattle.sd_view.specs.Descriptor.{Descriptor}
 use Rattle.sd_builder.proofs.laws.BuiltBytes.{layout_order}
-use Rattle.sd_builder.specs.Draft.{CanBegin, Draft, Parts, built, is_present, nothing_given, with_group, with_owner}
+use Rattle.sd_builder.specs.Draft.{CanBegin, Draft, DraftParts, built, is_present, nothing_given, with_group}
+use Rattle.sd_builder.specs.Draft.{with_owner}
 use Rattle.sd_view.specs.declared.acl.AclPart.{AclPart}
 use Rattle.sd_view.specs.declared.acl.AclPart.TheVariants as acl
 use Rattle.sd_control.specs.declared.part.Which.TheVariants.{Sacl, Dacl}
@@ -49,7 +50,7 @@ module _ (d : Descriptor) (creator : Option Descriptor) (plan : Plan) where
       rw (fits (new_aces Sacl d creator plan) sacl, fits (new_aces Dacl d creator plan) dacl) refl
 
 -- the parts of what is derived
-abbrev pub parts_of : Descriptor → Option Descriptor → Plan → Parts
+abbrev pub parts_of : Descriptor → Option Descriptor → Plan → DraftParts
 parts_of d creator plan = record {
   owner = Some plan.owner;
   group = Some plan.group;

@@ -21,7 +21,7 @@ use Rattle.sd_sid.specs.declared.naming.Naming.{Naming}
 use Rattle.sd_sddl_reader.specs.declared.reading.AceFields.{AceFields}
 use Rattle.sd_control.specs.declared.part.Which.{Which}
 use Rattle.sd_control.specs.declared.part.Which.TheVariants as which
-use Rattle.sd_builder.specs.Draft.{Parts, begun, closed, with_ace, with_acl}
+use Rattle.sd_builder.specs.Draft.{DraftParts, begun, closed, with_ace, with_acl}
 use Rattle.sd_sddl_reader.specs.FoldedReading.{Field, FieldsRead, ace_fields, grown, large_in, no_fields, read_fields}
 use Rattle.sd_sddl_reader.specs.FoldedReading.{take_field, with_flags, with_owner_or_group, with_trustee}
 use Rattle.sd_sddl_reader.specs.Line.{ace, byte, has_aces}
@@ -200,7 +200,7 @@ with_acl_part w f acl.Null r = with_flags w f (record r { parts = with_acl w acl
 with_acl_part w f (acl.List aces) r = opened w aces
     (with_fields (last_fields (begun_acl w f r).ace aces) (begun_acl w f r))
 
-first-opened : (w : Which) (f : AclFlags) (r : FieldsRead) (t : Parts)
+first-opened : (w : Which) (f : AclFlags) (r : FieldsRead) (t : DraftParts)
     → with_flags w f (record r { parts = begun w t }) ≡ opened w [] (with_flags w f (record r { parts = t }))
 first-opened which.Sacl f r t = refl
 first-opened which.Dacl f r t = refl

@@ -6,7 +6,7 @@ use Rattle.std.specs.Option.{option_map}
 use Rattle.sd_ace.specs.Ace.{AccessControlEntry, GuidsFit}
 use Rattle.sd_kinds.specs.Kinds.{is_object}
 use Rattle.sd_kinds.specs.declared.kinds.AceKind.{AceKind}
-use Rattle.sd_builder.specs.Draft.{Parts, built, closed}
+use Rattle.sd_builder.specs.Draft.{DraftParts, built, closed}
 use Rattle.sd_builder.specs.declared.builder.Builder.{Builder}
 use Rattle.sd_sddl_reader.specs.FoldedReading.{FieldsRead, begun_or_null, described, finished, no_fields, take_front}
 use Rattle.sd_sddl_reader.specs.FoldedReading.{with_flags}
@@ -63,7 +63,7 @@ finished-none t flags none same =
     ∙ ap (λ (n : ℕ). Ok (built n 0 (closed t.parts))) (sym same)
 
 -- parts more, in whatever order
-pub holds-parts : (r : FieldReader) (buf buf' : List ℕ) (b' : Builder) (t : FieldsRead) (u : Parts)
+pub holds-parts : (r : FieldReader) (buf buf' : List ℕ) (b' : Builder) (t : FieldsRead) (u : DraftParts)
     → HasReadFields r buf t → u.«open» ≡ t.parts.«open»
     → (BuildsParts r.builder buf t.parts → BuildsParts b' buf' u)
     → HasReadFields (record r { builder = b' }) buf' (record t { parts = u })

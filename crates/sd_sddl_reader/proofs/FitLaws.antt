@@ -10,7 +10,7 @@ use Rattle.sd_rights.specs.Rights.{rights_reads}
 use Rattle.sd_sid.specs.SidText.{sid_reads}
 use Rattle.sd_sid.specs.declared.sid_text.SidFault.{SidFault}
 use Rattle.sd_view.specs.declared.acl.AclPart.TheVariants as acl
-use Rattle.sd_builder.specs.Draft.{Parts, IsOpen, IsOpenIn, closed, closed_in, acl_for, more_in, with_ace}
+use Rattle.sd_builder.specs.Draft.{DraftParts, IsOpen, IsOpenIn, acl_for, closed, closed_in, more_in, with_ace}
 use Rattle.sd_control.specs.Parts.{each_part, get_part}
 use Rattle.sd_control.proofs.laws.PartLaws.{same-is, same-self}
 use Rattle.sd_sddl_reader.specs.Line.{part_of_head, same_head}
@@ -52,16 +52,16 @@ taken (Some f) t u next e = absurd cc
 
 -- 2. The ACL at hand is closed into its part, and the other parts stay.
 
-abbrev acl_in : Parts → Option (Which × List AccessControlEntry) → Parts
+abbrev acl_in : DraftParts → Option (Which × List AccessControlEntry) → DraftParts
 acl_in p o = record p { «open» = o }
 
 -- no ACL is at hand then, and owner and group are as they were
-pub record IsClosed (p q : Parts) : Type 0 where
+pub record IsClosed (p q : DraftParts) : Type 0 where
   pub none : q.«open» ≡ None
   owner : q.owner ≡ p.owner
   group : q.group ≡ p.group
 
-pub is-closed : (p : Parts) → IsClosed p (closed p)
+pub is-closed : (p : DraftParts) → IsClosed p (closed p)
 is-closed p = cases p.«open»
   where
     listed : (w : Which) (aces : List AccessControlEntry) → IsClosed p (closed (acl_in p (Some (w, aces))))
@@ -73,11 +73,11 @@ is-closed p = cases p.«open»
     cases (Some o) = listed o.0 o.1
 
 -- an ACL where none is at hand
-acl-as-is : (v : Which) (q : Parts) → q.«open» ≡ None → acl_for v (closed q) ≡ acl_for v q
+acl-as-is : (v : Which) (q : DraftParts) → q.«open» ≡ None → acl_for v (closed q) ≡ acl_for v q
 acl-as-is v q none = ap (λ o. acl_for v (closed_in o q)) none
 
 -- an owner or a group
-acl-beside-sid : (p : Parts) (owner group : Option SecurityId) (v : Which)
+acl-beside-sid : (p : DraftParts) (owner group : Option SecurityId) (v : Which)
     → acl_for v (closed (record (closed p) { owner = owner; group = group })) ≡ acl_for v (closed p)
 acl-beside-sid p owner group v =
     acl-as-is v (record (closed p) { owner = owner; group = group }) (is-closed p).none ∙ same v
@@ -87,7 +87,7 @@ acl-beside-sid p owner group v =
     same which.Dacl = refl
 
 -- an ACL that begins
-acl-beside-acl : (p : Parts) (w : Which) (null : Bool) (v : Which) → same_head (head.Acl w) (head.Acl v) ≡ false
+acl-beside-acl : (p : DraftParts) (w : Which) (null : Bool) (v : Which) → same_head (head.Acl w) (head.Acl v) ≡ false
     → acl_for v (closed (begun_or_null w null (closed p))) ≡ acl_for v (closed p)
 acl-beside-acl p which.Sacl null which.Sacl e = absurd cc
 acl-beside-acl p which.Dacl null which.Dacl e = absurd cc
@@ -98,18 +98,18 @@ acl-beside-acl p which.Dacl true which.Sacl e = acl-as-is which.Sacl (begun_or_n
 acl-beside-acl p which.Sacl false which.Dacl e = refl
 acl-beside-acl p which.Dacl false which.Sacl e = refl
 
-owner-begun : (p : Parts) (w : Which) (null : Bool) → (begun_or_null w null p).owner ≡ p.owner
+owner-begun : (p : DraftParts) (w : Which) (null : Bool) → (begun_or_null w null p).owner ≡ p.owner
 owner-begun p w false = refl
 owner-begun p which.Sacl true = refl
 owner-begun p which.Dacl true = refl
 
-group-begun : (p : Parts) (w : Which) (null : Bool) → (begun_or_null w null p).group ≡ p.group
+group-begun : (p : DraftParts) (w : Which) (null : Bool) → (begun_or_null w null p).group ≡ p.group
 group-begun p w false = refl
 group-begun p which.Sacl true = refl
 group-begun p which.Dacl true = refl
 
 -- one ACE more in the ACL at hand
-absent-with_ace : (p : Parts) (a : AccessControlEntry) (v : Which) → acl_for v (closed p) ≡ acl.Absent
+absent-with_ace : (p : DraftParts) (a : AccessControlEntry) (v : Which) → acl_for v (closed p) ≡ acl.Absent
     → acl_for v (closed (with_ace a p)) ≡ acl.Absent
 absent-with_ace p a v e = cases p.«open» v e
   where
@@ -126,7 +126,7 @@ absent-with_ace p a v e = cases p.«open» v e
     cases None v e = e
     cases (Some o) v e = listed o.0 o.1 v e
 
-open-with_ace : (p : Parts) (a : AccessControlEntry) → IsOpen p → IsOpen (with_ace a p)
+open-with_ace : (p : DraftParts) (a : AccessControlEntry) → IsOpen p → IsOpen (with_ace a p)
 open-with_ace p a o = cases p.«open» o
   where
     cases : (x : Option (Which × List AccessControlEntry)) → IsOpenIn x → IsOpenIn (more_in a x)
@@ -250,7 +250,7 @@ open-front domain r u w text e =
     if-front (λ x. IsOpen x.parts) u w true r (front_reads text) (λ f n. begins f.null f.flags n)
     (readable domain r u (slot.AclFlags w true) text e)
   where
-    with_w : (w : Which) (flags : AclFlags) (p : Parts) → IsOpen p
+    with_w : (w : Which) (flags : AclFlags) (p : DraftParts) → IsOpen p
         → IsOpen (with_flags w flags (record r { parts = p })).parts
     with_w which.Sacl flags p o = o
     with_w which.Dacl flags p o = o

@@ -19,7 +19,7 @@ use Rattle.sd_sid.proofs.laws.ReadLimits.{sid-limits}
 use Rattle.sd_ace.proofs.laws.GuidLimits.{guid-limits}
 use Rattle.sd_view.specs.Acl.{IsAcl, acl_size}
 use Rattle.sd_view.specs.Descriptor.{Descriptor, IsAclPart, IsDescriptor}
-use Rattle.sd_builder.specs.Draft.{Parts, closed, closed_in, is_present, more_in, with_acl}
+use Rattle.sd_builder.specs.Draft.{DraftParts, closed, closed_in, is_present, more_in, with_acl}
 use Rattle.sd_view.specs.declared.acl.AclPart.{AclPart}
 use Rattle.sd_view.specs.declared.acl.AclPart.TheVariants as acl
 use Rattle.sd_control.specs.declared.part.Which.{Which}
@@ -71,11 +71,11 @@ abbrev IsOpened : Option (Which × List AccessControlEntry) → Type 0
 IsOpened None = Unit {0}
 IsOpened (Some o) = IsAcl o.1
 
-record AreSids (t : Parts) : Type 0 where
+record AreSids (t : DraftParts) : Type 0 where
   owner : IfSome t.owner IsSid
   group : IfSome t.group IsSid
 
-record AreAcls (t : Parts) : Type 0 where
+record AreAcls (t : DraftParts) : Type 0 where
   sacl : IsListed t.sacl
   dacl : IsListed t.dacl
   opened : IsOpened t.«open»
@@ -91,7 +91,7 @@ no_aces = record { each = tt; fits = omega arith }
 
 -- 2. The parts.
 
-sids-closed : (t : Parts) (o : Option (Which × List AccessControlEntry)) → AreSids t → AreSids (closed_in o t)
+sids-closed : (t : DraftParts) (o : Option (Which × List AccessControlEntry)) → AreSids t → AreSids (closed_in o t)
 sids-closed t None h = h
 sids-closed t (Some o) h = listed o.0
   where
@@ -99,7 +99,7 @@ sids-closed t (Some o) h = listed o.0
     listed which.Sacl = record { owner = h.owner; group = h.group }
     listed which.Dacl = record { owner = h.owner; group = h.group }
 
-acls-closed : (t : Parts) (o : Option (Which × List AccessControlEntry)) → AreAcls t → IsOpened o
+acls-closed : (t : DraftParts) (o : Option (Which × List AccessControlEntry)) → AreAcls t → IsOpened o
     → AreAcls (closed_in o t)
 acls-closed t None h k = h
 acls-closed t (Some o) h k = listed o.0
@@ -108,18 +108,18 @@ acls-closed t (Some o) h k = listed o.0
     listed which.Sacl = record { sacl = k; dacl = h.dacl; opened = tt }
     listed which.Dacl = record { sacl = h.sacl; dacl = k; opened = tt }
 
-closed-sids : (t : Parts) → AreSids t → AreSids (closed t)
+closed-sids : (t : DraftParts) → AreSids t → AreSids (closed t)
 closed-sids t h = sids-closed t t.«open» h
 
-closed-acls : (t : Parts) → AreAcls t → AreAcls (closed t)
+closed-acls : (t : DraftParts) → AreAcls t → AreAcls (closed t)
 closed-acls t h = acls-closed t t.«open» h h.opened
 
-sids-begun : (w : Which) (null : Bool) (t : Parts) → AreSids t → AreSids (begun_or_null w null t)
+sids-begun : (w : Which) (null : Bool) (t : DraftParts) → AreSids t → AreSids (begun_or_null w null t)
 sids-begun which.Sacl true t h = record { owner = h.owner; group = h.group }
 sids-begun which.Dacl true t h = record { owner = h.owner; group = h.group }
 sids-begun w false t h = record { owner = h.owner; group = h.group }
 
-acls-begun : (w : Which) (null : Bool) (t : Parts) → AreAcls t → AreAcls (begun_or_null w null t)
+acls-begun : (w : Which) (null : Bool) (t : DraftParts) → AreAcls t → AreAcls (begun_or_null w null t)
 acls-begun which.Sacl true t h = record { sacl = tt; dacl = h.dacl; opened = h.opened }
 acls-begun which.Dacl true t h = record { sacl = h.sacl; dacl = tt; opened = h.opened }
 acls-begun w false t h = record { sacl = h.sacl; dacl = h.dacl; opened = no_aces }

@@ -15,7 +15,7 @@ use Rattle.sd_sid.specs.declared.sid_text.SidFault.{SidFault}
 use Rattle.sd_sid.specs.declared.sid_text.SidFault.TheVariants.{SidForm}
 use Rattle.sd_view.specs.Acl.{acl_size}
 use Rattle.sd_view.specs.Descriptor.{Descriptor}
-use Rattle.sd_builder.specs.Draft.{Parts, begun, built, closed, no_parts, with_ace, with_acl}
+use Rattle.sd_builder.specs.Draft.{DraftParts, begun, built, closed, no_parts, with_ace, with_acl}
 use Rattle.sd_view.specs.declared.acl.AclPart.TheVariants as acl
 use Rattle.sd_control.specs.declared.part.Which.{Which}
 use Rattle.sd_control.specs.declared.part.Which.TheVariants as which
@@ -83,7 +83,7 @@ fields_of (s ∷ ss) = fields_in s.head s.body ++ fields_of ss
 -- it.
 pub record FieldsRead : Type 0 where
   -- the parts, and the ACL at hand with its ACEs
-  pub parts : Parts
+  pub parts : DraftParts
   -- the flags of the ACLs that stand
   pub sacl : AclFlags
   pub dacl : AclFlags
@@ -116,7 +116,7 @@ abbrev pub with_flags : Which → AclFlags → FieldsRead → FieldsRead
 with_flags which.Sacl f r = record r { sacl = f }
 with_flags which.Dacl f r = record r { dacl = f }
 
-abbrev pub begun_or_null : Which → Bool → Parts → Parts
+abbrev pub begun_or_null : Which → Bool → DraftParts → DraftParts
 begun_or_null w true t = with_acl w acl.Null t
 begun_or_null w false t = begun w t
 
@@ -135,7 +135,7 @@ abbrev pub large_in : Option (Which × List AccessControlEntry) → Option Which
 large_in None = None
 large_in (Some o) = if nat_lt most_acl (acl_size o.1) then Some o.0 else None
 
-abbrev pub grown : FieldsRead → Parts → FieldsRead
+abbrev pub grown : FieldsRead → DraftParts → FieldsRead
 grown r parts = record r { parts = parts; large = option_or r.large (large_in parts.«open») }
 
 -- the ACE at hand ends with its SID

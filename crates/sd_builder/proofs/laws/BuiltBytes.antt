@@ -13,7 +13,8 @@ use Rattle.sd_control.specs.declared.part.Part.{Part}
 use Rattle.sd_control.specs.declared.part.Part.TheVariants as part
 use Rattle.sd_view.proofs.laws.LayoutLaws.{length-acl_part, length-sid_part, offset-stands}
 use Rattle.sd_builder.specs.Builds.{Builds}
-use Rattle.sd_builder.specs.Draft.{Draft, IsWritten, Parts, built, built_bytes, is_present, offset_among, part_bytes}
+use Rattle.sd_builder.specs.Draft.{Draft, DraftParts, IsWritten, built, built_bytes, is_present, offset_among}
+use Rattle.sd_builder.specs.Draft.{part_bytes}
 use Rattle.sd_control.specs.Parts.{same_part}
 use Rattle.sd_control.proofs.laws.PartLaws.{same-is}
 use Rattle.sd_builder.specs.declared.builder.Builder.{Builder}
@@ -39,7 +40,7 @@ is_listed acl.Absent = false
 is_listed acl.Null = false
 is_listed (acl.List aces) = true
 
-abbrev pub has_bytes : Parts → Part → Bool
+abbrev pub has_bytes : DraftParts → Part → Bool
 has_bytes t part.Owner = is_some t.owner
 has_bytes t part.Group = is_some t.group
 has_bytes t part.Sacl = is_listed t.sacl
@@ -49,7 +50,7 @@ abbrev pub all_parts : List Part
 all_parts = part.Owner ∷ part.Group ∷ part.Sacl ∷ part.Dacl ∷ []
 
 -- the parts that have bytes, in the order of the layout
-abbrev pub layout_order : Parts → List Part
+abbrev pub layout_order : DraftParts → List Part
 layout_order t = filter (has_bytes t) all_parts
 
 no-sid : (o : Option SecurityId) → is_some o ≡ false → sid_part o ≡ []
@@ -61,17 +62,17 @@ no-acl acl.Absent e = refl
 no-acl acl.Null e = refl
 no-acl (acl.List aces) e = absurd (cc)
 
-no-bytes : (t : Parts) (p : Part) → has_bytes t p ≡ false → part_bytes t p ≡ []
+no-bytes : (t : DraftParts) (p : Part) → has_bytes t p ≡ false → part_bytes t p ≡ []
 no-bytes t part.Owner e = no-sid t.owner e
 no-bytes t part.Group e = no-sid t.group e
 no-bytes t part.Sacl e = no-acl t.sacl e
 no-bytes t part.Dacl e = no-acl t.dacl e
 
-has-same : (t : Parts) (p q : Part) → same_part p q ≡ true → has_bytes t p ≡ has_bytes t q
+has-same : (t : DraftParts) (p q : Part) → same_part p q ≡ true → has_bytes t p ≡ has_bytes t q
 has-same t p q e = ap (has_bytes t) (same-is p q e)
 
 -- parts without bytes may be left out
-bytes-of-those : (t : Parts) (ps : List Part)
+bytes-of-those : (t : DraftParts) (ps : List Part)
     → flat_map (part_bytes t) (filter (has_bytes t) ps) ≡ flat_map (part_bytes t) ps
 bytes-of-those t [] = refl
 bytes-of-those t (p ∷ ps) = by_test (has_bytes t p) refl (bytes-of-those t ps)
@@ -83,14 +84,14 @@ bytes-of-those t (p ∷ ps) = by_test (has_bytes t p) refl (bytes-of-those t ps)
     by_test false e rest = rw (e, no-bytes t p e) rest
 
 -- the offset of a part among those, and 0 where it is none of them
-abbrev offset_if_any : ℕ → Parts → List Part → Part → ℕ
+abbrev offset_if_any : ℕ → DraftParts → List Part → Part → ℕ
 offset_if_any start t ps q = if has_bytes t q then offset_among start t ps q else 0
 
 no-offset : (c : Bool) → ◌≡◌ {A = ℕ} 0 (if c then 0 else 0)
 no-offset true = refl
 no-offset false = refl
 
-offset-of-those : (start : ℕ) (t : Parts) (ps : List Part) (q : Part)
+offset-of-those : (start : ℕ) (t : DraftParts) (ps : List Part) (q : Part)
     → offset_among start t (filter (has_bytes t) ps) q ≡ offset_if_any start t ps q
 offset-of-those start t [] q = no-offset (has_bytes t q)
 offset-of-those start t (p ∷ ps) q =

@@ -7,7 +7,7 @@ use Rattle.sd_sid.specs.Sid.{SecurityId, IsSid, sid_bytes, sid_size}
 use Rattle.sd_view.specs.Acl.{IsAcl, acl_size, has_object}
 use Rattle.sd_view.specs.AclLayout.{ace_bytes, acl_bytes}
 use Rattle.sd_view.specs.Descriptor.{AreApart, Extent}
-use Rattle.sd_builder.specs.Draft.{Draft, Parts, acl_for, bytes_in_order, offset_of}
+use Rattle.sd_builder.specs.Draft.{Draft, DraftParts, acl_for, bytes_in_order, offset_of}
 use Rattle.sd_view.specs.declared.acl.AclPart.{AclPart}
 use Rattle.sd_view.specs.declared.acl.AclPart.TheVariants as acl
 use Rattle.sd_builder.specs.declared.builder.Builder.{Builder}
@@ -15,7 +15,7 @@ use Rattle.sd_builder.specs.declared.builder.OpenAcl.{OpenAcl}
 use Rattle.sd_control.specs.declared.part.Which.{Which}
 use Rattle.sd_control.specs.Parts.{get_part, set_part}
 use Rattle.sd_control.specs.declared.part.Part.{Part}
-use Rattle.sd_control.specs.declared.part.Parts.{Parts as PartsOf}
+use Rattle.sd_control.specs.declared.part.Parts.{Parts}
 use Rattle.sd_control.specs.declared.part.Part.TheVariants as part
 
 -- a part's bytes at its offset, past the header
@@ -41,7 +41,7 @@ given_acl acl.Absent = nothing
 given_acl acl.Null = null
 given_acl (acl.List aces) = list aces
 
-abbrev pub given : Parts → Part → Given
+abbrev pub given : DraftParts → Part → Given
 given t part.Owner = given_sid t.owner
 given t part.Group = given_sid t.group
 given t part.Sacl = given_acl t.sacl
@@ -77,7 +77,7 @@ extent_at (Some offset) null = None
 extent_at (Some offset) (sid s) = Some (offset, offset + sid_size s)
 extent_at (Some offset) (list aces) = Some (offset, offset + acl_size aces)
 
-abbrev pub extents_kept : Builder → Parts → PartsOf Extent
+abbrev pub extents_kept : Builder → DraftParts → Parts Extent
 extents_kept b t = record {
   owner = extent_at b.offsets.owner (given_sid t.owner);
   group = extent_at b.offsets.group (given_sid t.group);
@@ -86,13 +86,13 @@ extents_kept b t = record {
 }
 
 -- the bytes of the header and of the parts
-abbrev pub closed_size : Parts → ℕ
+abbrev pub closed_size : DraftParts → ℕ
 closed_size t =
     20 + given_size (given t part.Owner) + given_size (given t part.Group) + given_size (given t part.Sacl)
     + given_size (given t part.Dacl)
 
 -- the parts that are closed, without gaps
-pub record PartsStand (bytes : List ℕ) (b : Builder) (t : Parts) : Type 0 where
+pub record PartsStand (bytes : List ℕ) (b : Builder) (t : DraftParts) : Type 0 where
   pub each : (p : Part) → PartStands bytes (get_part p b.offsets) (given t p)
   pub apart : AreApart (extents_kept b t)
   pub size : length bytes ≡ closed_size t
@@ -120,7 +120,7 @@ OpenStands closed tail (Some o) None = ⊥
 OpenStands closed tail (Some o) (Some u) = OpenAt closed tail o u.0 u.1
 
 -- the ACL that is open is not given yet
-abbrev pub OpenIsFree : Option (Which × List AccessControlEntry) → Parts → Type 0
+abbrev pub OpenIsFree : Option (Which × List AccessControlEntry) → DraftParts → Type 0
 OpenIsFree None t = Unit {0}
 OpenIsFree (Some u) t = acl_for u.0 t ≡ acl.Absent
 

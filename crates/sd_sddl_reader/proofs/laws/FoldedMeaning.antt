@@ -9,7 +9,7 @@ use Rattle.sd_ace.specs.Ace.{AccessControlEntry}
 use Rattle.sd_sid.specs.Sid.{SecurityId}
 use Rattle.sd_view.specs.Acl.{acl_size, aces_size}
 use Rattle.sd_view.specs.Descriptor.{Descriptor}
-use Rattle.sd_builder.specs.Draft.{Parts, built, closed, closed_in, is_present, with_acl}
+use Rattle.sd_builder.specs.Draft.{DraftParts, built, closed, closed_in, is_present, with_acl}
 use Rattle.sd_view.specs.Layout.{acl_part_size}
 use Rattle.sd_view.specs.declared.acl.AclPart.{AclPart}
 use Rattle.sd_view.specs.declared.acl.AclPart.TheVariants as acl
@@ -49,7 +49,7 @@ record Gathered : Type 0 where
   sacl_flags : AclFlags
   dacl_flags : AclFlags
 
-abbrev of_draft : Parts → AclFlags → AclFlags → Gathered
+abbrev of_draft : DraftParts → AclFlags → AclFlags → Gathered
 of_draft t sf df = record {
   owner = t.owner;
   group = t.group;
@@ -69,7 +69,8 @@ with_one (acl_said which.Sacl f a) g = record g { sacl = a; sacl_flags = f }
 with_one (acl_said which.Dacl f a) g = record g { dacl = a; dacl_flags = f }
 
 -- a fold with an open ACL
-abbrev opened : Parts → AclFlags → AclFlags → AceFields → Option Which → Which → List AccessControlEntry → FieldsRead
+abbrev opened : DraftParts → AclFlags → AclFlags → AceFields → Option Which → Which → List AccessControlEntry
+    → FieldsRead
 opened t sf df a l w es = record {
   parts = record t { «open» = Some (w, es) };
   sacl = sf;
@@ -106,7 +107,7 @@ still-large w es more = by_test (nat_lt 65535 (acl_size es)) (nat_lt 65535 (acl_
     by_test true true e f = refl
     by_test true false e f = absurd (let h = longer es more in grind (arith, nat_tests))
 
-module _ (t : Parts) (sf df : AclFlags) (w : Which) where
+module _ (t : DraftParts) (sf df : AclFlags) (w : Which) where
   entries-gathered : (es before : List AccessControlEntry) (a : AceFields) (l : Option Which)
       → gathered (with_entries (opened t sf df a l w before) es) ≡ gathered (opened t sf df a l w (before ++ es))
   unfolding with_entries
@@ -130,7 +131,7 @@ module _ (t : Parts) (sf df : AclFlags) (w : Which) where
       ∙ ap (λ (all : List AccessControlEntry). option_or l (large_with w all)) (append_assoc before (e ∷ []) es)
 
 -- no ACL is open after the part at hand
-none-open : (t : Parts) → (closed t).«open» ≡ None
+none-open : (t : DraftParts) → (closed t).«open» ≡ None
 none-open t = by_open t.«open» refl
   where
     one : (w : Which) (es : List AccessControlEntry)

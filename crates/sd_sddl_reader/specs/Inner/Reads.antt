@@ -11,7 +11,7 @@ use Rattle.sd_view.specs.declared.acl.AclPart.TheVariants as acl
 use Rattle.sd_control.specs.declared.part.Part.{Part}
 use Rattle.sd_builder.specs.Builds.{Builds}
 use Rattle.sd_builder.specs.declared.builder.Builder.{Builder}
-use Rattle.sd_builder.specs.Draft.{IsOpen, IsWritten, Parts, acl_for, closed}
+use Rattle.sd_builder.specs.Draft.{DraftParts, IsOpen, IsWritten, acl_for, closed}
 use Rattle.sd_sddl_fields.specs.Held.{IsHeld}
 use Rattle.sd_sddl_reader.specs.Line.{byte, head_at, pieces_from, same_head}
 use Rattle.sd_sddl_reader.specs.FoldedReading.{FieldsRead, reads_as}
@@ -49,7 +49,7 @@ pub record AreAceFields (f : AceFields) : Type 0 where
   pub fit : GuidsFit (is_object f.kind) f.object f.inherited
 
 -- the builder was given these parts, in some order
-abbrev pub BuildsParts : Builder → List ℕ → Parts → Type 0
+abbrev pub BuildsParts : Builder → List ℕ → DraftParts → Type 0
 BuildsParts b buf p = (order : List Part) × Builds b buf (record { parts = p; order = order })
 
 -- The reader has read this, and as long as no ACL is too large it is in the buffer.

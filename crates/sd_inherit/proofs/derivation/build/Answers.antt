@@ -2,7 +2,7 @@ use Rattle.std.proofs.Common.{◌≡◌, ℕ, refl, ap, ◌∙◌}
 use Rattle.std.specs.Option.{option_copied}
 use Rattle.sd_control.specs.declared.part.Which.TheVariants.{Dacl, Sacl}
 use Rattle.sd_builder.specs.Builds.{Builds}
-use Rattle.sd_builder.specs.Draft.{Parts, built, nothing_given, with_owner}
+use Rattle.sd_builder.specs.Draft.{DraftParts, built, nothing_given, with_owner}
 use Rattle.sd_builder.proofs.laws.BuiltBytes.{built-layout}
 use Rattle.sd_inherit.specs.Inner.Building.{with_part}
 use Rattle.sd_inherit.specs.Derived.{creators_acl, derived, new_aces, new_sacl}
@@ -67,7 +67,8 @@ finish-requires c =
     let d = c.args.parent.now in
     let creator = option_copied c.args.creator in
     let plan = c.args.plan.now in
-    (draft_of d creator plan, given at.After-flag_bits-flags, ap (λ (p : Parts). p.«open») (draft-parts d creator plan))
+    let closed = ap (λ (p : DraftParts). p.«open») (draft-parts d creator plan) in
+    (draft_of d creator plan, given at.After-flag_bits-flags, closed)
 
 pub returns-clause-shows : goal.returns-clause-shows
 returns-clause-shows c =
