@@ -14,8 +14,9 @@ use Rattle.sd_control.specs.declared.part.Parts.{Parts}
 use Rattle.sd_control.specs.Control.{control_of}
 use Rattle.sd_view.specs.Descriptor.{Shows, ShowsAclPart, ShowsSid, acl_extent, dacl_at, group_at, owner_at, sacl_at}
 use Rattle.sd_view.specs.Descriptor.{sid_extent}
-use Rattle.sd_builder.specs.Draft.{AclIsWritten, Draft, DraftParts, IsWritten, built, built_bytes, is_present}
+use Rattle.sd_builder.specs.Draft.{Draft, DraftParts, built, built_bytes, is_present}
 use Rattle.sd_control.specs.Header.{header_bytes}
+use Rattle.sd_view.specs.WrittenForm.{AclIsWritten, IsWritten, IsWrittenForm}
 use Rattle.sd_view.specs.declared.acl.AclPart.{AclPart}
 use Rattle.sd_view.specs.declared.acl.AclPart.TheVariants as acl
 use Rattle.sd_builder.specs.declared.builder.Builder.{Builder}
@@ -212,3 +213,16 @@ finish-shows b bytes t0 t flags rm h0 e small h =
     let parts = (closed-from b bytes t0 t h0 e h).parts in
     subst (λ (word : ℕ). Shows (header_for rm word b ++ drop 20 bytes) (built flags rm t.parts))
     (sym (word-is b bytes t.parts flags parts)) (shows b bytes t.parts flags rm small parts)
+
+pub finish-form : (b : Builder) (bytes : List ℕ) (t : Draft) (flags rm : ℕ) → Builds b bytes t → t.parts.«open» ≡ None
+    → flags < 2 ^ 16
+    → IsWrittenForm
+    (header_for rm (control_of flags (is_some b.offsets.sacl) (is_some b.offsets.dacl)) b ++ drop 20 bytes)
+unfolding Builds
+finish-form b bytes t flags rm h e small =
+    let word = control_of flags (is_some b.offsets.sacl) (is_some b.offsets.dacl) in
+    record {
+      descriptor = built flags rm t.parts;
+      shows = finish-shows b bytes t t flags rm h e small h;
+      written = is-written b bytes t.parts flags rm word (closed-from b bytes t t h e h).parts;
+    }

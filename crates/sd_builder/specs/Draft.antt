@@ -1,15 +1,14 @@
 -- What a builder was given so far, and the descriptor that it ends with, and its bytes (MS-DTYP 2.4.6).
-use Rattle.std.specs.Prelude.{◌≡◌, ℕ, ◌+◌, Bool, true, false, if◌then◌else◌, List, [], ◌∷◌, ◌++◌, length, drop, Option}
+use Rattle.std.specs.Prelude.{◌≡◌, ℕ, ◌+◌, Bool, true, false, if◌then◌else◌, List, [], ◌∷◌, ◌++◌, length, Option}
 use Rattle.std.specs.Prelude.{Some, None}
 use Rattle.std.specs.List.{flat_map}
 use Rattle.sd_ace.specs.Ace.{AccessControlEntry}
 use Rattle.sd_sid.specs.Sid.{SecurityId}
 use Rattle.sd_view.specs.Acl.{acl_size}
-use Rattle.sd_view.specs.AclLayout.{acl_bytes}
 use Rattle.sd_control.specs.Control.{control_of}
-use Rattle.sd_view.specs.Descriptor.{Descriptor, dacl_at, sacl_at}
+use Rattle.sd_view.specs.Descriptor.{Descriptor}
 use Rattle.sd_control.specs.Header.{header_bytes}
-use Rattle.sd_view.specs.Layout.{acl_part, sid_part, size}
+use Rattle.sd_view.specs.Layout.{acl_part, sid_part}
 use Rattle.sd_view.specs.declared.acl.AclPart.{AclPart}
 use Rattle.sd_view.specs.declared.acl.AclPart.TheVariants as acl
 use Rattle.sd_control.specs.Parts.{part_of, same_part}
@@ -159,17 +158,3 @@ built_bytes flags rm t =
       dacl = offset_of t part.Dacl;
     })
     ++ bytes_in_order t
-
--- 5. Bytes that have no gap, and the one written form of each part.
-
--- an ACL stands in its written form (MS-DTYP 2.4.5); the offset is 0 where none stands
-abbrev pub AclIsWritten : List ℕ → ℕ → AclPart → Type 0
-AclIsWritten bytes offset acl.Absent = offset ≡ 0
-AclIsWritten bytes offset acl.Null = offset ≡ 0
-AclIsWritten bytes offset (acl.List aces) = (rest : List ℕ) × (drop offset bytes ≡ acl_bytes aces ++ rest)
-
--- as many bytes as the layout has, and so no gap; in each ACL revision 4 exactly where an object ACE stands
-pub record IsWritten (bytes : List ℕ) (d : Descriptor) : Type 0 where
-  pub size : length bytes ≡ size d
-  pub sacl : AclIsWritten bytes (sacl_at bytes) d.sacl
-  pub dacl : AclIsWritten bytes (dacl_at bytes) d.dacl

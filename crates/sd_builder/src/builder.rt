@@ -5,6 +5,7 @@ ghost use Rattle.sd_ace.specs.Ace.{ace_size};
 ghost use Rattle.sd_builder.specs.Builds.{Builds};
 ghost use Rattle.sd_builder.specs.Inner.Building.{placed};
 ghost use Rattle.sd_view.specs.Descriptor.{Shows};
+ghost use Rattle.sd_view.specs.WrittenForm.{IsWrittenForm};
 ghost use Rattle.sd_builder.specs.Draft.{CanBegin, Draft, IsOpen, begun, built, built_bytes, ended, nothing_given};
 ghost use Rattle.sd_builder.specs.Draft.{open_size, with_ace, with_acl, with_group, with_owner};
 ghost use Rattle.sd_view.specs.declared.acl.AclPart.TheVariants as acl;
@@ -162,6 +163,8 @@ impl Builder {
         // The header, and the parts in the order of the calls.
         ensures exact { (t : Draft) → Builds self.now buf.old t → buf.new ≡ built_bytes flags rm t }
         ensures shows { (t : Draft) → Builds self.now buf.old t → Shows buf.new (built flags rm t.parts) }
+        // Without gaps, and each part in its one written form: `view_written` takes the bytes.
+        ensures form { IsWrittenForm buf.new }
     {
         let kept = &self.offsets;
         let control = control_of(flags, kept.sacl.is_some(), kept.dacl.is_some());

@@ -5,7 +5,7 @@ ghost use Rattle.std.specs.Prelude.{false, Option, Some, None, Ok, Err, IfOk, If
 ghost use Rattle.std.specs.Option.{option_copied};
 ghost use Rattle.sd_sid.specs.Sid.{IsSid, SecurityId};
 ghost use Rattle.sd_view.specs.Descriptor.{IsDescriptor, Shows};
-ghost use Rattle.sd_builder.specs.Draft.{IsWritten};
+ghost use Rattle.sd_view.specs.WrittenForm.{IsWritten};
 ghost use Rattle.sd_sddl_fields.specs.Held.{IsHeld, no_text, held_text};
 ghost use Rattle.sd_sddl_reader.specs.Line.{byte, head_at, head_of as head_named, pieces_from};
 ghost use Rattle.sd_sddl_reader.specs.FoldedReading.{FieldsRead, finished, take_field};

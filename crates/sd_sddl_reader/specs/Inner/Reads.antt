@@ -7,11 +7,12 @@ use Rattle.sd_ace.specs.Ace.{GuidsFit}
 use Rattle.sd_kinds.specs.Kinds.{is_object}
 use Rattle.sd_sid.specs.Sid.{SecurityId}
 use Rattle.sd_view.specs.Descriptor.{Descriptor, Shows}
+use Rattle.sd_view.specs.WrittenForm.{IsWritten}
 use Rattle.sd_view.specs.declared.acl.AclPart.TheVariants as acl
 use Rattle.sd_control.specs.declared.part.Part.{Part}
 use Rattle.sd_builder.specs.Builds.{Builds}
 use Rattle.sd_builder.specs.declared.builder.Builder.{Builder}
-use Rattle.sd_builder.specs.Draft.{DraftParts, IsOpen, IsWritten, acl_for, closed}
+use Rattle.sd_builder.specs.Draft.{DraftParts, IsOpen, acl_for, closed}
 use Rattle.sd_sddl_fields.specs.Held.{IsHeld}
 use Rattle.sd_sddl_reader.specs.Line.{byte, head_at, pieces_from, same_head}
 use Rattle.sd_sddl_reader.specs.FoldedReading.{FieldsRead, reads_as}

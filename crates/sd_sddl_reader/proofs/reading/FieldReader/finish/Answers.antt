@@ -1,5 +1,6 @@
 use Rattle.std.proofs.Common.{◌≡◌, Option, Some, None, refl, sym, ◌∙◌}
-use Rattle.sd_builder.specs.Draft.{Draft, IsWritten, built, closed}
+use Rattle.sd_view.specs.WrittenForm.{IsWritten}
+use Rattle.sd_builder.specs.Draft.{Draft, built, closed}
 use Rattle.sd_builder.proofs.laws.BuiltBytes.{builds-written}
 use Rattle.sd_sddl_reader.specs.Meaning.{control_flags}
 use Rattle.sd_sddl_reader.proofs.FieldLaws.{finished-none}
