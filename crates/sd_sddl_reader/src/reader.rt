@@ -1,11 +1,11 @@
 //! A line, read as it comes: byte by byte, or at once what is whole in a piece.
 
 ghost use Rattle.std.specs.Prelude.{◌≡◌, ◌≤◌, ℕ, List, [], ◌∷◌, ◌++◌, codes, length, take, ◌||◌, if◌then◌else◌, true};
-ghost use Rattle.std.specs.Prelude.{false, Option, Some, None, Ok, Err, IfOk, IfSome, OnErr, MatchResult};
+ghost use Rattle.std.specs.Prelude.{false, Option, Some, None, Ok, Err, IfOk, IfSome, OnErr, OnOk, MatchResult};
 ghost use Rattle.std.specs.Option.{option_copied};
 ghost use Rattle.sd_sid.specs.Sid.{IsSid, SecurityId};
 ghost use Rattle.sd_view.specs.Descriptor.{IsDescriptor, Shows};
-ghost use Rattle.sd_view.specs.WrittenForm.{IsWritten};
+ghost use Rattle.sd_view.specs.WrittenForm.{IsWritten, IsWrittenForm};
 ghost use Rattle.sd_sddl_fields.specs.Held.{IsHeld, no_text, held_text};
 ghost use Rattle.sd_sddl_reader.specs.Line.{byte, head_at, head_of as head_named, pieces_from};
 ghost use Rattle.sd_sddl_reader.specs.FoldedReading.{FieldsRead, finished, take_field};
@@ -398,6 +398,8 @@ impl SddlReader {
         // Without gaps, and each part in its one written form.
         ensures written { (domain : Option SecurityId) (text : List ℕ) → ReadsSddl self.old buf.old domain text
             → IfOk (means text domain) (IsWritten buf.new) }
+        // The same whatever was fed: `view_written` takes the bytes.
+        ensures form { OnOk result (IsWrittenForm buf.new) }
         ensures empty { OnErr result (buf.new ≡ []) }
     {
         if let Some(letter) = self.pending {
@@ -416,6 +418,8 @@ impl SddlReader {
         // Without gaps, and each part in its one written form.
         ensures written { (domain : Option SecurityId) (text : List ℕ) → ReadsSddl self buf.old domain text
             → IfOk (means text domain) (IsWritten buf.new) }
+        // The same whatever was fed: `view_written` takes the bytes.
+        ensures form { OnOk result (IsWrittenForm buf.new) }
         ensures empty { OnErr result (buf.new ≡ []) }
     {
         self.end(buf)
@@ -430,6 +434,7 @@ impl SddlReader {
             (λ e. (result ≡ Err e) × (buf.new ≡ [])) }
         ensures written { (t : FieldsRead) → LineHasRead self.old buf.old t
             → IfOk (finished (answer_at self.old t [])) (IsWritten buf.new) }
+        ensures form { OnOk result (IsWrittenForm buf.new) }
         ensures empty { OnErr result (buf.new ≡ []) }
     {
         match self.end_line(buf) {
@@ -546,6 +551,7 @@ pub fn read_sddl(text: &[u8], domain: Option<&Sid>, buf: &mut SdBuf) -> Result<(
         (λ e. (result ≡ Err e) × (buf.new ≡ [])) }
     // Without gaps, and each part in its one written form.
     ensures written { IfOk (means text.now (option_copied domain.entry)) (IsWritten buf.new) }
+    ensures form { OnOk result (IsWrittenForm buf.new) }
     // What it means keeps the limits of a descriptor.
     ensures limits { IfOk (means text.now (option_copied domain.entry)) IsDescriptor }
 {
