@@ -4,6 +4,7 @@ ghost use Rattle.std.specs.Prelude.{◌≡◌, ◌&&◌, not, [], None, Some, Ma
 ghost use Rattle.std.specs.Option.{option_copied};
 ghost use Rattle.sd_view.specs.Descriptor.{Shows};
 ghost use Rattle.sd_view.specs.Layout.{layout};
+ghost use Rattle.sd_view.specs.WrittenForm.{IsWrittenForm};
 ghost use Rattle.sd_builder.specs.Draft.{is_present};
 ghost use Rattle.sd_inherit.specs.Inner.Building.{bits_beside, flags_beside, is_null};
 ghost use Rattle.sd_inherit.specs.Derived.{acl_of, creators_acl, derive_fault, derived, is_protected, parents_acl};
@@ -37,6 +38,8 @@ pub fn derive(
     ensures shows { OnOk result (Shows buf.new (derived parent.now (option_copied creator.entry) plan.now)) }
     // In its one written form, and not only some bytes that show it.
     ensures laid_out { OnOk result (buf.new ≡ layout (derived parent.now (option_copied creator.entry) plan.now)) }
+    // So `view_written` takes the bytes.
+    ensures form { OnOk result (IsWrittenForm buf.new) }
     ensures empty { OnErr result (buf.new ≡ []) }
 {
     let result = build(parent, creator, plan, buf);
@@ -57,6 +60,7 @@ fn build(
         (λ f. derive_fault parent.now (option_copied creator.entry) plan.now ≡ Some f) }
     ensures shows { OnOk result (Shows buf.new (derived parent.now (option_copied creator.entry) plan.now)) }
     ensures laid_out { OnOk result (buf.new ≡ layout (derived parent.now (option_copied creator.entry) plan.now)) }
+    ensures form { OnOk result (IsWrittenForm buf.new) }
 {
     let mut builder = Builder::new(buf);
     builder.owner(buf, &plan.owner);
