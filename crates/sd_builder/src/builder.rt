@@ -163,7 +163,7 @@ impl Builder {
         // The header, and the parts in the order of the calls.
         ensures exact { (t : Draft) → Builds self.now buf.old t → buf.new ≡ built_bytes flags rm t }
         ensures shows { (t : Draft) → Builds self.now buf.old t → Shows buf.new (built flags rm t.parts) }
-        // Without gaps, and each part in its one written form: `view_written` takes the bytes.
+        // Without gaps, and each part in its one written form: what `view_written` requires.
         ensures form { IsWrittenForm buf.new }
     {
         let kept = &self.offsets;

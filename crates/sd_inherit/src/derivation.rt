@@ -38,7 +38,7 @@ pub fn derive(
     ensures shows { OnOk result (Shows buf.new (derived parent.now (option_copied creator.entry) plan.now)) }
     // In its one written form, and not only some bytes that show it.
     ensures laid_out { OnOk result (buf.new ≡ layout (derived parent.now (option_copied creator.entry) plan.now)) }
-    // So `view_written` takes the bytes.
+    // What `view_written` requires.
     ensures form { OnOk result (IsWrittenForm buf.new) }
     ensures empty { OnErr result (buf.new ≡ []) }
 {

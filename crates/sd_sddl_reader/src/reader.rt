@@ -398,7 +398,7 @@ impl SddlReader {
         // Without gaps, and each part in its one written form.
         ensures written { (domain : Option SecurityId) (text : List ℕ) → ReadsSddl self.old buf.old domain text
             → IfOk (means text domain) (IsWritten buf.new) }
-        // The same whatever was fed: `view_written` takes the bytes.
+        // The same for any text: what `view_written` requires.
         ensures form { OnOk result (IsWrittenForm buf.new) }
         ensures empty { OnErr result (buf.new ≡ []) }
     {
@@ -418,7 +418,7 @@ impl SddlReader {
         // Without gaps, and each part in its one written form.
         ensures written { (domain : Option SecurityId) (text : List ℕ) → ReadsSddl self buf.old domain text
             → IfOk (means text domain) (IsWritten buf.new) }
-        // The same whatever was fed: `view_written` takes the bytes.
+        // The same for any text: what `view_written` requires.
         ensures form { OnOk result (IsWrittenForm buf.new) }
         ensures empty { OnErr result (buf.new ≡ []) }
     {

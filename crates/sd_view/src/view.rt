@@ -80,8 +80,8 @@ pub fn read(bytes: &[u8]) -> Result<SdView<'_>, SdFault>
     Ok(SdView { bytes, acls })
 }
 
-/// The descriptor that bytes in their written form show (MS-DTYP 2.4.6). It reads what it needs of their headers and
-/// checks nothing again.
+/// The descriptor that bytes in their written form show (MS-DTYP 2.4.6). Nothing is checked, and of each ACL only the
+/// header is read.
 pub fn view_written(bytes: &[u8]) -> SdView<'_>
     requires { IsWrittenForm bytes.now }
     ensures found { Shows bytes.now result }
@@ -89,7 +89,7 @@ pub fn view_written(bytes: &[u8]) -> SdView<'_>
     // What `read` gives.
     ensures exact { reading bytes.now ≡ Ok result }
     ensures limits { IsDescriptor result }
-    // Nothing but the descriptor is there.
+    // There are no spare bytes.
     ensures whole { length bytes.now ≡ size result }
 {
     let control = u16_at(bytes, 2);
