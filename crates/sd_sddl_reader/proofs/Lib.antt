@@ -7,4 +7,5 @@ pub mod Runs
 pub mod Steps
 pub mod TrusteeLaws
 pub mod WholeFields
+pub mod WholeParts
 pub mod laws

@@ -12,7 +12,7 @@ use Rattle.sd_sddl_reader.specs.declared.line.AceField.{AceField}
 use Rattle.sd_sddl_reader.specs.declared.line.State.TheVariants as state
 use Rattle.sd_control.specs.declared.part.SidPart.{SidPart}
 use Rattle.sd_sddl_fields.specs.Held.{Held, IsHeld, broken_text, held_run, held_with, is_plain_inside}
-use Rattle.sd_sddl_reader.specs.Inner.Progress.{is_plain_outside}
+use Rattle.sd_sddl_reader.specs.Inner.Progress.{is_plain_outside, is_plain_text}
 use Rattle.sd_sddl_reader.specs.Line.{head_of}
 use Rattle.sd_sddl_fields.specs.FieldTexts.{is_blank}
 use Rattle.sd_sddl_reader.specs.FoldedReading.{FieldsRead}
@@ -38,7 +38,7 @@ none_of false false true z e = absurd cc
 none_of false false false true e = absurd cc
 none_of false false false false e = (refl, refl, refl, refl)
 
-plain-is : (b : ℕ) → is_plain_inside b ≡ true → IsPlain b
+pub plain-is : (b : ℕ) → is_plain_inside b ≡ true → IsPlain b
 plain-is b e = let n =
     none_of (b == 40) (b == 41) (b == 59)
     (is_blank b) e in record { opens = n.0; closes = n.1; cuts = n.2; blank = n.3 }
@@ -65,17 +65,17 @@ pub none-of : {X : Type 0} → (x : Option X) → is_none x ≡ true → x ≡ N
 none-of None f = refl
 none-of (Some y) f = absurd cc
 
+pub not_true : (x : Bool) → not x ≡ true → x ≡ false
+not_true true f = absurd cc
+not_true false f = refl
+
 outside_parts : (b : ℕ) (bs : List ℕ) → list_all is_plain_outside (b ∷ bs) ≡ true
     → (is_plain_inside b ≡ true) × ((b == 58) ≡ false) × (head_of b ≡ None) × (list_all is_plain_outside bs ≡ true)
 outside_parts b bs e =
     let p = and_parts (is_plain_outside b) _ e in
-    let q = and_parts (is_plain_inside b) _ p.0 in
-    let r = and_parts (not (b == 58)) _ q.1 in
-    (q.0, not_true _ r.0, none-of (head_of b) r.1, p.1)
-  where
-    not_true : (x : Bool) → not x ≡ true → x ≡ false
-    not_true true f = absurd cc
-    not_true false f = refl
+    let q = and_parts (is_plain_text b) _ p.0 in
+    let r = and_parts (is_plain_inside b) _ q.0 in
+    (r.0, not_true _ r.1, none-of (head_of b) q.1, p.1)
 
 pub outside-held : (h : Held) (bs : List ℕ) → IsHeld h → list_all is_plain_outside bs ≡ true → IsHeld (held_run h bs)
 outside-held h [] k e = k

@@ -347,7 +347,7 @@ has_seen_with se p [] = refl
 has_seen_with se p (s ∷ ss) = rw (seen_with se p s.head, has_seen_with se p ss)
     (four (is_seen se s.head) (same_head p s.head) (has_seen se ss) (has_head p ss))
 
-not_letter : (b c : ℕ) (p : Head) → head_of b ≡ Some p → head_of c ≡ None → (b == c) ≡ false
+pub not_letter : (b c : ℕ) (p : Head) → head_of b ≡ Some p → head_of c ≡ None → (b == c) ≡ false
 not_letter b c p e n = elim (eqb_tells b c)
     [ inl h ↦ absurd (let f : head_of b ≡ None = rw (h.1) n in cc) | inr h ↦ h.0 ]
 

@@ -34,13 +34,16 @@ use Rattle.sd_sddl_reader.proofs.Steps.{close_last, cut, open_next}
 
 -- 1. The text of a field.
 
-nothing-held : IsHeld no_text
+pub nothing-held : IsHeld no_text
 nothing-held = record { clean = refl; fits = omega arith }
+
+pub whole-held : (t : List ℕ) → list_all is_plain_inside t ≡ true → length t ≤ 183
+    → IsHeld (record { text = t; gap = false; broken = false })
+whole-held t plain fits = subst IsHeld (run-fits [] t (omega arith)) (inside-held no_text t nothing-held plain)
 
 pub whole-readable : (t : List ℕ) → list_all is_plain_inside t ≡ true → length t ≤ 183 → is_unreadable t ≡ false
 whole-readable t plain fits =
-    held-readable (record { text = t; gap = false; broken = false })
-    (subst IsHeld (run-fits [] t (omega arith)) (inside-held no_text t nothing-held plain))
+    held-readable (record { text = t; gap = false; broken = false }) (whole-held t plain fits)
 
 -- 2. The answer to a field.
 

@@ -2,3 +2,4 @@
 pub mod Progress
 pub mod Reads
 pub mod WholeAce
+pub mod WholePart

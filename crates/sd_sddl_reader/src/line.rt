@@ -1,9 +1,11 @@
 //! The parts of an SDDL line, and the states of its reader.
 
-ghost use Rattle.std.specs.Prelude.{◌≡◌, ◌≤◌, length, take, true};
+ghost use Rattle.std.specs.Prelude.{◌≡◌, ◌≤◌, ◌∷◌, ◌++◌, length, take, IfSome, Some, true};
+ghost use Rattle.std.specs.Str.{byte as char};
 ghost use Rattle.std.specs.List.{list_all};
 ghost use Rattle.sd_sddl_fields.specs.Held.{is_plain_inside};
-ghost use Rattle.sd_sddl_reader.specs.Inner.Progress.{is_plain_outside};
+ghost use Rattle.sd_sddl_reader.specs.Inner.Progress.{is_plain_outside, is_plain_text};
+ghost use Rattle.sd_sddl_reader.specs.Inner.WholePart.{HeadAfter, IsPlainText};
 ghost use Rattle.sd_sddl_reader.specs.Line.{head_of, part_of_head};
 ghost use Rattle.sd_sddl_fields.specs.FieldTexts.{is_blank};
 ghost use Rattle.sd_sddl_reader.specs.FoldedReading.{next_field};
@@ -11,8 +13,9 @@ ghost use Rattle.sd_sddl_reader.specs.Inner.Progress.{state_of};
 
 use sd_control::{Part, SidPart, Which};
 use sd_sddl_fields::is_plain_inside;
+use sd_text::MOST_FIELD_SIZE;
 
-/// The bytes of a SID's numbers that are looked at together.
+/// The bytes of a text that are looked at together.
 const BLOCK: usize = 8;
 
 /// What a letter announces, with a colon after it.
@@ -110,11 +113,7 @@ pub fn next_field(field: AceField) -> AceField
 fn is_plain_outside(byte: u8) -> bool
     ensures { result ≡ is_plain_outside byte }
 {
-    // Of a SID most bytes are digits.
-    if byte.is_ascii_digit() {
-        return true;
-    }
-    is_plain_inside(byte) && byte != b':' && head_of(byte).is_none()
+    is_plain_text(byte) && head_of(byte).is_none()
 }
 
 /// How many bytes at the front only go onto the text of a field outside parentheses.
@@ -122,37 +121,93 @@ pub fn plain_outside(text: &[u8]) -> usize
     ensures within { result ≤ length text.now }
     ensures plain { list_all is_plain_outside (take result text.now) ≡ true }
 {
-    let blocks = numeric_blocks(text);
+    for (i, byte) in text.iter().enumerate() {
+        if !is_plain_outside(*byte) {
+            return i;
+        }
+    }
+    text.len()
+}
+
+/// The letter and the head at the front of a text, and what follows its colon.
+pub fn front_head(text: &[u8]) -> Option<(u8, Head, &[u8])>
+    ensures { IfSome result (λ r. (head_of r.0 ≡ Some r.1) × (text.now ≡ r.0 ∷ char ":" ∷ r.2.now)) }
+{
+    if text.len() < 2 || text[1] != b':' {
+        return None;
+    }
+    let head = head_of(text[0])?;
+    Some((text[0], head, &text[2..]))
+}
+
+/// The text of an owner or a group at the front of a text, the head that ends it, and what follows its colon. `None`
+/// if no such head is there, or if the text exceeds a field.
+pub fn next_head(text: &[u8]) -> Option<(&[u8], Head, &[u8])>
+    ensures { IfSome result (λ r. HeadAfter r.0.now r.1 r.2.now text.now) }
+{
+    let end = plain_text(text);
+    if end == 0 || end > MOST_FIELD_SIZE || end >= text.len() || text[end] != b':' {
+        return None;
+    }
+    let head = head_of(text[end - 1])?;
+    Some((&text[..end - 1], head, &text[end + 1..]))
+}
+
+/// The flags of an ACL at the front of a text, and what follows the parenthesis that ends them. `None` if no such
+/// parenthesis is there, or if the flags exceed a field.
+pub fn first_parenthesis(text: &[u8]) -> Option<(&[u8], &[u8])>
+    ensures { IfSome result (λ r. IsPlainText r.0.now × (text.now ≡ r.0.now ++ char "(" ∷ r.1.now)) }
+{
+    let end = plain_text(text);
+    if end > MOST_FIELD_SIZE || end >= text.len() || text[end] != b'(' {
+        return None;
+    }
+    Some((&text[..end], &text[end + 1..]))
+}
+
+// A byte that goes onto the text of a field outside parentheses, unless it is the letter of a head.
+fn is_plain_text(byte: u8) -> bool
+    ensures { result ≡ is_plain_text byte }
+{
+    is_plain_inside(byte) && byte != b':'
+}
+
+// How many bytes at the front are no parentheses, colons, semicolons or blanks.
+fn plain_text(text: &[u8]) -> usize
+    ensures within { result ≤ length text.now }
+    ensures plain { list_all is_plain_text (take result text.now) ≡ true }
+{
+    let blocks = plain_blocks(text);
     for place in blocks..text.len() {
-        if !is_plain_outside(text[place]) {
+        if !is_plain_text(text[place]) {
             return place;
         }
     }
     text.len()
 }
 
-// How many bytes at the front stand in whole blocks of digits and dashes.
+// How many bytes at the front stand in whole blocks of such bytes.
 #[inline(always)]
-fn numeric_blocks(text: &[u8]) -> usize
+fn plain_blocks(text: &[u8]) -> usize
     ensures within { result ≤ length text.now }
-    ensures plain { list_all is_plain_outside (take result text.now) ≡ true }
+    ensures plain { list_all is_plain_text (take result text.now) ≡ true }
 {
     let mut count = 0;
-    while text.len() - count >= BLOCK && are_numeric(&text[count..count + BLOCK]) {
+    while text.len() - count >= BLOCK && are_plain(&text[count..count + BLOCK]) {
         count += BLOCK;
     }
     count
 }
 
-// Whether all bytes are between `*` and `9`, as digits and dashes are. It looks at all of them and at each in the same
-// way, and so at several at a time.
+// Whether no byte is a parenthesis, a colon, a semicolon or a blank, nor any other before `*`. It looks at all bytes and
+// at each in the same way, and so at several at a time.
 #[inline(always)]
-fn are_numeric(text: &[u8]) -> bool
-    ensures { result ≡ true → list_all is_plain_outside text.now ≡ true }
+fn are_plain(text: &[u8]) -> bool
+    ensures { result ≡ true → list_all is_plain_text text.now ≡ true }
 {
     let mut other = false;
     for byte in text {
-        other |= (*byte < b'*') | (b'9' < *byte);
+        other |= (*byte < b'*') | (*byte == b':') | (*byte == b';');
     }
     !other
 }

@@ -1,6 +1,6 @@
 //! A line, read as it comes: byte by byte, or at once what is whole in a piece.
 
-ghost use Rattle.std.specs.Prelude.{◌≡◌, ◌≤◌, ℕ, List, [], ◌∷◌, ◌++◌, codes, length, take, ◌||◌, if◌then◌else◌, true};
+ghost use Rattle.std.specs.Prelude.{◌≡◌, ◌≤◌, ◌-◌, ℕ, List, [], ◌∷◌, ◌++◌, codes, length, take, ◌||◌, if◌then◌else◌, true};
 ghost use Rattle.std.specs.Prelude.{false, Option, Some, None, Ok, Err, IfOk, IfSome, OnErr, OnOk, MatchResult};
 ghost use Rattle.std.specs.Option.{option_copied};
 ghost use Rattle.sd_sid.specs.Sid.{IsSid, SecurityId};
@@ -12,13 +12,17 @@ ghost use Rattle.sd_sddl_reader.specs.FoldedReading.{FieldsRead, finished, take_
 ghost use Rattle.sd_text.specs.Chains.{and_then, unless};
 ghost use Rattle.sd_sddl_reader.specs.Meaning.{means};
 ghost use Rattle.sd_sddl_reader.specs.Inner.Reads.{CanTake, HasReadFields, Takes};
+ghost use Rattle.sd_sddl_reader.specs.Inner.WholePart.{IsPlainText};
 ghost use Rattle.sd_sddl_reader.specs.Inner.Progress.{ended_with, is_inside, is_seen, state_of, with_head};
 
 use crate::fault::SddlFault;
-use crate::line::{AceField, Head, Slot, State, head_of, next_field, plain_outside, state_of};
+use crate::line::{
+    AceField, Head, Slot, State, first_parenthesis, front_head, head_of, next_field, next_head,
+    plain_outside, state_of,
+};
 use crate::reading::{FieldReader, fault_of};
 use sd_buffer::SdBuf;
-use sd_control::Parts;
+use sd_control::{Parts, SidPart, Which};
 use sd_sddl_fields::{FieldText, is_blank, plain_inside};
 use sd_sid::Sid;
 
@@ -42,7 +46,8 @@ pub struct SddlReader {
 impl SddlReader {
     ghost use Rattle.sd_sddl_reader.specs.SddlReading.{IsReading, ReadsSddl};
     ghost use Rattle.sd_sddl_reader.specs.Inner.Reads.{CanStep, Ends, FedTo, HasReadFields, LineHasRead, IsCalm};
-    ghost use Rattle.sd_sddl_reader.specs.Inner.Reads.{IsReader, IsText, Reads, Steps, StepsOn, StepsText, answer_at};
+    ghost use Rattle.sd_sddl_reader.specs.Inner.Reads.{IsFresh, IsReader, IsText, Reads, Steps, StepsOn};
+    ghost use Rattle.sd_sddl_reader.specs.Inner.Reads.{StepsText, answer_at};
 
     /// A reader that was fed nothing.
     pub fn new(domain: Option<Sid>, buf: &mut SdBuf) -> Self
@@ -329,29 +334,158 @@ impl SddlReader {
             → ReadsSddl self.new buf.new domain (text ++ bytes.now) }
     {
         let mut rest = bytes;
-        while let Some((byte, after)) = rest.split_first() {
-            self.feed(buf, *byte);
-            let left = self.feed_aces(buf, after);
-            let run = self.feed_run(left);
-            rest = &left[run..];
+        while !rest.is_empty() {
+            rest = self.feed_next(buf, rest);
         }
     }
 
-    // Takes the ACEs that are whole at the front of the text, from behind the first parenthesis of the first one, and
-    // answers what follows them.
-    fn feed_aces<'a>(&mut self, buf: &mut SdBuf, text: &'a [u8]) -> &'a [u8]
+    // Takes what is whole at the front of the text, or else its first byte, and answers what follows.
+    #[inline(always)]
+    fn feed_next<'a>(&mut self, buf: &mut SdBuf, text: &'a [u8]) -> &'a [u8]
+        requires { IsReader self.old buf.old }
+        ensures shorter { length result.now ≤ length text.now - 1 }
+        ensures reader { IsReader self.new buf.new }
+        ensures read { (domain : Option SecurityId) (before : List ℕ) → Reads self.old buf.old domain before
+            → FedTo self.new buf.new domain result.now (before ++ text.now) }
+    {
+        let left = self.feed_whole(buf, text);
+        if left.len() < text.len() {
+            return left;
+        }
+        self.feed_front(buf, left)
+    }
+
+    // Takes the first byte of the text, and after it those that belong to the current field. Answers what follows them.
+    fn feed_front<'a>(&mut self, buf: &mut SdBuf, text: &'a [u8]) -> &'a [u8]
+        requires { IsReader self.old buf.old }
+        ensures shorter { length result.now ≤ length text.now - 1 }
+        ensures reader { IsReader self.new buf.new }
+        ensures read { (domain : Option SecurityId) (before : List ℕ) → Reads self.old buf.old domain before
+            → FedTo self.new buf.new domain result.now (before ++ text.now) }
+    {
+        let Some((byte, after)) = text.split_first() else {
+            return text;
+        };
+        self.feed(buf, *byte);
+        let run = self.feed_run(after);
+        &after[run..]
+    }
+
+    // Whether the field at hand has no byte yet, no byte waits, and all fields so far read.
+    fn is_fresh(&self) -> bool
+        ensures { result ≡ true → IsFresh self.now }
+    {
+        self.pending.is_none() && self.fault.is_none() && self.field.is_empty()
+    }
+
+    // Takes what is whole at the front of the text: a head, an owner or a group with the next head, the flags of an ACL
+    // with its first parenthesis, or ACEs. Answers what follows it.
+    fn feed_whole<'a>(&mut self, buf: &mut SdBuf, text: &'a [u8]) -> &'a [u8]
         requires { IsReader self.old buf.old }
         ensures shorter { length result.now ≤ length text.now }
         ensures reader { IsReader self.new buf.new }
         ensures read { (domain : Option SecurityId) (before : List ℕ) → Reads self.old buf.old domain before
             → FedTo self.new buf.new domain result.now (before ++ text.now) }
     {
-        let State::Ace(AceField::Kind) = self.state else {
-            return text;
-        };
-        if !self.sound || self.fault.is_some() || !self.field.is_empty() {
+        if !self.is_fresh() {
             return text;
         }
+        match self.state {
+            State::Before | State::AfterAce => self.feed_head(buf, text),
+            State::Sid(part) => self.feed_sid(buf, part, text),
+            State::AclFlags(which) => self.feed_flags(buf, which, text),
+            State::Ace(AceField::Kind) => self.feed_aces(buf, text),
+            State::Ace(_) => text,
+        }
+    }
+
+    // Takes a head.
+    fn feed_head<'a>(&mut self, buf: &mut SdBuf, text: &'a [u8]) -> &'a [u8]
+        requires here { is_inside self.old.state ≡ false }
+        requires fresh { IsFresh self.old }
+        requires reader { IsReader self.old buf.old }
+        ensures shorter { length result.now ≤ length text.now }
+        ensures reader { IsReader self.new buf.new }
+        ensures read { (domain : Option SecurityId) (before : List ℕ) → Reads self.old buf.old domain before
+            → FedTo self.new buf.new domain result.now (before ++ text.now) }
+    {
+        match front_head(text) {
+            Some((letter, head, rest)) => {
+                self.begin_part(buf, letter, head);
+                rest
+            }
+            None => text,
+        }
+    }
+
+    // Takes an owner or a group that is whole in the text, and the head that ends it.
+    fn feed_sid<'a>(&mut self, buf: &mut SdBuf, part: SidPart, text: &'a [u8]) -> &'a [u8]
+        requires here { self.old.state ≡ State.Sid part }
+        requires fresh { IsFresh self.old }
+        requires reader { IsReader self.old buf.old }
+        ensures shorter { length result.now ≤ length text.now }
+        ensures reader { IsReader self.new buf.new }
+        ensures read { (domain : Option SecurityId) (before : List ℕ) → Reads self.old buf.old domain before
+            → FedTo self.new buf.new domain result.now (before ++ text.now) }
+    {
+        match next_head(text) {
+            Some((field, head, rest)) => {
+                self.take_whole(buf, Slot::Sid(part), field);
+                self.note_head(head);
+                rest
+            }
+            None => text,
+        }
+    }
+
+    // Takes the flags of an ACL that are whole in the text, and the parenthesis of its first ACE.
+    fn feed_flags<'a>(&mut self, buf: &mut SdBuf, which: Which, text: &'a [u8]) -> &'a [u8]
+        requires here { self.old.state ≡ State.AclFlags which }
+        requires fresh { IsFresh self.old }
+        requires reader { IsReader self.old buf.old }
+        ensures shorter { length result.now ≤ length text.now }
+        ensures reader { IsReader self.new buf.new }
+        ensures read { (domain : Option SecurityId) (before : List ℕ) → Reads self.old buf.old domain before
+            → FedTo self.new buf.new domain result.now (before ++ text.now) }
+    {
+        match first_parenthesis(text) {
+            Some((field, rest)) => {
+                self.take_whole(buf, Slot::AclFlags(which, true), field);
+                self.state = State::Ace(AceField::Kind);
+                rest
+            }
+            None => text,
+        }
+    }
+
+    // Reads a field that is whole in a text.
+    #[inline(always)]
+    fn take_whole(&mut self, buf: &mut SdBuf, slot: Slot, text: &[u8])
+        requires whole { IsPlainText text.now }
+        requires held { (t : FieldsRead) × HasReadFields self.old.fields buf.old t × CanTake slot t }
+        requires clear { self.old.fault ≡ None }
+        ensures read { (t : FieldsRead) → HasReadFields self.old.fields buf.old t → (u : FieldsRead)
+            × (self.new.fault ≡ None → HasReadFields self.new.fields buf.new u)
+            × (unless self.new.fault u ≡ take_field self.old.fields.domain t slot text.now) }
+        ensures domain { self.new.fields.domain ≡ self.old.fields.domain }
+        ensures same { self.new ≡ record self.old { fault = self.new.fault; fields = self.new.fields } }
+    {
+        if let Err(found) = self.fields.take_readable(buf, slot, text) {
+            self.fault = Some(found);
+        }
+    }
+
+    // Takes the ACEs that are whole at the front of the text, from behind the first parenthesis of the first one, and
+    // answers what follows them.
+    fn feed_aces<'a>(&mut self, buf: &mut SdBuf, text: &'a [u8]) -> &'a [u8]
+        requires here { self.old.state ≡ State.Ace AceField.Kind }
+        requires fresh { IsFresh self.old }
+        requires reader { IsReader self.old buf.old }
+        ensures shorter { length result.now ≤ length text.now }
+        ensures reader { IsReader self.new buf.new }
+        ensures read { (domain : Option SecurityId) (before : List ℕ) → Reads self.old buf.old domain before
+            → FedTo self.new buf.new domain result.now (before ++ text.now) }
+    {
         let mut rest = text;
         while let Some(after) = self.fields.take_ace(buf, rest) {
             self.state = State::AfterAce;
@@ -364,7 +498,8 @@ impl SddlReader {
         rest
     }
 
-    // Appends the bytes at the front that belong to the current field, in one call, and returns their number.
+    // Appends the bytes at the front that belong to the current field, in one call, and returns their number. A field
+    // that has no byte yet may be whole in what follows.
     fn feed_run(&mut self, text: &[u8]) -> usize
         ensures within { result ≤ length text.now }
         ensures reader { (buf : List ℕ) → IsReader self.old buf → IsReader self.new buf }
@@ -372,6 +507,9 @@ impl SddlReader {
             → Reads self.old buf domain before
             → Reads self.new buf domain (before ++ take result text.now) }
     {
+        if self.field.is_empty() {
+            return 0;
+        }
         match self.state {
             State::Ace(_) => {
                 let count = plain_inside(text);

@@ -132,6 +132,10 @@ ended_with domain (state.AclFlags w) h r = and_then r (λ b. take_field domain b
 ended_with domain state.AfterAce h r = r
 ended_with domain (state.Ace f) h r = r
 
--- a byte that only goes onto the text of a field outside parentheses, where a letter may begin a head
+-- a byte that goes onto the text of a field outside parentheses, unless it is a letter that begins a head
+abbrev pub is_plain_text : ℕ → Bool
+is_plain_text b = is_plain_inside b && not (b == char ":")
+
+-- a byte that only goes onto such a text
 abbrev pub is_plain_outside : ℕ → Bool
-is_plain_outside b = is_plain_inside b && (not (b == char ":") && is_none (head_of b))
+is_plain_outside b = is_plain_text b && is_none (head_of b)

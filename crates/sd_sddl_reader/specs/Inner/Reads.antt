@@ -13,7 +13,7 @@ use Rattle.sd_control.specs.declared.part.Part.{Part}
 use Rattle.sd_builder.specs.Builds.{Builds}
 use Rattle.sd_builder.specs.declared.builder.Builder.{Builder}
 use Rattle.sd_builder.specs.Draft.{DraftParts, IsOpen, acl_for, closed}
-use Rattle.sd_sddl_fields.specs.Held.{IsHeld}
+use Rattle.sd_sddl_fields.specs.Held.{IsHeld, no_text}
 use Rattle.sd_sddl_reader.specs.Line.{byte, head_at, pieces_from, same_head}
 use Rattle.sd_sddl_reader.specs.FoldedReading.{FieldsRead, reads_as}
 use Rattle.sd_text.specs.Chains.{unless}
@@ -141,6 +141,12 @@ pub record IsText (b : ℕ) : Type 0 where
   pub opens : (b == char "(") ≡ false
   pub closes : (b == char ")") ≡ false
   pub colon : (b == char ":") ≡ false
+
+-- no byte of the field at hand came yet, none waits, and there is no fault
+pub record IsFresh (s : SddlReader) : Type 0 where
+  pub none : s.pending ≡ None
+  pub clear : s.fault ≡ None
+  pub begins : s.field ≡ no_text
 
 -- what holds between two bytes
 pub record IsReader (s : SddlReader) (buf : List ℕ) : Type 0 where

@@ -56,7 +56,7 @@ loop-after-preserved c =
 
 pub returns-clause-read : goal.returns-clause-read
 returns-clause-read c = λ domain before h.
-    let same = c.in_default-take_ace.ensures.read in
+    let same = c.in_default.ensures.read in
     rw (same.0, same.1) (c.loop-after.invariant.read domain before h)
 
 pub take_ace-requires : goal.take_ace-requires

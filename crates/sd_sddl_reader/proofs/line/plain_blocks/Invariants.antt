@@ -1,12 +1,12 @@
 use Rattle.std.proofs.Common.{◌≡◌, ◌≤◌, ◌-◌, length, take, true}
 use Rattle.std.specs.List.{list_all}
-use Rattle.sd_sddl_reader.specs.Inner.Progress.{is_plain_outside}
-use Rattle.sd_sddl_reader.proofs.line.numeric_blocks.Given as goal
+use Rattle.sd_sddl_reader.specs.Inner.Progress.{is_plain_text}
+use Rattle.sd_sddl_reader.proofs.line.plain_blocks.Given as goal
 
 abbrev pub invariant-loop-count : goal.invariant-loop-count
 invariant-loop-count l = record {
   within : l.count ≤ length l.text;
-  plain : list_all is_plain_outside (take l.count l.text) ≡ true;
+  plain : list_all is_plain_text (take l.count l.text) ≡ true;
 }
 
 abbrev pub decreases-loop-count : goal.decreases-loop-count

@@ -1,0 +1,234 @@
+-- An owner, a group or the flags of an ACL that stand whole in what comes of a line, read where they stand.
+use Rattle.std.proofs.Common.{◌≡◌, ℕ, ◌≤◌, ◌⊎◌, inl, inr, Bool, true, false, ◌&&◌, ◌||◌, List, [], ◌∷◌, ◌++◌, length}
+use Rattle.std.proofs.Common.{Some, None, Ok, refl, ap, sym, ◌∙◌, arith, append_assoc}
+use Rattle.std.specs.Prelude.{◌==◌, not, if◌then◌else◌, Option, Result}
+use Rattle.std.specs.List.{list_all}
+use Rattle.std.proofs.lemmas.Bool.{and_parts}
+use Rattle.sd_sid.specs.Sid.{SecurityId}
+use Rattle.sd_control.specs.declared.part.SidPart.{SidPart}
+use Rattle.sd_control.specs.declared.part.Which.{Which}
+use Rattle.sd_sddl_fields.specs.Held.{IsHeld, Held, held_run, held_with, is_plain_inside, no_text}
+use Rattle.sd_sddl_fields.proofs.laws.HeldRuns.{run-fits}
+use Rattle.sd_text.specs.Chains.{unless}
+use Rattle.sd_sddl_reader.specs.Line.{byte, head_at, head_of, pieces_from}
+use Rattle.sd_sddl_reader.specs.FoldedReading.{FieldsRead, take_field}
+use Rattle.sd_sddl_reader.specs.Inner.Progress.{Seen, ended_with, is_inside, is_plain_text, is_seen, rest_answer}
+use Rattle.sd_sddl_reader.specs.Inner.Progress.{state_of, with_head}
+use Rattle.sd_sddl_reader.specs.Inner.Reads.{Fits, HasReadFields, IsFresh, LineHasRead, Steps, answer_at}
+use Rattle.sd_sddl_reader.specs.Inner.WholePart.{HeadAfter, IsPlainText}
+use Rattle.sd_sddl_reader.specs.declared.fault.SddlFault.{SddlFault}
+use Rattle.sd_sddl_reader.specs.declared.fault.SddlFault.TheVariants as fault
+use Rattle.sd_sddl_reader.specs.declared.line.AceField.TheVariants as field
+use Rattle.sd_sddl_reader.specs.declared.line.Head.{Head}
+use Rattle.sd_sddl_reader.specs.declared.line.Slot.{Slot}
+use Rattle.sd_sddl_reader.specs.declared.line.Slot.TheVariants as slot
+use Rattle.sd_sddl_reader.specs.declared.line.State.{State}
+use Rattle.sd_sddl_reader.specs.declared.line.State.TheVariants as state
+use Rattle.sd_sddl_reader.specs.declared.reader.SddlReader.{SddlReader}
+use Rattle.sd_sddl_reader.proofs.FieldTexts.{same_text, with_held}
+use Rattle.sd_sddl_reader.proofs.FitLaws.{fits-first, fits-head, lacks-ended, none-ended, unseen-head}
+use Rattle.sd_sddl_reader.proofs.Runs.{not_true, plain-is}
+use Rattle.sd_sddl_reader.proofs.Steps.{begin-noted, no-colon, not_letter, open_first, outside_text}
+use Rattle.sd_sddl_reader.proofs.WholeFields.{nothing-held, whole-held}
+
+-- 1. The answer to a text outside parentheses.
+
+text-parts : (b : ℕ) (bs : List ℕ) → list_all is_plain_text (b ∷ bs) ≡ true
+    → (is_plain_inside b ≡ true) × ((b == 58) ≡ false) × (list_all is_plain_text bs ≡ true)
+text-parts b bs e =
+    let p = and_parts (is_plain_text b) _ e in
+    let q = and_parts (is_plain_inside b) _ p.0 in
+    (q.0, not_true _ q.1, p.1)
+
+both : (x y : Bool) → x ≡ true → y ≡ true → (x && y) ≡ true
+both true y e f = f
+both false y e f = absurd cc
+
+pub text-inside : (bs : List ℕ) → list_all is_plain_text bs ≡ true → list_all is_plain_inside bs ≡ true
+text-inside [] e = refl
+text-inside (b ∷ bs) e =
+    let p = text-parts b bs e in
+    both (is_plain_inside b) (list_all is_plain_inside bs) p.0 (text-inside bs p.2)
+
+-- a letter before such a text begins no head, where no colon follows the text
+no-head : (b c : ℕ) (bs rest : List ℕ) → list_all is_plain_text bs ≡ true → (c == 58) ≡ false
+    → head_at (byte b) (pieces_from false (bs ++ c ∷ rest)).after ≡ None
+no-head b c [] rest e n = no-colon c rest (head_of b) n
+no-head b c (d ∷ bs) rest e n = no-colon d (bs ++ c ∷ rest) (head_of b) (text-parts d bs e).1
+
+module _ (dm : Option SecurityId) (so tw : Bool) (se : Seen) (r : Result FieldsRead SddlFault) (pl : State)
+    (in_text : ((p : SidPart) × (pl ≡ state.Sid p)) ⊎ ((w : Which) × (pl ≡ state.AclFlags w)))
+    (c : ℕ) (rest : List ℕ) (n : (c == 58) ≡ false) where
+  text-run : (h : Held) (bs : List ℕ) → IsHeld h → list_all is_plain_text bs ≡ true
+      → rest_answer dm so tw se r pl (held_run h bs) (c ∷ rest) ≡ rest_answer dm so tw se r pl h (bs ++ c ∷ rest)
+  text-run h [] k e = refl
+  text-run h (b ∷ bs) k e =
+      let p = text-parts b bs e in
+      let l = plain-is b p.0 in
+      text-run (held_with h b) bs (with_held h b k l.blank) p.2
+      ∙ outside_text dm so tw se r h b (bs ++ c ∷ rest) l.opens l.closes (no-head b c bs rest p.2 n) pl (held_with h b)
+      p.1 (λ u. same_text h b u k l.blank) in_text
+
+  pub whole-text : (t : List ℕ) → list_all is_plain_text t ≡ true → length t ≤ 183
+      → rest_answer dm so tw se r pl (record { text = t; gap = false; broken = false }) (c ∷ rest)
+      ≡ rest_answer dm so tw se r pl no_text (t ++ c ∷ rest)
+  whole-text t e fits =
+      ap (λ h. rest_answer dm so tw se r pl h (c ∷ rest)) (sym (run-fits [] t (omega arith)))
+      ∙ text-run no_text t nothing-held e
+
+-- 2. A head.
+
+-- the part at hand was read, and nothing is held of it
+pub record EndsPart (s : SddlReader) (before : List ℕ) (e : SddlReader) (after : List ℕ) : Type 0 where
+  pub read : (t : FieldsRead) → LineHasRead s before t → (u : FieldsRead)
+      × (e.fault ≡ None → HasReadFields e.fields after u)
+      × (unless e.fault u ≡ ended_with s.fields.domain s.state s.field (unless s.fault t))
+  pub cleared : e.field ≡ no_text
+  pub domain : e.fields.domain ≡ s.fields.domain
+  pub same : e ≡ record s { field = e.field; fault = e.fault; fields = e.fields }
+
+-- a head was noted
+pub record NotesHead (e : SddlReader) (head : Head) (n : SddlReader) : Type 0 where
+  pub state : n.state ≡ state_of head
+  pub twice : n.twice ≡ (e.twice || is_seen e.seen head)
+  pub seen : n.seen ≡ with_head e.seen head
+  pub fault : n.fault ≡ (if is_seen e.seen head then Some fault.PartTwice else e.fault)
+  pub same : n ≡ record e { state = n.state; twice = n.twice; seen = n.seen; fault = n.fault }
+
+pub head-steps : (s e n : SddlReader) (before after : List ℕ) (letter : ℕ) (head : Head) → is_inside s.state ≡ false
+    → IsHeld s.field → head_of letter ≡ Some head → EndsPart s before e after → NotesHead e head n
+    → Steps s before (letter ∷ 58 ∷ []) n after
+head-steps s e n before after letter head here held names ends notes = λ t k.
+    let x = ends.read t k in
+    let seen = ap (λ (x : SddlReader). x.seen) ends.same in
+    let fields = ap (λ (x : SddlReader). x.fields) notes.same in
+    let found : n.fault ≡ None → (is_seen e.seen head ≡ false) × (e.fault ≡ None) =
+    λ none. unseen-head _ _ _ (sym notes.fault ∙ none) in (
+      x.0,
+      record {
+        fields = λ none. rw (fields) (x.1 (found none).1);
+        fits = λ none.
+            let clear = none-ended s.fields.domain s.state s.field s.fault e.fault t x.0 x.2 (found none).1 in
+            let unseen : is_seen s.seen head ≡ false = ap (λ (x : Seen). is_seen x head) (sym seen) ∙ (found none).0 in
+            rw (notes.state, notes.seen, seen)
+            (fits-head s.state s.seen t x.0 head
+            (lacks-ended s.fields.domain s.state s.seen s.field s.fault e.fault t x.0 x.2 (found none).1
+            (k.fits clear)) unseen (k.fits clear));
+      },
+      λ rest. rw (
+        notes.state,
+        notes.seen,
+        notes.twice,
+        notes.fault,
+        fields,
+        ends.domain,
+        ap (λ (x : SddlReader). x.sound) notes.same,
+        ap (λ (x : SddlReader). x.sound) ends.same,
+        ap (λ (x : SddlReader). x.field) notes.same,
+        ends.cleared,
+        seen,
+        ap (λ (x : SddlReader). x.twice) ends.same,
+      )
+          (begin-noted s.fields.domain s.sound s.twice s.seen (unless s.fault t) s.state s.field letter head rest x.0
+          e.fault here held names x.2),
+    )
+
+-- 3. A part that is whole.
+
+-- a field was read
+pub record TakesWhole (s : SddlReader) (before : List ℕ) (sl : Slot) (text : List ℕ) (e : SddlReader) (after : List ℕ)
+    : Type 0 where
+  pub read : (t : FieldsRead) → HasReadFields s.fields before t → (u : FieldsRead)
+      × (e.fault ≡ None → HasReadFields e.fields after u)
+      × (unless e.fault u ≡ take_field s.fields.domain t sl text)
+  pub domain : e.fields.domain ≡ s.fields.domain
+  pub same : e ≡ record s { fault = e.fault; fields = e.fields }
+
+-- a step over what stands before a rest, after which nothing is held
+pub record StepsTo (s : SddlReader) (before text : List ℕ) (n : SddlReader) (after rest : List ℕ) : Type 0 where
+  pub bytes : List ℕ
+  pub stands : text ≡ bytes ++ rest
+  pub steps : Steps s before bytes n after
+  pub field : n.field ≡ no_text
+  pub pending : n.pending ≡ None
+
+-- the reader with this text as the field at hand
+abbrev holding : SddlReader → List ℕ → SddlReader
+holding s t = record s { field = record { text = t; gap = false; broken = false } }
+
+ends-sid : (s e : SddlReader) (before after t : List ℕ) (p : SidPart) → s.state ≡ state.Sid p → IsFresh s
+    → TakesWhole s before (slot.Sid p) t e after → EndsPart (holding s t) before e after
+ends-sid s e before after t p here f w = record {
+  read = λ r k.
+      let x = w.read r (k.fields f.clear) in
+      (x.0, x.1, rw (here, f.clear) x.2);
+  cleared = ap (λ (x : SddlReader). x.field) w.same ∙ f.begins;
+  domain = w.domain;
+  same = w.same
+      ∙ ap (λ (h : Held). record s { field = h; fault = e.fault; fields = e.fields })
+      (sym (ap (λ (x : SddlReader). x.field) w.same));
+}
+
+pub steps-sid : (s e n : SddlReader) (before after t rest text : List ℕ) (p : SidPart) (head : Head)
+    → s.state ≡ state.Sid p → IsFresh s → HeadAfter t head rest text → TakesWhole s before (slot.Sid p) t e after
+    → NotesHead e head n → StepsTo s before text n after rest
+steps-sid s e n before after t rest text p head here f h w notes =
+    let held = whole-held t (text-inside t h.whole.plain) h.whole.fits in
+    let over = head-steps (holding s t) e n before after h.letter head (rw here refl) held h.names
+    (ends-sid s e before after t p here f w) notes in
+    record {
+      bytes = t ++ h.letter ∷ 58 ∷ [];
+      stands = h.stands ∙ sym (append_assoc t (h.letter ∷ 58 ∷ []) rest);
+      steps = λ r k.
+          let x = over r (record { fields = k.fields; fits = k.fits }) in (
+            x.0,
+            x.1,
+            λ more.
+                let run : answer_at (holding s t) r (h.letter ∷ 58 ∷ more)
+                ≡ answer_at s r ((t ++ h.letter ∷ 58 ∷ []) ++ more) =
+                rw (f.begins, append_assoc)
+                (whole-text s.fields.domain s.sound s.twice s.seen (unless s.fault r) s.state (inl (p, here))
+                h.letter (58 ∷ more) (not_letter h.letter 58 head h.names refl) t h.whole.plain h.whole.fits) in
+                x.2 more ∙ run,
+          );
+      field = ap (λ (x : SddlReader). x.field) notes.same ∙ (ap (λ (x : SddlReader). x.field) w.same ∙ f.begins);
+      pending = ap (λ (x : SddlReader). x.pending) notes.same ∙ (ap (λ (x : SddlReader). x.pending) w.same ∙ f.none);
+    }
+
+pub steps-flags : (s e : SddlReader) (before after t rest text : List ℕ) (which : Which) → s.state ≡ state.AclFlags which
+    → IsFresh s → IsPlainText t → text ≡ t ++ 40 ∷ rest → TakesWhole s before (slot.AclFlags which true) t e after
+    → StepsTo s before text (record e { state = state.Ace field.Kind }) after rest
+steps-flags s e before after t rest text which here f plain stands w =
+    let held = whole-held t (text-inside t plain.plain) plain.fits in
+    let seen = ap (λ (x : SddlReader). x.seen) w.same in
+    record {
+      bytes = t ++ 40 ∷ [];
+      stands = stands ∙ sym (append_assoc t (40 ∷ []) rest);
+      steps = λ r k.
+          let x = w.read r (k.fields f.clear) in (
+            x.0,
+            record {
+              fields = x.1;
+              fits = λ none. rw seen
+                  (fits-first s.fields.domain which s.seen r x.0 t (sym (rw none at x.2)) (rw here at (k.fits f.clear)));
+            },
+            λ more. rw (
+              w.domain,
+              ap (λ (x : SddlReader). x.sound) w.same,
+              ap (λ (x : SddlReader). x.twice) w.same,
+              seen,
+              x.2,
+              ap (λ (x : SddlReader). x.field) w.same,
+              f.begins,
+              here,
+              f.clear,
+              append_assoc,
+            )
+                (open_first s.fields.domain s.sound s.twice s.seen (Ok r)
+                (record { text = t; gap = false; broken = false }) more which held
+                ∙ whole-text s.fields.domain s.sound s.twice s.seen (Ok r) (state.AclFlags which) (inr (which, refl)) 40
+                more refl t plain.plain plain.fits),
+          );
+      field = ap (λ (x : SddlReader). x.field) w.same ∙ f.begins;
+      pending = ap (λ (x : SddlReader). x.pending) w.same ∙ f.none;
+    }

@@ -1,0 +1,20 @@
+-- An owner, a group or the flags of an ACL that stand whole in what comes of a line.
+use Rattle.std.specs.Prelude.{◌≡◌, ℕ, ◌≤◌, true, List, ◌∷◌, ◌++◌, length, Some}
+use Rattle.std.specs.List.{list_all}
+use Rattle.std.specs.Str.{byte as char}
+use Rattle.sd_text.specs.Limits.{most_field}
+use Rattle.sd_sddl_reader.specs.Line.{head_of}
+use Rattle.sd_sddl_reader.specs.Inner.Progress.{is_plain_text}
+use Rattle.sd_sddl_reader.specs.declared.line.Head.{Head}
+
+-- the text of a field outside parentheses: no blank and no colon in it, and not too long
+pub record IsPlainText (text : List ℕ) : Type 0 where
+  pub plain : list_all is_plain_text text ≡ true
+  pub fits : length text ≤ most_field
+
+-- such a text, a head that ends it, and a rest
+pub record HeadAfter (field : List ℕ) (head : Head) (rest text : List ℕ) : Type 0 where
+  pub whole : IsPlainText field
+  pub letter : ℕ
+  pub stands : text ≡ field ++ letter ∷ char ":" ∷ rest
+  pub names : head_of letter ≡ Some head
