@@ -1,7 +1,7 @@
 -- An owner, a group or the flags of an ACL that stand whole in what comes of a line, read where they stand.
 use Rattle.std.proofs.Common.{◌≡◌, ℕ, ◌≤◌, ◌⊎◌, inl, inr, Bool, true, false, ◌&&◌, ◌||◌, List, [], ◌∷◌, ◌++◌, length}
 use Rattle.std.proofs.Common.{Some, None, Ok, refl, ap, sym, ◌∙◌, arith, append_assoc}
-use Rattle.std.specs.Prelude.{◌==◌, not, if◌then◌else◌, Option, Result}
+use Rattle.std.specs.Prelude.{◌==◌, if◌then◌else◌, Option, Result}
 use Rattle.std.specs.List.{list_all}
 use Rattle.std.proofs.lemmas.Bool.{and_parts}
 use Rattle.sd_sid.specs.Sid.{SecurityId}
@@ -14,7 +14,7 @@ use Rattle.sd_sddl_reader.specs.Line.{byte, head_at, head_of, pieces_from}
 use Rattle.sd_sddl_reader.specs.FoldedReading.{FieldsRead, take_field}
 use Rattle.sd_sddl_reader.specs.Inner.Progress.{Seen, ended_with, is_inside, is_plain_text, is_seen, rest_answer}
 use Rattle.sd_sddl_reader.specs.Inner.Progress.{state_of, with_head}
-use Rattle.sd_sddl_reader.specs.Inner.Reads.{Fits, HasReadFields, IsFresh, LineHasRead, Steps, answer_at}
+use Rattle.sd_sddl_reader.specs.Inner.Reads.{HasReadFields, IsFresh, LineHasRead, Steps, answer_at}
 use Rattle.sd_sddl_reader.specs.Inner.WholePart.{HeadAfter, IsPlainText}
 use Rattle.sd_sddl_reader.specs.declared.fault.SddlFault.{SddlFault}
 use Rattle.sd_sddl_reader.specs.declared.fault.SddlFault.TheVariants as fault

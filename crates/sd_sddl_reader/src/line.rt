@@ -199,8 +199,8 @@ fn plain_blocks(text: &[u8]) -> usize
     count
 }
 
-// Whether no byte is a parenthesis, a colon, a semicolon or a blank, nor any other before `*`. It looks at all bytes and
-// at each in the same way, and so at several at a time.
+// Whether no byte is a parenthesis, a colon, a semicolon or a blank, nor any other before `*`. It looks at all bytes
+// and at each in the same way, and so at several at a time.
 #[inline(always)]
 fn are_plain(text: &[u8]) -> bool
     ensures { result ≡ true → list_all is_plain_text text.now ≡ true }

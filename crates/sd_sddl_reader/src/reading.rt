@@ -290,7 +290,7 @@ impl FieldReader {
             (Ok(sid), size) => {
                 let after = behind(text, size)?;
                 self.ace = ace;
-                self.put_ace(buf, sid);
+                self.put_ace(buf, &sid);
                 Some(after)
             }
             _ => None,
@@ -306,7 +306,7 @@ impl FieldReader {
     {
         match Sid::from_text(text, self.domain.as_ref()) {
             Ok(sid) => {
-                self.put_ace(buf, sid);
+                self.put_ace(buf, &sid);
                 Ok(())
             }
             Err(fault) => Err(SddlFault::Sid(fault)),
@@ -315,10 +315,10 @@ impl FieldReader {
 
     // Appends the ACE at hand, unless an ACL is too large already.
     #[inline(always)]
-    fn put_ace(&mut self, buf: &mut SdBuf, sid: Sid)
+    fn put_ace(&mut self, buf: &mut SdBuf, sid: &Sid)
         requires { (t : FieldsRead) × HasReadFields self.old buf.old t × IsOpen t.parts }
         ensures held { (t : FieldsRead) → HasReadFields self.old buf.old t
-            → HasReadFields self.new buf.new (with_trustee t sid) }
+            → HasReadFields self.new buf.new (with_trustee t sid.now) }
         ensures domain { self.new.domain ≡ self.old.domain }
     {
         if self.large.is_some() {
@@ -326,7 +326,7 @@ impl FieldReader {
         }
         let f = self.ace;
         // Each field was read as one of an ACE.
-        if let Some(ace) = Ace::new(f.kind, f.flags, f.mask, f.object, f.inherited, sid) {
+        if let Some(ace) = Ace::new(f.kind, f.flags, f.mask, f.object, f.inherited, *sid) {
             if let Err(_) = self.builder.ace(buf, &ace) {
                 self.large = self.open_acl;
             }

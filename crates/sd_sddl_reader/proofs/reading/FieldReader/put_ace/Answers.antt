@@ -9,10 +9,10 @@ returns-in-Err-clause-held c = λ t h.
     let r = c.args.self.now in
     let none : r.large ≡ None = none-is r.large (sym c.is_some.ensures ∙ c.if-is_some.false) in
     let o = open-too r c.args.buf.now c.requires.0 t c.requires.1 h none c.requires.2 in
-    let is : c.in-Some.ace ≡ ace_of_fields t.ace c.args.sid = c.in-Some.ensures.value
-    ∙ ap (λ f. ace_of_fields f c.args.sid) h.ace in
+    let is : c.in-Some.ace ≡ ace_of_fields t.ace c.args.sid.now = c.in-Some.ensures.value
+    ∙ ap (λ f. ace_of_fields f c.args.sid.now) h.ace in
     let built = h.builds (sym h.large ∙ none) in
-    holds-large r c.args.buf.now c.ace.new.buf c.ace.new.self t c.args.sid c.in-Some.ace h none is o
+    holds-large r c.args.buf.now c.ace.new.buf c.ace.new.self t c.args.sid.now c.in-Some.ace h none is o
     ((c.in-Err.ensures.full (record { parts = t.parts; order = built.0 }) built.1).0 refl)
 
 pub returns-in_default-ace-clause-held : goal.returns-in_default-ace-clause-held
@@ -20,10 +20,10 @@ returns-in_default-ace-clause-held c = λ t h.
     let r = c.args.self.now in
     let none : r.large ≡ None = none-is r.large (sym c.is_some.ensures ∙ c.if-is_some.false) in
     let o = open-too r c.args.buf.now c.requires.0 t c.requires.1 h none c.requires.2 in
-    let is : c.in-Some.ace ≡ ace_of_fields t.ace c.args.sid = c.in-Some.ensures.value
-    ∙ ap (λ f. ace_of_fields f c.args.sid) h.ace in
+    let is : c.in-Some.ace ≡ ace_of_fields t.ace c.args.sid.now = c.in-Some.ensures.value
+    ∙ ap (λ f. ace_of_fields f c.args.sid.now) h.ace in
     let built = h.builds (sym h.large ∙ none) in
     let given : Draft = record { parts = t.parts; order = built.0 } in
-    holds-more r c.args.buf.now c.ace.new.buf c.ace.new.self t c.args.sid c.in-Some.ace h none is o
+    holds-more r c.args.buf.now c.ace.new.buf c.ace.new.self t c.args.sid.now c.in-Some.ace h none is o
     (λ large. absurd (true≢false (sym ((c.in_default-ace.ensures.full given built.1).1 large))))
     (built.0, c.in_default-ace.ensures.ok given built.1)
