@@ -34,6 +34,18 @@ impl LineReader {
         }
     }
 
+    // Begins another line for the job, as a reader that has read nothing.
+    fn restart(&mut self, job: &Job, read: &mut SdBuf)
+        ensures form { form_of self.new ≡ job.now.source }
+        ensures ready { CanRead self.new read.new }
+        ensures read { HasRead self.new read.new [] job.now.domain [] }
+    {
+        match (&mut *self, job.source) {
+            (LineReader::Sddl(reader), Form::Sddl) => reader.restart(job.domain, read),
+            _ => *self = LineReader::new(job, read),
+        }
+    }
+
     // The bytes that a line may have.
     fn limit(&self) -> usize
         ensures { result ≡ line_limit (form_of self.now) }
@@ -84,7 +96,7 @@ impl Line {
         ensures empty { Holds job.now self.new [] }
         ensures ready { IsReady self.new }
     {
-        self.reader = LineReader::new(job, &mut self.read);
+        self.reader.restart(job, &mut self.read);
         self.held.clear();
         self.count = 0;
         self.cr = false;
@@ -185,13 +197,16 @@ impl Line {
         ensures { (job : Job) (text : List ℕ) → HoldsText job self.old text → length text ≤ line_limit job.source
             → Leaves (text_means job.source job.domain text) result self.new.read }
     {
+        // A reader of SDDL stays where it is, since it is large and is restarted for the next line.
+        if let LineReader::Sddl(reader) = &mut self.reader {
+            return reader.end(&mut self.read).map_err(LineFault::Sddl);
+        }
         match mem::replace(&mut self.reader, LineReader::Base64) {
             LineReader::Hex(reader) => reader.finish(&mut self.read).map_err(LineFault::Text),
-            LineReader::Base64 => self
+            _ => self
                 .read
                 .from_base64(self.held.bytes())
                 .map_err(LineFault::Text),
-            LineReader::Sddl(reader) => reader.finish(&mut self.read).map_err(LineFault::Sddl),
         }
     }
 }

@@ -1,4 +1,4 @@
-use Rattle.std.proofs.Common.{rules, refl}
+use Rattle.std.proofs.Common.{rules}
 use Rattle.sd_answer.proofs.HoldsLemmas.{Holds-last_cr, Holds-last}
 use Rattle.sd_answer.proofs.line.Line.take.Goals as goal
 
