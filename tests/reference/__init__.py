@@ -10,6 +10,7 @@ fast, and nothing is shared with the program. What the tests take stands here; a
   tables.py         names of SIDs, types, flags and rights; what generic rights mean
   sddl_reading.py   SDDL that is read
   sddl_printing.py  SDDL that is printed
+  forms.py          the forms of a line and those of an answer
   explaining.py     explanations
   access.py         what a descriptor grants
   inheriting.py     the descriptor of a new object
@@ -19,8 +20,9 @@ fast, and nothing is shared with the program. What the tests take stands here; a
 from .access import RESERVED
 from .binary import DACL_PRESENT, HEADER, SACL_PRESENT, SELF_RELATIVE, layout, read
 from .command_line import Settings, Usage, settings_of
+from .forms import LINE_LIMITS
 from .parts import ACE_HEADER, ACL_HEADER, OBJECT_TYPES, Ace, Acl, Descriptor, Sid
-from .run import LINE_LIMITS, all_shown, answers, lines
+from .run import all_shown, answers, lines
 from .sddl_printing import aliases_under, guid_sddl, sddl
 from .sddl_reading import rights_of_text, sid_of_text
 from .spelling import HEX_DIGITS, to_base64

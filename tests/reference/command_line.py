@@ -4,12 +4,13 @@ import re
 from typing import NamedTuple, Optional
 
 from .access import MAXIMUM_ALLOWED, RESERVED, Ask, mapped
+from .forms import PRINTED, READ
 from .inheriting import Plan
 from .parts import Descriptor, Fault, Sid
 from .sddl_reading import MOST_OF_A_DOMAIN, from_sddl, guid_of_text, rights_of_text, sid_of_text
 from .tables import MAPPINGS
 
-FORMS = {"from": ["hex", "base64", "sddl"], "to": ["hex", "base64", "sddl"]}
+FORMS = {"from": READ, "to": PRINTED}
 TARGETS = ["file", "container"]  # what is made
 EXPLANATION = "explanation"  # what the command explain prints, in place of a form
 VERDICT = "verdict"  # and the command check

@@ -1,16 +1,10 @@
 """The lines of an input, and the answer to each."""
 from .access import verdict
-from .binary import layout, read
 from .command_line import EXPLANATION, VERDICT
 from .explaining import explanation
+from .forms import LINE_LIMITS, PRINTED, READ
 from .inheriting import derived
 from .parts import Descriptor, Fault
-from .sddl_printing import sddl
-from .sddl_reading import from_sddl
-from .spelling import from_base64, from_hex, to_base64
-
-# bytes of a line, without its LF and the CR before it
-LINE_LIMITS = {"hex": 262_452, "base64": 174_968, "sddl": 1_049_872}
 
 
 def shown(line, settings):
@@ -20,9 +14,7 @@ def shown(line, settings):
     try:
         if len(line) > LINE_LIMITS[settings.source]:
             raise Fault(1, "too-long")
-        if settings.source == "sddl":
-            return from_sddl(line, settings.domain)
-        return read(from_base64(line) if settings.source == "base64" else from_hex(line))
+        return READ[settings.source](line, settings.domain)
     except Fault as fault:
         return fault.with_traceback(None)  # (which would keep all that stood in the frames)
 
@@ -47,9 +39,7 @@ def answer(found, settings):
         return verdict(found, settings.ask).encode()
     if settings.to == EXPLANATION:
         return explanation(found, settings).encode()
-    if settings.to == "sddl":
-        return sddl(found, settings).encode()
-    return (to_base64(layout(found)) if settings.to == "base64" else layout(found).hex()).encode()
+    return PRINTED[settings.to](found, settings).encode()
 
 
 def lines(data):

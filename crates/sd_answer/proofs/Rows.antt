@@ -16,11 +16,11 @@ use Rattle.sd_view.specs.declared.fault.SdFault.TheVariants as sd
 use Rattle.sd_token.specs.Token.{Holder}
 use Rattle.sd_answer.specs.Answer.{answer, form_text, line_means}
 use Rattle.sd_answer.specs.Faults.{fault_text}
-use Rattle.sd_answer.specs.LineEnd.{without_cr}
 use Rattle.sd_answer.specs.declared.fault.LineFault.TheVariants.{Sd}
 use Rattle.sd_answer.specs.declared.job.Act.TheVariants.{Convert}
 use Rattle.sd_answer.specs.declared.job.Form.TheVariants.{Base64, Hex}
 use Rattle.sd_answer.specs.declared.job.Job.{Job}
+use Rattle.sd_answer.specs.declared.job.OutputForm.TheVariants as output
 use Rattle.sd_answer.specs.declared.job.Task.{Task}
 
 -- the longest descriptor that is held, and the limits of a line that follow from it
@@ -42,7 +42,7 @@ abbrev alone : Job → Task
 alone job = record { job = job; creator = None }
 
 abbrev hex_to_hex : Job
-hex_to_hex = record { source = Hex; act = Convert Hex; domain = None; numeric = false }
+hex_to_hex = record { source = Hex; act = Convert output.Hex; domain = None; numeric = false }
 
 pub empty_answer : answer (alone hex_to_hex) nobody [] ≡ 10 ∷ []
 unfolding answer
@@ -65,7 +65,7 @@ unfolding answer line_means form_text hex_spells hex_on_literals reading fault h
 header_answer = refl
 
 abbrev base64_to_hex : Job
-base64_to_hex = record { source = Base64; act = Convert Hex; domain = None; numeric = false }
+base64_to_hex = record { source = Base64; act = Convert output.Hex; domain = None; numeric = false }
 
 pub base64_answer : answer (alone base64_to_hex) nobody (codes "Af8AgAAAAAAAAAAAAAAAAAAAAAA=") ≡ codes
     "01ff008000000000000000000000000000000000" ++ 10 ∷ []
@@ -74,7 +74,7 @@ unfolding answer line_means form_text base64_spells base64_on_literals hex_on_li
 base64_answer = refl
 
 abbrev hex_to_base64 : Job
-hex_to_base64 = record { source = Hex; act = Convert Base64; domain = None; numeric = false }
+hex_to_base64 = record { source = Hex; act = Convert output.Base64; domain = None; numeric = false }
 
 pub answer_in_base64 : answer (alone hex_to_base64) nobody (codes "01FF008000000000000000000000000000000000") ≡ codes
     "Af8AgAAAAAAAAAAAAAAAAAAAAAA=" ++ 10 ∷ []

@@ -37,6 +37,8 @@ use Rattle.sd_answer.specs.declared.job.Act.TheVariants as act
 use Rattle.sd_answer.specs.declared.job.Form.{Form}
 use Rattle.sd_answer.specs.declared.job.Form.TheVariants as form
 use Rattle.sd_answer.specs.declared.job.Job.{Job}
+use Rattle.sd_answer.specs.declared.job.OutputForm.{OutputForm}
+use Rattle.sd_answer.specs.declared.job.OutputForm.TheVariants as output
 use Rattle.sd_answer.specs.declared.job.Task.{Task}
 
 -- ---- what a line means
@@ -84,10 +86,16 @@ meaning job (b ∷ line) = Some (line_means job.source job.domain (b ∷ line))
 abbrev pub naming_of : Job → Naming
 naming_of job = record { domain = job.domain; numeric = job.numeric }
 
-unfoldable pub form_text : Job → Form → Descriptor → List ℕ
-form_text job form.Hex d = encode_lower (layout d)
-form_text job form.Base64 d = encode_of standard (layout d)
-form_text job form.Sddl d = sddl (naming_of job) d
+-- each form of a line is also one of an answer
+abbrev pub output_of : Form → OutputForm
+output_of form.Hex = output.Hex
+output_of form.Base64 = output.Base64
+output_of form.Sddl = output.Sddl
+
+unfoldable pub form_text : Job → OutputForm → Descriptor → List ℕ
+form_text job output.Hex d = encode_lower (layout d)
+form_text job output.Base64 d = encode_of standard (layout d)
+form_text job output.Sddl d = sddl (naming_of job) d
 
 -- the mask in eight hex digits
 abbrev pub verdict_text : Verdict → List ℕ
@@ -110,7 +118,7 @@ abbrev pub refused : LineFault → LineOutcome
 refused fault = record { text = fault_text fault ++ line_feed ∷ []; is_error = true; bound = 0; printed = None }
 
 -- a descriptor in a form
-abbrev pub converted : Job → Form → Descriptor → LineOutcome
+abbrev pub converted : Job → OutputForm → Descriptor → LineOutcome
 converted job form d =
     record { text = form_text job form d ++ line_feed ∷ []; is_error = false; bound = 0; printed = Some d }
 

@@ -1,22 +1,24 @@
 //! The answer to a line.
 
 ghost use Rattle.std.specs.Prelude.{◌≡◌, ℕ, List, [], ◌∷◌, true, Ok, Err};
+ghost use Rattle.std.specs.Option.{option_copied};
 ghost use Rattle.sd_sink.specs.Print.{Prints};
-ghost use Rattle.sd_view.specs.Descriptor.{Descriptor, Shows};
+ghost use Rattle.sd_view.specs.Descriptor.{Descriptor};
 ghost use Rattle.sd_view.specs.Layout.{layout};
 ghost use Rattle.sd_token.specs.Token.{Compares};
 ghost use Rattle.sd_inherit.specs.Derived.{derive_fault, derived};
 ghost use Rattle.sd_explain.specs.Explain.{explain};
+ghost use Rattle.sd_sddl_printer.specs.Printed.{sddl};
 ghost use Rattle.sd_answer.specs.Answer.{act_outcome, answer, bound, converted, form_text, is_error};
 ghost use Rattle.sd_answer.specs.Answer.{naming_of, refused, unless_too_large, verdict_text};
-ghost use Rattle.sd_answer.specs.Inner.Printing.{PrintsAnswer};
+ghost use Rattle.sd_answer.specs.Inner.Printing.{IsGiven, PrintsAnswer};
 ghost use Rattle.sd_answer.specs.LineEnd.{line_feed};
 ghost use Rattle.sd_answer.specs.LineInHand.{HoldsText, IsReady, PutsAnswer};
 
 use crate::base64_text::print_base64;
 use crate::fault::{LineFault, print_fault};
 use crate::hex_text::{GATHERED, print_hex};
-use crate::job::{Act, Form, Job, Task};
+use crate::job::{Act, Job, OutputForm, Task};
 use crate::line::Line;
 use sd_buffer::SdBuf;
 use sd_builder::write_layout;
@@ -123,7 +125,7 @@ fn print_act<P: Print>(
     let job = &task.job;
     match job.act {
         Act::Convert(form) => {
-            print_form(job, form, view, stores, out);
+            print_form(job, form, Some(view), stores, out);
             print_end(false, out)
         }
         Act::Explain => {
@@ -138,21 +140,52 @@ fn print_act<P: Print>(
     }
 }
 
-// Prints a descriptor in a form.
+// Prints a descriptor in a form: that of the view, or without a view the one that is written in the buffer.
 #[tactic(auto, unfolding(crate::specs::Answer::form_text))]
-fn print_form<P: Print>(job: &Job, form: Form, view: &SdView<'_>, stores: &mut Stores, out: &mut P)
-    ensures { Prints (P.told out.old) (P.told out.new) (form_text job.now form view.now) }
+fn print_form<P: Print>(
+    job: &Job,
+    form: OutputForm,
+    view: Option<&SdView<'_>>,
+    stores: &mut Stores,
+    out: &mut P,
+)
+    ensures { (d : Descriptor) → IsGiven (option_copied view.entry) stores.old.written d
+        → Prints (P.told out.old) (P.told out.new) (form_text job.now form d) }
 {
     match form {
-        Form::Hex => {
-            write_layout(view, &mut stores.written);
+        OutputForm::Hex => {
+            lay_out(view, &mut stores.written);
             print_hex(stores.written.bytes(), &mut stores.spelled, out);
         }
-        Form::Base64 => {
-            write_layout(view, &mut stores.written);
+        OutputForm::Base64 => {
+            lay_out(view, &mut stores.written);
             print_base64(stores.written.bytes(), &mut stores.spelled, out);
         }
-        Form::Sddl => print_sddl(view, job.domain.as_ref(), job.numeric, out),
+        OutputForm::Sddl => print_as_sddl(job, view, &stores.written, out),
+    }
+}
+
+// Writes the descriptor of the view into the buffer. Without a view its bytes are there already.
+fn lay_out(view: Option<&SdView<'_>>, written: &mut SdBuf)
+    ensures { (d : Descriptor) → IsGiven (option_copied view.entry) written.old d → written.new ≡ layout d }
+{
+    if let Some(view) = view {
+        write_layout(view, written);
+    }
+}
+
+// Prints the descriptor as SDDL.
+fn print_as_sddl<P: Print>(job: &Job, view: Option<&SdView<'_>>, written: &SdBuf, out: &mut P)
+    ensures { (d : Descriptor) → IsGiven (option_copied view.entry) written.now d
+        → Prints (P.told out.old) (P.told out.new) (sddl (naming_of job.now) d) }
+{
+    if let Some(view) = view {
+        print_sddl(view, job.domain.as_ref(), job.numeric, out);
+        return;
+    }
+    // The bytes show a descriptor, so they are read.
+    if let Ok(view) = read(written.bytes()) {
+        print_sddl(&view, job.domain.as_ref(), job.numeric, out);
     }
 }
 
@@ -161,7 +194,7 @@ fn print_derived<P: Print>(
     task: &Task<'_>,
     parent: &SdView<'_>,
     plan: &Plan,
-    form: Form,
+    form: OutputForm,
     stores: &mut Stores,
     out: &mut P,
 ) -> bool
@@ -173,29 +206,10 @@ fn print_derived<P: Print>(
 {
     match derive(parent, task.creator.as_ref(), plan, &mut stores.written) {
         Ok(()) => {
-            print_written(&task.job, form, stores, out);
+            print_form(&task.job, form, None, stores, out);
             print_end(false, out)
         }
         Err(fault) => print_error(&LineFault::Derive(fault), out),
-    }
-}
-
-// Prints the descriptor that is written in the buffer. As hex and base64 its bytes are spelled
-// where they are.
-#[tactic(auto, unfolding(crate::specs::Answer::form_text))]
-fn print_written<P: Print>(job: &Job, form: Form, stores: &mut Stores, out: &mut P)
-    ensures { (d : Descriptor) → Shows stores.old.written d → stores.old.written ≡ layout d
-        → Prints (P.told out.old) (P.told out.new) (form_text job.now form d) }
-{
-    match form {
-        Form::Hex => print_hex(stores.written.bytes(), &mut stores.spelled, out),
-        Form::Base64 => print_base64(stores.written.bytes(), &mut stores.spelled, out),
-        Form::Sddl => {
-            // Its bytes show a descriptor, so they are read.
-            if let Ok(view) = read(stores.written.bytes()) {
-                print_sddl(&view, job.domain.as_ref(), job.numeric, out);
-            }
-        }
     }
 }
 

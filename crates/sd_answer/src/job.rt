@@ -5,6 +5,7 @@ ghost use Rattle.std.specs.Result.{result_ok};
 ghost use Rattle.sd_sid.specs.Sid.{IsSid};
 ghost use Rattle.sd_view.specs.Reading.{reading};
 ghost use Rattle.sd_inherit.specs.PlanLimits.{IsPlan};
+ghost use Rattle.sd_answer.specs.Answer.{output_of};
 ghost use Rattle.sd_answer.specs.Task.{ActLimits, TaskLimits};
 
 use sd_buffer::SdBuf;
@@ -24,18 +25,41 @@ pub enum Form {
     Sddl,
 }
 
+/// How an answer spells a descriptor. Each form of a line is one of them.
+#[derive(Clone, Copy, Debug, PartialEq, Eq)]
+pub enum OutputForm {
+    /// Lower-case hex digits, two a byte.
+    Hex,
+    /// Base64 (RFC 4648, section 4), four characters for three bytes.
+    Base64,
+    /// SDDL (MS-DTYP 2.5.1).
+    Sddl,
+}
+
+impl From<Form> for OutputForm {
+    ghost from_gives = { λ form output. output ≡ output_of form };
+
+    fn from(form: Form) -> OutputForm {
+        match form {
+            Form::Hex => OutputForm::Hex,
+            Form::Base64 => OutputForm::Base64,
+            Form::Sddl => OutputForm::Sddl,
+        }
+    }
+}
+
 /// What is done with the descriptor of a line.
 #[derive(Clone, Copy, Debug, PartialEq, Eq)]
 pub enum Act {
     /// It is printed in this form.
-    Convert(Form),
+    Convert(OutputForm),
     /// It is explained, by a block of lines.
     Explain,
     /// It is said whether it grants what is asked (MS-DTYP 2.5.3).
     Check(Ask),
     /// The descriptor of a new object (MS-DTYP 2.5.3.4) is printed in this form: what the object inherits from its
     /// container, and what it takes from the descriptor of its creator, if there is one (`Task::creator`).
-    Derive(Plan, Form),
+    Derive(Plan, OutputForm),
 }
 
 /// What a run does: how its lines spell descriptors, and what is done with each.

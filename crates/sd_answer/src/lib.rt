@@ -10,5 +10,5 @@ mod line;
 
 pub use answer::{Stores, put_answer};
 pub use fault::{LineFault, put_fault};
-pub use job::{Act, Form, Job, Task};
+pub use job::{Act, Form, Job, OutputForm, Task};
 pub use line::Line;

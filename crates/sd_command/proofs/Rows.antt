@@ -7,6 +7,7 @@ use Rattle.sd_inherit.specs.declared.plan.Target.TheVariants.{File}
 use Rattle.sd_answer.specs.declared.job.Act.TheVariants.{Convert, Derive, Explain}
 use Rattle.sd_answer.specs.declared.job.Form.TheVariants.{Hex, Sddl}
 use Rattle.sd_answer.specs.declared.job.Job.{Job}
+use Rattle.sd_answer.specs.declared.job.OutputForm.TheVariants as output
 use Rattle.sd_command.specs.declared.options.OptionName.TheVariants as name
 use Rattle.sd_command.specs.declared.settings.UsageFault.TheVariants.{Value}
 use Rattle.sd_command.specs.CommandLine.{bare_line, check_line, convert_line, derive_line, explain_line, line}
@@ -16,7 +17,7 @@ use Rattle.sd_command.specs.Settings.{needed_sid, task_with, with_creator}
 use Rattle.sd_rights.specs.Mapping.{file_mapping}
 
 abbrev hex_to_hex : Job
-hex_to_hex = record { source = Hex; act = Convert Hex; domain = None; numeric = false }
+hex_to_hex = record { source = Hex; act = Convert output.Hex; domain = None; numeric = false }
 
 abbrev to_hex : List Text
 to_hex = codes "sdtool" ∷ codes "convert" ∷ codes "--to" ∷ codes "hex" ∷ []
@@ -76,7 +77,7 @@ pub derived : settings_of derive_file ≡ Ok (record {
         owner = record { authority = 5; subs = 18 ∷ [] };
         group = record { authority = 1; subs = 0 ∷ [] };
         mapping = file_mapping;
-      }) Sddl;
+      }) output.Sddl;
       domain = None;
       numeric = false;
     };

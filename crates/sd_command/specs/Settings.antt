@@ -20,11 +20,14 @@ use Rattle.sd_inherit.specs.declared.plan.Target.TheVariants.{File, Container}
 use Rattle.sd_command.specs.CommandLine.{line, option_text}
 use Rattle.sd_rights.specs.Mapping.{GenericMapping, directory_mapping, file_mapping, key_mapping}
 use Rattle.sd_command.specs.TokenText.{entries_read, sid_under}
+use Rattle.sd_answer.specs.Answer.{output_of}
 use Rattle.sd_answer.specs.declared.job.Form.{Form}
 use Rattle.sd_answer.specs.declared.job.Form.TheVariants.{Base64, Hex, Sddl}
 use Rattle.sd_answer.specs.declared.job.Act.{Act}
 use Rattle.sd_answer.specs.declared.job.Act.TheVariants.{Check, Convert, Derive, Explain}
 use Rattle.sd_answer.specs.declared.job.Job.{Job}
+use Rattle.sd_answer.specs.declared.job.OutputForm.{OutputForm}
+use Rattle.sd_answer.specs.declared.job.OutputForm.TheVariants as output
 use Rattle.sd_answer.specs.declared.job.Task.{Task}
 use Rattle.sd_command.specs.declared.settings.CommandName.{CommandName}
 use Rattle.sd_command.specs.declared.settings.CommandName.TheVariants as command
@@ -39,6 +42,10 @@ form_reads text =
     else if bytes_eq text (codes "base64") then Some Base64
     else if bytes_eq text (codes "sddl") then Some Sddl
     else None
+
+-- the words of the forms of a line are also those of an answer
+abbrev pub output_form_reads : Text → Option OutputForm
+output_form_reads text = option_map output_of (form_reads text)
 
 -- a SID that has room for one more sub-authority, read without a domain
 unfoldable pub domain_reads : Text → Option SecurityId
@@ -84,8 +91,8 @@ unfoldable pub given_source : List Row → Result Form UsageFault
 given_source rows = given_or name.From Hex form_reads rows
 
 -- SDDL where the option is left out
-unfoldable pub given_target : List Row → Result Form UsageFault
-given_target rows = given_or name.To Sddl form_reads rows
+unfoldable pub given_target : List Row → Result OutputForm UsageFault
+given_target rows = given_or name.To output.Sddl output_form_reads rows
 
 -- a flag's text is `true` where it is given
 abbrev pub is_true : Option Text → Bool

@@ -16,7 +16,7 @@ use crate::derive_settings::derive_own;
 use crate::options::OptionName;
 use crate::token_text::sid_under;
 use clap::ArgMatches;
-use sd_answer::{Act, Form, Job};
+use sd_answer::{Act, Form, Job, OutputForm};
 use sd_check::AskFault;
 use sd_rights::Mapping;
 use sd_sid::Sid;
@@ -256,10 +256,15 @@ fn given_source(matches: &ArgMatches<'_>) -> Result<Form, UsageFault>
 }
 
 // SDDL where the option is left out.
-pub(crate) fn given_target(matches: &ArgMatches<'_>) -> Result<Form, UsageFault>
+pub(crate) fn given_target(matches: &ArgMatches<'_>) -> Result<OutputForm, UsageFault>
     ensures { result ≡ specs.given_target (rows_of (found_of matches.now)) }
 {
-    given_or(matches, OptionName::To, Form::Sddl, form_from_text)
+    given_or(
+        matches,
+        OptionName::To,
+        OutputForm::Sddl,
+        output_form_from_text,
+    )
 }
 
 fn form_from_text(text: &str) -> Option<Form>
@@ -275,6 +280,13 @@ fn form_from_text(text: &str) -> Option<Form>
         return Some(Form::Sddl);
     }
     None
+}
+
+// The words of the forms of a line are also those of an answer.
+fn output_form_from_text(text: &str) -> Option<OutputForm>
+    ensures { result ≡ specs.output_form_reads text.now }
+{
+    form_from_text(text).map(OutputForm::from)
 }
 
 // That of files where the option is left out.

@@ -5,13 +5,13 @@
 //!
 //! ```
 //! use sd_core::Token;
-//! use sd_filter::{Act, Engine, Form, FromRead, Job, ToWrite, run};
+//! use sd_filter::{Act, Engine, Form, FromRead, Job, OutputForm, ToWrite, run};
 //! use std::io;
 //!
 //! fn main(rt: HostRuntime) -> io::Result<()> {
 //!     let job = Job {
 //!         source: Form::Sddl,
-//!         act: Act::Convert(Form::Hex),
+//!         act: Act::Convert(OutputForm::Hex),
 //!         domain: None,
 //!         numeric: false,
 //!     };
@@ -40,6 +40,6 @@
 //! `sd_command`, the command line and the program.
 #![tactic(auto)]
 
-pub use sd_answer::{Act, Form, Job, LineFault, put_fault};
+pub use sd_answer::{Act, Form, Job, LineFault, OutputForm, put_fault};
 pub use sd_command::command;
 pub use sd_run::{DeviceFault, Drain, Engine, FromRead, Report, RunFault, Source, ToWrite, run};

@@ -2,7 +2,7 @@
 
 use crate::memory::{Ended, Failing, Input, Output, program};
 use sd_core::Token;
-use sd_filter::{Act, Engine, Form, FromRead, Job, Report, RunFault, ToWrite, run};
+use sd_filter::{Act, Engine, Form, FromRead, Job, OutputForm, Report, RunFault, ToWrite, run};
 use std::io::Error;
 use std::io::ErrorKind::{Interrupted, Other, WouldBlock};
 use std::process::Abort;
@@ -190,7 +190,7 @@ fn expect_runs(
 ) {
     let job = Job {
         source: Form::Hex,
-        act: Act::Convert(Form::Hex),
+        act: Act::Convert(OutputForm::Hex),
         domain: None,
         numeric: false,
     };

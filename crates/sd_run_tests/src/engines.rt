@@ -5,7 +5,7 @@ use crate::memory::{Failing, Input, Output};
 use sd_access::{Ask, Plan, Privileges, Target};
 use sd_binary::{SdBuf, TextBuf};
 use sd_core::{EntryKind, Mapping, Sid, SidFault, Token};
-use sd_filter::{Act, Engine, Form, FromRead, Job, Report, RunFault, ToWrite, run};
+use sd_filter::{Act, Engine, Form, FromRead, Job, OutputForm, Report, RunFault, ToWrite, run};
 use sd_sddl::SddlFault;
 use std::io::Error;
 use std::io::ErrorKind::{Interrupted, Other, WouldBlock};
@@ -39,7 +39,7 @@ fn used(rt: &(impl Abort + AllocGlobal)) -> SdBuf {
 }
 
 // Over such buffers, and a text that is no base64.
-fn used_engine(rt: &(impl Abort + AllocGlobal), source: Form, target: Form) -> Engine {
+fn used_engine(rt: &(impl Abort + AllocGlobal), source: Form, target: OutputForm) -> Engine {
     let mut text = TextBuf::new(rt.alloc()).expect(rt, "memory for a text");
     assert!(rt; text.extend(b"AQAE!").is_ok());
     let job = job(source, Act::Convert(target));
@@ -73,7 +73,7 @@ fn runs_over_used_buffers(rt: HostRuntime) {
     let mut token = Token::new(rt.alloc()).expect(&rt, "memory for a token");
     for (source, line) in FORMS.into_iter().zip(LINES) {
         for (target, answer) in FORMS.into_iter().zip(LINES) {
-            let mut engine = used_engine(&rt, source, target);
+            let mut engine = used_engine(&rt, source, OutputForm::from(target));
             for most in [usize::MAX, 1] {
                 expect_answers(&rt, &mut engine, &mut token, most, line, answer, 0);
             }
@@ -98,7 +98,7 @@ fn runs_the_longest_line_over_used_buffers(rt: HostRuntime) {
          O:S-1-5-0-0-0-0-0-0-0-0-0-0-0-0-0-0-0G:S-1-5-0-0-0-0-0-0-0-0-0-0-0-0-0-0-0D:S:\n\
          error 1 too-long\nO:BAG:SYD:(A;;FA;;;WD)\n";
     let mut token = Token::new(rt.alloc()).expect(&rt, "memory for a token");
-    let mut engine = used_engine(&rt, Form::Hex, Form::Sddl);
+    let mut engine = used_engine(&rt, Form::Hex, OutputForm::Sddl);
     for most in [usize::MAX, 1] {
         expect_answers(&rt, &mut engine, &mut token, most, &input, answers, 1);
     }
@@ -122,7 +122,7 @@ fn expect_created(
     };
     let job = Job {
         source: Form::Sddl,
-        act: Act::Derive(plan, Form::Sddl),
+        act: Act::Derive(plan, OutputForm::Sddl),
         domain: None,
         numeric: false,
     };
@@ -165,7 +165,7 @@ fn looks_at_the_token(rt: HostRuntime) {
         group: sid_of("SY"),
         mapping: Mapping::FILE,
     };
-    let act = Act::Derive(plan, Form::Sddl);
+    let act = Act::Derive(plan, OutputForm::Sddl);
     let mut engine = Engine::new(rt.alloc(), job(Form::Sddl, act)).expect(&rt, "memory");
     let lines = "D:(A;;FA;;;BA)\nD:(A;OI;FA;;;WD)\n\nD:(\n";
     let answers = "O:BAG:SYD:AI\nO:BAG:SYD:AI(A;OIIOID;FA;;;WD)\n\nerror 20 shape\n";
@@ -217,7 +217,7 @@ fn expect_fault(
 #[test]
 fn runs_again_after_each_failed_read(rt: HostRuntime) {
     let mut token = Token::new(rt.alloc()).expect(&rt, "memory for a token");
-    let mut engine = used_engine(&rt, Form::Hex, Form::Hex);
+    let mut engine = used_engine(&rt, Form::Hex, OutputForm::Hex);
     for taken in 0..=TEXT.len() {
         for kind in [Other, WouldBlock, Interrupted] {
             let error = Some(Error::from(kind));
@@ -241,7 +241,7 @@ fn runs_again_after_each_failed_read(rt: HostRuntime) {
 #[test]
 fn runs_again_after_each_failed_write(rt: HostRuntime) {
     let mut token = Token::new(rt.alloc()).expect(&rt, "memory for a token");
-    let mut engine = used_engine(&rt, Form::Hex, Form::Hex);
+    let mut engine = used_engine(&rt, Form::Hex, OutputForm::Hex);
     let never = Failing::never();
     let outputs = |taken: usize| {
         let [fails, takes_none] = [Some(Error::from(Other)), None].map(|error| {

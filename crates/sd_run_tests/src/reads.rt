@@ -2,7 +2,7 @@
 
 use crate::engines::LINES;
 use sd_core::Token;
-use sd_filter::{Act, Engine, Form, FromRead, Job, Report, RunFault, ToWrite, run};
+use sd_filter::{Act, Engine, Form, FromRead, Job, OutputForm, Report, RunFault, ToWrite, run};
 use sd_run::run_at_most;
 use std::process::Abort;
 
@@ -16,7 +16,7 @@ fn expect_of_five(
 ) {
     let job = Job {
         source: Form::Hex,
-        act: Act::Convert(Form::Hex),
+        act: Act::Convert(OutputForm::Hex),
         domain: None,
         numeric: false,
     };

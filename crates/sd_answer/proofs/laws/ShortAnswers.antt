@@ -1,5 +1,5 @@
 -- Each answer is short.
-use Rattle.std.proofs.Common.{◌≡◌, IfSome, ◌≤◌, ℕ, ◌+◌, ◌*◌, List, [], ◌∷◌, ◌++◌, length}
+use Rattle.std.proofs.Common.{◌≡◌, IfSome, ◌≤◌, ◌+◌, ◌*◌, [], ◌∷◌, ◌++◌, length}
 use Rattle.std.proofs.Common.{lit≤, Option, Some, None, Ok, Err, refl, arith, length-append}
 use Rattle.hex.proofs.HexLemmas.{length-encode_with}
 use Rattle.hex.specs.Hex.{lower_digits}
@@ -29,18 +29,18 @@ use Rattle.sd_answer.specs.declared.fault.LineFault.TheVariants.{Derive}
 use Rattle.sd_answer.specs.declared.job.Act.{Act}
 use Rattle.sd_answer.specs.declared.job.Act.TheVariants.{Check, Convert, Explain}
 use Rattle.sd_answer.specs.declared.job.Act.TheVariants as act
-use Rattle.sd_answer.specs.declared.job.Form.{Form}
-use Rattle.sd_answer.specs.declared.job.Form.TheVariants as form
 use Rattle.sd_answer.specs.declared.job.Job.{Job}
+use Rattle.sd_answer.specs.declared.job.OutputForm.{OutputForm}
+use Rattle.sd_answer.specs.declared.job.OutputForm.TheVariants as output
 use Rattle.sd_answer.specs.declared.job.Task.{Task}
 
 -- two characters a byte, of base64 two more at most, or those of the SDDL; and the LF
-form-short : (job : Job) (form : Form) (d : Descriptor) → IsDescriptor d
+form-short : (job : Job) (form : OutputForm) (d : Descriptor) → IsDescriptor d
     → length (form_text job form d) ≤ 8 * size d + 63
 unfolding form_text
-form-short job form.Hex d h = omega (arith, length-encode_with lower_digits (layout d), length-layout d)
-form-short job form.Base64 d h = let short = base64-short (layout d) in omega (arith, short, length-layout d)
-form-short job form.Sddl d h = sddl-length (naming_of job) d h
+form-short job output.Hex d h = omega (arith, length-encode_with lower_digits (layout d), length-layout d)
+form-short job output.Base64 d h = let short = base64-short (layout d) in omega (arith, short, length-layout d)
+form-short job output.Sddl d h = sddl-length (naming_of job) d h
 
 -- the word, eight digits and the LF
 verdict-short : (v : Verdict) → length (verdict_text v ++ 10 ∷ []) ≤ 64
@@ -52,7 +52,7 @@ fault-short : (fault : LineFault) → length (fault_text fault ++ 10 ∷ []) ≤
 fault-short fault = let short = fault_text-short fault in omega (arith, length-append (fault_text fault) (10 ∷ []))
 
 -- the form's text and the LF
-line-short : (job : Job) (form : Form) (d : Descriptor) → IsDescriptor d
+line-short : (job : Job) (form : OutputForm) (d : Descriptor) → IsDescriptor d
     → length (form_text job form d ++ 10 ∷ []) ≤ 8 * size d + 64
 line-short job form d h = omega (arith, length-append (form_text job form d) (10 ∷ []), form-short job form d h)
 
@@ -61,7 +61,7 @@ abbrev IsShort : LineOutcome → Type 0
 IsShort outcome = length outcome.text ≤ 8 * printed_size outcome.printed + 64
 
 -- what is derived has the limits of a descriptor, unless it is refused
-derived-short : (task : Task) (form : Form) (plan : Plan) (d : Descriptor) (f : Option DeriveFault)
+derived-short : (task : Task) (form : OutputForm) (plan : Plan) (d : Descriptor) (f : Option DeriveFault)
     → derive_fault d task.creator plan ≡ f → IsPlan plan → IfSome task.creator IsDescriptor → IsDescriptor d
     → IsShort (unless_too_large f (converted task.job form (derived d task.creator plan)))
 derived-short task form plan d None e k c h =

@@ -4,4 +4,4 @@ use Rattle.sd_command.proofs.settings.given_target.Goals as goal
 
 pub returns : goal.returns
 unfolding specs.given_target
-returns c = c.given_or.ensures specs.form_reads (λ text value h. search rules)
+returns c = c.given_or.ensures specs.output_form_reads (λ text value h. search rules)
