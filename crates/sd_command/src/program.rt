@@ -5,12 +5,15 @@ ghost use Rattle.clap.specs.Words.{takes};
 ghost use Rattle.sd_command.specs.CommandLine.{line};
 ghost use Rattle.sd_command.specs.Endings as ends;
 ghost use Rattle.sd_command.specs.Usage.{fault_line};
+ghost use Rattle.sd_command.specs.declared.parse.Refusal.TheVariants as refusal;
+ghost use Rattle.sd_command.specs.declared.program.Stop.TheVariants.{Refused, Value};
 ghost use Rattle.sd_command.specs.Inner.Preparing as steps;
 
 use crate::derive_settings::give_creator;
 use crate::parse::{Refusal, parse_words};
 use crate::settings::{UsageFault, choose};
 use sd_run::{Drain, Engine, RunFault, Source, run, write_whole};
+use sd_sink::NoMemory;
 use sd_token::Token;
 use std::alloc::Global;
 
@@ -57,32 +60,45 @@ pub enum Stop {
     Value(UsageFault),
 }
 
+impl From<Refusal> for Stop {
+    ghost from_gives = { λ refusal stop. stop ≡ Refused refusal };
+
+    fn from(refusal: Refusal) -> Stop {
+        Stop::Refused(refusal)
+    }
+}
+
+impl From<NoMemory> for Stop {
+    ghost from_gives = { λ _ stop. stop ≡ Refused refusal.NoMemory };
+
+    fn from(_fault: NoMemory) -> Stop {
+        Stop::Refused(Refusal::NoMemory)
+    }
+}
+
+impl From<UsageFault> for Stop {
+    ghost from_gives = { λ fault stop. stop ≡ Value fault };
+
+    fn from(fault: UsageFault) -> Stop {
+        Stop::Value(fault)
+    }
+}
+
 // All that takes memory.
 #[tactic(auto, unfolding(crate::specs::Settings::settings_of, crate::specs::Settings::with_creator))]
 fn prepare(alloc: Global, words: &[String]) -> Result<Prepared, Stop>
     ensures taken { takes line (map string_bytes words.now) ≡ true → steps.StopsTaken result }
     ensures kinds { steps.PreparesBy (map string_bytes words.now) result }
 {
-    let matches = match parse_words(alloc, words) {
-        Ok(matches) => matches,
-        Err(refusal) => return Err(Stop::Refused(refusal)),
-    };
-    let mut token = match Token::new(alloc) {
-        Ok(token) => token,
-        Err(_) => return Err(Stop::Refused(Refusal::NoMemory)),
-    };
+    let matches = parse_words(alloc, words)?;
+    let mut token = Token::new(alloc)?;
     let choice = match choose(&matches, &mut token) {
         Ok(choice) => choice,
         Err(fault) => return Err(Stop::Value(fault)),
     };
-    let mut engine = match Engine::new(alloc, choice.job) {
-        Ok(engine) => engine,
-        Err(_) => return Err(Stop::Refused(Refusal::NoMemory)),
-    };
-    match give_creator(&mut engine, choice.creator) {
-        Ok(()) => Ok(Prepared { engine, token }),
-        Err(fault) => Err(Stop::Value(fault)),
-    }
+    let mut engine = Engine::new(alloc, choice.job)?;
+    give_creator(&mut engine, choice.creator)?;
+    Ok(Prepared { engine, token })
 }
 
 // A fault stream that fails changes nothing.
