@@ -11,7 +11,7 @@ ghost use Rattle.sd_explain.specs.Explain.{explain};
 ghost use Rattle.sd_sddl_printer.specs.Printed.{sddl};
 ghost use Rattle.sd_answer.specs.Answer.{act_outcome, answer, bound, converted, form_text, is_error};
 ghost use Rattle.sd_answer.specs.Answer.{naming_of, refused, unless_too_large, verdict_text};
-ghost use Rattle.sd_answer.specs.Inner.Printing.{IsGiven, PrintsAnswer};
+ghost use Rattle.sd_answer.specs.Inner.Printing.{CanPrint, IsGiven, PrintsAnswer};
 ghost use Rattle.sd_answer.specs.LineEnd.{line_feed};
 ghost use Rattle.sd_answer.specs.LineInHand.{HoldsText, IsReady, PutsAnswer};
 
@@ -30,7 +30,7 @@ use sd_sid::Sid;
 use sd_sink::{Gather, Print, Sink, SinkFault};
 use sd_text::print_hex as print_hex_digits;
 use sd_token::Token;
-use sd_view::{SdView, read};
+use sd_view::{SdView, view_written};
 
 /// What an answer is made in: the bytes of the descriptor that is printed, and a piece of the text that spells them.
 #[derive(Drop)]
@@ -149,6 +149,7 @@ fn print_form<P: Print>(
     stores: &mut Stores,
     out: &mut P,
 )
+    requires { CanPrint (option_copied view) stores.old.written }
     ensures { (d : Descriptor) → IsGiven (option_copied view.entry) stores.old.written d
         → Prints (P.told out.old) (P.told out.new) (form_text job.now form d) }
 {
@@ -176,6 +177,7 @@ fn lay_out(view: Option<&SdView<'_>>, written: &mut SdBuf)
 
 // Prints the descriptor as SDDL.
 fn print_as_sddl<P: Print>(job: &Job, view: Option<&SdView<'_>>, written: &SdBuf, out: &mut P)
+    requires { CanPrint (option_copied view) written.now }
     ensures { (d : Descriptor) → IsGiven (option_copied view.entry) written.now d
         → Prints (P.told out.old) (P.told out.new) (sddl (naming_of job.now) d) }
 {
@@ -183,10 +185,8 @@ fn print_as_sddl<P: Print>(job: &Job, view: Option<&SdView<'_>>, written: &SdBuf
         print_sddl(view, job.domain.as_ref(), job.numeric, out);
         return;
     }
-    // The bytes show a descriptor, so they are read.
-    if let Ok(view) = read(written.bytes()) {
-        print_sddl(&view, job.domain.as_ref(), job.numeric, out);
-    }
+    let view = view_written(written.bytes());
+    print_sddl(&view, job.domain.as_ref(), job.numeric, out);
 }
 
 // Prints the descriptor of a new object in a form, or why there is none.

@@ -9,8 +9,7 @@ use crate::job::{Form, Job};
 use sd_buffer::{HexReader, SdBuf, TextBuf};
 use sd_sddl_reader::SddlReader;
 use sd_text::{MOST_BASE64_TEXT, MOST_HEX_TEXT, MOST_SDDL_TEXT};
-use sd_view::{SdView, read};
-use std::mem;
+use sd_view::{SdView, read, view_written};
 
 /// What reads a line of a form. Of base64 the text is held, and read at the end of the line.
 #[derive(Drop)]
@@ -41,6 +40,7 @@ impl LineReader {
         ensures read { HasRead self.new read.new [] job.now.domain [] }
     {
         match (&mut *self, job.source) {
+            (LineReader::Hex(reader), Form::Hex) => *reader = HexReader::new(read),
             (LineReader::Sddl(reader), Form::Sddl) => reader.restart(job.domain, read),
             _ => *self = LineReader::new(job, read),
         }
@@ -72,7 +72,8 @@ pub struct Line {
 }
 
 impl Line {
-    ghost use Rattle.sd_answer.specs.Inner.Reading.{Leaves};
+    ghost use Rattle.std.specs.Prelude.{OnOk};
+    ghost use Rattle.sd_answer.specs.Inner.Reading.{IsWrittenBy, Leaves};
     ghost use Rattle.sd_answer.specs.LineInHand.{Holds, HoldsText, IsReady};
 
     /// An empty line for the job, over these buffers, whatever they hold.
@@ -188,25 +189,28 @@ impl Line {
             → result ≡ text_means job.source job.domain text }
     {
         self.finish()?;
+        // A reader of SDDL leaves bytes in their written form, which need no check.
+        if let LineReader::Sddl(_) = self.reader {
+            return Ok(view_written(self.read.bytes()));
+        }
         read(self.read.bytes()).map_err(LineFault::Sd)
     }
 
     // The bytes of the line's descriptor, in the buffer.
     fn finish(&mut self) -> Result<(), LineFault>
         requires { IsReady self.old }
-        ensures { (job : Job) (text : List ℕ) → HoldsText job self.old text → length text ≤ line_limit job.source
+        ensures leaves { (job : Job) (text : List ℕ) → HoldsText job self.old text
+            → length text ≤ line_limit job.source
             → Leaves (text_means job.source job.domain text) result self.new.read }
+        ensures written { OnOk result (IsWrittenBy self.new.reader self.new.read) }
     {
-        // A reader of SDDL stays where it is, since it is large and is restarted for the next line.
-        if let LineReader::Sddl(reader) = &mut self.reader {
-            return reader.end(&mut self.read).map_err(LineFault::Sddl);
-        }
-        match mem::replace(&mut self.reader, LineReader::Base64) {
+        match &mut self.reader {
             LineReader::Hex(reader) => reader.finish(&mut self.read).map_err(LineFault::Text),
-            _ => self
+            LineReader::Base64 => self
                 .read
                 .from_base64(self.held.bytes())
                 .map_err(LineFault::Text),
+            LineReader::Sddl(reader) => reader.end(&mut self.read).map_err(LineFault::Sddl),
         }
     }
 }

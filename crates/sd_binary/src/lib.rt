@@ -44,4 +44,5 @@ pub use sd_builder::{AclTooLarge, Builder, write_layout};
 pub use sd_control::{AclFlags, CONTROL_BITS, ControlBit, Which};
 pub use sd_view::{
     AceView, Aces, AclPart, AclView, Part, SdFault, SdView, print_layout, put_layout, read,
+    view_written,
 };

@@ -9,7 +9,7 @@ use crate::buffer::{SdBuf, TextFault};
 
 /// A reader of one line of hex, in pieces that are cut anywhere, beside the buffer into which its bytes go. Each call
 /// takes the buffer as the reader's last call left it.
-#[derive(Drop)]
+#[derive(Clone, Copy)]
 pub struct HexReader {
     // The first character of a pair whose second has not come; it is judged with its pair.
     pending: Option<u8>,

@@ -4,6 +4,7 @@ use Rattle.sd_sid.specs.Sid.{SecurityId}
 use Rattle.sd_buffer.specs.HexReading.{ReadsHex}
 use Rattle.sd_view.specs.Descriptor.{Descriptor}
 use Rattle.sd_view.specs.Reading.{reading}
+use Rattle.sd_view.specs.WrittenForm.{IsWrittenForm}
 use Rattle.sd_sddl_reader.specs.SddlReading.{IsReading, ReadsSddl}
 use Rattle.sd_answer.specs.Answer.{or_byte_fault}
 use Rattle.sd_answer.specs.declared.fault.LineFault.{LineFault}
@@ -29,6 +30,12 @@ abbrev pub HasRead : LineReader → List ℕ → List ℕ → Option SecurityId 
 HasRead (reader.Hex r) read held domain text = ReadsHex r read text
 HasRead reader.Base64 read held domain text = held ≡ text
 HasRead (reader.Sddl r) read held domain text = ReadsSddl r read domain text
+
+-- a reader of SDDL leaves bytes in their written form
+abbrev pub IsWrittenBy : LineReader → List ℕ → Type 0
+IsWrittenBy (reader.Hex r) read = Unit {0}
+IsWrittenBy reader.Base64 read = Unit {0}
+IsWrittenBy (reader.Sddl r) read = IsWrittenForm read
 
 -- the end of a line leaves the bytes of what it means, or there is none
 abbrev pub Leaves : Result Descriptor LineFault → Result (Unit {0}) LineFault → List ℕ → Type 0
