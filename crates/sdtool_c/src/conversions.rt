@@ -1,9 +1,10 @@
 //! The calls that convert descriptors.
 
-ghost use Rattle.std.specs.Prelude.{◌≡◌, codes, MatchResult, Ok, Err};
+ghost use Rattle.std.specs.Prelude.{◌≡◌, codes, MatchResult, OnOk, Ok, Err};
 ghost use Rattle.std.specs.Option.{option_copied};
 ghost use Rattle.sd_view.specs.Descriptor.{Descriptor, Shows};
 ghost use Rattle.sd_view.specs.Layout.{layout};
+ghost use Rattle.sd_view.specs.WrittenForm.{IsWrittenForm};
 ghost use Rattle.sdtool_c.specs.Outcomes.{Answers, AnswersText, AnswersWithin, Gives};
 ghost use Rattle.sdtool_c.specs.Calls.{explained, from_sddl, laid_out, normalized, printed, text_in, to_sddl};
 
@@ -15,7 +16,7 @@ use sd_buffer::SdBuf;
 use sd_sddl_reader::read_sddl;
 use sd_sid::Sid;
 use sd_text::MOST_SDDL_TEXT;
-use sd_view::{SdView, put_layout, read};
+use sd_view::{SdView, put_layout, view_written};
 use std::alloc::Global;
 
 /// Gives the library's version.
@@ -111,20 +112,17 @@ fn give_meant(text: &[u8], domain: Option<&Sid>, buf: &mut SdBuf, output: &mut [
     ensures { Answers (laid_out (text_in (option_copied domain.entry) text.now)) output.old output.new result }
 {
     match read_text(text, domain, buf) {
-        Ok(()) => give_read(buf.bytes(), output),
+        Ok(()) => give_written(buf.bytes(), output),
         Err(fault) => failed(fault),
     }
 }
 
-// Gives the layout of the descriptor that some bytes show.
-fn give_read(bytes: &[u8], output: &mut [u8]) -> Outcome
+// Gives the layout of the descriptor that bytes in their written form show.
+fn give_written(bytes: &[u8], output: &mut [u8]) -> Outcome
+    requires { IsWrittenForm bytes.now }
     ensures { (d : Descriptor) → Shows bytes.now d → Gives (layout d) output.old output.new result }
 {
-    match read(bytes) {
-        Ok(view) => give_layout(&view, output),
-        // The bytes show a descriptor.
-        Err(fault) => failed(CallFault::Sd(fault)),
-    }
+    give_layout(&view_written(bytes), output)
 }
 
 // Gives the layout of a descriptor.
@@ -146,9 +144,10 @@ fn give_layout(view: &SdView<'_>, output: &mut [u8]) -> Outcome
 // Reads a text into the buffer, as bytes that show its descriptor.
 #[tactic(auto, unfolding(crate::specs::Calls::text_in))]
 fn read_text(text: &[u8], domain: Option<&Sid>, buf: &mut SdBuf) -> Result<(), CallFault>
-    ensures { MatchResult (text_in (option_copied domain.entry) text.now)
+    ensures meant { MatchResult (text_in (option_copied domain.entry) text.now)
         (λ d. (result ≡ Ok tt) × Shows buf.new d)
         (λ fault. result ≡ Err fault) }
+    ensures form { OnOk result (IsWrittenForm buf.new) }
 {
     if text.len() > MOST_SDDL_TEXT {
         return Err(CallFault::TooLong);
