@@ -1,2 +1,3 @@
 pub mod Ace
+pub mod AceLayout
 pub mod GuidText

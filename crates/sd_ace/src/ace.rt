@@ -5,6 +5,7 @@ ghost use Rattle.std.specs.List.{All};
 ghost use Rattle.sd_ace.specs.Ace.{GuidsFit, IsAce, IsGuid, ace_size, guid_size as size_of_guid};
 ghost use Rattle.sd_kinds.specs.Kinds.{is_object};
 
+use crate::ace_front::{FRONT_SIZE, OBJECT_FRONT_SIZE};
 use sd_kinds::AceKind;
 use sd_sid::Sid;
 use std::marker::Model;
@@ -12,12 +13,6 @@ use uuid::Uuid;
 
 /// The flag that MS-DTYP 2.4.4.1 does not name, and that no ACE has here.
 pub const UNUSED_FLAG: u8 = 0x20;
-
-/// The bytes of type, flags, size and mask.
-const FRONT_SIZE: u16 = 8;
-
-/// The bytes of the object flags.
-const OBJECT_FLAGS_SIZE: u16 = 4;
 
 /// An access control entry (MS-DTYP 2.4.4).
 #[derive(Clone, Copy, Debug, PartialEq, Eq)]
@@ -97,13 +92,10 @@ impl Ace {
     {
         let sid_size = self.sid.size() as u16;
         if !self.kind.is_object() {
-            return FRONT_SIZE + sid_size;
+            return FRONT_SIZE as u16 + sid_size;
         }
-        FRONT_SIZE
-            + OBJECT_FLAGS_SIZE
-            + guid_size(self.object)
-            + guid_size(self.inherited)
-            + sid_size
+        let guids_size = guid_size(self.object) + guid_size(self.inherited);
+        OBJECT_FRONT_SIZE as u16 + guids_size + sid_size
     }
 
     /// What it does.

@@ -14,7 +14,8 @@ use Rattle.sd_ace.specs.Ace.{AccessControlEntry, IsAce, ace_size}
 use Rattle.sd_kinds.specs.Kinds.{is_object}
 use Rattle.sd_sid.specs.Sid.{SecurityId, IsSid, sid_bytes}
 use Rattle.sd_view.specs.Acl.{acl_size, has_object}
-use Rattle.sd_view.specs.AclLayout.{ace_bytes, acl_bytes, acl_header, revision_if}
+use Rattle.sd_ace.specs.AceLayout.{ace_bytes}
+use Rattle.sd_view.specs.AclLayout.{acl_bytes, acl_header, revision_if}
 use Rattle.sd_builder.specs.Builds.{Builds}
 use Rattle.sd_builder.specs.Inner.Building.{Building, OpenAt, OpenIsFree, OpenStands, PartStands, PartsStand}
 use Rattle.sd_builder.specs.Inner.Building.{StandsInOrder}

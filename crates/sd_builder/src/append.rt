@@ -6,15 +6,14 @@ ghost use Rattle.byteorder.specs.Endian.{big_bytes, little_bytes};
 ghost use Rattle.sd_ace.specs.Ace.{ace_size};
 ghost use Rattle.sd_sid.specs.Sid.{IsSid, sid_bytes, sid_size};
 ghost use Rattle.sd_kinds.specs.Kinds.{is_object};
-ghost use Rattle.sd_view.specs.AclLayout.{ace_bytes, ace_front, guid_part, guids};
+ghost use Rattle.sd_ace.specs.AceLayout.{ace_bytes, ace_front, guid_part, guids};
 ghost use Rattle.sd_control.specs.declared.limits.TheConstants.{CAPACITY, MOST_SID_SIZE};
 
 use byteorder::{BigEndian, ByteOrder, LittleEndian};
-use sd_ace::{Ace, guid_bytes};
+use sd_ace::{Ace, AceFront, guid_bytes};
 use sd_buffer::SdBuf;
 use sd_control::SID_HEADER_SIZE;
 use sd_sid::Sid;
-use sd_view::AceFront;
 use uuid::Uuid;
 
 // The sub-authorities of an account of a domain: most SIDs have as many.

@@ -1,5 +1,5 @@
 -- What a reader keeps of the text of one field.
-use Rattle.std.specs.Prelude.{◌≡◌, ℕ, ◌≤◌, Bool, true, false, ◌||◌, not, ◌==◌, if◌then◌else◌, List, [], ◌∷◌, ◌++◌}
+use Rattle.std.specs.Prelude.{◌≡◌, ℕ, ◌≤◌, Bool, true, false, ◌||◌, ◌&&◌, not, ◌==◌, if◌then◌else◌, List, [], ◌∷◌, ◌++◌}
 use Rattle.std.specs.Prelude.{codes, length}
 use Rattle.std.specs.List.{list_any}
 use Rattle.std.specs.Str.{byte as char}
@@ -50,6 +50,10 @@ held_run h (b ∷ bs) = held_run (held_with h b) bs
 -- a byte that only goes onto the text of a field inside parentheses
 abbrev pub is_plain_inside : ℕ → Bool
 is_plain_inside b = not (b == char "(" || (b == char ")" || (b == char ";" || is_blank b)))
+
+-- a byte that goes onto the text of a field outside parentheses, unless it is a letter that begins a head
+abbrev pub is_plain_text : ℕ → Bool
+is_plain_text b = is_plain_inside b && not (b == char ":")
 
 -- the text of a field that ends here: one that is not kept has a blank, and does not read
 abbrev pub held_text : Held → List ℕ

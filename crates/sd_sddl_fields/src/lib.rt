@@ -9,5 +9,5 @@ mod whole_ace;
 
 pub use field_text::FieldText;
 pub use field_texts::{AclFront, NO_FLAGS, front_from_text, object_from_text};
-pub use plain::{is_blank, is_plain_inside, plain_inside};
+pub use plain::{is_blank, is_plain_inside, is_plain_text, plain_inside, plain_text};
 pub use whole_ace::{after, behind, front_flags, front_kind, front_objects, front_rights};

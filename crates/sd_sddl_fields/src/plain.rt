@@ -3,7 +3,10 @@
 ghost use Rattle.std.specs.Prelude.{◌≡◌, ◌≤◌, length, take, true};
 ghost use Rattle.std.specs.List.{list_all};
 ghost use Rattle.sd_sddl_fields.specs.FieldTexts.{is_blank};
-ghost use Rattle.sd_sddl_fields.specs.Held.{is_plain_inside};
+ghost use Rattle.sd_sddl_fields.specs.Held.{is_plain_inside, is_plain_text};
+
+/// The bytes of a text that are looked at together.
+const BLOCK: usize = 8;
 
 /// A space or a tab.
 pub fn is_blank(byte: u8) -> bool
@@ -35,4 +38,51 @@ pub fn plain_inside(text: &[u8]) -> usize
         }
     }
     text.len()
+}
+
+/// A byte that goes onto the text of a field outside parentheses, unless it is the letter of a head.
+pub fn is_plain_text(byte: u8) -> bool
+    ensures { result ≡ is_plain_text byte }
+{
+    is_plain_inside(byte) && byte != b':'
+}
+
+/// How many bytes at the front are no parentheses, colons, semicolons or blanks.
+pub fn plain_text(text: &[u8]) -> usize
+    ensures within { result ≤ length text.now }
+    ensures plain { list_all is_plain_text (take result text.now) ≡ true }
+{
+    let blocks = plain_blocks(text);
+    for place in blocks..text.len() {
+        if !is_plain_text(text[place]) {
+            return place;
+        }
+    }
+    text.len()
+}
+
+// How many bytes at the front stand in whole blocks of such bytes.
+#[inline(always)]
+fn plain_blocks(text: &[u8]) -> usize
+    ensures within { result ≤ length text.now }
+    ensures plain { list_all is_plain_text (take result text.now) ≡ true }
+{
+    let mut count = 0;
+    while text.len() - count >= BLOCK && are_plain(&text[count..count + BLOCK]) {
+        count += BLOCK;
+    }
+    count
+}
+
+// Whether no byte is a parenthesis, a colon, a semicolon or a blank, nor any other before `*`. It looks at all bytes
+// and at each in the same way, and so at several at a time.
+#[inline(always)]
+fn are_plain(text: &[u8]) -> bool
+    ensures { result ≡ true → list_all is_plain_text text.now ≡ true }
+{
+    let mut other = false;
+    for byte in text {
+        other |= (*byte < b'*') | (*byte == b':') | (*byte == b';');
+    }
+    !other
 }

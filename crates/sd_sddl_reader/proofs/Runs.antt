@@ -11,8 +11,8 @@ use Rattle.sd_sddl_reader.specs.declared.fault.SddlFault.{SddlFault}
 use Rattle.sd_sddl_reader.specs.declared.line.AceField.{AceField}
 use Rattle.sd_sddl_reader.specs.declared.line.State.TheVariants as state
 use Rattle.sd_control.specs.declared.part.SidPart.{SidPart}
-use Rattle.sd_sddl_fields.specs.Held.{Held, IsHeld, broken_text, held_run, held_with, is_plain_inside}
-use Rattle.sd_sddl_reader.specs.Inner.Progress.{is_plain_outside, is_plain_text}
+use Rattle.sd_sddl_fields.specs.Held.{Held, IsHeld, broken_text, held_run, held_with, is_plain_inside, is_plain_text}
+use Rattle.sd_sddl_reader.specs.Inner.Progress.{is_plain_outside}
 use Rattle.sd_sddl_reader.specs.Line.{head_of}
 use Rattle.sd_sddl_fields.specs.FieldTexts.{is_blank}
 use Rattle.sd_sddl_reader.specs.FoldedReading.{FieldsRead}

@@ -9,7 +9,6 @@ use Rattle.std.proofs.lemmas.Bool.{and_right}
 use Rattle.std.proofs.Math.Bool.{or-true, or-false}
 use Rattle.sd_sid.specs.Sid.{SecurityId}
 use Rattle.sd_control.specs.declared.part.Which.{Which}
-use Rattle.sd_control.specs.declared.part.Which.TheVariants as which
 use Rattle.sd_sddl_reader.specs.declared.fault.SddlFault.{SddlFault}
 use Rattle.sd_sddl_reader.specs.declared.fault.SddlFault.TheVariants as fault
 use Rattle.sd_sddl_reader.specs.declared.line.AceField.{AceField}
@@ -22,7 +21,6 @@ use Rattle.sd_control.specs.Parts.{each_part, get_part, same_part, set_part}
 use Rattle.sd_control.specs.declared.part.Part.{Part}
 use Rattle.sd_control.specs.declared.part.Part.TheVariants as part
 use Rattle.sd_control.specs.declared.part.SidPart.{SidPart}
-use Rattle.sd_control.specs.declared.part.SidPart.TheVariants as sid_part
 use Rattle.sd_sddl_reader.specs.declared.line.Slot.{Slot}
 use Rattle.sd_sddl_reader.specs.declared.line.Slot.TheVariants as slot
 use Rattle.sd_sddl_fields.specs.Held.{Held, IsHeld, no_text, held_text}

@@ -7,12 +7,12 @@ use Rattle.std.proofs.lemmas.Bool.{and_parts}
 use Rattle.sd_sid.specs.Sid.{SecurityId}
 use Rattle.sd_control.specs.declared.part.SidPart.{SidPart}
 use Rattle.sd_control.specs.declared.part.Which.{Which}
-use Rattle.sd_sddl_fields.specs.Held.{IsHeld, Held, held_run, held_with, is_plain_inside, no_text}
+use Rattle.sd_sddl_fields.specs.Held.{IsHeld, Held, held_run, held_with, is_plain_inside, is_plain_text, no_text}
 use Rattle.sd_sddl_fields.proofs.laws.HeldRuns.{run-fits}
 use Rattle.sd_text.specs.Chains.{unless}
 use Rattle.sd_sddl_reader.specs.Line.{byte, head_at, head_of, pieces_from}
 use Rattle.sd_sddl_reader.specs.FoldedReading.{FieldsRead, take_field}
-use Rattle.sd_sddl_reader.specs.Inner.Progress.{Seen, ended_with, is_inside, is_plain_text, is_seen, rest_answer}
+use Rattle.sd_sddl_reader.specs.Inner.Progress.{Seen, ended_with, is_inside, is_seen, rest_answer}
 use Rattle.sd_sddl_reader.specs.Inner.Progress.{state_of, with_head}
 use Rattle.sd_sddl_reader.specs.Inner.Reads.{HasReadFields, IsFresh, LineHasRead, Steps, answer_at}
 use Rattle.sd_sddl_reader.specs.Inner.WholePart.{HeadAfter, IsPlainText}

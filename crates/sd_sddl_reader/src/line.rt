@@ -3,8 +3,7 @@
 ghost use Rattle.std.specs.Prelude.{◌≡◌, ◌≤◌, ◌∷◌, ◌++◌, length, take, IfSome, Some, true};
 ghost use Rattle.std.specs.Str.{byte as char};
 ghost use Rattle.std.specs.List.{list_all};
-ghost use Rattle.sd_sddl_fields.specs.Held.{is_plain_inside};
-ghost use Rattle.sd_sddl_reader.specs.Inner.Progress.{is_plain_outside, is_plain_text};
+ghost use Rattle.sd_sddl_reader.specs.Inner.Progress.{is_plain_outside};
 ghost use Rattle.sd_sddl_reader.specs.Inner.WholePart.{HeadAfter, IsPlainText};
 ghost use Rattle.sd_sddl_reader.specs.Line.{head_of, part_of_head};
 ghost use Rattle.sd_sddl_fields.specs.FieldTexts.{is_blank};
@@ -12,11 +11,8 @@ ghost use Rattle.sd_sddl_reader.specs.FoldedReading.{next_field};
 ghost use Rattle.sd_sddl_reader.specs.Inner.Progress.{state_of};
 
 use sd_control::{Part, SidPart, Which};
-use sd_sddl_fields::is_plain_inside;
+use sd_sddl_fields::{is_plain_text, plain_text};
 use sd_text::MOST_FIELD_SIZE;
-
-/// The bytes of a text that are looked at together.
-const BLOCK: usize = 8;
 
 /// What a letter announces, with a colon after it.
 #[derive(Clone, Copy)]
@@ -163,51 +159,4 @@ pub fn first_parenthesis(text: &[u8]) -> Option<(&[u8], &[u8])>
         return None;
     }
     Some((&text[..end], &text[end + 1..]))
-}
-
-// A byte that goes onto the text of a field outside parentheses, unless it is the letter of a head.
-fn is_plain_text(byte: u8) -> bool
-    ensures { result ≡ is_plain_text byte }
-{
-    is_plain_inside(byte) && byte != b':'
-}
-
-// How many bytes at the front are no parentheses, colons, semicolons or blanks.
-fn plain_text(text: &[u8]) -> usize
-    ensures within { result ≤ length text.now }
-    ensures plain { list_all is_plain_text (take result text.now) ≡ true }
-{
-    let blocks = plain_blocks(text);
-    for place in blocks..text.len() {
-        if !is_plain_text(text[place]) {
-            return place;
-        }
-    }
-    text.len()
-}
-
-// How many bytes at the front stand in whole blocks of such bytes.
-#[inline(always)]
-fn plain_blocks(text: &[u8]) -> usize
-    ensures within { result ≤ length text.now }
-    ensures plain { list_all is_plain_text (take result text.now) ≡ true }
-{
-    let mut count = 0;
-    while text.len() - count >= BLOCK && are_plain(&text[count..count + BLOCK]) {
-        count += BLOCK;
-    }
-    count
-}
-
-// Whether no byte is a parenthesis, a colon, a semicolon or a blank, nor any other before `*`. It looks at all bytes
-// and at each in the same way, and so at several at a time.
-#[inline(always)]
-fn are_plain(text: &[u8]) -> bool
-    ensures { result ≡ true → list_all is_plain_text text.now ≡ true }
-{
-    let mut other = false;
-    for byte in text {
-        other |= (*byte < b'*') | (*byte == b':') | (*byte == b';');
-    }
-    !other
 }

@@ -11,7 +11,7 @@ ghost use Rattle.sd_sddl_reader.specs.Line.{byte, head_at, head_of as head_named
 ghost use Rattle.sd_sddl_reader.specs.FoldedReading.{FieldsRead, finished, take_field};
 ghost use Rattle.sd_text.specs.Chains.{and_then, unless};
 ghost use Rattle.sd_sddl_reader.specs.Meaning.{means};
-ghost use Rattle.sd_sddl_reader.specs.Inner.Reads.{CanTake, HasReadFields, Takes};
+ghost use Rattle.sd_sddl_reader.specs.Inner.Reads.{CanTake, HasReadFields};
 ghost use Rattle.sd_sddl_reader.specs.Inner.WholePart.{IsPlainText};
 ghost use Rattle.sd_sddl_reader.specs.Inner.Progress.{ended_with, is_inside, is_seen, state_of, with_head};
 
@@ -45,8 +45,8 @@ pub struct SddlReader {
 
 impl SddlReader {
     ghost use Rattle.sd_sddl_reader.specs.SddlReading.{IsReading, ReadsSddl};
-    ghost use Rattle.sd_sddl_reader.specs.Inner.Reads.{CanStep, Ends, FedTo, HasReadFields, LineHasRead, IsCalm};
-    ghost use Rattle.sd_sddl_reader.specs.Inner.Reads.{IsFresh, IsReader, IsText, Reads, Steps, StepsOn};
+    ghost use Rattle.sd_sddl_reader.specs.Inner.Reads.{CanStep, Ends, Feeds, HasReadFields, LineHasRead, IsCalm};
+    ghost use Rattle.sd_sddl_reader.specs.Inner.Reads.{IsFresh, IsReader, IsText, Reads, StepsOn, StepsOver};
     ghost use Rattle.sd_sddl_reader.specs.Inner.Reads.{StepsText, answer_at};
 
     /// A reader that was fed nothing.
@@ -85,9 +85,7 @@ impl SddlReader {
     fn put_inside(&mut self, buf: &mut SdBuf, field: AceField, byte: u8)
         requires here { self.old.state ≡ State.Ace field }
         requires ready { CanStep self.old buf.old }
-        ensures answers { Steps self.old buf.old (byte ∷ []) self.new buf.new }
-        ensures calm { IsCalm self.new }
-        ensures pending { self.new.pending ≡ self.old.pending }
+        ensures { StepsOver self.old buf.old (byte ∷ []) self.new buf.new }
     {
         match byte {
             b'(' => self.sound = false,
@@ -101,18 +99,10 @@ impl SddlReader {
     fn end_ace(&mut self, buf: &mut SdBuf, field: AceField)
         requires here { self.old.state ≡ State.Ace field }
         requires ready { CanStep self.old buf.old }
-        ensures answers { Steps self.old buf.old (codes ")") self.new buf.new }
-        ensures calm { IsCalm self.new }
-        ensures pending { self.new.pending ≡ self.old.pending }
+        ensures { StepsOver self.old buf.old (codes ")") self.new buf.new }
     {
         if let AceField::Sid = field {
-            end_field(
-                &mut self.fault,
-                &mut self.field,
-                &mut self.fields,
-                buf,
-                Slot::Ace(field),
-            );
+            self.end_field(buf, Slot::Ace(field));
             self.state = State::AfterAce;
         } else {
             self.sound = false;
@@ -123,20 +113,12 @@ impl SddlReader {
     fn end_ace_field(&mut self, buf: &mut SdBuf, field: AceField)
         requires here { self.old.state ≡ State.Ace field }
         requires ready { CanStep self.old buf.old }
-        ensures answers { Steps self.old buf.old (codes ";") self.new buf.new }
-        ensures calm { IsCalm self.new }
-        ensures pending { self.new.pending ≡ self.old.pending }
+        ensures { StepsOver self.old buf.old (codes ";") self.new buf.new }
     {
         if let AceField::Sid = field {
             self.sound = false;
         } else {
-            end_field(
-                &mut self.fault,
-                &mut self.field,
-                &mut self.fields,
-                buf,
-                Slot::Ace(field),
-            );
+            self.end_field(buf, Slot::Ace(field));
             self.state = State::Ace(next_field(field));
         }
     }
@@ -160,19 +142,11 @@ impl SddlReader {
     fn begin_ace(&mut self, buf: &mut SdBuf)
         requires here { is_inside self.old.state ≡ false }
         requires ready { CanStep self.old buf.old }
-        ensures answers { Steps self.old buf.old (codes "(") self.new buf.new }
-        ensures calm { IsCalm self.new }
-        ensures pending { self.new.pending ≡ self.old.pending }
+        ensures { StepsOver self.old buf.old (codes "(") self.new buf.new }
     {
         match self.state {
             State::AclFlags(which) => {
-                end_field(
-                    &mut self.fault,
-                    &mut self.field,
-                    &mut self.fields,
-                    buf,
-                    Slot::AclFlags(which, true),
-                );
+                self.end_field(buf, Slot::AclFlags(which, true));
                 self.state = State::Ace(AceField::Kind);
             }
             State::AfterAce => {
@@ -208,9 +182,7 @@ impl SddlReader {
         requires here { is_inside self.old.state ≡ false }
         requires ready { CanStep self.old buf.old }
         requires letter { head_named letter ≡ Some head }
-        ensures answers { Steps self.old buf.old (letter ∷ codes ":") self.new buf.new }
-        ensures calm { IsCalm self.new }
-        ensures pending { self.new.pending ≡ self.old.pending }
+        ensures { StepsOver self.old buf.old (letter ∷ codes ":") self.new buf.new }
     {
         self.end_part(buf);
         self.note_head(head);
@@ -240,6 +212,44 @@ impl SddlReader {
         self.state = state_of(head);
     }
 
+    // Reads the field at hand, where each one before it read, and makes room for the next.
+    fn end_field(&mut self, buf: &mut SdBuf, slot: Slot)
+        requires clean { IsHeld self.old.field }
+        requires held { (t : FieldsRead)
+            × (self.old.fault ≡ None → HasReadFields self.old.fields buf.old t × CanTake slot t) }
+        ensures read { (t : FieldsRead) → (self.old.fault ≡ None → HasReadFields self.old.fields buf.old t)
+            → (u : FieldsRead) × (self.new.fault ≡ None → HasReadFields self.new.fields buf.new u)
+            × (unless self.new.fault u ≡ and_then (unless self.old.fault t)
+            (λ r. take_field self.old.fields.domain r slot (held_text self.old.field))) }
+        ensures cleared { self.new.field ≡ no_text }
+        ensures domain { self.new.fields.domain ≡ self.old.fields.domain }
+        ensures same { self.new
+            ≡ record self.old { field = self.new.field; fault = self.new.fault; fields = self.new.fields } }
+    {
+        if self.fault.is_none() {
+            self.take_held(buf, slot);
+        }
+        self.field.clear();
+    }
+
+    // Reads the field at hand.
+    fn take_held(&mut self, buf: &mut SdBuf, slot: Slot)
+        requires clean { IsHeld self.old.field }
+        requires held { (t : FieldsRead) × HasReadFields self.old.fields buf.old t × CanTake slot t }
+        requires clear { self.old.fault ≡ None }
+        ensures read { (t : FieldsRead) → HasReadFields self.old.fields buf.old t → (u : FieldsRead)
+            × (self.new.fault ≡ None → HasReadFields self.new.fields buf.new u)
+            × (unless self.new.fault u ≡ take_field self.old.fields.domain t slot (held_text self.old.field)) }
+        ensures domain { self.new.fields.domain ≡ self.old.fields.domain }
+        ensures same { self.new ≡ record self.old { fault = self.new.fault; fields = self.new.fields } }
+    {
+        if self.field.is_broken() {
+            self.fault = Some(fault_of(slot));
+        } else if let Err(found) = self.fields.take_readable(buf, slot, self.field.text()) {
+            self.fault = Some(found);
+        }
+    }
+
     // The end of the part at hand, with no ACE since its head or none open.
     fn end_part(&mut self, buf: &mut SdBuf)
         requires here { is_inside self.old.state ≡ false }
@@ -254,20 +264,8 @@ impl SddlReader {
             ≡ record self.old { field = self.new.field; fault = self.new.fault; fields = self.new.fields } }
     {
         match self.state {
-            State::Sid(part) => end_field(
-                &mut self.fault,
-                &mut self.field,
-                &mut self.fields,
-                buf,
-                Slot::Sid(part),
-            ),
-            State::AclFlags(which) => end_field(
-                &mut self.fault,
-                &mut self.field,
-                &mut self.fields,
-                buf,
-                Slot::AclFlags(which, false),
-            ),
+            State::Sid(part) => self.end_field(buf, Slot::Sid(part)),
+            State::AclFlags(which) => self.end_field(buf, Slot::AclFlags(which, false)),
             _ => self.field.clear(),
         }
     }
@@ -344,9 +342,7 @@ impl SddlReader {
     fn feed_next<'a>(&mut self, buf: &mut SdBuf, text: &'a [u8]) -> &'a [u8]
         requires { IsReader self.old buf.old }
         ensures shorter { length result.now ≤ length text.now - 1 }
-        ensures reader { IsReader self.new buf.new }
-        ensures read { (domain : Option SecurityId) (before : List ℕ) → Reads self.old buf.old domain before
-            → FedTo self.new buf.new domain result.now (before ++ text.now) }
+        ensures fed { Feeds self.old buf.old text.now self.new buf.new result.now }
     {
         let left = self.feed_whole(buf, text);
         if left.len() < text.len() {
@@ -359,9 +355,7 @@ impl SddlReader {
     fn feed_front<'a>(&mut self, buf: &mut SdBuf, text: &'a [u8]) -> &'a [u8]
         requires { IsReader self.old buf.old }
         ensures shorter { length result.now ≤ length text.now - 1 }
-        ensures reader { IsReader self.new buf.new }
-        ensures read { (domain : Option SecurityId) (before : List ℕ) → Reads self.old buf.old domain before
-            → FedTo self.new buf.new domain result.now (before ++ text.now) }
+        ensures fed { Feeds self.old buf.old text.now self.new buf.new result.now }
     {
         let Some((byte, after)) = text.split_first() else {
             return text;
@@ -382,10 +376,7 @@ impl SddlReader {
     // with its first parenthesis, or ACEs. Answers what follows it.
     fn feed_whole<'a>(&mut self, buf: &mut SdBuf, text: &'a [u8]) -> &'a [u8]
         requires { IsReader self.old buf.old }
-        ensures shorter { length result.now ≤ length text.now }
-        ensures reader { IsReader self.new buf.new }
-        ensures read { (domain : Option SecurityId) (before : List ℕ) → Reads self.old buf.old domain before
-            → FedTo self.new buf.new domain result.now (before ++ text.now) }
+        ensures { Feeds self.old buf.old text.now self.new buf.new result.now }
     {
         if !self.is_fresh() {
             return text;
@@ -404,10 +395,7 @@ impl SddlReader {
         requires here { is_inside self.old.state ≡ false }
         requires fresh { IsFresh self.old }
         requires reader { IsReader self.old buf.old }
-        ensures shorter { length result.now ≤ length text.now }
-        ensures reader { IsReader self.new buf.new }
-        ensures read { (domain : Option SecurityId) (before : List ℕ) → Reads self.old buf.old domain before
-            → FedTo self.new buf.new domain result.now (before ++ text.now) }
+        ensures { Feeds self.old buf.old text.now self.new buf.new result.now }
     {
         match front_head(text) {
             Some((letter, head, rest)) => {
@@ -423,10 +411,7 @@ impl SddlReader {
         requires here { self.old.state ≡ State.Sid part }
         requires fresh { IsFresh self.old }
         requires reader { IsReader self.old buf.old }
-        ensures shorter { length result.now ≤ length text.now }
-        ensures reader { IsReader self.new buf.new }
-        ensures read { (domain : Option SecurityId) (before : List ℕ) → Reads self.old buf.old domain before
-            → FedTo self.new buf.new domain result.now (before ++ text.now) }
+        ensures { Feeds self.old buf.old text.now self.new buf.new result.now }
     {
         match next_head(text) {
             Some((field, head, rest)) => {
@@ -443,10 +428,7 @@ impl SddlReader {
         requires here { self.old.state ≡ State.AclFlags which }
         requires fresh { IsFresh self.old }
         requires reader { IsReader self.old buf.old }
-        ensures shorter { length result.now ≤ length text.now }
-        ensures reader { IsReader self.new buf.new }
-        ensures read { (domain : Option SecurityId) (before : List ℕ) → Reads self.old buf.old domain before
-            → FedTo self.new buf.new domain result.now (before ++ text.now) }
+        ensures { Feeds self.old buf.old text.now self.new buf.new result.now }
     {
         match first_parenthesis(text) {
             Some((field, rest)) => {
@@ -481,10 +463,7 @@ impl SddlReader {
         requires here { self.old.state ≡ State.Ace AceField.Kind }
         requires fresh { IsFresh self.old }
         requires reader { IsReader self.old buf.old }
-        ensures shorter { length result.now ≤ length text.now }
-        ensures reader { IsReader self.new buf.new }
-        ensures read { (domain : Option SecurityId) (before : List ℕ) → Reads self.old buf.old domain before
-            → FedTo self.new buf.new domain result.now (before ++ text.now) }
+        ensures { Feeds self.old buf.old text.now self.new buf.new result.now }
     {
         let mut rest = text;
         while let Some(after) = self.fields.take_ace(buf, rest) {
@@ -604,70 +583,6 @@ impl SddlReader {
             Some(fault) => Err(fault),
             None => self.fields.finish(buf),
         }
-    }
-}
-
-// Reads the field at hand, where each one before it read, and makes room for the next.
-fn end_field(
-    fault: &mut Option<SddlFault>,
-    field: &mut FieldText,
-    fields: &mut FieldReader,
-    buf: &mut SdBuf,
-    slot: Slot,
-)
-    requires clean { IsHeld field.old }
-    requires held { (t : FieldsRead) × (fault.old ≡ None → HasReadFields fields.old buf.old t × CanTake slot t) }
-    ensures read { (t : FieldsRead) → (fault.old ≡ None → HasReadFields fields.old buf.old t) → (u : FieldsRead)
-        × (fault.new ≡ None → HasReadFields fields.new buf.new u)
-        × (unless fault.new u ≡ and_then (unless fault.old t)
-        (λ r. take_field fields.old.domain r slot (held_text field.old))) }
-    ensures cleared { field.new ≡ no_text }
-    ensures domain { fields.new.domain ≡ fields.old.domain }
-{
-    read_held(fault, field, fields, buf, slot);
-    field.clear();
-}
-
-// Reads the field at hand, where each one before it read.
-fn read_held(
-    fault: &mut Option<SddlFault>,
-    field: &FieldText,
-    fields: &mut FieldReader,
-    buf: &mut SdBuf,
-    slot: Slot,
-)
-    requires clean { IsHeld field.now }
-    requires held { (t : FieldsRead) × (fault.old ≡ None → HasReadFields fields.old buf.old t × CanTake slot t) }
-    ensures read { (t : FieldsRead) → (fault.old ≡ None → HasReadFields fields.old buf.old t) → (u : FieldsRead)
-        × (fault.new ≡ None → HasReadFields fields.new buf.new u)
-        × (unless fault.new u ≡ and_then (unless fault.old t)
-        (λ r. take_field fields.old.domain r slot (held_text field.now))) }
-    ensures domain { fields.new.domain ≡ fields.old.domain }
-{
-    if fault.is_some() {
-        return;
-    }
-    if let Err(found) = take_held(fields, buf, slot, field) {
-        *fault = Some(found);
-    }
-}
-
-fn take_held(
-    fields: &mut FieldReader,
-    buf: &mut SdBuf,
-    slot: Slot,
-    field: &FieldText,
-) -> Result<(), SddlFault>
-    requires clean { IsHeld field.now }
-    requires held { (t : FieldsRead) × HasReadFields fields.old buf.old t × CanTake slot t }
-    ensures read { (t : FieldsRead) → HasReadFields fields.old buf.old t
-        → Takes (take_field fields.old.domain t slot (held_text field.now)) result fields.new buf.new }
-    ensures domain { fields.new.domain ≡ fields.old.domain }
-{
-    if field.is_broken() {
-        Err(fault_of(slot))
-    } else {
-        fields.take_readable(buf, slot, field.text())
     }
 }
 

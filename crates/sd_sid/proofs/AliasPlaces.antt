@@ -2,12 +2,10 @@
 use Rattle.std.proofs.Common.{◌≡◌, ◌<◌, ◌≤◌, ◌-◌, get_or, ℕ, zero, suc, ◌+◌, ◌*◌, Bool, true, false, cond, ◌&&◌, List}
 use Rattle.std.proofs.Common.{[], ◌∷◌, length, Option, Some, None, refl, sym, ap, ◌∙◌, arith}
 use Rattle.std.specs.Prelude.{◌==◌, slice_get}
-use Rattle.std.specs.Char.{to_ascii_uppercase}
 use Rattle.std.specs.List.{find}
 use Rattle.std.proofs.lemmas.Bool.{and_parts}
 use Rattle.std.proofs.lemmas.Bool.Decides.{nat_tests}
 use Rattle.sd_sid.specs.Inner.Places.{place_of}
-use Rattle.sd_sid.specs.SidText.{known_named, relative_named}
 use Rattle.sd_sid.specs.declared.alias.DomainRelative.{DomainRelative}
 use Rattle.sd_sid.specs.declared.alias.TheConstants.{DOMAIN_RELATIVE, WELL_KNOWN}
 use Rattle.sd_sid.specs.declared.alias.WellKnown.{WellKnown}

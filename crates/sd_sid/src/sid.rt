@@ -2,6 +2,7 @@
 
 ghost use Rattle.std.specs.Prelude.{◌≡◌, ◌≤◌, ◌<◌, ◌+◌, ◌*◌, ◌^◌, ◌↔◌, [], ◌∷◌, ◌++◌, length, slice_index, IsSome};
 ghost use Rattle.std.specs.Prelude.{IfSome, Some};
+ghost use Rattle.std.specs.Option.{option_map};
 ghost use Rattle.sd_text.specs.Limits.{most_subs};
 ghost use Rattle.sd_sid.specs.Sid.{SecurityId, IsSid, BeginsWithSid, sid_at, sid_of, sid_size};
 
@@ -117,12 +118,17 @@ impl Sid {
         // The same as a function of the bytes.
         ensures exact { result ≡ sid_at bytes.now }
     {
-        Sid::front(bytes)
+        let size = Sid::size_at_front(bytes)?;
+        Some((Sid::at_front(bytes), size))
     }
 
+    /// The size in bytes of the SID at the front of the bytes, as `read` finds it. None where there is none.
     #[tactic(auto, unfolding(crate::specs::Sid::sid_at))]
-    fn front(bytes: &[u8]) -> Option<(Sid, usize)>
-        ensures { result ≡ sid_at bytes.now }
+    pub fn size_at_front(bytes: &[u8]) -> Option<usize>
+        ensures exact { result ≡ option_map (λ r. r.1) (sid_at bytes.now) }
+        // Where there is one, it is the one that `at_front` gives.
+        ensures found { IfSome result (λ n. BeginsWithSid bytes.now (sid_of bytes.now) × (n ≡ sid_size (sid_of bytes.now))
+            × (sid_at bytes.now ≡ Some (sid_of bytes.now, n))) }
     {
         if bytes.len() < HEADER_SIZE || bytes[0] != 1 {
             return None;
@@ -131,7 +137,7 @@ impl Sid {
         if count > MOST_SUBS || bytes.len() < HEADER_SIZE + 4 * count {
             return None;
         }
-        Some((Sid::at_front(bytes), HEADER_SIZE + 4 * count))
+        Some(HEADER_SIZE + 4 * count)
     }
 
     /// The SID at the front of bytes that begin with one, as `read` finds it: the count is at most 15, and there are

@@ -2,10 +2,7 @@
 
 ghost use Rattle.std.specs.Prelude.{◌≡◌, ◌≤◌, ◌<◌, ◌+◌, ◌^◌, ◌++◌, [], List, ℕ, codes, length, take, drop, true};
 ghost use Rattle.std.specs.Prelude.{IfSome, MatchOption, Some};
-ghost use Rattle.std.specs.Char.{is_digit};
-ghost use Rattle.std.specs.List.{list_all};
 ghost use Rattle.std.specs.Option.{option_map};
-ghost use Rattle.sd_text.specs.Numbers.{number_after};
 ghost use Rattle.sd_text.specs.Cuts.{all_cuts};
 ghost use Rattle.sd_sid.specs.Inner.Read.{HasBegun};
 ghost use Rattle.sd_sid.specs.SidText.{decimals_read, are_numbers, are_subs, decimal_reads, has_form, is_decimal};
@@ -13,22 +10,12 @@ ghost use Rattle.sd_sid.specs.SidText.{numbers_read, cut_at_dashes, sid_front};
 
 use crate::sid::Sid;
 use crate::sid_text::{begins_with_s1, is_sid_byte};
-use sd_text::{MOST_FIELD_SIZE, MOST_SUBS};
+use sd_text::{MOST_FIELD_SIZE, MOST_SUBS, front_decimal};
 
 /// The authority of Windows itself, and the first sub-authority of a domain's SIDs: `S-1-5-21`.
 const NT: u32 = 5;
 
 const DOMAIN: u32 = 21;
-
-/// The digits that a decimal number has at most.
-const MOST_DIGITS: usize = 10;
-
-const ZERO: u64 = b'0' as u64;
-
-const NINE: u64 = b'9' as u64;
-
-/// The digits that are read at once, if there are as many.
-const BLOCK: usize = 8;
 
 /// Reads a SID in its usual form, with all numbers decimal and below 2^32, and returns its length. `None` means only
 /// that the general reader must decide.
@@ -139,7 +126,7 @@ fn front_number(text: &[u8]) -> Option<(u32, &[u8])>
     ensures size { IfSome result (λ r. length (sid_front text.now) + length r.1.now
         ≡ length (sid_front r.1.now) + length text.now) }
 {
-    let (number, count) = front_digits(text);
+    let (number, count) = front_decimal(text);
     let after = &text[count..];
     if count == 0 || number >= 1 << 32 || !ends_number(after) {
         return None;
@@ -156,69 +143,4 @@ fn ends_number(text: &[u8]) -> bool
         Some((byte, _)) => *byte == b'-' || !is_sid_byte(*byte),
         None => true,
     }
-}
-
-// The number that the digits at the front write, ten of them at most, and how many these are.
-#[inline(always)]
-fn front_digits(text: &[u8]) -> (u64, usize)
-    ensures few { result.1 ≤ 10 }
-    ensures within { result.1 ≤ length text.now }
-    ensures number { number_after 10 0 (take result.1 text.now) ≡ Some result.0 }
-{
-    if text.len() < MOST_DIGITS {
-        return few_digits(0, text);
-    }
-    // Most sub-authorities of a domain have eight digits or more.
-    let block = &text[..BLOCK];
-    if !are_digits(block) {
-        return few_digits(0, block);
-    }
-    let (number, count) = few_digits(block_number(block), &text[BLOCK..MOST_DIGITS]);
-    (number, BLOCK + count)
-}
-
-// Whether all bytes are digits. It looks at all of them and at each in the same way, and so at several at a time.
-#[inline(always)]
-fn are_digits(text: &[u8]) -> bool
-    ensures { result ≡ list_all (λ b. is_digit b 10) text.now }
-{
-    let mut other = false;
-    for byte in text {
-        other |= (*byte < b'0') | (b'9' < *byte);
-    }
-    !other
-}
-
-// The number that a block of digits writes.
-#[inline(always)]
-fn block_number(block: &[u8]) -> u64
-    requires size { length block.now ≡ 8 }
-    requires digits { list_all (λ b. is_digit b 10) block.now ≡ true }
-    ensures number { number_after 10 0 block.now ≡ Some result }
-    ensures small { result < 10 ^ 8 }
-{
-    let mut number: u64 = 0;
-    for byte in block {
-        number = number * 10 + (u64::from(*byte) - ZERO);
-    }
-    number
-}
-
-// The number that the digits at the front write behind those of another, and how many these are.
-#[inline(always)]
-fn few_digits(before: u64, text: &[u8]) -> (u64, usize)
-    requires before { before < 10 ^ 8 }
-    requires few { length text.now ≤ 10 }
-    ensures within { result.1 ≤ length text.now }
-    ensures number { number_after 10 before (take result.1 text.now) ≡ Some result.0 }
-{
-    let mut number = before;
-    for (i, byte) in text.iter().enumerate() {
-        let byte = u64::from(*byte);
-        if byte < ZERO || NINE < byte {
-            return (number, i);
-        }
-        number = number * 10 + (byte - ZERO);
-    }
-    (number, text.len())
 }

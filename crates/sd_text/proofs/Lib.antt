@@ -1,3 +1,4 @@
 pub mod DigitLemmas
+pub mod FrontDigits
 pub mod NumberLemmas
 pub mod laws

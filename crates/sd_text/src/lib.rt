@@ -12,4 +12,4 @@ pub use limits::{
     MOST_BASE64_TEXT, MOST_ENTRIES, MOST_FIELD_SIZE, MOST_HEX_TEXT, MOST_SDDL_TEXT, MOST_SUBS,
 };
 pub use names::{NamedBits, print_names, read_names};
-pub use numbers::read_number;
+pub use numbers::{front_decimal, read_number};

@@ -1,7 +1,19 @@
 //! The numbers that digits write, in rights and in SIDs.
 
-ghost use Rattle.std.specs.Prelude.{◌≡◌, ◌<◌, ◌≤◌, ◌^◌, IfSome};
-ghost use Rattle.sd_text.specs.Numbers.{number};
+ghost use Rattle.std.specs.Prelude.{◌≡◌, ◌<◌, ◌≤◌, ◌^◌, length, take, true, IfSome, Some};
+ghost use Rattle.std.specs.Char.{is_digit};
+ghost use Rattle.std.specs.List.{list_all};
+ghost use Rattle.sd_text.specs.Numbers.{number, number_after};
+
+/// The digits that a decimal number has at most.
+const MOST_DIGITS: usize = 10;
+
+const ZERO: u64 = b'0' as u64;
+
+const NINE: u64 = b'9' as u64;
+
+/// The digits that are read at once, if there are as many.
+const BLOCK: usize = 8;
 
 /// The number that the text writes, if each byte is a digit and the number is below the limit. No digits write 0.
 pub fn read_number(base: u32, limit: u64, text: &[u8]) -> Option<u64>
@@ -21,4 +33,69 @@ pub fn read_number(base: u32, limit: u64, text: &[u8]) -> Option<u64>
         }
     }
     Some(number)
+}
+
+/// The decimal number that the digits at the front write, ten of them at most, and how many these are.
+#[inline(always)]
+pub fn front_decimal(text: &[u8]) -> (u64, usize)
+    ensures few { result.1 ≤ 10 }
+    ensures within { result.1 ≤ length text.now }
+    ensures number { number_after 10 0 (take result.1 text.now) ≡ Some result.0 }
+{
+    if text.len() < MOST_DIGITS {
+        return few_digits(0, text);
+    }
+    // Most sub-authorities of a domain have eight digits or more.
+    let block = &text[..BLOCK];
+    if !are_digits(block) {
+        return few_digits(0, block);
+    }
+    let (number, count) = few_digits(block_number(block), &text[BLOCK..MOST_DIGITS]);
+    (number, BLOCK + count)
+}
+
+// Whether all bytes are digits. It looks at all of them and at each in the same way, and so at several at a time.
+#[inline(always)]
+fn are_digits(text: &[u8]) -> bool
+    ensures { result ≡ list_all (λ b. is_digit b 10) text.now }
+{
+    let mut other = false;
+    for byte in text {
+        other |= (*byte < b'0') | (b'9' < *byte);
+    }
+    !other
+}
+
+// The number that a block of digits writes.
+#[inline(always)]
+fn block_number(block: &[u8]) -> u64
+    requires size { length block.now ≡ 8 }
+    requires digits { list_all (λ b. is_digit b 10) block.now ≡ true }
+    ensures number { number_after 10 0 block.now ≡ Some result }
+    ensures small { result < 10 ^ 8 }
+{
+    let mut number: u64 = 0;
+    for byte in block {
+        number = number * 10 + (u64::from(*byte) - ZERO);
+    }
+    number
+}
+
+// The number that the digits at the front write behind those of another, and how many these are.
+#[inline(always)]
+fn few_digits(before: u64, text: &[u8]) -> (u64, usize)
+    requires before { before < 10 ^ 8 }
+    requires few { length text.now ≤ 10 }
+    ensures within { result.1 ≤ length text.now }
+    ensures number { number_after 10 before (take result.1 text.now) ≡ Some result.0 }
+{
+    let mut number = before;
+    for (i, byte) in text.iter().enumerate() {
+        let byte = u64::from(*byte);
+        if byte < ZERO || NINE < byte {
+            return (number, i);
+        }
+        number = number * 10 + (byte - ZERO);
+    }
+    (number, text.len())
 }

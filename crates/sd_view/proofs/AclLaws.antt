@@ -534,14 +534,11 @@ ace-readable left b e =
       limits = shows-ace-limits extent (ace_of extent) (AreBytes-take n left b) shows.0;
     }
 
--- the written size of what is read
-pub read-size : (extent : List ℕ) (s : SecurityId) (n : ℕ) → sid_at (drop (sid_offset_in extent) extent) ≡ Some (s, n)
-    → n ≡ sid_size s
+-- the written size, by that of the SID
+pub read-size : (extent : List ℕ) (n : ℕ) → n ≡ sid_size (sid_of (drop (sid_offset_in extent) extent))
     → sid_offset_in extent + n ≡ ace_size (ace_of extent)
 unfolding sid_offset_in
-read-size extent s n found size =
-    let same = sid_of-at (drop (sid_offset_in extent) extent) s n found in
-    ap (λ (k : ℕ). sid_offset_in extent + k) (size ∙ ap sid_size (sym same))
+read-size extent n size = ap (λ (k : ℕ). sid_offset_in extent + k) size
 
 -- the ACEs that are checked are those of the extent
 pub acl-read : (bytes : List ℕ) (n count : ℕ) → n ≡ u16_at 2 bytes → count ≡ u16_at 4 bytes → 8 ≤ n → n ≤ length bytes

@@ -8,7 +8,7 @@ use Rattle.sd_ace.specs.Ace.{ace_size, guid_size}
 use Rattle.sd_kinds.specs.Kinds.{is_object}
 use Rattle.sd_sid.specs.Sid.{SecurityId, BeginsWithSid, sid_bytes, sid_of}
 use Rattle.sd_view.specs.Ace.{announces_inherited, announces_object}
-use Rattle.sd_view.specs.AclLayout.{ace_body, guid_part, guids, front_size}
+use Rattle.sd_ace.specs.AceLayout.{ace_body, guid_part, guids, front_size}
 use Rattle.sd_view.specs.AclReading.{ace_of, guid_if, inherited_in, kind_in, object_in, sid_offset_in}
 use Rattle.sd_view.specs.Inner.ReadableAcl.{IsReadableAce}
 use Rattle.sd_view.specs.Bytes.{u32_at}

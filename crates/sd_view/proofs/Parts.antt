@@ -19,7 +19,8 @@ pub no_sid-bytes : (bytes : List ℕ) (offset : ℕ) → offset ≡ 0 → sid_pa
 unfolding sid_shown
 no_sid-bytes bytes offset e = rw e refl
 
-sid_shown-stands : (bytes : List ℕ) (offset : ℕ) → (offset ≡ 0 → ⊥) → sid_stands (drop offset bytes) ≡ true
+-- the SID that is shown is the one that its bytes give
+pub sid_shown-stands : (bytes : List ℕ) (offset : ℕ) → (offset ≡ 0 → ⊥) → sid_stands (drop offset bytes) ≡ true
     → sid_shown bytes offset ≡ Some (sid_of (drop offset bytes))
 unfolding sid_shown
 sid_shown-stands bytes offset other e =

@@ -5,7 +5,7 @@ ghost use Rattle.uuid.specs.Parts.{swap_fields};
 ghost use Rattle.sd_ace.specs.Ace.{IsAce, ace_size, guid_size};
 ghost use Rattle.sd_kinds.specs.Kinds.{is_object};
 ghost use Rattle.sd_view.specs.Ace.{announces_inherited, announces_object};
-ghost use Rattle.sd_view.specs.AclLayout.{ace_body, ace_bytes, front_size};
+ghost use Rattle.sd_ace.specs.AceLayout.{ace_body, ace_bytes, front_size};
 ghost use Rattle.sd_view.specs.AclReading.{ace_fault, ace_of, extent_fault, inherited_in, kind_in, object_in};
 ghost use Rattle.sd_view.specs.AclReading.{sid_offset_in};
 ghost use Rattle.sd_view.specs.Inner.ReadableAcl.{IsReadableAce};
@@ -15,7 +15,7 @@ ghost use Rattle.sd_view.specs.Inner.Written.{named_flags};
 
 use crate::bytes::{u16_at, u32_at};
 use crate::fault::AclFault;
-use sd_ace::{Ace, UNUSED_FLAG, guid_read};
+use sd_ace::{Ace, FRONT_SIZE, OBJECT_FRONT_SIZE, UNUSED_FLAG, guid_read};
 use sd_kinds::AceKind;
 use sd_sid::Sid;
 use std::marker::Model;
@@ -23,12 +23,6 @@ use uuid::Uuid;
 
 /// The bytes of the smallest ACE: 8, and a SID without sub-authorities.
 const LEAST_SIZE: usize = 16;
-
-/// The bytes before the SID, or the object flags: type, flags, size and mask.
-pub(crate) const FRONT_SIZE: usize = 8;
-
-/// The bytes before the GUIDs in object kinds: the object flags are there too.
-pub(crate) const OBJECT_FRONT_SIZE: usize = 12;
 
 const GUID_SIZE: usize = 16;
 
@@ -118,7 +112,7 @@ fn check_extent(extent: &[u8]) -> Result<usize, AclFault>
     if extent.len() < front + 8 {
         return Err(AclFault::AceSize);
     }
-    let Some((_, size)) = Sid::read(&extent[front..]) else {
+    let Some(size) = Sid::size_at_front(&extent[front..]) else {
         return Err(AclFault::Sid);
     };
     Ok(front + size)

@@ -8,13 +8,14 @@ ghost use Rattle.sd_view.specs.Acl.{has_object};
 ghost use Rattle.sd_view.specs.AclReading.{aces_fault, acl_of};
 ghost use Rattle.sd_view.specs.Inner.ReadableAcl.{IsReadableAcl};
 ghost use Rattle.sd_view.specs.Inner.Written.{all_named_flags};
-ghost use Rattle.sd_view.specs.AclLayout.{ace_bytes, acl_bytes, acl_header as header_bytes, revision_if};
+ghost use Rattle.sd_ace.specs.AceLayout.{ace_bytes};
+ghost use Rattle.sd_view.specs.AclLayout.{acl_bytes, acl_header as header_bytes, revision_if};
 
 use crate::ace::{AceView, has_named_flags};
-use crate::ace_front::AceFront;
 use crate::acl::AclView;
 use crate::bytes::u16_at;
 use byteorder::{ByteOrder, LittleEndian};
+use sd_ace::AceFront;
 use sd_control::{ACL_HEADER_SIZE, ACL_REVISION, ACL_REVISION_DS};
 use sd_sink::Print;
 
@@ -97,7 +98,7 @@ fn print_aces<P: Print>(acl: &AclView<'_>, out: &mut P)
 fn print_ace<P: Print>(ace: &AceView<'_>, out: &mut P)
     ensures { Prints (P.told out.old) (P.told out.new) (ace_bytes ace.now) }
 {
-    let front = AceFront::of_view(ace);
+    let front = AceFront::of_ace(&ace.ace());
     out.put(front.as_slice());
     out.put(ace.body());
 }

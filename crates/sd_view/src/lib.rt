@@ -2,7 +2,6 @@
 #![tactic(auto)]
 
 mod ace;
-mod ace_front;
 mod acl;
 mod acl_layout;
 mod bytes;
@@ -11,7 +10,6 @@ mod layout;
 mod view;
 
 pub use ace::AceView;
-pub use ace_front::AceFront;
 pub use acl::{Aces, AclPart, AclView};
 pub use acl_layout::acl_header;
 pub use fault::SdFault;

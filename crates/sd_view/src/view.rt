@@ -191,7 +191,7 @@ fn check_sid(part: Part, bytes: &[u8], offset: u32) -> Result<Extent, SdFault>
     if start < HEADER_SIZE || bytes.len() < start + 8 {
         return Err(SdFault::Offset(part));
     }
-    let Some((_, size)) = Sid::read(&bytes[start..]) else {
+    let Some(size) = Sid::size_at_front(&bytes[start..]) else {
         return Err(SdFault::Sid(part));
     };
     Ok(Some((u64::from(offset), u64::from(offset) + size as u64)))
@@ -366,7 +366,7 @@ fn sid_in(bytes: &[u8], offset: u32) -> Option<Sid>
     if offset == 0 {
         return None;
     }
-    Sid::read(&bytes[offset as usize..]).map(|found| found.0)
+    Some(Sid::at_front(&bytes[offset as usize..]))
 }
 
 // The bytes of the SID at an offset that was checked.

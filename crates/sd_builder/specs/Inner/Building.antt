@@ -5,7 +5,8 @@ use Rattle.std.specs.List.{flat_map}
 use Rattle.sd_ace.specs.Ace.{AccessControlEntry}
 use Rattle.sd_sid.specs.Sid.{SecurityId, IsSid, sid_bytes, sid_size}
 use Rattle.sd_view.specs.Acl.{IsAcl, acl_size, has_object}
-use Rattle.sd_view.specs.AclLayout.{ace_bytes, acl_bytes}
+use Rattle.sd_ace.specs.AceLayout.{ace_bytes}
+use Rattle.sd_view.specs.AclLayout.{acl_bytes}
 use Rattle.sd_view.specs.Descriptor.{AreApart, Extent}
 use Rattle.sd_builder.specs.Draft.{Draft, DraftParts, acl_for, bytes_in_order, offset_of}
 use Rattle.sd_view.specs.declared.acl.AclPart.{AclPart}

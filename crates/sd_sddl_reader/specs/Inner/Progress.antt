@@ -1,11 +1,11 @@
 -- A reader in the middle of a line: what it answers if the line goes on by a text and ends there.
-use Rattle.std.specs.Prelude.{ℕ, Bool, true, false, ◌&&◌, ◌||◌, not, ◌==◌, if◌then◌else◌, List, [], ◌∷◌, ◌++◌, codes}
+use Rattle.std.specs.Prelude.{ℕ, Bool, true, false, ◌&&◌, ◌||◌, ◌==◌, if◌then◌else◌, List, [], ◌∷◌, ◌++◌, codes}
 use Rattle.std.specs.Prelude.{length, Option, Result}
 use Rattle.std.specs.List.{list_all, flat_map}
 use Rattle.std.specs.Option.{is_none}
 use Rattle.std.specs.Str.{byte as char}
 use Rattle.sd_sid.specs.Sid.{SecurityId}
-use Rattle.sd_sddl_fields.specs.Held.{Held, held_text, is_plain_inside}
+use Rattle.sd_sddl_fields.specs.Held.{Held, held_text, is_plain_text}
 use Rattle.sd_sddl_reader.specs.FoldedReading.{Field, FieldsRead, ace_fields, ace_fields_from, fields_of, read_fields}
 use Rattle.sd_sddl_reader.specs.FoldedReading.{take_field, if_shaped}
 use Rattle.sd_sddl_reader.specs.Line.{Piece, Section, Sections, aces, are_aces, are_shaped, cut_at_semicolons, front}
@@ -132,10 +132,6 @@ ended_with domain (state.AclFlags w) h r = and_then r (λ b. take_field domain b
 ended_with domain state.AfterAce h r = r
 ended_with domain (state.Ace f) h r = r
 
--- a byte that goes onto the text of a field outside parentheses, unless it is a letter that begins a head
-abbrev pub is_plain_text : ℕ → Bool
-is_plain_text b = is_plain_inside b && not (b == char ":")
-
--- a byte that only goes onto such a text
+-- a byte that only goes onto the text of a field outside parentheses
 abbrev pub is_plain_outside : ℕ → Bool
 is_plain_outside b = is_plain_text b && is_none (head_of b)

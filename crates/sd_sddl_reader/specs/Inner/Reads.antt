@@ -1,6 +1,6 @@
 -- The reader of a line: what it has read, and what its buffer holds.
-use Rattle.std.specs.Prelude.{◌≡◌, ℕ, ◌/◌, ◌%◌, Bool, true, false, ◌||◌, not, ◌==◌, List, ◌∷◌, ◌++◌, Option, Some, None}
-use Rattle.std.specs.Prelude.{Result, Ok, Err}
+use Rattle.std.specs.Prelude.{◌≡◌, ◌≤◌, ℕ, ◌/◌, ◌%◌, Bool, true, false, ◌||◌, not, ◌==◌, List, ◌∷◌, ◌++◌, Option, Some, None}
+use Rattle.std.specs.Prelude.{length, Result, Ok, Err}
 use Rattle.std.specs.Option.{option_map, option_to_list}
 use Rattle.std.specs.Str.{byte as char}
 use Rattle.sd_ace.specs.Ace.{GuidsFit}
@@ -136,6 +136,12 @@ pub record CanStep (s : SddlReader) (buf : List ℕ) : Type 0 where
   -- something was read
   pub held : (t : FieldsRead) × LineHasRead s buf t
 
+-- a step over some bytes that leaves what waits, and what is held of a field clean
+pub record StepsOver (old : SddlReader) (before bytes : List ℕ) (new : SddlReader) (after : List ℕ) : Type 0 where
+  pub answers : Steps old before bytes new after
+  pub calm : IsCalm new
+  pub pending : new.pending ≡ old.pending
+
 -- a byte that waits is no parenthesis and no colon
 pub record IsText (b : ℕ) : Type 0 where
   pub opens : (b == char "(") ≡ false
@@ -167,3 +173,10 @@ Reads s buf domain text =
 -- they have read the line but for this rest of it
 abbrev pub FedTo : SddlReader → List ℕ → Option SecurityId → List ℕ → List ℕ → Type 0
 FedTo s buf domain rest line = (fed : List ℕ) × Reads s buf domain fed × (fed ++ rest ≡ line)
+
+-- a call that takes bytes at the front of a text, if any, and leaves the rest
+pub record Feeds (old : SddlReader) (before text : List ℕ) (new : SddlReader) (after rest : List ℕ) : Type 0 where
+  pub shorter : length rest ≤ length text
+  pub reader : IsReader new after
+  pub read : (domain : Option SecurityId) (fed : List ℕ) → Reads old before domain fed
+      → FedTo new after domain rest (fed ++ text)

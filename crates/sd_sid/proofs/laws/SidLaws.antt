@@ -125,6 +125,17 @@ sid_of-stands (x ∷ y ∷ tail) h t =
           ∙ ap (λ (r : List ℕ). 1 ∷ length (words y (drop 6 tail)) ∷ r) (sym whole);
     }
 
+-- what the test lets through is found, with its size
+pub sid_at-stands : (bytes : List ℕ) → AreBytes bytes → SidStands bytes
+    → BeginsWithSid bytes (sid_of bytes) × (8 + 4 * slice_index bytes 1 ≡ sid_size (sid_of bytes))
+    × (sid_at bytes ≡ Some (sid_of bytes, 8 + 4 * slice_index bytes 1))
+unfolding sid_at
+sid_at-stands bytes h t = (
+  sid_of-stands bytes h t,
+  ap (λ (k : ℕ). 8 + 4 * k) (sym (length-words (slice_index bytes 1) (drop 8 bytes))),
+  rw (test-Stands bytes t) refl,
+)
+
 -- what reads as a SID is its bytes
 pub sid_at-found : (bytes : List ℕ) (s : SecurityId) (n : ℕ) → AreBytes bytes → sid_at bytes ≡ Some (s, n)
     → BeginsWithSid bytes s × (n ≡ sid_size s)
@@ -145,12 +156,6 @@ begins-Stands bytes s h =
     let found = sid_at-bytes bytes s h in
     let parts = cond_some (sid_stands bytes) (sid_of bytes, 8 + 4 * slice_index bytes 1) (s, sid_size s) found in
     Stands-test bytes parts.0
-
--- the same of an answer
-pub found_if : (bytes : List ℕ) (r : Option (SecurityId × ℕ)) → AreBytes bytes → r ≡ sid_at bytes
-    → IfSome r (λ p. BeginsWithSid bytes p.0 × (p.1 ≡ sid_size p.0))
-found_if bytes None h e = tt
-found_if bytes (Some (s, n)) h e = sid_at-found bytes s n h (sym e)
 
 -- the SID that is found is the one that the bytes give
 pub sid_of-at : (bytes : List ℕ) (s : SecurityId) (n : ℕ) → sid_at bytes ≡ Some (s, n) → sid_of bytes ≡ s

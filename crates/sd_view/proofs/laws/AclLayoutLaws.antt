@@ -14,7 +14,8 @@ use Rattle.sd_sid.specs.Sid.{SecurityId, IsSid, BeginsWithSid, sid_bytes, sid_si
 use Rattle.sd_sid.proofs.laws.SidLaws.{length-sid_bytes}
 use Rattle.sd_view.specs.Ace.{ShowsAce, ShowsGuid, announces_inherited, announces_object}
 use Rattle.sd_view.specs.Acl.{IsAcl, ShowsAces, ShowsAcl, acl_size, aces_size, has_object}
-use Rattle.sd_view.specs.AclLayout.{ace_bytes, acl_bytes, guids, object_flags, revision_if}
+use Rattle.sd_ace.specs.AceLayout.{ace_bytes, guids, object_flags}
+use Rattle.sd_view.specs.AclLayout.{acl_bytes, revision_if}
 use Rattle.sd_view.specs.Bytes.{u16_at, u32_at}
 
 -- the bytes of a SID begin with it

@@ -10,7 +10,8 @@ use Rattle.byteorder.specs.Numbers.{little_number-reads_back}
 use Rattle.sd_ace.specs.Ace.{AccessControlEntry}
 use Rattle.sd_sid.specs.Sid.{SecurityId, IsSid, sid_size}
 use Rattle.sd_view.specs.Acl.{IsAcl, acl_size}
-use Rattle.sd_view.specs.AclLayout.{acl_bytes, ace_bytes}
+use Rattle.sd_ace.specs.AceLayout.{ace_bytes}
+use Rattle.sd_view.specs.AclLayout.{acl_bytes}
 use Rattle.sd_view.specs.Bytes.{u16_at, u32_at}
 use Rattle.sd_view.specs.Descriptor.{Apart, AreApart, Descriptor, Extent, IsAclPart, IsDescriptor, Shows, ShowsAclPart}
 use Rattle.sd_view.specs.Descriptor.{ShowsSid, acl_extent, control_at, dacl_at, group_at, owner_at, sacl_at, sid_extent}

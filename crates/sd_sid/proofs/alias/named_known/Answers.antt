@@ -1,4 +1,4 @@
-use Rattle.std.proofs.Common.{arith, ap, sym, ◌∙◌}
+use Rattle.std.proofs.Common.{ap, sym, ◌∙◌}
 use Rattle.std.specs.Option.{option_copied}
 use Rattle.sd_sid.proofs.AliasPlaces.{fails-first, fails-second, passes, known-looked-up}
 use Rattle.sd_sid.proofs.alias.named_known.Goals as goal

@@ -1,5 +1,5 @@
 use Rattle.sd_sink.proofs.laws.PrintLoops.{Prints-item, moved}
-use Rattle.sd_view.specs.AclLayout.{ace_bytes}
+use Rattle.sd_ace.specs.AceLayout.{ace_bytes}
 use Rattle.sd_view.proofs.acl_layout.print_aces.Goals as goal
 
 pub loop-ace-preserved : goal.loop-ace-preserved

@@ -1,7 +1,7 @@
 use Rattle.std.proofs.Common.{ℕ, List, ◌++◌, ap}
 use Rattle.std.specs.List.{flat_map}
 use Rattle.sd_sink.proofs.laws.PrintLemmas.{prints_as, prints_then}
-use Rattle.sd_view.specs.AclLayout.{ace_bytes}
+use Rattle.sd_ace.specs.AceLayout.{ace_bytes}
 use Rattle.sd_view.proofs.acl_layout.print_acl.Goals as goal
 
 pub returns-else-is_written : goal.returns-else-is_written

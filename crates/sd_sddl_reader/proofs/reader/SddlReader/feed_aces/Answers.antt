@@ -3,27 +3,49 @@ use Rattle.sd_sddl_reader.specs.declared.line.State.TheVariants as state
 use Rattle.sd_sddl_reader.proofs.WholeFields.{fed-on, reader-at, steps-open, steps-over}
 use Rattle.sd_sddl_reader.proofs.reader.SddlReader.feed_aces.Goals as goal
 
-pub returns-in_default-split_first-clause-read : goal.returns-in_default-split_first-clause-read
-returns-in_default-split_first-clause-read c = λ domain before h.
+pub returns-in_default-split_first : goal.returns-in_default-split_first
+returns-in_default-split_first c =
     let s = c.loop-after.self in
-    let none : s.pending ≡ None = c.loop-after.invariant.reader.still (rw (c.loop-after.invariant.here) refl) in
     let i = c.loop-after.invariant in
+    let none : s.pending ≡ None = i.reader.still (rw (i.here) refl) in
     let t = record s { state = state.AfterAce; fields = c.take_ace.new.self } in
     let over = steps-over s t c.loop-after.buf c.take_ace.new.buf c.loop-after.rest.now c.in-Some.after.now i.here
     i.begins i.clear c.take_ace.ensures.domain refl c.in-Some.ensures.read in
-    fed-on s t c.loop-after.buf c.take_ace.new.buf domain over.bytes _ _ _ none
-    (over.pending ∙ none) over.steps over.stands (c.loop-after.invariant.read domain before h)
+    let e = over.steps i.reader.read i.reader.held in
+    record {
+      shorter = omega (arith, length-append over.bytes c.in-Some.after.now, ap length over.stands, i.shorter);
+      reader = reader-at _ _ over.field (over.pending ∙ none) e.0 e.1;
+      read = λ domain before h.
+          fed-on s t c.loop-after.buf c.take_ace.new.buf domain over.bytes _ _ _ none (over.pending ∙ none) over.steps
+          over.stands (i.read domain before h);
+    }
 
-pub returns-in_default-split_first-2-clause-read : goal.returns-in_default-split_first-2-clause-read
-returns-in_default-split_first-2-clause-read c = λ domain before h.
+pub returns-in_default-split_first-2 : goal.returns-in_default-split_first-2
+returns-in_default-split_first-2 c =
     let s = c.loop-after.self in
-    let none : s.pending ≡ None = c.loop-after.invariant.reader.still (rw (c.loop-after.invariant.here) refl) in
     let i = c.loop-after.invariant in
+    let none : s.pending ≡ None = i.reader.still (rw (i.here) refl) in
     let t = record s { state = state.AfterAce; fields = c.take_ace.new.self } in
     let over = steps-over s t c.loop-after.buf c.take_ace.new.buf c.loop-after.rest.now c.in-Some.after.now i.here
     i.begins i.clear c.take_ace.ensures.domain refl c.in-Some.ensures.read in
-    fed-on s t c.loop-after.buf c.take_ace.new.buf domain over.bytes _ _ _ none
-    (over.pending ∙ none) over.steps over.stands (c.loop-after.invariant.read domain before h)
+    let e = over.steps i.reader.read i.reader.held in
+    record {
+      shorter = omega (arith, length-append over.bytes c.in-Some.after.now, ap length over.stands, i.shorter);
+      reader = reader-at _ _ over.field (over.pending ∙ none) e.0 e.1;
+      read = λ domain before h.
+          fed-on s t c.loop-after.buf c.take_ace.new.buf domain over.bytes _ _ _ none (over.pending ∙ none) over.steps
+          over.stands (i.read domain before h);
+    }
+
+pub returns : goal.returns
+returns c =
+    let i = c.loop-after.invariant in
+    let same = c.in_default.ensures.read in
+    record {
+      shorter = i.shorter;
+      reader = rw (same.0, same.1) (i.reader);
+      read = λ domain before h. rw (same.0, same.1) (i.read domain before h);
+    }
 
 pub loop-after-preserved : goal.loop-after-preserved
 loop-after-preserved c =
@@ -54,36 +76,9 @@ loop-after-preserved c =
           (c.loop-after.invariant.read domain before h));
     }
 
-pub returns-clause-read : goal.returns-clause-read
-returns-clause-read c = λ domain before h.
-    let same = c.in_default.ensures.read in
-    rw (same.0, same.1) (c.loop-after.invariant.read domain before h)
-
 pub take_ace-requires : goal.take_ace-requires
 take_ace-requires c =
     let i = c.loop-after.invariant in
     record {
       held = (i.reader.read, i.reader.held.fields i.clear, (i.reader.held.fits i.clear).opened (rw (i.here) refl));
     }
-
-pub returns-in_default-split_first-clause-reader : goal.returns-in_default-split_first-clause-reader
-returns-in_default-split_first-clause-reader c =
-    let s = c.loop-after.self in
-    let i = c.loop-after.invariant in
-    let none : s.pending ≡ None = i.reader.still (rw (i.here) refl) in
-    let over = steps-over s (record s { state = state.AfterAce; fields = c.take_ace.new.self }) c.loop-after.buf
-    c.take_ace.new.buf c.loop-after.rest.now c.in-Some.after.now i.here i.begins i.clear c.take_ace.ensures.domain refl
-    c.in-Some.ensures.read in
-    let e = over.steps i.reader.read i.reader.held in
-    reader-at _ _ over.field (over.pending ∙ none) e.0 e.1
-
-pub returns-in_default-split_first-2-clause-reader : goal.returns-in_default-split_first-2-clause-reader
-returns-in_default-split_first-2-clause-reader c =
-    let s = c.loop-after.self in
-    let i = c.loop-after.invariant in
-    let none : s.pending ≡ None = i.reader.still (rw (i.here) refl) in
-    let over = steps-over s (record s { state = state.AfterAce; fields = c.take_ace.new.self }) c.loop-after.buf
-    c.take_ace.new.buf c.loop-after.rest.now c.in-Some.after.now i.here i.begins i.clear c.take_ace.ensures.domain refl
-    c.in-Some.ensures.read in
-    let e = over.steps i.reader.read i.reader.held in
-    reader-at _ _ over.field (over.pending ∙ none) e.0 e.1

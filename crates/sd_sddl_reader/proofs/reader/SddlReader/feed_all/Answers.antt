@@ -5,10 +5,10 @@ use Rattle.sd_sddl_reader.proofs.reader.SddlReader.feed_all.Goals as goal
 
 pub loop-rest-preserved : goal.loop-rest-preserved
 loop-rest-preserved c = record {
-  reader = c.feed_next-rest.ensures.reader;
+  reader = c.feed_next-rest.ensures.fed.reader;
   read = λ domain text h.
       let e = c.loop-rest.invariant.read domain text h in
-      let f = c.feed_next-rest.ensures.read domain e.0 e.1 in
+      let f = c.feed_next-rest.ensures.fed.read domain e.0 e.1 in
       (f.0, f.1, f.2 ∙ e.2);
 }
 

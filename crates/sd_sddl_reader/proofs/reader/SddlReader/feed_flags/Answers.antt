@@ -1,4 +1,4 @@
-use Rattle.std.proofs.Common.{◌++◌, refl, true}
+use Rattle.std.proofs.Common.{◌++◌, refl, true, ap, length, length-append, arith}
 use Rattle.sd_sddl_reader.specs.declared.line.AceField.TheVariants as field
 use Rattle.sd_sddl_reader.specs.declared.line.State.TheVariants as state
 use Rattle.sd_sddl_reader.proofs.FitLaws.{can-take-front}
@@ -13,22 +13,19 @@ take_whole-requires-clause-held c =
     let front = may.1 c.requires.fresh.clear in
     (may.0, front.0, front.1)
 
-pub returns-in-Some-clause-reader : goal.returns-in-Some-clause-reader
-returns-in-Some-clause-reader c =
+pub returns-in-Some : goal.returns-in-Some
+returns-in-Some c =
     let taken = c.take_whole.ensures in
     let over = steps-flags c.args.self.now c.take_whole.new.self c.args.buf.now c.take_whole.new.buf c.in-Some.field.now
     c.in-Some.rest.now c.args.text.now c.args.which c.requires.here c.requires.fresh c.in-Some.ensures.0
     c.in-Some.ensures.1 (record { read = taken.read; domain = taken.domain; same = taken.same }) in
     let n = record c.take_whole.new.self { state = state.Ace field.Kind } in
     let e = over.steps c.requires.reader.read c.requires.reader.held in
-    reader-at n c.take_whole.new.buf over.field over.pending e.0 e.1
-
-pub returns-in-Some-clause-read : goal.returns-in-Some-clause-read
-returns-in-Some-clause-read c = λ domain before h.
-    let taken = c.take_whole.ensures in
-    let over = steps-flags c.args.self.now c.take_whole.new.self c.args.buf.now c.take_whole.new.buf c.in-Some.field.now
-    c.in-Some.rest.now c.args.text.now c.args.which c.requires.here c.requires.fresh c.in-Some.ensures.0
-    c.in-Some.ensures.1 (record { read = taken.read; domain = taken.domain; same = taken.same }) in
-    let n = record c.take_whole.new.self { state = state.Ace field.Kind } in
-    fed-on c.args.self.now n c.args.buf.now c.take_whole.new.buf domain over.bytes c.in-Some.rest.now c.args.text.now
-    (before ++ c.args.text.now) c.requires.fresh.none over.pending over.steps over.stands (before, h, refl)
+    record {
+      shorter = omega (arith, ap length over.stands, length-append over.bytes c.in-Some.rest.now);
+      reader = reader-at n c.take_whole.new.buf over.field over.pending e.0 e.1;
+      read = λ domain before h.
+          fed-on c.args.self.now n c.args.buf.now c.take_whole.new.buf domain over.bytes c.in-Some.rest.now
+          c.args.text.now (before ++ c.args.text.now) c.requires.fresh.none over.pending over.steps over.stands
+          (before, h, refl);
+    }

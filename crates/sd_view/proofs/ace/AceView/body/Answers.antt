@@ -3,7 +3,7 @@ use Rattle.std.proofs.Common.{rules, length-drop}
 use Rattle.std.proofs.lemmas.List.{length-take-le}
 use Rattle.sd_ace.specs.Ace.{AccessControlEntry, ace_size}
 use Rattle.sd_sid.specs.Sid.{sid_of}
-use Rattle.sd_view.specs.AclLayout.{ace_body, front_size}
+use Rattle.sd_ace.specs.AceLayout.{ace_body, front_size}
 use Rattle.sd_view.specs.AclReading.{ace_of, kind_in, sid_offset_in}
 use Rattle.sd_view.specs.Inner.ReadableAcl.{IsReadableAce}
 use Rattle.sd_view.proofs.AclLaws.{sid-room}

@@ -1,7 +1,7 @@
 use Rattle.std.proofs.Common.{◌≡◌, ◌≤◌, ◌-◌, length, take, true}
 use Rattle.std.specs.List.{list_all}
-use Rattle.sd_sddl_reader.specs.Inner.Progress.{is_plain_text}
-use Rattle.sd_sddl_reader.proofs.line.plain_blocks.Given as goal
+use Rattle.sd_sddl_fields.specs.Held.{is_plain_text}
+use Rattle.sd_sddl_fields.proofs.plain.plain_blocks.Given as goal
 
 abbrev pub invariant-loop-count : goal.invariant-loop-count
 invariant-loop-count l = record {

@@ -2,8 +2,8 @@ use Rattle.std.proofs.Common.{◌≡◌, ◌+◌, ◌-◌, arith, drop, refl, ta
 use Rattle.std.specs.List.{list_all}
 use Rattle.std.proofs.Math.Seq.{take-add}
 use Rattle.std.proofs.lemmas.List.Folds.{list_all-append}
-use Rattle.sd_sddl_reader.specs.Inner.Progress.{is_plain_text}
-use Rattle.sd_sddl_reader.proofs.line.plain_blocks.Goals as goal
+use Rattle.sd_sddl_fields.specs.Held.{is_plain_text}
+use Rattle.sd_sddl_fields.proofs.plain.plain_blocks.Goals as goal
 
 pub loop-count-preserved : goal.loop-count-preserved
 loop-count-preserved c =

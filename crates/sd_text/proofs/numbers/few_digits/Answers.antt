@@ -1,6 +1,6 @@
 use Rattle.std.proofs.Common.{◌≤◌, ◌-◌, get_or, subst, arith, ap, ◌∙◌}
-use Rattle.sd_sid.proofs.UsualNumbers.{below_more_behind, digit_more, fits-behind, plain_digit}
-use Rattle.sd_sid.proofs.usual_sid.few_digits.Goals as goal
+use Rattle.sd_text.proofs.FrontDigits.{below_more_behind, digit_more, fits-behind, plain_digit}
+use Rattle.sd_text.proofs.numbers.few_digits.Goals as goal
 
 pub loop-i-preserved : goal.loop-i-preserved
 loop-i-preserved c =

@@ -1,15 +1,17 @@
 //! What stands in an ACE before its GUIDs and its SID, as it is written.
 
-ghost use Rattle.std.specs.Prelude.{◌≡◌, ◌+◌, ◌++◌, ◌∷◌, [], length, take, if◌then◌else◌};
-ghost use Rattle.byteorder.specs.Endian.{little_bytes};
-ghost use Rattle.sd_kinds.specs.Kinds.{is_object, kind_code};
-ghost use Rattle.sd_view.specs.AclLayout.{ace_front};
+ghost use Rattle.std.specs.Prelude.{◌≡◌, ◌+◌, length, take, if◌then◌else◌};
+ghost use Rattle.sd_ace.specs.AceLayout.{ace_front};
 
-use crate::ace::{AceView, FRONT_SIZE, OBJECT_FRONT_SIZE};
+use crate::ace::Ace;
 use byteorder::{ByteOrder, LittleEndian};
-use sd_ace::Ace;
-use sd_kinds::AceKind;
 use std::marker::Model;
+
+/// The bytes of an ACE before its SID, or before the object flags: type, flags, size and mask.
+pub const FRONT_SIZE: usize = 8;
+
+/// The bytes before the GUIDs in object kinds: the object flags are there too.
+pub const OBJECT_FRONT_SIZE: usize = 12;
 
 /// Type, flags, size and mask of an ACE, and in object kinds the object flags (MS-DTYP 2.4.4): the first of its cells.
 #[derive(Drop)]
@@ -35,15 +37,18 @@ impl AceFront {
         ensures { result ≡ ace_front ace.now }
     {
         let present = object_flags(ace.object().is_some(), ace.inherited().is_some());
-        front(ace.kind(), ace.flags(), ace.size(), ace.mask(), present)
-    }
-
-    // That of an ACE in the bytes that show it.
-    pub(crate) fn of_view(ace: &AceView<'_>) -> AceFront
-        ensures { result ≡ ace_front ace.now }
-    {
-        let present = object_flags(ace.object().is_some(), ace.inherited().is_some());
-        front(ace.kind(), ace.flags(), ace.size(), ace.mask(), present)
+        let mut cells = [0; OBJECT_FRONT_SIZE];
+        cells[0] = ace.kind().code();
+        cells[1] = ace.flags();
+        LittleEndian::write_u16(&mut cells[2..], ace.size());
+        LittleEndian::write_u32(&mut cells[4..], ace.mask());
+        LittleEndian::write_u32(&mut cells[8..], present);
+        let len = if ace.kind().is_object() {
+            OBJECT_FRONT_SIZE
+        } else {
+            FRONT_SIZE
+        };
+        AceFront { cells, len }
     }
 
     /// How many bytes there are.
@@ -62,7 +67,8 @@ impl AceFront {
         &self.cells
     }
 
-    pub(crate) fn as_slice(&self) -> &[u8]
+    /// The bytes.
+    pub fn as_slice(&self) -> &[u8]
         ensures { result.now ≡ self.now }
     {
         &self.cells[..self.len]
@@ -75,23 +81,4 @@ fn object_flags(object: bool, inherited: bool) -> u32
     ensures { result ≡ (if object then 1 else 0) + (if inherited then 2 else 0) }
 {
     u32::from(object) + 2 * u32::from(inherited)
-}
-
-#[inline(always)]
-fn front(kind: AceKind, flags: u8, size: u16, mask: u32, present: u32) -> AceFront
-    ensures { result ≡ kind_code kind ∷ flags ∷ little_bytes 2 size
-        ++ (little_bytes 4 mask ++ (if is_object kind then little_bytes 4 present else [])) }
-{
-    let mut cells = [0; OBJECT_FRONT_SIZE];
-    cells[0] = kind.code();
-    cells[1] = flags;
-    LittleEndian::write_u16(&mut cells[2..], size);
-    LittleEndian::write_u32(&mut cells[4..], mask);
-    LittleEndian::write_u32(&mut cells[8..], present);
-    let len = if kind.is_object() {
-        OBJECT_FRONT_SIZE
-    } else {
-        FRONT_SIZE
-    };
-    AceFront { cells, len }
 }

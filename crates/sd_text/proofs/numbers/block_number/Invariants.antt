@@ -1,6 +1,6 @@
 use Rattle.std.proofs.Common.{◌≡◌, ◌<◌, ◌^◌, take, Some}
 use Rattle.sd_text.specs.Numbers.{number_after}
-use Rattle.sd_sid.proofs.usual_sid.block_number.Given as goal
+use Rattle.sd_text.proofs.numbers.block_number.Given as goal
 
 abbrev pub invariant-loop-byte : goal.invariant-loop-byte
 invariant-loop-byte l = record {

@@ -1,6 +1,6 @@
 use Rattle.std.proofs.Common.{◌≡◌, ◌<◌, ◌^◌, ◌+◌, take, Some}
 use Rattle.sd_text.specs.Numbers.{number_after}
-use Rattle.sd_sid.proofs.usual_sid.few_digits.Given as goal
+use Rattle.sd_text.proofs.numbers.few_digits.Given as goal
 
 abbrev pub invariant-loop-i : goal.invariant-loop-i
 invariant-loop-i l = record {

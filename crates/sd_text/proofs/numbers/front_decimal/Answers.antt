@@ -1,7 +1,7 @@
 use Rattle.std.proofs.Common.{sym, ap, ◌∙◌}
 use Rattle.sd_text.specs.Numbers.{number_after}
-use Rattle.sd_sid.proofs.UsualNumbers.{behind_block, taken-again}
-use Rattle.sd_sid.proofs.usual_sid.front_digits.Goals as goal
+use Rattle.sd_text.proofs.FrontDigits.{behind_block, taken-again}
+use Rattle.sd_text.proofs.numbers.front_decimal.Goals as goal
 
 pub returns-then-not-are_digits-clause-number : goal.returns-then-not-are_digits-clause-number
 returns-then-not-are_digits-clause-number c =

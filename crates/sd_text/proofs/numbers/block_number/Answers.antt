@@ -1,6 +1,6 @@
 use Rattle.std.proofs.Common.{◌<◌, ◌-◌, get_or, length, arith, ap, ◌∙◌}
-use Rattle.sd_sid.proofs.UsualNumbers.{below_more, digit_at, digit_more, digit_range, plain_digit}
-use Rattle.sd_sid.proofs.usual_sid.block_number.Goals as goal
+use Rattle.sd_text.proofs.FrontDigits.{below_more, digit_at, digit_more, digit_range, plain_digit}
+use Rattle.sd_text.proofs.numbers.block_number.Goals as goal
 
 pub loop-byte-preserved : goal.loop-byte-preserved
 loop-byte-preserved c =
