@@ -1,16 +1,29 @@
 #!/usr/bin/env python3
 """completions.py [--check]
 
-Writes the completions of three shells (packaging/completions/) from the table below. With --check it writes nothing,
-and fails if a file is stale; the last line is then 'N passed, M failed'. tests/completions.py compares the files with
-the program's help.
+Writes the completions of three shells (packaging/completions/) from the program's table of options,
+crates/sd_command/src/options.rt. With --check it writes nothing, and fails if a file is stale; the last line is then
+'N passed, M failed'. tests/completions.py compares the files with the program's help.
 """
 import argparse
 import pathlib
+import re
 import sys
 from typing import NamedTuple, Optional, Tuple
 
-FOLDER = pathlib.Path(__file__).resolve().parent / "completions"
+HERE = pathlib.Path(__file__).resolve().parent
+FOLDER = HERE / "completions"
+# The table from which the program takes its options and their help.
+TABLE = (HERE.parent / "crates/sd_command/src/options.rt").read_text(encoding="utf-8")
+ROW = re.compile(r'OptionName::(\w+) => (optional|required|flag)!\(((?:\s*"[^"]*",?)+)\s*\)')
+LIST = re.compile(r"const (\w+)_OPTIONS: .*?= \[(.*?)\];", re.DOTALL)
+# The values of an option, by what they are called, where they are few.
+VALUES = {
+    "FORM": ("hex", "base64", "sddl"),
+    "TYPE": ("file", "key", "ds"),
+    "KIND": ("file", "container"),
+    "NUMBER": ("4096", "8192", "8448", "12288", "16384"),
+}
 
 
 class Option(NamedTuple):
@@ -20,39 +33,32 @@ class Option(NamedTuple):
     words: Tuple[str, ...] = ()  # the values, where they are few
 
 
-FORMS, TYPES = ("hex", "base64", "sddl"), ("file", "key", "ds")
-OPTIONS = {option.name: option for option in (
-    Option("from", "form of the lines", "form", FORMS),
-    Option("to", "form of the answers", "form", FORMS),
-    Option("domain", "SID of the domain", "SID"),
-    Option("numeric", "print SIDs without aliases"),
-    Option("token", "SIDs of the token", "SIDs"),
-    Option("want", "rights that are wanted", "rights"),
-    Option("maximum", "ask for all that is granted"),
-    Option("type", "what generic rights mean", "type", TYPES),
-    Option("object", "GUID of the object type", "GUID"),
-    Option("self", "SID that PRINCIPAL SELF stands for", "SID"),
-    Option("level", "integrity level of the token", "level", ("4096", "8192", "8448", "12288", "16384")),
-    Option("security", "the token has the security privilege"),
-    Option("take-ownership", "the token has the take-ownership privilege"),
-    Option("kind", "what is made", "kind", ("file", "container")),
-    Option("owner", "SID of the new owner", "SID"),
-    Option("group", "SID of the new group", "SID"),
-    Option("creator", "SDDL that the creator brings", "SDDL"),
-)}
-# Each command, what it does, and its options.
+def option_of(kind, texts):
+    """The option of a row, which has a name, what its value is called, and help. A flag has no value."""
+    name, *value, what = re.findall(r'"([^"]*)"', texts)
+    if len(value) != (kind != "flag"):
+        sys.exit(f"completions: {name} is a row that does not read")
+    return Option(name, what, *value, *(VALUES.get(called, ()) for called in value))
+
+
+ROWS = {variant: option_of(kind, texts) for variant, kind, texts in ROW.findall(TABLE)}
+# The options of each command.
+OWN = {command.lower(): [ROWS[variant] for variant in re.findall(r"OptionName::(\w+)", listed)]
+       for command, listed in LIST.findall(TABLE)}
+OPTIONS = {option.name: option for options in OWN.values() for option in options}
+# Each command, and what it does.
 COMMANDS = {
-    "convert": ("convert descriptors between hex, base64 and SDDL", "from to domain numeric"),
-    "explain": ("explain descriptors line by line", "from domain numeric"),
-    "check": ("say what descriptors grant to a token",
-              "from domain token want maximum type object self level security take-ownership"),
-    "derive": ("say what a new file or folder inherits", "from to domain numeric kind owner group type creator"),
+    "convert": "convert descriptors between hex, base64 and SDDL",
+    "explain": "explain descriptors line by line",
+    "check": "say what descriptors grant to a token",
+    "derive": "say what a new file or folder inherits",
 }
 HELP, SHOWS_HELP = "help", "show help"
 
 
-def options_of(command):
-    return [OPTIONS[name] for name in COMMANDS[command][1].split()]
+def quoted(text, quote):
+    """A text in single quotes, in which a shell writes a quote so."""
+    return "'" + text.replace("'", quote) + "'"
 
 
 def dashed(options):
@@ -71,7 +77,7 @@ def bash():
               for words, options in few.items()]
     free = [option for option in OPTIONS.values() if option.value and not option.words]
     values.append(f"        {' | '.join(dashed(free))}) return ;;")
-    own = [f"        {command}) options='{' '.join(dashed(options_of(command)))} --{HELP}' ;;" for command in COMMANDS]
+    own = [f"        {command}) options='{' '.join(dashed(OWN[command]))} --{HELP}' ;;" for command in COMMANDS]
     own.append(f"        {HELP}) ((COMP_CWORD == 2)) && options='{' '.join(COMMANDS)}' ;;")
     return "\n".join((
         "# Completion of sdtool for bash.",
@@ -98,20 +104,20 @@ def bash():
 def zsh():
     def spec(option):
         value = f":{option.value}:{'(' + ' '.join(option.words) + ')' if option.words else ''}" if option.value else ""
-        return f"'--{option.name}[{option.what}]{value}'"
+        return quoted(f"--{option.name}[{option.what}]{value}", "'\\''")
 
     def block(command):
-        own = [spec(option) for option in options_of(command) if option not in common]
+        own = [spec(option) for option in OWN[command] if option not in common]
         return [f"    {command})", " \\\n            ".join(("        _arguments $common", *own)), "        ;;"]
 
-    common = [option for option in OPTIONS.values() if all(option in options_of(command) for command in COMMANDS)]
+    common = [option for option in OPTIONS.values() if all(option in OWN[command] for command in COMMANDS)]
     return "\n".join((
         "#compdef sdtool",
         "# Completion of sdtool for zsh.",
         "",
         "local -a commands common",
         "commands=(",
-        *(f"    '{command}:{what}'" for command, (what, _) in COMMANDS.items()),
+        *(f"    '{command}:{what}'" for command, what in COMMANDS.items()),
         f"    '{HELP}:{SHOWS_HELP}'",
         ")",
         "common=(",
@@ -139,12 +145,12 @@ def zsh():
 
 def fish():
     def row(option):
-        having = [command for command in COMMANDS if option in options_of(command)]
+        having = [command for command in COMMANDS if option in OWN[command]]
         value = f" -x{' -a ' + repr(' '.join(option.words)) if option.words else ''}" if option.value else ""
         condition = f"__fish_seen_subcommand_from {' '.join(having)}"
-        return f"complete -c sdtool -n '{condition}' -l {option.name}{value} -d '{option.what}'"
+        return f"complete -c sdtool -n '{condition}' -l {option.name}{value} -d " + quoted(option.what, "\\'")
 
-    commands = [(command, what) for command, (what, _) in COMMANDS.items()] + [(HELP, SHOWS_HELP)]
+    commands = [*COMMANDS.items(), (HELP, SHOWS_HELP)]
     return "\n".join((
         "# Completion of sdtool for fish.",
         "complete -c sdtool -f",

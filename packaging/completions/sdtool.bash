@@ -17,7 +17,7 @@ _sdtool() {
     case $command in
         convert) options='--from --to --domain --numeric --help' ;;
         explain) options='--from --domain --numeric --help' ;;
-        check) options='--from --domain --token --want --maximum --type --object --self --level --security --take-ownership --help' ;;
+        check) options='--from --domain --token --want --maximum --type --object --self --security --take-ownership --level --help' ;;
         derive) options='--from --to --domain --numeric --kind --owner --group --type --creator --help' ;;
         help) ((COMP_CWORD == 2)) && options='convert explain check derive' ;;
     esac

@@ -1,28 +1,20 @@
 """The names of SIDs (MS-DTYP 2.4.2.4), of types, flags and rights (2.5.1, 2.4.3) and of the bits of the control word (2.4.6),
 and what generic rights mean.
 """
+import pathlib
+import re
+
 from .binary import DACL_PRESENT, SACL_PRESENT
 
+# The aliases are those of the tables that users read, so each is tested too.
+FORMAT = pathlib.Path(__file__).resolve().parents[2] / "docs/FORMAT.md"
+ALIASES = FORMAT.read_text(encoding="utf-8").split("\n### Aliases\n")[1].split("\n#")[0]
 # Each alias, with the authority and the sub-authorities of its SID.
-WELL_KNOWN = {
-    "WD": (1, 0), "CO": (3, 0), "CG": (3, 1), "OW": (3, 4),
-    "NU": (5, 2), "IU": (5, 4), "SU": (5, 6), "AN": (5, 7), "ED": (5, 9), "PS": (5, 10), "AU": (5, 11), "RC": (5, 12),
-    "SY": (5, 18), "LS": (5, 19), "NS": (5, 20), "WR": (5, 33),
-    "UD": (5, 84, 0, 0, 0, 0, 0),
-    "BA": (5, 32, 544), "BU": (5, 32, 545), "BG": (5, 32, 546), "PU": (5, 32, 547), "AO": (5, 32, 548),
-    "SO": (5, 32, 549), "PO": (5, 32, 550), "BO": (5, 32, 551), "RE": (5, 32, 552), "RU": (5, 32, 554),
-    "RD": (5, 32, 555), "NO": (5, 32, 556), "MU": (5, 32, 558), "LU": (5, 32, 559), "IS": (5, 32, 568),
-    "CY": (5, 32, 569), "ER": (5, 32, 573), "CD": (5, 32, 574), "RA": (5, 32, 575), "ES": (5, 32, 576),
-    "MS": (5, 32, 577), "HA": (5, 32, 578), "AA": (5, 32, 579), "RM": (5, 32, 580),
-    "AC": (15, 2, 1),
-    "LW": (16, 4096), "ME": (16, 8192), "MP": (16, 8448), "HI": (16, 12288), "SI": (16, 16384),
-    "AS": (18, 1), "SS": (18, 2),
-}
+WELL_KNOWN = {alias: tuple(map(int, numbers.split("-")))
+              for alias, numbers in re.findall(r"^\| `(\w\w)` \| S-1-([0-9-]+) \|", ALIASES, re.MULTILINE)}
 # Each alias of an account or group of the domain, with what follows the domain's own sub-authorities.
-OF_THE_DOMAIN = {
-    "RO": 498, "LA": 500, "LG": 501, "DA": 512, "DU": 513, "DG": 514, "DC": 515, "DD": 516, "CA": 517, "SA": 518,
-    "EA": 519, "PA": 520, "CN": 522, "AP": 525, "KA": 526, "EK": 527, "RS": 553,
-}
+OF_THE_DOMAIN = {alias: int(number)
+                 for alias, number in re.findall(r"^\| `(\w\w)` \| ([0-9]+) \|", ALIASES, re.MULTILINE)}
 KINDS = {0x00: "A", 0x01: "D", 0x02: "AU", 0x05: "OA", 0x06: "OD", 0x07: "OU", 0x11: "ML"}
 ACE_FLAGS = {"OI": 0x01, "CI": 0x02, "NP": 0x04, "IO": 0x08, "ID": 0x10, "SA": 0x40, "FA": 0x80}
 RIGHTS = {
