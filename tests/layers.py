@@ -1,11 +1,12 @@
 #!/usr/bin/env python3
 """layers.py [FOLDER]
 
-Checks which modules of which crates the files of each crate name. Each crate has three checks:
+Checks which modules of which crates the files of each crate name, and how large it is. Each crate has four checks:
 
   parts of others  no file names another crate's `specs.Inner`, or a module of its `proofs` outside `proofs.laws`
   laws             no file of `proofs/laws` names `specs.Inner` of its own crate, or the goals of one of its functions
   dependencies     no file of `src` names a crate that crates.txt does not list for this one
+  size             `src` has at most 1,200 lines
 
 FOLDER is the top of the repository, and by default that of this file. The last line is 'N passed, M failed'.
 """
@@ -20,6 +21,7 @@ COMMENTS = {".rt": re.compile(r"//.*"), ".antt": re.compile(r"(?<!\S)--.*")}
 MODULE = re.compile(r"\bRattle[.·](?:\w+[.·]below[.·])?(\w+)((?:[.·][\w-]+)*)")
 RUST_PATH = re.compile(r"(?<![\w:.])(\w+)::|\buse\s+(\w+)\s*(?:;|as\b)")
 OF_ONE_FUNCTION = {"Goals", "Given", "Answers", "Invariants", "Proof"}
+MOST_LINES = 1200  # of src
 
 
 def dependencies(top):
@@ -76,6 +78,11 @@ def violations(crate, folder, listed):
     return found
 
 
+def size(folder):
+    """How many lines `src` has."""
+    return sum(len(path.read_text(encoding="utf-8").splitlines()) for path in (folder / "src").rglob("*.rt"))
+
+
 def main():
     if len(sys.argv) > 2 or sys.argv[1:2] == ["--help"]:
         sys.exit(__doc__)
@@ -86,6 +93,8 @@ def main():
     for crate in listed:
         for check, places in violations(crate, top / "crates" / crate, listed).items():
             count.add(not places, f"{crate}, {check}:\n  " + "\n  ".join(places))
+        lines = size(top / "crates" / crate)
+        count.add(lines <= MOST_LINES, f"{crate}, size: {lines:,} lines of src, and not at most {MOST_LINES:,}")
     return count.end()
 
 
