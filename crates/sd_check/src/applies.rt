@@ -2,10 +2,11 @@
 
 ghost use Rattle.std.specs.Prelude.{◌≡◌};
 ghost use Rattle.sd_token.specs.Token.{Asks};
-ghost use Rattle.sd_check.specs.Applies.{applies, is_access, is_allow, is_deny, is_effective, is_for};
+ghost use Rattle.sd_check.specs.Applies.{applies, is_access, is_allow, is_deny, is_effective, is_for, some_meets};
+ghost use Rattle.sd_check.specs.Applies.{subject};
 
 use crate::ask::Ask;
-use crate::trustee::{some_meets, subject};
+use crate::trustee::{is_owner_rights, is_principal_self, meets_any, some_meets};
 use sd_kinds::{AceKind, INHERIT_ONLY, has_flag};
 use sd_token::Token;
 use sd_view::{AceView, SdView};
@@ -19,11 +20,24 @@ pub fn applies(ace: &AceView, view: &SdView, token: &mut Token, ask: &Ask) -> bo
 {
     is_effective(ace)
         && is_for(ace.object(), ask.object())
-        && some_meets(
-            token,
-            subject(view, ask.principal_self(), ace.sid()),
-            is_deny(ace.kind()),
-        )
+        && meets_subject(ace, view, token, ask)
+}
+
+// Whether an entry of the token meets whom the ACE's SID means. One replacement is made.
+fn meets_subject(ace: &AceView, view: &SdView, token: &mut Token, ask: &Ask) -> bool
+    ensures value { result ≡ some_meets (subject view.now.owner ask.now.principal_self ace.now.sid)
+        (is_deny ace.now.kind) token.old.holder.entries }
+    ensures asks { Asks token.old token.new 1 }
+{
+    let sid = ace.sid();
+    let deny = is_deny(ace.kind());
+    if is_principal_self(&sid) {
+        return meets_any(token, &ask.principal_self().unwrap_or(sid), deny);
+    }
+    if is_owner_rights(&sid) {
+        return some_meets(token, view.owner(), deny);
+    }
+    meets_any(token, &sid, deny)
 }
 
 /// Whether it grants or denies on the object itself.

@@ -1,24 +1,22 @@
-//! Whom a SID means, and whether a token has it.
+//! Whether a token has a SID, and the SIDs that stand for others.
 
-ghost use Rattle.std.specs.Prelude.{◌≡◌, [], ◌∷◌};
+ghost use Rattle.std.specs.Prelude.{◌≡◌};
 ghost use Rattle.sd_sid.specs.SidText.{same_sid};
 ghost use Rattle.sd_token.specs.Token.{Asks, meets};
-ghost use Rattle.sd_check.specs.Applies.{owner_rights, some_meets, subject};
+ghost use Rattle.sd_check.specs.Applies.{owner_rights, principal_self, some_meets};
 
 use sd_sid::Sid;
 use sd_token::Token;
-use sd_view::SdView;
 
 /// Whether an entry of the token meets the SID. Entries are looked at up to the first that does.
-// Not inlined, so the loop gets enough registers. It takes a copy of the SID, so the compiler knows that counting does
-// not change it.
+// Not inlined, so the loop gets enough registers.
 #[inline(never)]
-fn meets_any(token: &mut Token, sid: Sid, deny: bool) -> bool
-    ensures value { result ≡ meets sid deny token.old.holder.entries }
+pub fn meets_any(token: &mut Token, sid: &Sid, deny: bool) -> bool
+    ensures value { result ≡ meets sid.now deny token.old.holder.entries }
     ensures asks { Asks token.old token.new 1 }
 {
     for i in 0..token.len() {
-        if token.meets(i, &sid, deny) {
+        if token.meets(i, sid, deny) {
             return true;
         }
     }
@@ -32,26 +30,13 @@ pub fn some_meets(token: &mut Token, sid: Option<Sid>, deny: bool) -> bool
 {
     match sid {
         None => false,
-        Some(sid) => meets_any(token, sid, deny),
+        Some(sid) => meets_any(token, &sid, deny),
     }
 }
 
-/// Whom an ACE's SID means. One replacement is made.
-pub fn subject(view: &SdView, principal_self: Option<Sid>, sid: Sid) -> Option<Sid>
-    ensures { result ≡ subject view.now.owner principal_self sid }
-{
-    if is_principal_self(&sid) {
-        return Some(principal_self.unwrap_or(sid));
-    }
-    if is_owner_rights(&sid) {
-        return view.owner();
-    }
-    Some(sid)
-}
-
-// S-1-5-10 (MS-DTYP 2.4.2.4).
-fn is_principal_self(sid: &Sid) -> bool
-    ensures { result ≡ same_sid sid.now (record { authority = 5; subs = 10 ∷ [] }) }
+/// Whether it is PRINCIPAL SELF, S-1-5-10 (MS-DTYP 2.4.2.4).
+pub fn is_principal_self(sid: &Sid) -> bool
+    ensures { result ≡ same_sid sid.now principal_self }
 {
     sid.authority() == 5 && sid.subs() == [10].as_slice()
 }
