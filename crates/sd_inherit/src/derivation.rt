@@ -6,10 +6,11 @@ ghost use Rattle.sd_view.specs.Descriptor.{Shows};
 ghost use Rattle.sd_view.specs.Layout.{layout};
 ghost use Rattle.sd_view.specs.WrittenForm.{IsWrittenForm};
 ghost use Rattle.sd_builder.specs.Draft.{is_present};
-ghost use Rattle.sd_inherit.specs.Inner.Building.{bits_beside, flags_beside, is_null};
-ghost use Rattle.sd_inherit.specs.Derived.{acl_of, creators_acl, derive_fault, derived, is_protected, parents_acl};
+ghost use Rattle.sd_inherit.specs.Inner.Building.{bits_beside, flags_beside, gathered_from, is_null};
+ghost use Rattle.sd_inherit.specs.Derived.{acl_of, creators_acl, derive_fault, derived, is_protected, new_aces};
+ghost use Rattle.sd_inherit.specs.Derived.{parents_acl};
 
-use crate::inherited::{put_dacl, put_sacl};
+use crate::inherited::AclSources;
 use crate::plan::Plan;
 use sd_buffer::SdBuf;
 use sd_builder::Builder;
@@ -65,19 +66,35 @@ fn build(
     let mut builder = Builder::new(buf);
     builder.owner(buf, &plan.owner);
     builder.group(buf, &plan.group);
-    let sacl = creators_acl(Which::Sacl, creator);
-    let parents_sacl = parents_acl(Which::Sacl, creator, parent);
-    let Ok(has_sacl) = put_sacl(&mut builder, buf, plan, &sacl, &parents_sacl) else {
+    let sacl = sources(Which::Sacl, parent, creator, plan);
+    let Ok(has_sacl) = sacl.put_sacl(&mut builder, buf) else {
         return Err(DeriveFault::DerivedTooLarge(Which::Sacl));
     };
-    let dacl = creators_acl(Which::Dacl, creator);
-    let parents_dacl = parents_acl(Which::Dacl, creator, parent);
-    let Ok(()) = put_dacl(&mut builder, buf, plan, &dacl, &parents_dacl) else {
+    let dacl = sources(Which::Dacl, parent, creator, plan);
+    let Ok(()) = dacl.put_dacl(&mut builder, buf) else {
         return Err(DeriveFault::DerivedTooLarge(Which::Dacl));
     };
-    let flags = flag_bits(creator, is_list(has_sacl, &sacl), is_list(true, &dacl));
+    let sacl_is_list = is_list(has_sacl, &sacl.creators);
+    let flags = flag_bits(creator, sacl_is_list, is_list(true, &dacl.creators));
     builder.finish(buf, flags, 0);
     Ok(())
+}
+
+// What the new ACL is gathered from.
+fn sources<'a>(
+    which: Which,
+    parent: &SdView<'a>,
+    creator: Option<&SdView<'a>>,
+    plan: &'a Plan,
+) -> AclSources<'a>
+    ensures creators { result.creators ≡ creators_acl which (option_copied creator.entry) }
+    ensures gathered { gathered_from result ≡ new_aces which parent.now (option_copied creator.entry) plan.now }
+{
+    AclSources {
+        plan,
+        creators: creators_acl(which, creator),
+        parents: parents_acl(which, creator, parent),
+    }
 }
 
 // An ACL of a descriptor.

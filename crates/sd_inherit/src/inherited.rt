@@ -1,16 +1,16 @@
 //! ACLs of what is taken and what is inherited, built.
 
 ghost use Rattle.std.specs.Prelude.{◌≡◌, ◌≤◌, ◌+◌, ◌^◌, ◌↔◌, ◌++◌, IsErr, IfOk, OnOk};
-ghost use Rattle.std.specs.List.{flat_map};
 ghost use Rattle.sd_view.specs.Acl.{aces_size, acl_size};
 ghost use Rattle.sd_builder.specs.Builds.{Builds};
 ghost use Rattle.sd_builder.specs.Draft.{CanBegin, Draft, is_present, open_size};
 ghost use Rattle.sd_view.specs.declared.acl.AclPart.TheVariants as acl;
 ghost use Rattle.sd_control.specs.declared.part.Which.TheVariants as which;
-ghost use Rattle.sd_inherit.specs.Inner.Building.{HasOpen, gives, listed, one_or_none, with_aces, with_part};
+ghost use Rattle.sd_inherit.specs.Inner.Building.{HasOpen, all_given, gathered_from, given, gives, listed};
+ghost use Rattle.sd_inherit.specs.Inner.Building.{one_or_none, source_acl, with_aces, with_part};
 ghost use Rattle.sd_inherit.specs.Copies.{copies};
-ghost use Rattle.sd_inherit.specs.Derived.{dacl_beside, gathered, inherited, sacl_beside, sacl_of};
-ghost use Rattle.sd_inherit.specs.Taken.{taken};
+ghost use Rattle.sd_inherit.specs.Derived.{dacl_beside, sacl_beside, sacl_of};
+ghost use Rattle.sd_inherit.specs.declared.inherited.Origin.TheVariants as origin;
 
 use crate::copies::{Copies, copies_of, no_copy};
 use crate::plan::Plan;
@@ -31,185 +31,177 @@ pub enum Origin {
     Parent,
 }
 
-/// Appends the new SACL, if there is one, and returns whether there is.
-pub fn put_sacl(
-    builder: &mut Builder,
-    buf: &mut SdBuf,
-    plan: &Plan,
-    creators: &AclPart,
-    parents: &AclPart,
-) -> Result<bool, AclTooLarge>
-    requires { (t : Draft) × Builds builder.old buf.old t × CanBegin which.Sacl t.parts }
-    ensures ok { (t : Draft) → Builds builder.old buf.old t → CanBegin which.Sacl t.parts
-        → OnOk result (Builds builder.new buf.new
-        (with_part which.Sacl (sacl_beside creators.now (gathered plan.now creators.now parents.now)) t)) }
-    ensures stands { IfOk result
-        (λ stands. stands ≡ is_present (sacl_beside creators.now (gathered plan.now creators.now parents.now))) }
-    ensures full { IsErr result ↔ (2 ^ 16 ≤ acl_size (gathered plan.now creators.now parents.now)) }
-{
-    match creators {
-        AclPart::Absent => put_copied_sacl(builder, buf, plan, parents),
-        AclPart::Null => {
-            builder.null_acl(buf, Which::Sacl);
-            Ok(true)
+/// The ACLs that a new ACL is gathered from, and the plan that says what their ACEs give.
+#[derive(Drop)]
+pub struct AclSources<'a> {
+    pub plan: &'a Plan,
+    pub creators: AclPart<'a>,
+    pub parents: AclPart<'a>,
+}
+
+impl<'a> AclSources<'a> {
+    /// Appends the new SACL, if there is one, and returns whether there is.
+    pub fn put_sacl(&self, builder: &mut Builder, buf: &mut SdBuf) -> Result<bool, AclTooLarge>
+        requires { (t : Draft) × Builds builder.old buf.old t × CanBegin which.Sacl t.parts }
+        ensures ok { (t : Draft) → Builds builder.old buf.old t → CanBegin which.Sacl t.parts
+            → OnOk result (Builds builder.new buf.new
+            (with_part which.Sacl (sacl_beside self.now.creators (gathered_from self.now)) t)) }
+        ensures stands { IfOk result
+            (λ stands. stands ≡ is_present (sacl_beside self.now.creators (gathered_from self.now))) }
+        ensures full { IsErr result ↔ (2 ^ 16 ≤ acl_size (gathered_from self.now)) }
+    {
+        match &self.creators {
+            AclPart::Absent => self.put_copied_sacl(builder, buf),
+            AclPart::Null => {
+                builder.null_acl(buf, Which::Sacl);
+                Ok(true)
+            }
+            AclPart::List(_) => {
+                self.put_both(builder, buf, Which::Sacl)?;
+                Ok(true)
+            }
         }
-        AclPart::List(acl) => {
-            put_both(builder, buf, plan, Which::Sacl, acl.aces(), parents)?;
-            Ok(true)
+    }
+
+    // The same where the creator has none: there is a SACL if there is a copy.
+    fn put_copied_sacl(&self, builder: &mut Builder, buf: &mut SdBuf) -> Result<bool, AclTooLarge>
+        requires { (t : Draft) × Builds builder.old buf.old t × CanBegin which.Sacl t.parts }
+        ensures ok { (t : Draft) → Builds builder.old buf.old t → CanBegin which.Sacl t.parts
+            → OnOk result (Builds builder.new buf.new (with_part which.Sacl (sacl_of (given origin.Parent self.now)) t)) }
+        ensures stands { IfOk result (λ stands. stands ≡ is_present (sacl_of (given origin.Parent self.now))) }
+        ensures full { IsErr result ↔ (2 ^ 16 ≤ acl_size (given origin.Parent self.now)) }
+    {
+        let AclPart::List(acl) = &self.parents else {
+            return Ok(false);
+        };
+        let (origin, plan) = (Origin::Parent, self.plan);
+        let mut aces = acl.aces();
+        while let Some(ace) = aces.next() {
+            let first = inherited_from(plan, &ace);
+            if !first.is_empty() {
+                AceSource { origin, plan, aces }.put_sacl_after(builder, buf, &first)?;
+                return Ok(true);
+            }
+        }
+        Ok(false)
+    }
+
+    /// Appends the new DACL.
+    pub fn put_dacl(&self, builder: &mut Builder, buf: &mut SdBuf) -> Result<(), AclTooLarge>
+        requires { (t : Draft) × Builds builder.old buf.old t × CanBegin which.Dacl t.parts }
+        ensures ok { (t : Draft) → Builds builder.old buf.old t → CanBegin which.Dacl t.parts
+            → OnOk result (Builds builder.new buf.new
+            (with_part which.Dacl (dacl_beside self.now.creators (gathered_from self.now)) t)) }
+        ensures full { IsErr result ↔ (2 ^ 16 ≤ acl_size (gathered_from self.now)) }
+    {
+        match &self.creators {
+            AclPart::Null => {
+                builder.null_acl(buf, Which::Dacl);
+                Ok(())
+            }
+            AclPart::Absent | AclPart::List(_) => self.put_both(builder, buf, Which::Dacl),
+        }
+    }
+
+    // Appends an ACL of what is taken, and then what is inherited.
+    fn put_both(
+        &self,
+        builder: &mut Builder,
+        buf: &mut SdBuf,
+        which: Which,
+    ) -> Result<(), AclTooLarge>
+        requires { (t : Draft) × Builds builder.old buf.old t × CanBegin which t.parts }
+        ensures ok { (t : Draft) → Builds builder.old buf.old t → CanBegin which t.parts
+            → OnOk result (Builds builder.new buf.new
+            (with_part which (acl.List (given origin.Creator self.now ++ given origin.Parent self.now)) t)) }
+        ensures full { IsErr result
+            ↔ (2 ^ 16 ≤ acl_size (given origin.Creator self.now ++ given origin.Parent self.now)) }
+    {
+        builder.begin_acl(buf, which);
+        self.put_given(builder, buf, Origin::Creator)?;
+        self.put_given(builder, buf, Origin::Parent)?;
+        builder.end_acl(buf);
+        Ok(())
+    }
+
+    // Appends what the ACL of either descriptor gives.
+    #[tactic(auto, using(crate::proofs::DerivedLaws::given_flat))]
+    fn put_given(
+        &self,
+        builder: &mut Builder,
+        buf: &mut SdBuf,
+        origin: Origin,
+    ) -> Result<(), AclTooLarge>
+        requires { (t : Draft) × Builds builder.old buf.old t × HasOpen t }
+        ensures ok { (t : Draft) → Builds builder.old buf.old t
+            → OnOk result (Builds builder.new buf.new (with_aces (given origin self.now) t)) }
+        ensures full { (t : Draft) → Builds builder.old buf.old t → HasOpen t
+            → (IsErr result ↔ (2 ^ 16 ≤ open_size t.parts + aces_size (given origin self.now))) }
+    {
+        let plan = self.plan;
+        match self.acl(origin) {
+            AclPart::List(acl) => {
+                let aces = acl.aces();
+                AceSource { origin, plan, aces }.put_each(builder, buf)
+            }
+            AclPart::Absent | AclPart::Null => Ok(()),
+        }
+    }
+
+    // The ACL of either descriptor.
+    fn acl(&self, origin: Origin) -> &AclPart<'a>
+        ensures { result.now ≡ source_acl origin self.now }
+    {
+        match origin {
+            Origin::Creator => &self.creators,
+            Origin::Parent => &self.parents,
         }
     }
 }
 
-// The same where the creator has none: there is a SACL if there is a copy.
-fn put_copied_sacl(
-    builder: &mut Builder,
-    buf: &mut SdBuf,
-    plan: &Plan,
-    sacl: &AclPart,
-) -> Result<bool, AclTooLarge>
-    requires { (t : Draft) × Builds builder.old buf.old t × CanBegin which.Sacl t.parts }
-    ensures ok { (t : Draft) → Builds builder.old buf.old t → CanBegin which.Sacl t.parts
-        → OnOk result (Builds builder.new buf.new (with_part which.Sacl (sacl_of (inherited plan.now sacl.now)) t)) }
-    ensures stands { IfOk result (λ stands. stands ≡ is_present (sacl_of (inherited plan.now sacl.now))) }
-    ensures full { IsErr result ↔ (2 ^ 16 ≤ acl_size (inherited plan.now sacl.now)) }
-{
-    let AclPart::List(acl) = sacl else {
-        return Ok(false);
-    };
-    let mut aces = acl.aces();
-    while let Some(ace) = aces.next() {
-        let copies = inherited_from(plan, &ace);
-        if !copies.is_empty() {
-            put_from(builder, buf, plan, &copies, aces)?;
-            return Ok(true);
-        }
-    }
-    Ok(false)
-}
-
-// Appends the SACL from the first copies on.
-fn put_from(
-    builder: &mut Builder,
-    buf: &mut SdBuf,
-    plan: &Plan,
-    first: &Copies,
-    others: Aces<'_>,
-) -> Result<(), AclTooLarge>
-    requires { (t : Draft) × Builds builder.old buf.old t × CanBegin which.Sacl t.parts }
-    ensures ok { (t : Draft) → Builds builder.old buf.old t → CanBegin which.Sacl t.parts
-        → OnOk result (Builds builder.new buf.new
-        (with_part which.Sacl (acl.List (listed first.now ++ flat_map (copies plan.now) others.entry)) t)) }
-    ensures full { IsErr result ↔ (2 ^ 16 ≤ acl_size (listed first.now ++ flat_map (copies plan.now) others.entry)) }
-{
-    builder.begin_acl(buf, Which::Sacl);
-    put_copies(builder, buf, first)?;
-    put_each(builder, buf, plan, Origin::Parent, others)?;
-    builder.end_acl(buf);
-    Ok(())
-}
-
-/// Appends the new DACL.
-pub fn put_dacl(
-    builder: &mut Builder,
-    buf: &mut SdBuf,
-    plan: &Plan,
-    creators: &AclPart,
-    parents: &AclPart,
-) -> Result<(), AclTooLarge>
-    requires { (t : Draft) × Builds builder.old buf.old t × CanBegin which.Dacl t.parts }
-    ensures ok { (t : Draft) → Builds builder.old buf.old t → CanBegin which.Dacl t.parts
-        → OnOk result (Builds builder.new buf.new
-        (with_part which.Dacl (dacl_beside creators.now (gathered plan.now creators.now parents.now)) t)) }
-    ensures full { IsErr result ↔ (2 ^ 16 ≤ acl_size (gathered plan.now creators.now parents.now)) }
-{
-    match creators {
-        AclPart::Absent => put_copied_dacl(builder, buf, plan, parents),
-        AclPart::Null => {
-            builder.null_acl(buf, Which::Dacl);
-            Ok(())
-        }
-        AclPart::List(acl) => put_both(builder, buf, plan, Which::Dacl, acl.aces(), parents),
-    }
-}
-
-// The same where the creator has none.
-fn put_copied_dacl(
-    builder: &mut Builder,
-    buf: &mut SdBuf,
-    plan: &Plan,
-    dacl: &AclPart,
-) -> Result<(), AclTooLarge>
-    requires { (t : Draft) × Builds builder.old buf.old t × CanBegin which.Dacl t.parts }
-    ensures ok { (t : Draft) → Builds builder.old buf.old t → CanBegin which.Dacl t.parts
-        → OnOk result (Builds builder.new buf.new (with_part which.Dacl (acl.List (inherited plan.now dacl.now)) t)) }
-    ensures full { IsErr result ↔ (2 ^ 16 ≤ acl_size (inherited plan.now dacl.now)) }
-{
-    builder.begin_acl(buf, Which::Dacl);
-    put_inherited(builder, buf, plan, dacl)?;
-    builder.end_acl(buf);
-    Ok(())
-}
-
-// Appends an ACL of what is taken, and then what is inherited.
-fn put_both(
-    builder: &mut Builder,
-    buf: &mut SdBuf,
-    plan: &Plan,
-    which: Which,
-    creators: Aces<'_>,
-    parents: &AclPart,
-) -> Result<(), AclTooLarge>
-    requires { (t : Draft) × Builds builder.old buf.old t × CanBegin which t.parts }
-    ensures ok { (t : Draft) → Builds builder.old buf.old t → CanBegin which t.parts
-        → OnOk result (Builds builder.new buf.new
-        (with_part which (acl.List (flat_map (taken plan.now) creators.entry ++ inherited plan.now parents.now)) t)) }
-    ensures full { IsErr result
-        ↔ (2 ^ 16 ≤ acl_size (flat_map (taken plan.now) creators.entry ++ inherited plan.now parents.now)) }
-{
-    builder.begin_acl(buf, which);
-    put_each(builder, buf, plan, Origin::Creator, creators)?;
-    put_inherited(builder, buf, plan, parents)?;
-    builder.end_acl(buf);
-    Ok(())
-}
-
-// Appends what is inherited from an ACL.
-fn put_inherited(
-    builder: &mut Builder,
-    buf: &mut SdBuf,
-    plan: &Plan,
-    part: &AclPart,
-) -> Result<(), AclTooLarge>
-    requires { (t : Draft) × Builds builder.old buf.old t × HasOpen t }
-    ensures ok { (t : Draft) → Builds builder.old buf.old t
-        → OnOk result (Builds builder.new buf.new (with_aces (inherited plan.now part.now) t)) }
-    ensures full { (t : Draft) → Builds builder.old buf.old t → HasOpen t
-        → (IsErr result ↔ (2 ^ 16 ≤ open_size t.parts + aces_size (inherited plan.now part.now))) }
-{
-    match part {
-        AclPart::List(acl) => put_each(builder, buf, plan, Origin::Parent, acl.aces()),
-        AclPart::Absent | AclPart::Null => Ok(()),
-    }
-}
-
-// Appends what each ACE gives.
-fn put_each(
-    builder: &mut Builder,
-    buf: &mut SdBuf,
-    plan: &Plan,
+// ACEs of one of these ACLs, and the same plan.
+#[derive(Drop)]
+struct AceSource<'a> {
     origin: Origin,
-    aces: Aces<'_>,
-) -> Result<(), AclTooLarge>
-    requires { (t : Draft) × Builds builder.old buf.old t × HasOpen t }
-    ensures ok { (t : Draft) → Builds builder.old buf.old t
-        → OnOk result (Builds builder.new buf.new (with_aces (flat_map (gives origin plan.now) aces.entry) t)) }
-    ensures full { (t : Draft) → Builds builder.old buf.old t → HasOpen t
-        → (IsErr result ↔ (2 ^ 16 ≤ open_size t.parts + aces_size (flat_map (gives origin plan.now) aces.entry))) }
-{
-    for ace in aces {
-        put_copies(builder, buf, &given_by(origin, plan, &ace))?;
+    plan: &'a Plan,
+    aces: Aces<'a>,
+}
+
+impl AceSource<'_> {
+    // Appends the SACL of these copies, and what each ACE gives.
+    fn put_sacl_after(
+        self,
+        builder: &mut Builder,
+        buf: &mut SdBuf,
+        first: &Copies,
+    ) -> Result<(), AclTooLarge>
+        requires { (t : Draft) × Builds builder.old buf.old t × CanBegin which.Sacl t.parts }
+        ensures ok { (t : Draft) → Builds builder.old buf.old t → CanBegin which.Sacl t.parts
+            → OnOk result (Builds builder.new buf.new
+            (with_part which.Sacl (acl.List (listed first.now ++ all_given self.entry)) t)) }
+        ensures full { IsErr result ↔ (2 ^ 16 ≤ acl_size (listed first.now ++ all_given self.entry)) }
+    {
+        builder.begin_acl(buf, Which::Sacl);
+        put_copies(builder, buf, first)?;
+        self.put_each(builder, buf)?;
+        builder.end_acl(buf);
+        Ok(())
     }
-    Ok(())
+
+    // Appends what each ACE gives.
+    fn put_each(self, builder: &mut Builder, buf: &mut SdBuf) -> Result<(), AclTooLarge>
+        requires { (t : Draft) × Builds builder.old buf.old t × HasOpen t }
+        ensures ok { (t : Draft) → Builds builder.old buf.old t
+            → OnOk result (Builds builder.new buf.new (with_aces (all_given self.entry) t)) }
+        ensures full { (t : Draft) → Builds builder.old buf.old t → HasOpen t
+            → (IsErr result ↔ (2 ^ 16 ≤ open_size t.parts + aces_size (all_given self.entry))) }
+    {
+        let AceSource { origin, plan, aces } = self;
+        for ace in aces {
+            put_copies(builder, buf, &given_by(origin, plan, &ace))?;
+        }
+        Ok(())
+    }
 }
 
 // What one ACE gives.

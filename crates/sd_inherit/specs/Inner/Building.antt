@@ -1,5 +1,6 @@
 -- What the code that copies has built so far. No definition of what is derived rests on it.
 use Rattle.std.specs.Prelude.{◌<◌, ℕ, ◌+◌, ◌^◌, Bool, true, false, not, ◌&&◌, List, [], ◌∷◌, ◌++◌, Option, Some, None}
+use Rattle.std.specs.List.{flat_map}
 use Rattle.sd_ace.specs.Ace.{AccessControlEntry}
 use Rattle.sd_builder.specs.Draft.{Draft, IsOpen, open_size, with_acl}
 use Rattle.sd_control.specs.Parts.{part_of}
@@ -10,10 +11,12 @@ use Rattle.sd_control.specs.Control.{flag_bits}
 use Rattle.sd_control.specs.declared.part.Which.{Which}
 use Rattle.sd_control.specs.declared.part.Which.TheVariants.{Dacl, Sacl}
 use Rattle.sd_view.specs.Descriptor.{Descriptor}
-use Rattle.sd_inherit.specs.Derived.{is_protected}
+use Rattle.sd_inherit.specs.Derived.{gathered, inherited, is_protected}
 use Rattle.sd_inherit.specs.Copies.{copies}
 use Rattle.sd_inherit.specs.Taken.{taken}
 use Rattle.sd_inherit.specs.declared.copies.Copies.{Copies}
+use Rattle.sd_inherit.specs.declared.inherited.AceSource.{AceSource}
+use Rattle.sd_inherit.specs.declared.inherited.AclSources.{AclSources}
 use Rattle.sd_inherit.specs.declared.inherited.Origin.{Origin}
 use Rattle.sd_inherit.specs.declared.inherited.Origin.TheVariants as origin
 use Rattle.sd_inherit.specs.declared.plan.Plan.{Plan}
@@ -31,6 +34,28 @@ listed c = one_or_none c.effective ++ one_or_none c.inherit_only
 abbrev pub gives : Origin → Plan → AccessControlEntry → List AccessControlEntry
 gives origin.Creator plan a = taken plan a
 gives origin.Parent plan a = copies plan a
+
+abbrev pub all_given : AceSource → List AccessControlEntry
+all_given s = flat_map (gives s.origin s.plan.now) s.aces
+
+-- a null or an absent ACL has no ACEs
+abbrev pub aces_in : AclPart → List AccessControlEntry
+aces_in acl.Absent = []
+aces_in acl.Null = []
+aces_in (acl.List aces) = aces
+
+abbrev pub source_acl : Origin → AclSources → AclPart
+source_acl origin.Creator s = s.creators
+source_acl origin.Parent s = s.parents
+
+-- what the ACL of either descriptor gives
+abbrev pub given : Origin → AclSources → List AccessControlEntry
+given origin.Creator s = flat_map (taken s.plan.now) (aces_in s.creators)
+given origin.Parent s = inherited s.plan.now s.parents
+
+-- what the definition of the new ACL gathers from them
+abbrev pub gathered_from : AclSources → List AccessControlEntry
+gathered_from s = gathered s.plan.now s.creators s.parents
 
 -- an ACL is open, and is no larger than an ACL may be
 pub record HasOpen (t : Draft) : Type 0 where

@@ -14,19 +14,19 @@ use Rattle.sd_inherit.proofs.derivation.build.Goals.{After-flag_bits-flags}
 
 pub returns-in_default-clause-fault : goal.returns-in_default-clause-fault
 returns-in_default-clause-fault c =
-    fault-sacl _ _ _ (rw (c.creators_acl-sacl.ensures, c.parents_acl-parents_sacl.ensures) at c.in_default.ensures.full)
+    fault-sacl _ _ _ (rw c.sources-sacl.ensures.gathered at c.in_default.ensures.full)
 
 pub returns-in_default-put_dacl-clause-fault : goal.returns-in_default-put_dacl-clause-fault
 returns-in_default-put_dacl-clause-fault c =
     fault-dacl _ _ _
-    (rw (c.creators_acl-sacl.ensures, c.parents_acl-parents_sacl.ensures) at c.in-Ok.ensures.full)
-    (rw (c.creators_acl-dacl.ensures, c.parents_acl-parents_dacl.ensures) at c.in_default-put_dacl.ensures.full)
+    (rw c.sources-sacl.ensures.gathered at c.in-Ok.ensures.full)
+    (rw c.sources-dacl.ensures.gathered at c.in_default-put_dacl.ensures.full)
 
 pub returns-clause-fault : goal.returns-clause-fault
 returns-clause-fault c =
     fault-none _ _ _
-    (rw (c.creators_acl-sacl.ensures, c.parents_acl-parents_sacl.ensures) at c.in-Ok.ensures.full)
-    (rw (c.creators_acl-dacl.ensures, c.parents_acl-parents_dacl.ensures) at c.in-Ok-put_dacl.ensures.full)
+    (rw c.sources-sacl.ensures.gathered at c.in-Ok.ensures.full)
+    (rw c.sources-dacl.ensures.gathered at c.in-Ok-put_dacl.ensures.full)
 
 -- what the builder was given in the end
 given : (c : After-flag_bits-flags)
@@ -37,9 +37,9 @@ given c =
     let one = with_owner plan.owner nothing_given in
     let sids = c.group.ensures.value one (c.owner.ensures.value nothing_given c.new-builder.ensures.value) in
     let sacl = new_sacl c.args.parent.now (option_copied c.args.creator) plan in
-    rw (c.creators_acl-dacl.ensures, c.parents_acl-parents_dacl.ensures) at
+    rw (c.sources-dacl.ensures.gathered, c.sources-dacl.ensures.creators) at
     (c.in-Ok-put_dacl.ensures.ok (with_part Sacl sacl (with_sids plan))
-    (rw (c.creators_acl-sacl.ensures, c.parents_acl-parents_sacl.ensures) at
+    (rw (c.sources-sacl.ensures.gathered, c.sources-sacl.ensures.creators) at
     (c.in-Ok.ensures.ok (with_sids plan) sids (refl, refl))) (can-begin plan sacl))
 
 -- and what that makes
@@ -54,11 +54,11 @@ derives c =
     ∙ ap (λ (n : ℕ). built n 0 (parts_of d creator plan))
     (c.flag_bits-flags.ensures
     ∙ bits-are d creator plan _ _
-    (c.is_list.ensures
-    ∙ rw (c.in-Ok.ensures.stands, c.creators_acl-sacl.ensures, c.parents_acl-parents_sacl.ensures)
+    (c.is_list-sacl_is_list.ensures
+    ∙ rw (c.in-Ok.ensures.stands, c.sources-sacl.ensures.gathered, c.sources-sacl.ensures.creators)
     (sacl-is_list (creators_acl Sacl creator) (new_aces Sacl d creator plan)))
-    (c.is_list-2.ensures
-    ∙ rw c.creators_acl-dacl.ensures (dacl-is_list (creators_acl Dacl creator) (new_aces Dacl d creator plan))))
+    (c.is_list.ensures
+    ∙ rw c.sources-dacl.ensures.creators (dacl-is_list (creators_acl Dacl creator) (new_aces Dacl d creator plan))))
     ∙ built-derived d creator plan
 
 pub finish-requires : goal.finish-requires
