@@ -125,6 +125,7 @@ impl<'a> AclSources<'a> {
     }
 
     // Appends what the ACL of either descriptor gives.
+    #[inline(always)]
     #[tactic(auto, using(crate::proofs::DerivedLaws::given_flat))]
     fn put_given(
         &self,
@@ -188,7 +189,8 @@ impl AceSource<'_> {
         Ok(())
     }
 
-    // Appends what each ACE gives.
+    // Appends what each ACE gives. Inlined, so that the loop knows the origin of its ACEs.
+    #[inline(always)]
     fn put_each(self, builder: &mut Builder, buf: &mut SdBuf) -> Result<(), AclTooLarge>
         requires { (t : Draft) × Builds builder.old buf.old t × HasOpen t }
         ensures ok { (t : Draft) → Builds builder.old buf.old t
