@@ -40,7 +40,7 @@ pub struct AclSources<'a> {
 }
 
 impl<'a> AclSources<'a> {
-    /// Appends the new SACL, if there is one, and returns whether there is.
+    /// Appends the new SACL, if there is one, and returns whether there is one.
     pub fn put_sacl(&self, builder: &mut Builder, buf: &mut SdBuf) -> Result<bool, AclTooLarge>
         requires { (t : Draft) × Builds builder.old buf.old t × CanBegin which.Sacl t.parts }
         ensures ok { (t : Draft) → Builds builder.old buf.old t → CanBegin which.Sacl t.parts
@@ -124,7 +124,7 @@ impl<'a> AclSources<'a> {
         Ok(())
     }
 
-    // Appends what the ACL of either descriptor gives.
+    // Appends what the ACL of one descriptor gives.
     #[inline(always)]
     #[tactic(auto, using(crate::proofs::DerivedLaws::given_flat))]
     fn put_given(
@@ -149,7 +149,7 @@ impl<'a> AclSources<'a> {
         }
     }
 
-    // The ACL of either descriptor.
+    // The ACL of one descriptor.
     fn acl(&self, origin: Origin) -> &AclPart<'a>
         ensures { result.now ≡ source_acl origin self.now }
     {
@@ -160,7 +160,7 @@ impl<'a> AclSources<'a> {
     }
 }
 
-// ACEs of one of these ACLs, and the same plan.
+// ACEs of one of the two ACLs, with the plan.
 #[derive(Drop)]
 struct AceSource<'a> {
     origin: Origin,
@@ -169,7 +169,7 @@ struct AceSource<'a> {
 }
 
 impl AceSource<'_> {
-    // Appends the SACL of these copies, and what each ACE gives.
+    // Appends the SACL: the first copies, and then what each ACE gives.
     fn put_sacl_after(
         self,
         builder: &mut Builder,

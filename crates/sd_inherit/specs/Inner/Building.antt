@@ -35,6 +35,7 @@ abbrev pub gives : Origin → Plan → AccessControlEntry → List AccessControl
 gives origin.Creator plan a = taken plan a
 gives origin.Parent plan a = copies plan a
 
+-- what all of these ACEs give
 abbrev pub all_given : AceSource → List AccessControlEntry
 all_given s = flat_map (gives s.origin s.plan.now) s.aces
 
@@ -48,12 +49,12 @@ abbrev pub source_acl : Origin → AclSources → AclPart
 source_acl origin.Creator s = s.creators
 source_acl origin.Parent s = s.parents
 
--- what the ACL of either descriptor gives
+-- what the ACL of one descriptor gives
 abbrev pub given : Origin → AclSources → List AccessControlEntry
 given origin.Creator s = flat_map (taken s.plan.now) (aces_in s.creators)
 given origin.Parent s = inherited s.plan.now s.parents
 
--- what the definition of the new ACL gathers from them
+-- what the definition of the new ACL gathers from both
 abbrev pub gathered_from : AclSources → List AccessControlEntry
 gathered_from s = gathered s.plan.now s.creators s.parents
 
