@@ -103,7 +103,9 @@ impl<'a> AclSources<'a> {
         }
     }
 
-    // Appends an ACL of what is taken, and then what is inherited.
+    // Appends an ACL of what is taken, and then what is inherited. Inlined with what it calls, so that each loop knows
+    // the origin of its ACEs.
+    #[inline(always)]
     fn put_both(
         &self,
         builder: &mut Builder,
@@ -189,7 +191,7 @@ impl AceSource<'_> {
         Ok(())
     }
 
-    // Appends what each ACE gives. Inlined, so that the loop knows the origin of its ACEs.
+    // Appends what each ACE gives.
     #[inline(always)]
     fn put_each(self, builder: &mut Builder, buf: &mut SdBuf) -> Result<(), AclTooLarge>
         requires { (t : Draft) × Builds builder.old buf.old t × HasOpen t }
@@ -207,6 +209,7 @@ impl AceSource<'_> {
 }
 
 // What one ACE gives.
+#[inline(always)]
 fn given_by(origin: Origin, plan: &Plan, ace: &AceView<'_>) -> Copies
     ensures { listed result ≡ gives origin plan.now ace.now }
 {
