@@ -2,7 +2,7 @@
 
 ghost use Rattle.std.specs.Prelude.{◌≡◌, ◌≤◌, ◌+◌, ◌++◌, [], length, MatchResult, Ok, Err};
 ghost use Rattle.sd_text.specs.Limits.{most_entries};
-ghost use Rattle.sdtool_c.specs.Checks.{entries_in, holder_in, kind_in, level_of};
+ghost use Rattle.sdtool_c.specs.Checks.{entries_in, holder_in, kind_in};
 
 use crate::outcome::CallFault;
 use crate::request::Request;
@@ -27,18 +27,8 @@ pub fn give_holder(
         return Err(CallFault::Argument);
     }
     add_entries(token, sids, kinds)?;
-    token.set_level(level_of(request));
+    token.set_level(request.has_level.then_some(request.level));
     Ok(())
-}
-
-fn level_of(request: &Request) -> Option<u32>
-    ensures { result ≡ level_of request.now }
-{
-    if request.has_level {
-        Some(request.level)
-    } else {
-        None
-    }
 }
 
 // Adds the SIDs, one after the other. It calls itself for the second and the others: at most 1,024 times.

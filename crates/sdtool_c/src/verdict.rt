@@ -3,7 +3,7 @@
 ghost use Rattle.std.specs.Prelude.{◌≡◌};
 ghost use Rattle.sdtool_c.specs.Checks.{told, untold};
 
-use crate::outcome::{CallFault, failed, no_memory};
+use crate::outcome::{CallFault, Outcome, done, failed, no_memory};
 use sd_check::Verdict;
 
 /// What an access check hands back: `struct sdtool_verdict` of the header.
@@ -27,30 +27,9 @@ pub fn told(answer: Result<Verdict, CallFault>) -> VerdictOutcome
     ensures { result ≡ told answer }
 {
     match answer {
-        Ok(Verdict::Granted(mask)) => decided(mask, true),
-        Ok(Verdict::Denied(mask)) => decided(mask, false),
-        Err(fault) => {
-            let outcome = failed(fault);
-            VerdictOutcome {
-                fault: outcome.fault,
-                part: outcome.part,
-                other_part: outcome.other_part,
-                mask: 0,
-                granted: false,
-            }
-        }
-    }
-}
-
-fn decided(mask: u32, granted: bool) -> VerdictOutcome
-    ensures { result ≡ record { fault = 0; part = 0; other_part = 0; mask = mask; granted = granted } }
-{
-    VerdictOutcome {
-        fault: 0,
-        part: 0,
-        other_part: 0,
-        mask,
-        granted,
+        Ok(Verdict::Granted(mask)) => with_rights(done(0), mask, true),
+        Ok(Verdict::Denied(mask)) => with_rights(done(0), mask, false),
+        Err(fault) => with_rights(failed(fault), 0, false),
     }
 }
 
@@ -58,11 +37,24 @@ fn decided(mask: u32, granted: bool) -> VerdictOutcome
 pub fn untold() -> VerdictOutcome
     ensures { result ≡ untold }
 {
+    with_rights(no_memory(), 0, false)
+}
+
+// What a call hands back, with rights beside it.
+fn with_rights(outcome: Outcome, mask: u32, granted: bool) -> VerdictOutcome
+    ensures { result ≡ record {
+      fault = outcome.fault;
+      part = outcome.part;
+      other_part = outcome.other_part;
+      mask = mask;
+      granted = granted;
+    } }
+{
     VerdictOutcome {
-        fault: no_memory().fault,
-        part: 0,
-        other_part: 0,
-        mask: 0,
-        granted: false,
+        fault: outcome.fault,
+        part: outcome.part,
+        other_part: outcome.other_part,
+        mask,
+        granted,
     }
 }

@@ -49,11 +49,6 @@ fn push_word(alloc: Global, words: &mut Vec<String>, word: &str) -> Result<(), W
     ensures added { OnOk result (map string_bytes words.new.items ≡ map string_bytes words.old.items ++ word.now ∷ []) }
     ensures refused { MatchResult result (λ _. Unit {0}) (λ fault. fault ≡ NoMemory) }
 {
-    let Ok(word) = String::from_str(alloc, word) else {
-        return Err(WordsFault::NoMemory);
-    };
-    match words.push(word) {
-        Ok(()) => Ok(()),
-        Err(_) => Err(WordsFault::NoMemory),
-    }
+    let word = String::from_str(alloc, word).map_err(|_| WordsFault::NoMemory)?;
+    words.push(word).map_err(|_| WordsFault::NoMemory)
 }
