@@ -78,12 +78,17 @@ ask_in request object principal_self = do
 
 -- 3. The answer.
 
-unfoldable pub checked : List ℕ → List ℕ → List ℕ → List ℕ → List ℕ → Request → Result Verdict CallFault
+-- the verdict on the descriptor that some bytes show
+unfoldable pub verdict_on : List ℕ → Holder → Asked → Result Verdict CallFault
+verdict_on bytes holder ask = do
+  d ← descriptor_in bytes
+  Ok (verdict d holder ask)
+
+abbrev pub checked : List ℕ → List ℕ → List ℕ → List ℕ → List ℕ → Request → Result Verdict CallFault
 checked bytes sids kinds object principal_self request = do
   holder ← holder_in sids kinds request
   ask ← ask_in request object principal_self
-  d ← descriptor_in bytes
-  Ok (verdict d holder ask)
+  verdict_on bytes holder ask
 
 abbrev pub told : Result Verdict CallFault → VerdictOutcome
 told (Ok (Granted mask)) = record { fault = 0; part = 0; other_part = 0; mask = mask; granted = true }

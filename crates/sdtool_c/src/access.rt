@@ -1,7 +1,7 @@
 //! The call that checks access.
 
-ghost use Rattle.std.specs.Prelude.{◌≡◌, []};
-ghost use Rattle.sdtool_c.specs.Checks.{Tells, ask_in, checked, object_in};
+ghost use Rattle.std.specs.Prelude.{◌≡◌};
+ghost use Rattle.sdtool_c.specs.Checks.{Tells, ask_in, checked, object_in, verdict_on};
 
 use crate::input::{descriptor_in, domain_in, mapping_in};
 use crate::outcome::CallFault;
@@ -30,35 +30,22 @@ pub extern "C" fn sdtool_check(
     let Ok(mut token) = Token::new(alloc) else {
         return untold();
     };
-    told(checked(
-        &mut token,
-        bytes,
-        sids,
-        kinds,
-        object,
-        principal_self,
-        request,
-    ))
+    if let Err(fault) = give_holder(&mut token, sids, kinds, request) {
+        return told(Err(fault));
+    }
+    match ask_in(request, object, principal_self) {
+        Ok(ask) => told(verdict_on(bytes, &mut token, &ask)),
+        Err(fault) => told(Err(fault)),
+    }
 }
 
-// The verdict for a new token.
-#[tactic(auto, unfolding(crate::specs::Checks::checked))]
-fn checked(
-    token: &mut Token,
-    bytes: &[u8],
-    sids: &[u8],
-    kinds: &[u8],
-    object: &[u8],
-    principal_self: &[u8],
-    request: &Request,
-) -> Result<Verdict, CallFault>
-    requires { token.old.holder.entries ≡ [] }
-    ensures { result ≡ checked bytes.now sids.now kinds.now object.now principal_self.now request.now }
+// The verdict on the descriptor that some bytes show.
+#[tactic(auto, unfolding(crate::specs::Checks::verdict_on))]
+fn verdict_on(bytes: &[u8], token: &mut Token, ask: &Ask) -> Result<Verdict, CallFault>
+    ensures { result ≡ verdict_on bytes.now token.old.holder ask.now }
 {
-    give_holder(token, sids, kinds, request)?;
-    let ask = ask_in(request, object, principal_self)?;
     let view = descriptor_in(bytes)?;
-    Ok(check(&view, token, &ask))
+    Ok(check(&view, token, ask))
 }
 
 // What is asked, or why nothing can be.
@@ -73,17 +60,15 @@ fn ask_in(request: &Request, object: &[u8], principal_self: &[u8]) -> Result<Ask
         security: request.security,
         take_ownership: request.take_ownership,
     };
-    match Ask::new(
+    Ask::new(
         request.wanted,
         request.maximum,
         mapping,
         object,
         principal,
         privileges,
-    ) {
-        Ok(ask) => Ok(ask),
-        Err(fault) => Err(CallFault::Ask(fault)),
-    }
+    )
+    .map_err(CallFault::Ask)
 }
 
 // The object type, whose GUID has its bytes as they stand in an ACE.
