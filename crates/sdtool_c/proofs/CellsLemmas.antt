@@ -1,11 +1,11 @@
 -- The cells of the caller, before a run and after it.
-use Rattle.std.proofs.Common.{◌≡◌, ◌≢◌, ◌⊎◌, ◌≤◌, ◌-◌, inl, inr, ℕ, List, [], ◌∷◌, ◌++◌, length, take, min, Bool, true, false, nat_lt}
-use Rattle.std.proofs.Common.{Option, Some, refl, sym, subst, ap, ◌∙◌, arith, if◌then◌else◌, get_or}
+use Rattle.std.proofs.Common.{◌≡◌, ◌≢◌, ◌⊎◌, ◌≤◌, ◌-◌, inl, inr, ℕ, List, [], ◌∷◌, ◌++◌, length, take, Bool, true, false, nat_lt}
+use Rattle.std.proofs.Common.{Option, Some, refl, sym, ap, ◌∙◌, arith, if◌then◌else◌, get_or}
 use Rattle.std.proofs.lemmas.Bool.{cases_Bool, ltb-false}
 use Rattle.std.proofs.lemmas.List.{length-take, take_min}
 use Rattle.sd_run.specs.Told.{DrainTold, SourceTold}
 use Rattle.sd_command.specs.Endings.{Told}
-use Rattle.sdtool_c.specs.Runs.{AreWholeLines, EndsOn, Fills, Runs, Writes, command_words}
+use Rattle.sdtool_c.specs.Runs.{AreWholeLines, EndsOn, Fills, Runs, command_words}
 use Rattle.sdtool_c.specs.declared.run.Ending.{Ending}
 use Rattle.sdtool_c.proofs.RunLemmas.{Grew, faults-grew, output-grew}
 
@@ -54,21 +54,6 @@ fills name cells name' cells' held' failures' flushed' grew = record {
   ];
 }
 
--- what the caller gets of the cells, by what was taken
-writes : (told told' : Told) (cells' : List ℕ) (held' : ℕ) (ending : Ending)
-    → Fills told.output told'.output (take held' cells') cells'
-    → ending.length ≤ length (take (min held' (length cells')) cells')
-    → (ending.status ≢ 3 → ending.length ≡ length (take (min held' (length cells')) cells'))
-    → (ending.status ≡ 3 → AreWholeLines (take ending.length (take (min held' (length cells')) cells')))
-    → Writes told told' cells' ending
-writes told told' cells' held' ending filled within all lines = record {
-  written = take held' cells';
-  fills = filled;
-  within = subst (λ (xs : List ℕ). ending.length ≤ length xs) (take_min held' cells') within;
-  all = λ not. subst (λ (xs : List ℕ). ending.length ≡ length xs) (take_min held' cells') (all not);
-  lines = λ is. subst (λ (xs : List ℕ). AreWholeLines (take ending.length xs)) (take_min held' cells') (lines is);
-}
-
 -- the whole call, by how the program ended over cells that held nothing
 pub runs : (words input : List ℕ) (source' : SourceTold) (name : ℕ) (cells : List ℕ) (name' : ℕ) (cells' : List ℕ)
     (held' failures' : ℕ) (flushed' : Bool) (said-name : ℕ) (said : List ℕ) (said-name' : ℕ) (said' : List ℕ)
@@ -84,10 +69,10 @@ pub runs : (words input : List ℕ) (source' : SourceTold) (name : ℕ) (cells :
       faults = told_of said-name' said' said-held' said-failures' said-flushed';
     } in
     source'.failures ≡ 0 → EndsOn (command_words words) told told' ending.status
-    → ending.length ≤ length (take (min held' (length cells')) cells')
-    → (ending.status ≢ 3 → ending.length ≡ length (take (min held' (length cells')) cells'))
-    → (ending.status ≡ 3 → AreWholeLines (take ending.length (take (min held' (length cells')) cells')))
-    → ending.message_length ≡ min said-held' (length said')
+    → ending.length ≤ length (take held' cells')
+    → (ending.status ≢ 3 → ending.length ≡ length (take held' cells'))
+    → (ending.status ≡ 3 → AreWholeLines (take ending.length (take held' cells')))
+    → ending.message_length ≡ length (take said-held' said')
     → Runs words input cells' said' ending × (name' ≡ name) × (said-name' ≡ said-name)
 runs words input source' name cells name' cells' held' failures' flushed' said-name said said-name' said' said-held'
     said-failures' said-flushed' ending none_failed ends within all lines message =
@@ -109,12 +94,17 @@ runs words input source' name cells name' cells' held' failures' flushed' said-n
         given = refl;
         no_failed_read = none_failed;
         ends = ends;
-        writes = writes told told' cells' held' ending
-            (fills name cells name' cells' held' failures' flushed' output) within all lines;
-        within = omega (arith, within, length-take (min held' (length cells')) cells');
+        writes = record {
+          written = take held' cells';
+          fills = fills name cells name' cells' held' failures' flushed' output;
+          within = within;
+          all = all;
+          lines = lines;
+        };
+        within = omega (arith, within, length-take held' cells');
         said = take said-held' said';
         says = fills said-name said said-name' said' said-held' said-failures' said-flushed' faults;
-        all_said = message ∙ sym (length-take said-held' said');
+        all_said = message;
       },
       same-name name (length cells) name' cells' held' failures' flushed' output,
       same-name said-name (length said) said-name' said' said-held' said-failures' said-flushed' faults,

@@ -1,6 +1,6 @@
 //! A batch in memory: the input that is read, and the cells that are written.
 
-ghost use Rattle.std.specs.Prelude.{◌≡◌, ◌≤◌, ◌<◌, length};
+ghost use Rattle.std.specs.Prelude.{◌≡◌, ◌≤◌, ◌<◌, length, take};
 
 use crate::output::write_at;
 use sd_run::{DeviceFault, Drain, Source};
@@ -57,6 +57,15 @@ pub struct Cells<'a> {
     pub handed_on: usize,
     pub failures: u64,
     pub flushed: bool,
+}
+
+impl<'a> Cells<'a> {
+    /// The bytes that it took.
+    pub fn written(&self) -> &[u8]
+        ensures { result.now ≡ take self.now.held self.now.cells.now }
+    {
+        &self.cells[..self.held.min(self.cells.len())]
+    }
 }
 
 impl Drain for Cells<'_> {

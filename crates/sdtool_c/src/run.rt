@@ -1,6 +1,6 @@
 //! The call that runs the whole tool on a batch in memory.
 
-ghost use Rattle.std.specs.Prelude.{◌≡◌, ◌≢◌, ◌≤◌, false, length, min, take};
+ghost use Rattle.std.specs.Prelude.{◌≡◌, ◌≢◌, ◌≤◌, false, length, take};
 ghost use Rattle.sd_command.specs.Endings.{Says};
 ghost use Rattle.sdtool_c.specs.Runs.{AreWholeLines, EndsOn, Runs, command_words};
 
@@ -73,23 +73,12 @@ fn run_over(
         ends: 0,
     };
     let status = run_program(alloc, words, &mut source, answers, says);
+    let handed_on = answers.handed_on;
     Ending {
         status: u32::from(status),
-        length: given(status, answers),
-        message_length: says.held.min(says.cells.len()),
+        length: kept(status, answers.written(), handed_on),
+        message_length: says.written().len(),
     }
-}
-
-// How many bytes the caller gets.
-fn given(status: u8, answers: &Cells<'_>) -> usize
-    ensures within { result ≤ length (take (min answers.now.held (length answers.now.cells.now)) answers.now.cells.now) }
-    ensures all { status ≢ 3
-        → result ≡ length (take (min answers.now.held (length answers.now.cells.now)) answers.now.cells.now) }
-    ensures lines { status ≡ 3 → AreWholeLines
-        (take result (take (min answers.now.held (length answers.now.cells.now)) answers.now.cells.now)) }
-{
-    let written = answers.held.min(answers.cells.len());
-    kept(status, &answers.cells[..written], answers.handed_on)
 }
 
 // How many of the written bytes the caller gets: after a fault of the run only whole lines that were handed on.
