@@ -12,11 +12,12 @@ use Rattle.sd_view.specs.Reading.{reading}
 use Rattle.sd_sddl_reader.specs.Meaning.{means}
 use Rattle.sd_sddl_printer.specs.Printed.{sddl}
 use Rattle.sd_explain.specs.Explain.{explain}
-use Rattle.sd_sid.specs.declared.naming.Naming.{Naming}
+use Rattle.sd_answer.specs.declared.fault.LineFault.TheVariants as line
+use Rattle.sdtool_c.specs.declared.printing.Named.{Named}
 use Rattle.sdtool_c.specs.declared.printing.Text.{Text}
 use Rattle.sdtool_c.specs.declared.printing.Text.TheVariants as text
 use Rattle.sdtool_c.specs.declared.outcome.CallFault.{CallFault}
-use Rattle.sdtool_c.specs.declared.outcome.CallFault.TheVariants.{Argument, Sd, Sddl, TooLong}
+use Rattle.sdtool_c.specs.declared.outcome.CallFault.TheVariants.{Argument, Line}
 
 -- a SID that takes all of the bytes
 abbrev pub whole_sid : ℕ → Option (SecurityId × ℕ) → Result SecurityId CallFault
@@ -45,22 +46,28 @@ mapping_in number =
 
 -- what some bytes show; as in the program, more bytes than a descriptor ever has are too long
 unfoldable pub descriptor_in : List ℕ → Result Descriptor CallFault
-descriptor_in bytes = if nat_lt CAPACITY (length bytes) then Err TooLong else fault_as Sd (reading bytes)
+descriptor_in bytes = if nat_lt CAPACITY (length bytes) then Err (Line line.TooLong) else fault_as (λ fault. Line (line.Sd fault)) (reading bytes)
 
 -- what a text means
 unfoldable pub text_in : Option SecurityId → List ℕ → Result Descriptor CallFault
-text_in domain text = if nat_lt most_sddl_text (length text) then Err TooLong else fault_as Sddl (means text domain)
+text_in domain text = if nat_lt most_sddl_text (length text) then Err (Line line.TooLong) else fault_as (λ fault. Line (line.Sddl fault)) (means text domain)
 
 -- a text of a descriptor
-abbrev pub text_of : Text → Naming → Descriptor → List ℕ
-text_of text.Sddl naming d = sddl naming d
-text_of text.Explanation naming d = explain naming d
+abbrev pub text_of : Text → Named → List ℕ
+text_of text.Sddl named = sddl named.naming named.view
+text_of text.Explanation named = explain named.naming named.view
+
+-- a descriptor, and how its SIDs are named
+unfoldable pub named_in : List ℕ → List ℕ → Bool → Result Named CallFault
+named_in bytes domain numeric = do
+  named ← domain_in domain
+  d ← descriptor_in bytes
+  Ok (record { view = d; naming = naming_by named numeric })
 
 abbrev pub printed : Text → List ℕ → List ℕ → Bool → Result (List ℕ) CallFault
 printed what bytes domain numeric = do
-  named ← domain_in domain
-  d ← descriptor_in bytes
-  Ok (text_of what (naming_by named numeric) d)
+  named ← named_in bytes domain numeric
+  Ok (text_of what named)
 
 abbrev pub to_sddl : List ℕ → List ℕ → Bool → Result (List ℕ) CallFault
 to_sddl bytes domain numeric = printed text.Sddl bytes domain numeric

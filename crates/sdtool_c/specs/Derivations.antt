@@ -3,13 +3,14 @@ use Rattle.std.specs.Prelude.{ℕ, List, if◌then◌else◌, nat_eq, length, Op
 use Rattle.sd_text.specs.Chains.{◌>>=◌, fault_as, unless}
 use Rattle.sd_view.specs.Descriptor.{Descriptor}
 use Rattle.sd_view.specs.Layout.{layout}
+use Rattle.sd_answer.specs.declared.fault.LineFault.TheVariants as line
 use Rattle.sd_inherit.specs.Derived.{derive_fault, derived}
 use Rattle.sd_inherit.specs.declared.plan.Plan.{Plan}
 use Rattle.sd_inherit.specs.declared.plan.Target.{Target}
 use Rattle.sd_inherit.specs.declared.plan.Target.TheVariants as target
 use Rattle.sdtool_c.specs.Calls.{descriptor_in, mapping_in, sid_in}
 use Rattle.sdtool_c.specs.declared.outcome.CallFault.{CallFault}
-use Rattle.sdtool_c.specs.declared.outcome.CallFault.TheVariants.{Argument, Derive}
+use Rattle.sdtool_c.specs.declared.outcome.CallFault.TheVariants.{Argument, Line}
 
 -- what is made, by its number
 abbrev pub target_in : ℕ → Result Target CallFault
@@ -36,11 +37,18 @@ creator_in bytes = if nat_eq (length bytes) 0 then Ok None else some_creator (de
 
 -- the new descriptor in its one layout, or the ACL that is too large
 abbrev pub new_layout : Descriptor → Option Descriptor → Plan → Result (List ℕ) CallFault
-new_layout d creator plan = fault_as Derive (unless (derive_fault d creator plan) (layout (derived d creator plan)))
+new_layout d creator plan =
+    fault_as (λ fault. Line (line.Derive fault))
+    (unless (derive_fault d creator plan) (layout (derived d creator plan)))
 
-unfoldable pub derivation : List ℕ → List ℕ → List ℕ → List ℕ → ℕ → ℕ → Result (List ℕ) CallFault
-derivation parent creator owner group kind mapping = do
-  plan ← plan_in kind mapping owner group
+-- the new descriptor that is made by a plan
+unfoldable pub planned : Plan → List ℕ → List ℕ → Result (List ℕ) CallFault
+planned plan parent creator = do
   brought ← creator_in creator
   d ← descriptor_in parent
   new_layout d brought plan
+
+abbrev pub derivation : List ℕ → List ℕ → List ℕ → List ℕ → ℕ → ℕ → Result (List ℕ) CallFault
+derivation parent creator owner group kind mapping = do
+  plan ← plan_in kind mapping owner group
+  planned plan parent creator

@@ -1,17 +1,16 @@
 //! The calls that convert descriptors.
 
-ghost use Rattle.std.specs.Prelude.{◌≡◌, codes, MatchResult, OnOk, Ok, Err};
+ghost use Rattle.std.specs.Prelude.{◌≡◌, codes};
 ghost use Rattle.std.specs.Option.{option_copied};
-ghost use Rattle.sd_view.specs.Descriptor.{Descriptor, Shows};
 ghost use Rattle.sd_view.specs.Layout.{layout};
-ghost use Rattle.sd_view.specs.WrittenForm.{IsWrittenForm};
 ghost use Rattle.sdtool_c.specs.Outcomes.{Answers, AnswersText, AnswersWithin, Gives};
-ghost use Rattle.sdtool_c.specs.Calls.{explained, from_sddl, laid_out, normalized, printed, text_in, to_sddl};
+ghost use Rattle.sdtool_c.specs.Calls.{explained, from_sddl, normalized, text_in, to_sddl};
 
 use crate::input::{descriptor_in, domain_in};
 use crate::outcome::{CallFault, Outcome, done, failed, no_memory, too_small};
 use crate::output::{Front, give};
-use crate::printing::{Text, give_text};
+use crate::printing::{Text, give_text, named_in};
+use sd_answer::LineFault;
 use sd_buffer::SdBuf;
 use sd_sddl_reader::read_sddl;
 use sd_sid::Sid;
@@ -38,7 +37,10 @@ pub extern "C" fn sdtool_to_sddl(
 ) -> Outcome
     ensures { AnswersText (to_sddl bytes.now domain.now numeric) text.old text.new result }
 {
-    print(alloc, Text::Sddl, bytes, domain, numeric, text)
+    match named_in(bytes, domain, numeric) {
+        Ok(named) => give_text(alloc, Text::Sddl, &named, text),
+        Err(fault) => failed(fault),
+    }
 }
 
 /// Gives the explanation of a descriptor.
@@ -52,26 +54,8 @@ pub extern "C" fn sdtool_explain(
 ) -> Outcome
     ensures { AnswersText (explained bytes.now domain.now numeric) text.old text.new result }
 {
-    print(alloc, Text::Explanation, bytes, domain, numeric, text)
-}
-
-// Gives a text of a descriptor.
-fn print(
-    alloc: Global,
-    what: Text,
-    bytes: &[u8],
-    domain: &[u8],
-    numeric: bool,
-    text: &mut [u8],
-) -> Outcome
-    ensures { AnswersText (printed what bytes.now domain.now numeric) text.old text.new result }
-{
-    let domain = match domain_in(domain) {
-        Ok(domain) => domain,
-        Err(fault) => return failed(fault),
-    };
-    match descriptor_in(bytes) {
-        Ok(view) => give_text(alloc, &view, what, domain.as_ref(), numeric, text),
+    match named_in(bytes, domain, numeric) {
+        Ok(named) => give_text(alloc, Text::Explanation, &named, text),
         Err(fault) => failed(fault),
     }
 }
@@ -104,25 +88,10 @@ pub extern "C" fn sdtool_from_sddl(
     let Ok(mut buf) = SdBuf::new(alloc) else {
         return no_memory();
     };
-    give_meant(text, domain.as_ref(), &mut buf, output)
-}
-
-// Gives the layout of the descriptor that a text means.
-fn give_meant(text: &[u8], domain: Option<&Sid>, buf: &mut SdBuf, output: &mut [u8]) -> Outcome
-    ensures { Answers (laid_out (text_in (option_copied domain.entry) text.now)) output.old output.new result }
-{
-    match read_text(text, domain, buf) {
-        Ok(()) => give_written(buf.bytes(), output),
+    match read_text(text, domain.as_ref(), &mut buf) {
+        Ok(view) => give_layout(&view, output),
         Err(fault) => failed(fault),
     }
-}
-
-// Gives the layout of the descriptor that bytes in their written form show.
-fn give_written(bytes: &[u8], output: &mut [u8]) -> Outcome
-    requires { IsWrittenForm bytes.now }
-    ensures { (d : Descriptor) → Shows bytes.now d → Gives (layout d) output.old output.new result }
-{
-    give_layout(&view_written(bytes), output)
 }
 
 // Gives the layout of a descriptor.
@@ -141,16 +110,20 @@ fn give_layout(view: &SdView<'_>, output: &mut [u8]) -> Outcome
     }
 }
 
-// Reads a text into the buffer, as bytes that show its descriptor.
+// Reads a text into the buffer, and views there the descriptor that the text means.
 #[tactic(auto, unfolding(crate::specs::Calls::text_in))]
-fn read_text(text: &[u8], domain: Option<&Sid>, buf: &mut SdBuf) -> Result<(), CallFault>
-    ensures meant { MatchResult (text_in (option_copied domain.entry) text.now)
-        (λ d. (result ≡ Ok tt) × Shows buf.new d)
-        (λ fault. result ≡ Err fault) }
-    ensures form { OnOk result (IsWrittenForm buf.new) }
+fn read_text<'a>(
+    text: &[u8],
+    domain: Option<&Sid>,
+    buf: &'a mut SdBuf,
+) -> Result<SdView<'a>, CallFault>
+    ensures { result ≡ text_in (option_copied domain.entry) text.now }
 {
     if text.len() > MOST_SDDL_TEXT {
-        return Err(CallFault::TooLong);
+        return Err(CallFault::Line(LineFault::TooLong));
     }
-    read_sddl(text, domain, buf).map_err(CallFault::Sddl)
+    match read_sddl(text, domain, buf) {
+        Ok(()) => Ok(view_written(buf.bytes())),
+        Err(fault) => Err(CallFault::Line(LineFault::Sddl(fault))),
+    }
 }

@@ -2,11 +2,12 @@
 
 ghost use Rattle.std.specs.Prelude.{◌≡◌, MatchResult, Ok, Err};
 ghost use Rattle.sdtool_c.specs.Outcomes.{AnswersWithin};
-ghost use Rattle.sdtool_c.specs.Derivations.{creator_in, derivation, plan_in, target_in};
+ghost use Rattle.sdtool_c.specs.Derivations.{creator_in, derivation, plan_in, planned, target_in};
 
 use crate::input::{descriptor_in, mapping_in, sid_in};
 use crate::outcome::{CallFault, Outcome, failed, no_memory};
 use crate::output::give;
+use sd_answer::LineFault;
 use sd_buffer::SdBuf;
 use sd_inherit::{Plan, Target, derive};
 use sd_view::SdView;
@@ -30,31 +31,28 @@ pub extern "C" fn sdtool_derive(
     let Ok(mut buf) = SdBuf::new(alloc) else {
         return no_memory();
     };
-    match derive_in(parent, creator, owner, group, kind, mapping, &mut buf) {
+    let plan = match plan_in(kind, mapping, owner, group) {
+        Ok(plan) => plan,
+        Err(fault) => return failed(fault),
+    };
+    match derive_in(&plan, parent, creator, &mut buf) {
         Ok(()) => give(buf.bytes(), output),
         Err(fault) => failed(fault),
     }
 }
 
 // Builds the new descriptor in the buffer.
-#[tactic(auto, unfolding(crate::specs::Derivations::derivation))]
-fn derive_in(
-    parent: &[u8],
-    creator: &[u8],
-    owner: &[u8],
-    group: &[u8],
-    kind: u32,
-    mapping: u32,
-    buf: &mut SdBuf,
-) -> Result<(), CallFault>
-    ensures { MatchResult (derivation parent.now creator.now owner.now group.now kind mapping)
+#[tactic(auto, unfolding(crate::specs::Derivations::planned))]
+fn derive_in(plan: &Plan, parent: &[u8], creator: &[u8], buf: &mut SdBuf) -> Result<(), CallFault>
+    ensures { MatchResult (planned plan.now parent.now creator.now)
         (λ bytes. (result ≡ Ok tt) × (buf.new ≡ bytes))
         (λ fault. result ≡ Err fault) }
 {
-    let plan = plan_in(kind, mapping, owner, group)?;
     let creator = creator_in(creator)?;
     let parent = descriptor_in(parent)?;
-    derive(&parent, creator.as_ref(), &plan, buf).map_err(CallFault::Derive)
+    derive(&parent, creator.as_ref(), plan, buf).map_err(|fault| CallFault::Line(LineFault::Derive(
+        fault,
+    )))
 }
 
 #[tactic(auto, unfolding(crate::specs::Derivations::plan_in))]

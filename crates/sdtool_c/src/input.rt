@@ -4,6 +4,7 @@ ghost use Rattle.std.specs.Prelude.{◌≡◌};
 ghost use Rattle.sdtool_c.specs.Calls.{descriptor_in, domain_in, mapping_in, sid_in};
 
 use crate::outcome::CallFault;
+use sd_answer::LineFault;
 use sd_control::CAPACITY;
 use sd_rights::Mapping;
 use sd_sid::Sid;
@@ -27,8 +28,7 @@ pub fn domain_in(bytes: &[u8]) -> Result<Option<Sid>, CallFault>
     if bytes.is_empty() {
         return Ok(None);
     }
-    let sid = sid_in(bytes)?;
-    Ok(Some(sid))
+    sid_in(bytes).map(Some)
 }
 
 /// The kind of object whose generic rights are meant, by its number.
@@ -49,7 +49,7 @@ pub fn descriptor_in(bytes: &[u8]) -> Result<SdView<'_>, CallFault>
     ensures { result ≡ descriptor_in bytes.now }
 {
     if bytes.len() > CAPACITY {
-        return Err(CallFault::TooLong);
+        return Err(CallFault::Line(LineFault::TooLong));
     }
-    read(bytes).map_err(CallFault::Sd)
+    read(bytes).map_err(|fault| CallFault::Line(LineFault::Sd(fault)))
 }

@@ -3,12 +3,9 @@
 ghost use Rattle.std.specs.Prelude.{◌≡◌};
 ghost use Rattle.sdtool_c.specs.Outcomes.{done, failed, named_parts, no_memory, number, part_number, too_small};
 
+use sd_answer::LineFault;
 use sd_check::AskFault;
-use sd_control::Which;
-use sd_inherit::DeriveFault;
-use sd_sddl_reader::SddlFault;
-use sd_sid::SidFault;
-use sd_view::{Part, SdFault};
+use sd_view::Part;
 
 /// The output has too little room.
 const TOO_SMALL: u32 = 71;
@@ -32,14 +29,8 @@ pub struct Outcome {
 /// Why a call has no answer, apart from a small output or refused memory.
 #[derive(Clone, Copy)]
 pub enum CallFault {
-    /// 1: there are more bytes than any descriptor or its text has.
-    TooLong,
-    /// 5 to 14: the bytes show no descriptor.
-    Sd(SdFault),
-    /// 20 to 30: the text is no SDDL.
-    Sddl(SddlFault),
-    /// 40: an ACL of the new descriptor would be too large.
-    Derive(DeriveFault),
+    /// 1 to 40: the program's `error` line would say the same.
+    Line(LineFault),
     /// 50 and 51: nothing can be asked.
     Ask(AskFault),
     /// 70: an argument beside the text or the descriptor is none that the call takes.
@@ -99,29 +90,7 @@ fn number(fault: CallFault) -> u32
     ensures { result ≡ number fault }
 {
     match fault {
-        CallFault::TooLong => 1,
-        CallFault::Sd(SdFault::Short) => 5,
-        CallFault::Sd(SdFault::Revision) => 6,
-        CallFault::Sd(SdFault::NotSelfRelative) => 7,
-        CallFault::Sd(SdFault::Offset(_)) => 8,
-        CallFault::Sd(SdFault::Sid(_)) => 9,
-        CallFault::Sd(SdFault::Acl(_)) => 10,
-        CallFault::Sd(SdFault::AceSize(_)) => 11,
-        CallFault::Sd(SdFault::AceType(_)) => 12,
-        CallFault::Sd(SdFault::AceFlags(_)) => 13,
-        CallFault::Sd(SdFault::Overlap(_, _)) => 14,
-        CallFault::Sddl(SddlFault::Shape) => 20,
-        CallFault::Sddl(SddlFault::PartTwice) => 21,
-        CallFault::Sddl(SddlFault::Sid(SidFault::Alias)) => 22,
-        CallFault::Sddl(SddlFault::Sid(SidFault::NeedsDomain)) => 23,
-        CallFault::Sddl(SddlFault::Sid(SidFault::Number)) => 24,
-        CallFault::Sddl(SddlFault::Sid(SidFault::SidForm)) => 25,
-        CallFault::Sddl(SddlFault::Flags) => 26,
-        CallFault::Sddl(SddlFault::Rights) => 27,
-        CallFault::Sddl(SddlFault::Guid) => 28,
-        CallFault::Sddl(SddlFault::Kind) => 29,
-        CallFault::Sddl(SddlFault::AclTooLarge(_)) => 30,
-        CallFault::Derive(DeriveFault::DerivedTooLarge(_)) => 40,
+        CallFault::Line(fault) => fault.number(),
         CallFault::Ask(AskFault::EmptyRequest) => 50,
         CallFault::Ask(AskFault::ReservedBits) => 51,
         CallFault::Argument => 70,
@@ -132,18 +101,8 @@ fn named_parts(fault: CallFault) -> (Option<Part>, Option<Part>)
     ensures { result ≡ named_parts fault }
 {
     match fault {
-        CallFault::Sd(SdFault::Offset(part)) => (Some(part), None),
-        CallFault::Sd(SdFault::Sid(part)) => (Some(part), None),
-        CallFault::Sd(SdFault::Acl(part)) => (Some(part), None),
-        CallFault::Sd(SdFault::AceSize(part)) => (Some(part), None),
-        CallFault::Sd(SdFault::AceType(part)) => (Some(part), None),
-        CallFault::Sd(SdFault::AceFlags(part)) => (Some(part), None),
-        CallFault::Sd(SdFault::Overlap(first, second)) => (Some(first), Some(second)),
-        CallFault::Sddl(SddlFault::AclTooLarge(Which::Sacl)) => (Some(Part::Sacl), None),
-        CallFault::Sddl(SddlFault::AclTooLarge(Which::Dacl)) => (Some(Part::Dacl), None),
-        CallFault::Derive(DeriveFault::DerivedTooLarge(Which::Sacl)) => (Some(Part::Sacl), None),
-        CallFault::Derive(DeriveFault::DerivedTooLarge(Which::Dacl)) => (Some(Part::Dacl), None),
-        _ => (None, None),
+        CallFault::Line(fault) => fault.named_parts(),
+        CallFault::Ask(_) | CallFault::Argument => (None, None),
     }
 }
 
