@@ -3,6 +3,7 @@
 ghost use Rattle.std.specs.Prelude.{◌≡◌, ◌<◌, ◌≤◌, ◌^◌, length, take, true, IfSome, Some};
 ghost use Rattle.std.specs.Char.{is_digit};
 ghost use Rattle.std.specs.List.{list_all};
+ghost use Rattle.sd_text.specs.LimitValues.{LimitValues};
 ghost use Rattle.sd_text.specs.Numbers.{number, number_after};
 
 /// The digits that a decimal number has at most.
@@ -16,6 +17,7 @@ const NINE: u64 = b'9' as u64;
 const BLOCK: usize = 8;
 
 /// The number that the text writes, if each byte is a digit and the number is below the limit. No digits write 0.
+#[tactic(auto, unfolding(crate::specs::LimitValues::LimitValues))]
 pub fn read_number(base: u32, limit: u64, text: &[u8]) -> Option<u64>
     requires low { 2 ≤ base }
     requires high { base ≤ 16 }
@@ -23,6 +25,8 @@ pub fn read_number(base: u32, limit: u64, text: &[u8]) -> Option<u64>
     requires some { 0 < limit }
     ensures value { result ≡ number base limit text.now }
     ensures limit { IfSome result (λ n. n < limit) }
+    // The limits of texts have the values that LimitValues writes out.
+    ensures values { LimitValues }
 {
     let mut number: u64 = 0;
     for byte in text {

@@ -46,11 +46,15 @@ mapping_in number =
 
 -- what some bytes show; as in the program, more bytes than a descriptor ever has are too long
 unfoldable pub descriptor_in : List ℕ → Result Descriptor CallFault
-descriptor_in bytes = if nat_lt CAPACITY (length bytes) then Err (Line line.TooLong) else fault_as (λ fault. Line (line.Sd fault)) (reading bytes)
+descriptor_in bytes =
+    if nat_lt CAPACITY (length bytes) then Err (Line line.TooLong)
+    else fault_as (λ fault. Line (line.Sd fault)) (reading bytes)
 
 -- what a text means
 unfoldable pub text_in : Option SecurityId → List ℕ → Result Descriptor CallFault
-text_in domain text = if nat_lt most_sddl_text (length text) then Err (Line line.TooLong) else fault_as (λ fault. Line (line.Sddl fault)) (means text domain)
+text_in domain text =
+    if nat_lt most_sddl_text (length text) then Err (Line line.TooLong)
+    else fault_as (λ fault. Line (line.Sddl fault)) (means text domain)
 
 -- a text of a descriptor
 abbrev pub text_of : Text → Named → List ℕ
