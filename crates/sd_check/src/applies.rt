@@ -18,9 +18,7 @@ pub fn applies(ace: &AceView, view: &SdView, token: &mut Token, ask: &Ask) -> bo
     ensures value { result ≡ applies ace.now view.now token.old.holder.entries ask.now }
     ensures asks { Asks token.old token.new 1 }
 {
-    is_effective(ace)
-        && is_for(ace.object(), ask.object())
-        && meets_subject(ace, view, token, ask)
+    is_effective(ace) && is_for(ace.object(), ask.object()) && meets_subject(ace, view, token, ask)
 }
 
 // Whether an entry of the token meets whom the ACE's SID means. One replacement is made.

@@ -13,7 +13,7 @@ returns-clause-size c =
     let sid = sid_of (drop (sid_offset_in extent) extent) in
     let begins = subst (λ (xs : List ℕ). BeginsWithSid xs (sid_of xs)) place c.in-Some.ensures.found.0 in
     let size : c.in-Some.size ≡ sid_size sid = c.in-Some.ensures.found.1
-        ∙ ap (λ (xs : List ℕ). sid_size (sid_of xs)) place in
+    ∙ ap (λ (xs : List ℕ). sid_size (sid_of xs)) place in
     let whole = sid-room (sid_offset_in extent) extent sid begins in (
       ap (λ (k : ℕ). k + c.in-Some.size) front ∙ read-size extent c.in-Some.size size,
       omega (arith, whole, size, front),

@@ -29,8 +29,15 @@ returns-in-AclFlags c =
               (read-ok s.fault _ t e.0 _ e.2 none)
               (rw (c.in-AclFlags.is) at (k.fits (none-before s.fault _ t e.0 _ e.2 none))));
         },
-        λ rest. rw (sound, twice, seen, c.in-AclFlags.is, e.2, c.end_field.ensures.cleared,
-            c.end_field.ensures.domain)
+        λ rest. rw (
+          sound,
+          twice,
+          seen,
+          c.in-AclFlags.is,
+          e.2,
+          c.end_field.ensures.cleared,
+          c.end_field.ensures.domain,
+        )
             (open_first s.fields.domain s.sound s.twice s.seen (unless s.fault t) s.field rest c.in-AclFlags.which
             c.requires.ready.calm.held),
       ));

@@ -23,8 +23,16 @@ returns-in-Sid c =
               (read-ok s.fault _ t e.0 _ e.2 none) (λ h. refl)
               (rw (c.requires.here) at (k.fits (none-before s.fault _ t e.0 _ e.2 none))));
         },
-        λ rest. rw (sound, twice, seen, c.requires.here, e.2, c.end_field.ensures.cleared, c.in-Sid.is,
-            c.end_field.ensures.domain)
+        λ rest. rw (
+          sound,
+          twice,
+          seen,
+          c.requires.here,
+          e.2,
+          c.end_field.ensures.cleared,
+          c.in-Sid.is,
+          c.end_field.ensures.domain,
+        )
             (close_last s.fields.domain s.sound s.twice s.seen (unless s.fault t) s.field rest),
       ));
       calm = record {

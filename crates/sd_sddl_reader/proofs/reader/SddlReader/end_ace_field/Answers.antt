@@ -39,8 +39,16 @@ returns-in_default c =
               s.seen t e.0 _ (read-ok s.fault _ t e.0 _ e.2 none) (λ h. refl)
               (rw (c.requires.here) at (k.fits (none-before s.fault _ t e.0 _ e.2 none))));
         },
-        λ rest. rw (sound, twice, seen, c.requires.here, c.next_field.ensures, e.2, c.end_field.ensures.cleared,
-            c.end_field.ensures.domain)
+        λ rest. rw (
+          sound,
+          twice,
+          seen,
+          c.requires.here,
+          c.next_field.ensures,
+          e.2,
+          c.end_field.ensures.cleared,
+          c.end_field.ensures.domain,
+        )
             (cut s.fields.domain s.sound s.twice s.seen (unless s.fault t) s.field rest c.args.field
             (column_more c.args.field c.in_default.not-Sid)),
       ));

@@ -18,8 +18,8 @@ kept (Some x) t f e = refl
 
 pub returns-clause-read : goal.returns-clause-read
 returns-clause-read c = λ t k. elim c.if-is_none.branch [
-  then-is_none w ↦
-    let none = none_if c.args.self.now.fault w.if-is_none.ensures in
-    rw (w.self-is, w.buf-is, none) (w.take_held.ensures.read t (k none))
+  | then-is_none w ↦
+      let none = none_if c.args.self.now.fault w.if-is_none.ensures in
+      rw (w.self-is, w.buf-is, none) (w.take_held.ensures.read t (k none))
   | else-is_none w ↦ rw (w.self-is, w.buf-is) (t, k, kept c.args.self.now.fault t _ w.if-is_none.ensures)
 ]
