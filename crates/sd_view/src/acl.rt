@@ -1,17 +1,19 @@
 //! Access control lists read in place.
 
-ghost use Rattle.std.specs.Prelude.{◌≡◌, ◌≤◌, ◌<◌, ◌+◌, ◌^◌, length, take, drop, None, IfOk};
+ghost use Rattle.std.specs.Prelude.{◌≡◌, ◌≤◌, ◌<◌, ◌+◌, ◌^◌, length, take, drop, None, Some, IfOk};
+ghost use Rattle.std.specs.Prelude.{MatchResult, option_map};
 ghost use Rattle.std.specs.Iterator.{YieldsFirst, item_count};
 ghost use Rattle.sd_view.specs.Acl.{IsAcl, acl_size, has_object};
 ghost use Rattle.sd_view.specs.AclReading.{ace_fault, ace_of, acl_fault, acl_of, acl_at_front, aces_fault, aces_of};
 ghost use Rattle.sd_view.specs.Inner.ReadableAcl.{IsReadableAcl};
 ghost use Rattle.sd_view.specs.Bytes.{u16_at as u16_of};
 ghost use Rattle.sd_view.specs.Inner.Found.{FailsBy};
+ghost use Rattle.sd_view.specs.Reading.{fault_in};
 
 use crate::ace::{AceView, ace_view, check_ace};
 use crate::bytes::u16_at;
-use crate::fault::AclFault;
-use sd_control::{ACL_HEADER_SIZE, ACL_REVISION, ACL_REVISION_DS};
+use crate::fault::{AclFault, SdFault, fault_in};
+use sd_control::{ACL_HEADER_SIZE, ACL_REVISION, ACL_REVISION_DS, Part};
 use std::marker::Model;
 
 /// What the header of a written ACL needs besides the count: its size, and whether it has an object ACE.
@@ -165,6 +167,21 @@ fn split_ace(left: &[u8]) -> (AceView<'_>, &[u8])
 {
     let (extent, rest) = left.split_at(usize::from(u16_at(left, 2)));
     (ace_view(extent), rest)
+}
+
+/// The ACE at the front of what is left of an ACL (MS-DTYP 2.4.4), and what is left after it; or its first fault, as one of
+/// the part that the ACL is.
+pub fn front_ace(part: Part, left: &[u8]) -> Result<(AceView<'_>, &[u8]), SdFault>
+    ensures fault { MatchResult result (λ _. ace_fault left.now ≡ None)
+        (λ f. option_map (fault_in part) (ace_fault left.now) ≡ Some f) }
+    ensures ace { IfOk result (λ r. r.0 ≡ ace_of (take (u16_of 2 left.now) left.now)) }
+    ensures rest { IfOk result (λ r. r.1.now ≡ drop (u16_of 2 left.now) left.now) }
+    ensures size { IfOk result (λ r. length r.1.now + u16_of 2 left.now ≡ length left.now) }
+{
+    match check_ace(left) {
+        Ok(_) => Ok(split_ace(left)),
+        Err(fault) => Err(fault_in(part, fault)),
+    }
 }
 
 impl<'a> Iterator for Aces<'a> {

@@ -1,5 +1,8 @@
 //! Why bytes show no descriptor.
 
+ghost use Rattle.std.specs.Prelude.{◌≡◌};
+ghost use Rattle.sd_view.specs.Reading.{fault_in};
+
 use sd_control::Part;
 
 /// Why bytes show no descriptor: the first condition that holds. 5, 6 and 7 are looked at first; then 8
@@ -38,4 +41,17 @@ pub enum AclFault {
     AceType,
     AceFlags,
     Sid,
+}
+
+// An ACL's fault, in a part.
+pub(crate) fn fault_in(part: Part, fault: AclFault) -> SdFault
+    ensures { result ≡ fault_in part fault }
+{
+    match fault {
+        AclFault::Acl => SdFault::Acl(part),
+        AclFault::AceSize => SdFault::AceSize(part),
+        AclFault::AceType => SdFault::AceType(part),
+        AclFault::AceFlags => SdFault::AceFlags(part),
+        AclFault::Sid => SdFault::Sid(part),
+    }
 }

@@ -10,9 +10,9 @@ mod layout;
 mod view;
 
 pub use ace::AceView;
-pub use acl::{Aces, AclPart, AclView};
+pub use acl::{Aces, AclPart, AclView, front_ace};
 pub use acl_layout::acl_header;
 pub use fault::SdFault;
 pub use layout::{print_layout, put_layout};
 pub use sd_control::Part;
-pub use view::{SdView, read, view_written};
+pub use view::{Extent, SdView, read, read_extents, view_written};

@@ -1,13 +1,13 @@
 //! Descriptors read in place.
 
-ghost use Rattle.std.specs.Prelude.{◌≡◌, ◌≤◌, ◌<◌, ◌+◌, ◌*◌, ℕ, List, length, Ok, IfOk, OnOk, MatchResult};
+ghost use Rattle.std.specs.Prelude.{◌≡◌, ◌≤◌, ◌<◌, ◌+◌, ◌*◌, ℕ, List, length, Ok, Err, IfOk, OnOk, MatchResult};
 ghost use Rattle.sd_control.specs.Control.{AreControlBits};
 ghost use Rattle.sd_view.specs.Descriptor.{Descriptor, Shows, IsAclPart, IsDescriptor, acl_extent, extents_of};
 ghost use Rattle.sd_view.specs.Descriptor.{sid_extent};
 ghost use Rattle.sd_view.specs.Layout.{layout, sid_part, size};
 ghost use Rattle.sd_view.specs.WrittenForm.{AclIsWritten, IsWrittenForm};
 ghost use Rattle.sd_view.specs.Inner.Found.{FailsBy, shown_written, written_of};
-ghost use Rattle.sd_view.specs.Reading.{acl_part_fault, acl_shown, fault, fault_in, header_fault, overlap_fault};
+ghost use Rattle.sd_view.specs.Reading.{acl_part_fault, acl_shown, fault, header_fault, overlap_fault};
 ghost use Rattle.sd_view.specs.Reading.{overlaps_fault, parts_fault, reading, share_a_byte as share_of, shown};
 ghost use Rattle.sd_view.specs.Reading.{sid_fault, sid_shown};
 ghost use Rattle.sd_view.specs.Inner.Readable.{IsAclAt, IsSidAt};
@@ -15,7 +15,7 @@ ghost use Rattle.sd_control.specs.declared.limits.TheConstants.{HEADER_SIZE, MOS
 
 use crate::acl::{AclPart, Written, acl_view, check_acl};
 use crate::bytes::{u16_at, u32_at};
-use crate::fault::{AclFault, SdFault};
+use crate::fault::{SdFault, fault_in};
 use sd_control::{
     ACL_REVISION_DS, DACL_PRESENT, HEADER_SIZE, Part, Parts, SACL_PRESENT, SELF_RELATIVE, has_bit,
 };
@@ -80,6 +80,19 @@ pub fn read(bytes: &[u8]) -> Result<SdView<'_>, SdFault>
     Ok(SdView { bytes, acls })
 }
 
+/// The descriptor that the bytes show, as `read` reads it, and where its parts are.
+pub fn read_extents(bytes: &[u8]) -> Result<(SdView<'_>, Parts<Extent>), SdFault>
+    ensures view { MatchResult result (λ r. reading bytes.now ≡ Ok r.0) (λ f. reading bytes.now ≡ Err f) }
+    ensures extents { IfOk result (λ r. r.1 ≡ extents_of bytes.now r.0) }
+    ensures shows { IfOk result (λ r. Shows bytes.now r.0) }
+    ensures limits { IfOk result (λ r. IsDescriptor r.0) }
+{
+    match check_extents(bytes) {
+        Ok((extents, acls)) => Ok((SdView { bytes, acls }, extents)),
+        Err(fault) => Err(fault),
+    }
+}
+
 /// The descriptor that bytes in their written form show (MS-DTYP 2.4.6). Nothing is checked, and of each ACL only the
 /// header is read.
 pub fn view_written(bytes: &[u8]) -> SdView<'_>
@@ -129,6 +142,19 @@ fn check(bytes: &[u8]) -> Result<Acls, SdFault>
     let (extents, acls) = check_parts(bytes)?;
     check_overlaps(&extents)?;
     Ok(acls)
+}
+
+// The same as `check`, and where the parts are.
+#[tactic(auto, unfolding(crate::specs::Reading::fault))]
+fn check_extents(bytes: &[u8]) -> Result<(Parts<Extent>, Acls), SdFault>
+    ensures fault { FailsBy (fault bytes.now) result }
+    ensures extents { IfOk result (λ r. r.0 ≡ extents_of bytes.now (shown bytes.now)) }
+    ensures acls { IfOk result (λ r. r.1 ≡ shown_written (shown bytes.now)) }
+{
+    check_header(bytes)?;
+    let (extents, acls) = check_parts(bytes)?;
+    check_overlaps(&extents)?;
+    Ok((extents, acls))
 }
 
 // The first fault of the header.
@@ -222,19 +248,6 @@ fn check_acl_part(
             written,
         )),
         Err(fault) => Err(fault_in(part, fault)),
-    }
-}
-
-// An ACL's fault, in a part.
-fn fault_in(part: Part, fault: AclFault) -> SdFault
-    ensures { result ≡ fault_in part fault }
-{
-    match fault {
-        AclFault::Acl => SdFault::Acl(part),
-        AclFault::AceSize => SdFault::AceSize(part),
-        AclFault::AceType => SdFault::AceType(part),
-        AclFault::AceFlags => SdFault::AceFlags(part),
-        AclFault::Sid => SdFault::Sid(part),
     }
 }
 
