@@ -187,3 +187,226 @@ null_dacl_under_a_label : verdict (record (descriptor None acl.Null) {
 }) (record { entries = (everyone, Enabled) ∷ []; level = Some 8192 }) (asked 0 true) ≡ Granted 0x1200a9
 unfolding computed everyone ace descriptor files asked level_sid
 null_dacl_under_a_label = refl
+
+-- 8192, medium, where there is no label, and NW (MS-DTYP 2.4.4.13)
+
+below_medium : at_level [] 8191 ≡ Granted 0x1200a9
+unfolding computed everyone ace descriptor files asked at_level level_sid
+below_medium = refl
+
+medium : at_level [] 8192 ≡ Granted 0x1f01ff
+unfolding computed everyone ace descriptor files asked at_level level_sid
+medium = refl
+
+-- what is no label decides nothing: two numbers, none, another authority, an audit ACE
+
+two_numbers : at_level (ace kinds.Label 0 1 (record { authority = 16; subs = 12288 ∷ 0 ∷ [] }) ∷ []) 8192
+    ≡ Granted 0x1f01ff
+unfolding computed everyone ace descriptor files asked at_level level_sid
+two_numbers = refl
+
+no_number : at_level (ace kinds.Label 0 1 (record { authority = 16; subs = [] }) ∷ []) 8192 ≡ Granted 0x1f01ff
+unfolding computed everyone ace descriptor files asked at_level level_sid
+no_number = refl
+
+other_authority : at_level (ace kinds.Label 0 1 (record { authority = 15; subs = 12288 ∷ [] })
+    ∷ ace kinds.Label 0 1 (record { authority = 17; subs = 12288 ∷ [] }) ∷ []) 8192 ≡ Granted 0x1f01ff
+unfolding computed everyone ace descriptor files asked at_level level_sid
+other_authority = refl
+
+audit_of_a_level : at_level (ace kinds.Audit 0 1 (level_sid 12288) ∷ []) 8192 ≡ Granted 0x1f01ff
+unfolding computed everyone ace descriptor files asked at_level level_sid
+audit_of_a_level = refl
+
+-- the first label counts, whatever its other flags
+first_label : at_level (ace kinds.Label 0xd7 1 (level_sid 12288) ∷ ace kinds.Label 0 7 (level_sid 16384) ∷ []) 8192
+    ≡ Granted 0x1200a9
+unfolding computed everyone ace descriptor files asked at_level level_sid
+first_label = refl
+
+first_label_is_lower : at_level (ace kinds.Label 0 7 (level_sid 4096) ∷ ace kinds.Label 0 7 (level_sid 16384) ∷ [])
+    4096 ≡ Granted 0x1f01ff
+unfolding computed everyone ace descriptor files asked at_level level_sid
+first_label_is_lower = refl
+
+-- each bit of the policy by itself: no read up, no execute up; further bits of the mask say nothing
+
+no_read_up_alone : at_level (ace kinds.Label 0 2 (level_sid 12288) ∷ []) 8192 ≡ Granted 0x1201b6
+unfolding computed everyone ace descriptor files asked at_level level_sid
+no_read_up_alone = refl
+
+no_execute_up_alone : at_level (ace kinds.Label 0 4 (level_sid 12288) ∷ []) 8192 ≡ Granted 0x12019f
+unfolding computed everyone ace descriptor files asked at_level level_sid
+no_execute_up_alone = refl
+
+further_bits : at_level (ace kinds.Label 0 9 (level_sid 12288) ∷ []) 8192 ≡ Granted 0x1200a9
+unfolding computed everyone ace descriptor files asked at_level level_sid
+further_bits = refl
+
+one_level_below : at_level (ace kinds.Label 0 7 (level_sid 12288) ∷ []) 12287 ≡ Denied 0
+unfolding computed everyone ace descriptor files asked at_level level_sid
+one_level_below = refl
+
+-- what one asks of a descriptor, with the token of everyone
+
+of_everyone : Descriptor → Asked → Verdict
+of_everyone d ask = verdict d (held ((everyone, Enabled) ∷ [])) ask
+
+to_everyone : List AccessControlEntry → Asked → Verdict
+to_everyone aces ask = of_everyone (descriptor None (acl.List aces)) ask
+
+-- generic rights mean those of files, in an ACE and in what is asked
+
+generic_read_in_an_ace : to_everyone (ace kinds.Allow 0 0x80000000 everyone ∷ []) (asked 0 true) ≡ Granted 0x120089
+unfolding computed everyone ace descriptor files asked held of_everyone to_everyone
+generic_read_in_an_ace = refl
+
+generic_write_in_an_ace : to_everyone (ace kinds.Allow 0 0x40000000 everyone ∷ []) (asked 0 true) ≡ Granted 0x120116
+unfolding computed everyone ace descriptor files asked held of_everyone to_everyone
+generic_write_in_an_ace = refl
+
+generic_execute_in_an_ace : to_everyone (ace kinds.Allow 0 0x20000000 everyone ∷ []) (asked 0 true) ≡ Granted 0x1200a0
+unfolding computed everyone ace descriptor files asked held of_everyone to_everyone
+generic_execute_in_an_ace = refl
+
+generic_all_is_asked : to_everyone (ace kinds.Allow 0 0x1f01fe everyone ∷ []) (asked 0x10000000 false) ≡ Denied 0x1
+unfolding computed everyone ace descriptor files asked held of_everyone to_everyone
+generic_all_is_asked = refl
+
+-- the two privileges: right 24 by the one alone, WRITE_OWNER by the other, and nothing else by either
+
+privileged : Asked → Asked
+privileged ask = record ask { security = true; take_ownership = true }
+
+security_privilege : to_everyone [] (privileged (asked 0x1000000 false)) ≡ Granted 0x1000000
+unfolding computed everyone ace descriptor files asked held of_everyone to_everyone privileged
+security_privilege = refl
+
+security_is_no_maximum : of_everyone (descriptor None acl.Null) (privileged (asked 0 true)) ≡ Granted 0x1f01ff
+unfolding computed everyone descriptor files asked held of_everyone privileged
+security_is_no_maximum = refl
+
+take_ownership_privilege : to_everyone [] (privileged (asked 0 true)) ≡ Granted 0x80000
+unfolding computed everyone ace descriptor files asked held of_everyone to_everyone privileged
+take_ownership_privilege = refl
+
+no_other_right : to_everyone [] (privileged (asked 0x1f0000 false)) ≡ Denied 0x170000
+unfolding computed everyone ace descriptor files asked held of_everyone to_everyone privileged
+no_other_right = refl
+
+no_privilege : to_everyone (ace kinds.Allow 0 0x1f01ff administrators ∷ []) (asked 0x80000 false) ≡ Denied 0x80000
+unfolding computed everyone administrators ace descriptor files asked held of_everyone to_everyone
+no_privilege = refl
+
+-- right 24 in an ACE grants nothing
+system_security_in_an_ace : to_everyone (ace kinds.Allow 0 0x1000000 everyone ∷ []) (asked 0x1000000 false)
+    ≡ Denied 0x1000000
+unfolding computed everyone ace descriptor files asked held of_everyone to_everyone
+system_security_in_an_ace = refl
+
+-- the owner: deny-only is not enough; an audit ACE for OWNER RIGHTS takes nothing, and one of an object type does
+
+owner_is_deny_only : verdict (descriptor (Some user) (acl.List [])) (held ((user, DenyOnly) ∷ [])) (asked 0x20000 false)
+    ≡ Denied 0x20000
+unfolding computed user descriptor files asked held
+owner_is_deny_only = refl
+
+owner_has_no_more : verdict (descriptor (Some user) (acl.List [])) (held ((user, Enabled) ∷ [])) (asked 0xf0000 false)
+    ≡ Denied 0x90000
+unfolding computed user descriptor files asked held
+owner_has_no_more = refl
+
+audit_of_owner_rights : verdict (descriptor (Some user) (acl.List (ace kinds.Audit 0 0x20000 owner_rights ∷ [])))
+    (held ((user, Enabled) ∷ [])) (asked 0x60000 false) ≡ Granted 0x60000
+unfolding computed user ace descriptor files asked held
+audit_of_owner_rights = refl
+
+denied_owner_rights : verdict (descriptor (Some user) (acl.List (ace kinds.Deny 0 0x1 owner_rights ∷ [])))
+    (held ((user, Enabled) ∷ [])) (asked 0x60001 false) ≡ Denied 0x60001
+unfolding computed user ace descriptor files asked held
+denied_owner_rights = refl
+
+object_type : List ℕ
+object_type = 0xba ∷ 0x7a ∷ 0x96 ∷ 0xbf ∷ 0xe6 ∷ 0x0d ∷ 0xd0 ∷ 0x11 ∷ 0xa2 ∷ 0x85 ∷ 0 ∷ 0xaa ∷ 0 ∷ 0x30 ∷ 0x49 ∷ 0xe2 ∷ []
+
+-- an ACE of that type
+typed : AceKind → ℕ → SecurityId → AccessControlEntry
+typed kind mask sid = record (ace kind 0 mask sid) { object = Some object_type }
+
+object_of_owner_rights : verdict (descriptor (Some user)
+    (acl.List (typed kinds.ObjectAllow 0x100 owner_rights ∷ []))) (held ((user, Enabled) ∷ [])) (asked 0x20000 false)
+    ≡ Denied 0x20000
+unfolding computed user ace descriptor files asked held object_type typed
+object_of_owner_rights = refl
+
+-- without an owner, OWNER RIGHTS is nobody, also for a token that lists it
+nobodys_rights : verdict (descriptor None (acl.List (ace kinds.Allow 0 0x1 owner_rights ∷ [])))
+    (held ((owner_rights, Enabled) ∷ [])) (asked 0x1 false) ≡ Denied 0x1
+unfolding computed ace descriptor files asked held
+nobodys_rights = refl
+
+-- object types: of none, of the one that is asked for, and of another; the inherited one is not looked at
+
+of_type : Asked → Asked
+of_type ask = record ask { object = Some object_type }
+
+object_ace_without_a_type : to_everyone (ace kinds.ObjectAllow 0 0x100 everyone ∷ []) (asked 0x100 false) ≡ Granted 0x100
+unfolding computed everyone ace descriptor files asked held of_everyone to_everyone
+object_ace_without_a_type = refl
+
+type_is_not_asked : to_everyone (typed kinds.ObjectAllow 0x100 everyone ∷ []) (asked 0x100 false) ≡ Denied 0x100
+unfolding computed everyone ace descriptor files asked held of_everyone to_everyone object_type typed
+type_is_not_asked = refl
+
+type_is_asked : to_everyone (typed kinds.ObjectAllow 0x100 everyone ∷ []) (of_type (asked 0x100 false)) ≡ Granted 0x100
+unfolding computed everyone ace descriptor files asked held of_everyone to_everyone object_type typed of_type
+type_is_asked = refl
+
+type_is_denied : to_everyone (typed kinds.ObjectDeny 0x100 everyone ∷ ace kinds.Allow 0 0x1f01ff everyone ∷ [])
+    (of_type (asked 0x101 false)) ≡ Denied 0x100
+unfolding computed everyone ace descriptor files asked held of_everyone to_everyone object_type typed of_type
+type_is_denied = refl
+
+inherited_type : to_everyone
+    (record (ace kinds.ObjectAllow 0 0x100 everyone) { inherited = Some object_type } ∷ []) (asked 0x100 false)
+    ≡ Granted 0x100
+unfolding computed everyone ace descriptor files asked held of_everyone to_everyone object_type
+inherited_type = refl
+
+-- PRINCIPAL SELF is replaced once
+
+self_is_the_user : verdict (descriptor None (acl.List (ace kinds.Allow 0 0x1 principal_self ∷ [])))
+    (held ((user, Enabled) ∷ [])) (record (asked 0x1 false) { principal_self = Some user }) ≡ Granted 0x1
+unfolding computed user ace descriptor files asked held
+self_is_the_user = refl
+
+self_is_owner_rights : verdict (descriptor (Some user) (acl.List (ace kinds.Allow 0 0x1 principal_self ∷ [])))
+    (held ((user, Enabled) ∷ [])) (record (asked 0x1 false) { principal_self = Some owner_rights }) ≡ Denied 0x1
+unfolding computed user ace descriptor files asked held
+self_is_owner_rights = refl
+
+-- an ACE that is inherit-only does not apply; one with any other flag does
+
+inherit_only : to_everyone (ace kinds.Allow 0x8 0x1 everyone ∷ []) (asked 0x1 false) ≡ Denied 0x1
+unfolding computed everyone ace descriptor files asked held of_everyone to_everyone
+inherit_only = refl
+
+other_flags : to_everyone (ace kinds.Allow 0xd7 0x1 everyone ∷ []) (asked 0x1 false) ≡ Granted 0x1
+unfolding computed everyone ace descriptor files asked held of_everyone to_everyone
+other_flags = refl
+
+-- audit ACEs and labels of the DACL decide nothing
+no_access_kind : to_everyone (ace kinds.Audit 0 0x1 everyone ∷ ace kinds.ObjectAudit 0 0x1 everyone
+    ∷ ace kinds.Label 0 0x1 everyone ∷ []) (asked 0x1 false) ≡ Denied 0x1
+unfolding computed everyone ace descriptor files asked held of_everyone to_everyone
+no_access_kind = refl
+
+absent_dacl : of_everyone (descriptor None acl.Absent) (asked 0 true) ≡ Granted 0x1f01ff
+unfolding computed everyone descriptor files asked held of_everyone
+absent_dacl = refl
+
+second_reserved_bit : ask_fault 0x8000000 true ≡ Some ReservedBits
+second_reserved_bit = refl
+
+generic_all_is_not_reserved : ask_fault 0x10000000 false ≡ None
+generic_all_is_not_reserved = refl

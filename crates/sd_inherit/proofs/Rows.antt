@@ -1,6 +1,6 @@
 -- Worked rows, computed: the copies of single ACEs on files and containers, what is taken of a creator's ACEs, and what
 -- is derived around them.
-use Rattle.std.proofs.Common.{◌≡◌, ℕ, List, [], ◌∷◌, Some, None, refl}
+use Rattle.std.proofs.Common.{◌≡◌, ℕ, List, [], ◌∷◌, ◌++◌, Some, None, refl}
 use Rattle.sd_ace.specs.Ace.{AccessControlEntry}
 use Rattle.sd_rights.specs.Mapping.{mapped}
 use Rattle.sd_sid.specs.Sid.{SecurityId}
@@ -9,9 +9,12 @@ use Rattle.sd_kinds.specs.declared.kinds.AceKind.TheVariants as kinds
 use Rattle.sd_view.specs.Descriptor.{Descriptor}
 use Rattle.sd_view.specs.declared.acl.AclPart.{AclPart}
 use Rattle.sd_view.specs.declared.acl.AclPart.TheVariants as acl
+use Rattle.std.specs.Prelude.{replicate}
 use Rattle.sd_inherit.specs.Copies.{copies}
 use Rattle.sd_inherit.specs.Derived.{derive_fault, derived}
 use Rattle.sd_inherit.specs.Taken.{taken}
+use Rattle.sd_control.specs.declared.part.Which.TheVariants.{Dacl, Sacl}
+use Rattle.sd_inherit.specs.declared.derivation.DeriveFault.TheVariants.{DerivedTooLarge}
 use Rattle.sd_inherit.specs.declared.plan.Plan.{Plan}
 use Rattle.sd_inherit.specs.declared.plan.Target.{Target}
 use Rattle.sd_inherit.specs.declared.plan.Target.TheVariants.{File, Container}
@@ -289,3 +292,95 @@ container_takes_and_inherits : derived handing_on
     ∷ ace kinds.Allow 0x13 0x1f01ff system ∷ []))
 unfolding computed parent system handing_on creator made
 container_takes_and_inherits = refl
+
+-- a creator's null SACL stays null, and keeps P; beside it the DACL is inherited
+
+null_creators_sacl : derived handing_on (Some (creator 0x8010 acl.Null acl.Absent)) (plan File)
+    ≡ made 0x8414 acl.Null (acl.List (ace kinds.Allow 0x10 0x1f01ff system ∷ []))
+unfolding computed parent system handing_on creator made
+null_creators_sacl = refl
+
+protected_null_sacl : derived handing_on (Some (creator 0xa010 acl.Null acl.Absent)) (plan File)
+    ≡ made 0xa414 acl.Null (acl.List (ace kinds.Allow 0x10 0x1f01ff system ∷ []))
+unfolding computed parent system handing_on creator made
+protected_null_sacl = refl
+
+-- an empty DACL of the creator's is a list: what is inherited comes
+empty_creators_dacl : derived handing_on (Some (creator 0x8004 acl.Absent (acl.List []))) (plan File)
+    ≡ made 0x8404 acl.Absent (acl.List (ace kinds.Allow 0x10 0x1f01ff system ∷ []))
+unfolding computed parent system handing_on creator made
+empty_creators_dacl = refl
+
+-- P of the one ACL does not protect the other
+other_acl_is_protected : derived handing_on
+    (Some (creator 0xa014 (acl.List []) (acl.List (ace kinds.Allow 0x0 0x120089 users ∷ [])))) (plan File)
+    ≡ made 0xa414 (acl.List [])
+    (acl.List (ace kinds.Allow 0x0 0x120089 users ∷ ace kinds.Allow 0x10 0x1f01ff system ∷ []))
+unfolding computed parent system handing_on creator made
+other_acl_is_protected = refl
+
+-- each generic right by itself splits
+
+generic_write_splits : copies (plan Container) (ace kinds.Allow 0x2 0x4000_0000 users)
+    ≡ ace kinds.Allow 0x10 0x120116 users ∷ ace kinds.Allow 0x1a 0x4000_0000 users ∷ []
+unfolding computed
+generic_write_splits = refl
+
+generic_execute_splits : copies (plan Container) (ace kinds.Allow 0x2 0x2000_0000 users)
+    ≡ ace kinds.Allow 0x10 0x1200a0 users ∷ ace kinds.Allow 0x1a 0x2000_0000 users ∷ []
+unfolding computed
+generic_execute_splits = refl
+
+generic_all_splits : copies (plan Container) (ace kinds.Allow 0x3 0x1000_0000 users)
+    ≡ ace kinds.Allow 0x10 0x1f01ff users ∷ ace kinds.Allow 0x1b 0x1000_0000 users ∷ []
+unfolding computed
+generic_all_splits = refl
+
+-- the bits below the generic ones do not: 25 is MAXIMUM_ALLOWED
+no_generic_right : copies (plan Container) (ace kinds.Allow 0x2 0x0f00_0000 users)
+    ≡ ace kinds.Allow 0x12 0x0f00_0000 users ∷ []
+unfolding computed
+no_generic_right = refl
+
+-- OWNER RIGHTS, S-1-3-4, and CREATOR OWNER SERVER, S-1-3-2, are nobody's place
+no_creator : copies (plan Container) (ace kinds.Allow 0x2 0x1 (record { authority = 3; subs = 4 ∷ [] }))
+    ≡ ace kinds.Allow 0x12 0x1 (record { authority = 3; subs = 4 ∷ [] }) ∷ []
+unfolding computed
+no_creator = refl
+
+server : copies (plan Container) (ace kinds.Allow 0x2 0x1 (record { authority = 3; subs = 2 ∷ [] }))
+    ≡ ace kinds.Allow 0x12 0x1 (record { authority = 3; subs = 2 ∷ [] }) ∷ []
+unfolding computed
+server = refl
+
+-- an ACL of 65,532 bytes and one of 65,536
+
+-- a SID of fifteen sub-authorities: an ACE of it has 76 bytes
+longest : SecurityId
+longest = record { authority = 5; subs = 1 ∷ 2 ∷ 3 ∷ 4 ∷ 5 ∷ 6 ∷ 7 ∷ 8 ∷ 9 ∷ 10 ∷ 11 ∷ 12 ∷ 13 ∷ 14 ∷ 15 ∷ [] }
+
+-- a SID without any: 16 bytes
+shortest : SecurityId
+shortest = record { authority = 5; subs = [] }
+
+-- for files, which inherit as many bytes as there are
+for_files : SecurityId → AccessControlEntry
+for_files sid = ace kinds.Allow 0x1 0x1 sid
+
+-- 861 * 76 + 3 * 16 + 2 * 20 + 8
+fits : derive_fault (parent acl.Absent (acl.List (replicate 861 (for_files longest) ++ replicate 3 (for_files shortest)
+    ++ replicate 2 (for_files everyone)))) None (plan File) ≡ None
+unfolding computed parent longest shortest for_files
+fits = refl
+
+-- 862 * 76 + 16 + 8
+too_large : derive_fault (parent acl.Absent (acl.List (replicate 862 (for_files longest) ++ for_files shortest ∷ [])))
+    None (plan File) ≡ Some (DerivedTooLarge Dacl)
+unfolding computed parent longest shortest for_files
+too_large = refl
+
+-- the SACL is looked at first
+both_too_large : derive_fault (parent (acl.List (replicate 863 (for_files longest)))
+    (acl.List (replicate 863 (for_files longest)))) None (plan File) ≡ Some (DerivedTooLarge Sacl)
+unfolding computed parent longest shortest for_files
+both_too_large = refl

@@ -1,14 +1,19 @@
--- Worked texts, computed: flags and access rights.
-use Rattle.std.proofs.Common.{◌≡◌, [], Some, None, codes, refl}
+-- Worked texts, computed: flags and access rights, each name, and what generic rights stand for.
+use Rattle.std.proofs.Common.{◌≡◌, ℕ, ◌^◌, List, [], ◌∷◌, Some, None, codes, refl}
+use Rattle.std.specs.Prelude.{map}
 use Rattle.std.specs.Fmt.{digits}
 use Rattle.sd_text.specs.Names.{run_of}
 use Rattle.sd_kinds.specs.Flags.{flags_reads, flags_text}
+use Rattle.sd_rights.specs.AccessRights.{first_reserved, generic_all, generic_execute, generic_read, generic_write}
+use Rattle.sd_rights.specs.AccessRights.{maximum_allowed, read_control, second_reserved, system_security, write_dac}
+use Rattle.sd_rights.specs.AccessRights.{write_owner}
+use Rattle.sd_rights.specs.Mapping.{GenericMapping, directory_mapping, file_mapping, key_mapping, mapped}
 use Rattle.sd_rights.specs.Rights.{rights_reads, rights_text}
 use Rattle.sd_kinds.specs.declared.kinds.AceKind.TheVariants as kinds
 
 -- `unfolding computed` lets `refl` compute a row
 computed : Unit {0}
-unfolding digits run_of flags_reads flags_text rights_reads rights_text
+unfolding digits run_of flags_reads flags_text rights_reads rights_text mapped
 computed = tt
 
 -- 1. Flags.
@@ -98,3 +103,63 @@ hex_without_digits = refl
 mixed_rights : rights_reads (codes "GA1") ≡ None
 unfolding computed
 mixed_rights = refl
+
+-- 3. Each name with its number (MS-DTYP 2.4.3, 2.5.1.1).
+
+every_name : map rights_reads
+    (codes "CC" ∷ codes "DC" ∷ codes "LC" ∷ codes "SW" ∷ codes "RP" ∷ codes "WP" ∷ codes "DT" ∷ codes "LO"
+    ∷ codes "CR" ∷ codes "SD" ∷ codes "RC" ∷ codes "WD" ∷ codes "WO" ∷ codes "GA" ∷ codes "GX" ∷ codes "GW"
+    ∷ codes "GR" ∷ codes "FA" ∷ codes "FR" ∷ codes "FW" ∷ codes "FX" ∷ codes "KA" ∷ codes "KR" ∷ codes "KW"
+    ∷ codes "KX" ∷ codes "NW" ∷ codes "NR" ∷ codes "NX" ∷ [])
+    ≡ Some 0x1 ∷ Some 0x2 ∷ Some 0x4 ∷ Some 0x8 ∷ Some 0x10 ∷ Some 0x20 ∷ Some 0x40 ∷ Some 0x80 ∷ Some 0x100
+    ∷ Some 0x10000 ∷ Some 0x20000 ∷ Some 0x40000 ∷ Some 0x80000 ∷ Some 0x10000000 ∷ Some 0x20000000
+    ∷ Some 0x40000000 ∷ Some 0x80000000 ∷ Some 0x1f01ff ∷ Some 0x120089 ∷ Some 0x120116 ∷ Some 0x1200a0
+    ∷ Some 0xf003f ∷ Some 0x20019 ∷ Some 0x20006 ∷ Some 0x20019 ∷ Some 0x1 ∷ Some 0x2 ∷ Some 0x4 ∷ []
+unfolding computed
+every_name = refl
+
+single_names : map (rights_text kinds.Allow)
+    (0x1 ∷ 0x2 ∷ 0x4 ∷ 0x8 ∷ 0x10 ∷ 0x20 ∷ 0x40 ∷ 0x80 ∷ 0x100 ∷ 0x10000 ∷ 0x20000 ∷ 0x40000 ∷ 0x80000
+    ∷ 0x10000000 ∷ 0x20000000 ∷ 0x40000000 ∷ 0x80000000 ∷ [])
+    ≡ codes "CC" ∷ codes "DC" ∷ codes "LC" ∷ codes "SW" ∷ codes "RP" ∷ codes "WP" ∷ codes "DT" ∷ codes "LO"
+    ∷ codes "CR" ∷ codes "SD" ∷ codes "RC" ∷ codes "WD" ∷ codes "WO" ∷ codes "GA" ∷ codes "GX" ∷ codes "GW"
+    ∷ codes "GR" ∷ []
+unfolding computed
+single_names = refl
+
+compound_names : map (rights_text kinds.ObjectDeny)
+    (0x1f01ff ∷ 0x120089 ∷ 0x120116 ∷ 0x1200a0 ∷ 0xf003f ∷ 0x20019 ∷ 0x20006 ∷ [])
+    ≡ codes "FA" ∷ codes "FR" ∷ codes "FW" ∷ codes "FX" ∷ codes "KA" ∷ codes "KR" ∷ codes "KW" ∷ []
+unfolding computed
+compound_names = refl
+
+label_names : map (rights_text kinds.Label)
+    (0 ∷ 1 ∷ 2 ∷ 3 ∷ 4 ∷ 5 ∷ 6 ∷ 8 ∷ [])
+    ≡ codes "0x0" ∷ codes "NW" ∷ codes "NR" ∷ codes "NWNR" ∷ codes "NX" ∷ codes "NWNX" ∷ codes "NRNX"
+    ∷ codes "0x8" ∷ []
+unfolding computed
+label_names = refl
+
+-- 4. The places of rights, and what generic rights stand for (2.4.3, and the mappings of files, keys and directories).
+
+places : map (λ right. 2 ^ right) (read_control ∷ write_dac ∷ write_owner ∷ system_security ∷ maximum_allowed
+    ∷ first_reserved ∷ second_reserved ∷ generic_all ∷ generic_execute ∷ generic_write ∷ generic_read ∷ [])
+    ≡ 0x20000 ∷ 0x40000 ∷ 0x80000 ∷ 0x1000000 ∷ 0x2000000 ∷ 0x4000000 ∷ 0x8000000 ∷ 0x10000000 ∷ 0x20000000
+    ∷ 0x40000000 ∷ 0x80000000 ∷ []
+places = refl
+
+-- read, write, execute, all, and none of them
+generic : GenericMapping → List ℕ
+generic m = map (mapped m) (0x80000000 ∷ 0x40000000 ∷ 0x20000000 ∷ 0x10000000 ∷ 0x0f0f0f0f ∷ [])
+
+of_files : generic file_mapping ≡ 0x120089 ∷ 0x120116 ∷ 0x1200a0 ∷ 0x1f01ff ∷ 0x0f0f0f0f ∷ []
+unfolding computed generic
+of_files = refl
+
+of_keys : generic key_mapping ≡ 0x20019 ∷ 0x20006 ∷ 0x20019 ∷ 0xf003f ∷ 0x0f0f0f0f ∷ []
+unfolding computed generic
+of_keys = refl
+
+of_directories : generic directory_mapping ≡ 0x20094 ∷ 0x20028 ∷ 0x20004 ∷ 0xf01ff ∷ 0x0f0f0f0f ∷ []
+unfolding computed generic
+of_directories = refl

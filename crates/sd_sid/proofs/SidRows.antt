@@ -1,7 +1,7 @@
 -- SIDs and texts that were worked out by hand.
-use Rattle.std.specs.Prelude.{◌≡◌, ℕ, List, [], ◌∷◌, Some, None, Ok, Err, codes, refl}
+use Rattle.std.specs.Prelude.{◌≡◌, ℕ, List, [], ◌∷◌, Some, None, Ok, Err, codes, map, refl}
 use Rattle.std.specs.Fmt.{digits}
-use Rattle.sd_sid.specs.Sid.{SecurityId}
+use Rattle.sd_sid.specs.Sid.{SecurityId, sid_at, sid_bytes}
 use Rattle.sd_sid.specs.SidText.{sid_text, alias_of, sid_reads, letters_read, has_form, numbers_read}
 use Rattle.sd_sid.specs.declared.sid_text.SidFault.TheVariants as faults
 
@@ -111,3 +111,74 @@ sixteen_subs = refl
 empty_text : sid_reads [] None ≡ Err faults.SidForm
 unfolding sid_reads has_form numbers_read
 empty_text = refl
+
+-- Each alias with its SID (MS-DTYP 2.4.2.4, 2.5.1.1), in both directions.
+
+known_names : List (List ℕ)
+known_names =
+    codes "WD" ∷ codes "CO" ∷ codes "CG" ∷ codes "OW" ∷ codes "NU" ∷ codes "IU" ∷ codes "SU" ∷ codes "AN"
+    ∷ codes "ED" ∷ codes "PS" ∷ codes "AU" ∷ codes "RC" ∷ codes "SY" ∷ codes "LS" ∷ codes "NS" ∷ codes "WR"
+    ∷ codes "UD" ∷ codes "BA" ∷ codes "BU" ∷ codes "BG" ∷ codes "PU" ∷ codes "AO" ∷ codes "SO" ∷ codes "PO"
+    ∷ codes "BO" ∷ codes "RE" ∷ codes "RU" ∷ codes "RD" ∷ codes "NO" ∷ codes "MU" ∷ codes "LU" ∷ codes "IS"
+    ∷ codes "CY" ∷ codes "ER" ∷ codes "CD" ∷ codes "RA" ∷ codes "ES" ∷ codes "MS" ∷ codes "HA" ∷ codes "AA"
+    ∷ codes "RM" ∷ codes "AC" ∷ codes "LW" ∷ codes "ME" ∷ codes "MP" ∷ codes "HI" ∷ codes "SI" ∷ codes "AS"
+    ∷ codes "SS" ∷ []
+
+known_sids : List SecurityId
+known_sids =
+    sid 1 (0 ∷ []) ∷ sid 3 (0 ∷ []) ∷ sid 3 (1 ∷ []) ∷ sid 3 (4 ∷ []) ∷ sid 5 (2 ∷ []) ∷ sid 5 (4 ∷ [])
+    ∷ sid 5 (6 ∷ []) ∷ sid 5 (7 ∷ []) ∷ sid 5 (9 ∷ []) ∷ sid 5 (10 ∷ []) ∷ sid 5 (11 ∷ []) ∷ sid 5 (12 ∷ [])
+    ∷ sid 5 (18 ∷ []) ∷ sid 5 (19 ∷ []) ∷ sid 5 (20 ∷ []) ∷ sid 5 (33 ∷ [])
+    ∷ sid 5 (84 ∷ 0 ∷ 0 ∷ 0 ∷ 0 ∷ 0 ∷ []) ∷ sid 5 (32 ∷ 544 ∷ []) ∷ sid 5 (32 ∷ 545 ∷ [])
+    ∷ sid 5 (32 ∷ 546 ∷ []) ∷ sid 5 (32 ∷ 547 ∷ []) ∷ sid 5 (32 ∷ 548 ∷ []) ∷ sid 5 (32 ∷ 549 ∷ [])
+    ∷ sid 5 (32 ∷ 550 ∷ []) ∷ sid 5 (32 ∷ 551 ∷ []) ∷ sid 5 (32 ∷ 552 ∷ []) ∷ sid 5 (32 ∷ 554 ∷ [])
+    ∷ sid 5 (32 ∷ 555 ∷ []) ∷ sid 5 (32 ∷ 556 ∷ []) ∷ sid 5 (32 ∷ 558 ∷ []) ∷ sid 5 (32 ∷ 559 ∷ [])
+    ∷ sid 5 (32 ∷ 568 ∷ []) ∷ sid 5 (32 ∷ 569 ∷ []) ∷ sid 5 (32 ∷ 573 ∷ []) ∷ sid 5 (32 ∷ 574 ∷ [])
+    ∷ sid 5 (32 ∷ 575 ∷ []) ∷ sid 5 (32 ∷ 576 ∷ []) ∷ sid 5 (32 ∷ 577 ∷ []) ∷ sid 5 (32 ∷ 578 ∷ [])
+    ∷ sid 5 (32 ∷ 579 ∷ []) ∷ sid 5 (32 ∷ 580 ∷ []) ∷ sid 15 (2 ∷ 1 ∷ []) ∷ sid 16 (4096 ∷ [])
+    ∷ sid 16 (8192 ∷ []) ∷ sid 16 (8448 ∷ []) ∷ sid 16 (12288 ∷ []) ∷ sid 16 (16384 ∷ []) ∷ sid 18 (1 ∷ [])
+    ∷ sid 18 (2 ∷ []) ∷ []
+
+names_read : map (λ name. sid_reads name None) known_names ≡ map Ok known_sids
+unfolding sid_reads letters_read known_names known_sids
+names_read = refl
+
+sids_named : map (λ s. alias_of s None) known_sids ≡ map Some known_names
+unfolding alias_of known_names known_sids
+sids_named = refl
+
+relative_names : List (List ℕ)
+relative_names =
+    codes "RO" ∷ codes "LA" ∷ codes "LG" ∷ codes "DA" ∷ codes "DU" ∷ codes "DG" ∷ codes "DC" ∷ codes "DD"
+    ∷ codes "CA" ∷ codes "SA" ∷ codes "EA" ∷ codes "PA" ∷ codes "CN" ∷ codes "AP" ∷ codes "KA" ∷ codes "EK"
+    ∷ codes "RS" ∷ []
+
+relative_sids : List SecurityId
+relative_sids =
+    map (λ last. sid 5 (21 ∷ 1 ∷ 2 ∷ 3 ∷ last ∷ []))
+    (498 ∷ 500 ∷ 501 ∷ 512 ∷ 513 ∷ 514 ∷ 515 ∷ 516 ∷ 517 ∷ 518 ∷ 519 ∷ 520 ∷ 522 ∷ 525 ∷ 526 ∷ 527 ∷ 553 ∷ [])
+
+relative_names_read : map (λ name. sid_reads name (Some domain)) relative_names ≡ map Ok relative_sids
+unfolding sid_reads letters_read relative_names relative_sids
+relative_names_read = refl
+
+relative_sids_named : map (λ s. alias_of s (Some domain)) relative_sids ≡ map Some relative_names
+unfolding alias_of relative_names relative_sids
+relative_sids_named = refl
+
+-- the bytes of S-1-5-32-544 (MS-DTYP 2.4.2.2)
+administrators_bytes : sid_bytes (sid 5 (32 ∷ 544 ∷ []))
+    ≡ 1 ∷ 2 ∷ 0 ∷ 0 ∷ 0 ∷ 0 ∷ 0 ∷ 5 ∷ 0x20 ∷ 0 ∷ 0 ∷ 0 ∷ 0x20 ∷ 2 ∷ 0 ∷ 0 ∷ []
+administrators_bytes = refl
+
+reads_bytes : sid_at (1 ∷ 1 ∷ 0 ∷ 0 ∷ 0 ∷ 0 ∷ 0 ∷ 5 ∷ 18 ∷ 0 ∷ 0 ∷ 0 ∷ 9 ∷ []) ≡ Some (sid 5 (18 ∷ []), 12)
+unfolding sid_at
+reads_bytes = refl
+
+other_revision_of_bytes : sid_at (2 ∷ 0 ∷ 0 ∷ 0 ∷ 0 ∷ 0 ∷ 0 ∷ 5 ∷ []) ≡ None
+unfolding sid_at
+other_revision_of_bytes = refl
+
+bytes_too_few : sid_at (1 ∷ 1 ∷ 0 ∷ 0 ∷ 0 ∷ 0 ∷ 0 ∷ 5 ∷ 18 ∷ 0 ∷ 0 ∷ []) ≡ None
+unfolding sid_at
+bytes_too_few = refl
