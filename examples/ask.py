@@ -1,25 +1,40 @@
 #!/usr/bin/env python3
-"""ask.py PROGRAM
+"""ask.py PROGRAM TOKEN
 
-Asks PROGRAM, which is sdtool, one line at a time whether Everyone may change anything, and prints each answer before
-it asks for the next one.
+Asks PROGRAM, which is sdtool, one line of SDDL at a time whether the token may change anything of that file or folder,
+and prints each answer before it asks for the next one: yes, no, or unknown and why.
 """
+import re
 import subprocess
 import sys
 
-CHANGES = 0xD0156  # each right that changes a file or a folder: --want would need all of them at once
-COMMAND = ["check", "--from", "sddl", "--token", "WD", "--maximum"]
-DESCRIPTORS = ["O:BAD:(A;;FR;;;WD)", "O:BAD:(A;;FR;;;WD)(A;;DCLCSDWDWO;;;WD)", "O:BAD:(A;;FA;;;Everyone)"]
+CHANGES = 0xD0156  # each right that changes something: --want would need all of them at once
 
 
-def said(answer):
-    verdict, _, mask = answer.strip().partition(" ")
-    if verdict == "granted":
-        return "yes" if int(mask, 16) & CHANGES else "no"
-    return "no" if verdict == "denied" else "unknown"
+def said(line, answer):
+    verdict, _, mask = answer.partition(" ")
+    if verdict == "error":
+        return f"unknown: {answer}"
+    if not line.strip():
+        return "unknown: no descriptor"
+    if re.search(rb"\(O[AD];", line, re.I):
+        return "unknown: an ACE is for an object type"  # it needs a question of its own, with --object
+    return {"granted": "yes" if int(mask, 16) & CHANGES else "no", "denied": "no"}[verdict]
 
 
-with subprocess.Popen([sys.argv[1], *COMMAND], stdin=subprocess.PIPE, stdout=subprocess.PIPE, text=True) as sdtool:
-    for descriptor in DESCRIPTORS:
-        print(descriptor, file=sdtool.stdin, flush=True)  # without the flush both sides would wait
-        print(descriptor, said(sdtool.stdout.readline()))
+def main():
+    command = [sys.argv[1], "check", "--from", "sddl", "--token", sys.argv[2], "--maximum"]
+    with subprocess.Popen(command, stdin=subprocess.PIPE, stdout=subprocess.PIPE) as sdtool:
+        for line in sys.stdin.buffer:
+            line = line.rstrip(b"\r\n")  # a line that keeps its end would be two
+            sdtool.stdin.write(line + b"\n")
+            sdtool.stdin.flush()  # without this both sides would wait
+            answer = sdtool.stdout.readline().decode()
+            if not answer:
+                return 2  # sdtool has said why
+            print(said(line, answer.strip()), flush=True)
+    return 0
+
+
+if __name__ == "__main__":
+    sys.exit(main())

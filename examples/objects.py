@@ -86,7 +86,7 @@ def table_of(text, columns):
     if text.startswith(("#TYPE ", "sep=")):
         text = text.partition("\n")[2]
     for delimiter in columns.delimiter or DELIMITERS:
-        rows = csv.reader(io.StringIO(text, newline=""), delimiter=delimiter, strict=True)
+        rows = csv.reader(io.StringIO(text, newline="\n"), delimiter=delimiter, strict=True)
         try:
             table = [(rows.line_num, row) for row in rows]
         except csv.Error as error:
@@ -219,7 +219,7 @@ def from_reg(text, _columns):
         if re.fullmatch(r"\[.*\]", line, re.S):
             key = line[1:-1]
         elif found:
-            name = key + "\\" + re.sub(r"\\(.)", r"\1", found[1].strip('"'))
+            name = key + "\\" + re.sub(r"\\(.)", r"\1", found[1] if found[1] == "@" else found[1][1:-1])
             is_bytes = re.fullmatch(r"hex:[0-9A-Fa-f,]*", found[2])
             digits = found[2][len("hex:"):].replace(",", "")
             yield Object(name, digits, "hex") if is_bytes else Object(name, reason="its value is no bytes")
@@ -227,14 +227,22 @@ def from_reg(text, _columns):
             raise Unread(f"this is no line of a registry export: {line[:60]!r}")
 
 
+OF_OBJECTS = ("[file security]", "[registry keys]", "[service general setting]")
+OF_SETTINGS = ("[unicode]", "[version]", "[profile description]", "[system access]", "[event audit]",
+               "[privilege rights]", "[registry values]", "[group membership]", "[kerberos policy]",
+               "[application log]", "[security log]", "[system log]", "[strings]")
+
+
 def from_inf(text, _columns):
     """The files, keys and services of a security template."""
-    section = ""
+    section = OF_SETTINGS[0]
     for line in lines_of(text):
         found = re.fullmatch(r'\s*"([^"]*)"\s*,\s*[0-9]\s*,\s*"([^"]*)"\s*', line)
         if line.startswith("["):
             section = line.strip().lower()
-        elif section in ("[file security]", "[registry keys]", "[service general setting]") and line.strip():
+            if section not in OF_OBJECTS + OF_SETTINGS:
+                raise Unread(f"the section {section} is not known")
+        elif section in OF_OBJECTS and line.strip():
             yield Object(found[1], found[2]) if found else Object(line, reason="its line is not understood")
 
 
@@ -272,7 +280,7 @@ def from_getfattr(text, _columns):
             found = found and (found.hex() if attribute == "system.ntfs_acl" else moved(found))
             yield Object(name, found, "hex") if found else Object(name, reason=f"no descriptor in {attribute}")
             name = None
-        elif line and not line.startswith("#"):
+        elif line and not line.startswith("#") and not re.match(r"(user|trusted|security|system)\.[^=]+=", line):
             raise Unread(f"line {number} is no line of getfattr -e hex")
 
 
@@ -284,9 +292,9 @@ def from_sds(data, _columns):
         at = start
         while at < start + block and at + head <= len(data):
             _, number, offset, size = struct.unpack_from("<IIQI", data, at)
-            if size < head:
+            if size < head and not any(data[at:start + block]):
                 break
-            if offset != at or at + size > len(data):
+            if size < head or offset != at or at + size > len(data):
                 raise Unread(f"the entry at byte {at} does not fit: the stream is damaged or cut")
             yield Object(f"security id {number}", data[at + head:at + size].hex(), "hex")
             at += size + 15 & ~15

@@ -75,6 +75,7 @@ if "${MAKE:-make}" --no-print-directory program; then
     count tests/refused_allocations.py "$program"
     count tests/tables.py "$program"
     count tests/run_examples.py "$program"
+    count tests/hostile_lists.py "$program"
     count tests/door_examples.py
     count tests/completions.py "$program"
     count tests/system_calls.py "$program"

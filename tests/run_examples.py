@@ -24,7 +24,7 @@ TOP = pathlib.Path(__file__).resolve().parent.parent
 # The documents, and the folder in which the commands of each are run: one that has a copy of examples/, or that copy.
 DOCUMENTS = {"README.md": ".", "docs/COOKBOOK.md": "examples", "docs/FORMAT.md": ".", "docs/SAMBA.md": ".",
              "docs/sdtool.1": "examples"}
-COMMAND = re.compile(r"\s*\$ .*\b(sdtool|who_may_write)\b")
+COMMAND = re.compile(r"\s*\$ .*\b(sdtool|who_may_write|\w+\.(py|sh))\b")
 OF_LIBRARY = re.compile(r"\bwho_may_write\b")  # c_examples.py runs these
 ESCAPES = {r"\-": "-", r"\(aq": "'", r"\(dq": '"', r"\(ha": "^", r"\(ti": "~", r"\(bs": "\\", r"\e": "\\", r"\&": ""}
 
