@@ -2,7 +2,7 @@
 """figures.py [--check]
 
 Rewrites the table of figures in docs/GATE.md, between its two marker comments, from the files of the crates, and in
-docs/DEFINITIONS.md how many lines of definitions there are to read. With --check it writes nothing: stale figures are
+docs/DEFINITIONS.md how many lines of definitions, models and traits there are to read. With --check it writes nothing: stale figures are
 a failure, and so is an edit of the gate that docs/GATE.md does not name, or names without there being one. The last
 line is then 'N passed, M failed'.
 """
@@ -24,6 +24,7 @@ ITEM = re.compile(r"\bfn\s+\w+")
 COMMENT = re.compile(r"//.*")
 ROW_OF_AN_EDIT = re.compile(r"^\| `(\w+)` \| `(\w+)` \|", re.M)
 OF_THE_LIBRARY = "sdtool_c"  # its definitions are counted apart
+OF_TESTS = {"sd_tests", "sd_run_tests"}
 # Files of definitions that only other definitions or contracts between crates cite; DEFINITIONS names them.
 BETWEEN_CRATES = {"Held.antt", "FieldFronts.antt"}
 SECOND_FORM = {"FoldedReading.antt"}
@@ -31,6 +32,10 @@ ALL = re.compile(r"(definitions of the program have )[\d,]+( lines, )[\d,]+( of 
 MORE = re.compile(r"(The library for C has )[\d,]+( more)")
 BETWEEN = re.compile(r"(`FieldFronts.antt` have )[\d,]+( more lines)")
 SECOND = re.compile(r"(`sd_sddl_reader/specs/FoldedReading.antt` has another )[\d,]+")
+IN_SOURCES = re.compile(r"(In `src`, )[\d,]+( more lines)")
+MODEL = re.compile(r"^ *ghost (?:Value|view) = \{.*?\};$", re.M | re.S)
+DEVICES = "sd_run/src/device.rt"
+TRAIT = re.compile(r"^pub trait \w+ \{$.*?^\}$", re.M | re.S)
 ROWS = re.compile(r"^\| Subject \| Crate and lines \|\n(?:\|.*\n)*", re.M)
 ROW_OF_A_CRATE = re.compile(r"`(\w+)` \d+(?:,\d{3})*")
 
@@ -77,6 +82,15 @@ def lines_of_definitions():
             yield path.parent.parent.name, path.name, len(lines), comments
 
 
+def lines_in_sources():
+    """How many lines of src a reader of the definitions needs: the models of types, and the traits of the devices."""
+    files = {path.relative_to(TOP / "crates").as_posix(): path.read_text(encoding="utf-8")
+             for path in sorted((TOP / "crates").glob("*/src/**/*.rt")) if path.parent.parent.name not in OF_TESTS}
+    items = [item for text in files.values() for item in MODEL.findall(text)] + TRAIT.findall(files[DEVICES])
+    lines = [line.strip() for item in items for line in item.splitlines()]
+    return sum(bool(line) and not line.startswith("//") for line in lines)
+
+
 def counted(document):
     """docs/DEFINITIONS.md with the figures of today."""
     files = list(lines_of_definitions())
@@ -93,6 +107,7 @@ def counted(document):
     document = MORE.sub(rf"\g<1>{lines(lambda crate, name: crate == OF_THE_LIBRARY)}\g<2>", document)
     document = BETWEEN.sub(rf"\g<1>{lines(lambda crate, name: name in BETWEEN_CRATES)}\g<2>", document)
     document = SECOND.sub(rf"\g<1>{lines(lambda crate, name: name in SECOND_FORM)}", document)
+    document = IN_SOURCES.sub(rf"\g<1>{lines_in_sources():,}\g<2>", document)
     return ROWS.sub(lambda table: ROW_OF_A_CRATE.sub(of_crate, table[0]), document)
 
 

@@ -14,7 +14,8 @@ sys.dont_write_bytecode = True
 import preload  # noqa: E402
 
 TOP = pathlib.Path(__file__).resolve().parent.parent
-DOCUMENTS = [f"docs/{name}.md" for name in ("ARCHITECTURE", "DECISIONS", "DEFINITIONS", "GATE", "PROVED")]
+DOCUMENTS = [*(f"docs/{name}.md" for name in ("ARCHITECTURE", "DECISIONS", "DEFINITIONS", "GATE", "PROVED")),
+             "bench/README.md"]
 OF_DEFINITIONS = "docs/DEFINITIONS.md"
 FOLDERS = ["crates", "tests", "packaging", "include", "python", "examples", "bench", "docs"]
 # What edits and kept work say is not what the sources say.
@@ -101,7 +102,7 @@ def main():
             else:
                 missing = [word for word in WORD.findall(span) if not is_known(word, words)]
                 count.add(not missing, f"{document}:{number}: nothing is named {', '.join(missing)}")
-    for document in [*TOP.glob("*.md"), *TOP.glob("docs/*.md")]:
+    for document in [*TOP.glob("*.md"), *TOP.glob("docs/*.md"), *TOP.glob("bench/*.md")]:
         judge_links(count, document)
     named = (TOP / OF_DEFINITIONS).read_text(encoding="utf-8")
     for path in filter(is_definitions, paths):
