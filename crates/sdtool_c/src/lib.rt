@@ -1,17 +1,8 @@
-//! The library that C programs call.
+//! The library that C programs call: one export for each call of its header, which the rooms answer.
 #![tactic(auto)]
 
-mod access;
+mod checks;
 mod conversions;
 mod derivations;
-mod fault_names;
-mod input;
-mod memory;
-mod outcome;
-mod output;
-mod printing;
-mod request;
-mod run;
-mod token;
-mod verdict;
-mod words;
+mod faults;
+mod runs;

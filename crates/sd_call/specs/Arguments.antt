@@ -1,0 +1,42 @@
+-- Arguments as the values that they spell.
+use Rattle.std.specs.Prelude.{ℕ, List, if◌then◌else◌, nat_eq, nat_lt, length, Option, Some, None, Result, Ok, Err}
+use Rattle.sd_text.specs.Chains.{fault_as}
+use Rattle.sd_control.specs.declared.limits.TheConstants.{CAPACITY}
+use Rattle.sd_rights.specs.Mapping.{GenericMapping, directory_mapping, file_mapping, key_mapping}
+use Rattle.sd_sid.specs.Sid.{SecurityId, sid_at}
+use Rattle.sd_view.specs.Descriptor.{Descriptor}
+use Rattle.sd_view.specs.Reading.{reading}
+use Rattle.sd_answer.specs.declared.fault.LineFault.TheVariants as line
+use Rattle.sd_call.specs.declared.outcome.CallFault.{CallFault}
+use Rattle.sd_call.specs.declared.outcome.CallFault.TheVariants.{Argument, Line}
+
+-- a SID that takes all of the bytes
+abbrev pub whole_sid : ℕ → Option (SecurityId × ℕ) → Result SecurityId CallFault
+whole_sid n None = Err Argument
+whole_sid n (Some found) = if nat_eq found.1 n then Ok found.0 else Err Argument
+
+-- the SID that an argument is
+abbrev pub sid_in : List ℕ → Result SecurityId CallFault
+sid_in bytes = whole_sid (length bytes) (sid_at bytes)
+
+abbrev pub some_sid : Result SecurityId CallFault → Result (Option SecurityId) CallFault
+some_sid (Ok sid) = Ok (Some sid)
+some_sid (Err fault) = Err fault
+
+-- the same, and none where the argument is empty
+unfoldable pub domain_in : List ℕ → Result (Option SecurityId) CallFault
+domain_in bytes = if nat_eq (length bytes) 0 then Ok None else some_sid (sid_in bytes)
+
+-- the kind of object whose generic rights are meant, by its number
+abbrev pub mapping_in : ℕ → Result GenericMapping CallFault
+mapping_in number =
+    if nat_eq number 0 then Ok file_mapping
+    else if nat_eq number 1 then Ok key_mapping
+    else if nat_eq number 2 then Ok directory_mapping
+    else Err Argument
+
+-- what some bytes show; as in the program, more bytes than a descriptor ever has are too long
+unfoldable pub descriptor_in : List ℕ → Result Descriptor CallFault
+descriptor_in bytes =
+    if nat_lt CAPACITY (length bytes) then Err (Line line.TooLong)
+    else fault_as (λ fault. Line (line.Sd fault)) (reading bytes)

@@ -1,0 +1,55 @@
+//! Arguments as the values that they spell.
+
+ghost use Rattle.std.specs.Prelude.{◌≡◌};
+ghost use Rattle.sd_call.specs.Arguments.{descriptor_in, domain_in, mapping_in, sid_in};
+
+use crate::outcome::CallFault;
+use sd_answer::LineFault;
+use sd_control::CAPACITY;
+use sd_rights::Mapping;
+use sd_sid::Sid;
+use sd_view::{SdView, read};
+
+/// The SID that an argument is.
+pub fn sid_in(bytes: &[u8]) -> Result<Sid, CallFault>
+    ensures { result ≡ sid_in bytes.now }
+{
+    match Sid::read(bytes) {
+        Some((sid, size)) if size == bytes.len() => Ok(sid),
+        _ => Err(CallFault::Argument),
+    }
+}
+
+/// The domain that an argument names, if it is not empty.
+#[tactic(auto, unfolding(crate::specs::Arguments::domain_in))]
+pub fn domain_in(bytes: &[u8]) -> Result<Option<Sid>, CallFault>
+    ensures { result ≡ domain_in bytes.now }
+{
+    if bytes.is_empty() {
+        return Ok(None);
+    }
+    sid_in(bytes).map(Some)
+}
+
+/// The kind of object whose generic rights are meant, by its number.
+pub fn mapping_in(number: u32) -> Result<Mapping, CallFault>
+    ensures { result ≡ mapping_in number }
+{
+    match number {
+        0 => Ok(Mapping::FILE),
+        1 => Ok(Mapping::KEY),
+        2 => Ok(Mapping::DS),
+        _ => Err(CallFault::Argument),
+    }
+}
+
+/// The descriptor that some bytes show.
+#[tactic(auto, unfolding(crate::specs::Arguments::descriptor_in))]
+pub fn descriptor_in(bytes: &[u8]) -> Result<SdView<'_>, CallFault>
+    ensures { result ≡ descriptor_in bytes.now }
+{
+    if bytes.len() > CAPACITY {
+        return Err(CallFault::Line(LineFault::TooLong));
+    }
+    read(bytes).map_err(|fault| CallFault::Line(LineFault::Sd(fault)))
+}

@@ -1,0 +1,119 @@
+//! What a call hands back.
+
+ghost use Rattle.std.specs.Prelude.{◌≡◌};
+ghost use Rattle.sd_call.specs.Outcomes.{done, failed, named_parts, no_memory, number, part_number, too_small};
+
+use sd_answer::LineFault;
+use sd_check::AskFault;
+use sd_view::Part;
+
+/// The output has too little room.
+const TOO_SMALL: u32 = 71;
+
+const NO_MEMORY: u32 = 72;
+
+/// What a call hands back: `struct sdtool_outcome` of the header.
+#[repr(C)]
+#[derive(Clone, Copy)]
+pub struct Outcome {
+    /// 0, or the number of the fault.
+    pub fault: u32,
+    /// The part that the fault names, or 0.
+    pub part: u32,
+    /// The second part that the fault names, or 0.
+    pub other_part: u32,
+    /// How many bytes the output has, or needs.
+    pub length: usize,
+}
+
+/// Why a call has no answer, apart from a small output or refused memory.
+#[derive(Clone, Copy)]
+pub enum CallFault {
+    /// 1 to 40: the program's `error` line would say the same.
+    Line(LineFault),
+    /// 50 and 51: nothing can be asked.
+    Ask(AskFault),
+    /// 70: an argument beside the text or the descriptor is none that the call takes.
+    Argument,
+}
+
+/// So many bytes are at the front of the output.
+pub fn done(length: usize) -> Outcome
+    ensures { result ≡ done length }
+{
+    Outcome {
+        fault: 0,
+        part: 0,
+        other_part: 0,
+        length,
+    }
+}
+
+/// The output has no room for so many bytes.
+pub fn too_small(length: usize) -> Outcome
+    ensures { result ≡ too_small length }
+{
+    Outcome {
+        fault: TOO_SMALL,
+        part: 0,
+        other_part: 0,
+        length,
+    }
+}
+
+/// An allocation was refused.
+pub fn no_memory() -> Outcome
+    ensures { result ≡ no_memory }
+{
+    Outcome {
+        fault: NO_MEMORY,
+        part: 0,
+        other_part: 0,
+        length: 0,
+    }
+}
+
+/// The call has no answer.
+pub fn failed(fault: CallFault) -> Outcome
+    ensures { result ≡ failed fault }
+{
+    let parts = named_parts(fault);
+    Outcome {
+        fault: number(fault),
+        part: part_number(parts.0),
+        other_part: part_number(parts.1),
+        length: 0,
+    }
+}
+
+fn number(fault: CallFault) -> u32
+    ensures { result ≡ number fault }
+{
+    match fault {
+        CallFault::Line(fault) => fault.number(),
+        CallFault::Ask(AskFault::EmptyRequest) => 50,
+        CallFault::Ask(AskFault::ReservedBits) => 51,
+        CallFault::Argument => 70,
+    }
+}
+
+fn named_parts(fault: CallFault) -> (Option<Part>, Option<Part>)
+    ensures { result ≡ named_parts fault }
+{
+    match fault {
+        CallFault::Line(fault) => fault.named_parts(),
+        CallFault::Ask(_) | CallFault::Argument => (None, None),
+    }
+}
+
+fn part_number(part: Option<Part>) -> u32
+    ensures { result ≡ part_number part }
+{
+    match part {
+        None => 0,
+        Some(Part::Owner) => 1,
+        Some(Part::Group) => 2,
+        Some(Part::Sacl) => 3,
+        Some(Part::Dacl) => 4,
+    }
+}

@@ -1,0 +1,84 @@
+//! The call that checks access.
+
+ghost use Rattle.std.specs.Prelude.{◌≡◌};
+ghost use Rattle.sd_call_check.specs.Checks.{Tells, ask_in, checked, object_in, verdict_on};
+
+use crate::request::Request;
+use crate::token::give_holder;
+use crate::verdict::{VerdictOutcome, told, untold};
+use sd_ace::guid_read;
+use sd_call::{CallFault, descriptor_in, domain_in, mapping_in};
+use sd_check::{Ask, Privileges, Verdict, check};
+use sd_token::Token;
+use std::alloc::Global;
+use uuid::Uuid;
+
+/// Says whether a descriptor grants a token what is asked for.
+pub fn check_access(
+    alloc: Global,
+    bytes: &[u8],
+    sids: &[u8],
+    kinds: &[u8],
+    object: &[u8],
+    principal_self: &[u8],
+    request: &Request,
+) -> VerdictOutcome
+    ensures { Tells (checked bytes.now sids.now kinds.now object.now principal_self.now request.now) result }
+{
+    let Ok(mut token) = Token::new(alloc) else {
+        return untold();
+    };
+    if let Err(fault) = give_holder(&mut token, sids, kinds, request) {
+        return told(Err(fault));
+    }
+    match ask_in(request, object, principal_self) {
+        Ok(ask) => told(verdict_on(bytes, &mut token, &ask)),
+        Err(fault) => told(Err(fault)),
+    }
+}
+
+// The verdict on the descriptor that some bytes show.
+#[tactic(auto, unfolding(crate::specs::Checks::verdict_on))]
+fn verdict_on(bytes: &[u8], token: &mut Token, ask: &Ask) -> Result<Verdict, CallFault>
+    ensures { result ≡ verdict_on bytes.now token.old.holder ask.now }
+{
+    let view = descriptor_in(bytes)?;
+    Ok(check(&view, token, ask))
+}
+
+// What is asked, or why nothing can be.
+#[tactic(auto, unfolding(crate::specs::Checks::ask_in))]
+fn ask_in(request: &Request, object: &[u8], principal_self: &[u8]) -> Result<Ask, CallFault>
+    ensures { result ≡ ask_in request.now object.now principal_self.now }
+{
+    let mapping = mapping_in(request.mapping)?;
+    let object = object_in(object)?;
+    let principal = domain_in(principal_self)?;
+    let privileges = Privileges {
+        security: request.security,
+        take_ownership: request.take_ownership,
+    };
+    Ask::new(
+        request.wanted,
+        request.maximum,
+        mapping,
+        object,
+        principal,
+        privileges,
+    )
+    .map_err(CallFault::Ask)
+}
+
+// The object type, whose GUID has its bytes as they stand in an ACE.
+#[tactic(auto, unfolding(crate::specs::Checks::object_in))]
+fn object_in(bytes: &[u8]) -> Result<Option<Uuid>, CallFault>
+    ensures { result ≡ object_in bytes.now }
+{
+    if bytes.is_empty() {
+        return Ok(None);
+    }
+    match <&[u8; 16]>::try_from(bytes) {
+        Ok(bytes) => Ok(Some(guid_read(bytes))),
+        Err(_) => Err(CallFault::Argument),
+    }
+}

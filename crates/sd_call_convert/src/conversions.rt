@@ -1,0 +1,119 @@
+//! The calls that convert descriptors.
+
+ghost use Rattle.std.specs.Prelude.{◌≡◌, codes};
+ghost use Rattle.std.specs.Option.{option_copied};
+ghost use Rattle.sd_view.specs.Layout.{layout};
+ghost use Rattle.sd_call.specs.Outcomes.{Answers, AnswersText, AnswersWithin, Gives};
+ghost use Rattle.sd_call_convert.specs.Conversions.{explained, from_sddl, normalized, text_in, to_sddl};
+
+use crate::printing::{Text, give_text, named_in};
+use sd_answer::LineFault;
+use sd_buffer::SdBuf;
+use sd_call::{
+    CallFault, Front, Outcome, descriptor_in, domain_in, done, failed, give, no_memory, too_small,
+};
+use sd_sddl_reader::read_sddl;
+use sd_sid::Sid;
+use sd_text::MOST_SDDL_TEXT;
+use sd_view::{SdView, put_layout, view_written};
+use std::alloc::Global;
+
+/// Gives the library's version.
+pub fn version(text: &mut [u8]) -> Outcome
+    ensures { Gives (codes "0.1.0") text.old text.new result }
+{
+    give(b"0.1.0", text)
+}
+
+/// Gives a descriptor as SDDL.
+pub fn to_sddl(
+    alloc: Global,
+    bytes: &[u8],
+    domain: &[u8],
+    numeric: bool,
+    text: &mut [u8],
+) -> Outcome
+    ensures { AnswersText (to_sddl bytes.now domain.now numeric) text.old text.new result }
+{
+    match named_in(bytes, domain, numeric) {
+        Ok(named) => give_text(alloc, Text::Sddl, &named, text),
+        Err(fault) => failed(fault),
+    }
+}
+
+/// Gives the explanation of a descriptor.
+pub fn explain_text(
+    alloc: Global,
+    bytes: &[u8],
+    domain: &[u8],
+    numeric: bool,
+    text: &mut [u8],
+) -> Outcome
+    ensures { AnswersText (explained bytes.now domain.now numeric) text.old text.new result }
+{
+    match named_in(bytes, domain, numeric) {
+        Ok(named) => give_text(alloc, Text::Explanation, &named, text),
+        Err(fault) => failed(fault),
+    }
+}
+
+/// Gives the one layout of a descriptor.
+pub fn normalize(bytes: &[u8], output: &mut [u8]) -> Outcome
+    ensures { Answers (normalized bytes.now) output.old output.new result }
+{
+    match descriptor_in(bytes) {
+        Ok(view) => give_layout(&view, output),
+        Err(fault) => failed(fault),
+    }
+}
+
+/// Gives the bytes of the descriptor that a text of SDDL means.
+pub fn from_sddl(alloc: Global, text: &[u8], domain: &[u8], output: &mut [u8]) -> Outcome
+    ensures { AnswersWithin (from_sddl text.now domain.now) output.old output.new result }
+{
+    let domain = match domain_in(domain) {
+        Ok(domain) => domain,
+        Err(fault) => return failed(fault),
+    };
+    let Ok(mut buf) = SdBuf::new(alloc) else {
+        return no_memory();
+    };
+    match read_text(text, domain.as_ref(), &mut buf) {
+        Ok(view) => give_layout(&view, output),
+        Err(fault) => failed(fault),
+    }
+}
+
+// Gives the layout of a descriptor.
+fn give_layout(view: &SdView<'_>, output: &mut [u8]) -> Outcome
+    ensures { Gives (layout view.now) output.old output.new result }
+{
+    let size = view.size() as usize;
+    let mut sink = Front {
+        cells: output,
+        held: 0,
+        failures: 0,
+    };
+    match put_layout(view, &mut sink) {
+        Ok(()) => done(size),
+        Err(_) => too_small(size),
+    }
+}
+
+// Reads a text into the buffer, and views there the descriptor that the text means.
+#[tactic(auto, unfolding(crate::specs::Conversions::text_in))]
+fn read_text<'a>(
+    text: &[u8],
+    domain: Option<&Sid>,
+    buf: &'a mut SdBuf,
+) -> Result<SdView<'a>, CallFault>
+    ensures { result ≡ text_in (option_copied domain.entry) text.now }
+{
+    if text.len() > MOST_SDDL_TEXT {
+        return Err(CallFault::Line(LineFault::TooLong));
+    }
+    match read_sddl(text, domain, buf) {
+        Ok(()) => Ok(view_written(buf.bytes())),
+        Err(fault) => Err(CallFault::Line(LineFault::Sddl(fault))),
+    }
+}

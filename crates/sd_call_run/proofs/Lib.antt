@@ -1,0 +1,3 @@
+pub mod CellsLemmas
+pub mod RunLemmas
+pub mod WordsLemmas

@@ -1,4 +1,0 @@
-pub mod CellsLemmas
-pub mod RunLemmas
-pub mod TokenLemmas
-pub mod WordsLemmas

@@ -1,0 +1,22 @@
+//! The call that checks access.
+
+ghost use Rattle.sd_call_check.specs.Checks.{Tells, checked};
+
+use sd_call_check::{Request, VerdictOutcome, check_access};
+use std::alloc::Global;
+
+/// Says whether a descriptor grants a token what is asked for.
+#[unsafe(no_mangle)]
+pub extern "C" fn sdtool_check(
+    alloc: Global,
+    bytes: &[u8],
+    sids: &[u8],
+    kinds: &[u8],
+    object: &[u8],
+    principal_self: &[u8],
+    request: &Request,
+) -> VerdictOutcome
+    ensures { Tells (checked bytes.now sids.now kinds.now object.now principal_self.now request.now) result }
+{
+    check_access(alloc, bytes, sids, kinds, object, principal_self, request)
+}
