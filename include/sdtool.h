@@ -5,6 +5,13 @@
  * nothing and never ends the process, so calls from several threads need no lock. Calls may use malloc and free;
  * nothing that they allocate is left when they return. Do not call them from a signal handler.
  *
+ * How this header grows: the shared library's name has a number, libsdtool.so.0. Under one number no struct and no
+ * function of this header changes, no number gets another meaning, and none is taken away; a version that needs such a
+ * change gets the next number. So a program runs with each later library of the same number, without being compiled
+ * again. What may come with a later version are functions, structs of their own, and numbers of the enums: a program
+ * has to take a fault that it does not know as one, and never as an answer. A program that needs a function of a later
+ * version can compare sdtool_version_number() with the SDTOOL_VERSION that it was compiled with.
+ *
  * Sizes and lengths are in bytes. Texts are bytes without a final NUL. Input and output must not overlap. A pointer
  * may be null if its size is 0.
  */
@@ -19,31 +26,124 @@
 extern "C" {
 #endif
 
+/* The version of this header: 10000 times the first number, 100 times the second, and the third. */
+#define SDTOOL_VERSION 100
+/* The same as a text, a string with its NUL. */
+#define SDTOOL_VERSION_TEXT "0.1.0"
+
 /* What a call answers. */
 struct sdtool_outcome {
-    /* SDTOOL_OK, or why there is no answer: an error number of docs/FORMAT.md, or one of enum sdtool_fault. */
+    /* SDTOOL_OK, or why there is no answer: one of enum sdtool_fault. */
     uint32_t fault;
     /* The part of the descriptor that the fault is about, as in enum sdtool_part. */
     uint32_t part;
-    /* The second part of fault 14, two parts that overlap; else SDTOOL_NO_PART. */
+    /* The second part of SDTOOL_FAULT_OVERLAP; else SDTOOL_NO_PART. */
     uint32_t other_part;
+    /* With SDTOOL_ARGUMENT the argument that is wrong, as in enum sdtool_argument; else SDTOOL_NO_ARGUMENT. */
+    uint32_t argument;
+    /* Which entry of that argument is wrong, from 0 on, if it is a list; else 0. */
+    size_t entry;
     /* With SDTOOL_OK the length of the answer, and with SDTOOL_TOO_SMALL the size that it needs; else 0. */
     size_t length;
 };
 
 /*
- * 1, too-long: the input exceeds SDTOOL_MOST_BYTES or SDTOOL_MOST_TEXT. 5 to 14: the bytes are no descriptor. 20 to
- * 30: the text is no SDDL. 40: the derived ACL is too large. 50 and 51: no such access can be asked for.
- * docs/FORMAT.md describes each of them.
+ * Why a call has no answer. The numbers are those of the program's `error` lines and messages. Those from 70 on are of
+ * this library alone.
  */
 enum sdtool_fault {
     SDTOOL_OK = 0,
+    /* The input exceeds SDTOOL_MOST_BYTES or SDTOOL_MOST_TEXT. */
+    SDTOOL_FAULT_TOO_LONG = 1,
+    /* 2 to 4: a line of sdtool_run is not hex digits, has an odd number of them, or is not base64. */
+    SDTOOL_FAULT_HEX_DIGIT = 2,
+    SDTOOL_FAULT_HEX_ODD = 3,
+    SDTOOL_FAULT_BASE64 = 4,
+    /* 5 to 14: the bytes are no descriptor. There are fewer than 20. */
+    SDTOOL_FAULT_SHORT = 5,
+    /* The revision of the header is not 1. */
+    SDTOOL_FAULT_REVISION = 6,
+    /* Control bit 0x8000 is clear. */
+    SDTOOL_FAULT_NOT_SELF_RELATIVE = 7,
+    /* The offset of a part is below 20, or fewer than 8 bytes follow it. */
+    SDTOOL_FAULT_OFFSET = 8,
+    /* The revision of a SID is not 1, its count exceeds 15, or it passes the end of the bytes or of its ACE. */
+    SDTOOL_FAULT_SID = 9,
+    /* The revision of an ACL is not 2 or 4, its size is below 8, or it passes the end of the bytes. */
+    SDTOOL_FAULT_ACL = 10,
+    /* An ACE does not fit in its ACL, or its size is below 16, no multiple of 4, or too small for its fields. */
+    SDTOOL_FAULT_ACE_SIZE = 11,
+    /* The type of an ACE is not supported, such as a callback ACE: what the descriptor grants is unknown. */
+    SDTOOL_FAULT_ACE_TYPE = 12,
+    /* An ACE has flag 0x20. */
+    SDTOOL_FAULT_ACE_FLAGS = 13,
+    /* Two parts share a byte. */
+    SDTOOL_FAULT_OVERLAP = 14,
+    /* 20 to 30: the text is no SDDL. Parentheses, colons, fields or blanks are wrong. */
+    SDTOOL_FAULT_SHAPE = 20,
+    /* Two parts have the same letter. */
+    SDTOOL_FAULT_PART_TWICE = 21,
+    /* Two letters are no alias of a SID. */
+    SDTOOL_FAULT_ALIAS = 22,
+    /* A relative alias, such as DA, stands in a text that is read without a domain. */
+    SDTOOL_FAULT_NEEDS_DOMAIN = 23,
+    /* A decimal number of a SID has more than ten digits, or is 2^32 or more. */
+    SDTOOL_FAULT_NUMBER = 24,
+    /* Any other text that is no SID. */
+    SDTOOL_FAULT_SID_FORM = 25,
+    /* Flags of an ACL or an ACE that have no meaning there. */
+    SDTOOL_FAULT_FLAGS = 26,
+    /* Rights that have no name and are no number. */
+    SDTOOL_FAULT_RIGHTS = 27,
+    /* An object type is no GUID, or its ACE is of a kind without object types. */
+    SDTOOL_FAULT_GUID = 28,
+    /* There is no such kind of ACE, or it is not supported, such as XA. */
+    SDTOOL_FAULT_KIND = 29,
+    /* An ACL would exceed 65,535 bytes. */
+    SDTOOL_FAULT_ACL_TOO_LARGE = 30,
+    /* A derived ACL exceeds 65,535 bytes. */
+    SDTOOL_FAULT_DERIVED_TOO_LARGE = 40,
+    /* An access check asks for no right. */
+    SDTOOL_FAULT_EMPTY_REQUEST = 50,
+    /* Bit 26 or 27 of the wanted rights is set. */
+    SDTOOL_FAULT_RESERVED_BITS = 51,
+    /* 60 to 62: how a run of the program ends. Of these sdtool_run has 61 alone, in its message. */
+    SDTOOL_FAULT_READ = 60,
+    SDTOOL_FAULT_WRITE = 61,
+    SDTOOL_FAULT_TOO_MANY_READS = 62,
     /* An argument beside the text or the descriptor is none that the call takes. */
     SDTOOL_ARGUMENT = 70,
     /* The output is too small. What it holds is unspecified. */
     SDTOOL_TOO_SMALL = 71,
     /* malloc failed. */
     SDTOOL_NO_MEMORY = 72
+};
+
+/* Which argument is wrong. */
+enum sdtool_argument {
+    SDTOOL_NO_ARGUMENT = 0,
+    /* DOMAIN is neither empty nor a SID. */
+    SDTOOL_ARGUMENT_DOMAIN = 1,
+    /* The bytes of the SIDs have no SID at ENTRY, or with ENTRY = SID_COUNT bytes behind the last one. */
+    SDTOOL_ARGUMENT_SIDS = 2,
+    /* The byte at ENTRY is none of enum sdtool_entry, or there are more than SDTOOL_MOST_SIDS. */
+    SDTOOL_ARGUMENT_ENTRIES = 3,
+    /* OBJECT is neither empty nor 16 bytes. */
+    SDTOOL_ARGUMENT_OBJECT = 4,
+    /* PRINCIPAL_SELF is neither empty nor a SID. */
+    SDTOOL_ARGUMENT_PRINCIPAL_SELF = 5,
+    /* MAPPING, or that of a request, is none of enum sdtool_mapping. */
+    SDTOOL_ARGUMENT_MAPPING = 6,
+    /* CREATOR is neither empty nor a descriptor. */
+    SDTOOL_ARGUMENT_CREATOR = 7,
+    /* OWNER is no SID. */
+    SDTOOL_ARGUMENT_OWNER = 8,
+    /* GROUP is no SID. */
+    SDTOOL_ARGUMENT_GROUP = 9,
+    /* KIND is none of enum sdtool_kind. */
+    SDTOOL_ARGUMENT_KIND = 10,
+    /* FAULT is the number of no fault. */
+    SDTOOL_ARGUMENT_FAULT = 11
 };
 
 enum sdtool_part {
@@ -95,12 +195,15 @@ enum {
  */
 #define SDTOOL_TEXT_SIZE(bytes) (8 * (size_t)(bytes) + 64)
 
-/* Gives the version, as 0.1.0. */
+/* Gives the version of the library, as SDTOOL_VERSION_TEXT without its NUL. */
 struct sdtool_outcome sdtool_version(uint8_t *text, size_t text_size);
+
+/* The version of the library as a number, as SDTOOL_VERSION is that of the header. */
+uint32_t sdtool_version_number(void);
 
 /*
  * Gives a descriptor as SDDL: 'sdtool convert'. DOMAIN is empty or a SID in binary; then aliases of that domain, such
- * as DA, are printed. With NUMERIC no aliases are printed. It allocates memory only if the output is too small.
+ * as DA, are printed. With NUMERIC no aliases are printed. It allocates no memory.
  */
 struct sdtool_outcome sdtool_to_sddl(const uint8_t *descriptor, size_t descriptor_size, const uint8_t *domain,
                                      size_t domain_size, bool numeric, uint8_t *text, size_t text_size);
@@ -118,8 +221,13 @@ struct sdtool_outcome sdtool_normalize(const uint8_t *descriptor, size_t descrip
 
 /*
  * Gives the descriptor that SDDL describes, in its canonical layout: 'sdtool convert --from sddl --to hex', in
- * binary. DOMAIN is empty or a SID in binary; then aliases of that domain are read. The empty text is a descriptor
- * without parts. It allocates 131,226 bytes.
+ * binary. DOMAIN is empty or a SID in binary; then aliases of that domain are read. A text with the end of its line is
+ * SDTOOL_FAULT_SHAPE.
+ *
+ * The empty text is a descriptor without parts, as SDDL has it, and such a descriptor grants everything. A caller for
+ * whom an empty text is a record that got lost has to refuse TEXT_SIZE 0 itself.
+ *
+ * It allocates 131,226 bytes, after it has looked at DOMAIN.
  */
 struct sdtool_outcome sdtool_from_sddl(const uint8_t *text, size_t text_size, const uint8_t *domain, size_t domain_size,
                                        uint8_t *output, size_t output_size);
@@ -143,10 +251,12 @@ struct sdtool_request {
 
 /* What an access check answers. */
 struct sdtool_verdict {
-    /* SDTOOL_OK, or why there is no verdict; PART and OTHER_PART as in struct sdtool_outcome. */
+    /* SDTOOL_OK, or why there is no verdict; the next four members are as in struct sdtool_outcome. */
     uint32_t fault;
     uint32_t part;
     uint32_t other_part;
+    uint32_t argument;
+    size_t entry;
     /*
      * With GRANTED the rights that are granted: those that are wanted and, with MAXIMUM, each other that is granted.
      * Without GRANTED, those of the wanted rights that are missing. 0 after a fault.
@@ -163,10 +273,12 @@ struct sdtool_verdict {
  * for each of them, one of enum sdtool_entry. OBJECT is empty or the 16 bytes of the GUID of an object type.
  * PRINCIPAL_SELF is empty or the SID in binary that PRINCIPAL SELF stands for.
  *
+ * A descriptor without a DACL grants everything; sdtool_from_sddl makes one of an empty text.
+ *
  * SDTOOL_ARGUMENT comes first, then 50 and 51, then the faults of the descriptor. SDTOOL_ARGUMENT means that the
  * token is not exactly SID_COUNT SIDs or more than SDTOOL_MOST_SIDS, or that an entry, the mapping, OBJECT or
- * PRINCIPAL_SELF is none of the above. It allocates less than 128 KiB before it looks at its arguments, so
- * SDTOOL_NO_MEMORY comes before any other fault.
+ * PRINCIPAL_SELF is none of the above, in this order; of several wrong entries it is the first. It allocates less than
+ * 128 KiB before it looks at its arguments, so SDTOOL_NO_MEMORY comes before any other fault.
  */
 struct sdtool_verdict sdtool_check(const uint8_t *descriptor, size_t descriptor_size, const uint8_t *sids,
                                    size_t sids_size, const uint8_t *entries, size_t sid_count, const uint8_t *object,
@@ -178,9 +290,8 @@ struct sdtool_verdict sdtool_check(const uint8_t *descriptor, size_t descriptor_
  * 'sdtool derive --to hex', in binary. CREATOR is empty or the descriptor that the creator brings. OWNER and GROUP
  * are a SID in binary each. KIND is one of enum sdtool_kind and MAPPING one of enum sdtool_mapping.
  *
- * SDTOOL_ARGUMENT means that OWNER, GROUP, KIND or MAPPING is none of these or that CREATOR is no descriptor; it
- * comes first. It allocates 131,226 bytes before it looks at its arguments, so SDTOOL_NO_MEMORY comes before any other
- * fault.
+ * SDTOOL_ARGUMENT means that KIND, MAPPING, OWNER or GROUP is none of these or that CREATOR is no descriptor, in this
+ * order; it comes first, and then the faults of PARENT. After these it allocates 131,226 bytes.
  */
 struct sdtool_outcome sdtool_derive(const uint8_t *parent, size_t parent_size, const uint8_t *creator,
                                     size_t creator_size, const uint8_t *owner, size_t owner_size,

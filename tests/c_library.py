@@ -249,21 +249,31 @@ def test_arguments(count, runner):
     whole = {"check": [empty, sid * 2, "0001", "00" * 16, sid, "131072", "0", "0", none],
              "derive": [empty, none, sid, sid, "0", "0"]}
     not_sids = [none, sid + "00", sid[:-2]]
-    wrong = {"check": {1: [none, sid, sid[:-2] + sid, sid * 2 + "01", sid * 3, "02" + sid[2:] + sid],
-                       2: [none, "00", "000000", "0002", "ff00"], 3: ["00", "00" * 15, "00" * 17],
-                       4: [sid[:-2], sid + "00", "00"], 6: ["3", "4294967295"]},
-             "derive": {1: ["00", "01" * 20], 2: not_sids, 3: not_sids, 4: ["2", "4294967295"], 5: ["3", "4294967295"]}}
+    # For each place the number of the argument, and each wrong value with the entry that is wrong.
+    wrong = {"check": {1: (2, {none: 0, sid: 1, sid[:-2] + sid: 2, sid * 2 + "01": 2, sid * 3: 2, "02" + sid[2:] + sid: 0}),
+                       2: (3, {"0002": 1, "ff00": 0}), 3: (4, {"00": 0, "00" * 15: 0, "00" * 17: 0}),
+                       4: (5, {sid[:-2]: 0, sid + "00": 0, "00": 0}), 6: (6, {"3": 0, "4294967295": 0})},
+             "derive": {1: (7, {"00": 0, "01" * 20: 0}), 2: (8, dict.fromkeys(not_sids, 0)),
+                        3: (9, dict.fromkeys(not_sids, 0)), 4: (10, {"2": 0, "4294967295": 0}),
+                        5: (6, {"3": 0, "4294967295": 0})}}
     for job, places in wrong.items():
-        lines = [[*whole[job][:place], value, *whole[job][place + 1:]]
-                 for place, values in places.items() for value in values]
-        ended = ran([*runner, job], "".join(" ".join(line) + "\n" for line in lines))
-        count.add(ended.stdout.decode() == "error 70\n" * len(lines) and ended.returncode == 0,
+        lines, expected = [], ""
+        for place, (argument, values) in places.items():
+            for value, entry in values.items():
+                lines.append(" ".join([*whole[job][:place], value, *whole[job][place + 1:]]) + "\n")
+                expected += f"error 70 {argument} {entry}\n"
+        ended = ran([*runner, job], "".join(lines))
+        count.add(ended.stdout.decode() == expected and ended.returncode == 0,
                   f"arguments of {job}: {ended.stdout.decode()!r} {ended.stderr.decode()!r}")
+    # Fewer and more flags than SIDs.
+    flags = [" ".join([empty, sid * 2, value, *whole["check"][3:]]) + "\n" for value in (none, "00", "000000")]
+    ended = ran([*runner, "check"], "".join(flags))
+    count.add(ended.stdout.decode() == "error 70 2 0\nerror 70 2 1\nerror 70 2 2\n", f"flags: {ended.stdout.decode()!r}")
     # The right ones, the most SIDs and one more, no right, a reserved bit, and no descriptor.
     check, most = whole["check"], 1024
     granted = "granted 0x00020000"  # without a DACL
     cases = [(check, granted), ([empty, sid * most, "00" * most, *check[3:]], granted),
-             ([empty, sid * (most + 1), "00" * (most + 1), *check[3:]], "error 70"),
+             ([empty, sid * (most + 1), "00" * (most + 1), *check[3:]], "error 70 3 1024"),
              ([empty, none, none, *check[3:]], granted), ([*check[:5], "0", *check[6:]], "error 50"),
              ([*check[:5], str(1 << 26), *check[6:]], "error 51"), ([none, *check[1:]], "error 5"),
              ([none, *check[1:5], "0", *check[6:]], "error 50")]

@@ -73,7 +73,7 @@ class Answers(NamedTuple):
 
 class _Outcome(ctypes.Structure):
     _fields_ = [("fault", ctypes.c_uint32), ("part", ctypes.c_uint32), ("other_part", ctypes.c_uint32),
-                ("length", ctypes.c_size_t)]
+                ("argument", ctypes.c_uint32), ("entry", ctypes.c_size_t), ("length", ctypes.c_size_t)]
 
 
 class _Request(ctypes.Structure):
@@ -84,7 +84,8 @@ class _Request(ctypes.Structure):
 
 class _Verdict(ctypes.Structure):
     _fields_ = [("fault", ctypes.c_uint32), ("part", ctypes.c_uint32), ("other_part", ctypes.c_uint32),
-                ("mask", ctypes.c_uint32), ("granted", ctypes.c_bool)]
+                ("argument", ctypes.c_uint32), ("entry", ctypes.c_size_t), ("mask", ctypes.c_uint32),
+                ("granted", ctypes.c_bool)]
 
 
 class _Ending(ctypes.Structure):

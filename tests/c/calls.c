@@ -2,28 +2,34 @@
  * calls convert|explain|normalize|from_sddl|check|derive [DOMAIN] [numeric]
  *
  * Makes one call for each line of standard input and prints its answer as the program does; a fault as
- * 'error NUMBER PART PART'. DOMAIN is a SID as hex digits, or -. A line is hex digits, or SDDL for from_sddl. For check
- * and derive it has words, of which - is an empty one:
+ * 'error NUMBER PART PART', and that of an argument as 'error 70 ARGUMENT ENTRY'. DOMAIN is a SID as hex digits, or -.
+ * A line is hex digits, or SDDL for from_sddl. For check and derive it has words, of which - is an empty one:
  *
  *   check    DESCRIPTOR SIDS ENTRIES OBJECT SELF in hex, WANTED MAPPING FLAGS LEVEL in decimal, where - is no level;
  *            FLAGS adds up 1 for the maximum, 2 for SeSecurityPrivilege and 4 for SeTakeOwnershipPrivilege
  *   derive   PARENT CREATOR OWNER GROUP in hex, KIND MAPPING in decimal
  *
- * Each call is made again with outputs that are too small, with each allocation refused, and from eight threads at the
- * end. What goes wrong there is printed to standard error, and the status is then 1.
+ * Each call is made again with outputs that are too small, with each allocation refused, and at the end from eight
+ * threads, one of which also forks processes that make it. What goes wrong there is printed to standard error, and the
+ * status is then 1. memory.h says what the environment asks for.
  */
 #include <pthread.h>
 #include <stdio.h>
 #include <stdlib.h>
 #include <string.h>
+#include <sys/wait.h>
+#include <unistd.h>
 
+#include "memory.h"
 #include "sdtool.h"
 
-enum { THREADS = 8, ROUNDS = 250, MOST_KEPT = 64, MOST_FIELDS = 5, MOST_NUMBERS = 4, VERDICT = 18 };
+enum { THREADS = 8, ROUNDS = 250, FORKS = 20, MOST_KEPT = 64, MOST_FIELDS = 5, MOST_NUMBERS = 4, VERDICT = 18 };
 
 struct bytes {
     uint8_t *cells;
     size_t size;
+    /* The size of the block, where that is another one. */
+    size_t room;
 };
 
 /* The arguments of a call. */
@@ -39,7 +45,6 @@ static bool numeric;
 static int wrong;
 
 /* The linker puts these in the place of malloc and realloc of the library: see tests/c_library.py. */
-void *__real_malloc(size_t size);
 void *__wrap_malloc(size_t size);
 void *__real_realloc(void *block, size_t size);
 void *__wrap_realloc(void *block, size_t size);
@@ -69,16 +74,6 @@ static void complain(const char *what)
     wrong = 1;
 }
 
-/* A block of exactly this size, so that a sanitizer sees each byte beyond it; null for none. */
-static uint8_t *block(size_t size)
-{
-    uint8_t *cells = size == 0 ? NULL : __real_malloc(size);
-
-    if (size != 0 && cells == NULL)
-        abort();
-    return cells;
-}
-
 /* A verdict as the program prints it, with the room that there is for it. */
 static struct sdtool_outcome check(const struct question *q, uint8_t *out, size_t size)
 {
@@ -90,7 +85,7 @@ static struct sdtool_outcome check(const struct question *q, uint8_t *out, size_
     };
     struct sdtool_verdict v = sdtool_check(in[0].cells, in[0].size, in[1].cells, in[1].size, in[2].cells, in[2].size,
                                            in[3].cells, in[3].size, in[4].cells, in[4].size, &request);
-    struct sdtool_outcome o = {v.fault, v.part, v.other_part, 0};
+    struct sdtool_outcome o = {v.fault, v.part, v.other_part, v.argument, v.entry, 0};
     char text[VERDICT + 2];
 
     if (v.fault != SDTOOL_OK) {
@@ -106,7 +101,40 @@ static struct sdtool_outcome check(const struct question *q, uint8_t *out, size_
     return o;
 }
 
+/* A call that runs on some stack. Counts of allocations are those of the thread that makes the call. */
+struct made {
+    const struct question *question;
+    uint8_t *out;
+    size_t size;
+    long allocations_left, allocations;
+    struct sdtool_outcome outcome;
+};
+
+static struct sdtool_outcome call_here(const struct question *q, uint8_t *out, size_t size);
+
+static void *make(void *argument)
+{
+    struct made *made = argument;
+
+    allocations_left = made->allocations_left;
+    allocations = made->allocations;
+    made->outcome = call_here(made->question, made->out, made->size);
+    made->allocations_left = allocations_left;
+    made->allocations = allocations;
+    return NULL;
+}
+
 static struct sdtool_outcome call(const struct question *q, uint8_t *out, size_t size)
+{
+    struct made made = {q, out, size, allocations_left, allocations, {0}};
+
+    make_call(make, &made);
+    allocations_left = made.allocations_left;
+    allocations = made.allocations;
+    return made.outcome;
+}
+
+static struct sdtool_outcome call_here(const struct question *q, uint8_t *out, size_t size)
 {
     const struct bytes *in = q->fields;
 
@@ -126,7 +154,8 @@ static struct sdtool_outcome call(const struct question *q, uint8_t *out, size_t
 
 static bool is_fault(const struct sdtool_outcome *o, uint32_t fault, size_t length)
 {
-    return o->fault == fault && o->part == 0 && o->other_part == 0 && o->length == length;
+    return o->fault == fault && o->part == 0 && o->other_part == 0 && o->argument == 0 && o->entry == 0
+           && o->length == length;
 }
 
 static void try_size(const struct question *in, const struct bytes *answer, size_t size)
@@ -141,7 +170,7 @@ static void try_size(const struct question *in, const struct bytes *answer, size
                || (answer->size != 0 && memcmp(cells, answer->cells, answer->size) != 0)) {
         complain("an output that is large enough");
     }
-    free(cells);
+    release(cells, size);
 }
 
 static void try_sizes(const struct question *in, const struct bytes *answer)
@@ -174,7 +203,7 @@ static void try_refusals(const struct question *in, size_t size)
     struct sdtool_outcome again = call(in, cells, size);
     if (again.fault != whole.fault || again.length != whole.length)
         complain("a call after refused allocations");
-    free(cells);
+    release(cells, size);
 }
 
 static bool gives_text(void)
@@ -199,7 +228,7 @@ static struct bytes answer_to(const struct question *in)
 {
     static const char *const parts[] = {"", " owner", " group", " sacl", " dacl"};
     size_t most = gives_text() ? SDTOOL_TEXT_SIZE(in->fields[0].size) : SDTOOL_MOST_BYTES;
-    struct bytes answer = {block(most), 0};
+    struct bytes answer = {block(most), 0, most};
     struct sdtool_outcome o = call(in, answer.cells, most);
 
     if (o.fault == SDTOOL_OK) {
@@ -208,8 +237,10 @@ static struct bytes answer_to(const struct question *in)
         try_sizes(in, &answer);
         try_refusals(in, 0);
     } else {
-        if (o.length != 0 || o.part > 4 || o.other_part > 4)
+        if (o.length != 0 || o.part > 4 || o.other_part > 4 || (o.argument != 0) != (o.fault == SDTOOL_ARGUMENT))
             complain("what a fault tells");
+        else if (o.fault == SDTOOL_ARGUMENT)
+            printf("error 70 %u %zu\n", (unsigned)o.argument, o.entry);
         else
             printf("error %u%s%s\n", (unsigned)o.fault, parts[o.part], parts[o.other_part]);
     }
@@ -228,19 +259,21 @@ static int digit(int c)
 /* The bytes that hex digits spell. */
 static struct bytes spelled(const char *text, size_t length)
 {
-    struct bytes bytes = {block(length / 2), length / 2};
+    struct bytes bytes = {block(length / 2), length / 2, 0};
 
     for (size_t i = 0; i < bytes.size; i++)
         bytes.cells[i] = (uint8_t)(16 * digit(text[2 * i]) + digit(text[2 * i + 1]));
+    seal(bytes.cells, bytes.size);
     return bytes;
 }
 
 static struct bytes copied(const char *text, size_t length)
 {
-    struct bytes bytes = {block(length), length};
+    struct bytes bytes = {block(length), length, 0};
 
     if (length != 0)
         memcpy(bytes.cells, text, length);
+    seal(bytes.cells, bytes.size);
     return bytes;
 }
 
@@ -270,7 +303,8 @@ static struct question question_in(char *line, size_t length)
 static void free_question(const struct question *q)
 {
     for (size_t i = 0; i < MOST_FIELDS; i++)
-        free(q->fields[i].cells);
+        if (q->fields[i].cells != NULL)
+            release(q->fields[i].cells, q->fields[i].size);
 }
 
 struct kept {
@@ -291,15 +325,40 @@ static void *repeat(void *unused)
 
             if (!is_fault(&o, SDTOOL_OK, kept[i].answer.size) || memcmp(cells, kept[i].answer.cells, o.length) != 0)
                 complain("a call in a thread");
-            free(cells);
+            release(cells, kept[i].answer.size);
         }
+    }
+    return NULL;
+}
+
+/* Forks while the other threads are in the middle of their calls. Each process makes every call once. */
+static void *fork_often(void *unused)
+{
+    (void)unused;
+    for (int round = 0; round < FORKS && forks; round++) {
+        pid_t child = fork();
+        int status = 0;
+
+        if (child == 0) {
+            for (size_t i = 0; i < kept_count; i++) {
+                uint8_t *cells = block(kept[i].answer.size);
+                struct sdtool_outcome o = call(&kept[i].in, cells, kept[i].answer.size);
+
+                if (!is_fault(&o, SDTOOL_OK, kept[i].answer.size)
+                    || memcmp(cells, kept[i].answer.cells, o.length) != 0)
+                    _exit(1);
+            }
+            _exit(0);
+        }
+        if (child < 0 || waitpid(child, &status, 0) != child || status != 0)
+            complain("a call in a process that a thread forked");
     }
     return NULL;
 }
 
 int main(int count, char **words)
 {
-    pthread_t threads[THREADS];
+    pthread_t threads[THREADS + 1];
     char *line = NULL;
     size_t room = 0;
     ssize_t got;
@@ -308,8 +367,10 @@ int main(int count, char **words)
 
     if (count < 2)
         return 2;
+    read_environment();
     job = words[1];
-    if (!is_fault(&o, SDTOOL_OK, strlen(version)))
+    if (!is_fault(&o, SDTOOL_OK, strlen(version)) || strcmp(version, SDTOOL_VERSION_TEXT) != 0
+        || sdtool_version_number() != SDTOOL_VERSION)
         complain("the version");
     if (count > 2 && strcmp(words[2], "-") != 0)
         domain = spelled(words[2], strlen(words[2]));
@@ -324,20 +385,24 @@ int main(int count, char **words)
             kept[kept_count++].answer = answer;
         } else {
             free_question(&in);
-            free(answer.cells);
+            release(answer.cells, answer.room);
         }
     }
     for (int i = 0; i < THREADS; i++)
         if (pthread_create(&threads[i], NULL, repeat, NULL) != 0)
             return 2;
-    for (int i = 0; i < THREADS; i++)
+    if (pthread_create(&threads[THREADS], NULL, fork_often, NULL) != 0)
+        return 2;
+    for (int i = 0; i <= THREADS; i++)
         pthread_join(threads[i], NULL);
+    print_stack();
     while (kept_count > 0) {
         kept_count--;
         free_question(&kept[kept_count].in);
-        free(kept[kept_count].answer.cells);
+        release(kept[kept_count].answer.cells, kept[kept_count].answer.room);
     }
-    free(domain.cells);
+    if (domain.cells != NULL)
+        release(domain.cells, domain.size);
     free(line);
     return wrong;
 }

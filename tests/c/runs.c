@@ -10,13 +10,15 @@
  *   threads   it also makes the call from eight threads at once
  *   cut       the last word lacks its NUL
  *
- * What goes wrong there is printed to standard error, and the status is then 99.
+ * What goes wrong there is printed to standard error, and the status is then 99. memory.h says what the environment
+ * asks for.
  */
 #include <pthread.h>
 #include <stdio.h>
 #include <stdlib.h>
 #include <string.h>
 
+#include "memory.h"
 #include "sdtool.h"
 
 enum { THREADS = 8, ROUNDS = 100, WRONG = 99, FIRST_SIZE = 1 << 16 };
@@ -24,6 +26,8 @@ enum { THREADS = 8, ROUNDS = 100, WRONG = 99, FIRST_SIZE = 1 << 16 };
 struct bytes {
     uint8_t *cells;
     size_t size;
+    /* The size of the block, where that is another one. */
+    size_t room;
 };
 
 static struct bytes words, input, answers;
@@ -32,7 +36,6 @@ static struct sdtool_ending whole;
 static int wrong;
 
 /* The linker puts these in the place of malloc and realloc of the library: see tests/c_library.py. */
-void *__real_malloc(size_t size);
 void *__wrap_malloc(size_t size);
 void *__real_realloc(void *block, size_t size);
 void *__wrap_realloc(void *block, size_t size);
@@ -62,25 +65,43 @@ static void complain(const char *what, size_t at)
     wrong = 1;
 }
 
-/* A block of exactly this size, so that a sanitizer sees each byte beyond it; null for none. */
-static uint8_t *block(size_t size)
-{
-    uint8_t *cells = size == 0 ? NULL : __real_malloc(size);
-
-    if (size != 0 && cells == NULL)
-        abort();
-    return cells;
-}
-
 static bool same(const uint8_t *a, const uint8_t *b, size_t size)
 {
     return size == 0 || memcmp(a, b, size) == 0;
 }
 
+/* A call that runs on some stack. Counts of allocations are those of the thread that makes the call. */
+struct made {
+    uint8_t *out;
+    size_t size;
+    uint8_t *says;
+    size_t says_size;
+    long allocations_left, allocations;
+    struct sdtool_ending ending;
+};
+
+static void *make(void *argument)
+{
+    struct made *made = argument;
+
+    allocations_left = made->allocations_left;
+    allocations = made->allocations;
+    made->ending = sdtool_run(words.cells, words.size, input.cells, input.size, made->out, made->size, made->says,
+                              made->says_size);
+    made->allocations_left = allocations_left;
+    made->allocations = allocations;
+    return NULL;
+}
+
 static struct sdtool_ending call(uint8_t *out, size_t size, uint8_t *says, size_t says_size)
 {
-    struct sdtool_ending e = sdtool_run(words.cells, words.size, input.cells, input.size, out, size, says, says_size);
+    struct made made = {out, size, says, says_size, allocations_left, allocations, {0}};
+    struct sdtool_ending e;
 
+    make_call(make, &made);
+    allocations_left = made.allocations_left;
+    allocations = made.allocations;
+    e = made.ending;
     if (e.length > size || e.message_length > says_size)
         complain("a length beyond the size", size);
     return e;
@@ -91,11 +112,12 @@ static void answer(void)
 {
     for (size_t size = FIRST_SIZE;; size *= 4) {
         answers.cells = block(size);
+        answers.room = size;
         whole = call(answers.cells, size, message, sizeof message);
         answers.size = whole.length;
         if (whole.length < size && whole.status != SDTOOL_STATUS_STOPPED)
             return;
-        free(answers.cells);
+        release(answers.cells, size);
     }
 }
 
@@ -114,8 +136,8 @@ static void try_messages(void)
 
         if (!is_whole(&e, out) || e.message_length != most || !same(says, message, most))
             complain("a message of size", size);
-        free(out);
-        free(says);
+        release(out, answers.size + 1);
+        release(says, size);
     }
 }
 
@@ -147,7 +169,7 @@ static void try_refusals(void)
     e = call(out, answers.size + 1, says, sizeof says);
     if (!is_whole(&e, out))
         complain("a call after refused allocations", 0);
-    free(out);
+    release(out, answers.size + 1);
 }
 
 static void print_sizes(void)
@@ -162,7 +184,7 @@ static void print_sizes(void)
         printf("%zu %u %zu %.*s", size, (unsigned)e.status, e.length, (int)e.message_length, (const char *)says);
         if (e.message_length == 0)
             putchar('\n');
-        free(out);
+        release(out, size);
     }
 }
 
@@ -176,7 +198,7 @@ static void *repeat(void *unused)
 
         if (!is_whole(&e, out) || e.message_length != whole.message_length || !same(says, message, e.message_length))
             complain("a call in a thread", (size_t)round);
-        free(out);
+        release(out, answers.size + 1);
     }
     return NULL;
 }
@@ -195,7 +217,7 @@ static void try_threads(void)
 /* The words, each with its NUL; the last without it if they are cut. */
 static struct bytes joined(int count, char **list, bool is_cut)
 {
-    struct bytes all = {NULL, 0};
+    struct bytes all = {NULL, 0, 0};
     size_t at = 0;
 
     for (int i = 0; i < count; i++)
@@ -206,13 +228,14 @@ static struct bytes joined(int count, char **list, bool is_cut)
     for (int i = 0; i < count; i++)
         for (size_t k = 0; k <= strlen(list[i]) && at < all.size; k++)
             all.cells[at++] = (uint8_t)list[i][k];
+    seal(all.cells, all.size);
     return all;
 }
 
 /* All of standard input, in a block of exactly its size. */
 static struct bytes read_all(void)
 {
-    struct bytes all = {NULL, 0};
+    struct bytes all = {NULL, 0, 0};
     char piece[FIRST_SIZE];
     size_t got;
 
@@ -222,10 +245,12 @@ static struct bytes read_all(void)
         if (all.size > 0)
             memcpy(more, all.cells, all.size);
         memcpy(more + all.size, piece, got);
-        free(all.cells);
+        if (all.cells != NULL)
+            release(all.cells, all.size);
         all.cells = more;
         all.size += got;
     }
+    seal(all.cells, all.size);
     return all;
 }
 
@@ -233,6 +258,7 @@ int main(int count, char **list)
 {
     const char *task = count > 1 ? list[1] : "";
 
+    read_environment();
     words = joined(count - 2, list + 2, strcmp(task, "cut") == 0);
     input = read_all();
     answer();
@@ -244,12 +270,15 @@ int main(int count, char **list)
         try_threads();
     if (strcmp(task, "sizes") == 0) {
         print_sizes();
+    } else if (stack_size != 0) {
+        print_stack();
     } else {
         fwrite(answers.cells, 1, answers.size, stdout);
         fwrite(message, 1, whole.message_length, stderr);
     }
-    free(words.cells);
-    free(input.cells);
-    free(answers.cells);
+    release(words.cells, words.size);
+    if (input.cells != NULL)
+        release(input.cells, input.size);
+    release(answers.cells, answers.room);
     return wrong ? WRONG : (int)whole.status;
 }

@@ -1,7 +1,8 @@
 -- The names of the faults, by their numbers.
 use Rattle.std.specs.Prelude.{ℕ, List, [], if◌then◌else◌, nat_eq, length, codes, Result, Ok, Err}
+use Rattle.sd_call.specs.declared.argument.Argument.TheVariants as which
 use Rattle.sd_call.specs.declared.outcome.CallFault.{CallFault}
-use Rattle.sd_call.specs.declared.outcome.CallFault.TheVariants.{Argument}
+use Rattle.sd_call.specs.declared.outcome.CallFault.TheVariants as call
 
 -- as in the program's `error` lines, and those of the library alone; empty where no fault has the number
 abbrev pub fault_name : ℕ → List ℕ
@@ -43,4 +44,4 @@ fault_name number =
     else []
 
 unfoldable pub name_of : ℕ → Result (List ℕ) CallFault
-name_of number = if nat_eq (length (fault_name number)) 0 then Err Argument else Ok (fault_name number)
+name_of number = if nat_eq (length (fault_name number)) 0 then Err (call.Argument which.Fault 0) else Ok (fault_name number)

@@ -4,22 +4,25 @@ use Rattle.sd_answer.specs.Faults as line
 use Rattle.sd_check.specs.declared.ask.AskFault.TheVariants as ask
 use Rattle.sd_control.specs.declared.part.Part.{Part}
 use Rattle.sd_control.specs.declared.part.Part.TheVariants as part
+use Rattle.sd_call.specs.declared.argument.Argument.{Argument}
+use Rattle.sd_call.specs.declared.argument.Argument.TheVariants as which
 use Rattle.sd_call.specs.declared.outcome.Outcome.{Outcome}
 use Rattle.sd_call.specs.declared.outcome.CallFault.{CallFault}
-use Rattle.sd_call.specs.declared.outcome.CallFault.TheVariants.{Argument, Ask, Line}
+use Rattle.sd_call.specs.declared.outcome.CallFault.TheVariants.{Ask, Line}
+use Rattle.sd_call.specs.declared.outcome.CallFault.TheVariants as call
 
 -- the number of a fault, as in the program's `error` lines; 70 where an argument is none that the call takes
 abbrev pub number : CallFault → ℕ
 number (Line fault) = line.number fault
 number (Ask ask.EmptyRequest) = 50
 number (Ask ask.ReservedBits) = 51
-number Argument = 70
+number (call.Argument argument entry) = 70
 
 -- the parts that a fault names
 abbrev pub named_parts : CallFault → Option Part × Option Part
 named_parts (Line fault) = line.named_parts fault
 named_parts (Ask fault) = (None, None)
-named_parts Argument = (None, None)
+named_parts (call.Argument argument entry) = (None, None)
 
 -- a part as a number; 0 where none is named
 abbrev pub part_number : Option Part → ℕ
@@ -29,23 +32,53 @@ part_number (Some part.Group) = 2
 part_number (Some part.Sacl) = 3
 part_number (Some part.Dacl) = 4
 
+abbrev pub argument_number : Argument → ℕ
+argument_number which.Domain = 1
+argument_number which.Sids = 2
+argument_number which.Entries = 3
+argument_number which.Object = 4
+argument_number which.PrincipalSelf = 5
+argument_number which.Mapping = 6
+argument_number which.Creator = 7
+argument_number which.Owner = 8
+argument_number which.Group = 9
+argument_number which.Kind = 10
+argument_number which.Fault = 11
+argument_number which.Sid = 12
+argument_number which.Sacl = 13
+argument_number which.Dacl = 14
+
+-- the argument that a fault is about, as a number; 0 where it is about none
+abbrev pub argument_of : CallFault → ℕ
+argument_of (Line fault) = 0
+argument_of (Ask fault) = 0
+argument_of (call.Argument argument entry) = argument_number argument
+
+-- which entry of that argument, from 0 on
+abbrev pub entry_of : CallFault → ℕ
+entry_of (Line fault) = 0
+entry_of (Ask fault) = 0
+entry_of (call.Argument argument entry) = entry
+
 abbrev pub failed : CallFault → Outcome
 failed fault = record {
   fault = number fault;
   part = part_number (named_parts fault).0;
   other_part = part_number (named_parts fault).1;
+  argument = argument_of fault;
+  entry = entry_of fault;
   length = 0;
 }
 
 abbrev pub done : ℕ → Outcome
-done n = record { fault = 0; part = 0; other_part = 0; length = n }
+done n = record { fault = 0; part = 0; other_part = 0; argument = 0; entry = 0; length = n }
 
 -- the output has no room for so many bytes
 abbrev pub too_small : ℕ → Outcome
-too_small n = record { fault = 71; part = 0; other_part = 0; length = n }
+too_small n = record { fault = 71; part = 0; other_part = 0; argument = 0; entry = 0; length = n }
 
 abbrev pub no_memory : Outcome
-no_memory = record { fault = 72; part = 0; other_part = 0; length = 0 }
+no_memory = record { fault = 72; part = 0; other_part = 0; argument = 0; entry = 0; length = 0 }
 
 -- The bytes are at the front of the output if there is room for them; if not, the call says how many there are.
 pub record Gives (bytes old new : List ℕ) (outcome : Outcome) : Type 0 where
@@ -62,16 +95,6 @@ pub record Fills (n : ℕ) (bytes old new : List ℕ) : Type 0 where
   pub count : n ≡ length bytes
   pub within : n ≤ length old
   pub front : take n new ≡ bytes
-
--- The same as `Gives`, but that memory may be refused where the output is too small.
-pub record GivesText (bytes old new : List ℕ) (outcome : Outcome) : Type 0 where
-  pub fits : length bytes ≤ length old → (outcome ≡ done (length bytes)) × (take (length bytes) new ≡ bytes)
-  pub short : length old < length bytes → (outcome ≡ too_small (length bytes)) ⊎ (outcome ≡ no_memory)
-
--- After a fault the output is unchanged.
-abbrev pub AnswersText : Result (List ℕ) CallFault → List ℕ → List ℕ → Outcome → Type 0
-AnswersText (Ok bytes) old new outcome = GivesText bytes old new outcome
-AnswersText (Err fault) old new outcome = (outcome ≡ failed fault) × (new ≡ old)
 
 -- The same as `Answers`, but that memory may be refused; then the output is unchanged.
 abbrev pub AnswersWithin : Result (List ℕ) CallFault → List ℕ → List ℕ → Outcome → Type 0

@@ -4,6 +4,7 @@ ghost use Rattle.std.specs.Prelude.{◌≡◌};
 ghost use Rattle.sd_call.specs.Outcomes.{Answers};
 ghost use Rattle.sd_call.specs.FaultNames.{fault_name, name_of};
 
+use crate::argument::Argument;
 use crate::outcome::{CallFault, Outcome, failed};
 use crate::output::give;
 
@@ -14,7 +15,7 @@ pub fn fault_text(fault: u32, text: &mut [u8]) -> Outcome
 {
     let name = fault_name(fault).as_bytes();
     if name.is_empty() {
-        return failed(CallFault::Argument);
+        return failed(CallFault::Argument(Argument::Fault, 0));
     }
     give(name, text)
 }

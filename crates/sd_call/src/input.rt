@@ -1,8 +1,9 @@
 //! Arguments as the values that they spell.
 
 ghost use Rattle.std.specs.Prelude.{◌≡◌};
-ghost use Rattle.sd_call.specs.Arguments.{descriptor_in, domain_in, mapping_in, sid_in};
+ghost use Rattle.sd_call.specs.Arguments.{descriptor_in, domain_in, mapping_in, optional_sid_in, sid_in};
 
+use crate::argument::Argument;
 use crate::outcome::CallFault;
 use sd_answer::LineFault;
 use sd_control::CAPACITY;
@@ -11,24 +12,31 @@ use sd_sid::Sid;
 use sd_view::{SdView, read};
 
 /// The SID that an argument is.
-pub fn sid_in(bytes: &[u8]) -> Result<Sid, CallFault>
-    ensures { result ≡ sid_in bytes.now }
+pub fn sid_in(argument: Argument, bytes: &[u8]) -> Result<Sid, CallFault>
+    ensures { result ≡ sid_in argument bytes.now }
 {
     match Sid::read(bytes) {
         Some((sid, size)) if size == bytes.len() => Ok(sid),
-        _ => Err(CallFault::Argument),
+        _ => Err(CallFault::Argument(argument, 0)),
     }
 }
 
-/// The domain that an argument names, if it is not empty.
-#[tactic(auto, unfolding(crate::specs::Arguments::domain_in))]
-pub fn domain_in(bytes: &[u8]) -> Result<Option<Sid>, CallFault>
-    ensures { result ≡ domain_in bytes.now }
+/// The SID that an argument is, if it is not empty.
+#[tactic(auto, unfolding(crate::specs::Arguments::optional_sid_in))]
+pub fn optional_sid_in(argument: Argument, bytes: &[u8]) -> Result<Option<Sid>, CallFault>
+    ensures { result ≡ optional_sid_in argument bytes.now }
 {
     if bytes.is_empty() {
         return Ok(None);
     }
-    sid_in(bytes).map(Some)
+    sid_in(argument, bytes).map(Some)
+}
+
+/// The domain that an argument names, if it is not empty.
+pub fn domain_in(bytes: &[u8]) -> Result<Option<Sid>, CallFault>
+    ensures { result ≡ domain_in bytes.now }
+{
+    optional_sid_in(Argument::Domain, bytes)
 }
 
 /// The kind of object whose generic rights are meant, by its number.
@@ -39,7 +47,7 @@ pub fn mapping_in(number: u32) -> Result<Mapping, CallFault>
         0 => Ok(Mapping::FILE),
         1 => Ok(Mapping::KEY),
         2 => Ok(Mapping::DS),
-        _ => Err(CallFault::Argument),
+        _ => Err(CallFault::Argument(Argument::Mapping, 0)),
     }
 }
 

@@ -1,8 +1,10 @@
 //! What a call hands back.
 
 ghost use Rattle.std.specs.Prelude.{◌≡◌};
-ghost use Rattle.sd_call.specs.Outcomes.{done, failed, named_parts, no_memory, number, part_number, too_small};
+ghost use Rattle.sd_call.specs.Outcomes.{argument_of, done, entry_of, failed, named_parts, no_memory, number};
+ghost use Rattle.sd_call.specs.Outcomes.{part_number, too_small};
 
+use crate::argument::{Argument, argument_number};
 use sd_answer::LineFault;
 use sd_check::AskFault;
 use sd_view::Part;
@@ -22,6 +24,10 @@ pub struct Outcome {
     pub part: u32,
     /// The second part that the fault names, or 0.
     pub other_part: u32,
+    /// With fault 70 the number of the argument that is wrong, or 0.
+    pub argument: u32,
+    /// Which entry of that argument is wrong, from 0 on, where it is a list; or 0.
+    pub entry: usize,
     /// How many bytes the output has, or needs.
     pub length: usize,
 }
@@ -33,8 +39,8 @@ pub enum CallFault {
     Line(LineFault),
     /// 50 and 51: nothing can be asked.
     Ask(AskFault),
-    /// 70: an argument beside the text or the descriptor is none that the call takes.
-    Argument,
+    /// 70: an argument beside the text or the descriptor is none that the call takes; of a list, at this entry.
+    Argument(Argument, usize),
 }
 
 /// So many bytes are at the front of the output.
@@ -45,6 +51,8 @@ pub fn done(length: usize) -> Outcome
         fault: 0,
         part: 0,
         other_part: 0,
+        argument: 0,
+        entry: 0,
         length,
     }
 }
@@ -57,6 +65,8 @@ pub fn too_small(length: usize) -> Outcome
         fault: TOO_SMALL,
         part: 0,
         other_part: 0,
+        argument: 0,
+        entry: 0,
         length,
     }
 }
@@ -69,6 +79,8 @@ pub fn no_memory() -> Outcome
         fault: NO_MEMORY,
         part: 0,
         other_part: 0,
+        argument: 0,
+        entry: 0,
         length: 0,
     }
 }
@@ -82,6 +94,8 @@ pub fn failed(fault: CallFault) -> Outcome
         fault: number(fault),
         part: part_number(parts.0),
         other_part: part_number(parts.1),
+        argument: argument_of(fault),
+        entry: entry_of(fault),
         length: 0,
     }
 }
@@ -93,7 +107,7 @@ fn number(fault: CallFault) -> u32
         CallFault::Line(fault) => fault.number(),
         CallFault::Ask(AskFault::EmptyRequest) => 50,
         CallFault::Ask(AskFault::ReservedBits) => 51,
-        CallFault::Argument => 70,
+        CallFault::Argument(_, _) => 70,
     }
 }
 
@@ -102,7 +116,26 @@ fn named_parts(fault: CallFault) -> (Option<Part>, Option<Part>)
 {
     match fault {
         CallFault::Line(fault) => fault.named_parts(),
-        CallFault::Ask(_) | CallFault::Argument => (None, None),
+        CallFault::Ask(_) | CallFault::Argument(_, _) => (None, None),
+    }
+}
+
+// The number of the argument that a fault is about.
+fn argument_of(fault: CallFault) -> u32
+    ensures { result ≡ argument_of fault }
+{
+    match fault {
+        CallFault::Line(_) | CallFault::Ask(_) => 0,
+        CallFault::Argument(argument, _) => argument_number(argument),
+    }
+}
+
+fn entry_of(fault: CallFault) -> usize
+    ensures { result ≡ entry_of fault }
+{
+    match fault {
+        CallFault::Line(_) | CallFault::Ask(_) => 0,
+        CallFault::Argument(_, entry) => entry,
     }
 }
 

@@ -1,5 +1,5 @@
 -- What the access check gives: a verdict, or why there is none.
-use Rattle.std.specs.Prelude.{◌≡◌, ◌⊎◌, ℕ, List, [], ◌∷◌, true, false, ◌||◌, if◌then◌else◌, nat_eq, nat_lt, length}
+use Rattle.std.specs.Prelude.{◌≡◌, ◌⊎◌, ◌+◌, ℕ, List, [], ◌∷◌, true, false, ◌||◌, if◌then◌else◌, nat_eq, nat_lt, length}
 use Rattle.std.specs.Prelude.{drop, Option, Some, None, Result, Ok, Err}
 use Rattle.uuid.specs.Parts.{swap_fields}
 use Rattle.sd_text.specs.Chains.{◌>>=◌, fault_as, unless}
@@ -13,30 +13,36 @@ use Rattle.sd_check.specs.Ask.{Asked, ask_fault, asks_maximum, wanted_of}
 use Rattle.sd_check.specs.Verdict.{verdict}
 use Rattle.sd_check.specs.declared.verdict.Verdict.{Verdict}
 use Rattle.sd_check.specs.declared.verdict.Verdict.TheVariants.{Denied, Granted}
-use Rattle.sd_call.specs.Arguments.{descriptor_in, domain_in, mapping_in}
-use Rattle.sd_call.specs.Outcomes.{named_parts, number, part_number}
+use Rattle.sd_call.specs.Arguments.{descriptor_in, mapping_in, optional_sid_in}
+use Rattle.sd_call.specs.Outcomes.{argument_of, entry_of, named_parts, number, part_number}
+use Rattle.sd_call.specs.declared.argument.Argument.TheVariants as which
 use Rattle.sd_call.specs.declared.outcome.CallFault.{CallFault}
-use Rattle.sd_call.specs.declared.outcome.CallFault.TheVariants.{Argument, Ask}
+use Rattle.sd_call.specs.declared.outcome.CallFault.TheVariants.{Ask}
+use Rattle.sd_call.specs.declared.outcome.CallFault.TheVariants as call
 use Rattle.sd_call_check.specs.declared.request.Request.{Request}
 use Rattle.sd_call_check.specs.declared.verdict.VerdictOutcome.{VerdictOutcome}
 
 -- 1. Who asks.
 
-abbrev pub kind_in : ℕ → Result EntryKind CallFault
-kind_in byte = if nat_eq byte 0 then Ok Enabled else if nat_eq byte 1 then Ok DenyOnly else Err Argument
+-- the kind of the entry with this number
+abbrev pub kind_in : ℕ → ℕ → Result EntryKind CallFault
+kind_in n byte =
+    if nat_eq byte 0 then Ok Enabled
+    else if nat_eq byte 1 then Ok DenyOnly
+    else Err (call.Argument which.Entries n)
 
--- what is found, or the fault of an argument
-abbrev pub needed : {A : Type 0} → Option A → Result A CallFault
-needed None = Err Argument
-needed (Some value) = Ok value
+-- the SID of the entry with this number, and its size
+abbrev pub sid_found : ℕ → Option (SecurityId × ℕ) → Result (SecurityId × ℕ) CallFault
+sid_found n None = Err (call.Argument which.Sids n)
+sid_found n (Some found) = Ok found
 
--- the SIDs one after the other with nothing behind the last, and a byte for each
-abbrev pub entries_in : List ℕ → List ℕ → Result (List Entry) CallFault
-entries_in sids [] = if nat_eq (length sids) 0 then Ok [] else Err Argument
-entries_in sids (byte ∷ bytes) = do
-  kind ← kind_in byte
-  front ← needed (sid_at sids)
-  others ← entries_in (drop front.1 sids) bytes
+-- From the entry with this number on: the SIDs one after the other with nothing behind the last, and a byte for each.
+abbrev pub entries_from : ℕ → List ℕ → List ℕ → Result (List Entry) CallFault
+entries_from n sids [] = if nat_eq (length sids) 0 then Ok [] else Err (call.Argument which.Sids n)
+entries_from n sids (byte ∷ bytes) = do
+  kind ← kind_in n byte
+  front ← sid_found n (sid_at sids)
+  others ← entries_from (n + 1) (drop front.1 sids) bytes
   Ok ((front.0, kind) ∷ others)
 
 abbrev pub level_of : Request → Option ℕ
@@ -44,9 +50,9 @@ level_of request = if request.has_level then Some request.level else None
 
 unfoldable pub holder_in : List ℕ → List ℕ → Request → Result Holder CallFault
 holder_in sids kinds request =
-    if nat_lt most_entries (length kinds) then Err Argument
+    if nat_lt most_entries (length kinds) then Err (call.Argument which.Entries most_entries)
     else do
-      entries ← entries_in sids kinds
+      entries ← entries_from 0 sids kinds
       Ok (record { entries = entries; level = level_of request })
 
 -- 2. What is asked.
@@ -56,7 +62,7 @@ unfoldable pub object_in : List ℕ → Result (Option (List ℕ)) CallFault
 object_in bytes =
     if nat_eq (length bytes) 0 then Ok None
     else if nat_eq (length bytes) 16 then Ok (Some (swap_fields bytes))
-    else Err Argument
+    else Err (call.Argument which.Object 0)
 
 abbrev pub asked : Request → GenericMapping → Option (List ℕ) → Option SecurityId → Asked
 asked request mapping object principal_self = record {
@@ -73,7 +79,7 @@ unfoldable pub ask_in : Request → List ℕ → List ℕ → Result Asked CallF
 ask_in request object principal_self = do
   mapping ← mapping_in request.mapping
   type ← object_in object
-  principal ← domain_in principal_self
+  principal ← optional_sid_in which.PrincipalSelf principal_self
   fault_as Ask (unless (ask_fault request.wanted request.maximum) (asked request mapping type principal))
 
 -- 3. The answer.
@@ -91,18 +97,22 @@ checked bytes sids kinds object principal_self request = do
   verdict_on bytes holder ask
 
 abbrev pub told : Result Verdict CallFault → VerdictOutcome
-told (Ok (Granted mask)) = record { fault = 0; part = 0; other_part = 0; mask = mask; granted = true }
-told (Ok (Denied mask)) = record { fault = 0; part = 0; other_part = 0; mask = mask; granted = false }
+told (Ok (Granted mask)) =
+    record { fault = 0; part = 0; other_part = 0; argument = 0; entry = 0; mask = mask; granted = true }
+told (Ok (Denied mask)) =
+    record { fault = 0; part = 0; other_part = 0; argument = 0; entry = 0; mask = mask; granted = false }
 told (Err fault) = record {
   fault = number fault;
   part = part_number (named_parts fault).0;
   other_part = part_number (named_parts fault).1;
+  argument = argument_of fault;
+  entry = entry_of fault;
   mask = 0;
   granted = false;
 }
 
 abbrev pub untold : VerdictOutcome
-untold = record { fault = 72; part = 0; other_part = 0; mask = 0; granted = false }
+untold = record { fault = 72; part = 0; other_part = 0; argument = 0; entry = 0; mask = 0; granted = false }
 
 -- Memory may be refused; else the outcome tells the answer.
 abbrev pub Tells : Result Verdict CallFault → VerdictOutcome → Type 0

@@ -1,13 +1,13 @@
 //! The call that checks access.
 
-ghost use Rattle.std.specs.Prelude.{◌≡◌};
+ghost use Rattle.std.specs.Prelude.{◌≡◌, []};
 ghost use Rattle.sd_call_check.specs.Checks.{Tells, ask_in, checked, object_in, verdict_on};
 
 use crate::request::Request;
 use crate::token::give_holder;
 use crate::verdict::{VerdictOutcome, told, untold};
 use sd_ace::guid_read;
-use sd_call::{CallFault, descriptor_in, domain_in, mapping_in};
+use sd_call::{Argument, CallFault, descriptor_in, mapping_in, optional_sid_in};
 use sd_check::{Ask, Privileges, Verdict, check};
 use sd_token::Token;
 use std::alloc::Global;
@@ -28,32 +28,53 @@ pub fn check_access(
     let Ok(mut token) = Token::new(alloc) else {
         return untold();
     };
-    if let Err(fault) = give_holder(&mut token, sids, kinds, request) {
-        return told(Err(fault));
-    }
-    match ask_in(request, object, principal_self) {
-        Ok(ask) => told(verdict_on(bytes, &mut token, &ask)),
-        Err(fault) => told(Err(fault)),
-    }
+    told(check_by(
+        &mut token,
+        bytes,
+        sids,
+        kinds,
+        object,
+        principal_self,
+        request,
+    ))
 }
 
-// The verdict on the descriptor that some bytes show.
+// The verdict, for a new token that gets the SIDs.
+#[tactic(auto, unfolding(crate::specs::Checks::checked))]
+fn check_by(
+    token: &mut Token,
+    bytes: &[u8],
+    sids: &[u8],
+    kinds: &[u8],
+    object: &[u8],
+    principal_self: &[u8],
+    request: &Request,
+) -> Result<Verdict, CallFault>
+    requires { token.old.holder.entries ≡ [] }
+    ensures { result ≡ checked bytes.now sids.now kinds.now object.now principal_self.now request.now }
+{
+    give_holder(token, sids, kinds, request)?;
+    let ask = ask_in(request, object, principal_self)?;
+    verdict_on(bytes, token, &ask)
+}
+
+/// The verdict on the descriptor that some bytes show.
 #[tactic(auto, unfolding(crate::specs::Checks::verdict_on))]
-fn verdict_on(bytes: &[u8], token: &mut Token, ask: &Ask) -> Result<Verdict, CallFault>
+pub fn verdict_on(bytes: &[u8], token: &mut Token, ask: &Ask) -> Result<Verdict, CallFault>
     ensures { result ≡ verdict_on bytes.now token.old.holder ask.now }
 {
     let view = descriptor_in(bytes)?;
     Ok(check(&view, token, ask))
 }
 
-// What is asked, or why nothing can be.
+/// What is asked, or why nothing can be.
 #[tactic(auto, unfolding(crate::specs::Checks::ask_in))]
-fn ask_in(request: &Request, object: &[u8], principal_self: &[u8]) -> Result<Ask, CallFault>
+pub fn ask_in(request: &Request, object: &[u8], principal_self: &[u8]) -> Result<Ask, CallFault>
     ensures { result ≡ ask_in request.now object.now principal_self.now }
 {
     let mapping = mapping_in(request.mapping)?;
     let object = object_in(object)?;
-    let principal = domain_in(principal_self)?;
+    let principal = optional_sid_in(Argument::PrincipalSelf, principal_self)?;
     let privileges = Privileges {
         security: request.security,
         take_ownership: request.take_ownership,
@@ -79,6 +100,6 @@ fn object_in(bytes: &[u8]) -> Result<Option<Uuid>, CallFault>
     }
     match <&[u8; 16]>::try_from(bytes) {
         Ok(bytes) => Ok(Some(guid_read(bytes))),
-        Err(_) => Err(CallFault::Argument),
+        Err(_) => Err(CallFault::Argument(Argument::Object, 0)),
     }
 }

@@ -6,6 +6,7 @@ mod request;
 mod token;
 mod verdict;
 
-pub use access::check_access;
+pub use access::{ask_in, check_access, verdict_on};
 pub use request::Request;
-pub use verdict::VerdictOutcome;
+pub use token::give_holder;
+pub use verdict::{VerdictOutcome, told, untold};

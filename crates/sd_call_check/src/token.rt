@@ -2,10 +2,10 @@
 
 ghost use Rattle.std.specs.Prelude.{◌≡◌, ◌≤◌, ◌+◌, ◌++◌, [], length, MatchResult, Ok, Err};
 ghost use Rattle.sd_text.specs.Limits.{most_entries};
-ghost use Rattle.sd_call_check.specs.Checks.{entries_in, holder_in, kind_in};
+ghost use Rattle.sd_call_check.specs.Checks.{entries_from, holder_in, kind_in};
 
 use crate::request::Request;
-use sd_call::CallFault;
+use sd_call::{Argument, CallFault};
 use sd_sid::Sid;
 use sd_text::MOST_ENTRIES;
 use sd_token::{EntryKind, Token};
@@ -24,45 +24,52 @@ pub fn give_holder(
         (λ fault. result ≡ Err fault) }
 {
     if kinds.len() > MOST_ENTRIES {
-        return Err(CallFault::Argument);
+        return Err(CallFault::Argument(Argument::Entries, MOST_ENTRIES));
     }
     add_entries(token, sids, kinds)?;
     token.set_level(request.has_level.then_some(request.level));
     Ok(())
 }
 
-// Adds the SIDs, one after the other. It calls itself for the second and the others: at most 1,024 times.
-#[tactic(auto, using(crate::proofs::TokenLemmas::sid_fits))]
+// Adds the SIDs, one after the other.
+#[tactic(auto, using(crate::proofs::TokenLemmas::sid_fits, crate::proofs::TokenLemmas::behind_none))]
 fn add_entries(token: &mut Token, sids: &[u8], kinds: &[u8]) -> Result<(), CallFault>
-    requires { length token.old.holder.entries + length kinds.now ≤ most_entries }
-    ensures { MatchResult (entries_in sids.now kinds.now)
-        (λ entries. (result ≡ Ok tt)
-        × (token.new.holder ≡ record token.old.holder { entries = token.old.holder.entries ++ entries }))
+    requires none { token.old.holder.entries ≡ [] }
+    requires few { length kinds.now ≤ most_entries }
+    ensures { MatchResult (entries_from 0 sids.now kinds.now)
+        (λ entries. (result ≡ Ok tt) × (token.new.holder ≡ record token.old.holder { entries = entries }))
         (λ fault. result ≡ Err fault) }
 {
-    let Some((kind, kinds)) = kinds.split_first() else {
-        if sids.is_empty() {
-            return Ok(());
-        }
-        return Err(CallFault::Argument);
-    };
-    let kind = kind_in(*kind)?;
-    let Some((sid, size)) = Sid::read(sids) else {
-        return Err(CallFault::Argument);
-    };
-    match token.add(sid, kind) {
-        Ok(()) => add_entries(token, &sids[size..], kinds),
+    let mut n = 0;
+    let mut rest = sids;
+    let mut kinds_left = kinds;
+    while let Some((byte, others)) = kinds_left.split_first() {
+        let kind = kind_in(*byte, n)?;
+        let Some((sid, size)) = Sid::read(rest) else {
+            return Err(CallFault::Argument(Argument::Sids, n));
+        };
         // There is room for all.
-        Err(_) => Err(CallFault::Argument),
+        if token.add(sid, kind).is_err() {
+            return Err(CallFault::Argument(Argument::Entries, n));
+        }
+        rest = &rest[size..];
+        kinds_left = others;
+        n += 1;
+    }
+    if rest.is_empty() {
+        Ok(())
+    } else {
+        Err(CallFault::Argument(Argument::Sids, n))
     }
 }
 
-fn kind_in(byte: u8) -> Result<EntryKind, CallFault>
-    ensures { result ≡ kind_in byte }
+// The kind of the entry with this number.
+fn kind_in(byte: u8, n: usize) -> Result<EntryKind, CallFault>
+    ensures { result ≡ kind_in n byte }
 {
     match byte {
         0 => Ok(EntryKind::Enabled),
         1 => Ok(EntryKind::DenyOnly),
-        _ => Err(CallFault::Argument),
+        _ => Err(CallFault::Argument(Argument::Entries, n)),
     }
 }

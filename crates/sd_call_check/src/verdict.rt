@@ -16,6 +16,10 @@ pub struct VerdictOutcome {
     pub part: u32,
     /// The second part that the fault names, or 0.
     pub other_part: u32,
+    /// With fault 70 the number of the argument that is wrong, or 0.
+    pub argument: u32,
+    /// Which entry of that argument is wrong, from 0 on, where it is a list; or 0.
+    pub entry: usize,
     /// The rights that are granted, or those that are missing.
     pub mask: u32,
     /// Whether each wanted right is granted.
@@ -46,6 +50,8 @@ fn with_rights(outcome: Outcome, mask: u32, granted: bool) -> VerdictOutcome
       fault = outcome.fault;
       part = outcome.part;
       other_part = outcome.other_part;
+      argument = outcome.argument;
+      entry = outcome.entry;
       mask = mask;
       granted = granted;
     } }
@@ -54,6 +60,8 @@ fn with_rights(outcome: Outcome, mask: u32, granted: bool) -> VerdictOutcome
         fault: outcome.fault,
         part: outcome.part,
         other_part: outcome.other_part,
+        argument: outcome.argument,
+        entry: outcome.entry,
         mask,
         granted,
     }

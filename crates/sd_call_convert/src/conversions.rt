@@ -1,10 +1,11 @@
 //! The calls that convert descriptors.
 
-ghost use Rattle.std.specs.Prelude.{◌≡◌, codes};
+ghost use Rattle.std.specs.Prelude.{◌≡◌, IfErr, codes};
 ghost use Rattle.std.specs.Option.{option_copied};
 ghost use Rattle.sd_view.specs.Layout.{layout};
-ghost use Rattle.sd_call.specs.Outcomes.{Answers, AnswersText, AnswersWithin, Gives};
-ghost use Rattle.sd_call_convert.specs.Conversions.{explained, from_sddl, normalized, text_in, to_sddl};
+ghost use Rattle.sd_call.specs.Arguments.{domain_in};
+ghost use Rattle.sd_call.specs.Outcomes.{Answers, AnswersWithin, Gives, failed};
+ghost use Rattle.sd_call_convert.specs.Conversions.{explained, from_sddl, laid_out, normalized, text_in, to_sddl};
 
 use crate::printing::{Text, give_text, named_in};
 use sd_answer::LineFault;
@@ -26,33 +27,21 @@ pub fn version(text: &mut [u8]) -> Outcome
 }
 
 /// Gives a descriptor as SDDL.
-pub fn to_sddl(
-    alloc: Global,
-    bytes: &[u8],
-    domain: &[u8],
-    numeric: bool,
-    text: &mut [u8],
-) -> Outcome
-    ensures { AnswersText (to_sddl bytes.now domain.now numeric) text.old text.new result }
+pub fn to_sddl(bytes: &[u8], domain: &[u8], numeric: bool, text: &mut [u8]) -> Outcome
+    ensures { Answers (to_sddl bytes.now domain.now numeric) text.old text.new result }
 {
     match named_in(bytes, domain, numeric) {
-        Ok(named) => give_text(alloc, Text::Sddl, &named, text),
+        Ok(named) => give_text(Text::Sddl, &named, text),
         Err(fault) => failed(fault),
     }
 }
 
 /// Gives the explanation of a descriptor.
-pub fn explain_text(
-    alloc: Global,
-    bytes: &[u8],
-    domain: &[u8],
-    numeric: bool,
-    text: &mut [u8],
-) -> Outcome
-    ensures { AnswersText (explained bytes.now domain.now numeric) text.old text.new result }
+pub fn explain_text(bytes: &[u8], domain: &[u8], numeric: bool, text: &mut [u8]) -> Outcome
+    ensures { Answers (explained bytes.now domain.now numeric) text.old text.new result }
 {
     match named_in(bytes, domain, numeric) {
-        Ok(named) => give_text(alloc, Text::Explanation, &named, text),
+        Ok(named) => give_text(Text::Explanation, &named, text),
         Err(fault) => failed(fault),
     }
 }
@@ -69,16 +58,25 @@ pub fn normalize(bytes: &[u8], output: &mut [u8]) -> Outcome
 
 /// Gives the bytes of the descriptor that a text of SDDL means.
 pub fn from_sddl(alloc: Global, text: &[u8], domain: &[u8], output: &mut [u8]) -> Outcome
-    ensures { AnswersWithin (from_sddl text.now domain.now) output.old output.new result }
+    ensures answers { AnswersWithin (from_sddl text.now domain.now) output.old output.new result }
+    // A wrong domain is told before memory is asked for.
+    ensures told_first { IfErr (domain_in domain.now) (λ fault. result ≡ failed fault) }
 {
     let domain = match domain_in(domain) {
         Ok(domain) => domain,
         Err(fault) => return failed(fault),
     };
-    let Ok(mut buf) = SdBuf::new(alloc) else {
-        return no_memory();
-    };
-    match read_text(text, domain.as_ref(), &mut buf) {
+    match SdBuf::new(alloc) {
+        Ok(mut buf) => give_meant(text, domain.as_ref(), &mut buf, output),
+        Err(_) => no_memory(),
+    }
+}
+
+// Gives the layout of what a text means. It is read into the buffer, whatever that holds.
+fn give_meant(text: &[u8], domain: Option<&Sid>, buf: &mut SdBuf, output: &mut [u8]) -> Outcome
+    ensures { Answers (laid_out (text_in (option_copied domain.entry) text.now)) output.old output.new result }
+{
+    match read_text(text, domain, buf) {
         Ok(view) => give_layout(&view, output),
         Err(fault) => failed(fault),
     }

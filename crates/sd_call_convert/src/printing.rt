@@ -1,16 +1,18 @@
 //! Descriptors printed to the output.
 
-ghost use Rattle.std.specs.Prelude.{◌≡◌, ◌<◌, length, MatchOption};
-ghost use Rattle.sd_call.specs.Outcomes.{Fills, GivesText};
+ghost use Rattle.std.specs.Prelude.{◌≡◌, ◌<◌, ◌≤◌, ◌+◌, ◌*◌, length, MatchOption};
+ghost use Rattle.sd_sink.specs.Sink.{Puts};
+ghost use Rattle.sd_view.specs.Layout.{size};
+ghost use Rattle.sd_call.specs.Outcomes.{Fills, Gives};
 ghost use Rattle.sd_call_convert.specs.Conversions.{named_in, text_of};
 ghost use Rattle.sd_call_convert.specs.declared.printing.Text.TheVariants as Text;
 
-use sd_call::{CallFault, Front, Outcome, descriptor_in, domain_in, done, no_memory, too_small};
+use sd_call::{CallFault, Counter, Front, Outcome, descriptor_in, domain_in, done, too_small};
 use sd_explain::put_explain;
 use sd_sddl_printer::put_sddl;
 use sd_sid::Naming;
+use sd_sink::{Sink, SinkFault};
 use sd_view::SdView;
-use std::alloc::Global;
 
 /// What is printed of a descriptor.
 #[derive(Clone, Copy)]
@@ -39,20 +41,13 @@ pub fn named_in<'a>(bytes: &'a [u8], domain: &[u8], numeric: bool) -> Result<Nam
     })
 }
 
-/// Gives a text of the descriptor. If there is no room for it, the text is printed once more, to find its length.
-pub fn give_text(alloc: Global, what: Text, named: &Named<'_>, output: &mut [u8]) -> Outcome
-    ensures { GivesText (text_of what named.now) output.old output.new result }
+/// Gives a text of the descriptor. If there is no room for it, the text is printed once more, to count its bytes.
+pub fn give_text(what: Text, named: &Named<'_>, output: &mut [u8]) -> Outcome
+    ensures { Gives (text_of what named.now) output.old output.new result }
 {
-    if let Some(count) = print_to(what, named, output) {
-        return done(count);
-    }
-    // No text is longer.
-    let Ok(mut cells) = vec![in alloc; 0u8; 8 * named.view.size() as usize + 64] else {
-        return no_memory();
-    };
-    match print_to(what, named, &mut cells) {
-        Some(count) => too_small(count),
-        None => no_memory(),
+    match print_to(what, named, output) {
+        Some(count) => done(count),
+        None => too_small(text_length(what, named)),
     }
 }
 
@@ -67,13 +62,33 @@ fn print_to(what: Text, named: &Named<'_>, cells: &mut [u8]) -> Option<usize>
         held: 0,
         failures: 0,
     };
-    let Naming { domain, numeric } = &named.naming;
-    let put = match what {
-        Text::Sddl => put_sddl(&named.view, domain.as_ref(), *numeric, &mut sink),
-        Text::Explanation => put_explain(&named.view, domain.as_ref(), *numeric, &mut sink),
-    };
-    match put {
+    match put_text(what, named, &mut sink) {
         Ok(()) => Some(sink.held.min(most)),
         Err(_) => None,
+    }
+}
+
+// How many bytes the text has.
+fn text_length(what: Text, named: &Named<'_>) -> usize
+    ensures { result ≡ length (text_of what named.now) }
+{
+    let mut counter = Counter {
+        count: 0,
+        failures: 0,
+    };
+    // No text is as long as a counter counts.
+    let _size = named.view.size();
+    let _ = put_text(what, named, &mut counter);
+    counter.count
+}
+
+fn put_text<S: Sink>(what: Text, named: &Named<'_>, sink: &mut S) -> Result<(), SinkFault>
+    ensures put { Puts (S.told sink.old) (S.told sink.new) (text_of what named.now) result }
+    ensures short { length (text_of what named.now) ≤ 8 * size named.now.view + 64 }
+{
+    let Naming { domain, numeric } = &named.naming;
+    match what {
+        Text::Sddl => put_sddl(&named.view, domain.as_ref(), *numeric, sink),
+        Text::Explanation => put_explain(&named.view, domain.as_ref(), *numeric, sink),
     }
 }

@@ -1,12 +1,14 @@
 //! The call that derives descriptors.
 
-ghost use Rattle.std.specs.Prelude.{◌≡◌, MatchResult, Ok, Err};
-ghost use Rattle.sd_call.specs.Outcomes.{AnswersWithin};
-ghost use Rattle.sd_call_derive.specs.Derivations.{creator_in, derivation, plan_in, planned, target_in};
+ghost use Rattle.std.specs.Prelude.{◌≡◌, IfErr};
+ghost use Rattle.sd_call.specs.Outcomes.{Answers, AnswersWithin, failed};
+ghost use Rattle.sd_call_derive.specs.Derivations.{creator_in, derivation, new_layout, origin_in, plan_in, target_in};
 
 use sd_answer::LineFault;
 use sd_buffer::SdBuf;
-use sd_call::{CallFault, Outcome, descriptor_in, failed, give, mapping_in, no_memory, sid_in};
+use sd_call::{
+    Argument, CallFault, Outcome, descriptor_in, failed, give, mapping_in, no_memory, sid_in,
+};
 use sd_inherit::{Plan, Target, derive};
 use sd_view::SdView;
 use std::alloc::Global;
@@ -22,34 +24,60 @@ pub fn derive_new(
     mapping: u32,
     output: &mut [u8],
 ) -> Outcome
-    ensures { AnswersWithin (derivation parent.now creator.now owner.now group.now kind mapping)
+    ensures answers { AnswersWithin (derivation parent.now creator.now owner.now group.now kind mapping)
         output.old output.new result }
+    // What cannot be derived from is told before memory is asked for.
+    ensures told_first { IfErr (origin_in parent.now creator.now owner.now group.now kind mapping)
+        (λ fault. result ≡ failed fault) }
 {
-    let Ok(mut buf) = SdBuf::new(alloc) else {
-        return no_memory();
-    };
-    let plan = match plan_in(kind, mapping, owner, group) {
-        Ok(plan) => plan,
+    let origin = match origin_in(parent, creator, owner, group, kind, mapping) {
+        Ok(origin) => origin,
         Err(fault) => return failed(fault),
     };
-    match derive_in(&plan, parent, creator, &mut buf) {
-        Ok(()) => give(buf.bytes(), output),
-        Err(fault) => failed(fault),
+    match SdBuf::new(alloc) {
+        Ok(mut buf) => give_derived(&origin, &mut buf, output),
+        Err(_) => no_memory(),
     }
 }
 
-// Builds the new descriptor in the buffer.
-#[tactic(auto, unfolding(crate::specs::Derivations::planned))]
-fn derive_in(plan: &Plan, parent: &[u8], creator: &[u8], buf: &mut SdBuf) -> Result<(), CallFault>
-    ensures { MatchResult (planned plan.now parent.now creator.now)
-        (λ bytes. (result ≡ Ok tt) × (buf.new ≡ bytes))
-        (λ fault. result ≡ Err fault) }
+/// What a descriptor is derived from.
+#[derive(Drop)]
+pub struct Origin<'a> {
+    pub parent: SdView<'a>,
+    pub creator: Option<SdView<'a>>,
+    pub plan: Plan,
+}
+
+// What the arguments derive from.
+#[tactic(auto, unfolding(crate::specs::Derivations::origin_in))]
+fn origin_in<'a>(
+    parent: &'a [u8],
+    creator: &'a [u8],
+    owner: &[u8],
+    group: &[u8],
+    kind: u32,
+    mapping: u32,
+) -> Result<Origin<'a>, CallFault>
+    ensures { result ≡ origin_in parent.now creator.now owner.now group.now kind mapping }
 {
+    let plan = plan_in(kind, mapping, owner, group)?;
     let creator = creator_in(creator)?;
     let parent = descriptor_in(parent)?;
-    derive(&parent, creator.as_ref(), plan, buf).map_err(|fault| CallFault::Line(LineFault::Derive(
-        fault,
-    )))
+    Ok(Origin {
+        parent,
+        creator,
+        plan,
+    })
+}
+
+// Gives the new descriptor. It is built in the buffer, whatever that holds.
+fn give_derived(origin: &Origin<'_>, buf: &mut SdBuf, output: &mut [u8]) -> Outcome
+    ensures { Answers (new_layout origin.now) output.old output.new result }
+{
+    match derive(&origin.parent, origin.creator.as_ref(), &origin.plan, buf) {
+        Ok(()) => give(buf.bytes(), output),
+        Err(fault) => failed(CallFault::Line(LineFault::Derive(fault))),
+    }
 }
 
 #[tactic(auto, unfolding(crate::specs::Derivations::plan_in))]
@@ -58,8 +86,8 @@ fn plan_in(kind: u32, mapping: u32, owner: &[u8], group: &[u8]) -> Result<Plan, 
 {
     let target = target_in(kind)?;
     let mapping = mapping_in(mapping)?;
-    let owner = sid_in(owner)?;
-    let group = sid_in(group)?;
+    let owner = sid_in(Argument::Owner, owner)?;
+    let group = sid_in(Argument::Group, group)?;
     Ok(Plan {
         target,
         owner,
@@ -74,7 +102,7 @@ fn target_in(number: u32) -> Result<Target, CallFault>
     match number {
         0 => Ok(Target::File),
         1 => Ok(Target::Container),
-        _ => Err(CallFault::Argument),
+        _ => Err(CallFault::Argument(Argument::Kind, 0)),
     }
 }
 
@@ -88,6 +116,6 @@ fn creator_in(bytes: &[u8]) -> Result<Option<SdView<'_>>, CallFault>
     }
     match descriptor_in(bytes) {
         Ok(view) => Ok(Some(view)),
-        Err(_) => Err(CallFault::Argument),
+        Err(_) => Err(CallFault::Argument(Argument::Creator, 0)),
     }
 }

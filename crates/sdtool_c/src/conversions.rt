@@ -1,7 +1,8 @@
 //! The calls that convert descriptors.
 
-ghost use Rattle.std.specs.Prelude.{codes};
-ghost use Rattle.sd_call.specs.Outcomes.{Answers, AnswersText, AnswersWithin, Gives};
+ghost use Rattle.std.specs.Prelude.{◌≡◌, IfErr, codes};
+ghost use Rattle.sd_call.specs.Arguments.{domain_in};
+ghost use Rattle.sd_call.specs.Outcomes.{Answers, AnswersWithin, Gives, failed};
 ghost use Rattle.sd_call_convert.specs.Conversions.{explained, from_sddl, normalized, to_sddl};
 
 use sd_call::Outcome;
@@ -16,32 +17,38 @@ pub extern "C" fn sdtool_version(text: &mut [u8]) -> Outcome
     version(text)
 }
 
+/// The library's version as a number.
+#[unsafe(no_mangle)]
+pub extern "C" fn sdtool_version_number() -> u32
+    ensures { result ≡ 100 }
+{
+    100
+}
+
 /// Gives a descriptor as SDDL.
 #[unsafe(no_mangle)]
 pub extern "C" fn sdtool_to_sddl(
-    alloc: Global,
     bytes: &[u8],
     domain: &[u8],
     numeric: bool,
     text: &mut [u8],
 ) -> Outcome
-    ensures { AnswersText (to_sddl bytes.now domain.now numeric) text.old text.new result }
+    ensures { Answers (to_sddl bytes.now domain.now numeric) text.old text.new result }
 {
-    to_sddl(alloc, bytes, domain, numeric, text)
+    to_sddl(bytes, domain, numeric, text)
 }
 
 /// Gives the explanation of a descriptor.
 #[unsafe(no_mangle)]
 pub extern "C" fn sdtool_explain(
-    alloc: Global,
     bytes: &[u8],
     domain: &[u8],
     numeric: bool,
     text: &mut [u8],
 ) -> Outcome
-    ensures { AnswersText (explained bytes.now domain.now numeric) text.old text.new result }
+    ensures { Answers (explained bytes.now domain.now numeric) text.old text.new result }
 {
-    explain_text(alloc, bytes, domain, numeric, text)
+    explain_text(bytes, domain, numeric, text)
 }
 
 /// Gives the one layout of a descriptor.
@@ -60,7 +67,9 @@ pub extern "C" fn sdtool_from_sddl(
     domain: &[u8],
     output: &mut [u8],
 ) -> Outcome
-    ensures { AnswersWithin (from_sddl text.now domain.now) output.old output.new result }
+    ensures answers { AnswersWithin (from_sddl text.now domain.now) output.old output.new result }
+    // A wrong domain is told before memory is asked for.
+    ensures told_first { IfErr (domain_in domain.now) (λ fault. result ≡ failed fault) }
 {
     from_sddl(alloc, text, domain, output)
 }

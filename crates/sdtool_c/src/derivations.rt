@@ -1,7 +1,8 @@
 //! The call that derives descriptors.
 
-ghost use Rattle.sd_call.specs.Outcomes.{AnswersWithin};
-ghost use Rattle.sd_call_derive.specs.Derivations.{derivation};
+ghost use Rattle.std.specs.Prelude.{◌≡◌, IfErr};
+ghost use Rattle.sd_call.specs.Outcomes.{AnswersWithin, failed};
+ghost use Rattle.sd_call_derive.specs.Derivations.{derivation, origin_in};
 
 use sd_call::Outcome;
 use sd_call_derive::derive_new;
@@ -19,8 +20,11 @@ pub extern "C" fn sdtool_derive(
     mapping: u32,
     output: &mut [u8],
 ) -> Outcome
-    ensures { AnswersWithin (derivation parent.now creator.now owner.now group.now kind mapping)
+    ensures answers { AnswersWithin (derivation parent.now creator.now owner.now group.now kind mapping)
         output.old output.new result }
+    // What cannot be derived from is told before memory is asked for.
+    ensures told_first { IfErr (origin_in parent.now creator.now owner.now group.now kind mapping)
+        (λ fault. result ≡ failed fault) }
 {
     derive_new(alloc, parent, creator, owner, group, kind, mapping, output)
 }
