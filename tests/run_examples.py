@@ -3,7 +3,8 @@
 
 Runs the examples of the documents: each command that stands after '$ ' in a fenced block, or in the man page's
 section EXAMPLES, with the program on the PATH as sdtool. What it prints, on both streams, has to be what the document
-shows below it. A document without an example fails, and so does an example that stands in no such block.
+shows below it. A document without an example fails, and so does an example that stands in no such block. In the tables
+of docs/SAMBA.md the column of sdtool has to be what the program answers.
 The last line is 'N passed, M failed'.
 """
 import argparse
@@ -22,8 +23,8 @@ import preload  # noqa: E402
 SECONDS = 60  # for one command
 TOP = pathlib.Path(__file__).resolve().parent.parent
 # The documents, and the folder in which the commands of each are run: one that has a copy of examples/, or that copy.
-DOCUMENTS = {"README.md": ".", "docs/COOKBOOK.md": "examples", "docs/FORMAT.md": ".", "docs/SAMBA.md": ".",
-             "docs/sdtool.1": "examples"}
+DOCUMENTS = {"README.md": ".", "docs/COOKBOOK.md": "examples", "docs/FORMAT.md": ".", "docs/sdtool.1": "examples"}
+BESIDE_SAMBA = "docs/SAMBA.md"  # its tables are run row by row
 COMMAND = re.compile(r"\s*\$ .*\b(sdtool|who_may_write|\w+\.(py|sh))\b")
 OF_LIBRARY = re.compile(r"\bwho_may_write\b")  # c_examples.py runs these
 ESCAPES = {r"\-": "-", r"\(aq": "'", r"\(dq": '"', r"\(ha": "^", r"\(ti": "~", r"\(bs": "\\", r"\e": "\\", r"\&": ""}
@@ -43,7 +44,8 @@ def blocks_of(text, is_man_page):
     """The lines of each block."""
     if is_man_page:
         section = text.partition(".SH EXAMPLES\n")[2].partition("\n.SH ")[0]
-        return [list(map(plain, block.splitlines())) for block in re.findall(r"^\.nf\n(.*?)^\.fi$", section, re.S | re.M)]
+        blocks = re.findall(r"^\.nf\n(.*?)^\.fi$", section, re.S | re.M)
+        return [list(map(plain, block.splitlines())) for block in blocks]
     return [block.splitlines() for block in re.findall(r"^```[^\n]*\n(.*?)^```$", text, re.S | re.M)]
 
 
@@ -53,6 +55,36 @@ def examples_in(blocks):
         starts = [at for at, line in enumerate(lines) if line.startswith("$ ")]
         for start, end in zip(starts, [*starts[1:], len(lines)]):
             yield Example(lines[start][2:], "".join(line + "\n" for line in lines[start + 1:end]))
+
+
+def tables_in(text):
+    """Each row of each table: its cells, without backticks, by the heads."""
+    for table in re.findall(r"(?:^\|.*\n)+", text, re.M):
+        heads, _, *rows = ([cell.strip().strip("`") for cell in line.strip("|\n").split(" | ")]
+                           for line in table.splitlines())
+        yield from (dict(zip(heads, row)) for row in rows)
+
+
+def beside_samba(row):
+    """What a row asks, of which line, and the front of the answer."""
+    derive = ["derive", "--from", "sddl", "--owner", "BA", "--group", "SY", "--kind"]
+    if "Options" in row:
+        return ["check", "--from", "sddl", *row["Options"].split()], row["Descriptor"], row["sdtool"]
+    if "Folder" in row:
+        return [*derive, row["--kind"]], row["Folder"], f"O:BAG:SY{row['sdtool']}\n"
+    if "--creator" in row:
+        creator = ["--creator", row["--creator"]]
+        return [*derive, row["--kind"], *creator], "D:(A;OICI;FA;;;SY)", f"O:BAG:SY{row['sdtool']}\n"
+    return ["convert", "--from", "sddl"], row["Samba"].replace("nothing", row["sdtool"]), f"{row['sdtool']}\n"
+
+
+def judge_tables(count, program):
+    rows = list(tables_in((TOP / BESIDE_SAMBA).read_text(encoding="utf-8")))
+    count.add(rows, f"{BESIDE_SAMBA} has no table")
+    for row in rows:
+        words, line, wanted = beside_samba(row)
+        ended = subprocess.run([program, *words], input=f"{line}\n", text=True, stdout=subprocess.PIPE)
+        count.add(ended.stdout.startswith(wanted), f"{BESIDE_SAMBA}: {row} has {ended.stdout}")
 
 
 def printed_by(command, folder, path):
@@ -66,6 +98,7 @@ def main():
     parser.add_argument("program", type=os.path.abspath)
     program = parser.parse_args().program
     count = preload.Count()
+    judge_tables(count, program)
     with tempfile.TemporaryDirectory() as bin_folder:
         os.symlink(program, os.path.join(bin_folder, "sdtool"))
         path = os.pathsep.join([bin_folder, os.environ["PATH"]])
