@@ -1,10 +1,16 @@
 -- Worked rows of lines and answers, computed.
 use Rattle.std.proofs.Common.{◌≡◌, ◌+◌, ◌*◌, ◌/◌, [], ◌∷◌, ◌++◌, None, false, codes, refl}
 use Rattle.std.specs.Fmt.{digits}
+use Rattle.std.specs.Prelude.{map}
 use Rattle.base64.proofs.OnLiterals.{base64_on_literals}
 use Rattle.hex.proofs.OnLiterals.{hex_on_literals}
 use Rattle.sd_text.specs.Limits.{most_base64_text, most_hex_text, most_sddl_text}
 use Rattle.sd_sid.specs.Sid.{sid_at}
+use Rattle.sd_sid.specs.declared.sid_text.SidFault.TheVariants as sid
+use Rattle.sd_buffer.specs.declared.buffer.TextFault.TheVariants as text
+use Rattle.sd_control.specs.declared.part.Which.TheVariants as which
+use Rattle.sd_inherit.specs.declared.derivation.DeriveFault.TheVariants.{DerivedTooLarge}
+use Rattle.sd_sddl_reader.specs.declared.fault.SddlFault.TheVariants as sddl
 use Rattle.sd_control.specs.declared.limits.TheConstants.{CAPACITY}
 use Rattle.sd_control.specs.Header.{header_bytes}
 use Rattle.sd_control.specs.declared.part.Part.TheVariants as part
@@ -16,7 +22,7 @@ use Rattle.sd_view.specs.declared.fault.SdFault.TheVariants as sd
 use Rattle.sd_token.specs.Token.{Holder}
 use Rattle.sd_answer.specs.Answer.{answer, form_text, line_means}
 use Rattle.sd_answer.specs.Faults.{fault_text}
-use Rattle.sd_answer.specs.declared.fault.LineFault.TheVariants.{Sd}
+use Rattle.sd_answer.specs.declared.fault.LineFault.TheVariants.{Derive, Sd, Sddl, Text, TooLong}
 use Rattle.sd_answer.specs.declared.job.Act.TheVariants.{Convert}
 use Rattle.sd_answer.specs.declared.job.Form.TheVariants.{Base64, Hex}
 use Rattle.sd_answer.specs.declared.job.Job.{Job}
@@ -81,3 +87,29 @@ pub answer_in_base64 : answer (alone hex_to_base64) nobody (codes "01FF008000000
 unfolding answer line_means form_text hex_spells base64_on_literals hex_on_literals reading fault header_fault
     parts_fault sid_fault sid_shown acl_part_fault acl_shown overlaps_fault overlap_fault u16_at u32_at header_bytes
 answer_in_base64 = refl
+
+-- every fault, with its number, its name and its parts
+
+pub texts_without_parts : map fault_text
+    (TooLong ∷ Text text.HexDigit ∷ Text text.HexOdd ∷ Text text.Base64 ∷ Sd sd.Short ∷ Sd sd.Revision
+    ∷ Sd sd.NotSelfRelative ∷ Sddl sddl.Shape ∷ Sddl sddl.PartTwice ∷ Sddl (sddl.Sid sid.Alias)
+    ∷ Sddl (sddl.Sid sid.NeedsDomain) ∷ Sddl (sddl.Sid sid.Number) ∷ Sddl (sddl.Sid sid.SidForm) ∷ Sddl sddl.Flags
+    ∷ Sddl sddl.Rights ∷ Sddl sddl.Guid ∷ Sddl sddl.Kind ∷ [])
+    ≡ codes "error 1 too-long" ∷ codes "error 2 hex-digit" ∷ codes "error 3 hex-odd" ∷ codes "error 4 base64"
+    ∷ codes "error 5 short" ∷ codes "error 6 revision" ∷ codes "error 7 not-self-relative" ∷ codes "error 20 shape"
+    ∷ codes "error 21 part-twice" ∷ codes "error 22 alias" ∷ codes "error 23 needs-domain" ∷ codes "error 24 number"
+    ∷ codes "error 25 sid-form" ∷ codes "error 26 flags" ∷ codes "error 27 rights" ∷ codes "error 28 guid"
+    ∷ codes "error 29 kind" ∷ []
+unfolding fault_text digits
+texts_without_parts = refl
+
+pub texts_with_parts : map fault_text
+    (Sd (sd.Offset part.Owner) ∷ Sd (sd.Sid part.Group) ∷ Sd (sd.Acl part.Sacl) ∷ Sd (sd.AceSize part.Dacl)
+    ∷ Sd (sd.AceType part.Sacl) ∷ Sd (sd.AceFlags part.Dacl) ∷ Sd (sd.Overlap part.Sacl part.Dacl)
+    ∷ Sddl (sddl.AclTooLarge which.Dacl) ∷ Derive (DerivedTooLarge which.Sacl) ∷ [])
+    ≡ codes "error 8 offset owner" ∷ codes "error 9 sid group" ∷ codes "error 10 acl sacl"
+    ∷ codes "error 11 ace-size dacl" ∷ codes "error 12 ace-type sacl" ∷ codes "error 13 ace-flags dacl"
+    ∷ codes "error 14 overlap sacl dacl" ∷ codes "error 30 acl-too-large dacl"
+    ∷ codes "error 40 derived-too-large sacl" ∷ []
+unfolding fault_text digits
+texts_with_parts = refl
