@@ -111,8 +111,7 @@ def walk(path, attributes):
         tell(path, f"unknown, {why}")
         known = False
     except sdtool.Fault as fault:
-        parts = filter(None, [sdtool.fault_text(fault.number), fault.part, fault.other_part])
-        tell(path, " ".join([f"unknown, error {fault.number}", *parts]))
+        tell(path, f"unknown, {fault.line}")
         known = False
     except OSError as error:
         tell(path, f"unknown, {error.strerror}")

@@ -11,7 +11,7 @@ trap 'rm -rf "$work"' EXIT
 program=$work/sdtool
 library=$work/libsdtool0
 development=$work/libsdtool-dev
-module=$work/python3-sdtool/usr/lib/python3/dist-packages/sdtool
+modules=$work/python3-sdtool/usr/lib/python3/dist-packages
 
 # Moves what the second package has from the tree of the first.
 move() {
@@ -67,8 +67,8 @@ move "$program" "$library" "$libraries"
 move "$library" "$development" "$libraries"/{libsdtool.a,libsdtool.so,pkgconfig}
 move "$program" "$development" usr/include
 rmdir "$program/usr/lib"
-install -d "$module"
-install -m 644 python/sdtool/*.py python/sdtool/py.typed "$module"
+install -d "$modules"
+tar -C python -c --exclude=__pycache__ --exclude='*.so' sdtool | tar -C "$modules" -x
 
 # What other packages that link to the library depend on, and that the system finds the library.
 install -d "$library/DEBIAN"

@@ -12,9 +12,9 @@ tree=$work/$name
 "${MAKE:-make}" --no-print-directory install PREFIX= DESTDIR="$tree" > /dev/null
 # The archive can be unpacked anywhere.
 sed -i 's|^prefix=.*|prefix=${pcfiledir}/../..|' "$tree/lib/pkgconfig/sdtool.pc"
-install -d "$tree/python/sdtool"
+install -d "$tree/python"
 install -m 644 python/pyproject.toml python/build_wheel.py "$tree/python"
-install -m 644 python/sdtool/*.py python/sdtool/py.typed "$tree/python/sdtool"
+tar -C python -c --exclude=__pycache__ --exclude='*.so' sdtool | tar -C "$tree/python" -x
 (cd "$tree" && find . -type f ! -name SHA256SUMS -print0 | sort -z | xargs -0 sha256sum > SHA256SUMS)
 mkdir -p out
 # The same tree gives the same archive: names in order, no owner, and the time of the last commit.

@@ -23,7 +23,7 @@ WHEEL = "Wheel-Version: 1.0\nGenerator: build_wheel.py\nRoot-Is-Purelib: true\nT
 
 
 def module_files():
-    return sorted(path for path in (HERE / "sdtool").iterdir() if path.suffix == ".py" or path.name == "py.typed")
+    return sorted(path for path in (HERE / "sdtool").rglob("*") if path.suffix == ".py" or path.name == "py.typed")
 
 
 def write_wheel(folder, files):
@@ -42,7 +42,7 @@ def write_wheel(folder, files):
 
 
 def build_wheel(wheel_directory, config_settings=None, metadata_directory=None):
-    return write_wheel(wheel_directory, [(f"sdtool/{path.name}", path.read_bytes()) for path in module_files()])
+    return write_wheel(wheel_directory, [(str(path.relative_to(HERE)), path.read_bytes()) for path in module_files()])
 
 
 def build_editable(wheel_directory, config_settings=None, metadata_directory=None):

@@ -86,6 +86,7 @@ if "${MAKE:-make}" --no-print-directory program; then
         count tests/c_library.py "$program"
         count tests/c_install.py
         count tests/c_examples.py
+        count tests/python_calls.py "$program"
     else
         echo "the library is not built, so its tests have not run"
         ((failed += 1))

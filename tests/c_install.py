@@ -41,7 +41,8 @@ FILES_OF_PACKAGES = {
     "sdtool": {"sdtool", "sdtool.1.gz", "_sdtool", "sdtool.fish"},
     "libsdtool0": {f"libsdtool.so.{VERSION}", "libsdtool.so.0"},
     "libsdtool-dev": {"sdtool.h", "libsdtool.a", "libsdtool.so", "sdtool.pc"},
-    "python3-sdtool": {"__init__.py", "py.typed"},
+    "python3-sdtool": {path.name for path in (TOP / "python/sdtool").rglob("*")
+                       if path.is_file() and path.suffix not in (".so", ".pyc")},
 }
 EXPECTED = f"{VERSION}\n{LAYOUT} {SDDL}\nerror 20\n"
 

@@ -421,7 +421,7 @@ def test_python(count, program, lines, asked):
         try:
             return call(argument)
         except sdtool.Fault as fault:
-            return str(fault) + "\n"
+            return without_name(fault.line) + "\n"
 
     calls = ((lambda line: sdtool.to_sddl(bytes.fromhex(line)) + "\n"), (lambda line: sdtool.explain(bytes.fromhex(line))),
              (lambda line: sdtool.normalize(bytes.fromhex(line)).hex() + "\n"),

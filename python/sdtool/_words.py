@@ -1,0 +1,8 @@
+"""The words that calls take, and the numbers that include/sdtool.h gives them."""
+from typing import Dict, Literal
+
+Mapping = Literal["file", "key", "ds"]
+Kind = Literal["file", "container"]
+
+MAPPINGS: Dict[str, int] = {"file": 0, "key": 1, "ds": 2}
+KINDS: Dict[str, int] = {"file": 0, "container": 1}
