@@ -1,0 +1,5 @@
+"""python -m sdtool.audit"""
+from sdtool.audit.command import main
+
+if __name__ == "__main__":
+    main()

@@ -1,0 +1,268 @@
+"""What changed between two lists of the same objects."""
+import collections
+from typing import Counter, Dict, Iterable, Iterator, List, NamedTuple, Optional, Sequence, Tuple, Union
+
+from sdtool.audit import names as sids
+from sdtool.audit import rights
+from sdtool.audit.answers import FLAGS, Ace, Descriptor, Refusal, converted, explained, reason_of
+from sdtool.audit.describing import ace_in_words
+from sdtool.audit.engine import Answered, Engine
+from sdtool.audit.items import HEX, SDDL, UNREADABLE, Item, unreadable
+from sdtool.audit.questions import (Answer, Checks, Finding, Question, Rule, complete, deciding, trustee_token, unknown, unknown_of,
+                                    why_unanswerable, _as_owner)
+from sdtool.audit.scratch import COLUMNS, Scratch, item_of, row_of
+
+ADDED, GONE, CHANGED, SAME = "added", "gone", "changed", "same"
+_PAIR = "pair"
+_PART = "\0"  # between the parts of a text that is asked about; no descriptor has it
+_CONTROLS = ((0x1000, "DACL protected"), (0x2000, "SACL protected"), (0x400, "DACL made by inheritance"),
+             (0x800, "SACL made by inheritance"), (0x100, "DACL asks for inheritance"), (0x200, "SACL asks for inheritance"),
+             (0x1, "owner by default"), (0x2, "group by default"), (0x8, "DACL by default"), (0x20, "SACL by default"),
+             (0x40, "bit 0x40"), (0x80, "bit 0x80"), (0x4000, "resource manager byte counts"))
+
+
+class _Side(NamedTuple):
+    form: str
+    text: str
+
+
+class _Pair(NamedTuple):
+    old: _Side
+    new: _Side
+
+
+def _pair_of(text: str) -> _Pair:
+    old_form, old, new_form, new = text.split(_PART)
+    return _Pair(_Side(old_form, old), _Side(new_form, new))
+
+
+class Differences:
+    """Compares objects by name: by the content of their descriptors, not by their spelling."""
+
+    rules = (Rule("owner", "The owner or the group changed."), Rule("ace", "An ACE was added, removed or changed."),
+             Rule("order", "The same ACEs are in another order."), Rule("acl", "An ACL as a whole came, went or became null."),
+             Rule("control", "A flag of the descriptor changed."), Rule("rights", "A trustee gets more or less than before."))
+
+    def __init__(self, common: Question, jobs: Optional[int] = None) -> None:
+        self._common, self._jobs = common, jobs
+
+    def answered(self, old: Iterable[Item], new: Iterable[Item]) -> Iterator[Answered]:
+        """Every object of both lists with its answer: those of the new list in its order, then those that are gone."""
+        scratch = Scratch()
+        for table, items in (("old", old), ("new", new)):
+            scratch.create(table, ", nth")
+            scratch.fill(table, _numbered(items), 9)
+            scratch.database.execute(f"CREATE INDEX {table}_name ON {table}(name, nth)")
+        return Engine(self, self._jobs).answer(_joined(scratch))
+
+    def answer(self, form: str, kind: str, texts: Sequence[str]) -> List[Answer]:
+        if form != _PAIR:
+            sides = [_Side(*text.split(_PART)) for text in texts]
+            return [unknown_of(one) if isinstance(one, Refusal) else Answer(form)
+                    for one in self._explained(sides)]
+        pairs = list(map(_pair_of, texts))
+        old, new = self._explained([pair.old for pair in pairs]), self._explained([pair.new for pair in pairs])
+        same = self._same(pairs)
+        answers: List[Optional[Answer]] = []
+        changed: List[int] = []
+        for at, (before, after) in enumerate(zip(old, new)):
+            if isinstance(before, Refusal) or isinstance(after, Refusal):
+                answers.append(_unknown_pair(before, after))
+            elif same[at]:
+                answers.append(Answer(SAME))
+            else:
+                answers.append(None)
+                changed.append(at)
+        for at, findings in self._changes(pairs, old, new, changed, kind):
+            answers[at] = Answer(CHANGED, tuple(findings))
+        return complete(answers)
+
+    def _explained(self, sides: Sequence[_Side]) -> List[Union[Descriptor, Refusal]]:
+        return self._by_form(sides, lambda form, texts: explained(form, texts, self._common.domain))
+
+    @staticmethod
+    def _by_form(sides: Sequence[_Side], ask) -> list:
+        """Asks about sides of several forms, and gives the answers in the order of the sides."""
+        found: list = [None] * len(sides)
+        for form in dict.fromkeys(side.form for side in sides):
+            places = [at for at, side in enumerate(sides) if side.form == form]
+            for at, answer in zip(places, ask(form, [sides[at].text for at in places])):
+                found[at] = answer
+        return found
+
+    def _same(self, pairs: Sequence[_Pair]) -> List[bool]:
+        """Whether the sides of each pair have the same content, as far as both forms can say it."""
+        # SDDL has no text for some control bits, so a descriptor in bytes is compared with SDDL as SDDL.
+        through = [SDDL if SDDL in (pair.old.form, pair.new.form) else HEX for pair in pairs]
+        same = [False] * len(pairs)
+        for to in dict.fromkeys(through):
+            places = [at for at, one in enumerate(through) if one == to]
+            both = [self._by_form([getattr(pairs[at], side) for at in places],
+                                  lambda form, texts: converted(form, texts, to, self._common.domain))
+                    for side in ("old", "new")]
+            for at, before, after in zip(places, *both):
+                same[at] = isinstance(before, str) and before == after
+        return same
+
+    def _changes(self, pairs: Sequence[_Pair], old: Sequence, new: Sequence, changed: Sequence[int],
+                 kind: str) -> Iterator[Tuple[int, List[Finding]]]:
+        trustees = {at: _trustees(old[at], new[at]) for at in changed
+                    if not why_unanswerable(old[at], kind) and not why_unanswerable(new[at], kind)}
+        before = self._granted([pair.old for pair in pairs], old, trustees, kind)
+        after = self._granted([pair.new for pair in pairs], new, trustees, kind)
+        for at in changed:
+            findings = list(self._differences(old[at], new[at], kind))
+            if not findings:
+                findings.append(Finding("control", "", "", "the resource manager byte or a control bit"))
+            why = why_unanswerable(old[at], kind) or why_unanswerable(new[at], kind)
+            if why:
+                findings.append(Finding("rights", "", "", f"whose rights changed is unknown: {why.reason}"))
+            told: Dict[Tuple[str, str], int] = {}
+            for sid in trustees.get(at, ()):
+                findings += self._of_rights(sid, before[at, sid], after[at, sid], kind, told)
+            yield at, findings
+
+    def _granted(self, sides: Sequence[_Side], descriptors: Sequence, trustees: Dict[int, List[str]],
+                 kind: str) -> Dict[Tuple[int, str], Dict[str, int]]:
+        """What trustees get: by object type, or '' for the object itself."""
+        everything = rights.MAPPINGS[kind][1]
+        found: Dict[Tuple[int, str], Dict[str, int]] = {}
+        for form in dict.fromkeys(sides[at].form for at in trustees):
+            checks = Checks(form, [side.text for side in sides], kind, everything, self._common.domain)
+            places = [at for at in trustees if sides[at].form == form]
+            types = {at: ["", *_types(descriptors[at])] for at in places}
+            for at in places:
+                for sid in trustees[at]:
+                    for one in types[at]:
+                        checks.ask(at, trustee_token(sid), one)
+            checks.run()
+            for at in places:
+                for sid in trustees[at]:
+                    found[at, sid] = {one: checks.mask(at, trustee_token(sid), one) for one in types[at]}
+        return found
+
+    def _of_rights(self, sid: str, before: Dict[str, int], after: Dict[str, int], kind: str,
+                   told: Dict[Tuple[str, str], int]) -> Iterator[Finding]:
+        """What a trustee gets or loses. told has what everybody does, which isn't repeated for others."""
+        own: Dict[str, int] = {}  # of the object itself, which counts for every object type
+        for one in sorted({*before, *after}):
+            old, new = before.get(one, before[""]), after.get(one, after[""])
+            for verb, changed in (("gets", new & ~old), ("loses", old & ~new)):
+                mask = changed & ~told.get((verb, ""), 0) & ~told.get((verb, one), 0) & ~own.get(verb, 0)
+                if sid in (sids.EVERYONE, sids.AUTHENTICATED_USERS):
+                    told[verb, one] = told.get((verb, one), 0) | changed
+                if not one:
+                    own[verb] = changed
+                if mask:
+                    bound = f"only for object type {sids.object_type(one)}" if one else ""
+                    yield Finding("rights", self._common.names.named(sid), f"{verb} {rights.short_text(mask, kind)}", bound)
+
+    def _differences(self, old: Descriptor, new: Descriptor, kind: str) -> Iterator[Finding]:
+        named = self._common.names.named
+        for title, before, after in (("owner", old.owner, new.owner), ("group", old.group, new.group)):
+            if before != after:
+                yield Finding("owner", "", "", f"{title}: {named(before) if before else 'none'}, then "
+                                               f"{named(after) if after else 'none'}")
+        for title, before, after, old_aces, new_aces in (("DACL", old.dacl, new.dacl, old.aces, new.aces),
+                                                         ("SACL", old.sacl, new.sacl, old.sacl_aces, new.sacl_aces)):
+            if before != after:
+                yield Finding("acl", "", "", f"{title}: {before}, then {after}")
+            yield from self._of_aces(title, old_aces, new_aces, kind)
+        for bit, name in _CONTROLS:
+            if (old.control ^ new.control) & bit:
+                yield Finding("control", "", "", f"{name}: {'set' if new.control & bit else 'cleared'}")
+
+    def _of_aces(self, title: str, old: Sequence[Ace], new: Sequence[Ace], kind: str) -> Iterator[Finding]:
+        removed, added = _surplus(old, new), _surplus(new, old)
+        for ace in list(removed):
+            partner = next((one for one in added if one._replace(flags=0) == ace._replace(flags=0)), None)
+            if partner is not None:
+                removed.remove(ace)
+                added.remove(partner)
+                yield Finding("ace", "", "", f"{title}: flags {_flags(ace)}, then {_flags(partner)}: "
+                                             f"{ace_in_words(partner, kind, self._common.names)}")
+        for verb, aces in (("removed", removed), ("added", added)):
+            for ace in aces:
+                yield Finding("ace", "", "", f"{title}: {verb}: {ace_in_words(ace, kind, self._common.names)}")
+        if not _surplus(old, new) and not _surplus(new, old) and tuple(old) != tuple(new):
+            yield Finding("order", "", "", f"{title}: the same ACEs in another order")
+
+
+def _numbered(items: Iterable[Item]) -> Iterator[Tuple]:
+    """Rows of objects; objects of the same name are told apart by their number."""
+    seen: Dict[int, int] = {}
+    repeated: Counter[str] = collections.Counter()
+    for item in items:
+        # A hash stands for a name, so that names need not be kept. Names whose hashes are equal only get a higher number,
+        # in both lists alike if their order is alike.
+        mark = hash(item.name)
+        nth = seen.get(mark, 0)
+        if nth:
+            nth = repeated[item.name] = repeated[item.name] + 1
+        seen[mark] = 1
+        yield (*row_of(item), nth)
+
+
+def _joined(scratch: Scratch) -> Iterator[Item]:
+    """Pairs of objects as items to ask about."""
+    columns = COLUMNS.split(", ")
+    both = ", ".join([f"new.{one}" for one in columns] + [f"old.{one}" for one in columns])
+    query = f"SELECT {both} FROM new LEFT JOIN old ON new.name = old.name AND new.nth = old.nth ORDER BY new.id"
+    for row in scratch.select(query):
+        new, old = item_of(row[:8]), None if row[8] is None else item_of(row[8:])
+        yield _pair_item(old, new) if old is not None else _single(ADDED, new)
+    gone = ", ".join(f"old.{one}" for one in columns)
+    query = (f"SELECT {gone} FROM old LEFT JOIN new ON new.name = old.name AND new.nth = old.nth WHERE new.id IS NULL "
+             "ORDER BY old.id")
+    for row in scratch.select(query):
+        yield _single(GONE, item_of(row))
+
+
+def _single(form: str, item: Item) -> Item:
+    if item.form == UNREADABLE:
+        return item._replace(text=f"{form}, and it can't be read: {item.text}")
+    return item._replace(form=form, text=item.form + _PART + item.text)
+
+
+def _pair_item(old: Item, new: Item) -> Item:
+    for side, item in (("old", old), ("new", new)):
+        if item.form == UNREADABLE:
+            return unreadable(new.name, item.source, item.line, f"the {side} one: {item.text}", item.help, new.kind)
+    return new._replace(form=_PAIR, text=_PART.join([old.form, old.text, new.form, new.text]))
+
+
+def _unknown_pair(old: Union[Descriptor, Refusal], new: Union[Descriptor, Refusal]) -> Answer:
+    refused = [(side, reason_of(one)) for side, one in (("old", old), ("new", new)) if isinstance(one, Refusal)]
+    reason = "; ".join(f"the {side} one: {why[0]}" for side, why in refused)
+    return unknown(reason, refused[0][1][1])
+
+
+def _surplus(aces: Sequence[Ace], others: Sequence[Ace]) -> List[Ace]:
+    """ACEs that the others don't have, each as often as it is too many."""
+    left = collections.Counter(others)
+    found = []
+    for ace in aces:
+        if left[ace]:
+            left[ace] -= 1
+        else:
+            found.append(ace)
+    return found
+
+
+def _flags(ace: Ace) -> str:
+    return "".join(name for name, bit in FLAGS.items() if ace.flags & bit) or "none"
+
+
+def _trustees(old: Descriptor, new: Descriptor) -> List[str]:
+    """Whoever's rights may have changed."""
+    found: Dict[str, None] = {sids.EVERYONE: None, sids.AUTHENTICATED_USERS: None}
+    for descriptor in (old, new):
+        for ace in deciding(descriptor):
+            found[_as_owner(ace.sid, descriptor)] = None
+        found[descriptor.owner] = None
+    found.pop("", None)
+    return list(found)
+
+
+def _types(descriptor: Descriptor) -> List[str]:
+    return list(dict.fromkeys(ace.object_type for ace in deciding(descriptor) if ace.object_type))

@@ -1,0 +1,206 @@
+"""Objects in what Samba's tools and getfattr print, and in the extended attributes of mounted files."""
+import base64
+import errno
+import os
+import re
+import stat
+import struct
+from typing import Iterator, List, Optional, Tuple
+
+from sdtool.audit.items import HEX, Item, item_of, unreadable
+from sdtool.audit.options import SourceOptions
+
+_HEADER = 20
+_NO_ATTRIBUTE = "run as root on the server, or name the attribute with --attribute"
+
+
+class _Unknown(Exception):
+    """Why an attribute has no descriptor."""
+
+
+def _descriptor_at(data: bytes) -> int:
+    """Where the descriptor begins in Samba's attribute, xattr_NTACL of its xattr.idl; 0 if there is none.
+
+    The attribute has its version twice and a reference to what follows. In version 1 that is the descriptor. Later
+    versions have a reference to the descriptor, hashes, and in version 4 a text and a time, and then the descriptor.
+    """
+    if len(data) < 12:
+        return 0
+    version, again, reference, descriptor = struct.unpack_from("<HHII", data)
+    if version != again or not reference or version > 1 and not descriptor:
+        return 0
+    if version == 4:
+        end = data.find(b"\0", 78)  # of the text, behind which are a time and a hash, from a multiple of 4 on
+        return 0 if end < 0 else (end + 4) // 4 * 4 + 8 + 64
+    return {1: 8, 2: 28, 3: 80}.get(version, 0)
+
+
+def unwrapped(data: bytes) -> bytes:
+    """The descriptor of Samba's attribute. Its offsets count from the attribute's first byte, so they are moved."""
+    at = _descriptor_at(data)
+    if not at or len(data) < at + _HEADER:
+        raise _Unknown("no descriptor in the attribute")
+    offsets = struct.unpack_from("<4I", data, at + 4)
+    if any(0 < offset < at + _HEADER for offset in offsets):
+        raise _Unknown("no descriptor in the attribute")
+    moved = struct.pack("<4I", *(offset and offset - at for offset in offsets))
+    return data[at:at + 4] + moved + data[at + _HEADER:]
+
+
+def _item_of_attribute(path: str, label: str, line: int, name: str, data: bytes, kind: str,
+                       is_folder: Optional[bool] = None) -> Item:
+    try:
+        descriptor = unwrapped(data) if name.endswith("NTACL") else data
+    except _Unknown as error:
+        return unreadable(path, label, line, f"{name}: {error}", "look at the attribute with getfattr", kind)
+    if not descriptor:
+        return unreadable(path, label, line, f"{name} is empty", "look at the attribute with getfattr", kind)
+    return Item(path, label, line, HEX, descriptor.hex(), kind, "", is_folder)
+
+
+def _item_of_path(path: str, label: str, is_folder: bool, options: SourceOptions) -> Item:
+    kind = options.kind or "file"
+    for name in options.attributes:
+        try:
+            data = os.getxattr(path, name, follow_symlinks=False)
+        except OSError as error:
+            if error.errno in (errno.ENODATA, errno.ENOTSUP):
+                continue
+            return unreadable(path, label, 0, f"{name}: {error.strerror}", _NO_ATTRIBUTE, kind)
+        return _item_of_attribute(path, label, 0, name, data, kind, is_folder)
+    return unreadable(path, label, 0, f"no attribute {' or '.join(options.attributes)}", _NO_ATTRIBUTE, kind)
+
+
+def read_tree(top: str, options: SourceOptions) -> Iterator[Item]:
+    """A folder and all below it. Symbolic links have no permissions, so they are no objects."""
+    kind = options.kind or "file"
+    waiting = [top]
+    yield _item_of_path(top, top, True, options)
+    while waiting:
+        folder = waiting.pop()
+        try:
+            with os.scandir(folder) as scanned:
+                found = sorted(scanned, key=lambda entry: entry.name)
+        except OSError as error:
+            yield unreadable(os.path.join(folder, "*"), top, 0, f"the folder can't be listed: {error.strerror}",
+                             "run as a user who may list it", kind)
+            continue
+        folders = []
+        for entry in found:
+            try:
+                mode = entry.stat(follow_symlinks=False).st_mode
+            except OSError as error:
+                yield unreadable(entry.path, top, 0, f"{error.strerror}", "run as a user who may look at it", kind)
+                continue
+            if stat.S_ISLNK(mode):
+                continue
+            yield _item_of_path(entry.path, top, stat.S_ISDIR(mode), options)
+            if stat.S_ISDIR(mode):
+                folders.append(entry.path)
+        waiting.extend(reversed(folders))
+
+
+def _unescaped(name: str) -> str:
+    """A name as getfattr escapes it."""
+    spelled = re.sub(rb"\\([0-7]{3})", lambda found: bytes([int(found[1], 8) & 0xff]),
+                     name.encode("utf-8", "surrogateescape"))
+    return spelled.decode("utf-8", "surrogateescape")
+
+
+def _attribute_bytes(text: str) -> bytes:
+    if text[:2] in ("0x", "0X"):
+        return bytes.fromhex(text[2:])
+    if text[:2] in ("0s", "0S"):
+        return base64.b64decode(text[2:], validate=True)
+    raise ValueError("the value is neither hex nor base64: use getfattr -e hex")
+
+
+def read_getfattr(lines: Iterator[str], label: str, options: SourceOptions) -> Iterator[Item]:
+    """What getfattr prints: for each file its name, then its attributes."""
+    kind = options.kind or "file"
+    name, start, has_attribute = "", 0, True
+    for number, line in enumerate(lines, 1):
+        if line.startswith("# file: "):
+            if not has_attribute:
+                yield unreadable(name, label, start, "no attribute with a descriptor", _NO_ATTRIBUTE, kind)
+            name, start, has_attribute = _unescaped(line[len("# file: "):]), number, False
+            continue
+        attribute, equals, value = line.partition("=")
+        if not equals or attribute not in options.attributes or has_attribute:
+            continue
+        has_attribute = True
+        try:
+            data = _attribute_bytes(value.strip())
+        except ValueError as error:
+            yield unreadable(name, label, start, f"{attribute}: {error}", "run getfattr -e hex again", kind)
+            continue
+        yield _item_of_attribute(name, label, start, attribute, data, kind)
+    if not has_attribute:
+        yield unreadable(name, label, start, "no attribute with a descriptor", _NO_ATTRIBUTE, kind)
+
+
+# smbcacls --numeric: ACL:SID:TYPE/FLAGS/MASK. Names instead of SIDs can't be looked up here.
+_ACE_LINE = re.compile(r"ACL:(S-1-[0-9x-]+):(\w+)/(0x[0-9a-fA-F]+|[0-9]+)/(0x[0-9a-fA-F]+)\Z", re.I)
+_SID = re.compile(r"S-1-[0-9a-fA-Fx-]+\Z", re.I)
+_KINDS = {"0": "A", "1": "D", "0x0": "A", "0x1": "D"}
+_FLAG_NAMES = ((0x1, "OI"), (0x2, "CI"), (0x4, "NP"), (0x8, "IO"), (0x10, "ID"), (0x40, "SA"), (0x80, "FA"))
+_CONTROL_NAMES = ((0x1000, "P"), (0x100, "AR"), (0x400, "AI"))
+_SMBCACLS = "use smbcacls --sddl, or --numeric"
+
+
+def _flags(number: int) -> str:
+    known = sum(bit for bit, _ in _FLAG_NAMES)
+    if number & ~known:
+        raise _Unknown(f"ACE flags {number:#x} are unknown")
+    return "".join(name for bit, name in _FLAG_NAMES if number & bit)
+
+
+def _smbcacls_sddl(block: List[str]) -> str:
+    """The SDDL of what smbcacls --numeric prints of one file."""
+    fields = {}
+    aces = []
+    for line in block:
+        word, _, rest = line.partition(":")
+        if word.upper() != "ACL":
+            fields[word.upper()] = rest.strip()
+            continue
+        found = _ACE_LINE.match(line.strip())
+        if not found or found[2].lower() not in _KINDS:
+            raise _Unknown(f"{line.strip()[:200]!r} names no SID or isn't numeric")
+        aces.append(f"({_KINDS[found[2].lower()]};{_flags(int(found[3], 0))};{found[4]};;;{found[1]})")
+    for part in ("OWNER", "GROUP"):
+        if fields.get(part) and not _SID.match(fields[part]):
+            raise _Unknown(f"{part.lower()} {fields[part]!r} is a name")
+    control = fields.get("CONTROL", "")
+    if not re.fullmatch("0x[0-9a-fA-F]+", control):
+        raise _Unknown(f"control {control!r} isn't numeric")
+    flags = int(control, 16)
+    text = "".join(f"{part[0]}:{fields[part]}" for part in ("OWNER", "GROUP") if fields.get(part))
+    if not flags & 0x4:
+        return text or " "
+    if not aces:
+        raise _Unknown("the list of ACEs is empty or null, which smbcacls prints alike")
+    return text + "D:" + "".join(name for bit, name in _CONTROL_NAMES if flags & bit) + "".join(aces)
+
+
+def read_smbcacls(lines: Iterator[str], label: str, options: SourceOptions) -> Iterator[Item]:
+    """What smbcacls prints, of one file or of several, one after the other. It prints no names."""
+    kind = options.kind or "file"
+    blocks: List[Tuple[int, List[str]]] = []
+    for number, line in enumerate(lines, 1):
+        if line.upper().startswith("REVISION:"):
+            blocks.append((number, []))
+        if line.strip() and blocks:
+            blocks[-1][1].append(line)
+    for number, block in blocks:
+        try:
+            yield item_of(f"{label}:{number}", label, number, _smbcacls_sddl(block), kind)
+        except _Unknown as error:
+            yield unreadable(f"{label}:{number}", label, number, str(error), _SMBCACLS, kind)
+
+
+def read_ndr(lines: Iterator[str], label: str, options: SourceOptions) -> Iterator[Item]:
+    """What samba-tool ntacl get prints without --as-sddl: a dump of Samba's structures, which isn't read."""
+    number = next((number for number, line in enumerate(lines, 1) if "security_descriptor" in line), 1)
+    yield unreadable(f"{label}:{number}", label, number, "this is a dump of Samba's structures",
+                     "use samba-tool ntacl get --as-sddl", options.kind or "file")
