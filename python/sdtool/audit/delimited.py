@@ -182,10 +182,9 @@ def read(lines: Iterator[str], label: str, options: SourceOptions) -> Iterator[I
     """The objects of a table. Lines have their CR."""
     sample, lines = _peeked(lines)
     skipped = 0
-    while sample and sample[0].startswith("#TYPE "):  # of Export-Csv in Windows PowerShell
-        sample.pop(0)
+    if sample and sample[0].startswith("#TYPE "):  # of Export-Csv in Windows PowerShell
+        sample, skipped = sample[1:], 1
         next(lines)
-        skipped += 1
     delimiter = options.delimiter or _delimiter(sample)
     rows = [record.row for record in records(iter(sample), delimiter, options.quotes) if record.row]
     if not rows:

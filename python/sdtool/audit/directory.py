@@ -1,4 +1,5 @@
 """Objects in LDIF, the export of a directory. python3-ldap reads each entry."""
+import base64
 import io
 import re
 from typing import Dict, Iterator, List, NamedTuple, Optional, Tuple
@@ -7,7 +8,6 @@ from sdtool.audit.items import HEX, Item, item_of, unreadable
 from sdtool.audit.opening import OpeningFault
 from sdtool.audit.options import SourceOptions
 
-_ATTRIBUTE = "ntsecuritydescriptor"
 _NO_DESCRIPTOR = ("ask for nTSecurityDescriptor as a user who may read it, with the control "
                   "1.2.840.113556.1.4.801 (ldapsearch -E '!1.2.840.113556.1.4.801=::MAMCAQc=')")
 
@@ -58,10 +58,25 @@ def _ended_search(block: List[str]) -> Optional[str]:
     return next(line[len("result: "):] for line in block if line.startswith("result: "))
 
 
+def _wrong_base64(block: List[str]) -> str:
+    """What is wrong with the base64 of an entry: python-ldap would drop the characters that don't belong in it."""
+    for line in "\n".join(block).replace("\n ", "").split("\n"):
+        attribute, colons, value = line.partition("::")
+        if colons and re.fullmatch(r"[\w;.-]+", attribute):
+            try:
+                base64.b64decode(value.strip(" "), validate=True)
+            except ValueError as error:
+                return f"the base64 of {attribute} is damaged: {error}"
+    return ""
+
+
 def _parsed(module, start: int, block: List[str]) -> Entry:
     name = block[0].partition(":")[2].strip(" :")
     if not block[0].lower().startswith("dn:"):
         return Entry(start, f"line {start}", {}, "the entry doesn't begin with its name (dn)")
+    reason = _wrong_base64(block)
+    if reason:
+        return Entry(start, name, {}, reason)
     reader = module.LDIFRecordList(io.StringIO("\n".join(block) + "\n\n"))
     try:
         reader.parse_entry_records()
@@ -98,14 +113,16 @@ def entries(lines: Iterator[str]) -> Iterator[Entry]:
 def read(lines: Iterator[str], label: str, options: SourceOptions) -> Iterator[Item]:
     """The entries of LDIF as objects."""
     kind = options.kind or "ds"
-    chosen = (options.descriptor_column or _ATTRIBUTE).lower()
+    shown = options.descriptor_column or "nTSecurityDescriptor"
+    chosen = shown.lower()
     for entry in entries(lines):
         if entry.reason:
             yield unreadable(entry.name, label, entry.line, entry.reason, "export the directory again", kind)
             continue
         values = entry.attributes.get(chosen, [])
         if len(values) != 1 or not values[0]:
-            reason = "the entry has no nTSecurityDescriptor" if len(values) < 2 else "the entry has two descriptors"
+            reason = "the entry has two descriptors" if len(values) > 1 else f"the entry has no {shown}" if not values else \
+                f"{shown} is empty"
             yield unreadable(entry.name, label, entry.line, reason, _NO_DESCRIPTOR, kind)
         elif values[0][:1] == b"\1":
             yield Item(entry.name, label, entry.line, HEX, values[0].hex(), kind)

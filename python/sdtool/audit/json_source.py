@@ -82,6 +82,8 @@ def _item(value: Any, label: str, line: int, options: SourceOptions) -> Item:
     text = value[key]
     if isinstance(text, list) and text and all(isinstance(byte, int) and 0 <= byte < 256 for byte in text):
         text = bytes(text).hex()  # as PowerShell writes bytes
+    if text is None:
+        text = ""
     if not isinstance(text, str):
         return unreadable(name, label, line, f"member {key} is no text", "export the descriptor as SDDL", kind)
     return item_of(name, label, line, text, kind)

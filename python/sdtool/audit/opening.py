@@ -9,7 +9,7 @@ import lzma
 import sys
 import zipfile
 import zlib
-from typing import Callable, Iterator, List, NamedTuple, Optional
+from typing import Callable, Iterator, List, NamedTuple, Optional, Tuple
 
 STANDARD_INPUT = "-"
 HEAD = 1 << 16    # bytes that show what a source is
@@ -28,9 +28,9 @@ class OpeningFault(Exception):
 
 
 class Counted(io.RawIOBase):
-    """A stream that tells how many bytes were read."""
+    """A stream that tells how many bytes were read, and gives what one read of the source gives."""
 
-    def __init__(self, raw, tell: Callable[[int], None]) -> None:
+    def __init__(self, raw, tell: Callable[[int], None] = lambda count: None) -> None:
         super().__init__()
         self._raw = raw
         self._tell = tell
@@ -39,7 +39,7 @@ class Counted(io.RawIOBase):
         return True
 
     def readinto(self, buffer) -> int:
-        # A pipe gives what it has; the rest comes with the next call.
+        # What was unpacked before a cut is given before the fault, and a pipe gives what it has.
         data = getattr(self._raw, "read1", self._raw.read)(len(buffer))
         buffer[:len(data)] = data
         self._tell(len(data))
@@ -53,6 +53,27 @@ class Counted(io.RawIOBase):
 
     def tell(self) -> int:
         return self._raw.tell()
+
+
+class _Begun(io.RawIOBase):
+    """A stream whose first bytes were read to look at them. A fault that was met there comes behind them."""
+
+    def __init__(self, head: bytes, fault: Optional[Exception], stream: io.BufferedReader) -> None:
+        super().__init__()
+        self._head, self._fault, self._stream = head, fault, stream
+
+    def readable(self) -> bool:
+        return True
+
+    def readinto(self, buffer) -> int:
+        if self._head:
+            data, self._head = self._head[:len(buffer)], self._head[len(buffer):]
+        elif self._fault is not None:
+            raise self._fault
+        else:
+            data = self._stream.read1(len(buffer))
+        buffer[:len(data)] = data
+        return len(data)
 
 
 class Stream(NamedTuple):
@@ -74,29 +95,42 @@ def _decompressed(head: bytes, stream):
     return None
 
 
-def _head(stream: io.BufferedReader) -> bytes:
-    """The first bytes, which stay in the stream."""
-    head = stream.peek(HEAD)
-    return head[:HEAD]
+def _begun(stream: io.BufferedReader) -> Tuple[bytes, io.BufferedReader]:
+    """The first bytes of a stream, and the stream with them."""
+    head, fault = b"", None
+    try:
+        while len(head) < HEAD:
+            data = stream.read1(CHUNK)
+            if not data:
+                break
+            head += data
+    except READ_FAULTS as error:
+        fault = error
+    return head, io.BufferedReader(_Begun(head, fault, stream), CHUNK)
+
+
+def _members(label: str, stream: io.BufferedReader, layers: int) -> Iterator[Stream]:
+    """The files of a zip archive."""
+    with zipfile.ZipFile(stream) as archive:
+        for member in archive.infolist():
+            if not member.is_dir():
+                with archive.open(member) as opened:
+                    buffered = io.BufferedReader(Counted(opened), CHUNK)
+                    yield from _streams(f"{label}:{member.filename}", buffered, False, layers - 1)
 
 
 def _streams(label: str, stream: io.BufferedReader, is_file: bool, layers: int) -> Iterator[Stream]:
-    head = _head(stream)
-    if layers and head.startswith(b"PK\x03\x04"):
+    if layers and stream.peek(4)[:4] == b"PK\x03\x04":
         if not is_file:
             raise OpeningFault(f"{label}: a zip archive is read from a file, not from a stream")
-        with zipfile.ZipFile(stream) as archive:
-            for member in archive.infolist():
-                if not member.is_dir():
-                    with archive.open(member) as opened:
-                        buffered = io.BufferedReader(opened, CHUNK)
-                        yield from _streams(f"{label}:{member.filename}", buffered, False, layers - 1)
+        yield from _members(label, stream, layers)
         return
-    inner = _decompressed(head, stream) if layers else None
+    head, begun = _begun(stream)
+    inner = _decompressed(head, begun) if layers else None
     if inner is None:
-        yield Stream(label, stream, head)
+        yield Stream(label, begun, head)
     else:
-        yield from _streams(label, io.BufferedReader(inner, CHUNK), False, layers - 1)
+        yield from _streams(label, io.BufferedReader(Counted(inner), CHUNK), False, layers - 1)
 
 
 def streams(path: str, tell: Callable[[int], None]) -> Iterator[Stream]:
@@ -139,7 +173,7 @@ def chunks(stream: io.BufferedReader, encoding: str) -> Iterator[str]:
     decoder = codecs.getincrementaldecoder(encoding)(_errors(encoding))
     is_first = True
     while True:
-        data = stream.read(CHUNK)
+        data = stream.read1(CHUNK)
         text = decoder.decode(data, final=not data)
         if is_first and text:
             text = text[1:] if text[0] == "\ufeff" else text
@@ -174,7 +208,7 @@ def without_cr(texts: Iterator[str]) -> Iterator[str]:
         yield line[:-1] if line.endswith("\r") else line
 
 
-def with_head(texts: Iterator[str]):
+def with_head(texts: Iterator[str]) -> Tuple[str, Iterator[str]]:
     """The first part of a text, and all of it."""
     first = next(texts, "")
     return first, itertools.chain([first] if first else [], texts)

@@ -5,7 +5,7 @@ import os
 import re
 import stat
 import struct
-from typing import Iterator, List, Optional, Tuple
+from typing import Dict, Iterator, List, Optional, Tuple
 
 from sdtool.audit.items import HEX, Item, item_of, unreadable
 from sdtool.audit.options import SourceOptions
@@ -72,10 +72,11 @@ def _item_of_path(path: str, label: str, is_folder: bool, options: SourceOptions
 
 
 def read_tree(top: str, options: SourceOptions) -> Iterator[Item]:
-    """A folder and all below it. Symbolic links have no permissions, so they are no objects."""
+    """A folder and all below it, or one file. Symbolic links have no permissions, so they are no objects."""
     kind = options.kind or "file"
-    waiting = [top]
-    yield _item_of_path(top, top, True, options)
+    is_folder = os.path.isdir(top) and not os.path.islink(top)
+    waiting = [top] if is_folder else []
+    yield _item_of_path(top, top, is_folder, options)
     while waiting:
         folder = waiting.pop()
         try:
@@ -199,8 +200,102 @@ def read_smbcacls(lines: Iterator[str], label: str, options: SourceOptions) -> I
             yield unreadable(f"{label}:{number}", label, number, str(error), _SMBCACLS, kind)
 
 
+# A line of Samba's dump of a structure: a name, a colon and a value.
+_DUMPED = re.compile(r"\s*(\w+)\s*: (.*)")
+_NUMBER = re.compile(r".*\(([0-9]+)\)\s*\Z")
+_GUID = re.compile(r"[0-9a-f]{8}-[0-9a-f]{4}-[0-9a-f]{4}-[0-9a-f]{4}-[0-9a-f]{12}\Z", re.I)
+_ACE_TYPES = {0: "A", 1: "D", 2: "AU", 5: "OA", 6: "OD", 7: "OU", 0x11: "ML"}
+_DUMP = "use samba-tool ntacl get --as-sddl"
+
+
+def _dumped_number(text: str) -> int:
+    found = _NUMBER.match(text)
+    if not found:
+        raise _Unknown(f"{text.strip()!r} is no number")
+    return int(found[1])
+
+
+class _Dump:
+    """A descriptor as Samba dumps it, in the order of its lines."""
+
+    def __init__(self) -> None:
+        self.control: Optional[int] = None
+        self.sids: Dict[str, str] = {}
+        self.acls: Dict[str, Optional[List[Dict[str, str]]]] = {}
+        self._acl: Optional[List[Dict[str, str]]] = None
+
+    def add(self, name: str, value: str) -> None:
+        if name == "type" and self.control is None:
+            self.control = _dumped_number(value)
+        elif name in ("owner_sid", "group_sid") and value.startswith("S-1-"):
+            self.sids[name[0].upper()] = value
+        elif name in ("sacl", "dacl") and value in ("NULL", "*"):
+            self._acl = None if value == "NULL" else []
+            self.acls[name] = self._acl
+        elif name == "aces" and value == "struct security_ace" and self._acl is not None:
+            self._acl.append({})
+        elif self._acl:
+            self._add_to_ace(self._acl[-1], name, value)
+
+    @staticmethod
+    def _add_to_ace(ace: Dict[str, str], name: str, value: str) -> None:
+        if name == "type" and "type" not in ace:
+            kind = _dumped_number(value)
+            if kind not in _ACE_TYPES:
+                raise _Unknown(f"an ACE has the type {kind}, which isn't supported")
+            ace["type"] = _ACE_TYPES[kind]
+        elif name in ("type", "inherited_type") and _GUID.match(value):
+            ace["object" if name == "type" else "inherited"] = value
+        elif name == "flags" and "flags" not in ace:
+            ace["flags"] = _flags(_dumped_number(value))
+        elif name == "access_mask":
+            ace["mask"] = hex(_dumped_number(value))
+        elif name == "trustee":
+            ace["sid"] = value
+
+    def sddl(self) -> str:
+        if self.control is None:
+            raise _Unknown("the dump is cut")
+        text = "".join(f"{part}:{sid}" for part, sid in self.sids.items())
+        for part, present, names in (("dacl", 0x4, _CONTROL_NAMES),
+                                     ("sacl", 0x10, ((0x2000, "P"), (0x200, "AR"), (0x800, "AI")))):
+            if not self.control & present:
+                continue
+            flags = "".join(name for bit, name in names if self.control & bit)
+            if part not in self.acls:
+                raise _Unknown("the dump is cut")
+            aces = self.acls[part]
+            text += f"{part[0].upper()}:{flags}" + ("NO_ACCESS_CONTROL" if aces is None else "".join(map(_dumped_ace, aces)))
+        return text
+
+
+def _dumped_ace(ace: Dict[str, str]) -> str:
+    if not {"type", "flags", "mask", "sid"} <= set(ace):
+        raise _Unknown("the dump is cut")
+    return f"({ace['type']};{ace['flags']};{ace['mask']};{ace.get('object', '')};{ace.get('inherited', '')};{ace['sid']})"
+
+
 def read_ndr(lines: Iterator[str], label: str, options: SourceOptions) -> Iterator[Item]:
-    """What samba-tool ntacl get prints without --as-sddl: a dump of Samba's structures, which isn't read."""
-    number = next((number for number, line in enumerate(lines, 1) if "security_descriptor" in line), 1)
-    yield unreadable(f"{label}:{number}", label, number, "this is a dump of Samba's structures",
-                     "use samba-tool ntacl get --as-sddl", options.kind or "file")
+    """What samba-tool ntacl get prints without --as-sddl: dumps of Samba's structures, one for each file."""
+    kind = options.kind or "file"
+    blocks: List[Tuple[int, List[str]]] = []
+    for number, line in enumerate(lines, 1):
+        if line.strip() == "security_descriptor: struct security_descriptor":
+            blocks.append((number, []))
+        if blocks:
+            blocks[-1][1].append(line)
+    for number, block in blocks:
+        dump = _Dump()
+        try:
+            counts = []
+            for line in block:
+                found = _DUMPED.match(line)
+                if found:
+                    dump.add(found[1], found[2].strip())
+                    if found[1] == "num_aces":
+                        counts.append(_dumped_number(found[2]))
+            if sum(counts) != sum(len(aces) for aces in dump.acls.values() if aces is not None):
+                raise _Unknown("the dump is cut")
+            yield item_of(f"{label}:{number}", label, number, dump.sddl(), kind)
+        except _Unknown as error:
+            yield unreadable(f"{label}:{number}", label, number, str(error), _DUMP, kind)

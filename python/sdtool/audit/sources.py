@@ -40,9 +40,11 @@ def _is_json_lines(text: str, sample: List[str]) -> bool:
 
 
 def _is_icacls(text: str, sample: List[str]) -> bool:
+    """Whether lines are a name and an ACL by turns: the first two, and half of the others, since some may be out of step."""
     pairs = list(zip(sample[0::2], sample[1::2]))
-    return bool(pairs) and all(re.match(r"[DS]:", acl, re.I) and not looks_like_descriptor(name) and "\t" not in name
-                               for name, acl in pairs)
+    are = [bool(name and re.match(r"[DS]:", acl, re.I)) and not looks_like_descriptor(name) and "\t" not in name
+           for name, acl in pairs]
+    return bool(are) and are[0] and 2 * sum(are) >= len(are)
 
 
 def read_lines(texts: Iterator[str], label: str, options: SourceOptions) -> Iterator[Item]:
@@ -166,11 +168,9 @@ def _check_names(path: str, options: SourceOptions) -> None:
 
 def read(path: str, options: SourceOptions, tell: Callable[[int], None] = lambda count: None) -> Iterator[Item]:
     """The objects of a source: a file, a folder, or standard input as '-'."""
-    if path != STANDARD_INPUT and os.path.isdir(path) and options.format in (None, "tree"):
+    if path != STANDARD_INPUT and (options.format == "tree" or os.path.isdir(path) and options.format is None):
         yield from samba.read_tree(path, options)
         return
-    if options.format == "tree":
-        raise OpeningFault(f"{path} is no folder")
     _check_names(path, options)
     opened = streams(path, tell)
     while True:

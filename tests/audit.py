@@ -1,0 +1,831 @@
+#!/usr/bin/env python3
+"""audit.py
+
+Tests sdtool-audit, over the library in out/lib or the one that SDTOOL_LIBRARY names. Its sources are files of tests/audit/
+in documented formats, and what real programs write here: samba-tool, getfattr, mkntfs and ntfscat, slapd and ldapsearch.
+Answers were worked out by hand. Every run is under a hook that ends it where it opens a connection or writes to a file that
+the words don't name. It needs click, rich and python-ldap (Debian: python3-click, python3-rich, python3-ldap), and is
+skipped without them; a source whose program is missing is skipped in a line of its own. The last line is
+'N passed, M failed'.
+"""
+import bz2
+import collections
+import concurrent.futures
+import csv
+import gzip
+import io
+import json
+import lzma
+import os
+import pathlib
+import re
+import shutil
+import sqlite3
+import subprocess
+import sys
+import tempfile
+import time
+import zipfile
+from typing import Any, Dict, List, NamedTuple, Optional
+
+sys.dont_write_bytecode = True
+import preload  # noqa: E402
+
+TOP = pathlib.Path(__file__).resolve().parent.parent
+DATA = TOP / "tests/audit"
+LIBRARY = os.environ.get("SDTOOL_LIBRARY", str(TOP / "out/lib/libsdtool.so"))
+SECONDS = 120  # for one run
+DOMAIN = "S-1-5-21-1-2-3"
+ADMINISTRATORS, SYSTEM, EVERYONE = "Administrators (S-1-5-32-544)", "Local System (S-1-5-18)", "Everyone (S-1-1-0)"
+SIGNED_IN, USERS, GUESTS = "Authenticated Users (S-1-5-11)", "Users (S-1-5-32-545)", "Guests (S-1-5-32-546)"
+# Ends a run that connects, or that writes to a file which isn't named in SDTOOL_AUDIT_MAY_WRITE.
+HOOK = """
+import os, sys
+may_write = os.environ.get("SDTOOL_AUDIT_MAY_WRITE", "").split(os.pathsep)
+def hook(event, arguments):
+    wrong = event.startswith("socket.") and event != "socket.gethostname"
+    if event == "open" and isinstance(arguments[0], str):
+        path, mode, flags = arguments
+        writes = flags & (os.O_WRONLY | os.O_RDWR | os.O_CREAT)
+        wrong = bool(writes) and path not in may_write and path != os.devnull
+    wrong = wrong or event in ("os.remove", "os.rename", "os.mkdir") and arguments[0] not in may_write
+    if wrong:
+        os.write(2, f"FORBIDDEN {event} {arguments}\\n".encode())
+        os._exit(99)
+sys.addaudithook(hook)
+"""
+
+
+def python_with_packages() -> Optional[str]:
+    for python in (sys.executable, "/usr/bin/python3"):
+        asked = [python, "-c", "import click, rich, ldif"]
+        if shutil.which(python) and subprocess.run(asked, cwd="/", stderr=subprocess.DEVNULL).returncode == 0:
+            return python
+    return None
+
+
+class Ended(NamedTuple):
+    status: int
+    stdout: str
+    stderr: str
+
+    @property
+    def objects(self) -> List[Dict[str, Any]]:
+        """The objects of a report in JSON lines."""
+        return [json.loads(line) for line in self.stdout.splitlines()]
+
+    def __str__(self) -> str:
+        return f"status {self.status}\n  stdout {self.stdout[-1500:]!r}\n  stderr {self.stderr[-800:]!r}"
+
+
+class Place:
+    """A folder for tests, and the command in it."""
+
+    def __init__(self, folder: str, python: str, count: preload.Count) -> None:
+        self.folder, self.python, self.count = pathlib.Path(folder), python, count
+        hooks = self.folder / "hooks"
+        hooks.mkdir()
+        (hooks / "sitecustomize.py").write_text(HOOK)
+        self.environment = {**os.environ, "SDTOOL_LIBRARY": LIBRARY, "PYTHONDONTWRITEBYTECODE": "1",
+                            "PYTHONPATH": f"{hooks}:{TOP / 'python'}", "COLUMNS": "200"}
+
+    def write(self, name: str, data) -> str:
+        path = self.folder / name
+        path.parent.mkdir(parents=True, exist_ok=True)
+        path.write_bytes(data if isinstance(data, bytes) else data.encode())
+        return name
+
+    def ask(self, *words: str, stdin: bytes = b"", may_write: str = "", cwd: Optional[pathlib.Path] = None) -> Ended:
+        ended = subprocess.run([self.python, "-m", "sdtool.audit", *words], cwd=cwd or self.folder, input=stdin,
+                               capture_output=True, timeout=SECONDS,
+                               env={**self.environment, "SDTOOL_AUDIT_MAY_WRITE": may_write})
+        return Ended(ended.returncode, ended.stdout.decode("utf-8", "surrogateescape"),
+                     ended.stderr.decode("utf-8", "replace"))
+
+    def objects(self, *words: str, **others) -> List[Dict[str, Any]]:
+        ended = self.ask(*words, "--to", "jsonl", **others)
+        try:
+            return ended.objects
+        except ValueError:
+            return [{"name": f"no JSON: {ended}", "line": 0, "answer": "", "findings": []}]
+
+    def expect(self, got, wanted, what: str) -> None:
+        self.count.add(got == wanted, f"{what}\n  got    {got!r}\n  wanted {wanted!r}")
+
+    def table(self, rows, name: str = "table.csv", titles=("name", "sddl")) -> str:
+        """A CSV file of names and descriptors."""
+        text = io.StringIO()
+        csv.writer(text, lineterminator="\r\n").writerows([titles, *rows])
+        return self.write(name, text.getvalue())
+
+    def told(self, *words: str, **others):
+        """For each object what was found: its answer, and rule, trustee and rights of each finding."""
+        return {one["name"]: (one["answer"], *((found["rule"], found["trustee"], found["rights"]) for found in one["findings"]))
+                for one in self.objects(*words, **others)}
+
+
+def places(objects) -> List[tuple]:
+    return [(one["name"], one["line"], one["answer"]) for one in objects]
+
+
+POWERSHELL = "Microsoft.PowerShell.Core\\FileSystem::C:\\Data"
+SERVICES = "HKEY_LOCAL_MACHINE\\SYSTEM\\CurrentControlSet\\Services"
+# Objects of the files in tests/audit/, with the line of each, and whether Everyone may read it. The formats are those that
+# Microsoft documents for Export-Csv, ConvertTo-Json, icacls, secedit, reg export, sc sdshow and wevtutil, RFC 2849, and the
+# manuals of smbcacls, getfattr.
+SOURCES = {
+    "get-acl.csv": [(POWERSHELL, 3, "nothing"), (POWERSHELL + '\\a, "b" 100%.txt', 4, "found"),
+                    (POWERSHELL + "\\two\nlines.txt", 5, "found"), (POWERSHELL + "\\tagged.txt", 7, "unknown"),
+                    (POWERSHELL + "\\denied.txt", 8, "unknown"), (POWERSHELL + "\\Größe.txt", 9, "nothing")],
+    "get-acl.json": [(POWERSHELL, 2, "found"), (POWERSHELL + "\\a\tb.txt", 7, "nothing"),
+                     (POWERSHELL + "\\denied.txt", 12, "unknown"), ("SOURCE:16", 16, "found"), ("SOURCE:17", 17, "unknown")],
+    "lines.jsonl": [("C:\\one", 1, "found"), ("SOURCE:2", 2, "unknown"), ("C:\\two", 3, "nothing"), ("SOURCE:4", 4, "unknown"),
+                    ("C:\\none", 5, "unknown")],
+    "icacls.txt": [("Data", 1, "found"), ("Data\\100% plan.txt", 3, "nothing"), ("Data\\lost.txt", 5, "unknown"),
+                   ("Data\\next.txt", 6, "found"), ("SOURCE:8", 8, "unknown"), ("Data\\end.txt", 9, "unknown")],
+    "policy.inf": [("Spooler", 9, "found"), ("Generic", 10, "unknown"), ("%SystemRoot%\\repair", 12, "nothing"),
+                   ('"broken",2', 13, "unknown"), ("MACHINE\\Software\\Example", 15, "found")],
+    "export.reg": [(SERVICES + "\\LanmanServer\\Shares\\Security\\Public", 4, "found"),
+                   (SERVICES + "\\LanmanServer\\Shares\\Security\\Cut", 8, "unknown"),
+                   (SERVICES + "\\LanmanServer\\Shares\\Security\\Empty", 9, "unknown"),
+                   (SERVICES + "\\EventLog\\Application\\CustomSD", 14, "found"),
+                   (SERVICES + "\\Spooler\\Security\\Security", 17, "nothing")],
+    "service.txt": [("SOURCE:2", 2, "found")],
+    "channel.txt": [("Application", 6, "found"), ("Hidden", 9, "unknown")],
+    "directory.ldif": [("CN=Share,OU=Files,DC=example,DC=com", 6, "found"),
+                       ("CN=Unreadable,OU=Files,DC=example,DC=com", 12, "unknown"),
+                       ("CN=Größe,OU=Files,DC=example,DC=com", 15, "nothing"), ("CN=Broken,DC=example,DC=com", 19, "unknown"),
+                       ("the rest of the search", 26, "unknown")],
+    "smbcacls.txt": [("SOURCE:1", 1, "found"), ("SOURCE:7", 7, "unknown")],
+    "getfattr.txt": [("mnt/Data", 1, "found"), ("mnt/a b\nc", 4, "nothing"), ("mnt/none", 7, "unknown"),
+                     ("mnt/text", 10, "unknown")],
+}
+# The question that tells whether Everyone may read an object.
+EVERYONE_READS = ("can", "WD", "read")
+
+
+def named(rows, source: str):
+    return [(name.replace("SOURCE", source, 1) if name.startswith("SOURCE:") else name, line, answer)
+            for name, line, answer in rows]
+
+
+def zipped(data: bytes, name: str) -> bytes:
+    written = io.BytesIO()
+    with zipfile.ZipFile(written, "w", zipfile.ZIP_DEFLATED) as archive:
+        archive.writestr(name, data)
+    return written.getvalue()
+
+
+def test_sources(place: Place) -> None:
+    """Each format as it is, with CR LF, in other encodings, compressed, and from standard input."""
+    def one(name: str, variant: str) -> None:
+        text = (DATA / name).read_text(encoding="utf-8")
+        crlf = text.replace("\n", "\r\n")
+        # A name with a line end in it keeps the one that the file has.
+        rows = [(title.replace("\n", "\r\n") if "two\n" in title and variant not in ("plain", "utf-16-le without a mark") else title,
+                 line, answer) for title, line, answer in SOURCES[name]]
+        data = {"plain": text.encode(), "CR LF": crlf.encode(), "utf-8 with a mark": b"\xef\xbb\xbf" + crlf.encode(),
+                "utf-16-le": b"\xff\xfe" + crlf.encode("utf-16-le"), "utf-16-be": b"\xfe\xff" + crlf.encode("utf-16-be"),
+                "utf-16-le without a mark": text.encode("utf-16-le"), "gzip": gzip.compress(crlf.encode()),
+                "bzip2": bz2.compress(crlf.encode()), "xz": lzma.compress(crlf.encode()), "stdin": crlf.encode(),
+                "zip": zipped(crlf.encode(), "inner.txt"), "no last line end": crlf.rstrip().encode()}[variant]
+        path = f"{variant.replace(' ', '_')}/{name}"
+        if variant == "stdin":
+            got, source = place.objects(*EVERYONE_READS, "-", stdin=data), "stdin"
+        else:
+            place.write(path, data)
+            got, source = place.objects(*EVERYONE_READS, path), path + ":inner.txt" if variant == "zip" else path
+        place.expect(places(got), named(rows, source), f"{name}, {variant}")
+
+    some = ("plain", "CR LF", "utf-16-le", "stdin")
+    others = ("utf-8 with a mark", "utf-16-be", "utf-16-le without a mark", "gzip", "bzip2", "xz", "zip", "no last line end")
+    pairs = [(name, variant) for name in SOURCES for variant in some]
+    pairs += [(name, variant) for name in ("get-acl.csv", "icacls.txt", "directory.ldif") for variant in others]
+    with concurrent.futures.ThreadPoolExecutor() as threads:
+        list(threads.map(lambda pair: one(*pair), pairs))
+
+
+def test_tables(place: Place) -> None:
+    """Delimiters, titles and columns."""
+    full, read = "O:BAG:SYD:(A;;FA;;;BA)", "O:BAG:SYD:(A;;FR;;;WD)"
+    rows = [("a", 2, "nothing"), ("b", 3, "found")]
+    first = [("a", 1, "nothing"), ("b", 2, "found")]
+    cases = [
+        ("semicolons", f'Path;Sddl\na;"{full}"\nb;"{read}"\n', [], rows),
+        ("tabs", f"Path\tSddl\na\t{full}\nb\t{read}\n", [], rows),
+        ("bars", f"Path|Sddl\na|{full}\nb|{read}\n", [], rows),
+        ("no titles", f"a\t{full}\nb\t{read}\n", [], first),
+        ("the descriptor first", f"{full},a\n{read},b\n", ["--format", "csv"], first),
+        ("other titles", f"Ordner,Rechte,Name\n-,{full},a\n-,{read},b\n", [], rows),
+        ("a column by its title", f"x,y,z\n{read},a,{full}\n{full},b,{read}\n",
+         ["--name-column", "y", "--descriptor-column", "Z"], rows),
+        ("a column by its number", f"{read},a,{full}\n{full},b,{read}\n",
+         ["--name-column", "2", "--descriptor-column", "3", "--no-header"], first),
+        ("an odd delimiter", f"name^sddl\na^{full}\nb^{read}\n", ["--delimiter", "^"], rows),
+        ("hex and base64", "name,sddl\na,01000480000000000000000000000000140000000200080000000000\n"
+         "b,AQAAgAAAAAAAAAAAAAAAAAAAAAA=\n", [], rows),
+        ("quotation marks that mean nothing", f'name\tsddl\n"a\t{full}\n"b"x\t{read}\n', ["--no-quotes", "--delimiter", "tab"],
+         [('"a', 2, "nothing"), ('"b"x', 3, "found")]),
+        ("rows of another length", f"Path;Sddl\na;{full}\nb;\"{read}\"\nc\n", [],
+         [("a", 2, "unknown"), ("b", 3, "found"), ("c", 4, "unknown")]),
+        ("an open quotation mark", f'Path,Sddl\n"a,{full}\nb,{read}\n', [],
+         [(f'"a,{full}', 2, "unknown"), ("b", 3, "found")]),
+        ("empty lines", f"Path,Sddl\na,{full}\n\nb,{read}\n\n\n", [],
+         [("a", 2, "nothing"), ("SOURCE:3", 3, "unknown"), ("b", 4, "found")]),
+        ("a line end in a descriptor", f'Path,Sddl\na,"{full}\n(A;;FR;;;WD)"\nb,{read}\n', [],
+         [("a", 2, "unknown"), ("b", 4, "found")]),
+    ]
+    with concurrent.futures.ThreadPoolExecutor() as threads:
+        got = threads.map(lambda case: place.objects(*EVERYONE_READS, place.write(f"{case[0]}.csv", case[1]), *case[2]), cases)
+        for (what, _, _, wanted), found in zip(cases, got):
+            place.expect(places(found), named(wanted, f"{what}.csv"), f"a table with {what}")
+    text = f'Path,Sddl\n"ä",{read}\n'
+    place.write("cp1252.csv", text.encode("cp1252"))
+    place.expect(places(place.objects(*EVERYONE_READS, "cp1252.csv", "--encoding", "cp1252")), [("ä", 2, "found")], "cp1252")
+    # Without the option the name keeps its byte.
+    ended = place.ask(*EVERYONE_READS, "cp1252.csv", "--to", "csv")
+    place.expect("\udce4,cp1252.csv,2,found" in ended.stdout, True, f"a byte that is no UTF-8: {ended}")
+
+
+def test_plain_lines(place: Place) -> None:
+    """Lines without names, and names in a file of their own."""
+    lines = "O:BAD:(A;;FR;;;WD)\n\n \nO:BA\nD:NO_ACCESS_CONTROL\nD:\nxyz\nO:BAD:(A;;FA;;;BA)"
+    wanted = ["found", "unknown", "unknown", "found", "found", "nothing", "unknown", "nothing"]
+    place.write("list", lines)
+    got = place.objects(*EVERYONE_READS, "list")
+    place.expect(places(got), [(f"list:{at}", at, answer) for at, answer in enumerate(wanted, 1)], "plain lines")
+    names = ["a b", "c\td", '"e"', "100%", "=1+1", "-f", "g;h", "<i>"]
+    place.write("names", "\r\n".join(names) + "\r\n")
+    got = place.objects(*EVERYONE_READS, "list", "--object-names", "names")
+    place.expect(places(got), [(name, at, answer) for at, (name, answer) in enumerate(zip(names, wanted), 1)], "names of lines")
+    for what, text in (("short", "\n".join(names[:-1])), ("long", "\n".join([*names, "j"]))):
+        place.write("other", text)
+        ended = place.ask(*EVERYONE_READS, "list", "--object-names", "other")
+        place.expect((ended.status, ended.stdout, "no object can be sure" in ended.stderr), (2, "", True), f"names are {what}")
+
+
+def hostile_rows():
+    """Names and descriptors that are hard, and whether Everyone may change the object: worked out by hand."""
+    guid = "bf967aba-0de6-11d0-a285-00aa003049e2"
+    many = "".join(f"(A;;FR;;;S-1-5-21-1-2-3-{number})" for number in range(1001, 2000))
+    return [
+        ("plain", "O:BAG:SYD:(A;;FA;;;WD)", "found"), ("lower case", "o:bag:syd:(a;;fa;;;wd)", "found"),
+        ("by number", "O:BAD:(A;;0x2;;;S-1-1-0)", "found"), ("blanks around", "  O:BAD:(A;;FA;;;WD)  ", "found"),
+        ("conditional", "D:(XA;;FA;;;WD;(@User.clearance >= 2))", "unknown"),
+        ("attribute", 'D:(A;;FA;;;BA)S:(RA;;;;;WD;("Secrecy",TU,0,3))', "unknown"), ("alias", "O:DAD:(A;;FR;;;WD)", "unknown"),
+        ("a name", "D:(A;;FA;;;Everyone)", "unknown"), ("scoped policy", "S:(SP;;;;;S-1-17-1)", "unknown"),
+        ("no descriptor", "", "unknown"), ("a blank", " ", "unknown"), ("absent", "O:BAG:SY", "found"),
+        ("null", "O:BAG:SYD:NO_ACCESS_CONTROL", "found"), ("null, protected", "D:PNO_ACCESS_CONTROL", "found"),
+        ("empty list", "D:", "nothing"), ("object ACE", f"D:(OA;;CR;{guid};;WD)", "unknown"),
+        ("object ACE for children", f"D:(OA;CIIO;CR;{guid};;WD)", "nothing"), ("denied first", "D:(D;;FA;;;WD)(A;;FA;;;WD)", "nothing"),
+        ("denied last", "D:(A;;FA;;;WD)(D;;FA;;;WD)", "found"), ("for children", "D:(A;OICIIO;FA;;;WD)", "nothing"),
+        ("generic", "D:(A;;GW;;;WD)", "found"), ("generic read", "D:(A;;GR;;;WD)", "nothing"),
+        ("owner", "O:WDD:(A;;FR;;;BA)", "found"), ("owner rights", "O:WDD:(A;;RC;;;OW)", "nothing"),
+        ("append alone", "D:(A;;LC;;;WD)", "found"), ("delete children alone", "D:(A;;DT;;;WD)", "found"),
+        ("attributes alone", "D:(A;;LO;;;WD)", "nothing"), ("many ACEs", "D:" + many, "nothing"),
+        ("cut", "O:BAG:SYD:(A;;FA;;;WD", "unknown"), ("two", "O:BAD:(A;;FR;;;WD)O:SYD:(A;;FA;;;WD)", "unknown"),
+        ("hex", "01000480000000000000000000000000140000000200080000000000", "nothing"), ("odd hex", "010004800", "unknown"),
+        ("callback in bytes", "0100048000000000000000000000000014000000020020000100000009001800a900120001010000000000010000000061727478",
+         "unknown"), ("not a descriptor", "hello", "unknown"), ("Ä", "D:(A;;FA;;;Ä)", "unknown"),
+        ('a "quoted", name', "D:(A;;FA;;;WD)", "found"), ("a\ttab", "D:(A;;FR;;;WD)", "nothing"),
+        ("a\nline end", "D:(A;;FA;;;WD)", "found"), ("a\rCR", "D:(A;;FA;;;WD)", "found"), ("100%s %n", "D:(A;;FA;;;WD)", "found"),
+        ("[red]markup[/red]", "D:(A;;FA;;;WD)", "found"), ("<script>alert(1)</script>", "D:(A;;FA;;;WD)", "found"),
+        ("\x1b[2J\x1b]0;owned\x07", "D:(A;;FA;;;WD)", "found"), ("\u202egpj.exe", "D:(A;;FA;;;WD)", "found"),
+        ("=cmd|'/c calc'!A1", "D:(A;;FR;;;WD)", "nothing"), ("x" * 5000, "D:(A;;FA;;;WD)", "found"), ("", "D:(A;;FA;;;WD)", "found"),
+    ]
+
+
+def test_hostile(place: Place) -> None:
+    """No object is lost, none is known that isn't, in any report."""
+    rows = hostile_rows()
+    source = place.table([row[:2] for row in rows], "hostile.csv", ("name", "sddl"))
+    wanted = collections.Counter((name, answer) for name, _, answer in rows)
+    words = ("can", "WD", "change", source)
+    place.expect(collections.Counter((one["name"], one["answer"]) for one in place.objects(*words)), wanted, "hostile, JSON lines")
+    ended = place.ask(*words, "--to", "csv")
+    read = list(csv.reader(io.StringIO(ended.stdout, newline="")))
+    place.expect(collections.Counter((row[0], row[3]) for row in read[1:]), wanted, "hostile, CSV")
+    place.expect(ended.status, 3, "hostile, status")
+    ended = place.ask(*words, "--to", "table", "--most", "0")
+    shown = [line for line in ended.stdout.splitlines() if re.search(r"  (found|unknown)\b", line)]
+    place.expect(len(shown), sum(answer != "nothing" for _, _, answer in rows), f"hostile, rows of the table: {ended}")
+    place.expect(re.findall("[\0-\x09\x0b-\x1f\x7f\u202e]", ended.stdout), [], "hostile, control characters in the table")
+    counts = collections.Counter(answer for _, _, answer in rows)
+    place.expect(ended.stdout.splitlines()[-1], f"{len(rows)} objects: {counts['found']} found, {counts['unknown']} unknown, "
+                 f"{counts['nothing']} nothing", "hostile, the sum")
+    ended = place.ask("risks", source, "--to", "sarif")
+    results = json.loads(ended.stdout)["runs"][0]["results"]
+    place.expect(sum(result["ruleId"] == "unknown" for result in results), counts["unknown"], "hostile, unknown ones in SARIF")
+    ended = place.ask(*words, "--to", "html", "--list", "all")
+    place.expect(ended.stdout.count("<tr><td>"), len(rows), "hostile, rows in HTML")
+    place.expect("<script>alert" in ended.stdout or "\x1b" in ended.stdout or "\u202e" in ended.stdout, False, "hostile, HTML")
+    place.expect("default-src 'none'" in ended.stdout, True, "the policy of the HTML report")
+    place.expect(re.findall(r'(?:src|href)=|url\(|@import', ended.stdout), [], "requests of the HTML report")
+
+
+def test_can(place: Place) -> None:
+    """What tokens get."""
+    source = place.table([
+        ("all", "O:BAD:(A;;FA;;;BU)"), ("some", "O:BAD:(A;;0x2;;;BU)"), ("stopped", "O:BAD:(D;;FW;;;BG)(A;;FA;;;BU)"),
+        ("high", "O:BAD:(A;;FA;;;BU)S:(ML;;NW;;;HI)"), ("owned", "O:BUD:"), ("not mine", "O:BAD:(A;;FA;;;BA)")])
+    write = "write data, append data"
+    place.expect(place.told("can", "BU,WD,AU", "write", source),
+                 {"all": ("found", ("can", "", write)), "some": ("found", ("can", "", "write data")),
+                  "stopped": ("found", ("can", "", write)), "high": ("found", ("can", "", write)), "owned": ("nothing",),
+                  "not mine": ("nothing",)}, "can, some of the rights")
+    place.expect(place.told("can", "BU,!BG", "write", source)["stopped"], ("nothing",), "can, a deny-only SID")
+    place.expect(place.told("can", "!BU", "write", source)["all"], ("nothing",), "can, deny-only alone")
+    place.expect(place.told("can", "BU", "write", source, "--level", "8192")["high"], ("nothing",), "can, a level")
+    place.expect(place.told("can", "BU", "permissions", source)["owned"], ("found", ("can", "", "change permissions")),
+                 "can, an owner")
+    place.expect([one["answer"] for one in place.objects("can", "BU", "0x1000000", source)], ["nothing"] * 6, "can, the SACL")
+    place.write("whoami.csv", '"EXAMPLE\\ann","S-1-5-21-1-2-3-1001"\r\n'
+                '"BUILTIN\\Administrators","Alias","S-1-5-32-544","Group used for deny only"\r\n'
+                '"BUILTIN\\Users","Alias","S-1-5-32-545","Mandatory group, Enabled by default, Enabled group"\r\n'
+                '"Mandatory Label\\Medium Mandatory Level","Label","S-1-16-8192",""\r\n')
+    place.expect([one["answer"] for one in place.objects("can", "whoami.csv", "write", source)],
+                 ["found", "found", "found", "nothing", "nothing", "nothing"], "can, whoami /fo csv")
+    place.write("whoami.txt", "\r\nUSER INFORMATION\r\n----------------\r\n\r\nUser Name   SID\r\n=========== =====\r\n"
+                "example\\ann S-1-5-21-1-2-3-1001\r\n\r\nGROUP INFORMATION\r\n\r\n"
+                "Group Name                Type   SID          Attributes\r\n"
+                "BUILTIN\\Administrators    Alias  S-1-5-32-544 Group used for deny only\r\n"
+                "BUILTIN\\Users             Alias  S-1-5-32-545 Mandatory group, Enabled by default, Enabled group\r\n"
+                "Mandatory Label\\Medium Mandatory Level Label S-1-16-8192\r\n")
+    place.expect([one["answer"] for one in place.objects("can", "whoami.txt", "write", source)],
+                 ["found", "found", "found", "nothing", "nothing", "nothing"], "can, whoami /all")
+    place.write("odd.csv", '"A","Alias","S-1-5-32-545","Irgendwas"\r\n')
+    place.expect(place.ask("can", "odd.csv", "write", source).status, 2, "can, attributes that aren't known")
+    unix = place.table([("u", "D:(A;;FR;;;S-1-22-1-1000)"), ("g", "D:(A;;FR;;;S-1-22-2-27)"), ("o", "D:(A;;FR;;;S-1-22-2-5)")],
+                       "unix.csv")
+    place.write("id.txt", "uid=1000(ann) gid=1000(ann) groups=1000(ann),27(sudo)\n")
+    place.expect([one["answer"] for one in place.objects("can", "id.txt", "read", unix)], ["found", "found", "nothing"], "can, id")
+    # objectSid S-1-5-21-1-2-3-1001 and tokenGroups S-1-5-32-545, in base64.
+    place.write("token.ldif", "dn: CN=Ann\nobjectSid:: AQUAAAAAAAUVAAAAAQAAAAIAAAADAAAA6QMAAA==\n"
+                "tokenGroups:: AQIAAAAAAAUgAAAAIQIAAA==\n")
+    place.expect([one["answer"] for one in place.objects("can", "token.ldif", "write", source)],
+                 ["found", "found", "found", "found", "nothing", "nothing"], "can, tokenGroups")
+    place.write("list.txt", "# a user\nBU # users\n!BA\n")
+    place.expect(place.told("can", "list.txt", "write", source)["all"][0], "found", "can, a file of SIDs")
+
+
+def test_who(place: Place) -> None:
+    """Who gets rights, and whom a deny stops."""
+    ann, bob, team, all_hands = (f"{DOMAIN}-{number}" for number in (1001, 1002, 2001, 2002))
+    source = place.table([
+        ("plain", "O:BAG:SYD:(A;;FA;;;SY)(A;;0x2;;;WD)"),
+        ("denied", f"O:BAD:(D;;FA;;;{bob})(A;;FW;;;WD)(A;;FW;;;{ann})"),
+        ("own deny", f"O:BAD:(D;;FW;;;{ann})(A;;FW;;;{ann})"),
+        ("team", f"O:BAD:(D;;FW;;;{bob})(A;;FW;;;{team})"), ("null", "D:NO_ACCESS_CONTROL"), ("nobody", "O:BAD:"),
+        ("owner rights", f"O:{ann}D:(A;;FW;;;OW)"), ("children", f"D:(A;OICIIO;FA;;;{ann})"),
+        ("generic read", f"D:(A;;GR;;;{ann})")])
+    write = "write data, append data"
+    place.expect(place.told("who", "write", source), {
+        "plain": ("found", ("who", SYSTEM, write), ("who", EVERYONE, "write data")),
+        # Ann gets it by Everyone's ACE and her own; Bob is stopped.
+        "denied": ("found", ("who", EVERYONE, write), ("who", ann, write), ("stopped", bob, write)),
+        "own deny": ("nothing", ("stopped", ann, write)),
+        "team": ("found", ("who", team, write)),
+        "null": ("found", ("who", EVERYONE, write)), "nobody": ("nothing",), "owner rights": ("found", ("who", ann, write)),
+        "children": ("nothing",), "generic read": ("nothing",)}, "who may write")
+    place.expect(place.told("who", "permissions", source)["nobody"], ("found", ("who", ADMINISTRATORS, "change permissions")),
+                 "who, the owner")
+    place.write("groups.csv", f"# who is in which group\n{team}=Team,{ann}=Ann,{bob}=Bob,{all_hands}=All hands\n{all_hands},{ann}\n")
+    place.expect(place.told("who", "write", source, "--groups", "groups.csv")["team"],
+                 ("found", ("who", f"Team ({team})", write), ("who", f"Ann ({ann})", write), ("stopped", f"Bob ({bob})", write)),
+                 "who, groups")
+    nested = place.table([("nested", f"O:BAD:(A;;FW;;;{all_hands})")], "nested.csv")
+    place.write("nested.txt", f"{all_hands},{team}\n{team},{bob}\n")
+    place.expect(place.told("who", "write", nested, "--groups", "nested.txt")["nested"],
+                 ("found", ("who", all_hands, write), ("who", bob, write)), "who, nested groups")
+    place.write("directory.ldif", "dn: CN=Team\nobjectSid:: AQUAAAAAAAUVAAAAAQAAAAIAAAADAAAA0QcAAA==\nsAMAccountName: Team\n"
+                "member: CN=Ann\n\ndn: CN=Ann\nobjectSid:: AQUAAAAAAAUVAAAAAQAAAAIAAAADAAAA6QMAAA==\nsAMAccountName: ann\n"
+                "primaryGroupID: 513\n")
+    place.expect(place.told("who", "write", source, "--groups", "directory.ldif")["team"],
+                 ("found", ("who", f"Team ({team})", write), ("who", f"ann ({ann})", write)), "who, groups of a directory")
+
+
+def test_directory_objects(place: Place) -> None:
+    """Rights by object type are told as such, and never as rights of the object."""
+    member, user = "bf9679c0-0de6-11d0-a285-00aa003049e2", "bf967aba-0de6-11d0-a285-00aa003049e2"
+    source = place.table([
+        ("member", f"O:BAD:(OA;;WP;{member};;WD)"), ("both", f"O:BAD:(OA;;WP;{member};;AU)(A;;WP;;;AU)"),
+        ("denied", f"O:BAD:(OD;;WP;{member};;AU)(OA;;WP;{member};;AU)"), ("class", f"O:BAD:(OA;CIIO;WP;{member};{user};WD)"),
+        ("self", f"O:BAD:(OA;;WP;{member};;PS)")])
+    place.expect([one["answer"] for one in place.objects("who", "write", source)],
+                 ["unknown", "unknown", "unknown", "nothing", "unknown"], "object ACEs without --type ds")
+    got = {one["name"]: [(found["rule"], found["trustee"], found["rights"], found["text"]) for found in one["findings"]]
+           for one in place.objects("who", "write", source, "--type", "ds")}
+    bound = f"only for object type member ({member})"
+    place.expect(got, {"member": [("who", EVERYONE, "write properties", bound)],
+                       "both": [("who", SIGNED_IN, "write properties", "")],
+                       "denied": [("stopped", SIGNED_IN, "write properties",
+                                   "an ACE allows it, and a deny or a missing owner stops it")],
+                       "class": [], "self": [("who", "Principal Self (S-1-5-10)", "write properties", bound)]},
+                 "who, by object type")
+    got = place.objects("can", "AU,WD", "write", source, "--type", "ds")
+    place.expect([one["answer"] for one in got], ["found", "found", "nothing", "nothing", "nothing"], "can, by object type")
+    place.expect(place.told("can", f"{DOMAIN}-7,WD", "write", source, "--type", "ds", "--self", f"{DOMAIN}-7")["self"][0],
+                 "found", "can, --self")
+    place.expect(place.told("risks", source, "--type", "ds", "--domain", DOMAIN)["member"],
+                 ("found", ("everyone-changes", EVERYONE, "write properties")), "risks, by object type")
+
+
+def test_risks(place: Place) -> None:
+    """Each rule, where it finds something and where it doesn't."""
+    ann, gone = f"{DOMAIN}-1001", f"{DOMAIN}-4711"
+    rows = [
+        ("absent", "O:BAG:SY", [("no-dacl", EVERYONE, "full control")]),
+        ("null", "O:BAG:SYD:NO_ACCESS_CONTROL", [("null-dacl", EVERYONE, "full control")]),
+        ("empty", "O:BAG:SYD:", [("empty-dacl", "", "")]),
+        ("everyone", "O:BAD:(A;;0x2;;;WD)", [("everyone-changes", EVERYONE, "write data")]),
+        ("users", "O:BAD:(A;;0x2;;;AU)", [("users-change", SIGNED_IN, "write data")]),
+        ("both", "O:BAD:(A;;0x2;;;WD)(A;;0x6;;;AU)", [("everyone-changes", EVERYONE, "write data"),
+                                                     ("users-change", SIGNED_IN, "append data")]),
+        ("reads", "O:BAD:(A;;FRFX;;;WD)", []),
+        ("takeover", f"O:BAD:(A;;WDWO;;;{ann})", [("takeover", ann, "change permissions, take ownership")]),
+        ("trusted", "O:BAD:(A;;FA;;;SY)(A;;FA;;;BA)", []), ("domain admins", f"O:BAD:(A;;FA;;;{DOMAIN}-512)", []),
+        ("denied", f"O:BAD:(D;;WDWO;;;{ann})(A;;WDWO;;;{ann})", []),
+        ("generic", f"O:BAD:(A;;GA;;;{ann})", [("takeover", ann, "change permissions, take ownership")]),
+        ("owner rights", f"O:{ann}D:(A;;WO;;;OW)", [("takeover", ann, "take ownership")]),
+        ("order", "O:BAD:(A;;FR;;;BU)(D;;FW;;;BG)", [("order", "", "")]),
+        ("order, inherited", "O:BAD:(A;ID;FR;;;BU)(A;;FR;;;BG)", [("order", "", "")]),
+        ("in order", "O:BAD:(D;;FW;;;BG)(A;;FR;;;BU)(D;ID;FW;;;BG)(A;ID;FR;;;BU)(D;ID;FX;;;BU)", []),
+        ("cut", "O:BAD:P(A;;FR;;;BU)", [("inheritance-cut", "", "")]),
+    ]
+    source = place.table([row[:2] for row in rows])
+    place.expect(place.told("risks", source), {name: ("found" if found else "nothing", *found) for name, _, found in rows},
+                 "risks")
+    place.expect(place.ask("risks", place.table([("reads", "O:BAD:(A;;FR;;;WD)")], "good.csv")).status, 0, "risks, nothing found")
+    place.expect(place.told("risks", source, "--trusted", ann)["takeover"], ("nothing",), "risks, --trusted")
+    place.expect(place.told("risks", source, "--rules", "takeover")["takeover"][0], "found", "risks, --rules")
+    place.expect(place.told("risks", source, "--rules", "-takeover")["takeover"][0], "nothing", "risks, --rules without one")
+    # Without their own rules, Everyone and Authenticated Users are outside the list like anybody else.
+    place.expect(place.told("risks", place.table([("w", "O:BAD:(A;;FA;;;WD)")], "w.csv"), "--rules", "takeover")["w"],
+                 ("found", ("takeover", EVERYONE, "change permissions, take ownership")), "risks, takeover alone")
+    place.expect(place.told("risks", place.table([("a", f"O:{ann}D:(A;;FR;;;WD)"), ("b", "O:BUD:(A;;FR;;;WD)"),
+                                                  ("c", "O:BAD:(A;;FR;;;WD)")], "owners.csv"), "--owner", "BU"),
+                 {"a": ("found", ("foreign-owner", ann, "")), "b": ("nothing",), "c": ("nothing",)}, "risks, --owner")
+    place.write("sids.csv", f"SID,Name\n{ann},ann\n")
+    place.expect(place.told("risks", place.table([("a", f"O:{ann}G:{gone}D:(A;;FR;;;{gone})(A;;FR;;;BU)")], "gone.csv"),
+                            "--sid-names", "sids.csv"), {"a": ("found", ("unknown-sid", gone, ""))}, "risks, --sid-names")
+    for kind, change in (("key", "set values"), ("service", "change configuration"), ("log", "write")):
+        place.expect(place.told("risks", place.table([("x", "O:BAD:(A;;0x2;;;WD)")], f"{kind}.csv"), "--type", kind)["x"],
+                     ("found", ("everyone-changes", EVERYONE, change)), f"risks, --type {kind}")
+    for kind in ("service", "log"):
+        place.expect(place.told("risks", place.table([("x", "O:BAD:(A;;GW;;;WD)")], f"{kind}.csv"), "--type", kind)["x"],
+                     ("unknown",), f"risks, a generic right of a {kind}")
+
+
+def test_accepting(place: Place) -> None:
+    source = place.table([("C:\\in", "O:BAD:(A;;0x2;;;WD)"), ("C:\\out", "O:BAD:(A;;0x2;;;WD)"), ("C:\\[x]", "O:BAD:(A;;0x6;;;WD)"),
+                          ("C:\\bad", "hello")])
+    entry = "[[accept]]\nrule = 'everyone-changes'\nobject = '{}'\nreason = 'a drop folder'\n"
+    place.write("accept.toml", entry.format("C:\\in") + entry.format("C:\\[*]") + "rights = 'write data'\n"
+                + entry.format("C:\\gone") + entry.format("C:\\out") + "until = 2020-01-01\n")
+    ended = place.ask("risks", source, "--accept", "accept.toml", "--to", "jsonl")
+    place.expect([one["answer"] for one in ended.objects], ["accepted", "found", "found", "unknown"], "accepted findings")
+    place.expect(ended.objects[0]["findings"][0]["accepted"], "a drop folder", "the reason of what is accepted")
+    place.expect(("accepted and not found: everyone-changes, C:\\gone" in ended.stderr,
+                  "accepted until 2020-01-01, which is over: everyone-changes, C:\\out" in ended.stderr), (True, True),
+                 f"entries that cover nothing: {ended}")
+    sarif = json.loads(place.ask("risks", source, "--accept", "accept.toml", "--to", "sarif").stdout)
+    place.expect([result.get("suppressions", [{}])[0].get("justification") for result in sarif["runs"][0]["results"]],
+                 ["a drop folder", None, None, None], "suppressions in SARIF")
+    one = place.table([("C:\\in", "O:BAD:(A;;0x2;;;WD)")], "one.csv")
+    place.write("one.toml", entry.format("C:\\*"))
+    place.expect(place.ask("risks", one, "--accept", "one.toml").status, 0, "status of what is accepted")
+    for wrong in ("[[accept]]\nrule = 'everyone-changes'\nobject = 'x'\n", "[[accept]]\nrule = 'unknown'\nobject='x'\nreason='y'\n",
+                  entry.format("x") + "untill = 2020-01-01\n", "accept = 1\n", "[[accept\n"):
+        place.write("wrong.toml", wrong)
+        place.expect(place.ask("risks", one, "--accept", "wrong.toml").status, 2, f"a wrong file: {wrong!r}")
+
+
+def test_diff(place: Place) -> None:
+    """What changed, by name and content."""
+    ann = f"{DOMAIN}-1001"
+    old = place.table([
+        ("same", "O:BAD:(A;;FA;;;BA)"), ("spelled", "O:BAD:(A;;FA;;;BA)"), ("gone", "D:(A;;FA;;;BA)"), ("grown", "O:BAD:(A;;FR;;;WD)"),
+        ("flag", "O:BAD:(A;CI;FR;;;WD)"), ("owner", "O:BAD:(A;;FR;;;WD)"), ("order", "O:BAD:(A;;FR;;;WD)(A;;FR;;;BU)"),
+        ("cut", "O:BAD:(A;;FR;;;WD)"), ("was unknown", "hello"), ("twice", "D:(A;;FR;;;WD)"), ("twice", "D:(A;;FA;;;WD)"),
+        ("empty", ""), ("null", "O:BAD:(A;;FA;;;BA)"), ("inner", f"O:BAD:(A;;FR;;;WD)(A;;FA;;;{ann})"),
+        ("bytes", "D:P(A;;FR;;;WD)"), ("gone unknown", "hello")], "old.csv")
+    new = place.table([
+        ("same", "O:BAD:(A;;FA;;;BA)"), ("spelled", "o:s-1-5-32-544 d:(a;;0x1f01ff;;;ba)"), ("added", "D:(A;;FA;;;BA)"),
+        ("grown", "O:BAD:(A;;FR;;;WD)(A;;0x2;;;WD)"), ("flag", "O:BAD:(A;OI;FR;;;WD)"), ("owner", f"O:{ann}D:(A;;FR;;;WD)"),
+        ("order", "O:BAD:(A;;FR;;;BU)(A;;FR;;;WD)"), ("cut", "O:BAD:P(A;;FR;;;WD)"), ("was unknown", "D:(A;;FA;;;BA)"),
+        ("twice", "D:(A;;FR;;;WD)"), ("twice", "D:(A;;FX;;;WD)"), ("empty", ""), ("null", "O:BAD:NO_ACCESS_CONTROL"),
+        ("inner", f"O:BAD:(A;;FR;;;WD)(A;;FR;;;{ann})"),
+        ("bytes", "01000490000000000000000000000000140000000200 1c0001000000000014008900120001010000000000010000 0000".replace(" ", "")),
+        ("new unknown", "hello")], "new.csv")
+    objects = place.objects("diff", old, new)
+    place.expect([(one["name"], one["answer"]) for one in objects], [
+        ("same", "same"), ("spelled", "same"), ("added", "added"), ("grown", "changed"), ("flag", "changed"), ("owner", "changed"),
+        ("order", "changed"), ("cut", "changed"), ("was unknown", "unknown"), ("twice", "same"), ("twice", "changed"),
+        ("empty", "unknown"), ("null", "changed"), ("inner", "changed"), ("bytes", "same"), ("new unknown", "unknown"),
+        ("gone", "gone"), ("gone unknown", "unknown")], "diff")
+    told = {one["name"]: [(found["rule"], found["trustee"], found["rights"]) for found in one["findings"]] for one in objects}
+    place.expect(told["grown"], [("ace", "", ""), ("rights", EVERYONE, "gets write data")], "diff, an ACE more")
+    place.expect(told["flag"], [("ace", "", "")], "diff, a flag")
+    place.expect([found["text"] for one in objects if one["name"] == "flag" for found in one["findings"]],
+                 [f"DACL: flags CI, then OI: {EVERYONE} may: read, here and for files below"], "diff, which flag")
+    place.expect(told["owner"], [("owner", "", ""), ("rights", ADMINISTRATORS, "loses change permissions"),
+                                 ("rights", ann, "gets change permissions")], "diff, an owner")
+    place.expect(told["order"], [("order", "", "")], "diff, an order")
+    place.expect(told["cut"], [("control", "", "")], "diff, a flag of the DACL")
+    place.expect(told["inner"][-1], ("rights", ann, "loses write data, append data, write extended attributes, execute, delete "
+                                     "children, write attributes, delete, change permissions, take ownership"), "diff, rights")
+    place.expect(told["null"][:2], [("acl", "", ""), ("ace", "", "")], "diff, a null DACL")
+    place.expect(place.ask("diff", old, old).status, 3, "diff, unknown on both days")
+    good = place.table([("a", "D:(A;;FA;;;BA)")], "a.csv")
+    place.expect(place.ask("diff", good, good).status, 0, "diff, nothing changed")
+    place.expect(place.ask("diff", good, place.table([], "none.csv")).status, 3, "diff, an empty list")
+
+
+def test_inherit(place: Place) -> None:
+    """Objects and what their folders hand on."""
+    top = "O:BAG:SYD:PAI(A;OICI;FA;;;SY)(A;OICI;0x1200a9;;;BU)(A;CI;FA;;;BA)"
+    file_gets, folder_gets = "(A;ID;FA;;;SY)(A;ID;0x1200a9;;;BU)", "(A;OICIID;FA;;;SY)(A;OICIID;0x1200a9;;;BU)(A;CIID;FA;;;BA)"
+    source = place.table([
+        ("C:\\Data", top), ("C:\\Data\\good.txt", "O:BAG:SYD:AI" + file_gets), ("c:\\data\\GOOD", "O:BAG:SYD:AI" + folder_gets),
+        ("C:\\Data\\own.txt", "O:BAG:SYD:AI(A;;FR;;;WD)" + file_gets), ("C:\\Data\\less.txt", "O:BAG:SYD:AI(A;;FR;;;WD)(A;ID;FA;;;SY)"),
+        ("C:\\Data\\more.txt", "O:BAG:SYD:AI" + file_gets + "(A;ID;FA;;;WD)"), ("C:\\Data\\cut.txt", "O:BAG:SYD:PAI(A;;FA;;;SY)"),
+        ("C:\\Data\\order.txt", "O:BAG:SYD:AI(A;ID;0x1200a9;;;BU)(A;ID;FA;;;SY)"), ("C:\\Data\\bad.txt", "hello"),
+        ("C:\\Data\\none.txt", "O:BAG:SY"), ("C:\\Data\\Sub\\", "O:BAG:SYD:AI" + folder_gets),
+        ("C:\\Data\\Sub\\file", "O:BAG:SYD:AI" + file_gets), ("C:\\Data\\bad.txt\\x", "O:BAG:SYD:AI"),
+        ("D:\\Own", "O:BAG:SYD:P(A;OICIIO;FA;;;CO)"), ("D:\\Own\\mine", f"O:{DOMAIN}-7G:SYD:AI(A;ID;FA;;;{DOMAIN}-7)"),
+        ("D:\\Own\\his", f"O:{DOMAIN}-8G:SYD:AI(A;ID;FA;;;{DOMAIN}-7)"), ("D:\\Own\\whose", f"D:AI(A;ID;FA;;;{DOMAIN}-7)")])
+    objects = place.objects("inherit", source)
+    place.expect([(one["name"].rpartition("\\")[2] or one["name"], one["answer"], *(found["rule"] for found in one["findings"]))
+                  for one in objects],
+                 [("Data", "nothing"), ("good.txt", "nothing"), ("GOOD", "nothing"), ("own.txt", "nothing"),
+                  ("less.txt", "found", "missing"), ("more.txt", "found", "surplus"), ("cut.txt", "found", "protected"),
+                  ("order.txt", "found", "order"), ("bad.txt", "unknown"), ("none.txt", "found", "missing"),
+                  ("C:\\Data\\Sub\\", "nothing"), ("file", "nothing"), ("x", "unknown"), ("Own", "nothing"), ("mine", "nothing"),
+                  ("his", "found", "missing", "surplus"), ("whose", "unknown")], "inherit")
+    tree = place.table([("T", "O:BAG:SYD:P(A;OI;FA;;;SY)(A;OICI;FR;;;BU)"), ("T/S", "O:BAG:SYD:AI(A;OICIID;FR;;;BU)(A;;FX;;;WD)"),
+                        ("T/S/f", "O:BAG:SYD:AI(A;;FX;;;WD)(A;ID;FR;;;BG)"), ("T/S/g", "O:BAG:SYD:AI(A;ID;FR;;;BU)")], "tree.csv")
+    fixes = str(place.folder / "fixes.csv")
+    ended = place.ask("inherit", tree, "--fix", fixes, "--to", "jsonl", may_write=fixes)
+    written = list(csv.reader(io.StringIO(pathlib.Path(fixes).read_text())))
+    # T/S has children, so it is a folder: (A;OI) alone hands on a copy for its files. T/S/f gets FR for BU either way.
+    place.expect(written, [["name", "sddl"],
+                           ["T/S", "O:S-1-5-32-544G:S-1-5-18D:AI(A;;FX;;;S-1-1-0)(A;OIIOID;0x1f01ff;;;S-1-5-18)"
+                            "(A;OICIID;0x120089;;;S-1-5-32-545)"]], f"inherit --fix: {ended}")
+    place.expect([(one["name"], one["answer"]) for one in ended.objects],
+                 [("T", "nothing"), ("T/S", "found"), ("T/S/f", "found"), ("T/S/g", "nothing")], "inherit, a tree")
+    place.expect([found["rule"] for one in ended.objects if one["name"] == "T/S/f" for found in one["findings"]],
+                 ["missing", "surplus", "no-fix"], "inherit, a file or a folder")
+
+
+def test_show(place: Place) -> None:
+    source = place.table([("a", "O:BAG:SYD:PAI(A;OICI;FA;;;SY)(D;;FW;;;BG)(A;CIIO;FR;;;WD)S:(AU;SAFA;FA;;;WD)(ML;;NW;;;HI)"),
+                          ("b", "hello"), ("ab", "D:NO_ACCESS_CONTROL")])
+    ended = place.ask("show", source, "--name", "a")
+    place.expect((ended.status, ended.stdout.splitlines()), (0, [
+        "a (table.csv, line 2)", f"  owner: {ADMINISTRATORS}", f"  group: {SYSTEM}", "  protected: ACEs of the folder don't arrive",
+        "  DACL:", f"    1. {SYSTEM} may: full control, here and for files and folders below", f"    2. {GUESTS} may not: write",
+        f"    3. {EVERYONE} may: read, only for folders below", "  SACL:",
+        f"    1. audits any access of {EVERYONE}: full control", "    2. integrity level high: a lower level may not write"]), "show")
+    ended = place.ask("show", source, "--name", "*b")
+    place.expect((ended.status, "  unknown: " in ended.stdout, "  DACL: null, so everybody gets everything" in ended.stdout),
+                 (3, True, True), "show, a pattern")
+    place.expect(place.ask("show", source, "--name", "z").status, 3, "show, no such name")
+
+
+def test_cache(place: Place) -> None:
+    """A file of objects answers as its source does."""
+    rows = hostile_rows()
+    source = place.table([row[:2] for row in rows], "cached.csv")
+    path = str(place.folder / "cache.db")
+    allowed = os.pathsep.join([path, path + ".part"])
+    first = place.ask("can", "WD", "change", source, "--into", "cache.db", "--to", "jsonl",
+                      may_write=os.pathsep.join(["cache.db", "cache.db.part", allowed]))
+    second = place.ask("can", "WD", "change", "cache.db", "--to", "jsonl")
+    place.expect((second.status, second.stdout), (first.status, first.stdout), "a cache answers alike")
+    listed = [place.ask("can", "WD", "change", one, "--to", "csv", "--list", "found").stdout for one in (source, "cache.db")]
+    place.expect(listed[1], listed[0], "what was found, of a cache")
+    sums = [place.ask("can", "WD", "change", one, "--to", "table").stdout.splitlines()[-1] for one in (source, "cache.db")]
+    place.expect(sums[1], sums[0], "the sum of a cache")
+    place.expect(place.ask("can", "WD", "change", source, "--into", "cache.db").status, 2, "a cache that is there")
+    place.expect(sqlite3.connect(path).execute("SELECT count(*) FROM objects").fetchone()[0], len(rows), "objects of a cache")
+    place.write("other.db", b"SQLite format 3\0" + bytes(100))
+    place.expect(place.ask("can", "WD", "change", "other.db").status, 2, "another database")
+    place.expect(os.path.exists(path + ".part"), False, "no half cache is left")
+
+
+def test_words(place: Place) -> None:
+    """Wrong words have status 2 and say what is wrong; sources that are cut or empty are unknown."""
+    source = place.table([("a", "O:BAD:(A;;FR;;;WD)")])
+    for words in (["who", source], ["who"], ["who", "change", "nothing.csv"], ["who", "0", source], ["who", "0x80000000", source],
+                  ["can", "bob", "change", source], ["can", "", "change", source], ["can", "DA", "change", source],
+                  ["can", "WD", source], ["risks", source, "--rules", "nonsense"], ["risks", source, "--domain", "bob"],
+                  ["risks", source, "--encoding", "nonsense"], ["risks", source, "--delimiter", "ab"],
+                  ["risks", source, "--descriptor-column", "7"], ["risks", source, "--out", source], ["risks", "--nonsense"],
+                  ["risks", source, "--accept", "nothing.toml"], ["risks", source, "--trusted", "bob"], ["diff", source],
+                  ["can", ",".join(f"S-1-5-{at}" for at in range(1025)), "read", source], ["risks", source, "--out", "nowhere/x"], ["nonsense"]):
+        ended = place.ask(*words, may_write="nowhere/x")
+        place.expect((ended.status, ended.stdout, bool(ended.stderr)), (2, "", True), f"wrong words {words}: {ended}")
+    place.expect((place.folder / source).read_text().count("O:BAD"), 1, "a source is as it was")
+    whole = gzip.compress(b"name,sddl\n" + b"".join(b"n%d,O:BAD:(A;;FR;;;WD)\n" % number for number in range(20_000)))
+    place.write("cut.csv.gz", whole[:len(whole) // 2])
+    objects = place.objects("risks", "cut.csv.gz")
+    place.expect((objects[0]["answer"], objects[-1]["answer"], "the rest" in objects[-1]["name"]), ("nothing", "unknown", True),
+                 "a cut gzip file")
+    for name, data in (("empty", b""), ("empty.csv", b"name,sddl\n"), ("nul", b"\0" * 100), ("cut16.txt", b"\xff\xfeD\0:"),
+                       ("cut.json", b'[{"name": "a", "sddl": "D:"}, {"name"'), ("cut.zip", zipped(b"D:\n" * 1000, "x")[:60])):
+        place.write(name, data)
+        ended = place.ask("risks", name, "--to", "jsonl")
+        place.expect((ended.status, ended.objects[-1]["answer"] if ended.stdout else None), (3, "unknown"), f"{name}: {ended}")
+    for words in (["--help"], ["--version"], ["who", "--help"], ["rights"], ["rules"]):
+        ended = place.ask(*words)
+        place.expect((ended.status, bool(ended.stdout), ended.stderr), (0, True, ""), f"{words}: {ended}")
+    if os.path.exists("/dev/full"):
+        place.expect(place.ask("risks", source, "--out", "/dev/full", may_write="/dev/full").status, 3, "a full disk")
+
+
+def test_scale(place: Place) -> None:
+    """Many objects: one process answers as four do, in order, in memory that doesn't grow with them."""
+    kinds = ["O:BAD:(A;;FR;;;WD)", "O:BAD:(A;;FA;;;WD)", "hello", "O:BAG:SYD:AI(A;ID;FA;;;SY)(A;ID;0x1200a9;;;BU)"]
+
+    def rows(count: int, distinct: int):
+        for number in range(count):
+            user = f"(A;;FR;;;{DOMAIN}-{1000 + number % distinct})"
+            yield f"folder {number // 100}\\file {number}", kinds[number % 4] + (user if number % 4 != 2 else "")
+
+    source = place.table(rows(30_000, 20_000), "many.csv")
+    one, four = (place.ask("risks", source, "--to", "csv", "--jobs", jobs) for jobs in ("1", "4"))
+    place.expect(four.stdout == one.stdout, True, "four processes answer as one does")
+    place.expect(one.stderr, "30,000 objects: 7,500 found, 7,500 unknown, 15,000 nothing\n", "the sum of many")
+    read = list(csv.reader(io.StringIO(one.stdout)))
+    place.expect([row[0] for row in read[1:]], [name for name, _ in rows(30_000, 1)], "the names of many, in order")
+    peaks = []
+    for count in (20_000, 200_000):
+        path = place.table(rows(count, 1000), "grown.csv")
+        asked = [place.python, "-m", "sdtool.audit", "risks", path, "--to", "csv", "--out", os.devnull, "--jobs", "2"]
+        child = subprocess.Popen(asked, cwd=place.folder, env=place.environment, stderr=subprocess.DEVNULL)
+        _, _, used = os.wait4(child.pid, 0)
+        peaks.append(used.ru_maxrss)
+    place.expect(peaks[1] < peaks[0] + 20_000, True, f"memory for 20,000 and 200,000 objects: {peaks} KiB")
+    os.remove(place.folder / "grown.csv")
+
+
+def test_samba(place: Place) -> None:
+    """Attributes that samba-tool sets, as getfattr, samba-tool and the files themselves tell them."""
+    if not all(map(shutil.which, ("samba-tool", "net", "getfattr"))):
+        print("skipped: samba-tool, net or getfattr is missing (Debian: samba-common-bin, attr)")
+        return
+    private = place.folder / "private"
+    private.mkdir()
+    settings = "".join(f"{name} directory = {private}\n" for name in ("state", "lock", "cache", "pid"))
+    place.write("smb.conf", f"[global]\nnetbios name = TEST\nworkgroup = TEST\nprivate dir = {private}\n{settings}")
+    configuration = str(place.folder / "smb.conf")
+    subprocess.run(["net", "setlocalsid", DOMAIN, "-s", configuration], check=True, capture_output=True)
+    share = place.folder / "share"
+    (share / "a folder").mkdir(parents=True)
+    told = {"share": "O:BAG:SYD:PAI(A;OICI;0x1f01ff;;;SY)(A;OICI;0x1200a9;;;WD)",
+            "share/a folder": "O:BAG:SYD:AI(A;OICIID;0x1f01ff;;;SY)(A;OICIID;0x1200a9;;;WD)",
+            "share/a folder/b\nc.txt": f"O:{DOMAIN}-1001G:SYD:AI(A;ID;0x1f01ff;;;SY)"}
+    (share / "a folder/b\nc.txt").write_text("")
+    (share / "none.txt").write_text("")
+    (share / "link").symlink_to("none.txt")
+    backend = ["--xattr-backend=native", "--use-ntvfs", f"--configfile={configuration}"]
+    for path, sddl in told.items():
+        ended = subprocess.run(["samba-tool", "ntacl", "set", sddl, path, *backend, "-q"], cwd=place.folder, capture_output=True)
+        if ended.returncode:
+            print(f"skipped: samba-tool can't set attributes here: {ended.stderr[-200:]!r}")
+            return
+    wanted = [("share", 0, "found"), ("share/a folder", 0, "found"), ("share/none.txt", 0, "unknown"),
+              ("share/a folder/b\nc.txt", 0, "nothing")]
+    place.expect(places([{**one, "line": one["line"] or 0} for one in place.objects(*EVERYONE_READS, "share")]), wanted, "a share")
+    dumped = subprocess.run(["getfattr", "-R", "-n", "security.NTACL", "-e", "hex", "share"], cwd=place.folder, capture_output=True)
+    place.write("ntacl.txt", dumped.stdout)
+    got = place.objects(*EVERYONE_READS, "ntacl.txt")
+    place.expect(sorted((one["name"], one["answer"]) for one in got),
+                 sorted((name, answer) for name, _, answer in wanted if answer != "unknown"), "what getfattr printed")
+    for words, suffix in ((["--as-sddl"], "sddl"), ([], "ndr")):
+        printed = b"".join(subprocess.run(["samba-tool", "ntacl", "get", path, *words, *backend], cwd=place.folder,
+                                          capture_output=True).stdout for path in told)
+        place.write(f"got.{suffix}", printed)
+        got = place.objects(*EVERYONE_READS, f"got.{suffix}")
+        place.expect([one["answer"] for one in got], ["found", "found", "nothing"], f"samba-tool ntacl get {words}: {got}")
+    objects = place.objects("inherit", "share")
+    place.expect([(one["name"], one["answer"], *(found["rule"] for found in one["findings"])) for one in objects],
+                 [("share", "nothing"), ("share/a folder", "nothing"), ("share/none.txt", "unknown"),
+                  ("share/a folder/b\nc.txt", "found", "missing")], "inherit, a share")
+
+
+def test_ntfs(place: Place) -> None:
+    """The descriptors of a volume that mkntfs makes."""
+    mkntfs = shutil.which("mkntfs", path=os.environ["PATH"] + ":/usr/sbin:/sbin")
+    if not mkntfs or not shutil.which("ntfscat"):
+        print("skipped: mkntfs or ntfscat is missing (Debian: ntfs-3g)")
+        return
+    image = place.folder / "image"
+    image.write_bytes(bytes(8 << 20))
+    subprocess.run([mkntfs, "-F", "-f", "-q", str(image)], check=True, capture_output=True)
+    stream = subprocess.run(["ntfscat", "-a", "0x80", "-n", "$SDS", str(image), "$Secure"], capture_output=True).stdout
+    place.write("secure.sds", stream)
+    got = place.objects("who", "write", "secure.sds")
+    # mkntfs writes two: System and Administrators may read by the first, and write too by the second.
+    place.expect([(one["name"], one["answer"], *(found["trustee"] for found in one["findings"])) for one in got],
+                 [("security id 256", "nothing"), ("security id 257", "found", SYSTEM, ADMINISTRATORS)], "a volume")
+    place.write("cut.sds", stream[:200])
+    place.expect([one["answer"] for one in place.objects("who", "write", "cut.sds")], ["nothing", "unknown"], "a cut volume")
+
+
+SCHEMA = """
+attributetype ( 1.2.840.113556.1.2.281 NAME 'nTSecurityDescriptor' SYNTAX 1.3.6.1.4.1.1466.115.121.1.40 SINGLE-VALUE )
+objectclass ( 1.3.6.1.4.1.4203.666.11.99 NAME 'secured' SUP top AUXILIARY MAY nTSecurityDescriptor )
+"""
+
+
+def test_directory_server(place: Place) -> None:
+    """What ldapsearch prints of a small directory, folded and not, and a search that its limit ends."""
+    slapd = shutil.which("slapd", path=os.environ["PATH"] + ":/usr/sbin:/sbin")
+    schema = pathlib.Path("/etc/ldap/schema/core.schema")
+    if not slapd or not schema.exists() or not shutil.which("ldapsearch"):
+        print("skipped: slapd or ldapsearch is missing (Debian: slapd, ldap-utils)")
+        return
+    folder = place.folder / "ldap"
+    (folder / "data").mkdir(parents=True)
+    (folder / "secured.schema").write_text(SCHEMA)
+    (folder / "slapd.conf").write_text(
+        f"include {schema}\ninclude {folder}/secured.schema\npidfile {folder}/pid\ndatabase ldif\nsuffix dc=example\n"
+        f"directory {folder}/data\nrootdn cn=admin,dc=example\nrootpw secret\n")
+    everyone = "AQAEgBQAAAAkAAAAAAAAADAAAAABAgAAAAAABSAAAAAgAgAAAQEAAAAAAAUSAAAAAgAcAAEAAAAAABQA/wEfAAEBAAAAAAABAAAAAA=="
+    nobody = "AQAEkBQAAAAkAAAAAAAAADAAAAABAgAAAAAABSAAAAAgAgAAAQEAAAAAAAUSAAAAAgAIAAAAAAA="
+    long_name = "x" * 120
+    entries = ("dn: dc=example\nobjectClass: dcObject\nobjectClass: organization\no: example\ndc: example\n\n"
+               + "".join(f"dn: ou={name},dc=example\nobjectClass: organizationalUnit\nobjectClass: secured\nou: {name}\n{rest}\n"
+                         for name, rest in (("open", f"nTSecurityDescriptor:: {everyone}\n"), (long_name, f"nTSecurityDescriptor:: {nobody}\n"),
+                                            ("Größe", ""))))
+    added = subprocess.run([slapd, "-T", "add", "-f", str(folder / "slapd.conf")], input=entries.encode(), capture_output=True)
+    url = "ldapi://" + str(folder / "socket").replace("/", "%2F")
+    server = subprocess.Popen([slapd, "-d", "0", "-f", str(folder / "slapd.conf"), "-h", url], stdout=subprocess.DEVNULL,
+                              stderr=subprocess.DEVNULL)
+    try:
+        search = ["ldapsearch", "-x", "-H", url, "-b", "dc=example"]
+        for _ in range(100):
+            if subprocess.run([*search, "-s", "base", "dn"], capture_output=True).returncode == 0:
+                break
+            time.sleep(0.1)
+        else:
+            print(f"skipped: slapd doesn't start here: {added.stderr[-200:]!r}")
+            return
+        wanted = {"dc=example": "unknown", "ou=open,dc=example": "found", f"ou={long_name},dc=example": "nothing",
+                  "ou=Größe,dc=example": "unknown"}
+        for words in ([], ["-o", "ldif-wrap=no"], ["-LLL"]):
+            printed = subprocess.run([*search, *words, "nTSecurityDescriptor"], capture_output=True).stdout
+            place.write("server.ldif", printed)
+            got = {one["name"]: one["answer"] for one in place.objects(*EVERYONE_READS, "server.ldif")}
+            place.expect(got, wanted, f"ldapsearch {words}: {printed[-500:]!r}")
+        printed = subprocess.run([*search, "-z", "2", "nTSecurityDescriptor"], capture_output=True).stdout
+        place.write("limited.ldif", printed)
+        objects = place.objects(*EVERYONE_READS, "limited.ldif")
+        place.expect((len(objects), objects[-1]["name"], objects[-1]["answer"]), (3, "the rest of the search", "unknown"),
+                     "a search that a limit ended")
+    finally:
+        server.terminate()
+        server.wait()
+
+
+def test_names_of_sids(place: Place) -> None:
+    """The names of SIDs are those of the table in docs/FORMAT.md."""
+    text = (TOP / "docs/FORMAT.md").read_text(encoding="utf-8")
+    fixed = {sid: (alias, name) for alias, sid, name in re.findall(r"^\| `(\w\w)` \| (S-1-[0-9-]+) \| (.*?) \|$", text, re.M)}
+    relative = {int(number): (alias, name)
+                for alias, number, name in re.findall(r"^\| `(\w\w)` \| (\d+) \| (.*?) \| .*? \|$", text, re.M)}
+    asked = [place.python, "-c", "import json; from sdtool.audit import names; "
+             "print(json.dumps([names.WELL_KNOWN, names.OF_A_DOMAIN]))"]
+    printed = subprocess.run(asked, cwd=place.folder, env=place.environment, capture_output=True).stdout
+    got = json.loads(printed or "[{}, {}]")
+    place.expect(({sid: tuple(row) for sid, row in got[0].items()}, {int(at): tuple(row) for at, row in got[1].items()}),
+                 (fixed, relative), "names of SIDs")
+    place.count.add(len(fixed) > 40 and len(relative) > 15, "the table of FORMAT wasn't read")
+
+
+TESTS = (test_sources, test_tables, test_plain_lines, test_hostile, test_can, test_who, test_directory_objects, test_risks,
+         test_accepting, test_diff, test_inherit, test_show, test_cache, test_words, test_scale, test_samba, test_ntfs,
+         test_directory_server, test_names_of_sids)
+
+
+def main() -> int:
+    count = preload.Count()
+    python = python_with_packages()
+    if not python:
+        print("skipped: no Python here has click, rich and ldif (Debian: python3-click, python3-rich, python3-ldap)")
+        return count.end()
+    chosen = sys.argv[1:]
+    for test in TESTS:
+        if chosen and not any(word in test.__name__ for word in chosen):
+            continue
+        with tempfile.TemporaryDirectory() as folder:
+            try:
+                test(Place(folder, python, count))
+            except Exception as error:  # one test that breaks doesn't hide what the others find
+                count.add(False, f"{test.__name__}: {type(error).__name__}: {error}")
+    return count.end()
+
+
+if __name__ == "__main__":
+    sys.exit(main())
