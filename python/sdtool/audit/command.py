@@ -190,10 +190,11 @@ class _Bar:
     def read(self, count: int) -> None:
         self._bytes += count
 
-    def count(self, items: Iterable[Item]) -> Iterator[Item]:
-        if self._progress is None:
-            yield from items
-            return
+    def count(self, items: Iterable[Item]) -> Iterable[Item]:
+        """The objects, which are counted as they pass."""
+        return items if self._progress is None else self._counted(items)
+
+    def _counted(self, items: Iterable[Item]) -> Iterator[Item]:
         for item in items:
             self._count += 1
             if self._count % 5000 == 0:

@@ -1,7 +1,9 @@
 """Objects in CSV, TSV and other tables with a delimiter, quoted as in RFC 4180."""
 import collections
 import csv
-from typing import Deque, Iterator, List, NamedTuple, Optional, Tuple
+import functools
+import itertools
+from typing import Deque, Dict, Iterator, List, NamedTuple, Optional, Tuple
 
 from sdtool.audit.items import Item, item_of, looks_like_descriptor, unreadable
 from sdtool.audit.opening import OpeningFault
@@ -16,8 +18,9 @@ NAME_NAMES = ("path", "fullname", "name", "objectname", "distinguishedname", "dn
 _MOST_LINES = 1000       # of a record: a quotation mark that stays open takes no more
 _MOST_CHARACTERS = 1 << 22
 _SAMPLE_LINES = 20
-_KINDS_BY_PROVIDER = (("microsoft.powershell.core\\registry::", "key"), ("hkey_", "key"), ("hklm:", "key"),
-                      ("microsoft.activedirectory", "ds"), ("ad:\\", "ds"))
+_MOST_SPELLED = 20_000
+_KEYS = ("microsoft.powershell.core\\registry::", "hkey_", "hklm:", "hkcu:")
+_DIRECTORIES = ("microsoft.activedirectory", "ad:\\")
 
 csv.field_size_limit(1 << 26)
 
@@ -26,13 +29,8 @@ class _Unclosed(Exception):
     """A record takes more lines than any should."""
 
 
-class Record(NamedTuple):
-    """A row with the line where it begins, or the reason why it is none, with the first line's text."""
-
-    line: int
-    row: Optional[List[str]]
-    reason: str = ""
-    text: str = ""
+# A row with the line where it begins, or no row, the reason, and the text of its first line.
+Record = Tuple[int, Optional[List[str]], str, str]
 
 
 class Columns(NamedTuple):
@@ -48,55 +46,83 @@ def plain_name(name: str) -> str:
 
 def kind_of_name(name: str) -> str:
     """The kind of an object that PowerShell names."""
-    lower = name[:64].lower()
-    return next((kind for start, kind in _KINDS_BY_PROVIDER if lower.startswith(start)), "file")
+    return _kind_of_start(name[:40])
 
 
-def records(lines: Iterator[str], delimiter: str, quotes: bool) -> Iterator[Record]:
-    """The records of lines. A record that is malformed takes one line; the lines after it are read anew."""
-    quoting = csv.QUOTE_MINIMAL if quotes else csv.QUOTE_NONE
-    waiting: Deque[str] = collections.deque()
-    taken: List[str] = []  # the lines of the record in hand
-    number = 0
+@functools.lru_cache(maxsize=10_000)
+def _kind_of_start(start: str) -> str:
+    lower = start.lower()
+    if lower.startswith(_KEYS):
+        return "key"
+    return "ds" if lower.startswith(_DIRECTORIES) else "file"
+
+
+def _rows_of_lines(block: List[str], delimiter: str, quoting: int) -> Optional[List[List[str]]]:
+    """The rows of lines if each line is a row, which is the usual case and fast."""
+    try:
+        rows = list(csv.reader(block, delimiter=delimiter, strict=True, quoting=quoting))
+    except csv.Error:
+        return None
+    return rows if len(rows) == len(block) else None
+
+
+def _record(waiting: Deque[str], following: Iterator[List[str]], delimiter: str,
+            quoting: int) -> Tuple[List[str], Optional[List[str]], str]:
+    """The first record of the lines that wait: its lines, and its row or the reason why it is none.
+
+    A record that is malformed takes one line; the lines after it are read anew.
+    """
+    taken: List[str] = []
 
     def fed() -> Iterator[str]:
         characters = 0
         while True:
-            if waiting:
-                line = waiting.popleft()
-            else:
-                line = next(lines, None)  # type: ignore[arg-type]
-                if line is None:
+            while not waiting:
+                block = next(following, None)
+                if block is None:
                     return
-            characters = characters + len(line) if taken else 0
-            taken.append(line)
-            if len(taken) > _MOST_LINES or characters > _MOST_CHARACTERS:
+                waiting.extend(block)
+            taken.append(waiting.popleft())
+            characters += len(taken[-1])
+            if len(taken) > 1 and (len(taken) > _MOST_LINES or characters > _MOST_CHARACTERS):
                 raise _Unclosed
-            yield line + "\n"
+            yield taken[-1] + "\n"
 
-    while True:
-        reader = csv.reader(fed(), delimiter=delimiter, strict=True, quoting=quoting)
-        try:
-            for row in reader:
-                yield Record(number + 1, row)
-                number += len(taken)
-                taken.clear()
-            return
-        except (csv.Error, _Unclosed) as error:
-            reason = "a quotation mark is not closed" if isinstance(error, _Unclosed) else f"malformed row: {error}"
-            if "unexpected end of data" in reason:
-                reason = "a quotation mark is not closed"
-            yield Record(number + 1, None, reason, taken[0])
-            number += 1
-            waiting.extendleft(reversed(taken[1:]))
-            taken.clear()
+    try:
+        return taken, next(csv.reader(fed(), delimiter=delimiter, strict=True, quoting=quoting)), ""
+    except (csv.Error, _Unclosed) as error:
+        is_open = isinstance(error, _Unclosed) or "unexpected end of data" in str(error)
+        waiting.extendleft(reversed(taken[1:]))
+        return taken[:1], None, "a quotation mark is not closed" if is_open else f"malformed row: {error}"
+
+
+def records(blocks: Iterator[List[str]], delimiter: str, quotes: bool) -> Iterator[Record]:
+    """The records of lines, which come in blocks."""
+    quoting = csv.QUOTE_MINIMAL if quotes else csv.QUOTE_NONE
+    number = 0
+    for block in blocks:
+        rows = _rows_of_lines(block, delimiter, quoting)
+        if rows is not None:
+            for row in rows:
+                number += 1
+                yield number, row, "", ""
+            continue
+        waiting = collections.deque(block)
+        while waiting:
+            taken, row_or_none, reason = _record(waiting, blocks, delimiter, quoting)
+            yield number + 1, row_or_none, reason, taken[0]
+            number += len(taken)
+
+
+def _sample_rows(sample: List[str], delimiter: str, quotes: bool = True) -> List[List[str]]:
+    return [row for _, row, _, _ in records(iter([sample]), delimiter, quotes) if row]
 
 
 def _delimiter(sample: List[str]) -> str:
     """The delimiter of a table: the one that gives the most rows of the same length with a descriptor."""
     best, best_score = ",", (-1, 0)
     for delimiter in DELIMITERS:
-        rows = [record.row for record in records(iter(sample), delimiter, True) if record.row]
+        rows = _sample_rows(sample, delimiter)
         if not rows or len(rows[0]) < 2:
             continue
         whole = [row for row in rows if len(row) == len(rows[0])]
@@ -157,36 +183,22 @@ def looks_delimited(sample: List[str]) -> bool:
         return False
     if sample[0].startswith("#TYPE "):
         return True
-    rows = [record.row for record in records(iter(sample), _delimiter(sample), True) if record.row]
+    rows = _sample_rows(sample, _delimiter(sample))
     if not rows or len(rows[0]) < 2 or looks_like_descriptor(sample[0]):
         return False
     is_headed = _named_column(rows[0], DESCRIPTOR_NAMES) is not None and _named_column(rows[0], NAME_NAMES) is not None
     return is_headed or any(any(map(looks_like_descriptor, row)) for row in rows)
 
 
-def _peeked(lines: Iterator[str]) -> Tuple[List[str], Iterator[str]]:
-    sample = []
-    for line in lines:
-        sample.append(line)
-        if len(sample) >= _SAMPLE_LINES:
-            break
-
-    def all_lines() -> Iterator[str]:
-        yield from sample
-        yield from lines
-
-    return sample, all_lines()
-
-
-def read(lines: Iterator[str], label: str, options: SourceOptions) -> Iterator[Item]:
+def read(blocks: Iterator[List[str]], label: str, options: SourceOptions) -> Iterator[Item]:
     """The objects of a table. Lines have their CR."""
-    sample, lines = _peeked(lines)
-    skipped = 0
-    if sample and sample[0].startswith("#TYPE "):  # of Export-Csv in Windows PowerShell
-        sample, skipped = sample[1:], 1
-        next(lines)
+    first = next(blocks, [])
+    skipped = 1 if first and first[0].startswith("#TYPE ") else 0  # of Export-Csv in Windows PowerShell
+    first = first[skipped:]
+    blocks = itertools.chain([first], blocks)
+    sample = first[:_SAMPLE_LINES]
     delimiter = options.delimiter or _delimiter(sample)
-    rows = [record.row for record in records(iter(sample), delimiter, options.quotes) if record.row]
+    rows = _sample_rows(sample, delimiter, options.quotes)
     if not rows:
         rows = [sample[:1] or [""]]
     has_header = options.has_header
@@ -194,7 +206,7 @@ def read(lines: Iterator[str], label: str, options: SourceOptions) -> Iterator[I
         has_header = not any(map(looks_like_descriptor, rows[0]))
     header = rows[0] if has_header else None
     columns = _columns(rows[1:] if has_header else rows, header, label, options)
-    all_records = records(lines, delimiter, options.quotes)
+    all_records = records(blocks, delimiter, options.quotes)
     if has_header:
         next(all_records)
     yield from _items(all_records, columns, label, options, skipped)
@@ -202,8 +214,9 @@ def read(lines: Iterator[str], label: str, options: SourceOptions) -> Iterator[I
 
 def _items(all_records: Iterator[Record], columns: Columns, label: str, options: SourceOptions,
            skipped: int) -> Iterator[Item]:
-    count, name_at, descriptor_at = columns.count, columns.name, columns.descriptor
+    count, name_at, descriptor_at, kind = columns.count, columns.name, columns.descriptor, options.kind
     blanks: List[int] = []  # empty lines, which count unless they end the source
+    spelled: Dict[str, Item] = {}  # an object with a text, for texts that come again
     for line, row, reason, text in all_records:
         line += skipped
         if row is not None and len(row) == 0:
@@ -221,4 +234,11 @@ def _items(all_records: Iterator[Record], columns: Columns, label: str, options:
             yield unreadable(name, label, line, f"the row has {len(row)} fields, and the table has {count}",
                              "quote the fields, or name the delimiter with --delimiter")
             continue
-        yield item_of(name, label, line, row[descriptor_at], options.kind or kind_of_name(name))
+        text = row[descriptor_at]
+        like = spelled.get(text)
+        if like is None:
+            like = item_of(name, label, line, text, kind or kind_of_name(name))
+            if len(spelled) >= _MOST_SPELLED:
+                spelled.clear()
+            spelled[text] = like
+        yield Item(name, label, line, like[3], like[4], kind or _kind_of_start(name[:40]), like[6])

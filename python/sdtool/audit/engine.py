@@ -44,12 +44,12 @@ class _Memory:
     """Answers of descriptors that were seen lately. The older half is forgotten when the newer one is full."""
 
     def __init__(self) -> None:
-        self._new: Dict[Key, Answer] = {}
+        self.new: Dict[Key, Answer] = {}
         self._old: Dict[Key, Answer] = {}
         self._characters = 0
 
     def get(self, key: Key) -> Optional[Answer]:
-        found = self._new.get(key)
+        found = self.new.get(key)
         if found is None:
             found = self._old.get(key)
             if found is not None:
@@ -57,14 +57,15 @@ class _Memory:
         return found
 
     def put(self, key: Key, answer: Answer) -> None:
-        self._new[key] = answer
+        self.new[key] = answer
         self._characters += len(key[2]) + 500
         if self._characters > _MOST_CHARACTERS:
-            self._old, self._new, self._characters = self._new, {}, 0
+            self._old, self.new, self._characters = self.new, {}, 0
 
 
 class _Chunk(NamedTuple):
     items: List[Item]
+    keys: List[Key]
     work: Any  # a future, answers, or None
 
 
@@ -98,7 +99,8 @@ class Engine:
         waiting: Deque[_Chunk] = collections.deque()
         try:
             for number, chunk in enumerate(_chunks(items)):
-                waiting.append(_Chunk(chunk, self._begin(chunk, number)))
+                keys = [(item[3], item[5], item[4]) for item in chunk]  # form, kind and text
+                waiting.append(_Chunk(chunk, keys, self._begin(keys, number)))
                 while len(waiting) > (self._jobs * _AHEAD if self._pool else 0):
                     yield from self._end(waiting.popleft())
             while waiting:
@@ -107,16 +109,12 @@ class Engine:
             if self._pool:
                 self._pool.shutdown(wait=True, cancel_futures=True)
 
-    def _begin(self, items: List[Item], number: int) -> Any:
+    def _begin(self, keys: List[Key], number: int) -> Any:
         """Has the descriptors of a chunk answered that are new."""
         groups: Dict[Tuple[str, str], List[str]] = {}
         under_way, memory = self._under_way, self._memory
-        for item in items:
-            form = item.form
-            if form == UNREADABLE:
-                continue
-            key = (form, item.kind, item.text)
-            if key not in under_way and memory.get(key) is None:
+        for key in dict.fromkeys(keys):
+            if key[0] != UNREADABLE and key not in under_way and memory.get(key) is None:
                 under_way.add(key)
                 groups.setdefault(key[:2], []).append(key[2])
         if not groups:
@@ -135,12 +133,13 @@ class Engine:
         for key, answer in found or ():
             self._memory.put(key, answer)
             self._under_way.discard(key)
-        get = self._memory.get
-        for item in chunk.items:
-            if item.form == UNREADABLE:
-                yield Answered(item, _unread(item))
-                continue
-            answer = get((item.form, item.kind, item.text))
-            if answer is None:  # it was forgotten in the meantime
-                answer = answer_groups(self._question, {(item.form, item.kind): [item.text]})[0][1]
+        for item, key in zip(chunk.items, chunk.keys):
+            answer = self._memory.new.get(key) or self._other(item, key)
             yield Answered(item, answer)
+
+    def _other(self, item: Item, key: Key) -> Answer:
+        """The answer for an object that can't be read, or whose answer isn't among the newest."""
+        if item.form == UNREADABLE:
+            return unknown(item.text, item.help)
+        # It may have been forgotten in the meantime.
+        return self._memory.get(key) or answer_groups(self._question, {key[:2]: [key[2]]})[0][1]

@@ -184,8 +184,9 @@ def chunks(stream: io.BufferedReader, encoding: str) -> Iterator[str]:
             return
 
 
-def lines(texts: Iterator[str]) -> Iterator[str]:
-    """The lines of a text, without their LF. Of a line that is too long, the first part."""
+def blocks(texts: Iterator[str]) -> Iterator[List[str]]:
+    """The lines of a text, without their LF, as many together as were read at once. Of a line that is too long, the first
+    part."""
     rest = ""
     is_dropping = False
     for text in texts:
@@ -194,12 +195,16 @@ def lines(texts: Iterator[str]) -> Iterator[str]:
         if is_dropping and parts:
             parts[0] = parts[0][:LONGEST_LINE]
             is_dropping = False
-        yield from parts
+        yield parts
         if len(rest) > LONGEST_LINE:
             rest = rest[:LONGEST_LINE]
             is_dropping = True
     if rest:
-        yield rest
+        yield [rest]
+
+
+def lines(texts: Iterator[str]) -> Iterator[str]:
+    return itertools.chain.from_iterable(blocks(texts))
 
 
 def without_cr(texts: Iterator[str]) -> Iterator[str]:

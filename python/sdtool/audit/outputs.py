@@ -34,6 +34,8 @@ class Summary:
 
     def add(self, answer: Answer) -> None:
         self.answers[answer.status] += 1
+        if not answer.findings:
+            return
         for finding in answer.findings:
             if not finding.accepted:
                 self.rules[finding.rule] += 1

@@ -6,7 +6,7 @@ from typing import Callable, Dict, Iterator, List, NamedTuple, Optional
 
 from sdtool.audit import delimited, directory, json_source, ntfs, samba, windows
 from sdtool.audit.items import Item, item_of, looks_like_descriptor, unreadable
-from sdtool.audit.opening import (READ_FAULTS, STANDARD_INPUT, OpeningFault, Stream, chunks, encoding_of, lines, streams,
+from sdtool.audit.opening import (READ_FAULTS, STANDARD_INPUT, OpeningFault, Stream, blocks, chunks, encoding_of, lines, streams,
                                   with_head, without_cr)
 from sdtool.audit.options import SourceOptions
 
@@ -18,8 +18,8 @@ class Format(NamedTuple):
 
     name: str
     recognizes: Callable[[str, List[str]], bool]
-    read: Callable[[Iterator[str], str, SourceOptions], Iterator[Item]]
-    takes: str = "lines"  # or "text", or "raw lines" with their CR
+    read: Callable[[Iterator, str, SourceOptions], Iterator[Item]]
+    takes: str = "lines"  # or "text", or "blocks" of lines that have their CR
 
 
 def _starts(pattern: str) -> Callable[[str, List[str]], bool]:
@@ -87,7 +87,7 @@ FORMATS = (
     Format("json", _starts(r"\s*[\[{]"), json_source.read, "text"),
     Format("sc", lambda text, sample: windows.looks_like_service(sample), windows.read_service),
     Format("icacls", _is_icacls, windows.read_icacls),
-    Format("csv", lambda text, sample: delimited.looks_delimited(sample), delimited.read, "raw lines"),
+    Format("csv", lambda text, sample: delimited.looks_delimited(sample), delimited.read, "blocks"),
     Format("lines", lambda text, sample: True, read_lines),
 )
 _BY_NAME: Dict[str, Format] = {one.name: one for one in FORMATS}
@@ -124,8 +124,9 @@ def _read_text(stream: Stream, options: SourceOptions) -> Iterator[Item]:
     one = _format_of(first, options)
     if one.takes == "text":
         return one.read(texts, stream.label, options)
-    raw = lines(texts)
-    return one.read(raw if one.takes == "raw lines" else without_cr(raw), stream.label, options)
+    if one.takes == "blocks":
+        return one.read(blocks(texts), stream.label, options)
+    return one.read(without_cr(lines(texts)), stream.label, options)
 
 
 def _read_stream(stream: Stream, options: SourceOptions) -> Iterator[Item]:
