@@ -1,6 +1,7 @@
 #!/usr/bin/env bash
 # Builds Debian packages from what `make install` installs, the program with its man page, documents and completions, the
-# shared library, and what a C compiler needs to use it; and from the Python module. out/PACKAGE_VERSION_ARCHITECTURE.deb
+# shared library, and what a C compiler needs to use it; and from the Python module and its command for audits.
+# out/PACKAGE_VERSION_ARCHITECTURE.deb
 set -eu
 cd "$(dirname "$0")/.."
 version=$(sed -n 's/^Version: //p' packaging/control)
@@ -70,6 +71,12 @@ rmdir "$program/usr/lib"
 install -d "$modules"
 tar -C python -c --exclude=__pycache__ --exclude='*.so' sdtool | tar -C "$modules" -x
 
+audit=$work/sdtool-audit
+move "$work/python3-sdtool" "$audit" usr/lib/python3/dist-packages/sdtool/audit
+install -d "$audit/usr/bin" "$audit/usr/share/man/man1"
+install -m 755 packaging/sdtool-audit "$audit/usr/bin"
+gzip -9n < docs/sdtool-audit.1 > "$audit/usr/share/man/man1/sdtool-audit.1.gz"
+
 # What other packages that link to the library depend on, and that the system finds the library.
 install -d "$library/DEBIAN"
 soname=$(basename "$library/$libraries"/libsdtool.so.?)
@@ -81,3 +88,4 @@ build sdtool "$program/usr/bin/sdtool"
 build libsdtool0 "$library/$libraries/$soname"
 build libsdtool-dev
 build python3-sdtool
+build sdtool-audit

@@ -87,6 +87,7 @@ if "${MAKE:-make}" --no-print-directory program; then
         count tests/c_install.py
         count tests/c_examples.py
         count tests/python_calls.py "$program"
+        count tests/audit.py
     else
         echo "the library is not built, so its tests have not run"
         ((failed += 1))

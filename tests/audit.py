@@ -19,6 +19,7 @@ import lzma
 import os
 import pathlib
 import re
+import shlex
 import shutil
 import sqlite3
 import subprocess
@@ -30,6 +31,7 @@ from typing import Any, Dict, List, NamedTuple, Optional
 
 sys.dont_write_bytecode = True
 import preload  # noqa: E402
+import run_examples  # noqa: E402
 
 TOP = pathlib.Path(__file__).resolve().parent.parent
 DATA = TOP / "tests/audit"
@@ -212,6 +214,8 @@ def test_tables(place: Place) -> None:
     first = [("a", 1, "nothing"), ("b", 2, "found")]
     cases = [
         ("semicolons", f'Path;Sddl\na;"{full}"\nb;"{read}"\n', [], rows),
+        ("a line for the delimiter", f'sep=;\r\nPath;Sddl\r\na;"{full}"\r\nb;"{read}"\r\n', [],
+         [("a", 3, "nothing"), ("b", 4, "found")]),
         ("tabs", f"Path\tSddl\na\t{full}\nb\t{read}\n", [], rows),
         ("bars", f"Path|Sddl\na|{full}\nb|{read}\n", [], rows),
         ("no titles", f"a\t{full}\nb\t{read}\n", [], first),
@@ -626,6 +630,9 @@ def test_words(place: Place) -> None:
         ended = place.ask(*words, may_write="nowhere/x")
         place.expect((ended.status, ended.stdout, bool(ended.stderr)), (2, "", True), f"wrong words {words}: {ended}")
     place.expect((place.folder / source).read_text().count("O:BAD"), 1, "a source is as it was")
+    place.write("strange.csv", "this,that\n1,2\n")
+    ended = place.ask("risks", source, "strange.csv", "--to", "csv", "--format", "csv")
+    place.expect((ended.status, ended.stdout, "--descriptor-column" in ended.stderr), (2, "", True), f"no such column: {ended}")
     whole = gzip.compress(b"name,sddl\n" + b"".join(b"n%d,O:BAD:(A;;FR;;;WD)\n" % number for number in range(20_000)))
     place.write("cut.csv.gz", whole[:len(whole) // 2])
     objects = place.objects("risks", "cut.csv.gz")
@@ -804,9 +811,31 @@ def test_names_of_sids(place: Place) -> None:
     place.count.add(len(fixed) > 40 and len(relative) > 15, "the table of FORMAT wasn't read")
 
 
+def test_examples(place: Place) -> None:
+    """The examples of docs/AUDIT.md print what stands there, and the man page names each command."""
+    shutil.copytree(TOP / "examples", place.folder / "examples")
+    programs = place.folder / "bin"
+    programs.mkdir()
+    (programs / "sdtool-audit").write_text(f'#!/bin/sh\nexec {shlex.quote(place.python)} -m sdtool.audit "$@"\n')
+    (programs / "sdtool-audit").chmod(0o755)
+    text = (TOP / "docs/AUDIT.md").read_text(encoding="utf-8")
+    examples = list(run_examples.examples_in(run_examples.blocks_of(text, False)))
+    stand = sum(bool(re.match(r"\s*\$ ", line)) for line in text.splitlines())
+    place.count.add(0 < stand == len(examples), f"docs/AUDIT.md: {stand} examples stand there, {len(examples)} are run")
+    for example in examples:
+        environment = {**place.environment, "PATH": f"{programs}:{os.environ['PATH']}", "PYTHONPATH": str(TOP / "python")}
+        ended = subprocess.run(["sh", "-c", example.command], cwd=place.folder / "examples", env=environment, text=True,
+                               stdin=subprocess.DEVNULL, stdout=subprocess.PIPE, stderr=subprocess.STDOUT, timeout=SECONDS)
+        place.expect(ended.stdout, example.printed, f"docs/AUDIT.md: {example.command}")
+    manual = (TOP / "docs/sdtool-audit.1").read_text(encoding="utf-8")
+    told = place.ask("--help").stdout.partition("Commands:")[2].split("\n")
+    commands = {line.split()[0] for line in told if line.startswith("  ") and line.strip()}
+    place.expect(sorted(name for name in commands if name not in manual), [], "commands that the man page lacks")
+
+
 TESTS = (test_sources, test_tables, test_plain_lines, test_hostile, test_can, test_who, test_directory_objects, test_risks,
          test_accepting, test_diff, test_inherit, test_show, test_cache, test_words, test_scale, test_samba, test_ntfs,
-         test_directory_server, test_names_of_sids)
+         test_directory_server, test_names_of_sids, test_examples)
 
 
 def main() -> int:

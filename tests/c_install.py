@@ -42,7 +42,8 @@ FILES_OF_PACKAGES = {
     "libsdtool0": {f"libsdtool.so.{VERSION}", "libsdtool.so.0"},
     "libsdtool-dev": {"sdtool.h", "libsdtool.a", "libsdtool.so", "sdtool.pc"},
     "python3-sdtool": {path.name for path in (TOP / "python/sdtool").rglob("*")
-                       if path.is_file() and path.suffix not in (".so", ".pyc")},
+                       if path.is_file() and path.suffix not in (".so", ".pyc") and path.parent.name != "audit"},
+    "sdtool-audit": {"sdtool-audit", "sdtool-audit.1.gz", *(path.name for path in (TOP / "python/sdtool/audit").glob("*.py"))},
 }
 EXPECTED = f"{VERSION}\n{LAYOUT} {SDDL}\nerror 20\n"
 

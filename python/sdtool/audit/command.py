@@ -11,7 +11,7 @@ import click
 import sdtool
 from sdtool.audit import answers, cache, describing, outputs, rights, risks, sources
 from sdtool.audit.accepting import Accepted, read_accepted
-from sdtool.audit.answers import AnswersFault, WordsFault
+from sdtool.audit.answers import WordsFault
 from sdtool.audit.differences import Differences
 from sdtool.audit.engine import Answered, Engine
 from sdtool.audit.groups import read_groups, read_names
@@ -222,7 +222,15 @@ def _paths(given: Sequence[str]) -> List[str]:
     return list(given)
 
 
+def _begin_all(paths: Sequence[str], options: SourceOptions) -> None:
+    """Reads the first object of each file: a table without a column for descriptors is told before the report begins."""
+    for path in paths:
+        if os.path.isfile(path) and not sources.is_database(path):
+            next(sources.read(path, options), None)
+
+
 def _items(paths: Sequence[str], options: SourceOptions, bar: _Bar) -> Iterator[Item]:
+    _begin_all(paths, options)
     for path in paths:
         if sources.is_database(path):
             yield from cache.items(path)
@@ -296,7 +304,7 @@ def _ask(common: Common, question: Any, title: str, paths: Sequence[str], accept
 
 
 @cli.command()
-@click.argument("words", nargs=-1)
+@click.argument("words", nargs=-1, metavar="RIGHT.. SOURCE..")
 @click.option("--groups", help="Who is in which group: an LDIF, or lines of GROUP,MEMBER,..; groups are then expanded.")
 @click.option("--most-members", default=1000, show_default=True, help="A group with more members isn't expanded.")
 @_with_common
@@ -316,7 +324,7 @@ def who(common: Common, words: Sequence[str], groups: Optional[str], most_member
 
 @cli.command()
 @click.argument("token")
-@click.argument("words", nargs=-1)
+@click.argument("words", nargs=-1, metavar="RIGHT.. SOURCE..")
 @click.option("--level", type=click.IntRange(0, 2**32 - 1), help="The integrity level of the token, such as 8192.")
 @click.option("--self", "principal_self", default="", help="The SID that Principal Self stands for.")
 @_with_common
@@ -445,8 +453,9 @@ def _status() -> int:
         return WRONG_WORDS
     except click.Abort:
         click.echo("sdtool-audit: interrupted, so the report isn't whole", err=True)
-    except (OSError, MemoryError, AnswersFault) as error:
-        click.echo(f"sdtool-audit: the report isn't whole: {error}", err=True)
+    except Exception as error:  # whatever it is, the status must not be the one for something found
+        told = f"{type(error).__name__}: {error}" if not isinstance(error, OSError) else str(error)
+        click.echo(f"sdtool-audit: the report isn't whole: {outputs.shown(told)}", err=True)
     return SOME_UNKNOWN
 
 

@@ -3,6 +3,7 @@ import collections
 import csv
 import functools
 import itertools
+import re
 from typing import Deque, Dict, Iterator, List, NamedTuple, Optional, Tuple
 
 from sdtool.audit.items import Item, item_of, looks_like_descriptor, unreadable
@@ -21,6 +22,9 @@ _SAMPLE_LINES = 20
 _MOST_SPELLED = 20_000
 _KEYS = ("microsoft.powershell.core\\registry::", "hkey_", "hklm:", "hkcu:")
 _DIRECTORIES = ("microsoft.activedirectory", "ad:\\")
+
+_DELIMITER_LINE = re.compile(r'"?sep=([^"\r\n])"?\r?\Z', re.I)
+_NO_ROW = re.compile(r'#TYPE |"?sep=[^"\r\n]"?\r?\Z', re.I)
 
 csv.field_size_limit(1 << 26)
 
@@ -181,7 +185,7 @@ def looks_delimited(sample: List[str]) -> bool:
     """Whether the first lines are those of a table with a column of descriptors."""
     if not sample:
         return False
-    if sample[0].startswith("#TYPE "):
+    if _NO_ROW.match(sample[0]):
         return True
     rows = _sample_rows(sample, _delimiter(sample))
     if not rows or len(rows[0]) < 2 or looks_like_descriptor(sample[0]):
@@ -193,7 +197,11 @@ def looks_delimited(sample: List[str]) -> bool:
 def read(blocks: Iterator[List[str]], label: str, options: SourceOptions) -> Iterator[Item]:
     """The objects of a table. Lines have their CR."""
     first = next(blocks, [])
-    skipped = 1 if first and first[0].startswith("#TYPE ") else 0  # of Export-Csv in Windows PowerShell
+    # Export-Csv of Windows PowerShell begins with a type, and a spreadsheet may begin with its delimiter.
+    skipped = 1 if first and _NO_ROW.match(first[0]) else 0
+    named = _DELIMITER_LINE.match(first[0]) if skipped else None
+    if named and not options.delimiter:
+        options = options._replace(delimiter=named[1])
     first = first[skipped:]
     blocks = itertools.chain([first], blocks)
     sample = first[:_SAMPLE_LINES]

@@ -200,6 +200,8 @@ class Inheritance:
         chosen = handed[what]
         assert isinstance(chosen, Descriptor)
         own = [text for ace, text in zip(found.aces, _aces_of(spelled)) if not ace.flags & INHERITED]
+        if not own and not chosen.aces:
+            return Finding("no-fix", "", "", "the folder hands on nothing, so nobody would get anything", False)
         text = _head_of(spelled) + "D:AI" + "".join(own + [_ace_text(ace) for ace in chosen.aces])
         read = explained(SDDL, [text])[0]
         expected = tuple([ace for ace in found.aces if not ace.flags & INHERITED] + list(chosen.aces))

@@ -5,9 +5,14 @@ from typing import NamedTuple, Optional
 SDDL, HEX, BASE64, UNREADABLE = "sddl", "hex", "base64", ""
 
 _HEX_DESCRIPTOR = re.compile(r"(?:0[xX])?01(?:[0-9a-fA-F]{2})+\Z")
-_BASE64_DESCRIPTOR = re.compile(r"AQ[A-Za-z0-9+/]+={0,2}\Z")
+# The revision, 1, is the first byte: in base64 a letter A, and then one that the second byte ends.
+_BASE64_DESCRIPTOR = re.compile(r"A[Q-Za-f][A-Za-z0-9+/]+={0,2}\Z")
 _SDDL_DESCRIPTOR = re.compile(r"[ \t]*[OGDSogds]:")
 _SEPARATED_HEX = re.compile(r"01(?:[ ,:-]+[0-9a-fA-F]{2}){19,}\Z")
+
+
+_NO_DESCRIPTOR = ("name the column with --descriptor-column, or the format with --format; a descriptor is SDDL, hex that begins "
+                  "with 01, or base64 that begins with A")
 
 
 class Item(NamedTuple):
@@ -40,6 +45,10 @@ def looks_like_descriptor(text: str) -> bool:
                 or _SEPARATED_HEX.match(text))
 
 
+def _cut(text: str) -> str:
+    return text if len(text) <= 40 else text[:40] + ".."
+
+
 def item_of(name: str, source: str, line: int, text: str, kind: str = "file",
             is_folder: Optional[bool] = None) -> Item:
     """An object whose descriptor is spelled by a text in any form."""
@@ -56,4 +65,6 @@ def item_of(name: str, source: str, line: int, text: str, kind: str = "file",
             form, text = HEX, text[2:] if text[:2] in ("0x", "0X") else text
         elif _BASE64_DESCRIPTOR.match(text):
             form = BASE64
+        else:
+            return unreadable(name, source, line, f"{_cut(text)!r} is no descriptor", _NO_DESCRIPTOR, kind)
     return Item(name, source, line, form, text, kind, "", is_folder)
