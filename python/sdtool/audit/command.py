@@ -230,7 +230,6 @@ def _begin_all(paths: Sequence[str], options: SourceOptions) -> None:
 
 
 def _items(paths: Sequence[str], options: SourceOptions, bar: _Bar) -> Iterator[Item]:
-    _begin_all(paths, options)
     for path in paths:
         if sources.is_database(path):
             yield from cache.items(path)
@@ -294,6 +293,7 @@ def _ask(common: Common, question: Any, title: str, paths: Sequence[str], accept
     if len(paths) == 1 and sources.is_database(paths[0]) and not _lists_all(common) and not common.into:
         found = cache.Found(paths[0], engine)
         return _report(common, question.rules, title, paths, found.answered(), found.nothing, accepted)
+    _begin_all(paths, common.options)
     bar = _Bar(paths, common.bar)
     try:
         with cache.kept(common.into) as keep:
@@ -388,6 +388,7 @@ def diff(common: Common, old: str, new: str) -> int:
     """What changed between two lists of the same objects: OLD NEW."""
     paths = _paths([old, new])
     question = Differences(common.question)
+    _begin_all(paths, common.options)
     bar = _Bar(paths, common.bar)
     try:
         found = question.answered(_items(paths[:1], common.options, bar), _items(paths[1:], common.options, bar))
@@ -404,6 +405,7 @@ def inherit(common: Common, given: Sequence[str], fix: Optional[str]) -> int:
     """Objects whose inherited ACEs are not those that their folder hands on."""
     paths = _paths(given)
     question = Inheritance(common.question)
+    _begin_all(paths, common.options)
     bar = _Bar(paths, common.bar)
     try:
         with cache.kept(common.into) as keep, question.fixing(fix, paths):
@@ -420,6 +422,7 @@ def inherit(common: Common, given: Sequence[str], fix: Optional[str]) -> int:
 def show(common: Common, given: Sequence[str], name: Optional[str]) -> int:
     """Objects in words."""
     paths = _paths(given)
+    _begin_all(paths, common.options)
     with _opened(common.out, paths) as file:
         return describing.show(_items(paths, common.options, _Bar(paths, False)), name, common.question, file)
 
