@@ -656,7 +656,7 @@ def test_scale(place: Place) -> None:
 
     def rows(count: int, distinct: int):
         for number in range(count):
-            user = f"(A;;FR;;;{DOMAIN}-{1000 + number % distinct})"
+            user = f"(A;{'ID' if number % 4 == 3 else ''};FR;;;{DOMAIN}-{1000 + number % distinct})"
             yield f"folder {number // 100}\\file {number}", kinds[number % 4] + (user if number % 4 != 2 else "")
 
     source = place.table(rows(30_000, 20_000), "many.csv")
