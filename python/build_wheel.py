@@ -18,7 +18,13 @@ Version: {PROJECT['version']}
 Summary: {PROJECT['description']}
 License: Apache-2.0
 Requires-Python: {PROJECT['requires-python']}
+Provides-Extra: audit
+Requires-Dist: click >= 8; extra == 'audit'
+Requires-Dist: rich >= 13; extra == 'audit'
+Requires-Dist: python-ldap >= 3.4; extra == 'audit'
 """
+# The command of the extra.
+ENTRY_POINTS = (f"{NAME}.dist-info/entry_points.txt", b"[console_scripts]\nsdtool-audit = sdtool.audit.command:main\n")
 WHEEL = "Wheel-Version: 1.0\nGenerator: build_wheel.py\nRoot-Is-Purelib: true\nTag: py3-none-any\n"
 
 
@@ -32,7 +38,7 @@ def write_wheel(folder, files):
     record = ""
     wheel = f"{NAME}-py3-none-any.whl"
     with zipfile.ZipFile(pathlib.Path(folder, wheel), "w", zipfile.ZIP_DEFLATED) as archive:
-        for name, data in files:
+        for name, data in [*files, ENTRY_POINTS]:
             digest = base64.urlsafe_b64encode(hashlib.sha256(data).digest()).rstrip(b"=").decode()
             record += f"{name},sha256={digest},{len(data)}\n"
             archive.writestr(zipfile.ZipInfo(name), data)
