@@ -24,11 +24,14 @@ def said(line, answer):
 
 def main():
     command = [sys.argv[1], "check", "--from", "sddl", "--token", sys.argv[2], "--maximum"]
-    with subprocess.Popen(command, stdin=subprocess.PIPE, stdout=subprocess.PIPE) as sdtool:
+    # Without a buffer each line goes out at once; else both sides would wait.
+    with subprocess.Popen(command, bufsize=0, stdin=subprocess.PIPE, stdout=subprocess.PIPE) as sdtool:
         for line in sys.stdin.buffer:
             line = line.rstrip(b"\r\n")  # a line that keeps its end would be two
-            sdtool.stdin.write(line + b"\n")
-            sdtool.stdin.flush()  # without this both sides would wait
+            try:
+                sdtool.stdin.write(line + b"\n")
+            except BrokenPipeError:
+                return 2
             answer = sdtool.stdout.readline().decode()
             if not answer:
                 return 2  # sdtool has said why

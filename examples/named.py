@@ -18,7 +18,7 @@ def answered(words, found):
     domain = words[words.index("--domain"):][:2] if "--domain" in words else []
     known = [at for at, answer in enumerate(told) if not answer.startswith("unknown: ")]
     for at, text in zip(known, objects.asked(["explain", *domain], [found[at] for at in known])):
-        types = objects.object_types(objects.facts(text))
+        types = objects.object_types(text)
         if types:
             told[at] = f"unknown: ask with --object for {' and '.join(types)}"
     return told

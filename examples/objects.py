@@ -7,7 +7,6 @@ import argparse
 import base64
 import binascii
 import codecs
-import collections
 import csv
 import io
 import json
@@ -370,40 +369,15 @@ def asked(words, objects):
     return found
 
 
-class Entry(NamedTuple):
-    """An ACE of a DACL, as sdtool explains it."""
-    kind: str
-    is_for_children_alone: bool
-    object_type: str
-    sid: str
+def dacl_of(explanation):
+    """What an explanation says of the DACL: absent, null or list."""
+    return re.search(r"^dacl (absent|null|list)", explanation, re.M)[1]
 
 
-class Facts(NamedTuple):
-    owner: str  # or none
-    group: str
-    dacl: str  # absent, null or list
-    entries: list
-
-
-def facts(explanation):
-    """What an explanation says of owner, group and DACL."""
-    line = re.compile(r"^dacl \d+ (\w+) flags (\w+) .*? rights \w+(?: object (\S+))?.* sid (\S+)", re.M)
-    entries = [Entry(kind, "IO" in re.findall("..", flags), guid, sid)
-               for kind, flags, guid, sid in line.findall(explanation)]
-    heads = [re.search(rf"^{head} (\S+)", explanation, re.M)[1] for head in ("owner", "group", "dacl")]
-    return Facts(*heads, entries)
-
-
-def object_types(found):
-    """The object types that ACEs of the DACL are for."""
-    kinds = ("OA", "OD")
-    return sorted({entry.object_type for entry in found.entries
-                   if entry.object_type and entry.kind in kinds and not entry.is_for_children_alone})
-
-
-def counted(found):
-    """How many objects have each name."""
-    return collections.Counter(item.name for item in found).items()
+def object_types(explanation):
+    """The object types that ACEs of the DACL are for, but for those that only children get."""
+    found = re.findall(r"^dacl \d+ O[AD] flags (\w+) .*? rights \w+ object (\S+)", explanation, re.M)
+    return sorted({guid for flags, guid in found if "IO" not in re.findall("..", flags)})
 
 
 def shown(name):

@@ -27,7 +27,7 @@ def main(parser):
                 told[at] = f"no: {sid} would not have {answer.split()[1]}"
     for at, answer in enumerate(explained):
         if not answer.startswith("unknown: "):
-            dacl = objects.facts(answer).dacl
+            dacl = objects.dacl_of(answer)
             told[at] = told[at] if dacl == "list" else f"no: the DACL is {dacl}, which grants everything"
     for item, answer in zip(found, told):
         print(objects.shown(item.name), answer, sep="\t")

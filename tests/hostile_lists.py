@@ -16,6 +16,7 @@ import itertools
 import json
 import os
 import pathlib
+import re
 import subprocess
 import sys
 import tempfile
@@ -28,11 +29,12 @@ EXAMPLES = pathlib.Path(__file__).resolve().parent.parent / "examples"
 SECONDS = 60  # for one script
 MEMBER = "bf9679c0-0de6-11d0-a285-00aa003049e2"
 YES, NO, UNKNOWN = "yes", "no", "unknown"
+CHANGES = 0xD0156  # each right of a file that changes something
 
 
 class Case(NamedTuple):
-    """A descriptor; whether Everyone may change anything of a file that has it; whether it gives Everyone full control,
-    and has a DACL. None is for a text that is refused or no descriptor."""
+    """A descriptor; whether Everyone may change anything of a file that has it; whether it has a DACL that gives
+    Everyone full control."""
     sddl: str
     changes: str
     is_full: bool = False
@@ -69,7 +71,10 @@ CASES = [
     Case("", UNKNOWN),
     Case(" ", UNKNOWN),
 ]
-OBJECT_CASES = [Case(f"O:BAD:(OA;;DC;{MEMBER};;WD)(A;;FR;;;AU)", YES), Case(f"O:BAD:(OD;;DC;{MEMBER};;WD)", NO)]
+# What such a descriptor grants depends on the object type that is asked for.
+OBJECT_CASES = [Case(f"O:BAD:(OA;;DC;{MEMBER};;WD)(A;;FR;;;AU)", UNKNOWN),
+                Case(f"O:BAD:(OD;;DC;{MEMBER};;WD)", UNKNOWN)]
+IS_READ = {*(case.sddl for case in CASES if case.changes != UNKNOWN), *(case.sddl for case in OBJECT_CASES)}
 NAMES = ["plain", "with  blanks ", "tab\there", 'quote"d', '"quoted"', "per%cent %s", "line\nend", "carriage\rreturn",
          "back\\slash", "comma, semi;colon", "Größe", "a | pipe & more", "$(touch x)", "-n", "unknown: x", "'single'",
          "\u2028separated", "emoji \U0001f600", "=1+1", "{}", "a,b\r\nc;d"]
@@ -205,13 +210,17 @@ def says(answer, wanted):
         answer == wanted or answer.startswith(f"{wanted}: ")
 
 
+def changes(verdict, mask):
+    return YES if verdict == "granted" and int(mask, 16) & CHANGES else NO
+
+
 class Lists:
     """Lists as files, and what scripts answer to them."""
 
     def __init__(self, count, folder):
         self.count, self.path = count, pathlib.Path(folder, "list")
         self.hex_of = {}
-        cases = [case.sddl for case in [*CASES, *OBJECT_CASES] if case.changes != UNKNOWN]
+        cases = sorted(IS_READ)
         told = run(["sdtool", "convert", "--from", "sddl", "--to", "hex"], "".join(f"{c}\n" for c in cases).encode())
         self.hex_of = dict(zip(cases, told.stdout.split()))
         # A callback ACE, and a header without a part: bytes that hold a type which is refused.
@@ -227,21 +236,21 @@ class Lists:
         self.count.add(is_right and ended.status == status,
                        f"{what}: status {ended.status}\n  told   {told}\n  wanted {wanted}\n{ended.stderr}")
 
-    def changes(self, kind, data, rows, *options):
+    def checked(self, kind, data, rows):
+        """Whether Everyone may change each object."""
         self.path.write_bytes(data)
+        ended = script("named", kind, self.path, "check", "--token", "WD", "--maximum")
         wanted = [(row.name, row.case.changes) for row in rows]
-        self.judge(f"changes {kind} {data[:40]}", script("changes", "--token", "WD", *options, kind, self.path), wanted)
+        self.judge(f"{kind} {data[:40]}", ended._replace(stdout=re.sub(
+            r"\t(granted|denied) (0x[0-9a-f]{8})$", lambda found: "\t" + changes(*found.groups()), ended.stdout,
+            flags=re.M)), wanted)
 
     def refused(self, kind, data, what):
         """No script takes a list apart that is damaged."""
         self.path.write_bytes(data)
-        for name, words in (("changes", ["--token", "WD"]), ("restorable", []), ("inherited", [])):
-            ended = script(name, *words, kind, self.path)
-            self.count.add(is_refused(ended), f"{name} {kind}, {what}: {ended}")
-        ended = script("named", kind, self.path, "convert")
-        self.count.add(is_refused(ended), f"named {kind}, {what}: {ended}")
-        ended = script("compared", kind, self.path, self.path)
-        self.count.add(is_refused(ended), f"compared {kind}, {what}: {ended}")
+        for words in (["named", kind, self.path, "convert"], ["restorable", kind, self.path]):
+            ended = script(*words)
+            self.count.add(is_refused(ended), f"{words} {what}: {ended}")
 
 
 def formats(lists):
@@ -250,40 +259,40 @@ def formats(lists):
     for delimiter, end in itertools.product(",;\t", ["\n", "\r\n"]):
         text = csv_of(rows, delimiter, end)
         for encoding in ENCODINGS:
-            lists.changes("csv", encoded(text, encoding), rows)
-        lists.changes("csv", text.removesuffix(end).encode(), rows)
-    lists.changes("csv", unquoted_csv_of(rows).encode(), rows)
+            lists.checked("csv", encoded(text, encoding), rows)
+        lists.checked("csv", text.removesuffix(end).encode(), rows)
+    lists.checked("csv", unquoted_csv_of(rows).encode(), rows)
     for text in (json_of(rows), json_lines_of(rows)):
         for data in ways(text, False):
-            lists.changes("json", data, rows)
+            lists.checked("json", data, rows)
     without_ends = [name for name in NAMES if not set(name) & set("\t\r\n")]
     rows = named_rows(CASES + OBJECT_CASES, without_ends)
     for data in ways(tsv_of(rows)):
-        lists.changes("tsv", data, rows)
+        lists.checked("tsv", data, rows)
     numbered = [Row(f"line {number}", row.case) for number, row in enumerate(rows, 1)]
     for data in ways("".join(f"{row.case.sddl}\n" for row in rows)):
-        lists.changes("lines", data, numbered)
+        lists.checked("lines", data, numbered)
     quoteless = named_rows([case for case in CASES if '"' not in case.sddl],
                            [name for name in without_ends if '"' not in name])
     for data in ways(inf_of(quoteless)):
-        lists.changes("inf", data, quoteless)
+        lists.checked("inf", data, quoteless)
     with_dacl = [case for case in CASES + OBJECT_CASES if "D:" in case.sddl and not case.sddl.startswith("O:WD")]
     dacls = named_rows(with_dacl, without_ends)
     for data in ways(icacls_of(dacls)):
-        lists.changes("icacls", data, dacls)
+        lists.checked("icacls", data, dacls)
 
 
 def formats_of_bytes(lists):
     rows = [row for row in named_rows(CASES + OBJECT_CASES)]
     for data in ways(ldif_of(rows, lists.hex_of)):
-        lists.changes("ldif", data, rows)
+        lists.checked("ldif", data, rows)
     rows = named_rows(CASES + OBJECT_CASES)
     for data in ways(getfattr_of(rows, lists.hex_of)):
-        lists.changes("getfattr", data, rows)
+        lists.checked("getfattr", data, rows)
     rows = named_rows(CASES + OBJECT_CASES, [name for name in NAMES if not set(name) & set("\r\n")])
     below = [Row(f"KEY\\{row.name}", row.case) for row in rows]
     for data in ways(reg_of(rows, lists.hex_of)):
-        lists.changes("reg", data, below)
+        lists.checked("reg", data, below)
 
 
 def damaged(lists):
@@ -329,78 +338,32 @@ def damaged(lists):
             ("getfattr", "# file: a\nuser.x=0x00\n# file: b\nsystem.ntfs_acl=0xzz\n# file: c\nsecurity.NTACL=0x00\n",
              [("a", UNKNOWN), ("b", UNKNOWN), ("c", UNKNOWN)]),
             ("channel", "name: a\nenabled: true\n", [("a", UNKNOWN)])]:
-        lists.changes(kind, text.encode(), [Row(name, Case("", answer)) for name, answer in wanted])
+        lists.checked(kind, text.encode(), [Row(name, Case("", answer)) for name, answer in wanted])
 
 
 def commands(lists):
-    """The other scripts, on one list with every name and every descriptor."""
+    """What else is asked of a list with every name and every descriptor."""
     rows = named_rows(CASES + OBJECT_CASES)
     lists.path.write_bytes(csv_of(rows).encode())
-    told = script("named", "csv", lists.path, "check", "--token", "WD", "--maximum")
-    masks = {YES: "granted", NO: ("denied", "granted")}
-    found = list(answers_in(told.stdout))
-    is_whole = [name for name, _ in found] == [row.name for row in rows] and told.status == 1
-    lists.count.add(is_whole, f"named check: {told}")
-    for (name, answer), row in zip(found, rows):
-        is_known = row.case.changes != UNKNOWN and row.case not in OBJECT_CASES
-        lists.count.add(answer.startswith(masks[row.case.changes]) if is_known else says(answer, UNKNOWN),
-                        f"named check: {row} has {answer}")
-    for words in (["convert"], ["derive", "--kind", "file", "--owner", "BA", "--group", "SY"]):
+    for words in (["convert", "--to", "hex"], ["derive", "--kind", "file", "--owner", "BA", "--group", "SY"]):
         found = list(answers_in(script("named", "csv", lists.path, *words).stdout))
         is_right = [name for name, _ in found] == [row.name for row in rows] and all(
-            says(answer, UNKNOWN) == (row.case.changes == UNKNOWN) for (_, answer), row in zip(found, rows))
+            says(answer, UNKNOWN) != (row.case.sddl in IS_READ) for (_, answer), row in zip(found, rows))
         lists.count.add(is_right, f"named {words}: {found}")
     found = [name for name, _ in answers_in(script("named", "csv", lists.path, "explain").stdout)]
     lists.count.add(list(dict.fromkeys(found)) == [row.name for row in rows], f"named explain: {found}")
-    wanted = [(row.name, UNKNOWN if row.case.changes == UNKNOWN else "O" if row.case.is_full else NO) for row in rows]
-    wanted = [(name, f"O:{'S-1-5-32-544D:(A;;FA;;;S-1-1-0)'}" if kept == "O" else kept) for name, kept in wanted]
+    told = list(answers_in(script("named", "csv", lists.path, "check", "--token", "WD", "--maximum", "--object",
+                                  MEMBER).stdout))[-len(OBJECT_CASES):]
+    # The ACE for the object type grants 0x2 beside no other right, and denies it.
+    lists.count.add([answer for _, answer in told] == ["granted 0x00000002", "denied 0x00000000"], f"--object: {told}")
+    full = "O:S-1-5-32-544D:(A;;FA;;;S-1-1-0)"
+    wanted = [(row.name, full if row.case.is_full else NO if row.case.sddl in IS_READ else UNKNOWN) for row in rows]
     lists.judge("restorable", script("restorable", "--keep", "WD", "csv", lists.path), wanted)
-    told = script("changes", "csv", lists.path)
-    found = list(answers_in(told.stdout))
-    lists.count.add([name for name, _ in found] == [row.name for row in rows], f"changes: {told}")
-    for (name, answer), row in zip(found, rows):
-        is_known = says(answer, YES) or says(answer, NO)
-        is_right = {UNKNOWN: says(answer, UNKNOWN), NO: is_known, YES: "S-1-1-0 " in answer}
-        lists.count.add(is_right[row.case.changes], f"changes: {row} has {answer}")
-
-
-def comparisons(lists):
-    rows = named_rows(CASES + OBJECT_CASES)
-    other = lists.path.with_name("other")
-    lists.path.write_bytes(csv_of(rows).encode())
-    wanted = [(row.name, UNKNOWN if row.case.changes == UNKNOWN else "same") for row in rows]
-    lists.judge("compared with itself", script("compared", "csv", lists.path, lists.path), wanted)
-    other.write_bytes(csv_of([row._replace(case=CASES[1]) for row in rows]).encode())
-    wanted = [(row.name, UNKNOWN if row.case.changes == UNKNOWN else "same" if row.case == CASES[1] else "changed")
-              for row in rows]
-    lists.judge("compared with others", script("compared", "csv", lists.path, other), wanted)
-    lists.judge("compared from others", script("compared", "csv", other, lists.path), wanted)
-    other.write_bytes(csv_of(rows[:1]).encode())
-    rest = [(row.name, UNKNOWN if row.case.changes == UNKNOWN else "gone") for row in rows[1:]]
-    lists.judge("compared with one", script("compared", "csv", lists.path, other), [(rows[0].name, "same"), *rest])
-    rest = [(name, "added" if answer == "gone" else answer) for name, answer in rest]
-    lists.judge("compared from one", script("compared", "csv", other, lists.path), [(rows[0].name, "same"), *rest])
-    other.write_bytes(csv_of([*rows[:2], rows[0]]).encode())
-    wanted = [(rows[0].name, UNKNOWN), (rows[1].name, "same")]
-    lists.judge("compared with a name twice", script("compared", "csv", other, other), wanted)
-
-
-def inheritance(lists):
-    """Below a folder with each descriptor: its file and its folder have what they inherit, and another file has not."""
-    folder = "O:BAG:SYD:PAI(A;OICI;FR;;;WD)"
-    rows = [("top", folder, UNKNOWN), ("top\\a", "O:BAG:SYD:AI(A;ID;FR;;;WD)", "same"),
-            ("top/b", "O:BAG:SYD:AI(A;OICIID;FR;;;WD)", "same"), ("top\\c", "O:BAG:SYD:AI(A;ID;FA;;;WD)", "other"),
-            ("top\\d", "D:AI(A;ID;FR;;;WD)", UNKNOWN), ("else\\x", folder, UNKNOWN), ("top\\e", "", UNKNOWN),
-            ("top\\f", "O:BAG:SYD:(A;;FA;;;DU)", UNKNOWN), ("top\\f\\g", "O:BAG:SYD:AI", UNKNOWN),
-            ("top\\h", "O:BAG:SYD:AI(A;ID;FR;;;WD)", "other"), ("top\\h\\i", "O:BAG:SYD:AI", "same"),
-            ("top\\j", "O:BAG:SYD:AI(A;ID;FR;;;WD)", UNKNOWN), ("top\\j", "O:BAG:SYD:AI(A;ID;FR;;;WD)", UNKNOWN)]
-    lists.path.write_bytes(csv_of([Row(name, Case(sddl, "")) for name, sddl, _ in rows]).encode())
-    lists.judge("inherited", script("inherited", "csv", lists.path), [(name, answer) for name, _, answer in rows])
 
 
 def lines(count):
     """The two scripts for lines without names answer each line in order."""
-    cases = [*CASES, *(case._replace(changes=UNKNOWN) for case in OBJECT_CASES)]
+    cases = [*CASES, *OBJECT_CASES]
     text = "".join(f"{case.sddl}\n" for case in cases)
     wanted = [case.changes for case in cases]
     more = "O:BAD:(A;;FA;;;WD)"
@@ -468,7 +431,7 @@ def main():
         os.symlink(program, os.path.join(folder, "sdtool"))
         os.environ["PATH"] = os.pathsep.join([folder, os.environ["PATH"]])
         lists = Lists(count, folder)
-        for part in (formats, formats_of_bytes, damaged, commands, comparisons, inheritance, logons):
+        for part in (formats, formats_of_bytes, damaged, commands, logons):
             part(lists)
         lines(count)
     return count.end()
