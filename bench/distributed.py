@@ -1,24 +1,26 @@
 #!/usr/bin/env python3
-"""distributed.py [PROGRAM] [--megabytes N] [--rounds N] [--job WORD]
+"""distributed.py [PROGRAM] [--library FILE] [--megabytes N] [--rounds N] [--job WORD]
 
 Measures ways to answer one large file on one machine: one program (crates/sdtool/out/sdtool where none is given), GNU
-parallel with --pipepart, and examples/distributed.py, in one process, and over a scheduler with one, two and four
-workers. These are processes on 127.0.0.1 with one thread each, which are sent their blocks or read them.
+parallel with --pipepart, and sdtool.distributed over a scheduler with one, two and four workers. These are processes on
+127.0.0.1 with one thread each.
 
 The input is the mixture that generate.py makes, in hex, 1 GB of it, kept in the folder sdtool-bench among the temporary
-files. Each way writes its answers to a file there, which has to be equal to that of one program. Time is wall clock,
-the median of the rounds, in each of which all ways run once; the start of Python and the connection count. What Dask
-costs is the time of one worker beyond that of one program, as a share of the latter. --job takes only the commands that
-have the word.
+files. Each way writes its answers to a file there, which has to be equal to that of one program. Time is wall clock, the
+median of the rounds, in each of which all ways run once; the start of Python and the connection count. What Dask costs is
+the time of one worker beyond that of one program, as a share of the latter. Traffic is what goes through the loopback
+device in a run: between driver, scheduler and workers, and of other programs of this machine. --job takes only the commands
+that have the word.
 
-It needs parallel, and Python with dask and distributed (Debian: parallel, python3-dask, python3-distributed). Figures
-may be compared within one run, on a machine that does nothing else.
+It needs parallel, and Python with dask, distributed and fsspec (Debian: parallel, python3-dask, python3-distributed,
+python3-fsspec). Figures may be compared within one run, on a machine that does nothing else.
 """
 import argparse
 import filecmp
 import functools
 import os
 import pathlib
+import re
 import shlex
 import shutil
 import statistics
@@ -31,23 +33,28 @@ sys.dont_write_bytecode = True
 import run  # noqa: E402  (which finds the folder of the tests)
 import dask_cluster  # noqa: E402
 
-COMMANDS = [["convert"], ["check", "--token", "WD,AU,BU", "--want", "FW"], ["explain"]]
-BLOCK = 25_000_000  # bytes
+COMMANDS = [["convert"], ["check", "--token", "WD,AU,BU", "--want", "FW"], ["explain"],
+            ["derive", "--kind", "file", "--owner", "BA", "--group", "BU"]]
+BLOCKS = 16  # of the input
 WORKERS = (1, 2, 4)
 ONE = "one program"
+
+
+def loopback_bytes():
+    return int(re.search(r"lo:\s*(\d+)", pathlib.Path("/proc/net/dev").read_text())[1])
 
 
 class Ways:
     """Each way to answer the input, as a function that writes the answers and tells their path."""
 
-    def __init__(self, processes, given, folder):
-        self.processes, self.given, self.folder = processes, given, folder
-        self.addresses = {}
+    def __init__(self, processes, program, given, folder):
+        self.processes, self.program, self.given, self.folder = processes, program, given, folder
+        self.clusters, self.traffic = {}, {}
         for workers in WORKERS:
-            _, self.addresses[workers] = processes.start_scheduler()
+            scheduler, address = self.clusters[workers] = processes.start_scheduler()
             for _ in range(workers):
-                processes.start_worker(self.addresses[workers])
-            processes.wait_for_workers(self.addresses[workers], workers)
+                processes.start_worker(address)
+            processes.wait_for_workers(address, workers)
 
     def run(self, command, **others):
         status = subprocess.run(command, env=self.processes.environment, cwd=self.folder, **others).returncode
@@ -57,38 +64,38 @@ class Ways:
     def one_program(self, words):
         path = self.folder / "one"
         with open(self.given, "rb") as stdin, open(path, "wb") as stdout:
-            self.run(["sdtool", *words], stdin=stdin, stdout=stdout)
+            self.run([self.program, *words], stdin=stdin, stdout=stdout)
         return path
 
     def parallel(self, words):
         """Its status is the number of programs that met a faulty line."""
         path = self.folder / "parallel"
         with open(path, "wb") as stdout:
-            command = ["parallel", "--will-cite", "--pipepart", "--keep-order", "--block", str(BLOCK), "-a", self.given]
-            subprocess.run([*command, shlex.join(["sdtool", *words])], env=self.processes.environment, stdout=stdout)
+            block = str(-(-self.given.stat().st_size // BLOCKS))
+            command = ["parallel", "--will-cite", "--pipepart", "--keep-order", "--block", block, "-a", self.given]
+            subprocess.run([*command, shlex.join([self.program, *words])], env=self.processes.environment, stdout=stdout)
         return path
 
-    def distributed(self, options, words):
+    def distributed(self, workers, words):
         out = self.folder / "distributed"
         shutil.rmtree(out, ignore_errors=True)
-        command = [self.processes.python, str(dask_cluster.EXAMPLE), "--out", str(out), "--block", str(BLOCK), *options]
+        command = [self.processes.python, "-m", "sdtool.distributed", "--scheduler", self.clusters[workers][1],
+                   "--out", str(out), "--block", str(-(-self.given.stat().st_size // BLOCKS))]
+        before = loopback_bytes()
         self.run([*command, *words, "--", str(self.given)], stdout=subprocess.DEVNULL)
+        self.traffic[workers] = loopback_bytes() - before
         return out / self.given.name
 
     def all(self):
         yield ONE, self.one_program
         yield "parallel --pipepart", self.parallel
-        for workers, address in self.addresses.items():
-            ways = {"in one process": ["--workers", str(workers)], "sent": ["--scheduler", address],
-                    "shared": ["--scheduler", address, "--shared"]}
-            for name, options in ways.items():
-                yield f"distributed.py, {name}, {workers}", functools.partial(self.distributed, options)
+        for workers in self.clusters:
+            yield f"sdtool.distributed, {workers}", functools.partial(self.distributed, workers)
 
-
-def seconds_of(way, words):
-    began = time.monotonic()
-    path = way(words)
-    return time.monotonic() - began, path
+    def scheduler_memory(self, workers):
+        """The most bytes that a scheduler had in memory."""
+        status = pathlib.Path(f"/proc/{self.clusters[workers][0].pid}/status").read_text()
+        return 1024 * int(re.search(r"VmHWM:\s*(\d+)", status)[1])
 
 
 def measure(ways, words, rounds):
@@ -96,8 +103,9 @@ def measure(ways, words, rounds):
     taken = {name: [] for name, _ in ways}
     for _ in range(rounds):
         for name, way in ways:
-            seconds, path = seconds_of(way, words)
-            taken[name].append(seconds)
+            began = time.monotonic()
+            path = way(words)
+            taken[name].append(time.monotonic() - began)
             if name == ONE:
                 wanted = path
             elif not filecmp.cmp(wanted, path, shallow=False):
@@ -106,25 +114,29 @@ def measure(ways, words, rounds):
     return {name: statistics.median(seconds) for name, seconds in taken.items()}
 
 
-def show(words, size, medians):
+def show(ways, words, size, medians):
     print(f"sdtool {shlex.join(words)}")
     for name, seconds in medians.items():
         speed = medians[ONE] / seconds
-        print(f"  {name:38}{seconds:8.2f} s{size / seconds / 1e6:8.0f} MB/s{speed:8.2f} of one program's speed")
-    for name in ("in one process", "sent", "shared"):
-        cost = medians[f"distributed.py, {name}, 1"] / medians[ONE] - 1
-        print(f"  Dask costs one worker, {name}: {cost:.0%} of one program's time")
+        print(f"  {name:28}{seconds:8.2f} s{size / seconds / 1e6:8.0f} MB/s{speed:8.2f} of one program's speed")
+    cost = medians[f"sdtool.distributed, {WORKERS[0]}"] / medians[ONE] - 1
+    print(f"  Dask costs one worker {cost:.0%} of one program's time")
+    for workers in WORKERS:
+        print(f"  {workers} workers: {ways.traffic[workers] / 1e6:.2f} MB of traffic, "
+              f"{ways.scheduler_memory(workers) / 1e6:.0f} MB in the scheduler")
 
 
 def main():
-    parser = argparse.ArgumentParser(description="Measures one program, parallel, and examples/distributed.py.")
+    parser = argparse.ArgumentParser(description="Measures one program, parallel, and sdtool.distributed.")
     parser.add_argument("program", nargs="?", default=run.PROGRAM, type=os.path.abspath)
+    parser.add_argument("--library", default=dask_cluster.PYTHON.parent / "out/lib/libsdtool.so", type=os.path.abspath)
     parser.add_argument("--megabytes", type=int, default=1000, help="of the input (%(default)s)")
     parser.add_argument("--rounds", type=int, default=3, help="(%(default)s)")
     parser.add_argument("--job", default="", help="takes only the commands that have this word")
     wanted = parser.parse_args()
-    if not os.access(wanted.program, os.X_OK):
-        sys.exit(f"bench: there is no program at {wanted.program}; 'make program' builds it")
+    for path in wanted.program, wanted.library:
+        if not os.path.exists(path):
+            sys.exit(f"bench: there is no {path}; 'make program' and 'make library' build both")
     if not shutil.which("parallel"):
         sys.exit("bench: there is no parallel on the PATH")
     folder = pathlib.Path(tempfile.gettempdir()) / "sdtool-bench"
@@ -133,17 +145,17 @@ def main():
     with tempfile.TemporaryDirectory(dir=folder, ignore_cleanup_errors=True) as name:
         python = dask_cluster.python_with_dask(name)
         if python is None:
-            sys.exit("bench: no Python here has dask and distributed")
-        processes = dask_cluster.Processes(name, python, wanted.program)
+            sys.exit("bench: no Python here has dask, distributed and fsspec")
+        processes = dask_cluster.Processes(name, python, wanted.library)
         try:
-            ways = list(Ways(processes, given, pathlib.Path(name)).all())
+            ways = Ways(processes, wanted.program, given, pathlib.Path(name))
             print(f"{given.stat().st_size / 1e6:.0f} MB, {run.lines_in(given):,} lines, {os.cpu_count()} processors, "
                   f"medians of {wanted.rounds} rounds")
             for words in (words for words in COMMANDS if wanted.job in shlex.join(words)):
-                medians = measure(ways, words, wanted.rounds)
+                medians = measure(list(ways.all()), words, wanted.rounds)
                 if medians is None:
                     return 1
-                show(words, given.stat().st_size, medians)
+                show(ways, words, given.stat().st_size, medians)
         finally:
             processes.end_all()
     return 0

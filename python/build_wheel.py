@@ -18,6 +18,10 @@ Version: {PROJECT['version']}
 Summary: {PROJECT['description']}
 License: Apache-2.0
 Requires-Python: {PROJECT['requires-python']}
+Provides-Extra: distributed
+Requires-Dist: dask >= 2022.12; extra == 'distributed'
+Requires-Dist: distributed >= 2022.12; extra == 'distributed'
+Requires-Dist: fsspec >= 2022.11; extra == 'distributed'
 Provides-Extra: audit
 Requires-Dist: click >= 8; extra == 'audit'
 Requires-Dist: rich >= 13; extra == 'audit'

@@ -81,12 +81,12 @@ if "${MAKE:-make}" --no-print-directory program; then
     count tests/system_calls.py "$program"
     count tests/memory.py "$program"
     count tests/device_faults.py "$program"
-    count tests/distributed.py "$program"
     if take_library; then
         count tests/c_library.py "$program"
         count tests/c_install.py
         count tests/c_examples.py
         count tests/python_calls.py "$program"
+        count tests/distributed.py "$program"
         count tests/audit.py
     else
         echo "the library is not built, so its tests have not run"

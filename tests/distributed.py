@@ -1,21 +1,24 @@
 #!/usr/bin/env python3
-"""distributed.py PROGRAM
+"""distributed.py PROGRAM [--library FILE]
 
-Runs examples/distributed.py over a scheduler and three workers, processes on 127.0.0.1, and in one process: every
-command on hostile lines, cut into blocks of 1 KB, has to write what one program writes. Then it makes things fail:
-a worker and a scheduler are killed, programs are missing, end early or end wrongly, the disk is full, runs are ended
-and done again, and words are wrong. It needs Dask (Debian: python3-dask, python3-distributed); without it, it says so
-and tests nothing. The last line is 'N passed, M failed'.
+Runs `python3 -m sdtool.distributed` over Dask clusters, which are processes on 127.0.0.1, and in one process. Whatever
+happens, an answer file that is there has to be what PROGRAM writes. The commands run on hostile lines, cut into blocks of
+1 KB. Then workers have another library, see other files, come late, are stopped, killed or all gone; the scheduler dies;
+the library answers wrongly; disks are full; runs are interrupted and done again after inputs, answers, parts, records or the
+library have changed. It needs Dask and fsspec (Debian: python3-dask, python3-distributed, python3-fsspec); without them it
+says so and tests nothing. The last line is 'N passed, M failed'.
 """
 import argparse
-import collections
+import bz2
 import concurrent.futures
 import contextlib
+import gzip
+import json
+import lzma
 import os
 import pathlib
-import pty
 import random
-import shlex
+import shutil
 import signal
 import subprocess
 import sys
@@ -27,26 +30,51 @@ sys.dont_write_bytecode = True
 import compare  # noqa: E402
 import dask_cluster  # noqa: E402
 import preload  # noqa: E402
-from dask_cluster import EXAMPLE, end, wait_for  # noqa: E402
+from dask_cluster import end, wait_for  # noqa: E402
 
-SECONDS = 60  # for one run
-WORKERS = 3
+TOP = pathlib.Path(__file__).resolve().parent.parent
+SECONDS = 120  # for one run
 BLOCK = 1000  # bytes
-HEX_BYTES, SDDL_BYTES = 200_000, 150_000
+HEX_BYTES, SDDL_BYTES = 120_000, 80_000
 DOMAIN = ["--domain", "S-1-5-21-1-2-3"]
-OVER_HEX = [["convert"], ["convert", "--to", "hex"], ["explain", *DOMAIN],
-            ["check", "--token", "WD,!BA,SY", "--maximum"],
-            ["derive", "--kind", "container", "--owner", "BA", "--group", "SY"]]
+CHECK = ["check", "--token", "WD,!BA,SY", "--maximum"]
+DERIVE = ["derive", "--kind", "container", "--owner", "BA", "--group", "SY"]
+OVER_HEX = [["convert"], ["explain", *DOMAIN], CHECK, DERIVE]
 OVER_SDDL = [["explain"], ["convert", "--to", "base64", *DOMAIN]]
 LINE = b"0100008014000000000000000000000000000000010100000000000512000000\n"
-MARKED = b"MARK\n"  # a line at which some of the programs below fail
+MARK = b"MARK\n"  # a line at which some of the libraries below fail
 # What is odd about files, beside their lines.
 ODD_FILES = {
     "empty": b"", "one LF": b"\n", "three LF": b"\n\n\n", "CR LF": b"\r\n", "CR at the end": b"\n\r",
     "no LF": LINE[:-1], "no LF, CR": LINE + LINE[:-1] + b"\r", "one line": LINE,
-    "CR CR LF": LINE[:-1] + b"\r\r\n" + LINE,
+    "CR CR LF": LINE[:-1] + b"\r\r\n" + LINE, "block ends at LF": b"0" * 999 + b"\n" + LINE, "CR | LF": b"0" * 999 + b"\r\n" + LINE,
+}
+LONG_FILES = {
     "long line": b"0" * 3_000_000 + b"\n" + LINE, "long last line": LINE + b"\n" + b"0" * 5_000_000,
-    "long line, CR LF": LINE + b"z" * 2_200_000 + b"\r\n" + LINE, "longest line": b"0" * 262_452 + b"\r\n" + LINE,
+    "long line, CR LF": LINE + b"z" * 6_200_000 + b"\r\n" + LINE, "longest line": b"0" * 262_452 + b"\r\n" + LINE,
+}
+# A package that is the real one, but for what its run does.
+STUB = """
+import os, signal, time
+__path__ = [{real!r}]
+exec(compile(open({real!r} + "/__init__.py").read(), {real!r} + "/__init__.py", "exec"))
+right = run
+Answers = type(right(["convert"], b""))
+def run(words, data):
+    answers = right(words, data)
+    if data:
+{body}
+    return answers
+"""
+STUBS = {
+    "slow": "open({log!r}, 'a').write(f'{{os.getpid()}}\\n'); time.sleep(0.2)",
+    "fails": "if b'MARK' in data: raise ValueError('the library fails')",
+    "cuts": "answers = Answers(answers[0], answers[1][:len(answers[1]) // 3].rpartition(b'end\\n')[0] + b'end\\n', '')",
+    "drops": "if b'MARK' in data: answers = Answers(1, answers[1].partition(b'\\n')[2], '')",
+    "tears": "if b'MARK' in data: answers = Answers(answers[0], answers[1][:-1], '')",
+    "lies": "if b'MARK' in data: answers = Answers(0, answers[1], '')",
+    "stops": "if b'MARK' in data: answers = Answers(3, answers[1], 'sdtool: error 61 write')",
+    "dies": "if b'MARK' in data: os.kill(os.getpid(), signal.SIGKILL)",
 }
 
 
@@ -56,15 +84,15 @@ class Ended(NamedTuple):
     stderr: str
 
     def __str__(self):
-        return f"status {self.status}\n  stdout {self.stdout[-800:]!r}\n  stderr {self.stderr[-800:]!r}"
+        return f"status {self.status}\n  stdout {self.stdout[-800:]!r}\n  stderr {self.stderr[-1500:]!r}"
 
 
 class Place(dask_cluster.Processes):
     """A folder for the tests, the processes that they start there, and the files that they make."""
 
-    def __init__(self, folder, python, program):
-        super().__init__(folder, python, program)
-        self.outs = 0
+    def __init__(self, folder, python, program, library):
+        super().__init__(folder, python, library)
+        self.program, self.library, self.outs = program, library, 0
 
     def write(self, name, data):
         path = self.folder / name
@@ -72,25 +100,33 @@ class Place(dask_cluster.Processes):
         path.write_bytes(data)
         return name
 
-    def script(self, name, text):
-        """A program that workers run in place of sdtool."""
-        path = self.folder / name
-        path.write_text(f"#!/bin/sh\n{text}\n".replace("PROGRAM", shlex.quote(self.program)))
-        path.chmod(0o755)
-        return str(path)
+    def stub(self, name):
+        """The environment in which the library answers as the stub says."""
+        package = self.folder / f"stub {name}" / "sdtool"
+        package.mkdir(parents=True, exist_ok=True)
+        body = STUBS[name].format(log=str(self.folder / f"{name}.log")) if name == "slow" else STUBS[name]
+        text = STUB.format(real=str(dask_cluster.PYTHON / "sdtool"), body=f"        {body}")
+        (package / "__init__.py").write_text(text)
+        return {"PYTHONPATH": str(package.parent)}
+
+    def other_library(self):
+        """A library with another digest, which answers the same."""
+        path = self.folder / "other" / "libsdtool.so"
+        path.parent.mkdir(exist_ok=True)
+        path.write_bytes(pathlib.Path(self.library).read_bytes() + b"\n")
+        return {"SDTOOL_LIBRARY": str(path)}
 
     def out(self):
         self.outs += 1
         return self.folder / f"out{self.outs}"
 
-    def start_run(self, out, words, files, options=(), through=(), **others):
-        """Starts a run of the example; with blocks of 1 KB, where the options do not say how long they are."""
-        given = [*through, self.python, str(EXAMPLE), "--out", str(out), "--block", str(BLOCK), "--report", "0"]
+    def start_run(self, out, words, files, options=(), environment=None, through=(), **others):
+        given = [*through, self.python, "-m", "sdtool.distributed", "--out", out, "--block", str(BLOCK)]
         pipes = {"stdout": subprocess.PIPE, "stderr": subprocess.PIPE, **others}
-        return self.start([*given, *options, *words, "--", *files], **pipes)
+        return self.start([*given, *options, *words, "--", *files], environment, **pipes)
 
-    def run(self, out, words, files, options=(), **others):
-        return ended(self.start_run(out, words, files, options, **others))
+    def run(self, *arguments, **others):
+        return ended(self.start_run(*arguments, **others))
 
     def wanted(self, words, name):
         """What one program writes, and its status."""
@@ -105,13 +141,39 @@ def ended(child):
     except subprocess.TimeoutExpired:
         end(child)
         return Ended(-1, "", f"it took more than {SECONDS} seconds")
-    return Ended(child.returncode, (stdout or b"").decode(), (stderr or b"").decode())
+    return Ended(child.returncode, (stdout or b"").decode(errors="replace"), (stderr or b"").decode(errors="replace"))
 
 
 def answers_in(out):
-    """The answer files that have their names, and all names that there are but the journal's."""
-    names = {path.name for path in out.iterdir()} - {".sdtool.journal"} if out.exists() else set()
-    return {name: (out / name).read_bytes() for name in names if not name.startswith(".")}, names
+    """The answer files below the folder, by their names in it."""
+    paths = (path for path in out.rglob("*") if path.is_file() and "_sdtool" not in str(path.relative_to(out)))
+    return {str(path.relative_to(out)): path.read_bytes() for path in paths}
+
+
+def counts_of(answers, words, data):
+    """Lines and faulty lines, by a program's answers alone."""
+    errors = sum(line.startswith(b"error ") for line in answers.splitlines())
+    return data.count(b"\n") + (data[-1:] not in (b"", b"\n")), errors
+
+
+def judge_run(count, place, got, out, words, names, what, answers=None):
+    """Whether status, answer files and counts are those of one program for each file."""
+    statuses, rows = [], []
+    answers = answers_in(out) if answers is None else answers
+    for name in names:
+        wanted, status = place.wanted(words, name)
+        lines, errors = counts_of(wanted, words, (place.folder / name).read_bytes())
+        statuses.append(status)
+        rows.append(f"{lines:15,} lines {errors:15,} errors  file://{place.folder}/{name}")
+        count.add(answers.get(os.path.basename(name)) == wanted, f"{what}: {name}: other answers than one program's: {got}")
+    is_right = got.status == max(statuses) and got.stdout.splitlines() == rows and len(answers) == len(names)
+    count.add(is_right, f"{what}: {rows} are wanted, {sorted(answers)}: {got}")
+
+
+def judge_failed(count, got, out, text, done, what, status=3):
+    """Whether a run failed with the text, and only what is done has an answer file."""
+    is_right = got.status == status and text in got.stderr and set(answers_in(out)) == set(done)
+    count.add(is_right and "Traceback" not in got.stderr, f"{what}: {text!r} is wanted, {sorted(answers_in(out))}: {got}")
 
 
 def random_lines(line, maker, size):
@@ -123,36 +185,7 @@ def random_lines(line, maker, size):
     return b"".join(lines) + LINE[:-1] + b"\r"
 
 
-def summary_of(answers, words, data):
-    """Lines, faulty lines, and the first of these with their line numbers, by a program's answers alone."""
-    lines = data.count(b"\n") + (data[-1:] not in (b"", b"\n"))
-    blocks, number, errors = answers.splitlines(), 0, []
-    for line in blocks:
-        if words[0] != "explain" or line in (b"end", b"") or line.startswith(b"error "):
-            number += 1
-        if line.startswith(b"error "):
-            errors.append((number, line.decode()))
-    assert number == lines
-    return lines, errors
-
-
-def judge_run(count, place, got, out, words, names, what):
-    """Whether status, answer files, counts and first errors are those of one program for each file."""
-    statuses, numbers, first = [], [], []
-    answers, all_names = answers_in(out)
-    for name in names:
-        wanted, status = place.wanted(words, name)
-        lines, errors = summary_of(wanted, words, (place.folder / name).read_bytes())
-        statuses.append(status)
-        numbers.append(f"{lines:15,} {len(errors):12,}  {name}")
-        first += [f"{name}:{number}: {text}" for number, text in errors[:10]]
-        is_same = answers.get(os.path.basename(name)) == wanted
-        count.add(is_same, f"{what}: {name}: other answers than one program's: {got}")
-    told = [line.replace(" (done before)", "") for line in got.stdout.splitlines()]
-    count.add(told[1:1 + len(numbers)] == numbers, f"{what}: counts {numbers} are wanted: {got}")
-    count.add(told[2 + len(numbers):] == first[:10], f"{what}: first errors {first[:10]} are wanted: {got}")
-    count.add(got.status == max(statuses) and len(all_names) == len(names), f"{what}: {all_names}: {got}")
-
+# Answers.
 
 def test_commands(count, place, address):
     maker = compare.Lines(random.Random(1))
@@ -160,297 +193,449 @@ def test_commands(count, place, address):
     sddl_names = [place.write("lines.sddl", random_lines(maker.sddl_line, maker, SDDL_BYTES))]
     jobs = [*((words, names) for words in OVER_HEX), *(([*words, "--from", "sddl"], sddl_names) for words in OVER_SDDL)]
     for at, (words, files) in enumerate(jobs):
-        # Sent, shared, and in one process.
-        options = [["--scheduler", address], ["--scheduler", address, "--shared"], ["--workers", "3"]][at % 3]
+        options = [["--scheduler", address], []][at % 2]
         out = place.out()
-        got = place.run(out, words, files, options)
-        judge_run(count, place, got, out, words, files, f"{words} {options[2:] or options[0]}")
-    odd = [place.write(f"{name}.odd", data) for name, data in ODD_FILES.items()]
+        judge_run(count, place, place.run(out, words, files, options), out, words, files, f"{words} {options}")
+    out = place.out()
+    got = place.run(out, ["explain"], names, ["--scheduler", address, "--parts"])
+    parts = [out / "lines.hex" / name for name in sorted(os.listdir(out / "lines.hex")) if name.startswith("part-")]
+    joined = {"lines.hex": b"".join(part.read_bytes() for part in parts)}
+    judge_run(count, place, got, out, ["explain"], names, "--parts", joined)
+    manifest = json.loads((out / "lines.hex" / "_sdtool.json").read_bytes())
+    count.add(len(parts) == len(manifest["blocks"]) == -(-(place.folder / names[0]).stat().st_size // BLOCK) and
+              manifest["bytes"] == len(joined["lines.hex"]), f"--parts: {len(parts)} parts, {str(manifest)[:300]}")
+    place.write("lines.hex", LINE * 40)
+    got = place.run(out, ["explain"], names, ["--scheduler", address, "--parts"])
+    parts = [out / "lines.hex" / name for name in sorted(os.listdir(out / "lines.hex")) if name.startswith("part-")]
+    joined = {"lines.hex": b"".join(part.read_bytes() for part in parts)}
+    judge_run(count, place, got, out, ["explain"], names, "--parts of an input that is shorter now", joined)
+
+
+def test_odd_files(count, place, address):
+    odd = [place.write(f"odd/{name}", data) for name, data in ODD_FILES.items()]
+    odd.append(place.write("odd/" + "n" * 255, LINE * 30))
+    odd += [place.write(f"odd/{name}", LINE * number) for number, name in enumerate((".x.unfinished", "x", "a[1]", "part-000000"), 1)]
     for words, options in (["convert"], ["--scheduler", address]), (["explain"], []):
         out = place.out()
         judge_run(count, place, place.run(out, words, odd, options), out, words, odd, f"odd files, {words}")
-    clean = [place.write("clean", LINE * 50)]
+    long = [place.write(f"odd/{name}", data) for name, data in LONG_FILES.items()]
     out = place.out()
-    judge_run(count, place, place.run(out, ["convert"], clean), out, ["convert"], clean, "no faulty line")
-
-
-def test_folders(count, place):
-    names = [place.write("one/same", LINE * 30), place.write("two/same", LINE * 20 + b"zz\n")]
+    got = place.run(out, ["convert"], long, ["--scheduler", address, "--block", "500000"])
+    judge_run(count, place, got, out, ["convert"], long, "long lines")
+    name = os.fsdecode(b"odd/not \xff utf-8")
+    place.write(name, LINE * 20)
     out = place.out()
-    got = place.run(out, ["convert"], names, ["--keep-folders"])
-    is_same = got.status == 1 and all((out / name).read_bytes() == place.wanted(["convert"], name)[0] for name in names)
-    count.add(is_same, f"--keep-folders: {got}")
+    got = place.run(out, ["convert"], [name], ["--scheduler", address])
+    count.add(got.status == 0 and answers_in(out) == {os.path.basename(name): place.wanted(["convert"], name)[0]}, f"{got}")
 
 
-def test_dead_worker(count, place, address, workers):
-    """A worker is killed just after it has started the program for a block; another one answers that block."""
-    log = place.folder / "slow.log"
-    slow = place.script("slow", f"echo $PPID >> {log}; sleep 0.2; exec PROGRAM \"$@\"")
-    blocks = 60
-    lines_in_block = -(-BLOCK // len(LINE))
-    block = LINE * (lines_in_block - 1) + b"zz" * 32 + b"\n"
-    name, out = place.write("slow.hex", block * blocks), place.out()
-
-    def started():
-        """How often each worker has started the program, by the workers' process ids."""
-        return collections.Counter(map(int, log.read_text().split()) if log.exists() else ())
-
-    place.wait_for_workers(address, WORKERS)
-    child = place.start_run(out, ["convert"], [name], ["--scheduler", address, "--program", slow])
-    wait_for(lambda: len(started()) == WORKERS and min(started().values()) > 3)
-    wait_for((out / f".{name}.unfinished").exists)
-    count.add(not (out / name).exists(), "an answer file has its name before it is whole")
-    killed = workers.pop()
-    before = started()[killed.pid]
-    wait_for(lambda: started()[killed.pid] > before)
-    end(killed)
-    got = ended(child)
-    judge_run(count, place, got, out, ["convert"], [name], "a worker is killed")
-    # Each worker's probe, each block, and at least the one that died with its worker.
-    programs = sum(started().values())
-    count.add(programs > WORKERS + blocks, f"the killed worker had no block: {programs} programs for {blocks} blocks")
-    workers.append(place.start_worker(address))
-
-
-def test_programs(count, place, address):
-    """Programs that are not there, fail, or do not answer each line."""
-    name, second = place.write("good", LINE * 100), place.write("marked", LINE * 40 + MARKED + LINE * 40_000)
-    kept = "f=$(mktemp); trap 'rm -f $f' EXIT; cat > $f; if grep -q MARK $f; then"
-    otherwise = "fi; PROGRAM \"$@\" < $f"
-    failing = {
-        "no-memory": ("echo 'sdtool: no memory' >&2; exit 4", "sdtool: no memory"),
-        "fails": (f"{kept} echo 'sdtool: error 60 read' >&2; exit 3; {otherwise}", "status 3: sdtool: error 60 read"),
-        "usage": (f"{kept} echo 'sdtool: usage' >&2; exit 2; {otherwise}", "status 2: sdtool: usage"),
-        "killed": (f"{kept} rm -f $f; kill -9 $$; {otherwise}", "signal 9"),
-        "drops": (f"{kept} sed 1d $f | PROGRAM \"$@\"; exit 1; {otherwise}", "lines for"),
-        "lies": (f"{kept} PROGRAM \"$@\" < $f; exit 0; {otherwise}", "ended with status 0 and wrote 1 error lines"),
-    }
-    programs = {"/nowhere/sdtool": "No such file or directory: '/nowhere/sdtool'",
-                place.write("no-program", b"nothing"): "ermission denied",
-                **{place.script(called, text): wanted for called, (text, wanted) in failing.items()}}
-    for at, (program, text) in enumerate(programs.items()):
-        program = program if "/" in program else f"./{program}"
+def test_places(count, place, address):
+    """Folders, patterns, and files that are compressed."""
+    tree = {"in/one/same": LINE * 30, "in/two/same": LINE * 20 + b"zz\n", "in/_sdtool/run.json": b"{}", "in/two/_other": LINE}
+    for name, data in tree.items():
+        place.write(name, data)
+    wanted = {name[3:]: place.wanted(["convert"], name)[0] for name in tree if "_sdtool" not in name}
+    for given in "in", f"file://{place.folder}/in":
         out = place.out()
-        options = [["--scheduler", address], []][at % 2] if program[0] == "/" else []
-        got = place.run(out, ["convert"], [name, second], [*options, "--program", program, "--block", "100000"])
-        answers, names = answers_in(out)
-        is_done = at > 2  # the first file, before the run ends
-        is_right = got.status == 3 and text in got.stderr and set(answers) == names == ({name} if is_done else set())
-        count.add(is_right and "Traceback" not in got.stderr, f"{program}: {names}: {got}")
-    # One that reads nothing, and says that all is well.
-    out, blind = place.out(), place.script("blind", "exit 0")
-    got = place.run(out, ["explain"], [second], ["--program", blind, "--block", "1000000"])
-    is_said = "before it had read its input" in got.stderr
-    count.add(got.status == 3 and is_said and not answers_in(out)[1], f"blind: {got}")
+        got = place.run(out, ["convert"], [given], ["--scheduler", address])
+        count.add(got.status == 1 and answers_in(out) == wanted, f"a folder: {sorted(answers_in(out))} {got}")
+    out = place.out()
+    got = place.run(out, ["convert"], ["in/*/_o*"])
+    count.add(got.status == 0 and answers_in(out) == {"_other": wanted["two/_other"]}, f"a pattern: {got}")
+    plain = LINE * 30 + b"zz\n" + LINE * 3000
+    packed = {"gz": gzip.compress(plain[:5000]) + gzip.compress(plain[5000:]), "bz2": bz2.compress(plain),
+              "xz": lzma.compress(plain)}
+    if shutil.which("zstd"):
+        zstd = ["zstd", "-q", "-c"]
+        packed["zst"] = b"".join(subprocess.run(zstd, input=data, stdout=subprocess.PIPE, check=True).stdout
+                                 for data in (plain[:5000], plain[5000:]))
+    place.write("plain", plain)
+    names = [place.write(f"packed/{kind}.{kind}", data) for kind, data in packed.items()]
+    out = place.out()
+    got = place.run(out, ["convert"], names, ["--scheduler", address])
+    if "zst" in packed and "zstandard" in got.stderr + "".join(got.stdout) or "read here" in got.stderr:
+        print("skipped: fsspec reads no .zst here (Debian: python3-zstandard)")
+        del packed["zst"]
+        names.pop()
+        got = place.run(out, ["convert"], names, ["--scheduler", address])
+    right = place.wanted(["convert"], "plain")[0]
+    count.add(got.status == 1 and answers_in(out) == dict.fromkeys(packed, right), f"packed: {sorted(answers_in(out))} {got}")
+    names = [place.write(f"cut/{kind}.{kind}", data[:-5]) for kind, data in packed.items()]
+    out = place.out()
+    got = place.run(out, ["convert"], ["plain", *names], ["--scheduler", address, "--retries", "0"])
+    is_told = all(f"cut/{kind}.{kind} has no answers" in got.stderr for kind in packed)
+    count.add(got.status == 3 and is_told and answers_in(out) == {"plain": right}, f"cut files: {sorted(answers_in(out))} {got}")
+
+
+def test_memory(count, place):
+    """Inputs and output in the memory of the process."""
+    place.write("some", LINE * 30 + b"zz\n" + LINE * 300)
+    code = f"""
+import fsspec, sys
+from sdtool import distributed
+data = open("some", "rb").read()
+memory = fsspec.filesystem("memory")
+memory.pipe("/in/one", data)
+memory.pipe("/in/two.hex", data[5:])
+for turn in range(2):
+    status = distributed.main(["--out", "memory://out", "--block", "1000", "convert", "--", "memory://in/one", "memory://in/*.hex"])
+sys.stdout.flush()
+sys.stdout.buffer.write(b"%d " % status + memory.cat("/out/one") + b"--" + memory.cat("/out/two.hex"))
+"""
+    got = ended(place.start([place.python, "-c", code], stdout=subprocess.PIPE, stderr=subprocess.PIPE))
+    wanted = place.wanted(["convert"], "some")[0].decode()
+    place.write("other", (place.folder / "some").read_bytes()[5:])
+    wanted = f"1 {wanted}--{place.wanted(['convert'], 'other')[0].decode()}"
+    count.add(got.status == 0 and got.stdout.endswith(wanted), f"memory://: {wanted[:100]} is wanted: {got}")
+
+
+# Workers.
+
+def started(place):
+    """The workers that a slow library told of, each as often as it answered a piece."""
+    log = place.folder / "slow.log"
+    return log.read_text().split() if log.exists() else []
+
+
+def start_slow_run(place, address, name, blocks, options=()):
+    """Starts a run whose blocks take a fifth of a second, and waits until parts are there."""
+    place.write(name, LINE * (16 * blocks - 8) + b"zz\n")
+    out = place.out()
+    child = place.start_run(out, ["convert"], [name], ["--scheduler", address, *options])
+    parts = out / "_sdtool/inputs" / name
+    wait_for(lambda: child.poll() is not None or parts.exists() and any("part-" in each for each in os.listdir(parts)), SECONDS)
+    count_there = (out / name).exists()
+    return child, out, count_there
+
+
+def test_wrong_workers(count, place):
+    """Workers with another library, without one, and with other files under the same names."""
+    _, address = place.start_scheduler()
+    slow = place.stub("slow")
+    place.start_worker(address, slow)
+    place.start_worker(address, {**slow, **place.other_library()})
+    place.start_worker(address, {**slow, "SDTOOL_LIBRARY": "/nowhere/libsdtool.so"})
+    name = place.write("told", LINE * 100 + b"zz\n")
+    place.write("elsewhere/told", LINE[:2] * 2 + LINE[4:] * 100 + b"zz\n")
+    apart = ["unshare", "--user", "--map-root-user", "--mount", "sh", "-c"]
+    is_apart = ended(place.start([*apart, f"mount --bind elsewhere/told {name}"], stderr=subprocess.PIPE)).status == 0
+    if is_apart:
+        place.start_worker(address, slow, [*apart, f'mount --bind elsewhere/told {name} && exec "$@"', "sh"])
+        (place.folder / "nothing").mkdir()
+        (place.folder / "out1").mkdir()
+        place.start_worker(address, slow, [*apart, 'mount --bind nothing out1 && exec "$@"', "sh"])
+    else:
+        print("skipped: no file can be mounted here, so no worker sees another one")
+    place.wait_for_workers(address, 5 if is_apart else 3)
+    out = place.out()
+    got = place.run(out, ["convert"], [name], ["--scheduler", address])
+    judge_run(count, place, got, out, ["convert"], [name], "wrong workers")
+    told = {"library is not the driver's": 1, "/nowhere/libsdtool.so": 1, "is another file here": int(is_apart),
+            "another output here": int(is_apart), "is left out": 4 if is_apart else 2}
+    is_told = all(sum(text in line for line in got.stderr.splitlines()) == times for text, times in told.items())
+    count.add(is_told and len(set(started(place))) == 1, f"wrong workers: {told}: {set(started(place))} {got}")
+
+
+def test_late_workers(count, place):
+    """A right worker and a wrong one come while a run goes on, and then the first one goes."""
+    _, address = place.start_scheduler()
+    slow = place.stub("slow")
+    first = place.start_worker(address, slow)
+    child, out, is_early = start_slow_run(place, address, "late", 60)
+    count.add(not is_early, "an answer file has its name before it is whole")
+    wrong = place.start_worker(address, {**slow, **place.other_library()})
+    right = place.start_worker(address, slow)
+    wait_for(lambda: str(right.pid) in started(place) or child.poll() is not None, SECONDS, "a block at the late worker")
+    end(first)
+    got = ended(child)
+    judge_run(count, place, got, out, ["convert"], ["late"], "late workers")
+    is_right = str(right.pid) in started(place) and str(wrong.pid) not in started(place)
+    count.add(is_right and got.stderr.count("is left out") == 1, f"late workers: {set(started(place))} {got}")
+
+
+def test_dead_workers(count, place):
+    """Workers die one after the other, more of them than Dask tries a task, and new ones come after each."""
+    _, address = place.start_scheduler()
+    slow = place.stub("slow")
+    workers = [place.start_worker(address, slow) for _ in range(2)]
+    place.wait_for_workers(address, 2)
+    child, out, _ = start_slow_run(place, address, "dead", 80)
+    for _ in range(5):
+        before = started(place).count(str(workers[0].pid))
+        wait_for(lambda: started(place).count(str(workers[0].pid)) > before or child.poll() is not None, SECONDS)
+        end(workers.pop(0))
+        workers.append(place.start_worker(address, slow))
+    got = ended(child)
+    judge_run(count, place, got, out, ["convert"], ["dead"], "dead workers")
+
+
+def test_stopped_workers(count, place):
+    """A worker is stopped before a run, and another one in it."""
+    _, address = place.start_scheduler()
+    slow = place.stub("slow")
+    workers = [place.start_worker(address, slow) for _ in range(3)]
+    place.wait_for_workers(address, 3)
+    os.kill(workers[0].pid, signal.SIGSTOP)
+    child, out, _ = start_slow_run(place, address, "stopped", 40)
+    before = started(place).count(str(workers[1].pid))
+    wait_for(lambda: started(place).count(str(workers[1].pid)) > before or child.poll() is not None, SECONDS)
+    os.kill(workers[1].pid, signal.SIGSTOP)
+    got = ended(child)
+    judge_run(count, place, got, out, ["convert"], ["stopped"], "stopped workers")
+    os.kill(workers[1].pid, signal.SIGCONT)  # which still has a part to write
+    time.sleep(1)
+    count.add(answers_in(out) == {"stopped": place.wanted(["convert"], "stopped")[0]}, "a worker that goes on late writes answers")
+
+
+def test_gone(count, place):
+    """All workers go, a new one comes; then all go for good; then the scheduler goes."""
+    scheduler, address = place.start_scheduler()
+    slow = place.stub("slow")
+    worker = place.start_worker(address, slow)
+    child, out, _ = start_slow_run(place, address, "gone", 20)
+    end(worker)
+    time.sleep(1)
+    worker = place.start_worker(address, slow)
+    judge_run(count, place, ended(child), out, ["convert"], ["gone"], "all workers are new")
+    child, out, _ = start_slow_run(place, address, "gone", 40, ["--wait", "3"])
+    end(worker)
+    judge_failed(count, ended(child), out, "no worker has been fit for 3 seconds", [], "no worker")
+    place.start_worker(address, slow)
+    child, out, _ = start_slow_run(place, address, "gone", 40)
+    end(scheduler)
+    got = ended(child)  # Dask tells of it in its way before
+    judge_failed(count, got._replace(stderr=got.stderr.splitlines()[-1]), out, "the scheduler is lost", [], "no scheduler")
+
+
+def test_wrong_answers(count, place):
+    """Libraries that fail, die, or do not answer each line."""
+    good, bad = place.write("good", LINE * 100), place.write("bad", LINE * 40 + MARK + LINE * 40)
+    texts = {"fails": "ValueError: the library fails", "drops": "lines have", "tears": "lines have", "lies": "status 0",
+             "stops": "status 3 sdtool: error 61 write"}
+    for name, text in texts.items():
+        out = place.out()
+        got = place.run(out, ["convert"], [good, bad], ["--retries", "1"], environment=place.stub(name))
+        judge_failed(count, got, out, text, [good], name)
+        count.add("bad has no answers" in got.stderr and got.stdout.count("good") == 1, f"{name}: {got}")
+    out = place.out()
+    got = place.run(out, ["explain"], [good], environment=place.stub("cuts"))
+    judge_failed(count, got, out, "lines have", [], "explanations that are cut")
+    _, address = place.start_scheduler()
+    for _ in range(2):
+        place.start_worker(address)
+    dies = place.stub("dies")
+    keeper = f"while :; do {place.python} -m distributed.cli.dask_worker {address} --nthreads 1 --no-nanny --no-dashboard; done"
+    place.start(["sh", "-c", keeper], dies, stdout=subprocess.DEVNULL, stderr=subprocess.DEVNULL)
+    place.wait_for_workers(address, 3)
+    out = place.out()
+    judge_run(count, place, place.run(out, ["convert"], [good, bad], ["--scheduler", address]), out, ["convert"], [good, bad],
+              "a worker that dies of a block which others answer")
+
+
+# Runs that are done again.
+
+def test_resumed(count, place):
+    words, options = ["convert"], ["--retries", "0"]
+    first, second = place.write("first", LINE * 50 + b"zz\n"), place.write("second", LINE * 50 + MARK)
+    names, out = [first, second], place.out()
+    got = place.run(out, words, names, options, environment=place.stub("fails"))
+    judge_failed(count, got, out, "second has no answers", [first], "the second file fails")
+    parts = out / "_sdtool/inputs/second"
+    kept = sorted(name for name in os.listdir(parts) if name.startswith("part-"))
+    made = {name: (parts / name).stat().st_mtime_ns for name in kept}
+    # Another run leaves these as they are, but for what is not whole.
+    (parts / kept[0]).write_bytes((parts / kept[0]).read_bytes().replace(b"SY", b"BA", 1))
+    (parts / f"_sdtool-{kept[1]}.json").write_bytes(b'{"library": "ab')
+    before = (out / first).stat()
+    got = place.run(out, words, names)
+    judge_run(count, place, got, out, words, names, "resumed")
+    after = (out / first).stat()
+    count.add(len(made) > 2 and (before.st_ino, before.st_mtime_ns) == (after.st_ino, after.st_mtime_ns), f"kept: {made} {got}")
+
+    def changed(what, *arguments, **others):
+        got = place.run(out, words, names, *arguments, **others)
+        judge_run(count, place, got, out, words, names, what)
+
+    told = os.stat(place.folder / first)
+    place.write(first, LINE.replace(b"12", b"13", 1) * 50 + b"zz\n")
+    os.utime(place.folder / first, ns=(told.st_atime_ns, told.st_mtime_ns))
+    changed("an input has changed, not its size and time")
+    (out / first).write_bytes((out / first).read_bytes().replace(b"SY", b"WD"))
+    changed("answers have changed, not their size")
+    (out / first).write_bytes((out / first).read_bytes() + b"O:WD\n")
+    changed("answers have more lines")
+    os.remove(out / second)
+    changed("answers are gone")
+    (out / "_sdtool/inputs/first/_sdtool.json").write_bytes(b'{"blocks": [{')
+    os.remove(out / first)
+    (out / "_sdtool/run.json").write_bytes(b'{"run"')
+    changed("records are torn")
+    changed("blocks have another length", ["--block", "700"])
+    (out / first).write_bytes((out / first).read_bytes())
+    manifest = out / "_sdtool/inputs/first/_sdtool.json"
+    library = json.loads(manifest.read_bytes())["blocks"][0]["library"]
+    changed("the library is another one", environment=place.other_library())
+    others = {block["library"] for block in json.loads(manifest.read_bytes())["blocks"]}
+    count.add(len(others) == 1 and library not in others, f"another library: {others} {library}")
+    got = place.run(out, ["convert", "--to", "hex"], names)
+    is_kept = answers_in(out)[first] == place.wanted(words, first)[0]
+    count.add(got.status == 2 and "has answers of 'sdtool convert'" in got.stderr and is_kept, f"other words: {got}")
+
+
+def test_interrupted(count, place):
+    words, slow = ["convert"], place.stub("slow")
+    names = [place.write("long first", LINE * 1500), place.write("then", LINE * 40 + b"zz\n")]
+    for sent, status in (signal.SIGTERM, -15), (signal.SIGINT, 130), (signal.SIGKILL, -9):
+        out = place.out()
+        child = place.start_run(out, words, names, environment=slow)
+        parts = out / "_sdtool/inputs/long first"
+        wait_for(lambda: parts.exists() and os.listdir(parts), SECONDS)
+        child.send_signal(sent)
+        got = ended(child)
+        is_clean = "long first" not in answers_in(out) and "Traceback" not in got.stderr
+        count.add(got.status == status and is_clean, f"signal {sent}: {sorted(answers_in(out))}: {got}")
+        judge_run(count, place, place.run(out, words, names), out, words, names, f"after signal {sent}")
+    # A second run takes the output over, and the first one ends.
+    out = place.out()
+    child = place.start_run(out, words, names, environment=slow)
+    wait_for(lambda: (out / "_sdtool/inputs/long first").exists() and os.listdir(out / "_sdtool/inputs/long first"), SECONDS)
+    judge_run(count, place, place.run(out, words, names), out, words, names, "the second of two runs")
+    got = ended(child)
+    count.add(got.status == 3 and "another run has taken it over" in got.stderr, f"the first of two runs: {got}")
+    judge_run(count, place, Ended(1, place.run(out, words, names).stdout, ""), out, words, names, "after two runs")
+
+
+def test_changing_input(count, place):
+    """An input changes while it is read. The other one is answered."""
+    names = [place.write("shrinks", LINE * 400), place.write("stays", LINE * 30)]
+    out = place.out()
+    child = place.start_run(out, ["convert"], names, ["--block", "100"], environment=place.stub("slow"))
+    parts = out / "_sdtool/inputs/shrinks"
+    wait_for(lambda: parts.exists() and os.listdir(parts), SECONDS)
+    os.truncate(place.folder / "shrinks", 500)
+    judge_failed(count, ended(child), out, "shrinks has no answers", ["stays"], "an input that shrinks")
+    out = place.out()
+    got = place.run(out, ["convert"], names, ["--block", "1"])
+    judge_run(count, place, got, out, ["convert"], names, "blocks of one byte")
 
 
 def test_full_disk(count, place):
     names = [place.write("small", LINE * 10), place.write("large", LINE * 3000)]
     out = place.out()
-    got = place.run(out, ["convert", "--to", "hex"], names,
+    got = place.run(out, ["convert", "--to", "hex"], names, ["--block", "64000000", "--retries", "0"],
                     through=["sh", "-c", "ulimit -f 100; exec \"$@\"", "sh"])  # 51 or 102 KB, as the shell counts
-    answers, all_names = answers_in(out)
-    is_right = got.status == 3 and "File too large" in got.stderr and set(answers) == all_names == {"small"}
-    count.add(is_right, f"a limit on files: {all_names}: {got}")
-    # A file system of 64 KB, where a name space of one's own may be had.
+    judge_failed(count, got, out, "large has no answers: OSError: [Errno 27] File too large", ["small"], "a limit on files")
     apart = ["unshare", "--user", "--map-root-user", "--mount", "sh", "-c"]
-    mount = "mount -t tmpfs -o size=64k tmpfs full && "
-    (place.folder / "full").mkdir()
-    if ended(place.start([*apart, f"{mount} true"])).status:
-        print("no file system can be mounted here, so none is full")
-        return
-    command = [place.python, str(EXAMPLE), "--out", "full", "convert", "--to", "hex", "--", *names]
-    got = ended(place.start([*apart, f"{mount} {{ {shlex.join(command)}; echo $?; ls -A full; }}"],
-                            stdout=subprocess.PIPE, stderr=subprocess.PIPE))
-    is_right = "No space left on device" in got.stderr and got.stdout.split() == ["3", ".sdtool.journal", "small"]
-    count.add(is_right, f"a full disk: {got}")
-    if os.geteuid():
-        closed = place.out()
-        closed.mkdir(mode=0o555)
-        got = place.run(closed, ["convert"], names)
-        count.add(got.status == 2 and "Permission denied" in got.stderr, f"a folder that is not to be written: {got}")
+    for size in "64k", "4k":
+        (place.folder / "full").mkdir(exist_ok=True)
+        mount = f"mount -t tmpfs -o size={size} tmpfs full"
+        if ended(place.start([*apart, mount], stderr=subprocess.PIPE)).status:
+            print("skipped: no file system can be mounted here, so none is full")
+            return
+        command = f"{place.python} -m sdtool.distributed --out full --retries 0 convert --to hex -- {' '.join(names)}"
+        got = ended(place.start([*apart, f"{mount} && {{ {command}; echo $?; find full -maxdepth 1 -type f; }}"],
+                                stdout=subprocess.PIPE, stderr=subprocess.PIPE))
+        is_right = "No space left on device" in got.stderr and "\n3\n" in f"\n{got.stdout}" and "large" not in got.stdout
+        count.add(is_right and "Traceback" not in got.stderr, f"a full disk of {size}: {got}")
 
 
-def test_resumed(count, place):
-    """A run that failed, was ended or killed is done again, and does only what is not done."""
-    words = ["convert"]
-    contents = {"first": LINE * 50 + b"zz\n", "second": LINE * 50 + MARKED, "third": LINE * 50}
-    names = [place.write(name, data) for name, data in contents.items()]
-    failing = place.script("failing", "f=$(mktemp); trap 'rm -f $f' EXIT; cat > $f\n"
-                                      "if grep -q MARK $f; then exit 3; fi; PROGRAM \"$@\" < $f")
-    out = place.out()
-    got = place.run(out, words, names, ["--program", failing])
-    answers, all_names = answers_in(out)
-    count.add(got.status == 3 and set(answers) == all_names == {"first"}, f"the second file fails: {all_names}: {got}")
-    before = (out / "first").stat()
-    # As a run leaves it that the machine did not let end.
-    (out / ".second.unfinished").write_bytes(b"half an answ")
-    with open(out / ".sdtool.journal", "ab") as journal:
-        journal.write(b'{"name": "second", "pa')
-    got = place.run(out, words, names)
-    judge_run(count, place, got, out, words, names, "resumed")
-    after = (out / "first").stat()
-    is_kept = (before.st_ino, before.st_mtime_ns) == (after.st_ino, after.st_mtime_ns)
-    count.add(is_kept and got.stdout.count("(done before)") == 1, f"what was done is done again: {got}")
-    place.write("first", LINE * 70 + b"zzz\n")
-    got = place.run(out, words, names)
-    judge_run(count, place, got, out, words, names, "an input has changed")
-    count.add(got.stdout.count("(done before)") == 2 and "have changed" in got.stderr, f"an input has changed: {got}")
-    got = place.run(out, ["convert", "--to", "hex"], names)
-    count.add(got.status == 2 and "has answers of 'sdtool convert'" in got.stderr, f"other words: {got}")
-    names = [place.write("long first", LINE * 600), *names]
-    for sent, status in (signal.SIGTERM, 143), (signal.SIGINT, 130), (signal.SIGKILL, -9):
-        slow, out = place.script("slower", "sleep 0.2; exec PROGRAM \"$@\""), place.out()
-        child = place.start_run(out, words, names, ["--program", slow, "--workers", "1"])
-        wait_for((out / ".long first.unfinished").exists)
-        if sent == signal.SIGTERM:
-            second = place.run(out, words, names)
-            count.add(second.status == 2 and "another run" in second.stderr, f"two runs at once: {second}")
-        child.send_signal(sent)
-        got = ended(child)
-        answers, all_names = answers_in(out)
-        is_clean = not answers and (sent == signal.SIGKILL or not all_names)
-        count.add(got.status == status and is_clean, f"signal {sent}: {all_names}: {got}")
-        judge_run(count, place, place.run(out, words, names), out, words, names, f"after signal {sent}")
-
+# Words.
 
 def test_words(count, place, address):
     name = place.write("some", LINE * 3)
     place.write("again/some", LINE)
     place.write("taken/some", b"somebody's own")
+    place.write("tree/a", LINE)
+    place.write("flat/a/b", LINE)
+    place.write("packed.lz4", LINE)
+    place.write("_sdtool", LINE)
+    os.mkfifo(place.folder / "fifo")
     out = place.out()
-    usage = ["--scheduler", address]
     wrong = [
         (["--out", out, "convert", "--to", "xml", "--", name], "sdtool: usage: --to\n"),
-        ([*usage, "--out", out, "convert", "--to", "xml", "--", name], "sdtool: usage: --to\n"),
-        ([*usage, "--out", out, "check", "--token", "WD", "--", name], "sdtool: error 50 empty-request\n"),
+        (["--scheduler", address, "--out", out, "check", "--token", "WD", "--", name], "sdtool: error 50 empty-request\n"),
         (["convert", "--", name], "are required: --out"),
-        (["--out", out, "convert", name], "no file"),
-        (["--out", out, "convert", "--"], "no file"),
+        (["--out", out, "convert", name], "inputs stand behind --"),
+        (["--out", out, "convert", "--"], "inputs stand behind --"),
         (["--out", out, "print", "--", name], "invalid choice"),
-        (["--out", out, "--block", "0", "convert", "--", name], "argument --block: invalid"),
+        (["--out", out, "--block", "0", "convert", "--", name], "--block is at least 1"),
         (["--out", out, "--bloc", "9", "convert", "--", name], "invalid choice: '9'"),
-        ([*usage, "--workers", "2", "--out", out, "convert", "--", name], "--workers is for"),
-        (["--out", out, "convert", "--", "nowhere"], "nowhere: No such file"),
-        (["--out", out, "convert", "--", "again"], "again: Is a directory"),
-        (["--out", out, "convert", "--", "/dev/null"], "not a regular file"),
-        (["--out", out, "convert", "--", name, "again/some"], "some and again/some would have the same answer file"),
-        (["--out", out, "convert", "--", name, name], "would have the same answer file"),
-        (["--out", out, "--keep-folders", "convert", "--", "../some"], "No such file"),
-        (["--out", "again", "convert", "--", "again/some"], "would overwrite it"),
-        (["--out", "taken", "convert", "--", name], "no run wrote it"),
-        (["--out", name, "convert", "--", name], "--out: [Errno 17]"),
+        (["--out", out, "convert", "--", "nowhere"], "nowhere: no regular file"),
+        (["--out", out, "convert", "--", "nowhere/*"], "nowhere/*: no regular file"),
+        (["--out", out, "convert", "--", "fifo"], "fifo: no regular file"),
+        (["--out", out, "convert", "--", "/dev/null"], "/dev/null: no regular file"),
+        (["--out", out, "convert", "--", "packed.lz4"], "packed.lz4 is compressed"),
+        (["--out", out, "convert", "--", "_sdtool"], "_sdtool has a name that is kept"),
+        (["--out", out, "convert", "--", name, "again/some"], "again/some has the answers of another input"),
+        (["--out", out, "convert", "--", name, name], "some has the answers of another input"),
+        (["--out", out, "convert", "--", "tree/a", "flat"], "flat/a/b has the answers of another input"),
+        (["--out", "again", "convert", "--", "again/some"], "which no run wrote"),
+        (["--out", "flat/answers", "convert", "--", "flat"], "flat/answers is in the input flat"),
+        (["--out", "taken", "convert", "--", name], "which no run wrote"),
     ]
     for given, text in wrong:
-        command = [place.python, str(EXAMPLE), *map(str, given)]
-        got = ended(place.start(command, stdout=subprocess.PIPE, stderr=subprocess.PIPE))
+        got = ended(place.start([place.python, "-m", "sdtool.distributed", *given], stdout=subprocess.PIPE,
+                                stderr=subprocess.PIPE))
         is_right = got.status == 2 and got.stderr.count(text) == 1 and not got.stdout and "Traceback" not in got.stderr
         count.add(is_right and not out.exists(), f"{given}: {text!r} is wanted: {got}")
     count.add((place.folder / "taken/some").read_bytes() == b"somebody's own", "a file of somebody else is overwritten")
     got = place.run(out, ["convert", "--help"], [name])
     count.add(got.status == 0 and "Usage: sdtool convert" in got.stdout and not out.exists(), f"help: {got}")
-    got = place.run(out, ["convert"], [name], ["--scheduler", "tcp://127.0.0.1:1", "--wait", "1"])
+    got = place.run(name, ["convert"], [name])
+    count.add(got.status == 3 and "Traceback" not in got.stderr, f"--out is a file: {got}")
+    got = place.run(place.out(), ["convert"], [name], ["--scheduler", "tcp://127.0.0.1:1", "--wait", "1"])
     is_said = "tcp://127.0.0.1:1" in got.stderr and "Traceback" not in got.stderr
     count.add(got.status == 3 and is_said, f"no scheduler: {got}")
+    closed = subprocess.Popen(["true"], stdin=subprocess.PIPE)
+    closed.wait()
+    got = place.run(place.out(), ["convert"], [name], stdout=closed.stdin)
+    count.add(got.status in (0, -signal.SIGPIPE) and got.stderr == "", f"standard output is closed: {got}")
 
 
-def test_other_program(count, place, address):
-    """A worker that has another program is told of."""
-    other = place.folder / "other"
-    other.mkdir()
-    place.script("other/sdtool", "exec PROGRAM \"$@\"")
-    usual = place.environment
-    place.environment = {**usual, "PATH": f"{other}:{usual['PATH']}"}
-    worker = place.start_worker(address)
-    place.environment = usual
-    place.wait_for_workers(address, 2)
-    name, out = place.write("told", LINE * 50), place.out()
-    got = place.run(out, ["convert"], [name], ["--scheduler", address])
-    judge_run(count, place, got, out, ["convert"], [name], "two programs")
-    is_said = "do not have the same program" in got.stderr and got.stderr.count("SHA-256") == 2
-    count.add(is_said, f"two programs: {got}")
-    end(worker)
-
-
-def test_progress(count, place):
-    name = place.write("watched", LINE * 300)
-    slow = place.script("slowly", "sleep 0.1; exec PROGRAM \"$@\"")
-    got = place.run(place.out(), ["convert"], [name], ["--program", slow, "--workers", "2", "--report", "0.3"])
-    lines = [line for line in got.stderr.splitlines() if " lines/s, " in line and " left, 2 workers" in line]
-    count.add(got.status == 0 and len(lines) > 1 and "\r" not in got.stderr, f"progress in lines: {got}")
-    ours, theirs = pty.openpty()
-    child = place.start_run(place.out(), ["convert"], [name], ["--program", slow, "--workers", "2"], stderr=theirs)
-    os.close(theirs)
-    shown = b""
-    with contextlib.suppress(OSError):  # which says that the other end is closed
-        while piece := os.read(ours, 4096):
-            shown += piece
-    got = ended(child)
-    os.close(ours)
-    is_bar = b"\r[#" in shown and b" left, 2 w" in shown
-    count.add(got.status == 0 and is_bar, f"progress on a terminal: {shown[-300:]} {got}")
-
-
-def test_lost(count, place, address, scheduler, workers):
-    """All workers go, and then the scheduler; it comes last, since nothing is left after it."""
-    slow = place.script("slowest", "sleep 0.3; exec PROGRAM \"$@\"")
-    name = place.write("lost", LINE * 2000)
-    for gone, text in ((workers, "has had no worker for 2 seconds"), ([scheduler], "is lost")):
-        out = place.out()
-        options = ["--scheduler", address, "--program", slow, "--wait", "2"]
-        if gone is not workers:
-            workers += [place.start_worker(address) for _ in range(2)]
-            options[-1] = "10"
-        child = place.start_run(out, ["convert"], [name], options)
-        wait_for((out / f".{name}.unfinished").exists)
-        for lost in gone:
-            end(lost)
-        got = ended(child)
-        is_right = got.status == 3 and text in got.stderr and not answers_in(out)[1] and "Traceback" not in got.stderr
-        count.add(is_right, f"{text}: {answers_in(out)[1]}: {got}")
-
-
-def over_hostile_lines(count, place):
+def over_answers(count, place):
     _, address = place.start_scheduler()
-    for _ in range(WORKERS):
+    for _ in range(2):
         place.start_worker(address)
     timed("commands", test_commands, count, place, address)
-    timed("folders", test_folders, count, place)
+    timed("odd files", test_odd_files, count, place, address)
+    timed("folders and compressed files", test_places, count, place, address)
+    timed("memory://", test_memory, count, place)
+    timed("words", test_words, count, place, address)
 
 
-def over_failing_workers(count, place):
-    scheduler, address = place.start_scheduler()
-    workers = [place.start_worker(address) for _ in range(WORKERS)]
-    timed("a dead worker", test_dead_worker, count, place, address, workers)
-    timed("programs", test_programs, count, place, address)
-    timed("lost workers", test_lost, count, place, address, scheduler, workers)
+def over_workers(count, place):
+    for what, test in (("wrong workers", test_wrong_workers), ("late workers", test_late_workers)):
+        timed(what, test, count, place)
+
+
+def over_dead_workers(count, place):
+    for what, test in (("dead workers", test_dead_workers), ("stopped workers", test_stopped_workers)):
+        timed(what, test, count, place)
+
+
+def over_lost(count, place):
+    for what, test in (("lost workers", test_gone), ("wrong answers", test_wrong_answers)):
+        timed(what, test, count, place)
 
 
 def over_files(count, place):
-    timed("a full disk", test_full_disk, count, place)
-    timed("resumed runs", test_resumed, count, place)
-
-
-def over_words(count, place):
-    _, address = place.start_scheduler()
-    place.start_worker(address)
-    timed("words", test_words, count, place, address)
-    timed("another program", test_other_program, count, place, address)
-    timed("progress", test_progress, count, place)
+    for what, test in (("resumed runs", test_resumed), ("interrupted runs", test_interrupted),
+                       ("inputs that change", test_changing_input), ("a full disk", test_full_disk)):
+        timed(what, test, count, place)
 
 
 def timed(name, test, count, *arguments):
     began = time.monotonic()
     try:
         test(count, *arguments)
-    except (OSError, TimeoutError) as error:
+    except (OSError, TimeoutError, ValueError, KeyError, subprocess.SubprocessError) as error:
         count.add(False, f"{name}: {type(error).__name__} {error}")
     print(f"{name}: {time.monotonic() - began:.1f} s", flush=True)
 
 
-def in_a_place(tests, name, python, program):
+def in_a_place(tests, name, *tools):
     """Runs some tests in a folder of their own, and counts."""
-    count, place = preload.Count(), Place(name, python, program)
+    count, place = preload.Count(), Place(name, *tools)
     try:
         tests(count, place)
     finally:
@@ -459,20 +644,25 @@ def in_a_place(tests, name, python, program):
 
 
 def main():
-    parser = argparse.ArgumentParser(description="Tests examples/distributed.py with the built program.")
+    parser = argparse.ArgumentParser(description="Tests sdtool.distributed with the built program and library.")
     parser.add_argument("program", type=os.path.abspath)
-    program = parser.parse_args().program
+    parser.add_argument("--library", type=os.path.abspath, default=TOP / "out/lib/libsdtool.so")
+    parser.add_argument("--only", default="", help="tests whose names have this word")
+    wanted = parser.parse_args()
     count = preload.Count()
     # A shell that starts this in the background has SIGINT ignored, and so would every run that is to be interrupted.
     signal.signal(signal.SIGINT, signal.default_int_handler)
     with tempfile.TemporaryDirectory(ignore_cleanup_errors=True) as folder:
         python = dask_cluster.python_with_dask(folder)
         if python is None:
-            print("skipped: no Python here has dask and distributed (Debian: python3-dask, python3-distributed)")
+            print("skipped: no Python here has dask, distributed and fsspec "
+                  "(Debian: python3-dask, python3-distributed, python3-fsspec)")
             return count.end()
+        tools = python, wanted.program, wanted.library
         with concurrent.futures.ThreadPoolExecutor() as threads:
-            all_tests = (over_hostile_lines, over_failing_workers, over_files, over_words)
-            for counted in [threads.submit(in_a_place, tests, pathlib.Path(folder, tests.__name__), python, program)
+            all_tests = [tests for tests in (over_dead_workers, over_files, over_lost, over_answers, over_workers)
+                         if wanted.only in tests.__name__]
+            for counted in [threads.submit(in_a_place, tests, pathlib.Path(folder, tests.__name__), *tools)
                             for tests in all_tests]:
                 count.passed += counted.result().passed
                 count.failed += counted.result().failed
