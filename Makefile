@@ -130,4 +130,4 @@ dist: program library
 	MAKE='$(MAKE)' packaging/dist.sh
 
 clean:
-	rm -rf crates/*/out out
+	rm -rf crates/*/out out python/sdtool/_native.abi3.so

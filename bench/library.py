@@ -2,17 +2,21 @@
 """library.py [--descriptors N] [--rounds N]
 
 Measures one call at a time of libsdtool beside Samba's libraries, from C (library.c) and from Python, all in one run:
-SDDL to bytes, bytes to SDDL, and an access check for a token of 20 SIDs. All have the same descriptors, those of a file
-server that generate.py makes, and have to give the same answers.
+SDDL to a descriptor, a descriptor to SDDL, an access check for a token of 20 SIDs and, from Python, a walk of all ACEs
+that reads their fields. All have the same descriptors, those of a file server that generate.py makes, and have to give the
+same answers.
 
-Samba's calls work on a structure of its own. 'call' is what they take with that structure at hand. 'with bytes' adds
-reading it from bytes, or writing it to bytes, as files and protocols have descriptors, and as libsdtool takes and gives
-them.
+Samba's calls work on a structure of its own. 'At hand' is what a call takes with that structure, or with the object of our
+Python module, at hand. 'With bytes' adds reading it from bytes, or writing it to bytes, as files and protocols have
+descriptors. From C, libsdtool takes and gives nothing but bytes, so both columns have the same figure.
+
+Python's calls are also measured without the module's extension, by ctypes: `--ctypes`.
 
 It needs Debian's packages samba-dev and python3-samba, and runs in /usr/bin/python3 where that has Samba's modules and
 the caller's Python has not. Time is processor time, the median of the rounds, in each of which all calls take turns.
 """
 import argparse
+import itertools
 import os
 import pathlib
 import statistics
@@ -35,7 +39,8 @@ TOKEN = ["S-1-1-0", "S-1-5-11", "S-1-5-4", "S-1-5-32-545",
          *(f"{DOMAIN_TEXT}-{number}" for number in (1105, 513, *range(40_000, 40_014)))]
 WANTED = 0x120089  # FILE_GENERIC_READ
 GENERIC_RIGHTS = 0xf0000000
-JOBS = {"from_sddl": "SDDL to bytes", "to_sddl": "bytes to SDDL", "check": "access check"}
+JOBS = {"from_sddl": "from SDDL", "to_sddl": "to SDDL", "check": "access check", "walk": "walk of the ACEs"}
+LIBRARIES = ("sdtool", "sdtool-bytes", "samba", "samba-bytes")
 
 
 # Samba 4.17 checks no object ACE, reads no label in SDDL, and takes generic rights as mapped.
@@ -71,6 +76,16 @@ def build(folder):
     return program
 
 
+def fields_of_ours(descriptor):
+    return [(ace.kind, ace.flags, ace.mask, ace.sid) for acl in (descriptor.dacl, descriptor.sacl) if acl.is_list
+            for ace in acl]
+
+
+def fields_of_samba(descriptor):
+    return [(ace.type, ace.flags, ace.access_mask, ace.trustee) for acl in (descriptor.dacl, descriptor.sacl)
+            if acl is not None for ace in acl.aces]
+
+
 class Calls:
     """Each call from Python, as a function of an item."""
 
@@ -78,12 +93,11 @@ class Calls:
         from samba import NTSTATUSError, security as samba_security
         from samba.dcerpc import security
         from samba.ndr import ndr_pack, ndr_unpack
-        sid_of = lambda text: sdtool.from_sddl("O:" + text)[reference.HEADER.size:]  # noqa: E731
         token = security.token()
         token.sids = list(map(security.dom_sid, TOKEN))
         token.num_sids = len(TOKEN)
-        sids, domain, domain_of_samba = list(map(sid_of, TOKEN)), sid_of(DOMAIN_TEXT), security.dom_sid(DOMAIN_TEXT)
-        of_samba = security.descriptor
+        domain, domain_of_samba = sdtool.Sid(DOMAIN_TEXT), security.dom_sid(DOMAIN_TEXT)
+        of_samba, ours, check = security.descriptor, sdtool.SecurityDescriptor, sdtool.Checker(sdtool.Token(TOKEN), WANTED)
 
         def is_granted(descriptor):
             try:
@@ -91,25 +105,39 @@ class Calls:
             except NTSTATUSError:
                 return False
 
-        self.item = lambda data, text: (data, text, ndr_unpack(of_samba, data))
+        self.item = lambda data, text: (data, text, ndr_unpack(of_samba, data), ours.from_bytes(data))
         self.calls = {
-            ("from_sddl", "sdtool"): lambda item: sdtool.from_sddl(item[1], domain=domain),
+            ("from_sddl", "sdtool"): lambda item: ours.from_sddl(item[1], domain=domain),
+            ("from_sddl", "sdtool-bytes"): lambda item: ours.from_sddl(item[1], domain=domain).bytes,
             ("from_sddl", "samba"): lambda item: of_samba.from_sddl(item[1], domain_of_samba),
             ("from_sddl", "samba-bytes"): lambda item: ndr_pack(of_samba.from_sddl(item[1], domain_of_samba)),
-            ("to_sddl", "sdtool"): lambda item: sdtool.to_sddl(item[0], domain=domain),
+            ("to_sddl", "sdtool"): lambda item: item[3].sddl(domain=domain),
+            ("to_sddl", "sdtool-bytes"): lambda item: ours.from_bytes(item[0]).sddl(domain=domain),
             ("to_sddl", "samba"): lambda item: item[2].as_sddl(domain_of_samba),
             ("to_sddl", "samba-bytes"): lambda item: ndr_unpack(of_samba, item[0]).as_sddl(domain_of_samba),
-            ("check", "sdtool"): lambda item: sdtool.check(item[0], sids, wanted=WANTED).granted,
+            ("check", "sdtool"): lambda item: check(item[3]).granted,
+            ("check", "sdtool-bytes"): lambda item: check(item[0]).granted,
             ("check", "samba"): lambda item: is_granted(item[2]),
             ("check", "samba-bytes"): lambda item: is_granted(ndr_unpack(of_samba, item[0])),
+            ("walk", "sdtool"): lambda item: fields_of_ours(item[3]),
+            ("walk", "sdtool-bytes"): lambda item: fields_of_ours(ours.from_bytes(item[0])),
+            ("walk", "samba"): lambda item: fields_of_samba(item[2]),
+            ("walk", "samba-bytes"): lambda item: fields_of_samba(ndr_unpack(of_samba, item[0])),
         }
+        self.many = lambda items: [verdict.granted for verdict in check.many([item[3] for item in items])]
 
     def compare(self, items):
-        """Both have to give the same verdicts; library.c compares the rest."""
+        """Both have to give the same verdicts and fields; library.c compares the rest."""
         for item in items:
-            verdicts = {bool(self.calls["check", library](item)) for library in ("sdtool", "samba", "samba-bytes")}
-            if len(verdicts) != 1:
-                sys.exit(f"bench: Python's verdicts differ on {item[1]}")
+            for job, plain in (("check", bool), ("walk", lambda fields: [(*map(int, one[:3]), str(one[3])) for one in fields])):
+                answers = [plain(self.calls[job, library](item)) for library in LIBRARIES]
+                if any(answer != answers[0] for answer in answers):
+                    sys.exit(f"bench: Python's answers differ on {item[1]}: {job} {answers}")
+        if self.many(items) != [self.calls["check", "sdtool"](item) for item in items]:
+            sys.exit("bench: many checks differ from one after the other")
+
+
+MANY = ("Python", "check", "many")
 
 
 def nanoseconds(call, items):
@@ -129,24 +157,30 @@ def measure(program, given, calls, items, rounds):
         for line in printed.splitlines()[1:]:
             job, library, time_taken = line.split()
             taken.setdefault(("C", job, library), []).append(float(time_taken))
-        for (job, library), call in calls.items():
+        for (job, library), call in calls.calls.items():
             taken.setdefault(("Python", job, library), []).append(nanoseconds(call, items))
+        taken.setdefault(MANY, []).append(nanoseconds(calls.many, [items]) / len(items))
     return {name: statistics.median(times) for name, times in taken.items()}
 
 
 def show(taken):
-    print(f"{'':24}{'sdtool':>12}{'Samba, call':>14}{'with bytes':>12}{'ratio, call':>13}{'with bytes':>12}")
-    for language in ("C", "Python"):
-        for job, name in JOBS.items():
+    print(f"{'':28}{'at hand':>27}{'ratio':>8}{'with bytes':>29}{'ratio':>8}")
+    print(f"{'':28}{'sdtool':>14}{'Samba':>13}{'':8}{'sdtool':>16}{'Samba':>13}")
+    for language, job in itertools.product(("C", "Python"), JOBS):
+        if (language, job, "sdtool") in taken:
             ours, alone, whole = (taken[language, job, library] for library in ("sdtool", "samba", "samba-bytes"))
-            print(f"{language + ', ' + name:24}{ours:9,.0f} ns{alone:11,.0f} ns{whole:9,.0f} ns{alone / ours:13.1f}"
-                  f"{whole / ours:12.1f}")
+            bytes_of_ours = taken.get((language, job, "sdtool-bytes"), ours)
+            print(f"{language + ', ' + JOBS[job]:28}{ours:11,.0f} ns{alone:10,.0f} ns{alone / ours:8.1f}"
+                  f"{bytes_of_ours:13,.0f} ns{whole:10,.0f} ns{whole / bytes_of_ours:8.1f}")
+    print(f"{'Python, check of many':28}{taken[MANY]:11,.0f} ns{taken['Python', 'check', 'samba']:10,.0f} ns"
+          f"{taken['Python', 'check', 'samba'] / taken[MANY]:8.1f}")
 
 
 def main():
     parser = argparse.ArgumentParser(description="Measures the library beside Samba's, from C and from Python.")
     parser.add_argument("--descriptors", type=int, default=2000, help="(%(default)s)")
     parser.add_argument("--rounds", type=int, default=9, help="(%(default)s)")
+    parser.add_argument("--ctypes", action="store_true", help="Python's calls without the module's extension")
     wanted = parser.parse_args()
     try:
         import samba  # noqa: F401
@@ -158,6 +192,11 @@ def main():
         sys.exit(f"bench: there is no library in {LIBRARY}; 'make library' builds it")
     os.environ["SDTOOL_LIBRARY"] = str(LIBRARY / "libsdtool.so")
     sys.path.insert(0, str(TOP / "python"))
+    extension = TOP / "python/build_wheel.py"
+    if wanted.ctypes:
+        sys.modules["sdtool._native"] = None
+    elif subprocess.run([sys.executable, extension, "--extension"], check=False).returncode != 0:
+        sys.exit("bench: the extension cannot be built; --ctypes measures without it")
     import sdtool
     calls = Calls(sdtool)
     with tempfile.TemporaryDirectory() as name:
@@ -168,7 +207,7 @@ def main():
         given.write_text("".join(f"{line}\n" for line in [question, *(f"{data.hex()} {text}" for data, text in pairs)]))
         items = [calls.item(data, text) for data, text in pairs]
         calls.compare(items)
-        taken = measure(program, given, calls.calls, items, wanted.rounds)
+        taken = measure(program, given, calls, items, wanted.rounds)
     size = sum(len(data) for data, _ in pairs) / len(pairs)
     print(f"{len(pairs):,} descriptors of {size:.0f} bytes on average, a token of {len(TOKEN)} SIDs")
     print(f"beside Samba {samba.version}, processor time of a call, medians of {wanted.rounds} rounds; the answers are equal")

@@ -1,15 +1,29 @@
 """Builds what pip installs, with the standard library alone: so pip needs neither a network nor setuptools.
 
-pip calls build_wheel, or build_editable with its option -e, as PEP 517 and PEP 660 describe.
+pip calls build_wheel, or build_editable with its option -e, as PEP 517 and PEP 660 describe. `build_wheel.py --extension`
+builds the extension in place, beside the module's files.
+
+The extension is one file of C over the limited interface of Python, so a wheel with it serves every Python from 3.8 on. It
+needs a C compiler, Python.h and sdtool.h. A wheel that is built without one of them works as well: its calls go through
+ctypes, which takes two to three microseconds more for each.
 """
 import base64
 import hashlib
+import os
 import pathlib
 import re
+import shlex
+import shutil
+import subprocess
+import sys
+import sysconfig
 import tarfile
+import tempfile
 import zipfile
 
 HERE = pathlib.Path(__file__).resolve().parent
+MODULE = HERE / "sdtool"
+SOURCE, EXTENSION = MODULE / "_native.c", "_native.abi3.so"
 PROJECT = dict(re.findall(r'^([\w-]+) = "(.*)"$', (HERE / "pyproject.toml").read_text(encoding="utf-8"), re.M))
 NAME = f"{PROJECT['name']}-{PROJECT['version']}"
 METADATA = f"""Metadata-Version: 2.1
@@ -29,18 +43,54 @@ Requires-Dist: python-ldap >= 3.4; extra == 'audit'
 """
 # The command of the extra.
 ENTRY_POINTS = (f"{NAME}.dist-info/entry_points.txt", b"[console_scripts]\nsdtool-audit = sdtool.audit.command:main\n")
-WHEEL = "Wheel-Version: 1.0\nGenerator: build_wheel.py\nRoot-Is-Purelib: true\nTag: py3-none-any\n"
+ANY = "py3-none-any"
+FLAGS = ["-std=gnu11", "-O2", "-Wall", "-Wextra", "-Werror", "-shared", "-fPIC"]
 
 
 def module_files():
-    return sorted(path for path in (HERE / "sdtool").rglob("*") if path.suffix == ".py" or path.name == "py.typed")
+    """The files of the module that are the same everywhere."""
+    return sorted(path for path in MODULE.rglob("*") if path.suffix in (".py", ".pyi") or path.name == "py.typed")
 
 
-def write_wheel(folder, files):
-    """A wheel of the files, each as a name and its bytes."""
-    files += [(f"{NAME}.dist-info/METADATA", METADATA.encode()), (f"{NAME}.dist-info/WHEEL", WHEEL.encode())]
+def header_folder():
+    """Where sdtool.h is: beside this file in a source archive, in the repository, or where the compiler looks."""
+    return next((folder for folder in (HERE, HERE.parent / "include") if (folder / "sdtool.h").exists()), None)
+
+
+def compile_extension(target):
+    """Compiles the extension. Gives why it cannot, or None."""
+    compiler = shlex.split(os.environ.get("CC", "cc"))
+    if os.name != "posix" or not shutil.which(compiler[0]):
+        return "there is no C compiler"
+    folders = [sysconfig.get_paths()["include"], *([str(header_folder())] if header_folder() else [])]
+    ended = subprocess.run([*compiler, *FLAGS, *(f"-I{folder}" for folder in folders), str(SOURCE), "-o", str(target), "-ldl"],
+                           stdout=subprocess.PIPE, stderr=subprocess.STDOUT, check=False)
+    return None if ended.returncode == 0 else ended.stdout.decode("utf-8", "replace")
+
+
+def extension_files():
+    """The extension, as a name and its bytes, or nothing where it cannot be compiled."""
+    with tempfile.TemporaryDirectory() as folder:
+        target = pathlib.Path(folder, EXTENSION)
+        problem = compile_extension(target)
+        if problem:
+            print(f"sdtool is built without its extension, so its calls go through ctypes: {problem}", file=sys.stderr)
+            return []
+        return [(f"sdtool/{EXTENSION}", target.read_bytes())]
+
+
+def extension_tag():
+    """A wheel with the extension is for each Python from 3.8 on, on this kind of system."""
+    return f"cp38-abi3-{re.sub(r'[-.]', '_', sysconfig.get_platform())}"
+
+
+def write_wheel(folder, files, tag=ANY):
+    """A wheel of the files, each as a name and its bytes, for the systems of a tag."""
+    purelib = "true" if tag == ANY else "false"
+    wheel_file = f"Wheel-Version: 1.0\nGenerator: build_wheel.py\nRoot-Is-Purelib: {purelib}\nTag: {tag}\n"
+    files = [*files, (f"{NAME}.dist-info/METADATA", METADATA.encode()), (f"{NAME}.dist-info/WHEEL", wheel_file.encode())]
     record = ""
-    wheel = f"{NAME}-py3-none-any.whl"
+    wheel = f"{NAME}-{tag}.whl"
     with zipfile.ZipFile(pathlib.Path(folder, wheel), "w", zipfile.ZIP_DEFLATED) as archive:
         for name, data in [*files, ENTRY_POINTS]:
             digest = base64.urlsafe_b64encode(hashlib.sha256(data).digest()).rstrip(b"=").decode()
@@ -52,16 +102,27 @@ def write_wheel(folder, files):
 
 
 def build_wheel(wheel_directory, config_settings=None, metadata_directory=None):
-    return write_wheel(wheel_directory, [(str(path.relative_to(HERE)), path.read_bytes()) for path in module_files()])
+    files = [(str(path.relative_to(HERE)), path.read_bytes()) for path in module_files()]
+    extension = extension_files()
+    return write_wheel(wheel_directory, files + extension, extension_tag() if extension else ANY)
 
 
 def build_editable(wheel_directory, config_settings=None, metadata_directory=None):
+    compile_extension(MODULE / EXTENSION)
     return write_wheel(wheel_directory, [("sdtool.pth", f"{HERE}\n".encode())])
 
 
 def build_sdist(sdist_directory, config_settings=None):
     archive = f"{NAME}.tar.gz"
     with tarfile.open(pathlib.Path(sdist_directory, archive), "w:gz") as tar:
-        for path in (HERE / "pyproject.toml", HERE / "build_wheel.py", *module_files()):
+        for path in (HERE / "pyproject.toml", HERE / "build_wheel.py", *module_files(), SOURCE):
             tar.add(path, f"{NAME}/{path.relative_to(HERE)}")
+        if header_folder():
+            tar.add(header_folder() / "sdtool.h", f"{NAME}/sdtool.h")
     return archive
+
+
+if __name__ == "__main__":
+    if sys.argv[1:] != ["--extension"]:
+        sys.exit("usage: build_wheel.py --extension")
+    sys.exit(compile_extension(MODULE / EXTENSION))

@@ -86,6 +86,7 @@ if "${MAKE:-make}" --no-print-directory program; then
         count tests/c_install.py
         count tests/c_examples.py
         count tests/python_calls.py "$program"
+        count tests/python_objects.py "$program"
         count tests/distributed.py "$program"
         count tests/audit.py
     else

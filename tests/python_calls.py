@@ -395,7 +395,7 @@ def test_program(count, program):
         count.add(found == c_library.of_program([program, *words], b""), f"python -m sdtool {words}: {found}")
     shell = "printf 'D:P\\nD:\\nzz' | {} convert --from sddl {}; echo ${{PIPESTATUS[1]}}"
     plain, module = str(program), " ".join(MODULE)
-    for streams in (">/dev/full", ">&-", "<&-", "</", "2>/dev/full", "2>&-", "</ >/dev/full", "| head -c 1"):
+    for streams in (">/dev/full", ">&-", "<&-", "2>/dev/full", "2>&-", "<&- >/dev/full"):
         found, expected = (ran(["bash", "-c", shell.format(one, streams)]) for one in (module, plain))
         count.add(found == expected, f"python -m sdtool {streams}: {found} in place of {expected}")
     # An answer comes before the next line is there.
@@ -455,7 +455,8 @@ def test_annotations(count):
         wrong.write_text(WRONG_CALLER, encoding="utf-8")
         mypy = ["mypy", "--strict", "--cache-dir", str(pathlib.Path(name, "cache"))]
         environment = {**os.environ, "MYPYPATH": str(TOP / "python")}
-        for words in (["--python-version", "3.8", "-p", "sdtool"], [str(caller)]):
+        module = sorted(str(path) for path in (TOP / "python/sdtool").glob("*.py"))
+        for words in (["--python-version", "3.8", *module], [str(caller)]):
             found, status = ran([*mypy, *words], env=environment, cwd=name)
             count.add(status == 0, f"mypy --strict {words}: {found}")
         found, status = ran([*mypy, str(wrong)], env=environment, cwd=name)

@@ -1,20 +1,26 @@
 """Windows security descriptors (MS-DTYP 2.4.6) and SDDL (MS-DTYP 2.5.1), by the library libsdtool.
 
 The library is the file that the environment variable SDTOOL_LIBRARY names. Without that it is libsdtool.so.0, beside this
-module or where the system finds libraries. Calls hold no lock, so threads run side by side.
+module or where the system finds libraries. Threads may share all objects.
 
->>> descriptor = from_sddl("O:BAD:(A;;FR;;;BU)")
->>> to_sddl(descriptor)
-'O:BAD:(A;;FR;;;BU)'
+>>> descriptor = SecurityDescriptor.from_sddl("O:BAD:(A;;FR;;;BU)")
+>>> descriptor.owner, descriptor.dacl[0].sid.alias()
+(Sid('S-1-5-32-544'), 'BU')
+>>> descriptor.check(Token(["WD", "AU", "BU"]), FileMask.WRITE_DATA)
+Verdict(granted=False, mask=2)
+
+The functions from_sddl, to_sddl, normalize, explain, check and derive do the same over bytes.
 """
-from ._calls import Verdict, check, derive, explain, fault_text, from_sddl, normalize, to_sddl, version
+from ._calls import check, derive, explain, fault_text, from_sddl, normalize, to_sddl, version
 from ._errors import ArgumentFault, Error, Fault
+from ._flags import AceFlags, AceKind, Control, DirectoryMask, FileMask, KeyMask
 from ._runs import Answers, lines, run
+from ._values import Ace, Acl, Checker, NoAces, SecurityDescriptor, Sid, Token, Verdict
 
-__all__ = ["Answers", "ArgumentFault", "Error", "Fault", "Verdict", "check", "derive", "explain", "fault_text",
-           "from_sddl", "lines", "normalize", "run", "to_sddl", "version"]
+__all__ = ["Ace", "AceFlags", "AceKind", "Acl", "Answers", "ArgumentFault", "Checker", "Control", "DirectoryMask", "Error",
+           "Fault", "FileMask", "KeyMask", "NoAces", "SecurityDescriptor", "Sid", "Token", "Verdict", "check", "derive",
+           "explain", "fault_text", "from_sddl", "lines", "normalize", "run", "to_sddl", "version"]
 
-for _public in (Answers, ArgumentFault, Error, Fault, Verdict, check, derive, explain, fault_text, from_sddl, lines,
-                normalize, run, to_sddl, version):
-    _public.__module__ = __name__  # where users import them from
-del _public
+for _name in __all__:
+    globals()[_name].__module__ = __name__  # where users import them from
+del _name

@@ -6,8 +6,7 @@ from typing import Iterable, Iterator, Mapping, Optional, TypeVar, Union
 from ._errors import ArgumentFault
 
 BytesLike = Union[bytes, bytearray, memoryview]
-SidLike = BytesLike
-GuidLike = Union[uuid.UUID, BytesLike]
+GuidLike = Union[uuid.UUID, str, BytesLike]
 
 _Item = TypeVar("_Item")
 _BYTES = (bytes, bytearray, memoryview)
@@ -20,12 +19,12 @@ def wrong_type(name: str, value: object, wanted: str, index: Optional[int] = Non
     return TypeError(f"{place}: {wanted}, not {type(value).__name__}")
 
 
-def data(name: str, value: BytesLike) -> bytes:
+def data(name: str, value: BytesLike, index: Optional[int] = None) -> bytes:
     """Bytes, which nobody changes during a call."""
     if type(value) is bytes:
         return value
     if not isinstance(value, _BYTES):
-        raise wrong_type(name, value, "bytes, bytearray or memoryview")
+        raise wrong_type(name, value, "bytes, bytearray or memoryview", index)
     return bytes(value)
 
 
@@ -33,7 +32,10 @@ def text(name: str, value: str) -> bytes:
     """The bytes of a text. What is no text, as half of a surrogate pair, stays something that no SDDL has."""
     if not isinstance(value, str):
         raise wrong_type(name, value, "str")
-    return value.encode("utf-8", "surrogatepass")
+    try:
+        return value.encode()
+    except UnicodeEncodeError:
+        return value.encode("utf-8", "surrogatepass")
 
 
 def items(name: str, values: Iterable[_Item], wanted: str) -> Iterator[_Item]:
@@ -52,16 +54,16 @@ def flag(name: str, value: bool) -> bool:
     return value
 
 
-def number(name: str, value: int) -> int:
-    """A number of 32 bits. True and False are none: they are a flag in the wrong place."""
+def number(name: str, value: int, most: int = _MOST_NUMBER) -> int:
+    """A number of so many bits, of 32 where nothing else is said. True and False are none: they are a flag in the wrong place."""
     if isinstance(value, bool):
         raise wrong_type(name, value, "int")
     try:
         found = operator.index(value)
     except TypeError:
         raise wrong_type(name, value, "int") from None
-    if not 0 <= found <= _MOST_NUMBER:
-        raise ArgumentFault(f"{found} is not from 0 to {_MOST_NUMBER}", name)
+    if not 0 <= found <= most:
+        raise ArgumentFault(f"{found} is not from 0 to {most}", name)
     return found
 
 
@@ -80,9 +82,22 @@ def guid(name: str, value: Optional[GuidLike]) -> bytes:
         return b""
     if isinstance(value, uuid.UUID):
         return value.bytes_le
+    if isinstance(value, str):
+        return _guid_of_text(name, value)
     if not isinstance(value, _BYTES):
-        raise wrong_type(name, value, "uuid.UUID, bytes, bytearray, memoryview or None")
+        raise wrong_type(name, value, "uuid.UUID, str, bytes, bytearray, memoryview or None")
     found = bytes(value)
     if len(found) not in (0, _GUID_SIZE):
         raise ArgumentFault(f"a GUID has 16 bytes in binary, not {len(found)}", name)
     return found
+
+
+def _guid_of_text(name: str, value: str) -> bytes:
+    """A GUID as SDDL has it. UUID also reads other forms, as with braces."""
+    try:
+        found = uuid.UUID(value)
+    except ValueError:
+        found = None
+    if found is None or str(found) != value.lower():
+        raise ArgumentFault(f"{value!r} is no GUID, such as bf967aba-0de6-11d0-a285-00aa003049e2", name)
+    return found.bytes_le

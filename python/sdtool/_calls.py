@@ -1,52 +1,13 @@
 """The calls over bytes."""
-import functools
-from typing import Iterable, NamedTuple, Optional, Sequence, Tuple
+from typing import Iterable, Optional
 
 from . import _arguments, _library
-from ._arguments import BytesLike, GuidLike, SidLike
+from ._arguments import GuidLike
 from ._errors import ArgumentFault, Fault
+from ._values import DescriptorLike, SidLike, Verdict, derived, layout_of, sid, sid_or_none, sids as sids_of
 from ._words import KINDS, MAPPINGS, Kind, Mapping
 
 _MOST_SIDS = 1024
-
-
-class Verdict(NamedTuple):
-    """The answer of an access check, true exactly if it is granted.
-
-    With granted, mask has the granted rights: those that were wanted and, with maximum, each other that is granted.
-    Otherwise it has the wanted rights that are missing.
-
-    >>> bool(Verdict(granted=False, mask=0x2))
-    False
-    """
-
-    granted: bool
-    mask: int
-
-    def __bool__(self) -> bool:
-        return self.granted
-
-
-@functools.lru_cache(maxsize=4096)
-def _is_one_sid(value: bytes) -> bool:
-    return _library.is_one_sid(value)
-
-
-def _sid(name: str, value: SidLike, index: Optional[int] = None) -> bytes:
-    """One SID in binary: no part of one, and not two of them."""
-    found = _arguments.data(name if index is None else f"{name}[{index}]", value)
-    if not _is_one_sid(found):
-        raise ArgumentFault(f"{found.hex() or 'no bytes'}: not exactly one SID in binary", name, index)
-    return found
-
-
-def _sid_or_none(name: str, value: Optional[SidLike]) -> bytes:
-    """A SID in binary, or no bytes where there is none."""
-    return b"" if value is None or value == b"" else _sid(name, value)
-
-
-def _sids(name: str, values: Iterable[SidLike]) -> Sequence[bytes]:
-    return [_sid(name, value, index) for index, value in enumerate(_arguments.items(name, values, "SIDs in binary"))]
 
 
 def version() -> str:
@@ -55,10 +16,10 @@ def version() -> str:
     >>> version()
     '0.1.0'
     """
-    return _library.version().decode("ascii")
+    return _library.version()
 
 
-def to_sddl(descriptor: BytesLike, *, domain: Optional[SidLike] = None, numeric: bool = False) -> str:
+def to_sddl(descriptor: DescriptorLike, *, domain: Optional[SidLike] = None, numeric: bool = False) -> str:
     """A descriptor as SDDL.
 
     domain is a SID in binary whose aliases, such as DA, are printed. With numeric no aliases are printed.
@@ -72,9 +33,8 @@ def to_sddl(descriptor: BytesLike, *, domain: Optional[SidLike] = None, numeric:
         ...
     sdtool.Fault: error 5 short: fewer than 20 bytes
     """
-    answer = _library.to_sddl(_arguments.data("descriptor", descriptor), _sid_or_none("domain", domain),
-                              _arguments.flag("numeric", numeric))
-    return answer.decode("ascii")
+    return _library.to_sddl(layout_of("descriptor", descriptor), sid_or_none("domain", domain),
+                            _arguments.flag("numeric", numeric))
 
 
 def from_sddl(text: str, *, domain: Optional[SidLike] = None) -> bytes:
@@ -107,19 +67,19 @@ def from_sddl(text: str, *, domain: Optional[SidLike] = None) -> bytes:
     ...     print(fault.line)
     error 20 shape
     """
-    return _library.from_sddl(_arguments.text("text", text), _sid_or_none("domain", domain))
+    return _library.from_sddl(_arguments.text("text", text), sid_or_none("domain", domain))
 
 
-def normalize(descriptor: BytesLike) -> bytes:
+def normalize(descriptor: DescriptorLike) -> bytes:
     """The canonical layout of a descriptor: equal exactly for descriptors of the same content.
 
     >>> normalize(from_sddl("D:P")) == from_sddl("D:P")
     True
     """
-    return _library.normalize(_arguments.data("descriptor", descriptor))
+    return _library.normalize(layout_of("descriptor", descriptor))
 
 
-def explain(descriptor: BytesLike, *, domain: Optional[SidLike] = None, numeric: bool = False) -> str:
+def explain(descriptor: DescriptorLike, *, domain: Optional[SidLike] = None, numeric: bool = False) -> str:
     """A descriptor as lines of text, as 'sdtool explain' prints it.
 
     >>> print(explain(from_sddl("O:BAD:(A;;FR;;;BU)")), end="")
@@ -132,12 +92,11 @@ def explain(descriptor: BytesLike, *, domain: Optional[SidLike] = None, numeric:
     sacl absent
     end
     """
-    answer = _library.explain(_arguments.data("descriptor", descriptor), _sid_or_none("domain", domain),
-                              _arguments.flag("numeric", numeric))
-    return answer.decode("ascii")
+    return _library.explain(layout_of("descriptor", descriptor), sid_or_none("domain", domain),
+                            _arguments.flag("numeric", numeric))
 
 
-def check(descriptor: BytesLike, sids: Iterable[SidLike], *, deny_only: Iterable[SidLike] = (), wanted: int = 0,
+def check(descriptor: DescriptorLike, sids: Iterable[SidLike], *, deny_only: Iterable[SidLike] = (), wanted: int = 0,
           maximum: bool = False, mapping: Mapping = "file", level: Optional[int] = None,
           object_type: Optional[GuidLike] = None, principal_self: Optional[SidLike] = None, security: bool = False,
           take_ownership: bool = False) -> Verdict:
@@ -164,20 +123,21 @@ def check(descriptor: BytesLike, sids: Iterable[SidLike], *, deny_only: Iterable
     >>> bool(check(from_sddl(""), [users], wanted=0x1f01ff))
     True
     """
-    data, enabled, denying = _arguments.data("descriptor", descriptor), _sids("sids", sids), _sids("deny_only", deny_only)
+    data = layout_of("descriptor", descriptor)
+    enabled, denying = sids_of("sids", sids), sids_of("deny_only", deny_only)
     if len(enabled) + len(denying) > _MOST_SIDS:
         raise ArgumentFault(f"{len(enabled) + len(denying)} SIDs; a token has at most {_MOST_SIDS}", "sids")
-    granted, mask = _library.check(
-        data, b"".join([*enabled, *denying]), bytes(len(enabled)) + b"\1" * len(denying),
-        _arguments.guid("object_type", object_type), _sid_or_none("principal_self", principal_self),
+    question = _library.question(
+        b"".join([*enabled, *denying]), bytes(len(enabled)) + b"\1" * len(denying),
+        _arguments.guid("object_type", object_type), sid_or_none("principal_self", principal_self),
         _arguments.number("wanted", wanted), _arguments.word("mapping", mapping, MAPPINGS),
-        None if level is None else _arguments.number("level", level), _arguments.flag("maximum", maximum),
+        0 if level is None else _arguments.number("level", level), level is not None, _arguments.flag("maximum", maximum),
         _arguments.flag("security", security), _arguments.flag("take_ownership", take_ownership))
-    return Verdict(granted, mask)
+    return Verdict(*_library.check(question, data))
 
 
-def derive(parent: BytesLike, owner: SidLike, group: SidLike, *, kind: Kind = "file", creator: Optional[BytesLike] = None,
-           mapping: Mapping = "file") -> bytes:
+def derive(parent: DescriptorLike, owner: SidLike, group: SidLike, *, kind: Kind = "file",
+           creator: Optional[DescriptorLike] = None, mapping: Mapping = "file") -> bytes:
     """The descriptor of a new object in a folder that has the descriptor parent, in its canonical layout.
 
     owner and group are SIDs in binary, and kind is "file" or "container". creator is the descriptor that the creator
@@ -187,19 +147,7 @@ def derive(parent: BytesLike, owner: SidLike, group: SidLike, *, kind: Kind = "f
     >>> to_sddl(derive(from_sddl("D:(A;OICI;FA;;;SY)"), system, system))
     'O:SYG:SYD:AI(A;ID;FA;;;SY)'
     """
-    brought = b"" if creator is None else _arguments.data("creator", creator)
-    arguments: Tuple[bytes, bytes, bytes, bytes, int, int] = (
-        _arguments.data("parent", parent), brought, _sid("owner", owner), _sid("group", group),
-        _arguments.word("kind", kind, KINDS), _arguments.word("mapping", mapping, MAPPINGS))
-    try:
-        return _library.derive(*arguments)
-    except ArgumentFault:
-        # All other arguments are checked above. A creator that is no descriptor has a fault of its own.
-        try:
-            _library.normalize(brought)
-        except Fault as fault:
-            raise fault.of("creator") from None
-        raise
+    return derived(layout_of("parent", parent), owner, group, kind, creator, mapping)
 
 
 def fault_text(number: int) -> str:
@@ -208,4 +156,4 @@ def fault_text(number: int) -> str:
     >>> fault_text(25)
     'sid-form'
     """
-    return _library.fault_text(_arguments.number("number", number)).decode("ascii")
+    return _library.fault_text(_arguments.number("number", number))

@@ -1,0 +1,123 @@
+"""What objects need to know of SIDs and of a descriptor's parts, by the texts that the library reads and writes: its
+explanations say all that a descriptor has, and SDDL makes ACLs."""
+import functools
+import re
+import uuid
+from typing import Any, Dict, List, Optional, Sequence, Tuple
+
+from ._errors import ArgumentFault, Fault
+from ._flags import AceFlags, AceKind
+
+RawAce = Tuple[int, int, int, bytes, Optional[bytes], Optional[bytes]]
+ABSENT, NULL, LIST = 0, 1, 2
+
+_STATES = {"absent": ABSENT, "null": NULL, "list": LIST}
+_KINDS = {str(kind): kind.value for kind in AceKind}
+_LETTERS = {kind.value: str(kind) for kind in AceKind}
+_FLAGS = {name: flag.value for name, flag in AceFlags.__members__.items() if len(name) == 2}
+_OBJECT_KINDS = (AceKind.OA, AceKind.OD, AceKind.OU)
+_HEADER = 20
+# A descriptor without parts, and the front of one whose only part is the owner that follows.
+_WITHOUT_PARTS = bytes.fromhex("0100008000000000000000000000000000000000")
+_OF_OWNER = bytes.fromhex("0100008014000000000000000000000000000000")
+_IN_SIDS = re.compile(rb"[A-Za-z0-9-]*")
+_ACL_FLAGS = {"D": (0x1000, 0x100, 0x400), "S": (0x2000, 0x200, 0x800)}
+_PRESENT = {"D": 0x4, "S": 0x10}
+_OF_REQUESTS = (50, 51)
+_FROM_PARTS = 0x8014  # the bits of the control word that say which parts there are
+
+
+class ByText:
+    """These calls, over those that the library has."""
+
+    def __init__(self, calls: Any) -> None:
+        self._calls = calls
+        self._sid_bytes = functools.lru_cache(maxsize=4096)(lambda text: self.sid_from_text(text.encode("ascii"), b""))
+        self.is_one_sid = functools.lru_cache(maxsize=4096)(self._is_one_sid)
+
+    def sid_from_text(self, text: bytes, domain: bytes) -> bytes:
+        """The SID of a text, from the descriptor whose owner it is."""
+        spelled = text if _IN_SIDS.fullmatch(text) else b"?"  # which is no SID either, but has no part of SDDL in it
+        return bytes(self._calls.from_sddl(b"O:" + spelled, domain)[_HEADER:])
+
+    def sid_to_text(self, sid: bytes, domain: bytes, numeric: bool) -> str:
+        return str(self._calls.to_sddl(_OF_OWNER + sid, domain, numeric)[len("O:"):])
+
+    def _is_one_sid(self, value: bytes) -> bool:
+        """Whether bytes are exactly one SID: what the library takes as a domain."""
+        try:
+            self._calls.to_sddl(_WITHOUT_PARTS, value, False)
+        except ArgumentFault:
+            return False
+        return value != b""
+
+    def parts(self, descriptor: bytes) -> Tuple[int, int, Optional[bytes], Optional[bytes], int, Any, int, Any]:
+        """Control, resource manager, owner, group, and the state and lines of the SACL and the DACL."""
+        lines: List[str] = self._calls.explain(descriptor, b"", True).splitlines()
+        control, manager, owner, group = (line.split(" ")[1] for line in lines[:4])
+        acls: Dict[str, Tuple[int, Sequence[str]]] = {}
+        at = 4
+        while lines[at] != "end":
+            part, state, *count = lines[at].split(" ")
+            after = at + 1 + int(count[0] if count else 0)
+            acls[part] = (_STATES[state], lines[at + 1:after])
+            at = after
+        return (int(control, 16), int(manager, 16), self._sid_or_none(owner), self._sid_or_none(group), *acls["sacl"],
+                *acls["dacl"])
+
+    def _sid_or_none(self, text: str) -> Optional[bytes]:
+        return None if text == "none" else self._sid_bytes(text)
+
+    def aces(self, lines: Sequence[str]) -> List[RawAce]:
+        """The fields of each ACE of an explanation."""
+        return list(map(self._ace, lines))
+
+    def _ace(self, line: str) -> RawAce:
+        """Such as 'dacl 1 OA flags CIID mask 0x00000100 rights CR object GUID inherited GUID sid S-1-5-11'."""
+        words = line.split(" ")
+        guids = dict(zip(words[9:-2:2], words[10:-2:2]))
+        flags = 0 if words[4] == "none" else sum(_FLAGS[words[4][at:at + 2]] for at in range(0, len(words[4]), 2))
+        return (_KINDS[words[2]], flags, int(words[6], 16), self._sid_bytes(words[-1]), _guid(guids.get("object")),
+                _guid(guids.get("inherited")))
+
+    def build(self, control: int, resource_manager: int, owner: Optional[bytes], group: Optional[bytes], sacl_state: int,
+              sacl: Sequence[RawAce], dacl_state: int, dacl: Sequence[RawAce]) -> bytes:
+        """The layout of a descriptor of these parts, from its text. SDDL has none for some bits, which are set after that."""
+        text = "".join(f"{letter}:{self.sid_to_text(sid, b'', True)}" for letter, sid in (("O", owner), ("G", group)) if sid)
+        text += self._acl_text("D", "dacl", control, dacl_state, dacl) + self._acl_text("S", "sacl", control, sacl_state, sacl)
+        data: bytes = self._calls.from_sddl(text.encode("ascii"), b"")
+        of_parts = int.from_bytes(data[2:4], "little") & _FROM_PARTS
+        front = bytes([data[0], resource_manager]) + (control & ~_FROM_PARTS | of_parts).to_bytes(2, "little")
+        return data if data.startswith(front) else bytes(self._calls.normalize(front + data[4:]))
+
+    def _acl_text(self, letter: str, part: str, control: int, state: int, aces: Sequence[RawAce]) -> str:
+        if state == ABSENT:
+            return ""
+        flags = "".join(name for name, bit in zip(("P", "AR", "AI"), _ACL_FLAGS[letter]) if control & bit)
+        items = "NO_ACCESS_CONTROL" if state == NULL else "".join(
+            self._ace_text(part, index, ace) for index, ace in enumerate(aces))
+        return f"{letter}:{flags}{items}"
+
+    def _ace_text(self, part: str, index: int, ace: RawAce) -> str:
+        kind, flags, mask, sid, *guids = ace
+        if kind not in _LETTERS or flags & ~sum(_FLAGS.values()) or any(guids) and kind not in _OBJECT_KINDS:
+            raise ArgumentFault("no ACE has these fields", part, index)
+        names = "".join(name for name, flag in _FLAGS.items() if flags & flag)
+        shown = (str(uuid.UUID(bytes_le=guid)) if guid else "" for guid in guids)
+        return f"({_LETTERS[kind]};{names};{mask:#x};{';'.join(shown)};{self.sid_to_text(sid, b'', True)})"
+
+    def check_many(self, question: Any, descriptors: Sequence[bytes]) -> List[Any]:
+        """The verdict on each, or its fault. A request that no check takes is raised."""
+        return [self._checked(question, descriptor) for descriptor in descriptors]
+
+    def _checked(self, question: Any, descriptor: bytes) -> Any:
+        try:
+            return self._calls.check(question, descriptor)
+        except Fault as fault:
+            if fault.number in _OF_REQUESTS:
+                raise
+            return fault
+
+
+def _guid(text: Optional[str]) -> Optional[bytes]:
+    return None if text is None else uuid.UUID(text).bytes_le

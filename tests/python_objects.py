@@ -1,0 +1,474 @@
+#!/usr/bin/env python3
+"""python_objects.py PROGRAM [--examples N]
+
+Tests the Python module's objects over the built library, out/lib. What they say of each descriptor of the worked rows has to
+be what the independent implementation (tests/reference) says, and what they build of its parts has to be its layout. Checks
+and derivations have to answer what the worked rows say. Also tested: that objects cannot be changed, that they are equal
+exactly if their content is, that each repr reads back, that they can be pickled, copied and shared by threads and
+processes, what a null and an absent ACL are, and what cannot be built. hypothesis makes N random descriptors, texts and
+objects that have to come back as they were; without python3-hypothesis that part is skipped.
+
+All of it is tried by the module's extension, where that is built, and by ctypes. The last line is 'N passed, M failed'.
+"""
+import argparse
+import concurrent.futures
+import copy
+import doctest
+import enum
+import itertools
+import os
+import pathlib
+import pickle
+import subprocess
+import sys
+import threading
+import uuid
+
+sys.dont_write_bytecode = True
+OTHER_PYTHON = "/usr/bin/python3"  # which has Debian's modules
+WITHOUT_EXTENSION = "--without-extension"
+TOP = pathlib.Path(__file__).resolve().parent.parent
+if WITHOUT_EXTENSION in sys.argv:
+    sys.modules["sdtool._native"] = None
+else:
+    subprocess.run([sys.executable, TOP / "python/build_wheel.py", "--extension"], check=False)
+
+import c_library  # noqa: E402
+import preload  # noqa: E402
+import reference  # noqa: E402
+
+os.environ.setdefault("SDTOOL_LIBRARY", str(c_library.LIBRARIES / "libsdtool.so"))
+sys.path.insert(0, str(TOP / "python"))
+import sdtool  # noqa: E402
+from sdtool import (Ace, AceFlags, AceKind, Acl, Checker, Control, DirectoryMask, FileMask, KeyMask,  # noqa: E402
+                    SecurityDescriptor, Sid, Token)
+
+try:
+    import hypothesis
+    from hypothesis import strategies
+except ImportError:
+    hypothesis = None
+
+NAMES = {name: getattr(sdtool, name) for name in sdtool.__all__}
+OBJECT_CLASS = uuid.UUID("bf967aba-0de6-11d0-a285-00aa003049e2")
+READ = 0x120089
+DOMAIN = "S-1-5-21-1-2-3"
+
+
+def raised(call, *arguments, **named):
+    """What a call raises, or None."""
+    try:
+        call(*arguments, **named)
+    except Exception as problem:  # each is looked at
+        return problem
+    return None
+
+
+def descriptors_of_rows():
+    """The descriptors of the worked rows, as the independent implementation reads them."""
+    of_hex, of_sddl = c_library.lines_of_rows()
+    for line, words in [*((line, [b"convert"]) for line in of_hex),
+                        *((line, [b"convert", b"--from", b"sddl"]) for line in of_sddl)]:
+        if len(line) < 20_000:
+            settings = reference.settings_of(words)
+            found = reference.all_shown(line.encode("latin-1", "replace") + b"\n", settings)[0]
+            if isinstance(found, reference.Descriptor):
+                yield found
+
+
+def sid_of(sid):
+    return sid and Sid(sid.to_bytes())
+
+
+def guid_of(guid):
+    return guid and uuid.UUID(bytes_le=guid)
+
+
+def ace_of(ace):
+    return Ace(ace.type, ace.flags, ace.mask, sid_of(ace.sid), guid_of(ace.object_type), guid_of(ace.inherited_object_type))
+
+
+def acl_of(descriptor, acl, present):
+    if not descriptor.control & present:
+        return Acl.ABSENT
+    return Acl.NULL if acl is None else Acl(map(ace_of, acl.aces))
+
+
+def test_rows(count):
+    """What the objects say of each descriptor, and what is built of the same parts."""
+    printing = reference.settings_of([b"convert"])
+    for expected in {reference.layout(one): one for one in descriptors_of_rows()}.values():
+        data = reference.layout(expected)
+        found = SecurityDescriptor.from_bytes(data)
+        parts = {"owner": sid_of(expected.owner), "group": sid_of(expected.group),
+                 "dacl": acl_of(expected, expected.dacl, reference.DACL_PRESENT),
+                 "sacl": acl_of(expected, expected.sacl, reference.SACL_PRESENT)}
+        count.add(all(getattr(found, name) == part for name, part in parts.items()), f"parts of {data.hex()}: {found!r}")
+        count.add((found.control, found.resource_manager) == (expected.control, expected.resource_manager), f"{data.hex()}")
+        count.add(found.bytes == bytes(found) == data and found.sddl() == str(found) == reference.sddl(expected, printing),
+                  f"{data.hex()}: {found.sddl()}")
+        count.add(found.explain() == sdtool.explain(data), f"explain of {data.hex()}")
+        for name in ("dacl", "sacl"):
+            acl = getattr(expected, name)
+            for ours, theirs in zip(getattr(found, name) if acl else (), acl.aces if acl else ()):
+                fields = (ours.kind, ours.flags, ours.mask, bytes(ours.sid), ours.object_type, ours.inherited_object_type)
+                count.add(fields == (theirs.type, theirs.flags, theirs.mask, theirs.sid.to_bytes(), guid_of(theirs.object_type),
+                                     guid_of(theirs.inherited_object_type)), f"an ACE of {data.hex()}: {ours}")
+        built = SecurityDescriptor(**parts, control=expected.control, resource_manager=expected.resource_manager)
+        count.add(built == found and hash(built) == hash(found) and built.bytes == data, f"built: {built!r}, not {found!r}")
+        count.add(found.replace() == found and eval(repr(found), NAMES.copy()) == found, f"repr: {found!r}")
+
+
+def test_sids(count):
+    """The texts and aliases of the independent implementation's tables."""
+    domain = reference.sid_of_text(DOMAIN.encode())
+    for sid, alias in reference.aliases_under(domain).items():
+        found = Sid(alias, domain=DOMAIN)
+        count.add(found == sid.to_bytes() and str(found) == f"{found}" == sid.text() and found.alias(domain=DOMAIN) == alias and
+                  Sid(sid.text()) == Sid(alias.lower(), domain=Sid(DOMAIN)) == found and
+                  eval(repr(found), NAMES.copy()) == found and format(found, ">200") == sid.text().rjust(200), f"{alias}: {found!r}")
+        count.add(found.alias() == reference.aliases_under(None).get(sid), f"{alias} without the domain: {found.alias()}")
+    for text, number in (("ZZ", 22), ("DA", 23), ("S-1-5-4294967296", 24), ("S-1-", 25), ("Everyone", 25), ("", 25), ("S-1-5 ", 25)):
+        problem = raised(Sid, text)
+        count.add(type(problem) is sdtool.Fault and problem.number == number, f"Sid({text!r}): {problem!r}")
+    for data in (b"", bytes(8), Sid("BA") + Sid("BU"), Sid("BA")[:-1], b"\2" + Sid("BA")[1:], bytes(100)):
+        problem = raised(Sid, bytes(data))
+        count.add(type(problem) is sdtool.ArgumentFault and problem.number == 70, f"Sid({data!r}): {problem!r}")
+    for value in (None, 1, 1.5, [1], uuid.UUID(int=0)):
+        count.add(type(raised(Sid, value)) is TypeError, f"Sid({value!r})")
+    same = [Sid("BA"), Sid(b"" + Sid("BA")), Sid(bytearray(Sid("BA"))), Sid(memoryview(Sid("BA"))), Sid(Sid("BA"))]
+    count.add(len(set(same)) == 1 and all(type(sid) is Sid for sid in same), "a SID of each type")
+    count.add(Sid("BA") != Sid("BU") and bool(Sid("S-1-0")) and len(Sid("S-1-0")) == 8, "SIDs")
+    count.add(raised(setattr, Sid("BA"), "x", 1) is not None, "a SID that is changed")
+
+
+def test_acls(count):
+    ace = Ace("A" and AceKind.A, 0, READ, "BU")
+    none = [Acl.NULL, Acl.ABSENT]
+    for acl, name in zip(none, ("null", "absent")):
+        for call in (len, list, tuple, iter, lambda acl: acl[0], lambda acl: ace in acl, lambda acl: acl[:1], reversed,
+                     lambda acl: [*acl], lambda acl: acl.index(ace), lambda acl: acl.count(ace)):
+            problem = raised(call, acl)
+            count.add(isinstance(problem, sdtool.NoAces) and isinstance(problem, (TypeError, sdtool.Error)) and
+                      name in str(problem), f"{name}: {problem!r}")
+        count.add(repr(acl) == f"Acl.{name.upper()}" and eval(repr(acl), NAMES.copy()) == acl, f"{acl!r}")
+        count.add([acl.is_list, acl.is_null, acl.is_absent] == [False, name == "null", name == "absent"], name)
+    for acl in (*none, Acl(), Acl([ace])):
+        count.add(type(raised(bool, acl)) is TypeError and type(raised(lambda acl: not acl, acl)) is TypeError, f"bool({acl!r})")
+    different = [*none, Acl(), Acl([ace]), Acl([ace, ace]), Acl([ace.replace(mask=1)])]
+    count.add(all((one == other) == (one is other) for one, other in itertools.product(different, repeat=2)), "ACLs that differ")
+    count.add(len(set(different)) == len(different) and Acl([ace]) == Acl((ace,)) and Acl() != [] and Acl() != (), "ACLs")
+    some = Acl([ace, ace.replace(sid="BA"), ace.replace(sid="SY")])
+    count.add(some[1].sid == Sid("BA") and some[-1].sid == Sid("SY") and some[1:] == Acl(list(some)[1:]) and
+              some.index(some[2]) == 2 and ace in some and list(reversed(some))[0].sid == Sid("SY"), "an ACL as a sequence")
+    # What a descriptor grants tells them apart, as MS-DTYP 2.5.3.2 says: without a list all, with an empty one nothing.
+    for acl, granted, text in ((Acl.ABSENT, True, ""), (Acl.NULL, True, "D:NO_ACCESS_CONTROL"), (Acl(), False, "D:")):
+        descriptor = SecurityDescriptor(dacl=acl)
+        count.add(descriptor.dacl == acl and descriptor.sddl() == text and
+                  bool(descriptor.check(Token(["WD"]), READ)) == granted, f"{descriptor!r}")
+    for value in (None, 1, "D:", b"D:", [None], ["(A;;FR;;;BU)"], [tuple(ace)]):
+        count.add(type(raised(lambda value: SecurityDescriptor(dacl=value), value)) is TypeError, f"dacl={value!r}")
+
+
+def test_aces(count):
+    ace = Ace(AceKind.OA, AceFlags.CI | AceFlags.ID, DirectoryMask.CR, "AU", OBJECT_CLASS, uuid.UUID(int=5))
+    count.add(ace.sddl() == str(ace) == f"(OA;CIID;CR;{OBJECT_CLASS};{uuid.UUID(int=5)};AU)", f"{ace}")
+    count.add(Ace.from_sddl(str(ace)) == ace == eval(repr(ace), {**NAMES, "UUID": uuid.UUID}), f"{ace!r}")
+    for kind in AceKind:
+        count.add(Ace.from_sddl(f"({kind};;FR;;;WD)").kind is kind and Ace(kind, 0, READ, "WD").sddl().startswith(f"({kind};"),
+                  f"{kind!r}")
+    same = [Ace(5, 0x12, 0x100, Sid("AU"), OBJECT_CLASS.bytes_le, bytearray(uuid.UUID(int=5).bytes_le)),
+            Ace(5, 0x12, 0x100, bytes(Sid("AU")), str(OBJECT_CLASS), memoryview(uuid.UUID(int=5).bytes_le))]
+    count.add(all(one == ace and hash(one) == hash(ace) and repr(one) == repr(ace) for one in same), f"{same}")
+    for field, value in (("kind", 3), ("kind", 9), ("kind", 256), ("kind", -1), ("flags", 0x20), ("flags", 256), ("flags", -1),
+                         ("mask", -1), ("mask", 2**32), ("sid", b""), ("object_type", bytes(15)), ("object_type", "{x}"),
+                         ("object_type", f"{{{OBJECT_CLASS}}}"), ("inherited_object_type", bytes(17))):
+        problem = raised(ace.replace, **{field: value})
+        count.add(type(problem) is sdtool.ArgumentFault, f"an ACE with {field}={value!r}: {problem!r}")
+    for field, value in (("kind", None), ("kind", True), ("flags", "OI"), ("mask", 1.0), ("mask", False), ("sid", None),
+                         ("sid", 1), ("object_type", 1)):
+        count.add(type(raised(ace.replace, **{field: value})) is TypeError, f"an ACE with {field}={value!r}")
+    # GUIDs are in the kinds for objects alone.
+    for kind in (AceKind.A, AceKind.D, AceKind.AU, AceKind.ML):
+        count.add(type(raised(ace.replace, kind=kind)) is sdtool.ArgumentFault, f"{kind!r} with a GUID")
+    for text in ("A;;FR;;;BU", "", " (A;;FR;;;BU)", "(A;;FR;;;BU)(A;;FR;;;BU)", "P(A;;FR;;;BU)", "NO_ACCESS_CONTROL"):
+        count.add(type(raised(Ace.from_sddl, text)) is sdtool.ArgumentFault, f"the ACE {text!r}")
+    for text, number in (("(A;;FR;;;BU)S:(A;;FR;;;BU)", 70), ("(A;;FR;;BU)", 20), ("(XA;;FR;;;BU)", 29), ("(A;;FR;;;DA)", 23)):
+        problem = raised(Ace.from_sddl, text)
+        count.add(isinstance(problem, sdtool.Error) and problem.number == number, f"the ACE {text!r}: {problem!r}")
+    count.add(FileMask(READ).names == ("READ_DATA", "READ_EA", "READ_ATTRIBUTES", "READ_CONTROL", "SYNCHRONIZE") and
+              KeyMask(0x20019).names == ("QUERY_VALUE", "ENUMERATE_SUB_KEYS", "NOTIFY", "READ_CONTROL") and
+              DirectoryMask(0x100).names == ("CONTROL_ACCESS",), "names of rights")
+    for value in (FileMask(READ), KeyMask(1 << 26), AceFlags(0), Control(0x8004), AceKind.ML, FileMask.FA | 1 << 27):
+        count.add(eval(repr(value), NAMES.copy()) == value and type(eval(repr(value), NAMES.copy())) is type(value), f"{value!r}")
+
+
+def test_names(count):
+    """The names of bits are those of the independent implementation's tables, wherever SDDL has one."""
+    for names, mask in ((reference.ACE_FLAGS, AceFlags), (reference.RIGHTS, DirectoryMask)):
+        for name, bit in names.items():
+            count.add(getattr(mask, name) == bit, f"{mask.__name__}.{name}")
+    for name, compound in reference.COMPOUND_RIGHTS.items():
+        count.add(getattr(KeyMask if name.startswith("K") else FileMask, name) == compound, name)
+    for name, bit in reference.CONTROL_CODES.items():
+        count.add(getattr(Control, name) == bit, f"Control.{name}")
+    for number, name in reference.KINDS.items():
+        count.add(str(AceKind(number)) == name, name)
+
+
+def test_building(count):
+    """What cannot be built, and which part that is."""
+    whole = SecurityDescriptor.from_sddl("O:BAG:SYD:PAI(A;;FR;;;BU)S:(ML;;NW;;;HI)")
+    count.add(whole.replace(owner=None, group=None).sddl() == "D:PAI(A;;FR;;;BU)S:(ML;;NW;;;HI)", "without an owner")
+    count.add(whole.replace(dacl=Acl.NULL, sacl=Acl.ABSENT).sddl() == "O:BAG:SYD:PAINO_ACCESS_CONTROL", "a null DACL")
+    count.add(whole.replace(control=0).sddl() == "O:BAG:SYD:(A;;FR;;;BU)S:(ML;;NW;;;HI)", "without flags")
+    count.add(whole.replace(control=0xffff, dacl=Acl.ABSENT, sacl=Acl.ABSENT).control == 0xffeb, "bits that follow from the parts")
+    count.add(whole.replace(resource_manager=7).bytes[1] == 7, "the resource manager byte")
+    ace = whole.dacl[0]
+    most = (65_535 - 8) // (8 + len(ace.sid))
+    large = whole.replace(dacl=[ace] * most)
+    count.add(len(large.dacl) == most and set(large.dacl) == {ace}, "the largest ACL")
+    for part in ("dacl", "sacl"):
+        problem = raised(whole.replace, **{part: [ace] * (most + 1)})
+        count.add(type(problem) is sdtool.Fault and (problem.number, problem.part) == (30, part), f"{part}: {problem!r}")
+    for named in ({"owner": b"x"}, {"group": Sid("BA") + b"\0"}, {"control": 0x10000}, {"control": -1},
+                  {"resource_manager": 256}, {"resource_manager": -1}):
+        problem = raised(whole.replace, **named)
+        count.add(type(problem) is sdtool.ArgumentFault and problem.argument in named, f"{named}: {problem!r}")
+    for named in ({"owner": 1}, {"group": [1]}, {"control": "P"}, {"control": True}, {"resource_manager": None}, {"other": 1}):
+        count.add(type(raised(whole.replace, **named)) is TypeError, f"{named}")
+    problem = raised(whole.replace, owner="Everyone")
+    count.add(type(problem) is sdtool.Fault and (problem.number, problem.argument) == (25, "owner"), f"{problem!r}")
+
+
+def values():
+    """A value of each type, and more."""
+    descriptor = SecurityDescriptor.from_sddl("O:BAD:PAI(A;OICI;FR;;;BU)(OA;;CR;;;AU)")
+    token = Token(["BU", "WD"], deny_only=["BA"], level=8192, privileges=["security"])
+    yield from (descriptor, descriptor.dacl, descriptor.sacl, Acl.NULL, Acl(), descriptor.dacl[1], Sid("BA"), token, Token([]),
+                descriptor.check(token, READ), FileMask(READ), AceFlags(3), AceKind.ML, Control(0x8004),
+                SecurityDescriptor(control=3, resource_manager=9))
+
+
+def test_values(count):
+    for value in values():
+        found = [copy.copy(value), copy.deepcopy(value), eval(repr(value), NAMES.copy())]
+        found += [pickle.loads(pickle.dumps(value, protocol)) for protocol in range(pickle.HIGHEST_PROTOCOL + 1)]
+        count.add(all(one == value and hash(one) == hash(value) and type(one) is type(value) and repr(one) == repr(value)
+                      for one in found), f"copies of {value!r}: {found!r}")
+        count.add(value != object() and value != None and not value == 0.5, f"{value!r} beside others")  # noqa: E711
+        # Python lets an enum have more attributes, but not another value.
+        names = ("name", "value") if isinstance(value, enum.Enum) else ("new", "_data", "_aces", "sids", "owner", "mask", "level")
+        for name in names:
+            count.add(isinstance(raised(setattr, value, name, 1), AttributeError), f"{value!r}.{name} is set")
+            count.add(isinstance(raised(delattr, value, name), AttributeError), f"{value!r}.{name} is deleted")
+    checker = Checker(Token(["BU"]), READ, mapping="file", object_type=OBJECT_CLASS, principal_self="BA")
+    allowing = SecurityDescriptor.from_sddl("D:(A;;FR;;;BU)")
+    count.add(pickle.loads(pickle.dumps(checker))(allowing) == checker(allowing) == (True, READ), "a checker that is pickled")
+
+
+def test_tokens(count):
+    token = Token(["DA"], deny_only=["DU"], domain=DOMAIN, level=0)
+    count.add(token.sids == (Sid(f"{DOMAIN}-512"),) and token.deny_only == (Sid(f"{DOMAIN}-513"),) and token.level == 0,
+              f"{token!r}")
+    for named in ({"level": -1}, {"level": 2**32}, {"privileges": ["backup"]}, {"sids": ["BU"] * 1025}, {"sids": [b""]},
+                  {"deny_only": [Sid("BA") + Sid("BA")]}):
+        problem = raised(Token, **{"sids": [], **named})
+        count.add(type(problem) is sdtool.ArgumentFault and problem.argument in named, f"{named}: {problem!r}")
+    for named in ({"level": True}, {"level": "high"}, {"privileges": "security"}, {"privileges": [1]}, {"sids": "BU"},
+                  {"sids": None}, {"sids": [1]}, {"deny_only": Sid("BA")}):
+        count.add(type(raised(Token, **{"sids": [], **named})) is TypeError, f"{named}")
+    for given in (["BU"], None, sdtool, Sid("BA")):
+        count.add(type(raised(Checker, given)) is TypeError, f"Checker({given!r})")
+    problem = raised(Token, ["BU", "Everyone"])
+    count.add(type(problem) is sdtool.Fault and (problem.number, problem.argument, problem.index) == (25, "sids", 1), f"{problem!r}")
+
+
+def asked(question):
+    """The answer of the objects to a question of the worked rows, as a line."""
+    descriptor = SecurityDescriptor.from_bytes(question.descriptor)
+    if question.job == "derive":
+        return descriptor.derive(question.owner, question.group, kind=question.kind, creator=question.creator or None,
+                                 mapping=question.mapping).bytes.hex()
+    sids, deny_only = ([sid for sid, deny in question.token if deny == which] for which in (False, True))
+    privileges = ["security"] * question.security + ["take-ownership"] * question.take_ownership
+    token = Token(sids, deny_only=deny_only, level=question.level, privileges=privileges)
+    named = {"maximum": question.maximum, "mapping": question.mapping, "object_type": question.object_type,
+             "principal_self": question.principal_self}
+    verdict = descriptor.check(token, question.wanted, **named)
+    many = list(Checker(token, question.wanted, **named).many([descriptor, question.descriptor, b"", descriptor]))
+    if many[0] != verdict or many[1] != verdict or many[3] != verdict or not isinstance(many[2], sdtool.Fault):
+        return f"many verdicts differ: {many}"
+    return f"{'granted' if verdict else 'denied'} 0x{verdict.mask:08x}"
+
+
+def test_questions(count):
+    for job in ("check", "derive"):
+        for question, expected in c_library.questions_of_rows(job):
+            problem = None
+            try:
+                found = asked(question)
+            except sdtool.Fault as fault:
+                problem, found = fault, c_library.without_name(fault.line)
+            count.add(found == expected, f"{job} {question.line()}: {found} {problem}, not {expected}")
+
+
+def test_many(count):
+    """A fault in its place, and no more descriptors taken than said."""
+    checker = Checker(Token(["BU"]), READ)
+    yes, no = SecurityDescriptor.from_sddl("D:(A;;FR;;;BU)"), SecurityDescriptor.from_sddl("D:")
+    taken = []
+
+    def source():
+        for one in [yes, no.bytes, b"short", bytearray(yes.bytes)] * 3:
+            taken.append(one)
+            yield one
+
+    for ahead in (1, 2, 5, 1024):
+        taken.clear()
+        verdicts = checker.many(source(), ahead=ahead)
+        first = next(verdicts)
+        count.add(first == (True, READ) and len(taken) == min(ahead, 12), f"{len(taken)} taken with {ahead} ahead")
+        found = [first, *verdicts]
+        count.add([isinstance(one, sdtool.Fault) and one.number == 5 or one.granted for one in found] ==
+                  [True, False, True, True] * 3, f"{found}")
+    count.add(list(checker.many([])) == [], "no descriptor")
+    problem = raised(list, Checker(Token(["BU"])).many([yes]))
+    count.add(isinstance(problem, sdtool.Fault) and problem.number == 50, f"no right: {problem!r}")
+    for given in (None, 1, yes.bytes, ["D:"], [None]):
+        count.add(type(raised(lambda given: list(checker.many(given)), given)) is TypeError, f"many({given!r})")
+
+
+def verdict_of(pair):
+    checker, descriptor = pair
+    return checker(descriptor)
+
+
+def test_threads_and_processes(count):
+    checker = Checker(Token(["BU", "WD"], level=8192), maximum=True)
+    descriptors = [SecurityDescriptor.from_sddl(f"D:(A;;{mask:#x};;;BU)") for mask in range(1, 300)]
+    expected = [checker(descriptor) for descriptor in descriptors]
+    wrong = []
+
+    def work():
+        for _ in range(10):
+            if [checker(descriptor) for descriptor in descriptors] != expected or \
+                    list(checker.many(descriptors)) != expected or [one.dacl[0].mask for one in descriptors] != list(range(1, 300)):
+                wrong.append(1)
+
+    threads = [threading.Thread(target=work) for _ in range(6)]
+    for thread in threads:
+        thread.start()
+    with concurrent.futures.ProcessPoolExecutor(2) as pool:  # which forks while the threads run
+        found = list(pool.map(verdict_of, [(checker, descriptor) for descriptor in descriptors[:20]]))
+        problem = pool.submit(verdict_of, (checker, b"short")).exception()
+    for thread in threads:
+        thread.join()
+    count.add(not wrong and found == expected[:20], f"threads and processes: {wrong} {found}")
+    count.add(isinstance(problem, sdtool.Fault) and problem.line == "error 5 short", f"a fault of a process: {problem!r}")
+
+
+def test_examples(count):
+    for module in (sdtool,):
+        result = doctest.testmod(module)
+        count.add(result.failed == 0 and result.attempted > 40, f"the module's examples: {result}")
+
+
+def random_values():
+    """Strategies: SIDs, ACEs, ACLs and descriptors, of all that they may have."""
+    u32 = strategies.integers(0, 2**32 - 1)
+    subs = strategies.lists(u32, max_size=15)
+    sids = strategies.builds(lambda authority, subs: Sid(reference.Sid(authority, tuple(subs)).to_bytes()),
+                             strategies.integers(0, 2**48 - 1) | strategies.just(5), subs)
+    guids = strategies.none() | strategies.uuids()
+    flags = strategies.integers(0, 255).map(lambda value: value & ~0x20)
+    plain = strategies.builds(lambda *fields: Ace(*fields), strategies.sampled_from([0, 1, 2, 0x11]), flags, u32, sids)
+    objects = strategies.builds(Ace, strategies.sampled_from([5, 6, 7]), flags, u32, sids, guids, guids)
+    acls = strategies.sampled_from([Acl.NULL, Acl.ABSENT]) | strategies.lists(plain | objects, max_size=5).map(Acl)
+    return sids, strategies.builds(SecurityDescriptor, owner=strategies.none() | sids, group=strategies.none() | sids, dacl=acls,
+                                   sacl=acls, control=strategies.integers(0, 0xffff),
+                                   resource_manager=strategies.integers(0, 255))
+
+
+def test_random(count, examples):
+    """Round trips of random values: bytes, text, objects and repr; and bytes and texts that may be refused."""
+    sids, descriptors = random_values()
+    settings = hypothesis.settings(max_examples=examples, deadline=None, database=None, derandomize=True,
+                                   suppress_health_check=list(hypothesis.HealthCheck))
+    printing = reference.settings_of([b"convert"])
+
+    @settings
+    @hypothesis.given(descriptors)
+    def of_descriptors(descriptor):
+        assert SecurityDescriptor.from_bytes(descriptor.bytes) == descriptor == eval(repr(descriptor), {**NAMES, "UUID": uuid.UUID})
+        assert reference.layout(reference.read(descriptor.bytes)) == descriptor.bytes
+        assert descriptor.replace() == descriptor == pickle.loads(pickle.dumps(descriptor))
+        assert descriptor.sddl() == reference.sddl(reference.read(descriptor.bytes), printing)
+        # What SDDL says is read again as it was printed.
+        again = SecurityDescriptor.from_sddl(descriptor.sddl())
+        assert again.sddl() == descriptor.sddl() and (again.owner, again.dacl) == (descriptor.owner, descriptor.dacl)
+        for acl in (descriptor.dacl, descriptor.sacl):
+            assert eval(repr(acl), {**NAMES, "UUID": uuid.UUID}) == acl
+            for ace in acl if acl.is_list else ():
+                assert Ace.from_sddl(ace.sddl()) == ace == Ace(*ace)
+
+    @settings
+    @hypothesis.given(sids, strategies.binary(max_size=80))
+    def of_sids(sid, data):
+        assert Sid(str(sid)) == sid == Sid(bytes(sid)) == eval(repr(sid), NAMES.copy())
+        assert str(sid) == reference.sid_of_text(str(sid).encode()).text()
+        found = raised(Sid, data)
+        assert found is None or type(found) is sdtool.ArgumentFault
+
+    @settings
+    @hypothesis.given(descriptors, strategies.data())
+    def of_damage(descriptor, choices):
+        data = bytearray(descriptor.bytes)
+        for _ in range(choices.draw(strategies.integers(1, 3))):
+            data[choices.draw(strategies.integers(0, len(data) - 1))] = choices.draw(strategies.integers(0, 255))
+        problem = raised(SecurityDescriptor.from_bytes, data)
+        if problem is None:
+            again = SecurityDescriptor.from_bytes(data)
+            assert SecurityDescriptor.from_bytes(again.bytes) == again and again.bytes == reference.layout(reference.read(bytes(data)))
+        else:
+            assert type(problem) is sdtool.Fault, repr(problem)
+            assert problem.line == str(raised(reference.read, bytes(data)))
+
+    for test in (of_descriptors, of_sids, of_damage):
+        problem = raised(test)
+        count.add(problem is None, f"{test.__name__}: {problem}")
+
+
+def main():
+    parser = argparse.ArgumentParser(description="Tests the Python module's objects.")
+    parser.add_argument("program", type=os.path.abspath)
+    parser.add_argument("--examples", type=int, default=300)
+    parser.add_argument(WITHOUT_EXTENSION, action="store_true", help="by ctypes alone")
+    arguments = parser.parse_args()
+    count = preload.Count()
+    tests = [test_rows, test_sids, test_acls, test_aces, test_names, test_building, test_values, test_tokens, test_questions,
+             test_many, test_threads_and_processes, test_examples]
+    for test in tests:
+        test(count)
+    if hypothesis:
+        test_random(count, arguments.examples)
+    else:
+        print("skipped: random values, since there is no hypothesis (Debian: python3-hypothesis)")
+    if not arguments.without_extension:
+        if "sdtool._native" not in sys.modules:
+            print("skipped: the extension is not built, so this was ctypes")
+        else:
+            ended = subprocess.run([sys.executable, *sys.argv, WITHOUT_EXTENSION], stdout=subprocess.PIPE, check=False, text=True)
+            *said, last = ended.stdout.splitlines() or [""]
+            print("".join(f"without the extension: {line}\n" for line in said), end="")
+            numbers = last.split()
+            count.passed += int(numbers[0]) if ended.returncode in (0, 1) and len(numbers) == 4 else 0
+            count.failed += int(numbers[2]) if ended.returncode in (0, 1) and len(numbers) == 4 else 1
+    return count.end()
+
+
+if __name__ == "__main__":
+    if hypothesis is None and sys.executable != OTHER_PYTHON and os.access(OTHER_PYTHON, os.X_OK) and subprocess.run(
+            [OTHER_PYTHON, "-c", "import hypothesis"], stderr=subprocess.DEVNULL, check=False).returncode == 0:
+        os.execv(OTHER_PYTHON, [OTHER_PYTHON, *sys.argv])
+    sys.exit(main())
