@@ -18,6 +18,7 @@ import json
 import lzma
 import os
 import pathlib
+import random
 import re
 import shlex
 import shutil
@@ -665,8 +666,30 @@ def test_scale(place: Place) -> None:
     place.expect(one.stderr, "30,000 objects: 7,500 found, 7,500 unknown, 15,000 nothing\n", "the sum of many")
     read = list(csv.reader(io.StringIO(one.stdout)))
     place.expect([row[0] for row in read[1:]], [name for name, _ in rows(30_000, 1)], "the names of many, in order")
+    # Names with line ends, rows that are malformed, and empty lines: also where blocks of lines meet.
+    lines = []
+    random_ = random.Random(1)
+    for number in range(40_000):
+        kind = random_.randrange(4000)
+        name = f'"two\nlines {number}"' if kind < 2 else f'"open {number}' if kind == 3 else f"file {number}"
+        lines += [""] * (kind == 4)
+        lines.append(f'{name},"{kinds[number % 4]}"' + ",more" * (kind == 5))
+    odd = place.write("odd.csv", "name,sddl\n" + "\n".join(lines) + "\n\n\n")
+    place.write("accept.toml", "[[accept]]\nrule = 'everyone-changes'\nobject = 'file *1'\nreason = 'a test'\n")
+    for words in (["--to", "csv"], ["--to", "jsonl", "--list", "found"], ["--to", "sarif"], ["--to", "html"], ["--to", "table"],
+                  ["--to", "csv", "--accept", "accept.toml"]):
+        one, four = (place.ask("risks", odd, *words, "--jobs", jobs) for jobs in ("1", "4"))
+        place.expect((one.status, len(one.stdout) > 1000), (3, True), f"odd rows, {words}, in one process")
+        place.expect((four.status, four.stderr, four.stdout == one.stdout), (one.status, one.stderr, True), f"odd rows, {words}")
+    objects = place.objects("risks", odd, "--jobs", "4")
+    place.expect(sorted(set(range(40_000)) - {int(found) for one in objects for found in re.findall(r"(\d+)\W*(?:$|,)", one["name"])}), [],
+                 "names that odd rows lose")
+    place.write("odd.csv.gz", gzip.compress((place.folder / odd).read_bytes())[:-2000])
+    objects = place.objects("risks", "odd.csv.gz", "--jobs", "4")
+    place.expect((len(objects) > 10_000, objects[-1]["answer"], "the rest" in objects[-1]["name"]), (True, "unknown", True),
+                 "a cut table in several processes")
     peaks = []
-    for count in (20_000, 200_000):
+    for count in (100_000, 500_000):
         path = place.table(rows(count, 1000), "grown.csv")
         asked = [place.python, "-m", "sdtool.audit", "risks", path, "--to", "csv", "--out", os.devnull, "--jobs", "2"]
         # The peak of a child counts from its fork, so a small process forks it.
@@ -675,7 +698,7 @@ def test_scale(place: Place) -> None:
         printed = subprocess.run([sys.executable, "-c", measure, *asked], cwd=place.folder, env=place.environment,
                                  capture_output=True).stdout
         peaks.append(int(printed))
-    place.expect(20_000 < peaks[1] < peaks[0] + 10_000, True, f"memory for 20,000 and 200,000 objects: {peaks} KiB")
+    place.expect(20_000 < peaks[1] < peaks[0] + 10_000, True, f"memory for 100,000 and 500,000 objects: {peaks} KiB")
     os.remove(place.folder / "grown.csv")
 
 

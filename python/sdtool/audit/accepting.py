@@ -55,7 +55,7 @@ class Accepted:
         today = today or datetime.date.today()
         self._exact: Dict[str, List[Entry]] = {}
         self._patterns: List[Tuple[Pattern[str], Entry]] = []
-        self._used: Set[Entry] = set()
+        self.used: Set[Entry] = set()
         self.entries = entries
         self.expired = [entry for entry in entries if entry.until is not None and entry.until < today]
         for entry in entries:
@@ -70,7 +70,7 @@ class Accepted:
     def _reason(self, name: str, finding: Finding) -> str:
         covering = [entry for entry in self._exact.get(name, ()) if entry.covers(finding)]
         covering += [entry for pattern, entry in self._patterns if entry.covers(finding) and pattern.match(name)]
-        self._used.update(covering)
+        self.used.update(covering)
         return covering[0].reason if covering else ""
 
     def apply(self, name: str, answer: Answer) -> Answer:
@@ -85,7 +85,7 @@ class Accepted:
         return Answer(FOUND if left else ACCEPTED, tuple(findings))
 
     def unused(self) -> List[Entry]:
-        return [entry for entry in self.entries if entry not in self._used and entry not in self.expired]
+        return [entry for entry in self.entries if entry not in self.used and entry not in self.expired]
 
 
 def read_accepted(path: str, rules: Sequence[str]) -> Accepted:

@@ -20,7 +20,9 @@ from sdtool.audit.items import Item
 from sdtool.audit.names import Names
 from sdtool.audit.opening import STANDARD_INPUT, OpeningFault
 from sdtool.audit.options import DEFAULT_ATTRIBUTES, SourceOptions
-from sdtool.audit.questions import NOTHING, Answer, Can, Question, Rule, Who
+from sdtool.audit.questions import Can, Question, Rule, Who
+from sdtool.audit.reporting import Report, Tables, split
+from sdtool.audit.sources import Table
 from sdtool.audit.tokens import read_token
 
 FOUND_NOTHING, FOUND_SOME, WRONG_WORDS, SOME_UNKNOWN = range(4)
@@ -195,13 +197,18 @@ class _Bar:
         return items if self._progress is None else self._counted(items)
 
     def _counted(self, items: Iterable[Item]) -> Iterator[Item]:
-        for item in items:
-            self._count += 1
-            if self._count % 5000 == 0:
-                elapsed = self._progress.tasks[0].elapsed or 0
-                self._progress.update(self._task, completed=self._bytes, objects=self._count,
-                                      rate=self._count / elapsed if elapsed else 0)
+        for number, item in enumerate(items, 1):
+            if number % 5000 == 0:
+                self.advance(5000)
             yield item
+
+    def advance(self, count: int) -> None:
+        """Tells that so many objects have passed."""
+        self._count += count
+        if self._progress is not None:
+            elapsed = self._progress.tasks[0].elapsed or 0
+            self._progress.update(self._task, completed=self._bytes, objects=self._count,
+                                  rate=self._count / elapsed if elapsed else 0)
 
     def stop(self) -> None:
         if self._progress is not None:
@@ -253,27 +260,31 @@ def _rights_first(given: Sequence[str]) -> Tuple[rights.Wanted, List[str]]:
     return rights.wanted(taken), _paths(given[len(taken):])
 
 
-def _report(common: Common, rules: Sequence[Rule], title: str, paths: Sequence[str], found: Iterable[Answered],
-            nothing: Callable[[], int] = lambda: 0, accepted: Optional[Accepted] = None) -> int:
-    """Writes a report, and gives the exit status. nothing counts objects that were left out since nothing was found."""
-    summary = outputs.Summary()
+@contextlib.contextmanager
+def _reported(common: Common, rules: Sequence[Rule], title: str, paths: Sequence[str],
+              accepted: Optional[Accepted] = None) -> Iterator[Report]:
+    """A report that is written and ended."""
     with _opened(common.out, paths) as file:
-        output = outputs.output_of(common.to, file, rules, common.lists_all, title, common.most)
+        output = _output(common, rules, title, file)
         output.begin()
-        lists_all = output.lists_all
-        for item, answer in found:
-            if accepted is not None:
-                answer = accepted.apply(item.name, answer)
-            summary.add(answer)
-            if lists_all or answer.status != NOTHING and answer.status != "same" or answer.findings:
-                output.add(item, answer)
-        summary.add_nothing(nothing())
-        output.end(summary)
+        report = Report(output, accepted)
+        yield report
+        output.end(report.summary)
     if common.to != "table" or common.out is not None:
-        click.echo(summary.text(), err=True)
+        click.echo(report.summary.text(), err=True)
     if accepted is not None:
         _tell_accepted(accepted)
-    return summary.status()
+
+
+def _output(common: Common, rules: Sequence[Rule], title: str, file: TextIO) -> outputs.Output:
+    return outputs.output_of(common.to, file, rules, common.lists_all, title, common.most)
+
+
+def _report(common: Common, rules: Sequence[Rule], title: str, paths: Sequence[str], found: Iterable[Answered]) -> int:
+    """Writes a report of answers, and gives the exit status."""
+    with _reported(common, rules, title, paths) as report:
+        report.add(found)
+    return report.summary.status()
 
 
 def _tell_accepted(accepted: Accepted) -> None:
@@ -283,24 +294,44 @@ def _tell_accepted(accepted: Accepted) -> None:
         click.echo(f"accepted and not found: {entry.rule}, {outputs.shown(entry.name)}", err=True)
 
 
-def _lists_all(common: Common) -> bool:
-    return outputs.LISTS_ALL[common.to] if common.lists_all is None else common.lists_all
-
-
 def _ask(common: Common, question: Any, title: str, paths: Sequence[str], accepted: Optional[Accepted] = None) -> int:
     """Asks a question of every object of the sources."""
     engine = Engine(question, common.jobs)
-    if len(paths) == 1 and sources.is_database(paths[0]) and not _lists_all(common) and not common.into:
-        found = cache.Found(paths[0], engine)
-        return _report(common, question.rules, title, paths, found.answered(), found.nothing, accepted)
     _begin_all(paths, common.options)
     bar = _Bar(paths, common.bar)
     try:
-        with cache.kept(common.into) as keep:
-            items = keep(bar.count(_items(paths, common.options, bar)))
-            return _report(common, question.rules, title, paths, engine.answer(items), accepted=accepted)
+        with _reported(common, question.rules, title, paths, accepted) as report:
+            if len(paths) == 1 and sources.is_database(paths[0]) and not report.output.lists_all and not common.into:
+                found = cache.Found(paths[0], engine)
+                report.add(found.answered())
+                report.summary.add_nothing(found.nothing())
+            elif common.into or engine.jobs < 2:
+                with cache.kept(common.into) as keep:
+                    report.add(engine.answer(keep(bar.count(_items(paths, common.options, bar)))))
+            else:
+                make_output = functools.partial(_output, common, question.rules, title)
+                _ask_tables(common, question, make_output, report, engine, paths, bar)
+        return report.summary.status()
     finally:
         bar.stop()
+
+
+def _ask_tables(common: Common, question: Any, make_output: Callable, report: Report, engine: Engine, paths: Sequence[str],
+                bar: _Bar) -> None:
+    """Reports every object, those of tables by several processes."""
+    tables = Tables(question, make_output, report, engine, engine.jobs, bar.advance)
+    try:
+        for path in paths:
+            if sources.is_database(path):
+                report.add(engine.answer(bar.count(cache.items(path))))
+                continue
+            for unit in split(sources.read_tables(path, common.options, bar.read)):
+                if isinstance(unit, Table):
+                    tables.add(unit)
+                else:
+                    report.add(engine.answer(bar.count(unit)))
+    finally:
+        tables.close()
 
 
 @cli.command()

@@ -100,10 +100,10 @@ def _record(waiting: Deque[str], following: Iterator[List[str]], delimiter: str,
         return taken[:1], None, "a quotation mark is not closed" if is_open else f"malformed row: {error}"
 
 
-def records(blocks: Iterator[List[str]], delimiter: str, quotes: bool) -> Iterator[Record]:
-    """The records of lines, which come in blocks."""
+def records(blocks: Iterator[List[str]], delimiter: str, quotes: bool, before: int = 0) -> Iterator[Record]:
+    """The records of lines, which come in blocks, with the number of lines before them."""
     quoting = csv.QUOTE_MINIMAL if quotes else csv.QUOTE_NONE
-    number = 0
+    number = before
     for block in blocks:
         rows = _rows_of_lines(block, delimiter, quoting)
         if rows is not None:
@@ -111,11 +111,20 @@ def records(blocks: Iterator[List[str]], delimiter: str, quotes: bool) -> Iterat
                 number += 1
                 yield number, row, "", ""
             continue
-        waiting = collections.deque(block)
-        while waiting:
-            taken, row_or_none, reason = _record(waiting, blocks, delimiter, quoting)
-            yield number + 1, row_or_none, reason, taken[0]
-            number += len(taken)
+        for record in records_of_block(block, blocks, delimiter, quoting, number):
+            number = record[0] - 1 + record[4]
+            yield record[:4]
+
+
+def records_of_block(block: List[str], following: Iterator[List[str]], delimiter: str, quoting: int,
+                     before: int) -> Iterator[Tuple[int, Optional[List[str]], str, str, int]]:
+    """The records of a block, and of the blocks that follow it until a record ends where a block does. Each with the number
+    of its lines."""
+    waiting = collections.deque(block)
+    while waiting:
+        taken, row, reason = _record(waiting, following, delimiter, quoting)
+        yield before + 1, row, reason, taken[0], len(taken)
+        before += len(taken)
 
 
 def _sample_rows(sample: List[str], delimiter: str, quotes: bool = True) -> List[List[str]]:
@@ -194,18 +203,25 @@ def looks_delimited(sample: List[str]) -> bool:
     return is_headed or any(any(map(looks_like_descriptor, row)) for row in rows)
 
 
-def read(blocks: Iterator[List[str]], label: str, options: SourceOptions) -> Iterator[Item]:
-    """The objects of a table. Lines have their CR."""
-    first = next(blocks, [])
+class Layout(NamedTuple):
+    """What is known of a table once its first lines were seen. begins is the number of lines before its first row."""
+
+    label: str
+    columns: Columns
+    delimiter: str
+    quotes: bool
+    kind: Optional[str]
+    has_header: bool
+    skipped: int
+
+
+def layout_of(first: List[str], label: str, options: SourceOptions) -> Layout:
+    """The layout of a table, by its first lines."""
     # Export-Csv of Windows PowerShell begins with a type, and a spreadsheet may begin with its delimiter.
     skipped = 1 if first and _NO_ROW.match(first[0]) else 0
     named = _DELIMITER_LINE.match(first[0]) if skipped else None
-    if named and not options.delimiter:
-        options = options._replace(delimiter=named[1])
-    first = first[skipped:]
-    blocks = itertools.chain([first], blocks)
-    sample = first[:_SAMPLE_LINES]
-    delimiter = options.delimiter or _delimiter(sample)
+    sample = first[skipped:skipped + _SAMPLE_LINES]
+    delimiter = options.delimiter or (named[1] if named else _delimiter(sample))
     rows = _sample_rows(sample, delimiter, options.quotes)
     if not rows:
         rows = [sample[:1] or [""]]
@@ -214,26 +230,48 @@ def read(blocks: Iterator[List[str]], label: str, options: SourceOptions) -> Ite
         has_header = not any(map(looks_like_descriptor, rows[0]))
     header = rows[0] if has_header else None
     columns = _columns(rows[1:] if has_header else rows, header, label, options)
-    all_records = records(blocks, delimiter, options.quotes)
-    if has_header:
+    return Layout(label, columns, delimiter, options.quotes, options.kind, has_header, skipped)
+
+
+def read(blocks: Iterator[List[str]], label: str, options: SourceOptions) -> Iterator[Item]:
+    """The objects of a table. Lines have their CR."""
+    first = next(blocks, [])
+    layout = layout_of(first, label, options)
+    all_records = records(itertools.chain([first[layout.skipped:]], blocks), layout.delimiter, layout.quotes, layout.skipped)
+    if layout.has_header:
         next(all_records)
-    yield from _items(all_records, columns, label, options, skipped)
+    yield from items_of(all_records, layout, [])
 
 
-def _items(all_records: Iterator[Record], columns: Columns, label: str, options: SourceOptions,
-           skipped: int) -> Iterator[Item]:
-    count, name_at, descriptor_at, kind = columns.count, columns.name, columns.descriptor, options.kind
-    blanks: List[int] = []  # empty lines, which count unless they end the source
+def items_of_block(lines: List[str], before: int, layout: Layout, blanks: List[int]) -> Optional[List[Item]]:
+    """The objects of lines that each are a row, with the number of lines before them; None if a line isn't a row.
+
+    blanks gets the empty lines at the end, which count if a row follows them.
+    """
+    rows = _rows_of_lines(lines, layout.delimiter, csv.QUOTE_MINIMAL if layout.quotes else csv.QUOTE_NONE)
+    if rows is None:
+        return None
+    numbered = ((number, row, "", "") for number, row in enumerate(rows, before + 1))
+    return list(items_of(numbered, layout, blanks))
+
+
+def blank_item(line: int, layout: Layout) -> Item:
+    return unreadable(f"{layout.label}:{line}", layout.label, line, "the line is empty", "look at the source")
+
+
+def items_of(all_records: Iterator[Record], layout: Layout, blanks: List[int]) -> Iterator[Item]:
+    """The objects of records. blanks has the empty lines that were seen last, which count unless they end the source."""
+    label, kind = layout.label, layout.kind
+    count, name_at, descriptor_at = layout.columns.count, layout.columns.name, layout.columns.descriptor
     spelled: Dict[str, Item] = {}  # an object with a text, for texts that come again
     for line, row, reason, text in all_records:
-        line += skipped
         if row is not None and len(row) == 0:
             blanks.append(line)
             continue
         if blanks:
             for blank in blanks:
-                yield unreadable(f"{label}:{blank}", label, blank, "the line is empty", "look at the source")
-            blanks = []
+                yield blank_item(blank, layout)
+            blanks.clear()
         if row is None:
             yield unreadable(text[:1000], label, line, reason, "quote every field, and double quotation marks in it")
             continue

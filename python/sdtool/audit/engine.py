@@ -11,7 +11,7 @@ from sdtool.audit.questions import Answer, unknown
 
 CHUNK = 4_000          # objects that are answered together
 _AHEAD = 3             # chunks under way for each worker
-_MOST_CHARACTERS = 64 << 20  # of descriptors whose answers are kept, in either generation
+_MOST_CHARACTERS = 16 << 20  # of descriptors whose answers are kept, in either generation
 Key = Tuple[str, str, str]  # form, kind, text
 
 _question: Any = None
@@ -89,7 +89,7 @@ class Engine:
 
     def __init__(self, question: Any, jobs: Optional[int] = None) -> None:
         self._question = question
-        self._jobs = jobs or len(os.sched_getaffinity(0))
+        self.jobs = jobs or len(os.sched_getaffinity(0))
         self._memory = _Memory()
         self._pool: Optional[concurrent.futures.ProcessPoolExecutor] = None
         self._under_way: Set[Key] = set()
@@ -101,7 +101,7 @@ class Engine:
             for number, chunk in enumerate(_chunks(items)):
                 keys = [(item[3], item[5], item[4]) for item in chunk]  # form, kind and text
                 waiting.append(_Chunk(chunk, keys, self._begin(keys, number)))
-                while len(waiting) > (self._jobs * _AHEAD if self._pool else 0):
+                while len(waiting) > (self.jobs * _AHEAD if self._pool else 0):
                     yield from self._end(waiting.popleft())
             while waiting:
                 yield from self._end(waiting.popleft())
@@ -120,11 +120,11 @@ class Engine:
         if not groups:
             return None
         # A short source is answered before workers would have started.
-        if self._jobs < 2 or number < 2:
+        if self.jobs < 2 or number < 2:
             return answer_groups(self._question, groups)
         if not self._pool:
             context = multiprocessing.get_context("fork")
-            self._pool = concurrent.futures.ProcessPoolExecutor(self._jobs, context, _start, (self._question,))
+            self._pool = concurrent.futures.ProcessPoolExecutor(self.jobs, context, _start, (self._question,))
         return self._pool.submit(_answer_groups, groups)
 
     def _end(self, chunk: _Chunk) -> Iterator[Answered]:

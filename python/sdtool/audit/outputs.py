@@ -40,6 +40,10 @@ class Summary:
             if not finding.accepted:
                 self.rules[finding.rule] += 1
 
+    def merge(self, other: "Summary") -> None:
+        self.answers.update(other.answers)
+        self.rules.update(other.rules)
+
     def add_nothing(self, count: int) -> None:
         self.answers[NOTHING] += count
 
@@ -96,12 +100,23 @@ class Output:
     def end(self, summary: Summary) -> None:
         """Called after the last object."""
 
+    def piece(self) -> Any:
+        """What was written, of an output over a text in memory that was not begun."""
+        return self._file.getvalue()  # type: ignore[attr-defined]
+
+    def merge(self, piece: Any) -> None:
+        """Adds what another process wrote."""
+        self._file.write(piece)
+
 
 class CsvOutput(Output):
-    def begin(self) -> None:
-        self._plain = csv.writer(self._file, lineterminator="\n")
+    def __init__(self, file: TextIO, rules: Sequence[Rule], lists_all: bool, title: str) -> None:
+        super().__init__(file, rules, lists_all, title)
+        self._plain = csv.writer(file, lineterminator="\n")
         # csv quotes LF by itself, and CR only if all fields are quoted.
-        self._quoted = csv.writer(self._file, lineterminator="\n", quoting=csv.QUOTE_ALL)
+        self._quoted = csv.writer(file, lineterminator="\n", quoting=csv.QUOTE_ALL)
+
+    def begin(self) -> None:
         self._plain.writerow(COLUMNS)
 
     def add(self, item: Item, answer: Answer) -> None:
@@ -153,6 +168,15 @@ class TableOutput(Output):
             else:
                 self._left_out += 1
 
+    def piece(self) -> Any:
+        return self._rows, self._left_out
+
+    def merge(self, piece: Any) -> None:
+        rows, left_out = piece
+        room = max(self._most - len(self._rows), 0)
+        self._rows += rows[:room]
+        self._left_out += left_out + len(rows[room:])
+
     def end(self, summary: Summary) -> None:
         from rich.console import Console
         from rich.table import Table
@@ -193,6 +217,13 @@ _SARIF_SCHEMA = "https://json.schemastore.org/sarif-2.1.0.json"
 
 class SarifOutput(Output):
     """SARIF 2.1.0, for CI. It has what was found, accepted or unknown; notifications count the rest."""
+
+    _comma = ","  # before a result; the first of all has none
+
+    def merge(self, piece: Any) -> None:
+        if piece:
+            self._file.write(piece[1 - len(self._comma):])
+            self._comma = ","
 
     def begin(self) -> None:
         rules = [{"id": rule.name, "shortDescription": {"text": rule.reason}} for rule in self._rules]

@@ -13,6 +13,14 @@ from sdtool.audit.options import SourceOptions
 _SAMPLE = 20  # lines that show a format
 
 
+class Table(NamedTuple):
+    """A table in place of its objects, for a reader that has it read by several processes."""
+
+    label: str
+    texts: Iterator[str]
+    options: SourceOptions
+
+
 class Format(NamedTuple):
     """A format of text, with what recognizes its first lines and what reads them."""
 
@@ -119,38 +127,49 @@ def _format_of(first: str, options: SourceOptions) -> Format:
     return next(one for one in FORMATS if one.recognizes(head, sample))
 
 
-def _read_text(stream: Stream, options: SourceOptions) -> Iterator[Item]:
+def _read_text(stream: Stream, options: SourceOptions, tables: bool) -> Iterator:
     first, texts = with_head(chunks(stream.bytes, encoding_of(stream.head, options.encoding)))
     one = _format_of(first, options)
     if one.takes == "text":
         return one.read(texts, stream.label, options)
+    if one.takes == "blocks" and tables:
+        return iter([Table(stream.label, texts, options)])
     if one.takes == "blocks":
         return one.read(blocks(texts), stream.label, options)
     return one.read(without_cr(lines(texts)), stream.label, options)
 
 
-def _read_stream(stream: Stream, options: SourceOptions) -> Iterator[Item]:
+def _read_stream(stream: Stream, options: SourceOptions, tables: bool) -> Iterator:
     if options.format == "sds" or options.format is None and ntfs.looks_like_stream(stream.head):
         return ntfs.read_stream(stream.bytes, stream.label, options)
     if options.format == "binary" or options.format is None and ntfs.looks_like_descriptor(stream.head):
         return ntfs.read_descriptor(stream.bytes, stream.label, options)
-    return _read_text(stream, options)
+    return _read_text(stream, options, tables)
 
 
-def _all_of(stream: Stream, options: SourceOptions) -> Iterator[Item]:
+def cut_item(label: str, count: int, error: Exception) -> Item:
+    """What stands for the rest of a source that can't be read to its end."""
+    return unreadable(f"{label}: the rest, after {count} objects", label, 0, f"the source can't be read: {error}",
+                      "check the file and its --encoding, and copy it again")
+
+
+def empty_item(label: str) -> Item:
+    """What stands for a source without any object."""
+    return unreadable(label, label, 0, "the source has no objects", "check what wrote it, or name its format with --format")
+
+
+def _all_of(stream: Stream, options: SourceOptions, tables: bool) -> Iterator:
     """The objects of a stream, and one more for what can't be read: a source without any object is itself unknown."""
     count = 0
     try:
-        for item in _read_stream(stream, options):
+        for item in _read_stream(stream, options, tables):
             count += 1
             yield item
     except READ_FAULTS as error:
-        yield unreadable(f"{stream.label}: the rest, after {count} objects", stream.label, 0,
-                         f"the source can't be read: {error}", "check the file and its --encoding, and copy it again")
+        yield cut_item(stream.label, count, error)
         return
     if not count:
-        yield unreadable(stream.label, stream.label, 0, "the source has no objects",
-                         "check what wrote it, or name its format with --format")
+        yield empty_item(stream.label)
 
 
 def _check_names(path: str, options: SourceOptions) -> None:
@@ -169,6 +188,11 @@ def _check_names(path: str, options: SourceOptions) -> None:
 
 def read(path: str, options: SourceOptions, tell: Callable[[int], None] = lambda count: None) -> Iterator[Item]:
     """The objects of a source: a file, a folder, or standard input as '-'."""
+    return read_tables(path, options, tell, False)
+
+
+def read_tables(path: str, options: SourceOptions, tell: Callable[[int], None], tables: bool = True) -> Iterator:
+    """The same, with a Table in place of the objects of a table if they are wanted so."""
     if path != STANDARD_INPUT and (options.format == "tree" or os.path.isdir(path) and options.format is None):
         yield from samba.read_tree(path, options)
         return
@@ -182,4 +206,4 @@ def read(path: str, options: SourceOptions, tell: Callable[[int], None] = lambda
             return
         if stream is None:
             return
-        yield from _all_of(stream, options)
+        yield from _all_of(stream, options, tables)
