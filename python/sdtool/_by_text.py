@@ -3,7 +3,7 @@ explanations say all that a descriptor has, and SDDL makes ACLs."""
 import functools
 import re
 import uuid
-from typing import Any, Dict, List, Optional, Sequence, Tuple
+from typing import Any, List, Optional, Sequence, Tuple
 
 from ._errors import ArgumentFault, Fault
 from ._flags import AceFlags, AceKind
@@ -24,6 +24,7 @@ _IN_SIDS = re.compile(rb"[A-Za-z0-9-]*")
 _ACL_FLAGS = {"D": (0x1000, 0x100, 0x400), "S": (0x2000, 0x200, 0x800)}
 _PRESENT = {"D": 0x4, "S": 0x10}
 _OF_REQUESTS = (50, 51)
+_MOST_SIDS = 4096  # so many of those that were met last are kept
 _FROM_PARTS = 0x8014  # the bits of the control word that say which parts there are
 
 
@@ -32,8 +33,8 @@ class ByText:
 
     def __init__(self, calls: Any) -> None:
         self._calls = calls
-        self._sid_bytes = functools.lru_cache(maxsize=4096)(lambda text: self.sid_from_text(text.encode("ascii"), b""))
-        self.is_one_sid = functools.lru_cache(maxsize=4096)(self._is_one_sid)
+        self._sid_bytes = functools.lru_cache(maxsize=_MOST_SIDS)(lambda text: self.sid_from_text(text.encode("ascii"), b""))
+        self.is_one_sid = functools.lru_cache(maxsize=_MOST_SIDS)(self._is_one_sid)
 
     def sid_from_text(self, text: bytes, domain: bytes) -> bytes:
         """The SID of a text, from the descriptor whose owner it is."""
@@ -51,33 +52,23 @@ class ByText:
             return False
         return value != b""
 
-    def parts(self, descriptor: bytes) -> Tuple[int, int, Optional[bytes], Optional[bytes], int, Any, int, Any]:
+    def parts(self, descriptor: bytes) -> Tuple[int, int, Optional[bytes], Optional[bytes], int, str, int, str]:
         """Control, resource manager, owner, group, and the state and lines of the SACL and the DACL."""
-        lines: List[str] = self._calls.explain(descriptor, b"", True).splitlines()
-        control, manager, owner, group = (line.split(" ")[1] for line in lines[:4])
-        acls: Dict[str, Tuple[int, Sequence[str]]] = {}
-        at = 4
-        while lines[at] != "end":
-            part, state, *count = lines[at].split(" ")
-            after = at + 1 + int(count[0] if count else 0)
-            acls[part] = (_STATES[state], lines[at + 1:after])
-            at = after
-        return (int(control, 16), int(manager, 16), self._sid_or_none(owner), self._sid_or_none(group), *acls["sacl"],
-                *acls["dacl"])
+        control, manager, owner, group, acls = self._calls.explain(descriptor, b"", True).split("\n", 4)
+        owner, group = owner[len("owner "):], group[len("group "):]
+        dacl, _, sacl = ("\n" + acls).partition("\nsacl ")
+        dacl, _, of_dacl = dacl[len("\ndacl "):].partition("\n")
+        sacl, _, of_sacl = sacl[:-len("\nend\n")].partition("\n")
+        return (int(control[len("control "):].partition(" ")[0], 16), int(manager[len("rm "):], 16),
+                None if owner == "none" else self._sid_bytes(owner), None if group == "none" else self._sid_bytes(group),
+                _STATES[sacl.partition(" ")[0]], of_sacl, _STATES[dacl.partition(" ")[0]], of_dacl)
 
-    def _sid_or_none(self, text: str) -> Optional[bytes]:
-        return None if text == "none" else self._sid_bytes(text)
-
-    def aces(self, lines: Sequence[str]) -> List[RawAce]:
-        """The fields of each ACE of an explanation."""
-        return list(map(self._ace, lines))
-
-    def _ace(self, line: str) -> RawAce:
-        """Such as 'dacl 1 OA flags CIID mask 0x00000100 rights CR object GUID inherited GUID sid S-1-5-11'."""
-        words = line.split(" ")
-        guids = dict(zip(words[9:-2:2], words[10:-2:2]))
-        flags = 0 if words[4] == "none" else sum(_FLAGS[words[4][at:at + 2]] for at in range(0, len(words[4]), 2))
-        return (_KINDS[words[2]], flags, int(words[6], 16), self._sid_bytes(words[-1]), _guid(guids.get("object")),
+    def ace(self, text: str) -> RawAce:
+        """The fields of an ACE, such as 'OA flags CIID mask 0x00000100 rights CR object GUID inherited GUID sid S-1-5-11'."""
+        words = text.split(" ")
+        guids = dict(zip(words[7:-2:2], words[8:-2:2]))
+        flags = 0 if words[2] == "none" else sum(_FLAGS[words[2][at:at + 2]] for at in range(0, len(words[2]), 2))
+        return (_KINDS[words[0]], flags, int(words[4], 16), self._sid_bytes(words[-1]), _guid(guids.get("object")),
                 _guid(guids.get("inherited")))
 
     def build(self, control: int, resource_manager: int, owner: Optional[bytes], group: Optional[bytes], sacl_state: int,

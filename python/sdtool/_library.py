@@ -80,6 +80,6 @@ sid_from_text = _by_text.sid_from_text
 sid_to_text = _by_text.sid_to_text
 is_one_sid = _by_text.is_one_sid
 parts = _by_text.parts
-aces = _by_text.aces
+ace = _by_text.ace
 build = _by_text.build
 check_many = _by_text.check_many

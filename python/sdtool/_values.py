@@ -1,6 +1,7 @@
 """SIDs, ACEs, ACLs, descriptors and tokens as objects. None of them can be changed, and two are equal exactly if their
 content is the same. Each answer is one of the library."""
 import enum
+import functools
 import uuid
 from typing import (Any, Callable, ClassVar, Dict, FrozenSet, Iterable, Iterator, List, NamedTuple, NoReturn, Optional, Sequence,
                     Tuple, Type, TypeVar, Union, overload)
@@ -12,6 +13,7 @@ from ._flags import AceFlags, AceKind, Control
 from ._words import KINDS, MAPPINGS, PRIVILEGES, Kind, Mapping, Privilege
 
 _MOST_SIDS = 1024
+_MOST_ACES, _MOST_LISTS = 8192, 512  # so many of those that were met last are kept
 _Bytes = bytes  # within SecurityDescriptor, bytes is its layout
 _KIND_OF = {kind.value: kind for kind in AceKind}
 _FLAGS_OF = [AceFlags(value) for value in range(256)]
@@ -187,6 +189,18 @@ def _ace_of(raw: _RawAce) -> Ace:
                           object_type and uuid.UUID(bytes_le=object_type), inherited and uuid.UUID(bytes_le=inherited)))
 
 
+@functools.lru_cache(maxsize=_MOST_ACES)
+def _ace_of_line(text: str) -> Ace:
+    """An ACE of an explanation, without its part and its number. Most ACEs are like others, and are made once."""
+    return _ace_of(_library.ace(text))
+
+
+@functools.lru_cache(maxsize=_MOST_LISTS)
+def _aces_of_lines(lines: str) -> Tuple[Ace, ...]:
+    """The ACEs of an explanation. Many objects have the same ones."""
+    return tuple([_ace_of_line(line.split(" ", 2)[2]) for line in lines.splitlines()])
+
+
 def _raw_ace(ace: Ace) -> _RawAce:
     return (int(ace.kind), int(ace.flags), ace.mask, ace.sid, _arguments.guid("object_type", ace.object_type) or None,
             _arguments.guid("inherited_object_type", ace.inherited_object_type) or None)
@@ -248,7 +262,7 @@ class Acl(_Fixed, Sequence[Ace]):
         if self._state != _LIST:
             raise NoAces(f"the ACL is {'null' if self.is_null else 'absent'}, which is no list of ACEs; ask is_list first")
         if self._aces is None:
-            object.__setattr__(self, "_aces", tuple(map(_ace_of, _library.aces(self._data))))
+            _set_aces(self, _aces_of_lines(self._data))
         assert self._aces is not None
         return self._aces
 
@@ -289,14 +303,18 @@ class Acl(_Fixed, Sequence[Ace]):
 
 
 def _set(acl: Acl, state: int, data: Any, aces: Optional[Tuple[Ace, ...]]) -> None:
-    object.__setattr__(acl, "_state", state)
-    object.__setattr__(acl, "_data", data)
-    object.__setattr__(acl, "_aces", aces)
+    _set_state(acl, state)
+    _set_list(acl, data)
+    _set_aces(acl, aces)
+
+
+_new_acl: Callable[[Type[Acl]], Acl] = object.__new__
+_set_state, _set_list, _set_aces = (Acl.__dict__[name].__set__ for name in ("_state", "_data", "_aces"))
 
 
 def _acl_of(state: int, data: Any = None) -> Acl:
     """An ACL that the library has seen: its state, and what it has of a list."""
-    acl = Acl.__new__(Acl)
+    acl = _new_acl(Acl)
     _set(acl, state, data, None)
     return acl
 
@@ -499,7 +517,7 @@ class SecurityDescriptor(_Fixed):
 
     __slots__ = ("_data", "_found")
     _data: bytes
-    _found: Tuple[Any, ...]  # not there before the first part is asked for
+    _found: Tuple[int, int, Optional[Sid], Optional[Sid], Acl, Acl]  # not there before the first part is asked for
 
     def __init__(self, *, owner: Optional[SidLike] = None, group: Optional[SidLike] = None,
                  dacl: Union[Acl, Iterable[Ace]] = Acl.ABSENT, sacl: Union[Acl, Iterable[Ace]] = Acl.ABSENT,
@@ -528,11 +546,13 @@ class SecurityDescriptor(_Fixed):
     def __bytes__(self) -> _Bytes:
         return self._data
 
-    def _parts(self) -> Tuple[Any, ...]:
+    def _parts(self) -> Tuple[int, int, Optional[Sid], Optional[Sid], Acl, Acl]:
         try:
             return self._found
         except AttributeError:
-            _set_found(self, _library.parts(self._data))
+            control, manager, owner, group, sacl_state, sacl, dacl_state, dacl = _library.parts(self._data)
+            _set_found(self, (control, manager, _trusted_sid(owner), _trusted_sid(group), _acl_in(sacl_state, sacl),
+                              _acl_in(dacl_state, dacl)))
             return self._found
 
     @property
@@ -542,23 +562,23 @@ class SecurityDescriptor(_Fixed):
     @property
     def resource_manager(self) -> int:
         """The resource manager byte."""
-        return int(self._parts()[1])
+        return self._parts()[1]
 
     @property
     def owner(self) -> Optional[Sid]:
-        return _trusted_sid(self._parts()[2])
+        return self._parts()[2]
 
     @property
     def group(self) -> Optional[Sid]:
-        return _trusted_sid(self._parts()[3])
+        return self._parts()[3]
 
     @property
     def sacl(self) -> Acl:
-        return _acl_in(*self._parts()[4:6])
+        return self._parts()[4]
 
     @property
     def dacl(self) -> Acl:
-        return _acl_in(*self._parts()[6:8])
+        return self._parts()[5]
 
     def sddl(self, *, domain: Optional[SidLike] = None, numeric: bool = False) -> str:
         """Its text. SDDL has no text for the resource manager byte and for some control bits, which are lost."""
@@ -633,7 +653,7 @@ def _raw_acl(name: str, value: Union[Acl, Iterable[Ace]]) -> Tuple[int, Tuple[_R
     if isinstance(value, Acl):
         if value._state != _LIST:
             return value._state, ()
-        return _LIST, tuple(_library.aces(value._data)) if value._data is not None else tuple(map(_raw_ace, value))
+        return _LIST, tuple(map(_raw_ace, value))
     if value is None:
         raise TypeError(f"{name}: Acl.NULL, Acl.ABSENT or ACEs, not None, which does not say which of them")
     return _LIST, tuple(map(_raw_ace, Acl(_arguments.items(name, value, "Ace"))))
