@@ -19,6 +19,7 @@ import itertools
 import os
 import pathlib
 import pickle
+import re
 import subprocess
 import sys
 import threading
@@ -374,6 +375,23 @@ def test_examples(count):
         count.add(result.failed == 0 and result.attempted > 40, f"the module's examples: {result}")
 
 
+def test_document(count):
+    """The program of docs/LIBRARY.md prints what stands there, and its other examples give what they show."""
+    text = (TOP / "docs/LIBRARY.md").read_text(encoding="utf-8")
+    whole = re.search(r"```python\n(.*?)```\n\nWith the input\n\n```\n(.*?)```\n\nit prints\n\n```\n(.*?)```", text, re.DOTALL)
+    count.add(whole is not None, "docs/LIBRARY.md has no program")
+    if whole:
+        program, given, expected = whole.groups()
+        ended = subprocess.run([sys.executable, "-c", program], input=given, stdout=subprocess.PIPE, check=False, text=True,
+                               env={**os.environ, "PYTHONPATH": str(TOP / "python")})
+        count.add((ended.stdout, ended.returncode) == (expected, 0), f"the program of docs/LIBRARY.md prints {ended.stdout}")
+    shown = "".join(block for block in re.findall(r"```\n(.*?)```", text, re.DOTALL) if block.startswith(">>> "))
+    runner = doctest.DocTestRunner()
+    runner.run(doctest.DocTestParser().get_doctest(shown, {}, "docs/LIBRARY.md", None, 0))
+    result = runner.summarize(verbose=False)
+    count.add(result.failed == 0 and result.attempted > 1, f"examples of docs/LIBRARY.md: {result}")
+
+
 def random_values():
     """Strategies: SIDs, ACEs, ACLs and descriptors, of all that they may have."""
     u32 = strategies.integers(0, 2**32 - 1)
@@ -447,7 +465,7 @@ def main():
     arguments = parser.parse_args()
     count = preload.Count()
     tests = [test_rows, test_sids, test_acls, test_aces, test_names, test_building, test_values, test_tokens, test_questions,
-             test_many, test_threads_and_processes, test_examples]
+             test_many, test_threads_and_processes, test_examples, test_document]
     for test in tests:
         test(count)
     if hypothesis:
