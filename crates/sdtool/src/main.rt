@@ -2,6 +2,9 @@
 
 #![tactic(auto)]
 
+ghost use Rattle.std.specs.Prelude.{◌≡◌, ◌⊎◌, ◌==◌, codes, if◌then◌else◌, MatchResult};
+ghost use Rattle.std.specs.Process.{exit_status};
+
 use sd_filter::{FromRead, ToWrite, command};
 use std::env::{self, Env};
 use std::io::{BufWriter, ErrorKind};
@@ -15,18 +18,26 @@ const NO_MEMORY: u8 = 4;
 const GATHERED: usize = 1 << 16;
 
 fn main(rt: HostRuntime) -> ExitCode {
-    let status = match run(&rt) {
-        Ok(status) => status,
-        Err(status) => {
-            let _ = eprintln!(rt; "{}", reason(status));
-            status
-        }
-    };
-    ExitCode::from(status)
+    let ended = run(&rt);
+    if let Err(status) = ended {
+        let _ = eprintln!(rt; "{}", reason(status));
+    }
+    exit_code(ended)
+}
+
+// The process ends with the status of the command, or of what is wrong before it.
+fn exit_code(ended: Result<u8, u8>) -> ExitCode
+    ensures { MatchResult ended (λ status. exit_status result ≡ status) (λ status. exit_status result ≡ status) }
+{
+    match ended {
+        Ok(status) | Err(status) => ExitCode::from(status),
+    }
 }
 
 // The status of the command, or of what is wrong before it.
-fn run(rt: &HostRuntime) -> Result<u8, u8> {
+fn run(rt: &HostRuntime) -> Result<u8, u8>
+    ensures { MatchResult result (λ _. Unit {0}) (λ status. (status ≡ 2) ⊎ (status ≡ 4)) }
+{
     let words = words(rt)?;
     let output = BufWriter::with_capacity(rt.alloc(), GATHERED, rt.stdout());
     let mut output = output.map_err(|_| NO_MEMORY)?;
@@ -43,7 +54,9 @@ fn run(rt: &HostRuntime) -> Result<u8, u8> {
 }
 
 // The words of the command line, the program's name first.
-fn words(rt: &(impl Env + AllocGlobal)) -> Result<Vec<String>, u8> {
+fn words(rt: &(impl Env + AllocGlobal)) -> Result<Vec<String>, u8>
+    ensures { MatchResult result (λ _. Unit {0}) (λ status. (status ≡ 2) ⊎ (status ≡ 4)) }
+{
     match env::args(rt) {
         Ok(arguments) => arguments.collect(rt.alloc()).map_err(|_| NO_MEMORY),
         Err(error) => match error.kind() {
@@ -54,7 +67,9 @@ fn words(rt: &(impl Env + AllocGlobal)) -> Result<Vec<String>, u8> {
     }
 }
 
-fn reason(status: u8) -> &'static str {
+fn reason(status: u8) -> &'static str
+    ensures { result.now ≡ (if status == 4 then codes "sdtool: no memory" else codes "sdtool: usage") }
+{
     if status == NO_MEMORY {
         "sdtool: no memory"
     } else {
