@@ -385,7 +385,7 @@ def test_document(count):
         ended = subprocess.run([sys.executable, "-c", program], input=given, stdout=subprocess.PIPE, check=False, text=True,
                                env={**os.environ, "PYTHONPATH": str(TOP / "python")})
         count.add((ended.stdout, ended.returncode) == (expected, 0), f"the program of docs/LIBRARY.md prints {ended.stdout}")
-    shown = "".join(block for block in re.findall(r"```\n(.*?)```", text, re.DOTALL) if block.startswith(">>> "))
+    shown = "".join(block for block in text.split("```")[1::2] if block.startswith("\n>>> "))
     runner = doctest.DocTestRunner()
     runner.run(doctest.DocTestParser().get_doctest(shown, {}, "docs/LIBRARY.md", None, 0))
     result = runner.summarize(verbose=False)
