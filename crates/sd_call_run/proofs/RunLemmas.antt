@@ -1,10 +1,10 @@
 -- What the devices took, however the program ends.
-use Rattle.std.proofs.Common.{◌≡◌, ◌⊎◌, inl, inr, ℕ, List, [], ◌++◌, Option, None, Some, Result, Ok, Err, ap, sym, ◌∙◌, subst}
-use Rattle.std.proofs.Common.{append-nil, codes}
+use Rattle.std.proofs.Common.{◌≡◌, ◌≢◌, inl, inr, ℕ, List, [], ◌++◌, Option, None, Some, Result, Ok, Err, ap, sym, ◌∙◌}
+use Rattle.std.proofs.Common.{append-nil, codes, refl}
 use Rattle.std.specs.Io.KnownBytes.{Appends}
 use Rattle.clap.specs.Words.{Text}
 use Rattle.sd_answer.specs.declared.job.Task.{Task}
-use Rattle.sd_command.specs.Endings.{EndsBy, EndsRun, EndsSettled, Says, SaysOf, Told, run_line}
+use Rattle.sd_command.specs.Endings.{EndsBy, EndsSettled, EndsWithoutMemory, Says, SaysOf, Told, run_line}
 use Rattle.sd_command.specs.Settings.{Settings, settings_of}
 use Rattle.sd_command.specs.Usage.{fault_line, usage_line}
 use Rattle.sd_command.specs.declared.settings.UsageFault.{UsageFault}
@@ -70,8 +70,7 @@ ended-output words told told' status before is (EndsBy.settled none e) =
 pub output-grew : (words : Option (List Text)) (told told' : Told) (status : ℕ) (before : List ℕ)
     → told.output.taken ≡ Some before → EndsOn words told told' status
     → Grew before told'.output
-output-grew None told told' status before is (inl h) = grew_by_none before told.output told'.output is h.1.1
-output-grew None told told' status before is (inr h) = grew_by_none before told.output told'.output is h.1.1
+output-grew None told told' status before is h = grew_by_none before told.output told'.output is h.1.1
 output-grew (Some words) told told' status before is h = ended-output words told told' status before is h.0
 
 ran-faults : (result : Result Report RunFault) (told told' : DrainTold) (before : List ℕ)
@@ -100,8 +99,12 @@ ended-faults words told told' status before is (EndsBy.settled none e) =
 -- the fault stream grew
 pub faults-grew : (words : Option (List Text)) (told told' : Told) (status : ℕ) (before : List ℕ)
     → told.faults.taken ≡ Some before → EndsOn words told told' status → Grew before told'.faults
-faults-grew None told told' status before is (inl h) =
+faults-grew None told told' status before is h =
     says-grew (fault_line (codes "usage")) before told.faults told'.faults is h.2
-faults-grew None told told' status before is (inr h) =
-    says-grew (fault_line (codes "no memory")) before told.faults told'.faults is h.2
 faults-grew (Some words) told told' status before is h = ended-faults words told told' status before is h.0
+
+-- there was no memory for words that are texts
+pub no-memory : (words : Option (List Text)) (told told' : Told) (status : ℕ) → words ≢ None
+    → EndsWithoutMemory told told' status → EndsOn words told told' status
+no-memory None told told' status some e = absurd (some refl)
+no-memory (Some words) told told' status some e = (EndsBy.without_memory e, λ _. inl e)

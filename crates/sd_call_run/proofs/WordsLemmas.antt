@@ -1,7 +1,7 @@
 -- The words of a command line, from the front.
 use Rattle.std.proofs.Common.{◌≡◌, ◌≢◌, ◌<◌, ◌+◌, ◌==◌, ◌&&◌, ℕ, zero, suc, List, [], ◌∷◌, ◌++◌, length, take, drop, get_or, Bool}
 use Rattle.std.proofs.Common.{true, false, Option, Some, None, refl, sym, ap, ◌∙◌, arith, add-one, append_assoc, append-nil}
-use Rattle.std.proofs.Common.{if◌then◌else◌, rules, inl, inr, ◌-◌, length-drop, subst, codes}
+use Rattle.std.proofs.Common.{if◌then◌else◌, rules, inl, inr, ◌-◌, length-drop, codes}
 use Rattle.std.proofs.lemmas.Bool.{cases_Bool}
 use Rattle.std.proofs.lemmas.List.{take_all}
 use Rattle.std.proofs.lemmas.Str.{IsUtf8-from_is_utf8, is_utf8-from_IsUtf8}
@@ -9,7 +9,7 @@ use Rattle.std.specs.List.{list_all}
 use Rattle.std.specs.Option.{option_map}
 use Rattle.std.specs.Str.{IsUtf8, is_utf8}
 use Rattle.clap.specs.Words.{Text}
-use Rattle.sd_call_run.specs.Runs.{byte_before, command_words, if_texts, onto_first_word, words_in}
+use Rattle.sd_call_run.specs.Runs.{byte_before, command_words, if_texts, words_in}
 
 after_nul : (rest : Option (List Text)) → byte_before 0 rest ≡ option_map (λ (ws : List Text). [] ∷ ws) rest
 after_nul None = refl
@@ -120,3 +120,6 @@ reads-word bytes rest words words' word n most reads within at before text word_
     (ap if_texts (first-word rest n within at before)
     ∙ text-first (take n rest) (words_in (drop (suc n) rest)) (is_utf8-from_IsUtf8 (take n rest) text))
     ∙ joined words (take n rest) (if_texts (words_in (drop (suc n) rest))))
+
+pub is-some : (words : List Text) (all : Option (List Text)) → all ≡ Some words → all ≢ None
+is-some words all is none = cc

@@ -6,7 +6,7 @@ use Rattle.std.specs.Option.{option_map}
 use Rattle.std.specs.Str.{is_utf8}
 use Rattle.clap.specs.Words.{Text, takes}
 use Rattle.sd_command.specs.CommandLine.{line}
-use Rattle.sd_command.specs.Endings.{EndsBy, EndsRefused, EndsTaken, EndsWithoutMemory, Told}
+use Rattle.sd_command.specs.Endings.{EndsBy, EndsRefused, EndsTaken, Told}
 use Rattle.sd_answer.specs.LineEnd.{line_feed}
 use Rattle.sd_run.specs.Told.{DrainTold}
 use Rattle.sd_call_run.specs.declared.run.Ending.{Ending}
@@ -37,9 +37,9 @@ command_words bytes = option_map (λ words. codes "sdtool" ∷ words) (if_texts 
 
 -- ---- the ending
 
--- as the program ends, also where its arguments are no texts
+-- As the program ends. Words that are no texts are refused, whether there is memory or not.
 abbrev pub EndsOn : Option (List Text) → Told → Told → ℕ → Type 0
-EndsOn None told told' status = EndsRefused told told' status ⊎ EndsWithoutMemory told told' status
+EndsOn None told told' status = EndsRefused told told' status
 EndsOn (Some words) told told' status =
     EndsBy words told told' status × (takes line words ≡ true → EndsTaken words told told' status)
 

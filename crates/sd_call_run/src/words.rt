@@ -1,7 +1,7 @@
 //! The words of a command line in memory.
 
 ghost use Rattle.std.specs.Prelude.{◌≡◌, ◌<◌, ◌≢◌, ◌++◌, ◌∷◌, [], ℕ, length, map, slice_index, unwrap_or};
-ghost use Rattle.std.specs.Prelude.{IfSome, MatchResult, None, OnOk, Some};
+ghost use Rattle.std.specs.Prelude.{IfSome, MatchResult, None, OnOk, Some, false, true};
 ghost use Rattle.std.specs.String.{string_bytes};
 ghost use Rattle.sd_call_run.specs.Runs.{command_words};
 ghost use Rattle.sd_call_run.specs.declared.words.WordsFault.TheVariants.{NoMemory, NoText};
@@ -16,8 +16,40 @@ pub enum WordsFault {
     NoMemory,
 }
 
-/// The words that NULs end, behind the program's name.
+/// The words that NULs end, behind the program's name. That they are texts is known before memory is asked for.
 pub fn words_in(alloc: Global, bytes: &[u8]) -> Result<Vec<String>, WordsFault>
+    ensures words { MatchResult result
+        (λ words. command_words bytes.now ≡ Some (map string_bytes words.items))
+        (λ fault. fault ≡ NoText → command_words bytes.now ≡ None) }
+    ensures only_texts_need_memory { MatchResult result (λ _. Unit {0})
+        (λ fault. fault ≡ NoMemory → command_words bytes.now ≢ None) }
+{
+    if are_texts(bytes) {
+        push_words(alloc, bytes)
+    } else {
+        Err(WordsFault::NoText)
+    }
+}
+
+// Whether each word is a text and has its NUL.
+fn are_texts(bytes: &[u8]) -> bool
+    ensures yes { result ≡ true → command_words bytes.now ≢ None }
+    ensures no { result ≡ false → command_words bytes.now ≡ None }
+{
+    let mut rest = bytes;
+    while !rest.is_empty() {
+        let Some(end) = first_nul(rest) else {
+            return false;
+        };
+        let Ok(_) = str::from_utf8(&rest[..end]) else {
+            return false;
+        };
+        rest = &rest[end + 1..];
+    }
+    true
+}
+
+fn push_words(alloc: Global, bytes: &[u8]) -> Result<Vec<String>, WordsFault>
     ensures { MatchResult result
         (λ words. command_words bytes.now ≡ Some (map string_bytes words.items))
         (λ fault. fault ≡ NoText → command_words bytes.now ≡ None) }

@@ -3,7 +3,7 @@ use Rattle.std.specs.Option.{option_map}
 use Rattle.std.specs.String.{string_bytes}
 use Rattle.clap.specs.Words.{Text}
 use Rattle.sd_call_run.specs.Runs.{command_words, if_texts, words_in}
-use Rattle.sd_call_run.proofs.words.words_in.Given as goal
+use Rattle.sd_call_run.proofs.words.push_words.Given as goal
 
 -- the words so far, and then those of what is left
 abbrev pub invariant-loop-rest : goal.invariant-loop-rest

@@ -1,7 +1,7 @@
 use Rattle.std.proofs.Common.{rules, map, refl}
 use Rattle.std.specs.String.{string_bytes}
 use Rattle.sd_call_run.proofs.WordsLemmas.{reads-all, reads-name, reads-no-text, reads-no-word, reads-word}
-use Rattle.sd_call_run.proofs.words.words_in.Goals as goal
+use Rattle.sd_call_run.proofs.words.push_words.Goals as goal
 
 pub loop-rest-init : goal.loop-rest-init
 loop-rest-init c =
