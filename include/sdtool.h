@@ -3,7 +3,10 @@
  *
  * A call reads its input and writes its answer to a buffer of the caller. It keeps no pointer, has no state, prints
  * nothing and never ends the process, so calls from several threads need no lock. Calls may use malloc and free;
- * nothing that they allocate is left when they return. Do not call them from a signal handler.
+ * nothing that they allocate is left when they return. Do not call them from a signal handler. A process that a thread
+ * forked may call them if it may call malloc, as with glibc.
+ *
+ * sdtool_run needs at most 56 KiB of stack, each other call at most 12 KiB, whatever its input is.
  *
  * How this header grows: the shared library's name has a number, libsdtool.so.0. Under one number no struct and no
  * function of this header changes, no number gets another meaning, and none is taken away; a version that needs such a

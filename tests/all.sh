@@ -83,6 +83,7 @@ if "${MAKE:-make}" --no-print-directory program; then
     count tests/device_faults.py "$program"
     if take_library; then
         count tests/c_library.py "$program"
+        count tests/c_stacks.py
         count tests/c_install.py
         count tests/c_examples.py
         count tests/python_calls.py "$program"

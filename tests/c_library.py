@@ -6,8 +6,10 @@ line: for each line of the worked rows, and N random changes of them. Checks and
 worked rows say, and N random ones what PROGRAM answers; also tried are arguments that no words spell. tests/c/calls.c also
 tries each size of the output, refused allocations and threads; it runs under the address sanitizer if the compiler has
 it, and under valgrind if that is there. tests/c/runs.c does the same for runs: each row without devices of its own,
-and whole answers in each size of the output. Also tested: the symbols of the libraries, the header in C and C++, the
-names of faults, and the Python module's examples.
+and whole answers in each size of the output. Both also run with a page that cannot be touched behind each block and in
+front of it, and with inputs that cannot be written. Descriptors of the densest ACEs have outputs of each size. Also
+tested: the symbols of the libraries, the header in C and C++, the names of faults, a program that was compiled with an
+older header, and the Python module's examples.
 The last line is 'N passed, M failed'.
 """
 import argparse
@@ -33,7 +35,10 @@ COMPILER = os.environ.get("CC", "cc")
 WARNINGS = ["-std=c11", "-Wall", "-Wextra", "-Werror", "-O1", "-g", "-D_GNU_SOURCE"]
 WRAPS = ["-Wl,--wrap=malloc", "-Wl,--wrap=realloc"]
 SANITIZERS = ["-fsanitize=address,undefined"]
-VALGRIND = ["valgrind", "-q", "--leak-check=full", "--error-exitcode=9"]
+# Neither valgrind nor the sanitizer follows what a forked process of several threads does with memory.
+NO_FORKS = ["env", "FORKS=0"]
+VALGRIND = [*NO_FORKS, "valgrind", "-q", "--leak-check=full", "--error-exitcode=9"]
+GUARDS = ("after", "before")
 SECONDS = 300
 DOMAIN = bytes.fromhex("010400000000000515000000010000000200000003000000")  # S-1-5-21-1-2-3
 MAPPINGS, KINDS = ["file", "key", "ds"], ["file", "container"]
@@ -250,7 +255,8 @@ def test_arguments(count, runner):
              "derive": [empty, none, sid, sid, "0", "0"]}
     not_sids = [none, sid + "00", sid[:-2]]
     # For each place the number of the argument, and each wrong value with the entry that is wrong.
-    wrong = {"check": {1: (2, {none: 0, sid: 1, sid[:-2] + sid: 2, sid * 2 + "01": 2, sid * 3: 2, "02" + sid[2:] + sid: 0}),
+    wrong = {"check": {1: (2, {none: 0, sid: 1, sid[:-2] + sid: 2, sid * 2 + "01": 2, sid * 3: 2,
+                               "02" + sid[2:] + sid: 0}),
                        2: (3, {"0002": 1, "ff00": 0}), 3: (4, {"00": 0, "00" * 15: 0, "00" * 17: 0}),
                        4: (5, {sid[:-2]: 0, sid + "00": 0, "00": 0}), 6: (6, {"3": 0, "4294967295": 0})},
              "derive": {1: (7, {"00": 0, "01" * 20: 0}), 2: (8, dict.fromkeys(not_sids, 0)),
@@ -268,7 +274,8 @@ def test_arguments(count, runner):
     # Fewer and more flags than SIDs.
     flags = [" ".join([empty, sid * 2, value, *whole["check"][3:]]) + "\n" for value in (none, "00", "000000")]
     ended = ran([*runner, "check"], "".join(flags))
-    count.add(ended.stdout.decode() == "error 70 2 0\nerror 70 2 1\nerror 70 2 2\n", f"flags: {ended.stdout.decode()!r}")
+    found = ended.stdout.decode()
+    count.add(found == "error 70 2 0\nerror 70 2 1\nerror 70 2 2\n", f"flags: {found!r}")
     # The right ones, the most SIDs and one more, no right, a reserved bit, and no descriptor.
     check, most = whole["check"], 1024
     granted = "granted 0x00020000"  # without a DACL
@@ -359,6 +366,10 @@ def test_runs_in_c(count, folder, program):
         words = [words[0], b"--from", b"sddl", *words[1:]]
         found, expected = of_program([plain, "threads", *words], SIZED), of_program([program, *words], SIZED)
         count.add(found == expected, f"threads {words}: {found}")
+    for where in GUARDS:
+        guarded = ["env", f"GUARD={where}", plain]
+        test_runs(count, guarded, program, f"guard {where}", [row for row in rows if len(row[2]) < 100_000][::4])
+        test_sizes(count, guarded, program, f"guard {where}")
     checked, _ = built(folder, "runs", "checked", SANITIZERS)
     if checked is not None:
         test_runs(count, [checked], program, "sanitized", [row for row in rows if len(row[2]) < 100_000])
@@ -391,6 +402,69 @@ def test_fault_texts(count):
         except sdtool.ArgumentFault:
             found = None
         count.add(found == names.get(number), f"fault {number} is {found}, not {names.get(number)}")
+
+
+    header = (TOP / "include" / "sdtool.h").read_text(encoding="utf-8")
+    listed = re.search(r"enum sdtool_fault \{(.*?)\};", header, re.S)[1]
+    declared = {int(number): name.removeprefix("FAULT_").lower().replace("_", "-")
+                for name, number in re.findall(r"\bSDTOOL_(\w+) = (\d+)", listed)}
+    names[0] = "ok"
+    count.add(declared == names, f"enum sdtool_fault: {sorted(declared.items() ^ names.items())}")
+
+
+def densest():
+    """Descriptors whose texts have the most characters for each byte: one to six ACEs of the same SID."""
+    everyone, null = bytes.fromhex("010100000000000100000000"), bytes.fromhex("0100000000000000")
+
+    def two(number):
+        return number.to_bytes(2, "little")
+
+    for kind, flags, mask, sid in ((2, 0xDB, 0xF00F01FF, everyone), (2, 0xDB, 0xF01F01FF, null),
+                                   (0, 0x1F, 0x1F01FF, everyone), (2, 0xDB, 0xFFFFFFFF, everyone),
+                                   (5, 0x1B, 0xF00F01FF, everyone)):
+        body = (bytes([3, 0, 0, 0]) + bytes(range(32)) if kind == 5 else b"") + sid
+        ace = bytes([kind, flags]) + two(8 + len(body)) + mask.to_bytes(4, "little") + body
+        for aces in range(1, 7):
+            acl = bytes([4, 0]) + two(8 + aces * len(ace)) + bytes([aces, 0, 0, 0]) + ace * aces
+            control, offsets = (0x8010, (0, 0, 20, 0)) if kind == 2 else (0x8004, (0, 0, 0, 20))
+            yield (bytes([1, 0]) + two(control) + b"".join(two(o) + bytes(2) for o in offsets) + acl).hex()
+
+
+def declarations(path):
+    """What a header declares: each struct, function and constant, and each member of an enum."""
+    text = re.sub(r"/\*.*?\*/", " ", path.read_text(encoding="utf-8"), flags=re.S)
+    found = {line.strip() for line in re.findall(r"(?m)^#define (\w+\(?.* .*)$", text) if "VERSION" not in line}
+    text = re.sub(r"(?m)^#.*$|extern \"C\" \{", "", text)
+    for name, members in re.findall(r"enum (\w*) ?\{([^}]*)\}", text):
+        found |= {f"{name}: {' '.join(member.split())}" for member in members.split(",") if member.strip()}
+    text = re.sub(r"enum \w* ?\{[^}]*\};", "", text)
+    return found | {" ".join(one.split()) for one in re.findall(r"struct \w+ \{[^}]*\}|[^;{}]*\([^;{}]*\)", text)}
+
+
+def test_older(count, folder, program):
+    """A program that was compiled with an older header runs with the library, and the header still declares the same."""
+    gone = declarations(TOP / "tests" / "c" / "older" / "sdtool.h") - declarations(TOP / "include" / "sdtool.h")
+    count.add(not gone, f"the header does not declare these any more: {sorted(gone)}")
+    older = folder / "older"
+    words = [COMPILER, *WARNINGS, str(TOP / "tests" / "c" / "older.c"), f"-L{LIBRARIES}", "-lsdtool", "-o", str(older)]
+    compiled = ran(words, "")
+    count.add(compiled.returncode == 0, f"older.c: {compiled.stdout.decode()} {compiled.stderr.decode()}")
+    if compiled.returncode != 0:
+        return
+    sddl = "O:BAG:SYD:(A;OICI;FA;;;WD)\n"
+
+    def answer(*words):
+        return ran([program, words[0], "--from", "sddl", *words[1:]], sddl).stdout.decode()
+
+    layout = answer("convert", "--to", "hex")
+    expected = layout * 2 + answer("convert") + answer("explain", "--numeric")
+    expected += answer("derive", "--to", "hex", "--kind", "container", "--owner", "BA", "--group", "WD")
+    # The rights of FR, which FA has; the second entry is neither enabled nor deny-only; a line and a wrong one.
+    expected += "0 1 0x00120089\n70 3 1\n1 0\nD:\nerror 20 shape\nsid-form\n"
+    expected += f"domain: 70 0 0 1 0 0\nsmall: 71 0 0 0 0 {len(answer('convert')) - 1}\noffset: 8 4 0 0 0 0\n"
+    ended = ran([str(older)], "", env={**os.environ, "LD_LIBRARY_PATH": str(LIBRARIES)})
+    count.add(ended.stdout.decode() == expected and ended.returncode == 0,
+              f"an older program: {ended.stdout.decode()!r} in place of {expected!r} {ended.stderr.decode()}")
 
 
 def test_symbols(count):
@@ -457,14 +531,23 @@ def main():
             compare_calls(count, [plain], arguments.program, lines, "plain")
         checked, _ = built(folder, "calls", "checked", SANITIZERS)
         if checked is not None:
-            compare_calls(count, [checked], arguments.program, rows, "sanitized")
+            compare_calls(count, [*NO_FORKS, checked], arguments.program, rows, "sanitized")
+        if plain is not None:
+            dense = list(densest())
+            compare_calls(count, [plain], arguments.program, (dense, []), "densest")
+            for where in GUARDS:
+                guarded = tuple(of_rows[:40] + of_rows[-40:] for of_rows in (rows[0] + dense, rows[1]))
+                compare_calls(count, ["env", f"GUARD={where}", plain], arguments.program, guarded, f"guard {where}")
+        test_older(count, folder, arguments.program)
         valgrind = [*VALGRIND, str(plain)]
         if plain is not None and shutil.which("valgrind"):
             few = tuple(of_rows[:30] for of_rows in rows)
             compare_calls(count, valgrind, arguments.program, few, "valgrind")
         asked = {job: [*questions_of_rows(job), *random_questions(job, arguments.lines, arguments.program, choices)]
                  for job in ("check", "derive")}
-        runners = [("plain", [plain], None)] * (plain is not None) + [("sanitized", [checked], None)] * (checked is not None)
+        runners = [("plain", [plain], None)] * (plain is not None)
+        runners += [("sanitized", [*NO_FORKS, checked], None)] * (checked is not None)
+        runners += [(f"guard {where}", ["env", f"GUARD={where}", plain], 60) for where in GUARDS if plain is not None]
         runners += [("valgrind", valgrind, 30)] * bool(plain is not None and shutil.which("valgrind"))
         for job, questions in asked.items():
             test_questions(count, runners, job, questions)

@@ -4,9 +4,9 @@
 Tests how much stack the calls of the built library, out/lib, need. include/sdtool.h promises an upper bound.
 
   by the code     No function of libsdtool.a calls itself, directly or by way of others, and none calls through a pointer.
-                  So the stack of a call is that of the longest way down, which is added up from the instructions; it has
-                  to be within the bound. Of the library that reads command lines a few functions call themselves for each
-                  level of commands, of which the program has two; they are counted three times. This reads the
+                  So the stack of a call is that of the longest way down, which is added up from the instructions; with
+                  what malloc and the dynamic linker need it has to be within the bound. Of the library that reads command lines a few functions call themselves for each
+                  level of commands, or of a tree of options; the program has two levels, and they are counted three times. This reads the
                   instructions of x86-64, and is skipped for other processors.
   by running      Each call is made with its largest inputs, by tests/c/calls.c and tests/c/runs.c, on a stack of 64 KiB,
                   below which no byte can be touched. What it used has to be within the bound.
@@ -33,13 +33,18 @@ HEADER = TOP / "include" / "sdtool.h"
 STACK = 64 * 1024
 SECONDS = 300
 MOST_ACL = 65535
-LEVELS = 3  # one more than the program's levels of commands
+LEVELS = 3  # one more than the program's levels of commands, and than those of a tree of its options
+BY_LEVELS = re.compile(r"^clap::|clap\+\+|^std_collections::btree::node::Node::destroy::")
+# What malloc needs, and the dynamic linker where a function is called for the first time.
+BELOW = 6 * 1024
 # What the C library's own functions use, which libsdtool.a calls: those of memory and of blocks.
 OF_C = {"malloc", "free", "realloc", "calloc", "memcpy", "memmove", "memset", "memcmp", "bcmp", "strlen"}
 HEAD = re.compile(r"^[0-9a-f]+ <(.+)>:$")
-LINE = re.compile(r"^\s*([0-9a-f]+):\t(?:lock |rep |data16 |cs |notrack )*(\S+)\s*(.*)$")
-RELOCATION = re.compile(r"^\s+[0-9a-f]+: R_X86_64_(\S+)\s+(\S+)$")
+LINE = re.compile(r"^\s*[0-9a-f]+:\t(?:lock |rep |data16 |cs |notrack )*(\S+)\s*(.*)$")
+RELOCATION = re.compile(r"\t[0-9a-f]+: R_X86_64_\w+\t(.+?)(?:[-+]0x[0-9a-f]+)?$")
 FALLS_DOWN = re.compile(r"^\$0x([0-9a-f]+),%rsp$")
+# A large frame is taken page by page, in a loop down to this place.
+FALLS_TO = re.compile(r"^\$0x([0-9a-f]+),%r11$")
 LEA_DOWN = re.compile(r"^-0x([0-9a-f]+)\(%rsp\),%rsp$")
 
 
@@ -51,13 +56,20 @@ class Function(NamedTuple):
     unknown: list  # instructions that this cannot read
 
 
-def promised():
-    """The bound of the header, in bytes."""
-    return int(re.search(r"needs at most (\d+) KiB of stack", " ".join(HEADER.read_text().split()))[1]) * 1024
+def promised(name):
+    """The bound of the header for a call, in bytes."""
+    text = re.sub(r"\s+(?:\*\s+)?", " ", HEADER.read_text(encoding="utf-8"))
+    of_run, of_others = re.search(r"sdtool_run needs at most (\d+) KiB of stack, each other call at most (\d+) KiB", text).groups()
+    return int(of_run if name == "sdtool_run" else of_others) * 1024
 
 
 def exports():
     return sorted(set(re.findall(r"\b(sdtool_\w+)\(", HEADER.read_text(encoding="utf-8"))))
+
+
+def name_in(section):
+    """The function of a section that has one function, or of a symbol."""
+    return re.sub(r"^\.text\.(unlikely\.)?", "", section)
 
 
 def listed():
@@ -67,34 +79,34 @@ def listed():
     functions, current = {}, None
     for line in text.splitlines():
         if head := HEAD.match(line):
-            current = functions.setdefault(head[1], [])
-        elif current is not None and (relocation := re.search(r"\tR_X86_64_(\S+)\s+(\S+)$|^\s+\S+: R_X86_64_(\S+)\s+(\S+)$",
-                                                              line)):
-            if current:
-                name, operands, _ = current[-1]
-                current[-1] = name, operands, relocation[2] or relocation[4]
-            if found := LINE.match(line.partition("\tR_X86_64_")[0]):
-                current.append((found[2], found[3].partition("#")[0].strip(), relocation[2] or relocation[4]))
-        elif current is not None and (found := LINE.match(line)):
-            current.append((found[2], found[3].partition("#")[0].strip(), None))
+            current = functions.setdefault(name_in(head[1]), [])
+            continue
+        line, *relocations = RELOCATION.split(line)
+        if current is not None and (found := LINE.match(line)):
+            current.append((found[1], found[2].partition("        # ")[0].strip(), relocations[0] if relocations else None))
     return functions
 
 
-def target_of(operands, relocation, addresses):
+def target_of(operands, relocation):
     """The function that a call or a jump leads to, or None where it stays in its own."""
     if relocation:
-        name = re.sub(r"[-+]0x[0-9a-f]+$", "", relocation)
-        return addresses.get(relocation, name)
-    inside = re.search(r"<([^>+]+)(\+0x[0-9a-f]+)?>", operands)
-    return None if inside is None or inside[2] else inside[1]
+        return name_in(relocation)
+    inside = re.search(r"<(.+?)(\+0x[0-9a-f]+)?>$", operands)
+    return None if inside is None or inside[2] else name_in(inside[1])
 
 
-def read(name, instructions, addresses):
-    frame, calls, jumps, unknown = 0, set(), set(), []
+def read(name, instructions):
+    frame, calls, jumps, unknown, previous = 0, set(), set(), [], ""
     pushed = lowered = 0
+    in_loop = False
     for operation, operands, relocation in instructions:
         if operation.startswith("push"):
             pushed += 8
+        elif operation.startswith("sub") and (down := FALLS_TO.match(operands)) and previous == "mov %rsp,%r11":
+            lowered += int(down[1], 16)
+            in_loop = True
+        elif in_loop:
+            in_loop = f"{operation} {operands}" != "cmp %r11,%rsp"
         elif operation.startswith("sub") and (down := FALLS_DOWN.match(operands)):
             size = int(down[1], 16)
             lowered += size if size < 1 << 31 else 0
@@ -104,7 +116,7 @@ def read(name, instructions, addresses):
             if not (operation.startswith("and") or operation.startswith("lea")):
                 unknown.append(f"{operation} {operands}")
         elif operation.startswith("call"):
-            target = target_of(operands, relocation, addresses)
+            target = target_of(operands, relocation)
             if target is None or operands.startswith("*") and relocation is None:
                 unknown.append(f"{operation} {operands}")
             else:
@@ -112,17 +124,18 @@ def read(name, instructions, addresses):
         elif operation.startswith("j"):
             if operands.startswith("*") and relocation is None:
                 continue  # a table of places in this function
-            target = target_of(operands, relocation, addresses)
+            target = target_of(operands, relocation)
             if target is not None and target != name:
                 jumps.add(target)
         frame = max(frame, pushed + lowered)
+        previous = f"{operation} {operands}"
     # The return address of whoever is called.
     return Function(frame + 8, calls, jumps, unknown)
 
 
 def is_by_levels(group):
-    """Whether functions that call each other do so for each level of commands, whatever the words are."""
-    return all(name.startswith("clap::") for name in group)
+    """Whether functions that call each other do so for each level of commands, or of a tree of options."""
+    return all(BY_LEVELS.search(name) for name in group)
 
 
 def groups(functions):
@@ -184,7 +197,7 @@ def test_code(count):
         print("skipped: the code is read by objdump, for x86-64")
         return
     instructions = listed()
-    functions = {name: read(name, found, {}) for name, found in instructions.items()}
+    functions = {name: read(name, found) for name, found in instructions.items()}
     # From the exports alone: what the linker would drop is not called.
     reached, work = set(), exports()
     while work:
@@ -204,7 +217,7 @@ def test_code(count):
     for name, (depth, way) in sorted(depths(functions, lowest_first).items()):
         if name in exports():
             print(f"{name} needs {depth:,} bytes")
-            count.add(depth <= promised(), f"{name} needs {depth} bytes: {' -> '.join(way)}")
+            count.add(depth + BELOW <= promised(name), f"{name} needs {depth} bytes: {' -> '.join(way)}")
 
 
 def sid(*subs):
@@ -250,14 +263,14 @@ def questions(folder):
     yield "derive", f"{big.hex()} {big.hex()} {owner.hex()} {owner.hex()} 1 0\n"
 
 
-def stack_in(count, name, words, data, status):
+def stack_in(count, name, most, words, data, status):
     """Runs a test of tests/c on a small stack, and reads how much a call used."""
     ended = subprocess.run(words, input=data, capture_output=True, timeout=SECONDS, check=False,
                            env={**os.environ, "STACK": str(STACK), "FORKS": "0"})
     found = re.search(rb"^stack (\d+) of (\d+), (\d+) for the thread itself$", ended.stdout, re.M)
     used = int(found[1]) if found else None
     print(f"{name} used {used} bytes" if found else f"{name}: no answer, status {ended.returncode}")
-    count.add(found is not None and ended.returncode == status and used <= promised(),
+    count.add(found is not None and ended.returncode == status and used <= most,
               f"{name} on a stack of {STACK}: {used} bytes, status {ended.returncode} {ended.stderr.decode()[:300]}")
 
 
@@ -270,14 +283,15 @@ def test_running(count):
         if calls is None or runs is None:
             return
         for job, lines in questions(folder):
-            stack_in(count, job, [calls, job], lines.encode(), 0)
+            stack_in(count, job, promised(job), [calls, job], lines.encode(), 0)
         big = largest().hex() + "\n"
         for words, status in ((["convert"], 0), (["explain"], 0), (["convert", "--to", "base64"], 0), (["--help"], 0),
                               (["convert", "--from", "sddl"], 1),
                               (["derive", "--kind", "file", "--owner", "BA", "--group", "BA", "--creator", "D:(A;;FA;;;WD)"], 0),
-                              (["check", "--token", ",".join(["S-1-5-21" + "-4294967295" * 14] * 1024), "--maximum"], 0),
-                              ([f"--x{n}" for n in range(5000)], 2)):
-            stack_in(count, f"run of {' '.join(words)[:40]}", [runs, "once", *words], big.encode() * 3, status)
+                              (["check", "--token", ",".join(["S-1-5-21" + "-4294967295" * 8] * 1024), "--maximum"], 0),
+                              ([f"--x{n}" for n in range(3000)], 2)):
+            stack_in(count, f"run of {' '.join(words)[:40]}", promised("sdtool_run"), [runs, "once", *words],
+                     big.encode() * 3, status)
 
 
 def main():

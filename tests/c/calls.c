@@ -175,7 +175,7 @@ static void try_size(const struct question *in, const struct bytes *answer, size
 
 static void try_sizes(const struct question *in, const struct bytes *answer)
 {
-    size_t step = answer->size <= 300 ? 1 : answer->size / 7;
+    size_t step = answer->size <= 700 ? 1 : answer->size / 7;
 
     for (size_t size = 0; size <= answer->size; size += step)
         try_size(in, answer, size);

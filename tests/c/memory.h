@@ -7,7 +7,7 @@
  *   GUARD=before   each block begins where such a page ends
  *   STACK=SIZE     each call runs on a stack of so many bytes, with such a page below it; how much of it the call that
  *                  needed most has used is printed by print_stack
- *   FORKS=0        no process is forked: valgrind takes what other threads have as lost there
+ *   FORKS=0        no process is forked
  */
 #include <pthread.h>
 #include <stdbool.h>
