@@ -14,9 +14,11 @@ import struct
 import sys
 
 import sdtool
+from sdtool import FileMask
 
-# FILE_WRITE_DATA, FILE_APPEND_DATA, FILE_DELETE_CHILD, DELETE, WRITE_DAC, WRITE_OWNER
-CHANGES = 0x2 | 0x4 | 0x40 | 0x10000 | 0x40000 | 0x80000
+CHANGES = (FileMask.WRITE_DATA | FileMask.APPEND_DATA | FileMask.DELETE_CHILD | FileMask.DELETE | FileMask.WRITE_DAC
+           | FileMask.WRITE_OWNER)
+EVERYONE = sdtool.Sid("WD")
 HEADER = 20
 ATTRIBUTES = ["security.NTACL", "system.ntfs_acl"]
 
@@ -68,28 +70,23 @@ def descriptor_of(path, attributes):
 
 def sids_in(descriptor):
     """The SIDs that may have rights: Everyone, the owner, and those of ACEs that allow."""
-    yield "S-1-1-0"
-    for line in sdtool.explain(descriptor, numeric=True).splitlines():
-        words = line.split()
-        if words[0] == "owner" and words[1] != "none" or words[0] == "dacl" and words[2:3] in (["A"], ["OA"]):
-            yield words[-1]
-
-
-def bytes_of(sid):
-    """A SID in binary: what follows the header of a descriptor that has only this owner."""
-    return sdtool.from_sddl("O:" + sid)[HEADER:]
+    yield EVERYONE
+    if descriptor.owner is not None:
+        yield descriptor.owner
+    if descriptor.dacl.is_list:
+        yield from (ace.sid for ace in descriptor.dacl if ace.kind in (sdtool.AceKind.A, sdtool.AceKind.OA))
 
 
 def may_change(descriptor, sid):
     """Whether a token with this SID and Everyone may change the file."""
-    verdict = sdtool.check(descriptor, [bytes_of("S-1-1-0"), bytes_of(sid)], maximum=True)
+    verdict = descriptor.check(sdtool.Token([EVERYONE, sid]), maximum=True)
     return verdict.granted and verdict.mask & CHANGES != 0
 
 
 def answer(path, attributes):
-    descriptor = descriptor_of(path, attributes)
+    descriptor = sdtool.SecurityDescriptor.from_bytes(descriptor_of(path, attributes))
     sids = dict.fromkeys(sids_in(descriptor))  # each once
-    return ", ".join(sid for sid in sids if may_change(descriptor, sid)) or "nobody"
+    return ", ".join(str(sid) for sid in sids if may_change(descriptor, sid)) or "nobody"
 
 
 def tell(path, text):
