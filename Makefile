@@ -18,7 +18,7 @@ SOURCES := crates.txt $(shell find crates -path '*/out' -prune -o -path '*/must-
 
 need_toolchain = $(if $(shell command -v rt 2>&1),,$(error the Rattle toolchain is missing: there is no command 'rt' on the PATH))
 
-.PHONY: help program library run quick check rows test edits figures bench bench-library install uninstall deb dist clean
+.PHONY: help program library run quick check rows test edits figures bench bench-library install uninstall deb dist page clean
 
 # The first target, so `make` alone lists the targets.
 help:
@@ -38,6 +38,7 @@ help:
 	@echo 'make install           installs the program, its man page, documents and completions below PREFIX ($(PREFIX)),'
 	@echo '                       and the library for C, its header and its pkg-config file; libraries go to LIBDIR ($(LIBDIR))'
 	@echo 'make uninstall         removes them again'
+	@echo 'make page              builds out/sdtool.html, the page that shows permissions, of the module that make wasm builds (seconds)'
 	@echo 'make deb               builds Debian packages of them in out/ (seconds if program and library are built)'
 	@echo 'make dist              builds one archive of them in out/, with checksums (seconds if both are built)'
 	@echo 'make clean             removes what was built'
@@ -121,6 +122,13 @@ uninstall:
 	rm -f $(foreach file,libsdtool.a libsdtool.so $(SONAME) libsdtool.so.$(VERSION),'$(DESTDIR)$(LIBDIR)/$(file)')
 	rm -f $(foreach file,$(COMPLETIONS),'$(DESTDIR)$(PREFIX)/share/$(file)')
 	rm -rf '$(DESTDIR)$(DOCUMENTS)'
+
+# The page has the module inside.
+PAGE_MODULE := out/systems/wasm/sdtool.wasm
+
+page: $(filter wasm,$(SYSTEMS))
+	$(if $(wildcard $(PAGE_MODULE) $(filter wasm,$(SYSTEMS))),,$(error the page needs $(PAGE_MODULE)))
+	web/build.py $(PAGE_MODULE) javascript/sdtool.mjs out/sdtool.html
 
 # Package the tree that install makes.
 deb: program library

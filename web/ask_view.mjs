@@ -1,0 +1,142 @@
+// The second view: what a token gets, and what decided about each right.
+import {bitsOf} from "./access.mjs";
+import {area, box, button, byId, input, labelled, make, select, show} from "./dom.mjs";
+import {maskText} from "./library.mjs";
+import {reasonKey} from "./look_view.mjs";
+import {faultInWords, rightName, rightsInWords, rightsOf, visible} from "./naming.mjs";
+import {commaed, plainName} from "./parts_view.mjs";
+import {say, WORDS} from "./words.mjs";
+
+function tokenButtons(asked, refresh) {
+    const add = (text) => () => {
+        const token = byId("ask-token");
+        token.value = token.value.trim() ? `${token.value.trim().replace(/,$/, "")},${text}` : text;
+        asked.token = token.value;
+        refresh();
+    };
+    return make("p", {class: "adds"}, WORDS.ask.add, " ",
+        Object.entries(WORDS.ask.groups).map(([alias, name]) => [button(name, add(alias), {class: "add"}), " "]));
+}
+
+function rightBoxes(asked, kind, refresh) {
+    return rightsOf(kind).map(
+        (right) => box(`ask-right-${right.bit}`, right.name, asked.rights.includes(right.bit), (checked) => {
+            asked.rights = checked ? [...asked.rights, right.bit] : asked.rights.filter((bit) => bit !== right.bit);
+            refresh();
+        }));
+}
+
+// The rights to choose from are those of the kind of object, so they change with it.
+export function showAskRights(asked, kind, refresh) {
+    const known = rightsOf(kind).map((right) => right.bit);
+    asked.rights = asked.rights.filter((bit) => known.includes(bit));
+    show(byId("ask-rights"), rightBoxes(asked, kind, refresh));
+}
+
+export function makeAsk(asked, refresh) {
+    const set = (name) => (value) => {
+        asked[name] = value;
+        refresh();
+    };
+    return [
+        make("h2", {id: "ask-heading"}, WORDS.ask.heading),
+        make("div", {class: "split"},
+            make("div", {class: "form"},
+                labelled(WORDS.ask.token,
+                    area("ask-token", asked.token, set("token"), {"aria-describedby": "ask-token-hint"}),
+                    WORDS.ask.tokenHint),
+                tokenButtons(asked, refresh), make("p", {class: "hint"}, WORDS.ask.note),
+                box("ask-maximum", WORDS.ask.maximum, asked.maximum, set("maximum")),
+                make("fieldset", {}, make("legend", {}, WORDS.ask.rights),
+                    make("div", {id: "ask-rights", class: "boxes"}),
+                    labelled(WORDS.ask.want,
+                        input("ask-want", asked.want, set("want"), {"aria-describedby": "ask-want-hint"}),
+                        WORDS.ask.wantHint)),
+                make("div", {class: "row"},
+                    labelled(WORDS.ask.level, select("ask-level", orderedLevels(), asked.level, set("level"))),
+                    labelled(WORDS.ask.self, input("ask-self", asked.self, set("self")))),
+                make("fieldset", {}, make("legend", {}, WORDS.ask.privileges),
+                    make("div", {class: "boxes"},
+                        box("ask-take", WORDS.ask.takeOwnership, asked.takeOwnership, set("takeOwnership")),
+                        box("ask-security", WORDS.ask.security, asked.security, set("security"))))),
+            make("div", {id: "ask-result", role: "status", "aria-live": "polite"})),
+    ];
+}
+
+// Numbers would come first in an object, so the two words are put before them.
+const orderedLevels = () => {
+    const {"": none, listed, ...levels} = WORDS.ask.levels;
+    return Object.assign(Object.create(null), {"": none, listed},
+        Object.fromEntries(Object.entries(levels).map(([level, text]) => [` ${level}`, text])));
+};
+
+const faultsOf = (result) => [result.tokenFaults?.length ? say(WORDS.ask.tokenFault, {
+    what: commaed(result.tokenFaults.slice(0, 8).map(
+        ({text, number, faultName}) => `${visible(text.slice(0, 60))} (error ${number} ${faultName})`))
+}) :
+                                                           null,
+    result.wantedFault ? WORDS.ask.wantFault : null,
+    result.selfFault ? WORDS.ask.selfFault : null,
+    result.objectFault ? WORDS.objectFault : null,
+    result.isNobody ? WORDS.ask.nobody : null,
+    result.isTooMany ? WORDS.ask.tooMany : null,
+    result.refused ? faultInWords({number: result.refused}) : null,
+].filter(Boolean);
+
+function verdictText({verdict}, kind) {
+    const words = commaed(rightsInWords(kind, verdict.mask));
+    if (verdict.granted) {
+        return say(WORDS.ask.all, {rights: words});
+    }
+    return verdict.mask === 0 ? WORDS.ask.nothing : say(WORDS.ask.missing, {rights: words});
+}
+
+function reasonRow(reason, kind, texts) {
+    const {columns} = WORDS.ask;
+    const state = reason.isGranted ? "granted" : "denied";
+    const short = say(WORDS.reasons.short[reasonKey(reason.by)], {number: reason.number});
+    return make("tr", {
+        class: `reason ${reason.isGranted ? "allow" : "deny"}`,
+        "data-bit": reason.bit,
+        "data-by": reason.by,
+        "data-number": reason.number
+    },
+        make("th", {scope: "row", "data-label": columns.right}, rightName(kind, reason.bit), " ",
+            make("code", {class: "mask"}, maskText(reason.bit)),
+            reason.isWanted ? make("span", {class: "tag"}, WORDS.ask.wanted) : null),
+        make("td", {"data-label": columns.state}, make("span", {class: "badge"}, WORDS.ask[state])),
+        make("td", {"data-label": columns.reason}, short),
+        make(
+            "td", {"data-label": columns.text}, reason.number ? make("code", {}, texts[reason.number - 1] ?? "") : ""));
+}
+
+function tokenLine(result, names) {
+    const entries = result.entries.slice(0, 40).map((entry) => {
+        const name = entry.name ? visible(entry.name) : plainName(entry.sid, names);
+        return entry.denyOnly ? say(WORDS.ask.denyOnly, {who: name}) : name;
+    });
+    return make("p", {}, say(WORDS.ask.tokenIs, {who: commaed(entries)}), result.entries.length > 40 ? " .." : "");
+}
+
+export function showAsk(result, {kind, names, texts}) {
+    const place = byId("ask-result");
+    const faults = faultsOf(result);
+    if (faults.length) {
+        show(place, faults.map((fault) => make("p", {class: "fault-name"}, fault)));
+        return;
+    }
+    const {columns} = WORDS.ask;
+    const isGranted = result.verdict.granted;
+    show(place,
+        make("p", {class: `verdict ${isGranted ? "allow" : "deny"}`},
+            make("strong", {}, isGranted ? WORDS.ask.granted : WORDS.ask.denied), " ",
+            make("code", {}, `${isGranted ? "granted" : "denied"} ${maskText(result.verdict.mask)}`)),
+        make("p", {}, verdictText(result, kind)), tokenLine(result, names),
+        make("div", {class: "scroll", tabindex: "0", role: "region", "aria-label": columns.reason},
+            make("table", {class: "reasons"},
+                make("thead", {},
+                    make("tr", {}, Object.values(columns).map((text) => make("th", {scope: "col"}, text)))),
+                make("tbody", {}, result.reasons.map((reason) => reasonRow(reason, kind, texts))))));
+}
+
+export const bitsInWords = (kind, mask) => bitsOf(mask).map((bit) => rightName(kind, bit));

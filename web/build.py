@@ -1,0 +1,130 @@
+#!/usr/bin/env python3
+"""build.py MODULE LIBRARY PAGE
+
+Puts the page together: one file, PAGE, of web/page.html, web/page.css, the ES modules of web/ from main.mjs on, the
+file LIBRARY (sdtool.mjs) and the file MODULE (sdtool.wasm), compressed and in base64. It leaves out comments and
+indentation, and changes nothing else but how a module gets what another exports: each becomes a function that is called
+once, in the order in which a browser would. The script is no module, since browsers refuse modules in workers of a page
+from a disk; so it has no import.meta.
+The page's policy allows this script and this style alone, by their hashes.
+"""
+import argparse
+import base64
+import gzip
+import hashlib
+import pathlib
+import re
+
+FOLDER = pathlib.Path(__file__).resolve().parent
+FIRST = "main.mjs"
+MOST = 1_000_000  # bytes of the page
+MOST_PACKED = 300_000
+IMPORT = re.compile(r'^import \{([^}]*)\} from "([^"]+)";\n', re.M)
+EXPORTED = re.compile(r"^export ((?:async )?(?:function|class|const|let)) ([A-Za-z_$][\w$]*)", re.M)
+EXPORTS = re.compile(r"^export \{([^}]*)\};\n", re.M)
+# What only a reader of the sources needs: comments that have lines of their own, and indentation.
+FOR_READERS = re.compile(r"^[ \t]*//.*\n|^[ \t]*/\*\*(?:.|\n)*?\*/\n|^[ \t]+", re.M)
+LEFT = re.compile(r"^(?:import|export)\b", re.M)
+
+
+def names_in(text):
+    return [name.strip() for name in text.replace("\n", " ").split(",") if name.strip()]
+
+
+def renamed(name):
+    """The form of a name of an import in a pattern: 'a as b' is 'a: b'."""
+    return re.sub(r"^(\S+) as (\S+)$", r"\1: \2", name)
+
+
+class Modules:
+    """The modules that the first one needs, each behind those that it imports."""
+
+    def __init__(self, library):
+        self.library = library
+        self.texts = {}
+        self.began = set()
+
+    def path(self, place):
+        name = place.rsplit("/", 1)[-1]
+        return self.library if name == self.library.name else FOLDER / name
+
+    def add(self, name):
+        if name in self.texts:
+            return
+        if name in self.began:
+            raise SystemExit(f"{name} imports itself")
+        self.began.add(name)
+        text = self.path(name).read_text(encoding="utf-8")
+        for found in IMPORT.finditer(text):
+            self.add(found[2].rsplit("/", 1)[-1])
+        self.texts[name] = wrapped(name, text)
+
+    def script(self):
+        return '\n"use strict";\nconst modules = {};\n' + "".join(self.texts.values())
+
+
+def wrapped(name, text):
+    """A module as a function that gives what it exports."""
+    exports = [found[2] for found in EXPORTED.finditer(text)]
+    exports += [one for found in EXPORTS.finditer(text) for one in names_in(found[1])]
+    text = IMPORT.sub(
+        lambda found: f"const {{ {', '.join(map(renamed, names_in(found[1])))} }} = "
+        f'modules["{found[2].rsplit("/", 1)[-1]}"];\n',
+        text,
+    )
+    text = EXPORTS.sub("", EXPORTED.sub(r"\1 \2", text)).replace("import.meta.url", "location.href")
+    text = FOR_READERS.sub("", text)
+    if LEFT.search(text):
+        raise SystemExit(f"{name} has an import or an export of a form that this script does not know")
+    return f'modules["{name}"] = (() => {{\n{text}return {{ {", ".join(exports)} }};\n}})();\n'
+
+
+def hash_of(text):
+    return "'sha256-" + base64.b64encode(hashlib.sha256(text.encode()).digest()).decode() + "'"
+
+
+def policy(script, style):
+    return "; ".join(
+        [
+            "default-src 'none'",
+            f"script-src {hash_of(script)} 'wasm-unsafe-eval'",
+            f"style-src {hash_of(style)}",
+            "worker-src blob:",
+            "base-uri 'none'",
+            "form-action 'none'",
+            "require-trusted-types-for 'script'",
+            "trusted-types worker",
+        ]
+    )
+
+
+def page(module, library):
+    modules = Modules(library)
+    modules.add(FIRST)
+    script = modules.script()
+    style = "\n" + (FOLDER / "page.css").read_text(encoding="utf-8")
+    if re.search(r"</(?:script|style)|<!--", script + style, re.I):
+        raise SystemExit("a script or the style has a text that would end it")
+    packed = base64.b64encode(gzip.compress(module, 9, mtime=0)).decode()
+    parts = {"POLICY": policy(script, style), "STYLE": style, "MODULE": packed, "SCRIPT": script}
+    template = (FOLDER / "page.html").read_text(encoding="utf-8")
+    return re.sub(r"@([A-Z]+)@", lambda found: parts[found[1]], template).encode()
+
+
+def main():
+    parser = argparse.ArgumentParser(description=__doc__.split("\n\n")[1])
+    parser.add_argument("module", type=pathlib.Path)
+    parser.add_argument("library", type=pathlib.Path)
+    parser.add_argument("page", type=pathlib.Path)
+    given = parser.parse_args()
+    built = page(given.module.read_bytes(), given.library)
+    packed = len(gzip.compress(built, 9))
+    if len(built) > MOST or packed > MOST_PACKED:
+        raise SystemExit(f"the page has {len(built)} bytes, {packed} packed: more than {MOST} or {MOST_PACKED}")
+    given.page.parent.mkdir(parents=True, exist_ok=True)
+    given.page.write_bytes(built)
+    print(f"{given.page}: {len(built)} bytes, {packed} packed")
+
+
+if __name__ == "__main__":
+    main()

@@ -1,0 +1,138 @@
+// What differs between two descriptors. Same content means the same canonical layout; rights are answers of check.
+import {DECIDING, grantedOf, rightsOfMapping, tokenOf, tokenSids} from "./access.mjs";
+import {guidBytes, hexOf, piecesOf} from "./library.mjs";
+
+const MOST_CELLS = 4_000_000; // of the table that finds what two lists have in common
+const OWNER_RIGHTS = "S-1-3-4";
+
+// The pairs of places of a longest common subsequence of two lists.
+function commonOf(one, other) {
+    let from = 0;
+    while (from < one.length && from < other.length && one[from] === other[from]) {
+        from += 1;
+    }
+    const [rows, columns] = [one.length - from, other.length - from];
+    const pairs = Array.from({length: from}, (_, at) => [at, at]);
+    if (rows * columns > MOST_CELLS) {
+        return pairs; // the rest counts as moved, which is true of any order
+    }
+    const width = columns + 1;
+    const lengths = new Uint32Array((rows + 1) * width);
+    for (let row = rows - 1; row >= 0; row -= 1) {
+        for (let column = columns - 1; column >= 0; column -= 1) {
+            lengths[row * width + column] = one[from + row] === other[from + column] ?
+                lengths[(row + 1) * width + column + 1] + 1 :
+                Math.max(lengths[(row + 1) * width + column], lengths[row * width + column + 1]);
+        }
+    }
+    let [row, column] = [0, 0];
+    while (row < rows && column < columns) {
+        if (one[from + row] === other[from + column]) {
+            pairs.push([from + row, from + column]);
+            row += 1;
+            column += 1;
+        } else if (lengths[(row + 1) * width + column] >= lengths[row * width + column + 1]) {
+            row += 1;
+        } else {
+            column += 1;
+        }
+    }
+    return pairs;
+}
+
+// Takes pairs of places out of two sets of places, wherever SAME holds.
+function takePairs(ones, others, same) {
+    const pairs = [];
+    for (const one of [...ones]) {
+        const other = [...others].find((place) => same(one, place));
+        if (other !== undefined) {
+            pairs.push([one, other]);
+            ones.delete(one);
+            others.delete(other);
+        }
+    }
+    return pairs;
+}
+
+const trusteeOf = (ace) => `${ace.kind} ${ace.sid}`;
+
+function compareAces(ones, others) {
+    const same = commonOf(ones.texts, others.texts);
+    const left = new Set(ones.texts.keys());
+    const right = new Set(others.texts.keys());
+    for (const [one, other] of same) {
+        left.delete(one);
+        right.delete(other);
+    }
+    const moved = takePairs(left, right, (one, other) => ones.texts[one] === others.texts[other]);
+    const changed = takePairs(left, right, (one, other) => trusteeOf(ones.aces[one]) === trusteeOf(others.aces[other]));
+    const row = (state) => ([one, other]) => ({state, one: ones.aces[one] ?? null, other: others.aces[other] ?? null});
+    return [
+        ...same.map(row("same")),
+        ...moved.map(row("moved")),
+        ...changed.map(row("changed")),
+        ...[...left].map((one) => row("removed")([one, -1])),
+        ...[...right].map((other) => row("added")([-1, other])),
+    ].sort((one, other) => placeOf(one) - placeOf(other));
+}
+
+const placeOf = ({one, other}) => (other ?? one).number + (other ? 0 : -0.5);
+
+const listOf = (side, list) => ({texts: side.pieces[list]?.aces ?? [], aces: side.model[list].aces});
+
+const flagsOf = (acl) => (acl === null ? "absent" : acl.flags);
+
+function trusteesOf(sides) {
+    const trustees = new Map();
+    for (const {model} of sides) {
+        const aces = model.dacl.aces.filter((ace) => DECIDING.includes(ace.kind) && ace.sid !== OWNER_RIGHTS);
+        for (const who of [model.owner, ...aces].filter(Boolean)) {
+            trustees.set(who.sid, {sid: who.sid, alias: who.alias ?? trustees.get(who.sid)?.alias ?? null});
+        }
+    }
+    return [...trustees.values()];
+}
+
+// For each trustee of either the rights that check grants to the token of its row in the grid.
+function compareRights(library, sides, {mapping, object, common}) {
+    const rights = rightsOfMapping(library, mapping);
+    const request = {mapping, objectType: guidBytes(library, object)};
+    return trusteesOf(sides).map((who) => {
+        const [one, other] = sides.map(({descriptor, model}) => grantedOf(library, descriptor,
+                                           tokenOf(library, tokenSids(who.sid, model, common)), request, rights));
+        return {...who, one, other, gained: (other & ~one) >>> 0, lost: (one & ~other) >>> 0};
+    });
+}
+
+// SIDES are two of {descriptor, model}.
+export function compare(library, sides, options) {
+    const both = sides.map((side) => ({...side, pieces: piecesOf(library, side.descriptor)}));
+    const [one, other] = both;
+    const parts = ["owner", "group"].map((part) => ({
+        part,
+        one: one.model[part],
+        other: other.model[part],
+        isSame: one.model[part]?.sid === other.model[part]?.sid
+    }));
+    const flags = ["dacl", "sacl"].map((part) => ({
+        part,
+        one: flagsOf(one.pieces[part]),
+        other: flagsOf(other.pieces[part]),
+        isSame: flagsOf(one.pieces[part]) === flagsOf(other.pieces[part])
+    }));
+    return {
+        isSame: hexOf(library.normalize(one.descriptor)) === hexOf(library.normalize(other.descriptor)),
+        control: {
+            one: one.model.codes,
+            other: other.model.codes,
+            oneWord: one.model.control,
+            otherWord: other.model.control
+        },
+        manager: {one: one.model.manager, other: other.model.manager},
+        parts,
+        flags,
+        dacl: compareAces(listOf(one, "dacl"), listOf(other, "dacl")),
+        sacl: compareAces(listOf(one, "sacl"), listOf(other, "sacl")),
+        rights: compareRights(library, both, options),
+    };
+}

@@ -1,0 +1,129 @@
+// Elements. Whatever a text holds, it becomes a text node: there is no way here to make markup of it.
+
+const SVG_FREE = /^(?:on|style$|src|href$|srcdoc$)/i; // attributes that could run or load something
+
+function setAttribute(element, name, value) {
+    if (value === null || value === undefined || value === false) {
+        return;
+    }
+    if (name.startsWith("on") && typeof value === "function") {
+        element.addEventListener(name.slice(2), value);
+        return;
+    }
+    if (SVG_FREE.test(name)) {
+        throw new RangeError(`not an attribute for a text: ${name}`);
+    }
+    element.setAttribute(name, value === true ? "" : String(value));
+}
+
+// An element with attributes, listeners ({onclick}) and children: elements, texts, lists of them, or nothing.
+export function make(name, attributes = {}, ...children) {
+    const element = document.createElement(name);
+    for (const [attribute, value] of Object.entries(attributes)) {
+        setAttribute(element, attribute, value);
+    }
+    element.append(...children.flat(Infinity)
+                       .filter((child) => child !== null && child !== undefined && child !== false)
+                       .map((child) => (child instanceof Node ? child : document.createTextNode(String(child)))));
+    return element;
+}
+
+export const byId = (id) => document.getElementById(id);
+
+export function show(element, ...children) {
+    element.replaceChildren(...children.flat(Infinity).filter(Boolean));
+    element.hidden = element.childNodes.length === 0;
+}
+
+// A control with its label.
+export function labelled(text, control, hint) {
+    const id = control.id;
+    return make("div", {class: "field"}, make("label", { for: id
+    }, text), control, hint ? make("small", {class: "hint", id: `${id}-hint`}, hint) : null);
+}
+
+export function select(id, options, value, onchange) {
+    const list = make("select", {id, onchange: (event) => onchange(event.target.value)},
+        Object.entries(options).map(([key, text]) => make("option", {value: key}, text)));
+    list.value = value;
+    return list;
+}
+
+export function input(id, value, oninput, attributes = {}) {
+    const field = make("input", {
+        id,
+        type: "text",
+        autocomplete: "off",
+        spellcheck: "false",
+        ...attributes,
+        oninput: (event) => oninput(event.target.value)
+    });
+    field.value = value;
+    return field;
+}
+
+export function area(id, value, oninput, attributes = {}) {
+    const field = make("textarea", {
+        id,
+        rows: 3,
+        autocomplete: "off",
+        autocapitalize: "off",
+        spellcheck: "false",
+        ...attributes,
+        oninput: (event) => oninput(event.target.value)
+    });
+    field.value = value;
+    return field;
+}
+
+export function box(id, text, checked, onchange) {
+    const field = make("input", {id, type: "checkbox", onchange: (event) => onchange(event.target.checked)});
+    field.checked = checked;
+    return make("div", {class: "check"}, field, make("label", { for: id
+    }, text));
+}
+
+export const button = (text, onclick, attributes = {}) =>
+    make("button", {type: "button", ...attributes, onclick}, text);
+
+// The first rows of a long list, and a button for more, so that thousands of rows never stop the page.
+export function someRows(body, items, makeRow, moreText, step = 60) {
+    let shown = 0;
+    const place = make("div", {class: "more"});
+    const add = () => {
+        body.append(...items.slice(shown, shown + step).map(makeRow));
+        shown = Math.min(items.length, shown + step);
+        const left = items.length - shown;
+        place.replaceChildren(...(left > 0 ? [button(moreText(Math.min(step, left)), add)] : []));
+    };
+    add();
+    return place;
+}
+
+// Arrow keys move between the cells of a grid, of which one at a time is in the order of the Tab key.
+export function moveByArrows(table) {
+    const cells = () => [...table.querySelectorAll("tbody tr")].map((row) => [...row.querySelectorAll("button.cell")]);
+    const focus = (cell) => {
+        table.querySelectorAll("button.cell[tabindex='0']").forEach((other) => other.setAttribute("tabindex", "-1"));
+        cell.setAttribute("tabindex", "0");
+        cell.focus();
+    };
+    table.addEventListener("keydown", (event) => {
+        const rows = cells();
+        const row = rows.findIndex((all) => all.includes(document.activeElement));
+        const column = row < 0 ? -1 : rows[row].indexOf(document.activeElement);
+        const last = row < 0 ? 0 : rows[row].length - 1;
+        const target = row < 0 ? null : {
+            ArrowRight: rows[row][Math.min(last, column + 1)],
+            ArrowLeft: rows[row][Math.max(0, column - 1)],
+            ArrowDown: rows[Math.min(rows.length - 1, row + 1)][column],
+            ArrowUp: rows[Math.max(0, row - 1)][column],
+            Home: rows[row][0],
+            End: rows[row][last],
+        }[event.key];
+        if (target) {
+            event.preventDefault();
+            focus(target);
+        }
+    });
+}

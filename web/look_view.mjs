@@ -1,0 +1,315 @@
+// The first view: who can do what, warnings, a grid of rights, and the descriptor in words beside the exact text.
+import {cellOf, has} from "./access.mjs";
+import {button, byId, make, moveByArrows, show, someRows} from "./dom.mjs";
+import {groupMask, guidInWords, rightName, rightsInWords, rightsOf, visible} from "./naming.mjs";
+import {aceTable, commaed, faultBox, plainName, who} from "./parts_view.mjs";
+import {say, WORDS} from "./words.mjs";
+
+const STAND_IN_DOMAIN = "S-1-5-21-0-0-0";
+const MOST_ROWS = 40; // of the grid, until more are asked for
+
+const heading = (text, id) => make("h2", {id}, text);
+
+function bucketOf(row, kind) {
+    const {granted} = row;
+    if ((granted & groupMask(kind, "control")) !== 0) {
+        return "control";
+    }
+    if ((granted & groupMask(kind, "change")) !== 0) {
+        return "change";
+    }
+    if (row.typed.some(({mask}) => (mask & groupMask(kind, "change")) !== 0)) {
+        return "parts";
+    }
+    if ((granted & groupMask(kind, "read")) !== 0) {
+        return "read";
+    }
+    return granted !== 0 ? "other" : "none";
+}
+
+function card(row, kind, bucket, rights, names) {
+    const gets = has(row.granted, rights) ? WORDS.summary.full : commaed(rightsInWords(kind, row.granted));
+    return make("li", {class: "card"}, who(row.sid, row.alias, names),
+        bucket === "none" || row.granted === 0 ? null : make("span", {class: "gets"}, gets),
+        row.typed.slice(0, 8).map(({object, mask}) => make("span", {class: "gets"},
+                                      `${commaed(rightsInWords(kind, mask))}: ${guidInWords(object)}`)),
+        row.byRule !== 0 && row.isOwner ? make("span", {class: "tag"}, WORDS.summary.byOwner) : null);
+}
+
+function summary(result, kind, names) {
+    const {grid} = result;
+    const {summary: words} = WORDS;
+    if (!grid.isList) {
+        return make("section", {class: "summary danger", "aria-labelledby": "summary-heading"},
+            heading(words.heading, "summary-heading"), make("p", {class: "everyone"}, words.everyone),
+            make("p", {}, words.everyoneWhy));
+    }
+    const buckets = ["control", "change", "parts", "read", "other", "none"].map(
+        (bucket) => [bucket, grid.rows.filter((row) => bucketOf(row, kind) === bucket)]);
+    return make("section", {class: "summary", "aria-labelledby": "summary-heading"},
+        heading(words.heading, "summary-heading"),
+        make("div", {class: "buckets"},
+            buckets.filter(([bucket, rows]) => rows.length > 0 || ["control", "change"].includes(bucket))
+                .map(([bucket, rows]) => make("div", {class: `bucket ${bucket}`}, make("h3", {}, words[bucket]),
+                         make("p", {class: "hint"}, words[`${bucket}Hint`]),
+                         rows.length === 0 ? make("p", {class: "nobody"}, words.nobody) :
+                                             bucketList(rows, kind, bucket, grid.rights, names)))));
+}
+
+function bucketList(rows, kind, bucket, rights, names) {
+    const list = make("ul");
+    const more = someRows(
+        list, rows, (row) => card(row, kind, bucket, rights, names), (count) => say(WORDS.grid.more, {count}), 12);
+    return [list, more];
+}
+
+const acesInWords = (numbers) =>
+    say(numbers.length === 1 ? WORDS.acesOne : WORDS.acesMany, {numbers: commaed(numbers)});
+
+function warningText(warning, kind, names) {
+    const {key, numbers = []} = warning;
+    return say(WORDS.warnings[key], {
+        who: warning.who ? plainName(warning.who, names) : "",
+        rights: warning.mask ? commaed(rightsInWords(kind, warning.mask)) : "",
+        number: numbers[0],
+        first: numbers[0],
+        second: numbers[1],
+        aces: acesInWords(numbers),
+        why: warning.why ? WORDS.useless[warning.why] : "",
+        count: warning.count ?? warning.domains?.length,
+        domains: warning.domains ? commaed(warning.domains) : "",
+        object: warning.object ? guidInWords(warning.object) : "",
+        policy: warning.policy ?
+            commaed(warning.policy.match(/N[WRX]/g)?.map((name) => WORDS.label[name]) ?? [WORDS.label.none]) :
+            "",
+    });
+}
+
+function warnings(result, kind, names) {
+    const list = make("ul", {class: "warnings"});
+    const more = someRows(list, result.warnings,
+        (warning) => make("li", {class: `warning ${warning.level}`},
+            make("span", {class: "badge"}, WORDS.warningLevels[warning.level]), " ", warningText(warning, kind, names),
+            (warning.numbers ?? []).slice(0, 8).map((number) => [" ", jumpTo(warning.list ?? "dacl", number)])),
+        (count) => say(WORDS.grid.more, {count}), 20);
+    return make("section", {"aria-labelledby": "warnings-heading"}, heading(WORDS.warningsHeading, "warnings-heading"),
+        result.warnings.length ? [list, more] : make("p", {}, WORDS.noWarnings));
+}
+
+function jumpTo(list, number) {
+    return button(`${list === "sacl" ? "SACL " : ""}${number}`, () => markAce(list, number),
+        {class: "jump", "aria-label": say(WORDS.error.ace, {number, part: WORDS.parts[list]})});
+}
+
+function markAce(list, number) {
+    document.querySelectorAll("tr.ace.found").forEach((row) => row.classList.remove("found"));
+    const row = byId(`${list}-${number}`);
+    if (row) {
+        row.classList.add("found");
+        row.scrollIntoView({block: "center"});
+        row.focus({preventScroll: true});
+    }
+}
+
+const stateWord = (state, grid) =>
+    (state === "rule" ? (grid.isList ? WORDS.grid.ruleOwner : WORDS.grid.ruleNoDacl) : WORDS.grid.states[state]);
+
+function gridCell(row, right, context, isFirst) {
+    const {names, grid} = context;
+    const state = cellOf(row, right.bit);
+    const text =
+        say(WORDS.grid.cell, {who: plainName(row.sid, names), right: right.name, state: stateWord(state, grid)});
+    return make("td", {class: `state ${state} group-${right.group}`},
+        button(WORDS.grid.signs[state], (event) => context.onCell(row, right, event.currentTarget), {
+            class: "cell",
+            "aria-label": text,
+            title: text,
+            tabindex: isFirst ? "0" : "-1",
+            "data-sid": row.sid,
+            "data-bit": right.bit,
+            "data-state": state
+        }));
+}
+
+function gridRow(row, rights, context, isFirst) {
+    return make("tr", {"data-token": row.token.join(" ")},
+        make("th", {scope: "row"}, who(row.sid, row.alias, context.names),
+            row.isOwner ? make("span", {class: "tag"}, WORDS.grid.owner) : null),
+        rights.map((right, column) => gridCell(row, right, context, isFirst && column === 0)));
+}
+
+function groupHeadings(rights) {
+    const groups = [...new Set(rights.map((right) => right.group))];
+    return make("tr", {}, make("td"),
+        groups.map((group) => make("th", {
+            scope: "colgroup",
+            class: `group-${group}`,
+            colspan: rights.filter((right) => right.group === group).length
+        },
+                       WORDS.grid.groups[group])));
+}
+
+function gridSection(result, context) {
+    const {grid} = result;
+    const {kind, isCommon} = context;
+    const rights = rightsOf(kind).filter((right) => has(grid.rights, right.bit));
+    const body = make("tbody");
+    const caption = `${WORDS.grid.caption} ${isCommon ? WORDS.grid.tokenCommon : WORDS.grid.tokenAlone}`;
+    const table = make("table", {class: "grid", "aria-labelledby": "grid-heading", "aria-describedby": "grid-hint"},
+        make("thead", {}, groupHeadings(rights),
+            make("tr", {}, make("th", {scope: "col"}, WORDS.grid.trustee),
+                rights.map((right) => make("th", {scope: "col", class: `group-${right.group}`, title: right.name},
+                               make("span", {}, right.short))))),
+        body);
+    const more = someRows(body, grid.rows.map((row, index) => [row, index]),
+        ([row, index]) => gridRow(row, rights, {...context, grid}, index === 0),
+        (count) => say(WORDS.grid.more, {count}), MOST_ROWS);
+    moveByArrows(table);
+    return make("section", {"aria-labelledby": "grid-heading"}, heading(WORDS.grid.heading, "grid-heading"),
+        legend(grid), make("p", {class: "hint", id: "grid-hint"}, caption),
+        grid.isTooLong ? make("p", {}, WORDS.grid.tooLong) : null,
+        make("div", {class: "scroll", tabindex: "0", role: "region", "aria-labelledby": "grid-heading"}, table), more,
+        grid.left ? make("p", {}, button(WORDS.grid.all, context.onAll, {id: "grid-all"})) : null,
+        make("div", {id: "why", class: "why", role: "status", "aria-live": "polite"}));
+}
+
+const legend = (grid) => make("p", {class: "legend", "aria-hidden": "true"},
+    ["granted", "rule", "denied", "none"].map(
+        (state) => make(
+            "span", {class: `key ${state}`}, make("b", {}, WORDS.grid.signs[state]), ` ${stateWord(state, grid)}`)));
+
+const REASON_KEYS = {
+    "no-dacl": "noDacl",
+    "no-privilege": "noPrivilege"
+};
+export const reasonKey = (by) => REASON_KEYS[by] ?? by;
+
+// In a sentence what decided about a right.
+export function reasonInWords(reason, name, kind, texts) {
+    const {reasons} = WORDS;
+    return say(reasons[reasonKey(reason.by)], {
+        who: name,
+        verb: reason.isGranted ? reasons.may : reasons.mayNot,
+        right: rightName(kind, reason.bit),
+        number: reason.number,
+        text: reason.number ? texts[reason.number - 1] : "",
+    });
+}
+
+export function showReason(reason, row, context, result) {
+    const place = byId("why");
+    place.replaceChildren(
+        make("p", {}, reasonInWords(reason, plainName(row.sid, context.names), context.kind, result.written.dacl),
+            reason.by === "ace" ? [" ", jumpTo("dacl", reason.number)] : null));
+    document.querySelectorAll("tr.ace.found").forEach((other) => other.classList.remove("found"));
+    if (reason.by === "ace") {
+        byId(`dacl-${reason.number}`)?.classList.add("found");
+    }
+}
+
+function ownerLine(part, found, names) {
+    return [
+        make("dt", {}, WORDS.parts[part]), make("dd", {}, found ? who(found.sid, found.alias, names) : WORDS.parts.none)
+    ];
+}
+
+const controlWord = (control) => `0x${control.toString(16).padStart(4, "0")}`;
+
+function control(model) {
+    return [
+        make("dt", {}, WORDS.parts.control),
+        make("dd", {}, make("code", {}, controlWord(model.control)), " ",
+            model.codes.map((code) => [make("span", {class: "tag", title: code}, WORDS.codes[code] ?? code), " "])),
+        model.manager === "0x00" ?
+            null :
+            [make("dt", {}, WORDS.parts.manager), make("dd", {}, make("code", {}, model.manager))]
+    ];
+}
+
+const COUNTED = {
+    absent: "Absent",
+    null: "Null",
+    list: "Empty"
+};
+
+function listSection(list, result, kind, names) {
+    const acl = result.model[list];
+    const title = WORDS.parts[list];
+    const text = acl.aces.length ? null :
+                                   make("p", {class: list === "dacl" && acl.state !== "list" ? "everyone" : ""},
+                                       WORDS.parts[list + COUNTED[acl.state]]);
+    return make("section", {"aria-labelledby": `${list}-heading`},
+        make("h3", {id: `${list}-heading`}, title, " ",
+            make("small", {},
+                acl.state === "list" ?
+                    say(acl.aces.length === 1 ? WORDS.parts.one : WORDS.parts.list, {count: acl.aces.length}) :
+                    WORDS.parts[acl.state])),
+        text ?? aceTable(title, acl.aces, result.written[list], kind, names));
+}
+
+function exactTexts(result) {
+    const line = (label, text) => make("details", {}, make("summary", {}, label), make("pre", {class: "exact"}, text));
+    return make("section", {class: "texts"},
+        make("p", {},
+            make("code", {class: "whole"}, result.sddl.slice(0, 4000), result.sddl.length > 4000 ? " .." : "")),
+        line("hex", result.hex.slice(0, 20000)));
+}
+
+function words(result, kind, names) {
+    return make("section", {class: "words", "aria-labelledby": "words-heading"},
+        heading(WORDS.parts.heading, "words-heading"), exactTexts(result),
+        make("dl", {}, ownerLine("owner", result.model.owner, names), ownerLine("group", result.model.group, names),
+            control(result.model)),
+        listSection("dacl", result, kind, names), listSection("sacl", result, kind, names));
+}
+
+// What was left out of the text, so that nobody takes it for read.
+export function foundText(result) {
+    const form = WORDS.forms[result.form];
+    const found = result.found > 1 ? say(WORDS.foundSeveral, {form, count: result.found, number: result.chosen + 1}) :
+                                     say(WORDS.found, {form});
+    const dropped =
+        result.dropped.map(({what, text}) => say(WORDS.droppedWhat[what], {text: visible((text ?? "").slice(0, 120))}));
+    return dropped.length ? `${found} ${say(WORDS.dropped, {what: commaed(dropped)})}` : found;
+}
+
+function writtenAces(result) {
+    if (!result.written.length) {
+        return null;
+    }
+    const marked = result.place.ace;
+    return make("details", {open: true}, make("summary", {}, WORDS.error.written),
+        make("p", {class: "hint"}, WORDS.error.writtenHint),
+        make("ol", {class: "written"},
+            result.written.map(
+                (ace) => make("li", {class: ace.number === marked && ace.part === result.place.part ? "wrong" : ""},
+                    make("code", {}, visible(ace.text.slice(0, 300))),
+                    WORDS.refusedKinds[ace.kind] ? ` ${say(WORDS.error.unsupported, {
+                        kind: visible(ace.kind),
+                        name: WORDS.refusedKinds[ace.kind]
+                    })}` :
+                                                   "",
+                    ace.number === marked && ace.part === result.place.part ?
+                        make("strong", {}, ` ${WORDS.error.reason}`) :
+                        null))));
+}
+
+export function showFault(place, result, {onSelect, onDomain}) {
+    const needsDomain = result.fault.number === 23 ?
+        make("p", {}, button(say(WORDS.error.domain, {domain: STAND_IN_DOMAIN}), () => onDomain(STAND_IN_DOMAIN)), " ",
+            make("small", {}, WORDS.error.domainHint)) :
+        null;
+    show(place,
+        make("section", {class: "refused", "aria-labelledby": "refused-heading"},
+            heading(WORDS.error.heading, "refused-heading"), make("p", {}, WORDS.error.intro),
+            result.isListing ? make("p", {class: "listing"}, WORDS.error.listing) : null,
+            faultBox(result.fault, result.place, needsDomain,
+                result.form === "sddl" && onSelect ? button(WORDS.error.go, () => onSelect(result.place)) : null),
+            writtenAces(result)));
+}
+
+export function showLook(place, result, context) {
+    const {kind, names} = context;
+    show(place, summary(result, kind, names), warnings(result, kind, names), gridSection(result, context),
+        words(result, kind, names));
+}

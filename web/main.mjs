@@ -1,0 +1,518 @@
+// The page: its state, its controls, and which view is shown. Everything that it knows about a descriptor comes from
+// the desk's answers.
+import {makeAsk, showAsk, showAskRights} from "./ask_view.mjs";
+import {makeCompare, showCompare} from "./compare_view.mjs";
+import {mappingOf} from "./desk.mjs";
+import {area, box, button, byId, input, labelled, make, select, show} from "./dom.mjs";
+import {makeInherit, showInherit} from "./inherit_view.mjs";
+import {LinesView} from "./lines_view.mjs";
+import {foundText, showFault, showLook, showReason} from "./look_view.mjs";
+import {faultInWords, ownNames, visible} from "./naming.mjs";
+import {knownGuids} from "./schema.mjs";
+import {addressOf, commandLine, takeAddress} from "./sharing.mjs";
+import {changing} from "./warnings.mjs";
+import {say, WORDS} from "./words.mjs";
+import {FileDesk, serve, startDesk} from "./worker.mjs";
+
+const LARGE = 20_000; // characters; a longer text is kept beside the field
+const VIEWS = Object.keys(WORDS.tabs);
+const EXAMPLES = {
+    folder: [
+        "folder",
+        "O:BAG:SYD:PAI(A;OICI;FA;;;SY)(A;OICI;FA;;;BA)(A;OICI;0x1200a9;;;BU)(A;CI;LC;;;BU)(A;CIIO;DC;;;BU)" +
+            "(A;OICIIO;GA;;;CO)"
+    ],
+    share: [
+        "folder",
+        "O:S-1-5-21-1004336348-1177238915-682003330-1001G:S-1-5-21-1004336348-1177238915-682003330-513D:AI" +
+            "(A;;FA;;;WD)(D;;WP;;;BU)(A;OICIID;0x1301bf;;;AU)(A;OICIID;FA;;;BA)S:AI(AU;OICISAFA;FA;;;WD)" +
+            "(ML;OICI;NW;;;ME)"
+    ],
+    key: ["key", "O:SYG:SYD:PAI(A;CI;KA;;;SY)(A;CI;KA;;;BA)(A;CI;KR;;;BU)(A;CIIO;GA;;;CO)(A;CI;KR;;;AC)"],
+    ds: [
+        "ds",
+        "O:BAG:BAD:AI(A;;CCDCLCSWRPWPDTLOCRSDRCWDWO;;;BA)(A;;RPLCLORC;;;AU)" +
+            "(OA;;CR;ab721a53-1e2f-11d0-9819-00aa0040529b;;WD)(OA;;CR;ab721a53-1e2f-11d0-9819-00aa0040529b;;PS)" +
+            "(OA;CI;RPWP;bf967a68-0de6-11d0-a285-00aa003049e2;bf967aba-0de6-11d0-a285-00aa003049e2;AO)"
+    ],
+    error: ["folder", "O:BAG:SYD:(A;OICI;FA;;;SY)(A;OICI;FA;;;Everyone)(A;;FR;;;BU)"],
+};
+
+const freshState = () => ({
+    view: "look",
+    text: "",
+    form: "auto",
+    kind: "folder",
+    domain: "",
+    object: "",
+    common: true,
+    all: false,
+    chosen: 0,
+    names: "",
+    ask: {
+        token: "WD,AU,BU",
+        rights: [],
+        want: "",
+        maximum: true,
+        level: "",
+        self: "",
+        security: false,
+        takeOwnership: false
+    },
+    made: {kind: "container", owner: "BA", group: "SY", creator: ""},
+    other: {text: "", form: "auto", chosen: 0},
+    lines: {command: "convert", options: {kind: "file"}, filterToken: "WD,AU,BU"},
+});
+
+class Page {
+    constructor({desk, isWorker}, source, bytes) {
+        Object.assign(this, {desk, source, bytes, isWorker, state: freshState(), result: null, asked: null});
+        this.linesView = new LinesView(this.state.lines, {
+            files: new FileDesk(source, bytes, isWorker),
+            changeMask: () => changing(mappingOf(this.state.kind)),
+            onOpen: (text, form) => this.open(text, form),
+            onCommand: () => this.showCommand(),
+        });
+        takeAddress(this.state, location.hash.slice(1));
+        this.makeControls();
+        this.makeViews();
+        this.listen();
+        this.showView();
+        this.refresh();
+    }
+
+    // The part of the state that the desk needs.
+    get shared() {
+        const {text, form, kind, domain, object, common, chosen, all} = this.state;
+        return {text, form, kind, domain, object, common, chosen, all};
+    }
+
+    get context() {
+        return {
+            kind: this.state.kind,
+            names: ownNames(this.state.names),
+            isCommon: this.state.common,
+            texts: this.result?.written?.dacl ?? [],
+            made: this.state.made,
+            onCell: (row, right) => this.explainCell(row, right),
+            onAll: () => this.set("all", true),
+        };
+    }
+
+    set(name, value) {
+        this.state[name] = value;
+        if (name === "kind") {
+            byId("object-field").hidden = value !== "ds";
+            showAskRights(this.state.ask, value, () => this.refreshView());
+        }
+        this.refresh();
+    }
+
+    makeControls() {
+        const {state} = this;
+        const setter = (name) => (value) => this.set(name, value);
+        const text = area("text", "", (value) => this.setText(value),
+            {rows: 3, class: "descriptor", "aria-describedby": "text-hint found"});
+        show(byId("input"), labelled(WORDS.inputLabel, text, WORDS.inputHint),
+            make("div", {id: "large", class: "large", hidden: true}),
+            make("p", {class: "adds"}, WORDS.examples, ": ", Object.entries(WORDS.examplesPlain).map(([name,
+                label]) => [button(label, () => this.example(name), {class: "add", id: `example-${name}`}), " "]),
+                button(WORDS.clear, () => this.open("", "auto"), {class: "add", id: "clear"})),
+            make("div", {class: "row"},
+                labelled(WORDS.kindLabel, select("kind", WORDS.kinds, state.kind, setter("kind"))),
+                labelled(WORDS.formLabel, select("form", WORDS.forms, state.form, setter("form"))),
+                make("div", {id: "chosen-field", hidden: true})),
+            make("details", {id: "more-options"}, make("summary", {}, WORDS.moreOptions),
+                make("div", {class: "row"},
+                    labelled(WORDS.domainLabel,
+                        input("domain", state.domain, setter("domain"), {"aria-describedby": "domain-hint"}),
+                        WORDS.domainHint),
+                    make("div", {id: "object-field", hidden: state.kind !== "ds"},
+                        labelled(WORDS.objectLabel,
+                            input("object", state.object, setter("object"),
+                                {list: "guids", "aria-describedby": "object-hint"}),
+                            WORDS.objectHint),
+                        make("datalist", {id: "guids"},
+                            knownGuids().map(
+                                ({guid, name, type}) => make("option", {value: guid}, `${name} (${type})`))))),
+                box("common", WORDS.commonLabel, state.common, setter("common")),
+                labelled(WORDS.namesLabel,
+                    area("names", "", setter("names"), {rows: 3, "aria-describedby": "names-hint"}), WORDS.namesHint)),
+            make("p", {id: "found", class: "found", role: "status", "aria-live": "polite"}, WORDS.waiting));
+        this.putText(state.text);
+    }
+
+    makeViews() {
+        const refresh = () => this.refreshView();
+        show(byId("view-ask"), makeAsk(this.state.ask, refresh));
+        showAskRights(this.state.ask, this.state.kind, refresh);
+        byId("ask-result").hidden = true;
+        show(byId("view-inherit"), makeInherit(this.state.made, refresh));
+        show(byId("view-compare"), makeCompare(this.state.other, refresh));
+        show(byId("view-lines"), this.linesView.make());
+        this.linesView.showOptions();
+        show(byId("tabs"),
+            VIEWS.map((view) => button(WORDS.tabs[view], () => this.choose(view),
+                          {role: "tab", id: `tab-${view}`, "aria-controls": `view-${view}`})));
+        show(byId("share"), [
+            ["link", () => this.copyLink()], ["command", () => this.copyCommand()], ["print", () => window.print()]
+        ].map(([name, act]) => [button(WORDS.share[name], act, {id: `share-${name}`}), " "]));
+    }
+
+    listen() {
+        byId("tabs").addEventListener("keydown", (event) => this.moveTab(event));
+        byId("text").addEventListener("paste", (event) => this.paste(event));
+        window.addEventListener("dragover", (event) => event.preventDefault());
+        window.addEventListener("drop", (event) => this.drop(event));
+        window.addEventListener("hashchange", () => this.takeHash());
+        byId("theme").addEventListener("click", () => {
+            const isDark = document.documentElement.dataset.theme === "dark" ||
+                (!document.documentElement.dataset.theme && matchMedia("(prefers-color-scheme: dark)").matches);
+            document.documentElement.dataset.theme = isDark ? "light" : "dark";
+        });
+    }
+
+    // An address that somebody typed or followed, not one that the page wrote.
+    takeHash() {
+        if (location.hash.slice(1) !== this.written) {
+            Object.assign(this.state, {...freshState(), names: this.state.names, lines: this.state.lines});
+            takeAddress(this.state, location.hash.slice(1));
+            this.makeControls();
+            this.makeViews();
+            byId("text").addEventListener("paste", (event) => this.paste(event));
+            this.showView();
+            this.refresh();
+        }
+    }
+
+    moveTab(event) {
+        const at = VIEWS.indexOf(this.state.view);
+        const to = {ArrowRight: at + 1, ArrowLeft: at - 1, Home: 0, End: VIEWS.length - 1}[event.key];
+        if (to !== undefined) {
+            event.preventDefault();
+            this.choose(VIEWS[(to + VIEWS.length) % VIEWS.length]);
+            byId(`tab-${this.state.view}`).focus();
+        }
+    }
+
+    choose(view) {
+        this.state.view = view;
+        this.showView();
+        this.refreshView();
+    }
+
+    showView() {
+        for (const view of VIEWS) {
+            const isShown = view === this.state.view;
+            const tab = byId(`tab-${view}`);
+            tab.setAttribute("aria-selected", String(isShown));
+            tab.setAttribute("tabindex", isShown ? "0" : "-1");
+            byId(`view-${view}`).hidden = !isShown;
+        }
+        this.remember();
+    }
+
+    // A long text stays out of the field: no browser lays out a line of a megabyte at each key.
+    putText(text) {
+        const isLarge = text.length > LARGE;
+        byId("text").value = isLarge ? "" : text;
+        byId("text").disabled = isLarge;
+        show(byId("large"),
+            isLarge ?
+                [
+                    make("span", {}, say(WORDS.large, {count: text.length})), " ",
+                    button(WORDS.clear, () => this.open("", "auto"), {id: "large-clear"})
+                ] :
+                []);
+    }
+
+    setText(text) {
+        this.state.text = text;
+        this.state.chosen = 0;
+        this.state.all = false;
+        if (text.length > LARGE) {
+            this.putText(text);
+        }
+        this.refresh();
+    }
+
+    paste(event) {
+        const text = event.clipboardData?.getData("text") ?? "";
+        if (text.length > LARGE) {
+            event.preventDefault();
+            this.setText(text);
+        }
+    }
+
+    drop(event) {
+        event.preventDefault();
+        const file = event.dataTransfer?.files?.[0];
+        if (file) {
+            this.choose("lines");
+            this.linesView.take(file);
+        }
+    }
+
+    // Shows a text as if it had been pasted, under the first view.
+    open(text, form) {
+        this.state.form = form;
+        byId("form").value = form;
+        this.state.chosen = 0;
+        this.state.all = false;
+        this.state.text = text;
+        this.putText(text);
+        this.choose("look");
+        this.refresh();
+    }
+
+    example(name) {
+        const [kind, text] = EXAMPLES[name];
+        this.state.kind = kind;
+        byId("kind").value = kind;
+        byId("object-field").hidden = kind !== "ds";
+        showAskRights(this.state.ask, kind, () => this.refreshView());
+        this.open(text, "auto");
+    }
+
+    // Counts the questions that are open, for whoever drives the page, such as its tests.
+    async counted(question) {
+        this.questions = (this.questions ?? 0) + 1;
+        document.body.dataset.open = this.questions;
+        try {
+            return await question();
+        } finally {
+            this.questions -= 1;
+            document.body.dataset.open = this.questions;
+        }
+    }
+
+    refresh() {
+        this.remember();
+        return this.counted(async () => {
+            const slow = setTimeout(() => this.tell(WORDS.busy), 300);
+            try {
+                const result = await this.desk.ask("look", this.shared);
+                if (result) {
+                    this.result = result;
+                    this.showResult(result);
+                    await this.refreshView();
+                }
+            } catch (error) {
+                this.broke(error);
+            } finally {
+                clearTimeout(slow);
+            }
+        });
+    }
+
+    // An error of the page itself must not leave an older answer beside a newer text.
+    broke(error) {
+        this.result = null;
+        show(byId("view-look"), make("p", {class: "fault-name"}, say(WORDS.failed, {reason: visible(error.message)})));
+        this.tell("");
+    }
+
+    tell(text) {
+        byId("found").textContent = text;
+    }
+
+    showResult(result) {
+        this.showChosen(result);
+        document.body.classList.toggle("has-result", Boolean(result.model));
+        if (result.domainFault) {
+            this.tell(say(WORDS.domainFault, {fault: faultInWords(result.domainFault)}));
+            show(byId("view-look"));
+        } else if (result.isEmpty) {
+            this.tell(WORDS.waiting);
+            show(byId("view-look"));
+        } else if (result.fault) {
+            this.tell(`${faultInWords(result.fault)} ${foundText(result)}`);
+            showFault(byId("view-look"), result, {
+                onSelect: this.state.text.length > LARGE ? null : (place) => this.select(place),
+                onDomain: (domain) => this.takeDomain(domain)
+            });
+        } else {
+            this.tell(`${foundText(result)}${result.objectFault ? " " + WORDS.objectFault : ""}`);
+            showLook(byId("view-look"), result, this.context);
+        }
+        byId("view-look").hidden = this.state.view !== "look";
+        this.showPrintHead(result);
+    }
+
+    showChosen(result) {
+        const field = byId("chosen-field");
+        if (!result.found || result.found < 2) {
+            show(field);
+            return;
+        }
+        const options = Object.fromEntries(result.names.map(
+            (name, index) => [index,
+                say(WORDS.chosenOption, {number: index + 1, count: result.found, name: visible(name.slice(0, 60))})]));
+        show(field,
+            labelled(WORDS.chosenLabel,
+                select("chosen", options, String(result.chosen), (value) => this.set("chosen", Number(value)))));
+    }
+
+    // The place of a fault, in the field. What was left out before the line moves it.
+    select(place) {
+        const field = byId("text");
+        const wanted = place.text.slice(place.start, place.end);
+        const at = field.value.indexOf(place.text) >= 0 ? field.value.indexOf(place.text) + place.start :
+                                                          field.value.indexOf(wanted);
+        field.focus();
+        if (at >= 0) {
+            field.setSelectionRange(at, at + wanted.length);
+        }
+    }
+
+    takeDomain(domain) {
+        byId("domain").value = domain;
+        byId("more-options").open = true;
+        this.set("domain", domain);
+    }
+
+    explainCell(row, right) {
+        const about = {state: this.shared, row: {sid: row.sid, token: row.token}, bit: right.bit};
+        return this.counted(async () => {
+            const reason = await this.desk.ask("why", about);
+            if (reason?.by) {
+                showReason(reason, row, this.context, this.result);
+            }
+        });
+    }
+
+    // The question of the view that is open. The first view was answered already.
+    refreshView() {
+        this.remember();
+        return this.counted(() => this.askView());
+    }
+
+    async askView() {
+        const {view} = this.state;
+        const questions = {
+            ask: ["ask", {state: this.shared, asked: this.state.ask}, showAsk],
+            inherit: ["inherit", {state: this.shared, made: this.state.made}, showInherit],
+            compare: ["compare", {state: this.shared, other: this.state.other}, showCompare],
+        };
+        if (!questions[view]) {
+            return;
+        }
+        const [name, about, showAnswer] = questions[view];
+        const result = await this.desk.ask(name, about).catch((error) => ({error}));
+        if (result) {
+            this.showAnswer(name, result, showAnswer);
+        }
+    }
+
+    showAnswer(name, result, showAnswer) {
+        const place = byId(`${name}-result`);
+        if (result.error) {
+            show(place, make("p", {class: "fault-name"}, say(WORDS.failed, {reason: visible(result.error.message)})));
+        } else if (result.isEmpty || result.domainFault) {
+            show(place, make("p", {class: "hint"}, WORDS.waiting));
+        } else if (result.descriptorFault) {
+            show(place, make("p", {class: "fault-name"}, faultInWords(result.descriptorFault)),
+                make("p", {}, WORDS.error.intro));
+        } else {
+            showAnswer(result, this.context);
+        }
+        this.asked = name === "ask" ? result : this.asked;
+        this.otherLine = name === "compare" ? result.other?.line : this.otherLine;
+    }
+
+    // The state goes to the address a moment after the last key; the names that the user gave don't.
+    remember() {
+        clearTimeout(this.timer);
+        this.timer = setTimeout(() => {
+            const text = addressOf(this.state, freshState());
+            this.written = text ?? "";
+            try {
+                history.replaceState(null, "", this.written ? `#${this.written}` : location.pathname + location.search);
+            } catch {
+                // A browser that allows no address here still copies the link.
+            }
+        }, 400);
+    }
+
+    async copy(text, what) {
+        const place = byId("copied");
+        try {
+            await navigator.clipboard.writeText(text);
+            show(place, make("p", {role: "status"}, say(WORDS.copied, {what})));
+        } catch {
+            show(place, make("p", {role: "status"}, WORDS.copyFailed));
+        }
+        const field = area("copied-text", text, () => {}, {rows: 2, readonly: true, "aria-label": what});
+        place.append(field);
+        field.focus();
+        field.select();
+    }
+
+    copyLink() {
+        const text = addressOf(this.state, freshState());
+        if (text === null) {
+            show(byId("copied"), make("p", {role: "status"}, WORDS.linkTooLong));
+            return;
+        }
+        this.copy(`${location.href.split("#")[0]}#${text}`, WORDS.linkWarning);
+    }
+
+    showCommand() {
+        if (byId("copied-command")) {
+            byId("copied-command").value = this.command();
+        }
+    }
+
+    command() {
+        const look = {form: this.result?.form ?? "sddl", line: this.result?.line ?? "", otherLine: this.otherLine};
+        return commandLine(this.state, look, this.asked);
+    }
+
+    copyCommand() {
+        this.copy(this.command(), WORDS.share.command);
+    }
+
+    showPrintHead(result) {
+        show(byId("print-head"), make("h1", {}, WORDS.print.heading),
+            make("p", {}, say(WORDS.print.made, {version: this.version ?? ""})),
+            make("p", {}, `${WORDS.print.text}: `, make("code", {}, visible((result.line ?? "").slice(0, 3000)))));
+        byId("print-head").hidden = false;
+    }
+}
+
+async function unpacked(base64) {
+    const packed = Uint8Array.from(atob(base64.trim()), (character) => character.charCodeAt(0));
+    const stream = new Blob([packed]).stream().pipeThrough(new DecompressionStream("gzip"));
+    return new Response(stream).arrayBuffer();
+}
+
+const fillWords = () => document.querySelectorAll("[data-word]").forEach((element) => {
+    element.textContent = element.dataset.word.split(".").reduce((words, name) => words[name], WORDS);
+});
+
+async function begin() {
+    document.documentElement.lang = WORDS.language;
+    document.title = WORDS.title;
+    fillWords();
+    byId("private").title = WORDS.privateWhy;
+    if (typeof DecompressionStream === "undefined" || typeof WebAssembly === "undefined") {
+        throw new Error(WORDS.failedOld);
+    }
+    const bytes = await unpacked(byId("module").textContent);
+    const source = byId("script").textContent;
+    const started = await startDesk(source, bytes);
+    const version = await started.desk.ask("version", null);
+    byId("version").textContent = say(WORDS.version, {version});
+    byId("starting").hidden = true;
+    byId("page").hidden = false;
+    const page = new Page(started, source, bytes);
+    page.version = version;
+    byId("text").focus();
+    document.body.dataset.ready = started.isWorker ? "worker" : "page";
+}
+
+if (typeof document === "undefined") {
+    serve(globalThis);
+} else {
+    begin().catch((error) => { byId("starting").textContent = say(WORDS.failed, {reason: error.message}); });
+}

@@ -1,0 +1,120 @@
+// Words for what the library answers: names of SIDs, rights of a mask, where an ACE applies.
+import {bitsOf, has} from "./access.mjs";
+import {mappingOf} from "./desk.mjs";
+import {maskText} from "./library.mjs";
+import {guidName} from "./schema.mjs";
+import {say, WORDS} from "./words.mjs";
+
+const RELATIVE = /^(S-1-5-21-\d+-\d+-\d+)-(\d+)$/;
+const GROUPS = ["read", "change", "control", "other"];
+// Characters that don't show, or that turn the direction of a text round: they are spelled out, so that no name
+// passes for another.
+const HIDDEN = new RegExp("[\\u0000-\\u001f\\u007f-\\u009f\\u00ad\\u061c\\u115f\\u1160\\u17b4\\u17b5\\u180e" +
+        "\\u200b-\\u200f\\u2028-\\u202e\\u2060-\\u206f\\u3164\\ufeff\\uffa0]",
+    "g");
+
+export const visible = (text) =>
+    String(text).replace(HIDDEN, (character) => `\\u{${character.codePointAt(0).toString(16)}}`);
+
+// The user's own names: lines of a SID and a name.
+export function ownNames(text) {
+    const names = new Map();
+    for (const line of text.split(/\r?\n/)) {
+        const found = /^\s*(S-1-[0-9-]+)[\s=,;:]+(\S.*?)\s*$/i.exec(line);
+        if (found) {
+            names.set(found[1].toUpperCase(), visible(found[2]));
+        }
+    }
+    return names;
+}
+
+function familyName(sid) {
+    for (const [pattern, text] of WORDS.families) {
+        const found = pattern.exec(sid);
+        if (found) {
+            return say(text, {number: found[1] ?? ""});
+        }
+    }
+    return sid;
+}
+
+// The name of a SID: the user's own, a well-known one, or what kind of SID it is.
+export function nameOf(sid, names) {
+    const relative = RELATIVE.exec(sid);
+    return names.get(sid) ?? WORDS.names[sid] ?? (relative && WORDS.relativeNames[relative[2]]) ?? familyName(sid);
+}
+
+// The named rights of a kind of object, in the order of the grid: {bit, name, short, group}.
+export function rightsOf(kind) {
+    const rights = Object.entries(WORDS.rights[kind]).map(([bit,
+        [name, short, group]]) => ({bit: Number(bit), name, short, group}));
+    return rights.sort((one, other) => GROUPS.indexOf(one.group) - GROUPS.indexOf(other.group) || one.bit - other.bit);
+}
+
+export const groupMask = (kind, group) =>
+    rightsOf(kind).filter((right) => right.group === group).reduce((mask, right) => (mask | right.bit) >>> 0, 0);
+
+export function rightName(kind, bit) {
+    if (bit === 0x1000000) {
+        return WORDS.systemSecurity;
+    }
+    if (bit === 0x2000000) {
+        return WORDS.maximumAllowed;
+    }
+    return WORDS.rights[kind][bit]?.[0] ?? WORDS.generic[bit] ?? say(WORDS.unnamed, {mask: maskText(bit)});
+}
+
+// A mask in words: the largest set of rights with a name of its own, then what is left, right by right, and at the
+// end bits without a name. No bit is left out.
+export function rightsInWords(kind, mask) {
+    if (mask === 0) {
+        return [WORDS.noRight];
+    }
+    const compounds = WORDS.masks[mappingOf(kind)];
+    const compound = compounds.find(([bits]) => has(mask, bits));
+    const rest = compound ? (mask & ~compound[0]) >>> 0 : mask;
+    const named = rightsOf(
+        kind).filter((right) => has(rest, right.bit))
+                      .sort((one, other) => (one.bit === 0x100000) - (other.bit === 0x100000));
+    const special = bitsOf(rest).filter((bit) => !named.some((right) => right.bit === bit));
+    const known = special.filter((bit) => WORDS.generic[bit] || bit === 0x1000000 || bit === 0x2000000);
+    const unknown = special.filter((bit) => !known.includes(bit)).reduce((all, bit) => (all | bit) >>> 0, 0);
+    return [
+        ...(compound ? [compound[1]] : []),
+        ...named.map((right) => right.name),
+        ...known.map((bit) => rightName(kind, bit)),
+        ...(unknown ? [say(WORDS.unnamed, {mask: maskText(unknown)})] : []),
+    ];
+}
+
+export function labelInWords(mask) {
+    const policies =
+        [[1, "NW"], [2, "NR"], [4, "NX"]].filter(([bit]) => has(mask, bit)).map(([, name]) => WORDS.label[name]);
+    const rest = (mask & ~7) >>> 0;
+    return [
+        ...policies, ...(rest ? [say(WORDS.unnamed, {mask: maskText(rest)})] : []),
+        ...(mask === 0 ? [WORDS.label.none] : [])
+    ];
+}
+
+export function guidInWords(guid) {
+    const known = guidName(guid);
+    return known ? `${known.name} (${known.type})` : say(WORDS.unknownGuid, {guid});
+}
+
+// Where an ACE applies, by its flags.
+export function whereOf(kind, ace) {
+    const words = WORDS.where[kind];
+    const flags = ["OI", "CI", "IO"].filter((flag) => ace.flags.includes(flag)).join("");
+    const place = flags === "" ? words.here : flags === "IO" ? WORDS.where.nothing : words[flags];
+    const more = [
+        ace.flags.includes("NP") && /OI|CI/.test(flags) ? WORDS.where.oneLevel : null,
+        ace.inherited ? say(WORDS.where.ofClass, {name: guidInWords(ace.inherited)}) : null,
+    ].filter(Boolean);
+    return [place, ...more].join(", ");
+}
+
+export function faultInWords(fault) {
+    const [meaning] = WORDS.faults[fault.number] ?? [""];
+    return `${meaning} (error ${fault.number} ${fault.faultName ?? ""}${fault.part ? " " + fault.part : ""})`;
+}

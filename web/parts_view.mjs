@@ -1,0 +1,99 @@
+// Pieces that several views share: a SID, an ACE, a list of ACEs, a fault.
+import {make, someRows} from "./dom.mjs";
+import {maskText} from "./library.mjs";
+import {faultInWords, guidInWords, labelInWords, nameOf, rightsInWords, visible, whereOf} from "./naming.mjs";
+import {say, WORDS} from "./words.mjs";
+
+const DENY = ["D", "OD"];
+const ALLOW = ["A", "OA"];
+
+export const kindClass = (kind) => (ALLOW.includes(kind) ? "allow" :
+        DENY.includes(kind)                              ? "deny" :
+        kind === "ML"                                    ? "label" :
+                                                           "audit");
+
+// A SID: its name, and the exact text beside it.
+export function who(sid, alias, names) {
+    const name = nameOf(sid, names);
+    return make("span", {class: "who", title: sid}, make("bdi", {class: "name"}, name),
+        name === sid ? null : make("code", {class: "sid"}, alias ? `${alias} ${sid}` : sid));
+}
+
+export const plainName = (sid, names) => nameOf(sid, names);
+
+export const commaed = (words) => words.join(", ");
+
+function kindOf(ace) {
+    const audits = ace.flags.filter((flag) => WORDS.audits[flag]).map((flag) => WORDS.audits[flag]);
+    const isAudit = ace.kind === "AU" || ace.kind === "OU";
+    return WORDS.aceKinds[ace.kind] + (isAudit && audits.length ? ` ${commaed(audits)}` : "");
+}
+
+export function aceRights(ace, kind) {
+    const words = ace.kind === "ML" ? labelInWords(ace.mask) : rightsInWords(kind, ace.meaning);
+    const generic = ace.meaning === ace.mask ? null : make("small", {}, ` (${commaed(rightsInWords(kind, ace.mask))})`);
+    const object =
+        ace.object ? make("div", {class: "object"}, say(WORDS.object, {name: guidInWords(ace.object)})) : null;
+    return [make("span", {}, commaed(words)), generic, " ", make("code", {class: "mask"}, maskText(ace.mask)), object];
+}
+
+export function aceRow(ace, text, kind, names) {
+    const {number, kind: label, who: whom, rights, where, origin, text: exact} = WORDS.parts.columns;
+    const cell = (name, heading, ...children) => make("td", {class: name, "data-label": heading}, ...children);
+    return make("tr", {class: `ace ${kindClass(ace.kind)}`, id: `${ace.list}-${ace.number}`, tabindex: "-1"},
+        make("th", {scope: "row", "data-label": number}, ace.number),
+        cell("kind", label, make("span", {class: "badge"}, kindOf(ace))),
+        cell("whom", whom, who(ace.sid, ace.alias, names)), cell("rights", rights, aceRights(ace, kind)),
+        cell("where", where, whereOf(kind, ace)),
+        cell("origin", origin, ace.flags.includes("ID") ? WORDS.origin.inherited : WORDS.origin.own),
+        cell("exact", exact, make("code", {}, text)));
+}
+
+export function aceTable(caption, aces, texts, kind, names) {
+    const body = make("tbody");
+    const headings = Object.values(WORDS.parts.columns).map((text) => make("th", {scope: "col"}, text));
+    const table = make("table", {class: "aces"}, make("caption", {class: "unseen"}, caption),
+        make("thead", {}, make("tr", {}, headings)), body);
+    const more = someRows(body, aces, (ace) => aceRow(ace, texts[ace.number - 1], kind, names),
+        (count) => say(WORDS.parts.more, {count}));
+    return [make("div", {class: "scroll", tabindex: "0", role: "region", "aria-label": caption}, table), more];
+}
+
+// A text with the place that is marked, and no more of it than one can look at.
+const AROUND = 60;
+const MOST_MARKED = 400;
+
+export function markedText({text, start, end}) {
+    const from = Math.max(0, start - AROUND);
+    const marked = text.slice(start, Math.min(end, start + MOST_MARKED));
+    const after = text.slice(end, end + AROUND);
+    return make("pre", {class: "place"}, from > 0 ? ".. " : "", visible(text.slice(from, start)),
+        make("mark", {}, visible(marked) || "\u00a0", end > start + MOST_MARKED ? " .." : ""), visible(after),
+        end + AROUND < text.length ? " .." : "");
+}
+
+export function placeInWords(place) {
+    const {error} = WORDS;
+    const part = place.part ? error.where[place.part] : null;
+    const where = place.ace ? say(error.ace, {number: place.ace, part}) : part;
+    const field = place.field ? error.fields[place.field] : null;
+    return field && where ? say(error.field, {field, place: where}) : field ?? where;
+}
+
+// What a refused type of ACE is called, if the place is one.
+export function refusedKind(fault, place) {
+    const name =
+        place.type === undefined ? WORDS.refusedKinds[place.kind] : WORDS.refusedTypes[place.type] ?? WORDS.unknownKind;
+    const kind = place.type === undefined ? place.kind : `type ${place.type}`;
+    return name && [12, 20, 29].includes(fault.number) ? say(WORDS.error.unsupported, {kind: visible(kind), name}) :
+                                                         null;
+}
+
+export function faultBox(fault, place, ...more) {
+    const suggestion = WORDS.faults[fault.number]?.[1];
+    return make("div", {class: "fault"}, make("p", {class: "fault-name"}, make("strong", {}, faultInWords(fault))),
+        refusedKind(fault, place) && make("p", {}, refusedKind(fault, place)),
+        place.field ? make("p", {}, say(WORDS.error.place, {place: placeInWords(place)})) :
+                      make("p", {}, WORDS.error.unplaced),
+        markedText(place), suggestion ? make("p", {}, say(WORDS.error.suggestion, {text: suggestion})) : null, ...more);
+}
