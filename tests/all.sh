@@ -54,7 +54,7 @@ take_library() {
 }
 
 # No older program or library is to be tested where the gate stops before it has built one.
-rm -rf "$program" out/lib
+rm -rf "$program" out/lib out/sdtool.html
 count tests/layers.py
 count tests/alias_places.py --check
 count packaging/completions.py --check
@@ -90,6 +90,12 @@ if "${MAKE:-make}" --no-print-directory program; then
         count tests/python_objects.py "$program"
         count tests/distributed.py "$program"
         count tests/audit.py
+        # The page has a module inside that is built for WebAssembly. Where that is there, so has to be the page.
+        if [[ -f out/systems/wasm/sdtool.wasm ]] && ! "${MAKE:-make}" --no-print-directory --assume-old=wasm page; then
+            echo "the page is not built"
+            ((failed += 1))
+        fi
+        count tests/page.py "$program"
     else
         echo "the library is not built, so its tests have not run"
         ((failed += 1))

@@ -1,0 +1,312 @@
+// What tests/page.py runs in a page: it chooses, types and reads as a person would. GIVEN are the arguments.
+const byId = (id) => document.getElementById(id);
+const put = (id, value) => {
+    const field = byId(id);
+    if (field.type === "checkbox") {
+        if (field.checked !== value) field.click();
+        return;
+    }
+    field.value = value;
+    field.dispatchEvent(new window.Event(field.tagName === "SELECT" ? "change" : "input", {bubbles: true}));
+};
+const isIdle = () => document.body.dataset.open === "0";
+const pause = (time) => new Promise((resolve) => setTimeout(resolve, time));
+const until = async (condition, seconds = 60) => {
+    const end = Date.now() + 1000 * seconds;
+    while (!condition()) {
+        if (Date.now() > end) throw new Error("waited too long for " + condition);
+        await pause(1);
+    }
+};
+const see = async (text) => {
+    put("text", text);
+    await until(isIdle);
+};
+const bytesOf = (text) => Uint8Array.from(atob(text), (character) => character.charCodeAt(0));
+const textOf = (bytes) => {
+    let text = "";
+    for (let at = 0; at < bytes.length; at += 30000) text += String.fromCharCode(...bytes.subarray(at, at + 30000));
+    return btoa(text);
+};
+
+async function rows(...given) {
+    const found = [];
+    const originalURL = URL.createObjectURL;
+    let saved = null;
+    URL.createObjectURL = (blob) => {
+        if (blob.type === "text/plain") {
+            saved = blob;
+        }
+        return originalURL.call(URL, blob);
+    };
+    window.HTMLAnchorElement.prototype.click = () => {};
+    for (const {command, options, data, name} of given[0]) {
+        if (byId("lines-command").value !== command) put("lines-command", command);
+        for (const field of byId("lines-options").querySelectorAll("input, select")) {
+            const value = options[field.id.slice("lines-".length)];
+            put(field.id,
+                field.type === "checkbox"      ? value === true :
+                    value !== undefined        ? value :
+                    field.tagName === "SELECT" ? field.options[0].value :
+                                                 "");
+        }
+        const transfer = new window.DataTransfer();
+        transfer.items.add(new window.File([bytesOf(data)], name ?? "row.txt"));
+        byId("lines-file").files = transfer.files;
+        byId("lines-file").dispatchEvent(new window.Event("change"));
+        byId("lines-status").textContent = "";
+        byId("lines-start").click();
+        await until(() => byId("lines-stop").disabled && byId("lines-status").textContent !== "");
+        if (byId("lines-save").disabled) {
+            found.push({refused: byId("lines-status").textContent});
+            continue;
+        }
+        saved = null;
+        byId("lines-save").click();
+        found.push({output: textOf(new Uint8Array(await saved.arrayBuffer()))});
+    }
+    URL.createObjectURL = originalURL;
+    return found;
+}
+
+async function grid(...given) {
+    const found = [];
+    for (const text of given[0]) {
+        await see(text);
+        found.push(Array.from(document.querySelectorAll("table.grid tbody tr"),
+            (row) => [row.dataset.token,
+                Array.from(row.querySelectorAll("button.cell"),
+                    (cell) => [Number(cell.dataset.bit), cell.dataset.state, cell.textContent])]));
+    }
+    return found;
+}
+
+async function reasons(...given) {
+    const found = [];
+    for (const [text, sid, bit] of given[0]) {
+        await see(text);
+        const cell = document.querySelector(`button.cell[data-sid="${sid}"][data-bit="${bit}"]`);
+        byId("why").textContent = "";
+        cell.click();
+        await until(() => byId("why").textContent !== "");
+        found.push([
+            cell.closest("tr").dataset.token, byId("why").textContent,
+            Array.from(document.querySelectorAll("tr.ace.found"), (row) => row.id)
+        ]);
+    }
+    return found;
+}
+
+async function ask(...given) {
+    byId("tab-ask").click();
+    put("ask-token", given[0].token);
+    put("ask-maximum", given[0].maximum);
+    put("ask-want", given[0].want);
+    put("ask-level", given[0].level);
+    put("ask-take", given[0].take);
+    put("ask-security", given[0].security);
+    await see(given[0].text);
+    return {
+        verdict: document.querySelector("#ask-result .verdict code")?.textContent ?? byId("ask-result").textContent,
+        reasons: Array.from(document.querySelectorAll("#ask-result tr.reason"),
+            (row) => [Number(row.dataset.bit), row.dataset.by, row.dataset.number ?? "",
+                row.classList.contains("allow")])
+    };
+}
+
+async function inherit(...given) {
+    byId("tab-inherit").click();
+    put("made-kind", given[0].kind);
+    put("made-owner", given[0].owner);
+    put("made-group", given[0].group);
+    put("made-creator", given[0].creator);
+    await see(given[0].text);
+    return Array.from(document.querySelectorAll("#inherit-result section.node"), (node) => ({
+        sddl: node.querySelector(":scope > p > code")?.textContent ?? null,
+        level: node.className,
+        from: Array.from(node.querySelectorAll(":scope > ol > li"), (item) => item.dataset.from)
+    }));
+}
+
+async function compare(...given) {
+    byId("tab-compare").click();
+    put("other-text", given[1]);
+    await see(given[0]);
+    return {
+        verdict: document.querySelector("#compare-result .verdict")?.textContent ?? byId("compare-result").textContent,
+        states: Array.from(document.querySelectorAll("#compare-result tr.compared"), (row) => row.dataset.state),
+        rights: Array.from(document.querySelectorAll("#compare-result li[data-sid]"),
+            (item) => [item.dataset.sid, Number(item.dataset.gained), Number(item.dataset.lost)])
+    };
+}
+
+async function triesToSend(...given) {
+    const address = given[0];
+    const outcomes = [];
+    const attempt = async (name, act) => {
+        try {
+            await act();
+            outcomes.push(name + ": no error");
+        } catch (error) {
+            outcomes.push(name + ": refused");
+        }
+    };
+    await attempt("fetch", () => window.fetch(address + "/fetch", {mode: "no-cors"}));
+    await attempt("request", () => new Promise((resolve, reject) => {
+        const request = new window.XMLHttpRequest();
+        request.onload = resolve;
+        request.onerror = reject;
+        request.open("GET", address + "/request");
+        request.send();
+    }));
+    await attempt("image", () => new Promise((resolve, reject) => {
+        const image = new window.Image();
+        image.onload = resolve;
+        image.onerror = reject;
+        image.src = address + "/image";
+        document.body.append(image);
+    }));
+    await attempt("socket", () => new Promise((resolve, reject) => {
+        const socket = new window.WebSocket(address.replace("http", "ws") + "/socket");
+        socket.onopen = resolve;
+        socket.onerror = reject;
+    }));
+    await attempt("beacon", () => { window.navigator.sendBeacon(address + "/beacon", "x"); });
+    for (const [name, attribute] of [["script", "src"], ["iframe", "src"], ["link", "href"], ["embed", "src"],
+             ["video", "src"], ["object", "data"]]) {
+        await attempt(name, async () => {
+            const element = document.createElement(name);
+            if (name === "link") element.rel = "stylesheet";
+            element.setAttribute(attribute, address + "/" + name);
+            document.body.append(element);
+            await pause(50);
+        });
+    }
+    await pause(300);
+    return outcomes;
+}
+
+async function longLine(...given) {
+    const text = given[0];
+    const transfer = new window.DataTransfer();
+    transfer.setData("text/plain", text);
+    const gaps = [];
+    let last = performance.now();
+    const channel = new window.MessageChannel();
+    let isOver = false;
+    channel.port1.onmessage = () => {
+        const now = performance.now();
+        gaps.push(now - last);
+        last = now;
+        if (!isOver) setTimeout(() => channel.port2.postMessage(0), 0);
+    };
+    const began = performance.now();
+    // Chromium takes clipboardData, Firefox data.
+    byId("text").dispatchEvent(new window.ClipboardEvent(
+        "paste", {clipboardData: transfer, dataType: "text/plain", data: text, bubbles: true, cancelable: true}));
+    if (isIdle()) throw new Error("the text was not pasted");
+    last = performance.now();
+    channel.port2.postMessage(0);
+    await until(isIdle);
+    const seconds = (performance.now() - began) / 1000;
+    isOver = true;
+    return {
+        seconds,
+        most: Math.max(...gaps),
+        started: began,
+        aces: document.querySelector("#dacl-heading small")?.textContent ?? byId("view-look").textContent.slice(0, 200)
+    };
+}
+
+async function bigFile(...given) {
+    const {data, times, stopAfter} = given[0];
+    const one = bytesOf(data);
+    const originalURL = URL.createObjectURL;
+    let saved = null;
+    URL.createObjectURL = (blob) => {
+        if (blob.type === "text/plain") saved = blob;
+        return originalURL.call(URL, blob);
+    };
+    window.HTMLAnchorElement.prototype.click = () => {};
+    const transfer = new window.DataTransfer();
+    transfer.items.add(new window.File(Array(times).fill(one), "big.hex"));
+    byId("lines-file").files = transfer.files;
+    byId("lines-file").dispatchEvent(new window.Event("change"));
+    byId("lines-status").textContent = "";
+    const gaps = [];
+    let last = performance.now();
+    const timer = setInterval(() => {
+        const now = performance.now();
+        gaps.push(now - last);
+        last = now;
+    }, 5);
+    const began = performance.now();
+    byId("lines-start").click();
+    if (stopAfter) {
+        await pause(stopAfter);
+        byId("lines-stop").click();
+    }
+    await until(() => !byId("lines-save").disabled, 110);
+    clearInterval(timer);
+    const seconds = (performance.now() - began) / 1000;
+    byId("lines-save").click();
+    URL.createObjectURL = originalURL;
+    const digest = new Uint8Array(await window.crypto.subtle.digest("SHA-256", await saved.arrayBuffer()));
+    return {
+        seconds,
+        most: Math.max(...gaps),
+        size: saved.size,
+        digest: textOf(digest),
+        status: byId("lines-status").textContent
+    };
+}
+
+async function contrast(...given) {
+    const colour = (text) => text.match(/[\d.]+/g).map(Number);
+    const light = ([red, green, blue]) => [red, green, blue]
+                                              .map((part) => {
+                                                  const one = part / 255;
+                                                  return one <= 0.03928 ? one / 12.92 : ((one + 0.055) / 1.055) ** 2.4;
+                                              })
+                                              .reduce((sum, part, at) => sum + part * [0.2126, 0.7152, 0.0722][at], 0);
+    const ground = (element) => {
+        for (let one = element; one; one = one.parentElement) {
+            const found = colour(getComputedStyle(one).backgroundColor);
+            if (found.length < 4 || found[3] === 1) return found;
+        }
+        return [255, 255, 255];
+    };
+    const found = [];
+    for (const element of document.querySelectorAll("body *")) {
+        const text = Array.from(element.childNodes)
+                         .filter((node) => node.nodeType === 3)
+                         .map((node) => node.data.trim())
+                         .join("");
+        if (!text || element.offsetParent === null || element.closest(":disabled, script, style, .unseen")) continue;
+        const style = getComputedStyle(element);
+        const [one, other] = [light(colour(style.color)), light(ground(element))];
+        const ratio = (Math.max(one, other) + 0.05) / (Math.min(one, other) + 0.05);
+        const isLarge = parseFloat(style.fontSize) >= 24 ||
+            (parseFloat(style.fontSize) >= 18.66 && Number(style.fontWeight) >= 700);
+        if (ratio < (isLarge ? 3 : 4.5))
+            found.push(`${ratio.toFixed(2)} ${element.tagName}.${element.className}: ${text.slice(0, 40)}`);
+    }
+    return found;
+}
+
+async function namesAndLabels(...given) {
+    const nameless = Array.from(document.querySelectorAll("input, select, textarea"))
+                         .filter((one) => one.offsetParent !== null && !one.labels?.length && !one.ariaLabel &&
+                                 !one.getAttribute("aria-label"));
+    const mute =
+        Array.from(document.querySelectorAll("button"))
+            .filter((one) => one.offsetParent !== null && !one.textContent.trim() && !one.getAttribute("aria-label"));
+    const ids = Array.from(document.querySelectorAll("[id]"), (one) => one.id);
+    const twice = ids.filter((id, at) => ids.indexOf(id) !== at);
+    const lost =
+        Array.from(document.querySelectorAll("[aria-labelledby], [aria-describedby], [aria-controls], label[for]"))
+            .flatMap((one) => ["aria-labelledby", "aria-describedby", "aria-controls", "for"].flatMap(
+                         (name) => (one.getAttribute(name) ?? "").split(" ").filter(Boolean)))
+            .filter((id) => !byId(id));
+    return {nameless: nameless.map((one) => one.id), mute: mute.length, twice, lost};
+}
