@@ -344,8 +344,8 @@ struct sdtool_ending sdtool_run(const uint8_t *words, size_t words_size, const u
                                 uint8_t *output, size_t output_size, uint8_t *message, size_t message_size);
 
 /*
- * Gives the name of a fault, such as sid-form for 25: the numbers of docs/FORMAT.md and of enum sdtool_fault. It is
- * SDTOOL_ARGUMENT if no fault has the number. SDTOOL_MOST_FAULT_TEXT bytes always suffice.
+ * Gives the name of a fault, such as sid-form for SDTOOL_FAULT_SID_FORM. It is SDTOOL_ARGUMENT if no fault has the
+ * number. SDTOOL_MOST_FAULT_TEXT bytes always suffice.
  */
 struct sdtool_outcome sdtool_fault_text(uint32_t fault, uint8_t *text, size_t text_size);
 
