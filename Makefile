@@ -101,6 +101,9 @@ install: program library
 	install -m 644 docs/sdtool.1 '$(DESTDIR)$(PREFIX)/share/man/man1/sdtool.1'
 	install -m 644 README.md CONTRIBUTING.md LICENSE '$(DESTDIR)$(DOCUMENTS)'
 	install -m 644 docs/*.md '$(DESTDIR)$(DOCUMENTS)/docs'
+	install -d '$(DESTDIR)$(DOCUMENTS)/docs/pictures'
+	install -m 644 docs/pictures/*.png '$(DESTDIR)$(DOCUMENTS)/docs/pictures'
+	$(if $(wildcard out/sdtool.html),install -m 644 out/sdtool.html '$(DESTDIR)$(DOCUMENTS)')
 	cp -R examples '$(DESTDIR)$(DOCUMENTS)'
 	install -d $(foreach folder,$(COMPLETIONS),'$(DESTDIR)$(PREFIX)/share/$(dir $(folder))')
 	install -m 644 packaging/completions/sdtool.bash '$(DESTDIR)$(PREFIX)/share/$(BASH_COMPLETION)'

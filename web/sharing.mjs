@@ -110,7 +110,7 @@ function askWords(state, result) {
     const mask = ask.rights.reduce((all, bit) => (all | bit) >>> 0, 0);
     const want = ask.want.trim() && !mask ? ask.want.trim() : mask ? `0x${(result?.wanted ?? mask).toString(16)}` : "";
     const token = result?.entries?.length ? result.entries.map((entry) => entry.text).join(",") : ask.token.trim();
-    const level = result?.level ?? (/^\d+$/.test(ask.level) ? Number(ask.level) : null);
+    const level = result?.level ?? (/^ \d+$/.test(ask.level) ? Number(ask.level) : null);
     return [
         "check",
         "--token",
