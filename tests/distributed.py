@@ -315,6 +315,8 @@ def test_wrong_workers(count, place):
     place.start_worker(address, slow)
     place.start_worker(address, {**slow, **place.other_library()})
     place.start_worker(address, {**slow, "SDTOOL_LIBRARY": "/nowhere/libsdtool.so"})
+    place.write("broken/fsspec/__init__.py", b"raise ImportError('fsspec is broken')")
+    place.start_worker(address, {"PYTHONPATH": str(place.folder / "broken")})
     name = place.write("told", LINE * 100 + b"zz\n")
     place.write("elsewhere/told", LINE[:2] * 2 + LINE[4:] * 100 + b"zz\n")
     apart = ["unshare", "--user", "--map-root-user", "--mount", "sh", "-c"]
@@ -326,12 +328,12 @@ def test_wrong_workers(count, place):
         place.start_worker(address, slow, [*apart, 'mount --bind nothing out1 && exec "$@"', "sh"])
     else:
         print("skipped: no file can be mounted here, so no worker sees another one")
-    place.wait_for_workers(address, 5 if is_apart else 3)
+    place.wait_for_workers(address, 6 if is_apart else 4)
     out = place.out()
     got = place.run(out, ["convert"], [name], ["--scheduler", address])
     judge_run(count, place, got, out, ["convert"], [name], "wrong workers")
     told = {"library is not the driver's": 1, "/nowhere/libsdtool.so": 1, "is another file here": int(is_apart),
-            "another output here": int(is_apart), "is left out": 4 if is_apart else 2}
+            "another output here": int(is_apart), "is left out": 4 if is_apart else 2, "fsspec is broken": 1}
     is_told = all(sum(text in line for line in got.stderr.splitlines()) == times for text, times in told.items())
     count.add(is_told and len(set(started(place))) == 1, f"wrong workers: {told}: {set(started(place))} {got}")
 

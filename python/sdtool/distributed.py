@@ -35,7 +35,7 @@ READ, LONGEST_LINE = 4 << 20, 2 << 20  # bytes; no form has a line as long, so o
 OURS = "_sdtool"  # names of files that are not answers begin so
 VERSION_KEYS = {"ino", "ETag", "etag", "VersionId", "generation", "md5Hash"}  # with one, each change of a file shows
 STREAMS = {None, "gzip", "bz2", "xz", "zstd"}
-UNKNOWN = (".lz4", ".zip", ".sz", ".snappy", ".br", ".lzo", ".7z", ".z", ".rar", ".tar", ".tgz")
+UNKNOWN = (".zst", ".lz4", ".zip", ".sz", ".snappy", ".br", ".lzo", ".7z", ".z", ".rar", ".tar", ".tgz")
 SETUP_SECONDS, SILENT_SECONDS = 10, 15  # a worker that takes longer to set up joins when it is ready
 LOOPBACK = "127.0.0.1:0"
 say = functools.partial(print, "sdtool.distributed:", file=sys.stderr, flush=True)
@@ -121,11 +121,9 @@ def count(command: str, piece: bytes, status: int, answers: bytes, message: str)
     """The counts of lines, of `error` lines and of bytes. Raises an error where a line has no answer."""
     lines = piece.count(b"\n") + (not piece.endswith(b"\n"))
     errors = answers.count(b"\nerror ") + answers.startswith(b"error ")
-    answered = answers.count(b"\n")
-    if command == "explain":
-        answered = answers.count(b"\nend\n") + errors
-        if answers.startswith(b"\n") or b"\n\n" in answers:
-            answered += answers.split(b"\n").count(b"") - 1
+    answered = answers.count(b"\nend\n") + errors if command == "explain" else answers.count(b"\n")
+    if command == "explain" and (answers.startswith(b"\n") or b"\n\n" in answers):
+        answered += answers.split(b"\n").count(b"") - 1
     if status not in (0, 1) or status != (errors > 0) or answered != lines or not answers.endswith(b"\n"):
         raise RuntimeError(f"{lines} lines have {answered} answers, {errors} errors, status {status} {message.strip()}")
     return {"lines": lines, "errors": errors, "bytes": len(answers)}
@@ -160,7 +158,7 @@ class Work(WorkerPlugin):
         self.ours, self.is_local = f"{self.root}/{OURS}", isinstance(self.fs, LocalFileSystem)
 
     async def setup(self, worker: Any) -> None:
-        self.worker = worker
+        self.worker, self.manifests = worker, {}
         try:
             await asyncio.get_running_loop().run_in_executor(None, self.check, self.inputs)
             await worker.set_resources(**{self.name: worker.state.nthreads})
@@ -174,8 +172,8 @@ class Work(WorkerPlugin):
         """Asks the scheduler for no more tasks. Those that are here start, fail and are sent elsewhere."""
         scheduler, address = self.worker.scheduler, self.worker.contact_address
         await scheduler.set_resources(resources={self.name: 0}, worker=address)
-        text = f"worker {address} is left out: {type(reason).__name__}: {reason}"
-        await scheduler.log_event(topic=self.name, msg=text.encode(errors="replace").decode())
+        text = f"worker {address} is left out: {type(reason).__name__}: {reason}".encode(errors="replace").decode()
+        await scheduler.log_event(topic=self.name, msg=text)
 
     def check(self, inputs: Iterable[Input] = ()) -> None:
         """Raises an error if this worker has another library, or sees another output or other inputs."""
@@ -234,13 +232,15 @@ class Work(WorkerPlugin):
             write(chunk)
         return digest.hexdigest()
 
-    def answer(self, number: int, index: int, start: int, end: Optional[int], before: List[dict]) -> dict:
+    def answer(self, number: int, index: int, start: int, end: Optional[int]) -> dict:
         """Answers a block, unless a run did so and nothing has changed. Gives its record."""
         given, part = self.inputs[number], f"part-{index:06}"
         path, evidence = f"{given.folder}/{part}", f"{given.folder}/{OURS}-{part}.json"
         basis = {"library": self.library, "words": self.words, "url": given.url, "start": start, "end": end,
                  "version": given.version if given.is_sure else self.name}
-        for record in [self.read_record(evidence), *before]:
+        if given.folder not in self.manifests:  # read once, as it has the records of all blocks
+            self.manifests[given.folder] = self.read_record(f"{given.folder}/{OURS}.json").get("blocks", [])
+        for record in [self.read_record(evidence), *self.manifests[given.folder][index:index + 1]]:
             if {**record, **basis} == record and self.fs.exists(record["path"]) and self.copy(record) == record["digest"]:
                 return record
         given.require_same()
@@ -257,7 +257,7 @@ class Work(WorkerPlugin):
 
     def finish(self, number: int, blocks: List[dict]) -> dict:
         """Puts the answers to an input together. The manifest is there before they appear."""
-        given, at = self.inputs[number], 0
+        given, at, placed = self.inputs[number], 0, []
         total = {key: sum(block[key] for block in blocks) for key in ("lines", "errors", "bytes")}
         if self.is_parts:
             self.write_record(f"{given.folder}/{OURS}.json", {**total, "blocks": blocks})
@@ -266,10 +266,10 @@ class Work(WorkerPlugin):
                 for block in blocks:
                     if self.copy(block, write) != block["digest"]:
                         raise RuntimeError(f"{block['path']} is not what its worker wrote")
-                    block.update(path=given.answers, at=at)
+                    placed.append({**block, "path": given.answers, "at": at})
                     at += block["bytes"]
-                self.write_record(f"{given.folder}/{OURS}.json", {**total, "blocks": blocks})
-        kept = {os.path.basename(block["path"]) for block in blocks}
+                self.write_record(f"{given.folder}/{OURS}.json", {**total, "blocks": placed})
+        kept = {os.path.basename(block["path"]) for block in placed or blocks}
         parts = [(path, re.search(r"part-\d+", os.path.basename(path))) for path in self.fs.ls(given.folder, detail=False)]
         for path in (path for path, part in parts if part and part[0] not in kept):
             self.fs.rm_file(path)
@@ -287,7 +287,8 @@ class Work(WorkerPlugin):
         for wrong, is_so in {
                 "is not a regular file": told["type"] != "file",
                 "has a name that is kept for runs": name.startswith(OURS),
-                "is compressed in a way that is not read here": compression not in STREAMS or path.lower().endswith(UNKNOWN),
+                "is compressed in a way that is not read here": compression not in STREAMS or not compression and path.lower(
+                    ).endswith(UNKNOWN),
                 "has the answers of another input; give the folder of both": taken & {answers, f"{answers}/", *above},
                 f"has answers at {answers}, which no run wrote": self.fs.exists(answers) and not is_ours}.items():
             if is_so:
@@ -306,12 +307,12 @@ class Work(WorkerPlugin):
             if is_folder and self.fs.unstrip_protocol(f"{self.root}/").startswith(fs.unstrip_protocol(f"{path}/")):
                 raise ValueError(f"--out: {self.out} is in the input {url}")
             paths = sorted(each for each in (fs.find(path) if fs.exists(path) else fs.glob(path)) if not fs.isdir(each))
-            names = {each: os.path.relpath(each, path) if is_folder else os.path.basename(each) for each in paths}
-            names = {each: name for each, name in names.items() if not is_folder or f"/{OURS}" not in f"/{name}"}
+            names = [os.path.relpath(each, path) if is_folder else os.path.basename(each) for each in paths]
             if not names:
                 raise ValueError(f"{url}: no regular file has such a name")
-            for each, name in names.items():
-                self.take(fs, each, name, taken)
+            for each, name in zip(paths, names):
+                if not is_folder or f"/{OURS}" not in f"/{name}":
+                    self.take(fs, each, name, taken)
         self.fs.makedirs(self.ours, exist_ok=True)
         for given in self.inputs:
             self.fs.makedirs(given.folder, exist_ok=True)
@@ -349,9 +350,8 @@ async def collect(client: Client, work: Work, wanted: argparse.Namespace) -> Lis
         for number in lasts:
             given, key = work.inputs[number], f"{work.name}-{attempt}-{number}"
             cuts = [*range(0, given.size or 1, wanted.block), given.size]
-            before = work.read_record(f"{given.folder}/{OURS}.json").get("blocks", [])
-            parts = [call(work.name, "answer", number, index, *block, before[index:index + 1],
-                          dask_key_name=f"answer-{key}-{index}") for index, block in enumerate(zip(cuts, cuts[1:]))]
+            parts = [call(work.name, "answer", number, index, *block, dask_key_name=f"answer-{key}-{index}")
+                     for index, block in enumerate(zip(cuts, cuts[1:]))]
             lasts[number] = call(work.name, "finish", number, parts, dask_key_name=f"finish-{key}")
         futures = client.compute(list(lasts.values()), resources={work.name: 1}, retries=wanted.retries)
         if sys.stderr.isatty() and futures:
@@ -367,9 +367,11 @@ async def drive(wanted: argparse.Namespace, work: Work) -> List[Any]:
         "worker_dashboard_address": LOOPBACK, "scheduler_kwargs": {"worker_ttl": "1 day"}}
     async with Client(wanted.scheduler, asynchronous=True, timeout=wanted.wait, **here) as client:
         client.subscribe_topic(work.name, lambda event: say(event[1]))
-        with contextlib.suppress(asyncio.TimeoutError):
+        try:
             register = getattr(client, "register_plugin", client.register_worker_plugin)
             await asyncio.wait_for(register(work, name=work.name), SETUP_SECONDS)
+        except Exception as error:
+            say(f"some worker does not answer, or cannot take part: {error!r}")
         tasks = [asyncio.ensure_future(collect(client, work, wanted)),
                  asyncio.ensure_future(watch(client, work.name, wanted.wait if wanted.scheduler else 3))]
         try:
@@ -385,9 +387,8 @@ async def drive(wanted: argparse.Namespace, work: Work) -> List[Any]:
 
 
 def wanted_of(words: List[str]) -> argparse.Namespace:
-    parser = argparse.ArgumentParser(
-        prog="python3 -m sdtool.distributed", allow_abbrev=False, description="Answers large files on a Dask cluster.",
-        usage="%(prog)s [--scheduler ADDRESS] --out URL [..] COMMAND [OPTIONS] -- INPUT..")
+    parser = argparse.ArgumentParser(prog="python3 -m sdtool.distributed", allow_abbrev=False,
+                                     usage="%(prog)s [--scheduler ADDRESS] --out URL [..] COMMAND [OPTIONS] -- INPUT..")
     add = parser.add_argument
     add("--scheduler", metavar="ADDRESS", help="of Dask, as tcp://host:8786; without it, a cluster in this process")
     add("--out", metavar="URL", required=True, help="the folder of the answers")
