@@ -807,6 +807,24 @@ def test_buttons(count, page, given):
     count.add("Our people" in sids, "a name of the user")
 
 
+def test_many_trustees(count, page, _):
+    """A list for more trustees than are asked about at once: none is lost, and no broad group is left for later."""
+    page.open()
+    sids = [f"S-1-5-21-1-2-3-{number}" for number in range(1000, 1130)]
+    page.see("D:" + "".join(f"(A;;FR;;;{sid})" for sid in sids) + "(A;;FA;;;WD)")
+    shown = page.do("return byId('view-look').textContent;")
+    count.add("30 more trustees are not asked about" in shown, "what is left is said")
+    count.add(any("Everyone can" in one for one in page.texts(".warning")), "Everyone behind 130 others")
+    rows = page.do(
+        "byId('grid-all').click(); await until(isIdle); const more = () => Array.from(document.querySelectorAll("
+        "'table.grid')).map((table) => table.closest('section').querySelector('.more button')).find(Boolean); "
+        "while (more()) more().click(); "
+        "return Array.from(document.querySelectorAll('table.grid tbody tr'), (row) => row.dataset.token.split(' ')[0]);"
+    )
+    count.add(rows == [*sids, "S-1-1-0"], f"all trustees: {len(rows)} {rows[:3]}")
+    count.add(page.do("return byId('grid-all') === null;"), "nothing is left to ask about")
+
+
 def test_share(count, page, given):
     """A link gives the same page, and the command line the same answer."""
     page.open()
@@ -925,6 +943,7 @@ TESTS = [
     test_stop,
     test_keyboard,
     test_buttons,
+    test_many_trustees,
     test_share,
     test_accessible,
     test_narrow,
