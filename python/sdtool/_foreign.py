@@ -34,6 +34,7 @@ _OUT = (ctypes.c_void_p, _SIZE)
 # The arguments of each call and what it gives.
 _CALLS: Tuple[Tuple[str, Sequence[Any], Any], ...] = (
     ("version", _OUT, _Outcome),
+    ("version_number", (), _U32),  # a library without it has other structs
     ("fault_text", (_U32, *_OUT), _Outcome),
     ("normalize", (*_IN, *_OUT), _Outcome),
     ("from_sddl", (*_IN * 2, *_OUT), _Outcome),

@@ -22,7 +22,7 @@ enum {
 
 #define CALLS(EACH)                                                                                                          \
     EACH(version) EACH(normalize) EACH(from_sddl) EACH(to_sddl) EACH(explain) EACH(check) EACH(derive) EACH(run)             \
-    EACH(fault_text)
+    EACH(fault_text) EACH(version_number)
 
 #define POINTER(name) __typeof__(sdtool_##name) *name;
 static struct { CALLS(POINTER) } library;
@@ -284,6 +284,10 @@ static PyObject *load(PyObject *self, PyObject *arguments)
         return NULL;                                                                                                         \
     }
     CALLS(FIND)
+    if (library.version_number() < SDTOOL_VERSION) {
+        PyErr_SetString(PyExc_OSError, "it is older than the header that this module was built with");
+        return NULL;
+    }
     Py_INCREF(raises);
     Py_XDECREF(refuse);
     refuse = raises;
