@@ -41,11 +41,9 @@ class Ace(NamedTuple):
     object_type: str  # a GUID, or nothing
     inherited_type: str
     sid: str
-
-    @property
-    def counts(self) -> bool:
-        """Whether it is for the object itself, and not for its children alone."""
-        return not self.flags & INHERIT_ONLY
+    counts: bool   # whether it is for the object itself, and not for its children alone
+    decides: bool  # whether it also allows or denies
+    is_odd: bool   # whether there may be a question that it can't be asked
 
 
 class Descriptor(NamedTuple):
@@ -58,6 +56,7 @@ class Descriptor(NamedTuple):
     aces: Tuple[Ace, ...]
     sacl: str
     sacl_aces: Tuple[Ace, ...]
+    deciding: Tuple[Ace, ...]  # those of the DACL that decide about the object itself
 
 
 # What an error means to somebody with an object, and what would help. docs/FORMAT.md has the exact meaning.
@@ -92,8 +91,8 @@ def reason_of(refusal: Refusal) -> Tuple[str, str]:
     return f"{meaning} ({refusal.line})", advice
 
 
-def _run(words: Sequence[str], texts: Sequence[str]) -> List[str]:
-    """The output of the library, as lines."""
+def _run(words: Sequence[str], texts: Sequence[str]) -> str:
+    """The output of the library."""
     for text in texts:
         # An empty line or one of blanks would be a descriptor without a DACL, which grants everything.
         if not text.strip(" \t\r\n") or "\n" in text:
@@ -102,10 +101,7 @@ def _run(words: Sequence[str], texts: Sequence[str]) -> List[str]:
     answers = sdtool.run(list(words), data)
     if answers.status not in (0, 1):
         raise WordsFault(f"{answers.message.strip() or 'the library failed'} (of {' '.join(words)})")
-    output = answers.output.decode("ascii").split("\n")
-    if output.pop() != "":
-        raise AnswersFault("the last answer is cut")
-    return output
+    return answers.output.decode("ascii")
 
 
 def _batches(texts: Sequence[str]) -> List[Sequence[str]]:
@@ -125,7 +121,9 @@ def _ask(words: Sequence[str], texts: Sequence[str]) -> List[str]:
     """One line for each text."""
     answers: List[str] = []
     for batch in _batches(texts):
-        found = _run(words, batch)
+        found = _run(words, batch).split("\n")
+        if found.pop() != "":
+            raise AnswersFault("the last answer is cut")
         if len(found) != len(batch):
             raise AnswersFault(f"{len(batch)} lines have {len(found)} answers")
         answers += found
@@ -137,6 +135,13 @@ def _domain(domain: str) -> List[str]:
 
 
 _aces: Dict[str, Ace] = {}
+_DECIDE = ALLOWS | DENIES
+
+
+def _ace_of(kind: str, flags: int, mask: int, object_type: str, inherited_type: str, sid: str) -> Ace:
+    counts, decides = not flags & INHERIT_ONLY, kind in _DECIDE
+    is_odd = kind not in _DECIDE | OTHERS or bool(object_type) or mask & GENERIC != 0
+    return Ace(kind, flags, mask, object_type, inherited_type, sid, counts, decides and counts, is_odd)
 
 
 def _ace(text: str) -> Ace:
@@ -153,28 +158,35 @@ def _ace(text: str) -> Ace:
         types = dict(zip(words[7:-2:2], words[8:-2:2]))
         if words[-2] != "sid" or set(types) - {"object", "inherited"}:
             raise AnswersFault(f"no ACE: {text!r}")
-        found = Ace(words[0], flags, int(words[4], 16), types.get("object", ""), types.get("inherited", ""), words[-1])
+        found = _ace_of(words[0], flags, int(words[4], 16), types.get("object", ""), types.get("inherited", ""), words[-1])
         if len(_aces) >= _MOST_ACES:
             _aces.clear()
         _aces[text] = found
     return found
 
 
-def _acl(lines: List[str], at: int, name: str) -> Tuple[str, Tuple[Ace, ...], int]:
-    """An ACL that begins at a line, and the line behind it."""
-    words = lines[at].split(" ")
-    if words[0] != name or words[1] not in ("absent", "null", "list"):
-        raise AnswersFault(f"no {name}: {lines[at]!r}")
-    count = int(words[2]) if words[1] == "list" else 0
-    end = at + 1 + count
-    return words[1], tuple([_ace(line.split(" ", 2)[2]) for line in lines[at + 1:end]]), end
+# The block of explain for a descriptor, or the line for one that is refused.
+_BLOCK = re.compile(r"control 0x([0-9a-f]{4})[^\n]*\nrm 0x[0-9a-f]{2}\nowner (\S+)\ngroup (\S+)\n"
+                    r"dacl (absent|null|list)(?: ([0-9]+))?\n((?:dacl [^\n]*\n)*)"
+                    r"sacl (absent|null|list)(?: ([0-9]+))?\n((?:sacl [^\n]*\n)*)end\n|(error [^\n]*)\n")
+_acls: Dict[str, Tuple[Ace, ...]] = {}
 
 
-def _sid_after(line: str, name: str) -> str:
-    word, _, sid = line.partition(" ")
-    if word != name:
-        raise AnswersFault(f"no {name}: {line!r}")
-    return "" if sid == "none" else sid
+def _acl(count: Optional[str], text: str) -> Tuple[Ace, ...]:
+    """The ACEs of an ACL, of which the text has a line for each."""
+    found = _acls.get(text)
+    if found is None:
+        found = tuple([_ace(line.split(" ", 2)[2]) for line in text.split("\n")[:-1]])
+        if len(_acls) >= _MOST_ACES // 10:
+            _acls.clear()
+        _acls[text] = found
+    if len(found) != int(count or 0):
+        raise AnswersFault(f"an ACL of {count} ACEs has {len(found)}")
+    return found
+
+
+def _no_sid(text: str) -> str:
+    return "" if text == "none" else text
 
 
 def explained(form: str, texts: Sequence[str], domain: str = "") -> List[Union[Descriptor, Refusal]]:
@@ -182,24 +194,21 @@ def explained(form: str, texts: Sequence[str], domain: str = "") -> List[Union[D
     answers: List[Union[Descriptor, Refusal]] = []
     words = ["explain", "--from", form, "--numeric", *_domain(domain)]
     for batch in _batches(texts):
-        lines = _run(words, batch)
+        output = _run(words, batch)
         at = 0
         for _ in batch:
-            if at >= len(lines):
-                raise AnswersFault("there are fewer answers than lines")
-            if lines[at].startswith("error "):
-                answers.append(Refusal(lines[at]))
-                at += 1
+            block = _BLOCK.match(output, at)
+            if not block:
+                raise AnswersFault(f"no answer of explain: {output[at:at + 100]!r}")
+            at = block.end()
+            control, owner, group, dacl, count, lines, sacl, sacl_count, sacl_lines, error = block.groups()
+            if error is not None:
+                answers.append(Refusal(error))
                 continue
-            control = int(lines[at].split(" ")[1], 16)
-            owner, group = _sid_after(lines[at + 2], "owner"), _sid_after(lines[at + 3], "group")
-            dacl, aces, following = _acl(lines, at + 4, "dacl")
-            sacl, sacl_aces, following = _acl(lines, following, "sacl")
-            if lines[following] != "end":
-                raise AnswersFault(f"no end: {lines[following]!r}")
-            answers.append(Descriptor(control, owner, group, dacl, aces, sacl, sacl_aces))
-            at = following + 1
-        if at != len(lines):
+            aces = _acl(count, lines)
+            answers.append(Descriptor(int(control, 16), _no_sid(owner), _no_sid(group), dacl, aces, sacl,
+                                      _acl(sacl_count, sacl_lines), tuple([ace for ace in aces if ace[7]])))
+        if at != len(output):
             raise AnswersFault("there are more answers than lines")
     return answers
 

@@ -2,6 +2,7 @@
 import codecs
 import contextlib
 import functools
+import gc
 import os
 import sys
 from typing import Any, Callable, Iterable, Iterator, List, NamedTuple, Optional, Sequence, TextIO, Tuple
@@ -494,6 +495,8 @@ def _status() -> int:
 
 
 def main() -> None:
+    # Objects and answers have no cycles, and looking for some takes a fifth of the time.
+    gc.set_threshold(200_000)
     status = _status()
     try:
         sys.stdout.flush()

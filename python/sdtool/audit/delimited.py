@@ -38,9 +38,11 @@ Record = Tuple[int, Optional[List[str]], str, str]
 
 
 class Columns(NamedTuple):
+    """Which columns have names and descriptors, and how many columns there are."""
+
     name: Optional[int]
     descriptor: int
-    count: int
+    width: int
 
 
 def plain_name(name: str) -> str:
@@ -235,7 +237,7 @@ def layout_of(first: List[str], label: str, options: SourceOptions) -> Layout:
 
 def read(blocks: Iterator[List[str]], label: str, options: SourceOptions) -> Iterator[Item]:
     """The objects of a table. Lines have their CR."""
-    first = next(blocks, [])
+    first: List[str] = next(blocks, [])
     layout = layout_of(first, label, options)
     all_records = records(itertools.chain([first[layout.skipped:]], blocks), layout.delimiter, layout.quotes, layout.skipped)
     if layout.has_header:
@@ -262,7 +264,7 @@ def blank_item(line: int, layout: Layout) -> Item:
 def items_of(all_records: Iterator[Record], layout: Layout, blanks: List[int]) -> Iterator[Item]:
     """The objects of records. blanks has the empty lines that were seen last, which count unless they end the source."""
     label, kind = layout.label, layout.kind
-    count, name_at, descriptor_at = layout.columns.count, layout.columns.name, layout.columns.descriptor
+    count, name_at, descriptor_at = layout.columns.width, layout.columns.name, layout.columns.descriptor
     spelled: Dict[str, Item] = {}  # an object with a text, for texts that come again
     for line, row, reason, text in all_records:
         if row is not None and len(row) == 0:

@@ -8,7 +8,7 @@ from sdtool.audit.answers import FLAGS, Ace, Descriptor, Refusal, converted, exp
 from sdtool.audit.describing import ace_in_words
 from sdtool.audit.engine import Answered, Engine
 from sdtool.audit.items import HEX, SDDL, UNREADABLE, Item, unreadable
-from sdtool.audit.questions import (Answer, Checks, Finding, Question, Rule, complete, deciding, trustee_token, unknown, unknown_of,
+from sdtool.audit.questions import (Answer, Checks, Finding, Question, Rule, complete, trustee_token, unknown, unknown_of,
                                     why_unanswerable, _as_owner)
 from sdtool.audit.scratch import COLUMNS, Scratch, item_of, row_of
 
@@ -175,7 +175,7 @@ class Differences:
     def _of_aces(self, title: str, old: Sequence[Ace], new: Sequence[Ace], kind: str) -> Iterator[Finding]:
         removed, added = _surplus(old, new), _surplus(new, old)
         for ace in list(removed):
-            partner = next((one for one in added if one._replace(flags=0) == ace._replace(flags=0)), None)
+            partner = next((one for one in added if _without_flags(one) == _without_flags(ace)), None)
             if partner is not None:
                 removed.remove(ace)
                 added.remove(partner)
@@ -249,6 +249,10 @@ def _surplus(aces: Sequence[Ace], others: Sequence[Ace]) -> List[Ace]:
     return found
 
 
+def _without_flags(ace: Ace) -> Tuple[str, int, str, str, str]:
+    return ace.kind, ace.mask, ace.object_type, ace.inherited_type, ace.sid
+
+
 def _flags(ace: Ace) -> str:
     return "".join(name for name, bit in FLAGS.items() if ace.flags & bit) or "none"
 
@@ -257,7 +261,7 @@ def _trustees(old: Descriptor, new: Descriptor) -> List[str]:
     """Whoever's rights may have changed."""
     found: Dict[str, None] = {sids.EVERYONE: None, sids.AUTHENTICATED_USERS: None}
     for descriptor in (old, new):
-        for ace in deciding(descriptor):
+        for ace in descriptor.deciding:
             found[_as_owner(ace.sid, descriptor)] = None
         found[descriptor.owner] = None
     found.pop("", None)
@@ -265,4 +269,4 @@ def _trustees(old: Descriptor, new: Descriptor) -> List[str]:
 
 
 def _types(descriptor: Descriptor) -> List[str]:
-    return list(dict.fromkeys(ace.object_type for ace in deciding(descriptor) if ace.object_type))
+    return list(dict.fromkeys(ace.object_type for ace in descriptor.deciding if ace.object_type))

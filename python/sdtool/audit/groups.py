@@ -69,7 +69,7 @@ def text_lines(path: str) -> Iterator[str]:
     """The lines of a file, whatever its encoding."""
     try:
         for stream in streams(path, lambda count: None):
-            yield from without_cr(lines(chunks(stream.bytes, encoding_of(stream.head, None))))
+            yield from without_cr(lines(chunks(stream.raw, encoding_of(stream.head, None))))
     except READ_FAULTS as error:
         raise OpeningFault(f"{path}: {error}") from error
 
@@ -94,10 +94,8 @@ def _of_ldif(path: str) -> Groups:
             names[sid] = named.decode("utf-8", "replace") or entry.name
             for number in entry.attributes.get("primarygroupid", []):
                 primary.append((sid.rpartition("-")[0] + "-" + number.decode("ascii", "replace"), sid))
-        for member in entry.attributes.get("member", []):
-            by_name.append((own, member.decode("utf-8", "replace").lower()))
-        for group in entry.attributes.get("memberof", []):
-            by_name.append((group.decode("utf-8", "replace").lower(), own))
+        by_name += [(own, spelled.decode("utf-8", "replace").lower()) for spelled in entry.attributes.get("member", [])]
+        by_name += [(spelled.decode("utf-8", "replace").lower(), own) for spelled in entry.attributes.get("memberof", [])]
     members: Dict[str, Set[str]] = {}
     for group, member in by_name:
         # A member of another domain, or one whose entry isn't in the file, has no SID here. Its group is shown all the same.
@@ -115,7 +113,7 @@ def _of_table(path: str, domain: str) -> Groups:
     for number, line in enumerate(text_lines(path), 1):
         if not line.strip() or line.lstrip().startswith("#"):
             continue
-        row = next(csv.reader([line]), [])
+        row: List[str] = next(csv.reader([line]), [])
         try:
             sids = []
             for cell in row:

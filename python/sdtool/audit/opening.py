@@ -80,7 +80,7 @@ class Stream(NamedTuple):
     """One source of bytes: a file, or a member of an archive."""
 
     label: str
-    bytes: io.BufferedReader
+    raw: io.BufferedReader
     head: bytes
 
 

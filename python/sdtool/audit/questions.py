@@ -56,7 +56,7 @@ def complete(answers: Sequence[Optional[Answer]]) -> List[Answer]:
 
 def why_unanswerable(descriptor: Descriptor, kind: str) -> Optional[Answer]:
     """Why no question about rights can be answered, though the descriptor was read."""
-    for ace in descriptor.aces:
+    for ace in [ace for ace in descriptor.aces if ace.is_odd]:
         if ace.kind not in ALLOWS | DENIES | OTHERS:
             return unknown(f"an ACE has the kind {ace.kind}, which isn't known here", "look at the object on its own system")
         if not ace.counts or ace.kind in OTHERS:
@@ -67,11 +67,6 @@ def why_unanswerable(descriptor: Descriptor, kind: str) -> Optional[Answer]:
             return unknown(f"an ACE has a generic right, whose meaning for a {kind} isn't known here",
                            "look at the object on its own system")
     return None
-
-
-def deciding(descriptor: Descriptor) -> List[Ace]:
-    """The ACEs that decide about the object itself."""
-    return [ace for ace in descriptor.aces if ace.counts and ace.kind in ALLOWS | DENIES]
 
 
 def trustee_token(sid: str) -> Token:
@@ -108,7 +103,9 @@ class Checks:
 
 def _object_types(descriptor: Descriptor, mask: int, kind: str) -> List[str]:
     """The object types by which ACEs may allow some of these rights."""
-    return list(dict.fromkeys(ace.object_type for ace in deciding(descriptor)
+    if kind != "ds":
+        return []
+    return list(dict.fromkeys(ace.object_type for ace in descriptor.deciding
                               if ace.object_type and ace.kind in ALLOWS and mapped(ace.mask, kind) & mask))
 
 
@@ -245,10 +242,10 @@ class _Trustees:
     def __init__(self, descriptor: Descriptor, mask: int, kind: str) -> None:
         self._descriptor = descriptor
         self.types = _object_types(descriptor, mask, kind)
-        self.named = {_as_owner(ace.sid, descriptor) for ace in deciding(descriptor)} | {descriptor.owner}
+        self.named = {_as_owner(ace.sid, descriptor) for ace in descriptor.deciding} | {descriptor.owner}
         self.allowed_masks: Dict[str, int] = {}
         denied: Dict[str, None] = {}
-        for ace in deciding(descriptor):
+        for ace in descriptor.deciding:
             sid = _as_owner(ace.sid, descriptor)
             named = mapped(ace.mask, kind) & mask
             if not sid or not named:

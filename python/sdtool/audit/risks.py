@@ -5,7 +5,7 @@ from typing import Dict, Iterable, List, NamedTuple, Optional, Sequence, Tuple
 from sdtool.audit import names as sids
 from sdtool.audit import rights
 from sdtool.audit.answers import ALLOWS, DENIES, INHERITED, PROTECTED, Descriptor, Refusal, explained, mapped
-from sdtool.audit.questions import (Answer, Checks, Finding, Got, Question, Rule, answer_of, complete, deciding, trustee_token,
+from sdtool.audit.questions import (Answer, Checks, Finding, Got, Question, Rule, answer_of, complete, trustee_token,
                                     unknown_of, why_unanswerable, _as_owner, _ask_all, _got, _object_types, _texts_of)
 
 RULES = (
@@ -27,6 +27,18 @@ TRUSTED = (sids.SYSTEM, sids.ADMINISTRATORS, sids.TRUSTED_INSTALLER, sids.CREATO
 OWNERS = (sids.SYSTEM, sids.ADMINISTRATORS, sids.TRUSTED_INSTALLER)
 _TAKE_OVER = rights.WRITE_DAC | rights.WRITE_OWNER
 _EVERYBODY = (sids.EVERYONE, sids.AUTHENTICATED_USERS)
+
+
+_ANYBODY = frozenset({*_EVERYBODY, sids.OWNER_RIGHTS})
+_NOTHING = Got(0, ())
+
+
+class _Asked(NamedTuple):
+    """What was asked about a descriptor: its object types, whether the two that stand for everybody, and who else."""
+
+    types: List[str]
+    has_everybody: bool
+    takers: List[str]
 
 
 class Lists(NamedTuple):
@@ -55,7 +67,7 @@ class Risks:
         descriptors = explained(form, texts, self._common.domain)
         answers: List[Optional[Answer]] = [None] * len(texts)
         checks = Checks(form, texts, kind, change, self._common.domain)
-        asked: Dict[int, List[str]] = {}
+        asked: Dict[int, _Asked] = {}
         for at, descriptor in enumerate(descriptors):
             if isinstance(descriptor, Refusal):
                 answers[at] = unknown_of(descriptor)
@@ -64,34 +76,34 @@ class Risks:
             if answers[at] is None:
                 asked[at] = self._ask(checks, at, descriptor, change, kind)
         checks.run()
-        for at, types in asked.items():
+        for at, one in asked.items():
             descriptor = descriptors[at]
             assert isinstance(descriptor, Descriptor)
-            answers[at] = answer_of(self._findings(checks, at, descriptor, types, kind, change))
+            answers[at] = answer_of(self._findings(checks, at, descriptor, one, kind, change))
         return complete(answers)
 
-    def _ask(self, checks: Checks, at: int, descriptor: Descriptor, change: int, kind: str) -> List[str]:
+    def _ask(self, checks: Checks, at: int, descriptor: Descriptor, change: int, kind: str) -> "_Asked":
         types = _object_types(descriptor, change, kind)
-        if descriptor.dacl == "list":
-            # Without an ACE for one of the two, nothing is granted to them but what their ownership gives.
-            named = {ace.sid for ace in deciding(descriptor)} | {descriptor.owner}
-            if named & {*_EVERYBODY, sids.OWNER_RIGHTS}:
-                for sid in _EVERYBODY:
-                    _ask_all(checks, at, trustee_token(sid), types)
-            for sid in self._takers(descriptor, kind):
-                _ask_all(checks, at, trustee_token(sid), types)
-        return types
+        if descriptor.dacl != "list":
+            return _Asked(types, False, [])
+        # Without an ACE for one of the two, nothing is granted to them but what their ownership gives.
+        named = [ace[5] for ace in descriptor.deciding]
+        has_everybody = descriptor.owner in _EVERYBODY or not _ANYBODY.isdisjoint(named)
+        takers = self._takers(descriptor, kind)
+        for sid in (*(_EVERYBODY if has_everybody else ()), *takers):
+            _ask_all(checks, at, trustee_token(sid), types)
+        return _Asked(types, has_everybody, takers)
 
     def _takers(self, descriptor: Descriptor, kind: str) -> List[str]:
         """Trustees outside the list whom an ACE may allow to take over."""
         if "takeover" not in self._on:
             return []
-        found = dict.fromkeys(_as_owner(ace.sid, descriptor) for ace in deciding(descriptor)
-                              if ace.kind in ALLOWS and mapped(ace.mask, kind) & _TAKE_OVER)
+        found = dict.fromkeys([_as_owner(ace.sid, descriptor) for ace in descriptor.deciding
+                               if ace.kind in ALLOWS and mapped(ace.mask, kind) & _TAKE_OVER])
         ruled = [sid for sid, rule in zip(_EVERYBODY, ("everyone-changes", "users-change")) if rule in self._on]
         return [sid for sid in found if sid and sid not in ruled and not _is_in(sid, self._lists.trusted)]
 
-    def _findings(self, checks: Checks, at: int, descriptor: Descriptor, types: Sequence[str], kind: str,
+    def _findings(self, checks: Checks, at: int, descriptor: Descriptor, asked: "_Asked", kind: str,
                   change: int) -> Iterable[Finding]:
         # Each right is found once: by the rule for the DACL as a whole, for Everyone, for users, or for those left.
         if descriptor.dacl != "list":
@@ -100,27 +112,25 @@ class Risks:
         else:
             if not descriptor.aces:
                 yield from self._of("empty-dacl", "", "")
-            yield from self._of_rights(checks, at, descriptor, types, kind, change)
+            yield from self._of_rights(checks, at, asked, kind, change)
             yield from self._of_list(descriptor)
         if self._lists.owners is not None and descriptor.owner and not _is_in(descriptor.owner, self._lists.owners):
             yield from self._of("foreign-owner", descriptor.owner, "")
         if self._common.names.given:
             yield from self._of_unknown_sids(descriptor)
 
-    def _of_rights(self, checks: Checks, at: int, descriptor: Descriptor, types: Sequence[str], kind: str,
-                   change: int) -> Iterable[Finding]:
-        named = {ace.sid for ace in deciding(descriptor)} | {descriptor.owner}
-        everyone = users = Got(0, ())
-        if named & {*_EVERYBODY, sids.OWNER_RIGHTS}:
-            everyone = _got(checks, at, trustee_token(sids.EVERYONE), types, change)
-            users = _without(_got(checks, at, trustee_token(sids.AUTHENTICATED_USERS), types, change), everyone)
+    def _of_rights(self, checks: Checks, at: int, asked: "_Asked", kind: str, change: int) -> Iterable[Finding]:
+        everyone = users = _NOTHING
+        if asked.has_everybody:
+            everyone = _got(checks, at, trustee_token(sids.EVERYONE), asked.types, change)
+            users = _without(_got(checks, at, trustee_token(sids.AUTHENTICATED_USERS), asked.types, change), everyone)
             yield from self._of_got("everyone-changes", sids.EVERYONE, everyone, kind)
             yield from self._of_got("users-change", sids.AUTHENTICATED_USERS, users, kind)
         # What a rule that is off would have found is left to the next one.
-        everyone = everyone if "everyone-changes" in self._on else Got(0, ())
-        users = users if "users-change" in self._on else Got(0, ())
-        for sid in self._takers(descriptor, kind):
-            got = _without(_without(_got(checks, at, trustee_token(sid), types, _TAKE_OVER), everyone), users)
+        everyone = everyone if "everyone-changes" in self._on else _NOTHING
+        users = users if "users-change" in self._on else _NOTHING
+        for sid in asked.takers:
+            got = _without(_without(_got(checks, at, trustee_token(sid), asked.types, _TAKE_OVER), everyone), users)
             yield from self._of_got("takeover", sid, got, kind)
 
     def _of_list(self, descriptor: Descriptor) -> Iterable[Finding]:

@@ -76,7 +76,7 @@ def _names_of(path: Optional[str]) -> Optional[List[str]]:
     if path is None:
         return None
     return [line for stream in streams(path, lambda count: None)
-            for line in without_cr(lines(chunks(stream.bytes, encoding_of(stream.head, None))))]
+            for line in without_cr(lines(chunks(stream.raw, encoding_of(stream.head, None))))]
 
 
 _NAMED_LOG = _first_line(r"name: ")
@@ -128,7 +128,7 @@ def _format_of(first: str, options: SourceOptions) -> Format:
 
 
 def _read_text(stream: Stream, options: SourceOptions, tables: bool) -> Iterator:
-    first, texts = with_head(chunks(stream.bytes, encoding_of(stream.head, options.encoding)))
+    first, texts = with_head(chunks(stream.raw, encoding_of(stream.head, options.encoding)))
     one = _format_of(first, options)
     if one.takes == "text":
         return one.read(texts, stream.label, options)
@@ -141,9 +141,9 @@ def _read_text(stream: Stream, options: SourceOptions, tables: bool) -> Iterator
 
 def _read_stream(stream: Stream, options: SourceOptions, tables: bool) -> Iterator:
     if options.format == "sds" or options.format is None and ntfs.looks_like_stream(stream.head):
-        return ntfs.read_stream(stream.bytes, stream.label, options)
+        return ntfs.read_stream(stream.raw, stream.label, options)
     if options.format == "binary" or options.format is None and ntfs.looks_like_descriptor(stream.head):
-        return ntfs.read_descriptor(stream.bytes, stream.label, options)
+        return ntfs.read_descriptor(stream.raw, stream.label, options)
     return _read_text(stream, options, tables)
 
 
@@ -179,7 +179,7 @@ def _check_names(path: str, options: SourceOptions) -> None:
     if path == STANDARD_INPUT:
         raise OpeningFault("--names needs a list in a file, which can be counted first")
     counts = [sum(1 for stream in streams(one, lambda count: None)
-                  for _ in lines(chunks(stream.bytes, encoding_of(stream.head, options.encoding))))
+                  for _ in lines(chunks(stream.raw, encoding_of(stream.head, options.encoding))))
               for one in (path, options.names)]
     if counts[0] != counts[1]:
         raise OpeningFault(f"{path} has {counts[0]} lines and {options.names} has {counts[1]}: "

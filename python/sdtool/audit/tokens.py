@@ -29,7 +29,7 @@ def _of_whoami_csv(lines: Sequence[str], path: str) -> Token:
     sids: List[str] = []
     level: Optional[int] = None
     for number, line in enumerate(lines, 1):
-        row = next(csv.reader([line]), [])
+        row: List[str] = next(csv.reader([line]), [])
         found = [cell for cell in row if _SID.match(cell.strip())]
         if not found:
             continue
