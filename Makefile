@@ -16,9 +16,21 @@ SONAME := libsdtool.so.$(shell sed -n 's/^major=//p' packaging/library.sh)
 EXAMPLES := examples/descriptors.hex
 SOURCES := crates.txt $(shell find crates -path '*/out' -prune -o -path '*/must-fail' -prune -o -type f -print)
 
+SYSTEMS := linux-x86_64 linux-aarch64 windows-x86_64 wasm
+# What the compiler makes of the crates: objects for Linux, and its own form, LLVM IR, for the other systems.
+COMPILED := out/systems/compiled
+# The commands that a system takes beside a C compiler for this one.
+TOOLS_linux-aarch64 := aarch64-linux-gnu-gcc
+TOOLS_windows-x86_64 := x86_64-w64-mingw32-gcc
+TOOLS_wasm := wasm-opt
+missing_tools = $(strip $(foreach tool,$(TOOLS_$(1)),$(if $(shell command -v $(tool)),,$(tool))))
+
+# Scripts that call make use this one. A recipe that named it would run even with -n.
+export MAKE
+
 need_toolchain = $(if $(shell command -v rt 2>&1),,$(error the Rattle toolchain is missing: there is no command 'rt' on the PATH))
 
-.PHONY: help program library run quick check rows test edits figures bench bench-library install uninstall deb dist page clean
+.PHONY: help program library run quick check rows test edits figures bench bench-library install uninstall systems $(SYSTEMS) deb deb-arm64 dist page clean
 
 # The first target, so `make` alone lists the targets.
 help:
@@ -38,9 +50,12 @@ help:
 	@echo 'make install           installs the program, its man page, documents and completions below PREFIX ($(PREFIX)),'
 	@echo '                       and the library for C, its header and its pkg-config file; libraries go to LIBDIR ($(LIBDIR))'
 	@echo 'make uninstall         removes them again'
+	@echo 'make systems           builds program and library for other systems too, in out/systems (minutes if both are built); or one:'
+	@echo '                       make $(SYSTEMS)'
 	@echo 'make page              builds out/sdtool.html, the page that shows permissions, of the module that make wasm builds (seconds)'
 	@echo 'make deb               builds Debian packages of them in out/ (seconds if program and library are built)'
-	@echo 'make dist              builds one archive of them in out/, with checksums (seconds if both are built)'
+	@echo 'make deb-arm64         builds those of program and library for arm64, in out/dist'
+	@echo 'make dist              builds an archive for each system and Python wheels in out/dist, with checksums (a minute if all is built)'
 	@echo 'make clean             removes what was built'
 
 program: $(PROGRAM)
@@ -78,7 +93,7 @@ rows: program
 
 test:
 	$(need_toolchain)
-	@MAKE='$(MAKE)' tests/all.sh
+	@tests/all.sh
 
 edits:
 	$(need_toolchain)
@@ -126,6 +141,32 @@ uninstall:
 	rm -f $(foreach file,$(COMPLETIONS),'$(DESTDIR)$(PREFIX)/share/$(file)')
 	rm -rf '$(DESTDIR)$(DOCUMENTS)'
 
+# Each system whose tools are here.
+systems: $(foreach system,$(SYSTEMS),$(if $(call missing_tools,$(system)),,$(system)))
+	@$(foreach system,$(SYSTEMS),$(if $(call missing_tools,$(system)),\
+	    echo '$(system): skipped. There is no command $(call missing_tools,$(system))';)) :
+
+linux-x86_64: $(COMPILED)/linux-x86_64/sdtool.o library
+	systems/build.sh $@
+
+linux-aarch64: $(COMPILED)/linux-aarch64/sdtool.o $(COMPILED)/linux-aarch64/libsdtool_c.a
+	systems/build.sh $@
+
+windows-x86_64 wasm: $(COMPILED)/sdtool.bc $(COMPILED)/libsdtool_c.bc
+	systems/build.sh $@
+
+$(COMPILED)/linux-x86_64/sdtool.o $(COMPILED)/sdtool.bc &: $(PROGRAM) systems/compile.py
+	systems/compile.py sdtool $(COMPILED)/linux-x86_64/sdtool.o --ir $(COMPILED)/sdtool.bc
+
+$(COMPILED)/libsdtool_c.bc: $(LIBRARY) systems/compile.py
+	systems/compile.py sdtool_c $(COMPILED)/linux-x86_64/libsdtool_c.a --ir $@
+
+$(COMPILED)/linux-aarch64/sdtool.o: $(PROGRAM) systems/compile.py
+	systems/compile.py sdtool $@ --target aarch64-unknown-linux-gnu
+
+$(COMPILED)/linux-aarch64/libsdtool_c.a: $(LIBRARY) systems/compile.py
+	systems/compile.py sdtool_c $@ --target aarch64-unknown-linux-gnu
+
 # The page has the module inside.
 PAGE_MODULE := out/systems/wasm/sdtool.wasm
 
@@ -135,10 +176,13 @@ page: $(filter wasm,$(SYSTEMS))
 
 # Package the tree that install makes.
 deb: program library
-	MAKE='$(MAKE)' packaging/deb.sh
+	packaging/deb.sh
 
-dist: program library
-	MAKE='$(MAKE)' packaging/dist.sh
+deb-arm64: program library linux-aarch64
+	packaging/deb.sh arm64
+
+dist: systems
+	packaging/dist.sh
 
 clean:
 	rm -rf crates/*/out out python/sdtool/_native.abi3.so

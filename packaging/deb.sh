@@ -1,12 +1,13 @@
 #!/usr/bin/env bash
 # Builds Debian packages from what `make install` installs, the program with its man page, documents and completions, the
 # shared library, and what a C compiler needs to use it; and from the Python module and its command for audits.
-# out/PACKAGE_VERSION_ARCHITECTURE.deb
+# out/PACKAGE_VERSION_ARCHITECTURE.deb; with the word arm64 those of program and library that 'make linux-aarch64' built, in out/dist
 set -eu
 cd "$(dirname "$0")/.."
 version=$(sed -n 's/^Version: //p' packaging/control)
-architecture=$(dpkg --print-architecture)
-libraries=usr/lib/$(dpkg-architecture -qDEB_HOST_MULTIARCH)
+architecture=${1:-$(dpkg --print-architecture)}
+libraries=usr/lib/$(dpkg-architecture -a "$architecture" -qDEB_HOST_MULTIARCH 2> /dev/null)
+packages=out${1:+/dist}
 work=$(mktemp -d)
 trap 'rm -rf "$work"' EXIT
 program=$work/sdtool
@@ -31,7 +32,7 @@ control() {
     fi
     awk -v RS= -v ORS='\n' -v package="$1" 'NR == 1 || $2 == package' packaging/control |
         sed -e "s/^Architecture: any/Architecture: $architecture/" -e "s/\${shlibs:Depends}/$depends/" \
-            -e "s/\${binary:Version}/$version/"
+            -e "s/\${binary:Version}/$version/" -e '/^Depends: *$/d'
 }
 
 # The changes in the form that Debian's tools read.
@@ -55,12 +56,18 @@ build() {
     (cd "$tree" && find usr -type f -print0 | sort -z | xargs -0 md5sum > DEBIAN/md5sums)
     chmod -R u=rwX,go=rX "$tree"
     dpkg-deb --root-owner-group --build "$tree" \
-        "out/${package}_${version}_$(sed -n 's/^Architecture: //p' "$tree/DEBIAN/control").deb"
+        "$packages/${package}_${version}_$(sed -n 's/^Architecture: //p' "$tree/DEBIAN/control").deb"
 }
 
 "${MAKE:-make}" --no-print-directory install PREFIX=/usr LIBDIR="/$libraries" DESTDIR="$program" > /dev/null
 rm "$program/usr/share/doc/sdtool/LICENSE"
-strip "$program/usr/bin/sdtool"
+if [[ $# == 0 ]]; then
+    strip "$program/usr/bin/sdtool"
+else
+    install -m 755 out/systems/linux-aarch64/sdtool "$program/usr/bin/sdtool"
+    install -m 644 out/systems/linux-aarch64/libsdtool.a "$program/$libraries/libsdtool.a"
+    install -m 644 out/systems/linux-aarch64/libsdtool.so.? "$program/$libraries/libsdtool.so.$version"
+fi
 gzip -9n "$program/usr/share/man/man1/sdtool.1"
 # Debian's zsh looks for the completions of packages in a folder of its own.
 mv "$program/usr/share/zsh/site-functions" "$program/usr/share/zsh/vendor-completions"
@@ -83,9 +90,12 @@ soname=$(basename "$library/$libraries"/libsdtool.so.?)
 echo "libsdtool ${soname##*.} libsdtool0 (>= $version)" > "$library/DEBIAN/shlibs"
 echo 'activate-noawait ldconfig' > "$library/DEBIAN/triggers"
 
-mkdir -p out
-build sdtool "$program/usr/bin/sdtool"
+mkdir -p "$packages"
+# The program for arm64 has the C library in it.
+build sdtool "$([[ $# != 0 ]] || echo "$program/usr/bin/sdtool")"
 build libsdtool0 "$library/$libraries/$soname"
 build libsdtool-dev
-build python3-sdtool
-build sdtool-audit
+if [[ $# == 0 ]]; then
+    build python3-sdtool
+    build sdtool-audit
+fi

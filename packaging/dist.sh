@@ -1,23 +1,75 @@
 #!/usr/bin/env bash
-# Makes one archive for machines without the toolchain, of the tree that `make install` makes: the program, its man page,
-# documents, examples and completions, the library with its header and the Python module, with a list of checksums.
-# out/sdtool-VERSION-SYSTEM-MACHINE.tar.gz
-set -eu
+# dist.sh [SYSTEM..]: makes an archive for each system that 'make systems' built, or for those that are named, in out/dist, and
+# out/dist/SHA256SUMS of all that is there. The same tree gives the same bytes.
+#   linux-x86_64, linux-aarch64   the tree of `make install`, with a program that needs no C library; .tar.gz
+#   windows-x86_64                program, library and what a C compiler needs to use it; .zip
+#   wasm                          the JavaScript module, and the program for WASI; .tar.gz
+set -euo pipefail
+shopt -s nullglob
 cd "$(dirname "$0")/.."
 version=$(sed -n 's/^Version: //p' packaging/control)
-name=sdtool-$version-$(uname -s | tr '[:upper:]' '[:lower:]')-$(uname -m)
+time=$(git log -1 --format=%ct)
+dist=$PWD/out/dist
 work=$(mktemp -d)
 trap 'rm -rf "$work"' EXIT
-tree=$work/$name
-"${MAKE:-make}" --no-print-directory install PREFIX= DESTDIR="$tree" > /dev/null
-# The archive can be unpacked anywhere.
-sed -i 's|^prefix=.*|prefix=${pcfiledir}/../..|' "$tree/lib/pkgconfig/sdtool.pc"
-install -d "$tree/python"
-install -m 644 python/pyproject.toml python/build_wheel.py "$tree/python"
-tar -C python -c --exclude=__pycache__ --exclude='*.so' sdtool | tar -C "$tree/python" -x
-(cd "$tree" && find . -type f ! -name SHA256SUMS -print0 | sort -z | xargs -0 sha256sum > SHA256SUMS)
-mkdir -p out
-# The same tree gives the same archive: names in order, no owner, and the time of the last commit.
-tar --sort=name --owner=0 --group=0 --numeric-owner --mtime="@$(git log -1 --format=%ct)" -C "$work" -c "$name" |
-    gzip -9n > "out/$name.tar.gz"
-echo "out/$name.tar.gz"
+
+# What each archive has besides program and library: the man page as text, the licence, and the page on the systems.
+add_documents() {
+    MANWIDTH=100 man --local-file docs/sdtool.1 | col -bx > "$1/sdtool.txt"
+    install -m 644 LICENSE "$1/LICENSE.txt"
+    install -m 644 docs/SYSTEMS.md "$1/README.txt"
+}
+
+# The tree of make install, which can be moved anywhere, with the program and the library of the system.
+fill_linux() {
+    "${MAKE:-make}" --no-print-directory install PREFIX= DESTDIR="$1" > /dev/null
+    sed -i 's|^prefix=.*|prefix=${pcfiledir}/../..|' "$1/lib/pkgconfig/sdtool.pc"
+    local soname
+    soname=$(cd "out/systems/$2" && echo libsdtool.so.?)
+    install -m 755 "out/systems/$2/sdtool" "$1/bin/sdtool"
+    install -m 644 "out/systems/$2/libsdtool.a" "$1/lib/libsdtool.a"
+    install -m 644 "out/systems/$2/$soname" "$1/lib/libsdtool.so.$version"
+    install -d "$1/python"
+    cp -R python/. "$1/python"
+    find "$1/python" \( -name __pycache__ -o -name '*.so' \) -prune -exec rm -rf {} +
+}
+
+fill() {
+    case $2 in
+    linux-*) fill_linux "$1" "$2" ;;
+    *) cp out/systems/"$2"/* "$1" ;;
+    esac
+    add_documents "$1"
+    chmod -R u=rwX,go=rX "$1"
+    (cd "$1" && find . -type f ! -name SHA256SUMS -print0 | sort -z | xargs -0 sha256sum > SHA256SUMS)
+    find "$1" -exec touch --no-dereference --date="@$time" {} +
+}
+
+# Packs a folder: names in order, no owner, and the time of the last commit.
+pack() {
+    if [[ $1 == *windows* ]]; then
+        rm -f "$dist/$1.zip"
+        (cd "$work" && find "$1" | sort | TZ=UTC zip -q -X -9 "$dist/$1.zip" -@)
+        echo "out/dist/$1.zip"
+    else
+        tar --sort=name --owner=0 --group=0 --numeric-owner --mtime="@$time" -C "$work" -c "$1" | gzip -9n > "$dist/$1.tar.gz"
+        echo "out/dist/$1.tar.gz"
+    fi
+}
+
+mkdir -p "$dist"
+systems=("$@")
+if (($# == 0)); then
+    rm -f "$dist"/*
+    for system in wasm windows-x86_64 linux-aarch64 linux-x86_64; do
+        [[ ! -d out/systems/$system ]] || systems+=("$system")
+    done
+fi
+for system in "${systems[@]}"; do
+    name=sdtool-$version-$system
+    mkdir "$work/$name"
+    fill "$work/$name" "$system"
+    [[ $system == wasm ]] || packaging/wheels.py "$system"
+    pack "$name"
+done
+(cd "$dist" && sha256sum -- *.tar.gz *.zip *.whl *.deb > SHA256SUMS)

@@ -37,11 +37,11 @@ count() {
     add "$log" "${PIPESTATUS[0]}"
 }
 
-# Builds the library in a copy of the tree, where the gate does not set aside what was proved.
+# Builds the library, and all for other systems, in a copy of the tree, where the gate does not set aside what was proved.
 start_library() {
     mkdir "$copy" &&
         tar --create --exclude=./.git --exclude=./out --exclude='./crates/*/out' . | tar --extract --directory "$copy"
-    setsid nice "${MAKE:-make}" --no-print-directory --directory "$copy" library >"$logs/library" 2>&1 &
+    setsid nice "${MAKE:-make}" --no-print-directory --directory "$copy" library systems >"$logs/library" 2>&1 &
     library=$!
 }
 
@@ -53,8 +53,13 @@ take_library() {
     "${MAKE:-make}" --no-print-directory --directory "$copy" library && mkdir -p out && cp -r "$copy/out/lib" out
 }
 
+# The same of what is built for other systems.
+take_systems() {
+    "${MAKE:-make}" --no-print-directory --directory "$copy" systems && cp -r "$copy/out/systems" out
+}
+
 # No older program or library is to be tested where the gate stops before it has built one.
-rm -rf "$program" out/lib out/sdtool.html
+rm -rf "$program" out/lib out/sdtool.html out/systems
 count tests/layers.py
 count tests/alias_places.py --check
 count packaging/completions.py --check
@@ -82,6 +87,7 @@ if "${MAKE:-make}" --no-print-directory program; then
     count tests/memory.py "$program"
     count tests/device_faults.py "$program"
     if take_library; then
+        take_systems
         count tests/c_library.py "$program"
         count tests/c_stacks.py
         count tests/c_install.py
@@ -100,6 +106,7 @@ if "${MAKE:-make}" --no-print-directory program; then
         echo "the library is not built, so its tests have not run"
         ((failed += 1))
     fi
+    count tests/systems.py "$program"
     wait "$comparison"
     status=$?
     comparison=

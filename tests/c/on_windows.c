@@ -1,0 +1,155 @@
+/*
+ * on_windows PROGRAM
+ *
+ * Starts the program on Windows in ways that no other system has, and prints what ended otherwise than it has to.
+ * The last line is 'N passed, M failed'.
+ */
+#include <stdio.h>
+#include <string.h>
+#include <windows.h>
+
+enum { MOST = 4096 };
+
+static const wchar_t *program;
+static int passed, failed;
+
+struct ended {
+    DWORD status;
+    char output[MOST], message[MOST];
+};
+
+static void add(int is_right, const char *what, const struct ended *ended)
+{
+    if (is_right) {
+        passed++;
+    } else {
+        failed++;
+        printf("FAIL %s: status %lu, output %s, message %s\n", what, ended->status, ended->output, ended->message);
+    }
+}
+
+/* A pipe, of which the child gets the end that is named 0, for reading, or 1, for writing. */
+static void make_pipe(HANDLE ends[2], int inherited)
+{
+    SECURITY_ATTRIBUTES inherits = {sizeof inherits, NULL, TRUE};
+
+    CreatePipe(&ends[0], &ends[1], &inherits, 0);
+    SetHandleInformation(ends[1 - inherited], HANDLE_FLAG_INHERIT, 0);
+}
+
+static void read_all(HANDLE handle, char *text)
+{
+    DWORD got, length = 0;
+
+    while (length < MOST - 1 && ReadFile(handle, text + length, MOST - 1 - length, &got, NULL) && got != 0)
+        length += got;
+    text[length] = 0;
+}
+
+static HANDLE null_device(void)
+{
+    SECURITY_ATTRIBUTES inherits = {sizeof inherits, NULL, TRUE};
+
+    return CreateFileW(L"NUL", GENERIC_READ | GENERIC_WRITE, FILE_SHARE_READ | FILE_SHARE_WRITE, &inherits, OPEN_EXISTING, 0,
+                       NULL);
+}
+
+/*
+ * Runs the program with these words. Each of the PIECES goes to its input in a write of its own, also an empty one; without
+ * them INPUT is the input. Without an OUTPUT the output goes to a pipe.
+ */
+static struct ended run(const wchar_t *words, const char *const *pieces, HANDLE input, HANDLE output)
+{
+    struct ended ended = {0};
+    wchar_t line[MOST];
+    HANDLE in[2] = {input, NULL}, out[2] = {NULL, output}, err[2];
+    STARTUPINFOW start = {.cb = sizeof start, .dwFlags = STARTF_USESTDHANDLES};
+    PROCESS_INFORMATION child;
+    DWORD took;
+
+    if (pieces != NULL)
+        make_pipe(in, 0);
+    if (output == NULL)
+        make_pipe(out, 1);
+    make_pipe(err, 1);
+    start.hStdInput = in[0];
+    start.hStdOutput = out[1];
+    start.hStdError = err[1];
+    _snwprintf(line, MOST, L"sdtool %ls", words);
+    if (!CreateProcessW(program, line, NULL, NULL, TRUE, 0, NULL, NULL, &start, &child)) {
+        ended.status = 1000 + GetLastError();
+        return ended;
+    }
+    if (pieces != NULL)
+        CloseHandle(in[0]);
+    if (output == NULL)
+        CloseHandle(out[1]);
+    CloseHandle(err[1]);
+    for (; pieces != NULL && *pieces != NULL; pieces++) {
+        WriteFile(in[1], *pieces, (DWORD)strlen(*pieces), &took, NULL);
+        Sleep(50);
+    }
+    if (in[1] != NULL)
+        CloseHandle(in[1]);
+    if (out[0] != NULL)
+        read_all(out[0], ended.output);
+    read_all(err[0], ended.message);
+    WaitForSingleObject(child.hProcess, INFINITE);
+    GetExitCodeProcess(child.hProcess, &ended.status);
+    return ended;
+}
+
+static int is(const struct ended *ended, DWORD status, const char *output, const char *message)
+{
+    return ended->status == status && strcmp(ended->output, output) == 0 && strcmp(ended->message, message) == 0;
+}
+
+int main(void)
+{
+    static const char *const no_pieces[] = {NULL}, *const pieces[] = {"O:S", "", "Y\r", "\n", "", "O:BA", NULL};
+    static const char *const control_z[] = {"O:SY\n\x1aO:BA\n", "\x1a", "\nO:BA\n", NULL};
+    static const wchar_t from[] = L"convert --from sddl";
+    HANDLE closed[2];
+    struct ended ended;
+    int count;
+    wchar_t **words = CommandLineToArgvW(GetCommandLineW(), &count);
+
+    if (words == NULL || count < 2)
+        return 2;
+    program = words[1];
+
+    ended = run(from, pieces, NULL, NULL);
+    add(is(&ended, 0, "O:SY\nO:BA\n", ""), "pieces, some of them empty", &ended);
+    ended = run(from, control_z, NULL, NULL);
+    add(is(&ended, 1, "O:SY\nerror 20 shape\nerror 20 shape\nO:BA\n", ""), "Control-Z is a byte as others", &ended);
+    ended = run(from, no_pieces, NULL, NULL);
+    add(is(&ended, 0, "", ""), "an empty pipe", &ended);
+    ended = run(from, NULL, null_device(), NULL);
+    add(is(&ended, 0, "", ""), "NUL as input", &ended);
+    ended = run(from, pieces, NULL, null_device());
+    add(is(&ended, 0, "", ""), "NUL as output", &ended);
+    ended = run(from, NULL, NULL, NULL);
+    add(is(&ended, 3, "", "sdtool: error 60 read\n"), "no input", &ended);
+    ended = run(from, NULL, INVALID_HANDLE_VALUE, NULL);
+    add(is(&ended, 3, "", "sdtool: error 60 read\n"), "an input that is none", &ended);
+    ended = run(from, pieces, NULL, INVALID_HANDLE_VALUE);
+    add(is(&ended, 3, "", "sdtool: error 61 write\n"), "an output that is none", &ended);
+    make_pipe(closed, 1);
+    CloseHandle(closed[0]);
+    ended = run(from, pieces, NULL, closed[1]);
+    add(is(&ended, 3, "", "sdtool: error 61 write\n"), "a pipe that nobody reads", &ended);
+    ended = run(L"convert --domain \xd800", no_pieces, NULL, NULL);
+    add(is(&ended, 2, "", "sdtool: usage\n"), "half of a surrogate pair", &ended);
+    ended = run(L"convert --domain \xdc00\xd800", no_pieces, NULL, NULL);
+    add(is(&ended, 2, "", "sdtool: usage\n"), "a surrogate pair the wrong way round", &ended);
+    ended = run(L"convert --domain \xd83d\xde00", no_pieces, NULL, NULL);
+    add(is(&ended, 2, "", "sdtool: usage: --domain\n"), "a surrogate pair, which is text but no SID", &ended);
+    ended = run(L"convert --domain \x00e9\x20ac", no_pieces, NULL, NULL);
+    add(is(&ended, 2, "", "sdtool: usage: --domain\n"), "letters of two and three bytes", &ended);
+    ended = run(L"convert \"--from\" \"sddl\"", pieces, NULL, NULL);
+    add(is(&ended, 0, "O:SY\nO:BA\n", ""), "words in quotes", &ended);
+    ended = run(L"convert --domain *", no_pieces, NULL, NULL);
+    add(is(&ended, 2, "", "sdtool: usage: --domain\n"), "a wildcard stays a word", &ended);
+    printf("%d passed, %d failed\n", passed, failed);
+    return failed != 0;
+}
