@@ -497,7 +497,8 @@ def test_interrupted(count, place):
         is_clean = "long first" not in answers_in(out) and "Traceback" not in got.stderr
         count.add(got.status == status and is_clean, f"signal {sent}: {sorted(answers_in(out))}: {got}")
         judge_run(count, place, place.run(out, words, names), out, words, names, f"after signal {sent}")
-    # A second run takes the output over, and the first one ends.
+    # A second run takes the output over, and the first one ends. It has work for half a minute, so it is not done before.
+    names[0] = place.write("long first", LINE * 10_000)
     out = place.out()
     child = place.start_run(out, words, names, environment=slow)
     wait_for(lambda: (out / "_sdtool/inputs/long first").exists() and os.listdir(out / "_sdtool/inputs/long first"), SECONDS)
