@@ -74,7 +74,7 @@ async function grid(...given) {
     for (const text of given[0]) {
         await see(text);
         found.push(Array.from(document.querySelectorAll("table.grid tbody tr"),
-            (row) => [row.dataset.token,
+            (row) => [row.dataset.token, row.querySelector("button.cell").dataset.sid,
                 Array.from(row.querySelectorAll("button.cell"),
                     (cell) => [Number(cell.dataset.bit), cell.dataset.state, cell.textContent])]));
     }

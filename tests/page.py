@@ -210,7 +210,9 @@ def judge_grid(count, program, kind, descriptors, grids):
     mapping = KINDS[kind]
     lines_of = collections.defaultdict(list)
     for descriptor, rows in zip(descriptors, grids):
-        for token, cells in rows:
+        named = page_descriptors.trustees(descriptor)
+        count.add([sid for _, sid, _ in rows] == named, f"rows of {descriptor.text}: {rows}, not {named}")
+        for token, _, cells in rows:
             for bit, state, sign in cells:
                 wanted, _ = page_descriptors.decision(descriptor, set(token.split()), bit, mapping)
                 is_right = state == wanted and sign == SIGNS[state]

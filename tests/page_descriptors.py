@@ -112,6 +112,12 @@ class Maker:
         return Descriptor(owner, [ace for ace, _ in aces], text)
 
 
+def trustees(descriptor):
+    """The owner, and those of the ACEs that allow or deny, in their order."""
+    sids = [ace.sid for ace in descriptor.aces or [] if ace.kind in ("A", "D", "OA", "OD")]
+    return list(dict.fromkeys(([descriptor.owner] if descriptor.owner else []) + sids))
+
+
 def meaning(mask, mapping):
     for bit, meant in zip(GENERICS, MAPPINGS[mapping]):
         if mask & bit:
