@@ -61,7 +61,9 @@ fn check_by(
 /// The verdict on the descriptor that some bytes show.
 #[tactic(auto, unfolding(crate::specs::Checks::verdict_on))]
 pub fn verdict_on(bytes: &[u8], token: &mut Token, ask: &Ask) -> Result<Verdict, CallFault>
-    ensures { result ≡ verdict_on bytes.now token.old.holder ask.now }
+    ensures verdict { result ≡ verdict_on bytes.now token.old.holder ask.now }
+    // So the token serves for another descriptor.
+    ensures holder { token.new.holder ≡ token.old.holder }
 {
     let view = descriptor_in(bytes)?;
     Ok(check(&view, token, ask))

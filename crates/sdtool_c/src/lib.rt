@@ -1,8 +1,12 @@
 //! The library that C programs call: one export for each call of its header, which the rooms answer.
 #![tactic(auto)]
 
+mod build;
 mod checks;
 mod conversions;
 mod derivations;
 mod faults;
+mod many;
+mod parts;
 mod runs;
+mod sids;

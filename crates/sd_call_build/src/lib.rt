@@ -1,0 +1,12 @@
+//! The call of the library for C that builds descriptors.
+#![tactic(auto)]
+
+mod build;
+mod layout;
+mod new;
+mod printing;
+mod reading;
+mod sizes;
+
+pub use build::build_descriptor;
+pub use new::{NewAce, NewAcl, NewDescriptor};

@@ -1,0 +1,69 @@
+-- Verdicts that are written one after the other.
+use Rattle.std.proofs.Common.{◌≡◌, ◌<◌, ◌+◌, ℕ, List, [], ◌∷◌, ◌++◌, length, take, drop, get_or, map, Result, Ok, Err, refl, sym, inl, ◌≤◌, ap, ◌∙◌}
+use Rattle.std.proofs.Common.{append_assoc, arith}
+use Rattle.std.proofs.Math.ListN.{set}
+use Rattle.std.proofs.lemmas.List.{drop_more, length-map, length-take, map_more, set_at}
+use Rattle.sd_token.specs.Token.{Holder}
+use Rattle.sd_check.specs.Ask.{Asked}
+use Rattle.sd_text.specs.Chains.{and_then}
+use Rattle.sd_call.specs.Outcomes.{done}
+use Rattle.sd_call.specs.declared.outcome.Outcome.{Outcome}
+use Rattle.sd_call.specs.declared.outcome.CallFault.{CallFault}
+use Rattle.sd_call_check.specs.Checks.{ask_in, holder_in}
+use Rattle.sd_call_check.specs.declared.request.Request.{Request}
+use Rattle.sd_call_check.specs.declared.verdict.VerdictOutcome.{VerdictOutcome}
+use Rattle.sd_call_many.specs.Many.{AnswersMany, asker_in, judged, judged_by}
+use Rattle.sd_call_many.specs.declared.bytes.Bytes.{Bytes}
+
+-- one more is written
+pub written_more : {X Y : Type 0} (f : X → Y) (xs : List X) (old ys : List Y) (i : ℕ) (d : X) (v : Y) → i < length xs
+    → i < length old → ys ≡ map f (take i xs) ++ drop i old → v ≡ f (get_or xs i d)
+    → set ys i v ≡ map f (take (i + 1) xs) ++ drop (i + 1) old
+written_more {X} {Y} f xs old ys i d v within room h is =
+    let front : List Y = map f (take i xs) in
+    let long : length front ≡ i = length-map (take i xs) f ∙ omega (arith, length-take i xs) in
+    let parts : ys ≡ front ++ get_or old i v ∷ drop (i + 1) old = h ∙ ap (λ (l : List Y). front ++ l) (drop_more old i v room) in
+    ap (λ (l : List Y). set l i v) parts ∙ set_at front _ _ v i long ∙ sym (append_assoc front (v ∷ []) _)
+    ∙ ap (λ (l : List Y). l ++ drop (i + 1) old) (ap (λ (y : Y). front ++ y ∷ []) is ∙ sym (map_more f xs i d within))
+
+abbrev pub pair_of : Result Holder CallFault → Result Asked CallFault → Result (Holder × Asked) CallFault
+pair_of r a = and_then r (λ h. and_then a (λ k. Ok (h, k)))
+
+-- both were read
+both_read : (r : Result Holder CallFault) (a : Result Asked CallFault) (holder : Holder) (ask : Asked)
+    → pair_of r a ≡ Ok (holder, ask) → (r ≡ Ok holder) × (a ≡ Ok ask)
+both_read (Ok h) (Ok k) holder ask e =
+    let same : let pair : Holder × Asked = (h, k) in pair ≡ (holder, ask) = cc in (
+      ap (λ (p : Holder × Asked). let r : Result Holder CallFault = Ok p.0 in r) same,
+      ap (λ (p : Holder × Asked). let a : Result Asked CallFault = Ok p.1 in a) same,
+    )
+both_read (Ok h) (Err fault) holder ask e = absurd (cc)
+both_read (Err fault) a holder ask e = absurd (cc)
+
+-- the verdict on each is that of a check by itself
+as_by_itself : (sids kinds object principal_self : List ℕ) (request : Request) (holder : Holder) (ask : Asked)
+    → asker_in sids kinds object principal_self request ≡ Ok (holder, ask) → (d : Bytes)
+    → judged_by holder ask d ≡ judged sids kinds object principal_self request d
+unfolding asker_in
+as_by_itself sids kinds object principal_self request holder ask e d =
+    let read = both_read (holder_in sids kinds request) (ask_in request object principal_self) holder ask e in
+    rw (read.0, read.1) refl
+
+map_same : (f g : Bytes → VerdictOutcome) → ((d : Bytes) → f d ≡ g d) → (ds : List Bytes) → map f ds ≡ map g ds
+map_same f g same [] = refl
+map_same f g same (d ∷ ds) = ap (λ (v : VerdictOutcome). v ∷ map f ds) (same d) ∙ ap (λ (vs : List VerdictOutcome). g d ∷ vs) (map_same f g same ds)
+
+pub answered : (ds : List Bytes) (sids kinds object principal_self : List ℕ) (request : Request) (holder : Holder)
+    (ask : Asked) (old new : List VerdictOutcome) (outcome : Outcome) → length ds ≤ length old
+    → asker_in sids kinds object principal_self request ≡ Ok (holder, ask) → outcome ≡ done (length ds)
+    → new ≡ map (judged_by holder ask) ds ++ drop (length ds) old
+    → AnswersMany ds sids kinds object principal_self request old new outcome
+answered ds sids kinds object principal_self request holder ask old new outcome room e is written = record {
+  short = λ h. absurd (omega arith);
+  fits = λ h. inl (rw e (
+    is,
+    written ∙ ap (λ (vs : List VerdictOutcome). vs ++ drop (length ds) old)
+        (map_same (judged_by holder ask) (judged sids kinds object principal_self request)
+        (as_by_itself sids kinds object principal_self request holder ask e) ds),
+  ));
+}

@@ -1,0 +1,45 @@
+-- One token and one request, and many descriptors.
+use Rattle.std.specs.Prelude.{◌≡◌, ◌≤◌, ◌<◌, ◌⊎◌, ℕ, List, ◌++◌, length, drop, map, Result, Ok, Err}
+use Rattle.sd_text.specs.Chains.{◌>>=◌}
+use Rattle.sd_token.specs.Token.{Holder}
+use Rattle.sd_check.specs.Ask.{Asked}
+use Rattle.sd_call.specs.Outcomes.{done, failed, no_memory, too_small}
+use Rattle.sd_call.specs.declared.outcome.CallFault.{CallFault}
+use Rattle.sd_call.specs.declared.outcome.Outcome.{Outcome}
+use Rattle.sd_call_check.specs.Checks.{ask_in, checked, holder_in, told, verdict_on}
+use Rattle.sd_call_check.specs.declared.request.Request.{Request}
+use Rattle.sd_call_check.specs.declared.verdict.VerdictOutcome.{VerdictOutcome}
+use Rattle.sd_call_many.specs.declared.bytes.Bytes.{Bytes}
+
+-- who asks, and what
+unfoldable pub asker_in : List ℕ → List ℕ → List ℕ → List ℕ → Request → Result (Holder × Asked) CallFault
+asker_in sids kinds object principal_self request = do
+  holder ← holder_in sids kinds request
+  ask ← ask_in request object principal_self
+  Ok (holder, ask)
+
+-- what is told of a descriptor
+abbrev pub judged_by : Holder → Asked → Bytes → VerdictOutcome
+judged_by holder ask descriptor = told (verdict_on descriptor.bytes.now holder ask)
+
+-- what the check of a descriptor by itself tells
+abbrev pub judged : List ℕ → List ℕ → List ℕ → List ℕ → Request → Bytes → VerdictOutcome
+judged sids kinds object principal_self request descriptor =
+    told (checked descriptor.bytes.now sids kinds object principal_self request)
+
+-- The first verdicts are those of the descriptors, each as if it was checked by itself. After a fault of the token or of
+-- what is asked nothing is written.
+abbrev pub Judges : List Bytes → (Bytes → VerdictOutcome) → Result (Holder × Asked) CallFault → List VerdictOutcome
+    → List VerdictOutcome → Outcome → Type 0
+Judges descriptors judge (Ok asker) old new outcome = (outcome ≡ done (length descriptors))
+    × (new ≡ map judge descriptors ++ drop (length descriptors) old)
+Judges descriptors judge (Err fault) old new outcome = (outcome ≡ failed fault) × (new ≡ old)
+
+-- Memory may be refused, but not if there is no room for all verdicts; then nothing is written either.
+pub record AnswersMany (descriptors : List Bytes) (sids kinds object principal_self : List ℕ) (request : Request)
+    (old new : List VerdictOutcome) (outcome : Outcome) : Type 0 where
+  pub short : length old < length descriptors → (outcome ≡ too_small (length descriptors)) × (new ≡ old)
+  pub fits : length descriptors ≤ length old
+      → Judges descriptors (judged sids kinds object principal_self request)
+      (asker_in sids kinds object principal_self request) old new outcome
+      ⊎ ((outcome ≡ no_memory) × (new ≡ old))

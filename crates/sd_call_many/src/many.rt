@@ -1,0 +1,77 @@
+//! One token and one request, and many descriptors.
+
+ghost use Rattle.std.specs.Prelude.{◌≡◌, ◌≤◌, ◌++◌, [], length, drop, map, Ok, MatchResult};
+ghost use Rattle.sd_call_many.specs.Many.{AnswersMany, asker_in, judged_by};
+
+use crate::bytes::Bytes;
+use sd_call::{CallFault, Outcome, done, failed, no_memory, too_small};
+use sd_call_check::{Request, VerdictOutcome, ask_in, give_holder, told, verdict_on};
+use sd_check::Ask;
+use sd_token::Token;
+use std::alloc::Global;
+
+/// Says of each descriptor whether it grants a token what is asked for. The token is read once.
+pub fn check_many(
+    alloc: Global,
+    descriptors: &[Bytes<'_>],
+    sids: &[u8],
+    kinds: &[u8],
+    object: &[u8],
+    principal_self: &[u8],
+    request: &Request,
+    verdicts: &mut [VerdictOutcome],
+) -> Outcome
+    ensures { AnswersMany descriptors.now sids.now kinds.now object.now principal_self.now request.now
+        verdicts.old verdicts.new result }
+{
+    if descriptors.len() > verdicts.len() {
+        return too_small(descriptors.len());
+    }
+    let Ok(mut token) = Token::new(alloc) else {
+        return no_memory();
+    };
+    match asker_in(&mut token, sids, kinds, object, principal_self, request) {
+        Ok(ask) => {
+            judge(descriptors, &mut token, &ask, verdicts);
+            done(descriptors.len())
+        }
+        Err(fault) => failed(fault),
+    }
+}
+
+// Gives a new token its SIDs, and reads what is asked.
+#[tactic(auto, unfolding(crate::specs::Many::asker_in))]
+fn asker_in(
+    token: &mut Token,
+    sids: &[u8],
+    kinds: &[u8],
+    object: &[u8],
+    principal_self: &[u8],
+    request: &Request,
+) -> Result<Ask, CallFault>
+    requires { token.old.holder.entries ≡ [] }
+    ensures { MatchResult result
+        (λ ask. asker_in sids.now kinds.now object.now principal_self.now request.now ≡ Ok (token.new.holder, ask))
+        (λ fault. asker_in sids.now kinds.now object.now principal_self.now request.now ≡ Err fault) }
+{
+    give_holder(token, sids, kinds, request)?;
+    ask_in(request, object, principal_self)
+}
+
+// Writes the verdict on each descriptor.
+fn judge(descriptors: &[Bytes<'_>], token: &mut Token, ask: &Ask, verdicts: &mut [VerdictOutcome])
+    requires { length descriptors.now ≤ length verdicts.old }
+    ensures { verdicts.new ≡ map (judged_by token.old.holder ask.now) descriptors.now
+        ++ drop (length descriptors.now) verdicts.old }
+{
+    for i in 0..descriptors.len() {
+        verdicts[i] = judge_one(&descriptors[i], token, ask);
+    }
+}
+
+fn judge_one(descriptor: &Bytes<'_>, token: &mut Token, ask: &Ask) -> VerdictOutcome
+    ensures verdict { result ≡ judged_by token.old.holder ask.now descriptor.now }
+    ensures holder { token.new.holder ≡ token.old.holder }
+{
+    told(verdict_on(descriptor.bytes, token, ask))
+}

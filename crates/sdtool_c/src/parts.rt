@@ -1,0 +1,24 @@
+//! The calls that say where the parts of a descriptor lie, and walk its ACLs.
+
+ghost use Rattle.std.specs.Prelude.{◌≡◌};
+ghost use Rattle.sd_call_parts.specs.Contents.{contents_in};
+ghost use Rattle.sd_call_parts.specs.Walk.{next, steps_to};
+
+use sd_call_parts::{AceFound, Contents, next_ace, parts_of};
+
+/// Says what is in a descriptor, and where its parts lie.
+#[unsafe(no_mangle)]
+pub extern "C" fn sdtool_parts(bytes: &[u8]) -> Contents
+    ensures { result ≡ contents_in bytes.now }
+{
+    parts_of(bytes)
+}
+
+/// Goes on to the next ACE of an ACL, and says whether there is one.
+#[unsafe(no_mangle)]
+pub extern "C" fn sdtool_next_ace(acl: &[u8], ace: &mut AceFound) -> bool
+    ensures there { result ≡ (steps_to ace.old (next acl.now ace.old)).0 }
+    ensures ace { ace.new ≡ (steps_to ace.old (next acl.now ace.old)).1 }
+{
+    next_ace(acl, ace)
+}
