@@ -146,7 +146,15 @@ enum sdtool_argument {
     /* KIND is none of enum sdtool_kind. */
     SDTOOL_ARGUMENT_KIND = 10,
     /* FAULT is the number of no fault. */
-    SDTOOL_ARGUMENT_FAULT = 11
+    SDTOOL_ARGUMENT_FAULT = 11,
+    /* SID is no SID. */
+    SDTOOL_ARGUMENT_SID = 12,
+    /*
+     * The SACL or the DACL to build: the ACE at ENTRY can't be, the state is none of enum sdtool_acl_state, or an ACL
+     * that is absent or null has ACEs. In the last two cases ENTRY is 0.
+     */
+    SDTOOL_ARGUMENT_SACL = 13,
+    SDTOOL_ARGUMENT_DACL = 14
 };
 
 enum sdtool_part {
@@ -178,14 +186,18 @@ enum sdtool_entry {
 
 enum {
     /*
-     * No descriptor has more bytes. An output of this size always suffices for sdtool_from_sddl, sdtool_normalize and
-     * sdtool_derive.
+     * No descriptor has more bytes. An output of this size always suffices for sdtool_from_sddl, sdtool_normalize,
+     * sdtool_derive and sdtool_build.
      */
     SDTOOL_MOST_BYTES = 131226,
     /* No text of SDDL has more bytes. An output of this size always suffices for sdtool_to_sddl and sdtool_explain. */
     SDTOOL_MOST_TEXT = 1049872,
     /* No token has more SIDs. */
     SDTOOL_MOST_SIDS = 1024,
+    /* No SID in binary has more bytes. */
+    SDTOOL_MOST_SID = 68,
+    /* No text of a SID has more bytes. */
+    SDTOOL_MOST_SID_TEXT = 183,
     /* No text of sdtool_fault_text has more bytes. */
     SDTOOL_MOST_FAULT_TEXT = 32,
     /* No message of sdtool_run has more bytes. */
@@ -301,6 +313,175 @@ struct sdtool_outcome sdtool_derive(const uint8_t *parent, size_t parent_size, c
                                     const uint8_t *group, size_t group_size, uint32_t kind, uint32_t mapping,
                                     uint8_t *output, size_t output_size);
 
+/*
+ * Gives the SID that a text names, in binary: an alias such as BA, or S-1- and numbers. DOMAIN is empty or a SID in
+ * binary; then aliases of that domain, such as DA, are read. SDTOOL_MOST_SID bytes always suffice. The faults are
+ * SDTOOL_ARGUMENT for DOMAIN, then SDTOOL_FAULT_ALIAS to SDTOOL_FAULT_SID_FORM. It allocates no memory.
+ */
+struct sdtool_outcome sdtool_sid_from_text(const uint8_t *text, size_t text_size, const uint8_t *domain,
+                                           size_t domain_size, uint8_t *sid, size_t sid_size);
+
+/*
+ * Gives the text of a SID in binary: its alias if it has one and NUMERIC is false, and else its numbers. DOMAIN is
+ * empty or a SID in binary whose relative aliases are used too. SDTOOL_MOST_SID_TEXT bytes always suffice.
+ * SDTOOL_ARGUMENT means that SID, looked at first, or DOMAIN is no SID. It allocates no memory.
+ */
+struct sdtool_outcome sdtool_sid_to_text(const uint8_t *sid, size_t sid_size, const uint8_t *domain,
+                                         size_t domain_size, bool numeric, uint8_t *text, size_t text_size);
+
+/*
+ * How many bytes the SID at the front of some bytes has, such as one of several in a row. It is 0 if they begin with
+ * no SID: the revision is not 1, there are more than 15 sub-authorities, or the bytes end too soon.
+ */
+size_t sdtool_sid_size(const uint8_t *bytes, size_t bytes_size);
+
+/* Where something lies in bytes of the caller. What is not there has offset 0 and size 0. */
+struct sdtool_place {
+    size_t offset;
+    size_t size;
+};
+
+/* An absent DACL and a null DACL both grant everything. An empty list grants nothing by itself. */
+enum sdtool_acl_state {
+    SDTOOL_ACL_ABSENT = 0,
+    SDTOOL_ACL_NULL = 1,
+    SDTOOL_ACL_LIST = 2
+};
+
+/* An ACL of a descriptor. */
+struct sdtool_acl_place {
+    /* One of enum sdtool_acl_state. */
+    uint32_t state;
+    /* How many ACEs a list has, else 0. */
+    uint32_t ace_count;
+    /* The ACL, as its size field says. It is not there unless the ACL is a list. */
+    struct sdtool_place place;
+};
+
+/* What is in a descriptor. */
+struct sdtool_contents {
+    /* SDTOOL_OK, or why the bytes are no descriptor, as for sdtool_normalize. After a fault all else is 0. */
+    uint32_t fault;
+    uint32_t part;
+    uint32_t other_part;
+    /* The control word (MS-DTYP 2.4.6), as it stands in the bytes. */
+    uint16_t control;
+    uint8_t resource_manager;
+    /* The SIDs. They may be missing. */
+    struct sdtool_place owner;
+    struct sdtool_place group;
+    struct sdtool_acl_place sacl;
+    struct sdtool_acl_place dacl;
+};
+
+/*
+ * Says what is in a descriptor and where it lies in the bytes of the caller. The faults are those of sdtool_normalize,
+ * with the part or the two parts that they are about. It allocates no memory.
+ */
+struct sdtool_contents sdtool_parts(const uint8_t *descriptor, size_t descriptor_size);
+
+/*
+ * An ACE that a walk through an ACL has found, and how far the walk is. A walk begins with a struct of zeros. The
+ * places are in the bytes of the ACL.
+ */
+struct sdtool_ace {
+    /* SDTOOL_OK, or the fault that ends the walk. */
+    uint32_t fault;
+    /* The access mask. */
+    uint32_t mask;
+    /* How many ACEs the walk has passed, this one included. */
+    uint32_t number;
+    /* The type byte: 0 allow, 1 deny, 2 audit, 5 to 7 the same with object types, 0x11 mandatory label. */
+    uint8_t kind;
+    /* The flags of inheritance and audit. */
+    uint8_t flags;
+    /* The whole ACE. The next one begins behind it. */
+    struct sdtool_place place;
+    /* 16 bytes each, or not there. */
+    struct sdtool_place object_type;
+    struct sdtool_place inherited_object_type;
+    /* The SID of the trustee. */
+    struct sdtool_place sid;
+};
+
+/*
+ * Goes on to the next ACE of an ACL and says whether there is one. ACL is the bytes of an ACL, such as those at the
+ * place that sdtool_parts names. ACE is what the last call left, and all zeros before the first; NUMBER and PLACE say
+ * how far the walk is, so a caller changes neither. A whole walk takes time in proportion to the bytes of the ACL.
+ *
+ * After the last ACE it returns false with fault SDTOOL_OK. It returns false with a fault from SDTOOL_FAULT_SID to
+ * SDTOOL_FAULT_ACE_FLAGS if the bytes are no ACL or the next ACE can't be read; in an ACL of a descriptor that
+ * sdtool_parts has read there is none. It allocates no memory.
+ *
+ *     struct sdtool_ace ace = {0};
+ *     while (sdtool_next_ace(acl, acl_size, &ace)) use(&ace);
+ *     if (ace.fault != SDTOOL_OK) the ACL is not whole;
+ */
+bool sdtool_next_ace(const uint8_t *acl, size_t acl_size, struct sdtool_ace *ace);
+
+/* Some bytes. BYTES may be null if SIZE is 0. */
+struct sdtool_bytes {
+    const uint8_t *bytes;
+    size_t size;
+};
+
+/*
+ * Gives the verdicts of sdtool_check on many descriptors, for one token and one request. The token is read once, which
+ * pays if it has many SIDs. VERDICTS has room for at least DESCRIPTOR_COUNT verdicts, one for each descriptor in
+ * order; a descriptor that is none has its fault in its own verdict. LENGTH is DESCRIPTOR_COUNT.
+ *
+ * SDTOOL_TOO_SMALL comes first, if there is less room, with LENGTH = DESCRIPTOR_COUNT. Then SDTOOL_NO_MEMORY: it
+ * allocates less than 128 KiB. Then SDTOOL_ARGUMENT, then SDTOOL_FAULT_EMPTY_REQUEST and SDTOOL_FAULT_RESERVED_BITS.
+ * After any of these no verdict is written.
+ */
+struct sdtool_outcome sdtool_check_many(const struct sdtool_bytes *descriptors, size_t descriptor_count,
+                                        const uint8_t *sids, size_t sids_size, const uint8_t *entries, size_t sid_count,
+                                        const uint8_t *object, size_t object_size, const uint8_t *principal_self,
+                                        size_t principal_self_size, const struct sdtool_request *request,
+                                        struct sdtool_verdict *verdicts, size_t verdict_count);
+
+/* An ACE to build. */
+struct sdtool_new_ace {
+    /* The SID of the trustee in binary. */
+    struct sdtool_bytes sid;
+    /* The 16 bytes of a GUID, as they stand in an ACE, or empty. Only types 5 to 7 may have one. */
+    struct sdtool_bytes object_type;
+    struct sdtool_bytes inherited_object_type;
+    uint32_t mask;
+    /* The type byte: one of those of struct sdtool_ace. */
+    uint8_t kind;
+    /* The flags, without 0x20. */
+    uint8_t flags;
+};
+
+/* An ACL to build. */
+struct sdtool_new_acl {
+    const struct sdtool_new_ace *aces;
+    size_t ace_count;
+    /* One of enum sdtool_acl_state. Only a list may have ACEs. */
+    uint32_t state;
+};
+
+/* A descriptor to build. */
+struct sdtool_new_descriptor {
+    /* SIDs in binary, or empty. */
+    struct sdtool_bytes owner;
+    struct sdtool_bytes group;
+    struct sdtool_new_acl sacl;
+    struct sdtool_new_acl dacl;
+    /* The control word. The bits 0x8000, 0x10 and 0x4 are set as they have to be, whatever they are here. */
+    uint16_t control;
+    uint8_t resource_manager;
+};
+
+/*
+ * Gives a descriptor with these parts, in its canonical layout. SDTOOL_ARGUMENT comes first: for OWNER, GROUP, SACL
+ * and DACL in this order, with the index of an ACE that can't be in ENTRY. Then SDTOOL_FAULT_ACL_TOO_LARGE with
+ * SDTOOL_SACL or SDTOOL_DACL, if an ACL would exceed 65,535 bytes. It allocates no memory.
+ */
+struct sdtool_outcome sdtool_build(const struct sdtool_new_descriptor *descriptor, uint8_t *output,
+                                   size_t output_size);
+
 /* How sdtool_run ends: the exit status of the program. */
 enum sdtool_status {
     /* Each line was answered, and no answer is an error line. After words that ask for help, help is the output. */
@@ -327,13 +508,13 @@ struct sdtool_ending {
 
 /*
  * Runs the program on INPUT: one descriptor a line, one answer a line. WORDS are those of the command line, without
- * the program's name and each with a NUL behind it, such as "convert\0--to\0sddl\0" of WORDS_SIZE 18. OUTPUT gets
- * what the program prints to standard output, and MESSAGE what it prints to standard error, as "sdtool: usage\n".
+ * the program's name and each with a NUL behind it, such as "convert\0--to\0sddl\0" of WORDS_SIZE 18. OUTPUT gets what
+ * the program prints to standard output, and MESSAGE what it prints to standard error, as "sdtool: usage\n".
  *
  * If the output is too small, the status is 3, the message is "sdtool: error 61 write\n", and the output has the whole
  * answers that fit, those to the first lines. An answer has at most SDTOOL_TEXT_SIZE(bytes) bytes with its LF, where
- * the descriptor that it prints has BYTES, so SDTOOL_MOST_TEXT bytes a line always suffice. For lines of hex,
- * 4 * INPUT_SIZE bytes and 64 a line suffice, but not always for those that derive. Help that does not fit is cut, with
+ * the descriptor that it prints has BYTES, so SDTOOL_MOST_TEXT bytes a line always suffice. For lines of hex, 4 *
+ * INPUT_SIZE bytes and 64 a line suffice, but not always for those that derive. Help that does not fit is cut, with
  * status 0, as on a full disk: if LENGTH is OUTPUT_SIZE, try a larger output. A message that does not fit is cut and
  * changes nothing else.
  *
