@@ -181,7 +181,8 @@ deb: program library
 deb-arm64: program library linux-aarch64
 	packaging/deb.sh arm64
 
-dist: systems
+# Each archive has the page where it can be built.
+dist: systems $(if $(call missing_tools,wasm),,page)
 	packaging/dist.sh
 
 clean:

@@ -18,6 +18,7 @@ add_documents() {
     MANWIDTH=100 man --local-file docs/sdtool.1 | col -bx > "$1/sdtool.txt"
     install -m 644 LICENSE "$1/LICENSE.txt"
     install -m 644 docs/SYSTEMS.md "$1/README.txt"
+    [[ ! -f out/sdtool.html ]] || install -m 644 out/sdtool.html "$1/sdtool.html"
 }
 
 # The tree of make install, which can be moved anywhere, with the program and the library of the system.
