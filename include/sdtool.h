@@ -290,10 +290,11 @@ struct sdtool_verdict {
  *
  * A descriptor without a DACL grants everything; sdtool_from_sddl makes one of an empty text.
  *
- * SDTOOL_ARGUMENT comes first, then 50 and 51, then the faults of the descriptor. SDTOOL_ARGUMENT means that the
- * token is not exactly SID_COUNT SIDs or more than SDTOOL_MOST_SIDS, or that an entry, the mapping, OBJECT or
- * PRINCIPAL_SELF is none of the above, in this order; of several wrong entries it is the first. It allocates less than
- * 128 KiB before it looks at its arguments, so SDTOOL_NO_MEMORY comes before any other fault.
+ * SDTOOL_ARGUMENT comes first, then 50 and 51, then the faults of the descriptor. SDTOOL_ARGUMENT means that there are
+ * more than SDTOOL_MOST_SIDS, that an entry or its SID is none of the above, that bytes are behind the last SID, or that
+ * the mapping, OBJECT or PRINCIPAL_SELF is none of the above, in this order. Entries and SIDs are looked at in pairs:
+ * the first pair with a fault counts, and in it the entry. It allocates less than 128 KiB before it looks at its
+ * arguments, so SDTOOL_NO_MEMORY comes before any other fault.
  */
 struct sdtool_verdict sdtool_check(const uint8_t *descriptor, size_t descriptor_size, const uint8_t *sids,
                                    size_t sids_size, const uint8_t *entries, size_t sid_count, const uint8_t *object,

@@ -89,6 +89,7 @@ if "${MAKE:-make}" --no-print-directory program; then
     if take_library; then
         take_systems
         count tests/c_library.py "$program"
+        count tests/c_objects.py "$program"
         count tests/c_stacks.py
         count tests/c_install.py
         count tests/c_examples.py

@@ -124,7 +124,7 @@ static void *nothing(void *unused)
 }
 
 /* Makes a call: on a stack of its own if one is asked for. */
-static void make_call(void *(*function)(void *), void *argument)
+static inline void make_call(void *(*function)(void *), void *argument)
 {
     size_t none, used;
 
@@ -142,7 +142,7 @@ static void make_call(void *(*function)(void *), void *argument)
 }
 
 /* What the call that needed most used beyond what a thread uses that does nothing. */
-static void print_stack(void)
+static inline void print_stack(void)
 {
     if (stack_size != 0)
         printf("stack %zu of %zu, %zu for the thread itself\n", stack_used, stack_size, stack_of_none);
