@@ -29,20 +29,64 @@ class _Ending(ctypes.Structure):
     _fields_ = [("status", _U32), ("length", _SIZE), ("message_length", _SIZE)]
 
 
+class _Place(ctypes.Structure):
+    _fields_ = [("offset", _SIZE), ("size", _SIZE)]
+
+
+class _AclPlace(ctypes.Structure):
+    _fields_ = [("state", _U32), ("ace_count", _U32), ("place", _Place)]
+
+
+class _Contents(ctypes.Structure):
+    _fields_ = [*_FAULT, ("control", _U16), ("resource_manager", _U8), ("owner", _Place), ("group", _Place),
+                ("sacl", _AclPlace), ("dacl", _AclPlace)]
+
+
+class _Ace(ctypes.Structure):
+    _fields_ = [("fault", _U32), ("mask", _U32), ("number", _U32), ("kind", _U8), ("flags", _U8), ("place", _Place),
+                ("object_type", _Place), ("inherited_object_type", _Place), ("sid", _Place)]
+
+
+class _Bytes(ctypes.Structure):
+    _fields_ = [("bytes", ctypes.c_char_p), ("size", _SIZE)]
+
+
+class _NewAce(ctypes.Structure):
+    _fields_ = [("sid", _Bytes), ("object_type", _Bytes), ("inherited_object_type", _Bytes), ("mask", _U32), ("kind", _U8),
+                ("flags", _U8)]
+
+
+class _NewAcl(ctypes.Structure):
+    _fields_ = [("aces", ctypes.POINTER(_NewAce)), ("ace_count", _SIZE), ("state", _U32)]
+
+
+class _NewDescriptor(ctypes.Structure):
+    _fields_ = [("owner", _Bytes), ("group", _Bytes), ("sacl", _NewAcl), ("dacl", _NewAcl), ("control", _U16),
+                ("resource_manager", _U8)]
+
+
 _IN = (ctypes.c_char_p, _SIZE)
 _OUT = (ctypes.c_void_p, _SIZE)
 # The arguments of each call and what it gives.
 _CALLS: Tuple[Tuple[str, Sequence[Any], Any], ...] = (
     ("version", _OUT, _Outcome),
-    ("version_number", (), _U32),  # a library without it has other structs
+    ("version_number", (), _U32),
     ("fault_text", (_U32, *_OUT), _Outcome),
     ("normalize", (*_IN, *_OUT), _Outcome),
     ("from_sddl", (*_IN * 2, *_OUT), _Outcome),
     ("to_sddl", (*_IN * 2, _BOOL, *_OUT), _Outcome),
     ("explain", (*_IN * 2, _BOOL, *_OUT), _Outcome),
     ("derive", (*_IN * 4, _U32, _U32, *_OUT), _Outcome),
+    ("sid_from_text", (*_IN * 2, *_OUT), _Outcome),
+    ("sid_to_text", (*_IN * 2, _BOOL, *_OUT), _Outcome),
+    ("sid_size", _IN, _SIZE),
     ("check", (*_IN * 5, ctypes.POINTER(_Request)), _Verdict),
+    ("check_many", (ctypes.POINTER(_Bytes), _SIZE, *_IN * 4, ctypes.POINTER(_Request), ctypes.POINTER(_Verdict), _SIZE),
+     _Outcome),
     ("run", (*_IN * 2, *_OUT * 2), _Ending),
+    ("parts", _IN, _Contents),
+    ("next_ace", (*_IN, ctypes.POINTER(_Ace)), _BOOL),
+    ("build", (ctypes.POINTER(_NewDescriptor), *_OUT), _Outcome),
 )
 
 _library: Any = None
@@ -114,6 +158,18 @@ def derive(parent: bytes, creator: bytes, owner: bytes, group: bytes, kind: int,
                    kind, mapping)
 
 
+def sid_from_text(text: bytes, domain: bytes) -> bytes:
+    return _answer(_library.sdtool_sid_from_text, text, len(text), domain, len(domain))
+
+
+def sid_to_text(sid: bytes, domain: bytes, numeric: bool) -> str:
+    return _text(_library.sdtool_sid_to_text, sid, len(sid), domain, len(domain), numeric)
+
+
+def is_one_sid(value: bytes) -> bool:
+    return bool(value) and _library.sdtool_sid_size(value, len(value)) == len(value)
+
+
 def run(words: bytes, data: bytes) -> Tuple[int, bytes, bytes]:
     message = ctypes.create_string_buffer(_MOST_MESSAGE)
     size = _FIRST_SIZE + 4 * len(data)
@@ -139,3 +195,56 @@ def check(question: Any, descriptor: bytes) -> Tuple[bool, int]:
     if verdict.fault != _OK:
         _refuse(verdict)
     return verdict.granted, verdict.mask
+
+
+def check_many(question: Any, descriptors: Tuple[bytes, ...]) -> List[Tuple[int, ...]]:
+    count = len(descriptors)
+    given = (_Bytes * count)(*map(_given, descriptors))
+    verdicts = (_Verdict * count)()
+    outcome = _library.sdtool_check_many(given, count, *question, verdicts, count)
+    if outcome.fault != _OK:
+        _refuse(outcome)
+    return [(verdict.granted, verdict.mask) if verdict.fault == _OK else
+            (verdict.fault, verdict.part, verdict.other_part, verdict.argument, verdict.entry) for verdict in verdicts]
+
+
+def _part_at(data: bytes, place: Any) -> Optional[bytes]:
+    return data[place.offset:place.offset + place.size] if place.size else None
+
+
+def parts(descriptor: bytes) -> Tuple[int, int, Optional[bytes], Optional[bytes], int, Optional[bytes], int, Optional[bytes]]:
+    found = _library.sdtool_parts(descriptor, len(descriptor))
+    if found.fault != _OK:
+        _raises(found.fault, found.part, found.other_part, 0, 0)
+    return (found.control, found.resource_manager, _part_at(descriptor, found.owner), _part_at(descriptor, found.group),
+            found.sacl.state, _part_at(descriptor, found.sacl.place), found.dacl.state,
+            _part_at(descriptor, found.dacl.place))
+
+
+def aces(acl: bytes) -> List[Tuple[int, int, int, bytes, Optional[bytes], Optional[bytes]]]:
+    ace = _Ace()
+    found = []
+    while _library.sdtool_next_ace(acl, len(acl), ace):
+        found.append((ace.kind, ace.flags, ace.mask, _part_at(acl, ace.sid) or b"", _part_at(acl, ace.object_type),
+                      _part_at(acl, ace.inherited_object_type)))
+    if ace.fault != _OK:
+        _raises(ace.fault, 0, 0, 0, 0)
+    return found
+
+
+def _given(data: Optional[bytes]) -> _Bytes:
+    return _Bytes(data, len(data or b""))
+
+
+def _new_acl(state: int, aces: Tuple[Any, ...]) -> _NewAcl:
+    found = (_NewAce * len(aces))(*(
+        _NewAce(_given(sid), _given(object_type), _given(inherited), mask, kind, flags)
+        for kind, flags, mask, sid, object_type, inherited in aces))
+    return _NewAcl(found, len(aces), state)
+
+
+def build(control: int, resource_manager: int, owner: Optional[bytes], group: Optional[bytes], sacl_state: int,
+          sacl: Tuple[Any, ...], dacl_state: int, dacl: Tuple[Any, ...]) -> bytes:
+    descriptor = _NewDescriptor(_given(owner), _given(group), _new_acl(sacl_state, sacl), _new_acl(dacl_state, dacl), control,
+                                resource_manager)
+    return _answer(_library.sdtool_build, descriptor)

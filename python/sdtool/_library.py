@@ -2,9 +2,8 @@
 import functools
 import os
 import sys
-from typing import NoReturn, Optional, Sequence, Union
+from typing import Any, List, NoReturn, Sequence, Tuple, Union
 
-from ._by_text import ByText
 from ._errors import ARGUMENT, ArgumentFault, Fault
 
 try:
@@ -75,11 +74,15 @@ derive = _transport.derive
 run = _transport.run
 question = _transport.question
 check = _transport.check
-_by_text = ByText(_transport)
-sid_from_text = _by_text.sid_from_text
-sid_to_text = _by_text.sid_to_text
-is_one_sid = _by_text.is_one_sid
-parts = _by_text.parts
-ace = _by_text.ace
-build = _by_text.build
-check_many = _by_text.check_many
+sid_from_text = _transport.sid_from_text
+sid_to_text = _transport.sid_to_text
+is_one_sid = _transport.is_one_sid
+parts = _transport.parts
+aces = _transport.aces
+build = _transport.build
+
+
+def check_many(question: Any, descriptors: Sequence[bytes]) -> List[Union[Tuple[bool, int], Fault]]:
+    """The verdict on each descriptor, or its fault."""
+    return [found if len(found) == 2 else fault_of(*found)  # type: ignore[misc]
+            for found in _transport.check_many(question, tuple(descriptors))]

@@ -21,8 +21,9 @@ enum {
 };
 
 #define CALLS(EACH)                                                                                                          \
-    EACH(version) EACH(normalize) EACH(from_sddl) EACH(to_sddl) EACH(explain) EACH(check) EACH(derive) EACH(run)             \
-    EACH(fault_text) EACH(version_number)
+    EACH(version) EACH(normalize) EACH(from_sddl) EACH(to_sddl) EACH(explain) EACH(check) EACH(check_many) EACH(derive)      \
+    EACH(run) EACH(fault_text) EACH(sid_from_text) EACH(sid_to_text) EACH(sid_size) EACH(parts) EACH(next_ace) EACH(build)      \
+    EACH(version_number)
 
 #define POINTER(name) __typeof__(sdtool_##name) *name;
 static struct { CALLS(POINTER) } library;
@@ -52,6 +53,25 @@ struct view {
 };
 
 #define IN(view) (const uint8_t *)(view).bytes, (size_t)(view).size
+
+static bool view_of(PyObject *object, struct view *view)
+{
+    char *bytes = NULL;
+    view->bytes = NULL;
+    view->size = 0;
+    if (object == Py_None)
+        return true;
+    if (PyBytes_AsStringAndSize(object, &bytes, &view->size) < 0)
+        return false;
+    view->bytes = bytes;
+    return true;
+}
+
+static struct sdtool_bytes bytes_of(struct view view)
+{
+    struct sdtool_bytes bytes = {IN(view)};
+    return bytes;
+}
 
 static PyObject *as_bytes(const uint8_t *bytes, size_t size)
 {
@@ -157,6 +177,34 @@ static PyObject *derive(PyObject *self, PyObject *arguments)
            parent.size + creator.size, as_bytes);
 }
 
+static PyObject *sid_from_text(PyObject *self, PyObject *arguments)
+{
+    struct view text, domain;
+    (void)self;
+    if (!PyArg_ParseTuple(arguments, "y#y#", &text.bytes, &text.size, &domain.bytes, &domain.size))
+        return NULL;
+    ANSWER(library.sid_from_text(IN(text), IN(domain), output, size), 0, as_bytes);
+}
+
+static PyObject *sid_to_text(PyObject *self, PyObject *arguments)
+{
+    struct view sid, domain;
+    int numeric;
+    (void)self;
+    if (!PyArg_ParseTuple(arguments, "y#y#p", &sid.bytes, &sid.size, &domain.bytes, &domain.size, &numeric))
+        return NULL;
+    ANSWER(library.sid_to_text(IN(sid), IN(domain), numeric != 0, output, size), 0, as_text);
+}
+
+static PyObject *is_one_sid(PyObject *self, PyObject *argument)
+{
+    struct view bytes;
+    (void)self;
+    if (!view_of(argument, &bytes))
+        return NULL;
+    return PyBool_FromLong(bytes.size > 0 && library.sid_size(IN(bytes)) == (size_t)bytes.size);
+}
+
 static PyObject *run(PyObject *self, PyObject *arguments)
 {
     struct view words, input;
@@ -240,6 +288,15 @@ static PyObject *question(PyObject *self, PyObject *arguments)
     return capsule;
 }
 
+/* A verdict as a pair, or its fault as the arguments of what raises it. */
+static PyObject *verdict_of(struct sdtool_verdict verdict)
+{
+    if (verdict.fault != SDTOOL_OK)
+        return Py_BuildValue("IIIIn", verdict.fault, verdict.part, verdict.other_part, verdict.argument,
+                             (Py_ssize_t)verdict.entry);
+    return Py_BuildValue("OI", verdict.granted ? Py_True : Py_False, verdict.mask);
+}
+
 static PyObject *check(PyObject *self, PyObject *arguments)
 {
     PyObject *capsule;
@@ -260,7 +317,169 @@ static PyObject *check(PyObject *self, PyObject *arguments)
         PyEval_RestoreThread(others);
     if (verdict.fault != SDTOOL_OK)
         return refused(verdict.fault, verdict.part, verdict.other_part, verdict.argument, verdict.entry);
-    return Py_BuildValue("OI", verdict.granted ? Py_True : Py_False, verdict.mask);
+    return verdict_of(verdict);
+}
+
+static PyObject *check_many(PyObject *self, PyObject *arguments)
+{
+    PyObject *capsule, *list, *answers = NULL;
+    const struct question *asked;
+    struct sdtool_bytes *descriptors = NULL;
+    struct sdtool_verdict *verdicts = NULL;
+    struct sdtool_outcome outcome;
+    Py_ssize_t count, index;
+    (void)self;
+    if (!PyArg_ParseTuple(arguments, "OO", &capsule, &list))
+        return NULL;
+    asked = PyCapsule_GetPointer(capsule, QUESTION);
+    count = asked == NULL ? -1 : PyTuple_Size(list);
+    if (count < 0)
+        return NULL;
+    descriptors = calloc((size_t)count + 1, sizeof *descriptors);
+    verdicts = calloc((size_t)count + 1, sizeof *verdicts);
+    if (descriptors == NULL || verdicts == NULL) {
+        PyErr_NoMemory();
+        goto end;
+    }
+    for (index = 0; index < count; index++) {
+        struct view data;
+        if (!view_of(PyTuple_GetItem(list, index), &data))
+            goto end;
+        descriptors[index] = bytes_of(data);
+    }
+    Py_BEGIN_ALLOW_THREADS
+    outcome = library.check_many(descriptors, (size_t)count, IN(asked->sids), IN(asked->entries), IN(asked->object),
+                                 IN(asked->principal_self), &asked->request, verdicts, (size_t)count);
+    Py_END_ALLOW_THREADS
+    if (outcome.fault != SDTOOL_OK) {
+        refused_outcome(outcome);
+        goto end;
+    }
+    answers = PyList_New(count);
+    for (index = 0; answers != NULL && index < count; index++) {
+        PyObject *verdict = verdict_of(verdicts[index]);
+        if (verdict == NULL || PyList_SetItem(answers, index, verdict) < 0) {
+            Py_DECREF(answers);
+            answers = NULL;
+        }
+    }
+end:
+    free(descriptors);
+    free(verdicts);
+    return answers;
+}
+
+/* What lies at a place of bytes, or None. */
+static PyObject *part_at(const struct view *bytes, struct sdtool_place place)
+{
+    if (place.size == 0)
+        Py_RETURN_NONE;
+    return as_bytes((const uint8_t *)bytes->bytes + place.offset, place.size);
+}
+
+static PyObject *parts(PyObject *self, PyObject *arguments)
+{
+    struct view data;
+    struct sdtool_contents found;
+    (void)self;
+    if (!PyArg_ParseTuple(arguments, "y#", &data.bytes, &data.size))
+        return NULL;
+    found = library.parts(IN(data));
+    if (found.fault != SDTOOL_OK)
+        return refused(found.fault, found.part, found.other_part, 0, 0);
+    return Py_BuildValue("HBNNININ", found.control, found.resource_manager, part_at(&data, found.owner),
+                         part_at(&data, found.group), found.sacl.state, part_at(&data, found.sacl.place), found.dacl.state,
+                         part_at(&data, found.dacl.place));
+}
+
+static PyObject *aces(PyObject *self, PyObject *arguments)
+{
+    struct view acl;
+    struct sdtool_ace ace = {0};
+    PyObject *list;
+    (void)self;
+    if (!PyArg_ParseTuple(arguments, "y#", &acl.bytes, &acl.size))
+        return NULL;
+    list = PyList_New(0);
+    while (list != NULL && library.next_ace(IN(acl), &ace)) {
+        PyObject *fields = Py_BuildValue("BBINNN", ace.kind, ace.flags, ace.mask, part_at(&acl, ace.sid),
+                                         part_at(&acl, ace.object_type), part_at(&acl, ace.inherited_object_type));
+        if (fields == NULL || PyList_Append(list, fields) < 0) {
+            Py_DECREF(list);
+            list = NULL;
+        }
+        Py_XDECREF(fields);
+    }
+    if (list != NULL && ace.fault != SDTOOL_OK) {
+        Py_DECREF(list);
+        return refused(ace.fault, SDTOOL_NO_PART, SDTOOL_NO_PART, 0, 0);
+    }
+    return list;
+}
+
+/* Reads a tuple of tuples, the fields of ACEs. What it allocates is the caller's to free. */
+static bool new_aces(PyObject *tuple, struct sdtool_new_acl *acl)
+{
+    Py_ssize_t count = PyTuple_Size(tuple), index;
+    struct sdtool_new_ace *aces;
+    if (count < 0)
+        return false;
+    aces = calloc((size_t)count + 1, sizeof *aces);
+    if (aces == NULL) {
+        PyErr_NoMemory();
+        return false;
+    }
+    acl->aces = aces;
+    acl->ace_count = (size_t)count;
+    for (index = 0; index < count; index++) {
+        unsigned char kind, flags;
+        unsigned int mask;
+        PyObject *objects[3];
+        struct view views[3];
+        int each;
+        if (!PyArg_ParseTuple(PyTuple_GetItem(tuple, index), "bbIOOO", &kind, &flags, &mask, &objects[0], &objects[1],
+                              &objects[2]))
+            return false;
+        for (each = 0; each < 3; each++)
+            if (!view_of(objects[each], &views[each]))
+                return false;
+        aces[index].kind = kind;
+        aces[index].flags = flags;
+        aces[index].mask = mask;
+        aces[index].sid = bytes_of(views[0]);
+        aces[index].object_type = bytes_of(views[1]);
+        aces[index].inherited_object_type = bytes_of(views[2]);
+    }
+    return true;
+}
+
+static PyObject *built(const struct sdtool_new_descriptor *descriptor)
+{
+    ANSWER(library.build(descriptor, output, size), 0, as_bytes);
+}
+
+static PyObject *build(PyObject *self, PyObject *arguments)
+{
+    PyObject *sacl, *dacl, *owner, *group, *answer = NULL;
+    struct sdtool_new_descriptor descriptor = {0};
+    struct view of_owner, of_group;
+    unsigned short control;
+    unsigned char resource_manager;
+    (void)self;
+    if (!PyArg_ParseTuple(arguments, "HbOOIOIO", &control, &resource_manager, &owner, &group, &descriptor.sacl.state, &sacl,
+                          &descriptor.dacl.state, &dacl))
+        return NULL;
+    if (view_of(owner, &of_owner) && view_of(group, &of_group) && new_aces(sacl, &descriptor.sacl) &&
+        new_aces(dacl, &descriptor.dacl)) {
+        descriptor.control = control;
+        descriptor.resource_manager = resource_manager;
+        descriptor.owner = bytes_of(of_owner);
+        descriptor.group = bytes_of(of_group);
+        answer = built(&descriptor);
+    }
+    free((void *)descriptor.sacl.aces);
+    free((void *)descriptor.dacl.aces);
+    return answer;
 }
 
 /* Opens the library. An OSError says why that fails. RAISES is called with the numbers of a fault. */
@@ -303,9 +522,16 @@ static PyMethodDef FUNCTIONS[] = {
     {"to_sddl", to_sddl, METH_VARARGS, NULL},
     {"explain", explain, METH_VARARGS, NULL},
     {"derive", derive, METH_VARARGS, NULL},
+    {"sid_from_text", sid_from_text, METH_VARARGS, NULL},
+    {"sid_to_text", sid_to_text, METH_VARARGS, NULL},
+    {"is_one_sid", is_one_sid, METH_O, NULL},
     {"run", run, METH_VARARGS, NULL},
     {"question", question, METH_VARARGS, NULL},
     {"check", check, METH_VARARGS, NULL},
+    {"check_many", check_many, METH_VARARGS, NULL},
+    {"parts", parts, METH_VARARGS, NULL},
+    {"aces", aces, METH_VARARGS, NULL},
+    {"build", build, METH_VARARGS, NULL},
     {NULL, NULL, 0, NULL},
 };
 

@@ -1,7 +1,6 @@
 """SIDs, ACEs, ACLs, descriptors and tokens as objects. None of them can be changed, and two are equal exactly if their
 content is the same. Each answer is one of the library."""
 import enum
-import functools
 import uuid
 from typing import (Any, Callable, ClassVar, Dict, FrozenSet, Iterable, Iterator, List, NamedTuple, NoReturn, Optional, Sequence,
                     Tuple, Type, TypeVar, Union, overload)
@@ -13,7 +12,6 @@ from ._flags import AceFlags, AceKind, Control
 from ._words import KINDS, MAPPINGS, PRIVILEGES, Kind, Mapping, Privilege
 
 _MOST_SIDS = 1024
-_MOST_ACES, _MOST_LISTS = 8192, 512  # so many of those that were met last are kept
 _Bytes = bytes  # within SecurityDescriptor, bytes is its layout
 _KIND_OF = {kind.value: kind for kind in AceKind}
 _FLAGS_OF = [AceFlags(value) for value in range(256)]
@@ -189,18 +187,6 @@ def _ace_of(raw: _RawAce) -> Ace:
                           object_type and uuid.UUID(bytes_le=object_type), inherited and uuid.UUID(bytes_le=inherited)))
 
 
-@functools.lru_cache(maxsize=_MOST_ACES)
-def _ace_of_line(text: str) -> Ace:
-    """An ACE of an explanation, without its part and its number. Most ACEs are like others, and are made once."""
-    return _ace_of(_library.ace(text))
-
-
-@functools.lru_cache(maxsize=_MOST_LISTS)
-def _aces_of_lines(lines: str) -> Tuple[Ace, ...]:
-    """The ACEs of an explanation. Many objects have the same ones."""
-    return tuple([_ace_of_line(line.split(" ", 2)[2]) for line in lines.splitlines()])
-
-
 def _raw_ace(ace: Ace) -> _RawAce:
     return (int(ace.kind), int(ace.flags), ace.mask, ace.sid, _arguments.guid("object_type", ace.object_type) or None,
             _arguments.guid("inherited_object_type", ace.inherited_object_type) or None)
@@ -236,7 +222,7 @@ class Acl(_Fixed, Sequence[Ace]):
     NULL: ClassVar["Acl"]
     ABSENT: ClassVar["Acl"]
     _state: int
-    _data: Any  # a list as the library has it, from which the ACEs are made when they are asked for
+    _data: Any  # the bytes of a list that the library has seen, from which the ACEs are made when they are asked for
     _aces: Optional[Tuple[Ace, ...]]
 
     def __init__(self, aces: Iterable[Ace] = ()) -> None:
@@ -262,7 +248,7 @@ class Acl(_Fixed, Sequence[Ace]):
         if self._state != _LIST:
             raise NoAces(f"the ACL is {'null' if self.is_null else 'absent'}, which is no list of ACEs; ask is_list first")
         if self._aces is None:
-            _set_aces(self, _aces_of_lines(self._data))
+            _set_aces(self, tuple(map(_ace_of, _library.aces(self._data))))
         assert self._aces is not None
         return self._aces
 
