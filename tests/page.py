@@ -1016,9 +1016,12 @@ def main():
         return count.end()
     kinds = list(chosen_browsers(given.browser))
     with concurrent.futures.ThreadPoolExecutor(max(1, len(kinds))) as threads:
-        for counted in [threads.submit(judge, kind, given) for kind in kinds]:
-            count.passed += counted.result().passed
-            count.failed += counted.result().failed
+        for kind, judged in [(kind, threads.submit(judge, kind, given)) for kind in kinds]:
+            if judged.exception():  # the browser did not start, or was lost
+                count.add(False, f"{kind.name}: {judged.exception()!r}")
+            else:
+                count.passed += judged.result().passed
+                count.failed += judged.result().failed
     return count.end()
 
 
