@@ -33,8 +33,9 @@ import run_rows  # noqa: E402
 DEBIAN_PYTHON = "/usr/bin/python3"  # which sees Debian's packages
 TOP = pathlib.Path(__file__).resolve().parent.parent
 SECONDS = 120
-MOST_WAITED = 1.0  # seconds, for a line of a megabyte
-MOST_BLOCKED = 50  # milliseconds, that a key may wait
+MOST_WAITED = 1.0  # seconds, for a line of a megabyte, on an idle machine
+MOST_BLOCKED = 50  # milliseconds, that a key may wait, on an idle machine
+BUSY = 10  # times as long on a machine that also does other things, as in the gate
 BATCH = 100
 TRIES = 6  # of what is measured, on a machine that does other things too
 COMMANDS = {
@@ -684,8 +685,9 @@ def test_long_line(count, page, given):
         f"{page.browser.name}: a line of {len(text):,} bytes takes {seconds:.2f} s and holds up a key for "
         f"{blocked:.0f} ms"
     )
-    count.add(seconds <= MOST_WAITED, f"a line of {len(text)} bytes took {seconds:.2f} s")
-    count.add(blocked <= MOST_BLOCKED, f"a key would have waited {blocked:.0f} ms")
+    times = 1 if given.idle else BUSY
+    count.add(seconds <= times * MOST_WAITED, f"a line of {len(text)} bytes took {seconds:.2f} s")
+    count.add(blocked <= times * MOST_BLOCKED, f"a key would have waited {blocked:.0f} ms")
 
 
 def test_big_file(count, page, given):
@@ -1003,6 +1005,9 @@ def main():
         "--descriptors", type=int, default=1000, help="random descriptors for the grid, in each browser"
     )
     parser.add_argument("--megabytes", type=int, default=100)
+    parser.add_argument(
+        "--idle", action="store_true", help="hold the page to its times; else to ten times as long, for a busy machine"
+    )
     parser.add_argument("--seed", type=int, default=1)
     parser.add_argument("--browser", choices=[kind.name for kind in browsers.BROWSERS])
     parser.add_argument("--only", nargs="+", default=[])
