@@ -6,7 +6,8 @@ be what PROGRAM answers: of descriptors the lines of `explain` or the `error` li
 layout that `convert` writes; of ACLs the same lines, up to the ACE that can't be read; of SIDs and their texts what
 `convert` does with an owner or a trustee; of many checks the lines of `check`. The lines are those of the worked rows,
 the hostile ones of compare.py, and N random ones. The cases of arguments and of ACLs round their limit are in objects.c,
-which also tries each size of the outputs, and walks through ACLs while they change.
+which also tries each size of the outputs, and walks through ACLs while they change. The program in C of docs/LIBRARY.md has
+to print what stands there.
 
 It runs plain, under the sanitizers for addresses and undefined behaviour if the compiler has them, under valgrind if that
 is there, and with a page that cannot be touched behind each block and in front of it.
@@ -247,6 +248,25 @@ def test_many(runners, program, maker, lines, choices):
         runners.test(["many", *fields[1:]], chosen, expected)
 
 
+def test_document(count, folder):
+    """The program of docs/LIBRARY.md prints what stands there."""
+    text = (c_library.TOP / "docs/LIBRARY.md").read_text(encoding="utf-8")
+    whole = re.search(r"```c\n(.*?)```\n\nWith the lines\n\n```\n(.*?)```\n\nit prints\n\n```\n(.*?)```", text, re.DOTALL)
+    count.add(whole is not None, "docs/LIBRARY.md has no program in C")
+    if not whole:
+        return
+    source, program = folder / "document.c", folder / "document"
+    source.write_text(whole[1], encoding="utf-8")
+    words = [c_library.COMPILER, *c_library.WARNINGS, "-Wpedantic", f"-I{c_library.TOP / 'include'}", source,
+             c_library.LIBRARIES / "libsdtool.a", "-o", program]
+    ended = c_library.ran(words, "")
+    count.add((ended.returncode, ended.stderr) == (0, b""), f"the program of docs/LIBRARY.md: {ended.stderr.decode()[:800]}")
+    if ended.returncode == 0:
+        ended = c_library.ran([program], whole[2])
+        count.add((ended.stdout.decode(), ended.returncode) == (whole[3], 0),
+                  f"the program of docs/LIBRARY.md prints {ended.stdout.decode()!r}")
+
+
 def readable(line):
     try:
         found = reference.read(bytes.fromhex(line))
@@ -265,6 +285,7 @@ def main():
     with tempfile.TemporaryDirectory() as name:
         runners = Runners(count, pathlib.Path(name))
         lines = descriptors(maker, arguments.lines, choices)
+        test_document(count, pathlib.Path(name))
         runners.test_cases()
         test_parts(runners, arguments.program, lines)
         test_large_parts(runners, arguments.program)
