@@ -37,7 +37,7 @@ import run_examples  # noqa: E402
 TOP = pathlib.Path(__file__).resolve().parent.parent
 DATA = TOP / "tests/audit"
 LIBRARY = os.environ.get("SDTOOL_LIBRARY", str(TOP / "out/lib/libsdtool.so"))
-SECONDS = 120  # for one run
+SECONDS = 600  # for one run; a machine with other work may be slow
 DOMAIN = "S-1-5-21-1-2-3"
 ADMINISTRATORS, SYSTEM, EVERYONE = "Administrators (S-1-5-32-544)", "Local System (S-1-5-18)", "Everyone (S-1-1-0)"
 SIGNED_IN, USERS, GUESTS = "Authenticated Users (S-1-5-11)", "Users (S-1-5-32-545)", "Guests (S-1-5-32-546)"
