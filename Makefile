@@ -48,7 +48,7 @@ help:
 	@echo 'make bench             measures the program against a plain one in Rust, and cat (8 minutes)'
 	@echo 'make bench-library     measures calls of the library beside those of Samba, from C and Python (a minute)'
 	@echo 'make install           installs the program, its man page, documents and completions below PREFIX ($(PREFIX)),'
-	@echo '                       and the library for C, its header and its pkg-config file; libraries go to LIBDIR ($(LIBDIR))'
+	@echo '                       and the library for C, its header, man pages and pkg-config file; libraries go to LIBDIR ($(LIBDIR))'
 	@echo 'make uninstall         removes them again'
 	@echo 'make systems           builds program and library for other systems too, in out/systems (minutes if both are built); or one:'
 	@echo '                       make $(SYSTEMS)'
@@ -126,6 +126,8 @@ install: program library
 	install -m 644 packaging/completions/sdtool.fish '$(DESTDIR)$(PREFIX)/share/$(FISH_COMPLETION)'
 	install -d '$(DESTDIR)$(PREFIX)/include' '$(DESTDIR)$(LIBDIR)/pkgconfig'
 	install -m 644 include/sdtool.h '$(DESTDIR)$(PREFIX)/include/sdtool.h'
+	install -d '$(DESTDIR)$(PREFIX)/share/man/man3'
+	packaging/man_pages.py '$(DESTDIR)$(PREFIX)/share/man/man3'
 	install -m 644 out/lib/libsdtool.a '$(DESTDIR)$(LIBDIR)/libsdtool.a'
 	install -m 644 out/lib/$(SONAME) '$(DESTDIR)$(LIBDIR)/libsdtool.so.$(VERSION)'
 	ln -sf libsdtool.so.$(VERSION) '$(DESTDIR)$(LIBDIR)/$(SONAME)'
@@ -136,6 +138,7 @@ install: program library
 
 uninstall:
 	rm -f '$(DESTDIR)$(PREFIX)/bin/sdtool' '$(DESTDIR)$(PREFIX)/share/man/man1/sdtool.1'
+	rm -f '$(DESTDIR)$(PREFIX)/share/man/man3/sdtool.h.3' '$(DESTDIR)$(PREFIX)/share/man/man3'/sdtool_*.3
 	rm -f '$(DESTDIR)$(PREFIX)/include/sdtool.h' '$(DESTDIR)$(LIBDIR)/pkgconfig/sdtool.pc'
 	rm -f $(foreach file,libsdtool.a libsdtool.so $(SONAME) libsdtool.so.$(VERSION),'$(DESTDIR)$(LIBDIR)/$(file)')
 	rm -f $(foreach file,$(COMPLETIONS),'$(DESTDIR)$(PREFIX)/share/$(file)')

@@ -68,12 +68,12 @@ else
     install -m 644 out/systems/linux-aarch64/libsdtool.a "$program/$libraries/libsdtool.a"
     install -m 644 out/systems/linux-aarch64/libsdtool.so.? "$program/$libraries/libsdtool.so.$version"
 fi
-gzip -9n "$program/usr/share/man/man1/sdtool.1"
+gzip -9n "$program/usr/share/man/man1/sdtool.1" "$program"/usr/share/man/man3/*.3
 # Debian's zsh looks for the completions of packages in a folder of its own.
 mv "$program/usr/share/zsh/site-functions" "$program/usr/share/zsh/vendor-completions"
 move "$program" "$library" "$libraries"
 move "$library" "$development" "$libraries"/{libsdtool.a,libsdtool.so,pkgconfig}
-move "$program" "$development" usr/include
+move "$program" "$development" usr/include usr/share/man/man3
 rmdir "$program/usr/lib"
 install -d "$modules"
 tar -C python -c --exclude=__pycache__ --exclude='*.so' sdtool | tar -C "$modules" -x

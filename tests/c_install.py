@@ -3,7 +3,7 @@
 
 Tests that the library works where it is installed: by `make install`, from the archive of `make dist` and from Debian's
 packages. Each time a program in C and in C++ is built with the words that pkg-config gives, linked to the shared and to
-the static library, and run. Also tested: what `make uninstall` leaves, the names and symbols of the shared library,
+the static library, and run. Also tested: what `make uninstall` leaves, the library's man pages, the names and symbols of the shared library,
 lintian's opinion of the packages, and the Python module as pip installs it. Parts whose tools are missing are skipped.
 The last line is 'N passed, M failed'.
 """
@@ -36,11 +36,14 @@ def version_of(path, pattern):
 
 
 VERSION = version_of("packaging/control", r"^Version: (.*)$")
+HEADER = (TOP / "include/sdtool.h").read_text(encoding="utf-8")
+# The man pages of the library: one of each function, and one of all else.
+PAGES = {"sdtool.h.3", *(f"{name}.3" for name in re.findall(r"\b(sdtool_\w+)\(", HEADER))}
 # What each of Debian's packages has besides documents.
 FILES_OF_PACKAGES = {
     "sdtool": {"sdtool", "sdtool.1.gz", "_sdtool", "sdtool.fish"},
     "libsdtool0": {f"libsdtool.so.{VERSION}", "libsdtool.so.0"},
-    "libsdtool-dev": {"sdtool.h", "libsdtool.a", "libsdtool.so", "sdtool.pc"},
+    "libsdtool-dev": {"sdtool.h", "libsdtool.a", "libsdtool.so", "sdtool.pc", *(f"{name}.gz" for name in PAGES)},
     "python3-sdtool": {path.name for path in (TOP / "python/sdtool").rglob("*")
                        if path.is_file() and path.suffix not in (".so", ".pyc") and path.parent.name != "audit"},
     "sdtool-audit": {"sdtool-audit", "sdtool-audit.1.gz", *(path.name for path in (TOP / "python/sdtool/audit").glob("*.py"))},
@@ -115,9 +118,24 @@ def test_install(count, folder):
     test_names(count, installed / "lib")
     test_programs(count, "make install", folder, found)
     test_module(count, folder, found)
+    test_pages(count, installed / "share/man/man3")
     make("uninstall", f"DESTDIR={root}", f"PREFIX={PREFIX}")
     left = [path for path in installed.rglob("*") if path.is_symlink() or not path.is_dir() or path.name == "sdtool"]
     count.add(not left, f"make uninstall leaves {left}")
+
+
+def test_pages(count, folder):
+    """The man pages of the library: groff finds no fault in them, and each shows its function and what is said of it."""
+    count.add({path.name for path in folder.iterdir()} == PAGES, f"man pages: {sorted(folder.iterdir())}")
+    if not shutil.which("groff"):
+        print("skipped: there is no groff")
+        return
+    for path in sorted(folder.iterdir()):
+        warnings, status = ran(["groff", "-man", "-Tutf8", "-ww", "-z", path])
+        count.add((warnings, status) == ("", 0), f"{path.name}: {warnings}")
+        shown = ran(["groff", "-man", "-Tascii", "-P-cbou", "-rLL=200n", path])[0]
+        wanted = ["struct sdtool_outcome {", "SDTOOL_TOO_SMALL = 71"] if path.stem == "sdtool.h" else [f" {path.stem}("]
+        count.add(all(one in shown for one in ("DESCRIPTION", "SEE ALSO", *wanted)), f"{path.name} lacks something of {wanted}")
 
 
 def test_module(count, folder, found):
