@@ -291,9 +291,9 @@ struct sdtool_verdict {
  * A descriptor without a DACL grants everything; sdtool_from_sddl makes one of an empty text.
  *
  * SDTOOL_ARGUMENT comes first, then 50 and 51, then the faults of the descriptor. SDTOOL_ARGUMENT means that there are
- * more than SDTOOL_MOST_SIDS, that an entry or its SID is none of the above, that bytes are behind the last SID, or that
- * the mapping, OBJECT or PRINCIPAL_SELF is none of the above, in this order. Entries and SIDs are looked at in pairs:
- * the first pair with a fault counts, and in it the entry. It allocates less than 128 KiB before it looks at its
+ * more than SDTOOL_MOST_SIDS, that an entry or its SID is none of the above, that bytes are behind the last SID, or
+ * that the mapping, OBJECT or PRINCIPAL_SELF is none of the above, in this order. Entries and SIDs are looked at in
+ * pairs: the first pair with a fault counts, and in it the entry. It allocates less than 128 KiB before it looks at its
  * arguments, so SDTOOL_NO_MEMORY comes before any other fault.
  */
 struct sdtool_verdict sdtool_check(const uint8_t *descriptor, size_t descriptor_size, const uint8_t *sids,

@@ -5,9 +5,9 @@
  * they answer. Bytes are hex digits, and - is no byte. A fault is 'error NUMBER PART PART', that of an argument
  * 'error 70 ARGUMENT ENTRY'.
  *
- *   parts                   of a descriptor: control word, resource manager byte, owner, group, and each ACL with its ACEs,
- *                           as 'explain --numeric' has them, but types and flags as numbers and no rights; then the
- *                           layout of the descriptor that is built of these
+ *   parts                   of a descriptor: control word, resource manager byte, owner, group, and each ACL with its
+ *                           ACEs, as 'explain --numeric' has them, but types and flags as numbers and no rights; then
+ *                           the layout of the descriptor that is built of these
  *   walk                    of an ACL: its ACEs, and 'end' or the fault; then it walks on while the ACL changes
  *   from_text DOMAIN        of a text: the SID
  *   to_text DOMAIN [numeric]  of a SID: its text
@@ -399,8 +399,8 @@ static void parts(const struct bytes *in)
     print_part("owner", in, &contents.owner);
     print_part("group", in, &contents.group);
     struct sdtool_new_acl dacl = print_acl("dacl", in, &contents.dacl), sacl = print_acl("sacl", in, &contents.sacl);
-    struct sdtool_new_descriptor made = {bytes_at(in->cells, &contents.owner), bytes_at(in->cells, &contents.group), sacl,
-                                         dacl, contents.control, contents.resource_manager};
+    struct sdtool_new_descriptor made = {bytes_at(in->cells, &contents.owner), bytes_at(in->cells, &contents.group),
+                                         sacl, dacl, contents.control, contents.resource_manager};
     puts("end");
     build(&made);
     free((void *)dacl.aces);
@@ -650,7 +650,8 @@ static void wrong_sids(struct bytes *found)
 }
 
 /* An ACE that can't be, in an ACL with one that can before it. */
-static void expect_wrong_ace(const struct sdtool_new_ace *right, const struct sdtool_new_ace *wrong_one, const char *what)
+static void expect_wrong_ace(const struct sdtool_new_ace *right, const struct sdtool_new_ace *wrong_one,
+                             const char *what)
 {
     struct sdtool_new_ace aces[3] = {*right, *wrong_one, *wrong_one};
     struct sdtool_new_descriptor d = {.dacl = {aces, 3, SDTOOL_ACL_LIST}};
@@ -866,7 +867,8 @@ static void large(void)
 {
     struct bytes all[4] = {a_sid(0), a_sid(1), a_sid(2), a_sid(3)}, longest = a_sid(15);
     struct sdtool_bytes sids[4] = {lent(&all[0]), lent(&all[1]), lent(&all[2]), lent(&all[3])};
-    struct sdtool_new_ace *aces = room_for(LARGEST_ACL / 8, sizeof *aces), *others = room_for(LARGEST_ACL / 8, sizeof *aces);
+    struct sdtool_new_ace *aces = room_for(LARGEST_ACL / 8, sizeof *aces);
+    struct sdtool_new_ace *others = room_for(LARGEST_ACL / 8, sizeof *others);
     struct sdtool_new_acl most = acl_of(LARGEST_ACL - 3, aces, sids), over = acl_of(LARGEST_ACL + 1, others, sids);
     struct sdtool_new_descriptor d = {lent(&longest), lent(&longest), most, most, 0, 0};
     struct call call = {.make = make_build, .descriptor = &d};
