@@ -373,7 +373,7 @@ async def drive(wanted: argparse.Namespace, work: Work) -> List[Any]:
         except Exception as error:
             say(f"some worker does not answer, or cannot take part: {error!r}")
         tasks = [asyncio.ensure_future(collect(client, work, wanted)),
-                 asyncio.ensure_future(watch(client, work.name, wanted.wait if wanted.scheduler else 3))]
+                 asyncio.ensure_future(watch(client, work.name, wanted.wait))]
         try:
             await asyncio.wait(tasks, return_when=asyncio.FIRST_COMPLETED)
             return await next(task for task in tasks if task.done())
