@@ -103,6 +103,7 @@ if "${MAKE:-make}" --no-print-directory program; then
             ((failed += 1))
         fi
         count tests/page.py "$program"
+        count tests/page_schema.py
     else
         echo "the library is not built, so its tests have not run"
         ((failed += 1))

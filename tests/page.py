@@ -575,6 +575,28 @@ def test_warnings(count, page, _):
     count.add(shown == [], f"a harmless descriptor: {shown}")
 
 
+# An ACE of a directory object, and what its GUID is called. Five GUIDs are a property and a validated write.
+MEMBER = "bf9679c0-0de6-11d0-a285-00aa003049e2"
+GUIDS = [
+    (f"(OA;;WP;{MEMBER};;AU)", "for member (property)"),
+    (f"(OA;;SW;{MEMBER};;AU)", "for Self-Membership (validated write)"),
+    (f"(OA;;GA;{MEMBER};;AU)", "for Self-Membership (validated write), member (property)"),
+    ("(OA;;CR;014bf69c-7b3b-11d1-85f6-08002be74fab;;AU)", "for Change-Domain-Master (right)"),
+    ("(OA;;CC;bf967aba-0de6-11d0-a285-00aa003049e2;;AU)", "for user (class)"),
+    ("(OA;;RP;e45795b2-9455-11d1-aebd-0000f80367c1;;AU)", "for Email-Information (property set)"),
+    ("(OA;;CR;ee914b82-0a98-11d1-adbb-00c04fd8d5cd;;AU)", "for unknown GUID ee914b82-0a98-11d1-adbb-00c04fd8d5cd"),
+]
+
+
+def test_guids(count, page, _):
+    page.open()
+    page.do("put('kind', 'ds');")
+    for ace, words in GUIDS:
+        page.see(f"O:BAD:{ace}")
+        shown = page.texts("tr.ace .object")
+        count.add(shown == [words], f"{ace}: {shown}, not {words}")
+
+
 # -- what must not happen ------------------------------------------------------------------------------------------
 
 
@@ -940,6 +962,7 @@ TESTS = [
     test_forms,
     test_faults,
     test_warnings,
+    test_guids,
     test_network,
     test_markup,
     test_long_line,

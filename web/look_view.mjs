@@ -32,7 +32,7 @@ function card(row, kind, bucket, rights, names) {
     return make("li", {class: "card"}, who(row.sid, row.alias, names),
         bucket === "none" || row.granted === 0 ? null : make("span", {class: "gets"}, gets),
         row.typed.slice(0, 8).map(({object, mask}) => make("span", {class: "gets"},
-                                      `${commaed(rightsInWords(kind, mask))}: ${guidInWords(object)}`)),
+                                      `${commaed(rightsInWords(kind, mask))}: ${guidInWords(object, mask)}`)),
         row.byRule !== 0 && row.isOwner ? make("span", {class: "tag"}, WORDS.summary.byOwner) : null);
 }
 
@@ -78,7 +78,7 @@ function warningText(warning, kind, names) {
         why: warning.why ? WORDS.useless[warning.why] : "",
         count: warning.count ?? warning.domains?.length,
         domains: warning.domains ? commaed(warning.domains) : "",
-        object: warning.object ? guidInWords(warning.object) : "",
+        object: warning.object ? guidInWords(warning.object, warning.mask) : "",
         policy: warning.policy ?
             commaed(warning.policy.match(/N[WRX]/g)?.map((name) => WORDS.label[name]) ?? [WORDS.label.none]) :
             "",

@@ -2,7 +2,7 @@
 import {bitsOf, has} from "./access.mjs";
 import {mappingOf} from "./desk.mjs";
 import {maskText} from "./library.mjs";
-import {guidName} from "./schema.mjs";
+import {guidNames} from "./schema.mjs";
 import {say, WORDS} from "./words.mjs";
 
 const RELATIVE = /^(S-1-5-21-\d+-\d+-\d+)-(\d+)$/;
@@ -97,9 +97,10 @@ export function labelInWords(mask) {
     ];
 }
 
-export function guidInWords(guid) {
-    const known = guidName(guid);
-    return known ? `${known.name} (${known.type})` : say(WORDS.unknownGuid, {guid});
+// What a GUID stands for in an ACE with a mask, or in any.
+export function guidInWords(guid, mask) {
+    const known = guidNames(guid, mask);
+    return known.length ? known.map(({name, type}) => `${name} (${type})`).join(", ") : say(WORDS.unknownGuid, {guid});
 }
 
 // Where an ACE applies, by its flags.

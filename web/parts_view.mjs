@@ -33,7 +33,7 @@ export function aceRights(ace, kind) {
     const words = ace.kind === "ML" ? labelInWords(ace.mask) : rightsInWords(kind, ace.meaning);
     const generic = ace.meaning === ace.mask ? null : make("small", {}, ` (${commaed(rightsInWords(kind, ace.mask))})`);
     const object =
-        ace.object ? make("div", {class: "object"}, say(WORDS.object, {name: guidInWords(ace.object)})) : null;
+        ace.object ? make("div", {class: "object"}, say(WORDS.object, {name: guidInWords(ace.object, ace.meaning)})) : null;
     return [make("span", {}, commaed(words)), generic, " ", make("code", {class: "mask"}, maskText(ace.mask)), object];
 }
 

@@ -1,6 +1,8 @@
-// Well-known GUIDs of a directory. Sources: MS-ADTS 5.1.3.2.1 (control access rights), 5.1.3.2.2 (validated writes)
-// and 3.1.1.2.3.3 (property sets); MS-ADSC, MS-ADA1, MS-ADA2 and MS-ADA3 (schemaIDGUID of classes and attributes). A
-// GUID that is not here is shown as it is.
+// Well-known GUIDs of a directory: the extended rights, validated writes and property sets of MS-ADTS 5.1.3.2 and
+// 6.1.1.2.7, all classes of MS-ADSC, and those attributes of MS-ADA1 to MS-ADA3 that ACEs name or that administrators
+// write in users, groups, computers, contacts, containers, policies and domains. They come from the schema of Windows
+// Server 2008 to 2016 in Debian's samba-ad-provision (/usr/share/samba/setup), with which tests/page_schema.py compares
+// each entry. DS-Validated-Write-Computer is named by MS-ADTS alone. A GUID that is not here is shown as it is.
 
 const RIGHT = "right";
 const SET = "property set";
@@ -8,136 +10,513 @@ const WRITE = "validated write";
 const CLASS = "class";
 const ATTRIBUTE = "property";
 
+// The end of GUIDs, and then for each GUID with that end its first eight digits and its name.
 const TABLE = {
     [RIGHT]: `
-        ee914b82-0a98-11d1-adbb-00c04fd8d5cd Abandon-Replication
-        440820ad-65b4-11d1-a3da-0000f875ae0d Add-GUID
-        1abd7cf8-0a99-11d1-adbb-00c04fd8d5cd Allocate-Rids
-        68b1d179-0d15-4d4f-ab71-46152e79a7bc Allowed-To-Authenticate
-        edacfd8f-ffb3-11d1-b41d-00a0c968f939 Apply-Group-Policy
-        0e10c968-78fb-11d2-90d4-00c04f79dc55 Certificate-Enrollment
-        a05b8cc2-17bc-4802-a710-e7c15ab866a2 Certificate-AutoEnrollment
-        014bc69c-7b3b-11d1-85f6-08002be74fab Change-Domain-Master
-        cc17b1fb-33d9-11d2-97d4-00c04fd8d5cd Change-Infrastructure-Master
-        bae50096-4752-11d1-9052-00c04fc2d4cf Change-PDC
-        d58d5f36-0a98-11d1-adbb-00c04fd8d5cd Change-Rid-Master
-        e12b56b6-0a95-11d1-adbb-00c04fd8d5cd Change-Schema-Master
-        e2a36dc9-ae17-47c3-b58b-be34c55ba633 Create-Inbound-Forest-Trust
-        fec364e0-0a98-11d1-adbb-00c04fd8d5cd Do-Garbage-Collection
-        ab721a52-1e2f-11d0-9819-00aa0040529b Domain-Administer-Server
-        69ae6200-7f46-11d2-b9ad-00c04f79f805 DS-Check-Stale-Phantoms
-        3e0f7e18-2c7a-4c10-ba82-4d926db99a3e DS-Clone-Domain-Controller
-        2f16c4a5-b98e-432c-952a-cb388ba33f2e DS-Execute-Intentions-Script
-        9923a32a-3607-11d2-b9be-0000f87a36b2 DS-Install-Replica
-        4ecc03fe-ffc0-4947-b630-eb672a8a9dbc DS-Query-Self-Quota
-        1131f6aa-9c07-11d1-f79f-00c04fc2dcd2 DS-Replication-Get-Changes
-        1131f6ad-9c07-11d1-f79f-00c04fc2dcd2 DS-Replication-Get-Changes-All
-        89e95b76-444d-4c62-991a-0facbeda640c DS-Replication-Get-Changes-In-Filtered-Set
-        1131f6ac-9c07-11d1-f79f-00c04fc2dcd2 DS-Replication-Manage-Topology
-        f98340fb-7c5b-4cdb-a00b-2ebdfa115a96 DS-Replication-Monitor-Topology
-        1131f6ab-9c07-11d1-f79f-00c04fc2dcd2 DS-Replication-Synchronize
-        05c74c5e-4deb-43b4-bd9f-86664c2a7fd5 Enable-Per-User-Reversibly-Encrypted-Password
-        b7b1b3de-ab09-4242-9e30-9980e5d322f7 Generate-RSoP-Logging
-        b7b1b3dd-ab09-4242-9e30-9980e5d322f7 Generate-RSoP-Planning
-        7c0e2a7c-a419-48e4-a995-10180aad54dd Manage-Optional-Features
-        ba33815a-4f93-4c76-87f3-57574bff8109 Migrate-SID-History
-        b4e60130-df3f-11d1-9c86-006008764d0e msmq-Open-Connector
-        06bd3201-df3e-11d1-9c86-006008764d0e msmq-Peek
-        4b6e08c3-df3c-11d1-9c86-006008764d0e msmq-Peek-computer-Journal
-        4b6e08c1-df3c-11d1-9c86-006008764d0e msmq-Peek-Dead-Letter
-        06bd3200-df3e-11d1-9c86-006008764d0e msmq-Receive
-        4b6e08c2-df3c-11d1-9c86-006008764d0e msmq-Receive-computer-Journal
-        4b6e08c0-df3c-11d1-9c86-006008764d0e msmq-Receive-Dead-Letter
-        06bd3203-df3e-11d1-9c86-006008764d0e msmq-Receive-journal
-        06bd3202-df3e-11d1-9c86-006008764d0e msmq-Send
-        a1990816-4298-11d1-ade2-00c04fd8d5cd Open-Address-Book
-        1131f6ae-9c07-11d1-f79f-00c04fc2dcd2 Read-Only-Replication-Secret-Synchronization
-        45ec5156-db7e-47bb-b53f-dbeb2d03c40f Reanimate-Tombstones
-        0bc1554e-0a99-11d1-adbb-00c04fd8d5cd Recalculate-Hierarchy
-        62dd28a8-7f46-11d2-b9ad-00c04f79f805 Recalculate-Security-Inheritance
-        ab721a56-1e2f-11d0-9819-00aa0040529b Receive-As
-        9432c620-033c-4db7-8b58-14ef6d0bf477 Refresh-Group-Cache
-        1a60ea8d-58a6-4b20-bcdc-fb71eb8a9ff8 Reload-SSL-Certificate
-        7726b9d5-a4b4-4288-a6b2-dce952e80a7f Run-Protect-Admin-Groups-Task
-        91d67418-0135-4acc-8d79-c08e857cfbec SAM-Enumerate-Entire-Domain
-        ab721a54-1e2f-11d0-9819-00aa0040529b Send-As
-        ab721a55-1e2f-11d0-9819-00aa0040529b Send-To
-        ccc2dc7d-a6ad-4a7a-8846-c04e3cc53501 Unexpire-Password
-        280f369c-67c7-438e-ae98-1d46f3c6f541 Update-Password-Not-Required-Bit
-        be2bb760-7f46-11d2-b9ad-00c04f79f805 Update-Schema-Cache
-        ab721a53-1e2f-11d0-9819-00aa0040529b User-Change-Password
-        00299570-246d-11d0-a768-00aa006e0529 User-Force-Change-Password`,
+        -0135-4acc-8d79-c08e857cfbec 91d67418 SAM-Enumerate-Entire-Domain
+        -033c-4db7-8b58-14ef6d0bf477 9432c620 Refresh-Group-Cache
+        -0a95-11d1-adbb-00c04fd8d5cd e12b56b6 Change-Schema-Master
+        -0a98-11d1-adbb-00c04fd8d5cd d58d5f36 Change-Rid-Master fec364e0 Do-Garbage-Collection
+        -0a99-11d1-adbb-00c04fd8d5cd 0bc1554e Recalculate-Hierarchy 1abd7cf8 Allocate-Rids
+        -0d15-4d4f-ab71-46152e79a7bc 68b1d179 Allowed-To-Authenticate
+        -17bc-4802-a710-e7c15ab866a2 a05b8cc2 Certificate-AutoEnrollment
+        -1e2f-11d0-9819-00aa0040529b ab721a52 Domain-Administer-Server ab721a53 User-Change-Password ab721a54
+        Send-As ab721a55 Send-To ab721a56 Receive-As
+        -246d-11d0-a768-00aa006e0529 00299570 User-Force-Change-Password
+        -2c7a-4c10-ba82-4d926db99a3e 3e0f7e18 DS-Clone-Domain-Controller
+        -33d9-11d2-97d4-00c04fd8d5cd cc17b1fb Change-Infrastructure-Master
+        -3607-11d2-b9be-0000f87a36b2 9923a32a DS-Install-Replica
+        -4298-11d1-ade2-00c04fd8d5cd a1990816 Open-Address-Book
+        -444d-4c62-991a-0facbeda640c 89e95b76 DS-Replication-Get-Changes-In-Filtered-Set
+        -4752-11d1-9052-00c04fc2d4cf bae50096 Change-PDC
+        -4deb-43b4-bd9f-86664c2a7fd5 05c74c5e Enable-Per-User-Reversibly-Encrypted-Password
+        -4f93-4c76-87f3-57574bff8109 ba33815a Migrate-SID-History
+        -58a6-4b20-bcdc-fb71eb8a9ff8 1a60ea8d Reload-SSL-Certificate
+        -620d-4879-a836-f0ae47de0e89 084c93a2 DS-Read-Partition-Secrets
+        -65b4-11d1-a3da-0000f875ae0d 440820ad Add-GUID
+        -67c7-438e-ae98-1d46f3c6f541 280f369c Update-Password-Not-Required-Bit
+        -78fb-11d2-90d4-00c04f79dc55 0e10c968 Certificate-Enrollment
+        -7b3b-11d1-85f6-08002be74fab 014bf69c Change-Domain-Master
+        -7c5b-4cdb-a00b-2ebdfa115a96 f98340fb DS-Replication-Monitor-Topology
+        -7f46-11d2-b9ad-00c04f79f805 62dd28a8 Recalculate-Security-Inheritance 69ae6200 DS-Check-Stale-Phantoms
+        be2bb760 Update-Schema-Cache
+        -7fac-4ff0-bcb7-f09a41325286 4125c71f DS-Set-Owner
+        -9c07-11d1-f79f-00c04fc2dcd2 1131f6aa DS-Replication-Get-Changes 1131f6ab DS-Replication-Synchronize
+        1131f6ac DS-Replication-Manage-Topology 1131f6ad DS-Replication-Get-Changes-All 1131f6ae
+        Read-Only-Replication-Secret-Synchronization
+        -a419-48e4-a995-10180aad54dd 7c0e2a7c Manage-Optional-Features
+        -a4b4-4288-a6b2-dce952e80a7f 7726b9d5 Run-Protect-Admin-Groups-Task
+        -a6ad-4a7a-8846-c04e3cc53501 ccc2dc7d Unexpire-Password
+        -ab09-4242-9e30-9980e5d322f7 b7b1b3dd Generate-RSoP-Planning b7b1b3de Generate-RSoP-Logging
+        -ae17-47c3-b58b-be34c55ba633 e2a36dc9 Create-Inbound-Forest-Trust
+        -b171-4116-8146-1e34d8f54401 94825a8d DS-Write-Partition-Secrets
+        -b98e-432c-952a-cb388ba33f2e 2f16c4a5 DS-Execute-Intentions-Script
+        -db7e-47bb-b53f-dbeb2d03c40f 45ec5156 Reanimate-Tombstones
+        -df3c-11d1-9c86-006008764d0e 4b6e08c0 msmq-Receive-Dead-Letter 4b6e08c1 msmq-Peek-Dead-Letter 4b6e08c2
+        msmq-Receive-computer-Journal 4b6e08c3 msmq-Peek-computer-Journal
+        -df3e-11d1-9c86-006008764d0e 06bd3200 msmq-Receive 06bd3201 msmq-Peek 06bd3202 msmq-Send 06bd3203
+        msmq-Receive-journal
+        -df3f-11d1-9c86-006008764d0e b4e60130 msmq-Open-Connector
+        -e5c8-4f2a-9dd7-2527416b8092 88a9933e DS-Bypass-Quota
+        -ffb3-11d1-b41d-00a0c968f939 edacfd8f Apply-Group-Policy
+        -ffc0-4947-b630-eb672a8a9dbc 4ecc03fe DS-Query-Self-Quota`,
     [WRITE]: `
-        bf9679c0-0de6-11d0-a285-00aa003049e2 Self-Membership (member)
-        72e39547-7b18-11d1-adef-00c04fd8d5cd Validated-DNS-Host-Name (dNSHostName)
-        80863791-dbe9-4eb8-837e-7f0ab55d9ac7 Validated-MS-DS-Additional-DNS-Host-Name
-        d31a8757-2447-4545-8081-3bb610cacbf2 Validated-MS-DS-Behavior-Version
-        f3a64788-5306-11d1-a9c5-0000f80367c1 Validated-SPN (servicePrincipalName)`,
+        -0d3c-465c-8bee-5199d7165cba 9b026da6 DS-Validated-Write-Computer
+        -0de6-11d0-a285-00aa003049e2 bf9679c0 Self-Membership
+        -2447-4545-8081-3bb610cacbf2 d31a8757 Validated-MS-DS-Behavior-Version
+        -5306-11d1-a9c5-0000f80367c1 f3a64788 Validated-SPN
+        -7b18-11d1-adef-00c04fd8d5cd 72e39547 Validated-DNS-Host-Name
+        -dbe9-4eb8-837e-7f0ab55d9ac7 80863791 Validated-MS-DS-Additional-DNS-Host-Name`,
     [SET]: `
-        c7407360-20bf-11d0-a768-00aa006e0529 Domain-Password
-        59ba2f42-79a2-11d0-9020-00c04fc2d3cf General-Information
-        4c164200-20c0-11d0-a768-00aa006e0529 User-Account-Restrictions
-        5f202010-79a5-11d0-9020-00c04fc2d4cf User-Logon
-        bc0ac240-79a9-11d0-9020-00c04fc2d4cf Membership
-        037088f8-0ae1-11d2-b422-00a0c968f939 RAS-Information
-        77b5b886-944a-11d1-aebd-0000f80367c1 Personal-Information
-        91e647de-d96f-4b70-9557-d63ff4f3ccd8 Private-Information
-        e48d0154-bcf8-11d1-8702-00c04fb96050 Public-Information
-        e45795b3-9455-11d1-aebd-0000f80367c1 Web-Information
-        e45795b2-9455-11d1-aebd-0000f80367c1 Email-Information
-        b8119fd0-04f6-4762-ab7a-4986c76b3f9a Other-Domain-Parameters
-        ffa6f046-ca4b-4feb-b40d-04dfee722543 MS-TS-GatewayAccess
-        5805bc62-bdc9-4428-a5e2-856a0f4c185e Terminal-Server-License-Server`,
+        -04f6-4762-ab7a-4986c76b3f9a b8119fd0 Domain-Other-Parameters
+        -0ae1-11d2-b422-00a0c968f939 037088f8 RAS-Information
+        -20bf-11d0-a768-00aa006e0529 c7407360 Domain-Password
+        -20c0-11d0-a768-00aa006e0529 4c164200 User-Account-Restrictions
+        -79a2-11d0-9020-00c04fc2d3cf 59ba2f42 General-Information
+        -79a5-11d0-9020-00c04fc2d4cf 5f202010 User-Logon
+        -79a9-11d0-9020-00c04fc2d4cf bc0ac240 Membership
+        -7b18-11d1-adef-00c04fd8d5cd 72e39547 DNS-Host-Name-Attributes
+        -944a-11d1-aebd-0000f80367c1 77b5b886 Personal-Information
+        -9455-11d1-aebd-0000f80367c1 e45795b2 Email-Information e45795b3 Web-Information
+        -bcf8-11d1-8702-00c04fb96050 e48d0154 Public-Information
+        -bdc9-4428-a5e2-856a0f4c185e 5805bc62 Terminal-Server-License-Server
+        -ca4b-4feb-b40d-04dfee722543 ffa6f046 MS-TS-GatewayAccess
+        -d96f-4b70-9557-d63ff4f3ccd8 91e647de Private-Information`,
     [CLASS]: `
-        bf967aba-0de6-11d0-a285-00aa003049e2 user
-        bf967a9c-0de6-11d0-a285-00aa003049e2 group
-        bf967a86-0de6-11d0-a285-00aa003049e2 computer
-        5cb41ed0-0e4c-11d0-a286-00aa003049e2 contact
-        bf967aa5-0de6-11d0-a285-00aa003049e2 organizationalUnit
-        bf967a8b-0de6-11d0-a285-00aa003049e2 container
-        19195a5b-6da0-11d0-afd3-00c04fd930c9 domainDNS
-        4828cc14-1437-45bc-9b07-ad6f015e5f28 inetOrgPerson
-        f30e3bc2-9ff0-11d1-b603-0000f80367c1 groupPolicyContainer
-        bf967aa8-0de6-11d0-a285-00aa003049e2 printQueue
-        bf967abb-0de6-11d0-a285-00aa003049e2 volume
-        bf967ab8-0de6-11d0-a285-00aa003049e2 trustedDomain
-        89e31c12-8530-11d0-afda-00c04fd930c9 foreignSecurityPrincipal
-        7b8b558a-93a5-4af7-adca-c017e67f1057 msDS-GroupManagedServiceAccount
-        ce206244-5827-4a86-ba1c-1c0c386c1b64 msDS-ManagedServiceAccount
-        e0fa1e8c-9b45-11d0-afdd-00c04fd930c9 dnsNode
-        e0fa1e8b-9b45-11d0-afdd-00c04fd930c9 dnsZone
-        28630ec1-41d5-11d1-a9c1-0000f80367c1 serviceConnectionPoint`,
+        -009f-11d2-aa4c-00c04fd7d83a 2df90d89 infrastructureUpdate
+        -0142-4406-945b-34c9b6b13372 ab857078 msWMI-Som
+        -02c1-4f33-9ecf-f649c1dd9b7c 7672666c nisMap
+        -04ca-40e8-865e-3f9ce9bf1bd3 25173408 msDFS-DeletedLinkv2
+        -062c-4ed0-9903-dde10d06deba 2a9350b8 posixGroup
+        -06f4-11d2-aa53-00c04fd7d83a d03d6858 msExchConfigurationContainer
+        -076f-4aea-b4dc-8f4dab9b5993 da83fc4f msDS-QuotaContainer
+        -0791-4bc8-8ab3-70980602ff8c 85d16ec1 nTDSDSARO
+        -0bf0-4427-b672-11f5d84acc92 e15334a3 msSFU30NetworkUser
+        -0c2a-4f32-afca-23c5e45a9e77 1c332fe0 msDFSR-ReplicationGroup
+        -0dc5-43ca-935d-c1c911bf2ee5 51a0e68c msSPP-ActivationObject
+        -0de6-11d0-a285-00aa003049e2 bf967a80 attributeSchema bf967a81 builtinDomain bf967a82 classRegistration
+        bf967a83 classSchema bf967a84 classStore bf967a85 comConnectionPoint bf967a86 computer bf967a87
+        configuration bf967a8b container bf967a8c country bf967a8d crossRef bf967a8e device bf967a8f dMD bf967a90
+        samDomain bf967a91 samDomainBase bf967a92 server bf967a99 domainPolicy bf967a9c group bf967a9d groupOfNames
+        bf967a9e leaf bf967aa0 locality bf967aa1 mailRecipient bf967aa3 organization bf967aa4 organizationalPerson
+        bf967aa5 organizationalUnit bf967aa6 packageRegistration bf967aa7 person bf967aa8 printQueue bf967aa9
+        remoteMailRecipient bf967aac rpcEntry bf967aad samServer bf967aae secret bf967aaf securityObject bf967ab0
+        securityPrincipal bf967ab1 serviceClass bf967ab2 serviceInstance bf967ab3 site bf967ab5 storage bf967ab7 top
+        bf967ab8 trustedDomain bf967aba user bf967abb volume
+        -0e4c-11d0-a286-00aa003049e2 5cb41ecf connectionPoint 5cb41ed0 contact
+        -1027-11d0-a05f-00aa006c33ed 8447f9f2 dfsConfiguration 8447f9f3 fTDfs
+        -10e4-11d0-a05f-00aa006c33ed dd712229 fileLinkTracking
+        -1159-4e96-9ccd-68bc487073eb 7769fb7a msDFS-Linkv2
+        -1191-11d0-a060-00aa006c33ed f0f8ffab nTDSDSA
+        -1262-11d0-a060-00aa006c33ed 5fd4250a addressTemplate 5fd4250b applicationProcess 5fd4250c displayTemplate
+        -12df-44f6-8307-e74f5cdee369 6cc8b2b5 msWMI-SimplePolicyTemplate
+        -1373-fe45-8101-387f1676edc7 2eeb62b3 msDS-ClaimsTransformationPolicyType
+        -1437-45bc-9b07-ad6f015e5f28 4828cc14 inetOrgPerson
+        -143e-43fb-992a-b057f1ecadf9 d95836c3 ipNetwork
+        -1643-469c-b766-edd77aa75e14 770f4cb3 msDS-ShadowPrincipal
+        -17e0-4f18-8687-b2239649736b aa02fd41 msKds-ProvRootKey
+        -1854-4455-a5d7-cad40d56657a 90df3c3e msDS-App-Configuration
+        -1968-11d0-a28f-00aa003049e2 281416e2 typeLibrary
+        -197f-477e-83bd-ea5a43df2239 fa85c591 msDFSR-LocalSettings
+        -1a18-4174-b350-9cc6e7b4ac8d 5b6d8467 shadowAccount
+        -1da7-4cea-b699-807f3b9d63a4 0bc579a2 msWMI-StringSetParam
+        -244a-4d59-acc6-ca5c4f82e6e1 e2bc80f1 msWMI-PolicyTemplate
+        -251c-4edb-8813-0bdd71327226 5b4a06dc msAuthz-CentralAccessRule
+        -2834-11d3-91d4-0000f87a57d4 2e899b04 aCSResourceLimits
+        -2a02-48df-9792-94f2328781a0 e263192c msSFU30NetId
+        -2a25-45a6-8b73-08a71ae677ce 5ef243a8 msKds-ProvServerConfiguration
+        -2d3f-40ce-a4b3-e275dfcc49c5 696f8a61 dnsZoneScope
+        -302f-4b96-bc90-0795d66885f8 7a2be07c documentSeries
+        -3355-4c1f-b24e-81f252aca23b 66d51249 dynamicObject
+        -35af-468b-b20a-6ce8737c580b 44f00041 msDS-OptionalFeature
+        -35cc-436c-acea-5ef7174dd9be 876d6817 msMQ-Custom-Recipient
+        -3927-4ede-bf27-ca91f275c26f 05630000 msWMI-WMIGPO
+        -3bba-11d2-90cc-00c04fd91ab1 e5209ca2 pKICertificateTemplate ee4aa692 pKIEnrollmentService
+        -3c3d-11d2-90cc-00c04fd91ab1 50776997 mSMQMigratedUser
+        -3dcd-4392-a96d-c9e35397c24f 310b55ce msDS-DeviceRegistrationServiceContainer
+        -3e73-11d1-a9c0-0000f80367c1 3e74f60f addressBookContainer
+        -4109-4e77-9013-a3bb4ef277c7 595b2613 msWMI-PolicyType
+        -41d5-11d1-a9c1-0000f80367c1 28630ec1 serviceConnectionPoint
+        -427a-11d1-a9c2-0000f80367c1 b40ff825 ipsecBase b40ff826 ipsecFilter b40ff827 ipsecNegotiationPolicy
+        b40ff828 ipsecISAKMPPolicy b40ff829 ipsecNFA
+        -44b9-4a7e-a2d3-e426c96a3acc 1562a632 msPKI-PrivateKeyRecoveryAgent
+        -4712-11d0-a1a0-00c04fd930c9 8e4eb2ed fileLinkTrackingEntry
+        -47a6-4243-a7cc-6890701f662c 85045b6a msTPM-InformationObject
+        -47f3-11d1-a9c3-0000f80367c1 167758ca cRLDistributionPoint
+        -47f4-11d1-a9c3-0000f80367c1 3fdfee4f applicationEntity 3fdfee50 certificationAuthority 3fdfee52 dSA
+        -4807-11d1-a9c3-0000f80367c1 7bfdcb89 rIDSet 7bfdcb8a indexServerCatalog
+        -48be-11d1-a9c3-0000f80367c1 963d2756 dHCPClass
+        -48c4-11d1-a9c3-0000f80367c1 11b6cc94 meeting
+        -4954-4c5f-b1e1-53c097a31e13 904f8a93 nisObject
+        -4b2a-4e49-89c3-99025334dc94 ca7b9735 msTAPI-RtConference
+        -4bb3-4545-a9fc-fb66e136b435 4bcb2477 bootableDevice
+        -4bdc-11d1-a9c4-0000f80367c1 80212842 rpcContainer
+        -4cf3-44c0-bd16-43bc10a987da 5b06b06a msDS-PasswordSettingsContainer
+        -4dc7-40f5-9180-8e4ce42fe5cd ab6a1156 msDS-AuthNPolicy
+        -4e19-46f5-932e-5fa03c339b1d 8f4beb31 msWMI-UintSetParam
+        -4e58-49f7-8a89-5e3e2340fcf8 c9010e74 msCOM-Partition
+        -5018-4d0f-9056-997c8c9122d9 45fb5a57 msWMI-RangeParam
+        -5301-11d1-a9c5-0000f80367c1 7f561288 aCSPolicy 7f561289 aCSSubnet
+        -5469-4d8f-aae6-c27699762604 81a3857c msDS-ClaimType
+        -56f0-11d1-a9c6-0000f80367c1 f780acc0 serversContainer f780acc1 applicationSettings f780acc2 nTFRSSettings
+        -56f7-11d1-a9c6-0000f80367c1 ef9e60e0 crossRefContainer
+        -5709-11d1-a9c6-0000f80367c1 52ab8671 lostAndFound
+        -5827-4a86-ba1c-1c0c386c1b64 ce206244 msDS-ManagedServiceAccount
+        -5c8b-4ef3-b9df-5b66d491e526 50ca5d7d msWMI-IntRangeParam
+        -5f28-4bae-a863-5d0cc18a8ed1 cfee1051 msDS-AzAdminManager
+        -606d-4f8b-800e-e15be554ca8d 99bb1b7a msAuthz-CentralAccessRules
+        -6070-11d1-a9c6-0000f80367c1 26d97375 interSiteTransportContainer 26d97376 interSiteTransport
+        -6456-45de-90a3-38593877ee74 e027a8bd msTPM-InformationObjectsContainer
+        -64b5-46ef-8d8b-bbc3e1897eab e58f972e msDFSR-Connection
+        -656b-4423-ab65-dabb2770819e 36297dce msSFU30DomainInfo
+        -6719-4ad8-8f9e-8678ba627563 37cfd85c msPKI-Enterprise-Oid
+        -67d5-4d88-b575-7b20674e76d8 ad44bb41 posixAccount
+        -697d-4689-9299-37e61d617b0d f9f0461e msDS-AuthNPolicySilo
+        -6d41-4774-b3e8-d52e8ee9ff99 5df2b673 msDS-Device
+        -6da0-11d0-afd3-00c04fd930c9 19195a5a domain 19195a5b domainDNS 19195a5c applicationSiteSettings 19195a5d
+        nTDSSiteSettings 19195a5f nTDSService 19195a60 nTDSConnection
+        -6e18-415b-99e4-3114a8cb124b ef2fc3ed msDNS-ServerSettings
+        -6e42-4e80-b962-e2fe00754d17 04828aa9 msDFSR-Topology
+        -6e64-4d61-b064-015d04164795 da73a085 msDFS-NamespaceAnchor
+        -6e7b-4a5c-a8db-8a75a7cad254 72efbf84 nisNetgroup
+        -6f93-11d2-9905-0000f87a57d4 09b10f14 dSUISettings
+        -6f9d-432c-8b75-1e3e834f02aa a5679cb0 msAuthz-CentralAccessPolicy
+        -70bc-4cce-b166-a96f7359c514 6afe8fe2 msWMI-RealRangeParam
+        -7ad0-11d0-afd6-00c04fd930c9 f29653cf rpcProfileElement f29653d0 rpcServerElement
+        -7b97-4f7e-abb4-e5b55c1c06b4 3a9adf5d msDS-AuthNPolicies
+        -7bcc-4609-87e0-088dad8abdee 67212414 msDFSR-Subscription
+        -7c2e-476a-8b3f-e11f4af6c498 ee1f5543 msDS-KeyCredential
+        -7d88-bb4f-827a-448927710762 c8fca9b1 msDS-ClaimsTransformationPolicies
+        -7e20-11d0-afd6-00c04fd930c9 7d6c0e9d categoryRegistration
+        -7fd6-4828-9364-435138fda08d a16f33c7 msPrint-ConnectionPolicy
+        -8326-4771-ba2d-c706df35e35a 641e87a4 msDS-CloudExtensions
+        -8404-4195-9339-8450188c501a 5b283d5e msDS-ResourceProperty
+        -8530-11d0-afda-00c04fd930c9 89e31c12 foreignSecurityPrincipal
+        -86d3-11d0-afda-00c04fd930c9 8297931e controlAccessRight
+        -86ff-44b7-85b5-f1f8689522ce d6710785 msSFU30MailAliases
+        -8827-4f95-8780-5a8f008eb68f ab911646 ipHost
+        -8951-11d1-aebc-0000f80367c1 d50c2cde siteLink d50c2cdf siteLinkBridge
+        -8960-11d1-aebc-0000f80367c1 2a39c5bd remoteStorageServicePoint 2a39c5be rRASAdministrationConnectionPoint
+        -8cf4-11d0-afda-00c04fd930c9 88611bdf rpcGroup 88611be0 rpcServer 88611be1 rpcProfile
+        -8dd3-4235-9c86-f91f31f5b569 f1e44bdf msWMI-ShadowObject
+        -8f3c-11d0-afda-00c04fd930c9 6617188d rIDManager
+        -8f53-40d0-bd1e-6109186d782c ea715d30 msFVE-RecoveryInformation
+        -8f84-491e-a752-b401ee00fe5c d2b1470a msDS-AuthNPolicySilos
+        -901b-4ea8-b6ec-4eb9e9fc0e11 7c9e8c58 msDS-DeviceContainer
+        -91df-11d1-aebc-0000f80367c1 07383085 intellimirrorSCP 07383086 intellimirrorGroup
+        -92c4-43e7-bf5c-295832ffc896 e11505d7 msDFSR-Subscriber
+        -9373-11d1-aebc-0000f80367c1 2a132586 nTFRSMember 2a132587 nTFRSSubscriptions 2a132588 nTFRSSubscriber
+        -938d-11d1-aebd-0000f80367c1 f39b98ae rRASAdministrationDictionary
+        -93a3-4e21-a7a3-55d85ab2c48b 0310a911 groupOfUniqueNames
+        -93a5-4af7-adca-c017e67f1057 7b8b558a msDS-GroupManagedServiceAccount
+        -970c-4777-848e-ec63a0ec44fc a0ed2ac1 msImaging-PSPs
+        -9a9b-4fa4-b3d2-b8ace5df9ec5 860abe37 msDS-AzOperation
+        -9b1b-418a-bfa0-3a37b95a5306 1ed3a473 msDS-AzTask
+        -9b45-11d0-afdd-00c04fd930c9 e0fa1e8a displaySpecifier e0fa1e8b dnsZone e0fa1e8c dnsNode
+        -9d55-44dc-925c-e9a52b927644 8213eac9 msDS-AzRole
+        -9ff0-11d1-b603-0000f80367c1 f30e3bc2 groupPolicyContainer
+        -a08e-4b86-9a82-a8c9ac7ee5cb 26ccf238 msPKI-Key-Recovery-Agent
+        -a136-455a-9397-796bbd358e25 555c21c3 msAuthz-CentralAccessPolicies
+        -a637-4b7d-a0fb-5dc466a0b8a7 a699e529 ieee802Device
+        -a6ad-4ae0-b854-2b12d9fe6f9e 2628a46a account
+        -a6dc-4d48-97ca-06e5fbfd3f16 4937f40d msDFSR-ContentSet
+        -a9ff-11d0-afe2-00c04fd930c9 1be8f17d licensingSiteSettings
+        -aafa-4ffb-b773-e5bf621ee87b 46b27aac msMQ-Group
+        -ab19-4446-9350-0cb878ed2d9b 99a03a6a ms-net-ieee-8023-GroupPolicy
+        -af4d-442a-8f0f-a1d4caa7dd92 ddc790ac applicationVersion
+        -af8f-11d0-afeb-00c04fd930c9 ddac0cf4 linkTrackVolumeTable ddac0cf5 linkTrackObjectMoveTable ddac0cf6
+        linkTrackVolEntry ddac0cf7 linkTrackOMTEntry
+        -b01d-4f4e-87e7-056eef0eb922 e3c27fdf msDS-ValueType
+        -b342-4d45-8f56-baff803cabf9 72e3d47a msDS-ResourcePropertyList
+        -b350-478f-acd6-b4b852d82cc0 7a4a4584 msDS-ResourceProperties
+        -b3ec-486a-aad4-2fec9d6ea6f6 7b35dbad msDFSR-GlobalSettings
+        -b704-4df9-818f-5cb4ec86cac1 53ea1cb5 msTAPI-RtPerson
+        -b7eb-4382-9772-c3e0f9baaf94 7b9a2d92 msieee80211-Policy
+        -b822-4379-9ea2-5ff7bdc6386d 1cb81863 ms-net-ieee-80211-GroupPolicy
+        -b82e-11d0-afee-0000f80367c1 b7b13121 ipsecPolicy b7b13122 physicalLocation b7b13123
+        serviceAdministrationPoint b7b13124 subnet b7b13125 subnetContainer
+        -b8a3-4525-82f8-11ccc7bee36e 1f7c257c msImaging-PostScanProcess
+        -bb25-4d5d-aa51-62c59bdf90ae b72f862b msSPP-ActivationObjectsContainer
+        -bd02-4b52-ae26-795999e96fc7 de91fc26 msDS-QuotaControl
+        -c100-11d1-bbc5-0080c76670c0 9a0dc343 mSMQQueue 9a0dc344 mSMQConfiguration 9a0dc345 mSMQEnterpriseSettings
+        9a0dc346 mSMQSiteLink 9a0dc347 mSMQSettings
+        -c211-437c-a5ae-dbf705b696e5 4229c897 msDFSR-Member
+        -c2d6-4baf-88ab-7e4207600117 39bad96d document
+        -c312-41f9-a84d-c6adbdf1e8e1 55dd81c9 msWMI-ObjectEncoding
+        -c38d-11d1-bbc9-0080c76670c0 5a8b3261 subSchema
+        -c417-497a-975a-9e0d459a7ca1 250464ab msCOM-PartitionSet
+        -c490-4487-8a9d-d80b883271ad b8442f58 msDS-ClaimTypePropertyBase
+        -c5ea-11d1-bbcb-0080c76670c0 a8df74bf organizationalRole a8df74d6 residentialPerson
+        -c6db-4098-92c6-49c18a3336e1 b82ac26b msWMI-UnknownRangeParam
+        -c715-4821-ab6a-b56fb2805a58 36093235 msDS-ClaimTypes
+        -c8b0-4cbb-bd45-d9455beb9206 7860e5d2 room
+        -ca6a-11d0-afff-0000f80367c1 5245803a nTFRSReplicaSet
+        -cba5-4e12-842e-28d8b66f75ec ddf8de9b msDS-AzApplication
+        -cbae-485e-a07b-5ef4ae505686 b93e3a78 rFC822LocalPart
+        -cca7-11d0-afff-0000f80367c1 83cc7075 queryPolicy
+        -ccef-11d2-9993-0000f87a57d4 05f6c878 mS-SQL-SQLServer 0c7e18ea mS-SQL-OLAPServer 11d43c5c
+        mS-SQL-SQLRepository 17c2f64e mS-SQL-SQLPublication 1d08694a mS-SQL-SQLDatabase 20af031a mS-SQL-OLAPDatabase
+        -cd28-11d2-9993-0000f87a57d4 09f0506a mS-SQL-OLAPCube
+        -cd67-11d0-afff-0000f80367c1 7a4117da sitesContainer
+        -ce55-47bb-860e-5b12063a51de 4feae054 msDS-AzScope
+        -cef3-48b3-b5ad-fb85f8dd3214 d9a799b2 msWMI-UintRangeParam
+        -cf76-42b0-841f-b650f331df62 292f0d9a msWMI-IntSetParam
+        -d3a1-42e4-b5f1-a3de162109b3 64759b35 msDFSR-Content
+        -d712-4c50-b847-d2781537c633 11f95545 msDS-ShadowPrincipalContainer
+        -dc6b-474a-9f52-7cdba3d7d351 c498f152 friendlyCountry
+        -dd0e-481b-a0c2-74cd96ef2a66 3c7e6f83 msWMI-Rule
+        -e146-4f15-b0ab-c1e5d488e094 5fe69b0b simpleSecurityObject
+        -e327-4d55-bc95-682f875e2f8e 9e67d761 msDS-AppData
+        -e3d2-49d3-af11-7b0df79d67f5 96bc3a1a msDS-DeviceRegistrationService
+        -efda-4549-852c-f85e137aedc6 8bfd2d3d domainRelatedObject
+        -f25a-4220-9deb-03df4cc4a9c5 f2699093 dnsZoneScopeContainer
+        -f3c3-4bbf-bff6-060b2d8f299a 21cb8628 msDFS-Namespacev2
+        -f84b-451c-952f-6c52b81f9ec6 3bcd9db8 msDS-PasswordSettings
+        -f8eb-4dcf-8d75-f1753af6a50b faf733d0 msSFU30NISMapConfig
+        -fa97-48ad-9de6-79ac5721f864 2517fadf ipService
+        -fbf0-4dc7-ace0-8356dcd0f013 9c2dcbd2 ipProtocol
+        -fdca-4851-b04a-13645b11d226 07502414 msWMI-MergeablePolicyTemplate
+        -fefc-4f3f-b5a9-70e994204303 cadd1e5e oncRpc`,
     [ATTRIBUTE]: `
-        bf967991-0de6-11d0-a285-00aa003049e2 memberOf
-        bf967a68-0de6-11d0-a285-00aa003049e2 userAccountControl
-        bf967a0a-0de6-11d0-a285-00aa003049e2 pwdLastSet
-        28630ebf-41d5-11d1-a9c1-0000f80367c1 lockoutTime
-        28630ebb-41d5-11d1-a9c1-0000f80367c1 userPrincipalName
-        3e0abfd0-126a-11d0-a060-00aa006c33ed sAMAccountName
-        bf967950-0de6-11d0-a285-00aa003049e2 description
-        bf967953-0de6-11d0-a285-00aa003049e2 displayName
-        3f78c3e5-f79a-46bd-a0b8-9d18116ddc79 msDS-AllowedToActOnBehalfOfOtherIdentity
-        5b47d60f-6090-40b2-9f37-2a4de88f3063 msDS-KeyCredentialLink
-        888eedd6-ce04-df40-b462-b8a50e41ba38 msDS-GroupMSAMembership
-        f30e3bbe-9ff0-11d1-b603-0000f80367c1 gPLink
-        f30e3bbf-9ff0-11d1-b603-0000f80367c1 gPOptions
-        bf9679a8-0de6-11d0-a285-00aa003049e2 scriptPath
-        b7c69e6d-2cc7-11d2-854e-00a0c983f608 tokenGroups
-        46a9b11d-60ae-405a-b7e8-ff8a58d456d2 tokenGroupsGlobalAndUniversal
-        bf9679e1-0de6-11d0-a285-00aa003049e2 unicodePwd
-        bf967a00-0de6-11d0-a285-00aa003049e2 primaryGroupID
-        20119867-1d04-4ab7-9371-cfc3d5df0afd msDS-SupportedEncryptionTypes
-        17eb4278-d167-11d0-b002-0000f80367c1 sIDHistory
-        00fbf30c-91fe-11d1-aebc-0000f80367c1 altSecurityIdentities
-        bf9679e3-0de6-11d0-a285-00aa003049e2 nTSecurityDescriptor`,
+        -000f-464d-bf1d-0808465d8843 bc2dba12 unixHomeDirectory
+        -03d4-4fe3-afac-8c3bca2f3653 78565e80 msDS-CloudAnchor
+        -0818-42b0-8110-d3d154c97f24 b7ff5a38 msPKI-CredentialRoamingTokens
+        -09c4-4fa9-9ae6-7628d7adbe0e bac80572 jpegPhoto
+        -09e4-4237-9f72-9306ebe63ab2 29259694 msTSPrimaryDesktop
+        -0aa6-4469-9842-6eb01b32a5b5 88e73b34 msDS-cloudExtensionAttribute18
+        -0de6-11d0-a285-00aa003049e2 bf967915 accountExpires bf967918 adminCount bf967919 adminDescription bf96791a
+        adminDisplayName bf96792d badPasswordTime bf96792e badPwdCount bf96792f builtinCreationTime bf967930
+        builtinModifiedCount bf967931 businessCategory bf967932 cACertificate bf967938 codePage bf96793e info
+        bf96793f cn bf967945 c bf967946 creationTime bf967948 defaultClassStore bf96794f department bf967950
+        description bf967951 destinationIndicator bf967953 displayName bf967954 displayNamePrintable bf96795d
+        domainPolicyObject bf96795e domainReplica bf967961 mail bf967962 employeeID bf967972 extensionName bf967974
+        facsimileTelephoneNumber bf967976 flags bf967977 forceLogoff bf96797e groupAttributes bf967980
+        groupMembershipSAM bf967984 showInAdvancedViewOnly bf967985 homeDirectory bf967986 homeDrive bf96798d
+        internationalISDNNumber bf967991 memberOf bf967996 lastLogoff bf967997 lastLogon bf96799c dBCSPwd bf96799d
+        lmPwdHistory bf96799e localPolicyFlags bf96799f defaultLocalPolicyObject bf9679a1 localeID bf9679a2 l
+        bf9679a4 lockOutObservationWindow bf9679a5 lockoutDuration bf9679a6 lockoutThreshold bf9679a8 scriptPath
+        bf9679a9 thumbnailLogo bf9679aa logonCount bf9679ab logonHours bf9679ac logonWorkstation bf9679ad
+        lSACreationTime bf9679ae lSAModifiedCount bf9679b2 machineRole bf9679b5 manager bf9679bb maxPwdAge bf9679bd
+        maxStorage bf9679c0 member bf9679c2 minPwdAge bf9679c3 minPwdLength bf9679c5 modifiedCount bf9679c6
+        modifiedCountAtLastProm bf9679d7 userWorkstations bf9679d8 nETBIOSName bf9679d9 networkAddress bf9679db
+        nextRid bf9679df nTGroupMembers bf9679e1 unicodePwd bf9679e2 ntPwdHistory bf9679e3 nTSecurityDescriptor
+        bf9679e4 distinguishedName bf9679e5 objectClass bf9679e7 objectGUID bf9679e8 objectSid bf9679ea
+        oEMInformation bf9679ee operatorCount bf9679ef o bf9679f0 ou bf9679f1 otherLoginWorkstations bf9679f2
+        middleName bf9679f7 physicalDeliveryOfficeName bf9679fb postOfficeBox bf9679fc postalAddress bf9679fd
+        postalCode bf9679fe preferredDeliveryMethod bf9679ff preferredOU bf967a00 primaryGroupID bf967a03 privateKey
+        bf967a05 profilePath bf967a06 proxyAddresses bf967a09 pwdHistoryLength bf967a0a pwdLastSet bf967a0b
+        pwdProperties bf967a0e name bf967a10 registeredAddress bf967a1c directReports bf967a21 revision bf967a22 rid
+        bf967a2c schemaVersion bf967a2e searchGuide bf967a2f securityIdentifier bf967a31 seeAlso bf967a32
+        serialNumber bf967a33 serverRole bf967a34 serverState bf967a39 st bf967a3a street bf967a3f
+        supplementalCredentials bf967a41 sn bf967a49 telephoneNumber bf967a55 title bf967a61 uASCompat bf967a68
+        userAccountControl bf967a69 userCert bf967a6a comment bf967a6d userParameters bf967a6e userPassword bf967a76
+        versionNumber bf967a7a wWWHomePage bf967a7f userCertificate
+        -0df5-4aea-b33d-6cf493077b3f b23fc141 msDS-AssignedAuthNPolicySilo
+        -0e52-11d0-a286-00aa003049e2 6da8a4fc controlAccessRights 6da8a4fe auditingPolicy
+        -0e5a-4ff3-9482-5efeaecd7060 c0e20a04 lastLogonTimestamp
+        -0e9a-4d95-b0ac-bdde7ff8f3a1 969d3c79 nisMapName
+        -10c3-4b8b-9acd-54f11063742e c7e7dafa msDS-LastFailedInteractiveLogonTime
+        -1191-11d0-a060-00aa006c33ed f0f8ff84 streetAddress f0f8ff88 company f0f8ff8e givenName f0f8ff90 initials
+        f0f8ffa1 homePhone f0f8ffa2 otherHomePhone f0f8ffa3 mobile f0f8ffa4 otherPager f0f8ffa5 otherTelephone
+        f0f8ffa6 pager f0f8ffa7 co
+        -1262-11d0-a060-00aa006c33ed 5fd42471 countryCode 5fd424a1 garbageCollPeriod
+        -126a-11d0-a060-00aa006c33ed 3e0abfd0 sAMAccountName
+        -1340-41eb-bca0-bd7d938e25a9 b002f407 msDS-SourceAnchor
+        -13bd-47fc-90b3-0a527ed81ab7 670afcb3 msDS-cloudExtensionAttribute10
+        -1480-11d3-91c1-0000f87a57d4 d064fb68 ms-DS-MachineAccountQuota
+        -15a2-40e1-92a2-8ca866f70776 80641043 msDS-HostServiceAccount
+        -165f-11d0-a064-00aa006c33ed 09dcb79f location
+        -18e7-46e1-8f5f-7ee4d9020e0d 856be0d0 preferredLanguage
+        -1add-4436-8c04-3999a880154c 7bd4c7a6 gPCWQLFilter
+        -1d04-4ab7-9371-cfc3d5df0afd 20119867 msDS-SupportedEncryptionTypes
+        -1d55-4253-a0af-30c2a784e46e a3e03f1f gecos
+        -1d69-4dfb-802e-d95510109599 9201ac6f msTSInitialProgram
+        -1d7e-11d0-a081-00aa006c33ed 8d3bca50 thumbnailPhoto
+        -1dd6-4b38-8fc5-33afe8c988ad 303d9f4a msDS-RevealOnDemandGroup
+        -1e89-429f-901a-1413894d9f59 0bb0fca0 uid
+        -2073-11d0-a9c2-00aa006c33ed fe6136a0 division
+        -22e7-409c-85d2-11b21bee72de 638ec2e8 msDS-ObjectReference
+        -2447-4545-8081-3bb610cacbf2 d31a8757 msDS-Behavior-Version
+        -246b-11d0-a9c8-00aa006c33ed 6d05fb41 notes
+        -28e1-4bec-ace3-712833361456 60452679 msDS-cloudExtensionAttribute6
+        -29dd-44ea-b0fa-7e8438b9a4a3 23572aaf msTSConnectClientDrives
+        -2a74-4fa4-ac25-e63fe8b61218 b7acc3d2 msDS-SyncServerUrl
+        -2cc7-11d2-854e-00a0c983f608 b7c69e6d tokenGroups
+        -2e79-4c3b-8e14-3d93b75aab89 34f6bdf5 msDS-ObjectSoa
+        -3040-4441-ae26-cd95af0d247e 0a63e12c msDS-cloudExtensionAttribute9
+        -316c-4060-a3a0-387b083f09cd e65c30db msTSProfilePath
+        -31dc-4ef1-ac7c-84baf7ef9da7 b8dfa744 msPKIAccountCredentials
+        -3231-4c5e-8adf-8d189697721e a553d12c loginShell
+        -33df-11d2-98b2-0000f87a57d4 040fc392 tokenGroupsNoGCAcceptable c3dbafa6 sDRightsEffective
+        -3b72-11d2-90cc-00c04fd91ab1 031952ec accountNameHistory
+        -3cfa-11d1-a9c0-0000f80367c1 19405b96 policyReplicationFlags
+        -3d3c-4cc8-834b-9d4f6f687b8b a744f666 msTSWorkDirectory
+        -3d43-40f5-85c5-3c12e169927e dc66d44e msDS-GeoCoordinatesLatitude
+        -3e18-4c7f-abae-351a01e4b4f7 366ed7ca msTSReconnectionAction
+        -3e73-11d1-a9c0-0000f80367c1 3e74f60e showInAddressBook
+        -403c-11d1-a9c0-0000f80367c1 e16a9db2 userSMIMECertificate
+        -40da-11d1-a9c0-0000f80367c1 0296c11c assistant 0296c11d otherFacsimileTelephoneNumber 0296c11e otherMobile
+        0296c11f primaryInternationalISDNNumber 0296c120 managedBy 0296c121 primaryTelexNumber 0296c122 mhsORAddress
+        0296c123 otherMailbox
+        -41d5-11d1-a9c1-0000f80367c1 28630ebb userPrincipalName 28630ebc legacyExchangeDN 28630ebf lockoutTime
+        -4699-4fc9-8d18-26e0cd0137a6 65650576 msds-tokenGroupNames
+        -4712-11d0-a1a0-00c04fd930c9 8e4eb2ec eFSPolicy
+        -47f3-11d1-a9c3-0000f80367c1 16775781 homePostalAddress 167757bc dSASignature 16775804 generationQualifier
+        16775848 objectVersion 16775858 personalTitle 167758ad uSNSource
+        -48d4-11d1-a9c3-0000f80367c1 4d146e4a ipPhone 4d146e4b otherIpPhone
+        -49da-4db2-908a-0446e5eab844 9709eaaf msDS-cloudExtensionAttribute1
+        -4a5b-11d1-a9c3-0000f80367c1 9a9a021e groupType 9a9a021f userSharedFolder 9a9a0220 userSharedFolderOther
+        9a9a0221 url
+        -4e03-4810-97aa-2b339e7a434b d3aa4a5c msDS-AllUsersTrustQuota
+        -4e6e-485b-b291-22b02554273f 9cbf3437 msDS-cloudExtensionAttribute4
+        -50f9-4fa3-a71e-1ce03040449b 8b70a6c6 msDS-PerUserTrustTombstonesQuota
+        -5196-4053-a11e-6ffcafc62c4d 9581215b msDS-cloudExtensionAttribute16
+        -5306-11d1-a9c5-0000f80367c1 f3a64788 servicePrincipalName
+        -53d8-4784-b814-46d8535110d2 326f7089 msTSMaxDisconnectionTime
+        -54f7-49c1-84a0-e64d12853588 b87a0ad8 msDS-AssignedAuthNPolicy
+        -550d-4e05-8c35-4afcb917a9fe aa4e1a6d msTPM-OwnerInformation
+        -5604-463e-94d6-1a1287b72ca3 1cf41bba msTSBrokenConnectionAction
+        -5641-4d9c-863e-5fb3325e74e0 a11703b7 msDS-GeoCoordinatesAltitude
+        -56d0-11d1-a9c6-0000f80367c1 1cb3559a aCSPolicyName
+        -5709-11d1-a9c6-0000f80367c1 52ab8670 lastKnownParent
+        -5abd-11d0-afd2-00c04fd930c9 244b2970 wbemPath
+        -5e48-46d5-bc6c-4df4fda78a35 ea1b7b93 msTPM-TpmInformationForComputer
+        -6070-11d1-a9c6-0000f80367c1 26d97369 objectCategory
+        -6090-40b2-9f37-2a4de88f3063 5b47d60f msDS-KeyCredentialLink
+        -60ae-405a-b7e8-ff8a58d456d2 46a9b11d tokenGroupsGlobalAndUniversal
+        -644a-4403-a665-e26e0aef5e98 c5d234e5 msDS-FailedInteractiveLogonCountAtLastSuccessfulLogon
+        -6464-4e95-a781-e3b5cd5f9588 1d960ee2 msTSMaxConnectionTime
+        -64f2-11d0-afd2-00c04fd930c9 6e7b626c sAMAccountType
+        -6604-4489-89d9-84798a89515a 3e1ee99c msDS-AuthenticatedAtDC
+        -66ad-40e1-887b-10df070419a6 bd29bf90 msDS-ExternalDirectoryObjectId
+        -672e-4f61-ab64-f77d2dc2ffab 03dab236 memberUid
+        -6bb7-460e-b221-e250f3de0f95 ff739e9c msTSMaxIdleTime
+        -6be8-4229-967e-2ff5bb93b4ce 3d3c6dda msDS-cloudExtensionAttribute17
+        -6da0-11d0-afd3-00c04fd930c9 19195a55 dc
+        -6e80-4927-8560-98feca086a9f cebcb6ba msDS-cloudExtensionAttribute14
+        -6f4e-4b74-856a-d68383313910 778ff5c9 msDS-KrbTgtLink
+        -70ad-4960-8425-a4d6313d93dd dc3ca86f msDS-FailedInteractiveLogonCount
+        -70f8-4007-a4c1-a84a38311f9a 23998ab5 userPKCS12
+        -783f-11d2-9916-0000f87a57d4 32ff8ecc gPCMachineExtensionNames 42a75fc6 gPCUserExtensionNames
+        -7922-4aad-b79c-b2201f54417c fa06d1f4 msds-tokenGroupNamesGlobalAndUniversal
+        -7b09-4449-9ae6-2534148f8a72 add5cf10 msDS-UserPasswordExpiryTimeComputed
+        -7b18-11d1-adef-00c04fd8d5cd 72e39547 dNSHostName
+        -7bc2-4cb9-81a8-c99c43b7905e fa4693bb attributeCertificateAttribute
+        -7da5-42a6-8925-244e12a56e24 9e9ebbc8 msDS-cloudExtensionAttribute11
+        -8449-44ca-81c0-021781800d2a 3cd1c514 msDS-cloudExtensionAttribute8
+        -85dc-4fde-b687-9657688e667e de8bb721 ipHostNumber
+        -8642-468b-8c48-03ddfd004982 15177226 msTSRemoteControl
+        -871b-4c92-b285-d99d4036681c 8ce6a937 msTSConnectPrinterDrives
+        -8ac6-11d0-afda-00c04fd930c9 eea65904 groupsToIgnore eea65905 groupPriority eea65906 desktopProfile
+        -8af0-4daa-9cc6-62eadb84ff03 aae4d537 msDS-cloudExtensionAttribute15
+        -8b5d-4258-b64a-00b0b4949747 011929e6 msDS-LastSuccessfulInteractiveLogonTime
+        -8b6e-498d-95a8-211748d5acdc f5446328 msDS-cloudExtensionAttribute20
+        -8c01-11d0-afda-00c04fd930c9 3e97891e foreignIdentifier 3e97891f nTMixedDomain 3e978924 siteGUID 3e978925
+        operatingSystem 3e978926 operatingSystemVersion 3e978927 operatingSystemServicePack
+        -8c8e-4e4c-8cec-79b31b7617b5 789ee1eb msDS-SPNSuffixes
+        -8f3c-11d0-afda-00c04fd930c9 66171887 fSMORoleOwner
+        -91df-11d1-aebc-0000f80367c1 07383083 pekList 07383084 pekKeyChangeInterval
+        -91fe-11d1-aebc-0000f80367c1 00fbf30c altSecurityIdentities 00fbf30d isCriticalSystemObject
+        -9239-4f7c-b99c-6745d87adbc2 b3f93023 msPKIDPAPIMasterKeys
+        -9422-11d1-aebd-0000f80367c1 6db69a1c terminalServer
+        -957d-4a87-8a67-8d2934e01649 d4159c92 carLicense
+        -9607-468a-8e18-c800d3387395 0975fe99 msDS-cloudExtensionAttribute19
+        -9824-11d1-aec0-0000f80367c1 032160bf uPNSuffixes
+        -9858-4417-a701-735a1ecebf74 3df793df msDS-NC-RO-Replica-Locations
+        -98ad-4a53-9744-e83e287278fb 01072d9a secretary
+        -9ac4-4e45-8205-bd219dbf672d 8469441b msDS-AllowedDNSSuffixes
+        -9af4-4a02-9cd7-3dea129eeb27 523fc6c8 msds-tokenGroupNamesNoGCAcceptable
+        -9b45-11d0-afdd-00c04fd930c9 e0fa1e62 systemFlags
+        -9c6b-47e1-b671-7c654be4d5b3 850fcc8f uidNumber
+        -9c96-11d0-afdd-00c04fd930c9 bd951b3c operatingSystemHotfix
+        -9ff0-11d1-b603-0000f80367c1 f30e3bbe gPLink f30e3bbf gPOptions f30e3bc0 gPCFunctionalityVersion f30e3bc1
+        gPCFileSysPath
+        -a2f1-43ab-b60c-11fbd1facf05 6617e4ac msPKIRoamingTimeStamp
+        -a54a-11d0-afdf-00c04fd930c9 720bc4e2 defaultGroup
+        -ab90-4b79-a6b0-df437431d036 28be464b msDS-cloudExtensionAttribute13
+        -ac0f-11d2-90df-00c04fd91ab1 1ea64e5d otherWellKnownObjects
+        -b63a-11d2-90e1-00c04fd91ab1 178b7bc2 mS-DS-ConsistencyChildCount 23773dc2 mS-DS-ConsistencyGuid
+        -b63f-4940-8d23-ea7acf06af56 2cc4b836 msDS-User-Account-Control-Computed
+        -b699-11d0-afee-0000f80367c1 34aaa217 volumeCount
+        -b728-0842-b27d-2dea7a9df218 e362ed86 msDS-ManagedPassword
+        -b7a1-42a1-b14d-7cae1423d07f 800d94d7 msDS-AllowedToDelegateTo
+        -b82e-11d0-afee-0000f80367c1 b7b13119 physicalLocationObject
+        -b940-4fb2-bcfc-5268683ad9fe 5706aeaf msDS-EnabledFeature
+        -ba1a-4c08-9632-c6a5c1ed649a 9c979768 photo
+        -bae4-4cea-8577-af813af5da25 94c42110 msDS-GeoCoordinatesLongitude
+        -bb31-48e1-bfab-0a6c5a1d39c2 f63aa29a msTSSecondaryDesktops
+        -bc54-40e7-93ae-a646a6ecc4b4 3a0cd464 msTSAllowLogon
+        -bcb7-46f0-9656-6370ca884b72 c17c5602 msDS-Site-Affinity
+        -beee-4dcb-8abe-ef89fcfec6c1 3566bf1f msDS-Cached-Membership-Time-Stamp
+        -c0c1-4ba9-82c9-1a90752f16a5 f34ee0ac msDS-cloudExtensionAttribute2
+        -c0e8-4f92-9221-fdd5f15b550d 612cb747 unixUserPassword
+        -c354-11d0-aff8-0000f80367c1 3e10944c siteObject
+        -c44a-4eb6-82d3-13c10946dbfe a45398b7 houseIdentifier
+        -c4e7-4122-b91f-a20add90e246 5d3510f0 msTSHomeDirectory
+        -c5ea-11d1-bbcb-0080c76670c0 a8df73ef employeeNumber a8df73f0 employeeType a8df7489 textEncodedORAddress
+        a8df7498 USNIntersite
+        -c680-44bc-a273-e6c227d71b45 c569bb46 labeledURI
+        -c9f8-4f2d-a37b-58a823030331 31f7b8b6 msDS-USNLastSyncSuccess
+        -ca24-4993-a3aa-8b2c981302e8 d161adf0 msDS-PerUserTrustQuota
+        -ca53-11d1-bbd0-0080c76670c0 9a7ad940 allowedAttributes 9a7ad941 allowedAttributesEffective 9a7ad942
+        allowedChildClasses 9a7ad943 allowedChildClassesEffective
+        -ca6a-11d0-afff-0000f80367c1 52458018 nonSecurityMember 52458021 dynamicLDAPServer
+        -cacf-4dc7-88d5-61e9e95766f6 c0ffe2bd msTSDefaultToMainPrinter
+        -cbc7-4f22-b27b-96967e7ee585 be9ef6ee departmentNumber
+        -cdd4-4bc9-bab8-0ff37efe1b20 69cab008 msDS-Cached-Membership
+        -ce04-df40-b462-b8a50e41ba38 888eedd6 msDS-GroupMSAMembership
+        -d167-11d0-b002-0000f80367c1 17eb4278 sIDHistory
+        -d3b4-48d4-b3f9-06457602d3d0 773e93af msDS-SourceObjectDN
+        -dbb0-4ceb-828b-8b2e143e9e81 a13df4e2 msDS-PrimaryComputer
+        -dbe9-4eb8-837e-7f0ab55d9ac7 80863791 msDS-AdditionalDnsHostName
+        -df24-4fb1-80b0-0fcb367e25e3 3417ab48 msDS-ExpirePasswordsOnSmartCardOnlyAccounts
+        -dffa-4cd9-acbf-a0680c03731e 5f0a24d9 msTSHomeDrive
+        -e10b-4fca-92b2-4cf615d5b09a 3c01c43d msDS-cloudExtensionAttribute12
+        -e1a0-42ce-a2da-793ba5244f35 d0e1d224 audio
+        -e327-4a0d-91c6-b42d4009115f 81d7f8c2 roomNumber
+        -e347-4852-aabb-22e5a651c864 2915e85b msDS-cloudExtensionAttribute5
+        -e34e-40c2-9d00-60ff7890f207 4a7c1319 msDS-cloudExtensionAttribute7
+        -e43a-4a42-83bc-d688e59ea605 ad7940f8 msDS-LogonTimeSyncInterval
+        -ec9e-41c4-849c-b46597ed6696 c5b95f0c gidNumber
+        -f23c-46b5-adf7-1e64957bd5db cafcb1de msDS-NonMembers
+        -f6ce-4adb-b496-b0c005d7823c e185d243 msDS-Approx-Immed-Subordinates
+        -f79a-46bd-a0b8-9d18116ddc79 3f78c3e5 msDS-AllowedToActOnBehalfOfOtherIdentity
+        -fada-4a0d-b0f7-706d46838eb5 82f6c81a msDS-cloudExtensionAttribute3
+        -fd3b-4045-98cf-d9658da788b5 def449f1 msDS-HABSeniorityIndex
+        -fd49-4d66-b25d-eeb96aba8174 15585999 msDS-NeverRevealGroup`,
 };
 
-const NAMES = new Map(Object.entries(TABLE).flatMap(([type, lines]) => lines.trim().split("\n").map((line) => {
-    const [guid, ...name] = line.trim().split(" ");
-    return [guid, {name: name.join(" "), type}];
-})));
+// What an ACE may grant for each type (MS-ADTS 5.1.3.3): create and delete children of a class, read and write
+// properties, one validated write, one extended right.
+const BITS = {
+    [RIGHT]: 0x100,
+    [WRITE]: 0x8,
+    [SET]: 0x30,
+    [CLASS]: 0x3,
+    [ATTRIBUTE]: 0x30,
+};
 
-// What a GUID is: {name, type}, or null.
-export const guidName = (guid) => NAMES.get(guid) ?? null;
+const NAMES = new Map();
 
-export const knownGuids = () => [...NAMES].map(([guid, {name, type}]) => ({guid, name, type}));
+for (const [type, words] of Object.entries(TABLE)) {
+    const all = words.trim().split(/\s+/);
+    let end = "";
+    for (let at = 0; at < all.length; at += 2) {
+        if (all[at].startsWith("-")) {
+            end = all[at];
+            at += 1;
+        }
+        const guid = all[at] + end;
+        NAMES.set(guid, [...(NAMES.get(guid) ?? []), {guid, name: all[at + 1], type}]);
+    }
+}
+
+// What a GUID is: a list of {name, type}. A few are a property and a validated write; the mask of an ACE says which of
+// them it grants.
+export function guidNames(guid, mask) {
+    const all = NAMES.get(guid) ?? [];
+    const meant = all.filter(({type}) => mask === undefined || (mask & BITS[type]) !== 0);
+    return meant.length ? meant : all;
+}
+
+export const knownGuids = () => [...NAMES.values()].flat();
