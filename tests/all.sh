@@ -65,6 +65,7 @@ count tests/alias_places.py --check
 count packaging/completions.py --check
 count tests/figures.py --check
 count tests/names.py
+count tests/places.py
 count tests/edits.py --apply
 # The gate keeps no work that the library could be built over, so its crates are proved once more. That takes the
 # processors that the gate leaves idle.

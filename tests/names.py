@@ -17,7 +17,7 @@ TOP = pathlib.Path(__file__).resolve().parent.parent
 DOCUMENTS = [*(f"docs/{name}.md" for name in ("ARCHITECTURE", "DECISIONS", "DEFINITIONS", "GATE", "PROVED")),
              "bench/README.md"]
 OF_DEFINITIONS = "docs/DEFINITIONS.md"
-FOLDERS = ["crates", "tests", "packaging", "include", "python", "examples", "bench", "docs"]
+FOLDERS = ["crates", "tests", "packaging", "include", "python", "javascript", "web", "systems", "examples", "bench", "docs"]
 # What edits and kept work say is not what the sources say.
 LEFT_OUT = {"out", "must-fail", "edits", "__pycache__"}
 NO_DEFINITIONS = {"Lib.antt", "Inner.antt"}  # these only list modules

@@ -1,0 +1,101 @@
+#!/usr/bin/env python3
+"""places.py [--list SUBJECT]
+
+The tables of docs/ARCHITECTURE.md say which places a change touches: an alias, a kind of ACE, an option, a further
+input of a command. Each table is held to one instance of its subject that the sources have. Every file that names the
+instance has to be in the table, and of each row some file has to name it. So whoever adds a table, a binding or a list
+that a change has to follow also adds it there. --list prints the files of a subject and stops.
+The last line is 'N passed, M failed'.
+"""
+import fnmatch
+import itertools
+import pathlib
+import re
+import subprocess
+import sys
+from typing import NamedTuple
+
+sys.dont_write_bytecode = True
+import preload  # noqa: E402
+
+TOP = pathlib.Path(__file__).resolve().parent.parent
+DOCUMENT = "docs/ARCHITECTURE.md"
+# What only tells of an instance, or gives it as an example, need not change with another one.
+TOLD = ["CHANGELOG.md", "CONTRIBUTING.md", "README.md", "docs/*", "examples/*", "bench/*", "tests/places.py"]
+# What has to change is named by the check, and by tests/edits.py --apply.
+NAMED = ["crates/*/proofs/*", "crates/*/must-fail/*", "tests/edits/*"]
+
+
+class Subject(NamedTuple):
+    heading: str
+    instance: str
+    pattern: str  # what names the instance
+
+
+SUBJECTS = {
+    "alias": Subject("An alias", "MU", r"\bMU\b|b'M', b'U'"),
+    "kind": Subject("A kind of ACE", "ObjectAudit", r"(?i)object.?audit|[\"'(`]OU[\"'`;]|b'O', b'U'|audit_object"),
+    "option": Subject("An option of a command", "--take-ownership", r"(?i)take.?ownership"),
+    "input": Subject("A further input of a command", "--creator", r"\b[Cc]reator\b(?!.?(OWNER|[Oo]wner|[Gg]roup|GROUP|rights))"),
+}
+
+
+def is_one_of(path, patterns):
+    return any(fnmatch.fnmatch(path, pattern) for pattern in patterns)
+
+
+def changes(path):
+    return not is_one_of(path, TOLD + NAMED)
+
+
+def naming(pattern):
+    """The files of the repository that name the instance."""
+    words = ["git", "grep", "--perl-regexp", "--files-with-matches", "-I", pattern]
+    found = subprocess.run(words, cwd=TOP, stdout=subprocess.PIPE, text=True, check=False).stdout.split()
+    return found
+
+
+def places_in(cell):
+    """Each place of a first column as a pattern of paths. `sd_x`: `a.rt`, `specs/B.antt` are files of a crate."""
+    crate = None
+    for name, colon in re.findall(r"`([^`]+)`(:?)", cell):
+        if colon:
+            crate = name
+        elif crate is None:
+            yield name + "*" if name.endswith("/") else name
+        elif name.endswith(".rt"):
+            yield f"crates/{crate}/src/{name}"
+        else:
+            yield f"crates/{crate}/{name}*" if name.endswith("/") else f"crates/{crate}/{name}"
+
+
+def rows_of(text, heading):
+    """The places of each row of the first table below a heading."""
+    section = re.search(rf"^### {re.escape(heading)}\n(.*?)(?=^##|\Z)", text, re.S | re.M)
+    table = re.search(r"^\| Where \|.*?\n(.*?)(?=\n\n|\Z)", section[1], re.S | re.M) if section else None
+    cells = re.findall(r"^\| (.*?) \|", table[1], re.M) if table else []
+    return [(cell, [place for part in cell.split("; ") for place in places_in(part)]) for cell in cells]
+
+
+def main():
+    if sys.argv[1:2] == ["--list"] and len(sys.argv) == 3:
+        print("\n".join(filter(changes, naming(SUBJECTS[sys.argv[2]].pattern))))
+        return 0
+    if len(sys.argv) > 1:
+        sys.exit(__doc__)
+    count = preload.Count(most_shown=1000)
+    text = (TOP / DOCUMENT).read_text(encoding="utf-8")
+    for subject in SUBJECTS.values():
+        files, rows = naming(subject.pattern), rows_of(text, subject.heading)
+        count.add(rows, f"{DOCUMENT} has no table below '{subject.heading}'")
+        for path in filter(changes, files):
+            found = is_one_of(path, itertools.chain.from_iterable(places for _, places in rows))
+            count.add(found, f"{path} names {subject.instance}, and the table below '{subject.heading}' leaves it out")
+        for cell, places in rows:
+            found = any(is_one_of(path, places) for path in files)
+            count.add(found, f"'{subject.heading}': no file of {cell} names {subject.instance}")
+    return count.end()
+
+
+if __name__ == "__main__":
+    sys.exit(main())
