@@ -2,9 +2,10 @@
 """names.py
 
 Refuses a name in backticks, in the documents that describe the sources, that the sources do not have: a word that
-occurs in no file of crates/, tests/, packaging/ or the Makefile beside comments, and a file that is not there. So a document cannot
-keep the name of what was moved or renamed. It also refuses a file of definitions that docs/DEFINITIONS.md does not
-name, and a link of any document to a file or a heading that is not there. The last line is 'N passed, M failed'.
+occurs in no file of crates/, tests/, packaging/ or the Makefile beside comments, and a file that is not there. So a
+document cannot keep the name of what was moved or renamed. It also refuses a file of definitions that
+docs/DEFINITIONS.md does not name, and a link of any document to a file or a heading that is not there. The last line
+is 'N passed, M failed'.
 """
 import pathlib
 import re
@@ -17,7 +18,8 @@ TOP = pathlib.Path(__file__).resolve().parent.parent
 DOCUMENTS = [*(f"docs/{name}.md" for name in ("ARCHITECTURE", "DECISIONS", "DEFINITIONS", "GATE", "PROVED")),
              "bench/README.md"]
 OF_DEFINITIONS = "docs/DEFINITIONS.md"
-FOLDERS = ["crates", "tests", "packaging", "include", "python", "javascript", "web", "systems", "examples", "bench", "docs"]
+FOLDERS = ["crates", "tests", "packaging", "include", "python", "javascript", "web", "systems", "examples", "bench",
+           "docs"]
 # What edits and kept work say is not what the sources say.
 LEFT_OUT = {"out", "must-fail", "edits", "__pycache__"}
 NO_DEFINITIONS = {"Lib.antt", "Inner.antt"}  # these only list modules

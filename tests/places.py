@@ -36,7 +36,7 @@ SUBJECTS = {
     "alias": Subject("An alias", "MU", r"\bMU\b|b'M', b'U'"),
     "kind": Subject("A kind of ACE", "ObjectAudit", r"(?i)object.?audit|[\"'(`]OU[\"'`;]|b'O', b'U'|audit_object"),
     "option": Subject("An option of a command", "--take-ownership", r"(?i)take.?ownership"),
-    "input": Subject("A further input of a command", "--creator", r"\b[Cc]reator\b(?!.?(OWNER|[Oo]wner|[Gg]roup|GROUP|rights))"),
+    "input": Subject("A further input of a command", "--creator", r"\b[Cc]reator\b(?!.?(?i:owner|group|rights))"),
 }
 
 
