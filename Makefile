@@ -149,14 +149,16 @@ systems: $(foreach system,$(SYSTEMS),$(if $(call missing_tools,$(system)),,$(sys
 	@$(foreach system,$(SYSTEMS),$(if $(call missing_tools,$(system)),\
 	    echo '$(system): skipped. There is no command $(call missing_tools,$(system))';)) :
 
-linux-x86_64: $(COMPILED)/linux-x86_64/sdtool.o library
-	systems/build.sh $@
+# A system that is built has a file that says so, so nothing is built twice.
+$(SYSTEMS): %: out/systems/%/.built
 
-linux-aarch64: $(COMPILED)/linux-aarch64/sdtool.o $(COMPILED)/linux-aarch64/libsdtool_c.a
-	systems/build.sh $@
-
-windows-x86_64 wasm: $(COMPILED)/sdtool.bc $(COMPILED)/libsdtool_c.bc
-	systems/build.sh $@
+out/systems/linux-x86_64/.built: $(COMPILED)/linux-x86_64/sdtool.o $(LIBRARY)
+out/systems/linux-aarch64/.built: $(COMPILED)/linux-aarch64/sdtool.o $(COMPILED)/linux-aarch64/libsdtool_c.a
+out/systems/windows-x86_64/.built out/systems/wasm/.built: $(COMPILED)/sdtool.bc $(COMPILED)/libsdtool_c.bc
+out/systems/wasm/.built: systems/drop_table.py $(wildcard javascript/*)
+$(SYSTEMS:%=out/systems/%/.built): systems/build.sh systems/heap.ll $(wildcard systems/c/*) include/sdtool.h packaging/library.sh packaging/library.map
+	systems/build.sh $(notdir $(@D))
+	@touch $@
 
 $(COMPILED)/linux-x86_64/sdtool.o $(COMPILED)/sdtool.bc &: $(PROGRAM) systems/compile.py
 	systems/compile.py sdtool $(COMPILED)/linux-x86_64/sdtool.o --ir $(COMPILED)/sdtool.bc
