@@ -1,3 +1,4 @@
 pub mod ListLemmas
 pub mod NewLemmas
+mod Rows
 pub mod SizeLemmas

@@ -1,0 +1,83 @@
+-- The numbers that a caller sees, as include/sdtool.h writes them out, and what a number means.
+use Rattle.std.proofs.Common.{◌≡◌, [], ◌∷◌, Some, None, Ok, Err, refl}
+use Rattle.sd_answer.specs.declared.fault.LineFault.TheVariants as line
+use Rattle.sd_check.specs.declared.ask.AskFault.TheVariants as ask
+use Rattle.sd_control.specs.declared.part.Part.TheVariants as part
+use Rattle.sd_sid.specs.Sid.{sid_at}
+use Rattle.sd_view.specs.declared.fault.SdFault.TheVariants as sd
+use Rattle.sd_call.specs.Arguments.{mapping_in, optional_sid_in, sid_in}
+use Rattle.sd_call.specs.Outcomes.{argument_number, done, failed, no_memory, number, part_number, too_small}
+use Rattle.sd_call.specs.declared.argument.Argument.TheVariants as which
+use Rattle.sd_call.specs.declared.outcome.CallFault.TheVariants as call
+
+-- enum sdtool_fault
+own_numbers : (number (call.Line line.TooLong) ≡ 1) × (number (call.Ask ask.EmptyRequest) ≡ 50)
+    × (number (call.Ask ask.ReservedBits) ≡ 51) × (number (call.Argument which.Domain 9) ≡ 70)
+own_numbers = (refl, refl, refl, refl)
+
+-- enum sdtool_part
+part_numbers : (part_number None ≡ 0) × (part_number (Some part.Owner) ≡ 1) × (part_number (Some part.Group) ≡ 2)
+    × (part_number (Some part.Sacl) ≡ 3) × (part_number (Some part.Dacl) ≡ 4)
+part_numbers = (refl, refl, refl, refl, refl)
+
+-- enum sdtool_argument
+arguments_of_checks : (argument_number which.Domain ≡ 1) × (argument_number which.Sids ≡ 2)
+    × (argument_number which.Entries ≡ 3) × (argument_number which.Object ≡ 4)
+    × (argument_number which.PrincipalSelf ≡ 5) × (argument_number which.Mapping ≡ 6)
+arguments_of_checks = (refl, refl, refl, refl, refl, refl)
+
+other_arguments : (argument_number which.Creator ≡ 7) × (argument_number which.Owner ≡ 8)
+    × (argument_number which.Group ≡ 9) × (argument_number which.Kind ≡ 10) × (argument_number which.Fault ≡ 11)
+    × (argument_number which.Sid ≡ 12) × (argument_number which.Sacl ≡ 13) × (argument_number which.Dacl ≡ 14)
+other_arguments = (refl, refl, refl, refl, refl, refl, refl, refl)
+
+-- struct sdtool_outcome
+third_sid : failed (call.Argument which.Sids 3)
+    ≡ record { fault = 70; part = 0; other_part = 0; argument = 2; entry = 3; length = 0 }
+third_sid = refl
+
+shared_byte : failed (call.Line (line.Sd (sd.Overlap part.Sacl part.Dacl)))
+    ≡ record { fault = 14; part = 3; other_part = 4; argument = 0; entry = 0; length = 0 }
+shared_byte = refl
+
+without_fault : done 7 ≡ record { fault = 0; part = 0; other_part = 0; argument = 0; entry = 0; length = 7 }
+without_fault = refl
+
+no_room : too_small 7 ≡ record { fault = 71; part = 0; other_part = 0; argument = 0; entry = 0; length = 7 }
+no_room = refl
+
+refused_malloc : no_memory ≡ record { fault = 72; part = 0; other_part = 0; argument = 0; entry = 0; length = 0 }
+refused_malloc = refl
+
+-- enum sdtool_mapping: files, keys and directory objects, and no other number
+of_files : mapping_in 0 ≡ Ok (record { read = 0x120089; write = 0x120116; execute = 0x1200a0; all = 0x1f01ff })
+of_files = refl
+
+of_keys : mapping_in 1 ≡ Ok (record { read = 0x20019; write = 0x20006; execute = 0x20019; all = 0xf003f })
+of_keys = refl
+
+of_directories : mapping_in 2 ≡ Ok (record { read = 0x20094; write = 0x20028; execute = 0x20004; all = 0xf01ff })
+of_directories = refl
+
+of_nothing : mapping_in 3 ≡ Err (call.Argument which.Mapping 0)
+of_nothing = refl
+
+-- A SID takes all bytes of its argument: S-1-1-0, with a byte behind it, and cut.
+everyone : sid_in which.Owner (1 ∷ 1 ∷ 0 ∷ 0 ∷ 0 ∷ 0 ∷ 0 ∷ 1 ∷ 0 ∷ 0 ∷ 0 ∷ 0 ∷ [])
+    ≡ Ok (record { authority = 1; subs = 0 ∷ [] })
+unfolding sid_at
+everyone = refl
+
+byte_behind : sid_in which.Owner (1 ∷ 1 ∷ 0 ∷ 0 ∷ 0 ∷ 0 ∷ 0 ∷ 1 ∷ 0 ∷ 0 ∷ 0 ∷ 0 ∷ 0 ∷ [])
+    ≡ Err (call.Argument which.Owner 0)
+unfolding sid_at
+byte_behind = refl
+
+cut_short : sid_in which.Group (1 ∷ 1 ∷ 0 ∷ 0 ∷ 0 ∷ 0 ∷ 0 ∷ 1 ∷ 0 ∷ 0 ∷ 0 ∷ [])
+    ≡ Err (call.Argument which.Group 0)
+unfolding sid_at
+cut_short = refl
+
+none_and_empty : (optional_sid_in which.Domain [] ≡ Ok None) × (sid_in which.Owner [] ≡ Err (call.Argument which.Owner 0))
+unfolding optional_sid_in sid_at
+none_and_empty = (refl, refl)

@@ -1,0 +1,144 @@
+-- Parts and ACEs whose places were counted by hand (MS-DTYP 2.4.6, 2.4.5 and 2.4.4).
+use Rattle.std.proofs.Common.{◌≡◌, [], ◌∷◌, ◌++◌, true, false, Some, None, Ok, Err, refl}
+use Rattle.std.specs.Prelude.{List, ℕ}
+use Rattle.sd_ace.specs.Ace.{AccessControlEntry}
+use Rattle.sd_control.specs.declared.part.Part.TheVariants as part
+use Rattle.sd_kinds.specs.declared.kinds.AceKind.TheVariants as kinds
+use Rattle.sd_sid.specs.Sid.{sid_at}
+use Rattle.sd_kinds.specs.Kinds.{kind_code, kind_entry, kind_of}
+use Rattle.sd_view.specs.Ace.{announces_inherited, announces_object}
+use Rattle.sd_view.specs.AclReading.{ace_fault, extent_fault, guid_if, inherited_in, kind_in, object_in, sid_offset_in}
+use Rattle.sd_view.specs.Bytes.{u16_at, u32_at}
+use Rattle.sd_view.specs.declared.fault.SdFault.TheVariants as sd
+use Rattle.sd_call_parts.specs.Places.{nowhere}
+use Rattle.sd_call_parts.specs.Walk.{begins_with_header, fault_number, found, front_found, next, steps_to}
+use Rattle.sd_call_parts.specs.declared.ace.AceFound.{AceFound}
+
+-- an ACL of revision 2 with two ACEs of 20 bytes: (A;CI;FA;;;WD) and (D;;0x2;;;WD)
+abbrev everyone : List ℕ
+everyone = 1 ∷ 1 ∷ 0 ∷ 0 ∷ 0 ∷ 0 ∷ 0 ∷ 1 ∷ 0 ∷ 0 ∷ 0 ∷ 0 ∷ []
+
+abbrev acl : List ℕ
+acl = (2 ∷ 0 ∷ 48 ∷ 0 ∷ 2 ∷ 0 ∷ 0 ∷ 0 ∷ []) ++ (0 ∷ 2 ∷ 20 ∷ 0 ∷ 0xff ∷ 1 ∷ 0x1f ∷ 0 ∷ []) ++ everyone
+    ++ (1 ∷ 0 ∷ 20 ∷ 0 ∷ 2 ∷ 0 ∷ 0 ∷ 0 ∷ []) ++ everyone
+
+abbrev start : AceFound
+start = record {
+  fault = 0;
+  mask = 0;
+  number = 0;
+  kind = 0;
+  flags = 0;
+  place = nowhere;
+  object_type = nowhere;
+  inherited_object_type = nowhere;
+  sid = nowhere;
+}
+
+abbrev first : AceFound
+first = record {
+  fault = 0;
+  mask = 0x1f01ff;
+  number = 1;
+  kind = 0;
+  flags = 2;
+  place = record { offset = 8; size = 20 };
+  object_type = nowhere;
+  inherited_object_type = nowhere;
+  sid = record { offset = 16; size = 12 };
+}
+
+abbrev second : AceFound
+second = record {
+  fault = 0;
+  mask = 2;
+  number = 2;
+  kind = 1;
+  flags = 0;
+  place = record { offset = 28; size = 20 };
+  object_type = nowhere;
+  inherited_object_type = nowhere;
+  sid = record { offset = 36; size = 12 };
+}
+
+begins : next acl start ≡ Ok (Some first)
+unfolding next begins_with_header front_found sid_at u16_at u32_at ace_fault extent_fault kind_of sid_offset_in kind_in kind_code object_in
+    inherited_in kind_entry guid_if announces_object announces_inherited
+begins = refl
+
+goes_on : next acl first ≡ Ok (Some second)
+unfolding next begins_with_header front_found sid_at u16_at u32_at ace_fault extent_fault kind_of sid_offset_in kind_in kind_code object_in
+    inherited_in kind_entry guid_if announces_object announces_inherited
+goes_on = refl
+
+ends : next acl second ≡ Ok None
+unfolding next begins_with_header front_found u16_at
+ends = refl
+
+-- a size that says one byte less than the header has, and a revision between the two
+no_header : (next (2 ∷ 0 ∷ 7 ∷ 0 ∷ 0 ∷ 0 ∷ 0 ∷ 0 ∷ []) start ≡ Err (sd.Acl part.Dacl))
+    × (next (3 ∷ 0 ∷ 8 ∷ 0 ∷ 0 ∷ 0 ∷ 0 ∷ 0 ∷ []) start ≡ Err (sd.Acl part.Dacl))
+unfolding next begins_with_header u16_at
+no_header = (refl, refl)
+
+empty : (next (4 ∷ 0 ∷ 8 ∷ 0 ∷ 0 ∷ 0 ∷ 0 ∷ 0 ∷ []) start ≡ Ok None)
+    × (next (2 ∷ 0 ∷ 8 ∷ 0 ∷ 0 ∷ 0 ∷ 0 ∷ 0 ∷ 5 ∷ []) start ≡ Ok None)
+unfolding next begins_with_header u16_at
+empty = (refl, refl)
+
+-- an ACL that says it has one ACE, and has none
+missing : next (2 ∷ 0 ∷ 8 ∷ 0 ∷ 1 ∷ 0 ∷ 0 ∷ 0 ∷ []) start ≡ Err (sd.AceSize part.Dacl)
+unfolding next begins_with_header front_found sid_at u16_at u32_at ace_fault
+missing = refl
+
+-- the fault is told, and the walk stays where it is
+stays : steps_to second (Err (sd.AceSize part.Dacl)) ≡ (false, record second { fault = 11 })
+stays = refl
+
+stops : steps_to (record second { fault = 11 }) (Ok None) ≡ (false, second)
+stops = refl
+
+abbrev guid : List ℕ
+guid = 0 ∷ 1 ∷ 2 ∷ 3 ∷ 4 ∷ 5 ∷ 6 ∷ 7 ∷ 8 ∷ 9 ∷ 10 ∷ 11 ∷ 12 ∷ 13 ∷ 14 ∷ 15 ∷ []
+
+abbrev object_ace : AccessControlEntry
+object_ace = record {
+  kind = kinds.ObjectAllow;
+  flags = 0;
+  mask = 0x100;
+  object = Some guid;
+  inherited = Some guid;
+  sid = record { authority = 1; subs = 0 ∷ [] };
+}
+
+-- both GUIDs, and then one of them alone: the SID follows what is there
+two_guids : found 3 (record { offset = 100; size = 56 }) object_ace ≡ record {
+  fault = 0;
+  mask = 0x100;
+  number = 3;
+  kind = 5;
+  flags = 0;
+  place = record { offset = 100; size = 56 };
+  object_type = record { offset = 112; size = 16 };
+  inherited_object_type = record { offset = 128; size = 16 };
+  sid = record { offset = 144; size = 12 };
+}
+unfolding kind_code kind_entry
+two_guids = refl
+
+inherited_alone : found 1 (record { offset = 8; size = 40 }) (record object_ace { object = None }) ≡ record {
+  fault = 0;
+  mask = 0x100;
+  number = 1;
+  kind = 5;
+  flags = 0;
+  place = record { offset = 8; size = 40 };
+  object_type = nowhere;
+  inherited_object_type = record { offset = 20; size = 16 };
+  sid = record { offset = 36; size = 12 };
+}
+unfolding kind_code kind_entry
+inherited_alone = refl
+
+nothing : nowhere ≡ record { offset = 0; size = 0 }
+nothing = refl

@@ -1,0 +1,60 @@
+-- SIDs and their texts, by hand (MS-DTYP 2.4.2, and 2.5.1.1 for the aliases).
+use Rattle.std.proofs.Common.{◌≡◌, [], ◌∷◌, true, false, codes, Ok, Err, refl}
+use Rattle.std.specs.Fmt.{digits}
+use Rattle.std.specs.Prelude.{List, ℕ}
+use Rattle.sd_sid.specs.Sid.{sid_at}
+use Rattle.sd_sid.specs.SidText.{alias_of, letters_read, sid_reads}
+use Rattle.sd_sid.specs.declared.sid_text.SidFault.TheVariants as sid
+use Rattle.sd_sddl_reader.specs.declared.fault.SddlFault.TheVariants as sddl
+use Rattle.sd_sddl_printer.specs.Printed.{trustee_text}
+use Rattle.sd_answer.specs.declared.fault.LineFault.TheVariants as line
+use Rattle.sd_call.specs.Arguments.{optional_sid_in}
+use Rattle.sd_call.specs.declared.argument.Argument.TheVariants as which
+use Rattle.sd_call.specs.declared.outcome.CallFault.TheVariants as call
+use Rattle.sd_call_sids.specs.Sids.{named_in, named_sid, sid_from_text, sid_size_at, sid_to_text}
+
+abbrev administrators : List ℕ
+administrators = 1 ∷ 2 ∷ 0 ∷ 0 ∷ 0 ∷ 0 ∷ 0 ∷ 5 ∷ 32 ∷ 0 ∷ 0 ∷ 0 ∷ 32 ∷ 2 ∷ 0 ∷ 0 ∷ []
+
+-- S-1-5-21-1-2-3, and its administrators
+abbrev domain : List ℕ
+domain = 1 ∷ 4 ∷ 0 ∷ 0 ∷ 0 ∷ 0 ∷ 0 ∷ 5 ∷ 21 ∷ 0 ∷ 0 ∷ 0 ∷ 1 ∷ 0 ∷ 0 ∷ 0 ∷ 2 ∷ 0 ∷ 0 ∷ 0 ∷ 3 ∷ 0 ∷ 0 ∷ 0 ∷ []
+
+abbrev domain_admins : List ℕ
+domain_admins =
+    1 ∷ 5 ∷ 0 ∷ 0 ∷ 0 ∷ 0 ∷ 0 ∷ 5 ∷ 21 ∷ 0 ∷ 0 ∷ 0 ∷ 1 ∷ 0 ∷ 0 ∷ 0 ∷ 2 ∷ 0 ∷ 0 ∷ 0 ∷ 3 ∷ 0 ∷ 0 ∷ 0
+    ∷ 0 ∷ 2 ∷ 0 ∷ 0 ∷ []
+
+from_alias : sid_from_text (codes "BA") [] ≡ Ok administrators
+unfolding named_sid sid_reads letters_read optional_sid_in sid_at
+from_alias = refl
+
+from_relative_alias : sid_from_text (codes "da") domain ≡ Ok domain_admins
+unfolding named_sid sid_reads letters_read optional_sid_in sid_at
+from_relative_alias = refl
+
+wants_a_domain : sid_from_text (codes "DA") [] ≡ Err (call.Line (line.Sddl (sddl.Sid sid.NeedsDomain)))
+unfolding named_sid sid_reads letters_read optional_sid_in sid_at
+wants_a_domain = refl
+
+-- The domain is looked at before the text.
+wrong_domain : sid_from_text (codes "ZZ") (1 ∷ []) ≡ Err (call.Argument which.Domain 0)
+unfolding named_sid optional_sid_in sid_at
+wrong_domain = refl
+
+to_alias : sid_to_text administrators [] false ≡ Ok (codes "BA")
+unfolding named_in optional_sid_in sid_at alias_of trustee_text
+to_alias = refl
+
+to_numbers : sid_to_text administrators [] true ≡ Ok (codes "S-1-5-32-544")
+unfolding named_in optional_sid_in sid_at alias_of digits trustee_text
+to_numbers = refl
+
+-- The SID is looked at before the domain.
+wrong_sid : sid_to_text [] (1 ∷ []) false ≡ Err (call.Argument which.Sid 0)
+unfolding named_in sid_at
+wrong_sid = refl
+
+sizes : (sid_size_at administrators ≡ 16) × (sid_size_at domain_admins ≡ 28) × (sid_size_at [] ≡ 0)
+unfolding sid_at
+sizes = (refl, refl, refl)
