@@ -8,22 +8,23 @@ that a change has to follow also adds it there. --list prints the files of a sub
 The last line is 'N passed, M failed'.
 """
 import fnmatch
+import functools
 import itertools
 import pathlib
 import re
-import subprocess
 import sys
 from typing import NamedTuple
 
 sys.dont_write_bytecode = True
+import names  # noqa: E402
 import preload  # noqa: E402
 
 TOP = pathlib.Path(__file__).resolve().parent.parent
 DOCUMENT = "docs/ARCHITECTURE.md"
 # What only tells of an instance, or gives it as an example, need not change with another one.
 TOLD = ["CHANGELOG.md", "CONTRIBUTING.md", "README.md", "docs/*", "examples/*", "bench/*", "tests/places.py"]
-# What has to change is named by the check, and by tests/edits.py --apply.
-NAMED = ["crates/*/proofs/*", "crates/*/must-fail/*", "tests/edits/*"]
+# What has to change there is named by the check. Edits, which names.py leaves out, are named by tests/edits.py --apply.
+NAMED = ["crates/*/proofs/*"]
 
 
 class Subject(NamedTuple):
@@ -48,11 +49,17 @@ def changes(path):
     return not is_one_of(path, TOLD + NAMED)
 
 
+@functools.lru_cache(maxsize=None)
+def texts():
+    """Each file of the repository with its text."""
+    return [(path.relative_to(TOP).as_posix(), path.read_text(encoding="utf-8", errors="replace"))
+            for path in sorted(names.files())]
+
+
 def naming(pattern):
     """The files of the repository that name the instance."""
-    words = ["git", "grep", "--perl-regexp", "--files-with-matches", "-I", pattern]
-    found = subprocess.run(words, cwd=TOP, stdout=subprocess.PIPE, text=True, check=False).stdout.split()
-    return found
+    name = re.compile(pattern)
+    return [path for path, text in texts() if name.search(text)]
 
 
 def places_in(cell):
