@@ -6,9 +6,13 @@ export type Part = "owner" | "group" | "sacl" | "dacl";
 /** The kind of object whose rights the generic rights stand for. */
 export type Mapping = "file" | "key" | "ds";
 
+/** A SID in binary, or its text: S-1- and numbers, or an alias such as BA. */
+export type SidLike = Uint8Array | string;
+
 /** An input that has no answer. */
 export class Fault extends Error {
-  constructor(number: number, name: string, part?: Part | null, otherPart?: Part | null);
+  constructor(number: number, name: string, part?: Part | null, otherPart?: Part | null, argument?: string | null,
+              entry?: number | null);
   /** The error number of docs/FORMAT.md, such as 25. */
   readonly number: number;
   /** Its name, such as "sid-form". */
@@ -16,23 +20,38 @@ export class Fault extends Error {
   readonly part: Part | null;
   /** The second part of fault 14, two parts that overlap. */
   readonly otherPart: Part | null;
+  /** The argument whose text is no SID, if that is what is wrong. */
+  readonly argument: string | null;
+  /** Which entry of that argument, if it is a list. */
+  readonly entry: number | null;
+  /** What the program prints in place of an answer, such as "error 9 sid owner". */
+  readonly line: string;
 }
 
-/** An argument beside the descriptor or the text that the call does not take, such as a domain that is no SID. */
+/** An argument that the call does not take, such as a domain that is no SID. It says nothing about the descriptor. */
 export class ArgumentFault extends Error {
-  constructor(message: string);
+  constructor(problem: string, argument?: string | null, entry?: number | null);
+  readonly number: 70;
+  readonly name: "ArgumentFault";
+  /** Its name, such as "sids", or the name of an option. */
+  readonly argument: string | null;
+  /** Which entry of it is wrong, if it is a list. */
+  readonly entry: number | null;
 }
 
-export interface TextOptions {
-  /** A SID in binary whose aliases, such as DA, are printed. */
-  domain?: Uint8Array;
+export interface DomainOptions {
+  /** A SID whose aliases, such as DA, are read or printed. */
+  domain?: SidLike;
+}
+
+export interface TextOptions extends DomainOptions {
   /** Prints no aliases. */
   numeric?: boolean;
 }
 
 export interface CheckOptions {
   /** SIDs of the token that count only for ACEs that deny. */
-  denyOnly?: readonly Uint8Array[];
+  denyOnly?: readonly SidLike[];
   /** The rights that are wanted, an access mask from 0 to 0xffffffff. It may be 0 with `maximum`. */
   wanted?: number;
   /** Asks also for each right that is granted. */
@@ -43,7 +62,7 @@ export interface CheckOptions {
   /** The 16 bytes of the GUID of an object type, as in an ACE. */
   objectType?: Uint8Array;
   /** The SID that PRINCIPAL SELF stands for. */
-  principalSelf?: Uint8Array;
+  principalSelf?: SidLike;
   /** The token has SeSecurityPrivilege. */
   security?: boolean;
   /** The token has SeTakeOwnershipPrivilege. */
@@ -65,6 +84,56 @@ export interface Verdict {
   mask: number;
 }
 
+/** An ACE to build. */
+export interface NewAce {
+  /** The type byte: 0 allow, 1 deny, 2 audit, 5 to 7 the same with object types, 0x11 mandatory label. */
+  kind: number;
+  /** The flags of inheritance and audit. */
+  flags: number;
+  /** The access mask. */
+  mask: number;
+  /** The SID of the trustee. */
+  sid: SidLike;
+  /** The 16 bytes of a GUID, as in an ACE. Only types 5 to 7 may have one. */
+  objectType?: Uint8Array | null;
+  inheritedObjectType?: Uint8Array | null;
+}
+
+/** An ACE of a descriptor. */
+export interface Ace extends NewAce {
+  sid: Uint8Array;
+  objectType: Uint8Array | null;
+  inheritedObjectType: Uint8Array | null;
+}
+
+/** An ACL. An absent DACL and a null DACL both grant everything, and have no ACEs; an empty list grants nothing. */
+export type AclOf<OneAce> = { state: "absent" } | { state: "null" } | { state: "list"; aces: readonly OneAce[] };
+export type Acl = AclOf<Ace>;
+
+/** What is in a descriptor. `build` makes the descriptor of it again. */
+export interface Parts {
+  /** The control word (MS-DTYP 2.4.6). */
+  control: number;
+  /** The resource manager byte. */
+  resourceManager: number;
+  owner: Uint8Array | null;
+  group: Uint8Array | null;
+  sacl: Acl;
+  dacl: Acl;
+}
+
+/** A descriptor to build. */
+export interface NewParts {
+  /** The bits that say which parts there are follow from the parts. */
+  control?: number;
+  resourceManager?: number;
+  owner?: SidLike | null;
+  group?: SidLike | null;
+  /** Absent unless it is named; an array is a list. */
+  sacl?: AclOf<NewAce> | readonly NewAce[];
+  dacl?: AclOf<NewAce> | readonly NewAce[];
+}
+
 /** What a run prints. */
 export interface Answers {
   /** The exit status of the program: 0, 1 if at least one answer is an error line, or 2 if the words are wrong. */
@@ -81,16 +150,30 @@ export interface Sdtool {
   version(): string;
   /** A descriptor as SDDL. */
   toSddl(descriptor: Uint8Array, options?: TextOptions): string;
-  /** The descriptor that SDDL describes, in its canonical layout. `domain` is a SID whose aliases are read. */
-  fromSddl(text: string, options?: { domain?: Uint8Array }): Uint8Array;
+  /** The descriptor that SDDL describes, in its canonical layout. */
+  fromSddl(text: string, options?: DomainOptions): Uint8Array;
   /** The canonical layout of a descriptor: equal exactly for descriptors of the same content. */
   normalize(descriptor: Uint8Array): Uint8Array;
   /** A descriptor as lines of text. */
   explain(descriptor: Uint8Array, options?: TextOptions): string;
-  /** Whether a descriptor grants a token of these SIDs what is asked for. */
-  check(descriptor: Uint8Array, sids: readonly Uint8Array[], options?: CheckOptions): Verdict;
+  /** Whether a descriptor grants a token of these SIDs, at most 1,024 with those that only deny, what is asked for. */
+  check(descriptor: Uint8Array, sids: readonly SidLike[], options?: CheckOptions): Verdict;
+  /** The verdict on each descriptor, in order, and for one that has none its Fault. The token is read once for many of them. */
+  checkMany(descriptors: readonly Uint8Array[], sids: readonly SidLike[], options?: CheckOptions): (Verdict | Fault)[];
   /** The descriptor of a new object in a folder that has the descriptor `parent`, in its canonical layout. */
-  derive(parent: Uint8Array, owner: Uint8Array, group: Uint8Array, options?: DeriveOptions): Uint8Array;
+  derive(parent: Uint8Array, owner: SidLike, group: SidLike, options?: DeriveOptions): Uint8Array;
+  /** The SID that a text names: an alias such as BA, or S-1- and numbers. */
+  sidFromText(text: string, options?: DomainOptions): Uint8Array;
+  /** The text of a SID: its alias if it has one and `numeric` is not set, and else its numbers. */
+  sidToText(sid: Uint8Array, options?: TextOptions): string;
+  /** How many bytes the SID at the front of some bytes has. It is 0 if they begin with no SID. */
+  sidSize(bytes: Uint8Array): number;
+  /** What is in a descriptor. */
+  parts(descriptor: Uint8Array): Parts;
+  /** The ACEs of an ACL in binary. */
+  aces(acl: Uint8Array): Ace[];
+  /** The descriptor with these parts, in its canonical layout. */
+  build(parts: NewParts): Uint8Array;
   /** What the program prints to an input, one descriptor a line. `words` are those of the command line. */
   run(words: readonly string[], input: Uint8Array): Answers;
   /** The name of a fault, such as "sid-form" for 25. */

@@ -113,6 +113,12 @@ wasm() {
     link_wasm sdtool.wasm {library,wasm,wasm_heap,heap,memory}.o
     link_wasm sdtool-wasi.wasm {program,wasi,wasm_heap,heap,memory}.o
     cp javascript/{sdtool.mjs,sdtool.d.ts,package.json} "$out"
+    # One file that has all: the module is in it.
+    {
+        sed '/^const EMBEDDED = ""/,$d' javascript/sdtool.mjs
+        echo "const EMBEDDED = \"$(base64 -w 0 "$out/sdtool.wasm")\";"
+        sed '1,/^const EMBEDDED = ""/d' javascript/sdtool.mjs
+    } > "$out/sdtool.single.mjs"
 }
 
 case $system in

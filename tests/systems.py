@@ -7,41 +7,62 @@ Tests what 'make systems' built, out/systems, against PROGRAM, the program of th
   lines     N lines as compare.py makes them, in hex, base64 and SDDL, through each of the four commands: each byte of the
             answers, and the status, has to be PROGRAM's
   limits    a line of 100 MB, and an input of many lines beside a short one, for the memory that both take
-  library   the same lines in calls of sdtool_run, by tests/c/run_lines.c; for JavaScript the calls that c_library.py makes,
-            and tests/javascript/module.mjs
-  streams   on Windows tests/c/on_windows.c: pipes, NUL, missing streams, and arguments that are no text
+  library   the same lines in calls of sdtool_run, by tests/c/run_lines.c; on arm64 and Windows the library's own tests in C,
+            calls.c, runs.c and objects.c; for JavaScript the calls that c_library.py and c_objects.py make, tests/javascript/
+            module.mjs, its types, by types.ts, the example of docs/SYSTEMS.md, and the module in browsers
+  streams   on Windows tests/c/on_windows.c: pipes, NUL, consoles, missing streams, and arguments that are no text; in a WASI
+            host of our own the reads and writes that fail as device_faults.py fails those of Linux
+  stack     on Windows how it is touched, and that little of it suffices
 
 arm64 runs under qemu-user, Windows under wine, and WebAssembly in Node. A system whose tools are missing is skipped, and
 a line says so. The last line is 'N passed, M failed'.
 """
 import argparse
+import base64
 import concurrent.futures
 import contextlib
+import errno
+import functools
+import hashlib
+import http.server
+import importlib.util
+import json
 import os
 import pathlib
 import random
+import re
 import shlex
 import shutil
 import subprocess
 import sys
 import tempfile
+import threading
+import time
 from typing import NamedTuple
 
 sys.dont_write_bytecode = True
+import browsers  # noqa: E402
 import c_library  # noqa: E402
+import c_objects  # noqa: E402
 import compare  # noqa: E402
+import device_faults  # noqa: E402
 import preload  # noqa: E402
 import run_rows  # noqa: E402
 
 TESTS = pathlib.Path(__file__).resolve().parent
 BUILT = TESTS.parent / "out" / "systems"
+DEBIAN_PYTHON = "/usr/bin/python3"
 SECONDS = 600
 JOBS = os.cpu_count() or 1
 LONG_LINE = 100_000_000
 MANY_LINES, FEW_LINES = 1_000_000, 1_000
 MOST_WORDS = 1 << 20
 MORE_MEMORY = 16 << 20  # that many lines may take beyond few ones
+PAGE, SMALL_STACK = 4096, 256 << 10
+STARTS, FAILED_STARTS, STARTS_OF_A_FAILURE = "starts", "failed starts", 500
+LINES_OF_BROWSERS = 2000
 CALL_ROUNDS = 2000
+EACH_OF_FAULTS = 12  # of the faults of a run so many at its ends, and of the others one in so many
 MOST_MORE = 100.0  # microseconds that a call from JavaScript may take beyond one from C: ten times the goal, on a busy machine
 CROSS = {"linux-aarch64": "aarch64-linux-gnu-gcc", "windows-x86_64": "x86_64-w64-mingw32-gcc"}
 DOMAIN = compare.DOMAINS[0]
@@ -80,14 +101,45 @@ def devices_of(row):
     return found | ({"talk"} if row.get("talk") else set())
 
 
-def script_for(folder, name):
-    """A command that runs the program of a system as the program of this one."""
-    system = SYSTEMS[name]
-    script = folder / name
-    words = [*system.runner, str(BUILT / name / system.file)]
-    script.write_text(f"#!/bin/sh\nexec {shlex.join(words)} \"$@\"\n", encoding="utf-8")
+def script_of(folder, name, words):
+    """A command that runs a program of another system as one of this one. It notes each start.
+
+    Wine now and then fails to start a program, and says so by status 1 alone. The program ends with 1 only after it has read a
+    line. So where it ended with 1, and nothing has been read of a file that has something,
+        it never ran: then it is started once
+    more, and a line of the folder's file says so. Any other end is the program's."""
+    script = folder / f"{name} {pathlib.Path(words[-1]).name}"
+    start = shlex.join(map(str, words)) + ' "$@"'
+    again = f"""printf . >> {shlex.quote(str(folder / STARTS))}
+{start}
+status=$?
+if [ $status = 1 ] && [ -f /proc/self/fd/0 ] && [ -s /proc/self/fd/0 ]; then
+    exec 9<&0
+    read -r name place < /proc/self/fdinfo/9
+    exec 9<&-
+    if [ "$name$place" = pos:0 ]; then
+        echo "$*" >> {shlex.quote(str(folder / FAILED_STARTS))}
+        exec {start}
+    fi
+fi
+exit $status
+"""
+    script.write_text(f"#!/bin/sh\n{again if name == 'windows-x86_64' else 'exec ' + start}\n", encoding="utf-8")
     script.chmod(0o755)
     return str(script)
+
+
+def script_for(folder, name):
+    system = SYSTEMS[name]
+    return script_of(folder, name, [*system.runner, BUILT / name / system.file])
+
+
+def judge_starts(count, folder):
+    """Wine may fail to start a program, but seldom."""
+    starts, failed = (folder / name for name in (STARTS, FAILED_STARTS))
+    number = len(failed.read_text(encoding="utf-8", errors="replace").splitlines()) if failed.exists() else 0
+    print(f"wine: {starts.stat().st_size} starts, of which {number} failed and were made again")
+    count.add(number * STARTS_OF_A_FAILURE <= starts.stat().st_size, f"wine failed to start {number} programs")
 
 
 def judged(row, program):
@@ -140,7 +192,8 @@ def made_lines(source, number, seed):
 
 def inputs(folder, number):
     """Files of lines, by their source."""
-    pieces = [(source, number * share // 10 // JOBS, f"systems {part}") for source, share in SHARES.items() for part in range(JOBS)]
+    pieces = [(source, number * share // 10 // JOBS, f"systems {part}") for source,
+        share in SHARES.items() for part in range(JOBS)]
     with concurrent.futures.ProcessPoolExecutor(JOBS) as pool:
         made = list(pool.map(made_lines, *zip(*pieces)))
     for source in SHARES:
@@ -168,7 +221,8 @@ def test_lines(count, native, program, name, files):
         for words in COMMANDS:
             words = [*words, "--from", source]
             expected, found = answers(native, words, file), answers(program, words, file)
-            count.add(found == expected and lines > 0, f"{name} {words}: {found == expected or first_difference(found, expected)}")
+            count.add(found == expected and lines > 0,
+                f"{name} {words}: {found == expected or first_difference(found, expected)}")
 
 
 def memory_of(program, words, file):
@@ -187,7 +241,8 @@ def test_limits(count, native, program, name, folder):
     long = folder / "long"
     long.write_bytes(b"0" * LONG_LINE + b"\n" + b"0100008000000000000000000000000000000000\n")
     expected, found = (answers(one, ["convert", "--to", "hex"], long) for one in (native, program))
-    count.add(found == expected and found[0].startswith(b"error 1 too-long\n"), f"{name}: a line of {LONG_LINE} bytes gives {found}")
+    count.add(found == expected and found[0].startswith(b"error 1 too-long\n"),
+        f"{name}: a line of {LONG_LINE} bytes gives {found}")
     long.unlink()
     few, many = folder / "few", folder / "many"
     for file, lines in ((few, FEW_LINES), (many, MANY_LINES)):
@@ -204,8 +259,9 @@ def built_for(folder, name, source):
     is_windows = name == "windows-x86_64"
     program = folder / (source + ".exe" if is_windows else source)
     library = BUILT / name / ("libsdtool.dll.a" if is_windows else "libsdtool.a")
-    words = [CROSS[name], "-std=c11", "-Wall", "-Wextra", "-Werror", "-O1", f"-I{TESTS.parent / 'include'}",
-             TESTS / "c" / f"{source}.c", library, *["-lshell32"] * is_windows, "-static", "-o", program]
+    words = [CROSS[name], "-std=gnu11", "-Wall", "-Wextra", "-Werror", "-O1", "-D_GNU_SOURCE", f"-I{TESTS.parent / 'include'}",
+             TESTS / "c" / f"{source}.c", library, *(["-lshell32"] if is_windows else c_library.WRAPS), "-pthread", "-static",
+             "-o", program]
     ended = subprocess.run(words, stdout=subprocess.PIPE, stderr=subprocess.STDOUT, check=False)
     if ended.returncode:
         print(ended.stdout.decode())
@@ -224,14 +280,234 @@ def test_calls(count, native, calls, runs, name, number):
         c_library.test_questions(count, [(name, calls, None)], job, asked)
     if name != "wasm":  # module.mjs asks those of JavaScript, which names an argument in its own way
         c_library.test_arguments(count, calls)
-    rows = [row for row in c_library.rows_in_memory() if len(row[2]) < 100_000]
+    # Other systems make text of each word, and mingw's start of a program that of a code page.
+    rows = [row for row in c_library.rows_in_memory() if len(row[2]) < 100_000 and
+            (SYSTEMS[name].any_bytes or all(word.isascii() for word in row[1]) and sum(map(len, row[1])) < 32_000)]
     for row, words, data in rows[::10]:
         expected = c_library.of_program(["sdtool", *words], data, executable=native)
         found = c_library.of_program([*runs, "plain", *words], data)
         count.add(found == expected, f"{name} run of {row}: {found} in place of {expected}"[:900])
 
 
-def test_library(count, native, name, folder, files):
+def ended_in_host(tasks):
+    """How runs of the WASI program end, in a host of our own whose streams can fail."""
+    program = BUILT / "wasm" / SYSTEMS["wasm"].file
+    given = "".join(json.dumps(task) + "\n" for task in tasks)
+    words = ["node", TESTS / "javascript/faults.mjs", program]
+    said = subprocess.run(words, input=given.encode(), capture_output=True, timeout=SECONDS, check=False)
+    if said.returncode:
+        print(said.stderr.decode()[-2000:])
+    for line in said.stdout.decode().splitlines():
+        ended = json.loads(line)
+        yield device_faults.Ended(ended["status"], base64.b64decode(ended["stdout"]), base64.b64decode(ended["stderr"]),
+                                  [preload.Event(*event) for event in ended["events"]])
+
+
+def task_of(job, settings):
+    """A run as faults.mjs takes it."""
+    error = settings.get("error", errno.EIO)
+    return {"words": job.words, "data": base64.b64encode(job.data).decode(), "piece": job.piece, "takes": job.takes, **settings,
+            "error": errno.errorcode[error] if error else 0}
+
+
+def test_faults(count, pool):
+    """Reads and writes of the WASI program fail as device_faults.py fails those of Linux: the first and the last ones, and
+    some of the others."""
+    jobs = [*device_faults.SHORT_JOBS, *device_faults.CUT_JOBS, *device_faults.LARGE_JOBS]
+    tried = []
+    for job, plain in zip(jobs, ended_in_host([task_of(job, {}) for job in jobs])):
+        answers = device_faults.Answers(job)
+        count.add(device_faults.is_plain(plain, answers), f"WASI {job.words}, no fault: {plain}")
+        faults = list(device_faults.faults_of(plain, device_faults.IN_OTHERS))
+        tried += [(job, answers, *fault) for fault in [*faults[:EACH_OF_FAULTS], *faults[::EACH_OF_FAULTS],
+            *faults[-EACH_OF_FAULTS:]]]
+    shares = [tried[part::JOBS] for part in range(JOBS)]
+    tasks = [[task_of(job, settings) for job, _, _, settings in share] for share in shares]
+    for share, ended in zip(shares, pool.map(lambda share: list(ended_in_host(share)), tasks)):
+        count.add(len(ended) == len(share), f"{len(ended)} runs ended, of {len(share)}")
+        for (job, answers, judge, settings), one in zip(share, ended):
+            count.add(judge(one, answers), f"WASI {device_faults.shown(job, settings)}: {one}")
+    print(f"wasm: {len(tried)} runs in which a read or a write fails")
+
+
+class ModuleRunner:
+    """Asks calls.mjs what c_objects.py asks objects.c. It tells a walk that ends with a fault by the fault alone, and an
+    argument by its name."""
+
+    def __init__(self, count, calls):
+        self.count, self.ways = count, [("JavaScript", calls, None)]
+
+    def test(self, words, lines, expected, seldom=1):
+        if words == ["walk"]:
+            expected = [answer if answer.endswith("end") else answer.split("\n")[-1] for answer in expected]
+        (name, calls, _), = self.ways
+        ended = c_library.ran([*calls, *words], "".join(line + "\n" for line in lines))
+        found = ended.stdout.decode("latin-1")
+        wanted = "".join(answer + "\n" for answer in expected).replace("error 70 12 0\n", "error 70 sid 0\n")
+        wrong = next((f"{a!r} in place of {b!r}" for a, b in zip(found.split("\n"), wanted.split("\n")) if a != b), "")
+        self.count.add(found == wanted and ended.returncode == 0 and not ended.stderr,
+                       f"{name} {words[:1]}: status {ended.returncode}, {wrong} {ended.stderr.decode()[:900]}")
+
+
+def test_objects(count, native, runner, number):
+    """SIDs, parts, ACEs, many checks and building, with what the program says of the same lines."""
+    choices = random.Random(31)
+    maker = compare.Lines(choices)
+    lines = c_objects.descriptors(maker, number, choices)
+    c_objects.test_parts(runner, native, lines)
+    c_objects.test_large_parts(runner, native)
+    c_objects.test_walks(runner, native, lines)
+    c_objects.test_sids_from_texts(runner, native, c_objects.sid_texts(maker, number // 2, choices))
+    c_objects.test_texts_of_sids(runner, native, c_objects.sids_of(maker, number // 2, choices))
+    c_objects.test_many(runner, native, maker, lines, choices)
+
+
+def test_document(count, built, folder):
+    """The example of docs/SYSTEMS.md gives what its comments say. It runs in one file too, without the module beside it."""
+    text = (TESTS.parent / "docs/SYSTEMS.md").read_text(encoding="utf-8")
+    shown = re.search(r"```js\n(import .*?)```", text, re.S)
+    example = shown[1] if shown else ""
+    checked = re.sub(r"^(?!const |import )(.*); // (.*)$", r"assert.deepEqual(\1, \2); asserted += 1;", example, flags=re.M)
+    script = 'import assert from "node:assert/strict";\nlet asserted = 0;\n' + checked + "console.log(asserted);\n"
+    shutil.copy(built / "sdtool.single.mjs", folder)
+    for module in ((built / "sdtool.mjs").as_uri(), "./sdtool.single.mjs"):
+        (folder / "example.mjs").write_text(script.replace("./sdtool.mjs", module), encoding="utf-8")
+        ended = subprocess.run(["node", "example.mjs"], cwd=folder, capture_output=True, timeout=SECONDS, check=False)
+        count.add(ended.returncode == 0 and ended.stdout.strip() == b"4",
+            f"the example of SYSTEMS.md: {ended.stderr.decode()[:2000]}")
+
+
+class Files(http.server.SimpleHTTPRequestHandler):
+    extensions_map = {**http.server.SimpleHTTPRequestHandler.extensions_map, ".mjs": "text/javascript",
+        ".wasm": "application/wasm"}
+
+    def log_message(self, *_):
+        pass
+
+
+def answered(kind, address, module):
+    """What browser.html comes to, in a browser: its title."""
+    browser = kind()
+    try:
+        browser.open(f"{address}/browser.html#{module}")
+        end = time.monotonic() + SECONDS
+        while time.monotonic() < end:
+            title = browser.run("return document.title")
+            if title != "running":
+                return title
+            time.sleep(0.2)
+        return "too slow"
+    finally:
+        browser.end()
+
+
+def test_browsers(count, native, built, folder, files):
+    """The module in browsers, beside sdtool.wasm and in one file, with the program's answers."""
+    site = folder / "site"
+    site.mkdir()
+    runs = [(source, [*words, "--from", source]) for source in files for words in COMMANDS]
+    expected = []
+    for source, file in files.items():
+        (site / source).write_bytes(b"".join(file.read_bytes().splitlines(keepends=True)[:LINES_OF_BROWSERS]))
+    for source, words in runs:
+        output, _, status = answers(native, words, site / source)
+        expected.append([status, hashlib.sha256(output).hexdigest()])
+    expected.append(["O:BAD:(A;;FR;;;BU)", True, "error 5 short"])
+    (site / "runs.json").write_text(json.dumps(runs), encoding="utf-8")
+    for file in (TESTS / "javascript/browser.html", *(built / name for name in ("sdtool.mjs", "sdtool.single.mjs",
+        "sdtool.wasm"))):
+        shutil.copy(file, site)
+    server = http.server.ThreadingHTTPServer(("127.0.0.1", 0), functools.partial(Files, directory=site))
+    threading.Thread(target=server.serve_forever, daemon=True).start()
+    kinds = []
+    for kind in browsers.BROWSERS:
+        if kind.missing():
+            print(f"the module in {kind.name}: skipped, Debian: {kind.missing()}")
+        else:
+            kinds += [(kind, "sdtool.mjs"), (kind, "sdtool.single.mjs")]
+    with concurrent.futures.ThreadPoolExecutor(2) as threads:
+        pending = [threads.submit(answered, kind, f"http://127.0.0.1:{server.server_port}", module) for kind, module in kinds]
+        for (kind, module), one in zip(kinds, pending):
+            found = one.exception() or one.result()
+            count.add(found == json.dumps(expected, separators=(",", ":")), f"{module} in {kind.name}: {str(found)[:500]}")
+    server.shutdown()
+
+
+def test_types(count, built, folder):
+    """sdtool.d.ts names the calls that there are, and programs of TypeScript can be written with it."""
+    declared = re.search(r"export interface Sdtool \{(.*?)^\}", (built / "sdtool.d.ts").read_text(encoding="utf-8"),
+        re.M | re.S)[1]
+    script = ("const { load } = await import(process.argv[1]); "
+              "console.log(Object.getOwnPropertyNames(Object.getPrototypeOf(await load())).join(' '))")
+    words = ["node", "--input-type=module", "--eval", script, "--", (built / "sdtool.mjs").as_uri()]
+    found = subprocess.run(words, capture_output=True, check=False, text=True, timeout=SECONDS).stdout.split()
+    named = re.findall(r"^  (\w+)\(", declared, re.M)
+    count.add(sorted(found) == sorted(["constructor", *named]) and named, f"sdtool.d.ts has {named}, the module {found}")
+    compiler = shutil.which("tsc")
+    if not compiler:
+        print("types: skipped, there is no command tsc")
+        return
+    (folder / "node_modules").mkdir()
+    (folder / "node_modules/sdtool").symlink_to(built)
+    (folder / "package.json").write_text('{"type": "module"}', encoding="utf-8")
+    shutil.copy(TESTS / "javascript/types.ts", folder)
+    for resolution in ("node", "node16"):
+        words = [compiler, "--noEmit", "--strict", "--target", "es2022", "--module",
+            "es2022" if resolution == "node" else resolution,
+                 "--moduleResolution", resolution, "--lib", "es2022,dom", folder / "types.ts"]
+        ended = subprocess.run(words, cwd=folder, stdout=subprocess.PIPE, stderr=subprocess.STDOUT, check=False,
+            timeout=SECONDS)
+        count.add(ended.returncode == 0, f"types of {resolution}: {ended.stdout.decode()[:2000]}")
+
+
+def test_stack(count, native, folder, files):
+    """Windows commits a page of the stack when the page in front of it is touched. So no function may move the stack by a
+    page or more at once without touching the pages in between, as the probe does that the compiler calls. And a small stack
+    suffices."""
+    for file in ("sdtool.exe", "sdtool.dll"):
+        words = ["x86_64-w64-mingw32-objdump", "-d", "--no-show-raw-insn", BUILT / "windows-x86_64" / file]
+        code = subprocess.run(words, capture_output=True, check=True, timeout=SECONDS).stdout.decode()
+        frames = [int(size, 16) for size in re.findall(r"\bsub +\$0x([0-9a-f]+),%rsp", code)]
+        probed = re.findall(r"\bcall .*\n.*\bsub +%rax,%rsp", code)
+        count.add(len(frames) > 50 and max(frames) < PAGE and probed,
+            f"{file}: frames of {max(frames)} bytes, {len(probed)} probes")
+    program = bytearray((BUILT / "windows-x86_64/sdtool.exe").read_bytes())
+    header = int.from_bytes(program[0x3c:0x40], "little") + 24  # the optional header of a PE file
+    reserve, commit = header + 72, header + 80
+    count.add(int.from_bytes(program[reserve:commit], "little") == 8 << 20, "the stack that sdtool.exe asks for")
+    program[reserve:commit + 8] = SMALL_STACK.to_bytes(8, "little") + PAGE.to_bytes(8, "little")
+    small = folder / "small_stack.exe"
+    small.write_bytes(program)
+    script = script_of(folder, "windows-x86_64", [*SYSTEMS["windows-x86_64"].runner, small])
+    for source in files:
+        words = [*COMMANDS[4], "--from", source]
+        expected, found = answers(native, words, files[source]), answers(script, words, files[source])
+        count.add(found == expected,
+            f"{words} with {SMALL_STACK} bytes of stack: {found == expected or first_difference(found, expected)}")
+
+
+class LibraryRunners(c_objects.Runners):
+    """objects.c on another system."""
+
+    def __init__(self, count, name, words):
+        self.count, self.under_valgrind, self.ways = count, set(), [(name, words, None)]
+
+
+def test_in_c(count, native, name, folder, number):
+    """calls.c, runs.c and objects.c, the tests of the library in C, with what the program says of the same lines."""
+    programs = {source: built_for(folder, name, source) for source in ("calls", "runs", "objects")}
+    for source, program in programs.items():
+        count.add(program, f"{name}: {source}.c is not built")
+    if all(programs.values()):
+        # qemu-user does not follow a process that one of several threads forks.
+        words = {source: ["env", "FORKS=0", *SYSTEMS[name].runner, str(program)] for source, program in programs.items()}
+        test_calls(count, native, words["calls"], words["runs"], name, number)
+        runners = LibraryRunners(count, name, words["objects"])
+        runners.test_cases()
+        test_objects(count, native, runners, number)
+
+
+def test_library(count, native, name, folder, files, number):
     """The library, from a program in C of the system: all lines through all commands, in one call each."""
     runner = SYSTEMS[name].runner
     if name == "windows-x86_64":
@@ -244,10 +520,8 @@ def test_library(count, native, name, folder, files):
     program = built_for(folder, name, "run_lines")
     count.add(program, f"{name}: run_lines.c is not built")
     if program:
-        script = folder / f"run_lines of {name}"
-        script.write_text(f"#!/bin/sh\nexec {shlex.join([*runner, str(program)])} \"$@\"\n", encoding="utf-8")
-        script.chmod(0o755)
-        test_lines(count, native, script, f"{name}, library", files)
+        test_lines(count, native, script_of(folder, name, [*runner, program]), f"{name}, library", files)
+    test_in_c(count, native, name, folder, number)
 
 
 def last_counts(text):
@@ -256,7 +530,7 @@ def last_counts(text):
     return (int(words[0]), int(words[2])) if len(words) == 4 and words[1::2] == ["passed", "failed"] else (0, 1)
 
 
-def test_javascript(count, native, name, folder, number):
+def test_javascript(count, native, name, folder, files, number):
     """The JavaScript module: the same calls, what is its own, and how long a call takes beside one from C."""
     built = str(BUILT / name)
     ended = subprocess.run(["node", TESTS / "javascript/module.mjs", built], capture_output=True, timeout=SECONDS, check=False)
@@ -266,13 +540,18 @@ def test_javascript(count, native, name, folder, number):
         print(ended.stdout.decode(), ended.stderr.decode())
     calls = ["node", str(TESTS / "javascript/calls.mjs"), built]
     test_calls(count, native, calls, calls, name, number)
+    test_objects(count, native, ModuleRunner(count, calls), number)
+    test_types(count, BUILT / name, folder)
+    test_document(count, BUILT / name, folder)
+    test_browsers(count, native, BUILT / name, folder, files)
     speed = folder / "speed"
     library = BUILT / "linux-x86_64" / "libsdtool.a"
     compiled = subprocess.run([preload.compiler()[0], "-O2", f"-I{TESTS.parent / 'include'}", TESTS / "c/speed.c", library,
                                "-o", speed], check=False)
     count.add(compiled.returncode == 0, "speed.c is not built")
     if compiled.returncode == 0:
-        in_c, in_script = (list(map(float, subprocess.run([*words, str(CALL_ROUNDS)], capture_output=True, check=True).stdout.split()))
+        in_c, in_script = (list(map(float, subprocess.run([*words, str(CALL_ROUNDS)], capture_output=True,
+            check=True).stdout.split()))
                            for words in ([speed], ["node", TESTS / "javascript/speed.mjs", built]))
         print(f"microseconds of a call, to and from SDDL and of a check: from C {in_c}, from JavaScript {in_script}")
         for job, one, other in zip(("to_sddl", "from_sddl", "check"), in_c, in_script):
@@ -299,13 +578,27 @@ def test_system(count, native, name, folder, files, lines):
     test_rows(count, program, name)
     test_lines(count, native, program, name, files)
     test_limits(count, native, program, name, folder)
+    number = min(400, lines)
     if name in CROSS:
-        test_library(count, native, name, folder, files)
+        test_library(count, native, name, folder, files, number)
+        if name == "windows-x86_64":
+            test_stack(count, native, folder, files)
+            judge_starts(count, folder)
     elif name == "wasm":
-        test_javascript(count, native, name, folder, min(400, lines))
+        with concurrent.futures.ThreadPoolExecutor(JOBS) as pool:
+            test_faults(count, pool)
+        test_javascript(count, native, name, folder, files, number)
+
+
+def start_again():
+    """Debian's Python sees Debian's selenium; another one may not."""
+    if importlib.util.find_spec("selenium") is None and os.path.realpath(sys.executable) != os.path.realpath(DEBIAN_PYTHON) \
+            and os.path.exists(DEBIAN_PYTHON):
+        os.execv(DEBIAN_PYTHON, [DEBIAN_PYTHON, *sys.argv])
 
 
 def main():
+    start_again()
     parser = argparse.ArgumentParser(description="Tests what 'make systems' built.")
     parser.add_argument("program", type=os.path.abspath)
     parser.add_argument("--lines", type=int, default=100_000, help="(%(default)s)")

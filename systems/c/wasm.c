@@ -1,6 +1,6 @@
 // WebAssembly, for JavaScript: the calls of sdtool.h as a 32-bit machine has them. Pointers and sizes have 32 bits, and a
 // struct that a call returns goes to a pointer in front of the call's arguments. The layout of each struct is the header's
-// with a size_t of 32 bits. A caller gets room for its bytes from `allocate`.
+// with a size_t of 32 bits. A caller gets room for its bytes from `allocate`, and puts structs at places that 4 divides.
 //
 // The proved calls are compiled for a 64-bit memory. In the compiler's own form a call that returns a struct has a pointer
 // in front, to which it writes the struct, and returns that pointer. C for WebAssembly returns nothing there, so the calls
@@ -23,6 +23,56 @@ struct ending {
     uint32_t status, length, message_length;
 };
 
+struct place {
+    uint32_t offset, size;
+};
+
+struct acl_place {
+    uint32_t state, ace_count;
+    struct place place;
+};
+
+struct contents {
+    uint32_t fault, part, other_part;
+    uint16_t control;
+    uint8_t resource_manager;
+    struct place owner, group;
+    struct acl_place sacl, dacl;
+};
+
+struct ace {
+    uint32_t fault, mask, number;
+    uint8_t kind, flags;
+    struct place place, object_type, inherited_object_type, sid;
+};
+
+struct bytes {
+    uint32_t bytes, size;
+};
+
+struct new_ace {
+    struct bytes sid, object_type, inherited_object_type;
+    uint32_t mask;
+    uint8_t kind, flags;
+};
+
+struct new_acl {
+    uint32_t aces, ace_count, state;
+};
+
+struct new_descriptor {
+    struct bytes owner, group;
+    struct new_acl sacl, dacl;
+    uint16_t control;
+    uint8_t resource_manager;
+};
+
+// sdtool.mjs has these numbers.
+_Static_assert(sizeof(struct verdict) == 28, "the verdict of a check");
+_Static_assert(sizeof(struct contents) == 64 && offsetof(struct contents, owner) == 16, "what sdtool_parts finds");
+_Static_assert(sizeof(struct ace) == 48 && offsetof(struct ace, place) == 16, "what sdtool_next_ace finds");
+_Static_assert(sizeof(struct new_ace) == 32 && sizeof(struct new_descriptor) == 44, "what sdtool_build reads");
+
 _Static_assert(sizeof(struct sdtool_request) == 16, "as on a 32-bit machine");
 
 #define CALL(call, type, ...) type *proved_##call(type *told, __VA_ARGS__) __asm__("sdtool_" #call)
@@ -39,6 +89,15 @@ CALL(check, struct sdtool_verdict, INPUT(descriptor), INPUT(sids), const uint8_t
      INPUT(principal_self), const struct sdtool_request *request);
 CALL(derive, struct sdtool_outcome, INPUT(parent), INPUT(creator), INPUT(owner), INPUT(group), uint32_t kind,
      uint32_t mapping, OUTPUT(output));
+CALL(sid_from_text, struct sdtool_outcome, INPUT(text), INPUT(domain), OUTPUT(sid));
+CALL(sid_to_text, struct sdtool_outcome, INPUT(sid), INPUT(domain), bool numeric, OUTPUT(text));
+size_t proved_sid_size(INPUT(bytes)) __asm__("sdtool_sid_size");
+CALL(parts, struct sdtool_contents, INPUT(descriptor));
+bool proved_next_ace(INPUT(acl), struct sdtool_ace *ace) __asm__("sdtool_next_ace");
+CALL(check_many, struct sdtool_outcome, const struct sdtool_bytes *descriptors, size_t descriptor_count, INPUT(sids),
+     const uint8_t *entries, size_t sid_count, INPUT(object), INPUT(principal_self), const struct sdtool_request *request,
+     struct sdtool_verdict *verdicts, size_t verdict_count);
+CALL(build, struct sdtool_outcome, const struct sdtool_new_descriptor *descriptor, OUTPUT(output));
 CALL(run, struct sdtool_ending, INPUT(words), INPUT(input), OUTPUT(output), OUTPUT(message));
 CALL(fault_text, struct sdtool_outcome, uint32_t fault, OUTPUT(text));
 
@@ -50,6 +109,41 @@ static void tell(uint32_t place, const struct sdtool_outcome *outcome) {
     *(struct outcome *)at(place) =
         (struct outcome){outcome->fault, outcome->part, outcome->other_part, outcome->argument, (uint32_t)outcome->entry,
                          (uint32_t)outcome->length};
+}
+
+static void tell_no_memory(uint32_t place) {
+    tell(place, &(struct sdtool_outcome){.fault = SDTOOL_NO_MEMORY});
+}
+
+static struct verdict verdict_of(const struct sdtool_verdict *told) {
+    return (struct verdict){told->fault, told->part, told->other_part, told->argument, (uint32_t)told->entry, told->mask,
+                            told->granted};
+}
+
+static struct place place_of(const struct sdtool_place *told) {
+    return (struct place){(uint32_t)told->offset, (uint32_t)told->size};
+}
+
+static struct sdtool_place place_from(const struct place *place) {
+    return (struct sdtool_place){place->offset, place->size};
+}
+
+static struct acl_place acl_of(const struct sdtool_acl_place *told) {
+    return (struct acl_place){told->state, told->ace_count, place_of(&told->place)};
+}
+
+static struct sdtool_bytes bytes_from(const struct bytes *bytes) {
+    return (struct sdtool_bytes){at(bytes->bytes), bytes->size};
+}
+
+// The ACEs of an ACL to build, behind one another from TO on.
+static struct sdtool_new_acl acl_from(const struct new_acl *acl, struct sdtool_new_ace *to) {
+    const struct new_ace *aces = at(acl->aces);
+    for (size_t index = 0; index < acl->ace_count; index++)
+        to[index] = (struct sdtool_new_ace){bytes_from(&aces[index].sid), bytes_from(&aces[index].object_type),
+                                            bytes_from(&aces[index].inherited_object_type), aces[index].mask,
+                                            aces[index].kind, aces[index].flags};
+    return (struct sdtool_new_acl){to, acl->ace_count, acl->state};
 }
 
 // Room for SIZE bytes, or 0 if there is no memory. SIZE is above 0.
@@ -107,8 +201,7 @@ void check(uint32_t verdict, uint32_t descriptor, uint32_t descriptor_size, uint
     struct sdtool_verdict told;
     proved_check(&told, at(descriptor), descriptor_size, at(sids), sids_size, at(entries), sid_count, at(object), object_size,
                  at(principal_self), principal_self_size, at(request));
-    *(struct verdict *)at(verdict) = (struct verdict){told.fault, told.part, told.other_part, told.argument,
-                                                      (uint32_t)told.entry, told.mask, told.granted};
+    *(struct verdict *)at(verdict) = verdict_of(&told);
 }
 
 EXPORT(sdtool_derive)
@@ -118,6 +211,87 @@ void derive(uint32_t outcome, uint32_t parent, uint32_t parent_size, uint32_t cr
     struct sdtool_outcome told;
     tell(outcome, proved_derive(&told, at(parent), parent_size, at(creator), creator_size, at(owner), owner_size, at(group),
                                 group_size, kind, mapping, at(output), output_size));
+}
+
+EXPORT(sdtool_sid_from_text)
+void sid_from_text(uint32_t outcome, uint32_t text, uint32_t text_size, uint32_t domain, uint32_t domain_size, uint32_t sid,
+                   uint32_t sid_size) {
+    struct sdtool_outcome told;
+    tell(outcome, proved_sid_from_text(&told, at(text), text_size, at(domain), domain_size, at(sid), sid_size));
+}
+
+EXPORT(sdtool_sid_to_text)
+void sid_to_text(uint32_t outcome, uint32_t sid, uint32_t sid_size, uint32_t domain, uint32_t domain_size, uint32_t numeric,
+                 uint32_t text, uint32_t text_size) {
+    struct sdtool_outcome told;
+    tell(outcome, proved_sid_to_text(&told, at(sid), sid_size, at(domain), domain_size, numeric != 0, at(text), text_size));
+}
+
+EXPORT(sdtool_sid_size) uint32_t sid_size(uint32_t bytes, uint32_t bytes_size) {
+    return (uint32_t)proved_sid_size(at(bytes), bytes_size);
+}
+
+EXPORT(sdtool_parts) void parts(uint32_t contents, uint32_t descriptor, uint32_t descriptor_size) {
+    struct sdtool_contents told;
+    proved_parts(&told, at(descriptor), descriptor_size);
+    *(struct contents *)at(contents) =
+        (struct contents){told.fault, told.part, told.other_part, told.control, told.resource_manager,
+                          place_of(&told.owner), place_of(&told.group), acl_of(&told.sacl), acl_of(&told.dacl)};
+}
+
+EXPORT(sdtool_next_ace) uint32_t next_ace(uint32_t acl, uint32_t acl_size, uint32_t ace) {
+    struct ace *last = at(ace);
+    struct sdtool_ace walk = {last->fault, last->mask, last->number, last->kind, last->flags, place_from(&last->place),
+                              place_from(&last->object_type), place_from(&last->inherited_object_type),
+                              place_from(&last->sid)};
+    bool is_there = proved_next_ace(at(acl), acl_size, &walk);
+    *last = (struct ace){walk.fault, walk.mask, walk.number, walk.kind, walk.flags, place_of(&walk.place),
+                         place_of(&walk.object_type), place_of(&walk.inherited_object_type), place_of(&walk.sid)};
+    return is_there;
+}
+
+// It has arrays of its own, with the structs of a 64-bit machine. Without memory for them it is SDTOOL_NO_MEMORY before all
+// else, also before SDTOOL_TOO_SMALL.
+EXPORT(sdtool_check_many)
+void check_many(uint32_t outcome, uint32_t descriptors, uint32_t descriptor_count, uint32_t sids, uint32_t sids_size,
+                uint32_t entries, uint32_t sid_count, uint32_t object, uint32_t object_size, uint32_t principal_self,
+                uint32_t principal_self_size, uint32_t request, uint32_t verdicts, uint32_t verdict_count) {
+    const struct bytes *given = at(descriptors);
+    struct verdict *answers = at(verdicts);
+    size_t size_given = (descriptor_count + (size_t)1) * sizeof(struct sdtool_bytes);
+    struct sdtool_bytes *asked = rattle_find(size_given + verdict_count * sizeof(struct sdtool_verdict));
+    if (!asked) {
+        tell_no_memory(outcome);
+        return;
+    }
+    struct sdtool_verdict *told = (struct sdtool_verdict *)((uint8_t *)asked + size_given);
+    struct sdtool_outcome ended;
+    for (size_t index = 0; index < descriptor_count; index++)
+        asked[index] = bytes_from(&given[index]);
+    proved_check_many(&ended, asked, descriptor_count, at(sids), sids_size, at(entries), sid_count, at(object), object_size,
+                      at(principal_self), principal_self_size, at(request), told, verdict_count);
+    if (ended.fault == SDTOOL_OK)
+        for (size_t index = 0; index < descriptor_count; index++)
+            answers[index] = verdict_of(&told[index]);
+    tell(outcome, &ended);
+    rattle_dealloc(asked);
+}
+
+// As for sdtool_check_many, SDTOOL_NO_MEMORY comes before all else.
+EXPORT(sdtool_build) void build(uint32_t outcome, uint32_t descriptor, uint32_t output, uint32_t output_size) {
+    const struct new_descriptor *given = at(descriptor);
+    size_t count = (size_t)given->sacl.ace_count + given->dacl.ace_count;
+    struct sdtool_new_ace *aces = rattle_find((count + 1) * sizeof(struct sdtool_new_ace));
+    if (!aces) {
+        tell_no_memory(outcome);
+        return;
+    }
+    struct sdtool_new_descriptor asked = {bytes_from(&given->owner), bytes_from(&given->group), acl_from(&given->sacl, aces),
+                                          acl_from(&given->dacl, aces + given->sacl.ace_count), given->control,
+                                          given->resource_manager};
+    struct sdtool_outcome told;
+    tell(outcome, proved_build(&told, &asked, at(output), output_size));
+    rattle_dealloc(aces);
 }
 
 EXPORT(sdtool_run)

@@ -17,8 +17,10 @@
 #include <stdio.h>
 #include <stdlib.h>
 #include <string.h>
+#ifndef _WIN32
 #include <sys/wait.h>
 #include <unistd.h>
+#endif
 
 #include "memory.h"
 #include "sdtool.h"
@@ -46,7 +48,6 @@ static int wrong;
 
 /* The linker puts these in the place of malloc and realloc of the library: see tests/c_library.py. */
 void *__wrap_malloc(size_t size);
-void *__real_realloc(void *block, size_t size);
 void *__wrap_realloc(void *block, size_t size);
 
 static _Thread_local long allocations_left = -1;
@@ -334,7 +335,7 @@ static void *repeat(void *unused)
 /* Forks while the other threads are in the middle of their calls. Each process makes every call once. */
 static void *fork_often(void *unused)
 {
-    (void)unused;
+#ifndef _WIN32
     for (int round = 0; round < FORKS && forks; round++) {
         pid_t child = fork();
         int status = 0;
@@ -353,7 +354,8 @@ static void *fork_often(void *unused)
         if (child < 0 || waitpid(child, &status, 0) != child || status != 0)
             complain("a call in a process that a thread forked");
     }
-    return NULL;
+#endif
+    return unused;
 }
 
 int main(int count, char **words)

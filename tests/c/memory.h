@@ -1,5 +1,7 @@
 /*
- * What calls.c and runs.c lend to the library: blocks of exactly their size, and stacks.
+ * What calls.c, runs.c and objects.c lend to the library: blocks of exactly their size, and stacks.
+ *
+ * On Windows the library takes no memory from malloc, so no allocation is refused there, and no process is forked.
  *
  * In the environment
  *
@@ -15,19 +17,95 @@
 #include <stdio.h>
 #include <stdlib.h>
 #include <string.h>
+#ifdef _WIN32
+#include <windows.h>
+
+#include <fcntl.h>
+#include <io.h>
+#else
 #include <sys/mman.h>
+#endif
 
 enum { PAGE = 4096, UNUSED_BYTE = 0xa5 };
 
+#ifdef _WIN32
+enum { CAN_REFUSE = 0 };
+
+static inline void *__real_malloc(size_t size)
+{
+    return malloc(size);
+}
+
+static inline void *__real_realloc(void *block, size_t size)
+{
+    return realloc(block, size);
+}
+
+/* A line with its LF, as POSIX has it. */
+static inline ptrdiff_t getline(char **line, size_t *room, FILE *file)
+{
+    size_t length = 0;
+    int c;
+
+    while ((c = getc(file)) != EOF) {
+        if (length + 2 > *room && (*line = realloc(*line, *room = 2 * *room + 128)) == NULL)
+            abort();
+        (*line)[length++] = (char)c;
+        if (c == '\n')
+            break;
+    }
+    if (length == 0)
+        return -1;
+    (*line)[length] = 0;
+    return (ptrdiff_t)length;
+}
+
+static inline void *reserved(size_t size)
+{
+    return VirtualAlloc(NULL, size, MEM_RESERVE | MEM_COMMIT, PAGE_NOACCESS);
+}
+
+static inline bool set_access(void *place, size_t size, bool is_input)
+{
+    DWORD before;
+
+    return VirtualProtect(place, size, is_input ? PAGE_READONLY : PAGE_READWRITE, &before) != 0;
+}
+
+static inline bool give_back(void *place, size_t size)
+{
+    (void)size;
+    return VirtualFree(place, 0, MEM_RELEASE) != 0;
+}
+#else
+enum { CAN_REFUSE = 1 };
+
 void *__real_malloc(size_t size);
+void *__real_realloc(void *block, size_t size);
+
+static inline void *reserved(size_t size)
+{
+    void *found = mmap(NULL, size, PROT_NONE, MAP_PRIVATE | MAP_ANONYMOUS, -1, 0);
+
+    return found == MAP_FAILED ? NULL : found;
+}
+
+static inline bool set_access(void *place, size_t size, bool is_input)
+{
+    return mprotect(place, size, is_input ? PROT_READ : PROT_READ | PROT_WRITE) == 0;
+}
+
+static inline bool give_back(void *place, size_t size)
+{
+    return munmap(place, size) == 0;
+}
+#endif
 
 enum guard { NO_GUARD, GUARD_AFTER, GUARD_BEFORE };
 
 static enum guard guard;
 static bool forks = true;
-static size_t stack_size;
-static size_t stack_used, stack_of_none;
-static pthread_mutex_t stack_lock = PTHREAD_MUTEX_INITIALIZER;
+static size_t stack_size, stack_used, stack_of_none;
 
 static void read_environment(void)
 {
@@ -38,6 +116,11 @@ static void read_environment(void)
     if (size != NULL)
         stack_size = strtoul(size, NULL, 10);
     forks = getenv("FORKS") == NULL;
+#ifdef _WIN32
+    /* No C library takes Control-Z for an end, or writes CR LF. */
+    for (int stream = 0; stream <= 2; stream++)
+        _setmode(stream, _O_BINARY);
+#endif
 }
 
 static size_t in_pages(size_t size)
@@ -48,9 +131,9 @@ static size_t in_pages(size_t size)
 /* Some pages with a page on each side that cannot be touched. */
 static uint8_t *pages(size_t size)
 {
-    uint8_t *all = mmap(NULL, size + 2 * PAGE, PROT_NONE, MAP_PRIVATE | MAP_ANONYMOUS, -1, 0);
+    uint8_t *all = reserved(size + 2 * PAGE);
 
-    if (all == MAP_FAILED || (size != 0 && mprotect(all + PAGE, size, PROT_READ | PROT_WRITE) != 0))
+    if (all == NULL || (size != 0 && !set_access(all + PAGE, size, false)))
         abort();
     return all + PAGE;
 }
@@ -77,7 +160,7 @@ static uint8_t *first_page(const uint8_t *cells, size_t size)
 /* The block is input from now on: with a guard, a write to it is a fault. */
 static void seal(const uint8_t *cells, size_t size)
 {
-    if (guard != NO_GUARD && size != 0 && mprotect(first_page(cells, size), in_pages(size), PROT_READ) != 0)
+    if (guard != NO_GUARD && size != 0 && !set_access(first_page(cells, size), in_pages(size), true))
         abort();
 }
 
@@ -85,9 +168,12 @@ static void release(uint8_t *cells, size_t size)
 {
     if (guard == NO_GUARD)
         free(cells);
-    else if (munmap(first_page(cells, size) - PAGE, in_pages(size) + 2 * PAGE) != 0)
+    else if (!give_back(first_page(cells, size) - PAGE, in_pages(size) + 2 * PAGE))
         abort();
 }
+
+#ifndef _WIN32
+static pthread_mutex_t stack_lock = PTHREAD_MUTEX_INITIALIZER;
 
 /* How many bytes of a stack were used. */
 static size_t used_of(const uint8_t *stack, size_t size)
@@ -114,11 +200,12 @@ static size_t run_on_stack(void *(*function)(void *), void *argument)
         abort();
     pthread_attr_destroy(&attributes);
     used = used_of(stack, size);
-    munmap(stack - PAGE, size + 2 * PAGE);
+    give_back(stack - PAGE, size + 2 * PAGE);
     return used;
 }
+#endif
 
-static void *nothing(void *unused)
+static inline void *nothing(void *unused)
 {
     return unused;
 }
@@ -126,12 +213,13 @@ static void *nothing(void *unused)
 /* Makes a call: on a stack of its own if one is asked for. */
 static inline void make_call(void *(*function)(void *), void *argument)
 {
-    size_t none, used;
-
     if (stack_size == 0) {
         function(argument);
         return;
     }
+#ifndef _WIN32
+    size_t none, used;
+
     none = run_on_stack(nothing, NULL);
     used = run_on_stack(function, argument);
     pthread_mutex_lock(&stack_lock);
@@ -139,6 +227,7 @@ static inline void make_call(void *(*function)(void *), void *argument)
         stack_used = used - none;
     stack_of_none = none;
     pthread_mutex_unlock(&stack_lock);
+#endif
 }
 
 /* What the call that needed most used beyond what a thread uses that does nothing. */

@@ -99,9 +99,130 @@ static struct ended run(const wchar_t *words, const char *const *pieces, HANDLE 
     return ended;
 }
 
+/* Types text at a console: each character as a key that goes down and up. */
+static void type(HANDLE console, const wchar_t *text)
+{
+    for (; *text; text++) {
+        INPUT_RECORD keys[2] = {{.EventType = KEY_EVENT}};
+        KEY_EVENT_RECORD *key = &keys[0].Event.KeyEvent;
+        DWORD took;
+
+        key->bKeyDown = TRUE;
+        key->wRepeatCount = 1;
+        key->uChar.UnicodeChar = *text;
+        key->wVirtualKeyCode = *text == L'\r' ? VK_RETURN : *text == 0x1a ? 'Z' : (WORD)(VkKeyScanW(*text) & 0xff);
+        key->dwControlKeyState = *text == 0x1a ? LEFT_CTRL_PRESSED : 0;
+        keys[1] = keys[0];
+        keys[1].Event.KeyEvent.bKeyDown = FALSE;
+        WriteConsoleInputW(console, keys, 2, &took);
+    }
+}
+
+static HANDLE console_of(const wchar_t *name)
+{
+    SECURITY_ATTRIBUTES inherits = {sizeof inherits, NULL, TRUE};
+
+    return CreateFileW(name, GENERIC_READ | GENERIC_WRITE, FILE_SHARE_READ | FILE_SHARE_WRITE, &inherits, OPEN_EXISTING, 0,
+                       NULL);
+}
+
+/* The text of a row of a console's screen, without the blanks at its end. */
+static void row_of(HANDLE screen, SHORT row, char *text)
+{
+    wchar_t cells[MOST];
+    CONSOLE_SCREEN_BUFFER_INFO info;
+    DWORD got = 0;
+    size_t length = 0;
+
+    if (GetConsoleScreenBufferInfo(screen, &info))
+        ReadConsoleOutputCharacterW(screen, cells, (DWORD)info.dwSize.X, (COORD){0, row}, &got);
+    for (DWORD at = 0; at < got; at++) {
+        text[at] = cells[at] < 128 ? (char)cells[at] : '?';
+        if (text[at] != ' ')
+            length = at + 1;
+    }
+    text[length] = 0;
+}
+
 static int is(const struct ended *ended, DWORD status, const char *output, const char *message)
 {
     return ended->status == status && strcmp(ended->output, output) == 0 && strcmp(ended->message, message) == 0;
+}
+
+/* A new file that is open in one direction alone, and is gone when it is closed. */
+static HANDLE file_for(DWORD access)
+{
+    SECURITY_ATTRIBUTES inherits = {sizeof inherits, NULL, TRUE};
+    wchar_t folder[MAX_PATH], path[MAX_PATH];
+
+    GetTempPathW(MAX_PATH, folder);
+    GetTempFileNameW(folder, L"sd", 0, path);
+    return CreateFileW(path, access, FILE_SHARE_READ | FILE_SHARE_WRITE | FILE_SHARE_DELETE, &inherits, OPEN_EXISTING,
+                       FILE_FLAG_DELETE_ON_CLOSE, NULL);
+}
+
+static DWORD WINAPI read_a_line(void *pipe)
+{
+    char byte = 0;
+    DWORD got = 1;
+
+    while (got == 1 && byte != '\n' && ReadFile(pipe, &byte, 1, &got, NULL))
+        ;
+    CloseHandle(pipe);
+    return byte;
+}
+
+/* Files that cannot be read or written, a folder, and a reader that goes after the first answer. */
+static void try_faults(const wchar_t *words)
+{
+    static const char *const pieces[] = {"O:SY\n", "O:BA\n", "O:BU\n", "O:WD\n", NULL};
+    SECURITY_ATTRIBUTES inherits = {sizeof inherits, NULL, TRUE};
+    HANDLE folder = CreateFileW(L".", GENERIC_READ, FILE_SHARE_READ | FILE_SHARE_WRITE, &inherits, OPEN_EXISTING,
+                                FILE_FLAG_BACKUP_SEMANTICS, NULL);
+    HANDLE pipe[2], reader;
+    DWORD last = 0;
+    struct ended ended = run(words, NULL, file_for(GENERIC_WRITE), NULL);
+
+    add(is(&ended, 3, "", "sdtool: error 60 read\n"), "an input that is open for writing", &ended);
+    ended = run(words, NULL, folder, NULL);
+    add(is(&ended, 3, "", "sdtool: error 60 read\n"), "a folder as input", &ended);
+    ended = run(words, pieces, NULL, file_for(GENERIC_READ));
+    add(is(&ended, 3, "", "sdtool: error 61 write\n"), "an output that is open for reading", &ended);
+    make_pipe(pipe, 1);
+    reader = CreateThread(NULL, 0, read_a_line, pipe[0], 0, NULL);
+    ended = run(words, pieces, NULL, pipe[1]);
+    WaitForSingleObject(reader, INFINITE);
+    GetExitCodeThread(reader, &last);
+    add(last == '\n' && is(&ended, 3, "", "sdtool: error 61 write\n"), "a reader that goes after an answer", &ended);
+}
+
+/* Lines that are typed at a console, and answers that it shows. */
+static void try_console(const wchar_t *words)
+{
+    static const char *const pieces[] = {"O:SY\nzz\n", "O:BAG:SY\n", NULL};
+    HANDLE input, screen;
+    struct ended ended;
+    char rows[4][MOST] = {{0}};
+
+    FreeConsole();
+    if (!AllocConsole()) {
+        printf("skipped: a console, error %lu\n", GetLastError());
+        return;
+    }
+    input = console_of(L"CONIN$");
+    type(input, L"O:SY\rzz\r\x1a\r");
+    ended = run(words, NULL, input, NULL);
+    add(is(&ended, 1, "O:SY\nerror 20 shape\n", ""), "lines that are typed, and Control-Z at the start of one", &ended);
+    type(input, L"O:BA\r\x1a\r");
+    ended = run(words, NULL, input, NULL);
+    add(is(&ended, 0, "O:BA\n", ""), "a console, once more", &ended);
+    screen = console_of(L"CONOUT$");
+    SetConsoleCursorPosition(screen, (COORD){0, 0});
+    ended = run(words, pieces, NULL, screen);
+    for (SHORT row = 0; row < 4; row++)
+        row_of(screen, row, rows[row]);
+    snprintf(ended.output, MOST, "%.80s|%.80s|%.80s|%.80s", rows[0], rows[1], rows[2], rows[3]);
+    add(is(&ended, 1, "O:SY|error 20 shape|O:BAG:SY|", ""), "answers on a console", &ended);
 }
 
 int main(void)
@@ -150,6 +271,8 @@ int main(void)
     add(is(&ended, 0, "O:SY\nO:BA\n", ""), "words in quotes", &ended);
     ended = run(L"convert --domain *", no_pieces, NULL, NULL);
     add(is(&ended, 2, "", "sdtool: usage: --domain\n"), "a wildcard stays a word", &ended);
+    try_faults(from);
+    try_console(from);
     printf("%d passed, %d failed\n", passed, failed);
     return failed != 0;
 }

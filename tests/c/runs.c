@@ -37,7 +37,6 @@ static int wrong;
 
 /* The linker puts these in the place of malloc and realloc of the library: see tests/c_library.py. */
 void *__wrap_malloc(size_t size);
-void *__real_realloc(void *block, size_t size);
 void *__wrap_realloc(void *block, size_t size);
 
 static _Thread_local long allocations_left = -1;

@@ -1,7 +1,8 @@
 // module.mjs FOLDER
 //
-// Tests of the JavaScript module in FOLDER that no line asks: errors, arguments of the wrong type, large inputs, sources to
-// load from, and answers that stay as they are. The last line is 'N passed, M failed'.
+// Tests of the JavaScript module in FOLDER that no line asks: errors, arguments of the wrong type, buffers that are gone or
+// change, large inputs, sources to load from, answers that stay as they are, and memory that stays as large as it is. The last
+// line is 'N passed, M failed'.
 import { readFileSync } from "node:fs";
 import { pathToFileURL } from "node:url";
 import vm from "node:vm";
@@ -9,7 +10,15 @@ import vm from "node:vm";
 const [folder] = process.argv.slice(2);
 const address = pathToFileURL(`${folder}/`);
 const { load, Fault, ArgumentFault } = await import(new URL("sdtool.mjs", address));
+// The memory of the first module that is loaded.
+const memories = [], { instantiate } = WebAssembly;
+WebAssembly.instantiate = async (...given) => {
+  const instance = await instantiate(...given);
+  memories.push(instance.exports.memory);
+  return instance;
+};
 const sdtool = await load();
+WebAssembly.instantiate = instantiate;
 let passed = 0, failed = 0;
 
 function add(isRight, what) {
@@ -36,9 +45,19 @@ function addFault(call, number, name, part, otherPart, message) {
       fault.part === part && fault.otherPart === otherPart && fault.message === message, `${message}: ${fault}`);
 }
 
-function addRefused(what, call) {
+// A call that is refused, and which argument it is about where that is said.
+function addRefused(what, call, argument, entry = null) {
   const fault = thrown(call);
-  add(fault instanceof ArgumentFault && !(fault instanceof Fault) && fault.name === "ArgumentFault", `${what}: ${fault}`);
+  add(fault instanceof ArgumentFault && !(fault instanceof Fault) && fault.name === "ArgumentFault" && fault.number === 70 &&
+      (argument === undefined || (fault.argument === argument && fault.entry === entry)),
+      `${what}: ${fault}, ${fault?.argument} ${fault?.entry}`);
+}
+
+// A text that is no SID, with the argument that it stands for.
+function addNoSid(what, call, number, argument, entry = null) {
+  const fault = thrown(call);
+  add(fault instanceof Fault && fault.number === number && fault.argument === argument && fault.entry === entry &&
+      fault.line === `error ${number} ${fault.name}`, `${what}: ${fault}`);
 }
 
 const bytes = (hex) => Uint8Array.from(Buffer.from(hex, "hex"));
@@ -67,9 +86,12 @@ for (const descriptor of [undefined, null, "D:", 5, [], [1], {}, { length: 20 },
     addRefused(`${call} of ${descriptor}`, () => sdtool[call](descriptor));
 for (const text of [undefined, null, 5, [], new Uint8Array(2), new String("D:")])
   addRefused(`fromSddl of ${text}`, () => sdtool.fromSddl(text));
-for (const domain of [null, "", "BA", [], bytes("0101"), bytes("01010000000000051200000000"), EMPTY]) {
-  addRefused(`the domain ${domain}`, () => sdtool.toSddl(EMPTY, { domain }));
-  addRefused(`the domain ${domain}`, () => sdtool.fromSddl("D:", { domain }));
+for (const domain of [null, 5, [], bytes("0101"), bytes("01010000000000051200000000"), EMPTY, new Uint8Array(500)]) {
+  addRefused(`the domain ${domain}`, () => sdtool.toSddl(EMPTY, { domain }), "domain");
+  addRefused(`the domain ${domain}`, () => sdtool.explain(EMPTY, { domain }), "domain");
+  addRefused(`the domain ${domain}`, () => sdtool.fromSddl("D:", { domain }), "domain");
+  addRefused(`the domain ${domain}`, () => sdtool.sidFromText("BA", { domain }), "domain");
+  addRefused(`the domain ${domain}`, () => sdtool.sidToText(SYSTEM, { domain }), "domain");
 }
 for (const wanted of [-1, 1.5, NaN, Infinity, 2 ** 32, "1", null, true, 1n, [1], {}])
   addRefused(`wanted ${String(wanted)}`, () => sdtool.check(EMPTY, [SYSTEM], { wanted, maximum: true }));
@@ -77,7 +99,7 @@ for (const level of [-1, 0.5, NaN, 2 ** 32, "8192", false, 8192n])
   addRefused(`level ${String(level)}`, () => sdtool.check(EMPTY, [SYSTEM], { maximum: true, level }));
 for (const flag of ["maximum", "security", "takeOwnership"])
   for (const value of [0, 1, "", "false", null, {}])
-    addRefused(`${flag} ${value}`, () => sdtool.check(EMPTY, [SYSTEM], { wanted: 1, [flag]: value }));
+    addRefused(`${flag} ${value}`, () => sdtool.check(EMPTY, [SYSTEM], { wanted: 1, [flag]: value }), flag);
 for (const value of [0, 1, "true", null]) addRefused(`numeric ${value}`, () => sdtool.toSddl(EMPTY, { numeric: value }));
 for (const mapping of ["FILE", "directory", "", 0, null, "toString", ["file"]]) {
   addRefused(`mapping ${mapping}`, () => sdtool.check(EMPTY, [SYSTEM], { wanted: 1, mapping }));
@@ -85,32 +107,114 @@ for (const mapping of ["FILE", "directory", "", 0, null, "toString", ["file"]]) 
   addRefused(`kind ${mapping}`, () => sdtool.derive(EMPTY, SYSTEM, SYSTEM, { kind: mapping === "FILE" ? "FILE" : mapping }));
 }
 for (const name of ["denyonly", "deny_only", "want", "takeownership", "Level"])
-  addRefused(`option ${name}`, () => sdtool.check(EMPTY, [SYSTEM], { wanted: 1, [name]: true }));
+  addRefused(`option ${name}`, () => sdtool.check(EMPTY, [SYSTEM], { wanted: 1, [name]: true }), name);
 addRefused("an option of toSddl", () => sdtool.toSddl(EMPTY, { Domain: SYSTEM }));
 addRefused("an option of fromSddl", () => sdtool.fromSddl("D:", { numeric: true }));
 addRefused("an option of derive", () => sdtool.derive(EMPTY, SYSTEM, SYSTEM, { owner: SYSTEM }));
-for (const sids of [undefined, null, SYSTEM, "SY", {}, [[1]], ["SY"], [SYSTEM, null], [new Uint8Array(0)],
-                    [bytes("010100000000000512000000" + "010100000000000512000000"), new Uint8Array(0)], [SYSTEM.subarray(1)]])
-  addRefused(`sids ${sids}`, () => sdtool.check(EMPTY, sids, { wanted: 1 }));
-for (const sids of [null, SYSTEM, "SY", [new Uint8Array(0)]])
-  addRefused(`denyOnly ${sids}`, () => sdtool.check(EMPTY, [SYSTEM], { wanted: 1, denyOnly: sids }));
-for (const objectType of [new Uint8Array(15), new Uint8Array(17), "", null])
-  addRefused(`objectType ${objectType}`, () => sdtool.check(EMPTY, [SYSTEM], { wanted: 1, objectType }));
-for (const sid of [new Uint8Array(0), "BA", null, undefined, SYSTEM.subarray(0, 11)]) {
-  addRefused(`the owner ${sid}`, () => sdtool.derive(EMPTY, sid, SYSTEM));
-  addRefused(`the group ${sid}`, () => sdtool.derive(EMPTY, SYSTEM, sid));
+for (const sids of [undefined, null, SYSTEM, "SY", {}, new Set([SYSTEM])]) {
+  addRefused(`sids ${sids}`, () => sdtool.check(EMPTY, sids, { wanted: 1 }), "sids");
+  addRefused(`sids ${sids}`, () => sdtool.checkMany([EMPTY], sids, { wanted: 1 }), "sids");
+  addRefused(`descriptors ${sids}`, () => sdtool.checkMany(sids, [SYSTEM], { wanted: 1 }), "descriptors");
+  if (sids !== undefined) addRefused(`denyOnly ${sids}`, () => sdtool.check(EMPTY, [SYSTEM], { wanted: 1, denyOnly: sids }),
+      "denyOnly");
 }
-addRefused("a creator that is none", () => sdtool.derive(EMPTY, SYSTEM, SYSTEM, { creator: SYSTEM }));
+const twice = bytes("010100000000000512000000" + "010100000000000512000000");
+for (const sid of [null, 5, [1], new Uint8Array(0), twice, SYSTEM.subarray(1), SYSTEM.subarray(0, 11), new Uint8Array(5000)]) {
+  for (const list of [[sid, SYSTEM], [SYSTEM, sid], [SYSTEM, "BA", sid, twice]]) {
+    const entry = list.indexOf(sid);
+    addRefused(`sids ${list}`, () => sdtool.check(EMPTY, list, { wanted: 1 }), "sids", entry);
+    addRefused(`denyOnly ${list}`, () => sdtool.check(EMPTY, [USERS, "WD"], { wanted: 1, denyOnly: list }), "denyOnly", entry);
+    addRefused(`sids of many, ${list}`, () => sdtool.checkMany([], list, { wanted: 1 }), "sids", entry);
+  }
+  addRefused(`the SID ${sid}`, () => sdtool.sidToText(sid), "sid");
+}
+// eslint-disable-next-line no-sparse-arrays
+addRefused("a hole", () => sdtool.check(EMPTY, [SYSTEM, , SYSTEM], { wanted: 1 }), "sids", 1);
+addRefused("a SID in two pieces", () => sdtool.check(EMPTY, [SYSTEM.subarray(0, 8), SYSTEM.subarray(8)], { wanted: 1 }),
+    "sids", 0);
+addNoSid("a text in a token", () => sdtool.check(EMPTY, ["SY", "Everyone"], { wanted: 1 }), 25, "sids", 1);
+addNoSid("a text that is denied", () => sdtool.check(EMPTY, ["SY"], { wanted: 1, denyOnly: ["ZZ"] }), 22, "denyOnly", 0);
+addNoSid("a principal", () => sdtool.check(EMPTY, ["SY"], { wanted: 1, principalSelf: "DA" }), 23, "principalSelf");
+addNoSid("a domain", () => sdtool.fromSddl("", { domain: "S-1-5-4294967296" }), 24, "domain");
+for (const text of ["", " ", "BA ", "S-1-5-18\0", "\ud800", "S-1-".repeat(5000)]) addNoSid(`${text.slice(0, 20)}`, () =>
+    sdtool.derive(EMPTY, text, SYSTEM), 25, "owner");
+addNoSid("a group", () => sdtool.derive(EMPTY, SYSTEM, "Everyone"), 25, "group");
+const most = Array(1024).fill(SYSTEM);
+add(sdtool.check(EMPTY, most, { wanted: 1 }).granted, "the most SIDs");
+addRefused("one SID too many", () => sdtool.check(EMPTY, [...most, SYSTEM], { wanted: 1 }), "sids", 1024);
+addRefused("one SID too many", () => sdtool.check(EMPTY, most, { wanted: 1, denyOnly: ["BA"] }), "sids", 1024);
+addRefused("many SIDs too many", () => sdtool.check(EMPTY, Array(200_000).fill(SYSTEM), { wanted: 1 }), "sids", 1024);
+for (const objectType of [new Uint8Array(15), new Uint8Array(17), new Uint8Array(5000), "",
+    "bf967aba-0de6-11d0-a285-00aa003049e2", null])
+  addRefused(`objectType ${objectType}`, () => sdtool.check(EMPTY, [SYSTEM], { wanted: 1, objectType }), "objectType");
+for (const sid of [new Uint8Array(0), null, undefined, 5, SYSTEM.subarray(0, 11)]) {
+  addRefused(`the owner ${sid}`, () => sdtool.derive(EMPTY, sid, SYSTEM), "owner");
+  addRefused(`the group ${sid}`, () => sdtool.derive(EMPTY, SYSTEM, sid), "group");
+}
+addRefused("a creator of another type", () => sdtool.derive(EMPTY, SYSTEM, SYSTEM, { creator: "D:" }), "creator");
+addRefused("a creator that is none", () => sdtool.derive(EMPTY, SYSTEM, SYSTEM, { creator: SYSTEM }), "creator");
+addRefused("a creator that is too long", () => sdtool.derive(EMPTY, SYSTEM, SYSTEM, { creator: new Uint8Array(200_000) }),
+    "creator");
 for (const number of [-1, 0, 3.5, 2 ** 32, "25", 200, undefined]) addRefused(`fault ${number}`, () => sdtool.faultText(number));
 addRefused("words", () => sdtool.run("convert", EMPTY));
-addRefused("a word", () => sdtool.run([5], EMPTY));
-addRefused("a NUL", () => sdtool.run(["convert\0--to"], EMPTY));
-addRefused("an input", () => sdtool.run(["convert"], "D:"));
+addRefused("a word", () => sdtool.run(["convert", 5], EMPTY), "words", 1);
+addRefused("a NUL", () => sdtool.run(["convert\0--to"], EMPTY), "words", 0);
+addRefused("an input", () => sdtool.run(["convert"], "D:"), "input");
+for (const data of [undefined, null, "BA", 5, [], new ArrayBuffer(12), new DataView(new ArrayBuffer(12))]) {
+  addRefused(`parts of ${data}`, () => sdtool.parts(data), "descriptor");
+  addRefused(`aces of ${data}`, () => sdtool.aces(data), "acl");
+  addRefused(`size of ${data}`, () => sdtool.sidSize(data), "bytes");
+  addRefused(`a descriptor of many, ${data}`, () => sdtool.checkMany([EMPTY, data], [SYSTEM], { wanted: 1 }), "descriptors", 1);
+}
+for (const text of [undefined, null, 5, SYSTEM, new String("BA")]) addRefused(`the SID of ${text}`, () =>
+    sdtool.sidFromText(text), "text");
+for (const call of [() => sdtool.sidFromText("BA", { numeric: true }), () => sdtool.sidToText(SYSTEM, { Numeric: true }),
+                    () => sdtool.checkMany([], [], { wanted: 1, wnated: 1 }), () => sdtool.build({ DACL: [] })])
+  addRefused(`an option of ${call}`, call);
+
+// What sdtool_build of sdtool.h refuses, and what no C could be asked.
+const ACE = { kind: 0, flags: 0, mask: 0x120089, sid: USERS };
+const withAce = (change, part = "dacl", before = [ACE]) => sdtool.build({ [part]: [...before, { ...ACE, ...change }] });
+add(sdtool.toSddl(withAce({})) === "D:(A;;FR;;;BU)(A;;FR;;;BU)" && sdtool.toSddl(withAce({ sid: "WD" }, "sacl", [])) ===
+    "S:(A;;FR;;;WD)",
+    "an ACE that can be");
+for (const part of ["sacl", "dacl"]) {
+  for (const change of [{ kind: 3 }, { kind: 9 }, { kind: 256 }, { kind: -1 }, { kind: "A" }, { kind: undefined },
+      { kind: true },
+                        { flags: 0x20 }, { flags: 256 }, { flags: "OI" }, { flags: null }, { flags: 1.5 }, { mask: -1 },
+                            { mask: 2 ** 32 },
+                        { mask: "FR" }, { mask: undefined }, { mask: NaN }, { sid: new Uint8Array(0) }, { sid: twice },
+                            { sid: undefined },
+                        { sid: null }, { sid: new Uint8Array(1000) }, { objectType: new Uint8Array(16) }, { kind: 5,
+                            objectType: new Uint8Array(15) },
+                        { kind: 5, inheritedObjectType: new Uint8Array(17) }, { kind: 6, objectType: "" },
+                            { inherited: true }, { trustee: USERS }])
+    addRefused(`${part} with ${JSON.stringify(change)}`, () => withAce(change, part), part, 1);
+  addNoSid(`${part} with a text`, () => withAce({ sid: "Everyone" }, part), 25, part, 1);
+  for (const ace of [undefined, null, 5, "(A;;FR;;;BU)"]) addRefused(`${part} with ${ace}`, () => sdtool.build({ [part]: [ACE,
+      ace] }), part, 1);
+  for (const acl of [undefined, null, false, 0, "", "absent", "D:"]) addRefused(`${part} ${acl}`, () =>
+      sdtool.build({ [part]: acl }), part);
+  for (const acl of [{}, { state: undefined }, { state: 0 }, { state: "Null" }, { state: "absent", aces: [] },
+      { state: "null", aces: [ACE] },
+                     { state: "list" }, { state: "list", aces: {} }])
+    addRefused(`${part} ${JSON.stringify(acl)}`, () => sdtool.build({ [part]: acl }), part);
+  addRefused(`${part} with more`, () => sdtool.build({ [part]: { state: "null", ace: [ACE] } }), "ace");
+  const large = Array(4095).fill(ACE);
+  addFault(() => sdtool.build({ [part]: large }), 30, "acl-too-large", part, null, `error 30 acl-too-large ${part}`);
+  addRefused("an ACE that can't be, far behind", () => sdtool.build({ [part]: [...large, { ...ACE, kind: 4 }] }), part, 4095);
+}
+for (const [name, values] of [["control", [-1, 65536, "P", null, true]], ["resourceManager", [-1, 256, "", null]],
+                              ["owner", [5, twice, SYSTEM.subarray(1), false]], ["group", [5, twice, [SYSTEM]]]])
+  for (const value of values) addRefused(`${name} ${value}`, () => sdtool.build({ [name]: value }), name);
+addNoSid("an owner that is a text", () => sdtool.build({ owner: "Everyone" }), 25, "owner");
+for (const parts of [undefined, null]) add(thrown(() => sdtool.build(parts)) instanceof TypeError, `building ${parts}`);
 
 // The same as the header says of the C calls, and MS-DTYP 2.5.3.2: no DACL grants all, an empty one nothing.
 add(sdtool.faultText(25) === "sid-form" && sdtool.faultText(14) === "overlap", "the names of faults");
 add(/^\d+\.\d+\.\d+$/.test(sdtool.version()), "the version");
-const verdicts = [[EMPTY, 0x20000, true], [sdtool.fromSddl("D:"), 0x20000, false], [OF_USERS, 0x120089, true], [OF_USERS, 2, false]];
+const verdicts = [[EMPTY, 0x20000, true], [sdtool.fromSddl("D:"), 0x20000, false], [OF_USERS, 0x120089, true], [OF_USERS, 2,
+    false]];
 for (const [descriptor, wanted, granted] of verdicts) {
   const verdict = sdtool.check(descriptor, [USERS], { wanted });
   add(verdict.granted === granted && verdict.mask === wanted, `${wanted} of ${sdtool.toSddl(descriptor)}`);
@@ -118,9 +222,60 @@ for (const [descriptor, wanted, granted] of verdicts) {
 const deny = sdtool.fromSddl("D:(D;;FR;;;SY)(A;;FR;;;BU)");
 add(sdtool.check(deny, [USERS], { wanted: 1 }).granted, "without the SID that is denied");
 add(!sdtool.check(deny, [USERS], { wanted: 1, denyOnly: [SYSTEM] }).granted, "with a SID that only denies");
-add(!sdtool.check(sdtool.fromSddl("D:(A;;FR;;;SY)"), [USERS], { wanted: 1, denyOnly: [SYSTEM] }).granted, "a SID that only denies");
+add(!sdtool.check(sdtool.fromSddl("D:(A;;FR;;;SY)"), [USERS], { wanted: 1, denyOnly: [SYSTEM] }).granted,
+    "a SID that only denies");
 add(sdtool.check(OF_USERS, [USERS], { wanted: 0x80000000 }).granted, "a generic right, the highest bit");
 add(sdtool.check(OF_USERS, [USERS], { wanted: 1, level: null }).granted, "no level");
+
+// MS-DTYP 2.5.3.2: an absent and a null DACL grant everything, an empty one nothing. Only a list has ACEs.
+const dacls = [[{ state: "absent" }, "", true], [{ state: "null" }, "D:NO_ACCESS_CONTROL", true], [[], "D:", false],
+               [{ state: "list", aces: [] }, "D:", false]];
+for (const [dacl, sddl, granted] of dacls) {
+  const built = sdtool.build({ dacl }), found = sdtool.parts(built);
+  add(sdtool.toSddl(built) === sddl && sdtool.check(built, ["WD"], { wanted: 1 }).granted === granted,
+      `the DACL ${JSON.stringify(dacl)}`);
+  add(found.dacl.state === (dacl.state ?? "list") && Array.isArray(found.dacl.aces) === !granted && found.sacl.state ===
+      "absent",
+      `the parts with the DACL ${JSON.stringify(dacl)}`);
+}
+add(sdtool.toSddl(sdtool.build({})) === "" && sdtool.toSddl(sdtool.build({ owner: "BA", group: null, control: 0x1004,
+    dacl: [] })) === "O:BAD:P",
+    "a descriptor of few parts");
+add(sdtool.build({ resourceManager: 7 })[1] === 7 && sdtool.parts(sdtool.build({ resourceManager: 7,
+    control: 0x4003 })).control === 0xc003,
+    "the resource manager byte and control bits");
+const found = sdtool.parts(sdtool.fromSddl("O:BAD:PAI(OA;CI;CR;00000001-0002-0003-0405-060708090a0b;;AU)"));
+const [one] = found.dacl.aces;
+add(found.dacl.aces.length === 1 && found.control === 0x9404 && found.resourceManager === 0 && found.group === null &&
+    Buffer.from(found.owner).toString("hex") === "01020000000000052000000020020000" && one.kind === 5 && one.flags === 2 &&
+        one.mask === 0x100 &&
+    one.inheritedObjectType === null && Buffer.from(one.objectType).toString("hex") === "01000000020003000405060708090a0b" &&
+    sdtool.sidToText(one.sid) === "AU", `the parts of a descriptor: ${JSON.stringify(found)}`);
+addFault(() => sdtool.parts(SHORT_OWNER), 9, "sid", "owner", null, "error 9 sid owner");
+addFault(() => sdtool.parts(SAME_PLACE), 14, "overlap", "owner", "group", "error 14 overlap owner group");
+addFault(() => sdtool.parts(new Uint8Array(131227)), 1, "too-long", null, null, "error 1 too-long");
+addFault(() => sdtool.aces(new Uint8Array(0)), 10, "acl", null, null, "error 10 acl");
+add(sdtool.sidFromText("BA").length === 16 && sdtool.sidToText(sdtool.sidFromText("DA", { domain: "S-1-5-21-1-2-3" }),
+    { numeric: true }) ===
+    "S-1-5-21-1-2-3-512" && sdtool.sidSize(new Uint8Array(0)) === 0 && sdtool.sidSize(twice) === 12, "SIDs");
+
+// Many checks: a fault in its place, batches, and no descriptor.
+const yes = sdtool.fromSddl("D:(A;;FR;;;BU)"), no = sdtool.fromSddl("D:"), short = new Uint8Array(5);
+for (const count of [1, 2, 1023, 1024, 1025, 5000]) {
+  const verdicts = sdtool.checkMany(Array.from({ length: count }, (_, index) => [yes, no, short, SAME_PLACE][index % 4]),
+      ["BU"], { wanted: 1 });
+  add(verdicts.length === count && verdicts.every((verdict, index) =>
+    [verdict.granted === true && verdict.mask === 1, verdict.granted === false && verdict.mask === 1,
+     verdict instanceof Fault && verdict.line === "error 5 short" && !verdict.granted,
+     verdict instanceof Fault && verdict.line === "error 14 overlap owner group"][index % 4]), `${count} checks`);
+}
+add(sdtool.checkMany([], ["BU"], { wanted: 1 }).length === 0, "no checks");
+addFault(() => sdtool.checkMany([], ["BU"]), 50, "empty-request", null, null, "error 50 empty-request");
+addFault(() => sdtool.checkMany([yes], ["BU"], { wanted: 1 << 27 }), 51, "reserved-bits", null, null, "error 51 reserved-bits");
+const longDescriptors = Array(40).fill(new Uint8Array(131227));
+add(sdtool.checkMany([yes, ...longDescriptors, no], ["BU"], { wanted: 1 }).map((verdict) =>
+    verdict.number ?? verdict.granted).join() ===
+    ["true", ...longDescriptors.map(() => "1"), "false"].join(), "large descriptors");
 
 // Answers are copies: later calls don't change them, nor does a change of the input.
 const first = sdtool.fromSddl("O:SY"), kept = Buffer.from(first).toString("hex");
@@ -136,6 +291,40 @@ const inside = new Uint8Array(OF_USERS.length + 20);
 inside.set(OF_USERS, 7);
 for (const descriptor of [foreign, inside.subarray(7, 7 + OF_USERS.length), Buffer.from(OF_USERS)])
   add(sdtool.toSddl(descriptor) === "O:BAD:(A;;FR;;;BU)", "bytes of another kind");
+
+// A view says of itself what it has, whatever properties it is given. One that has lost its buffer is refused: it looks empty.
+const lying = Uint8Array.from(OF_USERS);
+for (const [name, value] of [["length", 5_000_000], ["byteOffset", 3], ["buffer",
+    new ArrayBuffer(4)]]) Object.defineProperty(lying, name, { value });
+add(sdtool.toSddl(lying) === "O:BAD:(A;;FR;;;BU)", "a view that lies");
+addRefused("a view by name alone", () => sdtool.toSddl({ [Symbol.toStringTag]: "Uint8Array", length: 20,
+    buffer: EMPTY.buffer }), "descriptor");
+add(sdtool.toSddl(new (class extends Uint8Array {})(OF_USERS)) === "O:BAD:(A;;FR;;;BU)", "a view of a class of its own");
+const shared = new Uint8Array(new SharedArrayBuffer(OF_USERS.length + 8), 8);
+shared.set(OF_USERS);
+add(sdtool.toSddl(shared) === "O:BAD:(A;;FR;;;BU)" && sdtool.checkMany([shared], ["BU"], { wanted: 1 })[0].granted,
+    "shared memory");
+const gone = Uint8Array.from(SYSTEM), cut = new Uint8Array(new ArrayBuffer(40, { maxByteLength: 80 }), 8, 16);
+structuredClone(gone.buffer, { transfer: [gone.buffer] });
+cut.buffer.resize(12);
+for (const lost of [gone, cut]) {
+  addRefused("lost bytes", () => sdtool.normalize(lost), "descriptor");
+  addRefused("lost bytes", () => sdtool.toSddl(EMPTY, { domain: lost }), "domain");
+  addRefused("lost bytes", () => sdtool.check(EMPTY, [SYSTEM], { wanted: 1, objectType: lost }), "objectType");
+  addRefused("lost bytes", () => sdtool.check(EMPTY, [SYSTEM], { wanted: 1, principalSelf: lost }), "principalSelf");
+  addRefused("lost bytes", () => sdtool.derive(EMPTY, SYSTEM, SYSTEM, { creator: lost }), "creator");
+  addRefused("lost bytes", () => sdtool.build({ owner: lost }), "owner");
+  addRefused("lost bytes", () => sdtool.checkMany([lost], [SYSTEM], { wanted: 1 }), "descriptors", 0);
+  addRefused("lost bytes", () => sdtool.run(["convert"], lost), "input");
+}
+// Bytes that are lost while the call looks at its arguments.
+const late = Uint8Array.from(SYSTEM);
+const stealing = { get sid() { structuredClone(late.buffer, { transfer: [late.buffer] }); return SYSTEM; }, kind: 0, flags: 0,
+    mask: 1 };
+add(thrown(() => sdtool.build({ owner: late, dacl: [stealing] })) instanceof TypeError, "bytes that are lost in between");
+// A call in the middle of another one's arguments.
+const nested = { ...ACE, get sid() { return sdtool.parts(OF_USERS).dacl.aces[0].sid; } };
+add(sdtool.toSddl(sdtool.build({ owner: "BA", dacl: [nested] })) === "O:BAD:(A;;FR;;;BU)", "a call within a call");
 
 // The largest descriptor and the largest texts; then a small one.
 const ace = "(AU;OICINPIOIDSAFA;CCDCLCSWRPWPDTLOCRSDRCWDWOGAGXGWGR;;;S-1-0xffffffffffff)", aces = ace.repeat(4095);
@@ -154,6 +343,25 @@ const noText = sdtool.run(["convert", "--domain", "\ud800"], EMPTY);
 add(noText.status === 2 && noText.message === "sdtool: usage\n", "half of a surrogate pair");
 const help = sdtool.run(["--help"], EMPTY);
 add(help.status === 0 && help.output.length > 500 && help.message === "", "help");
+
+// Large inputs that are too long in any case take no memory, and the memory of many calls stays as it is.
+const before = memories[0].buffer.byteLength, huge = new Uint8Array(1_000_000_000);
+addFault(() => sdtool.normalize(huge), 1, "too-long", null, null, "error 1 too-long");
+addFault(() => sdtool.parts(huge), 1, "too-long", null, null, "error 1 too-long");
+addRefused("a huge SID", () => sdtool.check(EMPTY, [huge], { wanted: 1 }), "sids", 0);
+add(sdtool.sidSize(huge) === 0, "the size of a huge SID that is none");
+const calls = [() => sdtool.toSddl(OF_USERS), () => sdtool.parts(OF_USERS), () => sdtool.build({ owner: "BA", dacl: [ACE] }),
+               () => sdtool.check(OF_USERS, ["BU", USERS], { wanted: 1 }), () => sdtool.checkMany([OF_USERS, short], [USERS],
+                   { wanted: 1 }),
+               () => thrown(() => sdtool.fromSddl("D:(A;;FA;;;Everyone)")), () => sdtool.fromSddl("O:BA"), () =>
+                   sdtool.sidSize(USERS)];
+for (let round = 0; round < 1_000_000; round += 1) calls[round % calls.length]();
+add(memories[0].buffer.byteLength === before,
+    `${before} bytes of memory are ${memories[0].buffer.byteLength} after a million calls`);
+// What the module can't hold is said so, and later calls go on.
+add(thrown(() => sdtool.run(["convert"], huge)) instanceof RangeError,
+    "an input that the memory does not hold with its answers");
+add(sdtool.toSddl(OF_USERS) === "O:BAD:(A;;FR;;;BU)", "a call after that");
 
 // Each source that load takes, and some that are none.
 const file = new URL("sdtool.wasm", address), data = readFileSync(file);
