@@ -11,21 +11,26 @@ skipped without them; a source whose program is missing is skipped in a line of 
 import bz2
 import collections
 import concurrent.futures
+import contextlib
 import csv
+import fcntl
 import gzip
 import io
 import json
 import lzma
 import os
 import pathlib
+import pty
 import random
 import re
 import shlex
 import shutil
 import sqlite3
+import struct
 import subprocess
 import sys
 import tempfile
+import termios
 import time
 import zipfile
 from typing import Any, Dict, List, NamedTuple, Optional
@@ -206,6 +211,18 @@ def test_sources(place: Place) -> None:
     pairs += [(name, variant) for name in ("get-acl.csv", "icacls.txt", "directory.ldif") for variant in others]
     with concurrent.futures.ThreadPoolExecutor() as threads:
         list(threads.map(lambda pair: one(*pair), pairs))
+
+
+def test_damaged_registry(place: Place) -> None:
+    """Lines of a registry export that are neither keys nor values are in the report, and those of a text are not."""
+    binary = ",".join(f"{byte:02x}" for byte in bytes.fromhex("01000480000000000000000000000000140000000200080000000000"))
+    place.write("damaged.reg", "Windows Registry Editor Version 5.00\n\n; a comment\n[HKEY_LOCAL_MACHINE\\SOFTWARE\\X]\n"
+                f'"Security"=hex:{binary}\n"Text"="first\nsecond line\n\nthird"\n"Security=hex:{binary}\n\n"Other"=dword:1\n'
+                f'"Open"="never closed\n"TheirSD"=hex:{binary[:60]}\\\n  {binary[60:]}\n')
+    place.expect([(one["name"].rpartition("X")[2][:12], one["line"], one["answer"])
+                  for one in place.objects(*EVERYONE_READS, "damaged.reg")],
+                 [("\\Security", 5, "nothing"), (': "Security=', 10, "unknown"), ("\\TheirSD", 14, "nothing")],
+                 "a damaged registry export")
 
 
 def test_tables(place: Place) -> None:
@@ -702,6 +719,38 @@ def test_scale(place: Place) -> None:
     os.remove(place.folder / "grown.csv")
 
 
+def test_bar(place: Place) -> None:
+    """The bar of a terminal: objects, objects a second, and the time left, all of it on standard error."""
+    source = place.table(((f"file {at}", f"O:BAD:(A;;FR;;;{DOMAIN}-{1000 + at})") for at in range(100_000)), "long.csv")
+    asked = [place.python, "-m", "sdtool.audit", "risks", source, "--to", "csv"]
+    reports, told = [], []
+    for words in ([], ["--no-bar"], ["--jobs", "1"]):
+        leader, follower = pty.openpty()
+        fcntl.ioctl(follower, termios.TIOCSWINSZ, struct.pack("4H", 24, 120, 0, 0))
+        with open(place.folder / "report", "wb") as report:
+            child = subprocess.Popen([*asked, *words], cwd=place.folder, stdout=report, stderr=follower,
+                                     env={**place.environment, "TERM": "xterm"})
+        os.close(follower)
+        seen = []
+        with contextlib.suppress(OSError):  # which ends the output of a terminal
+            while data := os.read(leader, 65536):
+                seen.append(data)
+        os.close(leader)
+        place.expect(child.wait(), 0, f"{words}: the status beside a terminal")
+        told.append(b"".join(seen).decode())
+        reports.append((place.folder / "report").read_bytes())
+    plain = place.ask(*asked[3:])
+    place.expect([report == plain.stdout.encode() for report in reports], [True] * 3, "a report beside a bar")
+    sum_ = "100,000 objects: 100,000 nothing\r\n"
+    place.expect((plain.stderr, told[1]), (sum_.replace("\r", ""), sum_), "without a bar")
+    for text in told[0], told[2]:
+        counts = [int(found.replace(",", "")) for found in re.findall(r"([\d,]+) objects\b(?!:)", text)]
+        rates = [int(found.replace(",", "")) for found in re.findall(r"([\d,]+)/s", text)]
+        place.expect((counts == sorted(counts), 0 < max(counts, default=0) <= 100_000, max(rates, default=0) > 0,
+                      bool(re.search(r"\d:\d\d:\d\d.*?\d:\d\d:\d\d", text)), text.endswith(sum_)), (True,) * 5,
+                     f"a bar: {text[:300]!r} .. {text[-300:]!r}")
+
+
 def test_samba(place: Place) -> None:
     """Attributes that samba-tool sets, as getfattr, samba-tool and the files themselves tell them."""
     if not all(map(shutil.which, ("samba-tool", "net", "getfattr"))):
@@ -875,9 +924,9 @@ def test_examples(place: Place) -> None:
     place.expect(sorted(name for name in commands if name not in manual), [], "commands that the man page lacks")
 
 
-TESTS = (test_sources, test_tables, test_plain_lines, test_hostile, test_can, test_who, test_directory_objects, test_risks,
-         test_accepting, test_diff, test_inherit, test_show, test_cache, test_words, test_scale, test_samba, test_ntfs,
-         test_directory_server, test_names_of_sids, test_package, test_examples)
+TESTS = (test_sources, test_damaged_registry, test_tables, test_plain_lines, test_hostile, test_can, test_who,
+         test_directory_objects, test_risks, test_accepting, test_diff, test_inherit, test_show, test_cache, test_words,
+         test_scale, test_bar, test_samba, test_ntfs, test_directory_server, test_names_of_sids, test_package, test_examples)
 
 
 def main() -> int:

@@ -119,9 +119,11 @@ def _common(given: dict) -> Common:
         given.pop("name_column"), given.pop("descriptor_column"), given.pop("object_names"), given.pop("kind"),
         given.pop("attributes") or DEFAULT_ATTRIBUTES)
     lists = given.pop("lists")
+    # Rows that come on a terminal leave no place for a bar.
+    to, out = given.pop("to"), given.pop("out")
     return Common(options, Question(domain, Names(read_names(sid_names, domain) if sid_names else None)), given.pop("jobs"),
-                  given.pop("to"), given.pop("out"), None if lists is None else lists == "all", given.pop("most"),
-                  given.pop("into"), not given.pop("no_bar"))
+                  to, out, None if lists is None else lists == "all", given.pop("most"),
+                  given.pop("into"), not given.pop("no_bar") and (to == "table" or out is not None or not sys.stdout.isatty()))
 
 
 @click.group(context_settings={"help_option_names": ["-h", "--help"], "max_content_width": 120})
@@ -184,7 +186,9 @@ class _Bar:
         from rich.console import Console
         from rich.progress import BarColumn, Progress, TextColumn, TimeElapsedColumn, TimeRemainingColumn
         self._progress = Progress(TextColumn("{task.fields[objects]:,} objects"), BarColumn(), TextColumn("{task.fields[rate]:,.0f}/s"),
-                                  TimeElapsedColumn(), TimeRemainingColumn(), console=Console(stderr=True), transient=True)
+                                  TimeElapsedColumn(), TimeRemainingColumn(), console=Console(stderr=True), transient=True,
+                                  # It would send what is written to standard output to the terminal.
+                                  redirect_stdout=False, redirect_stderr=False)
         sizes = [os.path.getsize(path) if os.path.isfile(path) else None for path in paths]
         total = None if None in sizes else sum(size for size in sizes if size is not None)
         self._task = self._progress.add_task("", total=total, objects=0, rate=0.0)
@@ -212,8 +216,10 @@ class _Bar:
                                   rate=self._count / elapsed if elapsed else 0)
 
     def stop(self) -> None:
+        """Clears the bar, before anything else is written to the terminal."""
         if self._progress is not None:
             self._progress.stop()
+            self._progress = None
 
 
 def _paths(given: Sequence[str]) -> List[str]:
@@ -281,10 +287,12 @@ def _output(common: Common, rules: Sequence[Rule], title: str, file: TextIO) -> 
     return outputs.output_of(common.to, file, rules, common.lists_all, title, common.most)
 
 
-def _report(common: Common, rules: Sequence[Rule], title: str, paths: Sequence[str], found: Iterable[Answered]) -> int:
+def _report(common: Common, rules: Sequence[Rule], title: str, paths: Sequence[str], found: Iterable[Answered],
+            bar: _Bar) -> int:
     """Writes a report of answers, and gives the exit status."""
     with _reported(common, rules, title, paths) as report:
         report.add(found)
+        bar.stop()
     return report.summary.status()
 
 
@@ -312,6 +320,7 @@ def _ask(common: Common, question: Any, title: str, paths: Sequence[str], accept
             else:
                 make_output = functools.partial(_output, common, question.rules, title)
                 _ask_tables(common, question, make_output, report, engine, paths, bar)
+            bar.stop()
         return report.summary.status()
     finally:
         bar.stop()
@@ -424,7 +433,7 @@ def diff(common: Common, old: str, new: str) -> int:
     bar = _Bar(paths, common.bar)
     try:
         found = question.answered(_items(paths[:1], common.options, bar), _items(paths[1:], common.options, bar))
-        return _report(common, question.rules, f"Changes from {old} to {new}", paths, found)
+        return _report(common, question.rules, f"Changes from {old} to {new}", paths, found, bar)
     finally:
         bar.stop()
 
@@ -442,7 +451,7 @@ def inherit(common: Common, given: Sequence[str], fix: Optional[str]) -> int:
     try:
         with cache.kept(common.into) as keep, question.fixing(fix, paths):
             found = question.answered(keep(bar.count(_items(paths, common.options, bar))))
-            return _report(common, question.rules, "Inheritance", paths, found)
+            return _report(common, question.rules, "Inheritance", paths, found, bar)
     finally:
         bar.stop()
 

@@ -11,6 +11,7 @@ _SECTION_KINDS = {"file security": "file", "registry keys": "key", "service gene
 _REG_VALUE = re.compile(r'(?:"((?:[^"\\]|\\.)*)"|(@))=(.*)', re.S)
 _REG_BINARY = re.compile(r"hex(?:\([0-9a-f]+\))?:(.*)", re.I | re.S)
 _REG_TEXT = re.compile(r'"((?:[^"\\]|\\.)*)"\s*\Z', re.S)
+_REG_OTHER = re.compile(r"\s*(;.*|Windows Registry Editor .*|REGEDIT4\s*)?\Z", re.I | re.S)
 # Names of values that hold a descriptor, beside those of a key whose name ends with Security.
 _REG_NAMES = re.compile(r"security|.*permission|.*sd|.*securitydescriptor|.*dacl", re.I)
 _MOST_REG_LINES = 100_000
@@ -105,10 +106,7 @@ def _is_descriptor(key: str, name: str, digits: str) -> bool:
     return digits[:2] == "01" and len(digits) >= 40 and int(digits[6:8], 16) & 0x80 != 0
 
 
-def _reg_item(key: str, line: Numbered, label: str, options: SourceOptions) -> Optional[Item]:
-    found = _REG_VALUE.match(line.text)
-    if not found:
-        return None
+def _reg_item(key: str, found: "re.Match[str]", line: Numbered, label: str, options: SourceOptions) -> Optional[Item]:
     name = "" if found[2] else _unescaped(found[1])
     full = f"{key}\\{name}" if name else key
     kind = options.kind or _reg_kind(key)
@@ -130,15 +128,23 @@ def _reg_item(key: str, line: Numbered, label: str, options: SourceOptions) -> O
 
 
 def read_reg(lines: Iterator[str], label: str, options: SourceOptions) -> Iterator[Item]:
-    """The values of a registry export that are descriptors, in binary or as SDDL."""
+    """The values of a registry export that are descriptors, in binary or as SDDL, and lines that are damaged."""
     key = ""
+    is_open = False  # whether a text goes on in the next line
     for line in _joined(lines):
+        found = _REG_VALUE.match(line.text)
         if line.text.startswith("["):
-            key = line.text.strip().strip("[]")
-            continue
-        item = _reg_item(key, line, label, options)
-        if item:
-            yield item
+            key, is_open = line.text.strip().strip("[]"), False
+        elif found:
+            item = _reg_item(key, found, line, label, options)
+            if item:
+                yield item
+            is_open = found[3].startswith('"') and not _REG_TEXT.match(found[3])
+        elif is_open:
+            is_open = not line.text.endswith('"')
+        elif not _REG_OTHER.match(line.text):
+            yield unreadable(f"{key}: {line.text[:100]}", label, line.number, "the line is neither a key nor a value",
+                             "export the key again", options.kind or _reg_kind(key))
 
 
 def looks_like_service(sample: List[str]) -> bool:
