@@ -16,8 +16,8 @@ import sys
 import sdtool
 from sdtool import FileMask
 
-CHANGES = (FileMask.WRITE_DATA | FileMask.APPEND_DATA | FileMask.DELETE_CHILD | FileMask.DELETE | FileMask.WRITE_DAC
-           | FileMask.WRITE_OWNER)
+CHANGES = (FileMask.WRITE_DATA | FileMask.APPEND_DATA | FileMask.WRITE_EA | FileMask.DELETE_CHILD
+           | FileMask.WRITE_ATTRIBUTES | FileMask.DELETE | FileMask.WRITE_DAC | FileMask.WRITE_OWNER)
 EVERYONE = sdtool.Sid("WD")
 HEADER = 20
 ATTRIBUTES = ["security.NTACL", "system.ntfs_acl"]

@@ -36,7 +36,7 @@ BITS: Dict[str, Tuple[Tuple[int, str], ...]] = {
 _TAKE_OVER = WRITE_DAC | WRITE_OWNER
 # Each word has a mask for each kind; one right of the mask is enough.
 WORDS: Dict[str, Dict[str, int]] = {
-    "change": {"file": 0x46 | DELETE | _TAKE_OVER, "key": 0x26 | DELETE | _TAKE_OVER, "ds": 0x16b | DELETE | _TAKE_OVER,
+    "change": {"file": 0x156 | DELETE | _TAKE_OVER, "key": 0x26 | DELETE | _TAKE_OVER, "ds": 0x16b | DELETE | _TAKE_OVER,
                "service": 0x2 | DELETE | _TAKE_OVER, "log": 0x6 | DELETE | _TAKE_OVER},
     "write": {"file": 0x6, "key": 0x26, "ds": 0x129, "service": 0x2, "log": 0x2},
     "delete": {"file": 0x40 | DELETE, "key": DELETE, "ds": 0x42 | DELETE, "service": DELETE, "log": 0x4 | DELETE},
@@ -119,6 +119,8 @@ def short_text(mask: int, kind: str) -> str:
     """The rights of a mask in words, with a word for all of them together."""
     if (kind, mask) in _WHOLE:
         return _WHOLE[kind, mask]
+    if mask == WORDS["change"][kind]:
+        return "every right to change"
     everything = MAPPINGS[kind][1]
     if kind in ("file", "key", "ds") and mask & everything == everything:
         rest = mask & ~everything
