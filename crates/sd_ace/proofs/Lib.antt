@@ -1,2 +1,3 @@
+mod AceRows
 mod GuidRows
 pub mod laws

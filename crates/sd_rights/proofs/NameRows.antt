@@ -1,13 +1,14 @@
 -- Worked texts, computed: flags and access rights, each name, and what generic rights stand for.
-use Rattle.std.proofs.Common.{◌≡◌, ℕ, ◌^◌, List, [], ◌∷◌, Some, None, codes, refl}
+use Rattle.std.proofs.Common.{◌≡◌, ℕ, ◌^◌, List, [], ◌∷◌, Some, None, codes, refl, arith}
 use Rattle.std.specs.Prelude.{map}
 use Rattle.std.specs.Fmt.{digits}
 use Rattle.sd_text.specs.Names.{run_of}
 use Rattle.sd_kinds.specs.Flags.{flags_reads, flags_text}
-use Rattle.sd_rights.specs.AccessRights.{first_reserved, generic_all, generic_execute, generic_read, generic_write}
-use Rattle.sd_rights.specs.AccessRights.{maximum_allowed, read_control, second_reserved, system_security, write_dac}
-use Rattle.sd_rights.specs.AccessRights.{write_owner}
-use Rattle.sd_rights.specs.Mapping.{GenericMapping, directory_mapping, file_mapping, key_mapping, mapped}
+use Rattle.sd_rights.specs.AccessRights.{below_system_security, every_right, first_reserved, generic_all}
+use Rattle.sd_rights.specs.AccessRights.{generic_execute, generic_read, generic_write, maximum_allowed, owner_mask}
+use Rattle.sd_rights.specs.AccessRights.{read_control, second_reserved, system_security, system_security_mask}
+use Rattle.sd_rights.specs.AccessRights.{write_dac, write_owner, write_owner_mask}
+use Rattle.sd_rights.specs.Mapping.{GenericMapping, IsMapping, directory_mapping, file_mapping, key_mapping, mapped}
 use Rattle.sd_rights.specs.Rights.{rights_reads, rights_text}
 use Rattle.sd_kinds.specs.declared.kinds.AceKind.TheVariants as kinds
 
@@ -100,6 +101,18 @@ hex_without_digits : rights_reads (codes "0x") ≡ None
 unfolding computed
 hex_without_digits = refl
 
+-- nothing, a zero alone, a single digit and hex digits; and what is none of these
+short_numbers : map rights_reads
+    ([] ∷ codes "0" ∷ codes "7" ∷ codes "0xA0" ∷ codes "00x1" ∷ codes "0y1" ∷ codes "9F" ∷ [])
+    ≡ Some 0 ∷ Some 0 ∷ Some 7 ∷ Some 0xa0 ∷ None ∷ None ∷ None ∷ []
+unfolding computed
+short_numbers = refl
+
+-- a run of names has no limit but that of the field
+long_run : rights_reads (codes "CCDCLCSWRPWPDTLOCRSDRCWDWOGAGXGWGR") ≡ Some 0xf00f01ff
+unfolding computed
+long_run = refl
+
 mixed_rights : rights_reads (codes "GA1") ≡ None
 unfolding computed
 mixed_rights = refl
@@ -147,6 +160,27 @@ places : map (λ right. 2 ^ right) (read_control ∷ write_dac ∷ write_owner �
     ≡ 0x20000 ∷ 0x40000 ∷ 0x80000 ∷ 0x1000000 ∷ 0x2000000 ∷ 0x4000000 ∷ 0x8000000 ∷ 0x10000000 ∷ 0x20000000
     ∷ 0x40000000 ∷ 0x80000000 ∷ []
 places = refl
+
+masks : write_owner_mask ∷ system_security_mask ∷ owner_mask ∷ below_system_security ∷ every_right ∷ []
+    ≡ 0x80000 ∷ 0x1000000 ∷ 0x60000 ∷ 0xffffff ∷ 0x1ffffff ∷ []
+masks = refl
+
+-- the four masks of a mapping have the rights 0 to 24: all of them, and one of them with bit 25
+
+of_every_right : IsMapping (record { read = 0x1ffffff; write = 0x1ffffff; execute = 0x1ffffff; all = 0x1ffffff })
+of_every_right = record { read = omega arith; write = omega arith; execute = omega arith; all = omega arith }
+
+of_one_more_to_read : IsMapping (record { read = 0x2000000; write = 0; execute = 0; all = 0 }) → ⊥
+of_one_more_to_read h = let more = h.read in omega arith
+
+of_one_more_to_write : IsMapping (record { read = 0; write = 0x2000000; execute = 0; all = 0 }) → ⊥
+of_one_more_to_write h = let more = h.write in omega arith
+
+of_one_more_to_execute : IsMapping (record { read = 0; write = 0; execute = 0x2000000; all = 0 }) → ⊥
+of_one_more_to_execute h = let more = h.execute in omega arith
+
+of_one_more_of_all : IsMapping (record { read = 0; write = 0; execute = 0; all = 0x2000000 }) → ⊥
+of_one_more_of_all h = let more = h.all in omega arith
 
 -- read, write, execute, all, and none of them
 generic : GenericMapping → List ℕ

@@ -1,8 +1,11 @@
 -- SIDs and texts that were worked out by hand.
-use Rattle.std.specs.Prelude.{◌≡◌, ℕ, List, [], ◌∷◌, Some, None, Ok, Err, codes, map, refl}
+use Rattle.std.proofs.Common.{◌≡◌, ℕ, zero, suc, true, false, List, [], ◌∷◌, ◌++◌, Some, None, Ok, Err, codes, refl}
+use Rattle.std.proofs.Common.{replicate, arith}
+use Rattle.std.specs.Prelude.{map}
 use Rattle.std.specs.Fmt.{digits}
-use Rattle.sd_sid.specs.Sid.{SecurityId, sid_at, sid_bytes}
-use Rattle.sd_sid.specs.SidText.{sid_text, alias_of, sid_reads, letters_read, has_form, numbers_read}
+use Rattle.sd_sid.specs.Naming.{alias_by, naming_by}
+use Rattle.sd_sid.specs.Sid.{AreWords, BeginsWithSid, IsSid, SecurityId, sid_at, sid_bytes, sid_size}
+use Rattle.sd_sid.specs.SidText.{sid_front, sid_text, alias_of, sid_reads, letters_read, has_form, numbers_read}
 use Rattle.sd_sid.specs.declared.sid_text.SidFault.TheVariants as faults
 
 abbrev sid : ℕ → List ℕ → SecurityId
@@ -182,3 +185,103 @@ other_revision_of_bytes = refl
 bytes_too_few : sid_at (1 ∷ 1 ∷ 0 ∷ 0 ∷ 0 ∷ 0 ∷ 0 ∷ 5 ∷ 18 ∷ 0 ∷ 0 ∷ []) ≡ None
 unfolding sid_at
 bytes_too_few = refl
+
+bytes_of_a_header : sid_at (1 ∷ 0 ∷ 0 ∷ 1 ∷ 2 ∷ 3 ∷ 4 ∷ 5 ∷ []) ≡ Some (sid 0x102030405 [], 8)
+unfolding sid_at
+bytes_of_a_header = refl
+
+seven_bytes : sid_at (1 ∷ 0 ∷ 0 ∷ 0 ∷ 0 ∷ 0 ∷ 0 ∷ []) ≡ None
+unfolding sid_at
+seven_bytes = refl
+
+fifteen_in_bytes : sid_at (1 ∷ 15 ∷ 0 ∷ 0 ∷ 0 ∷ 0 ∷ 0 ∷ 5 ∷ replicate 60 0) ≡ Some (sid 5 (replicate 15 0), 68)
+unfolding sid_at
+fifteen_in_bytes = refl
+
+sixteen_in_bytes : sid_at (1 ∷ 16 ∷ 0 ∷ 0 ∷ 0 ∷ 0 ∷ 0 ∷ 5 ∷ replicate 64 0) ≡ None
+unfolding sid_at
+sixteen_in_bytes = refl
+
+-- high bytes first in the authority, low bytes first in a sub-authority
+order_of_bytes : sid_bytes (sid 0x010203040506 (0x0708090a ∷ []))
+    ≡ 1 ∷ 1 ∷ 1 ∷ 2 ∷ 3 ∷ 4 ∷ 5 ∷ 6 ∷ 0x0a ∷ 9 ∷ 8 ∷ 7 ∷ []
+order_of_bytes = refl
+
+sizes : map sid_size (sid 5 [] ∷ sid 5 (18 ∷ []) ∷ sid 5 (replicate 15 0) ∷ []) ≡ 8 ∷ 12 ∷ 68 ∷ []
+sizes = refl
+
+begins : BeginsWithSid (1 ∷ 0 ∷ 0 ∷ 0 ∷ 0 ∷ 0 ∷ 0 ∷ 5 ∷ 9 ∷ []) (sid 5 [])
+begins = record {
+  limits = record { authority = omega arith; count = omega arith; subs = λ i. omega arith };
+  rest = 9 ∷ [];
+  shape = refl;
+}
+
+-- the limits: 48 bits, fifteen numbers, and 32 bits each
+
+largest_authority : IsSid (sid 0xffff_ffff_ffff [])
+largest_authority = record { authority = omega arith; count = omega arith; subs = λ i. omega arith }
+
+larger_authority : IsSid (sid 0x1_0000_0000_0000 []) → ⊥
+larger_authority h = let more = h.authority in omega arith
+
+largest_word : AreWords (0xffff_ffff ∷ [])
+largest_word zero = omega arith
+largest_word (suc i) = omega arith
+
+larger_word : AreWords (0x1_0000_0000 ∷ []) → ⊥
+larger_word h = let more = h 0 in omega arith
+
+one_more_word : IsSid (sid 5 (replicate 16 0)) → ⊥
+one_more_word h = let more = h.count in omega arith
+
+-- how a SID is named: by its alias, in a domain too, or by numbers alone
+
+namings : alias_by (naming_by None false) (sid 5 (32 ∷ 544 ∷ []))
+    ∷ alias_by (naming_by (Some domain) false) (sid 5 (21 ∷ 1 ∷ 2 ∷ 3 ∷ 512 ∷ []))
+    ∷ alias_by (naming_by (Some domain) true) (sid 5 (32 ∷ 544 ∷ []))
+    ∷ alias_by (naming_by (Some full) false) (sid 5 (21 ∷ 1 ∷ 2 ∷ 3 ∷ 512 ∷ []))
+    ∷ [] ≡ Some (codes "BA") ∷ Some (codes "DA") ∷ None ∷ None ∷ []
+unfolding alias_of
+namings = refl
+
+-- texts of at most 183 bytes, which the longest one has
+
+longest_text : sid_reads (codes "S-1-0x" ++ codes "ffffffffffff"
+    ++ codes "-4294967295-4294967295-4294967295-4294967295-4294967295-4294967295-4294967295-4294967295"
+    ++ codes "-4294967295-4294967295-4294967295-4294967295-4294967295-4294967295-4294967295") None
+    ≡ Ok (sid 0xffff_ffff_ffff (replicate 15 0xffff_ffff))
+unfolding sid_reads has_form numbers_read
+longest_text = refl
+
+zeros_of_183_bytes : sid_reads (codes "S-1-" ++ replicate 179 48) None ≡ Err faults.Number
+unfolding sid_reads has_form numbers_read
+zeros_of_183_bytes = refl
+
+zeros_of_184_bytes : sid_reads (codes "S-1-" ++ replicate 180 48) None ≡ Err faults.SidForm
+unfolding sid_reads has_form numbers_read
+zeros_of_184_bytes = refl
+
+-- a number of ten digits that has 33 bits, as authority and behind it
+ten_digits : map (λ text. sid_reads text None) (codes "S-1-4294967296" ∷ codes "S-1-0-4294967296" ∷ codes "S-1-9999999999" ∷ [])
+    ≡ Err faults.Number ∷ Err faults.Number ∷ Err faults.Number ∷ []
+unfolding sid_reads has_form numbers_read
+ten_digits = refl
+
+-- what has no form: another letter, dash, digit or revision at each place of the front, and what is empty
+no_forms : map (λ text. sid_reads text None)
+    (codes "T-1-5" ∷ codes "S.1-5" ∷ codes "S-0-5" ∷ codes "S-1.5" ∷ codes "S-1-5-" ∷ codes "S-1--5" ∷ codes "S-1-5-1a"
+    ∷ codes "S-1-0x00000000000" ∷ codes "S-1-0y000000000005" ∷ codes "S-1-1x000000000005" ∷ codes "S-1-0x00000000000g" ∷ codes "S-1-0xg00000000000"
+    ∷ codes "S-1-5-0x000000000005" ∷ codes "B" ∷ codes "BAA" ∷ codes "B1" ∷ codes "1B" ∷ [])
+    ≡ replicate 17 (Err faults.SidForm)
+unfolding sid_reads letters_read has_form numbers_read
+no_forms = refl
+
+-- fifteen numbers, and letters in lower case
+fifteen_numbers : sid_reads (codes "s-1-0x00000000000f-1-2-3-4-5-6-7-8-9-10-11-12-13-14-15") None
+    ≡ Ok (sid 15 (1 ∷ 2 ∷ 3 ∷ 4 ∷ 5 ∷ 6 ∷ 7 ∷ 8 ∷ 9 ∷ 10 ∷ 11 ∷ 12 ∷ 13 ∷ 14 ∷ 15 ∷ []))
+unfolding sid_reads has_form numbers_read
+fifteen_numbers = refl
+
+fronts : map sid_front (codes "S-1-5;x" ∷ codes "BA)" ∷ codes "S-1_5" ∷ []) ≡ codes "S-1-5" ∷ codes "BA" ∷ codes "S-1" ∷ []
+fronts = refl

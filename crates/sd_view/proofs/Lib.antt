@@ -3,6 +3,7 @@ pub mod BodyLaws
 pub mod FirstFault
 pub mod Parts
 pub mod ReadLaws
+mod ShowsRows
 pub mod SizeLaws
 pub mod WrittenLaws
 pub mod laws
