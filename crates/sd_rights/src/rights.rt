@@ -35,7 +35,8 @@ pub fn put_rights<S: Sink>(kind: AceKind, mask: u32, sink: &mut S) -> Result<(),
     out.finish()
 }
 
-/// Prints the text of an access mask, as `put_rights` puts it.
+/// Prints the text of an access mask, as `put_rights` puts it. Inlined, since each ACE calls it.
+#[inline(always)]
 #[tactic(auto, unfolding(crate::specs::Rights::rights_text))]
 pub fn print_rights<P: Print>(kind: AceKind, mask: u32, out: &mut P)
     ensures { Prints (P.told out.old) (P.told out.new) (rights_text kind mask) }
