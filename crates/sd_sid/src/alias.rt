@@ -177,6 +177,7 @@ fn find_relative(table: &[DomainRelative], last: u32) -> Option<DomainRelative>
 }
 
 /// Gives a SID the value that two letters name, in either case.
+#[inline(always)]
 #[tactic(auto, unfolding(crate::specs::SidText::letters_read))]
 pub(crate) fn read_letters(
     first: u8,

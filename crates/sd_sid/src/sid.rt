@@ -81,13 +81,14 @@ impl Sid {
         requires few { length subs.now ≤ most_subs }
         ensures { self.new ≡ record { authority = authority; subs = subs.now } }
     {
-        let mut kept = [0; MOST_SUBS];
-        kept[..subs.len()].copy_from_slice(subs);
         *self = Sid {
             authority,
-            count: subs.len(),
-            subs: kept,
+            ..Sid::blank()
         };
+        // Most names mean SIDs of one or two sub-authorities, which are written faster than copied.
+        for sub in subs {
+            self.push(*sub);
+        }
     }
 
     pub(crate) fn set_authority(&mut self, authority: u32)
