@@ -22,7 +22,7 @@ pub fn print_ace<P: Print>(naming: &Naming, ace: &AceView<'_>, out: &mut P)
     print_flags(ace.flags(), out);
     out.put(b";");
     print_rights(kind, ace.mask(), out);
-    print_objects(ace.object(), ace.inherited(), out);
+    print_objects(ace, out);
     print_trustee(naming, &ace.sid(), out);
     out.put(b")");
 }
@@ -38,13 +38,16 @@ fn print_kind<P: Print>(kind: AceKind, out: &mut P)
     out.put(&[b'(', letters[0], letters[1], b';']);
 }
 
-// The object types, each with the semicolon before it, and the one behind them. Most ACEs have none.
-fn print_objects<P: Print>(object: Option<Uuid>, inherited: Option<Uuid>, out: &mut P)
-    ensures { Prints (P.told out.old) (P.told out.new) (codes ";" ++ (object_field object ++ object_field inherited)) }
+// The object types, each with the semicolon before it, and the one behind them. Most ACEs are of a kind that has none.
+fn print_objects<P: Print>(ace: &AceView<'_>, out: &mut P)
+    ensures { Prints (P.told out.old) (P.told out.new)
+        (codes ";" ++ (object_field ace.now.object ++ object_field ace.now.inherited)) }
 {
-    if object.is_none() && inherited.is_none() {
+    if !ace.kind().is_object() {
         return out.put(b";;;");
     }
+    let object = ace.object();
+    let inherited = ace.inherited();
     out.put(b";");
     print_object(object, out);
     out.put(b";");
