@@ -2,6 +2,7 @@ pub mod AliasLemmas
 pub mod AliasPlaces
 pub mod Cutting
 pub mod FormLemmas
+pub mod KnownCounts
 pub mod SidFronts
 mod SidRows
 pub mod TextLemmas

@@ -1,6 +1,6 @@
 //! The two-letter names of SIDs (MS-DTYP 2.5.1.1).
 
-ghost use Rattle.std.specs.Prelude.{◌≡◌, ℕ, [], ◌∷◌, ◌==◌, ◌&&◌, IfSome, Some, Ok, slice_get, slice_index, true, ◌<◌};
+ghost use Rattle.std.specs.Prelude.{◌≡◌, ℕ, [], ◌∷◌, ◌==◌, ◌&&◌, ◌||◌, length, IfSome, Some, Ok, slice_get, slice_index, true, ◌<◌};
 ghost use Rattle.std.specs.Char.{is_ascii_uppercase, to_ascii_uppercase};
 ghost use Rattle.std.specs.List.{find, list_all};
 ghost use Rattle.std.specs.Option.{option_copied, option_map};
@@ -27,6 +27,9 @@ const NT: u64 = 5;
 
 /// The first sub-authority of the groups that each machine has.
 const BUILTIN: u32 = 32;
+
+/// The first sub-authority of the SID of user-mode drivers, `S-1-5-84-0-0-0-0-0`. No other name has six.
+const USER_MODE_DRIVERS: u32 = 84;
 
 /// The authority of creators, `S-1-3`.
 const CREATOR: u64 = 3;
@@ -89,17 +92,25 @@ fn usable(domain: Option<&Sid>) -> Option<&Sid>
     }
 }
 
-// Most SIDs are of a domain, with five sub-authorities, and no name means one with three to five. So the test for these
-// is inlined, and the search is a call.
+// Most SIDs are of a domain and have no name. So the test for these is inlined, and the search is a call.
 #[inline(always)]
 fn known_alias(sid: &Sid) -> Option<[u8; 2]>
     ensures { result ≡ known_alias sid.now }
 {
-    let count = sid.subs().len();
-    if 3 <= count && count <= 5 {
+    if !may_be_known(sid) {
         return None;
     }
     find_alias(sid)
+}
+
+// Whether the SID of a name has as many sub-authorities: one, two, or six with this first one.
+#[inline(always)]
+fn may_be_known(sid: &Sid) -> bool
+    ensures { result ≡ (length sid.now.subs == 1 || length sid.now.subs == 2
+        || (length sid.now.subs == 6 && slice_index sid.now.subs 0 == 84)) }
+{
+    let subs = sid.subs();
+    subs.len() == 1 || subs.len() == 2 || subs.len() == MOST_KNOWN && subs[0] == USER_MODE_DRIVERS
 }
 
 #[inline(never)]

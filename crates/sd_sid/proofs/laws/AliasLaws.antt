@@ -1,7 +1,7 @@
 -- What an alias reads as, and that no SID has two aliases.
-use Rattle.std.proofs.Common.{◌≡◌, ℕ, Bool, true, false, ◌&&◌, List, [], ◌∷◌, ◌++◌, take, drop, length, ◌≤◌, Option}
-use Rattle.std.proofs.Common.{Some, None, IfSome, subst, Ok, Err, refl, sym, ap, ◌∙◌, arith, true≢false}
-use Rattle.std.specs.Prelude.{◌==◌, nat_le, not, if◌then◌else◌}
+use Rattle.std.proofs.Common.{◌≡◌, ℕ, Bool, true, false, ◌&&◌, List, [], ◌∷◌, ◌++◌, take, drop, Option}
+use Rattle.std.proofs.Common.{Some, None, IfSome, subst, Ok, Err, refl, sym, ap, ◌∙◌, arith}
+use Rattle.std.specs.Prelude.{◌==◌, not, if◌then◌else◌}
 use Rattle.std.specs.Cmp.Lexicographic.{same_text}
 use Rattle.std.specs.Char.{is_ascii_alphabetic, is_ascii_uppercase, to_ascii_uppercase}
 use Rattle.std.specs.List.{find, list_all}
@@ -54,7 +54,7 @@ relative_all = refl
 
 -- 2. The rule at an entry that was found.
 
-same_sid-eq : (s t : SecurityId) → same_sid s t ≡ true → s ≡ t
+pub same_sid-eq : (s t : SecurityId) → same_sid s t ≡ true → s ≡ t
 same_sid-eq s t e =
     let parts = and_parts (s.authority == t.authority) _ e in
     let authority : s.authority ≡ t.authority = let h = parts.0 in grind (arith, nat_tests) in
@@ -109,43 +109,6 @@ relative-back s d domain e given h =
     ∙ ap (name_reads (known_named e.first e.second) (relative_named e.first e.second)) given
     ∙ relative_result (known_named e.first e.second) (relative_named e.first e.second) e d parts.1
     ∙ ap Ok (same_sid-eq (sid_in d e) s passes.0)
-
--- No name that stands everywhere is that of a SID with three to five sub-authorities.
-
-is_middle : ℕ → Bool
-is_middle n = nat_le 3 n && nat_le n 5
-
-few_or_many : WellKnown → Bool
-few_or_many e = not (is_middle (length (known_sid e).subs))
-
-few_or_many_all : list_all few_or_many WELL_KNOWN ≡ true
-unfolding few_or_many is_middle
-few_or_many_all = refl
-
-middle_is : (n : ℕ) → 3 ≤ n → n ≤ 5 → is_middle n ≡ true
-unfolding is_middle
-middle_is n least most =
-    let l : nat_le 3 n ≡ true = grind (arith, nat_tests) in
-    let m : nat_le n 5 ≡ true = grind (arith, nat_tests) in
-    rw (l, m) refl
-
-pub middle-unknown : (s : SecurityId) → 3 ≤ length s.subs → length s.subs ≤ 5
-    → find (λ k. same_sid (known_sid k) s) WELL_KNOWN ≡ None
-unfolding few_or_many
-middle-unknown s least most = by_found (find (λ k. same_sid (known_sid k) s) WELL_KNOWN) refl
-  where
-    not_middle : (b : Bool) → not b ≡ true → b ≡ false
-    not_middle true e = absurd cc
-    not_middle false e = refl
-
-    by_found : (o : Option WellKnown) → find (λ k. same_sid (known_sid k) s) WELL_KNOWN ≡ o
-        → find (λ k. same_sid (known_sid k) s) WELL_KNOWN ≡ None
-    by_found None h = h
-    by_found (Some e) h =
-        let passes = find-passes (λ k. same_sid (known_sid k) s) few_or_many WELL_KNOWN e h few_or_many_all in
-        absurd (true≢false (sym (middle_is (length s.subs) least most)
-        ∙ ap (λ (t : SecurityId). is_middle (length t.subs)) (sym (same_sid-eq (known_sid e) s passes.0))
-        ∙ not_middle _ passes.1))
 
 -- 3. An alias reads as the SID.
 
