@@ -6,7 +6,7 @@ happens, an answer file that is there has to be what PROGRAM writes. The command
 1 KB. Then workers have another library, see other files, come late, are stopped, killed or all gone; the scheduler dies;
 the library answers wrongly; disks are full; runs are interrupted and done again after inputs, answers, parts, records or the
 library have changed. It needs Dask and fsspec (Debian: python3-dask, python3-distributed, python3-fsspec); without them it
-says so and tests nothing. The last line is 'N passed, M failed'.
+says so and tests nothing. It serves files over SFTP and HTTP where openssh-server, python3-paramiko and python3-aiohttp are. The last line is 'N passed, M failed'.
 """
 import argparse
 import bz2
@@ -17,9 +17,11 @@ import json
 import lzma
 import os
 import pathlib
+import pwd
 import random
 import shutil
 import signal
+import socket
 import subprocess
 import sys
 import tempfile
@@ -289,6 +291,109 @@ sys.stdout.buffer.write(b"%d " % status + memory.cat("/out/one") + b"--" + memor
     count.add(got.status == 0 and got.stdout.endswith(wanted), f"memory://: {wanted[:100]} is wanted: {got}")
 
 
+# Servers.
+
+FILES_OVER_HTTP = """
+import sys
+from aiohttp import web
+served = web.Application()
+served.router.add_static("/", sys.argv[1])
+web.run_app(served, host="127.0.0.1", port=int(sys.argv[2]))
+"""
+
+
+class Server(NamedTuple):
+    """A server of a folder, as Debian has it."""
+
+    url: str  # of the folder, but for the port
+    words: list  # which start it, but for the port
+    module: str  # of Python, for server or client
+    package: str
+
+
+def servers(place, folder):
+    keys = place.folder / "home/.ssh"
+    keys.mkdir(parents=True)
+    sshd = shutil.which("sshd", path=f"{os.environ['PATH']}:/usr/sbin") or "sshd"
+    if shutil.which(sshd):
+        for name in "id_ed25519", "host":
+            subprocess.run(["ssh-keygen", "-q", "-t", "ed25519", "-N", "", "-f", keys / name], check=True)
+        if os.getuid() == 0:
+            os.makedirs("/run/sshd", exist_ok=True)  # it does not start without
+    settings = ["ListenAddress=127.0.0.1", "UsePAM=no", "StrictModes=no", "PidFile=none", "Subsystem=sftp internal-sftp",
+                f"HostKey={keys}/host", f"AuthorizedKeysFile={keys}/id_ed25519.pub"]
+    options = [word for setting in settings for word in ("-o", setting)]
+    user = pwd.getpwuid(os.getuid()).pw_name
+    return {
+        "sftp": Server(f"sftp://{user}@127.0.0.1:%d{folder}", [sshd, "-D", "-f", "/dev/null", *options, "-p"], "paramiko",
+                       "openssh-server, python3-paramiko"),
+        "http": Server("http://127.0.0.1:%d", [place.python, "-c", FILES_OVER_HTTP, folder], "aiohttp", "python3-aiohttp"),
+        "http without ranges": Server("http://127.0.0.1:%d", [
+            place.python, "-m", "http.server", "--bind", "127.0.0.1", "--directory", folder], "aiohttp", "python3-aiohttp")}
+
+
+def started_server(place, server):
+    """The URL of its folder, or None where its packages are missing."""
+    is_there = subprocess.run([place.python, "-c", f"import {server.module}"], stderr=subprocess.DEVNULL).returncode == 0
+    if not is_there or not shutil.which(server.words[0]):
+        return None
+    with socket.socket() as held:
+        held.bind(("127.0.0.1", 0))
+        port = held.getsockname()[1]
+    child = place.start([*server.words, port], stdout=subprocess.DEVNULL, stderr=subprocess.DEVNULL)
+
+    def listens():
+        with contextlib.suppress(OSError), socket.create_connection(("127.0.0.1", port), 1):
+            return True
+        return child.poll() is not None
+
+    wait_for(listens, what=str(server.words))
+    return server.url % port if child.poll() is None else None
+
+
+def test_remote(count, place):
+    """Inputs and outputs on servers: workers and driver share nothing else."""
+    served, environment = place.folder / "served", {"HOME": str(place.folder / "home")}
+    name = place.write("served/in/below/one", LINE * 300 + b"zz\n")
+    wanted, _ = place.wanted(["convert"], name)
+    _, address = place.start_scheduler()
+    for _ in range(2):
+        place.start_worker(address, environment)
+    place.wait_for_workers(address, 2)
+    for kind, server in servers(place, served).items():
+        url = started_server(place, server)
+        if url is None:
+            print(f"skipped: no {kind} (Debian: {server.package})")
+            continue
+
+        def run(out, given, what, words=()):
+            got = place.run(out, ["convert"], [given], ["--scheduler", address, "--retries", "1", *words], environment)
+            count.add("Traceback" not in got.stderr, f"{kind}, {what}: {got}")
+            return got
+
+        out = place.out()
+        got = run(out, f"{url}/in/below/one", "an input")
+        if kind == "http without ranges":
+            judge_failed(count, got, out, "in place of those", [], kind)
+            continue
+        host = url.partition("://")[0] + "://127.0.0.1"
+        is_right = got.status == 1 and answers_in(out) == {"one": wanted} and host in got.stdout
+        count.add(is_right, f"{kind}: an input: {answers_in(out).keys()} {got}")
+        if kind == "http":
+            continue
+        for turn, data in enumerate((LINE * 300 + b"zz\n", LINE * 300 + b"zz\n", LINE * 70)):
+            place.write("served/in/below/one", data)
+            got = run(f"{url}/{kind}", f"{url}/in", "a folder")
+            answers = {"below/one": place.wanted(["convert"], name)[0]}
+            is_right = got.status == int(turn < 2) and answers_in(served / kind) == answers
+            count.add(is_right, f"{kind}, turn {turn}: {answers_in(served / kind).keys()} {got}")
+        place.write("served/in/below/one", LINE * 300 + b"zz\n")
+        got = run(f"{url}/{kind}-parts", f"{url}/in/below/*", "parts", ["--parts"])
+        parts = answers_in(served / f"{kind}-parts")
+        is_right = got.status == 1 and b"".join(parts[name] for name in sorted(parts)) == wanted and len(parts) > 5
+        count.add(is_right, f"{kind}, parts: {sorted(parts)} {got}")
+
+
 # Workers.
 
 def started(place):
@@ -550,7 +655,7 @@ def test_words(count, place, address):
     place.write("taken/some", b"somebody's own")
     place.write("tree/a", LINE)
     place.write("flat/a/b", LINE)
-    place.write("packed.lz4", LINE)
+    place.write("packed.zip", LINE)
     place.write("_sdtool", LINE)
     os.mkfifo(place.folder / "fifo")
     out = place.out()
@@ -565,9 +670,9 @@ def test_words(count, place, address):
         (["--out", out, "--bloc", "9", "convert", "--", name], "invalid choice: '9'"),
         (["--out", out, "convert", "--", "nowhere"], "nowhere: no regular file"),
         (["--out", out, "convert", "--", "nowhere/*"], "nowhere/*: no regular file"),
-        (["--out", out, "convert", "--", "fifo"], "fifo: no regular file"),
-        (["--out", out, "convert", "--", "/dev/null"], "/dev/null: no regular file"),
-        (["--out", out, "convert", "--", "packed.lz4"], "packed.lz4 is compressed"),
+        (["--out", out, "convert", "--", "fifo"], "fifo is not a regular file"),
+        (["--out", out, "convert", "--", "/dev/null"], "/dev/null is not a regular file"),
+        (["--out", out, "convert", "--", "packed.zip"], "packed.zip is compressed"),
         (["--out", out, "convert", "--", "_sdtool"], "_sdtool has a name that is kept"),
         (["--out", out, "convert", "--", name, "again/some"], "again/some has the answers of another input"),
         (["--out", out, "convert", "--", name, name], "some has the answers of another input"),
@@ -603,6 +708,7 @@ def over_answers(count, place):
     timed("odd files", test_odd_files, count, place, address)
     timed("folders and compressed files", test_places, count, place, address)
     timed("memory://", test_memory, count, place)
+    timed("servers", test_remote, count, place)
     timed("words", test_words, count, place, address)
 
 

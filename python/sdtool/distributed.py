@@ -21,7 +21,8 @@ from typing import Any, Callable, Dict, Iterable, Iterator, List, Optional, Set,
 
 import cloudpickle
 import dask
-from distributed import Client, KilledWorker, Reschedule, Status, WorkerPlugin, get_worker, wait
+from distributed import (
+    Client, Future, KilledWorker, Reschedule, Status, TimeoutError, WorkerPlugin, get_worker, wait)
 from distributed.comm import CommClosedError
 from distributed.diagnostics.progressbar import TextProgressBar
 from distributed.utils import CancelledError, sync
@@ -31,78 +32,89 @@ from fsspec.implementations.local import LocalFileSystem
 from fsspec.utils import infer_compression
 import sdtool
 
-READ, LONGEST_LINE = 4 << 20, 2 << 20  # bytes; no form has a line as long, so one that is longer is answered like its front
+READ, SEEK, PACKED = 4 << 20, 1 << 16, 1 << 12  # bytes of a request; what is packed may become 32,000 times as long
+LONGEST_LINE = 2 << 20  # bytes; no form has a line as long, so one that is longer is answered like its front
 OURS = "_sdtool"  # names of files that are not answers begin so
 VERSION_KEYS = {"ino", "ETag", "etag", "VersionId", "generation", "md5Hash"}  # with one, each change of a file shows
 STREAMS = {None, "gzip", "bz2", "xz", "zstd"}
-UNKNOWN = (".zst", ".lz4", ".zip", ".sz", ".snappy", ".br", ".lzo", ".7z", ".z", ".rar", ".tar", ".tgz")
 SETUP_SECONDS, SILENT_SECONDS = 10, 15  # a worker that takes longer to set up joins when it is ready
 LOOPBACK = "127.0.0.1:0"
 say = functools.partial(print, "sdtool.distributed:", file=sys.stderr, flush=True)
 new_digest = functools.partial(hashlib.blake2b, digest_size=32)
 
 
-def chunks_of(fs: Any, path: str, start: int, end: int) -> Iterator[bytes]:
+def chunks_of(fs: Any, path: str, start: int, end: int, size: int = READ) -> Iterator[bytes]:
     """Bytes of a file, each by a request of its own: threads that open a file of memory:// share its position."""
-    while start < end and (chunk := fs.cat_file(path, start=start, end=min(start + READ, end))):
+    while start < end:
+        chunk = fs.cat_file(path, start=start, end=min(start + size, end))
+        if not 0 < len(chunk) <= min(size, end - start):  # some servers ignore what is asked for, and give the whole file
+            raise OSError(f"{path} has {len(chunk)} bytes in place of those from {start} to {end}")
         start += len(chunk)
         yield chunk
 
 
 @dataclasses.dataclass
 class Input:
-    url: str
+    fs: Any
+    path: str
+    compression: Optional[str]
     answers: str  # the path of the file, or with --parts of the folder
     folder: str  # of the parts, their evidence and the manifest
-    size: Optional[int]  # None where it can be read only from its start
-    compression: Optional[str]
-    version: str  # a digest of what the file system tells of it
-    is_sure: bool  # such a version differs wherever the bytes do
+
+    def __post_init__(self) -> None:
+        host = getattr(self.fs, "host", "")  # which fsspec leaves out, as it does passwords
+        url = self.fs.unstrip_protocol(self.path).replace("///", f"//{host}/", 1)
+        self.url = re.sub("[\0-\x1f\x7f-\x9f]", lambda found: f"%{ord(found[0]):02X}", url)
+        self.told = self.look()  # and by this it is the same file with the same content
+        self.size = None if self.compression else self.told["size"]  # None: it can be read only from its start
+
+    def look(self) -> Dict[str, Any]:
+        """What the file system tells of the file, but for SFTP's `time`, which is that of the last reading."""
+        self.fs.invalidate_cache(self.path)
+        told = self.fs.info(self.path).items()
+        return {key: value if isinstance(value, (int, type(None))) else str(value) for key, value in told if key != "time"}
 
     def require_same(self) -> None:
-        fs, path = url_to_fs(self.url)
-        fs.invalidate_cache(path)
-        if fs.ukey(path) != self.version:
+        if self.look() != self.told:
             raise OSError(f"{self.url} has changed since the run began, or is another file here")
 
-    def stream(self, fs: Any, path: str) -> Iterator[bytes]:
+    def stream(self) -> Iterator[bytes]:
         """The bytes from the start, decompressed."""
-        with fs.open(path, "rb") as raw:
+        with self.fs.open(self.path, "rb") as raw:
+            stream = compr[self.compression](raw, mode="rb")
             if self.compression != "zstd":
-                stream = compr[self.compression](raw, mode="rb")
                 yield from iter(lambda: stream.read(READ), b"")
                 return
-            import zstandard  # its reader, and so fsspec's, takes a file that was cut for a whole one
-            frame = None
-            while data := (frame.unused_data if frame and frame.eof else b"") or raw.read(READ):
-                frame = zstandard.ZstdDecompressor().decompressobj() if frame is None or frame.eof else frame
-                yield frame.decompress(data)
-            if frame and not frame.eof:
-                raise EOFError(f"{self.url} ends within a frame")
+            data = raw.read(PACKED)  # since fsspec reads one frame of zstd alone, and takes one that was cut for whole
+            while data:
+                frame = sys.modules["zstandard"].ZstdDecompressor().decompressobj()
+                while not frame.eof:
+                    if not data:
+                        raise EOFError(f"{self.url} ends within a frame")
+                    yield frame.decompress(data)
+                    data = frame.unused_data or raw.read(PACKED)
+
+    def next_line(self, at: int, end: int) -> int:
+        """The first place from `at` on where a line begins, or else the end."""
+        for chunk in chunks_of(self.fs, self.path, at - 1, end, SEEK) if at else [b"\n"]:
+            if b"\n" in chunk:
+                return at + chunk.index(b"\n")
+            at += len(chunk)
+        return end
 
     def lines(self, start: int, end: Optional[int]) -> Iterator[bytes]:
-        """The lines that begin in a block, in pieces of whole lines. Reading begins a byte before the block, if there is
-        one: if that byte is an LF, a line begins with the block. Of a line that is too long, a piece has only the front."""
-        fs, path = url_to_fs(self.url)
-        at, held = max(start - 1, 0), None if start else b""
-        end = float("inf") if self.size is None else end
-        for chunk in self.stream(fs, path) if self.size is None else chunks_of(fs, path, at, self.size):
-            if held is None:
-                behind = chunk.find(b"\n") + 1
-                at += behind or len(chunk)
-                chunk, held = chunk[behind or len(chunk):], b"" if behind else None
-            if at >= end and not held:
-                return
-            last = chunk.find(b"\n", max(0, min(end - 1 - at, len(chunk)))) + 1
-            taken = chunk[:last or len(chunk)]
-            at += len(taken)
-            if ends := taken.rfind(b"\n") + 1:
-                yield held + taken[:ends]
+        """The lines that begin in a block, in pieces. Of a line that is too long, a piece has only the front."""
+        if self.size is None:
+            chunks = self.stream()
+        else:
+            first, last = self.next_line(start, end), self.next_line(end, min(end + LONGEST_LINE, self.size))
+            chunks = chunks_of(self.fs, self.path, first, last if first < end else first)
+        held = b""
+        for chunk in chunks:
+            if ends := chunk.rfind(b"\n") + 1:
+                yield held + chunk[:ends]
                 held = b""
-            if held is not None:
-                held = (held + taken[ends:])[:LONGEST_LINE]
-            if last:
-                return
+            held = (held + chunk[ends:])[:LONGEST_LINE]
         if held:
             yield held
 
@@ -172,8 +184,7 @@ class Work(WorkerPlugin):
         """Asks the scheduler for no more tasks. Those that are here start, fail and are sent elsewhere."""
         scheduler, address = self.worker.scheduler, self.worker.contact_address
         await scheduler.set_resources(resources={self.name: 0}, worker=address)
-        text = f"worker {address} is left out: {type(reason).__name__}: {reason}".encode(errors="replace").decode()
-        await scheduler.log_event(topic=self.name, msg=text)
+        await scheduler.log_event(topic=self.name, msg=f"worker {address} is left out: {type(reason).__name__}: {reason}")
 
     def check(self, inputs: Iterable[Input] = ()) -> None:
         """Raises an error if this worker has another library, or sees another output or other inputs."""
@@ -181,11 +192,11 @@ class Work(WorkerPlugin):
             raise OSError(f"its library is not the driver's, but has the digest {library_digest()}")
         self.require_ownership()
         probe = f"{self.ours}/{uuid.uuid4().hex}"
-        self.fs.pipe_file(probe, b"\n")
+        self.write_record(probe, {})
         self.fs.rm_file(probe)
         for given in inputs:
             compr[given.compression]  # fsspec has it here
-            if isinstance(url_to_fs(given.url)[0], LocalFileSystem):  # other file systems are the same everywhere
+            if isinstance(given.fs, LocalFileSystem):  # other file systems are the same everywhere
                 given.require_same()
 
     def require_ownership(self) -> None:
@@ -193,29 +204,25 @@ class Work(WorkerPlugin):
             raise OSError(f"{self.out} is another output here, or another run has taken it over")
 
     @contextlib.contextmanager
-    def written(self, path: str, is_synced: bool = False) -> Iterator[Callable]:
+    def written(self, path: str) -> Iterator[Any]:
         """A file that appears when it is whole. Copies of a task write files of their own, and one stays."""
         unfinished = f"{self.ours}/{uuid.uuid4().hex}"
         try:
             with self.fs.open(unfinished, "wb") as file:
-                yield file.write
-                if is_synced and self.is_local:
-                    file.flush()
-                    os.fsync(file.fileno())
+                yield file
             self.require_ownership()
             if self.is_local:
                 os.replace(unfinished, path)
             else:
                 self.fs.exists(path) and self.fs.rm_file(path)
                 self.fs.mv(unfinished, path)
-        except BaseException:
+        finally:
             with contextlib.suppress(Exception):
                 self.fs.rm_file(unfinished)
-            raise
 
     def write_record(self, path: str, record: dict) -> dict:
-        with self.written(path) as write:
-            write(json.dumps(record).encode())
+        with self.written(path) as file:
+            file.write(json.dumps(record).encode())
         return record
 
     def read_record(self, path: str) -> dict:
@@ -237,21 +244,22 @@ class Work(WorkerPlugin):
         given, part = self.inputs[number], f"part-{index:06}"
         path, evidence = f"{given.folder}/{part}", f"{given.folder}/{OURS}-{part}.json"
         basis = {"library": self.library, "words": self.words, "url": given.url, "start": start, "end": end,
-                 "version": given.version if given.is_sure else self.name}
+                 "input": given.told if VERSION_KEYS & given.told.keys() else self.name}
         if given.folder not in self.manifests:  # read once, as it has the records of all blocks
             self.manifests[given.folder] = self.read_record(f"{given.folder}/{OURS}.json").get("blocks", [])
         for record in [self.read_record(evidence), *self.manifests[given.folder][index:index + 1]]:
-            if {**record, **basis} == record and self.fs.exists(record["path"]) and self.copy(record) == record["digest"]:
-                return record
+            with contextlib.suppress(OSError):
+                if {**record, **basis} == record and self.copy(record) == record["digest"]:
+                    return record
         given.require_same()
         record, digest = {**basis, "path": path, "at": 0, "lines": 0, "errors": 0, "bytes": 0}, new_digest()
-        with self.written(path) as write:
+        with self.written(path) as file:
             for piece in given.lines(start, end):
                 status, answers, message = sys.modules["sdtool"].run(self.words, piece)
                 for key, more in count(self.words[0], piece, status, answers, message).items():
                     record[key] += more
                 digest.update(answers)
-                write(answers)
+                file.write(answers)
             given.require_same()
         return self.write_record(evidence, {**record, "digest": digest.hexdigest()})
 
@@ -262,33 +270,34 @@ class Work(WorkerPlugin):
         if self.is_parts:
             self.write_record(f"{given.folder}/{OURS}.json", {**total, "blocks": blocks})
         elif any(each["path"] != given.answers for each in blocks) or self.fs.info(given.answers)["size"] != total["bytes"]:
-            with self.written(given.answers, is_synced=True) as write:
+            with self.written(given.answers) as file:
                 for block in blocks:
-                    if self.copy(block, write) != block["digest"]:
+                    if self.copy(block, file.write) != block["digest"]:
                         raise RuntimeError(f"{block['path']} is not what its worker wrote")
                     placed.append({**block, "path": given.answers, "at": at})
                     at += block["bytes"]
+                file.flush()
+                self.is_local and os.fsync(file.fileno())
                 self.write_record(f"{given.folder}/{OURS}.json", {**total, "blocks": placed})
         kept = {os.path.basename(block["path"]) for block in placed or blocks}
-        parts = [(path, re.search(r"part-\d+", os.path.basename(path))) for path in self.fs.ls(given.folder, detail=False)]
-        for path in (path for path, part in parts if part and part[0] not in kept):
-            self.fs.rm_file(path)
+        for path in self.fs.find(given.folder, maxdepth=1):
+            part = re.search(r"part-\d+", os.path.basename(path))
+            if part and part[0] not in kept:
+                self.fs.rm_file(path)
         return total
 
     def take(self, fs: Any, path: str, name: str, taken: Set[str]) -> None:
         """Takes an input, if it is a file that can be read and its answers overwrite nothing."""
-        told, compression = fs.info(path), infer_compression(path)
+        compression = infer_compression(path)
         answers = f"{self.root}/{os.path.splitext(name)[0] if compression else name}"
         folder = answers if self.is_parts else f"{self.ours}/inputs{answers[len(self.root):]}"
-        given = Input(fs.unstrip_protocol(path), answers, folder, None if compression else told["size"], compression,
-                      fs.ukey(path), bool(VERSION_KEYS & told.keys()))
+        given = Input(fs, path, compression, answers, folder)
         above = {answers[:at] for at, character in enumerate(answers) if character == "/"}
-        is_ours = given.url != self.fs.unstrip_protocol(answers) and self.read_record(f"{folder}/{OURS}.json")
+        is_ours = (fs, path) != (self.fs, answers) and self.read_record(f"{folder}/{OURS}.json")
         for wrong, is_so in {
-                "is not a regular file": told["type"] != "file",
+                "is not a regular file": given.told["type"] != "file",
                 "has a name that is kept for runs": name.startswith(OURS),
-                "is compressed in a way that is not read here": compression not in STREAMS or not compression and path.lower(
-                    ).endswith(UNKNOWN),
+                "is compressed in a way that is not read here": compression not in STREAMS,
                 "has the answers of another input; give the folder of both": taken & {answers, f"{answers}/", *above},
                 f"has answers at {answers}, which no run wrote": self.fs.exists(answers) and not is_ours}.items():
             if is_so:
@@ -303,14 +312,14 @@ class Work(WorkerPlugin):
             raise ValueError(f"--out: {self.out} has answers of 'sdtool {' '.join(words)}'; give another folder")
         for url in urls:
             fs, path = url_to_fs(url)
-            is_folder = fs.isdir(path)
-            if is_folder and self.fs.unstrip_protocol(f"{self.root}/").startswith(fs.unstrip_protocol(f"{path}/")):
+            is_folder = fs.exists(path) and fs.info(path)["type"] == "directory"
+            if is_folder and fs == self.fs and f"{self.root}/".startswith(f"{path}/"):
                 raise ValueError(f"--out: {self.out} is in the input {url}")
-            paths = sorted(each for each in (fs.find(path) if fs.exists(path) else fs.glob(path)) if not fs.isdir(each))
-            names = [os.path.relpath(each, path) if is_folder else os.path.basename(each) for each in paths]
+            paths = fs.find(path) if is_folder else [path] if fs.exists(path) else filter(fs.isfile, fs.glob(path))
+            names = {each: os.path.relpath(each, path) if is_folder else os.path.basename(each) for each in sorted(paths)}
             if not names:
                 raise ValueError(f"{url}: no regular file has such a name")
-            for each, name in zip(paths, names):
+            for each, name in names.items():
                 if not is_folder or f"/{OURS}" not in f"/{name}":
                     self.take(fs, each, name, taken)
         self.fs.makedirs(self.ours, exist_ok=True)
@@ -328,20 +337,21 @@ def look(name: str, dask_scheduler: Any) -> Tuple[int, List[str]]:
     return fit, [each for each, its in dask_scheduler.workers.items() if time.time() - its.last_seen > SILENT_SECONDS]
 
 
-async def watch(client: Client, name: str, wait_seconds: float) -> None:
-    """Ends a run that has had no worker for too long, and names workers that are silent."""
+def watch(client: Client, name: str, futures: List[Future], wait_seconds: float) -> None:
+    """Waits for the futures. Names workers that are silent, and ends a run that has had no worker for too long."""
     told, seen = set(), time.monotonic()
     while time.monotonic() - seen <= wait_seconds:
-        fit, silent = await client.run_on_scheduler(look, name)
+        with contextlib.suppress(TimeoutError):
+            return wait(futures, timeout=1)
+        fit, silent = client.run_on_scheduler(look, name)
         for worker in set(silent) - told:
             say(f"worker {worker} is silent; the scheduler gives its tasks to others after its worker-ttl")
         told.update(silent)
         seen = time.monotonic() if fit else seen
-        await asyncio.sleep(1)
     raise OSError(f"no worker has been fit for {wait_seconds:g} seconds")
 
 
-async def collect(client: Client, work: Work, wanted: argparse.Namespace) -> List[Any]:
+def collect(client: Client, work: Work, wanted: argparse.Namespace) -> List[Any]:
     """Answers the inputs. Gives what came of each: counts, or an error."""
     came, call = dict.fromkeys(range(len(work.inputs))), dask.delayed(call_work, pure=False)
     for attempt in range(wanted.retries + 1):
@@ -355,35 +365,30 @@ async def collect(client: Client, work: Work, wanted: argparse.Namespace) -> Lis
             lasts[number] = call(work.name, "finish", number, parts, dask_key_name=f"finish-{key}")
         futures = client.compute(list(lasts.values()), resources={work.name: 1}, retries=wanted.retries)
         if sys.stderr.isatty() and futures:
-            asyncio.ensure_future(TextProgressBar(futures, start=False).listen())
-        await wait(futures)
-        came.update(zip(lasts, [await (each if each.status == "finished" else each.exception()) for each in futures]))
+            client.loop.add_callback(TextProgressBar(futures, start=False).listen)
+        watch(client, work.name, futures, wanted.wait)
+        came.update(zip(lasts, [each.result() if each.status == "finished" else each.exception() for each in futures]))
     return list(came.values())
 
 
-async def drive(wanted: argparse.Namespace, work: Work) -> List[Any]:
+def drive(wanted: argparse.Namespace, work: Work) -> List[Any]:
     here = {} if wanted.scheduler else {
         "n_workers": 1, "processes": False, "memory_limit": 0, "silence_logs": "error", "dashboard_address": LOOPBACK,
         "worker_dashboard_address": LOOPBACK, "scheduler_kwargs": {"worker_ttl": "1 day"}}
-    async with Client(wanted.scheduler, asynchronous=True, timeout=wanted.wait, **here) as client:
+    with Client(wanted.scheduler, timeout=wanted.wait, **here) as client:
+        in_time = functools.partial(client.sync, callback_timeout=SETUP_SECONDS)
         client.subscribe_topic(work.name, lambda event: say(event[1]))
         try:
-            register = getattr(client, "register_plugin", client.register_worker_plugin)
-            await asyncio.wait_for(register(work, name=work.name), SETUP_SECONDS)
+            in_time(getattr(client, "register_plugin", client.register_worker_plugin), work, name=work.name)
         except Exception as error:
             say(f"some worker does not answer, or cannot take part: {error!r}")
-        tasks = [asyncio.ensure_future(collect(client, work, wanted)),
-                 asyncio.ensure_future(watch(client, work.name, wanted.wait))]
         try:
-            await asyncio.wait(tasks, return_when=asyncio.FIRST_COMPLETED)
-            return await next(task for task in tasks if task.done())
+            return collect(client, work, wanted)
         except (CommClosedError, CancelledError) as error:
             raise OSError(f"the scheduler is lost: {error}") from None
         finally:
-            for task in tasks:
-                task.cancel()
             with contextlib.suppress(Exception):
-                await asyncio.wait_for(client.unregister_worker_plugin(work.name), SETUP_SECONDS)
+                in_time(client.unregister_worker_plugin, work.name)
 
 
 def wanted_of(words: List[str]) -> argparse.Namespace:
@@ -416,10 +421,13 @@ def main(words: List[str]) -> int:
         work = Work(f"sdtool-{uuid.uuid4().hex}", wanted.words, library_digest(), wanted.out, wanted.parts)
         work.take_over(wanted.urls)
         with contextlib.redirect_stdout(sys.stderr):  # for Dask's bar
-            came = asyncio.run(drive(wanted, work))
-    except (ValueError, ImportError, OSError) as error:
+            came = drive(wanted, work)
+    except (ValueError, ImportError) as error:
         say(error)
-        return 3 if isinstance(error, OSError) else 2
+        return 2
+    except Exception as error:  # which file systems have many of
+        say(f"{type(error).__name__}: {error}")
+        return 3
     except KeyboardInterrupt:
         say("interrupted; the same command goes on where this run ended")
         return 130
