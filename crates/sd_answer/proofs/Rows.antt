@@ -1,5 +1,5 @@
 -- Worked rows of lines and answers, computed.
-use Rattle.std.proofs.Common.{◌≡◌, ◌+◌, ◌*◌, ◌/◌, [], ◌∷◌, ◌++◌, None, false, codes, refl}
+use Rattle.std.proofs.Common.{◌≡◌, ℕ, ◌+◌, ◌*◌, ◌/◌, List, [], ◌∷◌, ◌++◌, Some, None, true, false, codes, refl}
 use Rattle.std.specs.Fmt.{digits}
 use Rattle.std.specs.Prelude.{map}
 use Rattle.base64.proofs.OnLiterals.{base64_on_literals}
@@ -19,12 +19,22 @@ use Rattle.sd_view.specs.Bytes.{u16_at, u32_at}
 use Rattle.sd_view.specs.Reading.{acl_part_fault, acl_shown, fault, header_fault, overlap_fault}
 use Rattle.sd_view.specs.Reading.{overlaps_fault, parts_fault, reading, sid_fault, sid_shown}
 use Rattle.sd_view.specs.declared.fault.SdFault.TheVariants as sd
+use Rattle.sd_view.specs.declared.acl.AclPart.TheVariants as acl
+use Rattle.sd_explain.specs.Explain.{control_line, explain, rm_line, sid_line}
+use Rattle.sd_check.specs.declared.verdict.Verdict.TheVariants.{Denied, Granted}
 use Rattle.sd_token.specs.Token.{Holder}
-use Rattle.sd_answer.specs.Answer.{answer, form_text, line_means}
+use Rattle.sd_token.specs.declared.token.EntryKind.TheVariants.{Enabled}
+use Rattle.sd_check.specs.Ask.{Asked}
+use Rattle.sd_check.specs.Granted.{granted}
+use Rattle.sd_check.specs.Verdict.{missing, rights_below, verdict, won}
+use Rattle.sd_answer.specs.Answer.{answer, bound, form_text, is_error, line_limit, line_means, output_of, printed_size}
+use Rattle.sd_answer.specs.Answer.{verdict_text}
 use Rattle.sd_answer.specs.Faults.{fault_text}
+use Rattle.sd_answer.specs.LineEnd.{without_cr}
 use Rattle.sd_answer.specs.declared.fault.LineFault.TheVariants.{Derive, Sd, Sddl, Text, TooLong}
-use Rattle.sd_answer.specs.declared.job.Act.TheVariants.{Convert}
-use Rattle.sd_answer.specs.declared.job.Form.TheVariants.{Base64, Hex}
+use Rattle.sd_answer.specs.declared.job.Act.{Act}
+use Rattle.sd_answer.specs.declared.job.Act.TheVariants.{Check, Convert, Explain}
+use Rattle.sd_answer.specs.declared.job.Form.TheVariants.{Base64, Hex, Sddl as SddlForm}
 use Rattle.sd_answer.specs.declared.job.Job.{Job}
 use Rattle.sd_answer.specs.declared.job.OutputForm.TheVariants as output
 use Rattle.sd_answer.specs.declared.job.Task.{Task}
@@ -113,3 +123,85 @@ pub texts_with_parts : map fault_text
     ∷ codes "error 40 derived-too-large sacl" ∷ []
 unfolding fault_text digits
 texts_with_parts = refl
+
+-- a verdict has eight digits
+verdicts : map verdict_text (Granted 0x1200a9 ∷ Denied 0 ∷ [])
+    ≡ codes "granted 0x001200a9" ∷ codes "denied 0x00000000" ∷ []
+verdicts = refl
+
+-- each form of a line, with its limit and the form of an answer
+
+limits : map line_limit (Hex ∷ Base64 ∷ SddlForm ∷ []) ≡ 262452 ∷ 174968 ∷ 1049872 ∷ []
+limits = refl
+
+outputs : map output_of (Hex ∷ Base64 ∷ SddlForm ∷ []) ≡ output.Hex ∷ output.Base64 ∷ output.Sddl ∷ []
+outputs = refl
+
+-- one CR at the end of a line is dropped, and no LF
+ends : map without_cr (codes "a\r" ∷ codes "a\r\r" ∷ codes "\ra" ∷ codes "a\n" ∷ [] ∷ [])
+    ≡ codes "a" ∷ codes "a\r" ∷ codes "\ra" ∷ codes "a\n" ∷ [] ∷ []
+unfolding without_cr
+ends = refl
+
+-- what is counted of each answer: whether it is an error, and the comparisons that it may need
+
+header_alone : List ℕ
+header_alone = codes "0100008000000000000000000000000000000000"
+
+hex_to : Act → Job
+hex_to act = record { source = Hex; act = act; domain = None; numeric = false }
+
+-- everyone twice
+two_entries : Holder
+two_entries = record {
+  entries = (record { authority = 1; subs = 0 ∷ [] }, Enabled) ∷ (record { authority = 1; subs = 0 ∷ [] }, Enabled) ∷ [];
+  level = None;
+}
+
+first_right : Asked
+first_right = record {
+  wanted = 1;
+  maximum = false;
+  mapping = record { read = 1; write = 2; execute = 4; all = 7 };
+  object = None;
+  principal_self = None;
+  security = false;
+  take_ownership = false;
+}
+
+counted : Unit {0}
+unfolding answer is_error bound line_means hex_spells hex_on_literals reading fault header_fault parts_fault sid_fault
+    sid_shown acl_part_fault acl_shown overlaps_fault overlap_fault u16_at u32_at header_bytes header_alone hex_to
+    two_entries
+counted = tt
+
+errors : is_error (alone (hex_to (Convert output.Hex))) two_entries (codes "zz")
+    ∷ is_error (alone (hex_to (Convert output.Hex))) two_entries header_alone
+    ∷ is_error (alone (hex_to Explain)) two_entries header_alone
+    ∷ is_error (alone (hex_to (Check first_right))) two_entries header_alone
+    ∷ is_error (alone (hex_to Explain)) two_entries [] ∷ [] ≡ true ∷ false ∷ false ∷ false ∷ false ∷ []
+unfolding counted
+errors = refl
+
+comparisons : bound (alone (hex_to (Convert output.Hex))) two_entries (codes "zz")
+    ∷ bound (alone (hex_to (Convert output.Hex))) two_entries header_alone
+    ∷ bound (alone (hex_to Explain)) two_entries header_alone
+    ∷ bound (alone (hex_to (Check first_right))) two_entries header_alone
+    ∷ bound (alone (hex_to (Check first_right))) two_entries [] ∷ [] ≡ 0 ∷ 0 ∷ 0 ∷ 2 ∷ 0 ∷ []
+unfolding counted
+comparisons = refl
+
+check_answer : answer (alone (hex_to (Check first_right))) two_entries header_alone
+    ≡ codes "granted 0x00000001" ++ 10 ∷ []
+unfolding counted first_right granted missing rights_below verdict won
+check_answer = refl
+
+explain_answer : answer (alone (hex_to Explain)) two_entries header_alone
+    ≡ codes "control 0x8000 SR\nrm 0x00\nowner none\ngroup none\ndacl absent\nsacl absent\nend\n"
+unfolding counted explain control_line rm_line sid_line
+explain_answer = refl
+
+-- a verdict prints no descriptor
+printed_sizes : printed_size None ∷ printed_size (Some (record
+    { control = 0x8000; rm = 0; owner = None; group = None; sacl = acl.Absent; dacl = acl.Absent })) ∷ [] ≡ 0 ∷ 20 ∷ []
+printed_sizes = refl

@@ -1,6 +1,6 @@
 -- Worked rows, computed: what hex and base64 texts spell, what their bytes are read as, and what is laid out.
-use Rattle.std.proofs.Common.{◌≡◌, ℕ, Bool, true, false, List, [], ◌∷◌, map, Some, None, Result, Ok, Err, codes, refl}
-use Rattle.std.proofs.Common.{replicate}
+use Rattle.std.proofs.Common.{◌≡◌, ℕ, Bool, true, false, List, [], ◌∷◌, ◌++◌, map, Some, None, Result, Ok, Err, codes}
+use Rattle.std.proofs.Common.{refl, replicate}
 use Prim.Native.String.{String}
 use Rattle.base64.proofs.OnLiterals.{base64_on_literals}
 use Rattle.base64.specs.Engines.{standard}
@@ -14,10 +14,13 @@ use Rattle.sd_control.specs.declared.part.Part.TheVariants.{Owner, Group, Sacl, 
 use Rattle.sd_view.specs.declared.fault.SdFault.TheVariants as faults
 use Rattle.sd_view.specs.Bytes.{u16_at, u32_at}
 use Rattle.sd_control.specs.Control.{acl_flags, flag_bits}
+use Rattle.sd_control.specs.declared.part.Which.{Which}
 use Rattle.sd_control.specs.declared.part.Which.TheVariants as which
 use Rattle.sd_control.specs.declared.control.AclFlags.{AclFlags}
 use Rattle.sd_control.specs.declared.control.ControlBit.{ControlBit}
 use Rattle.sd_control.specs.declared.control.TheConstants.{CONTROL_BITS}
+use Rattle.sd_builder.specs.Draft.{CanBegin, Draft, begun, built, built_bytes, closed, ended, is_present}
+use Rattle.sd_builder.specs.Draft.{no_parts, nothing_given, open_size, with_ace, with_acl, with_group, with_owner}
 use Rattle.sd_view.specs.Descriptor.{Descriptor}
 use Rattle.sd_control.specs.Header.{header_bytes}
 use Rattle.sd_view.specs.Layout.{layout, size}
@@ -416,3 +419,84 @@ bits_of_the_flags_of_a_sacl = refl
 bits_of_the_flags_of_a_dacl : flag_bits which.Dacl (flags true true true) ≡ 0x1500
 unfolding flags
 bits_of_the_flags_of_a_dacl = refl
+
+-- ---- what a builder was given: the descriptor, and its bytes in the order of the calls
+
+opened : Which → Draft → Draft
+opened w t = record t { parts = begun w t.parts }
+
+given : AccessControlEntry → Draft → Draft
+given a t = record t { parts = with_ace a t.parts }
+
+-- a group, a DACL and an owner
+out_of_order : Draft
+out_of_order =
+    with_owner administrators (ended (given full_access (opened which.Dacl (with_group everyone nothing_given))))
+
+out_of_order_is_built : built 0 0 out_of_order.parts ≡ record with_dacl { group = Some everyone }
+unfolding out_of_order opened given with_dacl full_access administrators everyone system
+out_of_order_is_built = refl
+
+out_of_order_bytes : built_bytes 0 0 out_of_order
+    ≡ hex "010004803c000000140000000000000020000000010100000000000100000000"
+    ++ hex "02001c000100000000001400ff011f00010100000000000100000000"
+    ++ hex "01020000000000052000000020020000"
+unfolding computed out_of_order opened given full_access administrators everyone
+out_of_order_bytes = refl
+
+-- an owner, a SACL, a null DACL and a group, under every control bit and a resource manager byte
+labelled : Draft
+labelled = ended (given label (opened which.Sacl (with_owner everyone nothing_given)))
+
+with_null : Draft
+with_null = with_group system (record labelled { parts = with_acl which.Dacl acl.Null labelled.parts })
+
+with_null_is_built : built 0xffff 0xab with_null.parts ≡ record {
+  control = 0xffff;
+  rm = 0xab;
+  owner = Some everyone;
+  group = Some system;
+  sacl = acl.List (label ∷ []);
+  dacl = acl.Null;
+}
+unfolding with_null labelled opened given label everyone system
+with_null_is_built = refl
+
+with_null_bytes : built_bytes 0xffff 0xab with_null
+    ≡ hex "01abffff140000003c0000002000000000000000010100000000000100000000"
+    ++ hex "02001c000100000011001400010000000101000000000010002000000101000000000005"
+    ++ hex "12000000"
+unfolding computed with_null labelled opened given label everyone system
+with_null_bytes = refl
+
+-- nothing: neither SP nor DP, whatever was asked for
+nothing_bytes : built_bytes 0x14 0 nothing_given ≡ hex "0100008000000000000000000000000000000000"
+unfolding computed
+nothing_bytes = refl
+
+-- an ACL that is open has its header and its ACEs; without one there is no size
+open_sizes : open_size no_parts ∷ open_size (begun which.Sacl no_parts)
+    ∷ open_size (with_ace full_access (begun which.Dacl no_parts)) ∷ [] ≡ 0 ∷ 8 ∷ 28 ∷ []
+unfolding full_access everyone
+open_sizes = refl
+
+-- an ACL can begin where none is open and its part is not given
+first_can_begin : CanBegin which.Sacl no_parts
+first_can_begin = (refl, refl)
+
+other_can_begin : CanBegin which.Dacl (with_acl which.Sacl acl.Null no_parts)
+other_can_begin = (refl, refl)
+
+given_cannot_begin : CanBegin which.Dacl (with_acl which.Dacl acl.Null no_parts) → ⊥
+given_cannot_begin h = let e = h.1 in cc
+
+open_cannot_begin : CanBegin which.Dacl (begun which.Sacl no_parts) → ⊥
+open_cannot_begin h = let e = h.0 in cc
+
+presence : is_present acl.Absent ∷ is_present acl.Null ∷ is_present (acl.List []) ∷ [] ≡ false ∷ true ∷ true ∷ []
+presence = refl
+
+closed_is_a_list : closed (with_ace full_access (begun which.Sacl no_parts))
+    ≡ record no_parts { sacl = acl.List (full_access ∷ []) }
+unfolding full_access everyone
+closed_is_a_list = refl

@@ -1,5 +1,5 @@
 -- Worked rows, computed: verdicts and the ACEs that they need.
-use Rattle.std.proofs.Common.{◌≡◌, ℕ, Bool, true, false, List, [], ◌∷◌, Option, Some, None, refl}
+use Rattle.std.proofs.Common.{◌≡◌, ℕ, Bool, true, false, List, [], ◌∷◌, map, Option, Some, None, refl, arith}
 use Rattle.sd_ace.specs.Ace.{AccessControlEntry}
 use Rattle.sd_rights.specs.Mapping.{GenericMapping, mapped}
 use Rattle.sd_sid.specs.Sid.{SecurityId}
@@ -10,10 +10,10 @@ use Rattle.sd_token.specs.declared.token.EntryKind.TheVariants.{DenyOnly, Enable
 use Rattle.sd_view.specs.Descriptor.{Descriptor}
 use Rattle.sd_view.specs.declared.acl.AclPart.{AclPart}
 use Rattle.sd_view.specs.declared.acl.AclPart.TheVariants as acl
-use Rattle.sd_check.specs.Applies.{applies, owner_rights, principal_self}
-use Rattle.sd_check.specs.Ask.{Asked, ask_fault, wanted_of}
+use Rattle.sd_check.specs.Applies.{applies}
+use Rattle.sd_check.specs.Ask.{AreRights, Asked, ask_fault, asks_maximum, wanted_of}
 use Rattle.sd_check.specs.Granted.{granted}
-use Rattle.sd_check.specs.Need.{all_below, least, need}
+use Rattle.sd_check.specs.Need.{all_below, check_bound, least, need, owner_matters}
 use Rattle.sd_check.specs.Verdict.{missing, rights_below, verdict, won}
 use Rattle.sd_check.specs.declared.ask.AskFault.TheVariants.{EmptyRequest, ReservedBits}
 use Rattle.sd_check.specs.declared.verdict.Verdict.{Verdict}
@@ -26,6 +26,13 @@ computed = tt
 
 everyone : SecurityId
 everyone = record { authority = 1; subs = 0 ∷ [] }
+
+-- S-1-3-4 and S-1-5-10 (MS-DTYP 2.4.2.4)
+owner_rights : SecurityId
+owner_rights = record { authority = 3; subs = 4 ∷ [] }
+
+principal_self : SecurityId
+principal_self = record { authority = 5; subs = 10 ∷ [] }
 
 administrators : SecurityId
 administrators = record { authority = 5; subs = 32 ∷ 544 ∷ [] }
@@ -87,13 +94,13 @@ owner_reads_and_writes_the_dacl = refl
 
 owner_rights_bind : verdict (descriptor (Some user) (acl.List (ace kinds.Allow 0 0x20000 owner_rights ∷ [])))
     (held ((user, Enabled) ∷ [])) (asked 0 true) ≡ Granted 0x20000
-unfolding computed user ace descriptor files asked held
+unfolding computed owner_rights user ace descriptor files asked held
 owner_rights_bind = refl
 
 -- inherited only
 owner_rights_pass : verdict (descriptor (Some user) (acl.List (ace kinds.Allow 0xa 0x1 owner_rights ∷ [])))
     (held ((user, Enabled) ∷ [])) (asked 0x60001 false) ≡ Denied 0x1
-unfolding computed user ace descriptor files asked held
+unfolding computed owner_rights user ace descriptor files asked held
 owner_rights_pass = refl
 
 all_that_are_missing : verdict (descriptor None (acl.List
@@ -118,7 +125,7 @@ empty_dacl = refl
 -- by itself, without a SID that it stands for
 self_is_itself : verdict (descriptor None (acl.List (ace kinds.Allow 0 0x1 principal_self ∷ [])))
     (held ((principal_self, Enabled) ∷ [])) (asked 0x1 false) ≡ Granted 0x1
-unfolding computed ace descriptor files asked held
+unfolding computed principal_self ace descriptor files asked held
 self_is_itself = refl
 
 one_ace_is_enough : need (descriptor None (acl.List
@@ -318,12 +325,12 @@ owner_has_no_more = refl
 
 audit_of_owner_rights : verdict (descriptor (Some user) (acl.List (ace kinds.Audit 0 0x20000 owner_rights ∷ [])))
     (held ((user, Enabled) ∷ [])) (asked 0x60000 false) ≡ Granted 0x60000
-unfolding computed user ace descriptor files asked held
+unfolding computed owner_rights user ace descriptor files asked held
 audit_of_owner_rights = refl
 
 denied_owner_rights : verdict (descriptor (Some user) (acl.List (ace kinds.Deny 0 0x1 owner_rights ∷ [])))
     (held ((user, Enabled) ∷ [])) (asked 0x60001 false) ≡ Denied 0x60001
-unfolding computed user ace descriptor files asked held
+unfolding computed owner_rights user ace descriptor files asked held
 denied_owner_rights = refl
 
 object_type : List ℕ
@@ -336,13 +343,13 @@ typed kind mask sid = record (ace kind 0 mask sid) { object = Some object_type }
 object_of_owner_rights : verdict (descriptor (Some user)
     (acl.List (typed kinds.ObjectAllow 0x100 owner_rights ∷ []))) (held ((user, Enabled) ∷ [])) (asked 0x20000 false)
     ≡ Denied 0x20000
-unfolding computed user ace descriptor files asked held object_type typed
+unfolding computed owner_rights user ace descriptor files asked held object_type typed
 object_of_owner_rights = refl
 
 -- without an owner, OWNER RIGHTS is nobody, also for a token that lists it
 nobodys_rights : verdict (descriptor None (acl.List (ace kinds.Allow 0 0x1 owner_rights ∷ [])))
     (held ((owner_rights, Enabled) ∷ [])) (asked 0x1 false) ≡ Denied 0x1
-unfolding computed ace descriptor files asked held
+unfolding computed owner_rights ace descriptor files asked held
 nobodys_rights = refl
 
 -- object types: of none, of the one that is asked for, and of another; the inherited one is not looked at
@@ -377,12 +384,12 @@ inherited_type = refl
 
 self_is_the_user : verdict (descriptor None (acl.List (ace kinds.Allow 0 0x1 principal_self ∷ [])))
     (held ((user, Enabled) ∷ [])) (record (asked 0x1 false) { principal_self = Some user }) ≡ Granted 0x1
-unfolding computed user ace descriptor files asked held
+unfolding computed principal_self user ace descriptor files asked held
 self_is_the_user = refl
 
 self_is_owner_rights : verdict (descriptor (Some user) (acl.List (ace kinds.Allow 0 0x1 principal_self ∷ [])))
     (held ((user, Enabled) ∷ [])) (record (asked 0x1 false) { principal_self = Some owner_rights }) ≡ Denied 0x1
-unfolding computed user ace descriptor files asked held
+unfolding computed principal_self owner_rights user ace descriptor files asked held
 self_is_owner_rights = refl
 
 -- an ACE that is inherit-only does not apply; one with any other flag does
@@ -410,3 +417,87 @@ second_reserved_bit = refl
 
 generic_all_is_not_reserved : ask_fault 0x10000000 false ≡ None
 generic_all_is_not_reserved = refl
+
+-- ACCESS_SYSTEM_SECURITY is the last right, and bit 25 asks for the maximum
+
+bit_25 : (asks_maximum 0x2000000 ≡ true) × (asks_maximum 0xfdffffff ≡ false)
+bit_25 = (refl, refl)
+
+wanted_rights : wanted_of files 0x83000001 ∷ wanted_of files 0x2000000 ∷ [] ≡ 0x1120089 ∷ 0 ∷ []
+unfolding computed files
+wanted_rights = refl
+
+every_right : AreRights (record (asked 0 false) {
+  wanted = 0x1ffffff;
+  mapping = record { read = 0; write = 0; execute = 0; all = 0x1ffffff };
+})
+unfolding asked
+every_right = record { wanted = omega arith; all = omega arith }
+
+one_more_is_wanted : AreRights (record (asked 0 false) { wanted = 0x2000000 }) → ⊥
+unfolding asked
+one_more_is_wanted h = let more = h.wanted in omega arith
+
+one_more_of_all : AreRights (record (asked 0 false) {
+  mapping = record { read = 0; write = 0; execute = 0; all = 0x2000000 };
+}) → ⊥
+unfolding asked
+one_more_of_all h = let more = h.all in omega arith
+
+-- a deny-only entry denies, by an object ACE too, and does not allow
+deny_only_by_an_object_ace : verdict (descriptor None (acl.List
+    (ace kinds.ObjectDeny 0 0x1 administrators ∷ ace kinds.ObjectAllow 0 0x2 administrators
+    ∷ ace kinds.Allow 0 0x1 everyone ∷ []))) (held two_entries) (asked 0x3 false) ≡ Denied 0x3
+unfolding computed everyone administrators ace descriptor files asked two_entries held
+deny_only_by_an_object_ace = refl
+
+-- how much is compared: each ACE and the owner with each entry
+
+bounds : check_bound (descriptor None (acl.List (ace kinds.Allow 0 1 everyone ∷ ace kinds.Audit 0 1 user ∷ []))) 3
+    ∷ check_bound (descriptor None acl.Null) 3 ∷ check_bound (descriptor None acl.Absent) 3 ∷ [] ≡ 9 ∷ 3 ∷ 3 ∷ []
+unfolding everyone user ace descriptor
+bounds = refl
+
+-- who the owner is matters for READ_CONTROL and WRITE_DAC alone, and not to a DACL that grants all
+
+owners_rights : owner_matters (descriptor None (acl.List [])) (asked 0x20000 false)
+    ∷ owner_matters (descriptor None (acl.List [])) (asked 0x40000 false)
+    ∷ owner_matters (descriptor None (acl.List [])) (asked 0x1f9ffff false)
+    ∷ owner_matters (descriptor None (acl.List [])) (asked 0 true)
+    ∷ owner_matters (descriptor None acl.Null) (asked 0x60000 false) ∷ [] ≡ true ∷ true ∷ false ∷ true ∷ false ∷ []
+unfolding computed descriptor files asked
+owners_rights = refl
+
+-- what needs no ACE: right 24, the owner's rights, and all of a null DACL
+
+of_the_user : ℕ → ℕ
+of_the_user wanted = need (descriptor (Some user) (acl.List (ace kinds.Allow 0 0x80000 everyone ∷ [])))
+    ((user, Enabled) ∷ (everyone, Enabled) ∷ []) (asked wanted false)
+
+needs : of_the_user 0x1000000 ∷ of_the_user 0x60000 ∷ of_the_user 0x80000 ∷ [] ≡ 0 ∷ 0 ∷ 1 ∷ []
+unfolding computed everyone user ace descriptor files asked of_the_user
+needs = refl
+
+-- the maximum may be asked for alone
+maximum_alone : (ask_fault 0 true ≡ None) × (ask_fault 0x10000 true ≡ None)
+maximum_alone = (refl, refl)
+
+-- each privilege by itself grants its own right
+
+by_security : to_everyone [] (record (asked 0x1080000 false) { security = true }) ≡ Denied 0x80000
+unfolding computed everyone ace descriptor files asked held of_everyone to_everyone
+by_security = refl
+
+by_take_ownership : to_everyone [] (record (asked 0x1080000 false) { take_ownership = true }) ≡ Denied 0x1000000
+unfolding computed everyone ace descriptor files asked held of_everyone to_everyone
+by_take_ownership = refl
+
+-- with the maximum, the rights of generic all are in question, and no others
+
+with_all : ℕ → Asked
+with_all all = record (asked 0 true) { mapping = record { read = 0x20000; write = 0x40000; execute = 0x1; all = all } }
+
+maximum_in_question : map (λ all. owner_matters (descriptor None (acl.List [])) (with_all all))
+    (0x20000 ∷ 0x40000 ∷ 0x9ffff ∷ []) ≡ true ∷ true ∷ false ∷ []
+unfolding computed descriptor files asked with_all
+maximum_in_question = refl

@@ -1,6 +1,6 @@
 -- Worked rows, computed: the copies of single ACEs on files and containers, what is taken of a creator's ACEs, and what
 -- is derived around them.
-use Rattle.std.proofs.Common.{◌≡◌, ℕ, List, [], ◌∷◌, ◌++◌, Some, None, refl}
+use Rattle.std.proofs.Common.{◌≡◌, ℕ, List, [], ◌∷◌, ◌++◌, Some, None, refl, arith}
 use Rattle.sd_ace.specs.Ace.{AccessControlEntry}
 use Rattle.sd_rights.specs.Mapping.{mapped}
 use Rattle.sd_sid.specs.Sid.{SecurityId}
@@ -12,6 +12,7 @@ use Rattle.sd_view.specs.declared.acl.AclPart.TheVariants as acl
 use Rattle.std.specs.Prelude.{replicate}
 use Rattle.sd_inherit.specs.Copies.{copies}
 use Rattle.sd_inherit.specs.Derived.{derive_fault, derived}
+use Rattle.sd_inherit.specs.PlanLimits.{IsPlan}
 use Rattle.sd_inherit.specs.Taken.{taken}
 use Rattle.sd_control.specs.declared.part.Which.TheVariants.{Dacl, Sacl}
 use Rattle.sd_inherit.specs.declared.derivation.DeriveFault.TheVariants.{DerivedTooLarge}
@@ -66,6 +67,11 @@ for_the_group : copies (plan Container) (ace kinds.Deny 0x2 0x1 creator_group)
     ≡ ace kinds.Deny 0x10 0x1 everyone ∷ ace kinds.Deny 0x1a 0x1 creator_group ∷ []
 unfolding computed
 for_the_group = refl
+
+for_the_owner_without_a_generic_right : copies (plan Container) (ace kinds.Audit 0x42 0x1 creator_owner)
+    ≡ ace kinds.Audit 0x50 0x1 user ∷ ace kinds.Audit 0x5a 0x1 creator_owner ∷ []
+unfolding computed
+for_the_owner_without_a_generic_right = refl
 
 generic_right : copies (plan Container) (ace kinds.Allow 0x2 0x8000_0000 users)
     ≡ ace kinds.Allow 0x10 0x120089 users ∷ ace kinds.Allow 0x1a 0x8000_0000 users ∷ []
@@ -156,6 +162,16 @@ generic_splits : taken (plan Container) (ace kinds.Audit 0x46 0x8000_0000 users)
     ≡ ace kinds.Audit 0x40 0x120089 users ∷ ace kinds.Audit 0x4e 0x8000_0000 users ∷ []
 unfolding computed
 generic_splits = refl
+
+owner_splits_without_a_generic_right : taken (plan Container) (ace kinds.Deny 0x1 0x2 creator_owner)
+    ≡ ace kinds.Deny 0x0 0x2 user ∷ ace kinds.Deny 0x9 0x2 creator_owner ∷ []
+unfolding computed
+owner_splits_without_a_generic_right = refl
+
+group_splits_without_a_generic_right : taken (plan Container) (ace kinds.Deny 0x2 0x2 creator_group)
+    ≡ ace kinds.Deny 0x0 0x2 everyone ∷ ace kinds.Deny 0xa 0x2 creator_group ∷ []
+unfolding computed
+group_splits_without_a_generic_right = refl
 
 -- all else is as it was
 
@@ -384,3 +400,16 @@ both_too_large : derive_fault (parent (acl.List (replicate 863 (for_files longes
     (acl.List (replicate 863 (for_files longest)))) None (plan File) ≡ Some (DerivedTooLarge Sacl)
 unfolding computed parent longest shortest for_files
 both_too_large = refl
+
+-- a plan's owner and its group are SIDs: each with one number too many
+
+sixteen : SecurityId
+sixteen = record { authority = 5; subs = replicate 16 0 }
+
+no_owner : IsPlan (record (plan File) { owner = sixteen }) → ⊥
+unfolding plan sixteen
+no_owner h = let more = h.owner.count in omega arith
+
+no_group : IsPlan (record (plan File) { group = sixteen }) → ⊥
+unfolding plan sixteen
+no_group h = let more = h.group.count in omega arith

@@ -1,2 +1,3 @@
 pub mod Cuts
+mod Rows
 pub mod laws

@@ -1,5 +1,6 @@
 -- Worked descriptors, printed.
-use Rattle.std.proofs.Common.{◌≡◌, [], ◌∷◌, Option, Some, None, true, false, codes, refl}
+use Rattle.std.proofs.Common.{◌≡◌, ℕ, List, [], ◌∷◌, ◌++◌, Option, Some, None, true, false, codes, refl}
+use Rattle.uuid.specs.Text.{by_index}
 use Rattle.std.specs.Fmt.{digits}
 use Rattle.sd_kinds.specs.Kinds.{kind_entry, kind_letters}
 use Rattle.sd_ace.specs.Ace.{AccessControlEntry}
@@ -13,7 +14,7 @@ use Rattle.sd_view.specs.Descriptor.{Descriptor}
 use Rattle.sd_view.specs.declared.acl.AclPart.TheVariants as acl
 use Rattle.sd_sid.specs.declared.naming.Naming.{Naming}
 use Rattle.sd_sddl_printer.specs.Printed.{ace_text, acl_flags_text, dacl_text, flags_field, group_text, kind_field}
-use Rattle.sd_sddl_printer.specs.Printed.{object_field, owner_text, rights_field, sacl_text, sddl, trustee_field}
+use Rattle.sd_sddl_printer.specs.Printed.{object_field, owner_text, plain, rights_field, sacl_text, sddl, trustee_field}
 use Rattle.sd_sddl_printer.specs.Printed.{trustee_text}
 
 -- `unfolding printed` lets `refl` compute a row
@@ -83,3 +84,56 @@ admins_in_domain = refl
 admins_in_numbers : sddl (record { domain = domain; numeric = true }) admins ≡ codes "O:S-1-5-21-1-2-3-512"
 unfolding printed domain admins
 admins_in_numbers = refl
+
+-- a null SACL with all three flags, and every other bit
+null_sacl : Descriptor
+null_sacl = record { control = 0xffff; rm = 0xab; owner = None; group = None; sacl = acl.Null; dacl = acl.Absent }
+
+null_sacl_text : sddl named null_sacl ≡ codes "S:PARAINO_ACCESS_CONTROL"
+unfolding printed named null_sacl
+null_sacl_text = refl
+
+-- what SDDL keeps of it: SR and SP, and PS, SC and SI
+null_sacl_is_kept : plain null_sacl
+    ≡ record { control = 0xaa10; rm = 0; owner = None; group = None; sacl = acl.Null; dacl = acl.Absent }
+unfolding null_sacl
+null_sacl_is_kept = refl
+
+-- of a DACL without any: SR and DP, and PD, DC and DI
+empty_dacl_is_kept : plain (record null_sacl { sacl = acl.Absent; dacl = acl.List [] })
+    ≡ record { control = 0x9504; rm = 0; owner = None; group = None; sacl = acl.Absent; dacl = acl.List [] }
+unfolding null_sacl
+empty_dacl_is_kept = refl
+
+bare_is_kept : plain (record null_sacl { sacl = acl.Absent })
+    ≡ record { control = 0x8000; rm = 0; owner = None; group = None; sacl = acl.Absent; dacl = acl.Absent }
+unfolding null_sacl
+bare_is_kept = refl
+
+-- an object ACE with either type, in a SACL that is auto-inherited, behind an empty DACL that is protected
+
+user_class : List ℕ
+user_class =
+    0xbf ∷ 0x96 ∷ 0x7a ∷ 0xba ∷ 0x0d ∷ 0xe6 ∷ 0x11 ∷ 0xd0 ∷ 0xa2 ∷ 0x85 ∷ 0x00 ∷ 0xaa ∷ 0x00 ∷ 0x30 ∷ 0x49 ∷ 0xe2 ∷ []
+
+typed : Option (List ℕ) → Option (List ℕ) → AccessControlEntry
+typed object inherited = record {
+  kind = kinds.ObjectAudit;
+  flags = 0xd3;
+  mask = 0x30;
+  object = object;
+  inherited = inherited;
+  sid = everyone;
+}
+
+typed_text : sddl named (record {
+  control = 0x9814;
+  rm = 0;
+  owner = None;
+  group = None;
+  sacl = acl.List (typed (Some user_class) None ∷ typed None (Some user_class) ∷ []);
+  dacl = acl.List [];
+}) ≡ codes "D:PS:AI(OU;OICIIDSAFA;RPWP;bf967aba-0de6-11d0-a285-00aa003049e2;;WD)"
+    ++ codes "(OU;OICIIDSAFA;RPWP;;bf967aba-0de6-11d0-a285-00aa003049e2;WD)"
+unfolding printed named typed user_class everyone by_index
+typed_text = refl

@@ -1,5 +1,6 @@
 -- Worked lines, read.
-use Rattle.std.proofs.Common.{◌≡◌, ℕ, zero, suc, List, [], ◌∷◌, ◌++◌, Option, Some, None, codes, refl, Result, Ok, Err}
+use Rattle.std.proofs.Common.{◌≡◌, ℕ, zero, suc, List, [], ◌∷◌, ◌++◌, map, replicate, Option, Some, None, codes, refl}
+use Rattle.std.proofs.Common.{Result, Ok, Err}
 use Rattle.sd_kinds.specs.Kinds.{kind_entry, kind_letters, kind_named}
 use Rattle.sd_ace.specs.Ace.{AccessControlEntry}
 use Rattle.sd_kinds.specs.Flags.{flags_reads}
@@ -248,6 +249,84 @@ no_kind = refl
 blank_field : means (codes "D:(A; ;FA;;;WD)") None ≡ Err fault.Flags
 unfolding read
 blank_field = refl
+
+-- Shape: parentheses, heads and fields, at each place one thing wrong.
+
+without_a_domain : List ℕ → Result Descriptor SddlFault
+without_a_domain text = means text None
+
+parentheses : map without_a_domain
+    (codes "(" ∷ codes ")" ∷ codes "D:(A;;FA;;;WD" ∷ codes "D:A;;FA;;;WD)" ∷ codes "D:((A;;FA;;;WD))" ∷ codes "O:(BA)"
+    ∷ codes "O:BA(A;;FA;;;WD)" ∷ codes "(A;;FA;;;WD)" ∷ codes "D:()" ∷ [])
+    ≡ replicate 9 (Err fault.Shape)
+unfolding read without_a_domain
+parentheses = refl
+
+heads : map without_a_domain
+    (codes "x" ∷ codes "xO:BA" ∷ codes "X:BA" ∷ codes ":" ∷ codes "O:B:A" ∷ codes "O :BA" ∷ codes "D:P:(A;;FA;;;WD)"
+    ∷ codes "D:(A;;FA;;;WD):" ∷ codes "G:SY:" ∷ codes "O;BA" ∷ codes "D(A;;FA;;;WD)" ∷ [])
+    ≡ replicate 11 (Err fault.Shape)
+unfolding read without_a_domain
+heads = refl
+
+behind_aces : map without_a_domain
+    (codes "D:(A;;FA;;;WD)P" ∷ codes "D:(A;;FA;;;WD) x (A;;FA;;;WD)" ∷ codes "D:(A;;FA;;;WD)(A;;FA;;WD)"
+    ∷ codes "S:(A;;FA;;;WD;)" ∷ codes "D:(A;;FA;;;WD)xS:" ∷ [])
+    ≡ replicate 5 (Err fault.Shape)
+unfolding read without_a_domain
+behind_aces = refl
+
+no_six_fields : ace_reads None (codes "A" ∷ [] ∷ codes "FA" ∷ [] ∷ codes "WD" ∷ []) ≡ Err fault.Shape
+unfolding read
+no_six_fields = refl
+
+-- a colon inside parentheses makes no head
+colon_inside : means (codes "D:(A;;FA;;;O:BA)") None ≡ Err (fault.Sid sid_fault.SidForm)
+unfolding read
+colon_inside = refl
+
+-- four heads in lower case, and blanks wherever they may stand
+lower_case : means (codes "o:bag:syd:s:") None
+    ≡ Ok (record {
+      control = 0x8014;
+      rm = 0;
+      owner = Some administrators;
+      group = Some system;
+      sacl = acl.List [];
+      dacl = acl.List [];
+    })
+unfolding read administrators system
+lower_case = refl
+
+blanks : means (codes "\t D: P \t(A;;FA;;;WD) \t(A;;FA;;;WD)\t O:\tBA \t") None
+    ≡ Ok (record (with_dacl 0x9004 (acl.List (full_access ∷ full_access ∷ []))) { owner = Some administrators })
+unfolding read with_dacl full_access everyone administrators
+blanks = refl
+
+-- no blank stands between the letters of a name, and no line feed counts as one
+no_blanks : map without_a_domain (codes "O:B A" ∷ codes "O:BA\n" ∷ codes "O:\rBA" ∷ [])
+    ≡ replicate 3 (Err (fault.Sid sid_fault.SidForm))
+unfolding read without_a_domain
+no_blanks = refl
+
+-- each part twice, in either case, and two parts that differ
+twice : map without_a_domain (codes "O:BAo:BA" ∷ codes "G:SYO:BAG:SY" ∷ codes "D:d:" ∷ codes "S:O:BAS:" ∷ [])
+    ≡ replicate 4 (Err fault.PartTwice)
+unfolding read without_a_domain
+twice = refl
+
+-- the flags of an ACL have at most 183 bytes, too
+
+letters_p : ℕ → List ℕ
+letters_p n = codes "D:" ++ replicate n 80
+
+long_flags : means (letters_p 183) None ≡ Ok (with_dacl 0x9004 (acl.List []))
+unfolding read letters_p with_dacl
+long_flags = refl
+
+longer_flags : means (letters_p 184) None ≡ Err fault.Flags
+unfolding read letters_p
+longer_flags = refl
 
 -- shape before a part that stands twice
 shape_before_twice : means (codes "O:BAO:BA(") None ≡ Err fault.Shape
