@@ -6,7 +6,8 @@ happens, an answer file that is there has to be what PROGRAM writes. The command
 1 KB. Then workers have another library, see other files, come late, are stopped, killed or all gone; the scheduler dies;
 the library answers wrongly; disks are full; runs are interrupted and done again after inputs, answers, parts, records or the
 library have changed. It needs Dask and fsspec (Debian: python3-dask, python3-distributed, python3-fsspec); without them it
-says so and tests nothing. It serves files over SFTP and HTTP where openssh-server, python3-paramiko and python3-aiohttp are. The last line is 'N passed, M failed'.
+says so and tests nothing. Servers of files need openssh-server, python3-paramiko and python3-aiohttp. The last line is
+'N passed, M failed'.
 """
 import argparse
 import bz2
@@ -19,6 +20,7 @@ import os
 import pathlib
 import pwd
 import random
+import re
 import shutil
 import signal
 import socket
@@ -148,8 +150,9 @@ def ended(child):
 
 def answers_in(out):
     """The answer files below the folder, by their names in it."""
-    paths = (path for path in out.rglob("*") if path.is_file() and "_sdtool" not in str(path.relative_to(out)))
-    return {str(path.relative_to(out)): path.read_bytes() for path in paths}
+    names = {str(path.relative_to(out)): path for path in out.rglob("*") if path.is_file()}
+    return {name: path.read_bytes() for name, path in names.items()
+            if not name.startswith("_sdtool/") and not re.search(r"(^|/)_sdtool(-part-\d+)?\.json$", name)}
 
 
 def counts_of(answers, words, data):
@@ -233,10 +236,12 @@ def test_odd_files(count, place, address):
 
 def test_places(count, place, address):
     """Folders, patterns, and files that are compressed."""
-    tree = {"in/one/same": LINE * 30, "in/two/same": LINE * 20 + b"zz\n", "in/_sdtool/run.json": b"{}", "in/two/_other": LINE}
+    tree = {"in/one/same": LINE * 30, "in/two/same": LINE * 20 + b"zz\n", "in/_sdtool/run.json": b"{}", "in/two/_other": LINE,
+            "in/two/_sdtool.json": LINE, "in/_sdtool2": LINE * 2, "in/two/_sdtool-part": LINE * 3}
     for name, data in tree.items():
         place.write(name, data)
-    wanted = {name[3:]: place.wanted(["convert"], name)[0] for name in tree if "_sdtool" not in name}
+    of_runs = {"in/_sdtool/run.json", "in/two/_sdtool.json"}
+    wanted = {name[3:]: place.wanted(["convert"], name)[0] for name in tree if name not in of_runs}
     for given in "in", f"file://{place.folder}/in":
         out = place.out()
         got = place.run(out, ["convert"], [given], ["--scheduler", address])
@@ -272,7 +277,7 @@ def test_places(count, place, address):
 def test_memory(count, place):
     """Inputs and output in the memory of the process."""
     place.write("some", LINE * 30 + b"zz\n" + LINE * 300)
-    code = f"""
+    code = """
 import fsspec, sys
 from sdtool import distributed
 data = open("some", "rb").read()

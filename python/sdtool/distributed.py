@@ -34,7 +34,8 @@ import sdtool
 
 READ, SEEK, PACKED = 4 << 20, 1 << 16, 1 << 12  # bytes of a request; what is packed may become 32,000 times as long
 LONGEST_LINE = 2 << 20  # bytes; no form has a line as long, so one that is longer is answered like its front
-OURS = "_sdtool"  # names of files that are not answers begin so
+OURS = "_sdtool"  # the folder of runs, and how their other files begin
+OF_RUNS = re.compile(rf"(^|/){OURS}(/|(-part-\d+)?\.json$)")
 VERSION_KEYS = {"ino", "ETag", "etag", "VersionId", "generation", "md5Hash"}  # with one, each change of a file shows
 STREAMS = {None, "gzip", "bz2", "xz", "zstd"}
 SETUP_SECONDS, SILENT_SECONDS = 10, 15  # a worker that takes longer to set up joins when it is ready
@@ -296,7 +297,7 @@ class Work(WorkerPlugin):
         is_ours = (fs, path) != (self.fs, answers) and self.read_record(f"{folder}/{OURS}.json")
         for wrong, is_so in {
                 "is not a regular file": given.told["type"] != "file",
-                "has a name that is kept for runs": name.startswith(OURS),
+                "has a name that is kept for runs": name == OURS,
                 "is compressed in a way that is not read here": compression not in STREAMS,
                 "has the answers of another input; give the folder of both": taken & {answers, f"{answers}/", *above},
                 f"has answers at {answers}, which no run wrote": self.fs.exists(answers) and not is_ours}.items():
@@ -320,7 +321,7 @@ class Work(WorkerPlugin):
             if not names:
                 raise ValueError(f"{url}: no regular file has such a name")
             for each, name in names.items():
-                if not is_folder or f"/{OURS}" not in f"/{name}":
+                if not is_folder or not OF_RUNS.search(name):  # of a folder with answers, only these are inputs
                     self.take(fs, each, name, taken)
         self.fs.makedirs(self.ours, exist_ok=True)
         for given in self.inputs:
