@@ -257,6 +257,12 @@ def _mask_of(line: str) -> Union[int, Refusal]:
     raise AnswersFault(f"no verdict: {line!r}")
 
 
+def _single(rights: int) -> List[int]:
+    """Rights that GENERIC_ALL doesn't include, which are asked for one by one."""
+    rest = rights & ~GENERIC & ~SYSTEM_SECURITY
+    return [1 << place for place in range(32) if rest >> place & 1]
+
+
 def granted(form: str, texts: Sequence[str], token: Token, kind: str, rights: int, domain: str = "",
             object_type: str = "") -> List[Union[int, Refusal]]:
     """Which of these single rights each descriptor grants to a token."""
@@ -266,12 +272,35 @@ def granted(form: str, texts: Sequence[str], token: Token, kind: str, rights: in
     if rights & everything:
         masks = [mask if isinstance(mask, Refusal) else mask & rights
                  for mask in map(_mask_of, _ask([*words, "--maximum"], texts))]
-    # Rights that GENERIC_ALL doesn't include are asked for one by one.
-    rest = rights & ~everything & ~GENERIC
-    for bit in (1 << place for place in range(32) if rest >> place & 1 and 1 << place != SYSTEM_SECURITY):
+    for bit in _single(rights & ~everything):
         for at, mask in enumerate(map(_mask_of, _ask([*words, "--want", hex(bit)], texts))):
             before = masks[at]
             masks[at] = mask if isinstance(mask, Refusal) else before if isinstance(before, Refusal) else before | mask
+    return masks
+
+
+def layouts(form: str, texts: Sequence[str], domain: str = "") -> List[bytes]:
+    """The bytes of descriptors that explain has read."""
+    found = converted(form, texts, "hex", domain)
+    for one in found:
+        if isinstance(one, Refusal):
+            raise AnswersFault(f"a descriptor was explained and isn't converted: {one.line}")
+    return [bytes.fromhex(one) for one in found]  # type: ignore[arg-type]
+
+
+def granted_by_each(descriptors: Sequence[bytes], token: Token, kind: str, rights: int, object_type: str = "") -> List[int]:
+    """What granted gives, for a few descriptors: it starts the program, which takes as long as twenty checks."""
+    holder = sdtool.Token([sid for sid in token.sids if sid[:1] != "!"], level=token.level,
+                          deny_only=[sid[1:] for sid in token.sids if sid[:1] == "!"])
+    name, everything = MAPPINGS[kind]
+    others = {"mapping": name, "object_type": object_type or None, "principal_self": token.principal_self or None}
+    masks = [0] * len(descriptors)
+    if rights & everything:
+        ask = sdtool.Checker(holder, maximum=True, **others)  # type: ignore[arg-type]
+        masks = [verdict.mask & rights if verdict.granted else 0 for verdict in map(ask, descriptors)]
+    for bit in _single(rights & ~everything):
+        ask = sdtool.Checker(holder, bit, **others)  # type: ignore[arg-type]
+        masks = [mask | bit if ask(descriptor).granted else mask for mask, descriptor in zip(masks, descriptors)]
     return masks
 
 

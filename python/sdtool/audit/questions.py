@@ -4,7 +4,7 @@ from typing import Dict, Iterable, List, NamedTuple, Optional, Sequence, Tuple, 
 from sdtool.audit import names as sids
 from sdtool.audit import rights
 from sdtool.audit.answers import (ALLOWS, DENIES, OTHERS, Ace, AnswersFault, Descriptor, Refusal, Token, explained, granted,
-                                  mapped, reason_of)
+                                  granted_by_each, layouts, mapped, reason_of)
 from sdtool.audit.groups import Groups, Membership
 from sdtool.audit.names import Names
 
@@ -76,8 +76,11 @@ def trustee_token(sid: str) -> Token:
     return Token(tuple(dict.fromkeys([sid, sids.EVERYONE, sids.AUTHENTICATED_USERS])))
 
 
+_FEW = 20  # checks of a token that are done one by one
+
+
 class Checks:
-    """Checks of many descriptors, asked together: for each token one run over the descriptors that need it."""
+    """Checks of many descriptors, asked together: a token that many need in one run, and the other tokens one by one."""
 
     def __init__(self, form: str, texts: Sequence[str], kind: str, mask: int, domain: str) -> None:
         self._form, self._texts, self._kind, self._mask, self._domain = form, texts, kind, mask, domain
@@ -87,13 +90,19 @@ class Checks:
         self._asked.setdefault((token, object_type), {})[at] = None
 
     def run(self) -> None:
+        apart = list(dict.fromkeys(at for asked in self._asked.values() if len(asked) < _FEW for at in asked))
+        bytes_of = dict(zip(apart, layouts(self._form, [self._texts[at] for at in apart], self._domain)))
         for (token, object_type), asked in self._asked.items():
-            places = list(asked)
-            masks = granted(self._form, [self._texts[at] for at in places], token, self._kind, self._mask, self._domain,
+            if len(asked) < _FEW:
+                asked.update(zip(asked, granted_by_each([bytes_of[at] for at in asked], token, self._kind, self._mask,
+                                                        object_type)))
+                continue
+            masks = granted(self._form, [self._texts[at] for at in asked], token, self._kind, self._mask, self._domain,
                             object_type)
-            for at, mask in zip(places, masks):
-                # The descriptor was read before, so the check has read it too.
-                asked[at] = 0 if isinstance(mask, Refusal) else mask
+            for at, mask in zip(asked, masks):
+                if isinstance(mask, Refusal):
+                    raise AnswersFault(f"a descriptor was explained and isn't checked: {mask.line}")
+                asked[at] = mask
 
     def mask(self, at: int, token: Token, object_type: str = "") -> int:
         found = self._asked[token, object_type][at]
