@@ -1,7 +1,8 @@
 #!/usr/bin/env bash
 # Builds Debian packages from what `make install` installs, the program with its man page, documents and completions, the
 # shared library, and what a C compiler needs to use it; and from the Python module and its command for audits.
-# out/PACKAGE_VERSION_ARCHITECTURE.deb; with the word arm64 those of program and library that 'make linux-aarch64' built, in out/dist
+# out/PACKAGE_VERSION_ARCHITECTURE.deb; with the word arm64 those of program, library and module with what 'make linux-aarch64'
+# built, in out/dist. The module's extension is compiled for the same architecture.
 set -eu
 cd "$(dirname "$0")/.."
 version=$(sed -n 's/^Version: //p' packaging/control)
@@ -77,6 +78,11 @@ move "$program" "$development" usr/include usr/share/man/man3
 rmdir "$program/usr/lib"
 install -d "$modules"
 tar -C python -c --exclude=__pycache__ --exclude='*.so' sdtool | tar -C "$modules" -x
+extension=$modules/sdtool/_native.abi3.so
+# Where it cannot be compiled, a line says why, and the module's calls go through ctypes.
+packaging/extension.py "linux-$(dpkg-architecture -a "$architecture" -qDEB_HOST_GNU_CPU 2> /dev/null)" "$extension" || extension=
+rm "$modules/sdtool/_native.c"
+[[ -z $extension ]] || chmod 644 "$extension"
 
 audit=$work/sdtool-audit
 move "$work/python3-sdtool" "$audit" usr/lib/python3/dist-packages/sdtool/audit
@@ -95,7 +101,5 @@ mkdir -p "$packages"
 build sdtool "$([[ $# != 0 ]] || echo "$program/usr/bin/sdtool")"
 build libsdtool0 "$library/$libraries/$soname"
 build libsdtool-dev
-if [[ $# == 0 ]]; then
-    build python3-sdtool
-    build sdtool-audit
-fi
+build python3-sdtool "$extension"
+[[ $# != 0 ]] || build sdtool-audit

@@ -3,39 +3,58 @@
 
 Makes a Python wheel for each system, with the library in it, in out/dist: it needs nothing else of the system. SYSTEM is
 linux-x86_64, linux-aarch64 or windows-x86_64, of which 'make systems' built the library. The tag of a wheel for Linux names
-the C library that its library needs.
+the C library that it needs.
+
+A wheel has the module's extension too, where a compiler for the system and Python.h are there. Its tag names no ABI of
+Python: an interpreter that cannot load the extension, such as PyPy or a CPython without a global lock, makes the same calls
+through ctypes.
 """
 import pathlib
 import re
 import sys
+import tempfile
 
 TOP = pathlib.Path(__file__).resolve().parents[1]
 sys.dont_write_bytecode = True
 sys.path.insert(0, str(TOP / "python"))
 import build_wheel  # noqa: E402
+import extension  # noqa: E402
 
 # pip knows no older tag for arm64.
 OLDEST = {"linux-x86_64": (2, 5), "linux-aarch64": (2, 17)}
 
 
-def platform_of(system, library):
+def platform_of(system, binaries):
     """The platform of a wheel's tag."""
     if system == "windows-x86_64":
         return "win_amd64"
-    needed = {(int(major), int(minor)) for major, minor in re.findall(rb"GLIBC_(\d+)\.(\d+)", library)}
+    needed = {(int(major), int(minor)) for major, minor in re.findall(rb"GLIBC_(\d+)\.(\d+)", binaries)}
     major, minor = max(needed | {OLDEST[system]})
     return f"manylinux_{major}_{minor}_{system.removeprefix('linux-')}"
+
+
+def binaries_of(system):
+    """The library and the extension, each as a name and its bytes."""
+    name = "sdtool.dll" if system == "windows-x86_64" else "libsdtool.so.0"
+    yield f"sdtool/{name}", (TOP / "out" / "systems" / system / name).read_bytes()
+    problem = extension.missing(system)
+    if problem:
+        print(f"{system}: a wheel without the extension, since {problem}")
+        return
+    with tempfile.TemporaryDirectory() as folder:
+        target = pathlib.Path(folder, extension.FILES[system])
+        extension.compile_extension(system, target)
+        yield f"sdtool/{target.name}", target.read_bytes()
 
 
 def main():
     folder = TOP / "out" / "dist"
     folder.mkdir(parents=True, exist_ok=True)
     for system in sys.argv[1:]:
-        name = "sdtool.dll" if system == "windows-x86_64" else "libsdtool.so.0"
-        library = (TOP / "out" / "systems" / system / name).read_bytes()
+        binaries = list(binaries_of(system))
         files = [(str(path.relative_to(build_wheel.HERE)), path.read_bytes()) for path in build_wheel.module_files()]
-        print(folder / build_wheel.write_wheel(folder, [*files, (f"sdtool/{name}", library)],
-                                               f"py3-none-{platform_of(system, library)}"))
+        print(folder / build_wheel.write_wheel(folder, [*files, *binaries],
+                                               f"py3-none-{platform_of(system, b''.join(data for _, data in binaries))}"))
 
 
 if __name__ == "__main__":

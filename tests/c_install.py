@@ -20,6 +20,10 @@ sys.dont_write_bytecode = True
 import preload  # noqa: E402
 
 TOP = pathlib.Path(__file__).resolve().parent.parent
+sys.path.insert(0, str(TOP / "packaging"))
+import extension  # noqa: E402
+
+EXTENSION = extension.FILES["linux-x86_64"]  # of the Python module, on any Linux
 PREFIX = "/opt/sdtool"
 WARNINGS = ["-Wall", "-Wextra", "-Wpedantic", "-Werror"]
 SECONDS = 120
@@ -45,7 +49,8 @@ FILES_OF_PACKAGES = {
     "libsdtool0": {f"libsdtool.so.{VERSION}", "libsdtool.so.0"},
     "libsdtool-dev": {"sdtool.h", "libsdtool.a", "libsdtool.so", "sdtool.pc", *(f"{name}.gz" for name in PAGES)},
     "python3-sdtool": {path.name for path in (TOP / "python/sdtool").rglob("*")
-                       if path.is_file() and path.suffix not in (".so", ".pyc") and path.parent.name != "audit"},
+                       if path.is_file() and path.suffix not in (".c", ".so", ".pyc") and path.parent.name != "audit"}
+                      | ({EXTENSION} if not extension.missing(f"linux-{os.uname().machine}") else set()),
     "sdtool-audit": {"sdtool-audit", "sdtool-audit.1.gz", *(path.name for path in (TOP / "python/sdtool/audit").glob("*.py"))},
 }
 EXPECTED = f"{VERSION}\n{LAYOUT} {SDDL}\nerror 20\n"
@@ -181,9 +186,10 @@ def test_packages(count, folder):
         files = {pathlib.Path(name).name for name in listed if "/doc/" not in name and not name.endswith("/")}
         count.add(wanted == files, f"{path} has {files}")
     libraries = next(root.rglob("libsdtool.a")).parent
-    answer = ran([sys.executable, "-B", "-c", "import sdtool; print(sdtool.version())"],
+    code = "import sdtool, sys; print(sdtool.version(), 'sdtool._native' in sys.modules)"
+    answer = ran([sys.executable, "-B", "-c", code],
                  env={**os.environ, "PYTHONPATH": str(next(root.rglob("dist-packages"))), "LD_LIBRARY_PATH": str(libraries)})
-    count.add(answer == (VERSION + "\n", 0), f"python3-sdtool: {answer}")
+    count.add(answer == (f"{VERSION} {EXTENSION in FILES_OF_PACKAGES['python3-sdtool']}\n", 0), f"python3-sdtool: {answer}")
     test_programs(count, "make deb", folder, environment(root, libraries))
     if shutil.which("lintian"):
         printed, status = ran(["lintian", "--allow-root", "--fail-on", "error,warning", *packages])

@@ -23,6 +23,7 @@ import re
 import subprocess
 import sys
 import threading
+import time
 import uuid
 
 sys.dont_write_bytecode = True
@@ -54,6 +55,7 @@ NAMES = {name: getattr(sdtool, name) for name in sdtool.__all__}
 OBJECT_CLASS = uuid.UUID("bf967aba-0de6-11d0-a285-00aa003049e2")
 READ = 0x120089
 DOMAIN = "S-1-5-21-1-2-3"
+MOST_SECONDS = 20  # that a thread waits for others
 
 
 def raised(call, *arguments, **named):
@@ -369,6 +371,195 @@ def test_threads_and_processes(count):
     count.add(isinstance(problem, sdtool.Fault) and problem.line == "error 5 short", f"a fault of a process: {problem!r}")
 
 
+def ran(code, *words, python=sys.executable, **environment):
+    """What a program prints on both streams, and its status. It has the module as it is tested here."""
+    before = "import sys; sys.modules['sdtool._native'] = None\n" if WITHOUT_EXTENSION in sys.argv else ""
+    ended = subprocess.run([python, *words, "-c", before + code], stdout=subprocess.PIPE, stderr=subprocess.STDOUT, check=False,
+                           text=True, env={**os.environ, "PYTHONPATH": str(TOP / "python"), **environment})
+    return ended.stdout, ended.returncode
+
+
+def test_modes(count):
+    """With all warnings as errors, with those of bytes beside text, in Python's development mode, and without assertions."""
+    code = """
+import sdtool, pickle, uuid
+whole = sdtool.SecurityDescriptor.from_sddl("O:BAG:SYD:PAI(A;OICI;FR;;;BU)(OA;;CR;bf967aba-0de6-11d0-a285-00aa003049e2;;AU)")
+again = whole.replace(owner="BU", group=b"", dacl=[*whole.dacl][:1])
+print(again, again.group, repr(sdtool.Sid("BA")), f"{sdtool.Sid('BA')}", pickle.loads(pickle.dumps(again)) == again)
+print(sdtool.Checker(sdtool.Token(["BU"]), 1, principal_self="BA", object_type=str(uuid.UUID(int=0)))(whole))
+print(list(sdtool.lines(["zz", ""], ["convert"])))
+"""
+    expected = ("O:BUD:PAI(A;OICI;FR;;;BU) None Sid('S-1-5-32-544') S-1-5-32-544 True\nVerdict(granted=True, mask=1)\n"
+                "['error 2 hex-digit', '']\n")
+    for words in (["-W", "error"], ["-bb", "-W", "error"], ["-X", "dev", "-W", "error"], ["-O"], ["-OO"], ["-I"], ["-S"]):
+        if "-I" in words:  # without the path of the environment
+            found = ran(f"import sys; sys.path.insert(0, {str(TOP / 'python')!r})\n{code}", *words)
+        else:
+            found = ran(code, *words)
+        count.add(found == (expected, 0), f"python {words}: {found}")
+
+
+def test_interpreters(count):
+    """Interpreters of one process have a module each. One that cannot load it says so and does no harm."""
+    code = """
+import sdtool, threading
+try:
+    import _xxsubinterpreters as interpreters
+except ImportError:
+    import _interpreters as interpreters
+own = sdtool.SecurityDescriptor.from_sddl("D:(A;;FR;;;BU)")
+inside = "import sdtool; assert sdtool.SecurityDescriptor.from_sddl('D:(A;;FR;;;BU)').dacl[0].sid == sdtool.Sid('BU')"
+for _ in range(3):
+    one = interpreters.create()
+    try:
+        problem = interpreters.run_string(one, inside)
+    except Exception as raised:
+        problem = raised
+    if problem is not None and "ImportError" not in str(problem) and "does not support loading in subinterpreters" not in str(problem):
+        print(problem)
+    interpreters.destroy(one)
+print(own.dacl[0].sid.alias(), own == sdtool.SecurityDescriptor.from_sddl("D:(A;;FR;;;BU)"))
+"""
+    if raised(__import__, "_xxsubinterpreters") is not None and raised(__import__, "_interpreters") is not None:
+        print("skipped: this Python has no module for interpreters")
+        return
+    found = ran(code, "-W", "ignore")
+    count.add(found == ("BU True\n", 0), f"interpreters: {found}")
+
+
+def test_leaks(count):
+    """Calls of each kind, also ones that are refused, leave no memory behind."""
+    code = r"""
+import gc, resource, sdtool
+from sdtool import Acl, Checker, SecurityDescriptor, Sid, Token
+text = "O:BAG:SYD:PAI(A;OICI;FR;;;BU)(OA;;CR;bf967aba-0de6-11d0-a285-00aa003049e2;;AU)S:(AU;SA;FA;;;WD)"
+whole = SecurityDescriptor.from_sddl(text)
+checker = Checker(Token(["BU", "WD"]), maximum=True)
+view = memoryview(bytearray(whole.bytes))
+def refused(call, *arguments):
+    try:
+        call(*arguments)
+    except (sdtool.Error, TypeError, AttributeError, OverflowError):
+        return
+    raise SystemExit(f"{call} takes {arguments}")
+def once(number):
+    one = SecurityDescriptor.from_sddl(text)
+    [(ace.kind, ace.flags, ace.mask, ace.sid, ace.object_type) for acl in (one.dacl, one.sacl) for ace in acl]
+    SecurityDescriptor.from_bytes(view).sddl(), checker(view), checker(descriptor=one), list(checker.many([one, view, b""]))
+    one.check(Token([Sid(f"S-1-5-{number}")]), 1), one.derive("BA", "BA"), one.replace(dacl=Acl.NULL), one.explain(), repr(one)
+    Sid(f"S-1-5-21-1-{number}").alias(), sdtool.run(["convert"], b"zz"), list(sdtool.lines(["D:"], ["convert", "--from", "sddl"]))
+    refused(SecurityDescriptor.from_sddl, "D:(A;;FA;;;Everyone)"), refused(SecurityDescriptor.from_sddl, "O:\ud800")
+    refused(SecurityDescriptor.from_sddl, 1), refused(SecurityDescriptor.from_bytes, None), refused(checker, b""), refused(checker)
+    refused(checker, 1, 2), refused(list, checker.many([1])), refused(Sid, b"x"), refused(one.replace, "x")
+    refused(checker, SecurityDescriptor.__new__(SecurityDescriptor)), refused(Checker.__new__(Checker), one)
+def peak():
+    gc.collect()
+    return resource.getrusage(resource.RUSAGE_SELF).ru_maxrss
+for number in range(ROUNDS):
+    once(number)
+before = peak()
+for number in range(ROUNDS, 4 * ROUNDS):
+    once(number)
+print(peak() - before)
+"""
+    printed, status = ran(code.replace("ROUNDS", "1500"))
+    count.add(status == 0 and printed.strip().isdigit() and int(printed) < 1024, f"KiB that calls leave: {printed}")
+
+
+def test_no_memory(count):
+    """Each allocation of Python in turn is refused: a MemoryError, and the next call is right."""
+    code = r"""
+import _testcapi, sdtool
+from sdtool import Checker, SecurityDescriptor, Sid, Token
+text = "O:BAG:SYD:PAI(A;OICI;FR;;;BU)(OA;;CR;bf967aba-0de6-11d0-a285-00aa003049e2;;AU)S:(AU;SA;FA;;;S-1-5-21-1-2-3-NUMBER)"
+large = "D:" + "(A;;FR;;;S-1-5-21-1-2-3-4)" * 300
+checker = Checker(Token(["BU", "WD"]), maximum=True)
+data = SecurityDescriptor.from_sddl(text.replace("NUMBER", "1")).bytes
+def calls(number):
+    yield lambda: SecurityDescriptor.from_sddl(text.replace("NUMBER", str(number))).sacl[0].sid == Sid(f"S-1-5-21-1-2-3-{number}")
+    yield lambda: len(SecurityDescriptor.from_sddl(large).dacl) == 300
+    yield lambda: SecurityDescriptor.from_bytes(data).sddl() == text.replace("NUMBER", "1")
+    yield lambda: checker(data) == (True, 0x120089)
+    yield lambda: [str(one)[:7] for one in checker.many([data, b""])] == ["Verdict", "error 5"]
+    yield lambda: Token([Sid(f"S-1-5-21-9-{number}")]).sids[0].alias() is None
+    yield lambda: SecurityDescriptor.from_bytes(data).replace(owner="BU").owner.alias() == "BU"
+    yield lambda: sdtool.run(["convert"], b"zz").output == b"error 2 hex-digit\n"
+refused = 0
+for at in range(120):
+    for call in calls(at):
+        try:
+            _testcapi.set_nomemory(at, at + 1)
+            answer = call()
+        except MemoryError:
+            refused += 1
+            answer = True
+        finally:
+            _testcapi.remove_mem_hooks()
+        if not (answer and call()):
+            print("a wrong answer", at)
+print("refused", refused > 200)
+"""
+    if WITHOUT_EXTENSION in sys.argv:
+        return  # ctypes gives another exception than a MemoryError
+    if raised(__import__, "_testcapi") is not None:
+        print("skipped: this Python has no _testcapi, which refuses memory")
+        return
+    found = ran(code, "-W", "ignore")
+    count.add(found == ("refused True\n", 0), f"without memory: {found}")
+
+
+def test_long_calls_in_threads(count):
+    """Other threads run while a call takes long."""
+    text = "D:" + "(A;;FR;;;S-1-5-21-1-2-3-4)" * 1700
+    descriptor = SecurityDescriptor.from_sddl(text)
+    calls = [lambda: SecurityDescriptor.from_sddl(text), lambda: SecurityDescriptor.from_bytes(descriptor.bytes), descriptor.sddl,
+             descriptor.explain, lambda: sdtool.run(["convert", "--from", "sddl"], text.encode() * 3),
+             lambda: Checker(Token(["WD"]), READ)(descriptor), lambda: list(Checker(Token(["WD"]), READ).many([descriptor] * 9))]
+    for call in calls:
+        expected, ended, answers = call(), threading.Event(), []
+
+        def work():
+            end = time.monotonic() + MOST_SECONDS
+            while not ended.is_set() and time.monotonic() < end:
+                if call() != expected:
+                    answers.append("another answer")
+                answers[:1] = answers[:1] or ["some"]
+            if not ended.is_set():
+                answers.append("no other thread ran")
+
+        interval = sys.getswitchinterval()
+        sys.setswitchinterval(1000)  # so this thread goes on only where the other one lets it
+        try:
+            thread = threading.Thread(target=work)
+            thread.start()
+            while not answers:
+                time.sleep(0.001)
+            ended.set()
+            thread.join()
+        finally:
+            sys.setswitchinterval(interval)
+        count.add(answers == ["some"], f"long calls in threads: {answers[:3]}")
+
+
+def test_once(count):
+    """An object that is there cannot be made again, and no way around its checks makes one."""
+    for value, again in ((SecurityDescriptor(), {"owner": "BA"}), (Acl(), {}), (Token([]), {"sids": ["BA"]}),
+                         (Checker(Token([]), 1), {"token": Token(["BA"])})):
+        before = (hash(value), repr(value))
+        problem = raised(value.__init__, **again)
+        count.add(isinstance(problem, AttributeError) and (hash(value), repr(value)) == before, f"{value!r} made again: {problem!r}")
+    ace = Ace(0, 0, READ, "BU")
+    for made in (lambda: Ace._make([3, 0, READ, "BU"]), lambda: ace._replace(kind=3), lambda: ace._replace(mask=-1)):
+        count.add(isinstance(raised(made), sdtool.ArgumentFault), "an ACE that cannot be")
+    count.add(Ace._make(ace) == ace and type(Ace._make(ace)) is Ace and ace._replace(mask=1) == ace.replace(mask=1), "ACEs by tuples")
+    whole = SecurityDescriptor.from_sddl("O:BAD:(A;;FR;;;BU)")
+    if hasattr(copy, "replace"):
+        count.add(copy.replace(whole, owner="SY") == whole.replace(owner="SY") and copy.replace(ace, mask=1).mask == 1, "copy.replace")
+    for make in (lambda: SecurityDescriptor.__new__(SecurityDescriptor).owner, lambda: Checker.__new__(Checker)(whole),
+                 lambda: len(Acl.__new__(Acl)), lambda: whole.check(Token.__new__(Token), 1)):
+        count.add(isinstance(raised(make), (AttributeError, TypeError)), "an object whose __init__ was not called")
+
+
 def test_examples(count):
     for module in (sdtool,):
         result = doctest.testmod(module)
@@ -465,7 +656,8 @@ def main():
     arguments = parser.parse_args()
     count = preload.Count()
     tests = [test_rows, test_sids, test_acls, test_aces, test_names, test_building, test_values, test_tokens, test_questions,
-             test_many, test_threads_and_processes, test_examples, test_document]
+             test_many, test_threads_and_processes, test_modes, test_interpreters, test_leaks, test_no_memory,
+             test_long_calls_in_threads, test_once, test_examples, test_document]
     for test in tests:
         test(count)
     if hypothesis:

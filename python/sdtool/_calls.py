@@ -33,8 +33,7 @@ def to_sddl(descriptor: DescriptorLike, *, domain: Optional[SidLike] = None, num
         ...
     sdtool.Fault: error 5 short: fewer than 20 bytes
     """
-    return _library.to_sddl(layout_of("descriptor", descriptor), sid_or_none("domain", domain),
-                            _arguments.flag("numeric", numeric))
+    return _library.to_sddl(descriptor, domain, _arguments.flag("numeric", numeric))
 
 
 def from_sddl(text: str, *, domain: Optional[SidLike] = None) -> bytes:
@@ -67,7 +66,7 @@ def from_sddl(text: str, *, domain: Optional[SidLike] = None) -> bytes:
     ...     print(fault.line)
     error 20 shape
     """
-    return _library.from_sddl(_arguments.text("text", text), sid_or_none("domain", domain))
+    return _library.from_sddl(text, domain)
 
 
 def normalize(descriptor: DescriptorLike) -> bytes:
@@ -76,7 +75,7 @@ def normalize(descriptor: DescriptorLike) -> bytes:
     >>> normalize(from_sddl("D:P")) == from_sddl("D:P")
     True
     """
-    return _library.normalize(layout_of("descriptor", descriptor))
+    return _library.normalize(descriptor)
 
 
 def explain(descriptor: DescriptorLike, *, domain: Optional[SidLike] = None, numeric: bool = False) -> str:
@@ -92,8 +91,7 @@ def explain(descriptor: DescriptorLike, *, domain: Optional[SidLike] = None, num
     sacl absent
     end
     """
-    return _library.explain(layout_of("descriptor", descriptor), sid_or_none("domain", domain),
-                            _arguments.flag("numeric", numeric))
+    return _library.explain(descriptor, domain, _arguments.flag("numeric", numeric))
 
 
 def check(descriptor: DescriptorLike, sids: Iterable[SidLike], *, deny_only: Iterable[SidLike] = (), wanted: int = 0,
@@ -133,7 +131,7 @@ def check(descriptor: DescriptorLike, sids: Iterable[SidLike], *, deny_only: Ite
         _arguments.number("wanted", wanted), _arguments.word("mapping", mapping, MAPPINGS),
         0 if level is None else _arguments.number("level", level), level is not None, _arguments.flag("maximum", maximum),
         _arguments.flag("security", security), _arguments.flag("take_ownership", take_ownership))
-    return Verdict(*_library.check(question, data))
+    return _library.check(question, data)
 
 
 def derive(parent: DescriptorLike, owner: SidLike, group: SidLike, *, kind: Kind = "file",

@@ -1,10 +1,11 @@
-"""The calls of include/sdtool.h by ctypes, where _native is not built. Both have the same functions, of which _native.pyi
+"""The calls of include/sdtool.h by ctypes, where _native is not there. Both have the same functions, of which _native.pyi
 has the signatures; here each call takes about ten times as long beside the library's own time."""
 import ctypes
 from typing import Any, Callable, Iterator, List, NoReturn, Optional, Sequence, Tuple
 
 _FIRST_SIZE = 4096  # larger answers take a second call
 _OK, _TOO_SMALL = 0, 71
+_NULL, _LIST = 1, 2
 _STATUS_STOPPED, _STATUS_NO_MEMORY = 3, 4
 _NO_MEMORY = 72
 _MOST_MESSAGE = 64
@@ -91,12 +92,69 @@ _CALLS: Tuple[Tuple[str, Sequence[Any], Any], ...] = (
 
 _library: Any = None
 _raises: Callable[[int, int, int, int, int], NoReturn]
+# What adopt() is given.
+_descriptor_type: Any
+_acl_type: Any
+_acl_absent: Any
+_acl_null: Any
+_verdict_type: Any
+_ace_type: Any
+_sid_type: Any
+_kinds: Tuple[Any, ...]
+_flags: Tuple[Any, ...]
+_fault_of: Callable[..., Any]
+_no_list: Callable[..., NoReturn]
+_read_text: Callable[..., bytes]
+_read_sid: Callable[..., bytes]
+_read_layout: Callable[..., bytes]
+_read_guid: Callable[[bytes], Any]
 
 
-def load(path: bytes, raises: Callable[[int, int, int, int, int], NoReturn]) -> None:
+class Layout:
+    __slots__ = ("_data", "_found")
+    _data: bytes
+    _found: Optional[Tuple[Any, ...]]
+
+
+_set_data, _set_found = (Layout.__dict__[name].__set__ for name in Layout.__slots__)
+
+
+class Entries:
+    __slots__ = ("_state", "_data", "_count", "_aces")
+    _state: int
+    _data: Optional[bytes]  # of a list in a descriptor, whose ACEs are made when they are asked for
+    _count: int
+    _aces: Optional[Tuple[Any, ...]]
+
+    def _list(self) -> Tuple[Any, ...]:
+        if self._state != _LIST:
+            _no_list(self)
+        if self._aces is None:
+            _set_aces(self, _aces_of(self._data or b"", self._count))
+        return self._aces or ()
+
+    def __iter__(self) -> Iterator[Any]:
+        return iter(self._list())
+
+    def __len__(self) -> int:
+        return len(self._list())
+
+
+_set_state, _set_bytes, _set_count, _set_aces = (Entries.__dict__[name].__set__ for name in Entries.__slots__)
+
+
+class Asking:
+    __slots__ = ("_question",)
+    _question: Any
+
+    def __call__(self, descriptor: Any) -> Any:
+        return check(self._question, descriptor)
+
+
+def load(path: str, raises: Callable[[int, int, int, int, int], NoReturn]) -> None:
     """Opens the library. An OSError says why that fails. raises is called with the numbers of a fault."""
     global _library, _raises
-    library = ctypes.CDLL(path.decode("utf-8", "surrogateescape"))
+    library = ctypes.CDLL(path)
     for name, arguments, answer in _CALLS:
         try:
             call = getattr(library, "sdtool_" + name)
@@ -105,6 +163,17 @@ def load(path: bytes, raises: Callable[[int, int, int, int, int], NoReturn]) -> 
         call.argtypes = list(arguments)
         call.restype = answer
     _library, _raises = library, raises
+
+
+def adopt(descriptor: Any, acl: Any, absent: Any, null: Any, verdict: Any, ace: Any, sid: Any, kinds: Tuple[Any, ...],
+          flags: Tuple[Any, ...], fault_of: Callable[..., Any], no_list: Callable[..., NoReturn],
+          read_text: Callable[..., bytes], read_sid: Callable[..., bytes], read_layout: Callable[..., bytes],
+          read_guid: Callable[[bytes], Any]) -> None:
+    global _descriptor_type, _acl_type, _acl_absent, _acl_null, _verdict_type, _ace_type, _sid_type, _kinds, _flags
+    global _fault_of, _no_list, _read_text, _read_sid, _read_layout, _read_guid
+    _descriptor_type, _acl_type, _acl_absent, _acl_null, _verdict_type = descriptor, acl, absent, null, verdict
+    _ace_type, _sid_type, _kinds, _flags, _fault_of, _no_list = ace, sid, kinds, flags, fault_of, no_list
+    _read_text, _read_sid, _read_layout, _read_guid = read_text, read_sid, read_layout, read_guid
 
 
 def _refuse(outcome: Any) -> NoReturn:
@@ -137,20 +206,43 @@ def fault_text(number: int) -> str:
     return _text(_library.sdtool_fault_text, number)
 
 
-def normalize(descriptor: bytes) -> bytes:
-    return _answer(_library.sdtool_normalize, descriptor, len(descriptor))
+def _layout_of(name: str, descriptor: Any) -> bytes:
+    data = _read_layout(name, descriptor)
+    return _answer(_library.sdtool_normalize, data, len(data))
 
 
-def from_sddl(text: bytes, domain: bytes) -> bytes:
-    return _answer(_library.sdtool_from_sddl, text, len(text), domain, len(domain))
+def _descriptor_of(data: bytes) -> Any:
+    descriptor = object.__new__(_descriptor_type)
+    _set_data(descriptor, data)
+    _set_found(descriptor, None)
+    return descriptor
 
 
-def to_sddl(descriptor: bytes, domain: bytes, numeric: bool) -> str:
-    return _text(_library.sdtool_to_sddl, descriptor, len(descriptor), domain, len(domain), numeric)
+def normalize(descriptor: Any) -> bytes:
+    return _layout_of("descriptor", descriptor)
 
 
-def explain(descriptor: bytes, domain: bytes, numeric: bool) -> str:
-    return _text(_library.sdtool_explain, descriptor, len(descriptor), domain, len(domain), numeric)
+def from_sddl(text: str, domain: Any) -> bytes:
+    spelled, of = _read_text("text", text), _read_sid("domain", domain)
+    return _answer(_library.sdtool_from_sddl, spelled, len(spelled), of, len(of))
+
+
+def descriptor_of_sddl(text: str, domain: Any) -> Any:
+    return _descriptor_of(from_sddl(text, domain))
+
+
+def descriptor_of_bytes(data: Any) -> Any:
+    return _descriptor_of(_layout_of("data", data))
+
+
+def to_sddl(descriptor: Any, domain: Any, numeric: bool) -> str:
+    data, of = _read_layout("descriptor", descriptor), _read_sid("domain", domain)
+    return _text(_library.sdtool_to_sddl, data, len(data), of, len(of), numeric)
+
+
+def explain(descriptor: Any, domain: Any, numeric: bool) -> str:
+    data, of = _read_layout("descriptor", descriptor), _read_sid("domain", domain)
+    return _text(_library.sdtool_explain, data, len(data), of, len(of), numeric)
 
 
 def derive(parent: bytes, creator: bytes, owner: bytes, group: bytes, kind: int, mapping: int) -> bytes:
@@ -158,8 +250,9 @@ def derive(parent: bytes, creator: bytes, owner: bytes, group: bytes, kind: int,
                    kind, mapping)
 
 
-def sid_from_text(text: bytes, domain: bytes) -> bytes:
-    return _answer(_library.sdtool_sid_from_text, text, len(text), domain, len(domain))
+def sid_from_text(text: str, domain: bytes) -> bytes:
+    spelled = _read_text("text", text)
+    return _answer(_library.sdtool_sid_from_text, spelled, len(spelled), domain, len(domain))
 
 
 def sid_to_text(sid: bytes, domain: bytes, numeric: bool) -> str:
@@ -190,46 +283,85 @@ def question(sids: bytes, entries: bytes, object_type: bytes, principal_self: by
             _Request(wanted, mapping, level, has_level, maximum, security, take_ownership))
 
 
-def check(question: Any, descriptor: bytes) -> Tuple[bool, int]:
-    verdict = _library.sdtool_check(descriptor, len(descriptor), *question)
+def check(question: Any, descriptor: Any) -> Any:
+    data = _read_layout("descriptor", descriptor)
+    verdict = _library.sdtool_check(data, len(data), *question)
     if verdict.fault != _OK:
         _refuse(verdict)
-    return verdict.granted, verdict.mask
+    return _verdict_of(verdict)
 
 
-def check_many(question: Any, descriptors: Tuple[bytes, ...]) -> List[Tuple[int, ...]]:
+def _verdict_of(verdict: Any) -> Any:
+    return tuple.__new__(_verdict_type, (verdict.granted, verdict.mask))
+
+
+def check_many(question: Any, descriptors: Tuple[Any, ...]) -> List[Any]:
     count = len(descriptors)
-    given = (_Bytes * count)(*map(_given, descriptors))
+    given = (_Bytes * count)(*(_given(_read_layout("descriptors", descriptor)) for descriptor in descriptors))
     verdicts = (_Verdict * count)()
     outcome = _library.sdtool_check_many(given, count, *question, verdicts, count)
     if outcome.fault != _OK:
         _refuse(outcome)
-    return [(verdict.granted, verdict.mask) if verdict.fault == _OK else
-            (verdict.fault, verdict.part, verdict.other_part, verdict.argument, verdict.entry) for verdict in verdicts]
+    return [_verdict_of(verdict) if verdict.fault == _OK else
+            _fault_of(verdict.fault, verdict.part, verdict.other_part, verdict.argument, verdict.entry) for verdict in verdicts]
 
 
 def _part_at(data: bytes, place: Any) -> Optional[bytes]:
     return data[place.offset:place.offset + place.size] if place.size else None
 
 
-def parts(descriptor: bytes) -> Tuple[int, int, Optional[bytes], Optional[bytes], int, Optional[bytes], int, Optional[bytes]]:
-    found = _library.sdtool_parts(descriptor, len(descriptor))
+def _sid_at(data: bytes, place: Any) -> Any:
+    found = _part_at(data, place)
+    return found and bytes.__new__(_sid_type, found)
+
+
+def _guid_at(data: bytes, place: Any) -> Any:
+    found = _part_at(data, place)
+    return found and _read_guid(found)
+
+
+def parts(descriptor: Layout) -> Tuple[Any, ...]:
+    if descriptor._found is not None:
+        return descriptor._found
+    data = descriptor._data
+    found = _library.sdtool_parts(data, len(data))
     if found.fault != _OK:
         _raises(found.fault, found.part, found.other_part, 0, 0)
-    return (found.control, found.resource_manager, _part_at(descriptor, found.owner), _part_at(descriptor, found.group),
-            found.sacl.state, _part_at(descriptor, found.sacl.place), found.dacl.state,
-            _part_at(descriptor, found.dacl.place))
+    answer = (found.control, found.resource_manager, _sid_at(data, found.owner), _sid_at(data, found.group),
+              _acl_at(data, found.sacl), _acl_at(data, found.dacl))
+    _set_found(descriptor, answer)
+    return answer
 
 
-def aces(acl: bytes) -> List[Tuple[int, int, int, bytes, Optional[bytes], Optional[bytes]]]:
+def _acl_at(data: bytes, place: Any) -> Any:
+    if place.state != _LIST:
+        return _acl_null if place.state == _NULL else _acl_absent
+    acl = object.__new__(_acl_type)
+    fill(acl, _LIST, None)
+    _set_bytes(acl, _part_at(data, place.place))
+    _set_count(acl, place.ace_count)
+    return acl
+
+
+def fill(acl: Entries, state: int, aces: Optional[Tuple[Any, ...]]) -> None:
+    if hasattr(acl, "_state"):
+        raise AttributeError("an ACL that is there cannot be made again")
+    _set_state(acl, state)
+    _set_aces(acl, aces)
+
+
+def _aces_of(acl: bytes, count: int) -> Tuple[Any, ...]:
     ace = _Ace()
     found = []
     while _library.sdtool_next_ace(acl, len(acl), ace):
-        found.append((ace.kind, ace.flags, ace.mask, _part_at(acl, ace.sid) or b"", _part_at(acl, ace.object_type),
-                      _part_at(acl, ace.inherited_object_type)))
+        found.append(tuple.__new__(_ace_type, (
+            _kinds[ace.kind], _flags[ace.flags], ace.mask, _sid_at(acl, ace.sid), _guid_at(acl, ace.object_type),
+            _guid_at(acl, ace.inherited_object_type))))
     if ace.fault != _OK:
         _raises(ace.fault, 0, 0, 0, 0)
-    return found
+    if len(found) != count:
+        raise SystemError("an ACL has another number of ACEs than its descriptor says")
+    return tuple(found)
 
 
 def _given(data: Optional[bytes]) -> _Bytes:

@@ -2,7 +2,7 @@
 import functools
 import os
 import sys
-from typing import Any, List, NoReturn, Sequence, Tuple, Union
+from typing import TYPE_CHECKING, NoReturn, Sequence
 
 from ._errors import ARGUMENT, ArgumentFault, Fault
 
@@ -23,7 +23,7 @@ _LISTS = ("sids", "deny_only", "sacl", "dacl")
 
 @functools.lru_cache(maxsize=None)
 def _name_of(number: int) -> str:
-    return fault_text(number)
+    return _transport.fault_text(number)
 
 
 def fault_of(fault: int, part: int, other_part: int, argument: int, entry: int) -> Fault:
@@ -56,7 +56,7 @@ def _load() -> None:
     problems = []
     for place in _places():
         try:
-            return _transport.load(os.fsencode(place), _raises)
+            return _transport.load(place, _raises)
         except OSError as problem:
             problems.append(f"{place}: {problem}")
     raise ImportError(f"sdtool needs its library for C, and looked for it in {'; '.join(problems)}. Install the library, or "
@@ -64,25 +64,27 @@ def _load() -> None:
 
 
 _load()
-version = _transport.version
-fault_text = _transport.fault_text
-normalize = _transport.normalize
-from_sddl = _transport.from_sddl
-to_sddl = _transport.to_sddl
-explain = _transport.explain
-derive = _transport.derive
-run = _transport.run
-question = _transport.question
-check = _transport.check
-sid_from_text = _transport.sid_from_text
-sid_to_text = _transport.sid_to_text
-is_one_sid = _transport.is_one_sid
-parts = _transport.parts
-aces = _transport.aces
-build = _transport.build
-
-
-def check_many(question: Any, descriptors: Sequence[bytes]) -> List[Union[Tuple[bool, int], Fault]]:
-    """The verdict on each descriptor, or its fault."""
-    return [found if len(found) == 2 else fault_of(*found)  # type: ignore[misc]
-            for found in _transport.check_many(question, tuple(descriptors))]
+if TYPE_CHECKING:
+    from ._native import *  # noqa: F403
+else:
+    Layout, Entries, Asking = _transport.Layout, _transport.Entries, _transport.Asking
+    adopt = _transport.adopt
+    version = _transport.version
+    fault_text = _transport.fault_text
+    normalize = _transport.normalize
+    from_sddl = _transport.from_sddl
+    descriptor_of_sddl = _transport.descriptor_of_sddl
+    descriptor_of_bytes = _transport.descriptor_of_bytes
+    to_sddl = _transport.to_sddl
+    explain = _transport.explain
+    derive = _transport.derive
+    run = _transport.run
+    question = _transport.question
+    check = _transport.check
+    check_many = _transport.check_many
+    sid_from_text = _transport.sid_from_text
+    sid_to_text = _transport.sid_to_text
+    is_one_sid = _transport.is_one_sid
+    parts = _transport.parts
+    fill = _transport.fill
+    build = _transport.build

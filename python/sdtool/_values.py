@@ -1,6 +1,8 @@
 """SIDs, ACEs, ACLs, descriptors and tokens as objects. None of them can be changed, and two are equal exactly if their
 content is the same. Each answer is one of the library."""
 import enum
+import functools
+import itertools
 import uuid
 from typing import (Any, Callable, ClassVar, Dict, FrozenSet, Iterable, Iterator, List, NamedTuple, NoReturn, Optional, Sequence,
                     Tuple, Type, TypeVar, Union, overload)
@@ -16,6 +18,7 @@ _Bytes = bytes  # within SecurityDescriptor, bytes is its layout
 _KIND_OF = {kind.value: kind for kind in AceKind}
 _FLAGS_OF = [AceFlags(value) for value in range(256)]
 _ABSENT, _NULL, _LIST = 0, 1, 2
+_SAME: Any = type("Same", (), {"__repr__": lambda self: "<the same>"})()  # of replace: what an object has already
 
 
 class _Fixed:
@@ -28,6 +31,11 @@ class _Fixed:
 
     def __delattr__(self, name: str) -> NoReturn:
         raise AttributeError(f"{name} of a {type(self).__name__} cannot be deleted")
+
+    def _begin(self, name: str) -> None:
+        """Refuses an __init__ that is called again: name is what it sets."""
+        if getattr(self, name, None) is not None:
+            raise AttributeError(f"a {type(self).__name__} that is there cannot be made again")
 
 
 class Sid(bytes):
@@ -73,7 +81,7 @@ def sid(name: str, value: SidLike, index: Optional[int] = None, *, domain: bytes
         return value
     if isinstance(value, str):
         try:
-            return _library.sid_from_text(_arguments.text(name, value), domain)
+            return _library.sid_from_text(value, domain)
         except Fault as fault:
             raise fault.of(name, index) from None
     found = _arguments.data(name, value, index)
@@ -88,17 +96,12 @@ def sid_or_none(name: str, value: Optional[SidLike], *, domain: bytes = b"") -> 
         return b""
     if type(value) is Sid:
         return value
-    return b"" if value == b"" else sid(name, value, domain=domain)
+    return b"" if isinstance(value, bytes) and not value else sid(name, value, domain=domain)
 
 
 def sids(name: str, values: Iterable[SidLike], *, domain: bytes = b"") -> List[bytes]:
     return [sid(name, value, index, domain=domain)
             for index, value in enumerate(_arguments.items(name, values, "SIDs"))]
-
-
-def _trusted_sid(data: Optional[bytes]) -> Optional[Sid]:
-    """A SID that the library found."""
-    return None if data is None else _new_sid(Sid, data)
 
 
 class _AceFields(NamedTuple):
@@ -151,14 +154,23 @@ class Ace(_AceFields):
     def sddl(self, *, domain: Optional[SidLike] = None, numeric: bool = False) -> str:
         """Its text in SDDL, in parentheses."""
         data = _library.build(0, 0, None, None, _ABSENT, (), _LIST, (_raw_ace(self),))
-        return _library.to_sddl(data, sid_or_none("domain", domain), _arguments.flag("numeric", numeric))[len("D:"):]
+        return _library.to_sddl(data, domain, _arguments.flag("numeric", numeric))[len("D:"):]
 
-    def replace(self, **fields: Any) -> "Ace":
+    def replace(self, *, kind: Union[AceKind, int] = _SAME, flags: Union[AceFlags, int] = _SAME, mask: int = _SAME,
+                sid: SidLike = _SAME, object_type: Optional[GuidLike] = _SAME,
+                inherited_object_type: Optional[GuidLike] = _SAME) -> "Ace":
         """The same ACE with other values of some fields."""
-        return Ace(**{**self._asdict(), **fields})
+        return Ace(self.kind if kind is _SAME else kind, self.flags if flags is _SAME else flags,
+                   self.mask if mask is _SAME else mask, self.sid if sid is _SAME else sid,
+                   self.object_type if object_type is _SAME else object_type,
+                   self.inherited_object_type if inherited_object_type is _SAME else inherited_object_type)
 
     def _replace(self, **fields: Any) -> "Ace":
         return self.replace(**fields)
+
+    @classmethod
+    def _make(cls, iterable: Iterable[Any], **_: Any) -> "Ace":
+        return Ace(*iterable)
 
     def __repr__(self) -> str:
         fields = [repr(self.kind), repr(self.flags), f"{self.mask:#x}", repr(self.sid)]
@@ -184,7 +196,13 @@ def _ace_of(raw: _RawAce) -> Ace:
     """An ACE of fields that the library has seen."""
     kind, flags, mask, trustee, object_type, inherited = raw
     return _new_ace(Ace, (_KIND_OF[kind], _FLAGS_OF[flags], mask, _new_sid(Sid, trustee),
-                          object_type and uuid.UUID(bytes_le=object_type), inherited and uuid.UUID(bytes_le=inherited)))
+                          object_type and _guid_of(object_type), inherited and _guid_of(inherited)))
+
+
+@functools.lru_cache(maxsize=1024)
+def _guid_of(data: bytes) -> uuid.UUID:
+    """A GUID that the library found. A directory has the same few in most descriptors."""
+    return uuid.UUID(bytes_le=data)
 
 
 def _raw_ace(ace: Ace) -> _RawAce:
@@ -196,7 +214,7 @@ class NoAces(Error, TypeError):
     """An absent or a null ACL has no list of ACEs: that it is not there grants everything, and an empty list nothing."""
 
 
-class Acl(_Fixed, Sequence[Ace]):
+class Acl(_Fixed, _library.Entries, Sequence[Ace]):
     """An ACL: a list of ACEs, or Acl.NULL or Acl.ABSENT.
 
     A descriptor whose DACL is absent or null grants everything, and one whose DACL is an empty list grants nothing. So
@@ -218,19 +236,16 @@ class Acl(_Fixed, Sequence[Ace]):
     TypeError: an ACL is neither true nor false; ask is_list, is_null, is_absent, or its length
     """
 
-    __slots__ = ("_state", "_data", "_aces")
+    __slots__ = ()
     NULL: ClassVar["Acl"]
     ABSENT: ClassVar["Acl"]
-    _state: int
-    _data: Any  # the bytes of a list that the library has seen, from which the ACEs are made when they are asked for
-    _aces: Optional[Tuple[Ace, ...]]
 
     def __init__(self, aces: Iterable[Ace] = ()) -> None:
         found = tuple(_arguments.items("aces", aces, "Ace"))
         for index, ace in enumerate(found):
             if not isinstance(ace, Ace):
                 raise _arguments.wrong_type("aces", ace, "Ace", index)
-        _set(self, _LIST, None, found)
+        _library.fill(self, _LIST, found)
 
     @property
     def is_list(self) -> bool:
@@ -243,20 +258,6 @@ class Acl(_Fixed, Sequence[Ace]):
     @property
     def is_absent(self) -> bool:
         return self._state == _ABSENT
-
-    def _list(self) -> Tuple[Ace, ...]:
-        if self._state != _LIST:
-            raise NoAces(f"the ACL is {'null' if self.is_null else 'absent'}, which is no list of ACEs; ask is_list first")
-        if self._aces is None:
-            _set_aces(self, tuple(map(_ace_of, _library.aces(self._data))))
-        assert self._aces is not None
-        return self._aces
-
-    def __len__(self) -> int:
-        return len(self._list())
-
-    def __iter__(self) -> Iterator[Ace]:
-        return iter(self._list())
 
     def __reversed__(self) -> Iterator[Ace]:
         return reversed(self._list())
@@ -288,29 +289,23 @@ class Acl(_Fixed, Sequence[Ace]):
         return {_NULL: "Acl.NULL", _ABSENT: "Acl.ABSENT"}.get(self._state) or f"Acl({list(self._list())!r})"
 
 
-def _set(acl: Acl, state: int, data: Any, aces: Optional[Tuple[Ace, ...]]) -> None:
-    _set_state(acl, state)
-    _set_list(acl, data)
-    _set_aces(acl, aces)
-
-
-_new_acl: Callable[[Type[Acl]], Acl] = object.__new__
-_set_state, _set_list, _set_aces = (Acl.__dict__[name].__set__ for name in ("_state", "_data", "_aces"))
-
-
-def _acl_of(state: int, data: Any = None) -> Acl:
-    """An ACL that the library has seen: its state, and what it has of a list."""
-    acl = _new_acl(Acl)
-    _set(acl, state, data, None)
+def _acl_without(state: int) -> Acl:
+    """The ACL of a state that has no list."""
+    acl = object.__new__(Acl)
+    _library.fill(acl, state, None)
     return acl
+
+
+def _no_list(acl: Acl) -> NoReturn:
+    raise NoAces(f"the ACL is {'null' if acl.is_null else 'absent'}, which is no list of ACEs; ask is_list first")
 
 
 def _unpickled_acl(state: int, aces: Tuple[Ace, ...]) -> Acl:
     return Acl(aces) if state == _LIST else Acl.NULL if state == _NULL else Acl.ABSENT
 
 
-Acl.NULL = _acl_of(_NULL)
-Acl.ABSENT = _acl_of(_ABSENT)
+Acl.NULL = _acl_without(_NULL)
+Acl.ABSENT = _acl_without(_ABSENT)
 
 
 class Verdict(NamedTuple):
@@ -329,8 +324,6 @@ class Verdict(NamedTuple):
     def __bool__(self) -> bool:
         return self.granted
 
-
-_new_verdict: Callable[[Type[Verdict], Tuple[Any, ...]], Verdict] = tuple.__new__
 
 
 class Token(_Fixed):
@@ -353,6 +346,7 @@ class Token(_Fixed):
 
     def __init__(self, sids: Iterable[SidLike], *, deny_only: Iterable[SidLike] = (), level: Optional[int] = None,
                  privileges: Iterable[Privilege] = (), domain: Optional[SidLike] = None) -> None:
+        self._begin("_questions")
         of = sid_or_none("domain", domain)
         enabled, denying = _sids("sids", sids, of), _sids("deny_only", deny_only, of)
         if len(enabled) + len(denying) > _MOST_SIDS:
@@ -427,7 +421,7 @@ def question_of(token: Token, wanted: int, maximum: bool, mapping: Mapping, obje
     return found
 
 
-class Checker(_Fixed):
+class Checker(_Fixed, _library.Asking):
     """Access checks of one token and one request, which are read once. Threads may share it.
 
     The arguments are those of SecurityDescriptor.check.
@@ -437,19 +431,15 @@ class Checker(_Fixed):
     Verdict(granted=True, mask=1179785)
     """
 
-    __slots__ = ("_arguments", "_question")
+    __slots__ = ("_arguments",)
     _arguments: Tuple[Token, int, bool, Mapping, Optional[GuidLike], Optional[SidLike]]
-    _question: Any
 
     def __init__(self, token: Token, wanted: int = 0, *, maximum: bool = False, mapping: Mapping = "file",
                  object_type: Optional[GuidLike] = None, principal_self: Optional[SidLike] = None) -> None:
+        self._begin("_question")
         object.__setattr__(self, "_arguments", (token, wanted, maximum, mapping, object_type, principal_self))
         object.__setattr__(self, "_question",
                            question_of(token, wanted, maximum, mapping, object_type, principal_self))
-
-    def __call__(self, descriptor: "DescriptorLike") -> Verdict:
-        data = descriptor._data if type(descriptor) is SecurityDescriptor else layout_of("descriptor", descriptor)
-        return _new_verdict(Verdict, _library.check(self._question, data))
 
     def many(self, descriptors: Iterable["DescriptorLike"], *, ahead: int = 1024) -> Iterator[Union[Verdict, Fault]]:
         """The verdict on each descriptor, in order, and for one that has none its Fault. At most ahead descriptors are
@@ -460,17 +450,11 @@ class Checker(_Fixed):
         return self._verdicts(_arguments.items("descriptors", descriptors, "descriptors"), most)
 
     def _verdicts(self, given: Iterator["DescriptorLike"], most: int) -> Iterator[Union[Verdict, Fault]]:
-        batch: List[bytes] = []
-        for descriptor in given:
-            batch.append(layout_of("descriptors", descriptor))
-            if len(batch) == most:
-                yield from self._verdicts_of(batch)
-                batch = []
-        yield from self._verdicts_of(batch)
-
-    def _verdicts_of(self, batch: List[bytes]) -> List[Union[Verdict, Fault]]:
-        return [found if isinstance(found, Fault) else _new_verdict(Verdict, found)
-                for found in _library.check_many(self._question, batch)]
+        while True:
+            batch = tuple(itertools.islice(given, most))
+            yield from _library.check_many(self._question, batch)
+            if len(batch) < most:
+                return
 
     def __reduce__(self) -> Any:
         return _checker_of, self._arguments
@@ -481,7 +465,7 @@ def _checker_of(token: Token, wanted: int, maximum: bool, mapping: Mapping, obje
     return Checker(token, wanted, maximum=maximum, mapping=mapping, object_type=object_type, principal_self=principal_self)
 
 
-class SecurityDescriptor(_Fixed):
+class SecurityDescriptor(_Fixed, _library.Layout):
     """A security descriptor. Its content is all that its canonical layout says; two are equal exactly if that is.
 
     >>> users = SecurityDescriptor.from_sddl("O:BAD:(A;OICI;FR;;;BU)")
@@ -501,28 +485,28 @@ class SecurityDescriptor(_Fixed):
     False
     """
 
-    __slots__ = ("_data", "_found")
-    _data: bytes
-    _found: Tuple[int, int, Optional[Sid], Optional[Sid], Acl, Acl]  # not there before the first part is asked for
+    __slots__ = ()
 
     def __init__(self, *, owner: Optional[SidLike] = None, group: Optional[SidLike] = None,
                  dacl: Union[Acl, Iterable[Ace]] = Acl.ABSENT, sacl: Union[Acl, Iterable[Ace]] = Acl.ABSENT,
                  control: int = 0, resource_manager: int = 0) -> None:
         """Bits of control that say which parts there are follow from the parts."""
+        self._begin("_data")
         _set_data(self, _library.build(
             _arguments.number("control", control, 0xffff), _arguments.number("resource_manager", resource_manager, 0xff),
             sid_or_none("owner", owner) or None, sid_or_none("group", group) or None, *_raw_acl("sacl", sacl),
             *_raw_acl("dacl", dacl)))
+        _set_found(self, None)
 
     @classmethod
     def from_bytes(cls, data: BytesLike) -> "SecurityDescriptor":
         """The descriptor that bytes have, in whatever layout."""
-        return _descriptor_of(_library.normalize(_arguments.data("data", data)))
+        return _of_bytes(data)
 
     @classmethod
     def from_sddl(cls, text: str, *, domain: Optional[SidLike] = None) -> "SecurityDescriptor":
         """The descriptor of a text. A line that keeps its newline is refused, so strip it."""
-        return _descriptor_of(_library.from_sddl(_arguments.text("text", text), sid_or_none("domain", domain)))
+        return _of_sddl(text, domain)
 
     @property
     def bytes(self) -> _Bytes:
@@ -532,47 +516,38 @@ class SecurityDescriptor(_Fixed):
     def __bytes__(self) -> _Bytes:
         return self._data
 
-    def _parts(self) -> Tuple[int, int, Optional[Sid], Optional[Sid], Acl, Acl]:
-        try:
-            return self._found
-        except AttributeError:
-            control, manager, owner, group, sacl_state, sacl, dacl_state, dacl = _library.parts(self._data)
-            _set_found(self, (control, manager, _trusted_sid(owner), _trusted_sid(group), _acl_in(sacl_state, sacl),
-                              _acl_in(dacl_state, dacl)))
-            return self._found
-
     @property
     def control(self) -> Control:
-        return Control(self._parts()[0])
+        return _control_of(_parts(self)[0])
 
     @property
     def resource_manager(self) -> int:
         """The resource manager byte."""
-        return self._parts()[1]
+        return _parts(self)[1]
 
     @property
     def owner(self) -> Optional[Sid]:
-        return self._parts()[2]
+        return _parts(self)[2]
 
     @property
     def group(self) -> Optional[Sid]:
-        return self._parts()[3]
+        return _parts(self)[3]
 
     @property
     def sacl(self) -> Acl:
-        return self._parts()[4]
+        return _parts(self)[4]
 
     @property
     def dacl(self) -> Acl:
-        return self._parts()[5]
+        return _parts(self)[5]
 
     def sddl(self, *, domain: Optional[SidLike] = None, numeric: bool = False) -> str:
         """Its text. SDDL has no text for the resource manager byte and for some control bits, which are lost."""
-        return _library.to_sddl(self._data, sid_or_none("domain", domain), _arguments.flag("numeric", numeric))
+        return _library.to_sddl(self, domain, _arguments.flag("numeric", numeric))
 
     def explain(self, *, domain: Optional[SidLike] = None, numeric: bool = False) -> str:
         """Its explanation, as 'sdtool explain' prints it."""
-        return _library.explain(self._data, sid_or_none("domain", domain), _arguments.flag("numeric", numeric))
+        return _library.explain(self, domain, _arguments.flag("numeric", numeric))
 
     def check(self, token: Token, wanted: int = 0, *, maximum: bool = False, mapping: Mapping = "file",
               object_type: Optional[GuidLike] = None, principal_self: Optional[SidLike] = None) -> Verdict:
@@ -581,8 +556,7 @@ class SecurityDescriptor(_Fixed):
         mapping is "file", "key" or "ds": what the generic rights stand for. object_type is the object type of a check in a
         directory. principal_self is the SID that PRINCIPAL SELF stands for. Many checks of one token take a Checker.
         """
-        return _new_verdict(Verdict, _library.check(
-            question_of(token, wanted, maximum, mapping, object_type, principal_self), self._data))
+        return _library.check(question_of(token, wanted, maximum, mapping, object_type, principal_self), self)
 
     def derive(self, owner: SidLike, group: SidLike, *, kind: Kind = "file", creator: Optional["DescriptorLike"] = None,
                mapping: Mapping = "file") -> "SecurityDescriptor":
@@ -590,12 +564,17 @@ class SecurityDescriptor(_Fixed):
         creator brings, if any."""
         return _descriptor_of(derived(self._data, owner, group, kind, creator, mapping))
 
-    def replace(self, **parts: Any) -> "SecurityDescriptor":
-        """The same descriptor with other parts: owner, group, dacl, sacl, control or resource_manager."""
-        whole: Dict[str, Any] = {
-            "owner": self.owner, "group": self.group, "dacl": self.dacl, "sacl": self.sacl, "control": self.control,
-            "resource_manager": self.resource_manager}
-        return SecurityDescriptor(**{**whole, **parts})
+    def replace(self, *, owner: Optional[SidLike] = _SAME, group: Optional[SidLike] = _SAME,
+                dacl: Union[Acl, Iterable[Ace]] = _SAME, sacl: Union[Acl, Iterable[Ace]] = _SAME, control: int = _SAME,
+                resource_manager: int = _SAME) -> "SecurityDescriptor":
+        """The same descriptor with other parts. Without an owner or a group it has None there."""
+        return SecurityDescriptor(
+            owner=self.owner if owner is _SAME else owner, group=self.group if group is _SAME else group,
+            dacl=self.dacl if dacl is _SAME else dacl, sacl=self.sacl if sacl is _SAME else sacl,
+            control=self.control if control is _SAME else control,
+            resource_manager=self.resource_manager if resource_manager is _SAME else resource_manager)
+
+    __replace__ = replace  # what copy.replace calls
 
     def __eq__(self, other: object) -> bool:
         if not isinstance(other, SecurityDescriptor):
@@ -614,25 +593,28 @@ class SecurityDescriptor(_Fixed):
     def __repr__(self) -> str:
         """The text, or the bytes where SDDL has no text for all of it."""
         text = self.sddl(numeric=True)
-        if _library.from_sddl(text.encode("ascii"), b"") == self._data:
+        if _library.from_sddl(text, None) == self._data:
             return f"SecurityDescriptor.from_sddl({text!r})"
         return f"SecurityDescriptor.from_bytes(bytes.fromhex({self._data.hex()!r}))"
 
 
 DescriptorLike = Union[SecurityDescriptor, BytesLike]
+_of_bytes, _of_sddl, _parts = _library.descriptor_of_bytes, _library.descriptor_of_sddl, _library.parts
 _new_object: Callable[[Type[SecurityDescriptor]], SecurityDescriptor] = object.__new__
-_set_data, _set_found = (SecurityDescriptor.__dict__[name].__set__ for name in ("_data", "_found"))
+_set_data, _set_found = (_library.Layout.__dict__[name].__set__ for name in ("_data", "_found"))
 
 
 def _descriptor_of(data: bytes) -> SecurityDescriptor:
     """The descriptor of a canonical layout."""
     descriptor = _new_object(SecurityDescriptor)
     _set_data(descriptor, data)
+    _set_found(descriptor, None)
     return descriptor
 
 
-def _acl_in(state: int, data: Any) -> Acl:
-    return Acl.ABSENT if state == _ABSENT else Acl.NULL if state == _NULL else _acl_of(state, data)
+@functools.lru_cache(maxsize=1024)
+def _control_of(word: int) -> Control:
+    return Control(word)
 
 
 def _raw_acl(name: str, value: Union[Acl, Iterable[Ace]]) -> Tuple[int, Tuple[_RawAce, ...]]:
@@ -667,3 +649,7 @@ def derived(parent: bytes, owner: SidLike, group: SidLike, kind: Kind, creator: 
         except Fault as fault:
             raise fault.of("creator") from None
         raise
+
+
+_library.adopt(SecurityDescriptor, Acl, Acl.ABSENT, Acl.NULL, Verdict, Ace, Sid, tuple(map(_KIND_OF.get, range(256))),
+               tuple(_FLAGS_OF), _library.fault_of, _no_list, _arguments.text, sid_or_none, layout_of, _guid_of)
