@@ -105,12 +105,14 @@ def script_of(folder, name, words):
     """A command that runs a program of another system as one of this one. It notes each start.
 
     Wine now and then fails to start a program, and says so by status 1 alone. The program ends with 1 only after it has read a
-    line. So where it ended with 1, and nothing has been read of a file that has something,
-        it never ran: then it is started once
-    more, and a line of the folder's file says so. Any other end is the program's."""
+    line. So where it ended with 1, and nothing has been read of a file that has something, it never ran: then it is started
+    once more, and that is noted. Any other end is the program's."""
     script = folder / f"{name} {pathlib.Path(words[-1]).name}"
     start = shlex.join(map(str, words)) + ' "$@"'
-    again = f"""printf . >> {shlex.quote(str(folder / STARTS))}
+    # Empty files, since rows let no file grow.
+    for name_of in (STARTS, FAILED_STARTS):
+        (folder / name_of).mkdir(exist_ok=True)
+    again = f""": > {shlex.quote(str(folder / STARTS))}/$$
 {start}
 status=$?
 if [ $status = 1 ] && [ -f /proc/self/fd/0 ] && [ -s /proc/self/fd/0 ]; then
@@ -118,7 +120,7 @@ if [ $status = 1 ] && [ -f /proc/self/fd/0 ] && [ -s /proc/self/fd/0 ]; then
     read -r name place < /proc/self/fdinfo/9
     exec 9<&-
     if [ "$name$place" = pos:0 ]; then
-        echo "$*" >> {shlex.quote(str(folder / FAILED_STARTS))}
+        : > {shlex.quote(str(folder / FAILED_STARTS))}/$$
         exec {start}
     fi
 fi
@@ -136,10 +138,9 @@ def script_for(folder, name):
 
 def judge_starts(count, folder):
     """Wine may fail to start a program, but seldom."""
-    starts, failed = (folder / name for name in (STARTS, FAILED_STARTS))
-    number = len(failed.read_text(encoding="utf-8", errors="replace").splitlines()) if failed.exists() else 0
-    print(f"wine: {starts.stat().st_size} starts, of which {number} failed and were made again")
-    count.add(number * STARTS_OF_A_FAILURE <= starts.stat().st_size, f"wine failed to start {number} programs")
+    starts, number = (len(list((folder / name).iterdir())) for name in (STARTS, FAILED_STARTS))
+    print(f"wine: {starts} starts, of which {number} failed and were made again")
+    count.add(number * STARTS_OF_A_FAILURE <= starts, f"wine failed to start {number} programs")
 
 
 def judged(row, program):
@@ -254,14 +255,13 @@ def test_limits(count, native, program, name, folder):
         file.unlink()
 
 
-def built_for(folder, name, source):
+def built_for(folder, name, source, options=()):
     """A file of tests/c as a program of the system; None if its compiler refuses it."""
     is_windows = name == "windows-x86_64"
     program = folder / (source + ".exe" if is_windows else source)
     library = BUILT / name / ("libsdtool.dll.a" if is_windows else "libsdtool.a")
     words = [CROSS[name], "-std=gnu11", "-Wall", "-Wextra", "-Werror", "-O1", "-D_GNU_SOURCE", f"-I{TESTS.parent / 'include'}",
-             TESTS / "c" / f"{source}.c", library, *(["-lshell32"] if is_windows else c_library.WRAPS), "-pthread", "-static",
-             "-o", program]
+             TESTS / "c" / f"{source}.c", library, *options, "-pthread", "-static", "-o", program]
     ended = subprocess.run(words, stdout=subprocess.PIPE, stderr=subprocess.STDOUT, check=False)
     if ended.returncode:
         print(ended.stdout.decode())
@@ -495,7 +495,8 @@ class LibraryRunners(c_objects.Runners):
 
 def test_in_c(count, native, name, folder, number):
     """calls.c, runs.c and objects.c, the tests of the library in C, with what the program says of the same lines."""
-    programs = {source: built_for(folder, name, source) for source in ("calls", "runs", "objects")}
+    wraps = [] if name == "windows-x86_64" else c_library.WRAPS
+    programs = {source: built_for(folder, name, source, wraps) for source in ("calls", "runs", "objects")}
     for source, program in programs.items():
         count.add(program, f"{name}: {source}.c is not built")
     if all(programs.values()):
@@ -512,7 +513,7 @@ def test_library(count, native, name, folder, files, number):
     runner = SYSTEMS[name].runner
     if name == "windows-x86_64":
         shutil.copy(BUILT / name / "sdtool.dll", folder)
-        on_windows = built_for(folder, name, "on_windows")
+        on_windows = built_for(folder, name, "on_windows", ["-lshell32"])
         ended = on_windows and subprocess.run([*runner, on_windows, BUILT / name / "sdtool.exe"], capture_output=True,
                                               timeout=SECONDS, check=False)
         count.add(ended and ended.returncode == 0 and b" passed, 0 failed" in ended.stdout,
@@ -560,21 +561,33 @@ def test_javascript(count, native, name, folder, files, number):
 
 @contextlib.contextmanager
 def wine_of_its_own(folder):
-    """Wine without a display, in a folder of its own; its server stays until the tests end."""
-    os.environ.update(WINEPREFIX=str(folder / "wine"), WINEDEBUG="-all")
+    """Wine without a display, in a folder of its own, with a server that stays until the tests end. It is started before any
+    program: one that a program starts ends with the last program, and a program that comes at that moment is not started."""
+    prefix = folder / "wine"
+    prefix.mkdir()
+    os.environ.update(WINEPREFIX=str(prefix), WINEDEBUG="-all")
     os.environ.pop("DISPLAY", None)
+    quiet = {"stdin": subprocess.DEVNULL, "stdout": subprocess.DEVNULL, "stderr": subprocess.DEVNULL, "timeout": SECONDS}
+    subprocess.run(["wineserver", "-p"], check=True, **quiet)
     # The first starts bring up services, which may say something of their own.
-    for words in (["wine", "cmd", "/c", "exit"], ["wineserver", "-p"], ["wine", "cmd", "/c", "exit"]):
-        subprocess.run(words, stdin=subprocess.DEVNULL, stdout=subprocess.DEVNULL, stderr=subprocess.DEVNULL, timeout=SECONDS,
-                       check=False)
+    for _ in range(2):
+        subprocess.run(["wine", "cmd", "/c", "exit"], check=False, **quiet)
     try:
         yield
     finally:
-        subprocess.run(["wineserver", "-k"], stdin=subprocess.DEVNULL, stderr=subprocess.DEVNULL, check=False)
+        subprocess.run(["wineserver", "-k"], check=False, **quiet)
+
+
+def server_of_wine(folder):
+    """The socket of wine's server, which is another file if the server was started again."""
+    place = (folder / "wine").stat()
+    sockets = pathlib.Path("/tmp").glob(f"*wine-*/server-{place.st_dev:x}-{place.st_ino:x}/socket")
+    return [(str(socket), socket.stat().st_ino, socket.stat().st_ctime) for socket in sockets]
 
 
 def test_system(count, native, name, folder, files, lines):
     program = script_for(folder, name)
+    server = server_of_wine(folder) if name == "windows-x86_64" else None
     test_rows(count, program, name)
     test_lines(count, native, program, name, files)
     test_limits(count, native, program, name, folder)
@@ -584,6 +597,7 @@ def test_system(count, native, name, folder, files, lines):
         if name == "windows-x86_64":
             test_stack(count, native, folder, files)
             judge_starts(count, folder)
+            count.add(server and server_of_wine(folder) == server, "wine's server was started again")
     elif name == "wasm":
         with concurrent.futures.ThreadPoolExecutor(JOBS) as pool:
             test_faults(count, pool)
