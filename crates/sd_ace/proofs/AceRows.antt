@@ -138,3 +138,6 @@ seventeen_bytes h = let more = h.size in omega arith
 
 fifteen_bytes : IsGuid (replicate 15 0) → ⊥
 fifteen_bytes h = let less = h.size in omega arith
+
+wide_byte : IsGuid (0x100 ∷ replicate 15 0) → ⊥
+wide_byte h = let more = h.bytes 0 0 (omega arith) in omega arith

@@ -487,6 +487,12 @@ first_can_begin = (refl, refl)
 other_can_begin : CanBegin which.Dacl (with_acl which.Sacl acl.Null no_parts)
 other_can_begin = (refl, refl)
 
+sacl_can_begin : CanBegin which.Sacl (with_acl which.Dacl acl.Null no_parts)
+sacl_can_begin = (refl, refl)
+
+sacl_cannot_begin : CanBegin which.Sacl (with_acl which.Sacl acl.Null no_parts) → ⊥
+sacl_cannot_begin h = let e = h.1 in cc
+
 given_cannot_begin : CanBegin which.Dacl (with_acl which.Dacl acl.Null no_parts) → ⊥
 given_cannot_begin h = let e = h.1 in cc
 

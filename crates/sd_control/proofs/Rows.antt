@@ -12,6 +12,7 @@ use Rattle.sd_control.specs.declared.control.TheConstants.{SACL_AUTO_INHERITED, 
 use Rattle.sd_control.specs.declared.control.TheConstants.{SACL_DEFAULTED, SACL_PRESENT, SACL_PROTECTED, SELF_RELATIVE}
 use Rattle.sd_control.specs.declared.limits.TheConstants.{ACL_HEADER_SIZE, ACL_REVISION, ACL_REVISION_DS, CAPACITY}
 use Rattle.sd_control.specs.declared.limits.TheConstants.{HEADER_SIZE, MOST_ACL_SIZE, MOST_SID_SIZE, SID_HEADER_SIZE}
+use Rattle.sd_control.specs.declared.control.AclFlags.{AclFlags}
 use Rattle.sd_control.specs.declared.part.Part.{Part}
 use Rattle.sd_control.specs.declared.part.Part.TheVariants.{Owner, Group, Sacl, Dacl}
 use Rattle.sd_control.specs.declared.part.Parts.{Parts}
@@ -59,6 +60,17 @@ flags_of_the_other = (refl, refl)
 
 bits_of_flags : (flag_bits which.Dacl all_flags ≡ 0x1500) × (flag_bits which.Sacl all_flags ≡ 0x2a00)
 bits_of_flags = (refl, refl)
+
+-- P, AR and AI, each alone
+
+each_flag : List AclFlags
+each_flag = record no_flags { protected = true } ∷ record no_flags { auto_inherit_required = true }
+    ∷ record no_flags { auto_inherited = true } ∷ []
+
+bits_of_each_flag : (map (flag_bits which.Dacl) each_flag ≡ 0x1000 ∷ 0x100 ∷ 0x400 ∷ [])
+    × (map (flag_bits which.Sacl) each_flag ≡ 0x2000 ∷ 0x200 ∷ 0x800 ∷ [])
+unfolding each_flag
+bits_of_each_flag = (refl, refl)
 
 present_bits : (present_bit which.Dacl ≡ 0x4) × (present_bit which.Sacl ≡ 0x10)
 present_bits = (refl, refl)

@@ -1,5 +1,6 @@
 -- Worked descriptors, explained.
-use Rattle.std.proofs.Common.{◌≡◌, [], ◌∷◌, ◌++◌, Some, None, true, false, codes, refl}
+use Rattle.std.proofs.Common.{◌≡◌, ℕ, List, [], ◌∷◌, ◌++◌, Some, None, true, false, codes, refl}
+use Rattle.uuid.specs.Text.{by_index}
 use Rattle.std.specs.Fmt.{digits}
 use Rattle.sd_kinds.specs.Kinds.{kind_entry, kind_letters}
 use Rattle.sd_ace.specs.Ace.{AccessControlEntry}
@@ -82,3 +83,27 @@ label : ace_line named (codes "sacl ") 4095 no_access
     ≡ codes "sacl 4095 ML flags OICINPIOIDSAFA mask 0x00000007 rights NWNRNX sid S-1-16-12288 HI\n"
 unfolding explained named no_access high
 label = refl
+
+-- both types of an object ACE
+user_class : List ℕ
+user_class =
+    0xbf ∷ 0x96 ∷ 0x7a ∷ 0xba ∷ 0x0d ∷ 0xe6 ∷ 0x11 ∷ 0xd0 ∷ 0xa2 ∷ 0x85 ∷ 0x00 ∷ 0xaa ∷ 0x00 ∷ 0x30 ∷ 0x49 ∷ 0xe2 ∷ []
+
+other_class : List ℕ
+other_class = 0x10 ∷ 0x11 ∷ 0x12 ∷ 0x13 ∷ 0x20 ∷ 0x21 ∷ 0x30 ∷ 0x31 ∷ 1 ∷ 2 ∷ 3 ∷ 4 ∷ 5 ∷ 6 ∷ 7 ∷ 8 ∷ []
+
+typed : AccessControlEntry
+typed = record {
+  kind = kinds.ObjectDeny;
+  flags = 2;
+  mask = 0x10;
+  object = Some user_class;
+  inherited = Some other_class;
+  sid = everyone;
+}
+
+typed_line : ace_line named (codes "dacl ") 10 typed
+    ≡ codes "dacl 10 OD flags CI mask 0x00000010 rights RP object bf967aba-0de6-11d0-a285-00aa003049e2"
+    ++ codes " inherited 10111213-2021-3031-0102-030405060708 sid S-1-1-0 WD\n"
+unfolding explained by_index named typed user_class other_class everyone
+typed_line = refl

@@ -1,5 +1,5 @@
 -- The kinds and the flags of ACEs, each with the number and the letters of MS-DTYP 2.4.4.1 and 2.5.1.1.
-use Rattle.std.proofs.Common.{◌≡◌, List, [], ◌∷◌, Some, None, true, false, codes, refl}
+use Rattle.std.proofs.Common.{◌≡◌, ℕ, zero, suc, List, [], ◌∷◌, Some, None, true, false, codes, refl}
 use Rattle.std.specs.Prelude.{map}
 use Rattle.sd_text.specs.Names.{run_of}
 use Rattle.sd_kinds.specs.Flags.{flags_reads, flags_text, is_flag}
@@ -51,6 +51,16 @@ flag_texts : map flags_text (1 ∷ 2 ∷ 4 ∷ 8 ∷ 16 ∷ 64 ∷ 128 ∷ [])
     ≡ codes "OI" ∷ codes "CI" ∷ codes "NP" ∷ codes "IO" ∷ codes "ID" ∷ codes "SA" ∷ codes "FA" ∷ []
 unfolding computed
 flag_texts = refl
+
+-- names may be repeated, in at most 183 bytes
+
+repeated : ℕ → List ℕ
+repeated zero = []
+repeated (suc n) = 79 ∷ 73 ∷ repeated n
+
+long_texts : map flags_reads (repeated 91 ∷ repeated 92 ∷ []) ≡ Some 1 ∷ None ∷ []
+unfolding computed repeated
+long_texts = refl
 
 -- 0x20 has no name
 each_bit : map is_flag (1 ∷ 2 ∷ 4 ∷ 8 ∷ 16 ∷ 32 ∷ 64 ∷ 128 ∷ 256 ∷ [])

@@ -93,6 +93,10 @@ broken_stays = refl
 whole : IsWhole (replicate 183 65)
 whole = record { plain = refl; fits = omega arith }
 
+-- a colon is a plain byte inside parentheses
+colon_is_whole : IsWhole (codes "O:BA")
+colon_is_whole = record { plain = refl; fits = omega arith }
+
 longer_is_not_whole : IsWhole (replicate 184 65) → ⊥
 longer_is_not_whole h = let more = h.fits in omega arith
 

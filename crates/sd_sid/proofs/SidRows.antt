@@ -178,6 +178,12 @@ reads_bytes : sid_at (1 ∷ 1 ∷ 0 ∷ 0 ∷ 0 ∷ 0 ∷ 0 ∷ 5 ∷ 18 ∷ 0 �
 unfolding sid_at
 reads_bytes = refl
 
+-- and those of two numbers, the second of which has four bytes
+two_numbers_in_bytes : sid_at (1 ∷ 2 ∷ 0 ∷ 0 ∷ 0 ∷ 0 ∷ 0 ∷ 5 ∷ 0x20 ∷ 0 ∷ 0 ∷ 0 ∷ 4 ∷ 3 ∷ 2 ∷ 1 ∷ [])
+    ≡ Some (sid 5 (32 ∷ 0x01020304 ∷ []), 16)
+unfolding sid_at
+two_numbers_in_bytes = refl
+
 other_revision_of_bytes : sid_at (2 ∷ 0 ∷ 0 ∷ 0 ∷ 0 ∷ 0 ∷ 0 ∷ 5 ∷ []) ≡ None
 unfolding sid_at
 other_revision_of_bytes = refl
@@ -231,6 +237,14 @@ largest_word (suc i) = omega arith
 
 larger_word : AreWords (0x1_0000_0000 ∷ []) → ⊥
 larger_word h = let more = h 0 in omega arith
+
+zeros_are_words : (n : ℕ) → AreWords (replicate n 0)
+zeros_are_words zero i = omega arith
+zeros_are_words (suc n) zero = omega arith
+zeros_are_words (suc n) (suc i) = zeros_are_words n i
+
+fifteen_words : IsSid (sid 5 (replicate 15 0))
+fifteen_words = record { authority = omega arith; count = omega arith; subs = zeros_are_words 15 }
 
 one_more_word : IsSid (sid 5 (replicate 16 0)) → ⊥
 one_more_word h = let more = h.count in omega arith

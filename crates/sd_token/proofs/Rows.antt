@@ -1,9 +1,9 @@
 -- Whom a token meets, and how many entries it has at most.
-use Rattle.std.proofs.Common.{◌≡◌, [], ◌∷◌, true, false, refl}
+use Rattle.std.proofs.Common.{◌≡◌, ℕ, [], ◌∷◌, None, true, false, refl, arith}
 use Rattle.sd_text.specs.Limits.{most_entries}
 use Rattle.sd_text.specs.declared.limits.TheConstants.{MOST_ENTRIES}
 use Rattle.sd_sid.specs.Sid.{SecurityId}
-use Rattle.sd_token.specs.Token.{meets}
+use Rattle.sd_token.specs.Token.{Asks, Compares, TokenShown, meets}
 use Rattle.sd_token.specs.declared.token.EntryKind.TheVariants.{Enabled, DenyOnly}
 
 everyone : SecurityId
@@ -39,3 +39,38 @@ another = refl
 other_authority : meets (record { authority = 2; subs = 0 ∷ [] }) true ((everyone, Enabled) ∷ []) ≡ false
 unfolding everyone
 other_authority = refl
+
+-- what is counted: three comparisons at most, and none
+
+shown : ℕ → TokenShown
+shown compared = record {
+  holder = record { entries = (everyone, Enabled) ∷ (administrators, DenyOnly) ∷ []; level = None };
+  compared = compared;
+  room = 2;
+}
+
+three_of_three : Compares (shown 5) (shown 8) 3
+unfolding shown
+three_of_three = record { goes_on = omega arith; at_most = omega arith }
+
+none_of_none : Compares (shown 5) (shown 5) 0
+unfolding shown
+none_of_none = record { goes_on = omega arith; at_most = omega arith }
+
+four_of_three : Compares (shown 5) (shown 9) 3 → ⊥
+unfolding shown
+four_of_three h = let more = h.at_most in omega arith
+
+counts_back : Compares (shown 5) (shown 4) 3 → ⊥
+unfolding shown
+counts_back h = let less = h.goes_on in omega arith
+
+-- two entries, each of them looked at twice
+
+twice : Asks (shown 0) (shown 4) 2
+unfolding shown
+twice = record { holder = refl; compared = record { goes_on = omega arith; at_most = omega arith } }
+
+more_than_twice : Asks (shown 0) (shown 5) 2 → ⊥
+unfolding shown
+more_than_twice h = let more = h.compared.at_most in omega arith

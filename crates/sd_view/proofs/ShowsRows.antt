@@ -1,6 +1,6 @@
 -- Worked bytes, and the ACEs, ACLs and descriptors that they show (MS-DTYP 2.4.4, 2.4.5, 2.4.6); and the limits of lists
 -- and descriptors.
-use Rattle.std.proofs.Common.{inl, inr, ℕ, zero, suc, true, false, List, [], ◌∷◌, ◌++◌, Option, Some, None}
+use Rattle.std.proofs.Common.{◌≡◌, inl, inr, ℕ, zero, suc, true, false, List, [], ◌∷◌, ◌++◌, Option, Some, None}
 use Rattle.std.proofs.Common.{refl, replicate, arith}
 use Rattle.sd_kinds.specs.Kinds.{kind_code, kind_entry}
 use Rattle.sd_kinds.specs.declared.kinds.AceKind.TheVariants as kinds
@@ -93,8 +93,8 @@ typed object inherited = record {
 typed_front : ℕ → ℕ → List ℕ
 typed_front size flags = 7 ∷ 0x40 ∷ size ∷ 0 ∷ 0x10 ∷ 0 ∷ 0 ∷ 0 ∷ flags ∷ 0 ∷ 0 ∷ 0 ∷ []
 
--- the third object flag means nothing
-both_are_shown : ShowsAce (typed_front 56 7 ++ user_class_bytes ++ other_class_bytes ++ everyones_bytes)
+-- bit 8 of the object flags means nothing
+both_are_shown : ShowsAce (typed_front 56 0xb ++ user_class_bytes ++ other_class_bytes ++ everyones_bytes)
     (typed (Some user_class) (Some other_class))
 unfolding computed typed_front typed user_class_bytes user_class other_class_bytes other_class everyones_bytes
 both_are_shown = record {
@@ -134,6 +134,15 @@ odd_size : (a : AccessControlEntry)
 unfolding everyones_bytes
 odd_size a h = let odd = h.aligned in cc
 
+-- the first object flag announces an object type, the second one an inherited one, and neither does in a plain kind
+
+announced : announces_object kinds.ObjectAllow (typed_front 40 1) ∷ announces_inherited kinds.ObjectAllow (typed_front 40 1)
+    ∷ announces_object kinds.ObjectAllow (typed_front 40 2) ∷ announces_inherited kinds.ObjectAllow (typed_front 40 2)
+    ∷ announces_object kinds.Allow (typed_front 40 3) ∷ announces_inherited kinds.Allow (typed_front 40 3) ∷ []
+    ≡ true ∷ false ∷ false ∷ true ∷ false ∷ false ∷ []
+unfolding computed typed_front
+announced = refl
+
 announced_and_missing : ShowsGuid true user_class_bytes None → ⊥
 announced_and_missing h = h
 
@@ -167,18 +176,18 @@ no_ace = record { revision = inr refl; header = omega arith; size = refl; count 
 third_revision : ShowsAcl (3 ∷ 0 ∷ 8 ∷ 0 ∷ 0 ∷ 0 ∷ 0 ∷ 0 ∷ []) [] → ⊥
 third_revision h = elim h.revision [ inl two ↦ cc | inr four ↦ cc ]
 
--- an ACL has 16 bits for its size, and an ACE of a SID without any number has 16 bytes
+-- an ACL has 16 bits for its size
 
 empty_acl : IsAcl []
 empty_acl = record { each = tt; fits = omega arith }
 
-sixteen_bytes : AccessControlEntry
-sixteen_bytes = record plain { sid = record { authority = 5; subs = [] } }
+sized : List ℕ → AccessControlEntry
+sized subs = record plain { sid = record { authority = 5; subs = subs } }
 
--- 4,096 of them have 65,536 bytes
-too_many : IsAcl (replicate 4096 sixteen_bytes) → ⊥
-unfolding sixteen_bytes plain
-too_many h = let more = h.fits in omega arith
+-- 8 + 4,094 * 16 + 24 bytes are 65,536
+too_large : IsAcl (replicate 4094 (sized []) ++ sized (1 ∷ 2 ∷ []) ∷ []) → ⊥
+unfolding sized plain
+too_large h = let more = h.fits in omega arith
 
 -- 3. Descriptors.
 
@@ -320,13 +329,52 @@ bare_is_a_descriptor = record {
   dacl = refl;
 }
 
-larger_control : IsDescriptor (record full { control = 0x1_ffff }) → ⊥
+larger_control : IsDescriptor (record full { control = 0x1_0000 }) → ⊥
 unfolding full
 larger_control h = let more = h.control in omega arith
 
 larger_rm : IsDescriptor (record full { rm = 0x100 }) → ⊥
 unfolding full
 larger_rm h = let more = h.rm in omega arith
+
+-- the present bit of each ACL by itself
+
+dacl_is_null : IsDescriptor (record bare { control = 0x8004; dacl = acl.Null })
+unfolding bare
+dacl_is_null = record {
+  control = omega arith;
+  relative = refl;
+  rm = omega arith;
+  owner = tt;
+  group = tt;
+  sacl = refl;
+  dacl = refl;
+}
+
+sacl_is_null : IsDescriptor (record bare { control = 0x8010; sacl = acl.Null })
+unfolding bare
+sacl_is_null = record {
+  control = omega arith;
+  relative = refl;
+  rm = omega arith;
+  owner = tt;
+  group = tt;
+  sacl = refl;
+  dacl = refl;
+}
+
+-- a SID with one number too many
+
+sixteen : SecurityId
+sixteen = record { authority = 5; subs = replicate 16 0 }
+
+no_owner : IsDescriptor (record bare { owner = Some sixteen }) → ⊥
+unfolding bare sixteen
+no_owner h = let more = h.owner.count in omega arith
+
+no_group : IsDescriptor (record bare { group = Some sixteen }) → ⊥
+unfolding bare sixteen
+no_group h = let more = h.group.count in omega arith
 
 -- 4. The written form: without a gap, and no offset for what has no bytes.
 
