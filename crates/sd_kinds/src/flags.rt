@@ -74,6 +74,10 @@ pub fn put_flags<S: Sink>(flags: u8, sink: &mut S) -> Result<(), SinkFault>
 pub fn print_flags<P: Print>(flags: u8, out: &mut P)
     ensures { Prints (P.told out.old) (P.told out.new) (flags_text flags) }
 {
+    // Many ACEs have none.
+    if flags == 0 {
+        return;
+    }
     print_names(&FLAGS, u32::from(flags), out);
 }
 
