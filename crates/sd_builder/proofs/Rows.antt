@@ -386,6 +386,105 @@ shared_owner_and_acl : reading (hex "010004801400000000000000000000001c000000010
 unfolding computed
 shared_owner_and_acl = refl
 
+-- a null SACL has no bytes and no offset
+null_and_empty_is_laid_out : layout
+    (record { control = 0x8014; rm = 0; owner = None; group = None; sacl = acl.Null; dacl = acl.List [] })
+    ≡ hex "01001480000000000000000000000000140000000200080000000000"
+unfolding computed
+null_and_empty_is_laid_out = refl
+
+-- revision 4 without an object ACE
+fourth_revision : reading (hex "01000480000000000000000000000000140000000400080000000000") ≡ Ok
+    (record { control = 0x8004; rm = 0; owner = None; group = None; sacl = acl.Absent; dacl = acl.List [] })
+unfolding computed
+fourth_revision = refl
+
+-- two ACEs of different sizes
+two_aces : reading
+    (hex "01000480000000000000000000000000140000000200340002000000000014000000000001010000000000010000000000001800ff011f0001020000000000052000000020020000") ≡ Ok (record {
+      control = 0x8004;
+      rm = 0;
+      owner = None;
+      group = None;
+      sacl = acl.Absent;
+      dacl = acl.List (record full_access { mask = 0 } ∷ record full_access { sid = administrators } ∷ []);
+    })
+unfolding computed full_access administrators everyone
+two_aces = refl
+
+-- an inherited object type alone
+with_inherited : reading
+    (hex "01000480000000000000000000000000140000000400300001000000050228001000000002000000ba7a96bfe60dd011a28500aa003049e201010000000000050b000000") ≡ Ok (record with_object {
+      dacl = acl.List (record read_property { object = None; inherited = Some user_class } ∷ []);
+    })
+unfolding computed with_object read_property user_class authenticated
+with_inherited = refl
+
+-- what follows the ACL is no part of it
+ace_behind_the_acl : reading
+    (hex "010004800000000000000000000000001400000002000800010000000000140000000000010100000000000100000000") ≡ Err
+    (faults.AceSize Dacl)
+unfolding computed
+ace_behind_the_acl = refl
+
+-- an ACE of 12 bytes, one of 20 where 16 are left, and one of 18
+
+short_ace : reading
+    (hex "010004800000000000000000000000001400000002001800010000000000" ++ hex "0c00000000000100000000000001") ≡ Err
+    (faults.AceSize Dacl)
+unfolding computed
+short_ace = refl
+
+long_ace : reading
+    (hex "010004800000000000000000000000001400000002001800010000000000" ++ hex "1400000000000100000000000001") ≡ Err
+    (faults.AceSize Dacl)
+unfolding computed
+long_ace = refl
+
+ace_of_18_bytes : reading
+    (hex "010004800000000000000000000000001400000002001a00010000000000" ++ hex "12000000000001000000000000010000") ≡ Err
+    (faults.AceSize Dacl)
+unfolding computed
+ace_of_18_bytes = refl
+
+-- the unused flag beside another
+two_flags : reading
+    (hex "0100108000000000000000001400000000000000020018000100000000601000000000000100000000000000") ≡ Err
+    (faults.AceFlags Sacl)
+unfolding computed
+two_flags = refl
+
+-- an ACL of 7 bytes, one that passes the end, and one inside the header
+
+short_acl : reading (hex "01000480000000000000000000000000140000000200070000000000") ≡ Err (faults.Acl Dacl)
+unfolding computed
+short_acl = refl
+
+long_acl : reading (hex "01000480000000000000000000000000140000000200090000000000") ≡ Err (faults.Acl Dacl)
+unfolding computed
+long_acl = refl
+
+acl_in_the_header : reading (hex "01001080000000000000000013000000000000000200080000000000") ≡ Err (faults.Offset Sacl)
+unfolding computed
+acl_in_the_header = refl
+
+-- the other pairs of parts
+
+shared_owner_and_sacl : reading (hex "0100108014000000000000001c0000000000000001020000000000050200080000000000") ≡ Err
+    (faults.Overlap Owner Sacl)
+unfolding computed
+shared_owner_and_sacl = refl
+
+shared_group_and_sacl : reading (hex "0100108000000000140000001c0000000000000001020000000000050200080000000000") ≡ Err
+    (faults.Overlap Group Sacl)
+unfolding computed
+shared_group_and_sacl = refl
+
+shared_group_and_dacl : reading (hex "010004800000000014000000000000001c00000001020000000000050200080000000000") ≡ Err
+    (faults.Overlap Group Dacl)
+unfolding computed
+shared_group_and_dacl = refl
+
 -- the control word: the names and the bits of MS-DTYP 2.4.6
 
 lettered : List ControlBit → List (List ℕ × ℕ)
