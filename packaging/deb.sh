@@ -86,6 +86,8 @@ rm "$modules/sdtool/_native.c"
 
 audit=$work/sdtool-audit
 move "$work/python3-sdtool" "$audit" usr/lib/python3/dist-packages/sdtool/audit
+# Reports of audits go into the page, where it is built.
+[[ ! -f out/sdtool.html ]] || install -m 644 out/sdtool.html "$audit/usr/lib/python3/dist-packages/sdtool/audit"
 install -d "$audit/usr/bin" "$audit/usr/share/man/man1"
 install -m 755 packaging/sdtool-audit "$audit/usr/bin"
 gzip -9n < docs/sdtool-audit.1 > "$audit/usr/share/man/man1/sdtool-audit.1.gz"

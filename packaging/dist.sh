@@ -32,6 +32,7 @@ fill_linux() {
     install -m 644 "out/systems/$2/$soname" "$1/lib/libsdtool.so.$version"
     install -d "$1/python"
     cp -R python/. "$1/python"
+    [[ ! -f out/sdtool.html ]] || install -m 644 out/sdtool.html "$1/python/sdtool/audit" # reports of audits go into it
     find "$1/python" \( -name __pycache__ -o -name '*.so' \) -prune -exec rm -rf {} +
 }
 

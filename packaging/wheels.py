@@ -53,6 +53,8 @@ def main():
     for system in sys.argv[1:]:
         binaries = list(binaries_of(system))
         files = [(str(path.relative_to(build_wheel.HERE)), path.read_bytes()) for path in build_wheel.module_files()]
+        # Reports of audits go into the page.
+        files += [("sdtool/audit/sdtool.html", page.read_bytes()) for page in (TOP / "out/sdtool.html",) if page.exists()]
         print(folder / build_wheel.write_wheel(folder, [*files, *binaries],
                                                f"py3-none-{platform_of(system, b''.join(data for _, data in binaries))}"))
 

@@ -49,7 +49,7 @@ FLAGS = ["-std=gnu11", "-O2", "-Wall", "-Wextra", "-Werror", "-shared", "-fPIC"]
 
 def module_files():
     """The files of the module that are the same everywhere."""
-    return sorted(path for path in MODULE.rglob("*") if path.suffix in (".py", ".pyi") or path.name == "py.typed")
+    return sorted(path for path in MODULE.rglob("*") if path.suffix in (".py", ".pyi") or path.name in ("py.typed", "sdtool.html"))
 
 
 def header_folder():

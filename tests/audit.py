@@ -94,7 +94,7 @@ class Place:
         hooks = self.folder / "hooks"
         hooks.mkdir()
         (hooks / "sitecustomize.py").write_text(HOOK)
-        self.environment = {**os.environ, "SDTOOL_LIBRARY": LIBRARY, "PYTHONDONTWRITEBYTECODE": "1",
+        self.environment = {**os.environ, "SDTOOL_LIBRARY": LIBRARY, "SDTOOL_PAGE": "", "PYTHONDONTWRITEBYTECODE": "1",
                             "PYTHONPATH": f"{hooks}:{TOP / 'python'}", "COLUMNS": "200"}
 
     def write(self, name: str, data) -> str:
@@ -103,10 +103,10 @@ class Place:
         path.write_bytes(data if isinstance(data, bytes) else data.encode())
         return name
 
-    def ask(self, *words: str, stdin: bytes = b"", may_write: str = "", cwd: Optional[pathlib.Path] = None) -> Ended:
+    def ask(self, *words: str, stdin: bytes = b"", may_write: str = "", cwd: Optional[pathlib.Path] = None, **more: str) -> Ended:
         ended = subprocess.run([self.python, "-m", "sdtool.audit", *words], cwd=cwd or self.folder, input=stdin,
                                capture_output=True, timeout=SECONDS,
-                               env={**self.environment, "SDTOOL_AUDIT_MAY_WRITE": may_write})
+                               env={**self.environment, "SDTOOL_AUDIT_MAY_WRITE": may_write, **more})
         return Ended(ended.returncode, ended.stdout.decode("utf-8", "surrogateescape"),
                      ended.stderr.decode("utf-8", "replace"))
 
@@ -343,6 +343,43 @@ def test_hostile(place: Place) -> None:
     place.expect("<script>alert" in ended.stdout or "\x1b" in ended.stdout or "\u202e" in ended.stdout, False, "hostile, HTML")
     place.expect("default-src 'none'" in ended.stdout, True, "the policy of the HTML report")
     place.expect(re.findall(r'(?:src|href)=|url\(|@import', ended.stdout), [], "requests of the HTML report")
+    place.expect("no views of descriptors, since sdtool.html is not installed" in ended.stdout, True, "an HTML report without the page")
+
+
+PAGE = '<!DOCTYPE html>\n<script type="application/json" id="report"></script>\n<p>after it</p>\n'
+
+
+def test_page_report(place: Place) -> None:
+    """The report that is put into the page: every object with its descriptor, and nothing that could be markup."""
+    rows = hostile_rows()
+    source = place.table([row[:2] for row in rows], "in the page.csv", ("name", "sddl"))
+    place.write("names.csv", "S-1-5-21-1-2-3-1001,</script><b>Ann</b>\n")
+    words = ("can", "WD", "change", source, "--sid-names", "names.csv", "--domain", "S-1-5-21-1-2-3")
+    page = str(place.folder / place.write("sdtool.html", PAGE))
+    ended = place.ask(*words, "--to", "html", "--list", "all", SDTOOL_PAGE=page)
+    before, after = PAGE.split("</script>")
+    inside = ended.stdout[len(before):-len("</script>" + after)]
+    place.expect(ended.stdout, before + inside + "</script>" + after, "the page around a report")
+    place.expect("<" in inside, False, "a report that could end its element")
+    head, *lines, last = (json.loads(line) for line in inside.split("\n") if line)
+    place.expect((head["report"], head["title"], head["domain"], head["names"]),
+                 ("sdtool-audit report 1", "What WD gets of: change", "S-1-5-21-1-2-3",
+                  [["S-1-5-21-1-2-3-1001", "</script><b>Ann</b>"]]), "the head of a report in the page")
+    told = place.objects(*words)
+    place.expect([(one[0], one[1], one[2] or None, one[3], one[10]) for one in lines],
+                 [(one["name"], one["source"], one["line"], one["answer"],
+                   [[found["rule"], found["trustee"], found["rights"], found["text"], found.get("accepted", "")]
+                    for found in one["findings"]]) for one in told], "objects of a report in the page")
+    texts = {(one[0], one[5]) for one in lines if one[4]}
+    place.expect(texts - {(name, text.strip()) for name, text, _ in rows}, set(), "descriptors of a report in the page")
+    place.expect({(one[0], one[8]) for one in lines if not one[4]},
+                 {(one["name"], one["reason"]) for one in told if one["answer"] == "unknown" and
+                  one["name"] not in {name for name, _ in texts}}, "objects without a descriptor in the page")
+    place.expect((last["summary"], last["listsAll"]), (ended.stderr.strip().splitlines()[-1], True), "the end of a report in the page")
+    for text in ("no page", PAGE.replace("report", "other"), ""):
+        page = str(place.folder / place.write("other.html", text))
+        ended = place.ask(*words, "--to", "html", SDTOOL_PAGE=page)
+        place.expect(ended.stdout.count("<tr><td>") > 10 and "is not installed" in ended.stdout, True, f"a page that is none: {text!r}")
 
 
 def test_can(place: Place) -> None:
@@ -924,8 +961,8 @@ def test_examples(place: Place) -> None:
     place.expect(sorted(name for name in commands if name not in manual), [], "commands that the man page lacks")
 
 
-TESTS = (test_sources, test_damaged_registry, test_tables, test_plain_lines, test_hostile, test_can, test_who,
-         test_directory_objects, test_risks, test_accepting, test_diff, test_inherit, test_show, test_cache, test_words,
+TESTS = (test_sources, test_damaged_registry, test_tables, test_plain_lines, test_hostile, test_page_report,
+         test_can, test_who, test_directory_objects, test_risks, test_accepting, test_diff, test_inherit, test_show, test_cache, test_words,
          test_scale, test_bar, test_samba, test_ntfs, test_directory_server, test_names_of_sids, test_package, test_examples)
 
 

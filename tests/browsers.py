@@ -38,6 +38,20 @@ def key_actions(keys):
     return [{"type": "key", "id": "keyboard", "actions": pressed}]
 
 
+def memory_below(process):
+    """How many bytes a process and those that it started have, each that several share in parts."""
+    total = 0
+    with contextlib.suppress(OSError):  # one that has just ended
+        for line in pathlib.Path(f"/proc/{process}/smaps_rollup").read_text(encoding="ascii").splitlines():
+            if line.startswith("Pss:"):
+                total += 1024 * int(line.split()[1])
+        for thread in pathlib.Path(f"/proc/{process}/task").iterdir():
+            total += sum(
+                memory_below(int(child)) for child in (thread / "children").read_text(encoding="ascii").split()
+            )
+    return total
+
+
 class Chromium:
     name = "Chromium"
 
@@ -85,6 +99,13 @@ class Chromium:
 
     def picture(self, path):
         pathlib.Path(path).write_bytes(self.driver.get_screenshot_as_png())
+
+    def tree(self):
+        """The tree that a screen reader sees; nodes that it passes over are marked as ignored."""
+        return self.driver.execute_cdp_cmd("Accessibility.getFullAXTree", {})["nodes"]
+
+    def memory(self):
+        return memory_below(self.driver.service.process.pid)
 
     def requests(self):
         """The addresses that the browser asked for since the last call."""
@@ -193,6 +214,12 @@ class Firefox:
     def picture(self, path):
         shown = self.ask("WebDriver:TakeScreenshot", {"full": False, "hash": False})["value"]
         pathlib.Path(path).write_bytes(base64.b64decode(shown))
+
+    def tree(self):
+        return None  # its remote protocol has none
+
+    def memory(self):
+        return memory_below(self.child.pid)
 
     def requests(self):
         return None  # the server's own log has to do

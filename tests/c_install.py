@@ -51,7 +51,8 @@ FILES_OF_PACKAGES = {
     "python3-sdtool": {path.name for path in (TOP / "python/sdtool").rglob("*")
                        if path.is_file() and path.suffix not in (".c", ".so", ".pyc") and path.parent.name != "audit"}
                       | ({EXTENSION} if not extension.missing(f"linux-{os.uname().machine}") else set()),
-    "sdtool-audit": {"sdtool-audit", "sdtool-audit.1.gz", *(path.name for path in (TOP / "python/sdtool/audit").glob("*.py"))},
+    "sdtool-audit": {"sdtool-audit", "sdtool-audit.1.gz", *(path.name for path in (TOP / "python/sdtool/audit").glob("*.py")),
+                     *(path.name for path in (TOP / "out").glob("sdtool.html"))},
 }
 EXPECTED = f"{VERSION}\n{LAYOUT} {SDDL}\nerror 20\n"
 

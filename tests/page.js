@@ -219,7 +219,7 @@ async function longLine(...given) {
 }
 
 async function bigFile(...given) {
-    const {data, times, stopAfter} = given[0];
+    const {data, times, stopAfter, isShort} = given[0];
     const one = bytesOf(data);
     const originalURL = URL.createObjectURL;
     let saved = null;
@@ -249,6 +249,7 @@ async function bigFile(...given) {
     await until(() => !byId("lines-save").disabled, 110);
     clearInterval(timer);
     const seconds = (performance.now() - began) / 1000;
+    if (isShort) return {seconds, most: Math.max(...gaps)};
     byId("lines-save").click();
     URL.createObjectURL = originalURL;
     const digest = new Uint8Array(await window.crypto.subtle.digest("SHA-256", await saved.arrayBuffer()));
@@ -259,6 +260,98 @@ async function bigFile(...given) {
         digest: textOf(digest),
         status: byId("lines-status").textContent
     };
+}
+
+// Each filter of the table in turn: how many lines it keeps, what its last page says, and the longest turn.
+async function filters(...given) {
+    const found = [];
+    for (const name of given[0]) {
+        let [most, last] = [0, performance.now()];
+        const timer = setInterval(() => {
+            const now = performance.now();
+            [most, last] = [Math.max(most, now - last), now];
+        }, 5);
+        const numbers = () => document.querySelector("#lines-table .pages").firstChild.data.match(/[\d,]+/g);
+        document.activeElement.blur();
+        put("lines-filter", name);
+        await until(() => document.activeElement.id === "lines-filter" && byId("lines-filter").value === name);
+        const [, , count] = numbers();
+        if (!byId("page-last").disabled) {
+            document.activeElement.blur();
+            byId("page-last").click();
+            await until(() => numbers()[1] === count);
+        }
+        clearInterval(timer);
+        found.push({most, count, last: numbers()[1]});
+    }
+    return found;
+}
+
+// What the Tab key has to reach, in this order, and where it is.
+const all = () => Array.from(document.querySelectorAll("*"));
+const describe = (one) => ({
+    at: all().indexOf(one),
+    text: `${one.tagName} ${one.id} ${one.className} ${one.textContent.slice(0, 30)}`
+});
+
+function reachable() {
+    return Array
+        .from(document.querySelectorAll("a[href], button, input, select, textarea, summary, [tabindex]"))
+        .filter((one) => one.tabIndex >= 0 && !one.disabled && one.getClientRects().length > 0)
+        .map(describe);
+}
+
+function focused() {
+    const one = document.activeElement;
+    const isSeen = (element) => element && getComputedStyle(element).outlineStyle !== "none" &&
+        parseFloat(getComputedStyle(element).outlineWidth) >= 2;
+    return {...describe(one), isSeen: isSeen(one) || (one.type === "file" && isSeen(one.closest(".drop")))};
+}
+
+// The rows of a report, in order.
+function reportRows() {
+    return Array.from(document.querySelectorAll("table.report tbody tr"), (row) => ({
+        name: row.querySelector("th bdi").textContent,
+        line: Number(/line (\d+)$/.exec(row.querySelector("th .where").textContent)?.[1] ?? 0),
+        answer: row.querySelector("td .badge").textContent,
+        isOpen: row.querySelector("button.open") !== null
+    }));
+}
+
+// Opens an object of a report by its line, and goes back.
+async function openRow(...given) {
+    byId("tab-report").click();
+    const row = Array.from(document.querySelectorAll("table.report tbody tr"))
+                    .find((one) => one.querySelector("th .where").textContent.endsWith(`line ${given[0]}`));
+    row.querySelector("button.open").click();
+    await until(isIdle);
+    const got = {
+        opened: byId("opened").textContent,
+        look: byId("view-look").textContent,
+        cells: document.querySelectorAll("button.cell").length,
+        sddl: document.querySelector(".words code.whole")?.textContent ?? ""
+    };
+    byId("opened-back").click();
+    return got;
+}
+
+// Reads a large report and filters it; the longest turn of the page on the way.
+async function manyRows() {
+    const [began, status] = [performance.now(), () => byId("report-status").textContent];
+    let [most, last] = [0, began];
+    const timer = setInterval(() => {
+        const now = performance.now();
+        [most, last] = [Math.max(most, now - last), now];
+    }, 5);
+    await until(() => /objects$/.test(status()));
+    const all = status();
+    put("report-answer", "found");
+    await until(() => status() !== all);
+    const found = status();
+    put("report-text", "folder/99");
+    await until(() => status() !== found);
+    clearInterval(timer);
+    return {seconds: (performance.now() - began) / 1000, most, all, found};
 }
 
 async function contrast(...given) {

@@ -74,7 +74,9 @@ def table():
     """The entries of the page's table, read in another way than the page does."""
     source = (TOP / "web/schema.mjs").read_text(encoding="utf-8")
     for name, words in re.findall(r"\[(\w+)\]: `([^`]*)`", source):
-        for end, items in re.findall(r"(-[0-9a-f]{4}-[0-9a-f]{4}-[0-9a-f]{4}-[0-9a-f]{12})((?:\s+[0-9a-f]{8}\s+\S+)+)", words):
+        for end, items in re.findall(
+            r"(-[0-9a-f]{4}-[0-9a-f]{4}-[0-9a-f]{4}-[0-9a-f]{12})((?:\s+[0-9a-f]{8}\s+\S+)+)", words
+        ):
             for first, called in re.findall(r"([0-9a-f]{8})\s+(\S+)", items):
                 yield first + end, called, KINDS[name]
         left = re.sub(r"(-[0-9a-f]{4}-[0-9a-f]{4}-[0-9a-f]{4}-[0-9a-f]{12})((?:\s+[0-9a-f]{8}\s+\S+)+)", "", words)

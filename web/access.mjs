@@ -165,8 +165,14 @@ export function gridOf(library, descriptor, model, {mapping, object, common, all
     };
 }
 
+// What a token gets of each object type for which ACEs are, and of the object as a whole.
+export function grantedByType(library, descriptor, types, token, mapping) {
+    return types.map((object) => grantedOf(
+                         library, descriptor, token, {mapping, objectType: guidBytes(library, object)}, EVERY_BIT));
+}
+
 // The object types that ACEs are for. Without one of them asked for, such an ACE does not apply.
-function typesOf(model, mapping) {
+export function typesOf(model, mapping) {
     const aces =
         model.dacl.aces.filter((ace) => DECIDING.includes(ace.kind) && ace.object && !ace.flags.includes("IO"));
     const all = mapping === "ds" ? [...new Set(aces.map((ace) => ace.object))] : [];

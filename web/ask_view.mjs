@@ -59,7 +59,7 @@ export function makeAsk(asked, refresh) {
                     make("div", {class: "boxes"},
                         box("ask-take", WORDS.ask.takeOwnership, asked.takeOwnership, set("takeOwnership")),
                         box("ask-security", WORDS.ask.security, asked.security, set("security"))))),
-            make("div", {id: "ask-result", role: "status", "aria-live": "polite"})),
+            make("div", {id: "ask-result"})),
     ];
 }
 
@@ -118,12 +118,13 @@ function tokenLine(result, names) {
     return make("p", {}, say(WORDS.ask.tokenIs, {who: commaed(entries)}), result.entries.length > 40 ? " .." : "");
 }
 
+// Shows it, and returns what a screen reader says of it.
 export function showAsk(result, {kind, names, texts}) {
     const place = byId("ask-result");
     const faults = faultsOf(result);
     if (faults.length) {
         show(place, faults.map((fault) => make("p", {class: "fault-name"}, fault)));
-        return;
+        return faults.join(" ");
     }
     const {columns} = WORDS.ask;
     const isGranted = result.verdict.granted;
@@ -132,11 +133,13 @@ export function showAsk(result, {kind, names, texts}) {
             make("strong", {}, isGranted ? WORDS.ask.granted : WORDS.ask.denied), " ",
             make("code", {}, `${isGranted ? "granted" : "denied"} ${maskText(result.verdict.mask)}`)),
         make("p", {}, verdictText(result, kind)), tokenLine(result, names),
+        result.isForWhole ? make("p", {class: "hint"}, WORDS.ask.whole) : null,
         make("div", {class: "scroll", tabindex: "0", role: "region", "aria-label": columns.reason},
             make("table", {class: "reasons"},
                 make("thead", {},
                     make("tr", {}, Object.values(columns).map((text) => make("th", {scope: "col"}, text)))),
                 make("tbody", {}, result.reasons.map((reason) => reasonRow(reason, kind, texts))))));
+    return `${isGranted ? WORDS.ask.granted : WORDS.ask.denied}. ${verdictText(result, kind)}`;
 }
 
 export const bitsInWords = (kind, mask) => bitsOf(mask).map((bit) => rightName(kind, bit));

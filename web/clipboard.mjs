@@ -3,14 +3,33 @@
 
 import {listingIn} from "./icacls.mjs";
 
+// hex(3):01,00,.. of a .reg file, and what reg query prints.
 const REG_VALUE = /(?:(@|"(?:[^"\\]|\\.)*")\s*=\s*)?hex(?:\(([0-9a-f]+)\))?:((?:[0-9a-f]{2}|[,\s]|\\\s*\n)*)/gi;
+const REG_BINARY = /REG_BINARY(?<=(\S*)[ \t]+REG_BINARY)[ \t]+([0-9a-f]+)/gi;
 const ATTRIBUTE = /^([A-Za-z][\w;-]*)::[ \t]*(.*)$/;
 const SDDL_START = new RegExp(
-    "(^|[\\s\"',;=:>\\t|])" + // what may come before
-        "(?=[OG]:\\s*(?:S-1-|[A-Za-z]{2})|[DS]:\\s*(?:P|AR|AI|NO_ACCESS|\\(|[OGDS]:|$|\"|\\s*$))",
+    "(^|[\\s\"',;=:>\\t|`\u201c\u201e\u2018\u00ab])" + // what may come before
+        "(?=[OG]:\\s*(?:S-1-|[A-Za-z]{2})|[DS]:\\s*(?:P|AR|AI|NO_ACCESS|\\(|[OGDS]:|$|\"))",
     "im",
 );
 const HEX_SEPARATORS = /[\s,:\-\\]/g;
+// What ends a text that begins with a mark: quotation marks, or the next element of XML.
+const ENDS = {
+    "\"": "\"",
+    "'": "'",
+    "`": "`",
+    "\u201c": "\u201d",
+    "\u201e": "\u201c",
+    "\u2018": "\u2019",
+    "\u00ab": "\u00bb",
+    ">": "<"
+};
+const ORDER = "OGDS"; // of the parts
+
+// Whatever is left of a text is said, so that nobody takes it for read.
+const leftOut = (what, text) => (text.trim() ? [{what, text: text.trim()}] : []);
+
+const linesOf = (text) => text.split(/\r\n|\r|\n/).filter((line) => line.trim() !== "");
 
 const unfolded = (text) => text.replace(/\r?\n[ \t]/g, "");
 
@@ -29,42 +48,72 @@ function nameOfEntry(line) {
 
 function ofLdif(text) {
     const found = [];
-    let name = "";
+    let [name, others] = ["", []];
     for (const line of unfolded(text).split(/\r?\n/)) {
+        const [, attribute, value] = ATTRIBUTE.exec(line) ?? [];
         if (/^dn::? /i.test(line)) {
             name = nameOfEntry(line);
         }
-        const [, attribute, value] = ATTRIBUTE.exec(line) ?? [];
         if (attribute && /^(ntsecuritydescriptor|ms.*securitydescriptor|.*sddl.*|.*sd)$/i.test(attribute)) {
-            const dropped = [{what: "before", text: attribute + "::"}];
+            const dropped = leftOut("before", [...others, attribute + "::"].join(" "));
             if (/\n[ \t]/.test(text)) {
                 dropped.push({what: "folds"});
             }
             found.push({name, form: "base64", line: value.trim(), dropped});
+            others = [];
+        } else {
+            others.push(line);
         }
     }
+    found.at(-1)?.dropped.push(...leftOut("after", others.join(" ")));
     return found;
 }
 
-function ofRegistry(text) {
-    return [...text.matchAll(REG_VALUE)].map((found) => ({
-        name: (found[1] ?? "").replace(/^"|"$/g, ""),
-        form: "hex",
-        line: found[3].replace(HEX_SEPARATORS, ""),
-        dropped:
-            [{what: "before", text: found[0].slice(0, found[0].length - found[3].length).trim()}, {what: "separators"}],
-    }));
+// The values that a pattern finds, of which the first group is the name and the last the digits.
+function ofRegistry(text, pattern) {
+    let end = 0;
+    const found = [...text.matchAll(pattern)].map((one) => {
+        const value = one.at(-1);
+        const before = text.slice(end, one.index) + one[0].slice(0, one[0].length - value.length);
+        const line = value.replace(HEX_SEPARATORS, "");
+        end = one.index + one[0].length;
+        const dropped = [...leftOut("before", before), ...(line === value ? [] : [{what: "separators"}])];
+        return {name: (one[1] ?? "").replace(/^"|"$/g, ""), form: "hex", line, dropped};
+    });
+    found.at(-1)?.dropped.push(...leftOut("after", text.slice(end)));
+    return found;
 }
 
-// Whether a parenthesis is still open, so that the next line belongs to the same descriptor.
-function isOpen(text) {
-    return text.split("(").length > text.split(")").length;
-}
+// How many parentheses a text opens beyond those that it closes.
+const depthOf = (text) => text.split("(").length - text.split(")").length;
 
-// A line that Format-List or a mail program has folded: it has no start of a descriptor of its own, and continues one
-// that is open or is set in under it.
-function isContinuation(before, line) {
-    return line.trim() !== "" && !SDDL_START.test(line) && (isOpen(before) || /^\s{2,}\S+$/.test(line));
+// The letter of a part that begins a line, or nothing.
+const partAt = (line) => /^\s*([OGDS]):/i.exec(line)?.[1].toUpperCase() ?? "";
+
+// The letters of the parts of a text.
+const partsOf = (text) =>
+    [...text.replace(/\([^()]*\)/g, "").matchAll(/([OGDS]):/gi)].map((found) => found[1].toUpperCase());
+
+// The lines from a place on that continue a descriptor, which Format-List, LDIF or a mail program has folded. Such a
+// line has no start of a descriptor of its own, and begins with an ACE, continues one that is open, or is set in under
+// it. Or it begins with a part that comes behind all those before it.
+function continuationOf(first, lines, from) {
+    let depth = depthOf(first);
+    let parts = partsOf(first);
+    let at = from;
+    for (; at < lines.length; at += 1) {
+        const line = lines[at];
+        const part = partAt(line);
+        const goesOn = SDDL_START.test(line) ?
+            part !== "" && parts.every((one) => ORDER.indexOf(one) < ORDER.indexOf(part)) :
+            depth > 0 || /^\s*\([^();]*;/.test(line) || /^\s{2,}\S+$/.test(line);
+        if (!goesOn) {
+            break;
+        }
+        depth += depthOf(line);
+        parts = part ? [...parts, ...partsOf(line)] : parts;
+    }
+    return lines.slice(from, at).map((line) => line.trim());
 }
 
 function ofSddlLine(line) {
@@ -76,50 +125,53 @@ function ofSddlLine(line) {
     const before = line.slice(0, at);
     const dropped = /[^\s"']/.test(before) ? [{what: "before", text: before.trim()}] : [];
     let rest = line.slice(at);
-    const quote = /["']$/.exec(before)?.[0];
-    if (quote) {
+    const mark = before.at(-1);
+    const end = ENDS[mark];
+    if (end) {
         // In a quoted field a quote is doubled, and the first single one ends the field.
-        const value = (quote === "\"" ? /^(?:[^"]|"")*/ : /^[^']*/).exec(rest)[0];
+        const quoted = /^(?:[^"]|"")*/.exec(rest)[0];
+        const value = end === "\"" ? quoted : rest.split(end, 1)[0];
         const after = rest.slice(value.length);
-        if (after.replace(/^["']/, "").trim()) {
-            dropped.push({what: "after", text: after});
+        dropped.push(...leftOut("after", mark === ">" ? after : after.slice(1)));
+        if (mark !== ">") {
+            dropped.push({what: "quotes"});
         }
-        dropped.push({what: "quotes"});
-        rest = value.replace(/""/g, "\"");
+        rest = mark === "\"" ? value.replace(/""/g, "\"") : value;
     }
     return {name: nameIn(before), form: "sddl", line: rest.trim(), dropped};
 }
 
 // What comes before a descriptor, without the marks around it: the name of a file or of a property.
-const nameIn = (before) => before.replace(/^[\s"']+|[\s"',;=:|]+$/g, "").replace(/"\s*,\s*\d+$/, "");
+const MARKS = "\\s\"'`<>{\u201c\u201e\u2018\u00ab";
+const AROUND = new RegExp(`^[${MARKS}]+|[${MARKS},;=:|]+$`, "g");
+const nameIn = (before) => before.replace(AROUND, "").replace(/"\s*,\s*\d+$/, "");
+
+// What Get-Acl lists before the descriptor has the path of the object.
+const pathIn = (lines) => lines.map((line) => /^Path\s*:\s*(\S.*)$/.exec(line)?.[1]).find(Boolean);
 
 function ofSddl(text) {
-    const lines = text.split(/\r?\n/);
+    const lines = linesOf(text);
     const found = [];
-    let lastName = "";
+    let others = [];
     for (let at = 0; at < lines.length; at += 1) {
         const one = ofSddlLine(lines[at]);
         if (!one) {
-            lastName = lines[at].trim() || lastName;
+            others.push(lines[at].trim());
             continue;
         }
-        let folds = 0;
-        while (at + 1 < lines.length && isContinuation(one.line, lines[at + 1])) {
-            one.line += lines[at + 1].trim();
-            at += 1;
-            folds += 1;
-        }
-        if (folds) {
+        const folded = continuationOf(one.line, lines, at + 1);
+        if (folded.length) {
+            one.line = [one.line, ...folded].join("");
             one.dropped.push({what: "folds"});
+            at += folded.length;
         }
-        if (!one.name && lastName) {
-            // icacls /save writes the name of the object in a line of its own.
-            one.name = lastName;
-            one.dropped.push({what: "before", text: lastName});
-        }
-        lastName = "";
+        // icacls /save writes the name of the object in a line of its own.
+        one.name = pathIn(others) ?? (one.name || (others.at(-1) ?? ""));
+        one.dropped.unshift(...leftOut("before", others.join(" ")));
+        others = [];
         found.push(one);
     }
+    found.at(-1)?.dropped.push(...leftOut("after", others.join(" ")));
     return found;
 }
 
@@ -149,10 +201,10 @@ function ofBase64(text) {
     return [{name: "", form: "base64", line, dropped: line === text.trim() ? [] : [{what: "folds"}]}];
 }
 
-const looksLikeBase64 = (text) => /^[A-Za-z0-9+/\s]+={0,2}\s*$/.test(text) && /^\s*AQ[A-Za-z0-9+/]{2}/.test(text);
+const looksLikeBase64 = (text) => /^AQ[A-Za-z0-9+/]{2,}={0,2}$/.test(text.replace(/\s/g, ""));
 
 // What icacls lists without /save: names and letters, no SIDs.
-const ICACLS = /[^\s:()][^:()\n]*:(?:\((?:DENY|[A-Z]{1,3}(?:,[A-Z]{1,3})*)\))+/;
+const ICACLS = /[^\n:()]:\((?:DENY|[A-Z]{1,3}(?:,[A-Z]{1,3})*)\)/;
 
 // Text as it is, when a form was chosen: only the ends of the line are dropped.
 function asChosen(text, form) {
@@ -165,8 +217,10 @@ function guessed(text) {
     if (/^[A-Za-z][\w;-]*:: /m.test(plain) && ofLdif(plain).length) {
         return ofLdif(plain);
     }
-    if (/hex(?:\([0-9a-f]+\))?:/i.test(plain) && ofRegistry(plain).length) {
-        return ofRegistry(plain);
+    for (const pattern of [REG_VALUE, REG_BINARY]) {
+        if (ofRegistry(plain, pattern).length) {
+            return ofRegistry(plain, pattern);
+        }
     }
     if (BYTES_OF_POWERSHELL.test(plain) && ofNumbers(plain).length) {
         return ofNumbers(plain);
@@ -177,7 +231,7 @@ function guessed(text) {
     if (looksLikeBase64(plain)) {
         return ofBase64(plain);
     }
-    const found = ofSddl(plain);
+    const found = ofSddl(/^dn::? /im.test(plain) ? unfolded(plain) : plain);
     const listing = found.length ? null : listingIn(plain);
     return listing ? [{...listing, form: "sddl", dropped: [{what: "listing"}]}] : found;
 }
@@ -190,7 +244,7 @@ export function descriptorsIn(text, form) {
         [...(text.startsWith("\uFEFF") ? [{what: "mark"}] : []), ...(text.includes("\0") ? [{what: "nulls"}] : [])];
     const found = form === "auto" ? guessed(given) : asChosen(given, form);
     const all =
-        found.length ? found : [{name: "", form: "sddl", line: given.trim().replace(/\s*\n\s*/g, " "), dropped: []}];
+        found.length ? found : [{name: "", form: "sddl", line: linesOf(given).join(" "), dropped: []}];
     const isListing = !found.length && ICACLS.test(given);
     return all.map((one) => ({...one, dropped: [...lost, ...one.dropped], isListing}));
 }

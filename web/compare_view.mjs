@@ -1,7 +1,7 @@
 // The fourth view: what differs between two descriptors, and whose rights.
 import {area, byId, labelled, make, show, someRows} from "./dom.mjs";
 import {foundText} from "./look_view.mjs";
-import {faultInWords, rightsInWords, whereOf} from "./naming.mjs";
+import {faultInWords, guidInWords, rightsInWords, whereOf} from "./naming.mjs";
 import {aceRights, commaed, faultBox, kindClass, who} from "./parts_view.mjs";
 import {say, WORDS} from "./words.mjs";
 
@@ -14,7 +14,7 @@ export function makeCompare(other, refresh) {
         make("h2", {id: "compare-heading"}, WORDS.compare.heading),
         make("div", {class: "form"},
             labelled(WORDS.compare.other, area("other-text", other.text, set, {rows: 4, class: "descriptor"}))),
-        make("div", {id: "compare-result", role: "status", "aria-live": "polite"}),
+        make("div", {id: "compare-result"}),
     ];
 }
 
@@ -74,8 +74,25 @@ function partLines(result, names) {
     return lines.length ? make("ul", {class: "differences"}, lines) : null;
 }
 
+function difference({gained, lost}, kind) {
+    const words = (name, mask) => (mask === 0 ?
+            null :
+            make("span", {class: name}, say(WORDS.compare[name], {rights: commaed(rightsInWords(kind, mask))}), " "));
+    return [words("gained", gained), words("lost", lost)];
+}
+
+// What differs for one property, right or class.
+const typedLine = (typed, kind) => make("li", {"data-object": typed.object}, difference(typed, kind),
+    say(WORDS.object, {name: guidInWords(typed.object, typed.gained | typed.lost)}));
+
+const changedRights = (result) => result.rights.filter((row) => row.gained || row.lost || row.typed.length);
+
+// Whether an ACE that differs is one that children inherit.
+const differBelow = (result) => result.dacl.some(
+    ({state, one, other}) => state !== "same" && [one, other].some((ace) => ace && /OI|CI/.test(ace.flags.join(" "))));
+
 function rightsSection(result, kind, names) {
-    const changed = result.rights.filter((row) => row.gained || row.lost);
+    const changed = changedRights(result);
     return make("section", {"aria-labelledby": "compare-rights"},
         make("h3", {id: "compare-rights"}, WORDS.compare.rights),
         changed.length === 0 ?
@@ -83,28 +100,24 @@ function rightsSection(result, kind, names) {
             make("ul", {class: "differences"},
                 changed.map(
                     (row) => make("li", {"data-sid": row.sid, "data-gained": row.gained, "data-lost": row.lost},
-                        who(row.sid, row.alias, names), " ",
-                        row.gained ?
-                            make("span", {class: "gained"},
-                                say(WORDS.compare.gained, {rights: commaed(rightsInWords(kind, row.gained))})) :
-                            null,
-                        " ",
-                        row.lost ? make("span", {class: "lost"},
-                                       say(WORDS.compare.lost, {rights: commaed(rightsInWords(kind, row.lost))})) :
-                                   null))));
+                        who(row.sid, row.alias, names), " ", difference(row, kind),
+                        row.typed.length ? make("ul", {}, row.typed.map((typed) => typedLine(typed, kind))) : null))),
+        differBelow(result) ? make("p", {class: "hint"}, WORDS.compare.below) : null,
+        result.areTypesLeft ? make("p", {class: "fault-name"}, WORDS.warnings.manyTypes) : null);
 }
 
+// Shows it, and returns what a screen reader says of it.
 export function showCompare(result, {kind, names}) {
     const place = byId("compare-result");
     if (result.isOtherEmpty) {
         show(place, make("p", {class: "hint"}, WORDS.compare.waiting));
-        return;
+        return WORDS.compare.waiting;
     }
     if (result.otherFault) {
         show(place,
             make("p", {class: "fault-name"}, say(WORDS.compare.fault, {fault: faultInWords(result.otherFault.fault)})),
             faultBox(result.otherFault.fault, result.otherFault.place));
-        return;
+        return say(WORDS.compare.fault, {fault: faultInWords(result.otherFault.fault)});
     }
     show(place,
         make("p", {class: `verdict ${result.isSame ? "same" : "differs"}`},
@@ -112,4 +125,9 @@ export function showCompare(result, {kind, names}) {
         make("p", {class: "hint"}, foundText({...result.other, chosen: 0})), partLines(result, names),
         rightsSection(result, kind, names), aceTable("dacl", result.dacl, kind, names),
         aceTable("sacl", result.sacl, kind, names));
+    const {length} = changedRights(result);
+    return [
+        result.isSame ? WORDS.compare.same : WORDS.compare.different,
+        length ? say(WORDS.compare.rightsCount, {count: length}) : WORDS.compare.rightsNone
+    ].join(" ");
 }

@@ -1,6 +1,6 @@
 // What differs between two descriptors. Same content means the same canonical layout; rights are answers of check.
-import {DECIDING, grantedOf, rightsOfMapping, tokenOf, tokenSids} from "./access.mjs";
-import {guidBytes, hexOf, piecesOf} from "./library.mjs";
+import {DECIDING, grantedByType, tokenOf, tokenSids, typesOf} from "./access.mjs";
+import {hexOf, piecesOf} from "./library.mjs";
 
 const MOST_CELLS = 4_000_000; // of the table that finds what two lists have in common
 const OWNER_RIGHTS = "S-1-3-4";
@@ -93,14 +93,21 @@ function trusteesOf(sides) {
     return [...trustees.values()];
 }
 
-// For each trustee of either the rights that check grants to the token of its row in the grid.
+// For each trustee of either the rights that check grants to the token of its row in the grid: of the object as a whole
+// or the type that is asked for, and if none is, what differs beyond that for each type that an ACE of either is for.
 function compareRights(library, sides, {mapping, object, common}) {
-    const rights = rightsOfMapping(library, mapping);
-    const request = {mapping, objectType: guidBytes(library, object)};
+    const types = object ? [] : [...new Set(sides.flatMap(({model}) => typesOf(model, mapping).all))];
     return trusteesOf(sides).map((who) => {
-        const [one, other] = sides.map(({descriptor, model}) => grantedOf(library, descriptor,
-                                           tokenOf(library, tokenSids(who.sid, model, common)), request, rights));
-        return {...who, one, other, gained: (other & ~one) >>> 0, lost: (one & ~other) >>> 0};
+        const [ones, others] = sides.map(({descriptor, model}) => grantedByType(library, descriptor, [object, ...types],
+                                             tokenOf(library, tokenSids(who.sid, model, common)), mapping));
+        const [whole, ...rest] =
+            ones.map((one, at) => ({gained: (others[at] & ~one) >>> 0, lost: (one & ~others[at]) >>> 0}));
+        const typed = rest.map(({gained, lost}, at) => ({
+            object: types[at],
+            gained: (gained & ~whole.gained) >>> 0,
+            lost: (lost & ~whole.lost) >>> 0,
+        }));
+        return {...who, ...whole, typed: typed.filter(({gained, lost}) => gained || lost)};
     });
 }
 
@@ -134,5 +141,6 @@ export function compare(library, sides, options) {
         dacl: compareAces(listOf(one, "dacl"), listOf(other, "dacl")),
         sacl: compareAces(listOf(one, "sacl"), listOf(other, "sacl")),
         rights: compareRights(library, both, options),
+        areTypesLeft: !options.object && both.some(({model}) => typesOf(model, options.mapping).isCut),
     };
 }

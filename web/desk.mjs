@@ -1,6 +1,6 @@
 // The questions of the page, each answered as plain data, so that a worker can send it. Nothing here knows the
 // document.
-import {ask, gridOf, isRefusedRequest, maskOfText, meaningOf, readToken, whyCell} from "./access.mjs";
+import {ask, gridOf, isRefusedRequest, maskOfText, meaningOf, readToken, typesOf, whyCell} from "./access.mjs";
 import {descriptorsIn} from "./clipboard.mjs";
 import {compare} from "./comparing.mjs";
 import {placeOf, writtenAces} from "./faults.mjs";
@@ -187,6 +187,7 @@ function askAbout(library, {state, asked}) {
         return {
             ...told,
             level,
+            isForWhole: !options.object && typesOf(model, options.mapping).all.length > 0,
             ...ask(library, descriptor, model, token.entries, {
                 wanted: wanted.value,
                 maximum: asked.maximum,

@@ -86,19 +86,37 @@ export function box(id, text, checked, onchange) {
 export const button = (text, onclick, attributes = {}) =>
     make("button", {type: "button", ...attributes, onclick}, text);
 
-// The first rows of a long list, and a button for more, so that thousands of rows never stop the page.
-export function someRows(body, items, makeRow, moreText, step = 60) {
+const ROWS_OF_A_TURN = 10;
+
+// The first rows of a long list, and a button for more, so that thousands of rows never stop the page. With LATER, a
+// list of functions for later turns of the page, only a few rows are made at once.
+export function someRows(body, items, makeRow, moreText, {step = 60, later = null} = {}) {
     let shown = 0;
     const place = make("div", {class: "more"});
-    const add = () => {
-        body.append(...items.slice(shown, shown + step).map(makeRow));
-        shown = Math.min(items.length, shown + step);
+    const first = Math.min(step, items.length);
+    const add = (count) => {
+        body.append(...items.slice(shown, shown + count).map(makeRow));
+        shown = Math.min(items.length, shown + count);
         const left = items.length - shown;
-        place.replaceChildren(...(left > 0 ? [button(moreText(Math.min(step, left)), add)] : []));
+        const isButton = left > 0 && shown >= first;
+        place.replaceChildren(...(isButton ? [button(moreText(Math.min(step, left)), () => add(step))] : []));
     };
-    add();
+    add(later ? ROWS_OF_A_TURN : step);
+    for (let at = ROWS_OF_A_TURN; later && at < first; at += ROWS_OF_A_TURN) {
+        later.push(() => add(Math.min(ROWS_OF_A_TURN, first - at)));
+    }
     return place;
 }
+
+// Waits until the page was drawn, so that what is added next is laid out in a turn of its own. A page that nobody sees
+// is not drawn.
+export const nextFrame = () => new Promise((resolve) => {
+    const timer = setTimeout(resolve, 100);
+    requestAnimationFrame(() => {
+        clearTimeout(timer);
+        setTimeout(resolve);
+    });
+});
 
 // Arrow keys move between the cells of a grid, of which one at a time is in the order of the Tab key.
 export function moveByArrows(table) {

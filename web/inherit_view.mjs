@@ -20,7 +20,7 @@ export function makeInherit(made, refresh) {
                 labelled(inherit.owner, input("made-owner", made.owner, set("owner"))),
                 labelled(inherit.group, input("made-group", made.group, set("group")))),
             labelled(inherit.creator, area("made-creator", made.creator, set("creator"), {rows: 2}))),
-        make("div", {id: "inherit-result", role: "status", "aria-live": "polite"}),
+        make("div", {id: "inherit-result"}),
     ];
 }
 
@@ -48,7 +48,7 @@ function aceList(list, node, above, kind, names) {
         return make("li", {class: kindClass(ace.kind), "data-from": source ? `${source.who} ${source.number}` : ""},
             aceText(ace, node.written[list][index], kind, names),
             make("div", {class: "arrow"}, `${WORDS.inherit.arrow} ${words} `, text ? make("code", {}, text) : null));
-    }, (count) => say(WORDS.parts.more, {count}), 50);
+    }, (count) => say(WORDS.parts.more, {count}), {step: 50});
     return [make("h4", {}, WORDS.parts[list]), body, more];
 }
 
@@ -89,6 +89,7 @@ const usedBy = (object, who) => Object.fromEntries(LISTS.map(
         object.sources[list] &&
             new Set(object.sources[list].filter((source) => source.who === who).map((source) => source.number))]));
 
+// Shows it, and returns what a screen reader says of it.
 export function showInherit(result, {kind, names, made}) {
     const place = byId("inherit-result");
     const {inherit} = WORDS;
@@ -104,7 +105,7 @@ export function showInherit(result, {kind, names, made}) {
     }
     if (faults.length) {
         show(place, faults);
-        return;
+        return place.textContent;
     }
     const above = {parent: result.parent.written, creator: result.creator?.written ?? null};
     show(place,
@@ -114,4 +115,7 @@ export function showInherit(result, {kind, names, made}) {
                     parentView(inherit.theCreator, result.creator, usedBy(result.object, "creator"), kind, names) :
                     null),
             nodeView(result.object, say(inherit.object, {kind: inherit.kinds[made.kind]}), above, kind, names, 0)));
+    const {aces} = result.object.model.dacl;
+    return `${say(inherit.object, {kind: inherit.kinds[made.kind]})}: ${
+        aces.length === 1 ? WORDS.parts.one : say(WORDS.parts.list, {count: aces.length})}`;
 }

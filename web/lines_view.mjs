@@ -2,6 +2,7 @@
 import {box, button, byId, input, labelled, make, select, show} from "./dom.mjs";
 import {FLAGS} from "./lines.mjs";
 import {visible} from "./naming.mjs";
+import {formatted, pagesBar} from "./parts_view.mjs";
 import {say, WORDS} from "./words.mjs";
 
 const FORMS = ["hex", "base64", "sddl"];
@@ -82,8 +83,6 @@ function filtersOf({options, filterToken}, changeMask) {
         explain: ["explain", ...from, ...domain],
     };
 }
-
-const formatted = (number) => new Intl.NumberFormat(WORDS.language).format(number);
 
 // One run over a file, and what is kept of it.
 class Run {
@@ -303,7 +302,12 @@ export class LinesView {
         const rows = await Promise.all(
             numbers.map(async (line) => ({line, input: await run.input(line), answer: run.answer(line)})));
         if (run === this.run) {
-            show(byId("lines-table"), this.filterBar(), this.pageBar(count, pages), this.table(rows),
+            const go = (page, id) => {
+                this.page = page;
+                this.showTable().then(() => byId(id).focus());
+            };
+            show(byId("lines-table"), this.filterBar(), pagesBar("page", {page: this.page, rows: ROWS, count}, go),
+                this.table(rows),
                 run.progress.lines > run.kept ?
                     make("p", {class: "hint"}, say(WORDS.lines.tooMany, {count: formatted(run.kept)})) :
                     null);
@@ -316,23 +320,6 @@ export class LinesView {
             this.page = 0;
             this.showTable().then(() => byId("lines-filter").focus());
         }));
-    }
-
-    pageBar(count, pages) {
-        const {lines: words} = WORDS;
-        const go = (page, id) => () => {
-            this.page = page;
-            this.showTable().then(() => byId(id).focus());
-        };
-        const move = (text, page, id) =>
-            button(text, go(page, id), {id, disabled: page < 0 || page >= pages || page === this.page});
-        return make("p", {class: "pages"}, say(words.page, {
-            from: formatted(Math.min(count, this.page * ROWS + 1)),
-            to: formatted(Math.min(count, (this.page + 1) * ROWS)),
-            count: formatted(count)
-        }),
-            " ", move(words.first, 0, "page-first"), move(words.previous, this.page - 1, "page-previous"),
-            move(words.next, this.page + 1, "page-next"), move(words.last, pages - 1, "page-last"));
     }
 
     table(rows) {

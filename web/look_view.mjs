@@ -1,12 +1,16 @@
 // The first view: who can do what, warnings, a grid of rights, and the descriptor in words beside the exact text.
-import {cellOf, has} from "./access.mjs";
-import {button, byId, make, moveByArrows, show, someRows} from "./dom.mjs";
+import {bitsOf, cellOf, has} from "./access.mjs";
+import {button, byId, make, moveByArrows, nextFrame, show, someRows} from "./dom.mjs";
 import {groupMask, guidInWords, rightName, rightsInWords, rightsOf, visible} from "./naming.mjs";
 import {aceTable, commaed, faultBox, plainName, who} from "./parts_view.mjs";
 import {say, WORDS} from "./words.mjs";
 
 const STAND_IN_DOMAIN = "S-1-5-21-0-0-0";
-const MOST_ROWS = 40; // of the grid, until more are asked for
+const MOST_ROWS = 40;     // of the grid, until more are asked for
+const MOST_NUMBERS = 30;  // of ACEs in a sentence
+const MOST_SPOKEN = 8;    // names in a sentence
+const MOST_DROPPED = 160; // characters of what was left out
+const AT_ONCE = 300;      // cells and ACEs that are shown in one turn of the page
 
 const heading = (text, id) => make("h2", {id}, text);
 
@@ -58,13 +62,31 @@ function summary(result, kind, names) {
 
 function bucketList(rows, kind, bucket, rights, names) {
     const list = make("ul");
-    const more = someRows(
-        list, rows, (row) => card(row, kind, bucket, rights, names), (count) => say(WORDS.grid.more, {count}), 12);
+    const more = someRows(list, rows, (row) => card(row, kind, bucket, rights, names),
+        (count) => say(WORDS.grid.more, {count}), {step: 12});
     return [list, more];
 }
 
+const firstOf = (items, most) => commaed(
+    items.length > most ? [...items.slice(0, most), say(WORDS.summary.left, {count: items.length - most})] : items);
+
+// What a screen reader says of an answer.
+export function spokenSummary(result, kind, names) {
+    const {summary: words} = WORDS;
+    if (!result.grid.isList) {
+        return words.everyone;
+    }
+    const bucketsOf = ["control", "change", "parts"].map((bucket) => {
+        const rows = result.grid.rows.filter((row) => bucketOf(row, kind) === bucket);
+        const whom = firstOf(rows.map((row) => plainName(row.sid, names)), MOST_SPOKEN) || words.nobody;
+        return rows.length || bucket !== "parts" ? `${words[bucket]}: ${whom}.` : "";
+    });
+    const dangers = result.warnings.filter(({level}) => level !== "note").length;
+    return [...bucketsOf, dangers ? say(words.warnings, {count: dangers}) : ""].filter(Boolean).join(" ");
+}
+
 const acesInWords = (numbers) =>
-    say(numbers.length === 1 ? WORDS.acesOne : WORDS.acesMany, {numbers: commaed(numbers)});
+    say(numbers.length === 1 ? WORDS.acesOne : WORDS.acesMany, {numbers: firstOf(numbers, MOST_NUMBERS)});
 
 function warningText(warning, kind, names) {
     const {key, numbers = []} = warning;
@@ -91,7 +113,7 @@ function warnings(result, kind, names) {
         (warning) => make("li", {class: `warning ${warning.level}`},
             make("span", {class: "badge"}, WORDS.warningLevels[warning.level]), " ", warningText(warning, kind, names),
             (warning.numbers ?? []).slice(0, 8).map((number) => [" ", jumpTo(warning.list ?? "dacl", number)])),
-        (count) => say(WORDS.grid.more, {count}), 20);
+        (count) => say(WORDS.grid.more, {count}), {step: 20});
     return make("section", {"aria-labelledby": "warnings-heading"}, heading(WORDS.warningsHeading, "warnings-heading"),
         result.warnings.length ? [list, more] : make("p", {}, WORDS.noWarnings));
 }
@@ -103,6 +125,10 @@ function jumpTo(list, number) {
 
 function markAce(list, number) {
     document.querySelectorAll("tr.ace.found").forEach((row) => row.classList.remove("found"));
+    const more = () => document.querySelector(`[aria-labelledby="${list}-heading"] .more button`);
+    while (!byId(`${list}-${number}`) && more()) {
+        more().click();
+    }
     const row = byId(`${list}-${number}`);
     if (row) {
         row.classList.add("found");
@@ -149,7 +175,7 @@ function groupHeadings(rights) {
                        WORDS.grid.groups[group])));
 }
 
-function gridSection(result, context) {
+function gridSection(result, context, later) {
     const {grid} = result;
     const {kind, isCommon} = context;
     const rights = rightsOf(kind).filter((right) => has(grid.rights, right.bit));
@@ -163,7 +189,7 @@ function gridSection(result, context) {
         body);
     const more = someRows(body, grid.rows.map((row, index) => [row, index]),
         ([row, index]) => gridRow(row, rights, {...context, grid}, index === 0),
-        (count) => say(WORDS.grid.more, {count}), MOST_ROWS);
+        (count) => say(WORDS.grid.more, {count}), {step: MOST_ROWS, later});
     moveByArrows(table);
     return make("section", {"aria-labelledby": "grid-heading"}, heading(WORDS.grid.heading, "grid-heading"),
         legend(grid), make("p", {class: "hint", id: "grid-hint"}, caption),
@@ -232,7 +258,7 @@ const COUNTED = {
     list: "Empty"
 };
 
-function listSection(list, result, kind, names) {
+function listSection(list, result, kind, names, later) {
     const acl = result.model[list];
     const title = WORDS.parts[list];
     const text = acl.aces.length ? null :
@@ -244,7 +270,7 @@ function listSection(list, result, kind, names) {
                 acl.state === "list" ?
                     say(acl.aces.length === 1 ? WORDS.parts.one : WORDS.parts.list, {count: acl.aces.length}) :
                     WORDS.parts[acl.state])),
-        text ?? aceTable(title, acl.aces, result.written[list], kind, names));
+        text ?? aceTable(title, acl.aces, result.written[list], kind, names, later));
 }
 
 function exactTexts(result) {
@@ -255,21 +281,22 @@ function exactTexts(result) {
         line("hex", result.hex.slice(0, 20000)));
 }
 
-function words(result, kind, names) {
+function words(result, kind, names, later) {
     return make("section", {class: "words", "aria-labelledby": "words-heading"},
         heading(WORDS.parts.heading, "words-heading"), exactTexts(result),
         make("dl", {}, ownerLine("owner", result.model.owner, names), ownerLine("group", result.model.group, names),
             control(result.model)),
-        listSection("dacl", result, kind, names), listSection("sacl", result, kind, names));
+        listSection("dacl", result, kind, names, later), listSection("sacl", result, kind, names, later));
 }
 
 // What was left out of the text, so that nobody takes it for read.
 export function foundText(result) {
     const form = WORDS.forms[result.form];
-    const found = result.found > 1 ? say(WORDS.foundSeveral, {form, count: result.found, number: result.chosen + 1}) :
-                                     say(WORDS.found, {form});
-    const dropped =
-        result.dropped.map(({what, text}) => say(WORDS.droppedWhat[what], {text: visible((text ?? "").slice(0, 120))}));
+    const [one, several] = result.fault ? [WORDS.taken, WORDS.takenSeveral] : [WORDS.found, WORDS.foundSeveral];
+    const found =
+        result.found > 1 ? say(several, {form, count: result.found, number: result.chosen + 1}) : say(one, {form});
+    const cut = (text) => visible(text.length > MOST_DROPPED ? `${text.slice(0, MOST_DROPPED)} ..` : text);
+    const dropped = result.dropped.map(({what, text}) => say(WORDS.droppedWhat[what], {text: cut(text ?? "")}));
     return dropped.length ? `${found} ${say(WORDS.dropped, {what: commaed(dropped)})}` : found;
 }
 
@@ -308,8 +335,28 @@ export function showFault(place, result, {onSelect, onDomain}) {
             writtenAces(result)));
 }
 
-export function showLook(place, result, context) {
+// A long answer is shown in several turns of the page, so that typing never waits for all of it; what was shown before
+// goes at once. The promise ends when all is shown, or 'isOver' says that there is another answer.
+export async function showLook(place, result, context, isOver) {
     const {kind, names} = context;
-    show(place, summary(result, kind, names), warnings(result, kind, names), gridSection(result, context),
-        words(result, kind, names));
+    const {rows, rights} = result.grid;
+    const count = rows.length * bitsOf(rights).length + result.model.dacl.aces.length + result.model.sacl.aces.length;
+    const later = count > AT_ONCE ? [] : null;
+    const parts = [
+        () => summary(result, kind, names), () => warnings(result, kind, names),
+        () => gridSection(result, context, later), () => words(result, kind, names, later)
+    ];
+    if (!later) {
+        show(place, parts.map((part) => part()));
+        return;
+    }
+    show(place, parts[0]());
+    later.push(...parts.slice(1).map((part) => () => place.append(part())));
+    while (later.length) {
+        await nextFrame();
+        if (isOver()) {
+            return;
+        }
+        later.shift()();
+    }
 }

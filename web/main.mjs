@@ -6,8 +6,9 @@ import {mappingOf} from "./desk.mjs";
 import {area, box, button, byId, input, labelled, make, select, show} from "./dom.mjs";
 import {makeInherit, showInherit} from "./inherit_view.mjs";
 import {LinesView} from "./lines_view.mjs";
-import {foundText, showFault, showLook, showReason} from "./look_view.mjs";
+import {foundText, showFault, showLook, showReason, spokenSummary} from "./look_view.mjs";
 import {faultInWords, ownNames, visible} from "./naming.mjs";
+import {nameOfObject, objectWords, placeOfObject, ReportView} from "./report_view.mjs";
 import {knownGuids} from "./schema.mjs";
 import {addressOf, commandLine, takeAddress} from "./sharing.mjs";
 import {changing} from "./warnings.mjs";
@@ -15,7 +16,6 @@ import {say, WORDS} from "./words.mjs";
 import {FileDesk, serve, startDesk} from "./worker.mjs";
 
 const LARGE = 20_000; // characters; a longer text is kept beside the field
-const VIEWS = Object.keys(WORDS.tabs);
 const EXAMPLES = {
     folder: [
         "folder",
@@ -65,8 +65,18 @@ const freshState = () => ({
 });
 
 class Page {
-    constructor({desk, isWorker}, source, bytes) {
+    constructor({desk, isWorker}, source, bytes, report) {
         Object.assign(this, {desk, source, bytes, isWorker, state: freshState(), result: null, asked: null});
+        // A report has a view of its own, before all others.
+        this.views = Object.keys(WORDS.tabs).filter((view) => view !== "report" || report);
+        this.reportView = report ?
+            new ReportView(
+                report, {onOpen: (object) => this.openObject(object), onHead: (head) => this.takeHead(head)}) :
+            null;
+        if (!report) {
+            byId("view-report").remove();
+        }
+        this.state.view = this.views[0];
         this.linesView = new LinesView(this.state.lines, {
             files: new FileDesk(source, bytes, isWorker),
             changeMask: () => changing(mappingOf(this.state.kind)),
@@ -79,6 +89,7 @@ class Page {
         this.listen();
         this.showView();
         this.refresh();
+        this.counted(async () => this.reportView?.begin());
     }
 
     // The part of the state that the desk needs.
@@ -90,7 +101,7 @@ class Page {
     get context() {
         return {
             kind: this.state.kind,
-            names: ownNames(this.state.names),
+            names: this.names,
             isCommon: this.state.common,
             texts: this.result?.written?.dacl ?? [],
             made: this.state.made,
@@ -99,8 +110,18 @@ class Page {
         };
     }
 
+    // The user's names of SIDs. A report may have very many.
+    get names() {
+        if (this.namesText !== this.state.names) {
+            this.namesText = this.state.names;
+            this.knownNames = ownNames(this.state.names);
+        }
+        return this.knownNames;
+    }
+
     set(name, value) {
         this.state[name] = value;
+        this.hasFormOfText &&= name !== "form";
         if (name === "kind") {
             byId("object-field").hidden = value !== "ds";
             showAskRights(this.state.ask, value, () => this.refreshView());
@@ -119,7 +140,7 @@ class Page {
                 label]) => [button(label, () => this.example(name), {class: "add", id: `example-${name}`}), " "]),
                 button(WORDS.clear, () => this.open("", "auto"), {class: "add", id: "clear"})),
             make("div", {class: "row"},
-                labelled(WORDS.kindLabel, select("kind", WORDS.kinds, state.kind, setter("kind"))),
+                labelled(WORDS.kindLabel, select("kind", WORDS.kinds, state.kind, setter("kind")), WORDS.kindHint),
                 labelled(WORDS.formLabel, select("form", WORDS.forms, state.form, setter("form"))),
                 make("div", {id: "chosen-field", hidden: true})),
             make("details", {id: "more-options"}, make("summary", {}, WORDS.moreOptions),
@@ -138,7 +159,8 @@ class Page {
                 box("common", WORDS.commonLabel, state.common, setter("common")),
                 labelled(WORDS.namesLabel,
                     area("names", "", setter("names"), {rows: 3, "aria-describedby": "names-hint"}), WORDS.namesHint)),
-            make("p", {id: "found", class: "found", role: "status", "aria-live": "polite"}, WORDS.waiting));
+            make("div", {id: "opened", class: "opened", hidden: true}),
+            make("p", {id: "found", class: "found"}, WORDS.waiting));
         this.putText(state.text);
     }
 
@@ -151,9 +173,12 @@ class Page {
         show(byId("view-compare"), makeCompare(this.state.other, refresh));
         show(byId("view-lines"), this.linesView.make());
         this.linesView.showOptions();
+        if (this.reportView && !byId("view-report").firstChild) {
+            show(byId("view-report"), this.reportView.make());
+        }
         show(byId("tabs"),
-            VIEWS.map((view) => button(WORDS.tabs[view], () => this.choose(view),
-                          {role: "tab", id: `tab-${view}`, "aria-controls": `view-${view}`})));
+            this.views.map((view) => button(WORDS.tabs[view], () => this.choose(view),
+                               {role: "tab", id: `tab-${view}`, "aria-controls": `view-${view}`})));
         show(byId("share"), [
             ["link", () => this.copyLink()], ["command", () => this.copyCommand()], ["print", () => window.print()]
         ].map(([name, act]) => [button(WORDS.share[name], act, {id: `share-${name}`}), " "]));
@@ -175,7 +200,8 @@ class Page {
     // An address that somebody typed or followed, not one that the page wrote.
     takeHash() {
         if (location.hash.slice(1) !== this.written) {
-            Object.assign(this.state, {...freshState(), names: this.state.names, lines: this.state.lines});
+            const {names, lines} = this.state;
+            Object.assign(this.state, {...freshState(), names, lines, view: this.views[0]});
             takeAddress(this.state, location.hash.slice(1));
             this.makeControls();
             this.makeViews();
@@ -186,11 +212,12 @@ class Page {
     }
 
     moveTab(event) {
-        const at = VIEWS.indexOf(this.state.view);
-        const to = {ArrowRight: at + 1, ArrowLeft: at - 1, Home: 0, End: VIEWS.length - 1}[event.key];
+        const {views} = this;
+        const at = views.indexOf(this.state.view);
+        const to = {ArrowRight: at + 1, ArrowLeft: at - 1, Home: 0, End: views.length - 1}[event.key];
         if (to !== undefined) {
             event.preventDefault();
-            this.choose(VIEWS[(to + VIEWS.length) % VIEWS.length]);
+            this.choose(views[(to + views.length) % views.length]);
             byId(`tab-${this.state.view}`).focus();
         }
     }
@@ -202,13 +229,14 @@ class Page {
     }
 
     showView() {
-        for (const view of VIEWS) {
+        for (const view of this.views) {
             const isShown = view === this.state.view;
             const tab = byId(`tab-${view}`);
             tab.setAttribute("aria-selected", String(isShown));
             tab.setAttribute("tabindex", isShown ? "0" : "-1");
             byId(`view-${view}`).hidden = !isShown;
         }
+        document.body.dataset.view = this.state.view;
         this.remember();
     }
 
@@ -226,7 +254,14 @@ class Page {
                 []);
     }
 
+    // A form that came with another text is none that the user chose.
     setText(text) {
+        show(byId("opened"));
+        if (this.hasFormOfText) {
+            this.hasFormOfText = false;
+            this.state.form = "auto";
+            byId("form").value = "auto";
+        }
         this.state.text = text;
         this.state.chosen = 0;
         this.state.all = false;
@@ -255,6 +290,8 @@ class Page {
 
     // Shows a text as if it had been pasted, under the first view.
     open(text, form) {
+        show(byId("opened"));
+        this.hasFormOfText = form !== "auto";
         this.state.form = form;
         byId("form").value = form;
         this.state.chosen = 0;
@@ -267,11 +304,44 @@ class Page {
 
     example(name) {
         const [kind, text] = EXAMPLES[name];
+        this.takeKind(kind);
+        this.open(text, "auto");
+    }
+
+    takeKind(kind) {
         this.state.kind = kind;
         byId("kind").value = kind;
         byId("object-field").hidden = kind !== "ds";
         showAskRights(this.state.ask, kind, () => this.refreshView());
-        this.open(text, "auto");
+    }
+
+    // What a report says of all its objects: the domain of aliases, and names of SIDs, which stay in the page.
+    takeHead({domain, names, title}) {
+        document.title = title ? `${visible(title)} - ${WORDS.title}` : WORDS.title;
+        this.state.names = (names ?? []).map(([sid, name]) => `${sid} ${name}`).join("\n");
+        byId("names").value = this.state.names;
+        if (!location.hash) {
+            this.state.domain = domain ?? "";
+            byId("domain").value = this.state.domain;
+        }
+    }
+
+    // An object of the report, in the first view, below what the report says of it.
+    openObject(object) {
+        this.takeKind(object.kind);
+        this.state.domain = this.reportView.report.head?.domain ?? "";
+        byId("domain").value = this.state.domain;
+        this.open(object.descriptor, object.form);
+        const back = () => {
+            this.choose("report");
+            byId("tab-report").focus();
+        };
+        show(byId("opened"),
+            make("p", {}, `${WORDS.report.open}: `, make("strong", {}, make("bdi", {}, nameOfObject(object))), " ",
+                make("small", {}, placeOfObject(object)), " ",
+                button(WORDS.report.back, back, {class: "add", id: "opened-back"})),
+            objectWords(object));
+        byId("opened-back").focus();
     }
 
     // Counts the questions that are open, for whoever drives the page, such as its tests.
@@ -294,7 +364,7 @@ class Page {
                 const result = await this.desk.ask("look", this.shared);
                 if (result) {
                     this.result = result;
-                    this.showResult(result);
+                    await this.showResult(result);
                     await this.refreshView();
                 }
             } catch (error) {
@@ -308,15 +378,32 @@ class Page {
     // An error of the page itself must not leave an older answer beside a newer text.
     broke(error) {
         this.result = null;
+        this.isOver();
         show(byId("view-look"), make("p", {class: "fault-name"}, say(WORDS.failed, {reason: visible(error.message)})));
         this.tell("");
     }
 
     tell(text) {
         byId("found").textContent = text;
+        this.speak(text);
     }
 
-    showResult(result) {
+    // What a screen reader says, a moment after the last key.
+    speak(text) {
+        clearTimeout(this.speaking);
+        this.speaking = setTimeout(() => { byId("spoken").textContent = text; }, 600);
+    }
+
+    // Ends what an older answer still shows; the function that it returns tells whether a newer one came.
+    isOver() {
+        const turn = {};
+        this.turn = turn;
+        return () => this.turn !== turn;
+    }
+
+    async showResult(result) {
+        const isOver = this.isOver();
+        let shown = null;
         this.showChosen(result);
         document.body.classList.toggle("has-result", Boolean(result.model));
         if (result.domainFault) {
@@ -333,10 +420,12 @@ class Page {
             });
         } else {
             this.tell(`${foundText(result)}${result.objectFault ? " " + WORDS.objectFault : ""}`);
-            showLook(byId("view-look"), result, this.context);
+            this.speak(`${byId("found").textContent} ${spokenSummary(result, this.state.kind, this.names)}`);
+            shown = showLook(byId("view-look"), result, this.context, isOver);
         }
         byId("view-look").hidden = this.state.view !== "look";
         this.showPrintHead(result);
+        await shown;
     }
 
     showChosen(result) {
@@ -414,7 +503,7 @@ class Page {
             show(place, make("p", {class: "fault-name"}, faultInWords(result.descriptorFault)),
                 make("p", {}, WORDS.error.intro));
         } else {
-            showAnswer(result, this.context);
+            this.speak(showAnswer(result, this.context));
         }
         this.asked = name === "ask" ? result : this.asked;
         this.otherLine = name === "compare" ? result.other?.line : this.otherLine;
@@ -505,9 +594,9 @@ async function begin() {
     byId("version").textContent = say(WORDS.version, {version});
     byId("starting").hidden = true;
     byId("page").hidden = false;
-    const page = new Page(started, source, bytes);
+    const page = new Page(started, source, bytes, byId("report").textContent.trim());
     page.version = version;
-    byId("text").focus();
+    byId(page.state.view === "report" ? "tab-report" : "text").focus();
     document.body.dataset.ready = started.isWorker ? "worker" : "page";
 }
 

@@ -7,11 +7,9 @@ import {say, WORDS} from "./words.mjs";
 
 const RELATIVE = /^(S-1-5-21-\d+-\d+-\d+)-(\d+)$/;
 const GROUPS = ["read", "change", "control", "other"];
-// Characters that don't show, or that turn the direction of a text round: they are spelled out, so that no name
-// passes for another.
-const HIDDEN = new RegExp("[\\u0000-\\u001f\\u007f-\\u009f\\u00ad\\u061c\\u115f\\u1160\\u17b4\\u17b5\\u180e" +
-        "\\u200b-\\u200f\\u2028-\\u202e\\u2060-\\u206f\\u3164\\ufeff\\uffa0]",
-    "g");
+// Characters that don't show, or that turn the direction of a text round, and halves of characters: they are spelled
+// out, so that no name passes for another.
+const HIDDEN = /[\p{Cc}\p{Cf}\p{Cs}\p{Co}\p{Zl}\p{Zp}\p{Default_Ignorable_Code_Point}\u2800]/gu;
 
 export const visible = (text) =>
     String(text).replace(HIDDEN, (character) => `\\u{${character.codePointAt(0).toString(16)}}`);

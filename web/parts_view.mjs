@@ -1,8 +1,24 @@
 // Pieces that several views share: a SID, an ACE, a list of ACEs, a fault.
-import {make, someRows} from "./dom.mjs";
+import {button, make, someRows} from "./dom.mjs";
 import {maskText} from "./library.mjs";
 import {faultInWords, guidInWords, labelInWords, nameOf, rightsInWords, visible, whereOf} from "./naming.mjs";
 import {say, WORDS} from "./words.mjs";
+
+export const formatted = (number) => new Intl.NumberFormat(WORDS.language).format(number);
+
+// Which rows of a long table are shown, and buttons to others. GO gets a page and the id of its button.
+export function pagesBar(name, {page, rows, count}, go) {
+    const {lines: words} = WORDS;
+    const last = Math.max(0, Math.ceil(count / rows) - 1);
+    const move = (text, to, id) => button(text, () => go(to, id), {id, disabled: to < 0 || to > last || to === page});
+    return make("p", {class: "pages"}, say(words.page, {
+        from: formatted(Math.min(count, page * rows + 1)),
+        to: formatted(Math.min(count, (page + 1) * rows)),
+        count: formatted(count)
+    }),
+        " ", move(words.first, 0, `${name}-first`), move(words.previous, page - 1, `${name}-previous`),
+        move(words.next, page + 1, `${name}-next`), move(words.last, last, `${name}-last`));
+}
 
 const DENY = ["D", "OD"];
 const ALLOW = ["A", "OA"];
@@ -32,8 +48,9 @@ function kindOf(ace) {
 export function aceRights(ace, kind) {
     const words = ace.kind === "ML" ? labelInWords(ace.mask) : rightsInWords(kind, ace.meaning);
     const generic = ace.meaning === ace.mask ? null : make("small", {}, ` (${commaed(rightsInWords(kind, ace.mask))})`);
-    const object =
-        ace.object ? make("div", {class: "object"}, say(WORDS.object, {name: guidInWords(ace.object, ace.meaning)})) : null;
+    const object = ace.object ?
+        make("div", {class: "object"}, say(WORDS.object, {name: guidInWords(ace.object, ace.meaning)})) :
+        null;
     return [make("span", {}, commaed(words)), generic, " ", make("code", {class: "mask"}, maskText(ace.mask)), object];
 }
 
@@ -49,13 +66,13 @@ export function aceRow(ace, text, kind, names) {
         cell("exact", exact, make("code", {}, text)));
 }
 
-export function aceTable(caption, aces, texts, kind, names) {
+export function aceTable(caption, aces, texts, kind, names, later) {
     const body = make("tbody");
     const headings = Object.values(WORDS.parts.columns).map((text) => make("th", {scope: "col"}, text));
     const table = make("table", {class: "aces"}, make("caption", {class: "unseen"}, caption),
         make("thead", {}, make("tr", {}, headings)), body);
     const more = someRows(body, aces, (ace) => aceRow(ace, texts[ace.number - 1], kind, names),
-        (count) => say(WORDS.parts.more, {count}));
+        (count) => say(WORDS.parts.more, {count}), {later});
     return [make("div", {class: "scroll", tabindex: "0", role: "region", "aria-label": caption}, table), more];
 }
 

@@ -3,7 +3,7 @@
 import {wordsOf} from "./lines_view.mjs";
 
 const MOST_ADDRESS = 30_000; // characters; some browsers and most programs take no longer link
-const VIEWS = ["look", "ask", "inherit", "compare", "lines"];
+const VIEWS = ["look", "ask", "inherit", "compare", "lines"]; // a report is not in an address, and so its view isn't
 const KINDS = ["folder", "file", "key", "ds"];
 const FORMS = ["auto", "sddl", "hex", "base64"];
 const TYPE_OF = {
@@ -133,6 +133,7 @@ const inheritWords = ({made, ...state}) => ["derive", "--kind", made.kind, "--ow
 export function commandWords(state, look, asked) {
     const words = {
         look: () => ["explain"],
+        report: () => ["explain"],
         ask: () => askWords(state, asked),
         inherit: () => inheritWords(state),
         compare: () => ["convert", "--to", "hex"]

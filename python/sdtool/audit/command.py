@@ -284,7 +284,9 @@ def _reported(common: Common, rules: Sequence[Rule], title: str, paths: Sequence
 
 
 def _output(common: Common, rules: Sequence[Rule], title: str, file: TextIO) -> outputs.Output:
-    return outputs.output_of(common.to, file, rules, common.lists_all, title, common.most)
+    # What the page needs to show a descriptor as the answers do.
+    about = {"domain": common.question.domain, "names": list(common.question.names.given.items())}
+    return outputs.output_of(common.to, file, rules, common.lists_all, title, common.most, about)
 
 
 def _report(common: Common, rules: Sequence[Rule], title: str, paths: Sequence[str], found: Iterable[Answered],

@@ -5,6 +5,7 @@ import csv
 import hashlib
 import html
 import json
+import os
 import re
 import urllib.parse
 from typing import Any, Counter, Dict, List, NamedTuple, Optional, Sequence, TextIO, Tuple
@@ -263,6 +264,11 @@ def _uri(path: str) -> str:
     return urllib.parse.quote(path.encode("utf-8", "surrogateescape"))
 
 
+# The page, and the element of it that a report goes into.
+_PAGE_VARIABLE = "SDTOOL_PAGE"
+_PLACE = '<script type="application/json" id="report">'
+_WITHOUT_PAGE = (f"This report has no views of descriptors, since sdtool.html is not installed. {_PAGE_VARIABLE} can name the "
+                 "file.")
 _CSS = """
 body { font: 15px/1.5 system-ui, sans-serif; margin: 2rem; color: #1b1b1b; background: #fff; }
 table { border-collapse: collapse; width: 100%; } th, td { text-align: left; vertical-align: top; padding: .3rem .6rem;
@@ -287,10 +293,33 @@ field.addEventListener('input', () => {
 """
 
 
+def _page() -> Optional[Tuple[str, str]]:
+    """The page, cut where a report goes, or None where it isn't there."""
+    path = os.environ.get(_PAGE_VARIABLE) or os.path.join(os.path.dirname(os.path.abspath(__file__)), "sdtool.html")
+    try:
+        with open(path, encoding="utf-8") as file:
+            before, mark, after = file.read().partition(_PLACE)
+    except (OSError, UnicodeDecodeError):
+        return None
+    return (before + mark, after) if mark and after.startswith("</script>") else None
+
+
 class HtmlOutput(Output):
-    """One file without any request: its policy allows no more than its own style and script."""
+    """One file without any request. It is the page that shows permissions, with the report in it as lines of JSON, which no
+    browser takes for a script or for markup. Where the page isn't installed, it is a plain table that says so.
+    """
+
+    def __init__(self, file: TextIO, rules: Sequence[Rule], lists_all: bool, title: str,
+                 about: Optional[Dict[str, Any]] = None) -> None:
+        super().__init__(file, rules, lists_all, title)
+        self._about = about or {}
+        self._page = _page()
 
     def begin(self) -> None:
+        if self._page:
+            self._file.write(self._page[0] + "\n")
+            self._line({"report": "sdtool-audit report 1", "title": self._title, **self._about})
+            return
         script = base64.b64encode(hashlib.sha256(_SCRIPT.encode()).digest()).decode()
         style = base64.b64encode(hashlib.sha256(_CSS.encode()).digest()).decode()
         policy = f"default-src 'none'; style-src 'sha256-{style}'; script-src 'sha256-{script}'"
@@ -303,6 +332,12 @@ class HtmlOutput(Output):
                          '</tr></thead><tbody>\n')
 
     def add(self, item: Item, answer: Answer) -> None:
+        if self._page:
+            findings = [(found.rule, found.trustee, found.rights, found.text, found.accepted) for found in answer.findings]
+            descriptor = item.text if item.form else ""  # of an object that can't be read, it is the answer's reason
+            self._line([item.name, item.source, item.line, answer.status, item.form, descriptor, item.kind, item.is_folder,
+                        answer.reason, answer.help, findings])
+            return
         place = f"{item.source}, line {item.line}" if item.line else item.source
         for row in rows_of(answer):
             text = row.text + (f". Help: {row.help}" if row.help else "")
@@ -311,11 +346,19 @@ class HtmlOutput(Output):
                              f'<td>{_escaped(row.trustee)}</td><td>{_escaped(row.rights)}</td><td>{_escaped(text)}</td></tr>\n')
 
     def end(self, summary: Summary) -> None:
-        rules = "".join(f"<li>{_escaped(rule.name)}: {summary.rules[rule.name]:,}. {_escaped(rule.reason)}</li>\n"
-                        for rule in self._rules if summary.rules[rule.name])
+        found = [(rule.name, summary.rules[rule.name], rule.reason) for rule in self._rules if summary.rules[rule.name]]
+        if self._page:
+            self._line({"summary": summary.text(), "rules": found, "listsAll": self.lists_all})
+            self._file.write(self._page[1])
+            return
+        rules = "".join(f"<li>{_escaped(name)}: {count:,}. {_escaped(reason)}</li>\n" for name, count, reason in found)
         listed = "" if self.lists_all else " Objects with nothing found are counted, and not listed."
         self._file.write(f'</tbody></table>\n<h2>Summary</h2>\n<p>{_escaped(summary.text())}.{listed}</p>\n<ul>{rules}</ul>\n'
-                         f'<script>{_SCRIPT}</script></body></html>\n')
+                         f'<p>{_WITHOUT_PAGE}</p>\n<script>{_SCRIPT}</script></body></html>\n')
+
+    def _line(self, value: Any) -> None:
+        # Without < nothing in it can end the element that it is in.
+        self._file.write(json.dumps(value, separators=(",", ":")).replace("<", "\\u003c") + "\n")
 
 
 def _escaped(text: str) -> str:
@@ -327,8 +370,11 @@ OUTPUTS = {"table": TableOutput, "csv": CsvOutput, "jsonl": JsonOutput, "sarif":
 LISTS_ALL = {"table": False, "csv": True, "jsonl": True, "sarif": False, "html": False}
 
 
-def output_of(name: str, file: TextIO, rules: Sequence[Rule], lists_all: Optional[bool], title: str, most: int) -> Output:
+def output_of(name: str, file: TextIO, rules: Sequence[Rule], lists_all: Optional[bool], title: str, most: int,
+              about: Optional[Dict[str, Any]] = None) -> Output:
     listed = LISTS_ALL[name] if lists_all is None else lists_all
     if name == "table":
         return TableOutput(file, rules, listed, title, most or 1 << 62)
+    if name == "html":
+        return HtmlOutput(file, rules, listed, title, about)
     return OUTPUTS[name](file, rules, listed, title)

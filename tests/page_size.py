@@ -1,0 +1,124 @@
+"""Tests of the page: long lines and large files, and that the page stays quick meanwhile."""
+import base64
+import hashlib
+import re
+
+from page_driver import BUSY, MOST_TURN, TOP, line_of, run
+
+MOST_WAITED = 1.0  # seconds, for a line of a megabyte, on an idle machine
+MOST_BLOCKED = 50  # milliseconds, that a key may wait, on an idle machine
+TRIES = 6  # of what is measured, on a machine that does other things too
+
+
+def long_line():
+    """A line of a megabyte, nearly as long as one can be, by fields as long as they may be."""
+    ace = (
+        "(A;"
+        + "OICI" * 40
+        + ";"
+        + "CCDCLCSWRPWPDTLOCRSDRCWDWO" * 6
+        + ";;;S-1-5-21-0000000001-0000000002-0000000003-000000%04d)"
+    )
+    aces, text = [], "O:BAG:SYD:"
+    for number in range(3000):
+        aces.append(ace % (number % 400))
+        if len(text) + sum(map(len, aces)) > 1_048_000 or len(aces) * 36 > 65_000:
+            break
+    return text + "".join(aces[:1800])
+
+
+def test_long_line(count, page, given):
+    text, measured = long_line(), []
+    answer = line_of(given.program, ["explain", "--from", "sddl"], text)
+    aces = answer.split("dacl list ")[1].split("\n")[0]
+    while len(measured) < TRIES and not any(one <= MOST_WAITED and most <= MOST_BLOCKED for one, most in measured):
+        page.open()
+        got = page.call("longLine", text)
+        measured.append((got["seconds"], got["most"]))
+        count.add(got["aces"] == f"{aces} ACEs", f"a long line: {got}")
+    seconds, blocked = min(one for one, _ in measured), min(one for _, one in measured)
+    print(
+        f"{page.browser.name}: a line of {len(text):,} bytes takes {seconds:.2f} s and holds up a key for "
+        f"{blocked:.0f} ms"
+    )
+    times = 1 if given.idle else BUSY
+    count.add(seconds <= times * MOST_WAITED, f"a line of {len(text)} bytes took {seconds:.2f} s")
+    count.add(blocked <= times * MOST_BLOCKED, f"a key would have waited {blocked:.0f} ms")
+
+
+def test_big_file(count, page, given):
+    piece = (TOP / "examples/descriptors.hex").read_bytes() * 200
+    times = max(1, given.megabytes * 1_000_000 // len(piece))
+    page.open()
+    page.view("lines")
+    got = page.call("bigFile", {"data": base64.b64encode(piece).decode(), "times": times})
+    answers = run(given.program, ["convert"], piece).stdout
+    digest = hashlib.sha256()
+    for _ in range(times):
+        digest.update(answers)
+    is_right = got["size"] == len(answers) * times and base64.b64decode(got["digest"]) == digest.digest()
+    print(
+        f"{page.browser.name}: {len(piece) * times:,} bytes take {got['seconds']:.1f} s, at most "
+        f"{got['most']:.0f} ms between two turns of the page"
+    )
+    count.add(is_right, f"a file of {len(piece) * times} bytes: {got}")
+    page.do(
+        "put('lines-filter', 'error'); await until(() => document.querySelector('table.lines "
+        ".answer')?.textContent.startsWith('error')); byId('page-last').click(); await pause(500);"
+    )
+    shown = page.texts("table.lines .answer")
+    count.add(shown and all(one.startswith("error ") for one in shown), f"the filter for errors: {shown[:3]}")
+    page.do("put('lines-filter', 'noDacl'); await pause(1000);")
+    count.add(len(page.texts("table.lines .answer")) > 0, "the filter for no DACL")
+
+
+CHANGING = 0xD0156  # rights to change a file or folder
+
+
+def counted_by_program(program, piece):
+    """How many lines of a file each filter of the table keeps."""
+    answers = run(program, ["convert"], piece).stdout.decode().splitlines()
+    checked = run(program, ["check", "--token", "WD,AU,BU", "--maximum"], piece).stdout.decode().splitlines()
+    explained = run(program, ["explain"], piece).stdout.decode()
+    granted = [int(one.split()[1], 16) for one in checked if one.startswith("granted ")]
+    return {
+        "all": len(answers),
+        "error": sum(one.startswith("error ") for one in answers),
+        "change": sum(mask & CHANGING != 0 for mask in granted),
+        "noDacl": len(re.findall("^dacl (?:absent|null)$", explained, re.M)),
+    }
+
+
+def test_many_lines(count, page, given):
+    """A table of very many lines: its filters keep what the program says, and no turn of the page is long."""
+    piece = (TOP / "examples/descriptors.hex").read_bytes()
+    times = max(1, given.lines // piece.count(b"\n"))
+    counts = counted_by_program(given.program, piece)
+    count.add(all(counts.values()), f"a filter keeps nothing: {counts}")
+    page.open()
+    before = page.browser.memory()
+    page.view("lines")
+    page.do("put('lines-filter-token', 'WD,AU,BU');")
+    got = page.call("bigFile", {"data": base64.b64encode(piece).decode(), "times": times, "isShort": True})
+    shown = page.call("filters", [*counts])
+    most = max(got["most"], *(one["most"] for one in shown))
+    lines = counts["all"] * times
+    print(
+        f"{page.browser.name}: {lines:,} lines take {got['seconds']:.1f} s, at most {got['most']:.0f} ms between two "
+        f"turns of the page, {max(one['most'] for one in shown):.0f} ms with filters; the browser has "
+        f"{before / 1e6:.0f} MB before, {page.browser.memory() / 1e6:.0f} MB with the table"
+    )
+    for one, (name, number) in zip(shown, counts.items()):
+        kept = min(number * times, 1_000_000) if name == "all" else number * times
+        count.add(one["count"] == f"{kept:,}", f"{name}: {one['count']} lines, not {kept:,}")
+        count.add(one["last"] == one["count"], f"{name}: the last page ends with {one['last']}, not {one['count']}")
+    count.add(most <= (1 if given.idle else BUSY) * MOST_TURN, f"a turn of the page took {most:.0f} ms")
+
+
+def test_stop(count, page, _):
+    page.open()
+    page.view("lines")
+    piece = (TOP / "examples/descriptors.hex").read_bytes() * 1000
+    given = {"data": base64.b64encode(piece).decode(), "times": 40, "stopAfter": 300}
+    got = page.call("bigFile", given)
+    count.add("Stopped after" in got["status"], f"a run that is stopped: {got}")

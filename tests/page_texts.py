@@ -1,0 +1,243 @@
+"""Tests of the page: what it finds in a pasted text, places of errors, warnings, names of GUIDs."""
+import random
+import re
+
+from page_driver import line_of
+
+
+def test_forms(count, page, given):
+    """What people have in the clipboard, and what the page says that it left out."""
+    page.open()
+    everyone = "O:BAG:SYD:(A;;FA;;;WD)"
+    digits = line_of(given.program, ["convert", "--from", "sddl", "--to", "hex"], everyone)
+    spelled = line_of(given.program, ["convert", "--from", "sddl", "--to", "base64"], everyone)
+    pairs = [digits[at : at + 2] for at in range(0, len(digits), 2)]
+    registry = ",\\\n  ".join(",".join(pairs[at : at + 20]) for at in range(0, len(pairs), 20))
+    inherited = "O:BAG:SYD:AI(A;OICIID;FA;;;BA)(A;OICIID;FA;;;SY)(A;ID;FR;;;BU)"
+    listed = "C:\\Data BUILTIN\\Administrators:(I)(OI)(CI)(F)\n        Everyone:(DENY)(WD,AD)\n\n"
+    listed += "Successfully processed 1 files"
+    rows = [
+        (everyone, everyone, "Read as SDDL."),
+        (f'"Public"=hex:{registry}\n"Work"=hex:{registry}', everyone, "hex:"),
+        (f"hex(3):{registry}", everyone, "hex(3):"),
+        (f"\ufeffData\r\n{everyone}\r\nData\\plan.txt\r\nO:SY\r\n", everyone, "Data"),
+        (
+            f"dn: CN=Share\nnTSecurityDescriptor:: {spelled[:40]}\n {spelled[40:]}\n",
+            everyone,
+            "nTSecurityDescriptor::",
+        ),
+        (f"name: Application\nchannelAccess: {everyone}\nlogging:", everyone, "channelAccess:"),
+        (f"Owner  : BA\nSddl   : {inherited[:40]}\n         {inherited[40:]}\n", inherited, "Sddl"),
+        (f'"C:\\a, b.txt","{everyone}"', everyone, "quotation marks"),
+        (f'"Spooler",2,"{everyone}"', everyone, "Spooler"),
+        (f"0x{digits}", everyone, "0x"),
+        (" ".join(pairs[:20]) + ":" + "-".join(pairs[20:]), everyone, "separators"),
+        (spelled, everyone, "Read as base64."),
+        (", ".join(str(int(pair, 16)) for pair in pairs), everyone, "decimal"),
+        (listed, "D:(A;OICIID;FA;;;BA)(D;;DCLC;;;WD)", "icacls"),
+        # A text that a program wrapped: no ACE is lost, and what is no part of the descriptor is said.
+        ("O:BAG:SYD:(A;;FA;;;BA)\n(A;;FA;;;WD)\n", "O:BAG:SYD:(A;;FA;;;BA)(A;;FA;;;WD)", "line ends"),
+        ("O:BAG:SYD:(A;;FA;;;BA)\r\r (A;;FA;;;WD)", "O:BAG:SYD:(A;;FA;;;BA)(A;;FA;;;WD)", "line ends"),
+        ("O:BA\r\nG:SY\r\nD:(A;;FA;;;WD)\r\n", everyone, "line ends"),
+        ("D:(A;;FA;;;WD)\nS:(AU;SA;FA;;;WD)", "D:(A;;FA;;;WD)S:(AU;SA;FA;;;WD)", "line ends"),
+        (
+            "dn: CN=x\nnTSecurityDescriptor: O:BAG:SYD:(A;;FA;;;BA)\n (A;;F\n A;;;WD)\ncn: x\n",
+            "O:BAG:SYD:(A;;FA;;;BA)(A;;FA;;;WD)",
+            "cn: x",
+        ),
+        (f"Path   : C:\\Data\nOwner  : x\nSddl   : {everyone}\nAccess : a\n         b c", everyone, "Access : a"),
+        (f"<Sddl>{everyone}</Sddl>", everyone, "</Sddl>"),
+        (f"  Key\n    Security    REG_BINARY    {digits}\n", everyone, "REG_BINARY"),
+        (f"\u201c{everyone}\u201d", everyone, "quotation marks"),
+        (f"the value is `{everyone}`, I think", everyone, "I think"),
+        (f"\u00a0 {everyone}\t\u00a0\r\n\r\n", everyone, "Read as SDDL."),
+        (
+            f'Windows Registry Editor Version 5.00\r\n\r\n[HKEY_X]\r\n"z"=hex:{registry}\r\n"b"=dword:2',
+            everyone,
+            '\u201c"b"=dword:2\u201d after it',
+        ),
+        (f"nTSecurityDescriptor:: {spelled}\ncn: x\nD:(A;;FR;;;BU)", everyone, "cn: x D:(A;;FR;;;BU)"),
+    ]
+    for text, sddl, said in rows:
+        page.see(text)
+        shown = page.do("return [document.querySelector('.words code.whole')?.textContent, byId('found').textContent];")
+        count.add(shown[0] == sddl and said in shown[1], f"{text[:60]!r}: {shown}, not {sddl} {said}")
+
+
+# The text, the number, what is marked, and the words of the place.
+FAULTS = [
+    ("D:(A;;FA;;;WD)(A;;FA;;;Everyone)", 25, "Everyone", "the SID of ACE 2 of the DACL"),
+    ("O:ZZD:(A;;GA1;;;WD)", 22, "ZZ", "the SID of the owner"),
+    ("O:BAG:DU", 23, "DU", "the SID of the group"),
+    ("D:(A; OI;FA;;;WD)", 26, " OI", "field 2"),
+    ("D:(A;;FA ;;;WD)", 27, "FA ", "field 3"),
+    (
+        "D:(OA;;RP;{bf967aba-0de6-11d0-a285-00aa003049e2};;AU)",
+        28,
+        "{bf967aba-0de6-11d0-a285-00aa003049e2}",
+        "field 4",
+    ),
+    ("D:(XA;;FR;;;WD)", 29, "XA", "field 1"),
+    (
+        "D:(A;;FR;;;BU)(XA;;FR;;;WD;(@User.clearance >= 2))",
+        20,
+        "(XA;;FR;;;WD;(@User.clearance >= 2))",
+        "ACE 2 of the DACL",
+    ),
+    ('D:(A;;FA;;;WD)S:(RA;;;;;WD;("Secrecy",TU,0,3))', 20, '(RA;;;;;WD;("Secrecy",TU,0,3))', "ACE 1 of the SACL"),
+    ("O:BAO:SY", 21, "O:SY", "the whole part"),
+    ("D:(A;;FA;;;WD", 20, "(A;;FA;;;WD", "ACE 1"),
+    ("D:(A;;FA;;;WD)x(A;;FR;;;BU)", 20, "x", "between the ACEs"),
+    ("G:S-1-5-99999999999", 24, "S-1-5-99999999999", "the SID of the group"),
+    (
+        "0100048000000000000000000000000014000000020020000100000009001800a900120001010000000000010000000061727478",
+        12,
+        "09001800a900120001010000000000010000000061727478",
+        "ACE 1 of the DACL",
+    ),
+    ("0100048000000000000000000000000000zz0000", 2, "zz", "the characters"),
+]
+
+
+def test_faults(count, page, given):
+    page.open()
+    for text, number, marked, place in FAULTS:
+        page.do("put('form', given[0]);", "hex" if text.startswith("01") else "auto")
+        shown = page.see(text)
+        got = page.do(
+            "return [document.querySelector('pre.place mark')?.textContent, "
+            "document.querySelectorAll('table').length, "
+            "document.querySelectorAll('button.cell').length, byId('found').textContent];"
+        )
+        form = "hex" if text.startswith("01") else "sddl"
+        told = line_of(given.program, ["convert", "--from", form], text)
+        count.add(
+            told.startswith(f"error {number} ") and f"(error {number} " in shown and f"(error {number} " in got[3],
+            f"{text}: the program says {told}, the page {got[3]}",
+        )
+        count.add(got[0] == marked and place in shown, f"{text}: marked {got[0]!r}, not {marked!r}, in {shown[:200]}")
+        # Nothing of a refused descriptor is shown as if it were the answer.
+        count.add(got[2] == 0 and "Who can change it" not in shown, f"{text}: a refusal beside rights")
+    page.do("put('form', 'auto');")
+    page.see("O:BAG:DUD:(A;;FA;;;DA)")
+    page.do(
+        "Array.from(document.querySelectorAll('.fault button')).find((one) => "
+        "/stand-in/.test(one.textContent)).click(); await until(isIdle);"
+    )
+    shown = page.do("return byId('view-look').textContent;")
+    count.add("Domain Admins" in shown and "error 23" not in shown, f"a stand-in domain: {shown[:200]}")
+
+
+# For each field of an ACE, texts that it can't have.
+WRONG = {
+    "field 1 (type)": ["AX", "", "AA", "X A", "<b>", "A)"],
+    "field 2 (flags)": ["ZZ", "OIX", "O", " OI", "OI CI", "0x3", "<b>"],
+    "field 3 (rights)": ["QQ", "FAX", "0xg", " FA", "FA,FR", "0x1ffffffff", "<b>", "\u202eFA"],
+    "field 4 (object type)": ["{00299570-246d-11d0-a768-00aa006e0529}", "00299570", "user", "<b>"],
+    "field 5 (inherited object type)": ["{00299570-246d-11d0-a768-00aa006e0529}", "00299570", "user"],
+    "the SID": ["Everyone", "ZZ", "S-1-", "S-1-5-x", "S-1-5-4294967296", "S-2-5-1", "DA", " BA", "<b>", ""],
+}
+GOOD = [
+    "A;OICI;FA;;;BA",
+    "D;;FR;;;BU",
+    "OA;CI;RP;bf967aba-0de6-11d0-a285-00aa003049e2;;AU",
+    "A;ID;0x1200a9;;;S-1-5-21-1-2-3-4",
+]
+
+
+def wrong_text(chance):
+    """A text with one wrong field, and what the place of the error has to be called and marked."""
+    aces = [chance.choice(GOOD).split(";") for _ in range(chance.randrange(1, 9))]
+    number, field = chance.randrange(len(aces)), chance.randrange(len(WRONG))
+    name = list(WRONG)[field]
+    wrong = chance.choice(WRONG[name])
+    if field in (3, 4):
+        aces[number][0] = "OA"
+    aces[number][field] = wrong
+    sacl = chance.random() < 0.3
+    if sacl:
+        for at, ace in enumerate(aces):
+            if at != number or field != 0:
+                ace[0] = "OU" if ace[0].startswith("O") else "AU"
+    listed = "".join(f"({';'.join(ace)})" for ace in aces)
+    return (
+        f"O:BAG:SY{'S' if sacl else 'D'}:{listed}",
+        wrong,
+        f"{name} of ACE {number + 1} of the {'SACL' if sacl else 'DACL'}",
+    )
+
+
+def test_wrong_texts(count, page, given):
+    """A wrong field of any ACE: the program's number, and the very field is named and marked."""
+    chance = random.Random(given.seed + 3)
+    page.open()
+    page.do("put('form', 'sddl'); put('domain', '');")
+    asked = 0
+    while asked < 250:
+        text, wrong, place = wrong_text(chance)
+        told = line_of(given.program, ["convert", "--from", "sddl", "--to", "hex"], text)
+        found = re.match(r"error (\d+) ", told)
+        if not found:
+            continue
+        asked += 1
+        shown = page.see(text)
+        got = page.do("return [document.querySelector('pre.place mark')?.textContent, byId('found').textContent];")
+        count.add(f"(error {found[1]} " in got[1], f"{text}: the program says {told}, the page {got[1]}")
+        # A parenthesis in a field ends its ACE, and then the shape of the rest is wrong.
+        if int(found[1]) >= 22:
+            marked = wrong.replace("\u202e", "\\u{202e}") or "\u00a0"
+            count.add(
+                place in shown and got[0] == marked,
+                f"{text}: {told}: {got[0]!r} is marked, not {marked!r}; {place} in {shown[:300]}",
+            )
+
+
+WARNINGS = [
+    ("O:BA", "There is no DACL: everyone"),
+    ("D:NO_ACCESS_CONTROL", "The DACL is null: everyone"),
+    ("O:BAD:", "The DACL is empty"),
+    ("O:BAD:(A;;FW;;;WD)", "Everyone can"),
+    ("O:BAD:(A;;SD;;;AU)", "Authenticated Users can delete"),
+    ("O:BAD:(A;;DC;;;BU)", "Users can add files"),
+    ("O:BAD:(A;;WD;;;S-1-5-21-1-2-3-1001)", "no administrator"),
+    ("O:BAD:(A;;FR;;;BU)(D;;FW;;;BG)", "The order is not the one"),
+    ("O:BAD:(A;IO;FR;;;BU)", "ACE 1 can't apply"),
+    ("O:BAD:(A;;FA;;;WD)(D;;FW;;;BU)", "denies Users what earlier ACEs already allow"),
+    ("O:BAD:(A;;0x0;;;BA)", "mask 0"),
+    ("O:BAD:P(A;;FA;;;BA)", "Inheritance is switched off"),
+    ("O:BAD:(A;;FA;;;BA)S:(ML;;NW;;;HI)", "integrity label: High level"),
+    ("O:S-1-5-21-1-2-3-500D:(A;;FA;;;S-1-5-21-4-5-6-512)", "SIDs of 2 domains"),
+]
+
+
+def test_warnings(count, page, _):
+    page.open()
+    for text, warning in WARNINGS:
+        page.see(text)
+        shown = page.texts(".warning")
+        count.add(any(warning in one for one in shown), f"{text}: {shown}")
+    page.see("O:BAG:SYD:(A;;FA;;;BA)(A;;FA;;;SY)")
+    shown = page.texts(".warning")
+    count.add(shown == [], f"a harmless descriptor: {shown}")
+
+
+# An ACE of a directory object, and what its GUID is called. Five GUIDs are a property and a validated write.
+MEMBER = "bf9679c0-0de6-11d0-a285-00aa003049e2"
+GUIDS = [
+    (f"(OA;;WP;{MEMBER};;AU)", "for member (property)"),
+    (f"(OA;;SW;{MEMBER};;AU)", "for Self-Membership (validated write)"),
+    (f"(OA;;GA;{MEMBER};;AU)", "for Self-Membership (validated write), member (property)"),
+    ("(OA;;CR;014bf69c-7b3b-11d1-85f6-08002be74fab;;AU)", "for Change-Domain-Master (right)"),
+    ("(OA;;CC;bf967aba-0de6-11d0-a285-00aa003049e2;;AU)", "for user (class)"),
+    ("(OA;;RP;e45795b2-9455-11d1-aebd-0000f80367c1;;AU)", "for Email-Information (property set)"),
+    ("(OA;;CR;ee914b82-0a98-11d1-adbb-00c04fd8d5cd;;AU)", "for unknown GUID ee914b82-0a98-11d1-adbb-00c04fd8d5cd"),
+]
+
+
+def test_guids(count, page, _):
+    page.open()
+    page.do("put('kind', 'ds');")
+    for ace, words in GUIDS:
+        page.see(f"O:BAD:{ace}")
+        shown = page.texts("tr.ace .object")
+        count.add(shown == [words], f"{ace}: {shown}, not {words}")
