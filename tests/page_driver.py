@@ -9,7 +9,7 @@ TOP = pathlib.Path(__file__).resolve().parent.parent
 SECONDS = 120
 MOST_TURN = 200  # milliseconds of one turn of the page with a million lines, on an idle machine
 BUSY = 10  # times as long on a machine that also does other things, as in the gate
-BATCH = 100
+BATCH = 50
 KINDS = {"folder": "file", "file": "file", "key": "key", "ds": "ds"}
 HOSTILE = '<img src=x onerror="window.wasHit=1"><script>window.wasHit=1</script>&lt;b&gt;"\'</textarea>'
 HELPERS = pathlib.Path(__file__).with_name("page.js").read_text(encoding="utf-8")

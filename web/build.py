@@ -5,20 +5,31 @@ Puts the page together: one file, PAGE, of web/page.html, web/page.css, the ES m
 file LIBRARY (sdtool.mjs) and the file MODULE (sdtool.wasm), compressed and in base64. It leaves out comments and
 indentation, and changes nothing else but how a module gets what another exports: each becomes a function that is called
 once, in the order in which a browser would. The script is no module, since browsers refuse modules in workers of a page
-from a disk; so it has no import.meta.
+from a disk; so it has no import.meta. Of the module, binaryen's wasm-metadce leaves out what the page never calls.
 The page's policy allows this script and this style alone, by their hashes.
 """
 import argparse
 import base64
 import gzip
 import hashlib
+import json
 import pathlib
 import re
+import shutil
+import subprocess
+import tempfile
 
 FOLDER = pathlib.Path(__file__).resolve().parent
 FIRST = "main.mjs"
 MOST = 1_000_000  # bytes of the page
 MOST_PACKED = 300_000
+# What the page calls of the module, by way of the library's version, toSddl, explain, normalize, fromSddl, check, derive,
+# run and faultText.
+CALLED = ["memory", "allocate", "release"] + [
+    f"sdtool_{name}"
+    for name in "version to_sddl explain normalize from_sddl sid_size check derive run fault_text".split()
+]
+FEATURES = ["--enable-sign-ext", "--enable-mutable-globals", "--enable-bulk-memory"]
 IMPORT = re.compile(r'^import \{([^}]*)\} from "([^"]+)";\n', re.M)
 EXPORTED = re.compile(r"^export ((?:async )?(?:function|class|const|let)) ([A-Za-z_$][\w$]*)", re.M)
 EXPORTS = re.compile(r"^export \{([^}]*)\};\n", re.M)
@@ -98,6 +109,19 @@ def policy(script, style):
     )
 
 
+def reduced(module):
+    """The module with what the page calls, and no more."""
+    names = [name for name in CALLED if name.encode() in module]
+    graph = [{"name": "page", "root": True, "reaches": names}, *({"name": name, "export": name} for name in names)]
+    with tempfile.TemporaryDirectory() as name:
+        folder = pathlib.Path(name)
+        (folder / "graph.json").write_text(json.dumps(graph))
+        (folder / "module.wasm").write_bytes(module)
+        words = ["wasm-metadce", *FEATURES, "module.wasm", "--graph-file=graph.json", "-o", "reduced.wasm"]
+        subprocess.run(words, cwd=folder, check=True, stdout=subprocess.DEVNULL)
+        return (folder / "reduced.wasm").read_bytes()
+
+
 def page(module, library):
     modules = Modules(library)
     modules.add(FIRST)
@@ -105,6 +129,8 @@ def page(module, library):
     style = "\n" + (FOLDER / "page.css").read_text(encoding="utf-8")
     if re.search(r"</(?:script|style)|<!--", script + style, re.I):
         raise SystemExit("a script or the style has a text that would end it")
+    if shutil.which("wasm-metadce"):
+        module = reduced(module)
     packed = base64.b64encode(gzip.compress(module, 9, mtime=0)).decode()
     parts = {"POLICY": policy(script, style), "STYLE": style, "MODULE": packed, "SCRIPT": script}
     template = (FOLDER / "page.html").read_text(encoding="utf-8")

@@ -1,6 +1,6 @@
 // Well-known GUIDs of a directory: the extended rights, validated writes and property sets of MS-ADTS 5.1.3.2 and
 // 6.1.1.2.7, all classes of MS-ADSC, and those attributes of MS-ADA1 to MS-ADA3 that ACEs name or that administrators
-// write in users, groups, computers, contacts, containers, policies and domains. They come from the schema of Windows
+// know of users, groups, computers, contacts, containers, policies and domains. They come from the schema of Windows
 // Server 2008 to 2016 in Debian's samba-ad-provision (/usr/share/samba/setup), with which tests/page_schema.py compares
 // each entry. DS-Validated-Write-Computer is named by MS-ADTS alone. A GUID that is not here is shown as it is.
 
@@ -278,211 +278,94 @@ const TABLE = {
         -fdca-4851-b04a-13645b11d226 07502414 msWMI-MergeablePolicyTemplate
         -fefc-4f3f-b5a9-70e994204303 cadd1e5e oncRpc`,
     [ATTRIBUTE]: `
-        -000f-464d-bf1d-0808465d8843 bc2dba12 unixHomeDirectory
-        -03d4-4fe3-afac-8c3bca2f3653 78565e80 msDS-CloudAnchor
-        -0818-42b0-8110-d3d154c97f24 b7ff5a38 msPKI-CredentialRoamingTokens
-        -09c4-4fa9-9ae6-7628d7adbe0e bac80572 jpegPhoto
-        -09e4-4237-9f72-9306ebe63ab2 29259694 msTSPrimaryDesktop
-        -0aa6-4469-9842-6eb01b32a5b5 88e73b34 msDS-cloudExtensionAttribute18
-        -0de6-11d0-a285-00aa003049e2 bf967915 accountExpires bf967918 adminCount bf967919 adminDescription bf96791a
-        adminDisplayName bf96792d badPasswordTime bf96792e badPwdCount bf96792f builtinCreationTime bf967930
-        builtinModifiedCount bf967931 businessCategory bf967932 cACertificate bf967938 codePage bf96793e info
-        bf96793f cn bf967945 c bf967946 creationTime bf967948 defaultClassStore bf96794f department bf967950
-        description bf967951 destinationIndicator bf967953 displayName bf967954 displayNamePrintable bf96795d
-        domainPolicyObject bf96795e domainReplica bf967961 mail bf967962 employeeID bf967972 extensionName bf967974
-        facsimileTelephoneNumber bf967976 flags bf967977 forceLogoff bf96797e groupAttributes bf967980
-        groupMembershipSAM bf967984 showInAdvancedViewOnly bf967985 homeDirectory bf967986 homeDrive bf96798d
-        internationalISDNNumber bf967991 memberOf bf967996 lastLogoff bf967997 lastLogon bf96799c dBCSPwd bf96799d
-        lmPwdHistory bf96799e localPolicyFlags bf96799f defaultLocalPolicyObject bf9679a1 localeID bf9679a2 l
-        bf9679a4 lockOutObservationWindow bf9679a5 lockoutDuration bf9679a6 lockoutThreshold bf9679a8 scriptPath
-        bf9679a9 thumbnailLogo bf9679aa logonCount bf9679ab logonHours bf9679ac logonWorkstation bf9679ad
-        lSACreationTime bf9679ae lSAModifiedCount bf9679b2 machineRole bf9679b5 manager bf9679bb maxPwdAge bf9679bd
-        maxStorage bf9679c0 member bf9679c2 minPwdAge bf9679c3 minPwdLength bf9679c5 modifiedCount bf9679c6
-        modifiedCountAtLastProm bf9679d7 userWorkstations bf9679d8 nETBIOSName bf9679d9 networkAddress bf9679db
-        nextRid bf9679df nTGroupMembers bf9679e1 unicodePwd bf9679e2 ntPwdHistory bf9679e3 nTSecurityDescriptor
-        bf9679e4 distinguishedName bf9679e5 objectClass bf9679e7 objectGUID bf9679e8 objectSid bf9679ea
-        oEMInformation bf9679ee operatorCount bf9679ef o bf9679f0 ou bf9679f1 otherLoginWorkstations bf9679f2
-        middleName bf9679f7 physicalDeliveryOfficeName bf9679fb postOfficeBox bf9679fc postalAddress bf9679fd
-        postalCode bf9679fe preferredDeliveryMethod bf9679ff preferredOU bf967a00 primaryGroupID bf967a03 privateKey
-        bf967a05 profilePath bf967a06 proxyAddresses bf967a09 pwdHistoryLength bf967a0a pwdLastSet bf967a0b
-        pwdProperties bf967a0e name bf967a10 registeredAddress bf967a1c directReports bf967a21 revision bf967a22 rid
-        bf967a2c schemaVersion bf967a2e searchGuide bf967a2f securityIdentifier bf967a31 seeAlso bf967a32
-        serialNumber bf967a33 serverRole bf967a34 serverState bf967a39 st bf967a3a street bf967a3f
-        supplementalCredentials bf967a41 sn bf967a49 telephoneNumber bf967a55 title bf967a61 uASCompat bf967a68
-        userAccountControl bf967a69 userCert bf967a6a comment bf967a6d userParameters bf967a6e userPassword bf967a76
-        versionNumber bf967a7a wWWHomePage bf967a7f userCertificate
+        -0de6-11d0-a285-00aa003049e2 bf967915 accountExpires bf967918 adminCount bf96792d badPasswordTime bf96792e
+        badPwdCount bf967931 businessCategory bf967932 cACertificate bf96793e info bf96793f cn bf967945 c bf96794f
+        department bf967950 description bf967953 displayName bf967954 displayNamePrintable bf967961 mail bf967962
+        employeeID bf967974 facsimileTelephoneNumber bf967976 flags bf967977 forceLogoff bf96797e groupAttributes
+        bf967984 showInAdvancedViewOnly bf967985 homeDirectory bf967986 homeDrive bf967991 memberOf bf967997
+        lastLogon bf9679a2 l bf9679a4 lockOutObservationWindow bf9679a5 lockoutDuration bf9679a6 lockoutThreshold
+        bf9679a8 scriptPath bf9679aa logonCount bf9679ab logonHours bf9679b5 manager bf9679bb maxPwdAge bf9679c0
+        member bf9679c2 minPwdAge bf9679c3 minPwdLength bf9679d7 userWorkstations bf9679d8 nETBIOSName bf9679e1
+        unicodePwd bf9679e3 nTSecurityDescriptor bf9679e4 distinguishedName bf9679e5 objectClass bf9679e7 objectGUID
+        bf9679e8 objectSid bf9679ef o bf9679f0 ou bf9679f2 middleName bf9679f7 physicalDeliveryOfficeName bf9679fb
+        postOfficeBox bf9679fc postalAddress bf9679fd postalCode bf967a00 primaryGroupID bf967a05 profilePath
+        bf967a06 proxyAddresses bf967a09 pwdHistoryLength bf967a0a pwdLastSet bf967a0b pwdProperties bf967a0e name
+        bf967a1c directReports bf967a2f securityIdentifier bf967a39 st bf967a3a street bf967a41 sn bf967a49
+        telephoneNumber bf967a55 title bf967a68 userAccountControl bf967a6a comment bf967a6d userParameters bf967a6e
+        userPassword bf967a7a wWWHomePage bf967a7f userCertificate
         -0df5-4aea-b33d-6cf493077b3f b23fc141 msDS-AssignedAuthNPolicySilo
-        -0e52-11d0-a286-00aa003049e2 6da8a4fc controlAccessRights 6da8a4fe auditingPolicy
         -0e5a-4ff3-9482-5efeaecd7060 c0e20a04 lastLogonTimestamp
-        -0e9a-4d95-b0ac-bdde7ff8f3a1 969d3c79 nisMapName
         -10c3-4b8b-9acd-54f11063742e c7e7dafa msDS-LastFailedInteractiveLogonTime
         -1191-11d0-a060-00aa006c33ed f0f8ff84 streetAddress f0f8ff88 company f0f8ff8e givenName f0f8ff90 initials
         f0f8ffa1 homePhone f0f8ffa2 otherHomePhone f0f8ffa3 mobile f0f8ffa4 otherPager f0f8ffa5 otherTelephone
         f0f8ffa6 pager f0f8ffa7 co
-        -1262-11d0-a060-00aa006c33ed 5fd42471 countryCode 5fd424a1 garbageCollPeriod
         -126a-11d0-a060-00aa006c33ed 3e0abfd0 sAMAccountName
-        -1340-41eb-bca0-bd7d938e25a9 b002f407 msDS-SourceAnchor
-        -13bd-47fc-90b3-0a527ed81ab7 670afcb3 msDS-cloudExtensionAttribute10
         -1480-11d3-91c1-0000f87a57d4 d064fb68 ms-DS-MachineAccountQuota
         -15a2-40e1-92a2-8ca866f70776 80641043 msDS-HostServiceAccount
         -165f-11d0-a064-00aa006c33ed 09dcb79f location
         -18e7-46e1-8f5f-7ee4d9020e0d 856be0d0 preferredLanguage
         -1add-4436-8c04-3999a880154c 7bd4c7a6 gPCWQLFilter
         -1d04-4ab7-9371-cfc3d5df0afd 20119867 msDS-SupportedEncryptionTypes
-        -1d55-4253-a0af-30c2a784e46e a3e03f1f gecos
-        -1d69-4dfb-802e-d95510109599 9201ac6f msTSInitialProgram
         -1d7e-11d0-a081-00aa006c33ed 8d3bca50 thumbnailPhoto
         -1dd6-4b38-8fc5-33afe8c988ad 303d9f4a msDS-RevealOnDemandGroup
         -1e89-429f-901a-1413894d9f59 0bb0fca0 uid
-        -2073-11d0-a9c2-00aa006c33ed fe6136a0 division
         -22e7-409c-85d2-11b21bee72de 638ec2e8 msDS-ObjectReference
         -2447-4545-8081-3bb610cacbf2 d31a8757 msDS-Behavior-Version
-        -246b-11d0-a9c8-00aa006c33ed 6d05fb41 notes
-        -28e1-4bec-ace3-712833361456 60452679 msDS-cloudExtensionAttribute6
-        -29dd-44ea-b0fa-7e8438b9a4a3 23572aaf msTSConnectClientDrives
-        -2a74-4fa4-ac25-e63fe8b61218 b7acc3d2 msDS-SyncServerUrl
         -2cc7-11d2-854e-00a0c983f608 b7c69e6d tokenGroups
-        -2e79-4c3b-8e14-3d93b75aab89 34f6bdf5 msDS-ObjectSoa
-        -3040-4441-ae26-cd95af0d247e 0a63e12c msDS-cloudExtensionAttribute9
-        -316c-4060-a3a0-387b083f09cd e65c30db msTSProfilePath
-        -31dc-4ef1-ac7c-84baf7ef9da7 b8dfa744 msPKIAccountCredentials
-        -3231-4c5e-8adf-8d189697721e a553d12c loginShell
         -33df-11d2-98b2-0000f87a57d4 040fc392 tokenGroupsNoGCAcceptable c3dbafa6 sDRightsEffective
-        -3b72-11d2-90cc-00c04fd91ab1 031952ec accountNameHistory
-        -3cfa-11d1-a9c0-0000f80367c1 19405b96 policyReplicationFlags
-        -3d3c-4cc8-834b-9d4f6f687b8b a744f666 msTSWorkDirectory
-        -3d43-40f5-85c5-3c12e169927e dc66d44e msDS-GeoCoordinatesLatitude
-        -3e18-4c7f-abae-351a01e4b4f7 366ed7ca msTSReconnectionAction
         -3e73-11d1-a9c0-0000f80367c1 3e74f60e showInAddressBook
-        -403c-11d1-a9c0-0000f80367c1 e16a9db2 userSMIMECertificate
         -40da-11d1-a9c0-0000f80367c1 0296c11c assistant 0296c11d otherFacsimileTelephoneNumber 0296c11e otherMobile
-        0296c11f primaryInternationalISDNNumber 0296c120 managedBy 0296c121 primaryTelexNumber 0296c122 mhsORAddress
-        0296c123 otherMailbox
-        -41d5-11d1-a9c1-0000f80367c1 28630ebb userPrincipalName 28630ebc legacyExchangeDN 28630ebf lockoutTime
-        -4699-4fc9-8d18-26e0cd0137a6 65650576 msds-tokenGroupNames
-        -4712-11d0-a1a0-00c04fd930c9 8e4eb2ec eFSPolicy
-        -47f3-11d1-a9c3-0000f80367c1 16775781 homePostalAddress 167757bc dSASignature 16775804 generationQualifier
-        16775848 objectVersion 16775858 personalTitle 167758ad uSNSource
+        0296c120 managedBy 0296c122 mhsORAddress
+        -41d5-11d1-a9c1-0000f80367c1 28630ebb userPrincipalName 28630ebf lockoutTime
+        -47f3-11d1-a9c3-0000f80367c1 16775848 objectVersion 167758ad uSNSource
         -48d4-11d1-a9c3-0000f80367c1 4d146e4a ipPhone 4d146e4b otherIpPhone
-        -49da-4db2-908a-0446e5eab844 9709eaaf msDS-cloudExtensionAttribute1
-        -4a5b-11d1-a9c3-0000f80367c1 9a9a021e groupType 9a9a021f userSharedFolder 9a9a0220 userSharedFolderOther
-        9a9a0221 url
+        -4a5b-11d1-a9c3-0000f80367c1 9a9a021e groupType
         -4e03-4810-97aa-2b339e7a434b d3aa4a5c msDS-AllUsersTrustQuota
-        -4e6e-485b-b291-22b02554273f 9cbf3437 msDS-cloudExtensionAttribute4
         -50f9-4fa3-a71e-1ce03040449b 8b70a6c6 msDS-PerUserTrustTombstonesQuota
-        -5196-4053-a11e-6ffcafc62c4d 9581215b msDS-cloudExtensionAttribute16
         -5306-11d1-a9c5-0000f80367c1 f3a64788 servicePrincipalName
-        -53d8-4784-b814-46d8535110d2 326f7089 msTSMaxDisconnectionTime
         -54f7-49c1-84a0-e64d12853588 b87a0ad8 msDS-AssignedAuthNPolicy
-        -550d-4e05-8c35-4afcb917a9fe aa4e1a6d msTPM-OwnerInformation
-        -5604-463e-94d6-1a1287b72ca3 1cf41bba msTSBrokenConnectionAction
-        -5641-4d9c-863e-5fb3325e74e0 a11703b7 msDS-GeoCoordinatesAltitude
-        -56d0-11d1-a9c6-0000f80367c1 1cb3559a aCSPolicyName
-        -5709-11d1-a9c6-0000f80367c1 52ab8670 lastKnownParent
-        -5abd-11d0-afd2-00c04fd930c9 244b2970 wbemPath
         -5e48-46d5-bc6c-4df4fda78a35 ea1b7b93 msTPM-TpmInformationForComputer
         -6070-11d1-a9c6-0000f80367c1 26d97369 objectCategory
         -6090-40b2-9f37-2a4de88f3063 5b47d60f msDS-KeyCredentialLink
         -60ae-405a-b7e8-ff8a58d456d2 46a9b11d tokenGroupsGlobalAndUniversal
         -644a-4403-a665-e26e0aef5e98 c5d234e5 msDS-FailedInteractiveLogonCountAtLastSuccessfulLogon
-        -6464-4e95-a781-e3b5cd5f9588 1d960ee2 msTSMaxConnectionTime
         -64f2-11d0-afd2-00c04fd930c9 6e7b626c sAMAccountType
         -6604-4489-89d9-84798a89515a 3e1ee99c msDS-AuthenticatedAtDC
-        -66ad-40e1-887b-10df070419a6 bd29bf90 msDS-ExternalDirectoryObjectId
-        -672e-4f61-ab64-f77d2dc2ffab 03dab236 memberUid
-        -6bb7-460e-b221-e250f3de0f95 ff739e9c msTSMaxIdleTime
-        -6be8-4229-967e-2ff5bb93b4ce 3d3c6dda msDS-cloudExtensionAttribute17
         -6da0-11d0-afd3-00c04fd930c9 19195a55 dc
-        -6e80-4927-8560-98feca086a9f cebcb6ba msDS-cloudExtensionAttribute14
         -6f4e-4b74-856a-d68383313910 778ff5c9 msDS-KrbTgtLink
         -70ad-4960-8425-a4d6313d93dd dc3ca86f msDS-FailedInteractiveLogonCount
-        -70f8-4007-a4c1-a84a38311f9a 23998ab5 userPKCS12
         -783f-11d2-9916-0000f87a57d4 32ff8ecc gPCMachineExtensionNames 42a75fc6 gPCUserExtensionNames
-        -7922-4aad-b79c-b2201f54417c fa06d1f4 msds-tokenGroupNamesGlobalAndUniversal
         -7b09-4449-9ae6-2534148f8a72 add5cf10 msDS-UserPasswordExpiryTimeComputed
         -7b18-11d1-adef-00c04fd8d5cd 72e39547 dNSHostName
-        -7bc2-4cb9-81a8-c99c43b7905e fa4693bb attributeCertificateAttribute
-        -7da5-42a6-8925-244e12a56e24 9e9ebbc8 msDS-cloudExtensionAttribute11
-        -8449-44ca-81c0-021781800d2a 3cd1c514 msDS-cloudExtensionAttribute8
-        -85dc-4fde-b687-9657688e667e de8bb721 ipHostNumber
-        -8642-468b-8c48-03ddfd004982 15177226 msTSRemoteControl
-        -871b-4c92-b285-d99d4036681c 8ce6a937 msTSConnectPrinterDrives
-        -8ac6-11d0-afda-00c04fd930c9 eea65904 groupsToIgnore eea65905 groupPriority eea65906 desktopProfile
-        -8af0-4daa-9cc6-62eadb84ff03 aae4d537 msDS-cloudExtensionAttribute15
         -8b5d-4258-b64a-00b0b4949747 011929e6 msDS-LastSuccessfulInteractiveLogonTime
-        -8b6e-498d-95a8-211748d5acdc f5446328 msDS-cloudExtensionAttribute20
-        -8c01-11d0-afda-00c04fd930c9 3e97891e foreignIdentifier 3e97891f nTMixedDomain 3e978924 siteGUID 3e978925
-        operatingSystem 3e978926 operatingSystemVersion 3e978927 operatingSystemServicePack
+        -8c01-11d0-afda-00c04fd930c9 3e97891f nTMixedDomain 3e978925 operatingSystem 3e978926 operatingSystemVersion
+        3e978927 operatingSystemServicePack
         -8c8e-4e4c-8cec-79b31b7617b5 789ee1eb msDS-SPNSuffixes
         -8f3c-11d0-afda-00c04fd930c9 66171887 fSMORoleOwner
-        -91df-11d1-aebc-0000f80367c1 07383083 pekList 07383084 pekKeyChangeInterval
         -91fe-11d1-aebc-0000f80367c1 00fbf30c altSecurityIdentities 00fbf30d isCriticalSystemObject
-        -9239-4f7c-b99c-6745d87adbc2 b3f93023 msPKIDPAPIMasterKeys
         -9422-11d1-aebd-0000f80367c1 6db69a1c terminalServer
-        -957d-4a87-8a67-8d2934e01649 d4159c92 carLicense
-        -9607-468a-8e18-c800d3387395 0975fe99 msDS-cloudExtensionAttribute19
         -9824-11d1-aec0-0000f80367c1 032160bf uPNSuffixes
         -9858-4417-a701-735a1ecebf74 3df793df msDS-NC-RO-Replica-Locations
-        -98ad-4a53-9744-e83e287278fb 01072d9a secretary
         -9ac4-4e45-8205-bd219dbf672d 8469441b msDS-AllowedDNSSuffixes
-        -9af4-4a02-9cd7-3dea129eeb27 523fc6c8 msds-tokenGroupNamesNoGCAcceptable
-        -9b45-11d0-afdd-00c04fd930c9 e0fa1e62 systemFlags
-        -9c6b-47e1-b671-7c654be4d5b3 850fcc8f uidNumber
         -9c96-11d0-afdd-00c04fd930c9 bd951b3c operatingSystemHotfix
         -9ff0-11d1-b603-0000f80367c1 f30e3bbe gPLink f30e3bbf gPOptions f30e3bc0 gPCFunctionalityVersion f30e3bc1
         gPCFileSysPath
-        -a2f1-43ab-b60c-11fbd1facf05 6617e4ac msPKIRoamingTimeStamp
-        -a54a-11d0-afdf-00c04fd930c9 720bc4e2 defaultGroup
-        -ab90-4b79-a6b0-df437431d036 28be464b msDS-cloudExtensionAttribute13
-        -ac0f-11d2-90df-00c04fd91ab1 1ea64e5d otherWellKnownObjects
-        -b63a-11d2-90e1-00c04fd91ab1 178b7bc2 mS-DS-ConsistencyChildCount 23773dc2 mS-DS-ConsistencyGuid
         -b63f-4940-8d23-ea7acf06af56 2cc4b836 msDS-User-Account-Control-Computed
-        -b699-11d0-afee-0000f80367c1 34aaa217 volumeCount
         -b728-0842-b27d-2dea7a9df218 e362ed86 msDS-ManagedPassword
         -b7a1-42a1-b14d-7cae1423d07f 800d94d7 msDS-AllowedToDelegateTo
         -b82e-11d0-afee-0000f80367c1 b7b13119 physicalLocationObject
         -b940-4fb2-bcfc-5268683ad9fe 5706aeaf msDS-EnabledFeature
-        -ba1a-4c08-9632-c6a5c1ed649a 9c979768 photo
-        -bae4-4cea-8577-af813af5da25 94c42110 msDS-GeoCoordinatesLongitude
-        -bb31-48e1-bfab-0a6c5a1d39c2 f63aa29a msTSSecondaryDesktops
-        -bc54-40e7-93ae-a646a6ecc4b4 3a0cd464 msTSAllowLogon
-        -bcb7-46f0-9656-6370ca884b72 c17c5602 msDS-Site-Affinity
-        -beee-4dcb-8abe-ef89fcfec6c1 3566bf1f msDS-Cached-Membership-Time-Stamp
-        -c0c1-4ba9-82c9-1a90752f16a5 f34ee0ac msDS-cloudExtensionAttribute2
-        -c0e8-4f92-9221-fdd5f15b550d 612cb747 unixUserPassword
         -c354-11d0-aff8-0000f80367c1 3e10944c siteObject
-        -c44a-4eb6-82d3-13c10946dbfe a45398b7 houseIdentifier
-        -c4e7-4122-b91f-a20add90e246 5d3510f0 msTSHomeDirectory
-        -c5ea-11d1-bbcb-0080c76670c0 a8df73ef employeeNumber a8df73f0 employeeType a8df7489 textEncodedORAddress
-        a8df7498 USNIntersite
-        -c680-44bc-a273-e6c227d71b45 c569bb46 labeledURI
-        -c9f8-4f2d-a37b-58a823030331 31f7b8b6 msDS-USNLastSyncSuccess
+        -c5ea-11d1-bbcb-0080c76670c0 a8df73ef employeeNumber a8df73f0 employeeType
         -ca24-4993-a3aa-8b2c981302e8 d161adf0 msDS-PerUserTrustQuota
         -ca53-11d1-bbd0-0080c76670c0 9a7ad940 allowedAttributes 9a7ad941 allowedAttributesEffective 9a7ad942
         allowedChildClasses 9a7ad943 allowedChildClassesEffective
-        -ca6a-11d0-afff-0000f80367c1 52458018 nonSecurityMember 52458021 dynamicLDAPServer
-        -cacf-4dc7-88d5-61e9e95766f6 c0ffe2bd msTSDefaultToMainPrinter
         -cbc7-4f22-b27b-96967e7ee585 be9ef6ee departmentNumber
-        -cdd4-4bc9-bab8-0ff37efe1b20 69cab008 msDS-Cached-Membership
         -ce04-df40-b462-b8a50e41ba38 888eedd6 msDS-GroupMSAMembership
         -d167-11d0-b002-0000f80367c1 17eb4278 sIDHistory
-        -d3b4-48d4-b3f9-06457602d3d0 773e93af msDS-SourceObjectDN
-        -dbb0-4ceb-828b-8b2e143e9e81 a13df4e2 msDS-PrimaryComputer
         -dbe9-4eb8-837e-7f0ab55d9ac7 80863791 msDS-AdditionalDnsHostName
         -df24-4fb1-80b0-0fcb367e25e3 3417ab48 msDS-ExpirePasswordsOnSmartCardOnlyAccounts
-        -dffa-4cd9-acbf-a0680c03731e 5f0a24d9 msTSHomeDrive
-        -e10b-4fca-92b2-4cf615d5b09a 3c01c43d msDS-cloudExtensionAttribute12
-        -e1a0-42ce-a2da-793ba5244f35 d0e1d224 audio
-        -e327-4a0d-91c6-b42d4009115f 81d7f8c2 roomNumber
-        -e347-4852-aabb-22e5a651c864 2915e85b msDS-cloudExtensionAttribute5
-        -e34e-40c2-9d00-60ff7890f207 4a7c1319 msDS-cloudExtensionAttribute7
-        -e43a-4a42-83bc-d688e59ea605 ad7940f8 msDS-LogonTimeSyncInterval
-        -ec9e-41c4-849c-b46597ed6696 c5b95f0c gidNumber
-        -f23c-46b5-adf7-1e64957bd5db cafcb1de msDS-NonMembers
-        -f6ce-4adb-b496-b0c005d7823c e185d243 msDS-Approx-Immed-Subordinates
         -f79a-46bd-a0b8-9d18116ddc79 3f78c3e5 msDS-AllowedToActOnBehalfOfOtherIdentity
-        -fada-4a0d-b0f7-706d46838eb5 82f6c81a msDS-cloudExtensionAttribute3
-        -fd3b-4045-98cf-d9658da788b5 def449f1 msDS-HABSeniorityIndex
         -fd49-4d66-b25d-eeb96aba8174 15585999 msDS-NeverRevealGroup`,
 };
 
