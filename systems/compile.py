@@ -36,14 +36,25 @@ def libraries():
     return found
 
 
+def below(crate, known):
+    """The crates of this repository that a crate is built over, those that it does not name itself too."""
+    found = {}
+    for name in known[crate][0]:
+        if name in known:
+            found |= {**below(name, known), name: None}
+    return found
+
+
 def words_for(crate):
     """The words that name the crate and what it is compiled with."""
     known = libraries()
     uses, is_static = known[crate]
     words = ["--crate-name", crate, "src/lib.rt" if is_static else "src/main.rt", *["--crate-type", "staticlib"] * is_static]
+    place_of = {name: TOP / "crates" / name / "out" / "rlib" for name in below(crate, known)}
     for name in ["std", *uses]:
-        place = TOP / "crates" / name / "out" / "rlib" if name in known else KIT / "rlibs"
-        words += ["--extern", f"{name}={place / name}.rlib", "-L", f"dependency={place}"]
+        words += ["--extern", f"{name}={place_of.get(name, KIT / 'rlibs') / name}.rlib"]
+    for place in [KIT / "rlibs", *place_of.values()]:
+        words += ["-L", f"dependency={place}"]
     return [*words, "--links", f"{crate}=", "--antt-project", KIT / "rattle/logic/antt-project.json",
             "--logic-built", KIT / "logic_built", "--incremental", "out/incremental", "--jobs", "2", "--backend", "llvm"]
 

@@ -5,7 +5,7 @@ Checks which modules of which crates the files of each crate name, and how large
 
   parts of others  no file names another crate's `specs.Inner`, or a module of its `proofs` outside `proofs.laws`
   laws             no file of `proofs/laws` names `specs.Inner` of its own crate, or the goals of one of its functions
-  dependencies     no file of `src` names a crate that crates.txt does not list for this one
+  dependencies     crates.txt lists for this crate each crate that a file of `src` names, and none that no file names
   size             `src` has at most 1,200 lines
 
 FOLDER is the top of the repository, and by default that of this file. The last line is 'N passed, M failed'.
@@ -61,12 +61,13 @@ def is_of_one_function(module):
 def violations(crate, folder, listed):
     """By the name of the check, each place that breaks its rule."""
     libraries = listed.keys() | set().union(*listed.values())
-    beyond = libraries - listed[crate] - {crate}
+    beyond, unnamed = libraries - listed[crate] - {crate}, set(listed[crate])
     found = {"parts of others": [], "laws": [], "dependencies": []}
     for path, number, line in lines_of(folder):
         place = f"{path}:{number}: {line.strip()[:100]}"
         is_law = path.parts[:2] in (("proofs", "laws"), ("proofs", "laws.antt"))
         for other, module in modules_in(line):
+            unnamed.discard(other)
             if other != crate and other in listed and (is_inner(module) or is_proof_outside_laws(module)):
                 found["parts of others"].append(place)
             if other == crate and is_law and (is_inner(module) or is_of_one_function(module)):
@@ -75,6 +76,8 @@ def violations(crate, folder, listed):
             named = {name for names in RUST_PATH.findall(line) for name in names}
             named |= {other for other, _ in modules_in(line)}
             found["dependencies"] += [place] if named & beyond else []
+            unnamed -= named
+    found["dependencies"] += [f"crates.txt lists {other}, which no file names" for other in sorted(unnamed)]
     return found
 
 
