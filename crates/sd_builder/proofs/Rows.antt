@@ -412,6 +412,13 @@ two_aces : reading
 unfolding computed full_access administrators everyone
 two_aces = refl
 
+-- and a fault of the second one
+second_ace_of_another_type : reading
+    (hex "010004800000000000000000000000001400000002003000020000000000140000000000010100000000000100000000" ++ hex "0900140000000000010100000000000100000000")
+    ≡ Err (faults.AceType Dacl)
+unfolding computed
+second_ace_of_another_type = refl
+
 -- an inherited object type alone
 with_inherited : reading
     (hex "01000480000000000000000000000000140000000400300001000000050228001000000002000000ba7a96bfe60dd011a28500aa003049e201010000000000050b000000") ≡ Ok (record with_object {
