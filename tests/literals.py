@@ -1,0 +1,451 @@
+#!/usr/bin/env python3
+"""literals.py [--rules] [--list] [--only WORD] [--rows CRATE,..] [CRATE ..]
+
+Changes each literal of the definitions to its neighbour, one at a time, and says whether a worked row refuses it: a
+number by one, a text by one character, a case to the next of its enum, a constant or a definition without arguments to
+the next of its type. With --rules it also changes rules: a comparison or a connective to the other, a condition or a
+`not` left out, a field or a definition to a like one.
+
+A bug in code and definition alike passes every contract, since contracts only compare the two. Rows (proofs/*Rows.antt)
+have their values from elsewhere. So neither code nor contract is looked at here: a change counts as refused only if a
+row fails over the changed definitions. The rows tried are those of the crate itself, or of the crates that --rows
+lists. Tables are changed too, where a definition cites them. Left out are files that code alone cites (specs/Inner),
+tables written out again (*Values.antt), and FoldedReading.antt, which a law proves equal to another definition.
+
+Many changes are judged at once: each changed file, what rests on it and the rows are modules of one crate beside copies
+of the others, and `rt check --only` runs there. First `make check` has to pass in the crates that are tried and in all
+below `sd_run`. The constants of a crate are printed by `rt check --generated` once and kept in out/literals, which
+takes a minute or two a crate, and longer for sd_sid.
+
+A line tells of each change that no row refuses, and of each that does not read, as a case that stands twice. The last
+line counts them: 'N refused, M left, K unread'. The status is 1 where one is left.
+"""
+import argparse
+import collections
+import hashlib
+import pathlib
+import re
+import shutil
+import subprocess
+import sys
+import tempfile
+from typing import NamedTuple
+
+sys.dont_write_bytecode = True
+import layers  # noqa: E402
+
+TOP = pathlib.Path(__file__).resolve().parent.parent
+KEPT = TOP / "out/literals"
+TRIED_BELOW = "sd_run"  # the crates before it in crates.txt
+AT_ONCE = 40  # changes
+PROBE = "literals"
+# Records that types of the code hold: a copy of a definition goes on using the record itself.
+SHARED = {"SecurityId", "AccessControlEntry", "Descriptor", "Holder", "Asked", "GenericMapping"}
+WRITTEN_OUT = {"AreControlBits", "AreListedBits", "AreLimits"}
+COMMENT = re.compile(r"(?<!\S)--.*")
+USE = re.compile(r"^use (Rattle\.[\w.]+?)(?:\.\{([^}]*)\}| as (\w+))\s*$")
+MODULE_OF_USE = re.compile(r"^use (Rattle\.[\w.]+?)(?=\.\{| as )", re.M)
+SIGNATURE = re.compile(r"^(?:abbrev |unfoldable )?(?:pub )?([\w◌>=«»]+) : (.*)$")
+VARIANTS = re.compile(r"Rattle\.(\w+)\.specs\.declared\.(?:\w+\.)*(\w+)\.TheVariants$")
+NOT_CHANGED = re.compile(r"Values$|\.specs\.Inner\.|\.FoldedReading$")
+TOKEN = re.compile(r'codes "((?:[^"\\]|\\.)*)"|char "((?:[^"\\]|\\.)*)"|"(?:[^"\\]|\\.)*"'
+                   r"|(?<![\w.◌])(0x[0-9A-Fa-f_]+|\d[\d_]*)(?!\w)|(?<![\w◌])([A-Za-z_«][\w»]*(?:\.[\w«»]+)*)"
+                   r"|&&|\|\||≤|<")
+END_OF_CONDITION = re.compile(r"[()\[\]{}]|&&|\|\||\bthen\b|\belse\b|∷|,|;|$")
+LIKE_FIELDS = (("owner", "group"), ("sacl", "dacl"), ("object", "inherited"), ("read", "write", "execute", "all"),
+               ("protected", "auto_inherit_required", "auto_inherited"), ("first", "second"),
+               ("security", "take_ownership"))
+NEXT_FIELD = {name: like[(i + 1) % len(like)] for like in LIKE_FIELDS for i, name in enumerate(like)}
+OTHER = {"&&": "||", "||": "&&", "≤": "<", "<": "≤", "nat_lt": "nat_le", "nat_le": "nat_lt", "true": "false",
+         "false": "true"}
+ERROR = re.compile(r"^(?:\./)?specs/([MR])(\d+)_(\w+)\.antt:(\d+):\d+: error: (?:`([^`]*)`: )?(.*)", re.M)
+
+
+class Change(NamedTuple):
+    number: int
+    module: str
+    line: int
+    column: int
+    old: str
+    new: str
+    use: str  # a line that the new text needs, or nothing
+    declared: str
+
+    def __str__(self):
+        name = self.module.replace("Rattle.", "").replace(".specs", "")
+        return f"{name}:{self.line + 1}:{self.column + 1} {self.old!r} -> {self.new!r} in {self.declared}"
+
+
+def uncommented(text):
+    return [COMMENT.sub(lambda found: " " * len(found[0]), line) for line in text.splitlines()]
+
+
+class Module:
+    """A file of definitions, of constants or of rows."""
+
+    def __init__(self, name, crate, text):
+        self.name, self.crate, self.text = name, crate, text
+        self.short = re.sub(r"\W", "_", name.replace("Rattle.", "").replace(".specs.", "."))
+        self.is_constants = name.endswith(".TheConstants")
+        self.uses = [found for line in uncommented(text) if (found := USE.match(line))]
+        self.types = {}  # of each definition
+        lines = uncommented(text)
+        for i, line in enumerate(lines):
+            if found := SIGNATURE.match(line):
+                more = [x.strip() for x in lines[i + 1:i + 4] if x.startswith("    →")]
+                self.types[found[1]] = " ".join([found[2].strip(), *more])
+
+    def clauses(self):
+        """Each line in which something may change: its number, where that begins, the text, whether it stands to the
+        right of a `=`, and what is declared there."""
+        state = declared = None
+        for i, line in enumerate(uncommented(self.text)):
+            if not line.strip():
+                continue
+            if line.startswith((" ", "}")):
+                if state == "record":
+                    found = re.search(r" : ", line)
+                    yield i, found.end() if found else 0, line[found.end() if found else 0:], True, declared
+                elif state == "clause":
+                    yield i, 0, line, True, declared
+            elif found := re.match(r"(?:pub )?(?:record|data) (\w+)", line):
+                state, declared = "record", found[1]
+            elif line.startswith("use ") or SIGNATURE.match(line):
+                state = None
+            else:
+                state, declared = "clause", line.split()[0]
+                found = re.search(r" =( |$)", line)
+                end = found.start() if found else len(line)
+                yield i, 0, line[:end], False, declared
+                if found:
+                    yield i, found.end(), line[found.end():], True, declared
+
+
+def constants_of(crate):
+    """By its module below `declared`, the text of each file of constants, as the toolchain prints it."""
+    sources = TOP / "crates" / crate / "src"
+    digest = hashlib.sha256(b"".join(path.read_bytes() for path in sorted(sources.rglob("*.rt")))).hexdigest()
+    folder = KEPT / crate
+    if not (folder / digest).is_file():
+        print(f"prints the constants of {crate}", flush=True)
+        shutil.rmtree(folder, ignore_errors=True)
+        folder.mkdir(parents=True)
+        command = ["rt", "check", "--generated", str(folder)]
+        subprocess.run(command, cwd=TOP / "crates" / crate, stdout=subprocess.DEVNULL, check=True)
+        (folder / digest).touch()
+    root = folder / f"Rattle-{crate}-specs/declared"
+    for path in sorted(root.rglob("TheConstants.antt")):
+        text = re.sub(r"^pub mod .*\n", "", path.read_text(encoding="utf-8"), flags=re.M)
+        yield ".".join(path.relative_to(root).with_suffix("").parts), text
+
+
+def enums(crates):
+    """The variants of each enum, each with what it holds."""
+    found = {}
+    for crate in crates:
+        for path in (TOP / "crates" / crate / "src").rglob("*.rt"):
+            text = re.sub(r"//.*|#\[[^\]]*\]", "", path.read_text(encoding="utf-8"))
+            for enum in re.finditer(r"\benum (\w+)[^{]*\{(.*?)\n\}", text, re.S):
+                variants = re.findall(r"^ {4}(\w+)\s*(\([^)]*\)|\{[^}]*\})?", enum[2], re.M)
+                found[crate, enum[1]] = [(name, re.sub(r"\s", "", held)) for name, held in variants]
+    return found
+
+
+def after(name, names):
+    """The next one of a list, where there is another."""
+    return names[(names.index(name) + 1) % len(names)] if name in names and len(names) > 1 else None
+
+
+def next_text(text):
+    """A text with its last letter or digit, or else its last character, changed to the next one."""
+    escaped = {"\\n": "\\t", "\\t": "\\r", "\\r": "\\n"}
+    if text in escaped or not text:
+        return escaped.get(text, "a")
+    at = [i for i, c in enumerate(text) if c.isalnum() and text[i - 1:i] != "\\"] or [len(text) - 1]
+    other = {"z": "y", "Z": "Y", "9": "8", "!": " ", "[": "Z"}.get(text[at[-1]], chr(ord(text[at[-1]]) + 1))
+    return text[:at[-1]] + other + text[at[-1] + 1:]
+
+
+class Definitions:
+    """The definitions of all crates that are tried, and their rows."""
+
+    def __init__(self):
+        self.listed = layers.dependencies(TOP)
+        names = list(self.listed)
+        self.crates = [c for c in names[:names.index(TRIED_BELOW)] if (TOP / "crates" / c / "specs").is_dir()]
+        self.enums, self.modules, self.rows = enums(self.crates), {}, {}
+        for crate in self.crates:
+            folder = TOP / "crates" / crate
+            for path in sorted((folder / "specs").rglob("*.antt")):
+                parts = path.relative_to(folder / "specs").with_suffix("").parts
+                if parts not in (("Lib",), ("Inner",)):
+                    self.add(Module(".".join(("Rattle", crate, "specs", *parts)), crate, path.read_text("utf-8")))
+            for path in sorted((folder / "proofs").glob("*Rows.antt")):
+                module = Module(f"Rattle.{crate}.proofs.{path.stem}", crate, path.read_text("utf-8"))
+                self.rows[module.name] = module
+        cited = collections.defaultdict(set)
+        for module in [*self.modules.values(), *self.rows.values()]:
+            for use in module.uses:
+                if use[1].endswith(".TheConstants"):
+                    cited[use[1]].update(use[2].split(", ") if is_changed(module.name) else [])
+        self.cited = cited
+        for crate in sorted({name.split(".")[1] for name in cited}):
+            for module, text in constants_of(crate):
+                self.add(Module(f"Rattle.{crate}.specs.declared.{module}", crate, text))
+        self.below = {name: self.all_below(name, set()) for name in self.modules}
+
+    def add(self, module):
+        self.modules[module.name] = module
+
+    def all_below(self, name, seen):
+        """The modules that one rests on, itself among them."""
+        if name in self.modules and name not in seen:
+            seen.add(name)
+            for use in self.modules[name].uses:
+                self.all_below(use[1], seen)
+        return seen
+
+    def under_rows(self, rows):
+        return set().union(*(self.below.get(use[1], set()) for use in self.rows[rows].uses))
+
+    def changes(self, crates, with_rules):
+        for name, module in self.modules.items():
+            if module.crate in crates and is_changed(name):
+                yield from Changes(self, module, with_rules).all()
+
+
+def is_changed(name):
+    return not NOT_CHANGED.search(name)
+
+
+class Changes:
+    """The changes of one module."""
+
+    def __init__(self, definitions, module, with_rules):
+        self.definitions, self.module, self.with_rules = definitions, module, with_rules
+        self.enum_by_prefix, self.enum_of, self.home = {}, {}, {}
+        for use in module.uses:
+            found = VARIANTS.match(use[1])
+            if found and use[3]:
+                self.enum_by_prefix[use[3]] = found.groups()
+            elif use[2]:
+                for name in use[2].split(", "):
+                    if found:
+                        self.enum_of[name] = (*found.groups(), use[1])
+                    elif use[1] in definitions.modules:
+                        self.home[name] = use[1]
+        self.home.update({name: module.name for name in module.types})
+
+    def all(self):
+        cited = self.definitions.cited[self.module.name]
+        for line, start, text, is_right, declared in self.module.clauses():
+            if declared in WRITTEN_OUT or self.module.is_constants and declared not in cited:
+                continue
+            for found in TOKEN.finditer(text):
+                for old, new, use in self.of_token(found, text, is_right, declared):
+                    yield Change(0, self.module.name, line, start + found.start(), old, new, use, declared)
+
+    def of_token(self, found, text, is_right, declared):
+        """Each text that the token, or more from its place on, may become, with the line of imports that it needs."""
+        token = found[0]
+        if found[1] is not None or found[2] is not None:
+            word = "codes" if found[2] is None else "char"
+            yield token, f'{word} "{next_text(found[1] if found[2] is None else found[2])}"', ""
+        elif found[3]:
+            # a level of types, and what fills an array up
+            if not re.search(r"(Type|\{)\s*$|\(List\.◌∷◌ $", text[:found.start()]) or token != "0":
+                number = int(token.replace("_", ""), 0) + 1
+                yield token, hex(number) if token.startswith("0x") else str(number), ""
+        elif found[4] and not self.module.is_constants:
+            yield from self.of_word(token, is_right, declared)
+        elif self.with_rules and token in OTHER:
+            yield token, OTHER[token], self.prelude(f"◌{OTHER[token]}◌")
+            if token in ("&&", "||") and (condition := first_condition(text[found.end():])):
+                yield token + condition, "", ""
+
+    def of_word(self, word, is_right, declared):
+        first, _, rest = word.partition(".")
+        if first in self.enum_by_prefix and rest:
+            if other := self.next_variant(*self.enum_by_prefix[first], rest):
+                yield word, f"{first}.{other}", ""
+        elif word in self.enum_of:
+            crate, enum, path = self.enum_of[word]
+            if other := self.next_variant(crate, enum, word):
+                yield word, other, "" if other in self.enum_of else f"use {path}.{{{other}}}"
+        elif not is_right or word in ("record", "if", "then", "else"):
+            return
+        elif word in ("true", "false"):
+            yield word, OTHER[word], self.prelude(OTHER[word])
+        elif word in self.home and word != declared:
+            path = self.home[word]
+            types = self.definitions.modules[path].types
+            kind = types.get(word, "Type")
+            if "Type" not in kind and ("→" not in kind or self.with_rules):
+                other = after(word, [name for name, t in types.items() if t == kind and name != declared])
+                if other:
+                    yield word, other, "" if other in self.home else f"use {path}.{{{other}}}"
+        elif self.with_rules and word in ("nat_lt", "nat_le"):
+            yield word, OTHER[word], self.prelude(OTHER[word])
+        elif self.with_rules and word == "not":
+            yield word, "", ""
+        elif self.with_rules and word.rpartition(".")[2] in NEXT_FIELD and rest:
+            yield word, word.rpartition(".")[0] + "." + NEXT_FIELD[word.rpartition(".")[2]], ""
+
+    def next_variant(self, crate, enum, variant):
+        """The next variant that holds the same."""
+        variants = dict(self.definitions.enums.get((crate, enum), []))
+        return after(variant, [name for name, held in variants.items() if held == variants.get(variant)])
+
+    def prelude(self, name):
+        """The line that imports a name of the Prelude, where the module lacks it."""
+        imported = {x for use in uncommented(self.module.text) if use.startswith("use Rattle.std")
+                    for x in re.findall(r"[^\s{},]+", use.partition("{")[2])}
+        return "" if name in imported else f"use Rattle.std.specs.Prelude.{{{name}}}"
+
+
+def first_condition(text):
+    """What stands before the end of a condition, where that ends in this line."""
+    depth = 0
+    for found in END_OF_CONDITION.finditer(text):
+        if found[0] and found[0] in "([{":
+            depth += 1
+        elif depth == 0:
+            return text[:found.start()].rstrip()
+        elif found[0] and found[0] in ")]}":
+            depth -= 1
+    return ""
+
+
+class Probe:
+    """A repository with a crate beside copies of those that it looks at."""
+
+    def __init__(self, definitions, crates, folder):
+        self.definitions, listed = definitions, definitions.listed
+        needed = {*crates, *(name for crate in crates for name in listed[crate])}
+        rows = {crate: sorted(listed[crate]) for crate in listed if crate in needed}
+        (folder / "crates").mkdir()
+        for crate in rows:
+            subprocess.run(["cp", "-a", str(TOP / "crates" / crate), str(folder / "crates" / crate)], check=True)
+        rows[PROBE] = sorted({*rows, *(name for names in rows.values() for name in names)})
+        lines = "".join(f"{crate}: {' '.join(names)}\n" for crate, names in rows.items())
+        (folder / "crates.txt").write_text(lines, encoding="utf-8")
+        shutil.copy(TOP / "HANDLES", folder)
+        self.crate = folder / "crates" / PROBE
+
+    def write(self, name, text):
+        self.names.append(name)
+        (self.crate / "specs" / f"{name}.antt").write_text(text, encoding="utf-8")
+
+    def renamed(self, text, number, changed):
+        """The text with its imports from the copies of a change; constants always have a copy."""
+        def by_copy(found):
+            module = self.definitions.modules.get(found[1])
+            if found[1] in changed:
+                return f"use Rattle.{PROBE}.specs.M{number}_{module.short}"
+            return f"use Rattle.{PROBE}.specs.B_{module.short}" if module and module.is_constants else found[0]
+        return MODULE_OF_USE.sub(by_copy, text)
+
+    def copied(self, module, change):
+        """The module with the change, if it is of this one, and with records that it shares with the code."""
+        lines = module.text.splitlines()
+        if change.module == module.name:
+            line = lines[change.line]
+            rest = line[change.column + len(change.old):]
+            lines[change.line] = line[:change.column] + change.new + rest
+            lines = [change.use, *lines]
+        kept, shared = [], None
+        for line in lines:
+            found = re.match(r"pub record (\w+)", line)
+            if found and found[1] in SHARED and found[1] != change.declared:
+                shared = f"pub use {module.name}.{{{found[1]}}}"
+                kept.insert(0, shared)
+            elif shared and line and not line.startswith(" "):
+                shared = None
+            if not shared:
+                kept.append(line)
+        return "\n".join(kept) + "\n"
+
+    def judge(self, changes, rows_of):
+        """By number, how each change fares: refused, left, or why it does not read."""
+        shutil.rmtree(self.crate, ignore_errors=True)
+        (self.crate / "specs").mkdir(parents=True)
+        (self.crate / "src").mkdir()
+        self.names, uses = [], []
+        for module in self.definitions.modules.values():
+            if module.is_constants:
+                self.write(f"B_{module.short}", module.text)
+        for change in changes:
+            written = set()
+            for rows in rows_of(change):
+                under = self.definitions.under_rows(rows)
+                changed = {name for name in under if change.module in self.definitions.below[name]}
+                if not changed:
+                    continue
+                for name in changed - written:
+                    module = self.definitions.modules[name]
+                    text = self.renamed(self.copied(module, change), change.number, changed)
+                    self.write(f"M{change.number}_{module.short}", text)
+                written |= changed
+                module = self.definitions.rows[rows]
+                name = f"R{change.number}_{module.short}"
+                text = self.renamed(module.text, change.number, changed)
+                self.write(name, f"{text}\npub end_of_{name} : Unit {{0}}\nend_of_{name} = tt\n")
+                uses.append(f"ghost use Rattle.{PROBE}.specs.{name}.{{end_of_{name}}};\n")
+        lib = "".join(f"pub mod {name}\n" for name in sorted(self.names))
+        (self.crate / "specs/Lib.antt").write_text(lib, encoding="utf-8")
+        (self.crate / "src/lib.rt").write_text("#![tactic(auto)]\n\nmod rows;\n\npub use rows::all_rows;\n")
+        (self.crate / "src/rows.rt").write_text("".join(uses) + "\npub fn all_rows() {}\n", encoding="utf-8")
+        command = ["rt", "check", "--only", "all_rows"]
+        ended = subprocess.run(command, cwd=self.crate, stdin=subprocess.DEVNULL, stdout=subprocess.PIPE,
+                               stderr=subprocess.STDOUT, encoding="utf-8", errors="replace")
+        if not re.search(r"^only=1 ", ended.stdout, re.M):
+            sys.exit("the check did not reach the rows:\n" + ended.stdout[-2000:])
+        fates = {change.number: "left" for change in changes}
+        for kind, number, name, line, declared, why in ERROR.findall(ended.stdout):
+            if kind == "M" or not declared:
+                fates[int(number)] = f"unread: {name}:{line}: {declared}: {why}"
+            elif fates[int(number)] == "left":
+                fates[int(number)] = "refused"
+        return fates
+
+
+def main():
+    parser = argparse.ArgumentParser(description="Changes the literals of definitions, and says what no row refuses.")
+    parser.add_argument("crates", nargs="*", metavar="CRATE", help="by default all below sd_run")
+    parser.add_argument("--rules", action="store_true", help="also changes rules")
+    parser.add_argument("--list", action="store_true", help="only prints the changes")
+    parser.add_argument("--only", metavar="WORD", default="", help="only changes with this word in their lines")
+    parser.add_argument("--rows", metavar="CRATE,..", default="", help="the crates whose rows are tried")
+    given = parser.parse_args()
+    definitions = Definitions()
+    unknown = {*given.crates, *filter(None, given.rows.split(","))} - set(definitions.crates)
+    if unknown:
+        parser.error(f"there is no crate {min(unknown)} with definitions below {TRIED_BELOW}")
+    found = definitions.changes(given.crates or definitions.crates, given.rules)
+    changes = [change._replace(number=i) for i, change in enumerate(found) if given.only in str(change)]
+    if given.list:
+        print("\n".join(map(str, changes)))
+        return 0
+
+    def rows_of(change):
+        crates = given.rows.split(",") if given.rows else [definitions.modules[change.module].crate]
+        return [name for name, module in definitions.rows.items() if module.crate in crates]
+
+    crates = {definitions.rows[name].crate for change in changes for name in rows_of(change)}
+    count = collections.Counter()
+    with tempfile.TemporaryDirectory(prefix="literals-") as room:
+        probe = Probe(definitions, crates, pathlib.Path(room))
+        for start in range(0, len(changes), AT_ONCE):
+            part = changes[start:start + AT_ONCE]
+            fates = probe.judge(part, rows_of)
+            for change in part:
+                fate, _, why = fates[change.number].partition(": ")
+                count[fate] += 1
+                if fate != "refused":
+                    print(f"{fate} {change}{': ' + why[:100] if why else ''}", flush=True)
+    print(f"{count['refused']} refused, {count['left']} left, {count['unread']} unread")
+    return 1 if count["left"] else 0
+
+
+if __name__ == "__main__":
+    sys.exit(main())
