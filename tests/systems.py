@@ -501,7 +501,7 @@ def test_in_c(count, native, name, folder, number):
         count.add(program, f"{name}: {source}.c is not built")
     if all(programs.values()):
         # qemu-user does not follow a process that one of several threads forks.
-        words = {source: ["env", "FORKS=0", *SYSTEMS[name].runner, str(program)] for source, program in programs.items()}
+        words = {source: ["env", "FORKS=0", "ROUNDS=2", *SYSTEMS[name].runner, str(program)] for source, program in programs.items()}
         test_calls(count, native, words["calls"], words["runs"], name, number)
         runners = LibraryRunners(count, name, words["objects"])
         runners.test_cases()

@@ -319,7 +319,7 @@ static size_t kept_count;
 static void *repeat(void *unused)
 {
     (void)unused;
-    for (int round = 0; round < ROUNDS; round++) {
+    for (int round = rounds_of(ROUNDS); round > 0; round--) {
         for (size_t i = 0; i < kept_count; i++) {
             uint8_t *cells = block(kept[i].answer.size);
             struct sdtool_outcome o = call(&kept[i].in, cells, kept[i].answer.size);

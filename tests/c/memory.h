@@ -10,6 +10,7 @@
  *   STACK=SIZE     each call runs on a stack of so many bytes, with such a page below it; how much of it the call that
  *                  needed most has used is printed by print_stack
  *   FORKS=0        no process is forked
+ *   ROUNDS=N       each thread makes its calls so many times
  */
 #include <pthread.h>
 #include <stdbool.h>
@@ -121,6 +122,14 @@ static void read_environment(void)
     for (int stream = 0; stream <= 2; stream++)
         _setmode(stream, _O_BINARY);
 #endif
+}
+
+/* How often a thread makes its calls; USUAL where nothing else is asked for. */
+static inline int rounds_of(int usual)
+{
+    const char *rounds = getenv("ROUNDS");
+
+    return rounds == NULL ? usual : (int)strtol(rounds, NULL, 10);
 }
 
 static size_t in_pages(size_t size)

@@ -12,6 +12,8 @@ enum { MOST = 4096 };
 
 static const wchar_t *program;
 static int passed, failed;
+/* What is waited for behind the first piece of an input; null for nothing. */
+static HANDLE reader;
 
 struct ended {
     DWORD status;
@@ -87,7 +89,10 @@ static struct ended run(const wchar_t *words, const char *const *pieces, HANDLE 
     CloseHandle(err[1]);
     for (; pieces != NULL && *pieces != NULL; pieces++) {
         WriteFile(in[1], *pieces, (DWORD)strlen(*pieces), &took, NULL);
-        Sleep(50);
+        if (reader != NULL)
+            WaitForSingleObject(reader, INFINITE);
+        else
+            Sleep(50);
     }
     if (in[1] != NULL)
         CloseHandle(in[1]);
@@ -179,7 +184,7 @@ static void try_faults(const wchar_t *words)
     SECURITY_ATTRIBUTES inherits = {sizeof inherits, NULL, TRUE};
     HANDLE folder = CreateFileW(L".", GENERIC_READ, FILE_SHARE_READ | FILE_SHARE_WRITE, &inherits, OPEN_EXISTING,
                                 FILE_FLAG_BACKUP_SEMANTICS, NULL);
-    HANDLE pipe[2], reader;
+    HANDLE pipe[2];
     DWORD last = 0;
     struct ended ended = run(words, NULL, file_for(GENERIC_WRITE), NULL);
 
@@ -191,8 +196,8 @@ static void try_faults(const wchar_t *words)
     make_pipe(pipe, 1);
     reader = CreateThread(NULL, 0, read_a_line, pipe[0], 0, NULL);
     ended = run(words, pieces, NULL, pipe[1]);
-    WaitForSingleObject(reader, INFINITE);
     GetExitCodeThread(reader, &last);
+    reader = NULL;
     add(last == '\n' && is(&ended, 3, "", "sdtool: error 61 write\n"), "a reader that goes after an answer", &ended);
 }
 
@@ -201,15 +206,18 @@ static void try_console(const wchar_t *words)
 {
     static const char *const pieces[] = {"O:SY\nzz\n", "O:BAG:SY\n", NULL};
     HANDLE input, screen;
+    DWORD mode;
     struct ended ended;
     char rows[4][MOST] = {{0}};
 
     FreeConsole();
-    if (!AllocConsole()) {
-        printf("skipped: a console, error %lu\n", GetLastError());
+    AllocConsole();
+    input = console_of(L"CONIN$");
+    /* Wine gives consoles only where it has a display or a terminal. */
+    if (!GetConsoleMode(input, &mode)) {
+        puts("skipped: there is no console");
         return;
     }
-    input = console_of(L"CONIN$");
     type(input, L"O:SY\rzz\r\x1a\r");
     ended = run(words, NULL, input, NULL);
     add(is(&ended, 1, "O:SY\nerror 20 shape\n", ""), "lines that are typed, and Control-Z at the start of one", &ended);

@@ -190,7 +190,7 @@ static void print_sizes(void)
 static void *repeat(void *unused)
 {
     (void)unused;
-    for (int round = 0; round < ROUNDS; round++) {
+    for (int round = rounds_of(ROUNDS); round > 0; round--) {
         uint8_t *out = block(answers.size + 1);
         uint8_t says[SDTOOL_MOST_MESSAGE];
         struct sdtool_ending e = call(out, answers.size + 1, says, sizeof says);
