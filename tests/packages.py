@@ -33,7 +33,8 @@ LIBRARIES = {"linux-x86_64": "libsdtool.so.0", "linux-aarch64": "libsdtool.so.0"
 # Reads lines of JSON, each the words and the input of a run, and prints one with the answers for each.
 SCRIPT = """
 import base64, json, os, sdtool, sys
-print(json.dumps([sdtool.__file__, sdtool.version(), sorted(os.listdir('.'))]))
+from sdtool import _library
+print(json.dumps([sdtool.__file__, sdtool.version(), sorted(os.listdir('.')), _library._transport.__name__]))
 for line in sys.stdin:
     words, given = json.loads(line)
     answers = sdtool.run(words, base64.b64decode(given))
@@ -82,9 +83,12 @@ def test_answers(count, program, what, python, folder, installed):
     count.add(ended.returncode == 0 and len(found) == len(asked) + 2, f"{what}: {ended.stderr.decode()[-2000:]}")
     if len(found) != len(asked) + 2:
         return
-    file, version, listed = found[0]
-    count.add(str(folder) in file and listed == [] and version == c_library.TOP.joinpath("python/pyproject.toml").read_text(
-        encoding="utf-8").split('version = "')[1].split('"')[0], f"{what}: {found[0]}")
+    file, version, listed, transport = found[0]
+    expected = c_library.TOP.joinpath("python/pyproject.toml").read_text(encoding="utf-8").split('version = "')[1].split('"')[0]
+    count.add(str(folder) in file and listed == [] and version == expected, f"{what}: {found[0]}")
+    # A wheel that has the extension is used by it.
+    has_extension = any(pathlib.Path(file).parent.glob("_native*.so"))
+    count.add(transport == ("sdtool._native" if has_extension else "sdtool._foreign"), f"{what}: {transport}")
     with concurrent.futures.ThreadPoolExecutor(os.cpu_count()) as threads:
         expected = threads.map(lambda asked: c_library.of_program(["sdtool", *asked[0]], asked[1], executable=program), asked)
         for (words, _), (output, message, status), wanted in zip(asked, found[1:-1], expected):
@@ -135,24 +139,31 @@ def test_arm64(count, program, wheel, folder, given):
         problem = downloaded(given)
         count.add(not problem, f"a Python for arm64: {problem}")
     python = ["qemu-aarch64", "-L", given / "root", given / "root/usr/bin/python3.11"]
-    # The same pip as this system's, which is in Python alone.
-    pip = next(pathlib.Path("/usr/share/python-wheels").glob("pip-*.whl"), None)
-    count.add(pip is not None, "there is no pip in /usr/share/python-wheels")
-    target = folder / "arm64"
-    installed = ran([*python, "-m", "pip", "install", "--no-index", "--no-compile", "--target", target, wheel], cwd=folder,
-                    env={**surroundings(), "PYTHONPATH": str(pip)})
-    count.add(installed.returncode == 0, f"pip on arm64: {installed.stdout.decode()}")
+    # The pip of this system, which is in Python alone, says which wheels the other one takes.
+    pip = next(pathlib.Path("/usr/share/python-wheels").glob("pip-*.whl"), "none")
+    tags = "from pip._vendor.packaging.tags import sys_tags; print(*sys_tags(), sep='\\n')"
+    taken = ran([*python, "-c", tags], env={**surroundings(), "PYTHONPATH": str(pip)}).stdout.decode().split()
+    count.add("-".join(wheel.stem.split("-")[2:]) in taken, f"{wheel.name} is none that Python for arm64 takes: {taken[:3]}")
+    target = unpacked(count, wheel, folder)
     test_answers(count, program, wheel.name, python, folder, target)
+
+
+def unpacked(count, wheel, folder):
+    """The folder in which pip unpacks a wheel for another system."""
+    _, _, _, abi, platform = wheel.stem.split("-")
+    target = folder / platform
+    ended = ran([PYTHON, "-m", "pip", "install", "--no-index", "--no-deps", "--no-compile", "--only-binary=:all:", "--platform",
+                 platform, "--abi", abi, "--implementation", "cp", "--python-version", "3.11", "--target", target, wheel],
+                cwd=folder, env=surroundings())
+    count.add(ended.returncode == 0, f"{wheel.name}: {ended.stdout.decode()}")
+    return target
 
 
 def test_unpacked(count, wheel, folder):
     """A wheel for a system without a Python here: pip takes its tag, and it has the library that was tested."""
-    target = folder / "windows"
-    ended = ran([PYTHON, "-m", "pip", "install", "--no-index", "--no-deps", "--only-binary=:all:", "--platform", "win_amd64",
-                 "--target", target, wheel], cwd=folder, env=surroundings())
-    library = target / "sdtool" / LIBRARIES["windows-x86_64"]
-    count.add(ended.returncode == 0 and library.read_bytes() == (SYSTEMS / "windows-x86_64" / library.name).read_bytes(),
-              f"{wheel.name}: {ended.stdout.decode()}")
+    library = unpacked(count, wheel, folder) / "sdtool" / LIBRARIES["windows-x86_64"]
+    expected = (SYSTEMS / "windows-x86_64" / library.name).read_bytes()
+    count.add(library.exists() and library.read_bytes() == expected, f"{wheel.name} has another {library.name}")
     print(f"{wheel.name}: only unpacked, Debian has no Python for Windows")
 
 

@@ -62,6 +62,7 @@ PAGE, SMALL_STACK = 4096, 256 << 10
 STARTS, FAILED_STARTS, STARTS_OF_A_FAILURE = "starts", "failed starts", 500
 LINES_OF_BROWSERS = 2000
 CALL_ROUNDS = 2000
+EACH_OF_LINES = 4  # of those of rows that the slow tests in C get, one in so many
 EACH_OF_FAULTS = 12  # of the faults of a run so many at its ends, and of the others one in so many
 MOST_MORE = 100.0  # microseconds that a call from JavaScript may take beyond one from C: ten times the goal, on a busy machine
 CROSS = {"linux-aarch64": "aarch64-linux-gnu-gcc", "windows-x86_64": "x86_64-w64-mingw32-gcc"}
@@ -271,7 +272,7 @@ def built_for(folder, name, source, options=()):
 def test_calls(count, native, calls, runs, name, number):
     """Calls as c_library.py makes them, by commands that stand for calls.c and runs.c."""
     choices = random.Random(42)
-    rows = c_library.lines_of_rows()
+    rows = [lines[::1 if name == "wasm" else EACH_OF_LINES] for lines in c_library.lines_of_rows()]
     lines = tuple(of_rows + c_library.random_lines(of_rows, number, change, choices)
                   for of_rows, change in zip(rows, (c_library.change_bytes, c_library.change_text)))
     c_library.compare_calls(count, calls, native, lines, name)
@@ -593,7 +594,7 @@ def test_system(count, native, name, folder, files, lines):
     test_limits(count, native, program, name, folder)
     number = min(400, lines)
     if name in CROSS:
-        test_library(count, native, name, folder, files, number)
+        test_library(count, native, name, folder, files, number // 10)
         if name == "windows-x86_64":
             test_stack(count, native, folder, files)
             judge_starts(count, folder)
