@@ -33,7 +33,7 @@ struct dom_sid *dom_sid_parse_talloc(TALLOC_CTX *memory, const char *text);
 enum ndr_err_code ndr_push_security_descriptor(struct ndr_push *to, int flags, const struct security_descriptor *sd);
 enum ndr_err_code ndr_pull_security_descriptor(struct ndr_pull *from, int flags, struct security_descriptor *sd);
 
-enum { MOST_LINE = 1 << 20, MOST_SIDS = 64, MOST_SID = 68, HEADER = 20 };
+enum { MOST_LINE = 1 << 20, MOST_SIDS = SDTOOL_MOST_SIDS, MOST_SID = 68, HEADER = 20 };
 
 static const double LEAST_SECONDS = 0.2;
 

@@ -1,10 +1,10 @@
 #!/usr/bin/env python3
-"""library.py [--descriptors N] [--rounds N]
+"""library.py [--descriptors N] [--rounds N] [--sids N]
 
 Measures one call at a time of libsdtool beside Samba's libraries, from C (library.c) and from Python, all in one run:
-SDDL to a descriptor, a descriptor to SDDL, an access check for a token of 20 SIDs and, from Python, a walk of all ACEs
-that reads their fields. All have the same descriptors, those of a file server that generate.py makes, and have to give the
-same answers.
+SDDL to a descriptor, a descriptor to SDDL, an access check for a token of 20 SIDs (or of as many as --sids says) and, from
+Python, a walk of all ACEs that reads their fields. All have the same descriptors, those of a file server that generate.py
+makes, and have to give the same answers.
 
 Samba's calls work on a structure of its own. 'At hand' is what a call takes with that structure, or with the object of our
 Python module, at hand. 'With bytes' adds reading it from bytes, or writing it to bytes, as files and protocols have
@@ -35,8 +35,13 @@ LEAST_SECONDS = 0.2
 OTHER_PYTHON = "/usr/bin/python3"
 DOMAIN_TEXT = "-".join(["S-1", *map(str, generate.HOME)])
 # A user in groups that descriptors name, and in others that they do not.
-TOKEN = ["S-1-1-0", "S-1-5-11", "S-1-5-4", "S-1-5-32-545",
-         *(f"{DOMAIN_TEXT}-{number}" for number in (1105, 513, *range(40_000, 40_014)))]
+NAMED = ["S-1-1-0", "S-1-5-11", "S-1-5-4", "S-1-5-32-545", f"{DOMAIN_TEXT}-1105", f"{DOMAIN_TEXT}-513"]
+
+
+def token_of(count):
+    return [*NAMED, *(f"{DOMAIN_TEXT}-{number}" for number in range(40_000, 40_000 + count))][:count]
+
+
 WANTED = 0x120089  # FILE_GENERIC_READ
 GENERIC_RIGHTS = 0xf0000000
 JOBS = {"from_sddl": "from SDDL", "to_sddl": "to SDDL", "check": "access check", "walk": "walk of the ACEs"}
@@ -89,15 +94,15 @@ def fields_of_samba(descriptor):
 class Calls:
     """Each call from Python, as a function of an item."""
 
-    def __init__(self, sdtool):
+    def __init__(self, sdtool, sids):
         from samba import NTSTATUSError, security as samba_security
         from samba.dcerpc import security
         from samba.ndr import ndr_pack, ndr_unpack
         token = security.token()
-        token.sids = list(map(security.dom_sid, TOKEN))
-        token.num_sids = len(TOKEN)
+        token.sids = list(map(security.dom_sid, sids))
+        token.num_sids = len(sids)
         domain, domain_of_samba = sdtool.Sid(DOMAIN_TEXT), security.dom_sid(DOMAIN_TEXT)
-        of_samba, ours, check = security.descriptor, sdtool.SecurityDescriptor, sdtool.Checker(sdtool.Token(TOKEN), WANTED)
+        of_samba, ours, check = security.descriptor, sdtool.SecurityDescriptor, sdtool.Checker(sdtool.Token(sids), WANTED)
 
         def is_granted(descriptor):
             try:
@@ -180,6 +185,7 @@ def main():
     parser = argparse.ArgumentParser(description="Measures the library beside Samba's, from C and from Python.")
     parser.add_argument("--descriptors", type=int, default=2000, help="(%(default)s)")
     parser.add_argument("--rounds", type=int, default=9, help="(%(default)s)")
+    parser.add_argument("--sids", type=int, default=20, help="of the token (%(default)s)")
     parser.add_argument("--ctypes", action="store_true", help="Python's calls without the module's extension")
     wanted = parser.parse_args()
     try:
@@ -198,18 +204,19 @@ def main():
     elif subprocess.run([sys.executable, extension, "--extension"], check=False).returncode != 0:
         sys.exit("bench: the extension cannot be built; --ctypes measures without it")
     import sdtool
-    calls = Calls(sdtool)
+    token = token_of(wanted.sids)
+    calls = Calls(sdtool, token)
     with tempfile.TemporaryDirectory() as name:
         folder = pathlib.Path(name)
         program, given = build(folder), folder / "descriptors"
         pairs = list(descriptors(wanted.descriptors))
-        question = " ".join([DOMAIN_TEXT, hex(WANTED), *TOKEN])
+        question = " ".join([DOMAIN_TEXT, hex(WANTED), *token])
         given.write_text("".join(f"{line}\n" for line in [question, *(f"{data.hex()} {text}" for data, text in pairs)]))
         items = [calls.item(data, text) for data, text in pairs]
         calls.compare(items)
         taken = measure(program, given, calls, items, wanted.rounds)
     size = sum(len(data) for data, _ in pairs) / len(pairs)
-    print(f"{len(pairs):,} descriptors of {size:.0f} bytes on average, a token of {len(TOKEN)} SIDs")
+    print(f"{len(pairs):,} descriptors of {size:.0f} bytes on average, a token of {len(token)} SIDs")
     print(f"beside Samba {samba.version}, processor time of a call, medians of {wanted.rounds} rounds; the answers are equal")
     show(taken)
     return 0
