@@ -833,6 +833,57 @@ def test_samba(place: Place) -> None:
                   ("share/a folder/b\nc.txt", "found", "missing")], "inherit, a share")
 
 
+CHECKS = """
+import json, random, sys
+from samba import NTSTATUSError, security as samba_security
+from samba.dcerpc import security
+from sdtool.audit import answers, questions
+chance = random.Random(3)
+domain, everything = "S-1-5-21-1-2-3", 0x1f01ff
+sids = [f"{domain}-1001", f"{domain}-1002", "S-1-5-32-544", "S-1-5-32-545", "S-1-1-0", "S-1-5-11"]
+masks = [0x1f01ff, 0x1200a9, 0x1301bf, 0xd0156, 0x40000, 0x80000, 0x10000, *(1 << place for place in range(9))]
+
+
+def sddl():
+    aces = "".join(f"({chance.choice('AAD')};{chance.choice(['', 'IO', 'OICI', 'ID'])};{chance.choice(masks):#x};;;{chance.choice(sids)})"
+                   for _ in range(chance.randrange(6)))
+    return f"O:{chance.choice(sids)}G:{sids[0]}D:{aces}"
+
+
+def of_samba(descriptor, token):
+    granted = 0
+    for bit in (1 << place for place in range(21) if everything >> place & 1):
+        try:
+            granted |= samba_security.access_check(descriptor, token, bit)
+        except NTSTATUSError:
+            pass
+    return granted
+
+
+texts = [sddl() for _ in range(300)]
+for sid in sids:
+    token, of_token = questions.trustee_token(sid), security.token()
+    held = list(map(security.dom_sid, token.sids))  # the token of Samba keeps no reference
+    of_token.num_sids, of_token.sids = len(held), held
+    print(json.dumps([answers.granted("sddl", texts, token, "file", everything),
+                      answers.granted_by_each(answers.layouts("sddl", texts), token, "file", everything),
+                      [of_samba(security.descriptor.from_sddl(text, security.dom_sid(domain)), of_token) for text in texts]]))
+"""
+
+
+def test_checks(place: Place) -> None:
+    """Rights that trustees get, by runs over many descriptors, by single checks and by Samba."""
+    if subprocess.run([place.python, "-c", "import samba.dcerpc.security"], stderr=subprocess.DEVNULL).returncode:
+        print("skipped: Samba's module for Python is missing (Debian: python3-samba)")
+        return
+    printed = subprocess.run([place.python, "-c", CHECKS], cwd=place.folder, env=place.environment, capture_output=True)
+    told = [json.loads(line) for line in printed.stdout.splitlines()]
+    place.expect((len(told), [len(one) for tokens in told for one in tokens]), (6, [300] * 18), f"checks: {printed.stderr[-500:]!r}")
+    for runs, singles, of_samba in told:
+        place.expect((runs, singles), (of_samba, of_samba), "checks, as Samba makes them")
+    place.count.add(len({mask for _, _, of_samba in told for mask in of_samba}) > 20, "checks that all have one answer")
+
+
 def test_ntfs(place: Place) -> None:
     """The descriptors of a volume that mkntfs makes."""
     mkntfs = shutil.which("mkntfs", path=os.environ["PATH"] + ":/usr/sbin:/sbin")
@@ -963,7 +1014,7 @@ def test_examples(place: Place) -> None:
 
 TESTS = (test_sources, test_damaged_registry, test_tables, test_plain_lines, test_hostile, test_page_report,
          test_can, test_who, test_directory_objects, test_risks, test_accepting, test_diff, test_inherit, test_show, test_cache, test_words,
-         test_scale, test_bar, test_samba, test_ntfs, test_directory_server, test_names_of_sids, test_package, test_examples)
+         test_scale, test_bar, test_samba, test_checks, test_ntfs, test_directory_server, test_names_of_sids, test_package, test_examples)
 
 
 def main() -> int:
