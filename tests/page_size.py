@@ -10,25 +10,29 @@ MOST_BLOCKED = 50  # milliseconds, that a key may wait, on an idle machine
 TRIES = 6  # of what is measured, on a machine that does other things too
 
 
+MOST_OF_A_LINE = 1_049_872  # bytes of SDDL, by docs/FORMAT.md
+
+
 def long_line():
-    """A line of a megabyte, nearly as long as one can be, by fields as long as they may be."""
-    ace = (
-        "(A;"
-        + "OICI" * 40
-        + ";"
-        + "CCDCLCSWRPWPDTLOCRSDRCWDWO" * 6
-        + ";;;S-1-5-21-0000000001-0000000002-0000000003-000000%04d)"
-    )
-    aces, text = [], "O:BAG:SYD:"
-    for number in range(3000):
-        aces.append(ace % (number % 400))
-        if len(text) + sum(map(len, aces)) > 1_048_000 or len(aces) * 36 > 65_000:
-            break
-    return text + "".join(aces[:1800])
+    """A line as long as one can be: its ACEs have flags and rights again and again, and its SIDs zeros."""
+    ace = "(%s;%s;" + "CCDCLCSWRPWPDTLOCRSDRCWDWO" * 6 + ";;;S-1-5-21-0000000001-0000000002-0000000003-000000%04d)"
+    dacl = "".join(ace % ("A", "OICI" * 40, number % 400) for number in range(1800))
+    text, number = f"O:BAG:SYD:{dacl}S:", 0
+    while MOST_OF_A_LINE - len(text) > 800:
+        text += ace % ("AU", "SAFA" * 40, number % 400)
+        number += 1
+    short = "(AU;SA;%s;;;S-1-5-%s1)"
+    left = MOST_OF_A_LINE - len(text)
+    while left > 250:
+        text += short % ("CC" * 60, "")
+        left = MOST_OF_A_LINE - len(text)
+    rest = left - len(short % ("", ""))
+    return text + short % ("CC" * (rest // 2), "0" * (rest % 2))
 
 
 def test_long_line(count, page, given):
     text, measured = long_line(), []
+    count.add(len(text) == MOST_OF_A_LINE, f"a line of {len(text)} bytes")
     answer = line_of(given.program, ["explain", "--from", "sddl"], text)
     aces = answer.split("dacl list ")[1].split("\n")[0]
     while len(measured) < TRIES and not any(one <= MOST_WAITED and most <= MOST_BLOCKED for one, most in measured):
