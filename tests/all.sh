@@ -96,6 +96,7 @@ if "${MAKE:-make}" --no-print-directory program; then
         count tests/c_examples.py
         count tests/python_calls.py "$program"
         count tests/python_objects.py "$program"
+        count tests/python_wheels.py
         count tests/distributed.py "$program"
         count tests/audit.py
         # The page has a module inside that is built for WebAssembly. Where that is there, so has to be the page.
