@@ -106,15 +106,24 @@ class Run {
         if (filter === "all") {
             return null;
         }
-        const found = [];
-        for (const {first, flags} of this.pieces) {
-            flags.forEach((flag, index) => {
-                if (flag & FLAGS[filter]) {
-                    found.push(first + index);
-                }
-            });
+        if (this.known?.filter !== filter || this.known.kept !== this.kept) {
+            this.known = {filter, kept: this.kept, found: this.numbersWith(FLAGS[filter])};
         }
-        return found;
+        return this.known.found;
+    }
+
+    numbersWith(bit) {
+        const found = new Uint32Array(this.kept);
+        let count = 0;
+        for (const {first, flags} of this.pieces) {
+            for (let index = 0; index < flags.length; index += 1) {
+                if ((flags[index] & bit) !== 0) {
+                    found[count] = first + index;
+                    count += 1;
+                }
+            }
+        }
+        return found.slice(0, count);
     }
 
     pieceOf(line) {
