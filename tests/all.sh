@@ -110,8 +110,7 @@ if "${MAKE:-make}" --no-print-directory program; then
         echo "the library is not built, so its tests have not run"
         ((failed += 1))
     fi
-    # Not Windows: of some two thousand programs, wine sometimes fails to start one. Run tests/systems.py for all systems.
-    count tests/systems.py "$program" --only linux-x86_64 linux-aarch64 wasm
+    count tests/systems.py "$program"
     wait "$comparison"
     status=$?
     comparison=
