@@ -48,12 +48,15 @@ entries_from n sids (byte ∷ bytes) = do
 abbrev pub level_of : Request → Option ℕ
 level_of request = if request.has_level then Some request.level else None
 
-unfoldable pub holder_in : List ℕ → List ℕ → Request → Result Holder CallFault
-holder_in sids kinds request =
+unfoldable pub entries_in : List ℕ → List ℕ → Result (List Entry) CallFault
+entries_in sids kinds =
     if nat_lt most_entries (length kinds) then Err (call.Argument which.Entries most_entries)
-    else do
-      entries ← entries_from 0 sids kinds
-      Ok (record { entries = entries; level = level_of request })
+    else entries_from 0 sids kinds
+
+abbrev pub holder_in : List ℕ → List ℕ → Request → Result Holder CallFault
+holder_in sids kinds request = do
+  entries ← entries_in sids kinds
+  Ok (record { entries = entries; level = level_of request })
 
 -- 2. What is asked.
 
@@ -114,6 +117,16 @@ told (Err fault) = record {
 abbrev pub untold : VerdictOutcome
 untold = record { fault = 72; part = 0; other_part = 0; argument = 0; entry = 0; mask = 0; granted = false }
 
--- Memory may be refused; else the outcome tells the answer.
+-- what is told where memory was refused for a token: a fault all the same
+abbrev pub told_without_memory : Result Verdict CallFault → VerdictOutcome
+told_without_memory (Ok verdict) = untold
+told_without_memory (Err fault) = told (Err fault)
+
+-- Memory may be refused for a verdict, and for nothing else.
 abbrev pub Tells : Result Verdict CallFault → VerdictOutcome → Type 0
-Tells answer outcome = (outcome ≡ told answer) ⊎ (outcome ≡ untold)
+Tells answer outcome = (outcome ≡ told answer) ⊎ (outcome ≡ told_without_memory answer)
+
+-- a fault alone
+abbrev pub fault_of : {A : Type 0} → Result A CallFault → Result (Unit {0}) CallFault
+fault_of (Ok value) = Ok tt
+fault_of (Err fault) = Err fault

@@ -1,14 +1,16 @@
 //! The call that checks access.
 
-ghost use Rattle.std.specs.Prelude.{◌≡◌, []};
-ghost use Rattle.sd_call_check.specs.Checks.{Tells, ask_in, checked, object_in, verdict_on};
+ghost use Rattle.std.specs.Prelude.{◌≡◌, [], IfOk, MatchResult};
+ghost use Rattle.sd_call_check.specs.Checks.{Tells, ask_in, checked, fault_of, object_in, told, told_without_memory};
+ghost use Rattle.sd_call_check.specs.Checks.{verdict_on};
 
 use crate::request::Request;
-use crate::token::give_holder;
+use crate::token::{check_entries, give_holder};
 use crate::verdict::{VerdictOutcome, told, untold};
 use sd_ace::guid_read;
 use sd_call::{Argument, CallFault, descriptor_in, mapping_in, optional_sid_in};
 use sd_check::{Ask, Privileges, Verdict, check};
+use sd_sink::NoMemory;
 use sd_token::Token;
 use std::alloc::Global;
 use uuid::Uuid;
@@ -25,22 +27,69 @@ pub fn check_access(
 ) -> VerdictOutcome
     ensures { Tells (checked bytes.now sids.now kinds.now object.now principal_self.now request.now) result }
 {
-    let Ok(mut token) = Token::new(alloc) else {
-        return untold();
-    };
-    told(check_by(
-        &mut token,
+    check_with(
+        Token::new(alloc),
         bytes,
         sids,
         kinds,
         object,
         principal_self,
         request,
-    ))
+    )
+}
+
+// The same with a new token. Where memory was refused for one, a fault of the arguments is told all the same.
+fn check_with(
+    token: Result<Token, NoMemory>,
+    bytes: &[u8],
+    sids: &[u8],
+    kinds: &[u8],
+    object: &[u8],
+    principal_self: &[u8],
+    request: &Request,
+) -> VerdictOutcome
+    requires { IfOk token (λ t. t.holder.entries ≡ []) }
+    ensures { MatchResult token
+        (λ _. result ≡ told (checked bytes.now sids.now kinds.now object.now principal_self.now request.now))
+        (λ _. result
+            ≡ told_without_memory (checked bytes.now sids.now kinds.now object.now principal_self.now request.now)) }
+{
+    match token {
+        Ok(mut token) => told(check_by(
+            &mut token,
+            bytes,
+            sids,
+            kinds,
+            object,
+            principal_self,
+            request,
+        )),
+        Err(_) => match check_arguments(bytes, sids, kinds, object, principal_self, request) {
+            Ok(()) => untold(),
+            Err(fault) => told(Err(fault)),
+        },
+    }
+}
+
+// Why there is no verdict, told without a token.
+#[tactic(auto, unfolding(crate::specs::Checks::verdict_on))]
+fn check_arguments(
+    bytes: &[u8],
+    sids: &[u8],
+    kinds: &[u8],
+    object: &[u8],
+    principal_self: &[u8],
+    request: &Request,
+) -> Result<(), CallFault>
+    ensures { result ≡ fault_of (checked bytes.now sids.now kinds.now object.now principal_self.now request.now) }
+{
+    check_entries(sids, kinds)?;
+    ask_in(request, object, principal_self)?;
+    descriptor_in(bytes)?;
+    Ok(())
 }
 
 // The verdict, for a new token that gets the SIDs.
-#[tactic(auto, unfolding(crate::specs::Checks::checked))]
 fn check_by(
     token: &mut Token,
     bytes: &[u8],

@@ -8,5 +8,5 @@ mod verdict;
 
 pub use access::{ask_in, check_access, verdict_on};
 pub use request::Request;
-pub use token::give_holder;
+pub use token::{check_entries, give_holder};
 pub use verdict::{VerdictOutcome, told, untold};

@@ -2,7 +2,7 @@
 
 ghost use Rattle.std.specs.Prelude.{◌≡◌, ◌≤◌, ◌+◌, ◌++◌, [], length, MatchResult, Ok, Err};
 ghost use Rattle.sd_text.specs.Limits.{most_entries};
-ghost use Rattle.sd_call_check.specs.Checks.{entries_from, holder_in, kind_in};
+ghost use Rattle.sd_call_check.specs.Checks.{entries_from, entries_in, fault_of, holder_in, kind_in};
 
 use crate::request::Request;
 use sd_call::{Argument, CallFault};
@@ -11,7 +11,7 @@ use sd_text::MOST_ENTRIES;
 use sd_token::{EntryKind, Token};
 
 /// Gives a new token its SIDs, one after the other, of which each has a byte of `kinds`, and its level.
-#[tactic(auto, unfolding(crate::specs::Checks::holder_in))]
+#[tactic(auto, unfolding(crate::specs::Checks::entries_in))]
 pub fn give_holder(
     token: &mut Token,
     sids: &[u8],
@@ -61,6 +61,40 @@ fn add_entries(token: &mut Token, sids: &[u8], kinds: &[u8]) -> Result<(), CallF
     } else {
         Err(CallFault::Argument(Argument::Sids, n))
     }
+}
+
+/// Whether these are the entries of a token, told without one.
+#[tactic(auto, unfolding(crate::specs::Checks::entries_in))]
+pub fn check_entries(sids: &[u8], kinds: &[u8]) -> Result<(), CallFault>
+    ensures { result ≡ fault_of (entries_in sids.now kinds.now) }
+{
+    if kinds.len() <= MOST_ENTRIES {
+        return read_entries(sids, kinds);
+    }
+    Err(CallFault::Argument(Argument::Entries, MOST_ENTRIES))
+}
+
+// Reads the SIDs, one after the other.
+#[tactic(auto, using(crate::proofs::TokenLemmas::sid_fits))]
+fn read_entries(sids: &[u8], kinds: &[u8]) -> Result<(), CallFault>
+    ensures { result ≡ fault_of (entries_from 0 sids.now kinds.now) }
+{
+    let mut n = 0;
+    let mut sids_left = sids;
+    let mut kinds_left = kinds;
+    while let Some((byte, later)) = kinds_left.split_first() {
+        let _ = kind_in(*byte, n)?;
+        match Sid::read(sids_left) {
+            Some((_, size)) => sids_left = &sids_left[size..],
+            None => return Err(CallFault::Argument(Argument::Sids, n)),
+        }
+        kinds_left = later;
+        n += 1;
+    }
+    if !sids_left.is_empty() {
+        return Err(CallFault::Argument(Argument::Sids, n));
+    }
+    Ok(())
 }
 
 // The kind of the entry with this number.

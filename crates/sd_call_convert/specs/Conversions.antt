@@ -17,11 +17,18 @@ use Rattle.sd_call_convert.specs.declared.printing.Named.{Named}
 use Rattle.sd_call_convert.specs.declared.printing.Text.{Text}
 use Rattle.sd_call_convert.specs.declared.printing.Text.TheVariants as text
 
+-- the domain under which a text is read, if the text is not too long
+unfoldable pub read_under : List ℕ → Option SecurityId → Result (Option SecurityId) CallFault
+read_under text domain = if nat_lt most_sddl_text (length text) then Err (Line line.TooLong) else Ok domain
+
+abbrev pub domain_for : List ℕ → List ℕ → Result (Option SecurityId) CallFault
+domain_for text domain = do
+  named ← domain_in domain
+  read_under text named
+
 -- what a text means
-unfoldable pub text_in : Option SecurityId → List ℕ → Result Descriptor CallFault
-text_in domain text =
-    if nat_lt most_sddl_text (length text) then Err (Line line.TooLong)
-    else fault_as (λ fault. Line (line.Sddl fault)) (means text domain)
+abbrev pub text_in : Option SecurityId → List ℕ → Result Descriptor CallFault
+text_in domain text = fault_as (λ fault. Line (line.Sddl fault)) (means text domain)
 
 -- a text of a descriptor
 abbrev pub text_of : Text → Named → List ℕ
@@ -58,5 +65,5 @@ laid_out (Err fault) = Err fault
 
 abbrev pub from_sddl : List ℕ → List ℕ → Result (List ℕ) CallFault
 from_sddl text domain = do
-  named ← domain_in domain
+  named ← domain_for text domain
   laid_out (text_in named text)

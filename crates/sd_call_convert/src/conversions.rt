@@ -1,11 +1,11 @@
 //! The calls that convert descriptors.
 
-ghost use Rattle.std.specs.Prelude.{◌≡◌, IfErr, codes};
+ghost use Rattle.std.specs.Prelude.{◌≡◌, MatchResult, codes};
 ghost use Rattle.std.specs.Option.{option_copied};
 ghost use Rattle.sd_view.specs.Layout.{layout};
-ghost use Rattle.sd_call.specs.Arguments.{domain_in};
-ghost use Rattle.sd_call.specs.Outcomes.{Answers, AnswersWithin, Gives, failed};
-ghost use Rattle.sd_call_convert.specs.Conversions.{explained, from_sddl, laid_out, normalized, text_in, to_sddl};
+ghost use Rattle.sd_call.specs.Outcomes.{Answers, AnswersWithin, Gives, Refused};
+ghost use Rattle.sd_call_convert.specs.Conversions.{domain_for, explained, from_sddl, laid_out, normalized, text_in};
+ghost use Rattle.sd_call_convert.specs.Conversions.{to_sddl};
 
 use crate::printing::{Text, give_text, named_in};
 use sd_answer::LineFault;
@@ -15,6 +15,7 @@ use sd_call::{
 };
 use sd_sddl_reader::read_sddl;
 use sd_sid::Sid;
+use sd_sink::NoMemory;
 use sd_text::MOST_SDDL_TEXT;
 use sd_view::{SdView, put_layout, view_written};
 use std::alloc::Global;
@@ -58,27 +59,46 @@ pub fn normalize(bytes: &[u8], output: &mut [u8]) -> Outcome
 
 /// Gives the bytes of the descriptor that a text of SDDL means.
 pub fn from_sddl(alloc: Global, text: &[u8], domain: &[u8], output: &mut [u8]) -> Outcome
-    ensures answers { AnswersWithin (from_sddl text.now domain.now) output.old output.new result }
-    // A wrong domain is told before memory is asked for.
-    ensures told_first { IfErr (domain_in domain.now) (λ fault. result ≡ failed fault) }
+    // A wrong domain and a text that is too long are told before memory is asked for.
+    ensures { AnswersWithin (domain_for text.now domain.now) (from_sddl text.now domain.now)
+        output.old output.new result }
 {
-    let domain = match domain_in(domain) {
-        Ok(domain) => domain,
-        Err(fault) => return failed(fault),
-    };
-    match SdBuf::new(alloc) {
-        Ok(mut buf) => give_meant(text, domain.as_ref(), &mut buf, output),
-        Err(_) => no_memory(),
+    match domain_for(text, domain) {
+        Ok(domain) => give_meant(text, domain.as_ref(), SdBuf::new(alloc), output),
+        Err(fault) => failed(fault),
     }
 }
 
-// Gives the layout of what a text means. It is read into the buffer, whatever that holds.
-fn give_meant(text: &[u8], domain: Option<&Sid>, buf: &mut SdBuf, output: &mut [u8]) -> Outcome
-    ensures { Answers (laid_out (text_in (option_copied domain.entry) text.now)) output.old output.new result }
+// The domain under which a text is read, if the text is not too long.
+#[tactic(auto, unfolding(crate::specs::Conversions::read_under))]
+fn domain_for(text: &[u8], domain: &[u8]) -> Result<Option<Sid>, CallFault>
+    ensures { result ≡ domain_for text.now domain.now }
 {
-    match read_text(text, domain, buf) {
-        Ok(view) => give_layout(&view, output),
-        Err(fault) => failed(fault),
+    let domain = domain_in(domain)?;
+    if text.len() > MOST_SDDL_TEXT {
+        return Err(CallFault::Line(LineFault::TooLong));
+    }
+    Ok(domain)
+}
+
+// Gives the layout of what a text means. It is read into the buffer, whatever that holds, unless memory was refused for
+// one.
+fn give_meant(
+    text: &[u8],
+    domain: Option<&Sid>,
+    buf: Result<SdBuf, NoMemory>,
+    output: &mut [u8],
+) -> Outcome
+    ensures { MatchResult buf
+        (λ _. Answers (laid_out (text_in (option_copied domain.entry) text.now)) output.old output.new result)
+        (λ _. Refused output.old output.new result) }
+{
+    match buf {
+        Ok(mut buf) => match read_text(text, domain, &mut buf) {
+            Ok(view) => give_layout(&view, output),
+            Err(fault) => failed(fault),
+        },
+        Err(_) => no_memory(),
     }
 }
 
@@ -99,7 +119,6 @@ fn give_layout(view: &SdView<'_>, output: &mut [u8]) -> Outcome
 }
 
 // Reads a text into the buffer, and views there the descriptor that the text means.
-#[tactic(auto, unfolding(crate::specs::Conversions::text_in))]
 fn read_text<'a>(
     text: &[u8],
     domain: Option<&Sid>,
@@ -107,9 +126,6 @@ fn read_text<'a>(
 ) -> Result<SdView<'a>, CallFault>
     ensures { result ≡ text_in (option_copied domain.entry) text.now }
 {
-    if text.len() > MOST_SDDL_TEXT {
-        return Err(CallFault::Line(LineFault::TooLong));
-    }
     match read_sddl(text, domain, buf) {
         Ok(()) => Ok(view_written(buf.bytes())),
         Err(fault) => Err(CallFault::Line(LineFault::Sddl(fault))),

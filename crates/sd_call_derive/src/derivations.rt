@@ -1,7 +1,7 @@
 //! The call that derives descriptors.
 
-ghost use Rattle.std.specs.Prelude.{◌≡◌, IfErr};
-ghost use Rattle.sd_call.specs.Outcomes.{Answers, AnswersWithin, failed};
+ghost use Rattle.std.specs.Prelude.{◌≡◌, MatchResult};
+ghost use Rattle.sd_call.specs.Outcomes.{Answers, AnswersWithin, Refused};
 ghost use Rattle.sd_call_derive.specs.Derivations.{creator_in, derivation, new_layout, origin_in, plan_in, target_in};
 
 use sd_answer::LineFault;
@@ -10,6 +10,7 @@ use sd_call::{
     Argument, CallFault, Outcome, descriptor_in, failed, give, mapping_in, no_memory, sid_in,
 };
 use sd_inherit::{Plan, Target, derive};
+use sd_sink::NoMemory;
 use sd_view::SdView;
 use std::alloc::Global;
 
@@ -24,19 +25,13 @@ pub fn derive_new(
     mapping: u32,
     output: &mut [u8],
 ) -> Outcome
-    ensures answers { AnswersWithin (derivation parent.now creator.now owner.now group.now kind mapping)
-        output.old output.new result }
     // What cannot be derived from is told before memory is asked for.
-    ensures told_first { IfErr (origin_in parent.now creator.now owner.now group.now kind mapping)
-        (λ fault. result ≡ failed fault) }
+    ensures { AnswersWithin (origin_in parent.now creator.now owner.now group.now kind mapping)
+        (derivation parent.now creator.now owner.now group.now kind mapping) output.old output.new result }
 {
-    let origin = match origin_in(parent, creator, owner, group, kind, mapping) {
-        Ok(origin) => origin,
-        Err(fault) => return failed(fault),
-    };
-    match SdBuf::new(alloc) {
-        Ok(mut buf) => give_derived(&origin, &mut buf, output),
-        Err(_) => no_memory(),
+    match origin_in(parent, creator, owner, group, kind, mapping) {
+        Ok(origin) => give_derived(&origin, SdBuf::new(alloc), output),
+        Err(fault) => failed(fault),
     }
 }
 
@@ -70,8 +65,24 @@ fn origin_in<'a>(
     })
 }
 
+// Gives the new descriptor, unless memory was refused for a buffer.
+fn give_derived(
+    origin: &Origin<'_>,
+    buf: Result<SdBuf, NoMemory>,
+    output: &mut [u8],
+) -> Outcome
+    ensures { MatchResult buf
+        (λ _. Answers (new_layout origin.now) output.old output.new result)
+        (λ _. Refused output.old output.new result) }
+{
+    match buf {
+        Ok(mut buf) => give_derived_in(origin, &mut buf, output),
+        Err(_) => no_memory(),
+    }
+}
+
 // Gives the new descriptor. It is built in the buffer, whatever that holds.
-fn give_derived(origin: &Origin<'_>, buf: &mut SdBuf, output: &mut [u8]) -> Outcome
+fn give_derived_in(origin: &Origin<'_>, buf: &mut SdBuf, output: &mut [u8]) -> Outcome
     ensures { Answers (new_layout origin.now) output.old output.new result }
 {
     match derive(&origin.parent, origin.creator.as_ref(), &origin.plan, buf) {

@@ -12,7 +12,7 @@ use Rattle.sd_call.specs.declared.outcome.CallFault.{CallFault}
 use Rattle.sd_call_check.specs.Checks.{ask_in, holder_in}
 use Rattle.sd_call_check.specs.declared.request.Request.{Request}
 use Rattle.sd_call_check.specs.declared.verdict.VerdictOutcome.{VerdictOutcome}
-use Rattle.sd_call_many.specs.Many.{AnswersMany, asker_in, judged, judged_by}
+use Rattle.sd_call_many.specs.Many.{Judges, asker_in, judged, judged_by}
 use Rattle.sd_call_many.specs.declared.bytes.Bytes.{Bytes}
 
 -- one more is written
@@ -54,16 +54,13 @@ map_same f g same [] = refl
 map_same f g same (d ∷ ds) = ap (λ (v : VerdictOutcome). v ∷ map f ds) (same d) ∙ ap (λ (vs : List VerdictOutcome). g d ∷ vs) (map_same f g same ds)
 
 pub answered : (ds : List Bytes) (sids kinds object principal_self : List ℕ) (request : Request) (holder : Holder)
-    (ask : Asked) (old new : List VerdictOutcome) (outcome : Outcome) → length ds ≤ length old
-    → asker_in sids kinds object principal_self request ≡ Ok (holder, ask) → outcome ≡ done (length ds)
+    (ask : Asked) (old new : List VerdictOutcome) (outcome : Outcome) → asker_in sids kinds object principal_self request ≡ Ok (holder, ask) → outcome ≡ done (length ds)
     → new ≡ map (judged_by holder ask) ds ++ drop (length ds) old
-    → AnswersMany ds sids kinds object principal_self request old new outcome
-answered ds sids kinds object principal_self request holder ask old new outcome room e is written = record {
-  short = λ h. absurd (omega arith);
-  fits = λ h. inl (rw e (
-    is,
-    written ∙ ap (λ (vs : List VerdictOutcome). vs ++ drop (length ds) old)
-        (map_same (judged_by holder ask) (judged sids kinds object principal_self request)
-        (as_by_itself sids kinds object principal_self request holder ask e) ds),
-  ));
-}
+    → Judges ds (judged sids kinds object principal_self request) (asker_in sids kinds object principal_self request)
+    old new outcome
+answered ds sids kinds object principal_self request holder ask old new outcome e is written = rw e (
+  is,
+  written ∙ ap (λ (vs : List VerdictOutcome). vs ++ drop (length ds) old)
+      (map_same (judged_by holder ask) (judged sids kinds object principal_self request)
+      (as_by_itself sids kinds object principal_self request holder ask e) ds),
+)

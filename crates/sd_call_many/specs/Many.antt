@@ -35,11 +35,16 @@ Judges descriptors judge (Ok asker) old new outcome = (outcome ≡ done (length 
     × (new ≡ map judge descriptors ++ drop (length descriptors) old)
 Judges descriptors judge (Err fault) old new outcome = (outcome ≡ failed fault) × (new ≡ old)
 
--- Memory may be refused, but not if there is no room for all verdicts; then nothing is written either.
+-- The same where memory was refused for a token: a fault is told all the same, and nothing is written.
+abbrev pub JudgesNone : Result (Holder × Asked) CallFault → List VerdictOutcome → List VerdictOutcome → Outcome → Type 0
+JudgesNone (Ok asker) old new outcome = (outcome ≡ no_memory) × (new ≡ old)
+JudgesNone (Err fault) old new outcome = (outcome ≡ failed fault) × (new ≡ old)
+
+-- Memory may be refused for verdicts that there is room for, and for nothing else.
 pub record AnswersMany (descriptors : List Bytes) (sids kinds object principal_self : List ℕ) (request : Request)
     (old new : List VerdictOutcome) (outcome : Outcome) : Type 0 where
   pub short : length old < length descriptors → (outcome ≡ too_small (length descriptors)) × (new ≡ old)
   pub fits : length descriptors ≤ length old
       → Judges descriptors (judged sids kinds object principal_self request)
       (asker_in sids kinds object principal_self request) old new outcome
-      ⊎ ((outcome ≡ no_memory) × (new ≡ old))
+      ⊎ JudgesNone (asker_in sids kinds object principal_self request) old new outcome

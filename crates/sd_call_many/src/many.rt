@@ -1,12 +1,14 @@
 //! One token and one request, and many descriptors.
 
-ghost use Rattle.std.specs.Prelude.{◌≡◌, ◌≤◌, ◌++◌, [], length, drop, map, Ok, MatchResult};
-ghost use Rattle.sd_call_many.specs.Many.{AnswersMany, asker_in, judged_by};
+ghost use Rattle.std.specs.Prelude.{◌≡◌, ◌≤◌, ◌++◌, [], length, drop, map, IfOk, Ok, MatchResult};
+ghost use Rattle.sd_call_check.specs.Checks.{fault_of};
+ghost use Rattle.sd_call_many.specs.Many.{AnswersMany, Judges, JudgesNone, asker_in, judged, judged_by};
 
 use crate::bytes::Bytes;
 use sd_call::{CallFault, Outcome, done, failed, no_memory, too_small};
-use sd_call_check::{Request, VerdictOutcome, ask_in, give_holder, told, verdict_on};
+use sd_call_check::{Request, VerdictOutcome, ask_in, check_entries, give_holder, told, verdict_on};
 use sd_check::Ask;
+use sd_sink::NoMemory;
 use sd_token::Token;
 use std::alloc::Global;
 
@@ -27,16 +29,66 @@ pub fn check_many(
     if descriptors.len() > verdicts.len() {
         return too_small(descriptors.len());
     }
-    let Ok(mut token) = Token::new(alloc) else {
-        return no_memory();
-    };
-    match asker_in(&mut token, sids, kinds, object, principal_self, request) {
-        Ok(ask) => {
-            judge(descriptors, &mut token, &ask, verdicts);
-            done(descriptors.len())
-        }
-        Err(fault) => failed(fault),
+    judge_with(
+        Token::new(alloc),
+        descriptors,
+        sids,
+        kinds,
+        object,
+        principal_self,
+        request,
+        verdicts,
+    )
+}
+
+// The same with a new token. Where memory was refused for one, a fault of the arguments is told all the same.
+fn judge_with(
+    token: Result<Token, NoMemory>,
+    descriptors: &[Bytes<'_>],
+    sids: &[u8],
+    kinds: &[u8],
+    object: &[u8],
+    principal_self: &[u8],
+    request: &Request,
+    verdicts: &mut [VerdictOutcome],
+) -> Outcome
+    requires new { IfOk token (λ t. t.holder.entries ≡ []) }
+    requires room { length descriptors.now ≤ length verdicts.old }
+    ensures { MatchResult token
+        (λ _. Judges descriptors.now (judged sids.now kinds.now object.now principal_self.now request.now)
+            (asker_in sids.now kinds.now object.now principal_self.now request.now) verdicts.old verdicts.new result)
+        (λ _. JudgesNone (asker_in sids.now kinds.now object.now principal_self.now request.now)
+            verdicts.old verdicts.new result) }
+{
+    match token {
+        Ok(mut token) => match asker_in(&mut token, sids, kinds, object, principal_self, request) {
+            Ok(ask) => {
+                judge(descriptors, &mut token, &ask, verdicts);
+                done(descriptors.len())
+            }
+            Err(fault) => failed(fault),
+        },
+        Err(_) => match check_asker(sids, kinds, object, principal_self, request) {
+            Ok(()) => no_memory(),
+            Err(fault) => failed(fault),
+        },
     }
+}
+
+// Why nothing is asked, told without a token.
+#[tactic(auto, unfolding(crate::specs::Many::asker_in))]
+fn check_asker(
+    sids: &[u8],
+    kinds: &[u8],
+    object: &[u8],
+    principal_self: &[u8],
+    request: &Request,
+) -> Result<(), CallFault>
+    ensures { result ≡ fault_of (asker_in sids.now kinds.now object.now principal_self.now request.now) }
+{
+    check_entries(sids, kinds)?;
+    let _ = ask_in(request, object, principal_self)?;
+    Ok(())
 }
 
 // Gives a new token its SIDs, and reads what is asked.

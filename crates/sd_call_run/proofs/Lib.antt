@@ -1,3 +1,3 @@
-pub mod CellsLemmas
+pub mod BatchLemmas
 pub mod RunLemmas
 pub mod WordsLemmas

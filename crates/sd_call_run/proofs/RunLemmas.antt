@@ -1,110 +1,106 @@
--- What the devices took, however the program ends.
-use Rattle.std.proofs.Common.{◌≡◌, ◌≢◌, inl, inr, ℕ, List, [], ◌++◌, Option, None, Some, Result, Ok, Err, ap, sym, ◌∙◌}
-use Rattle.std.proofs.Common.{append-nil, codes, refl}
-use Rattle.std.specs.Io.KnownBytes.{Appends}
-use Rattle.clap.specs.Words.{Text}
-use Rattle.sd_answer.specs.declared.job.Task.{Task}
-use Rattle.sd_command.specs.Endings.{EndsBy, EndsSettled, EndsWithoutMemory, Says, SaysOf, Told, run_line}
-use Rattle.sd_command.specs.Settings.{Settings, settings_of}
-use Rattle.sd_command.specs.Usage.{fault_line, usage_line}
+-- The endings of a batch.
+use Rattle.std.proofs.Common.{◌≡◌, ◌≢◌, ℕ, List, [], ◌∷◌, Bool, true, false, Option, Some, None, Result, Ok, Err, inl, inr, refl, sym}
+use Rattle.std.proofs.Common.{subst, ◌∙◌, if◌then◌else◌, length, codes, take}
+use Rattle.clap.specs.Words.{Text, takes}
+use Rattle.sd_answer.specs.Answer.{is_error}
+use Rattle.std.specs.List.{list_any}
+use Rattle.sd_command.specs.CommandLine.{line}
+use Rattle.sd_command.specs.Endings.{run_line}
+use Rattle.sd_command.specs.Preparing.{PreparesBy, StopsTaken}
+use Rattle.sd_command.specs.Settings.{Settings}
+use Rattle.sd_command.specs.declared.parse.Refusal.TheVariants.{Help, NoMemory, Usage}
+use Rattle.sd_command.specs.declared.program.Prepared.{Prepared}
+use Rattle.sd_command.specs.declared.program.Stop.{Stop}
+use Rattle.sd_command.specs.declared.program.Stop.TheVariants as stop
 use Rattle.sd_command.specs.declared.settings.UsageFault.{UsageFault}
-use Rattle.sd_run.specs.Outcome.{Outcome}
-use Rattle.sd_run.specs.Told.{DrainTold, RunTold}
-use Rattle.sd_run.specs.declared.engine.Report.{Report}
-use Rattle.sd_run.specs.declared.engine.RunFault.{RunFault}
-use Rattle.sd_run.specs.declared.engine.RunFault.TheVariants.{Read, TooManyReads, Write}
-use Rattle.sd_call_run.specs.Runs.{EndsOn}
+use Rattle.sd_run.specs.declared.engine.RunFault.TheVariants.{Write}
+use Rattle.sd_call_run.specs.Inner.Batches.{Batched, EndsPrepared, StopsBehind}
+use Rattle.sd_call_run.specs.Runs.{EndsBehind, EndsBy, EndsOn, EndsRun, EndsSettled, EndsTaken, EndsWithoutMemory, Shows}
+use Rattle.sd_call_run.specs.declared.batch.Batch.{Batch}
+use Rattle.sd_call_run.specs.declared.run.Ending.{Ending}
 
--- a drain took some bytes more
-abbrev pub Grew : List ℕ → DrainTold → Type 0
-Grew before told' = (bytes : List ℕ) × (told'.taken ≡ Some (before ++ bytes))
+ends-all : (settings : Settings) (front others : List (List ℕ)) (room : ℕ) (message : List ℕ) (batch : Batch)
+    (ending : Ending) → StopsBehind settings front others room batch.all → batch.all ≡ true
+    → (ending.status ≡ if list_any (is_error settings.task settings.holder) front then 1 else 0)
+    → ending.message_length ≡ 0
+    → EndsBehind settings front others room message ending
+ends-all settings front [] room message batch ending stops all is none = (is, none)
+ends-all settings front (next ∷ others) room message batch ending stops all is none =
+    let bad : true ≡ false = sym all ∙ stops.0 in absurd (cc)
 
-grew_by : (before : List ℕ) (old new : Option (List ℕ)) (bytes : List ℕ) → old ≡ Some before → Appends old new bytes
-    → new ≡ Some (before ++ bytes)
-grew_by before None new bytes is h = cc
-grew_by before (Some xs) None bytes is h = absurd h
-grew_by before (Some xs) (Some ys) bytes is h = cc
+ends-cut : (settings : Settings) (front others : List (List ℕ)) (room : ℕ) (message : List ℕ) (batch : Batch)
+    (ending : Ending) → StopsBehind settings front others room batch.all → batch.all ≡ false → ending.status ≡ 3
+    → Shows (run_line Write) message ending.message_length → EndsBehind settings front others room message ending
+ends-cut settings front [] room message batch ending stops cut is says =
+    let bad : false ≡ true = sym cut ∙ stops in absurd (cc)
+ends-cut settings front (next ∷ others) room message batch ending stops cut is says = (is, stops.1, says)
 
-grew_by_none : (before : List ℕ) (told told' : DrainTold) → told.taken ≡ Some before → told' ≡ told → Grew before told'
-grew_by_none before told told' is same =
-    ([], ap (λ (t : DrainTold). t.taken) same ∙ is ∙ ap (λ (xs : List ℕ). Some xs) (sym (append-nil before)))
+-- all lines are answered
+pub ran-all : (settings : Settings) (input output message : List ℕ) (batch : Batch) (ending : Ending)
+    → Batched settings input output batch → batch.all ≡ true → ending.length ≡ batch.length
+    → ending.status ≡ (if batch.faulty then 1 else 0) → ending.message_length ≡ 0
+    → EndsRun settings input output message ending
+ran-all settings input output message batch ending b all same is none = record {
+  front = b.front;
+  others = b.others;
+  split = b.split;
+  count = same ∙ b.count;
+  written = rw same b.written;
+  ends = ends-all settings b.front b.others (length output) message batch ending b.stops all (rw b.faulty at is) none;
+}
 
-says-grew : (text : Text) (before : List ℕ) (told told' : DrainTold) → told.taken ≡ Some before → Says text told told'
-    → Grew before told'
-says-grew text before told told' is (inl all) =
-    (text, grew_by before told.taken told'.taken text is all.appended)
-says-grew text before told told' is (inr some) =
-    (some.part, grew_by before told.taken told'.taken some.part is some.appended)
+-- there was no room for all answers
+pub ran-cut : (settings : Settings) (input output message : List ℕ) (batch : Batch) (ending : Ending)
+    → Batched settings input output batch → batch.all ≡ false → ending.length ≡ batch.length → ending.status ≡ 3
+    → Shows (run_line Write) message ending.message_length → EndsRun settings input output message ending
+ran-cut settings input output message batch ending b cut same is says = record {
+  front = b.front;
+  others = b.others;
+  split = b.split;
+  count = same ∙ b.count;
+  written = rw same b.written;
+  ends = ends-cut settings b.front b.others (length output) message batch ending b.stops cut is says;
+}
 
-outcome-grew : (most : ℕ) (task : Task) (old new : RunTold) (result : Result Report RunFault) (before : List ℕ)
-    → old.drain.taken ≡ Some before → Outcome most task old new result → Grew before new.drain
-outcome-grew most task old new (Ok report) before is h =
-    (_, grew_by before old.drain.taken new.drain.taken _ is h.written)
-outcome-grew most task old new (Err Read) before is h =
-    (_, grew_by before old.drain.taken new.drain.taken _ is h.0.written)
-outcome-grew most task old new (Err TooManyReads) before is h =
-    (_, grew_by before old.drain.taken new.drain.taken _ is h.0.written)
-outcome-grew most task old new (Err Write) before is h =
-    (_, grew_by before old.drain.taken new.drain.taken _ is h.wrote)
+settled-by : (r : Result Settings UsageFault) (s : Result Settings UsageFault) (input output message : List ℕ)
+    (ending : Ending) → r ≡ s → EndsSettled s input output message ending → EndsSettled r input output message ending
+settled-by r s input output message ending same e =
+    subst (λ (x : Result Settings UsageFault). EndsSettled x input output message ending) (sym same) e
 
-settled-output : (r : Result Settings UsageFault) (told told' : Told) (status : ℕ) (before : List ℕ)
-    → told.output.taken ≡ Some before → EndsSettled r told told' status → Grew before told'.output
-settled-output (Ok settings) told told' status before is h =
-    outcome-grew _ _ _ _ h.result before is h.run.outcome
-settled-output (Err fault) told told' status before is h =
-    grew_by_none before told.output told'.output is h.1.1
+taken : (words : List Text) (prepared : Result Prepared Stop) (input output message : List ℕ) (ending : Ending)
+    → PreparesBy words prepared → StopsTaken prepared → EndsPrepared prepared input output message ending
+    → EndsTaken words input output message ending
+taken words (Ok prepared) input output message ending p stops e = inr (settled-by _ _ input output message ending p.1 e)
+taken words (Err (stop.Refused NoMemory)) input output message ending p stops e = inl e
+taken words (Err (stop.Refused Usage)) input output message ending p stops e = let is : Usage ≡ NoMemory = stops in cc
+taken words (Err (stop.Refused (Help text))) input output message ending p stops e =
+    let is : Help text ≡ NoMemory = stops in cc
+taken words (Err (stop.Value fault)) input output message ending p stops e =
+    inr (settled-by _ (Err fault) input output message ending p.1 e)
 
-ended-output : (words : List Text) (told told' : Told) (status : ℕ) (before : List ℕ)
-    → told.output.taken ≡ Some before → EndsBy words told told' status
-    → Grew before told'.output
-ended-output words told told' status before is (EndsBy.without_memory e) =
-    grew_by_none before told.output told'.output is e.1.1
-ended-output words told told' status before is (EndsBy.refused mistake e) =
-    grew_by_none before told.output told'.output is e.1.1
-ended-output words told told' status before is (EndsBy.helped asked e) =
-    (e.3.0, grew_by before told.output.taken told'.output.taken e.3.0 is e.3.1)
-ended-output words told told' status before is (EndsBy.settled none e) =
-    settled-output (settings_of words) told told' status before is e
+by-kinds : (words : List Text) (prepared : Result Prepared Stop) (input output message : List ℕ) (ending : Ending)
+    → PreparesBy words prepared → EndsPrepared prepared input output message ending
+    → EndsBy words input output message ending
+by-kinds words (Ok prepared) input output message ending p e =
+    EndsBy.settled p.0 (settled-by _ _ input output message ending p.1 e)
+by-kinds words (Err (stop.Refused NoMemory)) input output message ending p e = EndsBy.without_memory e
+by-kinds words (Err (stop.Refused Usage)) input output message ending p e = EndsBy.refused p e
+by-kinds words (Err (stop.Refused (Help text))) input output message ending p e = EndsBy.helped p e
+by-kinds words (Err (stop.Value fault)) input output message ending p e =
+    EndsBy.settled p.0 (settled-by _ (Err fault) input output message ending p.1 e)
 
--- the output grew
-pub output-grew : (words : Option (List Text)) (told told' : Told) (status : ℕ) (before : List ℕ)
-    → told.output.taken ≡ Some before → EndsOn words told told' status
-    → Grew before told'.output
-output-grew None told told' status before is h = grew_by_none before told.output told'.output is h.1.1
-output-grew (Some words) told told' status before is h = ended-output words told told' status before is h.0
-
-ran-faults : (result : Result Report RunFault) (told told' : DrainTold) (before : List ℕ)
-    → told.taken ≡ Some before → SaysOf result told told' → Grew before told'
-ran-faults (Ok report) told told' before is h = grew_by_none before told told' is h
-ran-faults (Err fault) told told' before is h = says-grew (run_line fault) before told told' is h
-
-settled-faults : (r : Result Settings UsageFault) (told told' : Told) (status : ℕ) (before : List ℕ)
-    → told.faults.taken ≡ Some before → EndsSettled r told told' status → Grew before told'.faults
-settled-faults (Ok settings) told told' status before is h =
-    ran-faults h.result told.faults told'.faults before is h.says
-settled-faults (Err fault) told told' status before is h =
-    says-grew (usage_line fault) before told.faults told'.faults is h.2
-
-ended-faults : (words : List Text) (told told' : Told) (status : ℕ) (before : List ℕ)
-    → told.faults.taken ≡ Some before → EndsBy words told told' status → Grew before told'.faults
-ended-faults words told told' status before is (EndsBy.without_memory e) =
-    says-grew (fault_line (codes "no memory")) before told.faults told'.faults is e.2
-ended-faults words told told' status before is (EndsBy.refused mistake e) =
-    says-grew (fault_line (codes "usage")) before told.faults told'.faults is e.2
-ended-faults words told told' status before is (EndsBy.helped asked e) =
-    grew_by_none before told.faults told'.faults is e.2
-ended-faults words told told' status before is (EndsBy.settled none e) =
-    settled-faults (settings_of words) told told' status before is e
-
--- the fault stream grew
-pub faults-grew : (words : Option (List Text)) (told told' : Told) (status : ℕ) (before : List ℕ)
-    → told.faults.taken ≡ Some before → EndsOn words told told' status → Grew before told'.faults
-faults-grew None told told' status before is h =
-    says-grew (fault_line (codes "usage")) before told.faults told'.faults is h.2
-faults-grew (Some words) told told' status before is h = ended-faults words told told' status before is h.0
+-- however it ends, that is an ending of the words
+pub on-words : (all : Option (List Text)) (words : List Text) (prepared : Result Prepared Stop)
+    (input output message : List ℕ) (ending : Ending) → all ≡ Some words → PreparesBy words prepared
+    → (takes line words ≡ true → StopsTaken prepared) → EndsPrepared prepared input output message ending
+    → EndsOn all input output message ending
+on-words all words prepared input output message ending are p stops e = rw are (
+  by-kinds words prepared input output message ending p e,
+  λ takes. taken words prepared input output message ending p (stops takes) e,
+)
 
 -- there was no memory for words that are texts
-pub no-memory : (words : Option (List Text)) (told told' : Told) (status : ℕ) → words ≢ None
-    → EndsWithoutMemory told told' status → EndsOn words told told' status
-no-memory None told told' status some e = absurd (some refl)
-no-memory (Some words) told told' status some e = (EndsBy.without_memory e, λ _. inl e)
+pub no-memory : (words : Option (List Text)) (input output message : List ℕ) (ending : Ending) → words ≢ None
+    → EndsWithoutMemory message ending → EndsOn words input output message ending
+no-memory None input output message ending some e = absurd (some refl)
+no-memory (Some words) input output message ending some e = (EndsBy.without_memory e, λ _. inl e)

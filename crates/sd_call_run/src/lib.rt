@@ -1,6 +1,7 @@
 //! The call of the library for C that runs the program on a batch in memory.
 #![tactic(auto)]
 
+mod batch;
 mod memory;
 mod run;
 mod words;

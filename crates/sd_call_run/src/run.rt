@@ -1,17 +1,14 @@
 //! The call that runs the whole tool on a batch in memory.
 
-ghost use Rattle.std.specs.Prelude.{◌≡◌, ◌≢◌, ◌≤◌, false, length, take};
-ghost use Rattle.sd_command.specs.Endings.{Says};
-ghost use Rattle.sd_call_run.specs.Runs.{AreWholeLines, EndsOn, Runs, command_words};
+ghost use Rattle.std.specs.Prelude.{◌≡◌};
+ghost use Rattle.sd_command.specs.Preparing.{settled};
+ghost use Rattle.sd_call_run.specs.Inner.Batches.{EndsPrepared, EndsStopped};
+ghost use Rattle.sd_call_run.specs.Runs.{EndsRun, EndsWith, Runs, Shows};
 
-use crate::memory::{Cells, Input};
+use crate::batch::answer_batch;
 use crate::words::{WordsFault, words_in};
-use sd_command::command;
-use sd_run::{Drain, Source, write_whole};
+use sd_command::{Prepared, Refusal, Stop, prepare};
 use std::alloc::Global;
-
-/// The status of a run that a fault ended.
-const STOPPED: u8 = 3;
 
 /// How a run ends: `struct sdtool_ending` of the header.
 #[repr(C)]
@@ -35,103 +32,85 @@ pub fn run_batch(
 ) -> Ending
     ensures { Runs words.now input.now output.new message.new result }
 {
-    let mut answers = Cells {
-        cells: output,
-        held: 0,
-        handed_on: 0,
-        failures: 0,
-        flushed: false,
-    };
-    let mut says = Cells {
-        cells: message,
-        held: 0,
-        handed_on: 0,
-        failures: 0,
-        flushed: false,
-    };
-    run_over(alloc, words, input, &mut answers, &mut says)
-}
-
-// Runs the program over cells that hold nothing yet.
-fn run_over(
-    alloc: Global,
-    words: &[u8],
-    input: &[u8],
-    answers: &mut Cells<'_>,
-    says: &mut Cells<'_>,
-) -> Ending
-    requires no_answer { (answers.old.held ≡ 0) × (answers.old.failures ≡ 0) × (answers.old.flushed ≡ false) }
-    requires no_message { (says.old.held ≡ 0) × (says.old.failures ≡ 0) × (says.old.flushed ≡ false) }
-    ensures runs { Runs words.now input.now answers.new.cells.now says.new.cells.now result }
-    ensures answers_stay { answers.new.cells.ghost_name ≡ answers.old.cells.ghost_name }
-    ensures says_stay { says.new.cells.ghost_name ≡ says.old.cells.ghost_name }
-{
-    let mut source = Input {
-        left: input,
-        reads: 0,
-        ends: 0,
-    };
-    let status = run_program(alloc, words, &mut source, answers, says);
-    let handed_on = answers.handed_on;
-    Ending {
-        status: u32::from(status),
-        length: kept(status, answers.written(), handed_on),
-        message_length: says.written().len(),
-    }
-}
-
-// How many of the written bytes the caller gets: after a fault of the run only whole lines that were handed on.
-fn kept(status: u8, written: &[u8], handed_on: usize) -> usize
-    ensures within { result ≤ length written.now }
-    ensures all { status ≢ 3 → result ≡ length written.now }
-    ensures lines { status ≡ 3 → AreWholeLines (take result written.now) }
-{
-    if status == STOPPED {
-        whole_lines(&written[..handed_on.min(written.len())])
-    } else {
-        written.len()
-    }
-}
-
-// How many bytes whole lines have.
-fn whole_lines(bytes: &[u8]) -> usize
-    ensures within { result ≤ length bytes.now }
-    ensures lines { AreWholeLines (take result bytes.now) }
-{
-    let mut n = bytes.len();
-    while n > 0 && bytes[n - 1] != b'\n' {
-        n -= 1;
-    }
-    n
-}
-
-// The program, if the bytes give words.
-fn run_program<R: Source, W: Drain, E: Drain>(
-    alloc: Global,
-    words: &[u8],
-    input: &mut R,
-    output: &mut W,
-    faults: &mut E,
-) -> u8
-    ensures { EndsOn (command_words words.now)
-        (record { source = R.told input.old; output = W.told output.old; faults = E.told faults.old })
-        (record { source = R.told input.new; output = W.told output.new; faults = E.told faults.new }) result }
-{
     match words_in(alloc, words) {
-        Ok(words) => command(alloc, words, input, output, faults),
-        Err(WordsFault::NoText) => {
-            say(faults, "sdtool: usage\n");
-            2
-        }
-        Err(WordsFault::NoMemory) => {
-            say(faults, "sdtool: no memory\n");
-            4
-        }
+        Ok(words) => end(prepare(alloc, words.as_slice()), input, output, message),
+        Err(WordsFault::NoText) => say(2, "sdtool: usage\n", message),
+        Err(WordsFault::NoMemory) => say(4, "sdtool: no memory\n", message),
     }
 }
 
-fn say<E: Drain>(faults: &mut E, text: &str)
-    ensures { Says text.now (E.told faults.old) (E.told faults.new) }
+// Answers the input, if there is nothing against it.
+fn end(
+    prepared: Result<Prepared, Stop>,
+    input: &[u8],
+    output: &mut [u8],
+    message: &mut [u8],
+) -> Ending
+    ensures { EndsPrepared prepared input.now output.new message.new result }
 {
-    let _ = write_whole(faults, text.as_bytes());
+    match prepared {
+        Ok(mut prepared) => answer(&mut prepared, input, output, message),
+        Err(stop) => stopped(&stop, output, message),
+    }
+}
+
+fn answer(
+    prepared: &mut Prepared,
+    input: &[u8],
+    output: &mut [u8],
+    message: &mut [u8],
+) -> Ending
+    ensures { EndsRun (settled prepared.old) input.now output.new message.new result }
+{
+    let batch = answer_batch(prepared, input, output);
+    if !batch.all {
+        return Ending {
+            status: 3,
+            length: batch.length,
+            message_length: show("sdtool: error 61 write\n", message),
+        };
+    }
+    Ending {
+        status: u32::from(batch.faulty),
+        length: batch.length,
+        message_length: 0,
+    }
+}
+
+fn stopped(stop: &Stop, output: &mut [u8], message: &mut [u8]) -> Ending
+    ensures { EndsStopped stop.now output.new message.new result }
+{
+    match stop {
+        Stop::Refused(refusal) => match refusal {
+            Refusal::NoMemory => say(4, "sdtool: no memory\n", message),
+            Refusal::Usage => say(2, "sdtool: usage\n", message),
+            Refusal::Help(text) => Ending {
+                status: 0,
+                length: show(text.as_str(), output),
+                message_length: 0,
+            },
+        },
+        Stop::Value(fault) => say(2, fault.line(), message),
+    }
+}
+
+// The ending of a run that is not begun.
+fn say(status: u32, text: &str, message: &mut [u8]) -> Ending
+    ensures { EndsWith status text.now message.new result }
+{
+    Ending {
+        status,
+        length: 0,
+        message_length: show(text, message),
+    }
+}
+
+// Copies the front of a text, as much as there is room for.
+fn show(text: &str, cells: &mut [u8]) -> usize
+    ensures { Shows text.now cells.new result }
+{
+    let bytes = text.as_bytes();
+    let n = bytes.len().min(cells.len());
+    cells[..n].copy_from_slice(&bytes[..n]);
+    n
 }

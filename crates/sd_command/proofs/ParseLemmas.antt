@@ -1,15 +1,16 @@
 -- The command line is one of which `clap` says all, and what its refusals say of the words.
-use Rattle.std.proofs.Common.{◌≡◌, inl, inr, [], ◌∷◌, true, false, refl, sym, ◌∙◌, ap, subst}
+use Rattle.std.proofs.Common.{◌≡◌, inl, inr, [], ◌∷◌, true, false, refl, sym, ◌∙◌, ap, subst, Result, Ok, Err}
+use Rattle.std.specs.Prelude.{IfErr, IfOk, MatchResult}
 use Rattle.std.specs.List.{list_any}
 use Rattle.std.proofs.lemmas.Bool.{or_left, or_right}
-use Rattle.clap.specs.Words.{is_simple, is_simple_and_free, Kinds, IsAmong, HasKind, kind_of}
+use Rattle.clap.specs.Words.{is_simple, is_simple_and_free, FailsBy, Kinds, IsAmong, HasKind, kind_of}
 use Rattle.clap.proofs.OnLiterals.{clap_on_literals}
 use Rattle.clap.specs.declared.error.Error.{Error}
 use Rattle.clap.specs.declared.error.ErrorKind.{ErrorKind}
 use Rattle.clap.specs.declared.error.ErrorKind.TheVariants as kind
 use Rattle.sd_command.specs.CommandLine.{line, bare_line, check_line, convert_line, derive_line, explain_line}
 use Rattle.sd_command.specs.Refusing.{RefusedBy, is_mistake}
-use Rattle.sd_command.specs.Inner.Refused.{RefusedFor}
+use Rattle.sd_command.specs.Inner.Refused.{RefusedFor, RefusesFor}
 use Rattle.sd_command.specs.declared.parse.Refusal.{Refusal}
 use Rattle.sd_command.specs.declared.parse.Refusal.TheVariants.{NoMemory, Usage, Help}
 
@@ -31,9 +32,37 @@ among-mistake (x ∷ xs) k (inl same) e = or_left (is_mistake x) _ (ap is_mistak
 among-mistake (x ∷ xs) k (inr h) e = or_right (is_mistake x) _ (among-mistake xs k h e)
 
 -- what an error is taken for is what the kinds allow
-pub refused-by : (kinds : Kinds) (e : Error) (r : Refusal) → HasKind kinds e → RefusedFor e r → RefusedBy kinds r
+refused-by : (kinds : Kinds) (e : Error) (r : Refusal) → HasKind kinds e → RefusedFor e r → RefusedBy kinds r
 refused-by kinds e NoMemory h w = tt
 refused-by kinds e Usage (inl memory) w = let bad : false ≡ true = ap is_mistake (sym memory) ∙ w in cc
 refused-by kinds e Usage (inr h) w = among-mistake kinds (kind_of e) h w
 refused-by kinds e (Help text) (inl memory) w = let bad : kind.OutOfMemory ≡ kind.DisplayHelp = sym memory ∙ w in cc
 refused-by kinds e (Help text) (inr h) w = subst (λ (k : ErrorKind). IsAmong k kinds) w h
+
+-- what the words were parsed to, and what is told of it
+abbrev pub Tells : {M : Type 0} → Result M Error → Result M Refusal → Type 0
+Tells parsed told = MatchResult parsed (λ m. told ≡ Ok m) (λ e. RefusesFor e told)
+
+-- matches are kept
+pub kept : {M : Type 0} (P Q : M → Type 0) → ((m : M) → P m → Q m) → (parsed : Result M Error)
+    (told : Result M Refusal) → Tells parsed told → IfOk parsed P → IfOk told Q
+kept P Q then (Ok m) told is h = rw is (then m h)
+kept P Q then (Err e) (Ok m) is h = absurd is
+kept P Q then (Err e) (Err refusal) is h = tt
+
+-- where the only fault can be want of memory, that is told
+pub only-memory : {M : Type 0} (T : Type 0) (parsed : Result M Error) (told : Result M Refusal) → Tells parsed told
+    → IfErr parsed (λ e. T → kind_of e ≡ kind.OutOfMemory) → IfErr told (λ refusal. T → refusal ≡ NoMemory)
+only-memory T (Ok m) told is h = rw is tt
+only-memory T (Err e) (Ok m) is h = absurd is
+only-memory T (Err e) (Err NoMemory) is h = λ t. refl
+only-memory T (Err e) (Err Usage) is h = λ t. let bad : false ≡ true = ap is_mistake (sym (h t)) ∙ is in cc
+only-memory T (Err e) (Err (Help text)) is h =
+    λ t. let bad : kind.OutOfMemory ≡ kind.DisplayHelp = sym (h t) ∙ is in cc
+
+-- what is told is what the kinds allow
+pub by-kinds : {M : Type 0} (kinds : Kinds) (parsed : Result M Error) (told : Result M Refusal) → Tells parsed told
+    → FailsBy kinds parsed → MatchResult told (λ _. kinds ≡ []) (RefusedBy kinds)
+by-kinds kinds (Ok m) told is h = rw is h
+by-kinds kinds (Err e) (Ok m) is h = absurd is
+by-kinds kinds (Err e) (Err refusal) is h = refused-by kinds e refusal h is

@@ -3,5 +3,4 @@ pub mod Adding
 pub mod Building
 pub mod Choosing
 pub mod Given
-pub mod Preparing
 pub mod Refused

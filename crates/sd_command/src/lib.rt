@@ -12,5 +12,5 @@ mod token_text;
 
 pub use options::OptionName;
 pub use parse::{Refusal, parse_words};
-pub use program::command;
+pub use program::{Prepared, Stop, command, prepare};
 pub use settings::{Choice, UsageFault, choose};

@@ -1,11 +1,11 @@
 //! What `clap` makes of the words.
-ghost use Rattle.std.specs.Prelude.{◌≡◌, IfOk, IfErr, MatchResult, true, map, []};
+ghost use Rattle.std.specs.Prelude.{◌≡◌, IfOk, IfErr, MatchResult, Ok, true, map, []};
 ghost use Rattle.std.specs.String.{string_bytes};
 ghost use Rattle.clap.specs.Words.{subcommand_of, subcommand_rows_of, takes, fault_of};
 ghost use Rattle.sd_command.specs.CommandLine.{line};
 ghost use Rattle.sd_command.specs.Refusing.{RefusedBy};
 ghost use Rattle.sd_command.specs.declared.parse.Refusal.TheVariants.{NoMemory};
-ghost use Rattle.sd_command.specs.Inner.Refused.{RefusedFor};
+ghost use Rattle.sd_command.specs.Inner.Refused.{RefusedFor, RefusesFor};
 
 use crate::command_line::command_line;
 use clap::error::ErrorKind;
@@ -54,7 +54,14 @@ pub fn parse_words<'a>(alloc: Global, words: &'a [String]) -> Result<ArgMatches<
         (RefusedBy (fault_of line (map string_bytes words.entry.now))) }
 {
     let command = command_line(alloc)?;
-    match command.try_get_matches_from(words) {
+    with_reason(alloc, command.try_get_matches_from(words))
+}
+
+// The matches, or why there are none.
+fn with_reason<'a>(alloc: Global, parsed: Result<ArgMatches<'a>, Error>) -> Result<ArgMatches<'a>, Refusal>
+    ensures { MatchResult parsed (λ matches. result ≡ Ok matches) (λ error. RefusesFor error result) }
+{
+    match parsed {
         Ok(matches) => Ok(matches),
         Err(error) => Err(reason(alloc, &error)),
     }

@@ -1,17 +1,20 @@
 //! The whole program over a reader and two writers.
-ghost use Rattle.std.specs.Prelude.{◌≡◌, true, map, codes};
+ghost use Rattle.std.specs.Prelude.{◌≡◌, Err, IfOk, MatchResult, Ok, true, map, codes};
 ghost use Rattle.std.specs.String.{string_bytes};
-ghost use Rattle.clap.specs.Words.{takes};
+ghost use Rattle.clap.specs.Words.{subcommand_rows_of, takes};
 ghost use Rattle.sd_command.specs.CommandLine.{line};
 ghost use Rattle.sd_command.specs.Endings as ends;
+ghost use Rattle.sd_command.specs.Preparing as steps;
+ghost use Rattle.sd_command.specs.Settings.{nobody, settings};
 ghost use Rattle.sd_command.specs.Usage.{fault_line};
 ghost use Rattle.sd_command.specs.declared.parse.Refusal.TheVariants as refusal;
 ghost use Rattle.sd_command.specs.declared.program.Stop.TheVariants.{Refused, Value};
-ghost use Rattle.sd_command.specs.Inner.Preparing as steps;
 
 use crate::derive_settings::give_creator;
 use crate::parse::{Refusal, parse_words};
 use crate::settings::{UsageFault, choose};
+use clap::ArgMatches;
+use sd_buffer::{SdBuf, TextBuf};
 use sd_run::{Drain, Engine, RunFault, Source, run, write_whole};
 use sd_sink::NoMemory;
 use sd_token::Token;
@@ -40,20 +43,46 @@ pub fn command<R: Source, W: Drain, E: Drain>(
         (record { source = R.told input.new; output = W.told output.new; faults = E.told faults.new }) }
     ensures memory { result ≡ 4 → ends.Says (fault_line (codes "no memory")) (E.told faults.old) (E.told faults.new) }
 {
-    match prepare(alloc, words.as_slice()) {
-        Ok(mut prepared) => answered(&mut prepared, input, output, faults),
-        Err(stop) => stopped(&stop, input, output, faults),
-    }
+    end(prepare(alloc, words.as_slice()), input, output, faults)
 }
 
-// All that a run takes.
+/// All that a run takes.
 #[derive(Drop)]
 pub struct Prepared {
     pub engine: Engine,
     pub token: Token,
 }
 
-// Why nothing is read.
+// The memory of a run, before it is known what is asked.
+#[derive(Drop)]
+pub struct Memory {
+    token: Token,
+    read: SdBuf,
+    written: SdBuf,
+    creator: SdBuf,
+    held: TextBuf,
+}
+
+impl Memory {
+    fn new(alloc: Global) -> Result<Memory, NoMemory>
+        ensures { IfOk result (λ memory. (memory.token.holder ≡ nobody) × (memory.token.compared ≡ 0)) }
+    {
+        let token = Token::new(alloc)?;
+        let read = SdBuf::new(alloc)?;
+        let written = SdBuf::new(alloc)?;
+        let creator = SdBuf::new(alloc)?;
+        let held = TextBuf::new(alloc)?;
+        Ok(Memory {
+            token,
+            read,
+            written,
+            creator,
+            held,
+        })
+    }
+}
+
+/// Why nothing is read.
 #[derive(Drop)]
 pub enum Stop {
     Refused(Refusal),
@@ -84,21 +113,81 @@ impl From<UsageFault> for Stop {
     }
 }
 
-// All that takes memory.
-#[tactic(auto, unfolding(crate::specs::Settings::settings_of, crate::specs::Settings::with_creator))]
-fn prepare(alloc: Global, words: &[String]) -> Result<Prepared, Stop>
+/// All that a run of the words takes, or why there is none. Behind it no memory is asked for.
+#[tactic(auto, unfolding(crate::specs::Settings::settings_of))]
+pub fn prepare(alloc: Global, words: &[String]) -> Result<Prepared, Stop>
     ensures taken { takes line (map string_bytes words.now) ≡ true → steps.StopsTaken result }
     ensures kinds { steps.PreparesBy (map string_bytes words.now) result }
 {
     let matches = parse_words(alloc, words)?;
-    let mut token = Token::new(alloc)?;
-    let choice = match choose(&matches, &mut token) {
+    settle_with(&matches, Memory::new(alloc))
+}
+
+// What the matches settle, if there is memory.
+fn settle_with(
+    matches: &ArgMatches<'_>,
+    memory: Result<Memory, NoMemory>,
+) -> Result<Prepared, Stop>
+    requires { IfOk memory (λ memory. (memory.token.holder ≡ nobody) × (memory.token.compared ≡ 0)) }
+    ensures { MatchResult memory
+        (λ _. steps.Settles (settings (subcommand_rows_of matches.now)) result)
+        (λ _. result ≡ Err (Refused refusal.NoMemory)) }
+{
+    match memory {
+        Ok(memory) => match settle(matches, memory) {
+            Ok(prepared) => Ok(prepared),
+            Err(fault) => Err(Stop::Value(fault)),
+        },
+        Err(_) => Err(Stop::Refused(Refusal::NoMemory)),
+    }
+}
+
+// What the matches settle.
+#[tactic(auto, unfolding(crate::specs::Settings::with_creator))]
+fn settle(matches: &ArgMatches<'_>, memory: Memory) -> Result<Prepared, UsageFault>
+    requires nobody { memory.token.holder ≡ nobody }
+    requires none_compared { memory.token.compared ≡ 0 }
+    ensures settled { MatchResult result
+        (λ prepared. settings (subcommand_rows_of matches.now) ≡ Ok (steps.settled prepared))
+        (λ fault. settings (subcommand_rows_of matches.now) ≡ Err fault) }
+    ensures compared { IfOk result (λ prepared. prepared.token.compared ≡ 0) }
+{
+    let Memory {
+        mut token,
+        read,
+        written,
+        creator,
+        held,
+    } = memory;
+    let choice = match choose(matches, &mut token) {
         Ok(choice) => choice,
-        Err(fault) => return Err(Stop::Value(fault)),
+        Err(fault) => return Err(fault),
     };
-    let mut engine = Engine::new(alloc, choice.job)?;
+    let mut engine = Engine::over(choice.job, read, written, creator, held);
     give_creator(&mut engine, choice.creator)?;
     Ok(Prepared { engine, token })
+}
+
+// Answers the input, if there is nothing against it.
+fn end<R: Source, W: Drain, E: Drain>(
+    prepared: Result<Prepared, Stop>,
+    input: &mut R,
+    output: &mut W,
+    faults: &mut E,
+) -> u8
+    requires { IfOk prepared (λ prepared. prepared.token.compared ≡ 0) }
+    ensures ends { steps.EndsPrepared prepared
+        (record { source = R.told input.old; output = W.told output.old; faults = E.told faults.old })
+        (record { source = R.told input.new; output = W.told output.new; faults = E.told faults.new }) result }
+    ensures idle { ends.IsIdleAt result
+        (record { source = R.told input.old; output = W.told output.old; faults = E.told faults.old })
+        (record { source = R.told input.new; output = W.told output.new; faults = E.told faults.new }) }
+    ensures memory { result ≡ 4 → ends.Says (fault_line (codes "no memory")) (E.told faults.old) (E.told faults.new) }
+{
+    match prepared {
+        Ok(mut prepared) => answered(&mut prepared, input, output, faults),
+        Err(stop) => stopped(&stop, input, output, faults),
+    }
 }
 
 // A fault stream that fails changes nothing.

@@ -21,7 +21,7 @@ front-after true b ended last more = refl
 front-after false b [] last more = refl
 front-after false b (p ∷ ps) last more = refl
 
-cut-after : (xs ys : List ℕ)
+pub cut-after : (xs ys : List ℕ)
     → cut_at_line_feeds (xs ++ 10 ∷ ys)
     ≡ after (cut_at_line_feeds xs).ended (cut_at_line_feeds xs).rest (cut_at_line_feeds ys)
 unfolding cut_at_line_feeds

@@ -2,13 +2,17 @@
 
 ghost use Rattle.std.specs.Prelude.{◌≡◌, IfOk, MatchResult, None, Some, Ok, Err};
 ghost use Rattle.sd_sddl_reader.specs.Meaning.{means};
+ghost use Rattle.sd_answer.specs.Answer.{answer, bound, is_error};
+ghost use Rattle.sd_answer.specs.LineInHand.{PutsAnswer};
 ghost use Rattle.sd_answer.specs.Task.{IsDerivation};
+ghost use Rattle.sd_token.specs.Token.{Compares};
 ghost use Rattle.sd_run.specs.declared.engine.RunFault.TheVariants.{Write};
 
-use sd_answer::{Job, Line, Stores};
+use sd_answer::{Job, Line, Stores, Task, put_answer};
 use sd_buffer::{SdBuf, TextBuf};
 use sd_sddl_reader::{SddlFault, read_sddl};
-use sd_sink::{NoMemory, SinkFault};
+use sd_sink::{NoMemory, Sink, SinkFault};
+use sd_token::Token;
 use std::alloc::Global;
 use std::marker::Model;
 use thiserror::Error;
@@ -107,6 +111,24 @@ impl Engine {
         let domain = self.job.domain;
         read_sddl(text, domain.as_ref(), &mut self.creator)
     }
+
+    /// Puts the answer to one line, with its LF. Returns whether it is an `error` line. The creator's descriptor is read
+    /// for each line, so `run` is faster for many. It takes no memory.
+    pub fn answer<S: Sink>(
+        &mut self,
+        line: &[u8],
+        token: &mut Token,
+        sink: &mut S,
+    ) -> Result<bool, SinkFault>
+        ensures put { PutsAnswer (S.told sink.old) (S.told sink.new) (answer self.old token.old.holder line.now)
+            (is_error self.old token.old.holder line.now) result }
+        ensures task { self.new ≡ self.old }
+        ensures holder { token.new.holder ≡ token.old.holder }
+        ensures compared { Compares token.old token.new (bound self.old token.old.holder line.now) }
+    {
+        let task = Task::new(self.job, &self.creator);
+        answer_text(&task, &mut self.state, line, token, sink)
+    }
 }
 
 // The line in hand, what its answer is made in, and what was counted.
@@ -115,4 +137,23 @@ pub struct RunState {
     pub line: Line,
     pub stores: Stores,
     pub report: Report,
+}
+
+// Answers one line, whatever was in hand.
+fn answer_text<S: Sink>(
+    task: &Task<'_>,
+    state: &mut RunState,
+    line: &[u8],
+    token: &mut Token,
+    sink: &mut S,
+) -> Result<bool, SinkFault>
+    ensures put { PutsAnswer (S.told sink.old) (S.told sink.new) (answer task.now token.old.holder line.now)
+        (is_error task.now token.old.holder line.now) result }
+    ensures holder { token.new.holder ≡ token.old.holder }
+    ensures compared { Compares token.old token.new (bound task.now token.old.holder line.now) }
+{
+    state.line.start(&task.job);
+    state.line.take(line);
+    state.line.settle();
+    put_answer(task, &mut state.line, &mut state.stores, token, sink)
 }

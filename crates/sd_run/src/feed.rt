@@ -101,8 +101,8 @@ pub fn feed_all<W: Drain>(
     Ok(start > 0)
 }
 
-// The place of the first LF. Whole blocks without one are passed over, each in a few instructions.
-fn line_end(bytes: &[u8]) -> Option<usize>
+/// The place of the first LF. Whole blocks without one are passed over, each in a few instructions.
+pub fn line_end(bytes: &[u8]) -> Option<usize>
     ensures found { IfSome result (λ n. (n < length bytes.now) × (slice_index bytes.now n ≡ line_feed)) }
     ensures before { (k : ℕ) → k < unwrap_or result (length bytes.now) → slice_index bytes.now k ≢ line_feed }
 {

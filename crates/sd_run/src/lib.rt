@@ -1,6 +1,7 @@
 //! The run over lines: one descriptor a line, and one answer a line.
 #![tactic(auto)]
 
+mod cut;
 mod device;
 mod engine;
 mod feed;
@@ -8,6 +9,7 @@ mod running;
 mod sink;
 mod streams;
 
+pub use cut::{FirstLine, first_line};
 pub use device::{DeviceFault, Drain, Source};
 pub use engine::{Engine, Report, RunFault};
 pub use running::{run, run_at_most};

@@ -1,9 +1,8 @@
 //! The calls that convert descriptors.
 
-ghost use Rattle.std.specs.Prelude.{◌≡◌, IfErr, codes};
-ghost use Rattle.sd_call.specs.Arguments.{domain_in};
-ghost use Rattle.sd_call.specs.Outcomes.{Answers, AnswersWithin, Gives, failed};
-ghost use Rattle.sd_call_convert.specs.Conversions.{explained, from_sddl, normalized, to_sddl};
+ghost use Rattle.std.specs.Prelude.{◌≡◌, codes};
+ghost use Rattle.sd_call.specs.Outcomes.{Answers, AnswersWithin, Gives};
+ghost use Rattle.sd_call_convert.specs.Conversions.{domain_for, explained, from_sddl, normalized, to_sddl};
 
 use sd_call::Outcome;
 use sd_call_convert::{explain_text, from_sddl, normalize, to_sddl, version};
@@ -67,9 +66,9 @@ pub extern "C" fn sdtool_from_sddl(
     domain: &[u8],
     output: &mut [u8],
 ) -> Outcome
-    ensures answers { AnswersWithin (from_sddl text.now domain.now) output.old output.new result }
-    // A wrong domain is told before memory is asked for.
-    ensures told_first { IfErr (domain_in domain.now) (λ fault. result ≡ failed fault) }
+    // A wrong domain and a text that is too long are told before memory is asked for.
+    ensures { AnswersWithin (domain_for text.now domain.now) (from_sddl text.now domain.now)
+        output.old output.new result }
 {
     from_sddl(alloc, text, domain, output)
 }

@@ -1,7 +1,6 @@
 //! The call that derives descriptors.
 
-ghost use Rattle.std.specs.Prelude.{◌≡◌, IfErr};
-ghost use Rattle.sd_call.specs.Outcomes.{AnswersWithin, failed};
+ghost use Rattle.sd_call.specs.Outcomes.{AnswersWithin};
 ghost use Rattle.sd_call_derive.specs.Derivations.{derivation, origin_in};
 
 use sd_call::Outcome;
@@ -20,11 +19,9 @@ pub extern "C" fn sdtool_derive(
     mapping: u32,
     output: &mut [u8],
 ) -> Outcome
-    ensures answers { AnswersWithin (derivation parent.now creator.now owner.now group.now kind mapping)
-        output.old output.new result }
     // What cannot be derived from is told before memory is asked for.
-    ensures told_first { IfErr (origin_in parent.now creator.now owner.now group.now kind mapping)
-        (λ fault. result ≡ failed fault) }
+    ensures { AnswersWithin (origin_in parent.now creator.now owner.now group.now kind mapping)
+        (derivation parent.now creator.now owner.now group.now kind mapping) output.old output.new result }
 {
     derive_new(alloc, parent, creator, owner, group, kind, mapping, output)
 }

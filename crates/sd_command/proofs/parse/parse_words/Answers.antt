@@ -1,24 +1,27 @@
-use Rattle.std.proofs.Common.{ap, ◌∙◌, sym, subst, map}
+use Rattle.std.proofs.Common.{◌≡◌, ap, ◌∙◌, sym, subst, map, true}
 use Rattle.std.specs.String.{string_bytes}
-use Rattle.clap.specs.Words.{App, is_simple, is_simple_and_free, subcommand_of, fault_of, HasKind}
-use Rattle.sd_command.proofs.ParseLemmas.{line-simple, line-free, refused-by}
+use Rattle.clap.specs.Words.{App, HasMatchesOf, app_of, fault_of, is_simple, is_simple_and_free, subcommand_of}
+use Rattle.clap.specs.Words.{subcommand_rows_of, takes}
+use Rattle.sd_command.specs.CommandLine.{line}
+use Rattle.sd_command.proofs.ParseLemmas.{by-kinds, kept, line-simple, line-free, only-memory}
 use Rattle.sd_command.proofs.parse.parse_words.Goals as goal
 
-pub returns-in-Ok-clause-ok : goal.returns-in-Ok-clause-ok
-returns-in-Ok-clause-ok c =
+pub returns-clause-ok : goal.returns-clause-ok
+returns-clause-ok c =
+    let words = map string_bytes c.args.words.now in
     let line_is = c.in_ok-command.ensures in
-    (c.in-Ok.ensures.matches (ap is_simple line_is ∙ line-simple)).1
-    ∙ ap (λ (a : App). subcommand_of a (map string_bytes c.args.words.now)) line_is
+    kept (HasMatchesOf (app_of c.in_ok-command.command) words) (λ m. subcommand_rows_of m ≡ subcommand_of line words)
+    (λ m has. (has (ap is_simple line_is ∙ line-simple)).1 ∙ ap (λ (a : App). subcommand_of a words) line_is)
+    c.try_get_matches_from.result c.with_reason.result c.with_reason.ensures c.try_get_matches_from.ensures.matches
 
-pub returns-in-Ok-clause-kinds : goal.returns-in-Ok-clause-kinds
-returns-in-Ok-clause-kinds c =
-    let line_is = c.in_ok-command.ensures in
-    ap (λ (a : App). fault_of a (map string_bytes c.args.words.now)) (sym line_is)
-    ∙ c.in-Ok.ensures.kinds (ap is_simple_and_free line_is ∙ line-free)
+pub returns-clause-takes : goal.returns-clause-takes
+returns-clause-takes c =
+    let words = map string_bytes c.args.words.now in
+    only-memory (takes line words ≡ true) c.try_get_matches_from.result c.with_reason.result c.with_reason.ensures
+    (rw c.in_ok-command.ensures at c.try_get_matches_from.ensures.passes)
 
-pub returns-in-Err-clause-kinds : goal.returns-in-Err-clause-kinds
-returns-in-Err-clause-kinds c =
-    let line_is = c.in_ok-command.ensures in
-    refused-by _ c.in-Err.error c.reason.result
-    (subst (λ (a : App). HasKind (fault_of a (map string_bytes c.args.words.now)) c.in-Err.error) line_is
-    (c.in-Err.ensures.kinds (ap is_simple_and_free line_is ∙ line-free))) c.reason.ensures
+pub returns-clause-kinds : goal.returns-clause-kinds
+returns-clause-kinds c =
+    let words = map string_bytes c.args.words.now in
+    by-kinds (fault_of line words) c.try_get_matches_from.result c.with_reason.result c.with_reason.ensures
+    (rw c.in_ok-command.ensures at (c.try_get_matches_from.ensures.kinds (ap is_simple_and_free c.in_ok-command.ensures ∙ line-free)))
