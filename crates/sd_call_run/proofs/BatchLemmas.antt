@@ -1,6 +1,6 @@
 -- The answers to lines, one after the other in the caller's cells.
 use Rattle.std.proofs.Common.{◌≡◌, ◌<◌, ◌-◌, ◌+◌, ◌||◌, ℕ, zero, suc, List, [], ◌∷◌, ◌++◌, length, take, Bool, true, false, Some}
-use Rattle.std.proofs.Common.{refl, sym, ap, ◌∙◌, arith, append_assoc, append-nil, length-append}
+use Rattle.std.proofs.Common.{refl, sym, subst, ap, ◌∙◌, arith, append_assoc, append-nil, length-append}
 use Rattle.std.proofs.lemmas.Grind.{flat_map-append}
 use Rattle.std.specs.List.{list_any}
 use Rattle.sd_sink.specs.Sink.{PutAll, PutSome, SinkTold}
@@ -76,15 +76,20 @@ taken : (name : ℕ) (cells : List ℕ) (failures name' : ℕ) (cells' : List �
 taken name cells failures name' cells' held' failures' text put = let all = put.appended in (cc, cc)
 
 -- one line more is answered
-pub sofar-more : (settings : Settings) (input : List ℕ) (name : ℕ) (cells : List ℕ) (failures : ℕ) (mid : SinkTold)
+pub sofar-more : (settings now : Settings) → now ≡ settings → (input : List ℕ) (name : ℕ) (cells : List ℕ) (failures : ℕ) (mid : SinkTold)
     (name' : ℕ) (cells' : List ℕ) (held' failures' : ℕ) (left rest line : List ℕ) (batch batch' : Batch)
     → Sofar settings input (told_of name cells 0 failures) mid left batch → lines left ≡ line ∷ lines rest
-    → PutAll mid (told_of name' cells' held' failures') (answer settings.task settings.holder line)
+    → PutAll mid (told_of name' cells' held' failures') (answer now.task now.holder line)
     → batch'.length ≡ length (take held' cells')
-    → batch'.faulty ≡ (batch.faulty || is_error settings.task settings.holder line)
+    → batch'.faulty ≡ (batch.faulty || is_error now.task now.holder line)
     → Sofar settings input (told_of name cells 0 failures) (told_of name' cells' held' failures') rest batch'
-sofar-more settings input name cells failures mid name' cells' held' failures' left rest line batch batch' sofar cut put
-    long faulty =
+sofar-more settings now now_is input name cells failures mid name' cells' held' failures' left rest line batch batch'
+    sofar cut put_now long faulty_now =
+    let put : PutAll mid (told_of name' cells' held' failures') (answer settings.task settings.holder line) =
+        subst (λ (s : Settings). PutAll mid (told_of name' cells' held' failures') (answer s.task s.holder line)) now_is
+        put_now in
+    let faulty : batch'.faulty ≡ (batch.faulty || is_error settings.task settings.holder line) =
+        subst (λ (s : Settings). batch'.faulty ≡ (batch.faulty || is_error s.task s.holder line)) now_is faulty_now in
     let all = PutAll-trans _ _ _ _ _ sofar.put put in
     let same = answers-push settings sofar.front line in
     record {
@@ -123,17 +128,21 @@ had : (name : ℕ) (cells : List ℕ) (held failures name' : ℕ) (cells' : List
 had name cells held failures name' cells' held' failures' text some = let part = some.appended in (cc, cc)
 
 -- there is no room for the answer to the next line
-pub batched-cut : (settings : Settings) (input : List ℕ) (name : ℕ) (cells : List ℕ) (failures name' : ℕ)
+pub batched-cut : (settings now : Settings) → now ≡ settings → (input : List ℕ) (name : ℕ) (cells : List ℕ) (failures name' : ℕ)
     (cells' : List ℕ) (held' failures' name'' : ℕ) (cells'' : List ℕ) (held'' failures'' : ℕ) (left rest line : List ℕ)
     (batch batch' : Batch)
     → Sofar settings input (told_of name cells 0 failures) (told_of name' cells' held' failures') left batch
     → lines left ≡ line ∷ lines rest
     → PutSome (told_of name' cells' held' failures') (told_of name'' cells'' held'' failures'')
-    (answer settings.task settings.holder line)
+    (answer now.task now.holder line)
     → batch'.length ≡ batch.length → batch'.faulty ≡ batch.faulty → batch'.all ≡ false
     → Batched settings input cells'' batch'
-batched-cut settings input name cells failures name' cells' held' failures' name'' cells'' held'' failures'' left rest line
-    batch batch' sofar cut some same_length same_faults none =
+batched-cut settings now now_is input name cells failures name' cells' held' failures' name'' cells'' held'' failures'' left rest line
+    batch batch' sofar cut some_now same_length same_faults none =
+    let some : PutSome (told_of name' cells' held' failures') (told_of name'' cells'' held'' failures'')
+        (answer settings.task settings.holder line) =
+        subst (λ (s : Settings). PutSome (told_of name' cells' held' failures')
+        (told_of name'' cells'' held'' failures'') (answer s.task s.holder line)) now_is some_now in
     let front = answers_by settings sofar.front in
     let took = taken name cells failures name' cells' held' failures' _ sofar.put in
     let kept = had name' cells' held' failures' name'' cells'' held'' failures'' _ some in

@@ -70,7 +70,7 @@ settled-by r s input output message ending same e =
 taken : (words : List Text) (prepared : Result Prepared Stop) (input output message : List ℕ) (ending : Ending)
     → PreparesBy words prepared → StopsTaken prepared → EndsPrepared prepared input output message ending
     → EndsTaken words input output message ending
-taken words (Ok prepared) input output message ending p stops e = inr (settled-by _ _ input output message ending p.1 e)
+taken words (Ok prepared) input output message ending p stops e = inr (settled-by _ _ input output message ending p.1.0 e)
 taken words (Err (stop.Refused NoMemory)) input output message ending p stops e = inl e
 taken words (Err (stop.Refused Usage)) input output message ending p stops e = let is : Usage ≡ NoMemory = stops in cc
 taken words (Err (stop.Refused (Help text))) input output message ending p stops e =
@@ -82,7 +82,7 @@ by-kinds : (words : List Text) (prepared : Result Prepared Stop) (input output m
     → PreparesBy words prepared → EndsPrepared prepared input output message ending
     → EndsBy words input output message ending
 by-kinds words (Ok prepared) input output message ending p e =
-    EndsBy.settled p.0 (settled-by _ _ input output message ending p.1 e)
+    EndsBy.settled p.0 (settled-by _ _ input output message ending p.1.0 e)
 by-kinds words (Err (stop.Refused NoMemory)) input output message ending p e = EndsBy.without_memory e
 by-kinds words (Err (stop.Refused Usage)) input output message ending p e = EndsBy.refused p e
 by-kinds words (Err (stop.Refused (Help text))) input output message ending p e = EndsBy.helped p e

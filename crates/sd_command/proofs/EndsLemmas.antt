@@ -20,14 +20,14 @@ taken-run : (words : List Text) (prepared : Prepared) (told told' : Told) (statu
     → PreparesBy words (Ok prepared) → EndsRun (of prepared) told told' status
     → EndsTaken words told told' status
 taken-run words prepared told told' status p run = inr
-    (subst (λ (s : Result Settings UsageFault). EndsSettled s told told' status) (sym p.1) run)
+    (subst (λ (s : Result Settings UsageFault). EndsSettled s told told' status) (sym p.1.0) run)
 
 -- and one by the kinds of fault in them, of which there are none
 by-run : (words : List Text) (prepared : Prepared) (told told' : Told) (status : ℕ) → PreparesBy words (Ok prepared)
     → EndsRun (of prepared) told told' status
     → EndsBy words told told' status
 by-run words prepared told told' status p run = settled p.0
-    (subst (λ (s : Result Settings UsageFault). EndsSettled s told told' status) (sym p.1) run)
+    (subst (λ (s : Result Settings UsageFault). EndsSettled s told told' status) (sym p.1.0) run)
 
 -- however it ends, that is an ending of words that are taken
 pub taken-prepared : (words : List Text) (prepared : Result Prepared Stop) (told told' : Told) (status : ℕ)

@@ -51,18 +51,20 @@ kept P Q then (Err e) (Ok m) is h = absurd is
 kept P Q then (Err e) (Err refusal) is h = tt
 
 -- where the only fault can be want of memory, that is told
-pub only-memory : {M : Type 0} (T : Type 0) (parsed : Result M Error) (told : Result M Refusal) → Tells parsed told
-    → IfErr parsed (λ e. T → kind_of e ≡ kind.OutOfMemory) → IfErr told (λ refusal. T → refusal ≡ NoMemory)
-only-memory T (Ok m) told is h = rw is tt
-only-memory T (Err e) (Ok m) is h = absurd is
-only-memory T (Err e) (Err NoMemory) is h = λ t. refl
-only-memory T (Err e) (Err Usage) is h = λ t. let bad : false ≡ true = ap is_mistake (sym (h t)) ∙ is in cc
-only-memory T (Err e) (Err (Help text)) is h =
-    λ t. let bad : kind.OutOfMemory ≡ kind.DisplayHelp = sym (h t) ∙ is in cc
+pub only-memory : {M : Type 0} (S T : Type 0) → (T → S) → (parsed : Result M Error) (told : Result M Refusal)
+    → Tells parsed told
+    → IfErr parsed (λ e. S → kind_of e ≡ kind.OutOfMemory) → IfErr told (λ refusal. T → refusal ≡ NoMemory)
+only-memory S T so (Ok m) told is h = rw is tt
+only-memory S T so (Err e) (Ok m) is h = absurd is
+only-memory S T so (Err e) (Err NoMemory) is h = λ t. refl
+only-memory S T so (Err e) (Err Usage) is h = λ t. let bad : false ≡ true = ap is_mistake (sym (h (so t))) ∙ is in cc
+only-memory S T so (Err e) (Err (Help text)) is h =
+    λ t. let bad : kind.OutOfMemory ≡ kind.DisplayHelp = sym (h (so t)) ∙ is in cc
 
 -- what is told is what the kinds allow
-pub by-kinds : {M : Type 0} (kinds : Kinds) (parsed : Result M Error) (told : Result M Refusal) → Tells parsed told
-    → FailsBy kinds parsed → MatchResult told (λ _. kinds ≡ []) (RefusedBy kinds)
-by-kinds kinds (Ok m) told is h = rw is h
-by-kinds kinds (Err e) (Ok m) is h = absurd is
-by-kinds kinds (Err e) (Err refusal) is h = refused-by kinds e refusal h is
+pub by-kinds : {M : Type 0} (found kinds : Kinds) → found ≡ kinds → (parsed : Result M Error) (told : Result M Refusal)
+    → Tells parsed told → FailsBy found parsed → MatchResult told (λ _. kinds ≡ []) (RefusedBy kinds)
+by-kinds found kinds same (Ok m) told is h = rw is (sym same ∙ h)
+by-kinds found kinds same (Err e) (Ok m) is h = absurd is
+by-kinds found kinds same (Err e) (Err refusal) is h =
+    refused-by kinds e refusal (subst (λ (k : Kinds). HasKind k e) same h) is

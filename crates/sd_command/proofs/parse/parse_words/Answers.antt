@@ -17,11 +17,15 @@ returns-clause-ok c =
 pub returns-clause-takes : goal.returns-clause-takes
 returns-clause-takes c =
     let words = map string_bytes c.args.words.now in
-    only-memory (takes line words ≡ true) c.try_get_matches_from.result c.with_reason.result c.with_reason.ensures
-    (rw c.in_ok-command.ensures at c.try_get_matches_from.ensures.passes)
+    let line_is = c.in_ok-command.ensures in
+    only-memory (takes (app_of c.in_ok-command.command) words ≡ true) (takes line words ≡ true)
+    (λ taken. ap (λ (a : App). takes a words) line_is ∙ taken) c.try_get_matches_from.result c.with_reason.result
+    c.with_reason.ensures c.try_get_matches_from.ensures.passes
 
 pub returns-clause-kinds : goal.returns-clause-kinds
 returns-clause-kinds c =
     let words = map string_bytes c.args.words.now in
-    by-kinds (fault_of line words) c.try_get_matches_from.result c.with_reason.result c.with_reason.ensures
-    (rw c.in_ok-command.ensures at (c.try_get_matches_from.ensures.kinds (ap is_simple_and_free c.in_ok-command.ensures ∙ line-free)))
+    let line_is = c.in_ok-command.ensures in
+    by-kinds (fault_of (app_of c.in_ok-command.command) words) (fault_of line words)
+    (ap (λ (a : App). fault_of a words) line_is) c.try_get_matches_from.result c.with_reason.result
+    c.with_reason.ensures (c.try_get_matches_from.ensures.kinds (ap is_simple_and_free line_is ∙ line-free))
