@@ -242,7 +242,8 @@ struct sdtool_outcome sdtool_normalize(const uint8_t *descriptor, size_t descrip
  * The empty text is a descriptor without parts, as SDDL has it, and such a descriptor grants everything. A caller for
  * whom an empty text is a record that got lost has to refuse TEXT_SIZE 0 itself.
  *
- * It allocates 131,226 bytes, after it has looked at DOMAIN.
+ * It allocates 131,226 bytes, after it has looked at DOMAIN and TEXT_SIZE. So SDTOOL_NO_MEMORY comes behind
+ * SDTOOL_ARGUMENT and SDTOOL_FAULT_TOO_LONG.
  */
 struct sdtool_outcome sdtool_from_sddl(const uint8_t *text, size_t text_size, const uint8_t *domain, size_t domain_size,
                                        uint8_t *output, size_t output_size);
@@ -293,8 +294,8 @@ struct sdtool_verdict {
  * SDTOOL_ARGUMENT comes first, then 50 and 51, then the faults of the descriptor. SDTOOL_ARGUMENT means that there are
  * more than SDTOOL_MOST_SIDS, that an entry or its SID is none of the above, that bytes are behind the last SID, or
  * that the mapping, OBJECT or PRINCIPAL_SELF is none of the above, in this order. Entries and SIDs are looked at in
- * pairs: the first pair with a fault counts, and in it the entry. It allocates less than 128 KiB before it looks at its
- * arguments, so SDTOOL_NO_MEMORY comes before any other fault.
+ * pairs: the first pair with a fault counts, and in it the entry. It allocates less than 128 KiB. SDTOOL_NO_MEMORY comes
+ * last, in place of a verdict alone.
  */
 struct sdtool_verdict sdtool_check(const uint8_t *descriptor, size_t descriptor_size, const uint8_t *sids,
                                    size_t sids_size, const uint8_t *entries, size_t sid_count, const uint8_t *object,
@@ -431,9 +432,9 @@ struct sdtool_bytes {
  * pays if it has many SIDs. VERDICTS has room for at least DESCRIPTOR_COUNT verdicts, one for each descriptor in
  * order; a descriptor that is none has its fault in its own verdict. LENGTH is DESCRIPTOR_COUNT.
  *
- * SDTOOL_TOO_SMALL comes first, if there is less room, with LENGTH = DESCRIPTOR_COUNT. Then SDTOOL_NO_MEMORY: it
- * allocates less than 128 KiB. Then SDTOOL_ARGUMENT, then SDTOOL_FAULT_EMPTY_REQUEST and SDTOOL_FAULT_RESERVED_BITS.
- * After any of these no verdict is written.
+ * SDTOOL_TOO_SMALL comes first, if there is less room, with LENGTH = DESCRIPTOR_COUNT. Then SDTOOL_ARGUMENT, then
+ * SDTOOL_FAULT_EMPTY_REQUEST and SDTOOL_FAULT_RESERVED_BITS. SDTOOL_NO_MEMORY comes last: it allocates less than 128
+ * KiB. After any of these no verdict is written.
  */
 struct sdtool_outcome sdtool_check_many(const struct sdtool_bytes *descriptors, size_t descriptor_count,
                                         const uint8_t *sids, size_t sids_size, const uint8_t *entries, size_t sid_count,

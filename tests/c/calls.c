@@ -186,6 +186,18 @@ static void try_sizes(const struct question *in, const struct bytes *answer)
     try_size(in, answer, answer->size + 9);
 }
 
+static bool is_same(const struct sdtool_outcome *a, const struct sdtool_outcome *b)
+{
+    return a->fault == b->fault && a->part == b->part && a->other_part == b->other_part && a->argument == b->argument
+           && a->entry == b->entry && a->length == b->length;
+}
+
+/* Memory that is refused for a check hides a verdict, but no fault. The other calls allocate behind their arguments. */
+static bool hides(const struct sdtool_outcome *o)
+{
+    return strcmp(job, "check") != 0 || o->fault == SDTOOL_OK || o->fault == SDTOOL_TOO_SMALL;
+}
+
 static void try_refusals(const struct question *in, size_t size)
 {
     long most;
@@ -198,11 +210,13 @@ static void try_refusals(const struct question *in, size_t size)
         allocations_left = n;
         struct sdtool_outcome o = call(in, cells, size);
         allocations_left = -1;
-        if (!is_fault(&o, SDTOOL_NO_MEMORY, 0))
+        if (hides(&whole) ? !is_fault(&o, SDTOOL_NO_MEMORY, 0) : !is_same(&o, &whole))
             complain("a refused allocation");
+        if (whole.fault == SDTOOL_ARGUMENT && o.fault == SDTOOL_NO_MEMORY)
+            complain("a refused allocation before a wrong argument");
     }
     struct sdtool_outcome again = call(in, cells, size);
-    if (again.fault != whole.fault || again.length != whole.length)
+    if (!is_same(&again, &whole))
         complain("a call after refused allocations");
     release(cells, size);
 }

@@ -552,7 +552,8 @@ static void refuse_allocations(const struct question *q, const struct sdtool_byt
         allocations_left = n;
         struct sdtool_outcome o = check_many(faulty, descriptors, count, verdicts, count);
         allocations_left = -1;
-        expect(is_outcome(&o, SDTOOL_NO_MEMORY, 0, 0, 0, 0), "a refused allocation before a wrong argument");
+        expect(is_outcome(&o, SDTOOL_ARGUMENT, 0, SDTOOL_ARGUMENT_MAPPING, 0, 0),
+               "a refused allocation before a wrong argument");
     }
     allocations_left = 0;
     if (count != 0 && CAN_REFUSE) {

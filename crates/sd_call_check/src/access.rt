@@ -52,7 +52,7 @@ fn check_with(
     ensures { MatchResult token
         (λ _. result ≡ told (checked bytes.now sids.now kinds.now object.now principal_self.now request.now))
         (λ _. result
-            ≡ told_without_memory (checked bytes.now sids.now kinds.now object.now principal_self.now request.now)) }
+        ≡ told_without_memory (checked bytes.now sids.now kinds.now object.now principal_self.now request.now)) }
 {
     match token {
         Ok(mut token) => told(check_by(

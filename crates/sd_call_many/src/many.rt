@@ -6,7 +6,9 @@ ghost use Rattle.sd_call_many.specs.Many.{AnswersMany, Judges, JudgesNone, asker
 
 use crate::bytes::Bytes;
 use sd_call::{CallFault, Outcome, done, failed, no_memory, too_small};
-use sd_call_check::{Request, VerdictOutcome, ask_in, check_entries, give_holder, told, verdict_on};
+use sd_call_check::{
+    Request, VerdictOutcome, ask_in, check_entries, give_holder, told, verdict_on,
+};
 use sd_check::Ask;
 use sd_sink::NoMemory;
 use sd_token::Token;
@@ -56,9 +58,9 @@ fn judge_with(
     requires room { length descriptors.now ≤ length verdicts.old }
     ensures { MatchResult token
         (λ _. Judges descriptors.now (judged sids.now kinds.now object.now principal_self.now request.now)
-            (asker_in sids.now kinds.now object.now principal_self.now request.now) verdicts.old verdicts.new result)
+        (asker_in sids.now kinds.now object.now principal_self.now request.now) verdicts.old verdicts.new result)
         (λ _. JudgesNone (asker_in sids.now kinds.now object.now principal_self.now request.now)
-            verdicts.old verdicts.new result) }
+        verdicts.old verdicts.new result) }
 {
     match token {
         Ok(mut token) => match asker_in(&mut token, sids, kinds, object, principal_self, request) {

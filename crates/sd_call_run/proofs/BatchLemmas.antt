@@ -86,10 +86,10 @@ pub sofar-more : (settings now : Settings) → now ≡ settings → (input : Lis
 sofar-more settings now now_is input name cells failures mid name' cells' held' failures' left rest line batch batch'
     sofar cut put_now long faulty_now =
     let put : PutAll mid (told_of name' cells' held' failures') (answer settings.task settings.holder line) =
-        subst (λ (s : Settings). PutAll mid (told_of name' cells' held' failures') (answer s.task s.holder line)) now_is
-        put_now in
+    subst (λ (s : Settings). PutAll mid (told_of name' cells' held' failures') (answer s.task s.holder line)) now_is
+    put_now in
     let faulty : batch'.faulty ≡ (batch.faulty || is_error settings.task settings.holder line) =
-        subst (λ (s : Settings). batch'.faulty ≡ (batch.faulty || is_error s.task s.holder line)) now_is faulty_now in
+    subst (λ (s : Settings). batch'.faulty ≡ (batch.faulty || is_error s.task s.holder line)) now_is faulty_now in
     let all = PutAll-trans _ _ _ _ _ sofar.put put in
     let same = answers-push settings sofar.front line in
     record {
@@ -140,9 +140,9 @@ pub batched-cut : (settings now : Settings) → now ≡ settings → (input : Li
 batched-cut settings now now_is input name cells failures name' cells' held' failures' name'' cells'' held'' failures'' left rest line
     batch batch' sofar cut some_now same_length same_faults none =
     let some : PutSome (told_of name' cells' held' failures') (told_of name'' cells'' held'' failures'')
-        (answer settings.task settings.holder line) =
-        subst (λ (s : Settings). PutSome (told_of name' cells' held' failures')
-        (told_of name'' cells'' held'' failures'') (answer s.task s.holder line)) now_is some_now in
+    (answer settings.task settings.holder line) =
+    subst (λ (s : Settings). PutSome (told_of name' cells' held' failures')
+    (told_of name'' cells'' held'' failures'') (answer s.task s.holder line)) now_is some_now in
     let front = answers_by settings sofar.front in
     let took = taken name cells failures name' cells' held' failures' _ sofar.put in
     let kept = had name' cells' held' failures' name'' cells'' held'' failures'' _ some in
@@ -150,8 +150,8 @@ batched-cut settings now now_is input name cells failures name' cells' held' fai
     let room : length cells' - held' ≡ length cells - 0 - length front = sofar.put.room in
     let beyond : length cells' - held' < length (answer settings.task settings.holder line) = some.beyond in
     let long : length (answers_by settings (sofar.front ++ line ∷ []))
-        ≡ length front + length (answer settings.task settings.holder line) =
-        ap (λ (l : List ℕ). length l) more ∙ length-append front (answer settings.task settings.holder line) in
+    ≡ length front + length (answer settings.task settings.holder line) =
+    ap (λ (l : List ℕ). length l) more ∙ length-append front (answer settings.task settings.holder line) in
     record {
       front = sofar.front;
       others = line ∷ lines rest;

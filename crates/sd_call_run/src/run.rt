@@ -54,12 +54,7 @@ fn end(
     }
 }
 
-fn answer(
-    prepared: &mut Prepared,
-    input: &[u8],
-    output: &mut [u8],
-    message: &mut [u8],
-) -> Ending
+fn answer(prepared: &mut Prepared, input: &[u8], output: &mut [u8], message: &mut [u8]) -> Ending
     ensures { EndsRun (settled prepared.old) input.now output.new message.new result }
 {
     let batch = answer_batch(prepared, input, output);

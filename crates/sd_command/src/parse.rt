@@ -58,7 +58,10 @@ pub fn parse_words<'a>(alloc: Global, words: &'a [String]) -> Result<ArgMatches<
 }
 
 // The matches, or why there are none.
-fn with_reason<'a>(alloc: Global, parsed: Result<ArgMatches<'a>, Error>) -> Result<ArgMatches<'a>, Refusal>
+fn with_reason<'a>(
+    alloc: Global,
+    parsed: Result<ArgMatches<'a>, Error>,
+) -> Result<ArgMatches<'a>, Refusal>
     ensures { MatchResult parsed.entry (λ matches. result ≡ Ok matches) (λ error. RefusesFor error result) }
 {
     match parsed {

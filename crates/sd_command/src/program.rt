@@ -8,7 +8,7 @@ ghost use Rattle.sd_command.specs.Preparing as steps;
 ghost use Rattle.sd_command.specs.Settings.{nobody, settings};
 ghost use Rattle.sd_command.specs.Usage.{fault_line};
 ghost use Rattle.sd_command.specs.declared.parse.Refusal.TheVariants as refusal;
-ghost use Rattle.sd_command.specs.declared.program.Stop.TheVariants.{Refused, Value};
+ghost use Rattle.sd_command.specs.declared.program.Stop.TheVariants.{Refused};
 
 use crate::derive_settings::give_creator;
 use crate::parse::{Refusal, parse_words};
@@ -97,22 +97,6 @@ impl From<Refusal> for Stop {
     }
 }
 
-impl From<NoMemory> for Stop {
-    ghost from_gives = { λ _ stop. stop ≡ Refused refusal.NoMemory };
-
-    fn from(_fault: NoMemory) -> Stop {
-        Stop::Refused(Refusal::NoMemory)
-    }
-}
-
-impl From<UsageFault> for Stop {
-    ghost from_gives = { λ fault stop. stop ≡ Value fault };
-
-    fn from(fault: UsageFault) -> Stop {
-        Stop::Value(fault)
-    }
-}
-
 /// All that a run of the words takes, or why there is none. Behind it no memory is asked for.
 #[tactic(auto, unfolding(crate::specs::Settings::settings_of))]
 pub fn prepare(alloc: Global, words: &[String]) -> Result<Prepared, Stop>
@@ -124,10 +108,7 @@ pub fn prepare(alloc: Global, words: &[String]) -> Result<Prepared, Stop>
 }
 
 // What the matches settle, if there is memory.
-fn settle_with(
-    matches: &ArgMatches<'_>,
-    memory: Result<Memory, NoMemory>,
-) -> Result<Prepared, Stop>
+fn settle_with(matches: &ArgMatches<'_>, memory: Result<Memory, NoMemory>) -> Result<Prepared, Stop>
     requires { IfOk memory (λ memory. (memory.token.holder ≡ nobody) × (memory.token.compared ≡ 0)) }
     ensures { MatchResult memory
         (λ _. steps.Settles (settings (subcommand_rows_of matches.now)) result)

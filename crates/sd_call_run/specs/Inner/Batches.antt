@@ -18,12 +18,12 @@ use Rattle.sd_call_run.specs.declared.run.Ending.{Ending}
 
 -- the answers to some lines were put, and these bytes have the others
 pub record Sofar (settings : Settings) (input : List ℕ) (old new : SinkTold) (left : List ℕ) (batch : Batch) : Type 0
-    where
-  pub front : List (List ℕ)
-  pub split : lines input ≡ front ++ lines left
-  pub put : PutAll old new (answers settings.task settings.holder front)
-  pub count : batch.length ≡ length (answers settings.task settings.holder front)
-  pub faulty : batch.faulty ≡ list_any (is_error settings.task settings.holder) front
+  where
+    pub front : List (List ℕ)
+    pub split : lines input ≡ front ++ lines left
+    pub put : PutAll old new (answers settings.task settings.holder front)
+    pub count : batch.length ≡ length (answers settings.task settings.holder front)
+    pub faulty : batch.faulty ≡ list_any (is_error settings.task settings.holder) front
 
 -- all lines were answered, or there was no room for the answers to one line more
 abbrev pub StopsBehind : Settings → List (List ℕ) → List (List ℕ) → ℕ → Bool → Type 0

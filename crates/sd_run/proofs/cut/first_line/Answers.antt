@@ -1,6 +1,5 @@
-use Rattle.std.proofs.Common.{◌≡◌, ◌<◌, ◌-◌, ◌+◌, ◌∷◌, ℕ, List, ap, ◌∙◌, sym, arith, drop, length, take, refl, rules}
+use Rattle.std.proofs.Common.{◌≡◌, ◌<◌, ◌-◌, ◌+◌, ◌∷◌, ℕ, List, ap, ◌∙◌, sym, arith, drop, length, take, rules}
 use Rattle.std.proofs.lemmas.List.{length-take, take_rest}
-use Rattle.sd_run.specs.Lines.{lines}
 use Rattle.sd_run.proofs.FirstLineLemmas.{cut-at, lines-none, lines-only}
 use Rattle.sd_run.proofs.cut.first_line.Goals as goal
 
