@@ -184,11 +184,10 @@ def refused_in(told):
     return found[0] if found else b""
 
 
-def is_told(told, creator=False):
-    """Whether memory for the token and then for the engine was taken just before the first read. Where nothing is read
-    there is no engine, but for one into which a creator's descriptor was to be read."""
-    read = READ + (b"?" if creator else b"")
-    return re.fullmatch(b"m*" + TOKEN + ENGINE + read, told) or re.fullmatch(b"m*", told)
+def is_told(told):
+    """Whether memory for the token and then for the engine was taken last, and just before the first read. Words that
+    the command line takes get both before their values are looked at; after a wrong value nothing is read."""
+    return re.fullmatch(b"m*" + TOKEN + ENGINE + READ + b"?", told) or re.fullmatch(b"m*", told)
 
 
 def refuse_each(count, program, words, library, line=EMPTY, answer=None):
@@ -211,7 +210,7 @@ def refuse_each(count, program, words, library, line=EMPTY, answer=None):
     count.add(number > 1, f"{shown}: no allocation was seen; is the program linked with the C library as a shared one?")
     count.add(len(dispensable) <= DISPENSABLE, f"{shown}: more allocations are dispensable than {DISPENSABLE}")
     stores = plainly_told.rstrip(READ)
-    count.add(is_told(plainly_told, "--creator" in words), f"{shown}: the library told {plainly_told}")
+    count.add(is_told(plainly_told), f"{shown}: the library told {plainly_told}")
     count.add(all(stores[:at] + stores[at:at + 1].upper() in fronts for at in range(len(stores))),
               f"{shown}: of {stores} not each was refused, but {fronts}")
     count.add(ended == plain, f"{shown}, none refused: {ended}, not {plain}")
