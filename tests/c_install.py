@@ -59,8 +59,8 @@ EXPECTED = f"{VERSION}\n{LAYOUT} {SDDL}\nerror 20\n"
 
 def ran(words, **others):
     """What a command prints on both streams, and its status."""
-    ended = subprocess.run(list(map(str, words)), stdout=subprocess.PIPE, stderr=subprocess.STDOUT, timeout=SECONDS,
-                           check=False, text=True, **others)
+    ended = subprocess.run(list(map(str, words)), stdout=subprocess.PIPE, stderr=subprocess.STDOUT, check=False, text=True,
+                           **{"timeout": SECONDS, **others})
     return ended.stdout, ended.returncode
 
 
@@ -193,7 +193,8 @@ def test_packages(count, folder):
     count.add(answer == (f"{VERSION} {EXTENSION in FILES_OF_PACKAGES['python3-sdtool']}\n", 0), f"python3-sdtool: {answer}")
     test_programs(count, "make deb", folder, environment(root, libraries))
     if shutil.which("lintian"):
-        printed, status = ran(["lintian", "--allow-root", "--fail-on", "error,warning", *packages])
+        # It reads each man page, which takes long on a busy machine.
+        printed, status = ran(["lintian", "--allow-root", "--fail-on", "error,warning", *packages], timeout=10 * SECONDS)
         count.add(status == 0, f"lintian: {printed}")
     else:
         print("skipped: there is no lintian")
