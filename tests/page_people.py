@@ -242,6 +242,7 @@ def test_order_of_keys(count, page, _):
     """In each view the Tab key reaches every control, in the order in which they stand, and shows where it is."""
     for view in each_view(page):
         wanted = page.call("reachable")
+        page.browser.press("Tab")  # browsers show where the focus is once a key was used
         page.do("window.focus(); document.querySelector('.skip').focus();")
         reached = [page.call("focused")]
         for _ in wanted[1:]:
