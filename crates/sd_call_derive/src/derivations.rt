@@ -66,11 +66,7 @@ fn origin_in<'a>(
 }
 
 // Gives the new descriptor, unless memory was refused for a buffer.
-fn give_derived(
-    origin: &Origin<'_>,
-    buf: Result<SdBuf, NoMemory>,
-    output: &mut [u8],
-) -> Outcome
+fn give_derived(origin: &Origin<'_>, buf: Result<SdBuf, NoMemory>, output: &mut [u8]) -> Outcome
     ensures { MatchResult buf
         (λ _. Answers (new_layout origin.now) output.old output.new result)
         (λ _. Refused output.old output.new result) }
