@@ -30,7 +30,7 @@ export MAKE
 
 need_toolchain = $(if $(shell command -v rt 2>&1),,$(error the Rattle toolchain is missing: there is no command 'rt' on the PATH))
 
-.PHONY: help program library run quick check rows test edits figures bench bench-library install uninstall systems $(SYSTEMS) deb deb-arm64 dist page clean
+.PHONY: help program library run quick check rows test edits figures bench bench-library install uninstall systems $(SYSTEMS) deb dist page clean
 
 # The first target, so `make` alone lists the targets.
 help:
@@ -54,8 +54,8 @@ help:
 	@echo '                       make $(SYSTEMS)'
 	@echo 'make page              builds out/sdtool.html, the page that shows permissions, of the module that make wasm builds (seconds)'
 	@echo 'make deb               builds Debian packages of them in out/ (seconds if program and library are built)'
-	@echo 'make deb-arm64         builds those of program and library for arm64, in out/dist'
-	@echo 'make dist              builds an archive for each system and Python wheels in out/dist, with checksums (a minute if all is built)'
+	@echo 'make dist              builds an archive for each system, Python wheels, and Debian packages for amd64 and arm64 in out/dist,'
+	@echo '                       with checksums (a minute if all is built)'
 	@echo 'make clean             removes what was built'
 
 program: $(PROGRAM)
@@ -182,9 +182,6 @@ page: $(filter wasm,$(SYSTEMS))
 # Package the tree that install makes.
 deb: program library
 	packaging/deb.sh
-
-deb-arm64: program library linux-aarch64
-	packaging/deb.sh arm64
 
 # Each archive has the page where it can be built.
 dist: systems $(if $(call missing_tools,wasm),,page)

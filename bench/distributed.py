@@ -128,7 +128,7 @@ def show(ways, words, size, medians):
 
 def main():
     parser = argparse.ArgumentParser(description="Measures one program, parallel, and sdtool.distributed.")
-    parser.add_argument("program", nargs="?", default=run.PROGRAM, type=os.path.abspath)
+    parser.add_argument("program", nargs="?", default=str(run.PROGRAM), type=os.path.abspath)
     parser.add_argument("--library", default=dask_cluster.PYTHON.parent / "out/lib/libsdtool.so", type=os.path.abspath)
     parser.add_argument("--megabytes", type=int, default=1000, help="of the input (%(default)s)")
     parser.add_argument("--rounds", type=int, default=3, help="(%(default)s)")

@@ -42,7 +42,7 @@ def programs(native):
         "native": [native],
         "static": [BUILT / "linux-x86_64/sdtool"],
         "Windows, wine": ["wine", BUILT / "windows-x86_64/sdtool.exe"],
-        "WASI, Node": ["node", "--no-warnings", JAVASCRIPT / "wasi.mjs", BUILT / "wasm/sdtool-wasi.wasm"],
+        "WASI, Node": ["node", "--no-warnings", TOP / "javascript/wasi.mjs", BUILT / "wasm/sdtool-wasi.wasm"],
         "module, Node": ["node", TOP / "bench/module.mjs", BUILT / "wasm"],
     }
     for name, words in list(found.items()):

@@ -154,7 +154,9 @@ enum sdtool_argument {
      * that is absent or null has ACEs. In the last two cases ENTRY is 0.
      */
     SDTOOL_ARGUMENT_SACL = 13,
-    SDTOOL_ARGUMENT_DACL = 14
+    SDTOOL_ARGUMENT_DACL = 14,
+    /* TOKEN holds no token that sdtool_token_read has read, or not all of it. */
+    SDTOOL_ARGUMENT_TOKEN = 15
 };
 
 enum sdtool_part {
@@ -441,6 +443,39 @@ struct sdtool_outcome sdtool_check_many(const struct sdtool_bytes *descriptors, 
                                         const uint8_t *object, size_t object_size, const uint8_t *principal_self,
                                         size_t principal_self_size, const struct sdtool_request *request,
                                         struct sdtool_verdict *verdicts, size_t verdict_count);
+
+/* How many numbers of 32 bits a token of so many SIDs takes. */
+#define SDTOOL_TOKEN_WORDS(sids) (2 + 20 * (size_t)(sids))
+
+/*
+ * Reads a token into memory of the caller, for any number of checks by sdtool_check_with. SIDS and ENTRIES are those of
+ * sdtool_check. TOKEN is TOKEN_WORDS numbers, of which SDTOOL_TOKEN_WORDS(SID_COUNT) suffice; LENGTH is how many numbers
+ * it takes.
+ *
+ *     uint32_t token[SDTOOL_TOKEN_WORDS(SDTOOL_MOST_SIDS)];
+ *
+ * The numbers have no pointers, so they may be moved and copied. What they mean may change with each version of the
+ * library: they stay in the process. While threads check with the token, nothing may write to it.
+ *
+ * SDTOOL_ARGUMENT comes first if there are more than SDTOOL_MOST_SIDS, then SDTOOL_TOO_SMALL with the size that is
+ * needed in LENGTH, then SDTOOL_ARGUMENT for an entry or a SID. After any of these TOKEN holds no token, not even an
+ * earlier one. It allocates no memory.
+ */
+struct sdtool_outcome sdtool_token_read(const uint8_t *sids, size_t sids_size, const uint8_t *entries, size_t sid_count,
+                                        uint32_t *token, size_t token_words);
+
+/*
+ * Gives the verdict of sdtool_check for a token that sdtool_token_read has read. TOKEN is only read, so threads may
+ * share it without a lock. TOKEN_WORDS may be more than the token takes.
+ *
+ * SDTOOL_ARGUMENT for TOKEN comes first: if TOKEN is zeros, if its reading failed, or if TOKEN_WORDS cuts it. Numbers
+ * that something else has written are safe too, but they may be taken for a token of other SIDs. Else the faults are
+ * those of sdtool_check, in the same order. It allocates no memory.
+ */
+struct sdtool_verdict sdtool_check_with(const uint8_t *descriptor, size_t descriptor_size, const uint32_t *token,
+                                        size_t token_words, const uint8_t *object, size_t object_size,
+                                        const uint8_t *principal_self, size_t principal_self_size,
+                                        const struct sdtool_request *request);
 
 /* An ACE to build. */
 struct sdtool_new_ace {

@@ -49,9 +49,16 @@ export interface TextOptions extends DomainOptions {
   numeric?: boolean;
 }
 
-export interface CheckOptions {
+export interface TokenOptions {
   /** SIDs of the token that count only for ACEs that deny. */
   denyOnly?: readonly SidLike[];
+}
+
+/** A token that was read. It may be copied, and is for the same version of this library alone. */
+export type Token = Uint8Array;
+
+/** What a check asks for. */
+export interface RequestOptions {
   /** The rights that are wanted, an access mask from 0 to 0xffffffff. It may be 0 with `maximum`. */
   wanted?: number;
   /** Asks also for each right that is granted. */
@@ -68,6 +75,8 @@ export interface CheckOptions {
   /** The token has SeTakeOwnershipPrivilege. */
   takeOwnership?: boolean;
 }
+
+export interface CheckOptions extends TokenOptions, RequestOptions {}
 
 export interface DeriveOptions {
   kind?: "file" | "container";
@@ -158,6 +167,10 @@ export interface Sdtool {
   explain(descriptor: Uint8Array, options?: TextOptions): string;
   /** Whether a descriptor grants a token of these SIDs, at most 1,024 with those that only deny, what is asked for. */
   check(descriptor: Uint8Array, sids: readonly SidLike[], options?: CheckOptions): Verdict;
+  /** A token of these SIDs, as for check, to be read once for any number of checks. */
+  readToken(sids: readonly SidLike[], options?: TokenOptions): Token;
+  /** The verdict of check, for a token that was read. */
+  checkWith(descriptor: Uint8Array, token: Token, options?: RequestOptions): Verdict;
   /** The verdict on each descriptor, in order, and for one that has none its Fault. The token is read once for many of them. */
   checkMany(descriptors: readonly Uint8Array[], sids: readonly SidLike[], options?: CheckOptions): (Verdict | Fault)[];
   /** The descriptor of a new object in a folder that has the descriptor `parent`, in its canonical layout. */

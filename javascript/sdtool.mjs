@@ -16,7 +16,7 @@ const OK = 0, ARGUMENT = 70, TOO_SMALL = 71, NO_MEMORY = 72;
 const STATUS_STOPPED = 3, STATUS_NO_MEMORY = 4;
 const PARTS = [null, "owner", "group", "sacl", "dacl"];
 const ARGUMENTS = [null, "domain", "sids", "entries", "objectType", "principalSelf", "mapping", "creator", "owner", "group",
-                   "kind", "number", "sid", "sacl", "dacl"];
+                   "kind", "number", "sid", "sacl", "dacl", "token"];
 const STATES = ["absent", "null", "list"];
 const LIST = 2;
 // Where a call writes the numbers of its outcome, and a check its verdict. The module has the structs of sdtool.h as a 32-bit
@@ -33,6 +33,8 @@ const BYTES_SIZE = 8, VERDICT_SIZE = 28;
 const MAPPINGS = { file: 0, key: 1, ds: 2 };
 const KINDS = { file: 0, container: 1 };
 const DENY_ONLY = 1;
+const MOST_SIDS = 1024, TOKEN_FRONT = 2, TOKEN_SID = 20; // numbers of 32 bits that a token has, and has for each SID
+const MOST_TOKEN = 4 * (TOKEN_FRONT + TOKEN_SID * MOST_SIDS);
 const MOST_BYTES = 131226, MOST_TEXT = 1049872, MOST_SID = 68, MOST_SID_TEXT = 183, MOST_MESSAGE = 64;
 const MOST_U8 = 0xff, MOST_U16 = 0xffff, MOST_NUMBER = 0xffffffff;
 const GUID = 16;
@@ -294,28 +296,46 @@ class Sdtool {
     return this.#answer(this.#calls.sdtool_normalize, inputs, [], Math.min(inputs[0].length, MOST_BYTES)).slice();
   }
 
-  // What a check asks for: the inputs beside descriptors, and how many SIDs they begin with.
-  #question(sids, {
-    denyOnly = [], wanted = 0, maximum = false, mapping = "file", level, objectType = NONE, principalSelf = NONE,
-    security = false, takeOwnership = false, ...others
-  } = {}) {
-    refuseOthers(others);
+  // The SIDs of a token and the bytes beside them, and how many SIDs these are.
+  #token(sids, denyOnly) {
     const ofList = (list, argument) => listOf(list, argument).map((sid, entry) => this.#sid(sid, argument, entry));
     const enabled = ofList(sids, "sids"), denied = ofList(denyOnly, "denyOnly");
     const count = enabled.length + denied.length;
     const entries = new Uint8Array(count).fill(DENY_ONLY, enabled.length);
+    return { inputs: [...enabled, ...denied, entries], enabled: enabled.length, count };
+  }
+
+  // What a check asks for: the inputs beside the descriptor and the token, and the fields of the request.
+  #asked({
+    wanted = 0, maximum = false, mapping = "file", level, objectType = NONE, principalSelf = NONE, security = false,
+    takeOwnership = false, ...others
+  } = {}) {
+    refuseOthers(others);
     const hasLevel = level !== undefined && level !== null;
     return {
-      inputs: [...enabled, ...denied, entries, guidOf(objectType, "objectType"), this.#sid(principalSelf, "principalSelf")],
-      enabled: enabled.length, count,
+      inputs: [guidOf(objectType, "objectType"), this.#sid(principalSelf, "principalSelf")],
       numbers: [numberOf(wanted, "wanted"), chosen(MAPPINGS, mapping, "mapping"), hasLevel ? numberOf(level, "level") : 0],
       flags: [Number(hasLevel), flagOf(maximum, "maximum"), flagOf(security, "security"),
               flagOf(takeOwnership, "takeOwnership")],
     };
   }
 
-  // Writes the request of a question, whose inputs are at these places. Gives what a check has behind its descriptors.
-  #ask({ enabled, count, numbers, flags }, places) {
+  // Both: the inputs beside descriptors, and how many SIDs they begin with.
+  #question(sids, { denyOnly = [], ...options } = {}) {
+    const token = this.#token(sids, denyOnly), asked = this.#asked(options);
+    return { ...token, ...asked, inputs: [...token.inputs, ...asked.inputs] };
+  }
+
+  // Writes the request of a question. Gives its place.
+  #request({ numbers, flags }) {
+    const request = this.#room + REQUEST;
+    numbers.forEach((number, index) => this.#view.setUint32(request + 4 * index, number, true));
+    flags.forEach((flag, index) => this.#view.setUint8(request + 12 + index, flag));
+    return request;
+  }
+
+  // The SIDs of a token, whose inputs are at these places, and the bytes beside them, as calls have them.
+  #sidsAt({ enabled, count }, places) {
     // Each SID has to be one by itself, so that none begins in another.
     for (let index = 0; index < count; index += 1) {
       const [at, size] = [places[2 * index], places[2 * index + 1]];
@@ -324,10 +344,14 @@ class Sdtool {
       throw new ArgumentFault("this is not exactly one SID in binary", isEnabled ? "sids" : "denyOnly",
                               isEnabled ? index : index - enabled);
     }
-    const rest = places.slice(2 * count, 2 * count + 6), request = this.#room + REQUEST;
-    numbers.forEach((number, index) => this.#view.setUint32(request + 4 * index, number, true));
-    flags.forEach((flag, index) => this.#view.setUint8(request + 12 + index, flag));
-    return [places[0], rest[0] - places[0], ...rest, request];
+    const [entries, size] = places.slice(2 * count, 2 * count + 2);
+    return [places[0], entries - places[0], entries, size];
+  }
+
+  // Writes the request of a question, whose inputs are at these places. Gives what a check has behind its descriptors.
+  #ask(question, places) {
+    const rest = places.slice(2 * question.count + 2, 2 * question.count + 6);
+    return [...this.#sidsAt(question, places), ...rest, this.#request(question)];
   }
 
   // The verdict that a check wrote, so many bytes behind the front of the room.
@@ -335,14 +359,41 @@ class Sdtool {
     return { granted: this.#view.getUint8(this.#room + at + GRANTED_AT) === 1, mask: this.#number(at + MASK_AT) };
   }
 
-  check(descriptor, sids, options) {
-    const question = this.#question(sids, options);
-    const [at, size, ...places] = this.#put([descriptorOf(descriptor, "descriptor"), ...question.inputs], 0);
-    this.#calls.sdtool_check(this.#room, at, size, ...this.#ask(question, places));
+  // The verdict that a call of one descriptor wrote.
+  #told() {
     this.#look();
     const fault = this.#number(FAULT_AT);
     if (fault !== OK) this.#refuse(fault);
     return this.#verdict(0);
+  }
+
+  check(descriptor, sids, options) {
+    const question = this.#question(sids, options);
+    const [at, size, ...places] = this.#put([descriptorOf(descriptor, "descriptor"), ...question.inputs], 0);
+    this.#calls.sdtool_check(this.#room, at, size, ...this.#ask(question, places));
+    return this.#told();
+  }
+
+  readToken(sids, { denyOnly = [], ...others } = {}) {
+    refuseOthers(others);
+    const given = this.#token(sids, denyOnly);
+    const size = TOKEN_FRONT + TOKEN_SID * Math.min(given.count, MOST_SIDS);
+    const places = this.#put(given.inputs, 0, 4 * size), token = this.#room + STRUCTS;
+    this.#calls.sdtool_token_read(this.#room, ...this.#sidsAt(given, places), token, size);
+    this.#look();
+    const fault = this.#number(FAULT_AT);
+    if (fault !== OK) this.#refuse(fault);
+    return this.#bytes.slice(token, token + 4 * this.#number(LENGTH_AT));
+  }
+
+  checkWith(descriptor, token, options) {
+    const asked = this.#asked(options);
+    const numbers = bytesOf(token, MOST_TOKEN, "token");
+    // The token is first, since it has to be where 4 divides.
+    const places = this.#put([numbers, descriptorOf(descriptor, "descriptor"), ...asked.inputs], 0);
+    const [at, size, first, length, ...rest] = places;
+    this.#calls.sdtool_check_with(this.#room, first, length, at, size >>> 2, ...rest.slice(0, 4), this.#request(asked));
+    return this.#told();
   }
 
   checkMany(descriptors, sids, options) {

@@ -1,14 +1,17 @@
 #!/usr/bin/env bash
 # Builds Debian packages from what `make install` installs, the program with its man page, documents and completions, the
 # shared library, and what a C compiler needs to use it; and from the Python module and its command for audits.
-# out/PACKAGE_VERSION_ARCHITECTURE.deb; with the word arm64 those of program, library and module with what 'make linux-aarch64'
-# built, in out/dist. The module's extension is compiled for the same architecture.
+# deb.sh [ARCHITECTURE [FOLDER]]: out/PACKAGE_VERSION_ARCHITECTURE.deb, or in another folder. For arm64 those of program,
+# library and module, with what 'make linux-aarch64' built. The module's extension is compiled for the same architecture. The
+# same tree gives the same bytes.
 set -eu
 cd "$(dirname "$0")/.."
+. packaging/surroundings.sh
 version=$(sed -n 's/^Version: //p' packaging/control)
-architecture=${1:-$(dpkg --print-architecture)}
+here=$(dpkg --print-architecture)
+architecture=${1:-$here}
 libraries=usr/lib/$(dpkg-architecture -a "$architecture" -qDEB_HOST_MULTIARCH 2> /dev/null)
-packages=out${1:+/dist}
+packages=${2:-out}
 work=$(mktemp -d)
 trap 'rm -rf "$work"' EXIT
 program=$work/sdtool
@@ -56,13 +59,14 @@ build() {
     control "$package" "${2-}" > "$tree/DEBIAN/control"
     (cd "$tree" && find usr -type f -print0 | sort -z | xargs -0 md5sum > DEBIAN/md5sums)
     chmod -R u=rwX,go=rX "$tree"
+    find "$tree" -exec touch --no-dereference --date="@$SOURCE_DATE_EPOCH" {} +
     dpkg-deb --root-owner-group --build "$tree" \
         "$packages/${package}_${version}_$(sed -n 's/^Architecture: //p' "$tree/DEBIAN/control").deb"
 }
 
 "${MAKE:-make}" --no-print-directory install PREFIX=/usr LIBDIR="/$libraries" DESTDIR="$program" > /dev/null
 rm "$program/usr/share/doc/sdtool/LICENSE"
-if [[ $# == 0 ]]; then
+if [[ $architecture == "$here" ]]; then
     strip "$program/usr/bin/sdtool"
 else
     install -m 755 out/systems/linux-aarch64/sdtool "$program/usr/bin/sdtool"
@@ -100,8 +104,8 @@ echo 'activate-noawait ldconfig' > "$library/DEBIAN/triggers"
 
 mkdir -p "$packages"
 # The program for arm64 has the C library in it.
-build sdtool "$([[ $# != 0 ]] || echo "$program/usr/bin/sdtool")"
+build sdtool "$([[ $architecture != "$here" ]] || echo "$program/usr/bin/sdtool")"
 build libsdtool0 "$library/$libraries/$soname"
 build libsdtool-dev
 build python3-sdtool "$extension"
-[[ $# != 0 ]] || build sdtool-audit
+[[ $architecture != "$here" ]] || build sdtool-audit

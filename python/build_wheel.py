@@ -42,7 +42,7 @@ Requires-Dist: rich >= 13; extra == 'audit'
 Requires-Dist: python-ldap >= 3.4; extra == 'audit'
 """
 # The command of the extra.
-ENTRY_POINTS = (f"{NAME}.dist-info/entry_points.txt", b"[console_scripts]\nsdtool-audit = sdtool.audit.command:main\n")
+ENTRY_POINTS = (f"{NAME}.dist-info/entry_points.txt", b"[console_scripts]\nsdtool-audit = sdtool.audit.__main__:main\n")
 ANY = "py3-none-any"
 FLAGS = ["-std=gnu11", "-O2", "-Wall", "-Wextra", "-Werror", "-shared", "-fPIC"]
 

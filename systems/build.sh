@@ -112,7 +112,7 @@ wasm() {
         -isystem "$(gcc -print-file-name=include)"
     link_wasm sdtool.wasm {library,wasm,wasm_heap,heap,memory}.o
     link_wasm sdtool-wasi.wasm {program,wasi,wasm_heap,heap,memory}.o
-    cp javascript/{sdtool.mjs,sdtool.d.ts,package.json} "$out"
+    cp javascript/{sdtool.mjs,sdtool.d.ts,package.json,wasi.mjs} "$out"
     # One file that has all: the module is in it.
     {
         sed '/^const EMBEDDED = ""/,$d' javascript/sdtool.mjs

@@ -254,6 +254,12 @@ def test_tables(place: Place) -> None:
          [(f'"a,{full}', 2, "unknown"), ("b", 3, "found")]),
         ("empty lines", f"Path,Sddl\na,{full}\n\nb,{read}\n\n\n", [],
          [("a", 2, "nothing"), ("SOURCE:3", 3, "unknown"), ("b", 4, "found")]),
+        ("one row without an end", f"a\t{read}", [], [("a", 1, "found")]),
+        ("a column without a title", f"Path,Owner\na,BA,{full}\nb,SY,{read}\nc,d\n", [],
+         [("a", 2, "nothing"), ("b", 3, "found"), ("c", 4, "unknown")]),
+        ("drives", f"Path,Sddl\nD:\\a,{full}\nS:\\b,{read}\n", [], [("D:\\a", 2, "nothing"), ("S:\\b", 3, "found")]),
+        ("drives and other titles", f'Ordner;Rechte\nD:\\a;"{full}"\nS:/b;"{read}"\n', [], [("D:\\a", 2, "nothing"), ("S:/b", 3, "found")]),
+        ("drives and no titles", f"D:\\a\t{full}\nG:\\b\t{read}\n", [], [("D:\\a", 1, "nothing"), ("G:\\b", 2, "found")]),
         ("a line end in a descriptor", f'Path,Sddl\na,"{full}\n(A;;FR;;;WD)"\nb,{read}\n', [],
          [("a", 2, "unknown"), ("b", 4, "found")]),
     ]
@@ -261,6 +267,15 @@ def test_tables(place: Place) -> None:
         got = threads.map(lambda case: place.objects(*EVERYONE_READS, place.write(f"{case[0]}.csv", case[1]), *case[2]), cases)
         for (what, _, _, wanted), found in zip(cases, got):
             place.expect(places(found), named(wanted, f"{what}.csv"), f"a table with {what}")
+    # NTFS allows half a pair of UTF-16 in a name.
+    halves = f"Path,Sddl\r\na\udf3b,{read}\r\nb,\udf3b{read}\r\nc,{full}\r\n".encode("utf-16-le", "surrogatepass")
+    place.write("halves.csv", b"\xff\xfe" + halves)
+    place.expect(places(place.objects(*EVERYONE_READS, "halves.csv")),
+                 [("a\udf3b", 2, "found"), ("b", 3, "unknown"), ("c", 4, "nothing")], "half a pair of UTF-16")
+    halves = "# file: a\udf3b\\040b\nuser.sd=0x0100008000000000000000000000000000000000\n".encode("utf-16-le", "surrogatepass")
+    place.write("halves.txt", b"\xff\xfe" + halves)
+    place.expect([one["answer"] for one in place.objects(*EVERYONE_READS, "halves.txt", "--attribute", "user.sd")], ["found"],
+                 "half a pair of UTF-16 in what getfattr wrote")
     text = f'Path,Sddl\n"ä",{read}\n'
     place.write("cp1252.csv", text.encode("cp1252"))
     place.expect(places(place.objects(*EVERYONE_READS, "cp1252.csv", "--encoding", "cp1252")), [("ä", 2, "found")], "cp1252")
@@ -284,6 +299,17 @@ def test_plain_lines(place: Place) -> None:
         place.write("other", text)
         ended = place.ask(*EVERYONE_READS, "list", "--object-names", "other")
         place.expect((ended.status, ended.stdout, "no object can be sure" in ended.stderr), (2, "", True), f"names are {what}")
+
+
+def test_drives(place: Place) -> None:
+    """Names that begin as a descriptor does: D: is a drive and a DACL."""
+    place.write("drives.txt", "D:\\Data\nD:PAI(A;;FA;;;BA)\nS:\\x\nD:(A;;FR;;;WD)\nG:\\lost\nO:\\y\nD:P\n")
+    place.expect(places(place.objects(*EVERYONE_READS, "drives.txt")),
+                 [("D:\\Data", 1, "nothing"), ("S:\\x", 3, "found"), ("G:\\lost", 5, "unknown"), ("O:\\y", 6, "nothing")],
+                 "names of drives in a list of icacls")
+    place.write("drives.json", '{"D:\\\\a": "D:(A;;FR;;;WD)", "D:\\\\b": "O:BAD:"}')
+    place.expect([(one["name"], one["answer"]) for one in place.objects(*EVERYONE_READS, "drives.json")],
+                 [("D:\\a", "found"), ("D:\\b", "nothing")], "names of drives in JSON")
 
 
 def hostile_rows():
@@ -598,6 +624,34 @@ def test_diff(place: Place) -> None:
     good = place.table([("a", "D:(A;;FA;;;BA)")], "a.csv")
     place.expect(place.ask("diff", good, good).status, 0, "diff, nothing changed")
     place.expect(place.ask("diff", good, place.table([], "none.csv")).status, 3, "diff, an empty list")
+    test_roots(place)
+
+
+def test_roots(place: Place) -> None:
+    """Two backups, each in a folder of its own. D:\\Monday2 isn't below D:\\Monday."""
+    full, read = "O:BAD:(A;;FA;;;BA)", "O:BAD:(A;;FR;;;WD)"
+    old = place.table([("D:\\Monday", full), ("D:\\Monday\\a", read), ("D:\\Monday\\b", full), ("D:\\Monday2\\c", full)], "monday.csv")
+    new = place.table([("E:\\Tuesday\\", full), ("E:\\Tuesday\\a", full), ("E:\\Tuesday\\d", full), ("D:\\Monday2\\c", full)],
+                      "tuesday.csv")
+    roots = ["--old-root", "D:\\Monday", "--new-root", "E:\\Tuesday\\"]
+    wanted = [("E:\\Tuesday\\", "same"), ("E:\\Tuesday\\a", "changed"), ("E:\\Tuesday\\d", "added"), ("D:\\Monday2\\c", "same"),
+              ("D:\\Monday\\b", "gone")]
+    place.expect([(one["name"], one["answer"]) for one in place.objects("diff", old, new, *roots)], wanted, "diff, two roots")
+    ended = place.ask("diff", old, new, "--old-root", "D:\\Mon")
+    place.expect((ended.status, ended.stdout, "--old-root: no name" in ended.stderr), (2, "", True), f"a root of nothing: {ended}")
+    descriptors = {"one": ("0100008000000000000000000000000000000000", "0100008000000000000000000000000000000000"),
+                   "two": ("0100008000000000000000000000000000000000", "01000480000000000000000000000000140000000200080000000000")}
+    try:
+        for at, folder in enumerate(("before", "after")):
+            for name, of_days in descriptors.items():
+                os.setxattr(place.folder / place.write(f"{folder}/{name}", ""), "user.sd", bytes.fromhex(of_days[at]))
+            os.setxattr(place.folder / folder, "user.sd", bytes.fromhex(descriptors["one"][0]))
+    except OSError as error:
+        print(f"skipped: no extended attributes here: {error}")
+        return
+    got = place.objects("diff", "before", "after", "--attribute", "user.sd")
+    place.expect([(one["name"], one["answer"]) for one in got], [("after", "same"), ("after/one", "same"), ("after/two", "changed")],
+                 "diff, two folders")
 
 
 def test_inherit(place: Place) -> None:
@@ -665,6 +719,16 @@ def test_cache(place: Place) -> None:
     place.expect(listed[1], listed[0], "what was found, of a cache")
     sums = [place.ask("can", "WD", "change", one, "--to", "table").stdout.splitlines()[-1] for one in (source, "cache.db")]
     place.expect(sums[1], sums[0], "the sum of a cache")
+    place.write("accept.toml", "[[accept]]\nrule = 'everyone-changes'\nobject = '*r*'\nreason = 'a test'\n")
+    for words in (["who", "permissions"], ["risks"], ["risks", "--accept", "accept.toml"]):
+        for report in (["--most", "1"], ["--most", "7"], ["--most", "0"], ["--to", "sarif"], ["--to", "html"]):
+            whole, kept = (place.ask(words[0], *words[1:], one, *report) for one in (source, "cache.db"))
+            place.expect(kept, whole, f"{words} {report}, of a cache")
+    # Where the answers don't fit into memory, each object is asked about.
+    code = "import sdtool.audit.cache as cache, sdtool.audit.command as command; cache._MOST_ANSWERS = 3; command.main()"
+    ended = subprocess.run([place.python, "-c", code, "risks", "cache.db", "--most", "7"], cwd=place.folder, env=place.environment,
+                           stdout=subprocess.PIPE, text=True)
+    place.expect((ended.returncode, ended.stdout), place.ask("risks", source, "--most", "7")[:2], "a cache of many descriptors")
     place.expect(place.ask("can", "WD", "change", source, "--into", "cache.db").status, 2, "a cache that is there")
     place.expect(sqlite3.connect(path).execute("SELECT count(*) FROM objects").fetchone()[0], len(rows), "objects of a cache")
     place.write("other.db", b"SQLite format 3\0" + bytes(100))
@@ -680,6 +744,7 @@ def test_words(place: Place) -> None:
                   ["can", "WD", source], ["risks", source, "--rules", "nonsense"], ["risks", source, "--domain", "bob"],
                   ["risks", source, "--encoding", "nonsense"], ["risks", source, "--delimiter", "ab"],
                   ["risks", source, "--descriptor-column", "7"], ["risks", source, "--out", source], ["risks", "--nonsense"],
+                  ["show", source, "--to", "html"], ["show", source, "--into", "new.db"], ["diff", source, source, "--into", "new.db"],
                   ["risks", source, "--accept", "nothing.toml"], ["risks", source, "--trusted", "bob"], ["diff", source],
                   ["can", ",".join(f"S-1-5-{at}" for at in range(1025)), "read", source], ["risks", source, "--out", "nowhere/x"], ["nonsense"]):
         ended = place.ask(*words, may_write="nowhere/x")
@@ -729,6 +794,11 @@ def test_scale(place: Place) -> None:
         lines += [""] * (kind == 4)
         lines.append(f'{name},"{kinds[number % 4]}"' + ",more" * (kind == 5))
     odd = place.write("odd.csv", "name,sddl\n" + "\n".join(lines) + "\n\n\n")
+    # One name in ten takes two lines: the objects keep their lines, also where other processes read them.
+    source = place.table((("two\nlines" if number % 10 == 3 else "a file", kinds[0]) for number in range(60_000)), "two.csv")
+    got = place.objects("risks", source, "--jobs", "4")
+    place.expect([one["line"] for one in got], [2 + number + (number + 6) // 10 for number in range(60_000)], "lines behind line ends")
+    place.expect(collections.Counter(one["name"] for one in got), {"two\nlines": 6_000, "a file": 54_000}, "names with line ends")
     place.write("accept.toml", "[[accept]]\nrule = 'everyone-changes'\nobject = 'file *1'\nreason = 'a test'\n")
     for words in (["--to", "csv"], ["--to", "jsonl", "--list", "found"], ["--to", "sarif"], ["--to", "html"], ["--to", "table"],
                   ["--to", "csv", "--accept", "accept.toml"]):
@@ -983,9 +1053,17 @@ def test_package(place: Place) -> None:
         names = wheel.namelist()
         info = next(name.split("/")[0] for name in names if name.endswith("/METADATA"))
         metadata, entries = (wheel.read(f"{info}/{name}").decode() for name in ("METADATA", "entry_points.txt"))
+    without_click = place.folder / "without"
+    without_click.mkdir()
+    (without_click / "click.py").write_text("raise ImportError('no click here')\n", encoding="utf-8")
+    paths = [*place.folder.glob("*.whl"), without_click]
+    ended = subprocess.run([place.python, "-c", "from sdtool.audit.__main__ import main; main()", "rules"], cwd=place.folder,
+                           env={**place.environment, "PYTHONPATH": os.pathsep.join(map(str, paths))}, capture_output=True)
+    place.expect((ended.returncode, ended.stdout, ended.stderr), (2, b"", b"sdtool-audit: no click here; pip install "
+                 b"'sdtool[audit]' has what it needs\n"), "the command of the wheel without click")
     modules = {f"sdtool/audit/{path.name}" for path in (TOP / "python/sdtool/audit").glob("*.py")}
     place.expect(modules - set(names), set(), "modules that the wheel lacks")
-    place.expect(entries, "[console_scripts]\nsdtool-audit = sdtool.audit.command:main\n", "the command of the wheel")
+    place.expect(entries, "[console_scripts]\nsdtool-audit = sdtool.audit.__main__:main\n", "the command of the wheel")
     place.expect(re.findall(r"^Requires-Dist: ([\w-]+) .*extra == 'audit'$", metadata, re.M), ["click", "rich", "python-ldap"],
                  "what the extra needs")
 
@@ -1012,7 +1090,7 @@ def test_examples(place: Place) -> None:
     place.expect(sorted(name for name in commands if name not in manual), [], "commands that the man page lacks")
 
 
-TESTS = (test_sources, test_damaged_registry, test_tables, test_plain_lines, test_hostile, test_page_report,
+TESTS = (test_sources, test_damaged_registry, test_tables, test_drives, test_plain_lines, test_hostile, test_page_report,
          test_can, test_who, test_directory_objects, test_risks, test_accepting, test_diff, test_inherit, test_show, test_cache, test_words,
          test_scale, test_bar, test_samba, test_checks, test_ntfs, test_directory_server, test_names_of_sids, test_package, test_examples)
 

@@ -1,10 +1,10 @@
 #!/usr/bin/env python3
 """c_objects.py PROGRAM [--lines N]
 
-Tests the library's calls for SIDs, parts, ACEs, many checks and building, from tests/c/objects.c. What they answer has to
+Tests the library's calls for SIDs, parts, ACEs, many checks, tokens and building, from tests/c/objects.c. What they answer has to
 be what PROGRAM answers: of descriptors the lines of `explain` or the `error` line, and what is built of the parts the
 layout that `convert` writes; of ACLs the same lines, up to the ACE that can't be read; of SIDs and their texts what
-`convert` does with an owner or a trustee; of many checks the lines of `check`. The lines are those of the worked rows,
+`convert` does with an owner or a trustee; of many checks, and of checks with a token that is read once, the lines of `check`. The lines are those of the worked rows,
 the hostile ones of compare.py, and N random ones. The cases of arguments and of ACLs round their limit are in objects.c,
 which also tries each size of the outputs, and walks through ACLs while they change. The program in C of docs/LIBRARY.md has
 to print what stands there.
@@ -237,7 +237,7 @@ def sids_of(maker, number, choices):
 
 
 def test_many(runners, program, maker, lines, choices):
-    """Many checks answer what the program answers to the lines."""
+    """Many checks, and checks with a token that is read once, answer what the program answers to the lines."""
     for _ in range(4):
         chosen = choices.sample(lines, min(OF_MANY, len(lines)))
         read = [one for one in map(readable, chosen) if one][:20]
@@ -246,6 +246,7 @@ def test_many(runners, program, maker, lines, choices):
         fields = question.line().split()
         expected = answers(program, words, chosen)
         runners.test(["many", *fields[1:]], chosen, expected)
+        runners.test(["with", *fields[1:]], chosen, expected)
 
 
 def test_document(count, folder):
@@ -265,6 +266,11 @@ def test_document(count, folder):
         ended = c_library.ran([program], whole[2])
         count.add((ended.stdout.decode(), ended.returncode) == (whole[3], 0),
                   f"the program of docs/LIBRARY.md prints {ended.stdout.decode()!r}")
+        # A part of these lines is the text of another descriptor.
+        for given in "D:" + "(A;;FA;;;WD)" * 200 + "\n", "D:(A;;FA;;;WD)\0(D;;FA;;;BU)\n", "D:(A;;FA;;;WD)":
+            ended = c_library.ran([program], given)
+            count.add((ended.stdout, ended.returncode) == (b"", 1),
+                      f"the program of docs/LIBRARY.md prints {ended.stdout.decode()!r} for a line that it can't read")
 
 
 def readable(line):
@@ -276,7 +282,7 @@ def readable(line):
 
 
 def main():
-    parser = argparse.ArgumentParser(description="Tests the library's calls for SIDs, parts, ACEs and many descriptors.")
+    parser = argparse.ArgumentParser(description="Tests the library's calls for SIDs, parts, ACEs, tokens and many descriptors.")
     parser.add_argument("program", type=os.path.abspath)
     parser.add_argument("--lines", type=int, default=400)
     arguments = parser.parse_args()

@@ -6,8 +6,8 @@ happens, an answer file that is there has to be what PROGRAM writes. The command
 1 KB. Then workers have another library, see other files, come late, are stopped, killed or all gone; the scheduler dies;
 the library answers wrongly; disks are full; runs are interrupted and done again after inputs, answers, parts, records or the
 library have changed. It needs Dask and fsspec (Debian: python3-dask, python3-distributed, python3-fsspec); without them it
-says so and tests nothing. Servers of files need openssh-server, python3-paramiko and python3-aiohttp. The last line is
-'N passed, M failed'.
+says so and tests nothing. Servers of files need openssh-server, python3-paramiko and python3-aiohttp, and the one of S3 a
+python3 on the PATH with moto and boto3. The last line is 'N passed, M failed'.
 """
 import argparse
 import bz2
@@ -57,27 +57,28 @@ LONG_FILES = {
     "long line": b"0" * 3_000_000 + b"\n" + LINE, "long last line": LINE + b"\n" + b"0" * 5_000_000,
     "long line, CR LF": LINE + b"z" * 6_200_000 + b"\r\n" + LINE, "longest line": b"0" * 262_452 + b"\r\n" + LINE,
 }
-# A package that is the real one, but for what its run does.
+# A package that is the real one, but for what its library answers.
 STUB = """
 import os, signal, time
 __path__ = [{real!r}]
 exec(compile(open({real!r} + "/__init__.py").read(), {real!r} + "/__init__.py", "exec"))
-right = run
-Answers = type(right(["convert"], b""))
-def run(words, data):
-    answers = right(words, data)
+from sdtool import _library
+right = _library.run
+def answer(words, data):
+    status, answers, message = right(words, data)
     if data:
 {body}
-    return answers
+    return status, answers, message
+_library.run = answer
 """
 STUBS = {
     "slow": "open({log!r}, 'a').write(f'{{os.getpid()}}\\n'); time.sleep(0.2)",
     "fails": "if b'MARK' in data: raise ValueError('the library fails')",
-    "cuts": "answers = Answers(answers[0], answers[1][:len(answers[1]) // 3].rpartition(b'end\\n')[0] + b'end\\n', '')",
-    "drops": "if b'MARK' in data: answers = Answers(1, answers[1].partition(b'\\n')[2], '')",
-    "tears": "if b'MARK' in data: answers = Answers(answers[0], answers[1][:-1], '')",
-    "lies": "if b'MARK' in data: answers = Answers(0, answers[1], '')",
-    "stops": "if b'MARK' in data: answers = Answers(3, answers[1], 'sdtool: error 61 write')",
+    "cuts": "answers = answers[:len(answers) // 3].rpartition(b'end\\n')[0] + b'end\\n'",
+    "drops": "if b'MARK' in data: status, answers = 1, answers.partition(b'\\n')[2]",
+    "tears": "if b'MARK' in data: answers = answers[:-1]",
+    "lies": "if b'MARK' in data: status = 0",
+    "stops": "if b'MARK' in data: status, message = 3, b'sdtool: error 61 write'",
     "dies": "if b'MARK' in data: os.kill(os.getpid(), signal.SIGKILL)",
 }
 
@@ -148,11 +149,15 @@ def ended(child):
     return Ended(child.returncode, (stdout or b"").decode(errors="replace"), (stderr or b"").decode(errors="replace"))
 
 
+def is_answer(name):
+    """Whether a file of an output has answers."""
+    return not name.startswith("_sdtool/") and not re.search(r"(^|/)_sdtool(-part-\d+)?\.json$", name)
+
+
 def answers_in(out):
     """The answer files below the folder, by their names in it."""
     names = {str(path.relative_to(out)): path for path in out.rglob("*") if path.is_file()}
-    return {name: path.read_bytes() for name, path in names.items()
-            if not name.startswith("_sdtool/") and not re.search(r"(^|/)_sdtool(-part-\d+)?\.json$", name)}
+    return {name: path.read_bytes() for name, path in names.items() if is_answer(name)}
 
 
 def counts_of(answers, words, data):
@@ -397,6 +402,74 @@ def test_remote(count, place):
         parts = answers_in(served / f"{kind}-parts")
         is_right = got.status == 1 and b"".join(parts[name] for name in sorted(parts)) == wanted and len(parts) > 5
         count.add(is_right, f"{kind}, parts: {sorted(parts)} {got}")
+
+
+class ObjectStore:
+    """A bucket of an S3 server, moto. Where the Python with Dask has no boto3, it is lent that of the Python with moto."""
+    MODULES = ("boto3", "botocore", "s3transfer", "jmespath", "dateutil", "urllib3", "six")
+
+    def __init__(self, place):
+        self.place, self.environment = place, None
+        code = f"import importlib, moto.server\nfor name in {self.MODULES}: print(importlib.import_module(name).__file__)"
+        found = subprocess.run([sys.executable, "-c", code], stdout=subprocess.PIPE, stderr=subprocess.DEVNULL, text=True)
+        if found.returncode:
+            return
+        lent = place.folder / "lent"
+        lent.mkdir()
+        for path in map(pathlib.Path, found.stdout.splitlines()):
+            path = path.parent if path.name == "__init__.py" else path
+            (lent / path.name).symlink_to(path)
+        url = started_server(place, Server("http://127.0.0.1:%d", [sys.executable, "-m", "moto.server", "-p"], "sys", ""))
+        self.environment = {"S3_ENDPOINT": url, "PYTHONPATH": f"{dask_cluster.PYTHON}:{TOP}/tests/object_store:{lent}"}
+        self.ask("fs.client.create_bucket(Bucket='bucket')")
+
+    def ask(self, code):
+        code = f"import fsspec, json\nfs = fsspec.filesystem('s3')\n{code}"
+        return ended(self.place.start([self.place.python, "-c", code], self.environment, stdout=subprocess.PIPE)).stdout
+
+    def put(self, path, name, data):
+        self.place.write(name, data)
+        self.ask(f"fs.pipe_file({path!r}, open({name!r}, 'rb').read())")
+
+    def answers(self, out):
+        told = self.ask(f"print(json.dumps({{path: fs.cat_file(path).decode() for path in fs.find({out!r})}}))")
+        answers = {path[len(out) + 1:]: text.encode() for path, text in json.loads(told).items()}
+        return {name: text for name, text in answers.items() if is_answer(name)}
+
+
+def test_object_store(count, place):
+    """Inputs and answers in an S3 server: what has the same ETag is kept, and large answers go there in several parts."""
+    store = ObjectStore(place)
+    if store.environment is None:
+        print("skipped: no S3 server (moto and boto3)")
+        return
+    _, address = place.start_scheduler()
+    for _ in range(2):
+        place.start_worker(address, store.environment)
+    place.wait_for_workers(address, 2)
+
+    def run(out, given, *options, words=("convert",)):
+        got = place.run(f"s3://{out}", words, [given], ["--scheduler", address, *options], store.environment)
+        count.add("Traceback" not in got.stderr, f"S3, {out}: {got}")
+        return got, store.answers(out)
+
+    kept = []
+    for data in LINE * 300 + b"zz\n", None, LINE.replace(b"12", b"13", 1) * 300 + b"zz\n":
+        if data:
+            store.put("bucket/in/below/one", "one", data)
+        got, answers = run("bucket/out", "s3://bucket/in")
+        count.add(got.status == 1 and answers == {"below/one": place.wanted(["convert"], "one")[0]}, f"S3: {answers.keys()} {got}")
+        kept.append(store.ask("print(fs.info('bucket/out/below/one')['LastModified'])"))
+        time.sleep(1)  # which the server's times tell apart
+    count.add(kept[0] == kept[1] != kept[2], f"S3: answers that are kept have their time: {kept}")
+    got, answers = run("bucket/parts", "s3://bucket/in/below/*", "--parts")
+    joined = b"".join(answers[name] for name in sorted(answers))
+    count.add(joined == place.wanted(["convert"], "one")[0] and len(answers) > 5, f"S3, parts: {sorted(answers)} {got}")
+    store.put("bucket/large", "large", LINE * 100_000)
+    got, answers = run("bucket/whole", "s3://bucket/large", "--block", "4000000", words=("convert", "--to", "hex"))
+    count.add(answers == {"large": place.wanted(["convert", "--to", "hex"], "large")[0]}, f"S3, large answers: {got}")
+    got, _ = run("bucket/nothing", "s3://bucket/nothing")
+    count.add(got.status == 2 and "no regular file" in got.stderr, f"S3, no such object: {got}")
 
 
 # Workers.
@@ -714,6 +787,7 @@ def over_answers(count, place):
     timed("folders and compressed files", test_places, count, place, address)
     timed("memory://", test_memory, count, place)
     timed("servers", test_remote, count, place)
+    timed("an object store", test_object_store, count, place)
     timed("words", test_words, count, place, address)
 
 

@@ -6,7 +6,7 @@ Checks which modules of which crates the files of each crate name, and how large
   parts of others  no file names another crate's `specs.Inner`, or a module of its `proofs` outside `proofs.laws`
   laws             no file of `proofs/laws` names `specs.Inner` of its own crate, or the goals of one of its functions
   dependencies     crates.txt lists for this crate each crate that a file of `src` names, and none that no file names
-  size             `src` has at most 1,200 lines, that of sd_command 1,300
+  size             `src` has at most 1,200 lines
 
 FOLDER is the top of the repository, and by default that of this file. The last line is 'N passed, M failed'.
 """
@@ -22,7 +22,6 @@ MODULE = re.compile(r"\bRattle[.·](?:\w+[.·]below[.·])?(\w+)((?:[.·][\w-]+)*
 RUST_PATH = re.compile(r"(?<![\w:.])(\w+)::|\buse\s+(\w+)\s*(?:;|as\b)")
 OF_ONE_FUNCTION = {"Goals", "Given", "Answers", "Invariants", "Proof"}
 MOST_LINES = 1200  # of src
-LARGER = {"sd_command": 1300}  # it has two subjects that belong apart, the words and what they set
 
 
 def dependencies(top):
@@ -98,8 +97,7 @@ def main():
         for check, places in violations(crate, top / "crates" / crate, listed).items():
             count.add(not places, f"{crate}, {check}:\n  " + "\n  ".join(places))
         lines = size(top / "crates" / crate)
-        most = LARGER.get(crate, MOST_LINES)
-        count.add(lines <= most, f"{crate}, size: {lines:,} lines of src, and not at most {most:,}")
+        count.add(lines <= MOST_LINES, f"{crate}, size: {lines:,} lines of src, and not at most {MOST_LINES:,}")
     return count.end()
 
 

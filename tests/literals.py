@@ -13,8 +13,7 @@ lists. Tables are changed too, where a definition cites them. Left out are files
 tables written out again (*Values.antt), and FoldedReading.antt, which a law proves equal to another definition.
 
 Many changes are judged at once: each changed file, what rests on it and the rows are modules of one crate beside copies
-of the others, and `rt check --only` runs there. First `make check` has to pass in the crates that are tried and in all
-below `sd_run`. The constants of a crate are printed by `rt check --generated` once and kept in out/literals, which
+of the others, and `rt check --only` runs there. First `make check` has to pass in all crates. The constants of a crate are printed by `rt check --generated` once and kept in out/literals, which
 takes a minute or two a crate, and longer for sd_sid.
 
 A line tells of each change that no row refuses, and of each that does not read, as a case that stands twice. The last
@@ -36,7 +35,6 @@ import layers  # noqa: E402
 
 TOP = pathlib.Path(__file__).resolve().parent.parent
 KEPT = TOP / "out/literals"
-TRIED_BELOW = "sd_run"  # the crates before it in crates.txt
 AT_ONCE = 40  # changes
 PROBE = "literals"
 # Records that types of the code hold: a copy of a definition goes on using the record itself.
@@ -171,8 +169,7 @@ class Definitions:
 
     def __init__(self):
         self.listed = layers.dependencies(TOP)
-        names = list(self.listed)
-        self.crates = [c for c in names[:names.index(TRIED_BELOW)] if (TOP / "crates" / c / "specs").is_dir()]
+        self.crates = [name for name in self.listed if (TOP / "crates" / name / "specs").is_dir()]
         self.enums, self.modules, self.rows = enums(self.crates), {}, {}
         for crate in self.crates:
             folder = TOP / "crates" / crate
@@ -411,7 +408,7 @@ class Probe:
 
 def main():
     parser = argparse.ArgumentParser(description="Changes the literals of definitions, and says what no row refuses.")
-    parser.add_argument("crates", nargs="*", metavar="CRATE", help="by default all below sd_run")
+    parser.add_argument("crates", nargs="*", metavar="CRATE", help="by default all")
     parser.add_argument("--rules", action="store_true", help="also changes rules")
     parser.add_argument("--list", action="store_true", help="only prints the changes")
     parser.add_argument("--only", metavar="WORD", default="", help="only changes with this word in their lines")
@@ -420,7 +417,7 @@ def main():
     definitions = Definitions()
     unknown = {*given.crates, *filter(None, given.rows.split(","))} - set(definitions.crates)
     if unknown:
-        parser.error(f"there is no crate {min(unknown)} with definitions below {TRIED_BELOW}")
+        parser.error(f"there is no crate {min(unknown)} with definitions")
     found = definitions.changes(given.crates or definitions.crates, given.rules)
     changes = [change._replace(number=i) for i, change in enumerate(found) if given.only in str(change)]
     if given.list:

@@ -8,14 +8,17 @@ arm64, under qemu-user, which is in FOLDER; if it is not there, apt-get download
 Debian has no Python for Windows.
 
 With --archives it also packs all archives in two copies of the tree at other places, in other surroundings, and compares
-them byte for byte. The last line is 'N passed, M failed'.
+them byte for byte. Then it unpacks each, compares its checksums, and runs the examples of its README.txt, for arm64 under
+qemu-user and for Windows under wine. The last line is 'N passed, M failed'.
 """
 import argparse
 import base64
 import concurrent.futures
+import contextlib
 import json
 import os
 import pathlib
+import re
 import shutil
 import subprocess
 import sys
@@ -24,6 +27,7 @@ import tempfile
 sys.dont_write_bytecode = True
 import c_library  # noqa: E402
 import preload  # noqa: E402
+import systems  # noqa: E402
 
 TOP = pathlib.Path(__file__).resolve().parent.parent
 SYSTEMS = TOP / "out" / "systems"
@@ -181,18 +185,56 @@ def test_wheels(count, program, folder, arm64):
             test_unpacked(count, wheel, folder)
 
 
-def archives_of(place, changes, mask):
-    """What dist.sh makes in a copy of the tree at a place, with other surroundings."""
+def archives_of(place, changes, mask, time):
+    """What dist.sh makes in a copy of the tree at a place, with other surroundings, of documents and modules of that time."""
     place.parent.mkdir(parents=True)
     left_out = shutil.ignore_patterns("__pycache__", "dist", "incremental", "*.rlib", "must-fail")
     shutil.copytree(TOP, place, symlinks=True, ignore=left_out)
+    for path in (path for folder in ("docs", "examples", "python") for path in (place / folder).rglob("*")):
+        os.utime(path, (time, time))
     ended = ran(["sh", "-c", f"umask {mask} && exec packaging/dist.sh"], cwd=place, env={**os.environ, **changes})
     return ended, {path.name: path.read_bytes() for path in (place / "out/dist").glob("*")}
 
 
+def examples(text):
+    """The command of each example and what it prints."""
+    for command, printed in re.findall(r"^    [$>] (.*)\n((?:    .*\n)+)", text, re.M):
+        yield command, "".join(line[4:] for line in printed.splitlines(keepends=True))
+
+
+def runner(system, command):
+    """The words that run an example; None if they need a command that is not here."""
+    if system == "windows-x86_64":
+        return ["wine", "cmd", "/c", command] if shutil.which("wine") else None
+    if system == "linux-aarch64":
+        command = command.replace("bin/sdtool", "qemu-aarch64 bin/sdtool")
+    return ["sh", "-c", command] if system != "linux-aarch64" or shutil.which("qemu-aarch64") else None
+
+
+def test_unpacked_archive(count, archive, folder, wine):
+    """An archive in an empty folder: its checksums, and the examples of its README.txt."""
+    system = archive.name.split("-", 2)[2].split(".")[0]
+    place = folder / "unpacked" / system
+    place.mkdir(parents=True)
+    shutil.unpack_archive(archive, place)
+    tree, = place.iterdir()
+    ended = ran(["sha256sum", "--check", "--strict", "--quiet", "SHA256SUMS"], cwd=tree)
+    count.add(ended.returncode == 0, f"{archive.name}: {ended.stdout.decode()}")
+    found = list(examples((tree / "README.txt").read_text(encoding="utf-8")))
+    count.add(found, f"{archive.name}: no example")
+    for command, printed in found:
+        words = runner(system, command)
+        if not words:
+            print(f"{archive.name}: its examples are skipped, there is nothing to run them")
+            return
+        ended = subprocess.run(words, cwd=tree, stdin=subprocess.DEVNULL, capture_output=True, timeout=SECONDS, check=False,
+                               env={**surroundings(), **wine})
+        count.add(ended.stdout.decode() == printed, f"{archive.name}: {command}: {ended.stdout.decode()} {ended.stderr.decode()}")
+
+
 def test_archives(count, folder):
-    places = [(folder / "a" / "tree", {"TZ": "UTC", "LANG": "C", "HOME": str(folder)}, "022"),
-              (folder / "another" / "place of the tree", {"TZ": "Asia/Tokyo", "LANG": "C.UTF-8", "LC_ALL": "C.UTF-8"}, "077")]
+    places = [(folder / "a" / "tree", {"TZ": "UTC", "LANG": "C", "HOME": str(folder)}, "022", 1_000_000_000),
+              (folder / "another" / "place of the tree", {"TZ": "Asia/Tokyo", "LANG": "C.UTF-8", "LC_ALL": "C.UTF-8"}, "077", 2_000_000_000)]
     with concurrent.futures.ThreadPoolExecutor(2) as threads:
         (one, first), (other, second) = threads.map(archives_of, *zip(*places))
     count.add(one.returncode == other.returncode == 0 and len(first) > 3,
@@ -200,6 +242,10 @@ def test_archives(count, folder):
     count.add(sorted(first) == sorted(second), f"archives: {sorted(first)} {sorted(second)}")
     for name in first.keys() & second.keys():
         count.add(first[name] == second[name], f"{name} is other bytes at another place")
+    archives = [path for path in (places[0][0] / "out/dist").iterdir() if path.name.endswith((".tar.gz", ".zip"))]
+    with systems.wine(folder / "wine") if shutil.which("wine") else contextlib.nullcontext({}) as wine:
+        for archive in archives:
+            test_unpacked_archive(count, archive, folder, wine)
 
 
 def main():

@@ -186,12 +186,17 @@ async function triesToSend(...given) {
     return outcomes;
 }
 
-async function longLine(...given) {
-    const text = given[0];
+const pasteInto = (id, text) => {
     const transfer = new window.DataTransfer();
     transfer.setData("text/plain", text);
+    // Chromium takes clipboardData, Firefox data.
+    byId(id).dispatchEvent(new window.ClipboardEvent(
+        "paste", {clipboardData: transfer, dataType: "text/plain", data: text, bubbles: true, cancelable: true}));
+};
+
+// How long a key has to wait for the page until it has answered.
+async function whileBusy(act) {
     const gaps = [];
-    let last = performance.now();
     const channel = new window.MessageChannel();
     let isOver = false;
     channel.port1.onmessage = () => {
@@ -201,21 +206,33 @@ async function longLine(...given) {
         if (!isOver) setTimeout(() => channel.port2.postMessage(0), 0);
     };
     const began = performance.now();
-    // Chromium takes clipboardData, Firefox data.
-    byId("text").dispatchEvent(new window.ClipboardEvent(
-        "paste", {clipboardData: transfer, dataType: "text/plain", data: text, bubbles: true, cancelable: true}));
-    if (isIdle()) throw new Error("the text was not pasted");
-    last = performance.now();
+    let last = began;
+    act();
+    if (isIdle()) throw new Error("nothing was asked");
     channel.port2.postMessage(0);
     await until(isIdle);
     const seconds = (performance.now() - began) / 1000;
     isOver = true;
-    return {
-        seconds,
-        most: Math.max(...gaps),
-        started: began,
-        aces: document.querySelector("#dacl-heading small")?.textContent ?? byId("view-look").textContent.slice(0, 200)
-    };
+    return {seconds, most: Math.max(...gaps)};
+}
+
+async function longLine(...given) {
+    const times = await whileBusy(() => pasteInto("text", given[0]));
+    const shown = document.querySelector("#dacl-heading small") ?? byId("view-look");
+    return {...times, aces: shown.textContent.slice(0, 200)};
+}
+
+// A long text in another field for a descriptor, which is kept beside it, and what the view says to it.
+async function longField(...given) {
+    const [view, id, text] = given;
+    byId(`tab-${view}`).click();
+    await until(isIdle);
+    const times = await whileBusy(() => pasteInto(id, text));
+    const kept = [byId(id).value, byId(id).disabled, byId(`${id}-large`).textContent];
+    const shown = byId(`${view}-result`).textContent.slice(0, 300);
+    byId(`${id}-clear`).click();
+    await until(isIdle);
+    return {...times, kept, shown, cleared: [byId(id).disabled, document.activeElement.id]};
 }
 
 async function bigFile(...given) {

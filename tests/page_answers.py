@@ -1,6 +1,7 @@
 """Tests of the page: its answers are those of the program, for worked rows, cells of the grid, reasons and views."""
 import base64
 import collections
+import re
 
 import page_descriptors
 import run_rows
@@ -291,6 +292,28 @@ def test_inherit(count, page, given):
     # By the tables of docs/FORMAT.md: two ACEs for the creator's CO, one for AU; one for SY, two for CO, none for BU.
     wanted = ["creator 1", "creator 1", "creator 2", "parent 1", "parent 2", "parent 2", "parent 1"]
     count.add(arrows == wanted, f"arrows: {arrows}, not {wanted}")
+
+
+def test_long_inherit(count, page, given):
+    """A long list is shown in several turns of the page, and whole: nothing of it is left out without a word."""
+    page.open()
+    aces = [f"(A;OICI;FR;;;S-1-5-21-1-2-3-{number})" for number in range(1000, 1260)]
+    text = f"D:{''.join(aces)}"
+    got = page.call("inherit", {"kind": "file", "owner": "BA", "group": "SY", "creator": "", "text": text})
+    made = line_of(given.program, ["derive", "--from", "sddl", "--owner", "BA", "--group", "SY", "--kind", "file"], text)
+    sddl = next(node["sddl"] for node in got if node["sddl"])
+    count.add(sddl.endswith(" ..") and made.startswith(sddl[:-3]), f"a text that is cut: {sddl[-40:]}")
+    shown = page.do(
+        "const more = () => document.querySelector('#inherit-result .more button'); while (more()) more().click(); "
+        "return Array.from(document.querySelectorAll('#inherit-result section.node'), (node) => "
+        "Array.from(node.querySelectorAll('li'), (item) => [item.dataset.from ?? '', "
+        "item.querySelector('code:not(.mask):not(.sid)').textContent]));"
+    )
+    numbers = [["", ace] for ace in aces]
+    count.add(shown[0] == numbers, f"the ACEs of the folder: {len(shown[0])}, {shown[0][:2]}")
+    derived = re.findall(r"\([^()]*\)", made)
+    arrows = [[f"parent {number}", ace] for number, ace in enumerate(derived, 1)]
+    count.add(len(derived) == len(aces) and shown[1] == arrows, f"those of a new file: {len(shown[1])}, {shown[1][:2]}")
 
 
 def test_compare(count, page, given):

@@ -50,6 +50,47 @@ def test_long_line(count, page, given):
     count.add(blocked <= times * MOST_BLOCKED, f"a key would have waited {blocked:.0f} ms")
 
 
+# Texts for which a careless search would take hours, and lines as long as one can be with an error at their end.
+TANGLES = [
+    "a" + '"\\' * 100_000,
+    "x" + " " * 200_000 + "REG_BINARY 01",
+    "hex:" + "\\\n" * 100_000 + "x",
+    "nTSecurityDescriptor:: AQ==\n" * 7000,
+    "dn:" + " " * 200_000 + "\nD:P",
+    'x,"D:' + '""' * 100_000,
+    "D:" + "(" * 200_000,
+    "D:" + ":" * 200_000,
+]
+
+
+def test_tangles(count, page, given):
+    page.open()
+    front = long_line().rpartition("(")[0]
+    for text in [*TANGLES, front + "(A;;FA;;;Everyone)", front + "(A;;FA;;WD)", front + "(XA;;FA;;;WD)"]:
+        got = page.call("longLine", text)
+        limit = (1 if given.idle else BUSY) * MOST_WAITED
+        count.add(got["seconds"] <= limit, f"{text[:20]!r}.. of {len(text)} characters: {got}")
+
+
+def test_long_fields(count, page, given):
+    """A long text stays out of each field for a descriptor, and is answered all the same."""
+    text = long_line()
+    wrong = "D:" + "(A;;FA;;;Everyone)" * 2000
+    page.open()
+    page.call("longLine", text)
+    for view, field, pasted, said in (
+        ("compare", "other-text", text, "The two have the same content."),
+        ("inherit", "made-creator", wrong, "error 25"),
+    ):
+        got = page.call("longField", view, field, pasted)
+        value, is_disabled, note = got["kept"]
+        count.add(value == "" and is_disabled and f"{len(pasted)} characters" in note, f"{field}: {got['kept']}")
+        count.add(said in got["shown"], f"a long text in {field}: {got['shown']}")
+        count.add(got["cleared"] == [False, field], f"{field} is not cleared: {got['cleared']}")
+        limit = (1 if given.idle else BUSY) * MOST_TURN
+        count.add(got["most"] <= limit, f"{field}: a turn of the page took {got['most']:.0f} ms")
+
+
 def test_big_file(count, page, given):
     piece = (TOP / "examples/descriptors.hex").read_bytes() * 200
     times = max(1, given.megabytes * 1_000_000 // len(piece))

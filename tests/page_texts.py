@@ -1,4 +1,5 @@
 """Tests of the page: what it finds in a pasted text, places of errors, warnings, names of GUIDs."""
+import json
 import random
 import re
 
@@ -64,6 +65,46 @@ def test_forms(count, page, given):
         count.add(shown[0] == sddl and said in shown[1], f"{text[:60]!r}: {shown}, not {sddl} {said}")
 
 
+def test_several(count, page, given):
+    """Each of several descriptors can be chosen, by keys too, by the name that the text has for it."""
+    page.open()
+    one, other = "O:BAG:SYD:(A;;FA;;;BA)", "O:BAG:SYD:(A;;FR;;;WD)"
+    data, temp = r"C:\Data", r"\\server\temp"
+    texts = [
+        (f'"Path","Owner","Sddl"\n"{data}","x, y","{one}"\n"{temp}","z","{other}"\n', [data, temp]),
+        (json.dumps([{"Path": data, "Sddl": one}, {"Path": temp, "Sddl": other}], indent=4), [data, temp]),
+        (f"Path   : {data}\nSddl   : {one}\n\nPath   : {temp}\nSddl   : {other}\n", [data, temp]),
+        (f"{data}\n{one}\n{temp}\n{other}\n", [data, temp]),
+        (
+            f"dn: CN=a,DC=x\ncn: a\nnTSecurityDescriptor: {one}\n\ndn: CN=b\ncn: b\n\ndn:: Q049Yw==\n"
+            f"nTSecurityDescriptor: {other}\n",
+            ["CN=a,DC=x", "CN=c"],
+        ),
+        (f"Original Security Descriptor:\t{one}\nNew Security Descriptor:\t{other}", ["Original Security Descriptor"]),
+    ]
+    for text, names in texts:
+        page.see(text)
+        shown = page.texts("#chosen option")
+        wanted = [f"{number} of 2 {name}" for number, name in enumerate(names, 1)]
+        count.add(shown[: len(wanted)] == wanted and len(shown) == 2, f"{text!r}: {shown}, not {wanted}")
+        page.do("byId('chosen').focus();")
+        page.browser.press("ArrowDown")
+        got = page.do(
+            "await until(isIdle); return [document.querySelector('.words code.whole')?.textContent, "
+            "document.activeElement.id];"
+        )
+        count.add(got == [other, "chosen"], f"the second of {text!r} by keys: {got}")
+    lines = [f"D:(A;;{number:#x};;;BA)" for number in range(1, 1301)]
+    page.see("\n".join(lines))
+    for number, asked in ((1, ""), (1299, "1299"), (1300, "9999")):
+        got = page.do(
+            "put('chosen', given[0]); await until(isIdle); return document.querySelector('.words code.whole').textContent;",
+            asked,
+        )
+        told = line_of(given.program, ["convert", "--from", "sddl", "--to", "sddl"], lines[number - 1])
+        count.add(got == told, f"number {asked!r} of {len(lines)}: {got}, not {told}")
+
+
 # The text, the number, what is marked, and the words of the place.
 FAULTS = [
     ("D:(A;;FA;;;WD)(A;;FA;;;Everyone)", 25, "Everyone", "the SID of ACE 2 of the DACL"),
@@ -116,6 +157,8 @@ def test_faults(count, page, given):
             f"{text}: the program says {told}, the page {got[3]}",
         )
         count.add(got[0] == marked and place in shown, f"{text}: marked {got[0]!r}, not {marked!r}, in {shown[:200]}")
+        is_kind = "The library does not evaluate it" in shown
+        count.add(is_kind == ("treat the descriptor as unknown" in shown), f"{text}: what to do: {shown}")
         # Nothing of a refused descriptor is shown as if it were the answer.
         count.add(got[2] == 0 and "Who can change it" not in shown, f"{text}: a refusal beside rights")
     page.do("put('form', 'auto');")
@@ -216,6 +259,11 @@ def test_warnings(count, page, _):
         page.see(text)
         shown = page.texts(".warning")
         count.add(any(warning in one for one in shown), f"{text}: {shown}")
+    # What Authenticated Users get is said of them, and not of each member whom an ACE names.
+    page.see("O:BAD:(A;;FA;;;AU)(A;;FR;;;BU)(A;;FR;;;S-1-5-21-1-2-3-1001)(A;;WO;;;S-1-5-21-1-2-3-1002)")
+    shown = page.texts(".warning.danger, .warning.caution")
+    blamed = [text.split(" can ")[0].split(" ")[1:] for text in shown]
+    count.add(blamed == [["Authenticated", "Users"]], f"who is blamed for what Authenticated Users get: {shown}")
     page.see("O:BAG:SYD:(A;;FA;;;BA)(A;;FA;;;SY)")
     shown = page.texts(".warning")
     count.add(shown == [], f"a harmless descriptor: {shown}")

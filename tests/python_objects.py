@@ -578,6 +578,10 @@ def test_document(count):
         ended = subprocess.run([sys.executable, "-c", program], input=given, stdout=subprocess.PIPE, check=False, text=True,
                                env={**os.environ, "PYTHONPATH": str(TOP / "python")})
         count.add((ended.stdout, ended.returncode) == (expected, 0), f"the program of docs/LIBRARY.md prints {ended.stdout}")
+        odd = b"caf\xe9\tD:(A;;FR;;;BU)\r\na\rb\tD:(A;;FR;;;BU)\n"
+        ended = subprocess.run([sys.executable, "-c", program], input=odd, stdout=subprocess.PIPE, check=False,
+                               env={**os.environ, "PYTHONPATH": str(TOP / "python"), "PYTHONIOENCODING": "utf-8"})
+        count.add(ended.stdout == b"caf\xe9: no\na\rb: no\n", f"the program of docs/LIBRARY.md prints {ended.stdout} for odd names")
     shown = "".join(block for block in text.split("```")[1::2] if block.startswith("\n>>> "))
     runner = doctest.DocTestRunner()
     runner.run(doctest.DocTestParser().get_doctest(shown, {}, "docs/LIBRARY.md", None, 0))

@@ -6,12 +6,14 @@ Tests what 'make systems' built, out/systems, against PROGRAM, the program of th
   rows      the worked rows; of those that ask for a device of their own, the ones that the system can be given
   lines     N lines as compare.py makes them, in hex, base64 and SDDL, through each of the four commands: each byte of the
             answers, and the status, has to be PROGRAM's
+  processor the static program of Linux on x86-64 under qemu-user, as a processor that is too old for it, and as one that isn't
   limits    a line of 100 MB, and an input of many lines beside a short one, for the memory that both take
   library   the same lines in calls of sdtool_run, by tests/c/run_lines.c; on arm64 and Windows the library's own tests in C,
             calls.c, runs.c and objects.c; for JavaScript the calls that c_library.py and c_objects.py make, tests/javascript/
             module.mjs, its types, by types.ts, the example of docs/SYSTEMS.md, and the module in browsers
-  streams   on Windows tests/c/on_windows.c: pipes, NUL, consoles, missing streams, and arguments that are no text; in a WASI
-            host of our own the reads and writes that fail as device_faults.py fails those of Linux
+  streams   on Windows tests/c/on_windows.c: pipes, NUL, missing streams, arguments that are no text, and consoles, which wine
+            has where there is a display; in a WASI host of our own the reads and writes that fail as device_faults.py fails
+            those of Linux
   stack     on Windows how it is touched, and that little of it suffices
 
 arm64 runs under qemu-user, Windows under wine, and WebAssembly in Node. A system whose tools are missing is skipped, and
@@ -57,6 +59,7 @@ JOBS = os.cpu_count() or 1
 LONG_LINE = 100_000_000
 MANY_LINES, FEW_LINES = 1_000_000, 1_000
 MOST_WORDS = 1 << 20
+TOO_OLD, OLDEST = "core2duo", "Nehalem"  # processors of qemu: the last without x86-64-v2, and the first with it
 MORE_MEMORY = 16 << 20  # that many lines may take beyond few ones
 PAGE, SMALL_STACK = 4096, 256 << 10
 STARTS, FAILED_STARTS, STARTS_OF_A_FAILURE = "starts", "failed starts", 500
@@ -91,7 +94,7 @@ SYSTEMS = {
     "windows-x86_64": System("sdtool.exe", ["wine"], ["wine", CROSS["windows-x86_64"]],
                              {"input not ready", "output not ready", "input fails after each byte"}, 32_000, False),
     # Node makes text of each word, and opens /dev/null in the place of a stream that is closed.
-    "wasm": System("sdtool-wasi.wasm", ["node", "--no-warnings", str(TESTS / "javascript/wasi.mjs")], ["node", "wasm-opt"],
+    "wasm": System("sdtool-wasi.wasm", ["node", "--no-warnings", str(TESTS.parent / "javascript/wasi.mjs")], ["node", "wasm-opt"],
                    {"input closed", "output closed"}, MOST_WORDS, False),
 }
 
@@ -225,6 +228,22 @@ def test_lines(count, native, program, name, files):
             expected, found = answers(native, words, file), answers(program, words, file)
             count.add(found == expected and lines > 0,
                 f"{name} {words}: {found == expected or first_difference(found, expected)}")
+            # So consoles show them, whatever their code page.
+            count.add(found[0].isascii() and found[1].isascii(), f"{name} {words}: an answer beyond ASCII")
+
+
+def test_processor(count, native, name, files):
+    """On a processor without what the code is compiled for the program says so and answers nothing."""
+    emulator = "qemu-x86_64"
+    if not shutil.which(emulator):
+        print(f"{name}: older processors are skipped, there is no command {emulator}")
+        return
+    program = BUILT / name / SYSTEMS[name].file
+    file = next(iter(files.values()))
+    ended = answers(emulator, ["-cpu", TOO_OLD, program, *COMMANDS[0]], file)
+    count.add(ended[0] == b"" and ended[1] != b"" and ended[2] == 127, f"{name} on {TOO_OLD}: {ended[1]}, status {ended[2]}")
+    found, expected = answers(emulator, ["-cpu", OLDEST, program, *COMMANDS[0]], file), answers(native, COMMANDS[0], file)
+    count.add(found == expected, f"{name} on {OLDEST}: {found == expected or first_difference(found, expected)}")
 
 
 def memory_of(program, words, file):
@@ -509,16 +528,26 @@ def test_in_c(count, native, name, folder, number):
         test_objects(count, native, runners, number)
 
 
+def test_streams(count, name, folder):
+    """Streams and words as only Windows has them. A wine of its own has a display, and so consoles."""
+    program = built_for(folder, name, "on_windows", ["-lshell32"])
+    count.add(program, f"{name}: on_windows.c is not built")
+    if not program:
+        return
+    with display() as screen, wine(folder / "wine with a display", screen) as surroundings:
+        ended = subprocess.run([*SYSTEMS[name].runner, program, BUILT / name / "sdtool.exe"], capture_output=True,
+                               stdin=subprocess.DEVNULL, timeout=SECONDS, check=False, env=surroundings)
+    said = ended.stdout.decode("latin-1")
+    count.add(ended.returncode == 0 and " passed, 0 failed" in said, f"{name} streams: {said}")
+    count.add(screen is None or "skipped" not in said, f"{name} streams: {said}")
+
+
 def test_library(count, native, name, folder, files, number):
     """The library, from a program in C of the system: all lines through all commands, in one call each."""
     runner = SYSTEMS[name].runner
     if name == "windows-x86_64":
         shutil.copy(BUILT / name / "sdtool.dll", folder)
-        on_windows = built_for(folder, name, "on_windows", ["-lshell32"])
-        ended = on_windows and subprocess.run([*runner, on_windows, BUILT / name / "sdtool.exe"], capture_output=True,
-                                              timeout=SECONDS, check=False)
-        count.add(ended and ended.returncode == 0 and b" passed, 0 failed" in ended.stdout,
-                  f"{name} streams: {ended and ended.stdout.decode('latin-1')}")
+        test_streams(count, name, folder)
     program = built_for(folder, name, "run_lines")
     count.add(program, f"{name}: run_lines.c is not built")
     if program:
@@ -561,22 +590,52 @@ def test_javascript(count, native, name, folder, files, number):
 
 
 @contextlib.contextmanager
-def wine_of_its_own(folder):
-    """Wine without a display, in a folder of its own, with a server that stays until the tests end. It is started before any
+def display():
+    """The name of a display that nobody sees; None if there is no program for one."""
+    if not shutil.which("Xvfb"):
+        print("consoles of Windows: skipped, there is no command Xvfb")
+        yield None
+        return
+    told, telling = os.pipe()
+    server = subprocess.Popen(["Xvfb", "-displayfd", str(telling), "-nolisten", "tcp"], pass_fds=[telling],
+                              stdin=subprocess.DEVNULL, stdout=subprocess.DEVNULL, stderr=subprocess.DEVNULL)
+    os.close(telling)
+    try:
+        with open(told, encoding="ascii") as number:
+            yield f":{number.readline().strip()}"
+    finally:
+        server.terminate()
+        server.wait()
+
+
+@contextlib.contextmanager
+def wine(prefix, screen=None):
+    """The surroundings of wine in a folder of its own, with a server that stays until the tests end. It is started before any
     program: one that a program starts ends with the last program, and a program that comes at that moment is not started."""
-    prefix = folder / "wine"
     prefix.mkdir()
-    os.environ.update(WINEPREFIX=str(prefix), WINEDEBUG="-all")
-    os.environ.pop("DISPLAY", None)
-    quiet = {"stdin": subprocess.DEVNULL, "stdout": subprocess.DEVNULL, "stderr": subprocess.DEVNULL, "timeout": SECONDS}
+    surroundings = {**os.environ, "WINEPREFIX": str(prefix), "WINEDEBUG": "-all"}
+    surroundings.pop("DISPLAY", None)
+    if screen:
+        surroundings["DISPLAY"] = screen
+    quiet = {"stdin": subprocess.DEVNULL, "stdout": subprocess.DEVNULL, "stderr": subprocess.DEVNULL, "timeout": SECONDS,
+             "env": surroundings}
     subprocess.run(["wineserver", "-p"], check=True, **quiet)
     # The first starts bring up services, which may say something of their own.
     for _ in range(2):
         subprocess.run(["wine", "cmd", "/c", "exit"], check=False, **quiet)
     try:
-        yield
+        yield surroundings
     finally:
         subprocess.run(["wineserver", "-k"], check=False, **quiet)
+
+
+@contextlib.contextmanager
+def wine_of_its_own(folder):
+    """Wine without a display, in a folder of its own, for this program and all that it starts."""
+    os.environ.pop("DISPLAY", None)
+    with wine(folder / "wine") as surroundings:
+        os.environ.update(surroundings)
+        yield
 
 
 def server_of_wine(folder):
@@ -593,7 +652,9 @@ def test_system(count, native, name, folder, files, lines):
     test_lines(count, native, program, name, files)
     test_limits(count, native, program, name, folder)
     number = min(400, lines)
-    if name in CROSS:
+    if name == "linux-x86_64":
+        test_processor(count, native, name, files)
+    elif name in CROSS:
         test_library(count, native, name, folder, files, number // 10)
         if name == "windows-x86_64":
             test_stack(count, native, folder, files)

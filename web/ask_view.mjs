@@ -118,13 +118,13 @@ function tokenLine(result, names) {
     return make("p", {}, say(WORDS.ask.tokenIs, {who: commaed(entries)}), result.entries.length > 40 ? " .." : "");
 }
 
-// Shows it, and returns what a screen reader says of it.
+// Shows it. Returns what a screen reader says of it.
 export function showAsk(result, {kind, names, texts}) {
     const place = byId("ask-result");
     const faults = faultsOf(result);
     if (faults.length) {
         show(place, faults.map((fault) => make("p", {class: "fault-name"}, fault)));
-        return faults.join(" ");
+        return [faults.join(" ")];
     }
     const {columns} = WORDS.ask;
     const isGranted = result.verdict.granted;
@@ -139,7 +139,7 @@ export function showAsk(result, {kind, names, texts}) {
                 make("thead", {},
                     make("tr", {}, Object.values(columns).map((text) => make("th", {scope: "col"}, text)))),
                 make("tbody", {}, result.reasons.map((reason) => reasonRow(reason, kind, texts))))));
-    return `${isGranted ? WORDS.ask.granted : WORDS.ask.denied}. ${verdictText(result, kind)}`;
+    return [`${isGranted ? WORDS.ask.granted : WORDS.ask.denied}. ${verdictText(result, kind)}`];
 }
 
 export const bitsInWords = (kind, mask) => bitsOf(mask).map((bit) => rightName(kind, bit));

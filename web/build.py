@@ -5,8 +5,8 @@ Puts the page together: one file, PAGE, of web/page.html, web/page.css, the ES m
 file LIBRARY (sdtool.mjs) and the file MODULE (sdtool.wasm), compressed and in base64. It leaves out comments and
 indentation, and changes nothing else but how a module gets what another exports: each becomes a function that is called
 once, in the order in which a browser would. The script is no module, since browsers refuse modules in workers of a page
-from a disk; so it has no import.meta. Of the module, binaryen's wasm-metadce leaves out what the page never calls.
-The page's policy allows this script and this style alone, by their hashes.
+from a disk; so it has no import.meta. What the page never calls is left out: of the module by binaryen's wasm-metadce,
+of the library by name. The page's policy allows this script and this style alone, by their hashes.
 """
 import argparse
 import base64
@@ -29,6 +29,8 @@ CALLED = ["memory", "allocate", "release"] + [
     f"sdtool_{name}"
     for name in "version to_sddl explain normalize from_sddl sid_size check derive run fault_text".split()
 ]
+# Methods of the library that the page never calls.
+NOT_CALLED = "checkMany #checkSome sidToText sidSize parts #acl aces #walk build #newAce #putParts".split()
 FEATURES = ["--enable-sign-ext", "--enable-mutable-globals", "--enable-bulk-memory"]
 IMPORT = re.compile(r'^import \{([^}]*)\} from "([^"]+)";\n', re.M)
 EXPORTED = re.compile(r"^export ((?:async )?(?:function|class|const|let)) ([A-Za-z_$][\w$]*)", re.M)
@@ -36,6 +38,15 @@ EXPORTS = re.compile(r"^export \{([^}]*)\};\n", re.M)
 # What only a reader of the sources needs: comments that have lines of their own, and indentation.
 FOR_READERS = re.compile(r"^[ \t]*//.*\n|^[ \t]*/\*\*(?:.|\n)*?\*/\n|^[ \t]+", re.M)
 LEFT = re.compile(r"^(?:import|export)\b", re.M)
+
+
+def without_methods(text):
+    """The library without the methods that the page never calls."""
+    for name in NOT_CALLED:
+        text, count = re.subn(rf"^  {name}\(.*?^  \}}\n", "", text, flags=re.M | re.S)
+        if count != 1:
+            raise SystemExit(f"the library has {count} methods called {name}")
+    return text
 
 
 def names_in(text):
@@ -66,6 +77,8 @@ class Modules:
             raise SystemExit(f"{name} imports itself")
         self.began.add(name)
         text = self.path(name).read_text(encoding="utf-8")
+        if name == self.library.name:
+            text = without_methods(text)
         for found in IMPORT.finditer(text):
             self.add(found[2].rsplit("/", 1)[-1])
         self.texts[name] = wrapped(name, text)
@@ -126,6 +139,9 @@ def page(module, library):
     modules = Modules(library)
     modules.add(FIRST)
     script = modules.script()
+    called = [name for name in NOT_CALLED if f".{name}(" in script]
+    if called:
+        raise SystemExit(f"the page calls {called}")
     style = "\n" + (FOLDER / "page.css").read_text(encoding="utf-8")
     if re.search(r"</(?:script|style)|<!--", script + style, re.I):
         raise SystemExit("a script or the style has a text that would end it")

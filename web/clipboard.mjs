@@ -3,8 +3,9 @@
 
 import {listingIn} from "./icacls.mjs";
 
-// hex(3):01,00,.. of a .reg file, and what reg query prints.
-const REG_VALUE = /(?:(@|"(?:[^"\\]|\\.)*")\s*=\s*)?hex(?:\(([0-9a-f]+)\))?:((?:[0-9a-f]{2}|[,\s]|\\\s*\n)*)/gi;
+// hex(3):01,00,.. of a .reg file, and what reg query prints. A name is looked for in front of what was found: a search
+// that began at each quotation mark would take minutes for a hostile text of 1 MB.
+const REG_VALUE = /hex(?<=(?:(@|"[^"]*")\s*=\s*)?hex)(?:\(([0-9a-f]+)\))?:((?:[0-9a-f]{2}|[,\s]|\\\s*\n)*)/gi;
 const REG_BINARY = /REG_BINARY(?<=(\S*)[ \t]+REG_BINARY)[ \t]+([0-9a-f]+)/gi;
 const ATTRIBUTE = /^([A-Za-z][\w;-]*)::[ \t]*(.*)$/;
 const SDDL_START = new RegExp(
@@ -27,16 +28,16 @@ const ENDS = {
 const ORDER = "OGDS"; // of the parts
 
 // Whatever is left of a text is said, so that nobody takes it for read.
-const leftOut = (what, text) => (text.trim() ? [{what, text: text.trim()}] : []);
+const leftOut = (what, text) => (text.trim() ? [{what, text: text.trim().replace(/[ \t\r\n]+/g, " ")}] : []);
 
 const linesOf = (text) => text.split(/\r\n|\r|\n/).filter((line) => line.trim() !== "");
 
 const unfolded = (text) => text.replace(/\r?\n[ \t]/g, "");
 
-// The name of an entry, which is in base64 after two colons.
+// The name of an entry, which is in base64 after two colons; of any other line nothing.
 function nameOfEntry(line) {
-    const [, colons, value] = /^dn(::?) *(.*)$/i.exec(line);
-    if (colons === ":") {
+    const [, colons, value] = /^dn(::?) *(.*)$/i.exec(line) ?? [];
+    if (colons !== "::") {
         return value;
     }
     try {
@@ -48,17 +49,13 @@ function nameOfEntry(line) {
 
 function ofLdif(text) {
     const found = [];
+    const folds = /\n[ \t]/.test(text) ? [{what: "folds"}] : [];
     let [name, others] = ["", []];
     for (const line of unfolded(text).split(/\r?\n/)) {
         const [, attribute, value] = ATTRIBUTE.exec(line) ?? [];
-        if (/^dn::? /i.test(line)) {
-            name = nameOfEntry(line);
-        }
+        name = nameOfEntry(line) ?? name;
         if (attribute && /^(ntsecuritydescriptor|ms.*securitydescriptor|.*sddl.*|.*sd)$/i.test(attribute)) {
-            const dropped = leftOut("before", [...others, attribute + "::"].join(" "));
-            if (/\n[ \t]/.test(text)) {
-                dropped.push({what: "folds"});
-            }
+            const dropped = [...leftOut("before", [...others, attribute + "::"].join(" ")), ...folds];
             found.push({name, form: "base64", line: value.trim(), dropped});
             others = [];
         } else {
@@ -98,6 +95,9 @@ const partsOf = (text) =>
 // line has no start of a descriptor of its own, and begins with an ACE, continues one that is open, or is set in under
 // it. Or it begins with a part that comes behind all those before it.
 function continuationOf(first, lines, from) {
+    if (from === lines.length) {
+        return [];
+    }
     let depth = depthOf(first);
     let parts = partsOf(first);
     let at = from;
@@ -127,6 +127,7 @@ function ofSddlLine(line) {
     let rest = line.slice(at);
     const mark = before.at(-1);
     const end = ENDS[mark];
+    const isClosed = end && rest.includes(end);
     if (end) {
         // In a quoted field a quote is doubled, and the first single one ends the field.
         const quoted = /^(?:[^"]|"")*/.exec(rest)[0];
@@ -138,16 +139,23 @@ function ofSddlLine(line) {
         }
         rest = mark === "\"" ? value.replace(/""/g, "\"") : value;
     }
-    return {name: nameIn(before), form: "sddl", line: rest.trim(), dropped};
+    return {name: nameIn(before), form: "sddl", line: rest.trim(), dropped, isClosed};
 }
 
-// What comes before a descriptor, without the marks around it: the name of a file or of a property.
+// What comes before a descriptor, without the marks around it: the name of a file or of a property. In a line of CSV
+// the name is the first field.
 const MARKS = "\\s\"'`<>{\u201c\u201e\u2018\u00ab";
 const AROUND = new RegExp(`^[${MARKS}]+|[${MARKS},;=:|]+$`, "g");
-const nameIn = (before) => before.replace(AROUND, "").replace(/"\s*,\s*\d+$/, "");
+const nameIn = (before) => (/^\s*"[^"]*"(?=,)/.exec(before)?.[0] ?? before).replace(AROUND, "");
 
-// What Get-Acl lists before the descriptor has the path of the object.
-const pathIn = (lines) => lines.map((line) => /^Path\s*:\s*(\S.*)$/.exec(line)?.[1]).find(Boolean);
+// What Get-Acl lists before the descriptor has the path of the object, also in JSON, and an entry of LDIF its name.
+function pathIn(lines) {
+    const paths = lines.map((line) => {
+        const [, quote, path] = /^("?)Path\1\s*:\s*"?(\S.*?)"?,?$/.exec(line) ?? [];
+        return quote ? path.replace(/\\\\/g, "\\") : path ?? nameOfEntry(line);
+    });
+    return paths.filter(Boolean).at(-1);
+}
 
 function ofSddl(text) {
     const lines = linesOf(text);
@@ -159,7 +167,7 @@ function ofSddl(text) {
             others.push(lines[at].trim());
             continue;
         }
-        const folded = continuationOf(one.line, lines, at + 1);
+        const folded = one.isClosed ? [] : continuationOf(one.line, lines, at + 1);
         if (folded.length) {
             one.line = [one.line, ...folded].join("");
             one.dropped.push({what: "folds"});
@@ -201,7 +209,7 @@ function ofBase64(text) {
     return [{name: "", form: "base64", line, dropped: line === text.trim() ? [] : [{what: "folds"}]}];
 }
 
-const looksLikeBase64 = (text) => /^AQ[A-Za-z0-9+/]{2,}={0,2}$/.test(text.replace(/\s/g, ""));
+const looksLikeBase64 = (text) => /^A\s*Q/.test(text) && /^AQ[A-Za-z0-9+/]{2,}={0,2}$/.test(text.replace(/\s/g, ""));
 
 // What icacls lists without /save: names and letters, no SIDs.
 const ICACLS = /[^\n:()]:\((?:DENY|[A-Z]{1,3}(?:,[A-Z]{1,3})*)\)/;
@@ -214,12 +222,14 @@ function asChosen(text, form) {
 
 function guessed(text) {
     const plain = text.trim();
-    if (/^[A-Za-z][\w;-]*:: /m.test(plain) && ofLdif(plain).length) {
-        return ofLdif(plain);
+    const entries = plain.includes(":: ") && /^[A-Za-z][\w;-]*:: /m.test(plain) ? ofLdif(plain) : [];
+    if (entries.length) {
+        return entries;
     }
     for (const pattern of [REG_VALUE, REG_BINARY]) {
-        if (ofRegistry(plain, pattern).length) {
-            return ofRegistry(plain, pattern);
+        const values = ofRegistry(plain, pattern);
+        if (values.length) {
+            return values;
         }
     }
     if (BYTES_OF_POWERSHELL.test(plain) && ofNumbers(plain).length) {

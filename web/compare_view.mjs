@@ -1,8 +1,9 @@
 // The fourth view: what differs between two descriptors, and whose rights.
-import {area, byId, labelled, make, show, someRows} from "./dom.mjs";
+import {linesOf} from "./desk.mjs";
+import {byId, labelled, make, show, showParts, someRows} from "./dom.mjs";
 import {foundText} from "./look_view.mjs";
 import {faultInWords, guidInWords, rightsInWords, whereOf} from "./naming.mjs";
-import {aceRights, commaed, faultBox, kindClass, who} from "./parts_view.mjs";
+import {aceRights, commaed, descriptorField, faultBox, kindClass, who} from "./parts_view.mjs";
 import {say, WORDS} from "./words.mjs";
 
 export function makeCompare(other, refresh) {
@@ -10,10 +11,10 @@ export function makeCompare(other, refresh) {
         other.text = value;
         refresh();
     };
+    const {field, note} = descriptorField("other-text", other.text, set, {rows: 4});
     return [
         make("h2", {id: "compare-heading"}, WORDS.compare.heading),
-        make("div", {class: "form"},
-            labelled(WORDS.compare.other, area("other-text", other.text, set, {rows: 4, class: "descriptor"}))),
+        make("div", {class: "form"}, labelled(WORDS.compare.other, field), note),
         make("div", {id: "compare-result"}),
     ];
 }
@@ -34,9 +35,9 @@ function aceRow(row, kind, names) {
         make("td", {"data-label": WORDS.compare.columns.other}, side(row.other, kind, names)));
 }
 
-function aceTable(list, rows, kind, names) {
+function aceTable(list, rows, kind, names, later) {
     const title = say(WORDS.compare.aces, {list: WORDS.parts[list]});
-    if (!rows.length) {
+    if (!rows) {
         return null;
     }
     const body = make("tbody");
@@ -45,7 +46,8 @@ function aceTable(list, rows, kind, names) {
         make("thead", {},
             make("tr", {}, make("td", {}, state), make("th", {scope: "col"}, one), make("th", {scope: "col"}, other))),
         body);
-    const more = someRows(body, rows, (row) => aceRow(row, kind, names), (count) => say(WORDS.parts.more, {count}));
+    const more = someRows(body, linesOf(rows), (line) => aceRow(JSON.parse(line), kind, names),
+        (count) => say(WORDS.parts.more, {count}), {later});
     return [make("div", {class: "scroll", tabindex: "0", role: "region", "aria-label": title}, table), more];
 }
 
@@ -85,49 +87,46 @@ function difference({gained, lost}, kind) {
 const typedLine = (typed, kind) => make("li", {"data-object": typed.object}, difference(typed, kind),
     say(WORDS.object, {name: guidInWords(typed.object, typed.gained | typed.lost)}));
 
-const changedRights = (result) => result.rights.filter((row) => row.gained || row.lost || row.typed.length);
+const rightsItem = (row, kind, names) =>
+    make("li", {"data-sid": row.sid, "data-gained": row.gained, "data-lost": row.lost},
+        who(row.sid, row.alias, names), " ", difference(row, kind),
+        row.typed.length ? make("ul", {}, row.typed.map((typed) => typedLine(typed, kind))) : null);
 
-// Whether an ACE that differs is one that children inherit.
-const differBelow = (result) => result.dacl.some(
-    ({state, one, other}) => state !== "same" && [one, other].some((ace) => ace && /OI|CI/.test(ace.flags.join(" "))));
-
-function rightsSection(result, kind, names) {
-    const changed = changedRights(result);
+function rightsSection(result, kind, names, later) {
+    const list = make("ul", {class: "differences"});
+    const more = someRows(list, linesOf(result.rights), (line) => rightsItem(JSON.parse(line), kind, names),
+        (count) => say(WORDS.grid.more, {count}), {later});
     return make("section", {"aria-labelledby": "compare-rights"},
         make("h3", {id: "compare-rights"}, WORDS.compare.rights),
-        changed.length === 0 ?
-            make("p", {}, WORDS.compare.rightsNone) :
-            make("ul", {class: "differences"},
-                changed.map(
-                    (row) => make("li", {"data-sid": row.sid, "data-gained": row.gained, "data-lost": row.lost},
-                        who(row.sid, row.alias, names), " ", difference(row, kind),
-                        row.typed.length ? make("ul", {}, row.typed.map((typed) => typedLine(typed, kind))) : null))),
-        differBelow(result) ? make("p", {class: "hint"}, WORDS.compare.below) : null,
+        result.changed === 0 ? make("p", {}, WORDS.compare.rightsNone) : [list, more],
+        result.areBelowSame ? null : make("p", {class: "hint"}, WORDS.compare.below),
         result.areTypesLeft ? make("p", {class: "fault-name"}, WORDS.warnings.manyTypes) : null);
 }
 
-// Shows it, and returns what a screen reader says of it.
-export function showCompare(result, {kind, names}) {
+// Shows it. Returns what a screen reader says of it, and a promise that ends when all is shown.
+export function showCompare(result, {kind, names}, isOver) {
     const place = byId("compare-result");
     if (result.isOtherEmpty) {
         show(place, make("p", {class: "hint"}, WORDS.compare.waiting));
-        return WORDS.compare.waiting;
+        return [WORDS.compare.waiting];
     }
     if (result.otherFault) {
         show(place,
             make("p", {class: "fault-name"}, say(WORDS.compare.fault, {fault: faultInWords(result.otherFault.fault)})),
             faultBox(result.otherFault.fault, result.otherFault.place));
-        return say(WORDS.compare.fault, {fault: faultInWords(result.otherFault.fault)});
+        return [say(WORDS.compare.fault, {fault: faultInWords(result.otherFault.fault)})];
     }
-    show(place,
-        make("p", {class: `verdict ${result.isSame ? "same" : "differs"}`},
-            make("strong", {}, result.isSame ? WORDS.compare.same : WORDS.compare.different)),
-        make("p", {class: "hint"}, foundText({...result.other, chosen: 0})), partLines(result, names),
-        rightsSection(result, kind, names), aceTable("dacl", result.dacl, kind, names),
-        aceTable("sacl", result.sacl, kind, names));
-    const {length} = changedRights(result);
-    return [
-        result.isSame ? WORDS.compare.same : WORDS.compare.different,
-        length ? say(WORDS.compare.rightsCount, {count: length}) : WORDS.compare.rightsNone
-    ].join(" ");
+    const verdict = result.isSame ? WORDS.compare.same : WORDS.compare.different;
+    const {changed} = result;
+    const parts = [
+        () => make("div", {},
+            make("p", {class: `verdict ${result.isSame ? "same" : "differs"}`}, make("strong", {}, verdict)),
+            make("p", {class: "hint"}, foundText({...result.other, chosen: 0})), partLines(result, names)),
+        (later) => rightsSection(result, kind, names, later),
+        (later) => make("div", {}, aceTable("dacl", result.dacl, kind, names, later)),
+        (later) => make("div", {}, aceTable("sacl", result.sacl, kind, names, later))
+    ];
+    const shown = showParts(place, result.count + changed, parts, isOver);
+    const rights = changed ? say(WORDS.compare.rightsCount, {count: changed}) : WORDS.compare.rightsNone;
+    return [`${verdict} ${rights}`, shown];
 }

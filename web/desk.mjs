@@ -74,8 +74,18 @@ function read(library, {text, form, chosen}, domain) {
         return {...about, descriptor: value};
     }
     const place = placeOf(library, one.form, one.line, fault, domain.text);
-    return {...about, fault, place, written: one.form === "sddl" ? writtenAces(one.line).slice(0, 200) : []};
+    return {...about, fault, place, written: packed(one.form === "sddl" ? writtenAces(one.line) : [])};
 }
+
+// A browser copies a text from the worker at once, but objects one by one. So a list that may be long is sent as one
+// text, with an item of JSON in each line, and only what is shown is read again.
+const packed = (items) => items.map((item) => JSON.stringify(item)).join("\n");
+
+export const linesOf = (text) => (text ? text.split("\n") : []);
+
+// A list of a descriptor, with the text of each ACE.
+const packedList = ({state, aces}, texts) =>
+    ({state, count: aces.length, aces: packed(aces.map((ace, at) => ({...ace, text: texts[at]})))});
 
 const isEmpty = (text) => text.trim() === "";
 
@@ -110,15 +120,18 @@ function look(library, state) {
     const grid = gridOf(library, found.descriptor, model, options);
     const sddl = library.toSddl(found.descriptor, printingUnder(domain));
     const {descriptor, ...about} = found;
+    const warnings = warningsOf(library, descriptor, model, grid, options);
+    const {dacl, sacl} = acesOf(sddl);
     return {
         ...about,
-        model,
+        model: {...model, dacl: packedList(model.dacl, dacl), sacl: packedList(model.sacl, sacl)},
         grid,
         sddl: sddl.slice(0, MOST_SHOWN),
-        hex: hexOf(descriptor.subarray(0, MOST_SHOWN / 2)),
-        written: acesOf(sddl),
+        hex: hexOf(descriptor.subarray(0, MOST_SHOWN / 2 + 1)),
+        texts: dacl.join("\n"),
         objectFault: options.objectFault,
-        warnings: warningsOf(library, descriptor, model, grid, options),
+        warnings: packed(warnings),
+        dangers: warnings.filter(({level}) => level !== "note").length,
     };
 }
 
@@ -227,24 +240,53 @@ function inheritFrom(library, {state, made}) {
         if (object.fault) {
             return object;
         }
-        const withWords = (node) => ({
-            ...node,
-            model: withMeanings(library, node.model, mapping),
-            children: node.children.map(withWords),
-            written: acesOf(node.sddl)
-        });
+        const above = (descriptor) => descriptor && {
+            model: explained(library, descriptor, domain, mapping),
+            written: acesOf(library.toSddl(descriptor, printing))
+        };
+        const from = {parent: above(parent), creator: above(creator.value)};
+        const passed = (who) => from[who] && passedOn(from[who], object.value.sources, who);
         return {
-            object: withWords(object.value),
-            parent:
-                {model: explained(library, parent, domain, mapping), written: acesOf(library.toSddl(parent, printing))},
-            creator: creator.value ? {
-                model: explained(library, creator.value, domain, mapping),
-                written: acesOf(library.toSddl(creator.value, printing))
-            } :
-                                     null
+            object: madeNode(library, object.value, from, mapping),
+            parent: passed("parent"),
+            creator: passed("creator")
         };
     });
 }
+
+// Both lists, packed, and how many ACEs they have.
+function inLists(itemsOf) {
+    const [dacl, sacl] = ["dacl", "sacl"].map(itemsOf);
+    return {dacl: packed(dacl), sacl: packed(sacl), count: dacl.length + sacl.length};
+}
+
+// What the page shows of a new object: its ACEs, each with the one that it came from, and the objects below.
+function madeNode(library, node, from, mapping) {
+    const model = withMeanings(library, node.model, mapping);
+    const written = acesOf(node.sddl);
+    const sourceOf = (list, at) => {
+        const source = node.sources[list]?.[at];
+        return source && {...source, text: from[source.who].written[list][source.number - 1]};
+    };
+    const lists = inLists((list) => model[list].aces.map(
+                              (ace, at) => ({ace, text: written[list][at], source: sourceOf(list, at)})));
+    const children = node.children.map((child) => madeNode(library, child, {parent: {written}}, mapping));
+    return {
+        ...lists,
+        kind: node.kind,
+        sddl: node.sddl.slice(0, MOST_SHOWN),
+        isEmpty: model.dacl.state === "list" && model.dacl.aces.length === 0,
+        children,
+        count: children.reduce((count, child) => count + child.count, lists.count)
+    };
+}
+
+// The ACEs of the folder or of the creator, each with whether it goes on. Without arrows nobody knows.
+const passedOn = ({model, written}, sources, who) => inLists((list) => {
+    const numbers = new Set(sources[list]?.filter((source) => source.who === who).map(({number}) => number));
+    return model[list].aces.map(
+        (ace, at) => ({ace, text: written[list][at], isPassed: !sources[list] || numbers.has(ace.number)}));
+});
 
 // derive refuses lists that would be too large by the library's own fault.
 function derived(question) {
@@ -269,12 +311,22 @@ function compareWith(library, {state, other}) {
         }
         const options = optionsOf(library, state, domain);
         const side = (bytes) => ({descriptor: bytes, model: explained(library, bytes, domain, options.mapping)});
+        const found = compare(library, [side(descriptor), side(second.descriptor)], options);
+        const changed = found.rights.filter((row) => row.gained || row.lost || row.typed.length);
         return {
+            ...found,
             other: {line: second.line, dropped: second.dropped, found: second.found, form: second.form},
-            ...compare(library, [side(descriptor), side(second.descriptor)], options)
+            areBelowSame: !found.dacl.some(isBelow),
+            ...inLists((list) => found[list]),
+            rights: packed(changed),
+            changed: changed.length
         };
     });
 }
+
+// Whether a row of a comparison has an ACE that differs and that children inherit.
+const isBelow = ({state, one, other}) =>
+    state !== "same" && [one, other].some((ace) => ace && /OI|CI/.test(ace.flags.join(" ")));
 
 const QUESTIONS = {
     look,

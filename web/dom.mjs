@@ -86,11 +86,12 @@ export function box(id, text, checked, onchange) {
 export const button = (text, onclick, attributes = {}) =>
     make("button", {type: "button", ...attributes, onclick}, text);
 
-const ROWS_OF_A_TURN = 10;
+const ROWS_OF_A_TURN = 20;
+const AT_ONCE = 300; // rows and cells that are shown in one turn of the page
 
 // The first rows of a long list, and a button for more, so that thousands of rows never stop the page. With LATER, a
 // list of functions for later turns of the page, only a few rows are made at once.
-export function someRows(body, items, makeRow, moreText, {step = 60, later = null} = {}) {
+export function someRows(body, items, makeRow, moreText, {step = 60, later = null, turn = ROWS_OF_A_TURN} = {}) {
     let shown = 0;
     const place = make("div", {class: "more"});
     const first = Math.min(step, items.length);
@@ -101,22 +102,45 @@ export function someRows(body, items, makeRow, moreText, {step = 60, later = nul
         const isButton = left > 0 && shown >= first;
         place.replaceChildren(...(isButton ? [button(moreText(Math.min(step, left)), () => add(step))] : []));
     };
-    add(later ? ROWS_OF_A_TURN : step);
-    for (let at = ROWS_OF_A_TURN; later && at < first; at += ROWS_OF_A_TURN) {
-        later.push(() => add(Math.min(ROWS_OF_A_TURN, first - at)));
+    add(later ? turn : step);
+    for (let at = turn; later && at < first; at += turn) {
+        later.push(() => add(Math.min(turn, first - at)));
     }
     return place;
 }
 
 // Waits until the page was drawn, so that what is added next is laid out in a turn of its own. A page that nobody sees
 // is not drawn.
-export const nextFrame = () => new Promise((resolve) => {
+const nextFrame = () => new Promise((resolve) => {
     const timer = setTimeout(resolve, 100);
     requestAnimationFrame(() => {
         clearTimeout(timer);
         setTimeout(resolve);
     });
 });
+
+// Does something in a later turn of the page, where there are such.
+export const afterwards = (later, act) => (later ? later.push(act) : act());
+
+// Shows parts, functions that make elements, of so many rows and cells. If they are many, each part and some rows at a
+// time have a turn of the page of their own, so that typing never waits for all of it; what was shown before goes at
+// once. The promise ends when all is shown, or 'isOver' says that there is another answer.
+export async function showParts(place, count, parts, isOver) {
+    if (count <= AT_ONCE) {
+        show(place, parts.map((part) => part(null)));
+        return;
+    }
+    const later = [];
+    show(place, parts[0](later));
+    later.push(...parts.slice(1).map((part) => () => place.append(part(later))));
+    while (later.length) {
+        await nextFrame();
+        if (isOver()) {
+            return;
+        }
+        later.shift()();
+    }
+}
 
 // Arrow keys move between the cells of a grid, of which one at a time is in the order of the Tab key.
 export function moveByArrows(table) {

@@ -101,16 +101,33 @@ function piecesOfPart(text, part) {
     return [flagsIn(text, part, aces), ...ofAces].map((piece) => ({...piece, part: part.part}));
 }
 
-// A field that is wrong: the first that alone gets the number.
-function placeOfField(ask, text, number) {
-    for (const part of partsIn(text)) {
-        const place =
-            piecesOfPart(text, part).find((piece) => piece.alone !== undefined && ask(piece.alone) === number);
-        if (place) {
-            return place;
-        }
+// The least number up to a count from which on a test holds, by halving; null if it doesn't hold at the end.
+function least(count, test) {
+    if (!test(count)) {
+        return null;
     }
-    return null;
+    let [low, high] = [0, count];
+    while (low + 1 < high) {
+        const middle = (low + high) >>> 1;
+        [low, high] = test(middle) ? [low, middle] : [middle, high];
+    }
+    return high;
+}
+
+// The ACE with which a part first gets the number.
+const firstAce = (ask, text, part, aces, number) =>
+    (aces.length ? least(aces.length, (count) => ask(text.slice(part.start, aces[count - 1].end)) === number) : null);
+
+// A field that is wrong: the first that alone gets the number, in a part that gets it.
+function placeOfField(ask, text, number) {
+    const part = partsIn(text).find(({start, end}) => ask(text.slice(start, end)) === number);
+    if (!part) {
+        return null;
+    }
+    const pieces = piecesOfPart(text, part);
+    const first = isAcl(part) ? firstAce(ask, text, part, acesIn(text, part.start + 2, part.end), number) : null;
+    const isWrong = (piece) => piece.alone !== undefined && ask(piece.alone) === number;
+    return pieces.find((piece) => piece.ace === (first ?? undefined) && isWrong(piece)) ?? pieces.find(isWrong) ?? null;
 }
 
 // What is wrong with the shape: what comes before the first part, a letter that begins none, or a part or an ACE of
@@ -138,8 +155,8 @@ function placeInPart(ask, text, part) {
         return whole;
     }
     const aces = acesIn(text, part.start + 2, part.end);
-    const wrong = aces.find((ace) => ask(`D:${text.slice(ace.start, ace.end)}`) === 20);
-    if (wrong) {
+    const wrong = aces[firstAce(ask, text, part, aces, 20) - 1];
+    if (wrong && ask(`D:${text.slice(wrong.start, wrong.end)}`) === 20) {
         return {...wrong, part: part.part, ace: wrong.number, field: "ace", kind: kindOf(text, wrong)};
     }
     const bounds = [...aces.map((ace) => ace.end), part.end];
@@ -179,15 +196,10 @@ function placeInSddl(ask, text, fault) {
 // The shortest front whose length is a multiple of STEP and that gets the number, by halving: what is spelled wrong
 // stays wrong however the text goes on.
 function shortestFront(ask, text, step, number) {
-    let [low, high] = [0, Math.ceil(text.length / step)];
-    if (ask(text.slice(0, high * step)) !== number) {
-        return null;
-    }
-    while (low + 1 < high) {
-        const middle = (low + high) >>> 1;
-        [low, high] = ask(text.slice(0, middle * step)) === number ? [low, middle] : [middle, high];
-    }
-    return {start: (high - 1) * step, end: Math.min(high * step, text.length), part: null, field: "digits"};
+    const count = least(Math.ceil(text.length / step), (steps) => ask(text.slice(0, steps * step)) === number);
+    return count === null ?
+        null :
+        {start: (count - 1) * step, end: Math.min(count * step, text.length), part: null, field: "digits"};
 }
 
 const at32 = (bytes, at) => new DataView(bytes.buffer, bytes.byteOffset).getUint32(at, true);
@@ -204,17 +216,12 @@ function placeOfAce(askBytes, bytes, fault) {
         const found = askBytes(withCount(count));
         return found !== null && found.number === fault.number && found.part === fault.part;
     };
-    const count = at16(bytes, list + 4);
-    let [low, high] = [0, count];
-    if (isFaulty(0) || !isFaulty(count)) {
+    const number = isFaulty(0) ? null : least(at16(bytes, list + 4), isFaulty);
+    if (number === null) {
         return null;
     }
-    while (low + 1 < high) {
-        const middle = (low + high) >>> 1;
-        [low, high] = isFaulty(middle) ? [low, middle] : [middle, high];
-    }
     let start = list + 8;
-    for (let ace = 1; ace < high; ace += 1) {
+    for (let ace = 1; ace < number; ace += 1) {
         start += at16(bytes, start + 2);
     }
     const size = start + 4 <= bytes.length ? at16(bytes, start + 2) : 4;
@@ -222,7 +229,7 @@ function placeOfAce(askBytes, bytes, fault) {
         start,
         end: Math.min(bytes.length, start + Math.max(size, 4)),
         part: fault.part,
-        ace: high,
+        ace: number,
         field: "ace",
         type: bytes[start]
     };
@@ -260,7 +267,13 @@ function bytesOfText(form, text) {
 
 // The place of a fault: {text, start, end, part, field, ace}. TEXT is the line, or its bytes in hex.
 export function placeOf(library, form, text, fault, domain) {
-    const ask = (piece) => (piece.includes("\n") ? 0 : faultOf(library, form, piece, domain)?.number ?? 0);
+    const asked = new Map();
+    const ask = (piece) => {
+        if (!asked.has(piece)) {
+            asked.set(piece, piece.includes("\n") ? 0 : faultOf(library, form, piece, domain)?.number ?? 0);
+        }
+        return asked.get(piece);
+    };
     const whole = {text, start: 0, end: text.length, part: fault.part, field: null};
     if (form === "sddl") {
         return {...whole, ...placeInSddl(ask, text, fault)};

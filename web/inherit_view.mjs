@@ -1,10 +1,12 @@
 // The third view: what a new file or folder gets, with an arrow from each ACE to the one that it came from.
-import {area, byId, input, labelled, make, select, show, someRows} from "./dom.mjs";
+import {linesOf} from "./desk.mjs";
+import {afterwards, byId, input, labelled, make, select, show, showParts, someRows} from "./dom.mjs";
 import {faultInWords, whereOf} from "./naming.mjs";
-import {aceRights, faultBox, kindClass, who} from "./parts_view.mjs";
+import {aceRights, descriptorField, faultBox, kindClass, shortened, who} from "./parts_view.mjs";
 import {say, WORDS} from "./words.mjs";
 
 const LISTS = ["dacl", "sacl"];
+const MOST_SDDL = 2000; // characters of the text of an object
 
 export function makeInherit(made, refresh) {
     const set = (name) => (value) => {
@@ -12,6 +14,7 @@ export function makeInherit(made, refresh) {
         refresh();
     };
     const {inherit} = WORDS;
+    const {field, note} = descriptorField("made-creator", made.creator, set("creator"), {rows: 2});
     return [
         make("h2", {id: "inherit-heading"}, inherit.heading),
         make("div", {class: "form"},
@@ -19,7 +22,7 @@ export function makeInherit(made, refresh) {
                 labelled(inherit.kind, select("made-kind", inherit.kinds, made.kind, set("kind"))),
                 labelled(inherit.owner, input("made-owner", made.owner, set("owner"))),
                 labelled(inherit.group, input("made-group", made.group, set("group")))),
-            labelled(inherit.creator, area("made-creator", made.creator, set("creator"), {rows: 2}))),
+            labelled(inherit.creator, field), note),
         make("div", {id: "inherit-result"}),
     ];
 }
@@ -31,66 +34,50 @@ function aceText(ace, text, kind, names) {
     ];
 }
 
-// One list of an object: each ACE with its arrow, and a number to follow it by.
-function aceList(list, node, above, kind, names) {
-    const aces = node.model[list].aces;
-    if (!aces.length) {
-        return null;
-    }
-    const sources = node.sources[list];
+// The ACEs of each list of a folder or file, which the desk sends in lines.
+const aceLists = (side, item, later) => LISTS.filter((list) => side[list].length).map((list) => {
     const body = make("ol", {class: "made"});
-    const more = someRows(body, aces.map((ace, index) => [ace, index]), ([ace, index]) => {
-        const source = sources?.[index];
-        const words = source ? say(source.who === "parent" ? WORDS.inherit.fromParent : WORDS.inherit.fromCreator,
-                                   {number: source.number}) :
-                               WORDS.inherit.noSource;
-        const text = source && (source.who === "parent" ? above.parent : above.creator)?.[list]?.[source.number - 1];
-        return make("li", {class: kindClass(ace.kind), "data-from": source ? `${source.who} ${source.number}` : ""},
-            aceText(ace, node.written[list][index], kind, names),
-            make("div", {class: "arrow"}, `${WORDS.inherit.arrow} ${words} `, text ? make("code", {}, text) : null));
-    }, (count) => say(WORDS.parts.more, {count}), {step: 50});
+    const more = someRows(body, linesOf(side[list]), (line) => item(JSON.parse(line)),
+        (count) => say(WORDS.parts.more, {count}), {step: 50, later});
     return [make("h4", {}, WORDS.parts[list]), body, more];
+});
+
+// An ACE with its arrow, and a number to follow it by.
+function madeItem({ace, text, source}, kind, names) {
+    const words = source ? say(source.who === "parent" ? WORDS.inherit.fromParent : WORDS.inherit.fromCreator,
+                               {number: source.number}) :
+                           WORDS.inherit.noSource;
+    return make("li", {class: kindClass(ace.kind), "data-from": source ? `${source.who} ${source.number}` : ""},
+        aceText(ace, text, kind, names),
+        make("div", {class: "arrow"}, `${WORDS.inherit.arrow} ${words} `,
+            source ? make("code", {}, source.text) : null));
 }
 
-function nodeView(node, title, above, kind, names, level) {
+function nodeView(node, title, kind, names, level, later) {
     const childKind = node.kind === "container" ? (kind === "file" ? "folder" : kind) :
         kind === "folder"                       ? "file" :
                                                   kind;
-    const isEmpty = node.model.dacl.state === "list" && node.model.dacl.aces.length === 0;
-    const own = {parent: node.written, creator: null};
-    return make("section", {class: `node level-${level}`}, make(level === 0 ? "h3" : "h4", {}, title),
-        make("p", {}, make("code", {class: "whole"}, node.sddl.slice(0, 2000))),
-        isEmpty ? make("p", {class: "warning caution"}, WORDS.inherit.nothing) : null,
-        LISTS.map((list) => aceList(list, node, above, childKind, names)),
-        node.children.map(
-            (child) => make("details", {open: level < 1}, make("summary", {}, WORDS.inherit.below[child.kind]),
-                nodeView(child, WORDS.inherit.below[child.kind], own, kind, names, level + 1))));
+    const section = make("section", {class: `node level-${level}`}, make(level === 0 ? "h3" : "h4", {}, title),
+        make("p", {}, make("code", {class: "whole"}, shortened(node.sddl, MOST_SDDL))),
+        node.isEmpty ? make("p", {class: "warning caution"}, WORDS.inherit.nothing) : null,
+        aceLists(node, (item) => madeItem(item, childKind, names), later));
+    for (const child of node.children) {
+        const title = WORDS.inherit.below[child.kind];
+        afterwards(later, () => section.append(make("details", {open: level < 1}, make("summary", {}, title),
+            nodeView(child, title, kind, names, level + 1, later))));
+    }
+    return section;
 }
 
 // The ACEs of the folder, each with whether it goes on.
-function parentView(title, side, used, kind, names) {
-    return make("section", {class: "node parent"}, make("h3", {}, title),
-        LISTS.map((list) => side.model[list].aces.length ?
-                [
-                    make("h4", {}, WORDS.parts[list]),
-                    make("ol", {class: "made"},
-                        side.model[list].aces.slice(0, 200).map(
-                            (ace) => make("li", {class: kindClass(ace.kind)},
-                                aceText(ace, side.written[list][ace.number - 1], kind, names),
-                                used[list] && !used[list].has(ace.number) ?
-                                    make("div", {class: "arrow"}, WORDS.inherit.notPassed) :
-                                    null)))
-                ] :
-                null));
-}
+const parentView = (title, side, kind, names, later) =>
+    make("section", {class: "node parent"}, make("h3", {}, title), aceLists(side, ({ace, text, isPassed}) => {
+        const note = isPassed ? null : make("div", {class: "arrow"}, WORDS.inherit.notPassed);
+        return make("li", {class: kindClass(ace.kind)}, aceText(ace, text, kind, names), note);
+    }, later));
 
-const usedBy = (object, who) => Object.fromEntries(LISTS.map(
-    (list) => [list,
-        object.sources[list] &&
-            new Set(object.sources[list].filter((source) => source.who === who).map((source) => source.number))]));
-
-// Shows it, and returns what a screen reader says of it.
-export function showInherit(result, {kind, names, made}) {
+// Shows it. Returns what a screen reader says of it, and a promise that ends when all is shown.
+export function showInherit(result, {kind, names, made}, isOver) {
     const place = byId("inherit-result");
     const {inherit} = WORDS;
     const faults = [["ownerFault", inherit.owner], ["groupFault", inherit.group]].filter(([key]) => result[key]).map(([
@@ -105,17 +92,18 @@ export function showInherit(result, {kind, names, made}) {
     }
     if (faults.length) {
         show(place, faults);
-        return place.textContent;
+        return [place.textContent];
     }
-    const above = {parent: result.parent.written, creator: result.creator?.written ?? null};
-    show(place,
-        make("div", {class: "flow"},
-            make("div", {}, parentView(inherit.parent, result.parent, usedBy(result.object, "parent"), kind, names),
-                result.creator ?
-                    parentView(inherit.theCreator, result.creator, usedBy(result.object, "creator"), kind, names) :
-                    null),
-            nodeView(result.object, say(inherit.object, {kind: inherit.kinds[made.kind]}), above, kind, names, 0)));
-    const {aces} = result.object.model.dacl;
-    return `${say(inherit.object, {kind: inherit.kinds[made.kind]})}: ${
-        aces.length === 1 ? WORDS.parts.one : say(WORDS.parts.list, {count: aces.length})}`;
+    const {object, parent, creator} = result;
+    const title = say(inherit.object, {kind: inherit.kinds[made.kind]});
+    const flow = make("div", {class: "flow"});
+    show(place, flow);
+    const count = object.count + parent.count + (creator?.count ?? 0);
+    const shown = showParts(flow, count, [
+        (later) => make("div", {}, parentView(inherit.parent, parent, kind, names, later),
+            creator && parentView(inherit.theCreator, creator, kind, names, later)),
+        (later) => nodeView(object, title, kind, names, 0, later)
+    ], isOver);
+    const {length} = linesOf(object.dacl);
+    return [`${title}: ${length === 1 ? WORDS.parts.one : say(WORDS.parts.list, {count: length})}`, shown];
 }

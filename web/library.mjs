@@ -166,15 +166,16 @@ function readAce(line) {
 export function readExplanation(text) {
     const model = {owner: null, group: null};
     for (const line of text.trimEnd().split("\n")) {
-        const [word, ...rest] = line.split(" ");
+        const [word, first] = line.split(" ", 2);
+        const rest = () => line.split(" ").slice(1);
         if (word === "control") {
-            Object.assign(model, {control: parseInt(rest[0], 16), codes: rest.slice(1)});
+            Object.assign(model, {control: parseInt(first, 16), codes: rest().slice(1)});
         } else if (word === "rm") {
-            model.manager = rest[0];
+            model.manager = first;
         } else if (word === "owner" || word === "group") {
-            model[word] = readSid(rest);
-        } else if ((word === "dacl" || word === "sacl") && /^(absent|null|list)$/.test(rest[0])) {
-            model[word] = {state: rest[0], aces: []};
+            model[word] = readSid(rest());
+        } else if ((word === "dacl" || word === "sacl") && /^(absent|null|list)$/.test(first)) {
+            model[word] = {state: first, aces: []};
         } else if (word === "dacl" || word === "sacl") {
             model[word].aces.push(readAce(line));
         } else if (word !== "end") {
@@ -184,22 +185,11 @@ export function readExplanation(text) {
     return model;
 }
 
-// Where printed SDDL with numeric SIDs has its parts. No SID has a colon, and no ACE a parenthesis inside.
+// The parts of printed SDDL with numeric SIDs. No SID and no ACE has a colon.
 function partsOf(sddl) {
-    const parts = {};
-    const starts = [];
-    let depth = 0;
-    for (let at = 0; at < sddl.length; at += 1) {
-        if (sddl[at] === "(") {
-            depth += 1;
-        } else if (sddl[at] === ")") {
-            depth -= 1;
-        } else if (sddl[at] === ":" && depth === 0) {
-            starts.push(at - 1);
-        }
-    }
-    starts.forEach((start, index) => { parts[sddl[start]] = sddl.slice(start + 2, starts[index + 1] ?? sddl.length); });
-    return parts;
+    const starts = [...sddl.matchAll(/[OGDS]:/g)].map(({index}) => index);
+    return Object.fromEntries(
+        starts.map((start, at) => [sddl[start], sddl.slice(start + 2, starts[at + 1] ?? sddl.length)]));
 }
 
 function aclPieces(text) {

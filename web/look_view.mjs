@@ -1,34 +1,45 @@
 // The first view: who can do what, warnings, a grid of rights, and the descriptor in words beside the exact text.
 import {bitsOf, cellOf, has} from "./access.mjs";
-import {button, byId, make, moveByArrows, nextFrame, show, someRows} from "./dom.mjs";
+import {linesOf} from "./desk.mjs";
+import {afterwards, button, byId, make, moveByArrows, show, showParts, someRows} from "./dom.mjs";
 import {groupMask, guidInWords, rightName, rightsInWords, rightsOf, visible} from "./naming.mjs";
-import {aceTable, commaed, faultBox, plainName, who} from "./parts_view.mjs";
+import {aceTable, commaed, faultBox, plainName, shortened, who} from "./parts_view.mjs";
 import {say, WORDS} from "./words.mjs";
 
 const STAND_IN_DOMAIN = "S-1-5-21-0-0-0";
 const MOST_ROWS = 40;     // of the grid, until more are asked for
+const ROWS_OF_A_TURN = 10;
 const MOST_NUMBERS = 30;  // of ACEs in a sentence
 const MOST_SPOKEN = 8;    // names in a sentence
 const MOST_DROPPED = 160; // characters of what was left out
-const AT_ONCE = 300;      // cells and ACEs that are shown in one turn of the page
+const MOST_SDDL = 4000;   // characters of the whole text
+const MOST_ACE = 300;
+const MOST_HEX = 20_000;
 
 const heading = (text, id) => make("h2", {id}, text);
 
-function bucketOf(row, kind) {
-    const {granted} = row;
-    if ((granted & groupMask(kind, "control")) !== 0) {
+function bucketOf({granted, typed}, masks) {
+    if ((granted & masks.control) !== 0) {
         return "control";
     }
-    if ((granted & groupMask(kind, "change")) !== 0) {
+    if ((granted & masks.change) !== 0) {
         return "change";
     }
-    if (row.typed.some(({mask}) => (mask & groupMask(kind, "change")) !== 0)) {
+    if (typed.some(({mask}) => (mask & masks.change) !== 0)) {
         return "parts";
     }
-    if ((granted & groupMask(kind, "read")) !== 0) {
+    if ((granted & masks.read) !== 0) {
         return "read";
     }
     return granted !== 0 ? "other" : "none";
+}
+
+// The rows of the grid by the most that they can do.
+function bucketsOf(rows, kind) {
+    const masks = Object.fromEntries(["control", "change", "read"].map((group) => [group, groupMask(kind, group)]));
+    const buckets = {control: [], change: [], parts: [], read: [], other: [], none: []};
+    rows.forEach((row) => buckets[bucketOf(row, masks)].push(row));
+    return buckets;
 }
 
 function card(row, kind, bucket, rights, names) {
@@ -48,12 +59,11 @@ function summary(result, kind, names) {
             heading(words.heading, "summary-heading"), make("p", {class: "everyone"}, words.everyone),
             make("p", {}, words.everyoneWhy));
     }
-    const buckets = ["control", "change", "parts", "read", "other", "none"].map(
-        (bucket) => [bucket, grid.rows.filter((row) => bucketOf(row, kind) === bucket)]);
     return make("section", {class: "summary", "aria-labelledby": "summary-heading"},
         heading(words.heading, "summary-heading"),
         make("div", {class: "buckets"},
-            buckets.filter(([bucket, rows]) => rows.length > 0 || ["control", "change"].includes(bucket))
+            Object.entries(bucketsOf(grid.rows, kind))
+                .filter(([bucket, rows]) => rows.length > 0 || ["control", "change"].includes(bucket))
                 .map(([bucket, rows]) => make("div", {class: `bucket ${bucket}`}, make("h3", {}, words[bucket]),
                          make("p", {class: "hint"}, words[`${bucket}Hint`]),
                          rows.length === 0 ? make("p", {class: "nobody"}, words.nobody) :
@@ -67,8 +77,10 @@ function bucketList(rows, kind, bucket, rights, names) {
     return [list, more];
 }
 
-const firstOf = (items, most) => commaed(
-    items.length > most ? [...items.slice(0, most), say(WORDS.summary.left, {count: items.length - most})] : items);
+function firstOf(items, most, inWords) {
+    const left = items.length > most ? [say(WORDS.summary.left, {count: items.length - most})] : [];
+    return commaed([...items.slice(0, most).map(inWords), ...left]);
+}
 
 // What a screen reader says of an answer.
 export function spokenSummary(result, kind, names) {
@@ -76,17 +88,18 @@ export function spokenSummary(result, kind, names) {
     if (!result.grid.isList) {
         return words.everyone;
     }
-    const bucketsOf = ["control", "change", "parts"].map((bucket) => {
-        const rows = result.grid.rows.filter((row) => bucketOf(row, kind) === bucket);
-        const whom = firstOf(rows.map((row) => plainName(row.sid, names)), MOST_SPOKEN) || words.nobody;
+    const buckets = bucketsOf(result.grid.rows, kind);
+    const whoCan = ["control", "change", "parts"].map((bucket) => {
+        const rows = buckets[bucket];
+        const whom = firstOf(rows, MOST_SPOKEN, (row) => plainName(row.sid, names)) || words.nobody;
         return rows.length || bucket !== "parts" ? `${words[bucket]}: ${whom}.` : "";
     });
-    const dangers = result.warnings.filter(({level}) => level !== "note").length;
-    return [...bucketsOf, dangers ? say(words.warnings, {count: dangers}) : ""].filter(Boolean).join(" ");
+    const count = result.dangers;
+    return [...whoCan, count ? say(words.warnings, {count}) : ""].filter(Boolean).join(" ");
 }
 
 const acesInWords = (numbers) =>
-    say(numbers.length === 1 ? WORDS.acesOne : WORDS.acesMany, {numbers: firstOf(numbers, MOST_NUMBERS)});
+    say(numbers.length === 1 ? WORDS.acesOne : WORDS.acesMany, {numbers: firstOf(numbers, MOST_NUMBERS, String)});
 
 function warningText(warning, kind, names) {
     const {key, numbers = []} = warning;
@@ -107,15 +120,16 @@ function warningText(warning, kind, names) {
     });
 }
 
+const warningItem = (warning, kind, names) => make("li", {class: `warning ${warning.level}`},
+    make("span", {class: "badge"}, WORDS.warningLevels[warning.level]), " ", warningText(warning, kind, names),
+    (warning.numbers ?? []).slice(0, 8).map((number) => [" ", jumpTo(warning.list ?? "dacl", number)]));
+
 function warnings(result, kind, names) {
     const list = make("ul", {class: "warnings"});
-    const more = someRows(list, result.warnings,
-        (warning) => make("li", {class: `warning ${warning.level}`},
-            make("span", {class: "badge"}, WORDS.warningLevels[warning.level]), " ", warningText(warning, kind, names),
-            (warning.numbers ?? []).slice(0, 8).map((number) => [" ", jumpTo(warning.list ?? "dacl", number)])),
+    const more = someRows(list, linesOf(result.warnings), (line) => warningItem(JSON.parse(line), kind, names),
         (count) => say(WORDS.grid.more, {count}), {step: 20});
     return make("section", {"aria-labelledby": "warnings-heading"}, heading(WORDS.warningsHeading, "warnings-heading"),
-        result.warnings.length ? [list, more] : make("p", {}, WORDS.noWarnings));
+        result.warnings ? [list, more] : make("p", {}, WORDS.noWarnings));
 }
 
 function jumpTo(list, number) {
@@ -140,11 +154,10 @@ function markAce(list, number) {
 const stateWord = (state, grid) =>
     (state === "rule" ? (grid.isList ? WORDS.grid.ruleOwner : WORDS.grid.ruleNoDacl) : WORDS.grid.states[state]);
 
-function gridCell(row, right, context, isFirst) {
-    const {names, grid} = context;
+function gridCell(row, right, name, context, isFirst) {
+    const {grid} = context;
     const state = cellOf(row, right.bit);
-    const text =
-        say(WORDS.grid.cell, {who: plainName(row.sid, names), right: right.name, state: stateWord(state, grid)});
+    const text = say(WORDS.grid.cell, {who: name, right: right.name, state: stateWord(state, grid)});
     return make("td", {class: `state ${state} group-${right.group}`},
         button(WORDS.grid.signs[state], (event) => context.onCell(row, right, event.currentTarget), {
             class: "cell",
@@ -158,10 +171,11 @@ function gridCell(row, right, context, isFirst) {
 }
 
 function gridRow(row, rights, context, isFirst) {
+    const name = plainName(row.sid, context.names);
     return make("tr", {"data-token": row.token.join(" ")},
         make("th", {scope: "row"}, who(row.sid, row.alias, context.names),
             row.isOwner ? make("span", {class: "tag"}, WORDS.grid.owner) : null),
-        rights.map((right, column) => gridCell(row, right, context, isFirst && column === 0)));
+        rights.map((right, column) => gridCell(row, right, name, context, isFirst && column === 0)));
 }
 
 function groupHeadings(rights) {
@@ -189,7 +203,7 @@ function gridSection(result, context, later) {
         body);
     const more = someRows(body, grid.rows.map((row, index) => [row, index]),
         ([row, index]) => gridRow(row, rights, {...context, grid}, index === 0),
-        (count) => say(WORDS.grid.more, {count}), {step: MOST_ROWS, later});
+        (count) => say(WORDS.grid.more, {count}), {step: MOST_ROWS, later, turn: ROWS_OF_A_TURN});
     moveByArrows(table);
     return make("section", {"aria-labelledby": "grid-heading"}, heading(WORDS.grid.heading, "grid-heading"),
         legend(grid), make("p", {class: "hint", id: "grid-hint"}, caption),
@@ -225,7 +239,7 @@ export function reasonInWords(reason, name, kind, texts) {
 export function showReason(reason, row, context, result) {
     const place = byId("why");
     place.replaceChildren(
-        make("p", {}, reasonInWords(reason, plainName(row.sid, context.names), context.kind, result.written.dacl),
+        make("p", {}, reasonInWords(reason, plainName(row.sid, context.names), context.kind, linesOf(result.texts)),
             reason.by === "ace" ? [" ", jumpTo("dacl", reason.number)] : null));
     document.querySelectorAll("tr.ace.found").forEach((other) => other.classList.remove("found"));
     if (reason.by === "ace") {
@@ -261,32 +275,34 @@ const COUNTED = {
 function listSection(list, result, kind, names, later) {
     const acl = result.model[list];
     const title = WORDS.parts[list];
-    const text = acl.aces.length ? null :
-                                   make("p", {class: list === "dacl" && acl.state !== "list" ? "everyone" : ""},
-                                       WORDS.parts[list + COUNTED[acl.state]]);
+    const text = acl.count ? null :
+                             make("p", {class: list === "dacl" && acl.state !== "list" ? "everyone" : ""},
+                                 WORDS.parts[list + COUNTED[acl.state]]);
     return make("section", {"aria-labelledby": `${list}-heading`},
         make("h3", {id: `${list}-heading`}, title, " ",
             make("small", {},
                 acl.state === "list" ?
-                    say(acl.aces.length === 1 ? WORDS.parts.one : WORDS.parts.list, {count: acl.aces.length}) :
+                    say(acl.count === 1 ? WORDS.parts.one : WORDS.parts.list, {count: acl.count}) :
                     WORDS.parts[acl.state])),
-        text ?? aceTable(title, acl.aces, result.written[list], kind, names, later));
+        text ?? aceTable(title, acl.aces, kind, names, later));
 }
 
 function exactTexts(result) {
     const line = (label, text) => make("details", {}, make("summary", {}, label), make("pre", {class: "exact"}, text));
     return make("section", {class: "texts"},
-        make("p", {},
-            make("code", {class: "whole"}, result.sddl.slice(0, 4000), result.sddl.length > 4000 ? " .." : "")),
-        line("hex", result.hex.slice(0, 20000)));
+        make("p", {}, make("code", {class: "whole"}, shortened(result.sddl, MOST_SDDL))),
+        line("hex", shortened(result.hex, MOST_HEX)));
 }
 
 function words(result, kind, names, later) {
-    return make("section", {class: "words", "aria-labelledby": "words-heading"},
+    const section = make("section", {class: "words", "aria-labelledby": "words-heading"},
         heading(WORDS.parts.heading, "words-heading"), exactTexts(result),
         make("dl", {}, ownerLine("owner", result.model.owner, names), ownerLine("group", result.model.group, names),
-            control(result.model)),
-        listSection("dacl", result, kind, names, later), listSection("sacl", result, kind, names, later));
+            control(result.model)));
+    for (const list of ["dacl", "sacl"]) {
+        afterwards(later, () => section.append(listSection(list, result, kind, names, later)));
+    }
+    return section;
 }
 
 // What was left out of the text, so that nobody takes it for read.
@@ -295,30 +311,28 @@ export function foundText(result) {
     const [one, several] = result.fault ? [WORDS.taken, WORDS.takenSeveral] : [WORDS.found, WORDS.foundSeveral];
     const found =
         result.found > 1 ? say(several, {form, count: result.found, number: result.chosen + 1}) : say(one, {form});
-    const cut = (text) => visible(text.length > MOST_DROPPED ? `${text.slice(0, MOST_DROPPED)} ..` : text);
-    const dropped = result.dropped.map(({what, text}) => say(WORDS.droppedWhat[what], {text: cut(text ?? "")}));
+    const dropped = result.dropped.map(
+        ({what, text}) => say(WORDS.droppedWhat[what], {text: visible(shortened(text ?? "", MOST_DROPPED))}));
     return dropped.length ? `${found} ${say(WORDS.dropped, {what: commaed(dropped)})}` : found;
 }
 
-function writtenAces(result) {
-    if (!result.written.length) {
+function writtenAce({part, number, kind, text}, place) {
+    const isWrong = number === place.ace && part === place.part;
+    const name = WORDS.refusedKinds[kind];
+    return make("li", {class: isWrong ? "wrong" : ""}, make("code", {}, visible(shortened(text, MOST_ACE))),
+        name ? ` ${say(WORDS.error.unsupported, {kind: visible(kind), name})}` : "",
+        isWrong ? make("strong", {}, ` ${WORDS.error.reason}`) : null);
+}
+
+function writtenAces({written, place}) {
+    if (!written) {
         return null;
     }
-    const marked = result.place.ace;
+    const list = make("ol", {class: "written"});
+    const more = someRows(list, linesOf(written), (line) => writtenAce(JSON.parse(line), place),
+        (count) => say(WORDS.parts.more, {count}));
     return make("details", {open: true}, make("summary", {}, WORDS.error.written),
-        make("p", {class: "hint"}, WORDS.error.writtenHint),
-        make("ol", {class: "written"},
-            result.written.map(
-                (ace) => make("li", {class: ace.number === marked && ace.part === result.place.part ? "wrong" : ""},
-                    make("code", {}, visible(ace.text.slice(0, 300))),
-                    WORDS.refusedKinds[ace.kind] ? ` ${say(WORDS.error.unsupported, {
-                        kind: visible(ace.kind),
-                        name: WORDS.refusedKinds[ace.kind]
-                    })}` :
-                                                   "",
-                    ace.number === marked && ace.part === result.place.part ?
-                        make("strong", {}, ` ${WORDS.error.reason}`) :
-                        null))));
+        make("p", {class: "hint"}, WORDS.error.writtenHint), list, more);
 }
 
 export function showFault(place, result, {onSelect, onDomain}) {
@@ -332,31 +346,17 @@ export function showFault(place, result, {onSelect, onDomain}) {
             result.isListing ? make("p", {class: "listing"}, WORDS.error.listing) : null,
             faultBox(result.fault, result.place, needsDomain,
                 result.form === "sddl" && onSelect ? button(WORDS.error.go, () => onSelect(result.place)) : null),
-            writtenAces(result)));
+            result.isListing ? null : writtenAces(result)));
 }
 
-// A long answer is shown in several turns of the page, so that typing never waits for all of it; what was shown before
-// goes at once. The promise ends when all is shown, or 'isOver' says that there is another answer.
-export async function showLook(place, result, context, isOver) {
+// The promise ends when all is shown.
+export function showLook(place, result, context, isOver) {
     const {kind, names} = context;
     const {rows, rights} = result.grid;
-    const count = rows.length * bitsOf(rights).length + result.model.dacl.aces.length + result.model.sacl.aces.length;
-    const later = count > AT_ONCE ? [] : null;
+    const count = rows.length * bitsOf(rights).length + result.model.dacl.count + result.model.sacl.count;
     const parts = [
         () => summary(result, kind, names), () => warnings(result, kind, names),
-        () => gridSection(result, context, later), () => words(result, kind, names, later)
+        (later) => gridSection(result, context, later), (later) => words(result, kind, names, later)
     ];
-    if (!later) {
-        show(place, parts.map((part) => part()));
-        return;
-    }
-    show(place, parts[0]());
-    later.push(...parts.slice(1).map((part) => () => place.append(part())));
-    while (later.length) {
-        await nextFrame();
-        if (isOver()) {
-            return;
-        }
-        later.shift()();
-    }
+    return showParts(place, count, parts, isOver);
 }

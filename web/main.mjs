@@ -2,12 +2,13 @@
 // the desk's answers.
 import {makeAsk, showAsk, showAskRights} from "./ask_view.mjs";
 import {makeCompare, showCompare} from "./compare_view.mjs";
-import {mappingOf} from "./desk.mjs";
+import {linesOf, mappingOf} from "./desk.mjs";
 import {area, box, button, byId, input, labelled, make, select, show} from "./dom.mjs";
 import {makeInherit, showInherit} from "./inherit_view.mjs";
 import {LinesView} from "./lines_view.mjs";
 import {foundText, showFault, showLook, showReason, spokenSummary} from "./look_view.mjs";
 import {faultInWords, ownNames, visible} from "./naming.mjs";
+import {descriptorField, isLarge} from "./parts_view.mjs";
 import {nameOfObject, objectWords, placeOfObject, ReportView} from "./report_view.mjs";
 import {knownGuids} from "./schema.mjs";
 import {addressOf, commandLine, takeAddress} from "./sharing.mjs";
@@ -15,7 +16,6 @@ import {changing} from "./warnings.mjs";
 import {say, WORDS} from "./words.mjs";
 import {FileDesk, serve, startDesk} from "./worker.mjs";
 
-const LARGE = 20_000; // characters; a longer text is kept beside the field
 const EXAMPLES = {
     folder: [
         "folder",
@@ -66,7 +66,8 @@ const freshState = () => ({
 
 class Page {
     constructor({desk, isWorker}, source, bytes, report) {
-        Object.assign(this, {desk, source, bytes, isWorker, state: freshState(), result: null, asked: null});
+        Object.assign(
+            this, {desk, source, bytes, isWorker, state: freshState(), result: null, asked: null, turns: {}});
         // A report has a view of its own, before all others.
         this.views = Object.keys(WORDS.tabs).filter((view) => view !== "report" || report);
         this.reportView = report ?
@@ -103,7 +104,7 @@ class Page {
             kind: this.state.kind,
             names: this.names,
             isCommon: this.state.common,
-            texts: this.result?.written?.dacl ?? [],
+            texts: linesOf(this.result?.texts),
             made: this.state.made,
             onCell: (row, right) => this.explainCell(row, right),
             onAll: () => this.set("all", true),
@@ -131,11 +132,11 @@ class Page {
 
     makeControls() {
         const {state} = this;
+        this.chosenKey = null;
         const setter = (name) => (value) => this.set(name, value);
-        const text = area("text", "", (value) => this.setText(value),
-            {rows: 3, class: "descriptor", "aria-describedby": "text-hint found"});
-        show(byId("input"), labelled(WORDS.inputLabel, text, WORDS.inputHint),
-            make("div", {id: "large", class: "large", hidden: true}),
+        this.text = descriptorField("text", state.text, (value) => this.setText(value),
+            {rows: 3, "aria-describedby": "text-hint found"}, () => this.open("", "auto"));
+        show(byId("input"), labelled(WORDS.inputLabel, this.text.field, WORDS.inputHint), this.text.note,
             make("p", {class: "adds"}, WORDS.examples, ": ", Object.entries(WORDS.examplesPlain).map(([name,
                 label]) => [button(label, () => this.example(name), {class: "add", id: `example-${name}`}), " "]),
                 button(WORDS.clear, () => this.open("", "auto"), {class: "add", id: "clear"})),
@@ -161,7 +162,6 @@ class Page {
                     area("names", "", setter("names"), {rows: 3, "aria-describedby": "names-hint"}), WORDS.namesHint)),
             make("div", {id: "opened", class: "opened", hidden: true}),
             make("p", {id: "found", class: "found"}, WORDS.waiting));
-        this.putText(state.text);
     }
 
     makeViews() {
@@ -186,7 +186,6 @@ class Page {
 
     listen() {
         byId("tabs").addEventListener("keydown", (event) => this.moveTab(event));
-        byId("text").addEventListener("paste", (event) => this.paste(event));
         window.addEventListener("dragover", (event) => event.preventDefault());
         window.addEventListener("drop", (event) => this.drop(event));
         window.addEventListener("hashchange", () => this.takeHash());
@@ -205,7 +204,6 @@ class Page {
             takeAddress(this.state, location.hash.slice(1));
             this.makeControls();
             this.makeViews();
-            byId("text").addEventListener("paste", (event) => this.paste(event));
             this.showView();
             this.refresh();
         }
@@ -240,20 +238,6 @@ class Page {
         this.remember();
     }
 
-    // A long text stays out of the field: no browser lays out a line of a megabyte at each key.
-    putText(text) {
-        const isLarge = text.length > LARGE;
-        byId("text").value = isLarge ? "" : text;
-        byId("text").disabled = isLarge;
-        show(byId("large"),
-            isLarge ?
-                [
-                    make("span", {}, say(WORDS.large, {count: text.length})), " ",
-                    button(WORDS.clear, () => this.open("", "auto"), {id: "large-clear"})
-                ] :
-                []);
-    }
-
     // A form that came with another text is none that the user chose.
     setText(text) {
         show(byId("opened"));
@@ -265,18 +249,7 @@ class Page {
         this.state.text = text;
         this.state.chosen = 0;
         this.state.all = false;
-        if (text.length > LARGE) {
-            this.putText(text);
-        }
         this.refresh();
-    }
-
-    paste(event) {
-        const text = event.clipboardData?.getData("text") ?? "";
-        if (text.length > LARGE) {
-            event.preventDefault();
-            this.setText(text);
-        }
     }
 
     drop(event) {
@@ -297,7 +270,7 @@ class Page {
         this.state.chosen = 0;
         this.state.all = false;
         this.state.text = text;
-        this.putText(text);
+        this.text.put(text);
         this.choose("look");
         this.refresh();
     }
@@ -378,7 +351,7 @@ class Page {
     // An error of the page itself must not leave an older answer beside a newer text.
     broke(error) {
         this.result = null;
-        this.isOver();
+        this.isOver("look");
         show(byId("view-look"), make("p", {class: "fault-name"}, say(WORDS.failed, {reason: visible(error.message)})));
         this.tell("");
     }
@@ -394,15 +367,15 @@ class Page {
         this.speaking = setTimeout(() => { byId("spoken").textContent = text; }, 600);
     }
 
-    // Ends what an older answer still shows; the function that it returns tells whether a newer one came.
-    isOver() {
+    // Ends what an older answer of a view still shows; the function that it returns tells whether a newer one came.
+    isOver(view) {
         const turn = {};
-        this.turn = turn;
-        return () => this.turn !== turn;
+        this.turns[view] = turn;
+        return () => this.turns[view] !== turn;
     }
 
     async showResult(result) {
-        const isOver = this.isOver();
+        const isOver = this.isOver("look");
         let shown = null;
         this.showChosen(result);
         document.body.classList.toggle("has-result", Boolean(result.model));
@@ -415,7 +388,7 @@ class Page {
         } else if (result.fault) {
             this.tell(`${faultInWords(result.fault)} ${foundText(result)}`);
             showFault(byId("view-look"), result, {
-                onSelect: this.state.text.length > LARGE ? null : (place) => this.select(place),
+                onSelect: isLarge(this.state.text) ? null : (place) => this.select(place),
                 onDomain: (domain) => this.takeDomain(domain)
             });
         } else {
@@ -428,18 +401,31 @@ class Page {
         await shown;
     }
 
-    showChosen(result) {
-        const field = byId("chosen-field");
-        if (!result.found || result.found < 2) {
-            show(field);
-            return;
+    // Which of several descriptors is shown, by a list, or by its number if there are too many. The control stays the
+    // same as long as the descriptors do, so that it keeps the focus.
+    showChosen({found = 0, names = [], chosen}) {
+        const key = JSON.stringify([found, names]);
+        if (key !== this.chosenKey) {
+            this.chosenKey = key;
+            show(byId("chosen-field"), found > 1 && this.makeChosen(found, names));
         }
-        const options = Object.fromEntries(result.names.map(
-            (name, index) => [index,
-                say(WORDS.chosenOption, {number: index + 1, count: result.found, name: visible(name.slice(0, 60))})]));
-        show(field,
-            labelled(WORDS.chosenLabel,
-                select("chosen", options, String(result.chosen), (value) => this.set("chosen", Number(value)))));
+        const field = byId("chosen");
+        if (field && found <= names.length) {
+            field.value = chosen;
+        } else if (field && field !== document.activeElement) {
+            field.value = chosen + 1;
+        }
+    }
+
+    makeChosen(found, names) {
+        if (found > names.length) {
+            const set = (value) => this.set("chosen", Math.min(found, Math.max(1, Math.trunc(value) || 1)) - 1);
+            return labelled(WORDS.chosenLabel, input("chosen", "", set, {inputmode: "numeric"}));
+        }
+        const options = Object.fromEntries(names.map((name, index) => [index,
+            say(WORDS.chosenOption, {number: index + 1, count: found, name: visible(name.slice(0, 60))})]));
+        return labelled(
+            WORDS.chosenLabel, select("chosen", options, "0", (value) => this.set("chosen", Number(value))));
     }
 
     // The place of a fault, in the field. What was left out before the line moves it.
@@ -489,12 +475,14 @@ class Page {
         const [name, about, showAnswer] = questions[view];
         const result = await this.desk.ask(name, about).catch((error) => ({error}));
         if (result) {
-            this.showAnswer(name, result, showAnswer);
+            await this.showAnswer(name, result, showAnswer);
         }
     }
 
-    showAnswer(name, result, showAnswer) {
+    async showAnswer(name, result, showAnswer) {
         const place = byId(`${name}-result`);
+        const isOver = this.isOver(name);
+        let shown = null;
         if (result.error) {
             show(place, make("p", {class: "fault-name"}, say(WORDS.failed, {reason: visible(result.error.message)})));
         } else if (result.isEmpty || result.domainFault) {
@@ -503,10 +491,13 @@ class Page {
             show(place, make("p", {class: "fault-name"}, faultInWords(result.descriptorFault)),
                 make("p", {}, WORDS.error.intro));
         } else {
-            this.speak(showAnswer(result, this.context));
+            const answer = showAnswer(result, this.context, isOver);
+            this.speak(answer[0]);
+            shown = answer[1];
         }
         this.asked = name === "ask" ? result : this.asked;
         this.otherLine = name === "compare" ? result.other?.line : this.otherLine;
+        await shown;
     }
 
     // The state goes to the address a moment after the last key; the names that the user gave don't.

@@ -42,12 +42,15 @@ export function nameOf(sid, names) {
     return names.get(sid) ?? WORDS.names[sid] ?? (relative && WORDS.relativeNames[relative[2]]) ?? familyName(sid);
 }
 
-// The named rights of a kind of object, in the order of the grid: {bit, name, short, group}.
-export function rightsOf(kind) {
-    const rights = Object.entries(WORDS.rights[kind]).map(([bit,
-        [name, short, group]]) => ({bit: Number(bit), name, short, group}));
-    return rights.sort((one, other) => GROUPS.indexOf(one.group) - GROUPS.indexOf(other.group) || one.bit - other.bit);
+function rightsInOrder(rights) {
+    const all = Object.entries(rights).map(([bit, [name, short, group]]) => ({bit: Number(bit), name, short, group}));
+    return all.sort((one, other) => GROUPS.indexOf(one.group) - GROUPS.indexOf(other.group) || one.bit - other.bit);
 }
+
+const RIGHTS = Object.fromEntries(Object.entries(WORDS.rights).map(([kind, rights]) => [kind, rightsInOrder(rights)]));
+
+// The named rights of a kind of object, in the order of the grid: {bit, name, short, group}.
+export const rightsOf = (kind) => RIGHTS[kind];
 
 export const groupMask = (kind, group) =>
     rightsOf(kind).filter((right) => right.group === group).reduce((mask, right) => (mask | right.bit) >>> 0, 0);

@@ -1,8 +1,47 @@
 // Pieces that several views share: a SID, an ACE, a list of ACEs, a fault.
-import {button, make, someRows} from "./dom.mjs";
+import {linesOf} from "./desk.mjs";
+import {area, button, make, show, someRows} from "./dom.mjs";
 import {maskText} from "./library.mjs";
 import {faultInWords, guidInWords, labelInWords, nameOf, rightsInWords, visible, whereOf} from "./naming.mjs";
 import {say, WORDS} from "./words.mjs";
+
+const LARGE = 20_000; // characters; a longer text is kept beside its field
+
+// A field for a descriptor, with what to show beside it, and a function that puts a text into it. TAKE gets what is
+// typed or pasted. A long text stays out of the field: no browser lays out a line of a megabyte at each key.
+export function descriptorField(id, text, take, attributes, clear = null) {
+    const note = make("div", {id: `${id}-large`, class: "large", hidden: true});
+    const put = (value) => {
+        field.value = isLarge(value) ? "" : value;
+        field.disabled = isLarge(value);
+        show(note,
+            isLarge(value) && [
+                say(WORDS.large, {count: value.length}), " ",
+                button(WORDS.clear, empty, {id: `${id}-clear`})
+            ]);
+    };
+    const empty = () => {
+        (clear ?? set)("");
+        field.focus();
+    };
+    const set = (value) => {
+        put(value);
+        take(value);
+    };
+    const paste = (event) => {
+        const pasted = event.clipboardData?.getData("text") ?? "";
+        if (isLarge(pasted)) {
+            event.preventDefault();
+            set(pasted);
+        }
+    };
+    const type = (value) => (isLarge(value) ? set(value) : take(value));
+    const field = area(id, "", type, {class: "descriptor", ...attributes, onpaste: paste});
+    put(text);
+    return {field, note, put};
+}
+
+export const isLarge = (text) => text.length > LARGE;
 
 export const formatted = (number) => new Intl.NumberFormat(WORDS.language).format(number);
 
@@ -39,6 +78,8 @@ export const plainName = (sid, names) => nameOf(sid, names);
 
 export const commaed = (words) => words.join(", ");
 
+export const shortened = (text, most) => (text.length > most ? `${text.slice(0, most)} ..` : text);
+
 function kindOf(ace) {
     const audits = ace.flags.filter((flag) => WORDS.audits[flag]).map((flag) => WORDS.audits[flag]);
     const isAudit = ace.kind === "AU" || ace.kind === "OU";
@@ -54,7 +95,7 @@ export function aceRights(ace, kind) {
     return [make("span", {}, commaed(words)), generic, " ", make("code", {class: "mask"}, maskText(ace.mask)), object];
 }
 
-export function aceRow(ace, text, kind, names) {
+export function aceRow(ace, kind, names) {
     const {number, kind: label, who: whom, rights, where, origin, text: exact} = WORDS.parts.columns;
     const cell = (name, heading, ...children) => make("td", {class: name, "data-label": heading}, ...children);
     return make("tr", {class: `ace ${kindClass(ace.kind)}`, id: `${ace.list}-${ace.number}`, tabindex: "-1"},
@@ -63,15 +104,16 @@ export function aceRow(ace, text, kind, names) {
         cell("whom", whom, who(ace.sid, ace.alias, names)), cell("rights", rights, aceRights(ace, kind)),
         cell("where", where, whereOf(kind, ace)),
         cell("origin", origin, ace.flags.includes("ID") ? WORDS.origin.inherited : WORDS.origin.own),
-        cell("exact", exact, make("code", {}, text)));
+        cell("exact", exact, make("code", {}, ace.text)));
 }
 
-export function aceTable(caption, aces, texts, kind, names, later) {
+// A table of ACEs, as the desk sends them.
+export function aceTable(caption, aces, kind, names, later) {
     const body = make("tbody");
     const headings = Object.values(WORDS.parts.columns).map((text) => make("th", {scope: "col"}, text));
     const table = make("table", {class: "aces"}, make("caption", {class: "unseen"}, caption),
         make("thead", {}, make("tr", {}, headings)), body);
-    const more = someRows(body, aces, (ace) => aceRow(ace, texts[ace.number - 1], kind, names),
+    const more = someRows(body, linesOf(aces), (line) => aceRow(JSON.parse(line), kind, names),
         (count) => say(WORDS.parts.more, {count}), {later});
     return [make("div", {class: "scroll", tabindex: "0", role: "region", "aria-label": caption}, table), more];
 }
@@ -106,10 +148,13 @@ export function refusedKind(fault, place) {
                                                          null;
 }
 
+const NO_SUCH_KIND = 29;
+
 export function faultBox(fault, place, ...more) {
-    const suggestion = WORDS.faults[fault.number]?.[1];
+    const kind = refusedKind(fault, place);
+    const suggestion = WORDS.faults[kind ? NO_SUCH_KIND : fault.number]?.[1];
     return make("div", {class: "fault"}, make("p", {class: "fault-name"}, make("strong", {}, faultInWords(fault))),
-        refusedKind(fault, place) && make("p", {}, refusedKind(fault, place)),
+        kind && make("p", {}, kind),
         place.field ? make("p", {}, say(WORDS.error.place, {place: placeInWords(place)})) :
                       make("p", {}, WORDS.error.unplaced),
         markedText(place), suggestion ? make("p", {}, say(WORDS.error.suggestion, {text: suggestion})) : null, ...more);

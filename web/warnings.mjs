@@ -1,11 +1,12 @@
 // What a reader should look at, each with its reason: {key, level, numbers, ...}. LEVEL is 'danger', 'caution' or
 // 'note'. The words are in words.mjs. Whether somebody gets a right is always an answer of check.
-import {bitsOf, DECIDING, has, isBroad, meaningOf} from "./access.mjs";
+import {DECIDING, has, isBroad, meaningOf} from "./access.mjs";
 import {descriptorOfPieces, guidBytes, piecesOf, sidBytes} from "./library.mjs";
 
 const WRITE_DAC = 0x40000;
 const WRITE_OWNER = 0x80000;
 const DELETE = 0x10000;
+const SYNCHRONIZE = 0x100000;
 const PROTECTED = 0x1000;
 const CHANGING = {
     file: 0x2 | 0x4 | 0x10 | 0x40 | 0x100,
@@ -17,6 +18,7 @@ const ADMINISTRATORS = [
 ];
 const ADMINISTRATORS_OF_A_DOMAIN = /^S-1-5-21-\d+-\d+-\d+-(?:500|512|516|518|519)$/;
 const EVERYONE = "S-1-1-0";
+const COMMON = [EVERYONE, "S-1-5-11"];
 const OWNER_RIGHTS = "S-1-3-4";
 const CREATORS = ["S-1-3-0", "S-1-3-1"];
 const NO_OWNER_RULE = `(A;;0x0;;;${OWNER_RIGHTS})`;
@@ -38,11 +40,12 @@ function ofDacl(model) {
     return aces.length ? [] : [{key: "emptyDacl", level: "caution"}];
 }
 
-// What each row gets beyond what Everyone gets, which is said once.
-const beyondEveryone = (grid, row) =>
-    (row.sid === EVERYONE ? row.granted :
-                            row.granted & ~(grid.rows.find(({sid}) => sid === EVERYONE)?.granted ?? 0)) >>>
-    0;
+// The rows of Everyone and Authenticated Users, if another row's token has them: what these get is said once.
+const aboveRow = (grid, row) =>
+    grid.rows.filter(({sid}) => COMMON.includes(sid) && sid !== row.sid && row.token.includes(sid));
+
+const beyondCommon = (grid, row) =>
+    aboveRow(grid, row).reduce((mask, other) => (mask & ~other.granted) >>> 0, row.granted);
 
 function ofBroadGroups(grid, mapping) {
     const rows = grid.isList ? grid.rows.filter((row) => isBroad(row.sid)) : [];
@@ -53,16 +56,15 @@ function ofBroadGroups(grid, mapping) {
             who: row.sid,
             alias: row.alias,
             numbers: row.numbers,
-            mask: (beyondEveryone(grid, row) & changing(mapping)) >>> 0,
+            mask: (beyondCommon(grid, row) & changing(mapping)) >>> 0,
         }))
         .filter(({mask}) => mask !== 0);
 }
 
 // An object type for which a broad group gets a right to change that it doesn't get for the object as a whole.
 function ofBroadTypes(grid, mapping) {
-    const everyone = grid.rows.find(({sid}) => sid === EVERYONE)?.typed ?? [];
-    const known = (row, object) =>
-        (row.sid === EVERYONE ? 0 : everyone.find((other) => other.object === object)?.mask ?? 0);
+    const known = (row, object) => aboveRow(grid, row).reduce(
+        (mask, {typed}) => mask | (typed.find((other) => other.object === object)?.mask ?? 0), 0);
     return grid.rows.filter((row) => isBroad(row.sid))
         .flatMap((row) => row.typed.map(({object, mask}) => ({
             key: "broadType",
@@ -102,7 +104,7 @@ function ofControl(grid) {
                 who: row.sid,
                 alias: row.alias,
                 numbers: row.numbers,
-                mask: (beyondEveryone(grid, row) & (WRITE_DAC | WRITE_OWNER)) >>> 0
+                mask: (beyondCommon(grid, row) & (WRITE_DAC | WRITE_OWNER)) >>> 0
             };
         })
         .filter(({mask}) => mask !== 0);
@@ -213,7 +215,7 @@ const domainOf = (sid) => /^(S-1-5-21-\d+-\d+-\d+)-\d+$/.exec(sid ?? "")?.[1] ??
 function ofDomains(model, domain) {
     const sids =
         [model.owner?.sid, model.group?.sid, ...[...model.dacl.aces, ...model.sacl.aces].map((ace) => ace.sid)];
-    const domains = [...new Set(sids.map(domainOf).filter(Boolean))];
+    const domains = [...new Set([...new Set(sids)].map(domainOf).filter(Boolean))];
     const others = domain ? domains.filter((one) => one !== domain) : domains;
     if (domain ? others.length === 0 : others.length < 2) {
         return [];
@@ -234,7 +236,7 @@ function ofObjectTypes(model, object, grid) {
 
 function ofUnnamedRights(library, model, grid, mapping) {
     const unnamed = model.dacl.aces.filter((ace) => DECIDING.includes(ace.kind) &&
-            bitsOf((meaningOf(library, ace.mask, mapping) & ~grid.rights) >>> 0).some((bit) => bit !== 0x100000));
+            (meaningOf(library, ace.mask, mapping) & ~grid.rights & ~SYNCHRONIZE) !== 0);
     return unnamed.length ? [{key: "unnamedRights", level: "note", numbers: numbersOf(unnamed)}] : [];
 }
 

@@ -126,7 +126,7 @@ def check(descriptor: DescriptorLike, sids: Iterable[SidLike], *, deny_only: Ite
     if len(enabled) + len(denying) > _MOST_SIDS:
         raise ArgumentFault(f"{len(enabled) + len(denying)} SIDs; a token has at most {_MOST_SIDS}", "sids")
     question = _library.question(
-        b"".join([*enabled, *denying]), bytes(len(enabled)) + b"\1" * len(denying),
+        _library.token(b"".join([*enabled, *denying]), bytes(len(enabled)) + b"\1" * len(denying)),
         _arguments.guid("object_type", object_type), sid_or_none("principal_self", principal_self),
         _arguments.number("wanted", wanted), _arguments.word("mapping", mapping, MAPPINGS),
         0 if level is None else _arguments.number("level", level), level is not None, _arguments.flag("maximum", maximum),

@@ -8,7 +8,7 @@ _OK, _TOO_SMALL = 0, 71
 _NULL, _LIST = 1, 2
 _STATUS_STOPPED, _STATUS_NO_MEMORY = 3, 4
 _NO_MEMORY = 72
-_MOST_MESSAGE = 64
+_MOST_MESSAGE, _MOST_SIDS = 64, 1024
 _U8, _U16, _U32, _SIZE, _BOOL = ctypes.c_uint8, ctypes.c_uint16, ctypes.c_uint32, ctypes.c_size_t, ctypes.c_bool
 _FAULT: List[Tuple[str, Any]] = [("fault", _U32), ("part", _U32), ("other_part", _U32)]
 
@@ -81,7 +81,8 @@ _CALLS: Tuple[Tuple[str, Sequence[Any], Any], ...] = (
     ("sid_from_text", (*_IN * 2, *_OUT), _Outcome),
     ("sid_to_text", (*_IN * 2, _BOOL, *_OUT), _Outcome),
     ("sid_size", _IN, _SIZE),
-    ("check", (*_IN * 5, ctypes.POINTER(_Request)), _Verdict),
+    ("token_read", (*_IN * 2, ctypes.POINTER(_U32), _SIZE), _Outcome),
+    ("check_with", (*_IN, ctypes.POINTER(_U32), _SIZE, *_IN * 2, ctypes.POINTER(_Request)), _Verdict),
     ("check_many", (ctypes.POINTER(_Bytes), _SIZE, *_IN * 4, ctypes.POINTER(_Request), ctypes.POINTER(_Verdict), _SIZE),
      _Outcome),
     ("run", (*_IN * 2, *_OUT * 2), _Ending),
@@ -277,15 +278,27 @@ def run(words: bytes, data: bytes) -> Tuple[int, bytes, bytes]:
         size *= 4
 
 
-def question(sids: bytes, entries: bytes, object_type: bytes, principal_self: bytes, wanted: int, mapping: int, level: int,
-             has_level: bool, maximum: bool, security: bool, take_ownership: bool) -> Any:
-    return (sids, len(sids), entries, len(entries), object_type, len(object_type), principal_self, len(principal_self),
-            _Request(wanted, mapping, level, has_level, maximum, security, take_ownership))
+def token(sids: bytes, entries: bytes) -> Any:
+    """A token that is read, which is 2 numbers of 32 bits and 20 for each SID; and what it was read from."""
+    size = 2 + 20 * min(len(entries), _MOST_SIDS)
+    numbers = (_U32 * size)()
+    given = (sids, len(sids), entries, len(entries))
+    outcome = _library.sdtool_token_read(*given, numbers, size)
+    if outcome.fault != _OK:
+        _refuse(outcome)
+    return (numbers, size), given
+
+
+def question(token: Any, object_type: bytes, principal_self: bytes, wanted: int, mapping: int, level: int, has_level: bool,
+             maximum: bool, security: bool, take_ownership: bool) -> Any:
+    return token, (object_type, len(object_type), principal_self, len(principal_self),
+                   _Request(wanted, mapping, level, has_level, maximum, security, take_ownership))
 
 
 def check(question: Any, descriptor: Any) -> Any:
     data = _read_layout("descriptor", descriptor)
-    verdict = _library.sdtool_check(data, len(data), *question)
+    (numbers, _), asked = question
+    verdict = _library.sdtool_check_with(data, len(data), *numbers, *asked)
     if verdict.fault != _OK:
         _refuse(verdict)
     return _verdict_of(verdict)
@@ -299,7 +312,8 @@ def check_many(question: Any, descriptors: Tuple[Any, ...]) -> List[Any]:
     count = len(descriptors)
     given = (_Bytes * count)(*(_given(_read_layout("descriptors", descriptor)) for descriptor in descriptors))
     verdicts = (_Verdict * count)()
-    outcome = _library.sdtool_check_many(given, count, *question, verdicts, count)
+    (_, sids), asked = question
+    outcome = _library.sdtool_check_many(given, count, *sids, *asked, verdicts, count)
     if outcome.fault != _OK:
         _refuse(outcome)
     return [_verdict_of(verdict) if verdict.fault == _OK else

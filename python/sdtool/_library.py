@@ -1,6 +1,8 @@
 """The library, opened once: by _native where that is built, else by ctypes."""
 import functools
+import hashlib
 import os
+import re
 import sys
 from typing import TYPE_CHECKING, NoReturn, Sequence
 
@@ -17,7 +19,7 @@ _NO_MEMORY = 72
 _PARTS = (None, "owner", "group", "sacl", "dacl")
 # The arguments of enum sdtool_argument, by the names that they have in Python.
 _ARGUMENTS = (None, "domain", "sids", "deny_only", "object_type", "principal_self", "mapping", "creator", "owner", "group",
-              "kind", "number", "sid", "sacl", "dacl")
+              "kind", "number", "sid", "sacl", "dacl", "token")
 _LISTS = ("sids", "deny_only", "sacl", "dacl")
 
 
@@ -63,6 +65,15 @@ def _load() -> None:
                       f"let the environment variable {_VARIABLE} name its file", name="sdtool")
 
 
+def digest() -> str:
+    """The digest, BLAKE2b of 256 bits, of the file from which this process has the library, as Linux tells it."""
+    named = os.path.realpath(os.environ.get(_VARIABLE, ""))
+    with open("/proc/self/maps", errors="surrogateescape") as maps:
+        path, = {path for path in re.findall("/.*", maps.read()) if path == named or "/libsdtool." in path}
+    with open(path, "rb") as file:
+        return hashlib.blake2b(file.read(), digest_size=32).hexdigest()
+
+
 _load()
 if TYPE_CHECKING:
     from ._native import *  # noqa: F403
@@ -79,6 +90,7 @@ else:
     explain = _transport.explain
     derive = _transport.derive
     run = _transport.run
+    token = _transport.token
     question = _transport.question
     check = _transport.check
     check_many = _transport.check_many

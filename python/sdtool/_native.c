@@ -45,7 +45,8 @@ enum {
 };
 
 #define CALLS(EACH)                                                                                                          \
-    EACH(version) EACH(normalize) EACH(from_sddl) EACH(to_sddl) EACH(explain) EACH(check) EACH(check_many) EACH(derive)      \
+    EACH(version) EACH(normalize) EACH(from_sddl) EACH(to_sddl) EACH(explain) EACH(token_read) EACH(check_with)              \
+    EACH(check_many) EACH(derive)                                                                                            \
     EACH(run) EACH(fault_text) EACH(sid_from_text) EACH(sid_to_text) EACH(sid_size) EACH(parts) EACH(next_ace) EACH(build)   \
     EACH(version_number)
 
@@ -491,10 +492,63 @@ static PyObject *run(PyObject *module, PyObject *const *given, Py_ssize_t count)
     return answer;
 }
 
+/* A token, which is read once. */
+struct token {
+    struct view sids, entries;
+    uint32_t *words;
+    size_t count;
+};
+
+static const char TOKEN[] = "sdtool.token";
+
+static void free_token(struct token *token)
+{
+    view_ends(&token->sids);
+    view_ends(&token->entries);
+    free(token->words);
+    free(token);
+}
+
+static void token_ends(PyObject *capsule)
+{
+    free_token(PyCapsule_GetPointer(capsule, TOKEN));
+}
+
+static int read_token(struct state *state, struct token *token)
+{
+    struct sdtool_outcome outcome;
+    size_t sids = token->entries.size < SDTOOL_MOST_SIDS ? token->entries.size : SDTOOL_MOST_SIDS;
+    token->count = SDTOOL_TOKEN_WORDS(sids);
+    token->words = malloc(token->count * sizeof *token->words);
+    if (token->words == NULL) {
+        PyErr_NoMemory();
+        return 0;
+    }
+    outcome = state->library.token_read(BYTES(token->sids), BYTES(token->entries), token->words, token->count);
+    if (outcome.fault != SDTOOL_OK)
+        refused_outcome(state, outcome);
+    return outcome.fault == SDTOOL_OK;
+}
+
+static PyObject *token(PyObject *module, PyObject *const *given, Py_ssize_t count)
+{
+    struct state *state = state_for(module, count, 2);
+    struct token *token = state == NULL ? NULL : calloc(1, sizeof *token);
+    PyObject *capsule = NULL;
+    if (token == NULL)
+        return state == NULL ? NULL : PyErr_NoMemory();
+    if (view_bytes(&token->sids, given[0]) && view_bytes(&token->entries, given[1]) && read_token(state, token))
+        capsule = PyCapsule_New(token, TOKEN, token_ends);
+    if (capsule == NULL)
+        free_token(token);
+    return capsule;
+}
+
 /* The token and the request of checks. */
 struct question {
-    PyObject *module;
-    struct view sids, entries, object, principal_self;
+    PyObject *module, *capsule;
+    const struct token *token; /* that of the capsule */
+    struct view object, principal_self;
     struct sdtool_request request;
 };
 
@@ -503,8 +557,7 @@ static const char QUESTION[] = "sdtool.question";
 static void free_question(struct question *question)
 {
     Py_XDECREF(question->module);
-    view_ends(&question->sids);
-    view_ends(&question->entries);
+    Py_XDECREF(question->capsule);
     view_ends(&question->object);
     view_ends(&question->principal_self);
     free(question);
@@ -517,20 +570,20 @@ static void question_ends(PyObject *capsule)
 
 static PyObject *question(PyObject *module, PyObject *const *given, Py_ssize_t count)
 {
-    struct state *state = state_for(module, count, 11);
+    struct state *state = state_for(module, count, 10);
     struct question *question = state == NULL ? NULL : calloc(1, sizeof *question);
     struct sdtool_request *request;
     PyObject *capsule = NULL;
     if (question == NULL)
         return state == NULL ? NULL : PyErr_NoMemory();
     request = &question->request;
-    if (view_bytes(&question->sids, given[0]) && view_bytes(&question->entries, given[1]) &&
-        view_bytes(&question->object, given[2]) && view_bytes(&question->principal_self, given[3]) &&
-        number(given[4], &request->wanted) && number(given[5], &request->mapping) && number(given[6], &request->level)) {
-        request->has_level = given[7] == Py_True;
-        request->maximum = given[8] == Py_True;
-        request->security = given[9] == Py_True;
-        request->take_ownership = given[10] == Py_True;
+    question->token = PyCapsule_GetPointer(given[0], TOKEN);
+    if (question->token != NULL && view_bytes(&question->object, given[1]) && view_bytes(&question->principal_self, given[2]) &&
+        number(given[3], &request->wanted) && number(given[4], &request->mapping) && number(given[5], &request->level)) {
+        request->has_level = given[6] == Py_True;
+        request->maximum = given[7] == Py_True;
+        request->security = given[8] == Py_True;
+        request->take_ownership = given[9] == Py_True;
         capsule = PyCapsule_New(question, QUESTION, question_ends);
     }
     if (capsule == NULL) {
@@ -539,6 +592,8 @@ static PyObject *question(PyObject *module, PyObject *const *given, Py_ssize_t c
     }
     Py_INCREF(module);
     question->module = module;
+    Py_INCREF(given[0]);
+    question->capsule = given[0];
     return capsule;
 }
 
@@ -564,9 +619,9 @@ static PyObject *verdict_on(struct state *state, const struct question *asked, P
     PyThreadState *others;
     if (!view_layout(state, &data, descriptor, "descriptor"))
         return NULL;
-    others = data.size + asked->sids.size > LARGE ? PyEval_SaveThread() : NULL;
-    verdict = state->library.check(BYTES(data), BYTES(asked->sids), BYTES(asked->entries), BYTES(asked->object),
-                                   BYTES(asked->principal_self), &asked->request);
+    others = data.size + asked->token->sids.size > LARGE ? PyEval_SaveThread() : NULL;
+    verdict = state->library.check_with(BYTES(data), asked->token->words, asked->token->count, BYTES(asked->object),
+                                        BYTES(asked->principal_self), &asked->request);
     if (others != NULL)
         PyEval_RestoreThread(others);
     view_ends(&data);
@@ -674,8 +729,9 @@ static PyObject *check_many(PyObject *module, PyObject *const *given, Py_ssize_t
         descriptors[seen] = bytes_of(views[seen]);
     }
     Py_BEGIN_ALLOW_THREADS
-    outcome = state->library.check_many(descriptors, (size_t)seen, BYTES(asked->sids), BYTES(asked->entries), BYTES(asked->object),
-                                        BYTES(asked->principal_self), &asked->request, verdicts, (size_t)seen);
+    outcome = state->library.check_many(descriptors, (size_t)seen, BYTES(asked->token->sids), BYTES(asked->token->entries),
+                                        BYTES(asked->object), BYTES(asked->principal_self), &asked->request, verdicts,
+                                        (size_t)seen);
     Py_END_ALLOW_THREADS
     answers = outcome.fault == SDTOOL_OK ? answers_of(state, verdicts, seen) : refused_outcome(state, outcome);
 end:
@@ -1188,6 +1244,7 @@ static PyMethodDef FUNCTIONS[] = {
     FAST(sid_to_text),
     {"is_one_sid", is_one_sid, METH_O, NULL},
     FAST(run),
+    FAST(token),
     FAST(question),
     FAST(check),
     FAST(check_many),

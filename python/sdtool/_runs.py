@@ -1,6 +1,7 @@
 """The program over bytes in memory, and over a stream of lines."""
 import io
-from typing import IO, Any, Iterable, Iterator, List, NamedTuple, Sequence, Union
+import itertools
+from typing import IO, Any, Counter, Iterable, Iterator, List, NamedTuple, Sequence, Union
 
 from . import _arguments, _library
 from ._errors import ArgumentFault
@@ -77,6 +78,11 @@ class Run:
         self._keep(piece[at:])
         return self._run(ended)
 
+    @property
+    def has_begun(self) -> bool:
+        """Whether a line has begun that has not ended."""
+        return bool(self._open)
+
     def end(self) -> bytes:
         """The answer to a last line without a newline."""
         last = bytes(self._open)
@@ -88,9 +94,28 @@ class Run:
         self._open += piece[:max(0, _LONGEST_LINE + 2 - len(self._open))]
 
     def _run(self, data: bytes) -> bytes:
-        status, output, _ = _library.run(self._words, data)
+        status, output, self.message = _library.run(self._words, data)
         self.status = max(self.status, status)
         return output
+
+
+def checked(words: Sequence[str], pieces: Iterable[bytes], total: Counter[str]) -> Iterator[bytes]:
+    """The answers to the lines that end in each piece. Counts lines, error lines and bytes; a line without an answer is a
+    RuntimeError."""
+    run = Run(_spelled(words))
+    for piece in itertools.chain(pieces, [b""]):  # nothing ends a last line without a newline
+        lines, answers = (piece.count(b"\n"), run.answer(piece)) if piece else (int(run.has_begun), run.end())
+        errors = answers.count(b"\nerror ") + answers.startswith(b"error ")
+        answered = answers.count(b"\n")
+        if words[0] == "explain":
+            answered = answers.count(b"\nend\n") + errors
+            if answers.startswith(b"\n") or b"\n\n" in answers:  # the answers to empty lines
+                answered += answers.split(b"\n").count(b"") - 1
+        total.update(lines=lines, errors=errors, bytes=len(answers))
+        if answered != lines or run.status != (total["errors"] > 0) or answers[-1:] not in (b"", b"\n"):
+            raise RuntimeError(f"{lines} lines have {answered} answers, {errors} errors, status {run.status} "
+                               f"{run.message.decode()}")
+        yield answers
 
 
 def lines(source: Source, words: Sequence[str], *, ahead: int = _AHEAD) -> Iterator[str]:

@@ -337,7 +337,8 @@ class Token(_Fixed):
     Token([Sid('S-1-1-0'), Sid('S-1-5-11'), Sid('S-1-5-32-545')], level=8192)
     """
 
-    __slots__ = ("sids", "deny_only", "level", "privileges", "_questions")
+    __slots__ = ("sids", "deny_only", "level", "privileges", "_read", "_questions")
+    _read: Any  # the SIDs as the library has read them
     _questions: Dict[Any, Any]  # the requests that were made last, as the library has read them
     sids: Tuple[Sid, ...]
     deny_only: Tuple[Sid, ...]
@@ -358,6 +359,8 @@ class Token(_Fixed):
         object.__setattr__(self, "deny_only", denying)
         object.__setattr__(self, "level", None if level is None else _arguments.number("level", level))
         object.__setattr__(self, "privileges", frozenset(held))
+        object.__setattr__(self, "_read", _library.token(
+            b"".join([*enabled, *denying]), bytes(len(enabled)) + b"\1" * len(denying)))
         object.__setattr__(self, "_questions", {})
 
     def _content(self) -> Tuple[Any, ...]:
@@ -409,8 +412,7 @@ def question_of(token: Token, wanted: int, maximum: bool, mapping: Mapping, obje
     if not isinstance(token, Token):
         raise _arguments.wrong_type("token", token, "Token")
     found = _library.question(
-        b"".join([*token.sids, *token.deny_only]), bytes(len(token.sids)) + b"\1" * len(token.deny_only),
-        _arguments.guid("object_type", object_type), sid_or_none("principal_self", principal_self),
+        token._read, _arguments.guid("object_type", object_type), sid_or_none("principal_self", principal_self),
         _arguments.number("wanted", wanted), _arguments.word("mapping", mapping, MAPPINGS), token.level or 0,
         token.level is not None, _arguments.flag("maximum", maximum), "security" in token.privileges,
         "take-ownership" in token.privileges)

@@ -10,6 +10,7 @@ import contextlib
 import dataclasses
 import functools
 import hashlib
+import itertools
 import json
 import os
 import re
@@ -17,29 +18,25 @@ import signal
 import sys
 import time
 import uuid
-from typing import Any, Callable, Dict, Iterable, Iterator, List, Optional, Set, Tuple
+from typing import Any, Callable, Counter, Dict, Iterable, Iterator, List, Optional, Set, Tuple
 
 import cloudpickle
 import dask
 from distributed import (
-    Client, Future, KilledWorker, Reschedule, Status, TimeoutError, WorkerPlugin, get_worker, wait)
+    CancelledError, Client, Future, KilledWorker, Reschedule, Status, TimeoutError, WorkerPlugin, get_worker, sync, wait)
 from distributed.comm import CommClosedError
 from distributed.diagnostics.progressbar import TextProgressBar
-from distributed.utils import CancelledError, sync
 from fsspec.compression import compr
 from fsspec.core import url_to_fs
 from fsspec.implementations.local import LocalFileSystem
 from fsspec.utils import infer_compression
 import sdtool
 
-READ, SEEK, PACKED = 4 << 20, 1 << 16, 1 << 12  # bytes of a request; what is packed may become 32,000 times as long
-LONGEST_LINE = 2 << 20  # bytes; no form has a line as long, so one that is longer is answered like its front
+READ, SEEK = 4 << 20, 1 << 16  # bytes of a request
 OURS = "_sdtool"  # the folder of runs, and how their other files begin
 OF_RUNS = re.compile(rf"(^|/){OURS}(/|(-part-\d+)?\.json$)")
 VERSION_KEYS = {"ino", "ETag", "etag", "VersionId", "generation", "md5Hash"}  # with one, each change of a file shows
-STREAMS = {None, "gzip", "bz2", "xz", "zstd"}
 SETUP_SECONDS, SILENT_SECONDS = 10, 15  # a worker that takes longer to set up joins when it is ready
-LOOPBACK = "127.0.0.1:0"
 say = functools.partial(print, "sdtool.distributed:", file=sys.stderr, flush=True)
 new_digest = functools.partial(hashlib.blake2b, digest_size=32)
 
@@ -63,8 +60,7 @@ class Input:
     folder: str  # of the parts, their evidence and the manifest
 
     def __post_init__(self) -> None:
-        host = getattr(self.fs, "host", "")  # which fsspec leaves out, as it does passwords
-        url = self.fs.unstrip_protocol(self.path).replace("///", f"//{host}/", 1)
+        url = self.fs.unstrip_protocol(self.path).replace("///", f"//{getattr(self.fs, 'host', '')}/", 1)  # no password
         self.url = re.sub("[\0-\x1f\x7f-\x9f]", lambda found: f"%{ord(found[0]):02X}", url)
         self.told = self.look()  # and by this it is the same file with the same content
         self.size = None if self.compression else self.told["size"]  # None: it can be read only from its start
@@ -82,18 +78,11 @@ class Input:
     def stream(self) -> Iterator[bytes]:
         """The bytes from the start, decompressed."""
         with self.fs.open(self.path, "rb") as raw:
-            stream = compr[self.compression](raw, mode="rb")
-            if self.compression != "zstd":
-                yield from iter(lambda: stream.read(READ), b"")
-                return
-            data = raw.read(PACKED)  # since fsspec reads one frame of zstd alone, and takes one that was cut for whole
-            while data:
-                frame = sys.modules["zstandard"].ZstdDecompressor().decompressobj()
-                while not frame.eof:
-                    if not data:
-                        raise EOFError(f"{self.url} ends within a frame")
-                    yield frame.decompress(data)
-                    data = frame.unused_data or raw.read(PACKED)
+            if self.compression == "zstd":
+                from sdtool import _zstd
+                yield from _zstd.unpacked(raw)
+            else:
+                yield from iter(functools.partial(compr[self.compression](raw, mode="rb").read, READ), b"")
 
     def next_line(self, at: int, end: int) -> int:
         """The first place from `at` on where a line begins, or else the end."""
@@ -103,57 +92,23 @@ class Input:
             at += len(chunk)
         return end
 
-    def lines(self, start: int, end: Optional[int]) -> Iterator[bytes]:
-        """The lines that begin in a block, in pieces. Of a line that is too long, a piece has only the front."""
-        if self.size is None:
-            chunks = self.stream()
-        else:
-            first, last = self.next_line(start, end), self.next_line(end, min(end + LONGEST_LINE, self.size))
-            chunks = chunks_of(self.fs, self.path, first, last if first < end else first)
-        held = b""
-        for chunk in chunks:
-            if ends := chunk.rfind(b"\n") + 1:
-                yield held + chunk[:ends]
-                held = b""
-            held = (held + chunk[ends:])[:LONGEST_LINE]
-        if held:
-            yield held
-
-
-def library_digest() -> str:
-    """The digest of the file of the library that this process has loaded."""
-    __import__("sdtool")
-    named = os.path.realpath(os.environ.get("SDTOOL_LIBRARY", ""))
-    with open("/proc/self/maps", errors="surrogateescape") as maps:
-        path, = {path for path in re.findall("/.*", maps.read()) if path == named or "/libsdtool." in path}
-    with open(path, "rb") as file:
-        return new_digest(file.read()).hexdigest()
-
-
-def count(command: str, piece: bytes, status: int, answers: bytes, message: str) -> Dict[str, int]:
-    """The counts of lines, of `error` lines and of bytes. Raises an error where a line has no answer."""
-    lines = piece.count(b"\n") + (not piece.endswith(b"\n"))
-    errors = answers.count(b"\nerror ") + answers.startswith(b"error ")
-    answered = answers.count(b"\nend\n") + errors if command == "explain" else answers.count(b"\n")
-    if command == "explain" and (answers.startswith(b"\n") or b"\n\n" in answers):
-        answered += answers.split(b"\n").count(b"") - 1
-    if status not in (0, 1) or status != (errors > 0) or answered != lines or not answers.endswith(b"\n"):
-        raise RuntimeError(f"{lines} lines have {answered} answers, {errors} errors, status {status} {message.strip()}")
-    return {"lines": lines, "errors": errors, "bytes": len(answers)}
+    def pieces(self, start: int, end: Optional[int]) -> Iterator[bytes]:
+        """The bytes of the lines that begin in a block."""
+        if end is None:
+            return self.stream()
+        first = self.next_line(start, end)
+        return chunks_of(self.fs, self.path, first, self.next_line(end, self.size) if first < end else first)
 
 
 def call_work(name: str, method: str, *arguments: Any) -> Any:
-    """A task. A worker that cannot go on leaves the run. Any other error fails the task, and Dask tries it again."""
+    """A task. If its worker cannot go on, others do it. Any other error fails the task, and Dask tries it again."""
     work = get_worker().plugins[name]
     try:
         return getattr(work, method)(*arguments)
     except Exception as error:
-        try:
-            work.check()
-        except Exception as reason:
-            sync(work.worker.loop, work.leave, reason)
-            raise Reschedule from error
-        raise
+        if sync(work.worker.loop, work.is_fit):
+            raise
+        raise Reschedule from error
 
 
 @dataclasses.dataclass
@@ -172,25 +127,28 @@ class Work(WorkerPlugin):
 
     async def setup(self, worker: Any) -> None:
         self.worker, self.manifests = worker, {}
-        try:
-            await asyncio.get_running_loop().run_in_executor(None, self.check, self.inputs)
+        if await self.is_fit(self.inputs):
             await worker.set_resources(**{self.name: worker.state.nthreads})
             if worker.status == Status.running:  # only a worker that starts to run gets the tasks that wait for one
                 worker.status = Status.paused
                 worker.status = Status.running
-        except Exception as error:
-            await self.leave(error)
 
-    async def leave(self, reason: Exception) -> None:
-        """Asks the scheduler for no more tasks. Those that are here start, fail and are sent elsewhere."""
-        scheduler, address = self.worker.scheduler, self.worker.contact_address
-        await scheduler.set_resources(resources={self.name: 0}, worker=address)
-        await scheduler.log_event(topic=self.name, msg=f"worker {address} is left out: {type(reason).__name__}: {reason}")
+    async def is_fit(self, inputs: Iterable[Input] = ()) -> bool:
+        """Whether this worker can work. If not, it gets no more tasks, and those that it has fail and go elsewhere."""
+        try:
+            await asyncio.get_running_loop().run_in_executor(None, self.check, inputs)
+        except Exception as reason:
+            address, told = self.worker.contact_address, f"{type(reason).__name__}: {reason}"
+            await self.worker.scheduler.set_resources(resources={self.name: 0}, worker=address)
+            await self.worker.scheduler.log_event(topic=self.name, msg=f"worker {address} is left out: {told}")
+            return False
+        return True
 
     def check(self, inputs: Iterable[Input] = ()) -> None:
         """Raises an error if this worker has another library, or sees another output or other inputs."""
-        if inputs and library_digest() != self.library:
-            raise OSError(f"its library is not the driver's, but has the digest {library_digest()}")
+        from sdtool import _library  # here, as a worker may have none
+        if inputs and _library.digest() != self.library:
+            raise OSError(f"its library is not the driver's, but has the digest {_library.digest()}")
         self.require_ownership()
         probe = f"{self.ours}/{uuid.uuid4().hex}"
         self.write_record(probe, {})
@@ -253,37 +211,33 @@ class Work(WorkerPlugin):
                 if {**record, **basis} == record and self.copy(record) == record["digest"]:
                     return record
         given.require_same()
-        record, digest = {**basis, "path": path, "at": 0, "lines": 0, "errors": 0, "bytes": 0}, new_digest()
+        from sdtool import _runs
+        total, digest = Counter(), new_digest()
         with self.written(path) as file:
-            for piece in given.lines(start, end):
-                status, answers, message = sys.modules["sdtool"].run(self.words, piece)
-                for key, more in count(self.words[0], piece, status, answers, message).items():
-                    record[key] += more
+            for answers in _runs.checked(self.words, given.pieces(start, end), total):
                 digest.update(answers)
                 file.write(answers)
             given.require_same()
-        return self.write_record(evidence, {**record, "digest": digest.hexdigest()})
+        return self.write_record(evidence, {**basis, "path": path, "at": 0, **total, "digest": digest.hexdigest()})
 
     def finish(self, number: int, blocks: List[dict]) -> dict:
         """Puts the answers to an input together. The manifest is there before they appear."""
-        given, at, placed = self.inputs[number], 0, []
+        given, ends = self.inputs[number], itertools.accumulate(block["bytes"] for block in blocks)
         total = {key: sum(block[key] for block in blocks) for key in ("lines", "errors", "bytes")}
+        placed = [{**block, "path": given.answers, "at": end - block["bytes"]} for block, end in zip(blocks, ends)]
         if self.is_parts:
             self.write_record(f"{given.folder}/{OURS}.json", {**total, "blocks": blocks})
-        elif any(each["path"] != given.answers for each in blocks) or self.fs.info(given.answers)["size"] != total["bytes"]:
+        elif blocks != placed or self.fs.info(given.answers)["size"] != total["bytes"]:
             with self.written(given.answers) as file:
                 for block in blocks:
                     if self.copy(block, file.write) != block["digest"]:
                         raise RuntimeError(f"{block['path']} is not what its worker wrote")
-                    placed.append({**block, "path": given.answers, "at": at})
-                    at += block["bytes"]
                 file.flush()
                 self.is_local and os.fsync(file.fileno())
                 self.write_record(f"{given.folder}/{OURS}.json", {**total, "blocks": placed})
-        kept = {os.path.basename(block["path"]) for block in placed or blocks}
         for path in self.fs.find(given.folder, maxdepth=1):
-            part = re.search(r"part-\d+", os.path.basename(path))
-            if part and part[0] not in kept:
+            part = re.search(r"part-(\d+)", os.path.basename(path))
+            if part and not (self.is_parts and int(part[1]) < len(blocks)):
                 self.fs.rm_file(path)
         return total
 
@@ -298,7 +252,7 @@ class Work(WorkerPlugin):
         for wrong, is_so in {
                 "is not a regular file": given.told["type"] != "file",
                 "has a name that is kept for runs": name == OURS,
-                "is compressed in a way that is not read here": compression not in STREAMS,
+                "is compressed in a way that is not read here": compression not in (None, "gzip", "bz2", "xz", "zstd"),
                 "has the answers of another input; give the folder of both": taken & {answers, f"{answers}/", *above},
                 f"has answers at {answers}, which no run wrote": self.fs.exists(answers) and not is_ours}.items():
             if is_so:
@@ -332,23 +286,21 @@ class Work(WorkerPlugin):
         self.fs.pipe_file(f"{self.ours}/run.json", json.dumps({"run": self.name, "words": self.words}).encode())
 
 
-def look(name: str, dask_scheduler: Any) -> Tuple[int, List[str]]:
-    """On the scheduler: how many workers are fit for a run, and which of all have not been heard of."""
-    fit = sum(map(bool, dask_scheduler.resources.get(name, {}).values()))
-    return fit, [each for each, its in dask_scheduler.workers.items() if time.time() - its.last_seen > SILENT_SECONDS]
-
-
 def watch(client: Client, name: str, futures: List[Future], wait_seconds: float) -> None:
     """Waits for the futures. Names workers that are silent, and ends a run that has had no worker for too long."""
+    def look(dask_scheduler: Any) -> Tuple[bool, Set[str]]:
+        is_silent = {each: time.time() - its.last_seen > SILENT_SECONDS for each, its in dask_scheduler.workers.items()}
+        return any(dask_scheduler.resources.get(name, {}).values()), set(filter(is_silent.get, is_silent))
+
     told, seen = set(), time.monotonic()
     while time.monotonic() - seen <= wait_seconds:
         with contextlib.suppress(TimeoutError):
             return wait(futures, timeout=1)
-        fit, silent = client.run_on_scheduler(look, name)
-        for worker in set(silent) - told:
+        is_one_fit, silent = client.run_on_scheduler(look)
+        for worker in silent - told:
             say(f"worker {worker} is silent; the scheduler gives its tasks to others after its worker-ttl")
         told.update(silent)
-        seen = time.monotonic() if fit else seen
+        seen = time.monotonic() if is_one_fit else seen
     raise OSError(f"no worker has been fit for {wait_seconds:g} seconds")
 
 
@@ -374,8 +326,8 @@ def collect(client: Client, work: Work, wanted: argparse.Namespace) -> List[Any]
 
 def drive(wanted: argparse.Namespace, work: Work) -> List[Any]:
     here = {} if wanted.scheduler else {
-        "n_workers": 1, "processes": False, "memory_limit": 0, "silence_logs": "error", "dashboard_address": LOOPBACK,
-        "worker_dashboard_address": LOOPBACK, "scheduler_kwargs": {"worker_ttl": "1 day"}}
+        "n_workers": 1, "processes": False, "memory_limit": 0, "silence_logs": "error", "dashboard_address": "127.0.0.1:0",
+        "worker_dashboard_address": "127.0.0.1:0", "scheduler_kwargs": {"worker_ttl": "1 day"}}
     with Client(wanted.scheduler, timeout=wanted.wait, **here) as client:
         in_time = functools.partial(client.sync, callback_timeout=SETUP_SECONDS)
         client.subscribe_topic(work.name, lambda event: say(event[1]))
@@ -385,8 +337,8 @@ def drive(wanted: argparse.Namespace, work: Work) -> List[Any]:
             say(f"some worker does not answer, or cannot take part: {error!r}")
         try:
             return collect(client, work, wanted)
-        except (CommClosedError, CancelledError) as error:
-            raise OSError(f"the scheduler is lost: {error}") from None
+        except (CommClosedError, CancelledError):  # which may name all tasks
+            raise OSError(f"the scheduler is lost: {wanted.scheduler or 'the one in this process'}") from None
         finally:
             with contextlib.suppress(Exception):
                 in_time(client.unregister_worker_plugin, work.name)
@@ -419,7 +371,7 @@ def main(words: List[str]) -> int:
         print(output.decode() or message, end="", file=sys.stderr if status else sys.stdout)
         return status
     try:
-        work = Work(f"sdtool-{uuid.uuid4().hex}", wanted.words, library_digest(), wanted.out, wanted.parts)
+        work = Work(f"sdtool-{uuid.uuid4().hex}", wanted.words, sdtool._library.digest(), wanted.out, wanted.parts)
         work.take_over(wanted.urls)
         with contextlib.redirect_stdout(sys.stderr):  # for Dask's bar
             came = drive(wanted, work)

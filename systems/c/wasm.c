@@ -97,6 +97,10 @@ bool proved_next_ace(INPUT(acl), struct sdtool_ace *ace) __asm__("sdtool_next_ac
 CALL(check_many, struct sdtool_outcome, const struct sdtool_bytes *descriptors, size_t descriptor_count, INPUT(sids),
      const uint8_t *entries, size_t sid_count, INPUT(object), INPUT(principal_self), const struct sdtool_request *request,
      struct sdtool_verdict *verdicts, size_t verdict_count);
+CALL(token_read, struct sdtool_outcome, INPUT(sids), const uint8_t *entries, size_t sid_count, uint32_t *token,
+     size_t token_words);
+CALL(check_with, struct sdtool_verdict, INPUT(descriptor), const uint32_t *token, size_t token_words, INPUT(object),
+     INPUT(principal_self), const struct sdtool_request *request);
 CALL(build, struct sdtool_outcome, const struct sdtool_new_descriptor *descriptor, OUTPUT(output));
 CALL(run, struct sdtool_ending, INPUT(words), INPUT(input), OUTPUT(output), OUTPUT(message));
 CALL(fault_text, struct sdtool_outcome, uint32_t fault, OUTPUT(text));
@@ -275,6 +279,23 @@ void check_many(uint32_t outcome, uint32_t descriptors, uint32_t descriptor_coun
             answers[index] = verdict_of(&told[index]);
     tell(outcome, &ended);
     rattle_dealloc(asked);
+}
+
+EXPORT(sdtool_token_read)
+void token_read(uint32_t outcome, uint32_t sids, uint32_t sids_size, uint32_t entries, uint32_t sid_count, uint32_t token,
+                uint32_t token_words) {
+    struct sdtool_outcome told;
+    tell(outcome, proved_token_read(&told, at(sids), sids_size, at(entries), sid_count, at(token), token_words));
+}
+
+EXPORT(sdtool_check_with)
+void check_with(uint32_t verdict, uint32_t descriptor, uint32_t descriptor_size, uint32_t token, uint32_t token_words,
+                uint32_t object, uint32_t object_size, uint32_t principal_self, uint32_t principal_self_size,
+                uint32_t request) {
+    struct sdtool_verdict told;
+    proved_check_with(&told, at(descriptor), descriptor_size, at(token), token_words, at(object), object_size,
+                      at(principal_self), principal_self_size, at(request));
+    *(struct verdict *)at(verdict) = verdict_of(&told);
 }
 
 // As for sdtool_check_many, SDTOOL_NO_MEMORY comes before all else.

@@ -9,7 +9,7 @@
 #include "rattle.h"
 
 // One call moves at most so many bytes: to a console fewer, since older versions of Windows refuse more.
-enum { MOST_BYTES = 1 << 30, MOST_CONSOLE_BYTES = 1 << 13, NO_MEMORY_STATUS = 4 };
+enum { MOST_BYTES = 1 << 30, MOST_CONSOLE_BYTES = 1 << 13, NO_MEMORY_STATUS = 4, CONTROL_Z = 0x1a };
 
 static wchar_t **words;
 static int word_count;
@@ -37,9 +37,13 @@ static HANDLE handle_of(int32_t stream) {
     return handle == INVALID_HANDLE_VALUE ? NULL : handle;
 }
 
-static DWORD size_of_move(HANDLE handle, size_t size) {
+static BOOL is_console(HANDLE handle) {
     DWORD mode;
-    size_t most = GetConsoleMode(handle, &mode) ? MOST_CONSOLE_BYTES : MOST_BYTES;
+    return GetConsoleMode(handle, &mode);
+}
+
+static DWORD size_of_move(HANDLE handle, size_t size) {
+    size_t most = is_console(handle) ? MOST_CONSOLE_BYTES : MOST_BYTES;
     return (DWORD)(size < most ? size : most);
 }
 
@@ -68,7 +72,8 @@ int64_t read(int32_t stream, uint8_t *room, size_t size) {
             }
         }
     } while (wanted && !came && goes_on(handle));
-    return came;
+    // Control-Z at the start of what a console gives is the end. Windows then gives nothing, and wine the line.
+    return came && *room == CONTROL_Z && is_console(handle) ? 0 : came;
 }
 
 // POSIX's write: the number of bytes that the stream took, or -1 and a number in rattle_errno.

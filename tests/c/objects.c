@@ -1,8 +1,8 @@
 /*
  * objects JOB [WORD..]
  *
- * Makes the calls for SIDs, parts, ACEs, many checks and building, one for each line of standard input, and prints what
- * they answer. Bytes are hex digits, and - is no byte. A fault is 'error NUMBER PART PART', that of an argument
+ * Makes the calls for SIDs, parts, ACEs, many checks, tokens and building, one for each line of standard input, and prints
+ * what they answer. Bytes are hex digits, and - is no byte. A fault is 'error NUMBER PART PART', that of an argument
  * 'error 70 ARGUMENT ENTRY'.
  *
  *   parts                   of a descriptor: control word, resource manager byte, owner, group, and each ACL with its
@@ -14,6 +14,8 @@
  *   size                    of bytes: the size of the SID at their front
  *   many SIDS ENTRIES OBJECT SELF WANTED MAPPING FLAGS LEVEL
  *                           the verdicts on all lines at once; the last four words are as for calls.c
+ *   with, and words as for many
+ *                           the verdicts on the lines, by a token that is read once; then threads share it
  *   arguments, large        read no line and print nothing: their cases are below
  *
  * Each call that has an output is made again with outputs of each size that is too small. What goes wrong is printed
@@ -603,12 +605,252 @@ static void many(const struct question *q, const struct sdtool_bytes *descriptor
     try_many(&faulty, descriptors, count, count, SDTOOL_FAULT_RESERVED_BITS, 0, 0, 0);
 }
 
+/* Memory of exactly so many numbers. */
+struct token {
+    uint32_t *words;
+    size_t count;
+};
+
+static struct token token_memory(size_t count)
+{
+    struct token token = {(uint32_t *)block(count * sizeof *token.words), count};
+
+    if (count != 0)
+        memset(token.words, UNUSED_BYTE, count * sizeof *token.words);
+    return token;
+}
+
+static void forget(struct token *token)
+{
+    release((uint8_t *)token->words, token->count * sizeof *token->words);
+}
+
+static struct sdtool_outcome read_token(const struct question *q, struct token *token)
+{
+    return sdtool_token_read(q->sids.cells, q->sids.size, q->entries.cells, q->entries.size, token->words,
+                             token->count);
+}
+
+static struct sdtool_verdict check_with(const struct question *q, const struct token *token,
+                                        const struct sdtool_bytes *in)
+{
+    return sdtool_check_with(in->bytes, in->size, token->words, token->count, q->object.cells, q->object.size,
+                             q->self.cells, q->self.size, &q->request);
+}
+
+static void expect_no_token(const struct question *q, const struct token *token, const char *what)
+{
+    static const struct sdtool_bytes no_descriptor;
+    static const struct sdtool_verdict no_token = {.fault = SDTOOL_ARGUMENT, .argument = SDTOOL_ARGUMENT_TOKEN};
+    struct sdtool_verdict verdict = check_with(q, token, &no_descriptor);
+
+    expect(are_same(&verdict, &no_token), what);
+}
+
+/* Reads no token into memory that holds one already, if there is room for any. */
+static void expect_unread(const struct question *q, size_t room, uint32_t fault, uint32_t argument, size_t entry,
+                          size_t length, const char *what)
+{
+    struct token token = token_memory(room);
+    struct question nobody = {.request = q->request};
+    struct sdtool_outcome o = read_token(&nobody, &token);
+
+    expect(is_outcome(&o, room < SDTOOL_TOKEN_WORDS(0) ? SDTOOL_TOO_SMALL : SDTOOL_OK, 0, 0, 0, SDTOOL_TOKEN_WORDS(0)),
+           "a token without SIDs");
+    o = read_token(q, &token);
+    expect(is_outcome(&o, fault, 0, argument, entry, length), what);
+    expect_no_token(q, &token, what);
+    forget(&token);
+}
+
+/* Numbers that no call has written are taken for no token, or for one of any SIDs; nothing outside is read. */
+static void check_with_any_numbers(const struct question *q, const struct token *right, const struct sdtool_bytes *in)
+{
+    struct token token = token_memory(right->count);
+
+    expect_no_token(q, &token, "memory that was never filled");
+    memset(token.words, 0, token.count * sizeof *token.words);
+    expect_no_token(q, &token, "memory of zeros");
+    for (int round = 0; round < 8; round++) {
+        memcpy(token.words, right->words, token.count * sizeof *token.words);
+        for (size_t i = 1; i < token.count; i++)
+            if (any_number() % 4 == 0)
+                token.words[i] = (uint32_t)any_number();
+        check_with(q, &token, in);
+        token.words[1] = round == 0 ? SDTOOL_MOST_SIDS + 1 : UINT32_MAX >> round;
+        expect_no_token(q, &token, "a token of too many SIDs");
+    }
+    forget(&token);
+}
+
+enum { SHARERS = 4 };
+
+struct shared {
+    const struct question *question;
+    const struct token *token;
+    const struct sdtool_bytes *descriptors;
+    const struct sdtool_verdict *verdicts;
+    size_t count;
+    bool differs;
+};
+
+static void *check_again(void *given)
+{
+    struct shared *shared = given;
+
+    for (size_t i = 0; i < shared->count; i++) {
+        struct sdtool_verdict verdict = check_with(shared->question, shared->token, &shared->descriptors[i]);
+
+        if (!are_same(&verdict, &shared->verdicts[i]))
+            shared->differs = true;
+    }
+    return NULL;
+}
+
+/* Threads check with one token at once. */
+static void share(const struct shared *shared)
+{
+    pthread_t threads[SHARERS];
+    struct shared each[SHARERS];
+
+    for (int i = 0; i < SHARERS; i++) {
+        each[i] = *shared;
+        if (pthread_create(&threads[i], NULL, check_again, &each[i]) != 0)
+            abort();
+    }
+    for (int i = 0; i < SHARERS; i++) {
+        pthread_join(threads[i], NULL);
+        expect(!each[i].differs, "a verdict in a thread");
+    }
+}
+
+/* The same token in other memory that is larger, and cut. */
+static void move_token(const struct question *q, const struct token *token, const struct sdtool_bytes *in,
+                       const struct sdtool_verdict *verdict)
+{
+    struct token larger = token_memory(token->count + 3);
+    struct sdtool_verdict again;
+
+    memcpy(larger.words, token->words, token->count * sizeof *token->words);
+    again = check_with(q, &larger, in);
+    expect(are_same(&again, verdict), "a token in larger memory");
+    forget(&larger);
+    for (size_t count = 0; count < token->count; count += 1 + token->count / 50) {
+        struct token cut = token_memory(count);
+
+        if (count != 0)
+            memcpy(cut.words, token->words, count * sizeof *token->words);
+        expect_no_token(q, &cut, "a token that is cut");
+        forget(&cut);
+    }
+}
+
+/* A fault of the token comes before those of the request, and these before that of the descriptor. */
+static void order_of_faults(const struct question *q, const struct token *token)
+{
+    static const struct sdtool_bytes no_descriptor;
+    struct question faulty = *q;
+    struct sdtool_verdict verdict;
+
+    faulty.request.mapping = 3;
+    expect_no_token(&faulty, &(struct token){NULL, 0}, "no token, and a wrong argument");
+    verdict = check_with(&faulty, token, &no_descriptor);
+    expect(verdict.fault == SDTOOL_ARGUMENT && verdict.argument == SDTOOL_ARGUMENT_MAPPING, "a wrong mapping");
+    faulty.request = (struct sdtool_request){.wanted = 0};
+    verdict = check_with(&faulty, token, &no_descriptor);
+    expect(verdict.fault == SDTOOL_FAULT_EMPTY_REQUEST, "a request without a right");
+    verdict = check_with(q, token, &no_descriptor);
+    expect(verdict.fault == SDTOOL_FAULT_SHORT, "an empty descriptor");
+}
+
+static void unread_tokens(const struct question *q, size_t size)
+{
+    struct question faulty = *q;
+    struct bytes entries = copied(q->entries.cells, q->entries.size), sids = copied(q->sids.cells, q->sids.size);
+
+    for (size_t room = 0; room < size; room += 1 + size / 50)
+        expect_unread(q, room, SDTOOL_TOO_SMALL, 0, 0, size, "a token without room");
+    if (q->entries.size == 0)
+        return;
+    release(entries.cells, entries.size);
+    entries.cells = block(entries.size);
+    memcpy(entries.cells, q->entries.cells, entries.size);
+    entries.cells[entries.size - 1] = 2;
+    faulty.entries = entries;
+    expect_unread(&faulty, size, SDTOOL_ARGUMENT, SDTOOL_ARGUMENT_ENTRIES, entries.size - 1, 0, "a wrong entry");
+    expect_unread(&faulty, size - 1, SDTOOL_TOO_SMALL, 0, 0, size, "a wrong entry without room");
+    faulty = *q;
+    faulty.sids.size--;
+    expect_unread(&faulty, size, SDTOOL_ARGUMENT, SDTOOL_ARGUMENT_SIDS, entries.size - 1, 0, "a SID that is cut");
+    release(entries.cells, entries.size);
+    release(sids.cells, sids.size);
+}
+
+static void with(const struct question *q, const struct sdtool_bytes *descriptors, size_t count)
+{
+    size_t size = SDTOOL_TOKEN_WORDS(q->entries.size);
+    struct token token = token_memory(size);
+    struct sdtool_verdict *verdicts = room_for(count, sizeof *verdicts);
+    struct sdtool_outcome o;
+    long before = allocations;
+
+    o = read_token(q, &token);
+    expect(is_outcome(&o, SDTOOL_OK, 0, 0, 0, size), "a token that is read");
+    seal((uint8_t *)token.words, size * sizeof *token.words);
+    for (size_t i = 0; i < count; i++)
+        verdicts[i] = check_with(q, &token, &descriptors[i]);
+    /* Before the first print, which takes memory for the output. */
+    expect(allocations == before, "a token allocates");
+    for (size_t i = 0; i < count; i++) {
+        struct sdtool_verdict alone = check(q, &descriptors[i]);
+
+        print_verdict(&verdicts[i]);
+        expect(are_same(&verdicts[i], &alone), "a verdict with a token is another than that of a check");
+    }
+    share(&(struct shared){q, &token, descriptors, verdicts, count, false});
+    if (count != 0) {
+        move_token(q, &token, descriptors, verdicts);
+        check_with_any_numbers(q, &token, descriptors);
+    }
+    order_of_faults(q, &token);
+    unread_tokens(q, size);
+    free(verdicts);
+    forget(&token);
+}
+
 /* A SID of so many sub-authorities. */
 static struct bytes a_sid(uint8_t subs)
 {
     uint8_t cells[LONG_SID] = {1, subs, 0, 0, 0, 0, 0, 5, 1};
 
     return copied(cells, 8 + 4 * (size_t)subs);
+}
+
+/* More SIDs than a token has, which is told before the size of its memory. */
+static void tokens_of_most_sids(void)
+{
+    struct bytes sid = a_sid(0);
+    size_t most = SDTOOL_MOST_SIDS;
+    struct bytes sids = {block((most + 1) * sid.size), most * sid.size}, entries = {block(most + 1), most};
+    struct question q = {.sids = sids, .entries = entries, .request = {.wanted = 1}};
+    struct token token = token_memory(SDTOOL_TOKEN_WORDS(most));
+    struct sdtool_outcome o;
+
+    for (size_t i = 0; i <= most; i++)
+        memcpy(sids.cells + i * sid.size, sid.cells, sid.size);
+    memset(entries.cells, SDTOOL_ENABLED, most + 1);
+    o = read_token(&q, &token);
+    expect(is_outcome(&o, SDTOOL_OK, 0, 0, 0, token.count), "a token of the most SIDs");
+    q.entries.size = most + 1;
+    q.sids.size = (most + 1) * sid.size;
+    o = read_token(&q, &token);
+    expect(is_outcome(&o, SDTOOL_ARGUMENT, 0, SDTOOL_ARGUMENT_ENTRIES, most, 0), "a token of too many SIDs");
+    expect_no_token(&q, &token, "memory behind a token of too many SIDs");
+    expect_unread(&q, 0, SDTOOL_ARGUMENT, SDTOOL_ARGUMENT_ENTRIES, most, 0, "too many SIDs without memory");
+    forget(&token);
+    release(sids.cells, (most + 1) * sid.size);
+    release(entries.cells, most + 1);
+    release(sid.cells, sid.size);
 }
 
 static struct sdtool_bytes lent(const struct bytes *bytes)
@@ -935,8 +1177,8 @@ static void answer_line(char **words, int count, const char *line, size_t length
     release(in.cells, in.size);
 }
 
-/* All lines of the input as descriptors, and one call for them. */
-static void answer_many(char **words)
+/* All lines of the input as descriptors, and one question for them. */
+static void answer_all(char **words)
 {
     struct question q = {spelled(words[2], strlen(words[2])), spelled(words[3], strlen(words[3])),
                          spelled(words[4], strlen(words[4])), spelled(words[5], strlen(words[5])), {0}};
@@ -965,7 +1207,10 @@ static void answer_many(char **words)
         }
         descriptors[count++] = lent(&in);
     }
-    many(&q, descriptors, count);
+    if (strcmp(job, "many") == 0)
+        many(&q, descriptors, count);
+    else
+        with(&q, descriptors, count);
     for (size_t i = 0; i < count; i++)
         release((uint8_t *)descriptors[i].bytes, descriptors[i].size);
     free(descriptors);
@@ -991,10 +1236,11 @@ int main(int count, char **words)
         order_of_arguments();
         arguments_of_sids();
         arguments_of_many();
+        tokens_of_most_sids();
     } else if (strcmp(job, "large") == 0) {
         large();
-    } else if (strcmp(job, "many") == 0 && count == 10) {
-        answer_many(words);
+    } else if ((strcmp(job, "many") == 0 || strcmp(job, "with") == 0) && count == 10) {
+        answer_all(words);
     } else {
         while ((got = getline(&line, &room, stdin)) > 0)
             answer_line(words, count, line, (size_t)got - (line[got - 1] == '\n'));

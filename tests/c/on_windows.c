@@ -6,9 +6,13 @@
  */
 #include <stdio.h>
 #include <string.h>
+#include <wchar.h>
 #include <windows.h>
 
-enum { MOST = 4096 };
+#define ACE "(A;;FA;;;SY)"
+
+/* An answer of many ACEs is longer than what the program writes to a console at once, and fits on a screen of so many rows. */
+enum { MOST = 4096, COLUMNS = 80, ROWS = 300, LONG_ACES = 1500 };
 
 static const wchar_t *program;
 static int passed, failed;
@@ -131,22 +135,34 @@ static HANDLE console_of(const wchar_t *name)
                        NULL);
 }
 
-/* The text of a row of a console's screen, without the blanks at its end. */
-static void row_of(HANDLE screen, SHORT row, char *text)
+/* A screen of a console that shows nothing yet. */
+static HANDLE new_screen(void)
 {
-    wchar_t cells[MOST];
-    CONSOLE_SCREEN_BUFFER_INFO info;
-    DWORD got = 0;
-    size_t length = 0;
+    SECURITY_ATTRIBUTES inherits = {sizeof inherits, NULL, TRUE};
+    HANDLE screen = CreateConsoleScreenBuffer(GENERIC_READ | GENERIC_WRITE, FILE_SHARE_READ | FILE_SHARE_WRITE, &inherits,
+                                              CONSOLE_TEXTMODE_BUFFER, NULL);
 
-    if (GetConsoleScreenBufferInfo(screen, &info))
-        ReadConsoleOutputCharacterW(screen, cells, (DWORD)info.dwSize.X, (COORD){0, row}, &got);
-    for (DWORD at = 0; at < got; at++) {
-        text[at] = cells[at] < 128 ? (char)cells[at] : '?';
-        if (text[at] != ' ')
-            length = at + 1;
+    SetConsoleScreenBufferSize(screen, (COORD){COLUMNS, ROWS});
+    SetConsoleActiveScreenBuffer(screen);
+    return screen;
+}
+
+/* Whether a screen shows this text from its top on, and nothing else. */
+static int shows(HANDLE screen, const char *text)
+{
+    static wchar_t cells[COLUMNS * ROWS], expected[COLUMNS * ROWS];
+    DWORD got = 0;
+    size_t at = 0;
+
+    wmemset(expected, L' ', COLUMNS * ROWS);
+    for (; *text && at < COLUMNS * ROWS; text++) {
+        if (*text == '\n')
+            at += COLUMNS - at % COLUMNS;
+        else
+            expected[at++] = (unsigned char)*text;
     }
-    text[length] = 0;
+    ReadConsoleOutputCharacterW(screen, cells, COLUMNS * ROWS, (COORD){0, 0}, &got);
+    return got == COLUMNS * ROWS && wmemcmp(cells, expected, got) == 0;
 }
 
 static int is(const struct ended *ended, DWORD status, const char *output, const char *message)
@@ -201,14 +217,28 @@ static void try_faults(const wchar_t *words)
     add(last == '\n' && is(&ended, 3, "", "sdtool: error 61 write\n"), "a reader that goes after an answer", &ended);
 }
 
+/* What the program answers to lines that are typed at a console. */
+static void try_typed(const wchar_t *words, HANDLE console, const wchar_t *typed, DWORD status, const char *answers)
+{
+    struct ended ended;
+    char what[MOST];
+
+    type(console, typed);
+    ended = run(words, NULL, console, NULL);
+    snprintf(what, sizeof what, "typed: %ls", typed);
+    add(is(&ended, status, answers, ""), what, &ended);
+}
+
 /* Lines that are typed at a console, and answers that it shows. */
 static void try_console(const wchar_t *words)
 {
     static const char *const pieces[] = {"O:SY\nzz\n", "O:BAG:SY\n", NULL};
+    static char line[sizeof "D:" + LONG_ACES * (sizeof ACE - 1)];
+    const char *const long_piece[] = {line, NULL};
+    UINT code_page;
     HANDLE input, screen;
     DWORD mode;
     struct ended ended;
-    char rows[4][MOST] = {{0}};
 
     FreeConsole();
     AllocConsole();
@@ -218,19 +248,25 @@ static void try_console(const wchar_t *words)
         puts("skipped: there is no console");
         return;
     }
-    type(input, L"O:SY\rzz\r\x1a\r");
-    ended = run(words, NULL, input, NULL);
-    add(is(&ended, 1, "O:SY\nerror 20 shape\n", ""), "lines that are typed, and Control-Z at the start of one", &ended);
-    type(input, L"O:BA\r\x1a\r");
-    ended = run(words, NULL, input, NULL);
-    add(is(&ended, 0, "O:BA\n", ""), "a console, once more", &ended);
-    screen = console_of(L"CONOUT$");
-    SetConsoleCursorPosition(screen, (COORD){0, 0});
+    try_typed(words, input, L"O:SY\rzz\r\x1a\r", 1, "O:SY\nerror 20 shape\n");
+    try_typed(words, input, L"O:BA\r\x1a what follows it\r", 0, "O:BA\n");
+    try_typed(words, input, L"\x1a\r", 0, "");
+    try_typed(words, input, L"O:B\x1a" L"A\rO:SY\r\x1a\r", 1, "error 25 sid-form\nO:SY\n");
+    code_page = GetConsoleCP();
+    for (int is_utf8 = 0; is_utf8 < 2; is_utf8++) {
+        SetConsoleCP(is_utf8 ? CP_UTF8 : code_page);
+        try_typed(words, input, L"\x00e9\rO:SY\r\x1a\r", 1, "error 20 shape\nO:SY\n");
+    }
+    SetConsoleCP(code_page);
+    screen = new_screen();
     ended = run(words, pieces, NULL, screen);
-    for (SHORT row = 0; row < 4; row++)
-        row_of(screen, row, rows[row]);
-    snprintf(ended.output, MOST, "%.80s|%.80s|%.80s|%.80s", rows[0], rows[1], rows[2], rows[3]);
-    add(is(&ended, 1, "O:SY|error 20 shape|O:BAG:SY|", ""), "answers on a console", &ended);
+    add(is(&ended, 1, "", "") && shows(screen, "O:SY\nerror 20 shape\nO:BAG:SY\n"), "answers on a console", &ended);
+    screen = new_screen();
+    strcpy(line, "D:");
+    for (int ace = 0; ace < LONG_ACES; ace++)
+        memcpy(line + strlen("D:") + ace * strlen(ACE), ACE, sizeof ACE);
+    ended = run(words, long_piece, NULL, screen);
+    add(is(&ended, 0, "", "") && shows(screen, line), "a long answer on a console", &ended);
 }
 
 int main(void)

@@ -1,6 +1,6 @@
 // calls.mjs FOLDER convert|explain|normalize|from_sddl|check|derive [DOMAIN] [numeric]
 // calls.mjs FOLDER parts|walk|from_text|to_text|size [DOMAIN] [numeric]
-// calls.mjs FOLDER many SIDS ENTRIES OBJECT SELF WANTED MAPPING FLAGS LEVEL
+// calls.mjs FOLDER many|with SIDS ENTRIES OBJECT SELF WANTED MAPPING FLAGS LEVEL
 // calls.mjs FOLDER plain WORD ..
 //
 // Makes a call of the JavaScript module in FOLDER for each line of standard input, and prints its answer, as ../c/calls.c and
@@ -75,13 +75,26 @@ function many(lines) {
   return verdicts.map((one) => (one instanceof Error ? spelled(one) : told(one))).join("");
 }
 
+// A token that is read once, for all lines.
+function withToken(lines) {
+  const [sids, { denyOnly, ...options }] = question(more);
+  const token = sdtool.readToken(sids, { denyOnly });
+  return lines.map((line) => {
+    try {
+      return told(sdtool.checkWith(bytes(line), token, options));
+    } catch (fault) {
+      return spelled(fault);
+    }
+  }).join("");
+}
+
 function derive([parent, creator, owner, group, kind, mapping]) {
   const options = { kind: named(KINDS, kind), creator: bytes(creator), mapping: named(MAPPINGS, mapping) };
   return `${hex(sdtool.derive(bytes(parent), bytes(owner), bytes(group), options))}\n`;
 }
 
-const isMany = job === "many";
-const domain = !isMany && more.length > 0 && more[0] !== "-" ? { domain: bytes(more[0]) } : {};
+const OF_ALL = { many, with: withToken };
+const domain = !(job in OF_ALL) && more.length > 0 && more[0] !== "-" ? { domain: bytes(more[0]) } : {};
 const numeric = more.length > 1 ? { numeric: true } : {};
 const JOBS = {
   convert: (line) => `${sdtool.toSddl(bytes(line), { ...domain, ...numeric })}\n`,
@@ -121,5 +134,5 @@ if (job === "plain") {
   process.exitCode = status;
 } else {
   const lines = input.toString("latin1").split("\n").slice(0, -1);
-  process.stdout.write(Buffer.from(isMany ? many(lines) : lines.map(answer).join(""), "latin1"));
+  process.stdout.write(Buffer.from(OF_ALL[job]?.(lines) ?? lines.map(answer).join(""), "latin1"));
 }

@@ -143,6 +143,18 @@ const most = Array(1024).fill(SYSTEM);
 add(sdtool.check(EMPTY, most, { wanted: 1 }).granted, "the most SIDs");
 addRefused("one SID too many", () => sdtool.check(EMPTY, [...most, SYSTEM], { wanted: 1 }), "sids", 1024);
 addRefused("one SID too many", () => sdtool.check(EMPTY, most, { wanted: 1, denyOnly: ["BA"] }), "sids", 1024);
+addRefused("a token of one SID too many", () => sdtool.readToken([...most, SYSTEM]), "sids", 1024);
+addRefused("a token of a text", () => sdtool.readToken("SY"), "sids");
+addRefused("a token of a SID that is cut", () => sdtool.readToken(["SY"], { denyOnly: [SYSTEM.subarray(0, 11)] }), "denyOnly", 0);
+addRefused("a token with a request", () => sdtool.readToken(["SY"], { wanted: 1 }), "wanted");
+addNoSid("a token of a name", () => sdtool.readToken(["SY", "Everyone"]), 25, "sids", 1);
+const ofSystem = sdtool.readToken([SYSTEM]);
+add(sdtool.checkWith(EMPTY, sdtool.readToken(most), { wanted: 1 }).granted, "a token of the most SIDs");
+add(sdtool.checkWith(EMPTY, new Uint8Array([...ofSystem, 1, 2, 3, 4]), { wanted: 1 }).granted, "a token with more behind it");
+for (const token of [undefined, null, "SY", [SYSTEM], SYSTEM, new Uint8Array(0), new Uint8Array(ofSystem.length),
+    ofSystem.subarray(0, -1), new Uint32Array(ofSystem.buffer), new Uint8Array(200_000)])
+  addRefused(`the token ${token}`.slice(0, 40), () => sdtool.checkWith(EMPTY, token, { wanted: 1 }), "token");
+addRefused("a token and deny-only SIDs", () => sdtool.checkWith(EMPTY, ofSystem, { wanted: 1, denyOnly: ["BA"] }), "denyOnly");
 addRefused("many SIDs too many", () => sdtool.check(EMPTY, Array(200_000).fill(SYSTEM), { wanted: 1 }), "sids", 1024);
 for (const objectType of [new Uint8Array(15), new Uint8Array(17), new Uint8Array(5000), "",
     "bf967aba-0de6-11d0-a285-00aa003049e2", null])

@@ -1,6 +1,6 @@
 // What sdtool.d.ts lets a program of TypeScript write, and what it refuses: each line below a `@ts-expect-error` has to be an
 // error. tests/systems.py compiles it; nothing runs it.
-import { load, Acl, Ace, ArgumentFault, Fault, NewAce, Parts, Verdict } from "sdtool";
+import { load, Acl, Ace, ArgumentFault, Fault, NewAce, Parts, Token, Verdict } from "sdtool";
 
 async function all(): Promise<void> {
   const sdtool = await load(new URL("sdtool.wasm", "file:///"));
@@ -9,6 +9,8 @@ async function all(): Promise<void> {
   const size: number = sdtool.sidSize(users);
   const descriptor: Uint8Array = sdtool.fromSddl("D:", { domain: users });
   const verdict: Verdict = sdtool.check(descriptor, [users, "WD"], { denyOnly: ["BA"], wanted: 1, level: null, mapping: "ds" });
+  const token: Token = sdtool.readToken([users], { denyOnly: ["BA"] });
+  console.log(sdtool.checkWith(descriptor, token, { wanted: 1, level: 8192 }).granted);
   for (const one of sdtool.checkMany([descriptor], ["BU"], { maximum: true })) {
     const granted: boolean = one instanceof Fault ? false : one.granted;
     console.log(granted, verdict.mask, text, size);
@@ -46,6 +48,8 @@ async function all(): Promise<void> {
   sdtool.build({ dacl: [{ kind: 0, flags: 0, sid: "BU" }] });
   // @ts-expect-error no such option
   sdtool.check(descriptor, [users], { wnated: 1 });
+  // @ts-expect-error the token has its SIDs
+  sdtool.checkWith(descriptor, token, { denyOnly: [users] });
   // @ts-expect-error no such type of objects
   sdtool.check(descriptor, [users], { mapping: "folder" });
   // @ts-expect-error one SID is no list

@@ -9,43 +9,42 @@ use Rattle.sd_view.specs.declared.fault.SdFault.TheVariants as sd
 use Rattle.sd_control.specs.Parts.{part_of}
 use Rattle.sd_inherit.specs.declared.derivation.DeriveFault.TheVariants.{DerivedTooLarge}
 use Rattle.sd_sddl_reader.specs.declared.fault.SddlFault.TheVariants as sddl
+use Rattle.sd_answer.specs.FaultNames.{fault_name}
 use Rattle.sd_answer.specs.declared.fault.LineFault.{LineFault}
 use Rattle.sd_answer.specs.declared.fault.LineFault.TheVariants.{TooLong, Text, Sd, Sddl, Derive}
 
--- its number and its name
-abbrev pub number_and_name : LineFault → ℕ × List ℕ
-number_and_name TooLong = (1, codes "too-long")
-number_and_name (Text text.HexDigit) = (2, codes "hex-digit")
-number_and_name (Text text.HexOdd) = (3, codes "hex-odd")
-number_and_name (Text text.Base64) = (4, codes "base64")
-number_and_name (Sd sd.Short) = (5, codes "short")
-number_and_name (Sd sd.Revision) = (6, codes "revision")
-number_and_name (Sd sd.NotSelfRelative) = (7, codes "not-self-relative")
-number_and_name (Sd (sd.Offset p)) = (8, codes "offset")
-number_and_name (Sd (sd.Sid p)) = (9, codes "sid")
-number_and_name (Sd (sd.Acl p)) = (10, codes "acl")
-number_and_name (Sd (sd.AceSize p)) = (11, codes "ace-size")
-number_and_name (Sd (sd.AceType p)) = (12, codes "ace-type")
-number_and_name (Sd (sd.AceFlags p)) = (13, codes "ace-flags")
-number_and_name (Sd (sd.Overlap p q)) = (14, codes "overlap")
-number_and_name (Sddl sddl.Shape) = (20, codes "shape")
-number_and_name (Sddl sddl.PartTwice) = (21, codes "part-twice")
-number_and_name (Sddl (sddl.Sid sid.Alias)) = (22, codes "alias")
-number_and_name (Sddl (sddl.Sid sid.NeedsDomain)) = (23, codes "needs-domain")
-number_and_name (Sddl (sddl.Sid sid.Number)) = (24, codes "number")
-number_and_name (Sddl (sddl.Sid sid.SidForm)) = (25, codes "sid-form")
-number_and_name (Sddl sddl.Flags) = (26, codes "flags")
-number_and_name (Sddl sddl.Rights) = (27, codes "rights")
-number_and_name (Sddl sddl.Guid) = (28, codes "guid")
-number_and_name (Sddl sddl.Kind) = (29, codes "kind")
-number_and_name (Sddl (sddl.AclTooLarge w)) = (30, codes "acl-too-large")
-number_and_name (Derive (DerivedTooLarge w)) = (40, codes "derived-too-large")
-
+-- its number
 abbrev pub number : LineFault → ℕ
-number fault = (number_and_name fault).0
+number TooLong = 1
+number (Text text.HexDigit) = 2
+number (Text text.HexOdd) = 3
+number (Text text.Base64) = 4
+number (Sd sd.Short) = 5
+number (Sd sd.Revision) = 6
+number (Sd sd.NotSelfRelative) = 7
+number (Sd (sd.Offset p)) = 8
+number (Sd (sd.Sid p)) = 9
+number (Sd (sd.Acl p)) = 10
+number (Sd (sd.AceSize p)) = 11
+number (Sd (sd.AceType p)) = 12
+number (Sd (sd.AceFlags p)) = 13
+number (Sd (sd.Overlap p q)) = 14
+number (Sddl sddl.Shape) = 20
+number (Sddl sddl.PartTwice) = 21
+number (Sddl (sddl.Sid sid.Alias)) = 22
+number (Sddl (sddl.Sid sid.NeedsDomain)) = 23
+number (Sddl (sddl.Sid sid.Number)) = 24
+number (Sddl (sddl.Sid sid.SidForm)) = 25
+number (Sddl sddl.Flags) = 26
+number (Sddl sddl.Rights) = 27
+number (Sddl sddl.Guid) = 28
+number (Sddl sddl.Kind) = 29
+number (Sddl (sddl.AclTooLarge w)) = 30
+number (Derive (DerivedTooLarge w)) = 40
 
+-- its name, which the table of all faults has
 abbrev pub name : LineFault → List ℕ
-name fault = (number_and_name fault).1
+name fault = fault_name (number fault)
 
 abbrev pub NamedParts : Type 0
 NamedParts = Option Part × Option Part

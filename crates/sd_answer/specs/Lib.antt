@@ -1,4 +1,5 @@
 pub mod Answer
+pub mod FaultNames
 pub mod Faults
 pub mod Inner
 pub mod LineEnd

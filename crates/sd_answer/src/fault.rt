@@ -3,8 +3,9 @@
 ghost use Rattle.std.specs.Prelude.{◌≡◌, ◌<◌, length};
 ghost use Rattle.sd_sink.specs.Print.{Prints};
 ghost use Rattle.sd_sink.specs.Sink.{Puts};
-ghost use Rattle.sd_answer.specs.Faults.{fault_text, name, named_parts, number, part_text};
+ghost use Rattle.sd_answer.specs.Faults.{fault_text, named_parts, number, part_text};
 
+use crate::fault_names::fault_name;
 use sd_buffer::TextFault;
 use sd_control::Which;
 use sd_inherit::DeriveFault;
@@ -44,12 +45,12 @@ pub fn put_fault<S: Sink>(fault: &LineFault, sink: &mut S) -> Result<(), SinkFau
 pub fn print_fault<P: Print>(fault: &LineFault, out: &mut P)
     ensures { Prints (P.told out.old) (P.told out.new) (fault_text fault.now) }
 {
-    let (number, name) = number_and_name(*fault);
+    let number = fault.number();
     let (first, second) = fault.named_parts();
     out.put(b"error ");
     print_decimal(number, out);
     out.put(b" ");
-    out.put(name.as_bytes());
+    out.put(fault_name(number).as_bytes());
     out.put(part_text(first).as_bytes());
     out.put(part_text(second).as_bytes());
 }
@@ -59,7 +60,34 @@ impl LineFault {
     pub fn number(&self) -> u32
         ensures { result ≡ number self.now }
     {
-        number_and_name(*self).0
+        match *self {
+            Self::TooLong => 1,
+            Self::Text(TextFault::HexDigit) => 2,
+            Self::Text(TextFault::HexOdd) => 3,
+            Self::Text(TextFault::Base64) => 4,
+            Self::Sd(SdFault::Short) => 5,
+            Self::Sd(SdFault::Revision) => 6,
+            Self::Sd(SdFault::NotSelfRelative) => 7,
+            Self::Sd(SdFault::Offset(_)) => 8,
+            Self::Sd(SdFault::Sid(_)) => 9,
+            Self::Sd(SdFault::Acl(_)) => 10,
+            Self::Sd(SdFault::AceSize(_)) => 11,
+            Self::Sd(SdFault::AceType(_)) => 12,
+            Self::Sd(SdFault::AceFlags(_)) => 13,
+            Self::Sd(SdFault::Overlap(_, _)) => 14,
+            Self::Sddl(SddlFault::Shape) => 20,
+            Self::Sddl(SddlFault::PartTwice) => 21,
+            Self::Sddl(SddlFault::Sid(SidFault::Alias)) => 22,
+            Self::Sddl(SddlFault::Sid(SidFault::NeedsDomain)) => 23,
+            Self::Sddl(SddlFault::Sid(SidFault::Number)) => 24,
+            Self::Sddl(SddlFault::Sid(SidFault::SidForm)) => 25,
+            Self::Sddl(SddlFault::Flags) => 26,
+            Self::Sddl(SddlFault::Rights) => 27,
+            Self::Sddl(SddlFault::Guid) => 28,
+            Self::Sddl(SddlFault::Kind) => 29,
+            Self::Sddl(SddlFault::AclTooLarge(_)) => 30,
+            Self::Derive(DeriveFault::DerivedTooLarge(_)) => 40,
+        }
     }
 
     /// The parts that the fault names, if it names any.
@@ -80,41 +108,6 @@ impl LineFault {
             Self::Derive(DeriveFault::DerivedTooLarge(Which::Dacl)) => (Some(Part::Dacl), None),
             _ => (None, None),
         }
-    }
-}
-
-// The number of a fault, and its name in the `error` line.
-fn number_and_name(fault: LineFault) -> (u32, &'static str)
-    ensures number { result.0 ≡ number fault }
-    ensures name { result.1.now ≡ name fault }
-{
-    match fault {
-        LineFault::TooLong => (1, "too-long"),
-        LineFault::Text(TextFault::HexDigit) => (2, "hex-digit"),
-        LineFault::Text(TextFault::HexOdd) => (3, "hex-odd"),
-        LineFault::Text(TextFault::Base64) => (4, "base64"),
-        LineFault::Sd(SdFault::Short) => (5, "short"),
-        LineFault::Sd(SdFault::Revision) => (6, "revision"),
-        LineFault::Sd(SdFault::NotSelfRelative) => (7, "not-self-relative"),
-        LineFault::Sd(SdFault::Offset(_)) => (8, "offset"),
-        LineFault::Sd(SdFault::Sid(_)) => (9, "sid"),
-        LineFault::Sd(SdFault::Acl(_)) => (10, "acl"),
-        LineFault::Sd(SdFault::AceSize(_)) => (11, "ace-size"),
-        LineFault::Sd(SdFault::AceType(_)) => (12, "ace-type"),
-        LineFault::Sd(SdFault::AceFlags(_)) => (13, "ace-flags"),
-        LineFault::Sd(SdFault::Overlap(_, _)) => (14, "overlap"),
-        LineFault::Sddl(SddlFault::Shape) => (20, "shape"),
-        LineFault::Sddl(SddlFault::PartTwice) => (21, "part-twice"),
-        LineFault::Sddl(SddlFault::Sid(SidFault::Alias)) => (22, "alias"),
-        LineFault::Sddl(SddlFault::Sid(SidFault::NeedsDomain)) => (23, "needs-domain"),
-        LineFault::Sddl(SddlFault::Sid(SidFault::Number)) => (24, "number"),
-        LineFault::Sddl(SddlFault::Sid(SidFault::SidForm)) => (25, "sid-form"),
-        LineFault::Sddl(SddlFault::Flags) => (26, "flags"),
-        LineFault::Sddl(SddlFault::Rights) => (27, "rights"),
-        LineFault::Sddl(SddlFault::Guid) => (28, "guid"),
-        LineFault::Sddl(SddlFault::Kind) => (29, "kind"),
-        LineFault::Sddl(SddlFault::AclTooLarge(_)) => (30, "acl-too-large"),
-        LineFault::Derive(DeriveFault::DerivedTooLarge(_)) => (40, "derived-too-large"),
     }
 }
 

@@ -1,12 +1,16 @@
 -- The numbers that a caller sees, as include/sdtool.h writes them out, and what a number means.
-use Rattle.std.proofs.Common.{◌≡◌, [], ◌∷◌, Some, None, Ok, Err, refl}
+use Rattle.std.proofs.Common.{◌≡◌, ℕ, List, [], ◌∷◌, length, take, Some, None, Ok, Err, codes, refl, arith}
+use Rattle.sd_text.specs.Chains.{fault_as}
 use Rattle.sd_answer.specs.declared.fault.LineFault.TheVariants as line
 use Rattle.sd_check.specs.declared.ask.AskFault.TheVariants as ask
 use Rattle.sd_control.specs.declared.part.Part.TheVariants as part
 use Rattle.sd_sid.specs.Sid.{sid_at}
+use Rattle.sd_view.specs.Reading.{reading}
 use Rattle.sd_view.specs.declared.fault.SdFault.TheVariants as sd
-use Rattle.sd_call.specs.Arguments.{mapping_in, optional_sid_in, sid_in}
-use Rattle.sd_call.specs.Outcomes.{argument_number, done, failed, no_memory, number, part_number, too_small}
+use Rattle.sd_call.specs.Arguments.{descriptor_in, domain_in, mapping_in, optional_sid_in, sid_in}
+use Rattle.sd_call.specs.FaultNames.{name_of}
+use Rattle.sd_call.specs.Outcomes.{Fills, Gives, argument_number, done, failed, no_memory, number, part_number, too_small}
+use Rattle.sd_call.specs.declared.outcome.Outcome.{Outcome}
 use Rattle.sd_call.specs.declared.argument.Argument.TheVariants as which
 use Rattle.sd_call.specs.declared.outcome.CallFault.TheVariants as call
 
@@ -29,7 +33,8 @@ arguments_of_checks = (refl, refl, refl, refl, refl, refl)
 other_arguments : (argument_number which.Creator ≡ 7) × (argument_number which.Owner ≡ 8)
     × (argument_number which.Group ≡ 9) × (argument_number which.Kind ≡ 10) × (argument_number which.Fault ≡ 11)
     × (argument_number which.Sid ≡ 12) × (argument_number which.Sacl ≡ 13) × (argument_number which.Dacl ≡ 14)
-other_arguments = (refl, refl, refl, refl, refl, refl, refl, refl)
+    × (argument_number which.Token ≡ 15)
+other_arguments = (refl, refl, refl, refl, refl, refl, refl, refl, refl)
 
 -- struct sdtool_outcome
 third_sid : failed (call.Argument which.Sids 3)
@@ -39,6 +44,11 @@ third_sid = refl
 shared_byte : failed (call.Line (line.Sd (sd.Overlap part.Sacl part.Dacl)))
     ≡ record { fault = 14; part = 3; other_part = 4; argument = 0; entry = 0; length = 0 }
 shared_byte = refl
+
+-- A request is no argument.
+nothing_is_asked : failed (call.Ask ask.EmptyRequest)
+    ≡ record { fault = 50; part = 0; other_part = 0; argument = 0; entry = 0; length = 0 }
+nothing_is_asked = refl
 
 without_fault : done 7 ≡ record { fault = 0; part = 0; other_part = 0; argument = 0; entry = 0; length = 7 }
 without_fault = refl
@@ -81,3 +91,44 @@ cut_short = refl
 none_and_empty : (optional_sid_in which.Domain [] ≡ Ok None) × (sid_in which.Owner [] ≡ Err (call.Argument which.Owner 0))
 unfolding optional_sid_in sid_at
 none_and_empty = (refl, refl)
+
+domains : (domain_in [] ≡ Ok None) × (domain_in (1 ∷ []) ≡ Err (call.Argument which.Domain 0))
+unfolding optional_sid_in sid_at
+domains = (refl, refl)
+
+-- SDTOOL_MOST_BYTES: so many bytes are read, and one byte more is too long, whatever the bytes are
+longest : (bytes : List ℕ) → length bytes ≡ 131226
+    → descriptor_in bytes ≡ fault_as (λ fault. call.Line (line.Sd fault)) (reading bytes)
+unfolding descriptor_in
+longest bytes h = rw h refl
+
+too_long : (bytes : List ℕ) → length bytes ≡ 131227 → descriptor_in bytes ≡ Err (call.Line line.TooLong)
+unfolding descriptor_in
+too_long bytes h = rw h refl
+
+-- sdtool_fault_text
+names : (name_of 1 ≡ Ok (codes "too-long")) × (name_of 25 ≡ Ok (codes "sid-form"))
+    × (name_of 72 ≡ Ok (codes "no-memory"))
+unfolding name_of
+names = (refl, refl, refl)
+
+no_names : (name_of 0 ≡ Err (call.Argument which.Fault 0)) × (name_of 73 ≡ Err (call.Argument which.Fault 0))
+unfolding name_of
+no_names = (refl, refl)
+
+-- Two bytes: an output of two has room for them, and one of a single byte has not.
+abbrev two : List ℕ
+two = 7 ∷ 8 ∷ []
+
+room_for_two : (new : List ℕ) (outcome : Outcome) → Gives two (0 ∷ 0 ∷ []) new outcome
+    → (outcome ≡ done 2) × (take 2 new ≡ two)
+room_for_two new outcome h = h.fits (omega arith)
+
+room_for_one : (new : List ℕ) (outcome : Outcome) → Gives two (0 ∷ []) new outcome → outcome ≡ too_small 2
+room_for_one new outcome h = h.short (omega arith)
+
+given : Gives two (0 ∷ 0 ∷ []) two (done 2)
+given = record { fits = λ _. (refl, refl); short = λ less. absurd (omega arith) }
+
+filled : Fills 2 two (0 ∷ 0 ∷ []) two
+filled = record { count = refl; within = omega arith; front = refl }

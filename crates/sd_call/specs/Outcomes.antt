@@ -47,6 +47,7 @@ argument_number which.Fault = 11
 argument_number which.Sid = 12
 argument_number which.Sacl = 13
 argument_number which.Dacl = 14
+argument_number which.Token = 15
 
 -- the argument that a fault is about, as a number; 0 where it is about none
 abbrev pub argument_of : CallFault → ℕ

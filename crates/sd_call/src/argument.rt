@@ -28,6 +28,8 @@ pub enum Argument {
     Sacl,
     /// The ACEs of a DACL.
     Dacl,
+    /// The memory of a token.
+    Token,
 }
 
 /// The number of an argument.
@@ -49,5 +51,6 @@ pub fn argument_number(argument: Argument) -> u32
         Argument::Sid => 12,
         Argument::Sacl => 13,
         Argument::Dacl => 14,
+        Argument::Token => 15,
     }
 }

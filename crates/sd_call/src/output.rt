@@ -6,18 +6,29 @@ ghost use Rattle.sd_call.specs.Outcomes.{Gives};
 use crate::outcome::{Outcome, done, too_small};
 use sd_sink::{Sink, SinkFault};
 
-/// The front of some cells, as a sink.
+/// The front of some cells, as a sink: it takes a text if there is room for all of it.
 #[derive(Drop)]
 pub struct Front<'a> {
     pub cells: &'a mut [u8],
+    /// How many bytes it took.
     pub held: usize,
     pub failures: u64,
 }
 
-impl<'a> Sink for Front<'a> {
-    ghost use Rattle.std.specs.Prelude.{Some, ◌-◌, length, take};
+impl<'a> Front<'a> {
+    /// How many bytes it took.
+    pub fn count(&self) -> usize
+        ensures { result ≡ length (take self.now.held self.now.cells.now) }
+    {
+        self.held.min(self.cells.len())
+    }
+}
 
-    ghost told = { λ s. record { identity = s.cells.ghost_name; contents = Some (take s.held s.cells.now); failures = s.failures; room = length s.cells.now - s.held } };
+impl<'a> Sink for Front<'a> {
+    ghost use Rattle.std.specs.Prelude.{Some, ◌∷◌, ◌-◌, length, take};
+
+    // The number of cells stands in front of the bytes. No text changes it, as it changes nothing that was taken.
+    ghost told = { λ s. record { identity = s.cells.ghost_name; contents = Some (length s.cells.now ∷ take s.held s.cells.now); failures = s.failures; room = length s.cells.now - s.held } };
 
     fn put(&mut self, bytes: &[u8]) -> Result<(), SinkFault> {
         if bytes.is_empty() {

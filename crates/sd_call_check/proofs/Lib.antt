@@ -1,2 +1,3 @@
+pub mod MemoryLemmas
 mod Rows
 pub mod TokenLemmas

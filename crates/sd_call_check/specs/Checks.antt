@@ -85,6 +85,13 @@ ask_in request object principal_self = do
   principal ← optional_sid_in which.PrincipalSelf principal_self
   fault_as Ask (unless (ask_fault request.wanted request.maximum) (asked request mapping type principal))
 
+-- who asks, and what
+unfoldable pub asker_in : List ℕ → List ℕ → List ℕ → List ℕ → Request → Result (Holder × Asked) CallFault
+asker_in sids kinds object principal_self request = do
+  holder ← holder_in sids kinds request
+  ask ← ask_in request object principal_self
+  Ok (holder, ask)
+
 -- 3. The answer.
 
 -- the verdict on the descriptor that some bytes show
@@ -95,9 +102,8 @@ verdict_on bytes holder ask = do
 
 abbrev pub checked : List ℕ → List ℕ → List ℕ → List ℕ → List ℕ → Request → Result Verdict CallFault
 checked bytes sids kinds object principal_self request = do
-  holder ← holder_in sids kinds request
-  ask ← ask_in request object principal_self
-  verdict_on bytes holder ask
+  asker ← asker_in sids kinds object principal_self request
+  verdict_on bytes asker.0 asker.1
 
 abbrev pub told : Result Verdict CallFault → VerdictOutcome
 told (Ok (Granted mask)) =

@@ -1,19 +1,16 @@
 //! The call that checks access.
 
 ghost use Rattle.std.specs.Prelude.{◌≡◌, [], IfOk, MatchResult};
-ghost use Rattle.sd_call_check.specs.Checks.{Tells, ask_in, checked, fault_of, object_in, told, told_without_memory};
-ghost use Rattle.sd_call_check.specs.Checks.{verdict_on};
+ghost use Rattle.sd_call_check.specs.Checks.{Tells, checked, fault_of, told, told_without_memory, verdict_on};
 
+use crate::asker::{asker_in, check_asker};
 use crate::request::Request;
-use crate::token::{check_entries, give_holder};
 use crate::verdict::{VerdictOutcome, told, untold};
-use sd_ace::guid_read;
-use sd_call::{Argument, CallFault, descriptor_in, mapping_in, optional_sid_in};
-use sd_check::{Ask, Privileges, Verdict, check};
+use sd_call::{CallFault, descriptor_in};
+use sd_check::{Ask, Verdict, check};
 use sd_sink::NoMemory;
 use sd_token::Token;
 use std::alloc::Global;
-use uuid::Uuid;
 
 /// Says whether a descriptor grants a token what is asked for.
 pub fn check_access(
@@ -83,8 +80,7 @@ fn check_arguments(
 ) -> Result<(), CallFault>
     ensures { result ≡ fault_of (checked bytes.now sids.now kinds.now object.now principal_self.now request.now) }
 {
-    check_entries(sids, kinds)?;
-    ask_in(request, object, principal_self)?;
+    check_asker(sids, kinds, object, principal_self, request)?;
     descriptor_in(bytes)?;
     Ok(())
 }
@@ -102,8 +98,7 @@ fn check_by(
     requires { token.old.holder.entries ≡ [] }
     ensures { result ≡ checked bytes.now sids.now kinds.now object.now principal_self.now request.now }
 {
-    give_holder(token, sids, kinds, request)?;
-    let ask = ask_in(request, object, principal_self)?;
+    let ask = asker_in(token, sids, kinds, object, principal_self, request)?;
     verdict_on(bytes, token, &ask)
 }
 
@@ -116,41 +111,4 @@ pub fn verdict_on(bytes: &[u8], token: &mut Token, ask: &Ask) -> Result<Verdict,
 {
     let view = descriptor_in(bytes)?;
     Ok(check(&view, token, ask))
-}
-
-/// What is asked, or why nothing can be.
-#[tactic(auto, unfolding(crate::specs::Checks::ask_in))]
-pub fn ask_in(request: &Request, object: &[u8], principal_self: &[u8]) -> Result<Ask, CallFault>
-    ensures { result ≡ ask_in request.now object.now principal_self.now }
-{
-    let mapping = mapping_in(request.mapping)?;
-    let object = object_in(object)?;
-    let principal = optional_sid_in(Argument::PrincipalSelf, principal_self)?;
-    let privileges = Privileges {
-        security: request.security,
-        take_ownership: request.take_ownership,
-    };
-    Ask::new(
-        request.wanted,
-        request.maximum,
-        mapping,
-        object,
-        principal,
-        privileges,
-    )
-    .map_err(CallFault::Ask)
-}
-
-// The object type, whose GUID has its bytes as they stand in an ACE.
-#[tactic(auto, unfolding(crate::specs::Checks::object_in))]
-fn object_in(bytes: &[u8]) -> Result<Option<Uuid>, CallFault>
-    ensures { result ≡ object_in bytes.now }
-{
-    if bytes.is_empty() {
-        return Ok(None);
-    }
-    match <&[u8; 16]>::try_from(bytes) {
-        Ok(bytes) => Ok(Some(guid_read(bytes))),
-        Err(_) => Err(CallFault::Argument(Argument::Object, 0)),
-    }
 }

@@ -2,11 +2,16 @@
 #![tactic(auto)]
 
 mod access;
+mod asker;
 mod request;
 mod token;
+mod token_memory;
 mod verdict;
+mod with_token;
 
-pub use access::{ask_in, check_access, verdict_on};
+pub use access::{check_access, verdict_on};
+pub use asker::{asker_in, check_asker};
 pub use request::Request;
-pub use token::{check_entries, give_holder};
+pub use token_memory::read_token;
 pub use verdict::{VerdictOutcome, told, untold};
+pub use with_token::check_with_token;

@@ -98,7 +98,7 @@ fn read_entries(sids: &[u8], kinds: &[u8]) -> Result<(), CallFault>
 }
 
 // The kind of the entry with this number.
-fn kind_in(byte: u8, n: usize) -> Result<EntryKind, CallFault>
+pub(crate) fn kind_in(byte: u8, n: usize) -> Result<EntryKind, CallFault>
     ensures { result ≡ kind_in n byte }
 {
     match byte {

@@ -56,14 +56,13 @@ fn print_to(what: Text, named: &Named<'_>, cells: &mut [u8]) -> Option<usize>
     ensures { MatchOption result (length cells.old < length (text_of what named.now))
         (λ n. Fills n (text_of what named.now) cells.old cells.new) }
 {
-    let most = cells.len();
     let mut sink = Front {
         cells,
         held: 0,
         failures: 0,
     };
     match put_text(what, named, &mut sink) {
-        Ok(()) => Some(sink.held.min(most)),
+        Ok(()) => Some(sink.count()),
         Err(_) => None,
     }
 }

@@ -1,11 +1,23 @@
--- The arguments of a derivation, by hand from include/sdtool.h.
-use Rattle.std.proofs.Common.{◌≡◌, [], ◌∷◌, None, Ok, Err, refl}
+-- The arguments of a derivation and what it gives, by hand from include/sdtool.h (MS-DTYP 2.4.6 and 2.5.3.4).
+use Rattle.std.proofs.Common.{◌≡◌, ℕ, List, [], ◌∷◌, Some, None, Ok, Err, refl}
 use Rattle.sd_sid.specs.Sid.{sid_at}
+use Rattle.sd_rights.specs.Mapping.{file_mapping, key_mapping}
+use Rattle.sd_inherit.specs.Derived.{derive_fault, derived}
+use Rattle.sd_inherit.specs.declared.derivation.DeriveFault.{DeriveFault}
 use Rattle.sd_inherit.specs.declared.plan.Target.TheVariants as target
-use Rattle.sd_call.specs.Arguments.{mapping_in}
+use Rattle.sd_view.specs.Bytes.{u16_at, u32_at}
+use Rattle.sd_view.specs.Descriptor.{Descriptor}
+use Rattle.sd_view.specs.Layout.{layout}
+use Rattle.sd_view.specs.Reading.{acl_part_fault, acl_shown, fault, header_fault, overlap_fault, overlaps_fault}
+use Rattle.sd_view.specs.Reading.{parts_fault, reading, sid_fault, sid_shown}
+use Rattle.sd_view.specs.declared.acl.AclPart.TheVariants as acl
+use Rattle.sd_view.specs.declared.fault.SdFault.TheVariants as sd
+use Rattle.sd_answer.specs.declared.fault.LineFault.TheVariants as line
+use Rattle.sd_call.specs.Arguments.{descriptor_in}
 use Rattle.sd_call.specs.declared.argument.Argument.TheVariants as which
 use Rattle.sd_call.specs.declared.outcome.CallFault.TheVariants as call
-use Rattle.sd_call_derive.specs.Derivations.{creator_in, plan_in, target_in}
+use Rattle.sd_call_derive.specs.Derivations.{creator_in, derivation, new_layout, origin_in, plan_in, target_in}
+use Rattle.sd_call_derive.specs.declared.derivations.Origin.{Origin}
 
 -- enum sdtool_kind
 targets : (target_in 0 ≡ Ok target.File) × (target_in 1 ≡ Ok target.Container)
@@ -15,6 +27,10 @@ targets = (refl, refl, refl)
 no_creator : creator_in [] ≡ Ok None
 unfolding creator_in
 no_creator = refl
+
+wrong_creator : creator_in (1 ∷ []) ≡ Err (call.Argument which.Creator 0)
+unfolding creator_in descriptor_in reading fault header_fault
+wrong_creator = refl
 
 -- The arguments are looked at in this order: kind, mapping, owner, group.
 kind_first : plan_in 2 3 [] [] ≡ Err (call.Argument which.Kind 0)
@@ -29,6 +45,70 @@ owner_third : plan_in 1 2 [] [] ≡ Err (call.Argument which.Owner 0)
 unfolding plan_in sid_at
 owner_third = refl
 
-group_last : plan_in 0 0 (1 ∷ 1 ∷ 0 ∷ 0 ∷ 0 ∷ 0 ∷ 0 ∷ 1 ∷ 0 ∷ 0 ∷ 0 ∷ 0 ∷ []) [] ≡ Err (call.Argument which.Group 0)
+abbrev everyone : List ℕ
+everyone = 1 ∷ 1 ∷ 0 ∷ 0 ∷ 0 ∷ 0 ∷ 0 ∷ 1 ∷ 0 ∷ 0 ∷ 0 ∷ 0 ∷ []
+
+abbrev system : List ℕ
+system = 1 ∷ 1 ∷ 0 ∷ 0 ∷ 0 ∷ 0 ∷ 0 ∷ 5 ∷ 18 ∷ 0 ∷ 0 ∷ 0 ∷ []
+
+group_last : plan_in 0 0 everyone [] ≡ Err (call.Argument which.Group 0)
 unfolding plan_in sid_at
 group_last = refl
+
+plan : plan_in 1 1 everyone system ≡ Ok (record {
+  target = target.Container;
+  owner = record { authority = 1; subs = 0 ∷ [] };
+  group = record { authority = 5; subs = 18 ∷ [] };
+  mapping = key_mapping;
+})
+unfolding plan_in sid_at
+plan = refl
+
+-- Then the creator's descriptor is looked at, and the container's last.
+creator_before_parent : origin_in [] (1 ∷ []) everyone system 1 1 ≡ Err (call.Argument which.Creator 0)
+unfolding origin_in plan_in sid_at creator_in descriptor_in reading fault header_fault
+creator_before_parent = refl
+
+parent_last : origin_in [] [] everyone system 1 1 ≡ Err (call.Line (line.Sd sd.Short))
+unfolding origin_in plan_in sid_at creator_in descriptor_in reading fault header_fault
+parent_last = refl
+
+-- a header alone, with a resource manager byte
+abbrev header : ℕ → List ℕ
+header rm = 1 ∷ rm ∷ 0 ∷ 0x80 ∷ 0 ∷ 0 ∷ 0 ∷ 0 ∷ 0 ∷ 0 ∷ 0 ∷ 0 ∷ 0 ∷ 0 ∷ 0 ∷ 0 ∷ 0 ∷ 0 ∷ 0 ∷ 0 ∷ []
+
+abbrev empty : ℕ → Descriptor
+empty rm = record { control = 0x8000; rm = rm; owner = None; group = None; sacl = acl.Absent; dacl = acl.Absent }
+
+-- the descriptor that the creator brings is not that of the container
+origin : origin_in (header 3) (header 4) everyone system 0 0 ≡ Ok (record {
+  parent = empty 3;
+  creator = Some (empty 4);
+  plan = record {
+    target = target.File;
+    owner = record { authority = 1; subs = 0 ∷ [] };
+    group = record { authority = 5; subs = 18 ∷ [] };
+    mapping = file_mapping;
+  };
+})
+unfolding origin_in plan_in sid_at creator_in descriptor_in reading fault header_fault parts_fault sid_fault sid_shown
+    acl_part_fault acl_shown overlaps_fault overlap_fault u16_at u32_at
+origin = refl
+
+-- a container that hands nothing on: the new DACL is empty, and was made by automatic inheritance
+nothing_inherited : derivation (header 3) [] everyone system 0 0 ≡ Ok (layout (record {
+  control = 0x8404;
+  rm = 0;
+  owner = Some (record { authority = 1; subs = 0 ∷ [] });
+  group = Some (record { authority = 5; subs = 18 ∷ [] });
+  sacl = acl.Absent;
+  dacl = acl.List [];
+}))
+unfolding origin_in plan_in sid_at creator_in descriptor_in reading fault header_fault parts_fault sid_fault sid_shown
+    acl_part_fault acl_shown overlaps_fault overlap_fault u16_at u32_at derived derive_fault
+nothing_inherited = refl
+
+-- an ACL that is too large is told as the program does
+too_large : (from : Origin) (why : DeriveFault) → derive_fault from.parent from.creator from.plan ≡ Some why
+    → new_layout from ≡ Err (call.Line (line.Derive why))
+too_large from why h = rw h refl

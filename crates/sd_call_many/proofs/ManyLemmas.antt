@@ -5,14 +5,12 @@ use Rattle.std.proofs.Math.ListN.{set}
 use Rattle.std.proofs.lemmas.List.{drop_more, length-map, length-take, map_more, set_at}
 use Rattle.sd_token.specs.Token.{Holder}
 use Rattle.sd_check.specs.Ask.{Asked}
-use Rattle.sd_text.specs.Chains.{and_then}
 use Rattle.sd_call.specs.Outcomes.{done}
 use Rattle.sd_call.specs.declared.outcome.Outcome.{Outcome}
-use Rattle.sd_call.specs.declared.outcome.CallFault.{CallFault}
-use Rattle.sd_call_check.specs.Checks.{ask_in, holder_in}
+use Rattle.sd_call_check.specs.Checks.{asker_in}
 use Rattle.sd_call_check.specs.declared.request.Request.{Request}
 use Rattle.sd_call_check.specs.declared.verdict.VerdictOutcome.{VerdictOutcome}
-use Rattle.sd_call_many.specs.Many.{Judges, asker_in, judged, judged_by}
+use Rattle.sd_call_many.specs.Many.{Judges, judged, judged_by}
 use Rattle.sd_call_many.specs.declared.bytes.Bytes.{Bytes}
 
 -- one more is written
@@ -26,28 +24,11 @@ written_more {X} {Y} f xs old ys i d v within room h is =
     ap (λ (l : List Y). set l i v) parts ∙ set_at front _ _ v i long ∙ sym (append_assoc front (v ∷ []) _)
     ∙ ap (λ (l : List Y). l ++ drop (i + 1) old) (ap (λ (y : Y). front ++ y ∷ []) is ∙ sym (map_more f xs i d within))
 
-abbrev pub pair_of : Result Holder CallFault → Result Asked CallFault → Result (Holder × Asked) CallFault
-pair_of r a = and_then r (λ h. and_then a (λ k. Ok (h, k)))
-
--- both were read
-both_read : (r : Result Holder CallFault) (a : Result Asked CallFault) (holder : Holder) (ask : Asked)
-    → pair_of r a ≡ Ok (holder, ask) → (r ≡ Ok holder) × (a ≡ Ok ask)
-both_read (Ok h) (Ok k) holder ask e =
-    let same : let pair : Holder × Asked = (h, k) in pair ≡ (holder, ask) = cc in (
-      ap (λ (p : Holder × Asked). let r : Result Holder CallFault = Ok p.0 in r) same,
-      ap (λ (p : Holder × Asked). let a : Result Asked CallFault = Ok p.1 in a) same,
-    )
-both_read (Ok h) (Err fault) holder ask e = absurd (cc)
-both_read (Err fault) a holder ask e = absurd (cc)
-
 -- the verdict on each is that of a check by itself
 as_by_itself : (sids kinds object principal_self : List ℕ) (request : Request) (holder : Holder) (ask : Asked)
     → asker_in sids kinds object principal_self request ≡ Ok (holder, ask) → (d : Bytes)
     → judged_by holder ask d ≡ judged sids kinds object principal_self request d
-unfolding asker_in
-as_by_itself sids kinds object principal_self request holder ask e d =
-    let read = both_read (holder_in sids kinds request) (ask_in request object principal_self) holder ask e in
-    rw (read.0, read.1) refl
+as_by_itself sids kinds object principal_self request holder ask e d = rw e refl
 
 map_same : (f g : Bytes → VerdictOutcome) → ((d : Bytes) → f d ≡ g d) → (ds : List Bytes) → map f ds ≡ map g ds
 map_same f g same [] = refl

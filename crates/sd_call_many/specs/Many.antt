@@ -1,22 +1,14 @@
 -- One token and one request, and many descriptors.
 use Rattle.std.specs.Prelude.{◌≡◌, ◌≤◌, ◌<◌, ◌⊎◌, ℕ, List, ◌++◌, length, drop, map, Result, Ok, Err}
-use Rattle.sd_text.specs.Chains.{◌>>=◌}
 use Rattle.sd_token.specs.Token.{Holder}
 use Rattle.sd_check.specs.Ask.{Asked}
 use Rattle.sd_call.specs.Outcomes.{done, failed, no_memory, too_small}
 use Rattle.sd_call.specs.declared.outcome.CallFault.{CallFault}
 use Rattle.sd_call.specs.declared.outcome.Outcome.{Outcome}
-use Rattle.sd_call_check.specs.Checks.{ask_in, checked, holder_in, told, verdict_on}
+use Rattle.sd_call_check.specs.Checks.{asker_in, checked, told, verdict_on}
 use Rattle.sd_call_check.specs.declared.request.Request.{Request}
 use Rattle.sd_call_check.specs.declared.verdict.VerdictOutcome.{VerdictOutcome}
 use Rattle.sd_call_many.specs.declared.bytes.Bytes.{Bytes}
-
--- who asks, and what
-unfoldable pub asker_in : List ℕ → List ℕ → List ℕ → List ℕ → Request → Result (Holder × Asked) CallFault
-asker_in sids kinds object principal_self request = do
-  holder ← holder_in sids kinds request
-  ask ← ask_in request object principal_self
-  Ok (holder, ask)
 
 -- what is told of a descriptor
 abbrev pub judged_by : Holder → Asked → Bytes → VerdictOutcome

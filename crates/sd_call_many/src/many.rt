@@ -1,14 +1,12 @@
 //! One token and one request, and many descriptors.
 
-ghost use Rattle.std.specs.Prelude.{◌≡◌, ◌≤◌, ◌++◌, [], length, drop, map, IfOk, Ok, MatchResult};
-ghost use Rattle.sd_call_check.specs.Checks.{fault_of};
-ghost use Rattle.sd_call_many.specs.Many.{AnswersMany, Judges, JudgesNone, asker_in, judged, judged_by};
+ghost use Rattle.std.specs.Prelude.{◌≡◌, ◌≤◌, ◌++◌, [], length, drop, map, IfOk, MatchResult};
+ghost use Rattle.sd_call_check.specs.Checks.{asker_in};
+ghost use Rattle.sd_call_many.specs.Many.{AnswersMany, Judges, JudgesNone, judged, judged_by};
 
 use crate::bytes::Bytes;
-use sd_call::{CallFault, Outcome, done, failed, no_memory, too_small};
-use sd_call_check::{
-    Request, VerdictOutcome, ask_in, check_entries, give_holder, told, verdict_on,
-};
+use sd_call::{Outcome, done, failed, no_memory, too_small};
+use sd_call_check::{Request, VerdictOutcome, asker_in, check_asker, told, verdict_on};
 use sd_check::Ask;
 use sd_sink::NoMemory;
 use sd_token::Token;
@@ -75,41 +73,6 @@ fn judge_with(
             Err(fault) => failed(fault),
         },
     }
-}
-
-// Why nothing is asked, told without a token.
-#[tactic(auto, unfolding(crate::specs::Many::asker_in))]
-fn check_asker(
-    sids: &[u8],
-    kinds: &[u8],
-    object: &[u8],
-    principal_self: &[u8],
-    request: &Request,
-) -> Result<(), CallFault>
-    ensures { result ≡ fault_of (asker_in sids.now kinds.now object.now principal_self.now request.now) }
-{
-    check_entries(sids, kinds)?;
-    let _ = ask_in(request, object, principal_self)?;
-    Ok(())
-}
-
-// Gives a new token its SIDs, and reads what is asked.
-#[tactic(auto, unfolding(crate::specs::Many::asker_in))]
-fn asker_in(
-    token: &mut Token,
-    sids: &[u8],
-    kinds: &[u8],
-    object: &[u8],
-    principal_self: &[u8],
-    request: &Request,
-) -> Result<Ask, CallFault>
-    requires { token.old.holder.entries ≡ [] }
-    ensures { MatchResult result
-        (λ ask. asker_in sids.now kinds.now object.now principal_self.now request.now ≡ Ok (token.new.holder, ask))
-        (λ fault. asker_in sids.now kinds.now object.now principal_self.now request.now ≡ Err fault) }
-{
-    give_holder(token, sids, kinds, request)?;
-    ask_in(request, object, principal_self)
 }
 
 // Writes the verdict on each descriptor.

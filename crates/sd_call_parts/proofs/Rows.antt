@@ -7,12 +7,23 @@ use Rattle.sd_kinds.specs.declared.kinds.AceKind.TheVariants as kinds
 use Rattle.sd_sid.specs.Sid.{sid_at}
 use Rattle.sd_kinds.specs.Kinds.{kind_code, kind_entry, kind_of}
 use Rattle.sd_view.specs.Ace.{announces_inherited, announces_object}
-use Rattle.sd_view.specs.AclReading.{ace_fault, extent_fault, guid_if, inherited_in, kind_in, object_in, sid_offset_in}
+use Rattle.sd_view.specs.AclReading.{ace_fault, aces_fault, aces_of, acl_fault, extent_fault, guid_if, inherited_in}
+use Rattle.sd_view.specs.AclReading.{kind_in, object_in, sid_offset_in}
 use Rattle.sd_view.specs.Bytes.{u16_at, u32_at}
+use Rattle.sd_view.specs.Reading.{acl_part_fault, acl_shown, fault, header_fault, overlap_fault, overlaps_fault}
+use Rattle.sd_view.specs.Reading.{parts_fault, reading, sid_fault, sid_shown}
+use Rattle.sd_view.specs.declared.acl.AclPart.TheVariants as lists
 use Rattle.sd_view.specs.declared.fault.SdFault.TheVariants as sd
+use Rattle.sd_answer.specs.declared.fault.LineFault.TheVariants as line
+use Rattle.sd_call.specs.Arguments.{descriptor_in}
+use Rattle.sd_call.specs.declared.outcome.CallFault.TheVariants as call
+use Rattle.sd_call_parts.specs.Contents.{contents_in, refused}
 use Rattle.sd_call_parts.specs.Places.{nowhere}
 use Rattle.sd_call_parts.specs.Walk.{begins_with_header, fault_number, found, front_found, next, steps_to}
 use Rattle.sd_call_parts.specs.declared.ace.AceFound.{AceFound}
+use Rattle.sd_call_parts.specs.declared.contents.AclPlace.{AclPlace}
+use Rattle.sd_call_parts.specs.declared.contents.Contents.{Contents}
+use Rattle.sd_call_parts.specs.declared.place.Place.{Place}
 
 -- an ACL of revision 2 with two ACEs of 20 bytes: (A;CI;FA;;;WD) and (D;;0x2;;;WD)
 abbrev everyone : List ℕ
@@ -81,6 +92,21 @@ no_header : (next (2 ∷ 0 ∷ 7 ∷ 0 ∷ 0 ∷ 0 ∷ 0 ∷ 0 ∷ []) start ≡
 unfolding next begins_with_header u16_at
 no_header = (refl, refl)
 
+-- a size of 7 also where a count stands behind it, a size of a byte more than there are, and 7 bytes
+size_has_two_bytes : next (2 ∷ 0 ∷ 7 ∷ 0 ∷ 1 ∷ 0 ∷ 0 ∷ 0 ∷ []) start ≡ Err (sd.Acl part.Dacl)
+unfolding next begins_with_header u16_at
+size_has_two_bytes = refl
+
+cut_acl : (next (2 ∷ 0 ∷ 9 ∷ 0 ∷ 0 ∷ 0 ∷ 0 ∷ 0 ∷ []) start ≡ Err (sd.Acl part.Dacl))
+    × (next (2 ∷ 0 ∷ 8 ∷ 0 ∷ 0 ∷ 0 ∷ 0 ∷ []) start ≡ Err (sd.Acl part.Dacl))
+unfolding next begins_with_header u16_at
+cut_acl = (refl, refl)
+
+-- the two bytes behind the count mean nothing
+count_has_two_bytes : next (2 ∷ 0 ∷ 8 ∷ 0 ∷ 0 ∷ 0 ∷ 1 ∷ 0 ∷ []) start ≡ Ok None
+unfolding next begins_with_header u16_at
+count_has_two_bytes = refl
+
 empty : (next (4 ∷ 0 ∷ 8 ∷ 0 ∷ 0 ∷ 0 ∷ 0 ∷ 0 ∷ []) start ≡ Ok None)
     × (next (2 ∷ 0 ∷ 8 ∷ 0 ∷ 0 ∷ 0 ∷ 0 ∷ 0 ∷ 5 ∷ []) start ≡ Ok None)
 unfolding next begins_with_header u16_at
@@ -90,6 +116,9 @@ empty = (refl, refl)
 missing : next (2 ∷ 0 ∷ 8 ∷ 0 ∷ 1 ∷ 0 ∷ 0 ∷ 0 ∷ []) start ≡ Err (sd.AceSize part.Dacl)
 unfolding next begins_with_header front_found sid_at u16_at u32_at ace_fault
 missing = refl
+
+steps : steps_to start (Ok (Some first)) ≡ (true, first)
+steps = refl
 
 -- the fault is told, and the walk stays where it is
 stays : steps_to second (Err (sd.AceSize part.Dacl)) ≡ (false, record second { fault = 11 })
@@ -142,3 +171,76 @@ inherited_alone = refl
 
 nothing : nowhere ≡ record { offset = 0; size = 0 }
 nothing = refl
+
+-- ---- whole descriptors
+
+abbrev place : ℕ → ℕ → Place
+place offset size = record { offset = offset; size = size }
+
+abbrev list : ℕ → ℕ → ℕ → ℕ → AclPlace
+list state count offset size = record { state = state; ace_count = count; place = place offset size }
+
+-- `unfolding computed` lets `refl` compute what is in a descriptor
+computed : Unit {0}
+unfolding descriptor_in reading fault header_fault parts_fault sid_fault sid_shown sid_at acl_part_fault acl_shown acl_fault
+    aces_fault aces_of ace_fault extent_fault overlaps_fault overlap_fault u16_at u32_at kind_in kind_of kind_code
+    kind_entry sid_offset_in object_in inherited_in guid_if announces_object announces_inherited
+computed = tt
+
+system : List ℕ
+system = 1 ∷ 1 ∷ 0 ∷ 0 ∷ 0 ∷ 0 ∷ 0 ∷ 5 ∷ 18 ∷ 0 ∷ 0 ∷ 0 ∷ []
+
+-- The owner is behind the group, and the SACL, which has no ACE, behind the DACL of two.
+whole : List ℕ
+whole = (1 ∷ 7 ∷ 0x14 ∷ 0x80 ∷ 32 ∷ 0 ∷ 0 ∷ 0 ∷ 20 ∷ 0 ∷ 0 ∷ 0 ∷ 92 ∷ 0 ∷ 0 ∷ 0 ∷ 44 ∷ 0 ∷ 0 ∷ 0 ∷ [])
+    ++ system ++ everyone ++ acl ++ (2 ∷ 0 ∷ 8 ∷ 0 ∷ 0 ∷ 0 ∷ 0 ∷ 0 ∷ [])
+
+all_parts : contents_in whole ≡ record {
+  fault = 0;
+  part = 0;
+  other_part = 0;
+  control = 0x8014;
+  resource_manager = 7;
+  owner = place 32 12;
+  group = place 20 12;
+  sacl = list 2 0 92 8;
+  dacl = list 2 2 44 48;
+}
+unfolding computed whole system
+all_parts = refl
+
+-- a null DACL, and nothing else: its present bit is set, and its offset is 0
+null_dacl : contents_in (1 ∷ 0 ∷ 4 ∷ 0x80 ∷ 0 ∷ 0 ∷ 0 ∷ 0 ∷ 0 ∷ 0 ∷ 0 ∷ 0 ∷ 0 ∷ 0 ∷ 0 ∷ 0 ∷ 0 ∷ 0 ∷ 0 ∷ 0 ∷ []) ≡ record {
+  fault = 0;
+  part = 0;
+  other_part = 0;
+  control = 0x8004;
+  resource_manager = 0;
+  owner = place 0 0;
+  group = place 0 0;
+  sacl = list 0 0 0 0;
+  dacl = list 1 0 0 0;
+}
+unfolding computed
+null_dacl = refl
+
+abbrev nothing_but : ℕ → ℕ → ℕ → Contents
+nothing_but fault_number first_part second_part = record {
+  fault = fault_number;
+  part = first_part;
+  other_part = second_part;
+  control = 0;
+  resource_manager = 0;
+  owner = place 0 0;
+  group = place 0 0;
+  sacl = list 0 0 0 0;
+  dacl = list 0 0 0 0;
+}
+
+-- After a fault all else is 0.
+no_descriptor : contents_in [] ≡ nothing_but 5 0 0
+unfolding computed
+no_descriptor = refl
+
+shared_byte : refused (call.Line (line.Sd (sd.Overlap part.Sacl part.Dacl))) ≡ nothing_but 14 3 4
+shared_byte = refl

@@ -1,3 +1,4 @@
 pub mod BatchLemmas
+mod Rows
 pub mod RunLemmas
 pub mod WordsLemmas

@@ -1,14 +1,15 @@
 -- The endings of a batch.
-use Rattle.std.proofs.Common.{◌≡◌, ◌≢◌, ℕ, List, [], ◌∷◌, Bool, true, false, Option, Some, None, Result, Ok, Err, inl, inr, refl, sym}
-use Rattle.std.proofs.Common.{subst, ◌∙◌, if◌then◌else◌, length, codes, take}
+use Rattle.std.proofs.Common.{◌≡◌, ◌≢◌, ℕ, List, [], ◌∷◌, true, false, Option, Some, None, Result, Ok, Err, inl, inr, refl, sym}
+use Rattle.std.proofs.Common.{subst, ◌∙◌, if◌then◌else◌, length}
 use Rattle.clap.specs.Words.{Text, takes}
 use Rattle.sd_answer.specs.Answer.{is_error}
 use Rattle.std.specs.List.{list_any}
-use Rattle.sd_command.specs.CommandLine.{line}
+use Rattle.std.specs.String.{string_bytes}
+use Rattle.sd_command_line.specs.CommandLine.{line}
 use Rattle.sd_command.specs.Endings.{run_line}
 use Rattle.sd_command.specs.Preparing.{PreparesBy, StopsTaken}
 use Rattle.sd_command.specs.Settings.{Settings}
-use Rattle.sd_command.specs.declared.parse.Refusal.TheVariants.{Help, NoMemory, Usage}
+use Rattle.sd_command_line.specs.declared.parse.Refusal.TheVariants.{Help, NoMemory, Usage}
 use Rattle.sd_command.specs.declared.program.Prepared.{Prepared}
 use Rattle.sd_command.specs.declared.program.Stop.{Stop}
 use Rattle.sd_command.specs.declared.program.Stop.TheVariants as stop
@@ -85,7 +86,7 @@ by-kinds words (Ok prepared) input output message ending p e =
     EndsBy.settled p.0 (settled-by _ _ input output message ending p.1.0 e)
 by-kinds words (Err (stop.Refused NoMemory)) input output message ending p e = EndsBy.without_memory e
 by-kinds words (Err (stop.Refused Usage)) input output message ending p e = EndsBy.refused p e
-by-kinds words (Err (stop.Refused (Help text))) input output message ending p e = EndsBy.helped p e
+by-kinds words (Err (stop.Refused (Help text))) input output message ending p e = EndsBy.helped p (string_bytes text, e)
 by-kinds words (Err (stop.Value fault)) input output message ending p e =
     EndsBy.settled p.0 (settled-by _ (Err fault) input output message ending p.1 e)
 

@@ -7,11 +7,12 @@ use Rattle.std.specs.Str.{is_utf8}
 use Rattle.clap.specs.Words.{IsAmong, Text, fault_of, takes}
 use Rattle.clap.specs.declared.error.ErrorKind.TheVariants as kind
 use Rattle.sd_answer.specs.Answer.{is_error}
-use Rattle.sd_command.specs.CommandLine.{line}
+use Rattle.sd_command_line.specs.CommandLine.{line}
 use Rattle.sd_command.specs.Endings.{run_line}
-use Rattle.sd_command.specs.Refusing.{is_mistake}
+use Rattle.sd_command_line.specs.Refusing.{is_mistake}
 use Rattle.sd_command.specs.Settings.{Settings, settings_of}
-use Rattle.sd_command.specs.Usage.{fault_line, usage_line}
+use Rattle.sd_command.specs.Usage.{usage_line}
+use Rattle.sd_command_line.specs.FaultLines.{fault_line}
 use Rattle.sd_command.specs.declared.settings.UsageFault.{UsageFault}
 use Rattle.sd_run.specs.Answers.{answers}
 use Rattle.sd_run.specs.Lines.{lines}
@@ -61,12 +62,15 @@ EndsWithoutMemory = EndsWith 4 (fault_line (codes "no memory"))
 abbrev pub EndsRefused : List ℕ → Ending → Type 0
 EndsRefused = EndsWith 2 (fault_line (codes "usage"))
 
--- the output has the front of help, which is `clap`'s text
-pub record EndsWithHelp (output : List ℕ) (ending : Ending) : Type 0 where
+-- the output has the front of a text of help, and there is no message
+pub record ShowsHelp (text output : List ℕ) (ending : Ending) : Type 0 where
   pub is : ending.status ≡ 0
   pub no_message : ending.message_length ≡ 0
-  pub text : List ℕ
   pub shown : Shows text output ending.length
+
+-- The text is that of `clap`, whose contracts do not say which text that is.
+abbrev pub EndsWithHelp : List ℕ → Ending → Type 0
+EndsWithHelp output ending = (text : List ℕ) × ShowsHelp text output ending
 
 -- ---- a run
 

@@ -4,7 +4,7 @@ ghost use Rattle.std.specs.Prelude.{◌≡◌};
 ghost use Rattle.sd_command.specs.Preparing.{settled};
 ghost use Rattle.sd_call_run.specs.Inner.Batches.{Batched};
 
-use crate::memory::Cells;
+use sd_call::Front;
 use sd_command::Prepared;
 use sd_run::first_line;
 
@@ -23,7 +23,7 @@ pub struct Batch {
 pub fn answer_batch(prepared: &mut Prepared, input: &[u8], output: &mut [u8]) -> Batch
     ensures { Batched (settled prepared.old) input.now output.new result }
 {
-    let mut cells = Cells {
+    let mut cells = Front {
         cells: output,
         held: 0,
         failures: 0,
@@ -31,7 +31,7 @@ pub fn answer_batch(prepared: &mut Prepared, input: &[u8], output: &mut [u8]) ->
     answer_lines(prepared, input, &mut cells)
 }
 
-fn answer_lines(prepared: &mut Prepared, input: &[u8], cells: &mut Cells<'_>) -> Batch
+fn answer_lines(prepared: &mut Prepared, input: &[u8], cells: &mut Front<'_>) -> Batch
     requires { cells.old.held ≡ 0 }
     ensures batched { Batched (settled prepared.old) input.now cells.new.cells.now result }
     ensures stay { cells.new.cells.ghost_name ≡ cells.old.cells.ghost_name }

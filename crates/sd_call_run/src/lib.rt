@@ -2,7 +2,6 @@
 #![tactic(auto)]
 
 mod batch;
-mod memory;
 mod run;
 mod words;
 

@@ -7,7 +7,8 @@ ghost use Rattle.sd_call_run.specs.Runs.{EndsRun, EndsWith, Runs, Shows};
 
 use crate::batch::answer_batch;
 use crate::words::{WordsFault, words_in};
-use sd_command::{Prepared, Refusal, Stop, prepare};
+use sd_command::{Prepared, Stop, prepare};
+use sd_command_line::Refusal;
 use std::alloc::Global;
 
 /// How a run ends: `struct sdtool_ending` of the header.

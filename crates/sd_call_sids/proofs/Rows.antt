@@ -1,9 +1,9 @@
 -- SIDs and their texts, by hand (MS-DTYP 2.4.2, and 2.5.1.1 for the aliases).
-use Rattle.std.proofs.Common.{◌≡◌, [], ◌∷◌, true, false, codes, Ok, Err, refl}
+use Rattle.std.proofs.Common.{◌≡◌, [], ◌∷◌, ◌++◌, true, false, codes, Ok, Err, refl}
 use Rattle.std.specs.Fmt.{digits}
 use Rattle.std.specs.Prelude.{List, ℕ}
 use Rattle.sd_sid.specs.Sid.{sid_at}
-use Rattle.sd_sid.specs.SidText.{alias_of, letters_read, sid_reads}
+use Rattle.sd_sid.specs.SidText.{alias_of, has_form, letters_read, numbers_read, sid_reads}
 use Rattle.sd_sid.specs.declared.sid_text.SidFault.TheVariants as sid
 use Rattle.sd_sddl_reader.specs.declared.fault.SddlFault.TheVariants as sddl
 use Rattle.sd_sddl_printer.specs.Printed.{trustee_text}
@@ -37,6 +37,10 @@ wants_a_domain : sid_from_text (codes "DA") [] ≡ Err (call.Line (line.Sddl (sd
 unfolding named_sid sid_reads letters_read optional_sid_in sid_at
 wants_a_domain = refl
 
+from_numbers : sid_from_text (codes "S-1-5-32-544") [] ≡ Ok administrators
+unfolding named_sid sid_reads has_form numbers_read optional_sid_in sid_at
+from_numbers = refl
+
 -- The domain is looked at before the text.
 wrong_domain : sid_from_text (codes "ZZ") (1 ∷ []) ≡ Err (call.Argument which.Domain 0)
 unfolding named_sid optional_sid_in sid_at
@@ -50,10 +54,26 @@ to_numbers : sid_to_text administrators [] true ≡ Ok (codes "S-1-5-32-544")
 unfolding named_in optional_sid_in sid_at alias_of digits trustee_text
 to_numbers = refl
 
--- The SID is looked at before the domain.
+-- under a domain the relative alias, and else the numbers
+to_relative_alias : (sid_to_text domain_admins domain false ≡ Ok (codes "DA"))
+    × (sid_to_text domain_admins [] false ≡ Ok (codes "S-1-5-21-1-2-3-512"))
+unfolding named_in optional_sid_in sid_at alias_of digits trustee_text
+to_relative_alias = (refl, refl)
+
+-- The SID is looked at before the domain, and it takes all of its bytes.
 wrong_sid : sid_to_text [] (1 ∷ []) false ≡ Err (call.Argument which.Sid 0)
 unfolding named_in sid_at
 wrong_sid = refl
+
+byte_behind : (sid_to_text (administrators ++ 0 ∷ []) [] false ≡ Err (call.Argument which.Sid 0))
+    × (sid_to_text administrators (1 ∷ []) false ≡ Err (call.Argument which.Domain 0))
+unfolding named_in optional_sid_in sid_at
+byte_behind = (refl, refl)
+
+-- the first of several SIDs, and none that is cut
+first_of_two : (sid_size_at (administrators ++ domain) ≡ 16) × (sid_size_at (1 ∷ 1 ∷ []) ≡ 0)
+unfolding sid_at
+first_of_two = (refl, refl)
 
 sizes : (sid_size_at administrators ≡ 16) × (sid_size_at domain_admins ≡ 28) × (sid_size_at [] ≡ 0)
 unfolding sid_at

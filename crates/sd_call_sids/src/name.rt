@@ -26,14 +26,13 @@ fn print_name(naming: &Naming, sid: &Sid, cells: &mut [u8]) -> usize
     requires { length cells.old ≡ MOST_TEXT_SIZE }
     ensures { Fills result (trustee_text naming.now sid.now) cells.old cells.new }
 {
-    let most = cells.len();
     let mut sink = Front {
         cells,
         held: 0,
         failures: 0,
     };
     match put_name(naming, sid, &mut sink) {
-        Ok(()) => sink.held.min(most),
+        Ok(()) => sink.count(),
         // There is room for every name.
         Err(_) => 0,
     }

@@ -8,13 +8,13 @@ ghost use Rattle.sd_check.specs.Applies.{subject};
 use crate::ask::Ask;
 use crate::trustee::{is_owner_rights, is_principal_self, meets_any, some_meets};
 use sd_kinds::{AceKind, INHERIT_ONLY, has_flag};
-use sd_token::Token;
+use sd_token::LentToken;
 use sd_view::{AceView, SdView};
 use uuid::Uuid;
 
 /// Whether the ACE speaks of the token, and of the object that is asked for.
 #[tactic(auto, unfolding(crate::specs::Applies::applies))]
-pub fn applies(ace: &AceView, view: &SdView, token: &mut Token, ask: &Ask) -> bool
+pub fn applies(ace: &AceView, view: &SdView, token: &mut LentToken, ask: &Ask) -> bool
     ensures value { result ≡ applies ace.now view.now token.old.holder.entries ask.now }
     ensures asks { Asks token.old token.new 1 }
 {
@@ -22,7 +22,7 @@ pub fn applies(ace: &AceView, view: &SdView, token: &mut Token, ask: &Ask) -> bo
 }
 
 // Whether an entry of the token meets whom the ACE's SID means. One replacement is made.
-fn meets_subject(ace: &AceView, view: &SdView, token: &mut Token, ask: &Ask) -> bool
+fn meets_subject(ace: &AceView, view: &SdView, token: &mut LentToken, ask: &Ask) -> bool
     ensures value { result ≡ some_meets (subject view.now.owner ask.now.principal_self ace.now.sid)
         (is_deny ace.now.kind) token.old.holder.entries }
     ensures asks { Asks token.old token.new 1 }

@@ -3,7 +3,7 @@
 ghost use Rattle.std.specs.Prelude.{◌≡◌, ◌||◌, None, Some, IfOk, MatchResult};
 ghost use Rattle.sd_check.specs.Ask.{AreRights, ask_fault, asks_maximum, wanted_of};
 
-use sd_rights::{FIRST_RESERVED, MAXIMUM_ALLOWED, Mapping, SECOND_RESERVED, carries};
+use sd_rights::{FIRST_RESERVED, MAXIMUM_ALLOWED, Mapping, SECOND_RESERVED, has_right};
 use sd_sid::Sid;
 use std::marker::Model;
 use uuid::Uuid;
@@ -93,14 +93,14 @@ impl Ask {
         if desired == 0 && !maximum {
             return Err(AskFault::EmptyRequest);
         }
-        if carries(desired, FIRST_RESERVED) || carries(desired, SECOND_RESERVED) {
+        if has_right(desired, FIRST_RESERVED) || has_right(desired, SECOND_RESERVED) {
             return Err(AskFault::ReservedBits);
         }
         // The call gives the prover the fact that the mapping's rights are below 2^25.
         let _ = mapping.all();
         Ok(Ask {
-            wanted: mapping.map(desired) % (1 << MAXIMUM_ALLOWED),
-            maximum: maximum || carries(desired, MAXIMUM_ALLOWED),
+            wanted: mapping.map(desired) % MAXIMUM_ALLOWED,
+            maximum: maximum || has_right(desired, MAXIMUM_ALLOWED),
             mapping,
             object,
             principal_self,

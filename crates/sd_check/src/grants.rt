@@ -11,12 +11,12 @@ use crate::trustee::{is_owner_rights, some_meets};
 use sd_rights::{
     ACCESS_SYSTEM_SECURITY, BELOW_SYSTEM_SECURITY, READ_CONTROL, WRITE_DAC, WRITE_OWNER, mask_if,
 };
-use sd_token::Token;
+use sd_token::LentToken;
 use sd_view::{AceView, AclPart, AclView, SdView};
 
 /// The rights that are granted whatever the ACEs say, as far as they are in question.
 #[tactic(auto, unfolding(crate::specs::Inner::Scan::given_mask))]
-pub fn given(view: &SdView, token: &mut Token, ask: &Ask, question: u32) -> u32
+pub fn given(view: &SdView, token: &mut LentToken, ask: &Ask, question: u32) -> u32
     ensures value { result ≡ given_mask question view.now token.old.holder.entries ask.now }
     ensures asks { Asks token.old token.new 1 }
     ensures spared { asks_owner question view.now.dacl ≡ false → token.new.compared ≡ token.old.compared }
@@ -43,7 +43,7 @@ fn asks_owner(view: &SdView, question: u32) -> bool
 }
 
 // Whether the owner is one of the token's, and no ACE says what an owner may do.
-fn is_owned(view: &SdView, token: &mut Token) -> bool
+fn is_owned(view: &SdView, token: &mut LentToken) -> bool
     ensures value { result ≡ is_owned view.now token.old.holder.entries }
     ensures asks { Asks token.old token.new 1 }
 {

@@ -7,9 +7,9 @@ ghost use Rattle.sd_check.specs.Label.{is_mandatory_label, label, label_of, name
 
 use crate::ask::Ask;
 use sd_kinds::{INHERIT_ONLY, has_flag};
-use sd_rights::{ACCESS_SYSTEM_SECURITY, ALL_RIGHTS, Mapping, carries, is_label, mask_if};
+use sd_rights::{ACCESS_SYSTEM_SECURITY, ALL_RIGHTS, Mapping, has_right, is_label, mask_if};
 use sd_sid::Sid;
-use sd_token::Token;
+use sd_token::LentToken;
 use sd_view::{AceView, AclPart, AclView, SdView};
 
 /// What a mandatory label says: the integrity level of the object, and what a token of a lower level may not do.
@@ -20,12 +20,12 @@ pub struct Label {
     pub policy: u32,
 }
 
-/// The places of the policy's bits.
-const NO_WRITE_UP: u32 = 0;
+/// The bits of a policy, which stand where a mask has rights.
+const NO_WRITE_UP: u32 = 0x1;
 
-const NO_READ_UP: u32 = 1;
+const NO_READ_UP: u32 = 0x2;
 
-const NO_EXECUTE_UP: u32 = 2;
+const NO_EXECUTE_UP: u32 = 0x4;
 
 const MANDATORY_LABEL_AUTHORITY: u64 = 16;
 
@@ -35,13 +35,13 @@ const MEDIUM_LEVEL: u32 = 8192;
 /// The label of an object without one: medium level, not to be written from below (MS-DTYP 2.5.3.3).
 const DEFAULT: Label = Label {
     level: MEDIUM_LEVEL,
-    policy: 1 << NO_WRITE_UP,
+    policy: NO_WRITE_UP,
 };
 
 /// The rights that the label leaves to the token, ACCESS_SYSTEM_SECURITY among them: no label limits that one. The
 /// SACL is searched only for a token with a level.
 #[tactic(auto, unfolding(crate::specs::Inner::Scan::permitted_mask))]
-pub fn permitted(view: &SdView, token: &Token, ask: &Ask) -> u32
+pub fn permitted(view: &SdView, token: &LentToken, ask: &Ask) -> u32
     ensures { result ≡ permitted_mask view.now token.now.holder ask.now }
 {
     match token.level() {
@@ -62,9 +62,9 @@ fn left(label: Label, mapping: Mapping) -> u32
     ensures { result ≡ left_mask label mapping }
 {
     ACCESS_SYSTEM_SECURITY
-        | (mask_if(!carries(label.policy, NO_READ_UP), mapping.read())
-            | mask_if(!carries(label.policy, NO_WRITE_UP), mapping.write())
-            | mask_if(!carries(label.policy, NO_EXECUTE_UP), mapping.execute()))
+        | (mask_if(!has_right(label.policy, NO_READ_UP), mapping.read())
+            | mask_if(!has_right(label.policy, NO_WRITE_UP), mapping.write())
+            | mask_if(!has_right(label.policy, NO_EXECUTE_UP), mapping.execute()))
 }
 
 // The first label of the SACL, or the default.

@@ -10,4 +10,4 @@ mod trustee;
 mod verdict;
 
 pub use ask::{Ask, AskFault, Privileges};
-pub use verdict::{Verdict, check};
+pub use verdict::{Verdict, check, check_lent};

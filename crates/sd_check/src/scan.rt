@@ -10,11 +10,11 @@ ghost use Rattle.sd_check.specs.Inner.Scan.{scan_need};
 
 use crate::applies::{applies, is_allow};
 use crate::ask::Ask;
-use sd_token::Token;
+use sd_token::LentToken;
 use sd_view::{AceView, AclPart, AclView, SdView};
 
 /// The rights of a mask that the ACEs grant.
-pub fn scan(view: &SdView, token: &mut Token, ask: &Ask, question: u32) -> u32
+pub fn scan(view: &SdView, token: &mut LentToken, ask: &Ask, question: u32) -> u32
     requires { question < 2 ^ 25 }
     ensures rights { (right : ℕ) → carries result right
         ≡ (carries question right && is_allowed right view.now token.old.holder.entries ask.now) }
@@ -28,7 +28,7 @@ pub fn scan(view: &SdView, token: &mut Token, ask: &Ask, question: u32) -> u32
 }
 
 // An ACE decides the rights that none before it did; where no right is left, no further ACE is looked at.
-fn scan_aces(acl: &AclView, view: &SdView, token: &mut Token, ask: &Ask, question: u32) -> u32
+fn scan_aces(acl: &AclView, view: &SdView, token: &mut LentToken, ask: &Ask, question: u32) -> u32
     requires { question < 2 ^ 25 }
     ensures rights { (right : ℕ) → carries result right ≡ (carries question right
         && allows (find (decides right view.now token.old.holder.entries ask.now) acl.now)) }
@@ -50,7 +50,7 @@ fn scan_aces(acl: &AclView, view: &SdView, token: &mut Token, ask: &Ask, questio
 }
 
 // The rights of a mask that the ACE decides. One that has none of them is not compared.
-fn decided(ace: &AceView, view: &SdView, token: &mut Token, ask: &Ask, undecided: u32) -> u32
+fn decided(ace: &AceView, view: &SdView, token: &mut LentToken, ask: &Ask, undecided: u32) -> u32
     ensures rights { (right : ℕ) → carries result right
         ≡ (carries undecided right && decides right view.now token.old.holder.entries ask.now ace.now) }
     ensures asks { Asks token.old token.new 1 }

@@ -6,12 +6,12 @@ ghost use Rattle.sd_token.specs.Token.{Asks, meets};
 ghost use Rattle.sd_check.specs.Applies.{owner_rights, principal_self, some_meets};
 
 use sd_sid::Sid;
-use sd_token::Token;
+use sd_token::LentToken;
 
 /// Whether an entry of the token meets the SID. Entries are looked at up to the first that does.
 // Not inlined, so the loop gets enough registers.
 #[inline(never)]
-pub fn meets_any(token: &mut Token, sid: &Sid, deny: bool) -> bool
+pub fn meets_any(token: &mut LentToken, sid: &Sid, deny: bool) -> bool
     ensures value { result ≡ meets sid.now deny token.old.holder.entries }
     ensures asks { Asks token.old token.new 1 }
 {
@@ -26,7 +26,7 @@ pub fn meets_any(token: &mut Token, sid: &Sid, deny: bool) -> bool
 }
 
 /// The same for a SID that may be missing; without one, nothing is compared.
-pub fn some_meets(token: &mut Token, sid: Option<Sid>, deny: bool) -> bool
+pub fn some_meets(token: &mut LentToken, sid: Option<Sid>, deny: bool) -> bool
     ensures value { result ≡ some_meets sid deny token.old.holder.entries }
     ensures asks { Asks token.old token.new 1 }
 {

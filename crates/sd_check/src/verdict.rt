@@ -14,7 +14,7 @@ use crate::grants::given;
 use crate::label::permitted;
 use crate::scan::scan;
 use sd_rights::{ACCESS_SYSTEM_SECURITY, mask_if};
-use sd_token::Token;
+use sd_token::{LentToken, Token};
 use sd_view::SdView;
 
 /// What a check answers.
@@ -43,6 +43,23 @@ pub fn check(view: &SdView, token: &mut Token, ask: &Ask) -> Verdict
         ≤ token.old.compared + need view.now token.old.holder.entries ask.now * length token.old.holder.entries }
     ensures bound { Compares token.old token.new (check_bound view.now (length token.old.holder.entries)) }
 {
+    let mut lent = token.lend();
+    let verdict = check_lent(view, &mut lent, ask);
+    let looks = lent.end();
+    token.take_back(looks);
+    verdict
+}
+
+/// The same for a token that is lent, such as one in memory that several checks share.
+pub fn check_lent(view: &SdView, token: &mut LentToken, ask: &Ask) -> Verdict
+    ensures verdict { result ≡ verdict view.now token.old.holder ask.now }
+    // Each entry is compared at most once with the owner, and at most once for each ACE that is needed.
+    ensures asks { Asks token.old token.new (need view.now token.old.holder.entries ask.now + 1) }
+    // Where it does not matter who the owner is, no entry is compared with it.
+    ensures spared { owner_matters view.now ask.now ≡ false → token.new.compared
+        ≤ token.old.compared + need view.now token.old.holder.entries ask.now * length token.old.holder.entries }
+    ensures bound { Compares token.old token.new (check_bound view.now (length token.old.holder.entries)) }
+{
     let granted = granted(view, token, ask);
     let missing = ask.wanted() & !granted;
     if missing != 0 {
@@ -56,7 +73,7 @@ pub fn check(view: &SdView, token: &mut Token, ask: &Ask) -> Verdict
 }
 
 // A mask that has those rights in question that are granted.
-fn granted(view: &SdView, token: &mut Token, ask: &Ask) -> u32
+fn granted(view: &SdView, token: &mut LentToken, ask: &Ask) -> u32
     ensures rights { HasGranted view.now token.old.holder ask.now result }
     ensures asks { Asks token.old token.new (need view.now token.old.holder.entries ask.now + 1) }
     ensures spared { owner_matters view.now ask.now ≡ false → token.new.compared

@@ -2,13 +2,13 @@
 use Rattle.std.proofs.Common.{◌≡◌, ◌++◌, ℕ, inl, inr, List, Option, None, Some, Result, Ok, Err, sym, subst, true}
 use Rattle.std.specs.Io.KnownBytes.{Appends, Keeps}
 use Rattle.clap.specs.Words.{Text, takes}
-use Rattle.sd_command.specs.CommandLine.{line}
+use Rattle.sd_command_line.specs.CommandLine.{line}
 use Rattle.sd_sink.specs.Sink.{Puts}
 use Rattle.sd_sink.specs.declared.sink.SinkFault.{SinkFault}
 use Rattle.sd_run.specs.Told.{DrainTold, sink_of}
 use Rattle.sd_command.specs.Endings.{Told, EndsBy, EndsTaken, EndsSettled, EndsRun, Grows, settled}
 use Rattle.sd_command.specs.Preparing.{EndsPrepared, PreparesBy, StopsTaken, settled as of}
-use Rattle.sd_command.specs.declared.parse.Refusal.TheVariants.{Help, NoMemory, Usage}
+use Rattle.sd_command_line.specs.declared.parse.Refusal.TheVariants.{Help, NoMemory, Usage}
 use Rattle.sd_command.specs.declared.program.Stop.{Stop}
 use Rattle.sd_command.specs.declared.program.Stop.TheVariants as stop
 use Rattle.sd_command.specs.Settings.{Settings}

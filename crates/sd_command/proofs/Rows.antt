@@ -13,12 +13,12 @@ use Rattle.sd_answer.specs.declared.job.Act.TheVariants.{Convert, Derive, Explai
 use Rattle.sd_answer.specs.declared.job.Form.TheVariants.{Base64, Hex, Sddl}
 use Rattle.sd_answer.specs.declared.job.Job.{Job}
 use Rattle.sd_answer.specs.declared.job.OutputForm.TheVariants as output
-use Rattle.sd_command.specs.declared.options.OptionName.TheVariants as name
+use Rattle.sd_command_line.specs.declared.options.OptionName.TheVariants as name
 use Rattle.sd_command.specs.declared.settings.UsageFault.TheVariants.{NoCommand, Unasked, Value}
 use Rattle.sd_command.specs.declared.settings.CommandName.TheVariants as command
 use Rattle.sd_run.specs.declared.engine.RunFault.TheVariants.{Read, TooManyReads, Write}
-use Rattle.sd_command.specs.CommandLine.{bare_line, check_line, convert_line, derive_line, explain_line, line}
-use Rattle.sd_command.specs.CommandLine.{option_text}
+use Rattle.sd_command_line.specs.CommandLine.{bare_line, check_line, convert_line, derive_line, explain_line, line}
+use Rattle.sd_command_line.specs.CommandLine.{option_text}
 use Rattle.sd_command.specs.Endings.{run_line, status_of}
 use Rattle.sd_command.specs.Settings.{command_reads, form_reads, level_reads, mapping_reads, target_reads}
 use Rattle.sd_command.specs.TokenText.{entries_read}

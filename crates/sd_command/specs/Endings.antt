@@ -8,10 +8,11 @@ use Rattle.sd_sink.specs.Sink.{PutAll, PutSome}
 use Rattle.sd_token.specs.Token.{TokenShown}
 use Rattle.sd_run.specs.Told.{SourceTold, DrainTold, sink_of}
 use Rattle.sd_run.specs.Outcome.{Outcome}
-use Rattle.sd_command.specs.CommandLine.{line}
-use Rattle.sd_command.specs.Refusing.{is_mistake}
+use Rattle.sd_command_line.specs.CommandLine.{line}
+use Rattle.sd_command_line.specs.Refusing.{is_mistake}
 use Rattle.sd_command.specs.Settings.{Settings, settings_of}
-use Rattle.sd_command.specs.Usage.{fault_line, usage_line}
+use Rattle.sd_command.specs.Usage.{usage_line}
+use Rattle.sd_command_line.specs.FaultLines.{fault_line}
 use Rattle.sd_command.specs.declared.settings.UsageFault.{UsageFault}
 use Rattle.sd_run.specs.declared.engine.Report.{Report}
 use Rattle.sd_run.specs.declared.engine.RunFault.{RunFault}

@@ -1,8 +1,6 @@
-pub mod CommandLine
 pub mod Endings
 pub mod Inner
 pub mod Preparing
-pub mod Refusing
 pub mod Settings
 pub mod TokenText
 pub mod Usage

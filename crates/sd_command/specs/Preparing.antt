@@ -1,12 +1,12 @@
 -- What stands before the first read: what is prepared for a run, or why nothing is read.
 use Rattle.std.specs.Prelude.{◌≡◌, ℕ, List, [], Result, Ok, Err}
 use Rattle.clap.specs.Words.{Text, fault_of}
-use Rattle.sd_command.specs.CommandLine.{line}
-use Rattle.sd_command.specs.Refusing.{RefusedBy}
+use Rattle.sd_command_line.specs.CommandLine.{line}
+use Rattle.sd_command_line.specs.Refusing.{RefusedBy}
 use Rattle.sd_command.specs.Settings.{Settings, settings_of}
 use Rattle.sd_command.specs.Usage.{usage_line}
 use Rattle.sd_command.specs.Endings.{Told, EndsIdle, EndsRefused, EndsRun, EndsWithHelp, EndsWithoutMemory}
-use Rattle.sd_command.specs.declared.parse.Refusal.TheVariants.{NoMemory, Usage, Help}
+use Rattle.sd_command_line.specs.declared.parse.Refusal.TheVariants.{NoMemory, Usage, Help}
 use Rattle.sd_command.specs.declared.program.Prepared.{Prepared}
 use Rattle.sd_command.specs.declared.program.Stop.{Stop}
 use Rattle.sd_command.specs.declared.program.Stop.TheVariants as stop

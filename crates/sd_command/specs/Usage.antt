@@ -3,18 +3,9 @@ use Rattle.std.specs.Prelude.{◌++◌, codes}
 use Rattle.clap.specs.Words.{Text}
 use Rattle.sd_check.specs.declared.ask.AskFault.{AskFault}
 use Rattle.sd_check.specs.declared.ask.AskFault.TheVariants.{EmptyRequest, ReservedBits}
-use Rattle.sd_command.specs.CommandLine.{option_text}
-use Rattle.sd_command.specs.declared.options.OptionName.{OptionName}
+use Rattle.sd_command_line.specs.FaultLines.{fault_line, value_line}
 use Rattle.sd_command.specs.declared.settings.UsageFault.{UsageFault}
 use Rattle.sd_command.specs.declared.settings.UsageFault.TheVariants.{NoCommand, Unasked, Value}
-
--- a line on the fault stream
-abbrev pub fault_line : Text → Text
-fault_line text = codes "sdtool: " ++ text ++ codes "\n"
-
--- the value of an option does not read
-abbrev pub value_line : OptionName → Text
-value_line option = fault_line (codes "usage: --" ++ option_text option)
 
 abbrev pub ask_text : AskFault → Text
 ask_text EmptyRequest = codes "50 empty-request"

@@ -2,19 +2,19 @@
 ghost use Rattle.std.specs.Prelude.{◌≡◌, Err, IfOk, MatchResult, Ok, true, map, codes};
 ghost use Rattle.std.specs.String.{string_bytes};
 ghost use Rattle.clap.specs.Words.{subcommand_rows_of, takes};
-ghost use Rattle.sd_command.specs.CommandLine.{line};
+ghost use Rattle.sd_command_line.specs.CommandLine.{line};
 ghost use Rattle.sd_command.specs.Endings as ends;
 ghost use Rattle.sd_command.specs.Preparing as steps;
 ghost use Rattle.sd_command.specs.Settings.{nobody, settings};
-ghost use Rattle.sd_command.specs.Usage.{fault_line};
-ghost use Rattle.sd_command.specs.declared.parse.Refusal.TheVariants as refusal;
+ghost use Rattle.sd_command_line.specs.FaultLines.{fault_line};
+ghost use Rattle.sd_command_line.specs.declared.parse.Refusal.TheVariants as refusal;
 ghost use Rattle.sd_command.specs.declared.program.Stop.TheVariants.{Refused};
 
 use crate::derive_settings::give_creator;
-use crate::parse::{Refusal, parse_words};
 use crate::settings::{UsageFault, choose};
 use clap::ArgMatches;
 use sd_buffer::{SdBuf, TextBuf};
+use sd_command_line::{Refusal, parse_words};
 use sd_run::{Drain, Engine, RunFault, Source, run, write_whole};
 use sd_sink::NoMemory;
 use sd_token::Token;
@@ -55,7 +55,7 @@ pub struct Prepared {
 
 // The memory of a run, before it is known what is asked.
 #[derive(Drop)]
-pub struct Memory {
+struct Memory {
     token: Token,
     read: SdBuf,
     written: SdBuf,

@@ -4,17 +4,14 @@
 //! Does the generic right `GA` of Administrators let them change a file's DACL?
 //!
 //! ```
-//! use sd_core::{Mapping, Sid, carries, rights_from_text};
+//! use sd_core::{Mapping, Sid, WRITE_DAC, has_right, rights_from_text};
 //! use std::io;
-//!
-//! /// The number of the right WRITE_DAC (MS-DTYP 2.4.3).
-//! const WRITE_DAC: u32 = 18;
 //!
 //! fn main(rt: HostRuntime) -> io::Result<()> {
 //!     match (Sid::from_text(b"BA", None), rights_from_text(b"GA")) {
 //!         (Ok(sid), Some(rights)) => {
 //!             let mask = Mapping::FILE.map(rights);
-//!             let may = carries(mask, WRITE_DAC);
+//!             let may = has_right(mask, WRITE_DAC);
 //!             println!(rt; "{} {:?}: {mask:#x} {may}", sid.authority(), sid.subs())
 //!         }
 //!         (sid, rights) => println!(rt; "{sid:?} {rights:?}"),
@@ -35,8 +32,15 @@
 pub use sd_ace::{
     Ace, GUID_TEXT_SIZE, UNUSED_FLAG, guid_bytes, guid_from_text, guid_read, print_guid, put_guid,
 };
-pub use sd_kinds::{AceKind, flags_from_text, print_flags, put_flags};
-pub use sd_rights::{Mapping, carries, print_rights, put_rights, rights_from_text};
+pub use sd_kinds::{
+    AceKind, CONTAINER_INHERIT, FAILED_ACCESS, INHERIT_ONLY, INHERITED, NO_PROPAGATE,
+    OBJECT_INHERIT, SUCCESSFUL_ACCESS, flags_from_text, has_flag, print_flags, put_flags,
+};
+pub use sd_rights::{
+    ACCESS_SYSTEM_SECURITY, DELETE, GENERIC_ALL, GENERIC_EXECUTE, GENERIC_READ, GENERIC_WRITE,
+    MAXIMUM_ALLOWED, Mapping, READ_CONTROL, SYNCHRONIZE, WRITE_DAC, WRITE_OWNER, has_right,
+    print_rights, put_rights, rights_from_text,
+};
 pub use sd_sid::{Naming, Sid, SidFault};
 pub use sd_sink::{Gather, NoMemory, Print, Printer, Sink, SinkFault};
 pub use sd_text::{print_decimal, print_hex};

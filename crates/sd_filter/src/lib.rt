@@ -37,7 +37,7 @@
 //! ```
 //!
 //! This crate re-exports the crates below it: `sd_answer`, the answer to a line, `sd_run`, the run over lines, and
-//! `sd_command`, the command line and the program.
+//! `sd_command`, the program.
 #![tactic(auto)]
 
 pub use sd_answer::{Act, Form, Job, LineFault, OutputForm, put_fault};

@@ -1,13 +1,40 @@
-//! Access rights by name (MS-DTYP 2.4.3).
+//! Access rights by name (MS-DTYP 2.4.3), each as a mask of one bit.
 
-/// The masks of single rights.
+ghost use Rattle.std.specs.Prelude.{◌≡◌, ◌<◌};
+ghost use Rattle.sd_text.specs.Bits.{has_bit};
+
+pub const DELETE: u32 = 0x1_0000;
+
 pub const READ_CONTROL: u32 = 0x2_0000;
 
 pub const WRITE_DAC: u32 = 0x4_0000;
 
 pub const WRITE_OWNER: u32 = 0x8_0000;
 
+pub const SYNCHRONIZE: u32 = 0x10_0000;
+
+/// The last right.
 pub const ACCESS_SYSTEM_SECURITY: u32 = 0x100_0000;
+
+/// It asks for rights and is none.
+pub const MAXIMUM_ALLOWED: u32 = 0x200_0000;
+
+/// No right either, as the next.
+pub const FIRST_RESERVED: u32 = 0x400_0000;
+
+pub const SECOND_RESERVED: u32 = 0x800_0000;
+
+/// The generic rights, which mean others.
+pub const GENERIC_ALL: u32 = 0x1000_0000;
+
+pub const GENERIC_EXECUTE: u32 = 0x2000_0000;
+
+pub const GENERIC_WRITE: u32 = 0x4000_0000;
+
+pub const GENERIC_READ: u32 = 0x8000_0000;
+
+/// All four generic rights.
+pub const GENERIC_RIGHTS: u32 = 0xf000_0000;
 
 /// The rights below ACCESS_SYSTEM_SECURITY.
 pub const BELOW_SYSTEM_SECURITY: u32 = 0xff_ffff;
@@ -15,21 +42,11 @@ pub const BELOW_SYSTEM_SECURITY: u32 = 0xff_ffff;
 /// Each right, 0 to 24.
 pub const ALL_RIGHTS: u32 = 0x1ff_ffff;
 
-/// The generic rights.
-pub const GENERIC_RIGHTS: u32 = 0xf000_0000;
-
-/// The places of the bits that are no rights: MAXIMUM_ALLOWED and the two reserved ones.
-pub const MAXIMUM_ALLOWED: u32 = 25;
-
-pub const FIRST_RESERVED: u32 = 26;
-
-pub const SECOND_RESERVED: u32 = 27;
-
-/// The places of the generic rights.
-pub const GENERIC_ALL: u32 = 28;
-
-pub const GENERIC_EXECUTE: u32 = 29;
-
-pub const GENERIC_WRITE: u32 = 30;
-
-pub const GENERIC_READ: u32 = 31;
+/// Whether a mask has a right, whose own mask is one bit.
+#[inline(always)]
+pub fn has_right(mask: u32, right: u32) -> bool
+    requires { 0 < right }
+    ensures { result ≡ has_bit right mask }
+{
+    mask / right % 2 == 1
+}

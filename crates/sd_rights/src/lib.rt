@@ -8,9 +8,10 @@ mod rights_reading;
 mod rights_table;
 
 pub use access_rights::{
-    ACCESS_SYSTEM_SECURITY, ALL_RIGHTS, BELOW_SYSTEM_SECURITY, FIRST_RESERVED, GENERIC_RIGHTS,
-    MAXIMUM_ALLOWED, READ_CONTROL, SECOND_RESERVED, WRITE_DAC, WRITE_OWNER,
+    ACCESS_SYSTEM_SECURITY, ALL_RIGHTS, BELOW_SYSTEM_SECURITY, DELETE, FIRST_RESERVED, GENERIC_ALL,
+    GENERIC_EXECUTE, GENERIC_READ, GENERIC_RIGHTS, GENERIC_WRITE, MAXIMUM_ALLOWED, READ_CONTROL,
+    SECOND_RESERVED, SYNCHRONIZE, WRITE_DAC, WRITE_OWNER, has_right,
 };
-pub use mapping::{Mapping, carries, mask_if};
+pub use mapping::{Mapping, mask_if};
 pub use rights::{is_label, print_rights, put_rights};
 pub use rights_reading::rights_from_text;

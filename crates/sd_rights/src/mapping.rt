@@ -1,10 +1,10 @@
 //! What the generic rights of a mask mean (MS-DTYP 2.4.3).
 
 ghost use Rattle.std.specs.Prelude.{◌≡◌, ◌≤◌, ◌<◌, ◌^◌};
-ghost use Rattle.sd_rights.specs.Mapping.{IsMapping, carries, mapped, mask_if};
+ghost use Rattle.sd_rights.specs.Mapping.{IsMapping, mapped, mask_if};
 ghost use Rattle.sd_rights.specs.MappingValues.{MappingValues};
 
-use crate::access_rights::{GENERIC_ALL, GENERIC_EXECUTE, GENERIC_READ, GENERIC_WRITE};
+use crate::access_rights::{GENERIC_ALL, GENERIC_EXECUTE, GENERIC_READ, GENERIC_WRITE, has_right};
 use std::marker::Model;
 
 // What the generic rights mean for files and folders.
@@ -121,20 +121,12 @@ impl Mapping {
         // The three mappings have the values that MappingValues writes out.
         ensures values { MappingValues }
     {
-        let all = mask_if(carries(mask, GENERIC_ALL), self.all);
-        let execute = mask_if(carries(mask, GENERIC_EXECUTE), self.execute);
-        let write = mask_if(carries(mask, GENERIC_WRITE), self.write);
-        let read = mask_if(carries(mask, GENERIC_READ), self.read);
-        mask % (1 << GENERIC_ALL) | all | execute | write | read
+        let all = mask_if(has_right(mask, GENERIC_ALL), self.all);
+        let execute = mask_if(has_right(mask, GENERIC_EXECUTE), self.execute);
+        let write = mask_if(has_right(mask, GENERIC_WRITE), self.write);
+        let read = mask_if(has_right(mask, GENERIC_READ), self.read);
+        mask % GENERIC_ALL | all | execute | write | read
     }
-}
-
-/// Whether a mask has the right of a number.
-pub fn carries(mask: u32, right: u32) -> bool
-    requires { right < 32 }
-    ensures { result ≡ carries mask right }
-{
-    (mask >> right) % 2 == 1
 }
 
 /// The mask if it is carried, else no right.

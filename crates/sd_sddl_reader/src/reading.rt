@@ -286,8 +286,9 @@ impl FieldReader {
             (λ rest. EndsAce self.old buf.old ace text.now self.new buf.new rest.now) }
         ensures domain { self.new.domain ≡ self.old.domain }
     {
-        match Sid::front_text(text, self.domain.as_ref()) {
-            (Ok(sid), size) => {
+        let mut sid = Sid::blank();
+        match Sid::read_front(text, self.domain.as_ref(), &mut sid) {
+            (Ok(()), size) => {
                 let after = behind(text, size)?;
                 self.ace = ace;
                 self.put_ace(buf, &sid);
@@ -326,10 +327,9 @@ impl FieldReader {
         }
         let f = self.ace;
         // Each field was read as one of an ACE.
-        if let Some(ace) = Ace::new(f.kind, f.flags, f.mask, f.object, f.inherited, *sid) {
-            if let Err(_) = self.builder.ace(buf, &ace) {
-                self.large = self.open_acl;
-            }
+        let ace = Ace::new(f.kind, f.flags, f.mask, f.object, f.inherited, *sid).unwrap();
+        if let Err(_) = self.builder.ace(buf, &ace) {
+            self.large = self.open_acl;
         }
     }
 

@@ -65,7 +65,7 @@ impl Sid {
     }
 
     /// A SID of authority 0 and without sub-authorities, to be filled in.
-    pub(crate) fn blank() -> Sid
+    pub fn blank() -> Sid
         ensures { result ≡ record { authority = 0; subs = [] } }
     {
         Sid {

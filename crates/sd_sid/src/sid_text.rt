@@ -1,6 +1,6 @@
 //! The texts of SIDs (MS-DTYP 2.4.2.1).
 ghost use Rattle.std.specs.Prelude.{◌≡◌, false, true, ◌+◌, ◌*◌, ◌<◌, ◌≤◌, ◌^◌, [], ◌∷◌, length, take, drop};
-ghost use Rattle.std.specs.Prelude.{slice_index, nat_lt, if◌then◌else◌, IfSome, MatchOption, Option, None, Ok, Err};
+ghost use Rattle.std.specs.Prelude.{slice_index, nat_lt, if◌then◌else◌, IfSome, MatchOption, MatchResult, Option, None, Ok, Err};
 ghost use Rattle.std.specs.Char.{is_digit};
 ghost use Rattle.std.specs.List.{flat_map, list_all};
 ghost use Rattle.std.specs.Option.{option_copied, option_map};
@@ -88,22 +88,24 @@ impl Sid {
         }
     }
 
-    /// Reads the SID at the front of a text, as `from_text` does, and returns it with its length. For `S-1-5-32-544)`
-    /// that is the SID of `BA`, and 12.
-    #[tactic(auto, unfolding(crate::specs::SidText::sid_reads))]
+    /// Reads the SID at the front of a text, as `from_text` does, into one that is blank, and returns the text's length.
+    /// For `S-1-5-32-544)` that is the SID of `BA`, and 12.
     #[inline(always)]
-    pub fn front_text(text: &[u8], domain: Option<&Sid>) -> (Result<Sid, SidFault>, usize)
-        ensures exact { result.0 ≡ sid_reads (sid_front text.now) (option_copied domain.entry) }
+    pub fn read_front(
+        text: &[u8],
+        domain: Option<&Sid>,
+        sid: &mut Sid,
+    ) -> (Result<(), SidFault>, usize)
+        requires { sid.old.subs ≡ [] }
+        ensures exact { MatchResult result.0
+            (λ _. sid_reads (sid_front text.now) (option_copied domain.entry) ≡ Ok sid.new)
+            (λ fault. sid_reads (sid_front text.now) (option_copied domain.entry) ≡ Err fault) }
         ensures size { result.1 ≡ length (sid_front text.now) }
         // What was read, and where the rest begins.
         ensures front { take result.1 text.now ≡ sid_front text.now }
         ensures within { result.1 ≤ length text.now }
     {
-        let mut sid = Sid::blank();
-        match read_front(text, domain, &mut sid) {
-            (Ok(()), size) => (Ok(sid), size),
-            (Err(fault), size) => (Err(fault), size),
-        }
+        read_front(text, domain, sid)
     }
 }
 

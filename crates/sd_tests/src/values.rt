@@ -1,6 +1,6 @@
 //! SIDs, ACEs and masks as values. The texts of SIDs and their aliases stand in `tests/rows/` and `tests/tables.py`.
 
-use sd_core::{Ace, AceKind, Mapping, Sid, carries};
+use sd_core::{Ace, AceKind, Mapping, Sid, has_right};
 use uuid::Uuid;
 
 // The SIDs and their bytes are those of MS-DTYP 2.4.2.4 and of well-known Windows accounts.
@@ -55,8 +55,10 @@ fn maps_generic_rights_alone(rt: HostRuntime) {
         let generic = mapping.read() | mapping.write() | mapping.execute() | mapping.all();
         assert!(rt; mapping.map(0xffffffff) == 0xfffffff | generic);
     }
-    for right in 0..32 {
-        assert!(rt; carries(1 << right, right));
-        assert!(rt; !carries(!(1 << right), right));
+    for place in 0u32..32 {
+        let right: u32 = 1 << place;
+        assert!(rt; right > 0);
+        assert!(rt; has_right(right, right));
+        assert!(rt; !has_right(!right, right));
     }
 }

@@ -1,4 +1,5 @@
 pub mod DigitLemmas
+pub mod EightDigits
 pub mod FrontDigits
 pub mod NumberLemmas
 mod Rows

@@ -1,7 +1,8 @@
 //! The numbers that digits write, in rights and in SIDs.
 
-ghost use Rattle.std.specs.Prelude.{◌≡◌, ◌<◌, ◌≤◌, ◌^◌, length, take, true, IfSome, Some};
+ghost use Rattle.std.specs.Prelude.{◌≡◌, ◌<◌, ◌≤◌, ◌+◌, ◌*◌, ◌/◌, ◌%◌, ◌^◌, length, take, true, IfSome, Some};
 ghost use Rattle.std.specs.Char.{is_digit};
+ghost use Rattle.std.specs.Int.{from_le_bytes, w64};
 ghost use Rattle.std.specs.List.{list_all};
 ghost use Rattle.sd_text.specs.LimitValues.{LimitValues};
 ghost use Rattle.sd_text.specs.Numbers.{number, number_after};
@@ -15,6 +16,9 @@ const NINE: u64 = b'9' as u64;
 
 /// The digits that are read at once, if there are as many.
 const BLOCK: usize = 8;
+
+/// The digit zero in each byte of a block.
+const ZEROS: u64 = 0x3030_3030_3030_3030;
 
 /// The number that the text writes, if each byte is a digit and the number is below the limit. No digits write 0.
 #[tactic(auto, unfolding(crate::specs::LimitValues::LimitValues))]
@@ -70,7 +74,8 @@ fn are_digits(text: &[u8]) -> bool
     !other
 }
 
-// The number that a block of digits writes.
+// The number that a block of digits writes: that of each two digits, and then of four and of all, each step for the
+// whole block at once.
 #[inline(always)]
 fn block_number(block: &[u8]) -> u64
     requires size { length block.now ≡ 8 }
@@ -78,11 +83,30 @@ fn block_number(block: &[u8]) -> u64
     ensures number { number_after 10 0 block.now ≡ Some result }
     ensures small { result < 10 ^ 8 }
 {
-    let mut number: u64 = 0;
-    for byte in block {
-        number = number * 10 + (u64::from(*byte) - ZERO);
-    }
-    number
+    let digits = block_word(block) - ZEROS;
+    let pairs = digits * 10 + digits / 256;
+    let first = outer_bytes(pairs).wrapping_mul(100 + (1_000_000 << 32));
+    let second = outer_bytes(pairs / 65_536).wrapping_mul(1 + (10_000 << 32));
+    first.wrapping_add(second) / (1 << 32)
+}
+
+// The bytes of a block, the first of them lowest.
+#[inline(always)]
+fn block_word(block: &[u8]) -> u64
+    requires { length block.now ≡ 8 }
+    ensures { result ≡ from_le_bytes w64 block.now }
+{
+    u64::from_le_bytes([
+        block[0], block[1], block[2], block[3], block[4], block[5], block[6], block[7],
+    ])
+}
+
+// The lowest byte of each half of a word.
+#[inline(always)]
+fn outer_bytes(word: u64) -> u64
+    ensures { result ≡ word / 2 ^ 32 % 256 * 2 ^ 32 + word % 256 }
+{
+    word / (1 << 32) % 256 * (1 << 32) + word % 256
 }
 
 // The number that the digits at the front write behind those of another, and how many these are.

@@ -1,9 +1,10 @@
 -- Whom a token meets, and how many entries it has at most.
-use Rattle.std.proofs.Common.{◌≡◌, ℕ, [], ◌∷◌, None, true, false, refl, arith}
+use Rattle.std.proofs.Common.{◌≡◌, ℕ, List, [], ◌∷◌, None, true, false, refl, arith}
 use Rattle.sd_text.specs.Limits.{most_entries}
 use Rattle.sd_text.specs.declared.limits.TheConstants.{MOST_ENTRIES}
 use Rattle.sd_sid.specs.Sid.{SecurityId}
 use Rattle.sd_token.specs.Token.{Asks, Compares, TokenShown, meets}
+use Rattle.sd_token.specs.TokenWords.{entries_of, entry_of, nobody, sid_key}
 use Rattle.sd_token.specs.declared.token.EntryKind.TheVariants.{Enabled, DenyOnly}
 
 everyone : SecurityId
@@ -74,3 +75,27 @@ twice = record { holder = refl; compared = record { goes_on = omega arith; at_mo
 more_than_twice : Asks (shown 0) (shown 5) 2 → ⊥
 unfolding shown
 more_than_twice h = let more = h.compared.at_most in omega arith
+
+-- An entry as numbers: S-1-5-32-544, deny-only. The count 2 is in the upper four bits of its key.
+administrators_words : List ℕ
+administrators_words = 0 ∷ 5 ∷ 2 ∷ 1 ∷ 32 ∷ 544 ∷ 0 ∷ 0 ∷ 0 ∷ 0 ∷ 0 ∷ 0 ∷ 0 ∷ 0 ∷ 0 ∷ 0 ∷ 0 ∷ 0 ∷ 0 ∷ []
+
+as_numbers : (entry_of administrators_words ≡ (administrators, DenyOnly)) × (sid_key administrators ≡ 0x2000_0220)
+unfolding administrators administrators_words
+as_numbers = (refl, refl)
+
+-- the upper part of an authority: S-1-0x100000005, without sub-authorities
+upper_authority : entry_of (1 ∷ 5 ∷ 0 ∷ 0 ∷ []) ≡ (record { authority = 0x1_0000_0005; subs = [] }, Enabled)
+upper_authority = refl
+
+with_its_key : entries_of (0x2000_0220 ∷ []) administrators_words ≡ (administrators, DenyOnly) ∷ []
+unfolding administrators administrators_words
+with_its_key = refl
+
+-- With another key the entry meets nobody.
+with_another_key : entries_of (0x2000_0221 ∷ []) administrators_words ≡ nobody ∷ []
+unfolding administrators_words
+with_another_key = refl
+
+no_key : entries_of [] administrators_words ≡ []
+no_key = refl

@@ -1,6 +1,10 @@
 //! Tokens (MS-DTYP 2.5.2): the SIDs of whoever asks for access.
 #![tactic(auto)]
 
+mod lent;
 mod token;
+mod words;
 
+pub use lent::{LentToken, Looks};
 pub use token::{EntryKind, Token, TokenFull};
+pub use words::{ENTRY_WORDS, key_of, words_of};

@@ -4,10 +4,10 @@ ghost use Rattle.std.specs.Prelude.{◌≡◌, ◌≤◌, ◌<◌, ◌↔◌, �
 ghost use Rattle.std.specs.Prelude.{IsErr};
 ghost use Rattle.sd_sink.specs.Counts.{counted};
 ghost use Rattle.sd_text.specs.Limits.{most_entries};
-ghost use Rattle.sd_sid.specs.SidText.{same_sid};
-ghost use Rattle.sd_token.specs.Token.{entry_meets, is_enabled};
-ghost use Rattle.sd_token.specs.Inner.TokenKeys.{sid_key};
+ghost use Rattle.sd_token.specs.Token.{entry_meets};
 
+use crate::lent::{LentToken, Looks};
+use crate::words::{ENTRY_WORDS, key_of, words_of};
 use sd_sid::Sid;
 use sd_sink::NoMemory;
 use sd_text::MOST_ENTRIES;
@@ -33,29 +33,30 @@ pub enum EntryKind {
 /// A token counts every look at one of its entries. It is not cloned, so no look goes uncounted.
 #[derive(Drop)]
 pub struct Token {
-    entries: Vec<(Sid, EntryKind)>,
-    // The key of each entry's SID, so that most looks at an entry read these eight bytes and no more.
-    keys: Vec<u64>,
+    // A key for each entry, and 19 numbers for each.
+    keys: Vec<u32>,
+    words: Vec<u32>,
     compared: u64,
     level: Option<u32>,
 }
 
 impl Model for Token {
-    ghost use Rattle.std.specs.Prelude.{◌≡◌, ◌≤◌, vec_capacity, vec_len};
+    ghost use Rattle.std.specs.Prelude.{◌≡◌, ◌≤◌, ◌*◌, vec_capacity, vec_len};
     ghost use Rattle.sd_text.specs.Limits.{most_entries};
     ghost use Rattle.sd_token.specs.Token.{TokenShown};
-    ghost use Rattle.sd_token.specs.Inner.TokenKeys.{keys_of};
+    ghost use Rattle.sd_token.specs.TokenWords.{entries_of, entry_words};
 
     ghost Value = { TokenShown };
 
     ghost view = { λ t. record {
-      holder = record { entries = t.entries.items; level = t.level };
+      holder = record { entries = entries_of t.keys.items t.words.items; level = t.level };
       compared = t.compared;
-      room = vec_capacity t.entries;
+      room = vec_capacity t.keys;
     } };
 
-    ghost invariant = { λ t. (most_entries ≤ vec_capacity t.entries) × (most_entries ≤ vec_capacity t.keys)
-        × (vec_len t.entries ≤ most_entries) × (t.keys.items ≡ keys_of t.entries.items) };
+    ghost invariant = { λ t. (most_entries ≤ vec_capacity t.keys)
+        × (entry_words * most_entries ≤ vec_capacity t.words) × (vec_len t.keys ≤ most_entries)
+        × (vec_len t.words ≡ entry_words * vec_len t.keys) };
 }
 
 impl Token {
@@ -65,12 +66,12 @@ impl Token {
         ensures compared { IfOk result (λ t. t.compared ≡ 0) }
         ensures reserved { IfOk result (λ t. most_entries ≤ t.room) }
     {
-        let entries = Vec::with_capacity(alloc, MOST_ENTRIES);
         let keys = Vec::with_capacity(alloc, MOST_ENTRIES);
-        match (entries, keys) {
-            (Ok(entries), Ok(keys)) => Ok(Token {
-                entries,
+        let words = Vec::with_capacity(alloc, ENTRY_WORDS * MOST_ENTRIES);
+        match (keys, words) {
+            (Ok(keys), Ok(words)) => Ok(Token {
                 keys,
+                words,
                 compared: 0,
                 level: None,
             }),
@@ -80,6 +81,7 @@ impl Token {
 
     /// Adds an entry after the others. An entry that the token has already is kept a second time.
     /// Where it has 1,024 entries, nothing changes.
+    #[tactic(auto, using(crate::proofs::TokenLemmas::as_many, crate::proofs::TokenLemmas::entries_push))]
     pub fn add(&mut self, sid: Sid, kind: EntryKind) -> Result<(), TokenFull>
         ensures full { IsErr result ↔ (most_entries ≤ length self.old.holder.entries) }
         ensures added { OnOk result
@@ -88,21 +90,26 @@ impl Token {
         ensures compared { self.new.compared ≡ self.old.compared }
         ensures room { self.old.room ≤ self.new.room }
     {
-        if self.entries.len() >= MOST_ENTRIES {
+        if self.keys.len() >= MOST_ENTRIES {
             return Err(TokenFull);
         }
-        match (self.keys.push(key_of(&sid)), self.entries.push((sid, kind))) {
+        let words = words_of(&sid, kind);
+        match (
+            self.keys.push(key_of(&sid)),
+            self.words.extend_from_slice(&words),
+        ) {
             (Ok(()), Ok(())) => Ok(()),
             _ => Err(TokenFull),
         }
     }
 
     /// The number of entries.
+    #[tactic(auto, using(crate::proofs::TokenLemmas::as_many))]
     pub fn len(&self) -> usize
         ensures entries { result ≡ length self.now.holder.entries }
         ensures most { result ≤ most_entries }
     {
-        self.entries.len()
+        self.keys.len()
     }
 
     /// Sets or clears the integrity level of the token (MS-DTYP 2.5.2). Mandatory labels limit a token with a
@@ -141,51 +148,26 @@ impl Token {
         ensures goes_on { self.old.compared ≤ self.new.compared }
         ensures room { self.new.room ≡ self.old.room }
     {
-        count(&mut self.compared);
-        if self.keys[index] != key_of(sid) {
-            return false;
-        }
-        self.is_met(index, sid, deny)
+        let mut lent = self.lend();
+        let met = lent.meets(index, sid, deny);
+        let looks = lent.end();
+        self.take_back(looks);
+        met
     }
 
-    // Compares the SIDs if the keys are equal. Not inlined: it is rare, and the loops over entries stay small.
-    #[inline(never)]
-    fn is_met(&self, index: usize, sid: &Sid, deny: bool) -> bool
-        requires { index < length self.now.holder.entries }
-        ensures { result
-            ≡ entry_meets sid.now deny (slice_index_or self.now.holder.entries index (sid.now, EntryKind.DenyOnly)) }
+    /// Lends its entries. What the lent token counts goes on from the token's count, and comes back by `take_back`.
+    pub fn lend(&self) -> LentToken<'_>
+        ensures holder { result.holder ≡ self.now.holder }
+        ensures compared { result.compared ≡ self.now.compared }
     {
-        let entry = &self.entries[index];
-        is_same(&entry.0, sid) && (is_enabled(entry.1) || deny)
+        LentToken::counting(&self.keys, &self.words, self.level, self.compared)
     }
-}
 
-// A predictable branch beats `saturating_add` here.
-fn count(looks: &mut u64)
-    ensures { looks.new ≡ counted looks.old }
-{
-    if *looks < u64::MAX {
-        *looks += 1;
+    /// Takes the count of a token that it lent.
+    pub fn take_back(&mut self, looks: Looks)
+        ensures { self.new ≡ record self.old { compared = looks.count } }
+    {
+        let compared = &mut self.compared;
+        *compared = looks.count();
     }
-}
-
-fn is_enabled(kind: EntryKind) -> bool
-    ensures { result ≡ is_enabled kind }
-{
-    matches!(kind, EntryKind::Enabled)
-}
-
-// A number in which most SIDs differ: their count of sub-authorities, and the last of these (0 where there is none).
-fn key_of(sid: &Sid) -> u64
-    ensures { result ≡ sid_key sid.now }
-{
-    let subs = sid.subs();
-    let last = subs.last().copied().unwrap_or(0);
-    ((subs.len() as u64) << 32) + u64::from(last)
-}
-
-fn is_same(a: &Sid, b: &Sid) -> bool
-    ensures { result ≡ same_sid a.now b.now }
-{
-    a.authority() == b.authority() && a.subs() == b.subs()
 }

@@ -10,3 +10,4 @@ mod many;
 mod parts;
 mod runs;
 mod sids;
+mod tokens;

@@ -3,6 +3,7 @@ import re
 from typing import Dict, List, NamedTuple, Optional, Sequence, Tuple, Union
 
 import sdtool
+from sdtool.audit.opening import AS_THEY_CAME
 from sdtool.audit.rights import GENERIC, MAPPINGS, SYSTEM_SECURITY
 
 # Kinds of ACEs whose meaning is known here; an object with another one is unknown.
@@ -10,7 +11,7 @@ ALLOWS, DENIES, OTHERS = frozenset({"A", "OA"}), frozenset({"D", "OD"}), frozens
 FLAGS = {"OI": 0x1, "CI": 0x2, "NP": 0x4, "IO": 0x8, "ID": 0x10, "SA": 0x40, "FA": 0x80}
 INHERIT_ONLY, INHERITED = 0x8, 0x10
 PROTECTED = 0x1000  # control bit of a DACL that is cut off from inheritance
-_MOST_ACES = 200_000  # that are kept, so that an ACE of many descriptors is read once
+_MOST_ACES = 50_000   # that are kept, so that an ACE of many descriptors is read once
 _BATCH = 4_000        # lines in one call
 _BATCH_CHARACTERS = 4_000_000
 _ERROR = re.compile(r"error ([0-9]+)\b")
@@ -97,7 +98,7 @@ def _run(words: Sequence[str], texts: Sequence[str]) -> str:
         # An empty line or one of blanks would be a descriptor without a DACL, which grants everything.
         if not text.strip(" \t\r\n") or "\n" in text:
             raise AnswersFault("a text is empty or has a line end")
-    data = "\n".join(texts).encode("utf-8", "surrogateescape") + b"\n"
+    data = "\n".join(texts).encode("utf-8", AS_THEY_CAME) + b"\n"
     answers = sdtool.run(list(words), data)
     if answers.status not in (0, 1):
         raise WordsFault(f"{answers.message.strip() or 'the library failed'} (of {' '.join(words)})")
@@ -177,7 +178,7 @@ def _acl(count: Optional[str], text: str) -> Tuple[Ace, ...]:
     found = _acls.get(text)
     if found is None:
         found = tuple([_ace(line.split(" ", 2)[2]) for line in text.split("\n")[:-1]])
-        if len(_acls) >= _MOST_ACES // 10:
+        if len(_acls) >= _MOST_ACES // 5:
             _acls.clear()
         _acls[text] = found
     if len(found) != int(count or 0):

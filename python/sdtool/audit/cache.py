@@ -11,7 +11,8 @@ from typing import Callable, Dict, Iterable, Iterator, List, Optional, Tuple
 from sdtool.audit.engine import Answered, Engine
 from sdtool.audit.items import UNREADABLE, Item
 from sdtool.audit.opening import OpeningFault
-from sdtool.audit.questions import NOTHING
+from sdtool.audit.questions import NOTHING, unknown
+from sdtool.audit.reporting import Report
 from sdtool.audit.scratch import restored, stored
 
 VERSION = 1
@@ -25,6 +26,7 @@ CREATE TABLE objects(id INTEGER PRIMARY KEY, name NOT NULL, source INTEGER NOT N
 """
 _BATCH = 10_000
 _MOST_KNOWN = 500_000  # descriptors whose numbers are kept in memory
+_MOST_ANSWERS = 100_000  # to descriptors
 _COLUMNS = ("objects.name, sources.name, objects.line, descriptors.form, descriptors.text, "
             "coalesce(descriptors.kind, objects.kind), objects.is_folder, objects.reason, objects.help")
 _FROM = "objects JOIN sources ON sources.id = objects.source LEFT JOIN descriptors ON descriptors.id = objects.descriptor"
@@ -154,33 +156,48 @@ def items(path: str) -> Iterator[Item]:
         yield _item(row)
 
 
-class Found:
-    """The objects of a file about which something was found or is unknown. The others are counted alone."""
+class Asked:
+    """A question that is asked of a file: once for each descriptor, whose objects then have its answer."""
 
     def __init__(self, path: str, engine: Engine) -> None:
         self._database = _opened(path)
         self._engine = engine
-        self._listed = 0
+
+    def is_small(self) -> bool:
+        """Whether the answers to all descriptors fit into memory."""
+        return self._database.execute("SELECT count(*) FROM descriptors").fetchone()[0] <= _MOST_ANSWERS
+
+    def report(self, report: Report) -> None:
+        """Reports the objects about which something was found or is unknown, as long as they are listed. The rest is counted."""
+        answers = {item.line: answer for item, answer in self._engine.answer(self._descriptors())}
+        counts = dict(self._database.execute("SELECT descriptor, count(*) FROM objects GROUP BY descriptor"))
+        listed = [number for number, answer in answers.items() if answer.status != NOTHING or answer.findings]
+        is_most = 20 * sum(counts.get(number, 0) for number in (None, *listed)) > sum(counts.values())
+
+        def answered() -> Iterator[Answered]:
+            for number, item in self._objects_of(listed, is_most):
+                if report.is_full:
+                    return
+                counts[number] -= 1
+                yield Answered(item, answers[number] if number is not None else unknown(item.text, item.help))
+
+        report.add(answered())
+        for number, count in counts.items():
+            if count:
+                report.count(answers[number] if number is not None else unknown("", ""), count)
 
     def _descriptors(self) -> Iterator[Item]:
         for number, form, text, kind in self._database.execute("SELECT id, form, text, kind FROM descriptors ORDER BY id"):
             yield Item("", "", number, form, restored(text), kind)
 
-    def answered(self) -> Iterator[Answered]:
-        """Asks about each descriptor once, then lists the objects of those with an answer."""
-        answers = {item.line: answer for item, answer in self._engine.answer(self._descriptors())
-                   if answer.status != NOTHING or answer.findings}
+    def _objects_of(self, descriptors: Iterable[int], is_most: bool) -> Iterator[Tuple[Optional[int], Item]]:
+        """The objects of descriptors and those that can't be read, in their order, each with the number of its descriptor."""
         self._database.execute("ATTACH '' AS found")
         self._database.execute("CREATE TABLE found.numbers(id INTEGER PRIMARY KEY)")
-        self._database.executemany("INSERT INTO found.numbers VALUES (?)", ((number,) for number in answers))
-        query = (f"SELECT {_COLUMNS}, objects.descriptor FROM {_FROM} WHERE objects.descriptor IN (SELECT id FROM found.numbers) "
-                 "OR objects.descriptor IS NULL ORDER BY objects.id")
-        from sdtool.audit.questions import unknown
+        self._database.executemany("INSERT INTO found.numbers VALUES (?)", ((number,) for number in descriptors))
+        # Few objects are found by the index and sorted. Of many the first come sooner without it, which is what + does.
+        column = "+objects.descriptor" if is_most else "objects.descriptor"
+        query = (f"SELECT {_COLUMNS}, objects.descriptor FROM {_FROM} WHERE {column} IN (SELECT id FROM found.numbers) "
+                 f"OR {column} IS NULL ORDER BY objects.id")
         for *row, number in self._database.execute(query):
-            self._listed += 1
-            item = _item(tuple(row))
-            yield Answered(item, answers[number] if number is not None else unknown(item.text, item.help))
-
-    def nothing(self) -> int:
-        """How many objects have no answer that was listed."""
-        return self._database.execute("SELECT count(*) FROM objects").fetchone()[0] - self._listed
+            yield number, _item(tuple(row))

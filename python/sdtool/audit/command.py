@@ -19,7 +19,7 @@ from sdtool.audit.groups import read_groups, read_names
 from sdtool.audit.inheritance import Inheritance
 from sdtool.audit.items import Item
 from sdtool.audit.names import Names
-from sdtool.audit.opening import STANDARD_INPUT, OpeningFault
+from sdtool.audit.opening import AS_THEY_CAME, STANDARD_INPUT, OpeningFault
 from sdtool.audit.options import DEFAULT_ATTRIBUTES, SourceOptions
 from sdtool.audit.questions import Can, Question, Rule, Who
 from sdtool.audit.reporting import Report, Tables, split
@@ -28,18 +28,6 @@ from sdtool.audit.tokens import read_token
 
 FOUND_NOTHING, FOUND_SOME, WRONG_WORDS, SOME_UNKNOWN = range(4)
 _FAULTS = (OpeningFault, WordsFault, rights.RightsFault)
-
-
-def _write_surrogates(error: UnicodeError) -> Tuple[bytes, int]:
-    """Bytes that were no UTF-8 go out as they came in; lone surrogates of UTF-16 as three bytes."""
-    if not isinstance(error, UnicodeEncodeError):
-        raise error
-    spelled = b"".join(bytes([ord(one) & 0xff]) if "\udc80" <= one <= "\udcff" else one.encode("utf-8", "surrogatepass")
-                       for one in error.object[error.start:error.end])
-    return spelled, error.end  # type: ignore[return-value]
-
-
-codecs.register_error("as-they-came", _write_surrogates)  # type: ignore[arg-type]
 
 
 class Common(NamedTuple):
@@ -64,38 +52,44 @@ _SOURCE_OPTIONS = (
     click.option("--delimiter", help="Of a table: a character, or 'tab'."),
     click.option("--no-quotes", is_flag=True, help="Quotation marks in a table mean nothing."),
     click.option("--header/--no-header", default=None, help="Whether the first row of a table has titles."),
-    click.option("--name-column", help="The column or member with names: its title, or its number from 1."),
-    click.option("--descriptor-column", help="The same of the descriptors."),
-    click.option("--object-names", help="A file with the names of plain lines, as many as the list has lines."),
+    click.option("--name-column", metavar="COLUMN", help="The column or member with names: its title, or its number from 1."),
+    click.option("--descriptor-column", metavar="COLUMN", help="The same of the descriptors."),
+    click.option("--object-names", metavar="FILE", help="A file with the names of plain lines, as many as the list has lines."),
     click.option("--type", "kind", type=click.Choice(rights.KINDS), help="What the rights mean: those of files (default), "
                  "registry keys, directory objects, services or event logs."),
-    click.option("--attribute", "attributes", multiple=True, help="The extended attribute with the descriptor. Default: "
+    click.option("--attribute", "attributes", metavar="NAME", multiple=True, help="The extended attribute with the descriptor. Default: "
                  f"{' or '.join(DEFAULT_ATTRIBUTES)}."),
-    click.option("--domain", default="", help="The SID whose aliases, such as DA, are read."),
-    click.option("--sid-names", help="A file with the names of SIDs: CSV, lines of SID and name, or LDIF."),
+    click.option("--domain", metavar="SID", default="", help="The SID whose aliases, such as DA, are read."),
+    click.option("--sid-names", metavar="FILE", help="A file with the names of SIDs: CSV, lines of SID and name, or LDIF."),
 )
-_REPORT_OPTIONS = (
-    click.option("--to", type=click.Choice(tuple(outputs.OUTPUTS)), default="table", show_default=True,
-                 help="The form of the report."),
-    click.option("--out", help="The file of the report. Default: standard output."),
-    click.option("--list", "lists", type=click.Choice(["found", "all"]), help="Whether the report lists objects with nothing "
-                 "found. Default: all in csv and jsonl. Each report counts all."),
-    click.option("--most", default=outputs.TABLE_ROWS, show_default=True, help="Rows of the table; 0 for all."),
-    click.option("--into", help="A new file that keeps the objects, for the next question: name it as a source."),
-    click.option("--jobs", type=click.IntRange(1, 512), help="Processes that answer. Default: one for each processor."),
-    click.option("--no-bar", is_flag=True, help="No progress bar."),
-)
+_REPORT_OPTIONS = {
+    "to": click.option("--to", type=click.Choice(tuple(outputs.OUTPUTS)), default="table", show_default=True,
+                       help="The form of the report."),
+    "out": click.option("--out", metavar="FILE", help="The file of the report. Default: standard output."),
+    "lists": click.option("--list", "lists", type=click.Choice(["found", "all"]), help="Whether the report lists objects with "
+                          "nothing found. Default: all in csv and jsonl. Each report counts all."),
+    "most": click.option("--most", default=outputs.TABLE_ROWS, show_default=True, help="Rows of the table; 0 for all."),
+    "into": click.option("--into", metavar="FILE", help="A new file that keeps the objects, for the next question: name it as "
+                         "a source."),
+    "jobs": click.option("--jobs", type=click.IntRange(1, 512), help="Processes that answer. Default: one for each processor."),
+    "no_bar": click.option("--no-bar", is_flag=True, help="No progress bar."),
+}
+# What an option says that a command doesn't have.
+_UNSAID = {"to": "table", "lists": None, "most": outputs.TABLE_ROWS, "into": None, "jobs": None, "no_bar": True}
 
 
-def _with_common(command: Callable) -> Callable:
-    """The options of sources and reports, gathered into one argument."""
-    @functools.wraps(command)
-    def run(**words: Any) -> Any:
-        return command(_common(words), **words)
+def _with_common(*without: str) -> Callable[[Callable], Callable]:
+    """The options of sources and of reports, but for some, gathered into one argument."""
+    def decorated(command: Callable) -> Callable:
+        @functools.wraps(command)
+        def run(**words: Any) -> Any:
+            words = {**_UNSAID, **words}
+            return command(_common(words), **words)
 
-    for option in reversed(_SOURCE_OPTIONS + _REPORT_OPTIONS):
-        run = option(run)
-    return run
+        for option in reversed([*_SOURCE_OPTIONS, *(one for name, one in _REPORT_OPTIONS.items() if name not in without)]):
+            run = option(run)
+        return run
+    return decorated
 
 
 def _common(given: dict) -> Common:
@@ -146,6 +140,12 @@ def cli() -> None:
 
     An object that can't be read is in every report as unknown, with the reason.
 
+    For example, in PowerShell and then here:
+
+    \b
+    Get-ChildItem D:\\Data -Recurse | Get-Acl | Select-Object Path,Sddl | Export-Csv -Encoding UTF8 acls.csv
+    sdtool-audit who change acls.csv
+
     Exit status: 0 nothing found, 1 something found, 2 wrong words, 3 some are unknown.
     """
 
@@ -159,7 +159,7 @@ class _Output(NamedTuple):
 def _opened(out: Optional[str], inputs: Sequence[str]) -> Iterator[TextIO]:
     """Where a report goes."""
     if out is None:
-        sys.stdout.reconfigure(encoding="utf-8", errors="as-they-came", newline="\n")  # type: ignore[union-attr]
+        sys.stdout.reconfigure(encoding="utf-8", errors=AS_THEY_CAME, newline="\n")  # type: ignore[union-attr]
         yield sys.stdout
         sys.stdout.flush()
         return
@@ -167,7 +167,7 @@ def _opened(out: Optional[str], inputs: Sequence[str]) -> Iterator[TextIO]:
         if path != STANDARD_INPUT and os.path.exists(out) and os.path.exists(path) and os.path.samefile(out, path):
             raise OpeningFault(f"--out {out} is a source")
     try:
-        file = open(out, "w", encoding="utf-8", errors="as-they-came", newline="")
+        file = open(out, "w", encoding="utf-8", errors=AS_THEY_CAME, newline="")
     except OSError as error:
         raise OpeningFault(f"--out {out}: {error.strerror}") from error
     with file:
@@ -312,10 +312,11 @@ def _ask(common: Common, question: Any, title: str, paths: Sequence[str], accept
     bar = _Bar(paths, common.bar)
     try:
         with _reported(common, question.rules, title, paths, accepted) as report:
+            asked = None
             if len(paths) == 1 and sources.is_database(paths[0]) and not report.output.lists_all and not common.into:
-                found = cache.Found(paths[0], engine)
-                report.add(found.answered())
-                report.summary.add_nothing(found.nothing())
+                asked = cache.Asked(paths[0], engine)
+            if asked is not None and asked.is_small():
+                asked.report(report)
             elif common.into or engine.jobs < 2:
                 with cache.kept(common.into) as keep:
                     report.add(engine.answer(keep(bar.count(_items(paths, common.options, bar)))))
@@ -346,11 +347,11 @@ def _ask_tables(common: Common, question: Any, make_output: Callable, report: Re
         tables.close()
 
 
-@cli.command()
+@cli.command(short_help="Who gets any of the rights: RIGHT.. SOURCE..")
 @click.argument("words", nargs=-1, metavar="RIGHT.. SOURCE..")
-@click.option("--groups", help="Who is in which group: an LDIF, or lines of GROUP,MEMBER,..; groups are then expanded.")
+@click.option("--groups", metavar="FILE", help="Who is in which group: an LDIF, or lines of GROUP,MEMBER,..; groups are then expanded.")
 @click.option("--most-members", default=1000, show_default=True, help="A group with more members isn't expanded.")
-@_with_common
+@_with_common()
 def who(common: Common, words: Sequence[str], groups: Optional[str], most_members: int) -> int:
     """Who gets any of the rights: RIGHT.. SOURCE..
 
@@ -365,12 +366,12 @@ def who(common: Common, words: Sequence[str], groups: Optional[str], most_member
     return _ask(common, Who(common.question, wanted, known, most_members), f"Who gets: {wanted.words}", paths)
 
 
-@cli.command()
+@cli.command(short_help="What a user gets of the rights: TOKEN RIGHT.. SOURCE..")
 @click.argument("token")
 @click.argument("words", nargs=-1, metavar="RIGHT.. SOURCE..")
 @click.option("--level", type=click.IntRange(0, 2**32 - 1), help="The integrity level of the token, such as 8192.")
-@click.option("--self", "principal_self", default="", help="The SID that Principal Self stands for.")
-@_with_common
+@click.option("--self", "principal_self", metavar="SID", default="", help="The SID that Principal Self stands for.")
+@_with_common()
 def can(common: Common, token: str, words: Sequence[str], level: Optional[int], principal_self: str) -> int:
     """What a user gets of the rights: TOKEN RIGHT.. SOURCE..
 
@@ -401,15 +402,15 @@ def _rule_names(given: str) -> Tuple[str, ...]:
     return tuple(name for name in risks.RULE_NAMES if (name in named) != given.startswith("-"))
 
 
-@cli.command("risks")
+@cli.command("risks", short_help="What is risky: SOURCE..")
 @click.argument("given", nargs=-1, metavar="SOURCE..")
-@click.option("--trusted", multiple=True, help="SIDs that may change permissions and owners, beside System, Administrators, "
+@click.option("--trusted", metavar="SID", multiple=True, help="SIDs that may change permissions and owners, beside System, Administrators, "
               "TrustedInstaller and the administrators of a domain.")
-@click.option("--owner", "owners", multiple=True, help="SIDs that may own an object, beside the same. Without it no owner is "
+@click.option("--owner", "owners", metavar="SID", multiple=True, help="SIDs that may own an object, beside the same. Without it no owner is "
               "foreign.")
-@click.option("--rules", help="The rules to use, with commas; with '-' before the first, all but these.")
-@click.option("--accept", help="A TOML file with findings that are accepted.")
-@_with_common
+@click.option("--rules", metavar="NAME,..", help="The rules to use, with commas; with '-' before the first, all but these.")
+@click.option("--accept", metavar="FILE", help="A TOML file with findings that are accepted.")
+@_with_common()
 def ask_risks(common: Common, given: Sequence[str], trusted: Sequence[str], owners: Sequence[str], rules: Optional[str],
               accept: Optional[str]) -> int:
     """What is risky about objects.
@@ -423,31 +424,36 @@ def ask_risks(common: Common, given: Sequence[str], trusted: Sequence[str], owne
     return _ask(common, risks.Risks(common.question, lists), "Risks", _paths(given), accepted)
 
 
-@cli.command()
+@cli.command(short_help="What changed between two lists of the same objects: OLD NEW")
 @click.argument("old")
 @click.argument("new")
-@_with_common
-def diff(common: Common, old: str, new: str) -> int:
+@click.option("--old-root", metavar="TEXT", help="The beginning of the old names that is left out when names are compared, such "
+              "as a snapshot's folder. Of a folder it is the folder.")
+@click.option("--new-root", metavar="TEXT", help="The same of the new names.")
+@_with_common("into")
+def diff(common: Common, old: str, new: str, old_root: Optional[str], new_root: Optional[str]) -> int:
     """What changed between two lists of the same objects: OLD NEW."""
     paths = _paths([old, new])
-    question = Differences(common.question)
+    question = Differences(common.question, common.jobs)
     _begin_all(paths, common.options)
     bar = _Bar(paths, common.bar)
     try:
-        found = question.answered(_items(paths[:1], common.options, bar), _items(paths[1:], common.options, bar))
-        return _report(common, question.rules, f"Changes from {old} to {new}", paths, found, bar)
+        for table, path, root in (("old", old, old_root), ("new", new, new_root)):
+            is_folder = os.path.isdir(path) and root is None
+            question.read(table, _items([path], common.options, bar), path if is_folder else root or "")
+        return _report(common, question.rules, f"Changes from {old} to {new}", paths, question.answered(), bar)
     finally:
         bar.stop()
 
 
-@cli.command()
+@cli.command(short_help="What isn't as its folder hands it on: SOURCE..")
 @click.argument("given", nargs=-1, metavar="SOURCE..")
-@click.option("--fix", help="A file for what would have to be written: CSV with name and SDDL. Nothing else is changed.")
-@_with_common
+@click.option("--fix", metavar="FILE", help="A file for what would have to be written: CSV with name and SDDL. Nothing else is changed.")
+@_with_common()
 def inherit(common: Common, given: Sequence[str], fix: Optional[str]) -> int:
     """Objects whose inherited ACEs are not those that their folder hands on."""
     paths = _paths(given)
-    question = Inheritance(common.question)
+    question = Inheritance(common.question, common.jobs)
     _begin_all(paths, common.options)
     bar = _Bar(paths, common.bar)
     try:
@@ -458,10 +464,10 @@ def inherit(common: Common, given: Sequence[str], fix: Optional[str]) -> int:
         bar.stop()
 
 
-@cli.command()
+@cli.command(short_help="Objects in words: SOURCE..")
 @click.argument("given", nargs=-1, metavar="SOURCE..")
-@click.option("--name", help="The name of the object, or a pattern with *. Default: all.")
-@_with_common
+@click.option("--name", help="The name of the object; * stands for any text. Default: all objects.")
+@_with_common(*_UNSAID)
 def show(common: Common, given: Sequence[str], name: Optional[str]) -> int:
     """Objects in words."""
     paths = _paths(given)

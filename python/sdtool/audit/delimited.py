@@ -4,7 +4,7 @@ import csv
 import functools
 import itertools
 import re
-from typing import Deque, Dict, Iterator, List, NamedTuple, Optional, Tuple
+from typing import Deque, Iterable, Iterator, List, NamedTuple, Optional, Tuple
 
 from sdtool.audit.items import Item, item_of, looks_like_descriptor, unreadable
 from sdtool.audit.opening import OpeningFault
@@ -19,9 +19,11 @@ NAME_NAMES = ("path", "fullname", "name", "objectname", "distinguishedname", "dn
 _MOST_LINES = 1000       # of a record: a quotation mark that stays open takes no more
 _MOST_CHARACTERS = 1 << 22
 _SAMPLE_LINES = 20
-_MOST_SPELLED = 20_000
+_MOST_SPELLED, _LONGEST_SPELLED = 20_000, 2_000  # texts of descriptors that are kept, and characters of each
 _KEYS = ("microsoft.powershell.core\\registry::", "hkey_", "hklm:", "hkcu:")
 _DIRECTORIES = ("microsoft.activedirectory", "ad:\\")
+# Most names begin with another letter, and many differ in their first 40 characters.
+_FIRST_LETTERS = frozenset(letter for start in _KEYS + _DIRECTORIES for letter in (start[0], start[0].upper()))
 
 _DELIMITER_LINE = re.compile(r'"?sep=([^"\r\n])"?\r?\Z', re.I)
 _NO_ROW = re.compile(r'#TYPE |"?sep=[^"\r\n]"?\r?\Z', re.I)
@@ -52,7 +54,7 @@ def plain_name(name: str) -> str:
 
 def kind_of_name(name: str) -> str:
     """The kind of an object that PowerShell names."""
-    return _kind_of_start(name[:40])
+    return _kind_of_start(name[:40]) if name[:1] in _FIRST_LETTERS else "file"
 
 
 @functools.lru_cache(maxsize=10_000)
@@ -63,13 +65,28 @@ def _kind_of_start(start: str) -> str:
     return "ds" if lower.startswith(_DIRECTORIES) else "file"
 
 
-def _rows_of_lines(block: List[str], delimiter: str, quoting: int) -> Optional[List[List[str]]]:
-    """The rows of lines if each line is a row, which is the usual case and fast."""
+def _records_of_lines(block: List[str], delimiter: str, quoting: int, before: int) -> Optional[Iterable[Record]]:
+    """The records of lines that begin and end with one; None if any is malformed, or may take more lines than it should.
+
+    Each line is a record in the usual case, which is fast.
+    """
     try:
         rows = list(csv.reader(block, delimiter=delimiter, strict=True, quoting=quoting))
+        if len(rows) == len(block):
+            return zip(itertools.count(before + 1), rows, itertools.repeat(""), itertools.repeat(""))
+        if sum(map(len, block)) > _MOST_CHARACTERS:
+            return None
+        found: List[Record] = []
+        reader = csv.reader((line + "\n" for line in block), delimiter=delimiter, strict=True, quoting=quoting)
+        ended = 0
+        for row in reader:
+            if reader.line_num - ended > _MOST_LINES:
+                return None
+            found.append((before + ended + 1, row, "", ""))
+            ended = reader.line_num
+        return found
     except csv.Error:
         return None
-    return rows if len(rows) == len(block) else None
 
 
 def _record(waiting: Deque[str], following: Iterator[List[str]], delimiter: str,
@@ -107,11 +124,10 @@ def records(blocks: Iterator[List[str]], delimiter: str, quotes: bool, before: i
     quoting = csv.QUOTE_MINIMAL if quotes else csv.QUOTE_NONE
     number = before
     for block in blocks:
-        rows = _rows_of_lines(block, delimiter, quoting)
-        if rows is not None:
-            for row in rows:
-                number += 1
-                yield number, row, "", ""
+        whole = _records_of_lines(block, delimiter, quoting, number)
+        if whole is not None:
+            yield from whole
+            number += len(block)
             continue
         for record in records_of_block(block, blocks, delimiter, quoting, number):
             number = record[0] - 1 + record[4]
@@ -169,7 +185,7 @@ def _guessed_column(rows: List[List[str]], label: str, header: Optional[List[str
     """The column whose cells look like descriptors."""
     counts = collections.Counter(at for row in rows for at, cell in enumerate(row) if looks_like_descriptor(cell))
     if not counts:
-        known = f": its columns are {', '.join(header)}" if header is not None else ""
+        known = f": its columns are {', '.join(header)}" if header and any(header) else ""
         raise OpeningFault(f"{label}: no column has descriptors{known}; name one with --descriptor-column")
     return counts.most_common(1)[0][0]
 
@@ -189,6 +205,8 @@ def _columns(rows: List[List[str]], header: Optional[List[str]], label: str, opt
         if name is None or name == descriptor:
             name = next((at for at in range(width) if at != descriptor), None)
     assert descriptor is not None
+    if descriptor >= width:  # it has no title
+        width = collections.Counter(len(row) for row in rows if len(row) > descriptor).most_common(1)[0][0]
     return Columns(name, descriptor, width)
 
 
@@ -246,26 +264,30 @@ def read(blocks: Iterator[List[str]], label: str, options: SourceOptions) -> Ite
 
 
 def items_of_block(lines: List[str], before: int, layout: Layout, blanks: List[int]) -> Optional[List[Item]]:
-    """The objects of lines that each are a row, with the number of lines before them; None if a line isn't a row.
+    """The objects of lines that begin and end with a record, with the number of lines before them; None if a record is
+    malformed, or goes on behind them.
 
     blanks gets the empty lines at the end, which count if a row follows them.
     """
-    rows = _rows_of_lines(lines, layout.delimiter, csv.QUOTE_MINIMAL if layout.quotes else csv.QUOTE_NONE)
-    if rows is None:
-        return None
-    numbered = ((number, row, "", "") for number, row in enumerate(rows, before + 1))
-    return list(items_of(numbered, layout, blanks))
+    found = _records_of_lines(lines, layout.delimiter, csv.QUOTE_MINIMAL if layout.quotes else csv.QUOTE_NONE, before)
+    return None if found is None else list(items_of(iter(found), layout, blanks))
 
 
 def blank_item(line: int, layout: Layout) -> Item:
     return unreadable(f"{layout.label}:{line}", layout.label, line, "the line is empty", "look at the source")
 
 
+@functools.lru_cache(maxsize=_MOST_SPELLED)
+def _spelling(text: str) -> Tuple[str, str, str]:
+    """The form, the text and the help of an object whose descriptor is spelled so."""
+    item = item_of("", "", 0, text)
+    return item.form, item.text, item.help
+
+
 def items_of(all_records: Iterator[Record], layout: Layout, blanks: List[int]) -> Iterator[Item]:
     """The objects of records. blanks has the empty lines that were seen last, which count unless they end the source."""
     label, kind = layout.label, layout.kind
     count, name_at, descriptor_at = layout.columns.width, layout.columns.name, layout.columns.descriptor
-    spelled: Dict[str, Item] = {}  # an object with a text, for texts that come again
     for line, row, reason, text in all_records:
         if row is not None and len(row) == 0:
             blanks.append(line)
@@ -282,11 +304,6 @@ def items_of(all_records: Iterator[Record], layout: Layout, blanks: List[int]) -
             yield unreadable(name, label, line, f"the row has {len(row)} fields, and the table has {count}",
                              "quote the fields, or name the delimiter with --delimiter")
             continue
-        text = row[descriptor_at]
-        like = spelled.get(text)
-        if like is None:
-            like = item_of(name, label, line, text, kind or kind_of_name(name))
-            if len(spelled) >= _MOST_SPELLED:
-                spelled.clear()
-            spelled[text] = like
-        yield Item(name, label, line, like[3], like[4], kind or _kind_of_start(name[:40]), like[6])
+        spelled = row[descriptor_at]
+        form, text, advice = (_spelling if len(spelled) <= _LONGEST_SPELLED else _spelling.__wrapped__)(spelled)
+        yield Item(name, label, line, form, text, kind or kind_of_name(name), advice)

@@ -8,9 +8,10 @@ from sdtool.audit.answers import FLAGS, Ace, Descriptor, Refusal, converted, exp
 from sdtool.audit.describing import ace_in_words
 from sdtool.audit.engine import Answered, Engine
 from sdtool.audit.items import HEX, SDDL, UNREADABLE, Item, unreadable
+from sdtool.audit.opening import OpeningFault
 from sdtool.audit.questions import (Answer, Checks, Finding, Question, Rule, complete, trustee_token, unknown, unknown_of,
                                     why_unanswerable, _as_owner)
-from sdtool.audit.scratch import COLUMNS, Scratch, item_of, row_of
+from sdtool.audit.scratch import COLUMNS, Scratch, item_of, row_of, stored
 
 ADDED, GONE, CHANGED, SAME = "added", "gone", "changed", "same"
 _PAIR = "pair"
@@ -45,15 +46,19 @@ class Differences:
 
     def __init__(self, common: Question, jobs: Optional[int] = None) -> None:
         self._common, self._jobs = common, jobs
+        self._scratch = Scratch()
 
-    def answered(self, old: Iterable[Item], new: Iterable[Item]) -> Iterator[Answered]:
+    def read(self, table: str, items: Iterable[Item], root: str = "") -> None:
+        """Reads one of the lists, "old" or "new". Names are compared without the root that they begin with."""
+        self._scratch.create(table, ", key, nth")
+        self._scratch.fill(table, _numbered(items, root), 10)
+        self._scratch.database.execute(f"CREATE INDEX {table}_key ON {table}(key, nth)")
+        if root and not any(self._scratch.select(f"SELECT 1 FROM {table} WHERE key IS NOT name LIMIT 1")):
+            raise OpeningFault(f"--{table}-root: no name of the {table} list begins with {root}")
+
+    def answered(self) -> Iterator[Answered]:
         """Every object of both lists with its answer: those of the new list in its order, then those that are gone."""
-        scratch = Scratch()
-        for table, items in (("old", old), ("new", new)):
-            scratch.create(table, ", nth")
-            scratch.fill(table, _numbered(items), 9)
-            scratch.database.execute(f"CREATE INDEX {table}_name ON {table}(name, nth)")
-        return Engine(self, self._jobs).answer(_joined(scratch))
+        return Engine(self, self._jobs).answer(_joined(self._scratch))
 
     def answer(self, form: str, kind: str, texts: Sequence[str]) -> List[Answer]:
         if form != _PAIR:
@@ -188,31 +193,39 @@ class Differences:
             yield Finding("order", "", "", f"{title}: the same ACEs in another order")
 
 
-def _numbered(items: Iterable[Item]) -> Iterator[Tuple]:
-    """Rows of objects; objects of the same name are told apart by their number."""
+def _key(name: str, root: str) -> str:
+    """The name by which an object is compared."""
+    rest = name[len(root):]
+    is_below = name.startswith(root) and (rest[:1] in ("", "\\", "/") or root[-1:] in ("\\", "/", ":"))
+    return rest.lstrip("\\/") if root and is_below else name
+
+
+def _numbered(items: Iterable[Item], root: str) -> Iterator[Tuple]:
+    """Rows of objects; objects with the same key are told apart by their number."""
     seen: Dict[int, int] = {}
     repeated: Counter[str] = collections.Counter()
     for item in items:
-        # A hash stands for a name, so that names need not be kept. Names whose hashes are equal only get a higher number,
+        # A hash stands for a key, so that keys need not be kept. Keys whose hashes are equal only get a higher number,
         # in both lists alike if their order is alike.
-        mark = hash(item.name)
+        key = _key(item.name, root)
+        mark = hash(key)
         nth = seen.get(mark, 0)
         if nth:
-            nth = repeated[item.name] = repeated[item.name] + 1
+            nth = repeated[key] = repeated[key] + 1
         seen[mark] = 1
-        yield (*row_of(item), nth)
+        yield (*row_of(item), stored(key), nth)
 
 
 def _joined(scratch: Scratch) -> Iterator[Item]:
     """Pairs of objects as items to ask about."""
     columns = COLUMNS.split(", ")
     both = ", ".join([f"new.{one}" for one in columns] + [f"old.{one}" for one in columns])
-    query = f"SELECT {both} FROM new LEFT JOIN old ON new.name = old.name AND new.nth = old.nth ORDER BY new.id"
+    query = f"SELECT {both} FROM new LEFT JOIN old ON new.key = old.key AND new.nth = old.nth ORDER BY new.id"
     for row in scratch.select(query):
         new, old = item_of(row[:8]), None if row[8] is None else item_of(row[8:])
         yield _pair_item(old, new) if old is not None else _single(ADDED, new)
     gone = ", ".join(f"old.{one}" for one in columns)
-    query = (f"SELECT {gone} FROM old LEFT JOIN new ON new.name = old.name AND new.nth = old.nth WHERE new.id IS NULL "
+    query = (f"SELECT {gone} FROM old LEFT JOIN new ON new.key = old.key AND new.nth = old.nth WHERE new.id IS NULL "
              "ORDER BY old.id")
     for row in scratch.select(query):
         yield _single(GONE, item_of(row))

@@ -133,9 +133,9 @@ class Engine:
         for key, answer in found or ():
             self._memory.put(key, answer)
             self._under_way.discard(key)
-        for item, key in zip(chunk.items, chunk.keys):
-            answer = self._memory.new.get(key) or self._other(item, key)
-            yield Answered(item, answer)
+        known = self._memory.new
+        yield from map(Answered, chunk.items, [known.get(key) or self._other(item, key)
+                                               for item, key in zip(chunk.items, chunk.keys)])
 
     def _other(self, item: Item, key: Key) -> Answer:
         """The answer for an object that can't be read, or whose answer isn't among the newest."""

@@ -12,7 +12,7 @@ from sdtool.audit.describing import ace_in_words
 from sdtool.audit.differences import _surplus
 from sdtool.audit.engine import Answered, Engine
 from sdtool.audit.items import SDDL, UNREADABLE, Item, unreadable
-from sdtool.audit.opening import OpeningFault
+from sdtool.audit.opening import AS_THEY_CAME, OpeningFault
 from sdtool.audit.questions import NOTHING, Answer, Finding, Question, Rule, answer_of, complete, unknown
 from sdtool.audit.scratch import COLUMNS, Scratch, item_of, row_of
 
@@ -77,7 +77,7 @@ class Inheritance:
         if os.path.exists(path) and any(os.path.exists(one) and os.path.samefile(one, path) for one in inputs):
             raise OpeningFault(f"--fix {path} is a source")
         try:
-            self._fix_file = open(path, "w", encoding="utf-8", errors="as-they-came", newline="")
+            self._fix_file = open(path, "w", encoding="utf-8", errors=AS_THEY_CAME, newline="")
         except OSError as error:
             raise OpeningFault(f"--fix {path}: {error.strerror}") from error
         with self._fix_file:

@@ -7,7 +7,7 @@ SDDL, HEX, BASE64, UNREADABLE = "sddl", "hex", "base64", ""
 _HEX_DESCRIPTOR = re.compile(r"(?:0[xX])?01(?:[0-9a-fA-F]{2})+\Z")
 # The revision, 1, is the first byte: in base64 a letter A, and then one that the second byte ends.
 _BASE64_DESCRIPTOR = re.compile(r"A[Q-Za-f][A-Za-z0-9+/]+={0,2}\Z")
-_SDDL_DESCRIPTOR = re.compile(r"[ \t]*[OGDSogds]:")
+_SDDL_DESCRIPTOR = re.compile(r"[ \t]*[OGDSogds]:(?![\\/])")  # D:\Data is a path
 _SEPARATED_HEX = re.compile(r"01(?:[ ,:-]+[0-9a-fA-F]{2}){19,}\Z")
 
 

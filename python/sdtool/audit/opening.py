@@ -21,6 +21,19 @@ READ_FAULTS = (OSError, EOFError, zlib.error, lzma.LZMAError, zipfile.BadZipFile
 _BOMS = ((codecs.BOM_UTF8, "utf-8"), (codecs.BOM_UTF32_LE, "utf-32-le"), (codecs.BOM_UTF32_BE, "utf-32-be"),
          (codecs.BOM_UTF16_LE, "utf-16-le"), (codecs.BOM_UTF16_BE, "utf-16-be"))
 _MOST_LAYERS = 3  # of compression
+AS_THEY_CAME = "as-they-came"  # how texts are written: what the source had of other bytes and lone surrogates
+
+
+def _write_surrogates(error: UnicodeError) -> Tuple[bytes, int]:
+    """Bytes that were no UTF-8 go out as they came in; lone surrogates of UTF-16 as three bytes."""
+    if not isinstance(error, UnicodeEncodeError):
+        raise error
+    spelled = b"".join(bytes([ord(one) & 0xff]) if "\udc80" <= one <= "\udcff" else one.encode("utf-8", "surrogatepass")
+                       for one in error.object[error.start:error.end])
+    return spelled, error.end  # type: ignore[return-value]
+
+
+codecs.register_error(AS_THEY_CAME, _write_surrogates)  # type: ignore[arg-type]
 
 
 class OpeningFault(Exception):
@@ -195,7 +208,8 @@ def blocks(texts: Iterator[str]) -> Iterator[List[str]]:
         if is_dropping and parts:
             parts[0] = parts[0][:LONGEST_LINE]
             is_dropping = False
-        yield parts
+        if parts:
+            yield parts
         if len(rest) > LONGEST_LINE:
             rest = rest[:LONGEST_LINE]
             is_dropping = True

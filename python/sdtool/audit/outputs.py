@@ -33,20 +33,18 @@ class Summary:
         self.answers: Counter[str] = collections.Counter()
         self.rules: Counter[str] = collections.Counter()
 
-    def add(self, answer: Answer) -> None:
-        self.answers[answer.status] += 1
+    def add(self, answer: Answer, count: int = 1) -> None:
+        """Counts so many objects with an answer."""
+        self.answers[answer.status] += count
         if not answer.findings:
             return
         for finding in answer.findings:
             if not finding.accepted:
-                self.rules[finding.rule] += 1
+                self.rules[finding.rule] += count
 
     def merge(self, other: "Summary") -> None:
         self.answers.update(other.answers)
         self.rules.update(other.rules)
-
-    def add_nothing(self, count: int) -> None:
-        self.answers[NOTHING] += count
 
     @property
     def total(self) -> int:
@@ -89,6 +87,8 @@ def _with_acceptance(finding: Finding) -> str:
 class Output:
     """A report in the making. lists_all says whether objects with nothing found are in it, beside being counted."""
 
+    is_full = False  # if so, it only counts what it leaves out
+
     def __init__(self, file: TextIO, rules: Sequence[Rule], lists_all: bool, title: str) -> None:
         self._file, self._rules, self.lists_all, self._title = file, rules, lists_all, title
 
@@ -96,6 +96,10 @@ class Output:
         """Called before the first object."""
 
     def add(self, item: Item, answer: Answer) -> None:
+        raise NotImplementedError
+
+    def leave_out(self, answer: Answer, count: int) -> None:
+        """Counts objects with an answer, once the report is full."""
         raise NotImplementedError
 
     def end(self, summary: Summary) -> None:
@@ -168,6 +172,13 @@ class TableOutput(Output):
                 self._rows.append((item.name, answer.status, row, place))
             else:
                 self._left_out += 1
+
+    @property
+    def is_full(self) -> bool:  # type: ignore[override]
+        return len(self._rows) >= self._most
+
+    def leave_out(self, answer: Answer, count: int) -> None:
+        self._left_out += count * len(rows_of(answer))
 
     def piece(self) -> Any:
         return self._rows, self._left_out

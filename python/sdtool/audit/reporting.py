@@ -12,7 +12,7 @@ from sdtool.audit.engine import Answered, Engine
 from sdtool.audit.items import Item
 from sdtool.audit.opening import LONGEST_LINE, READ_FAULTS
 from sdtool.audit.outputs import Output, Summary
-from sdtool.audit.questions import NOTHING
+from sdtool.audit.questions import NOTHING, Answer
 from sdtool.audit.sources import Table, cut_item, empty_item
 
 _AHEAD = 3  # blocks under way for each worker
@@ -33,6 +33,17 @@ class Report:
             summary.add(answer)
             if lists_all or answer.findings or answer.status not in (NOTHING, "same"):
                 output.add(item, answer)
+
+    @property
+    def is_full(self) -> bool:
+        """Whether further objects are counted alone. They need a name only where findings may be accepted."""
+        return self.output.is_full and self.accepted is None
+
+    def count(self, answer: Answer, count: int) -> None:
+        """Counts so many objects with an answer, which a full report doesn't list."""
+        self.summary.add(answer, count)
+        if answer.findings or answer.status != NOTHING:
+            self.output.leave_out(answer, count)
 
 
 class _Piece(NamedTuple):
@@ -67,7 +78,7 @@ def _start(question: Any, make_output: Callable[[io.StringIO], Output], accepted
 
 
 def _report_block(text: str, before: int, layout: delimited.Layout) -> Optional[_Piece]:
-    """The report of a block; None if it has a record of several lines, or a malformed one."""
+    """The report of a block; None if it has a malformed record, or one that goes on behind it."""
     blanks: List[int] = []
     items = delimited.items_of_block(text.split("\n"), before, layout, blanks)
     if items is None:

@@ -8,6 +8,7 @@ import struct
 from typing import Dict, Iterator, List, Optional, Tuple
 
 from sdtool.audit.items import HEX, Item, item_of, unreadable
+from sdtool.audit.opening import AS_THEY_CAME
 from sdtool.audit.options import SourceOptions
 
 _HEADER = 20
@@ -104,7 +105,7 @@ def read_tree(top: str, options: SourceOptions) -> Iterator[Item]:
 def _unescaped(name: str) -> str:
     """A name as getfattr escapes it."""
     spelled = re.sub(rb"\\([0-7]{3})", lambda found: bytes([int(found[1], 8) & 0xff]),
-                     name.encode("utf-8", "surrogateescape"))
+                     name.encode("utf-8", AS_THEY_CAME))
     return spelled.decode("utf-8", "surrogateescape")
 
 

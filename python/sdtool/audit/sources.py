@@ -50,7 +50,7 @@ def _is_json_lines(text: str, sample: List[str]) -> bool:
 def _is_icacls(text: str, sample: List[str]) -> bool:
     """Whether lines are a name and an ACL by turns: the first two, and half of the others, since some may be out of step."""
     pairs = list(zip(sample[0::2], sample[1::2]))
-    are = [bool(name and re.match(r"[DS]:", acl, re.I)) and not looks_like_descriptor(name) and "\t" not in name
+    are = [bool(name and re.match(r"[DS]:(?![\\/])", acl, re.I)) and not looks_like_descriptor(name) and "\t" not in name
            for name, acl in pairs]
     return bool(are) and are[0] and 2 * sum(are) >= len(are)
 

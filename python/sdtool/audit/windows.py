@@ -6,7 +6,7 @@ from typing import Iterator, List, NamedTuple, Optional, Tuple
 from sdtool.audit.items import HEX, Item, item_of, looks_like_descriptor, unreadable
 from sdtool.audit.options import SourceOptions
 
-_ACL_LINE = re.compile(r"[DSOG]:", re.I)
+_ACL_LINE = re.compile(r"[DSOG]:(?![\\/])", re.I)  # D:\Data is a path
 _SECTION_KINDS = {"file security": "file", "registry keys": "key", "service general setting": "service"}
 _REG_VALUE = re.compile(r'(?:"((?:[^"\\]|\\.)*)"|(@))=(.*)', re.S)
 _REG_BINARY = re.compile(r"hex(?:\([0-9a-f]+\))?:(.*)", re.I | re.S)

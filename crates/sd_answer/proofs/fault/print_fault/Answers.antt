@@ -13,7 +13,7 @@ returns g c =
     prints_then
     (prints_then
     (prints_then
-    (prints_then c.put.ensures (prints_as (ap decimal c.number_and_name-number.ensures.number) c.print_decimal.ensures))
+    (prints_then c.put.ensures (prints_as (ap decimal c.number-number.ensures) c.print_decimal.ensures))
     c.put-2.ensures)
     (prints_as word c.put-3.ensures))
     (prints_then (prints_as first c.put-4.ensures) (prints_as second c.put-5.ensures))

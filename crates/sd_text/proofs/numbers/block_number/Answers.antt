@@ -1,18 +1,31 @@
-use Rattle.std.proofs.Common.{◌<◌, ◌-◌, get_or, length, arith, ap, ◌∙◌}
-use Rattle.sd_text.proofs.FrontDigits.{below_more, digit_at, digit_more, digit_range, plain_digit}
+use Rattle.std.proofs.Common.{arith}
+use Rattle.sd_text.proofs.EightDigits.{reads}
 use Rattle.sd_text.proofs.numbers.block_number.Goals as goal
 
-pub loop-byte-preserved : goal.loop-byte-preserved
-loop-byte-preserved c =
-    let block = c.args.block.now in
-    let i = c.loop-byte.byte-index in
-    let within : i < length block = omega arith in
-    let range = digit_range (get_or block i 0) (digit_at block i within c.requires.digits) in
-    let digit = plain_digit (get_or block i 0) range.0 range.1 in
-    record {
-      small = below_more i c.loop-byte.number (c.from.result - 48) c.loop-byte.invariant.small
-          (omega (arith, range.1, c.from.ensures));
-      digits =
-          digit_more 0 block i c.loop-byte.number (c.from.result - 48) within c.loop-byte.invariant.digits digit.0
-          (ap (λ b. b - 48) c.from.ensures ∙ digit.1);
-    }
+pub overflow_sub-digits : goal.overflow_sub-digits
+overflow_sub-digits c =
+    (reads c.args.block.now c.block_word-digits.result c.requires.size c.requires.digits c.block_word-digits.ensures).zeros
+
+pub overflow_mul-pairs : goal.overflow_mul-pairs
+overflow_mul-pairs c =
+    omega (
+      arith,
+      (reads c.args.block.now c.block_word-digits.result c.requires.size c.requires.digits c.block_word-digits.ensures).tens,
+    )
+
+pub overflow_add-pairs : goal.overflow_add-pairs
+overflow_add-pairs c =
+    omega (
+      arith,
+      (reads c.args.block.now c.block_word-digits.result c.requires.size c.requires.digits c.block_word-digits.ensures).sums,
+    )
+
+pub returns-clause-number : goal.returns-clause-number
+returns-clause-number c =
+    rw (c.outer_bytes.ensures, c.outer_bytes-2.ensures)
+    (reads c.args.block.now c.block_word-digits.result c.requires.size c.requires.digits c.block_word-digits.ensures).number
+
+pub returns-clause-small : goal.returns-clause-small
+returns-clause-small c =
+    rw (c.outer_bytes.ensures, c.outer_bytes-2.ensures)
+    (reads c.args.block.now c.block_word-digits.result c.requires.size c.requires.digits c.block_word-digits.ensures).small

@@ -1,4 +1,4 @@
-use Rattle.std.proofs.Common.{ap, sym, ◌∙◌}
+use Rattle.std.proofs.Common.{ap, sym}
 use Rattle.sd_answer.specs.Answer.{or_byte_fault}
 use Rattle.sd_answer.proofs.ReadingLemmas.{read-mapped}
 use Rattle.sd_answer.proofs.line.Line.end.Goals as goal

@@ -1,0 +1,70 @@
+-- The command line is one of which `clap` says all, and what its refusals say of the words.
+use Rattle.std.proofs.Common.{◌≡◌, inl, inr, [], ◌∷◌, true, false, refl, sym, ◌∙◌, ap, subst, Result, Ok, Err}
+use Rattle.std.specs.Prelude.{IfErr, IfOk, MatchResult}
+use Rattle.std.specs.List.{list_any}
+use Rattle.std.proofs.lemmas.Bool.{or_left, or_right}
+use Rattle.clap.specs.Words.{is_simple, is_simple_and_free, FailsBy, Kinds, IsAmong, HasKind, kind_of}
+use Rattle.clap.proofs.OnLiterals.{clap_on_literals}
+use Rattle.clap.specs.declared.error.Error.{Error}
+use Rattle.clap.specs.declared.error.ErrorKind.{ErrorKind}
+use Rattle.clap.specs.declared.error.ErrorKind.TheVariants as kind
+use Rattle.sd_command_line.specs.CommandLine.{line, bare_line, check_line, convert_line, derive_line, explain_line}
+use Rattle.sd_command_line.specs.Refusing.{RefusedBy, is_mistake}
+use Rattle.sd_command_line.specs.Inner.Refused.{RefusedFor, RefusesFor}
+use Rattle.sd_command_line.specs.declared.parse.Refusal.{Refusal}
+use Rattle.sd_command_line.specs.declared.parse.Refusal.TheVariants.{NoMemory, Usage, Help}
+
+-- its matches are known from the words
+pub line-simple : is_simple line ≡ true
+unfolding line bare_line convert_line explain_line check_line derive_line clap_on_literals
+line-simple = refl
+
+-- and so are its faults
+pub line-free : is_simple_and_free line ≡ true
+unfolding line bare_line convert_line explain_line check_line derive_line clap_on_literals
+line-free = refl
+
+-- a mistake among the kinds
+among-mistake : (kinds : Kinds) (k : ErrorKind) → IsAmong k kinds → is_mistake k ≡ true
+    → list_any is_mistake kinds ≡ true
+among-mistake [] k h e = absurd h
+among-mistake (x ∷ xs) k (inl same) e = or_left (is_mistake x) _ (ap is_mistake (sym same) ∙ e)
+among-mistake (x ∷ xs) k (inr h) e = or_right (is_mistake x) _ (among-mistake xs k h e)
+
+-- what an error is taken for is what the kinds allow
+refused-by : (kinds : Kinds) (e : Error) (r : Refusal) → HasKind kinds e → RefusedFor e r → RefusedBy kinds r
+refused-by kinds e NoMemory h w = tt
+refused-by kinds e Usage (inl memory) w = let bad : false ≡ true = ap is_mistake (sym memory) ∙ w in cc
+refused-by kinds e Usage (inr h) w = among-mistake kinds (kind_of e) h w
+refused-by kinds e (Help text) (inl memory) w = let bad : kind.OutOfMemory ≡ kind.DisplayHelp = sym memory ∙ w in cc
+refused-by kinds e (Help text) (inr h) w = subst (λ (k : ErrorKind). IsAmong k kinds) w h
+
+-- what the words were parsed to, and what is told of it
+abbrev pub Tells : {M : Type 0} → Result M Error → Result M Refusal → Type 0
+Tells parsed told = MatchResult parsed (λ m. told ≡ Ok m) (λ e. RefusesFor e told)
+
+-- matches are kept
+pub kept : {M : Type 0} (P Q : M → Type 0) → ((m : M) → P m → Q m) → (parsed : Result M Error)
+    (told : Result M Refusal) → Tells parsed told → IfOk parsed P → IfOk told Q
+kept P Q then (Ok m) told is h = rw is (then m h)
+kept P Q then (Err e) (Ok m) is h = absurd is
+kept P Q then (Err e) (Err refusal) is h = tt
+
+-- where the only fault can be want of memory, that is told
+pub only-memory : {M : Type 0} (S T : Type 0) → (T → S) → (parsed : Result M Error) (told : Result M Refusal)
+    → Tells parsed told
+    → IfErr parsed (λ e. S → kind_of e ≡ kind.OutOfMemory) → IfErr told (λ refusal. T → refusal ≡ NoMemory)
+only-memory S T so (Ok m) told is h = rw is tt
+only-memory S T so (Err e) (Ok m) is h = absurd is
+only-memory S T so (Err e) (Err NoMemory) is h = λ t. refl
+only-memory S T so (Err e) (Err Usage) is h = λ t. let bad : false ≡ true = ap is_mistake (sym (h (so t))) ∙ is in cc
+only-memory S T so (Err e) (Err (Help text)) is h =
+    λ t. let bad : kind.OutOfMemory ≡ kind.DisplayHelp = sym (h (so t)) ∙ is in cc
+
+-- what is told is what the kinds allow
+pub by-kinds : {M : Type 0} (found kinds : Kinds) → found ≡ kinds → (parsed : Result M Error) (told : Result M Refusal)
+    → Tells parsed told → FailsBy found parsed → MatchResult told (λ _. kinds ≡ []) (RefusedBy kinds)
+by-kinds found kinds same (Ok m) told is h = rw is (sym same ∙ h)
+by-kinds found kinds same (Err e) (Ok m) is h = absurd is
+by-kinds found kinds same (Err e) (Err refusal) is h =
+    refused-by kinds e refusal (subst (λ (k : Kinds). HasKind k e) same h) is

@@ -1,0 +1,4 @@
+pub mod CommandLine
+pub mod FaultLines
+pub mod Inner
+pub mod Refusing

@@ -1,2 +1,0 @@
--- What private contracts and invariants cite. No definition rests on these files.
-pub mod TokenKeys

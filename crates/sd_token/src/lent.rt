@@ -1,0 +1,146 @@
+//! A token in memory that is lent, and the looks at its entries.
+
+ghost use Rattle.std.specs.Prelude.{◌≡◌, ◌≤◌, ◌<◌, ◌*◌, length, slice_index_or};
+ghost use Rattle.sd_sink.specs.Counts.{counted};
+ghost use Rattle.sd_text.specs.Limits.{most_entries};
+ghost use Rattle.sd_token.specs.Token.{entry_meets};
+ghost use Rattle.sd_token.specs.TokenWords.{entries_of, entry_words};
+
+use crate::token::EntryKind;
+use crate::words::{is_met, key_of};
+use sd_sid::Sid;
+use std::marker::Model;
+
+/// A token whose entries are in memory that is lent. It counts every look at one of its entries, and the count is not
+/// lost: a lent token has to be ended, and what it counted has to go somewhere.
+pub struct LentToken<'a> {
+    // A key for each entry, so that most looks at an entry read these four bytes and no more.
+    keys: &'a [u32],
+    words: &'a [u32],
+    level: Option<u32>,
+    compared: u64,
+}
+
+/// How often entries of a token were looked at.
+pub struct Looks {
+    count: u64,
+}
+
+impl<'a> Model for LentToken<'a> {
+    ghost use Rattle.std.specs.Prelude.{◌≡◌, ◌≤◌, ◌*◌, length};
+    ghost use Rattle.sd_text.specs.Limits.{most_entries};
+    ghost use Rattle.sd_token.specs.Token.{TokenShown};
+    ghost use Rattle.sd_token.specs.TokenWords.{entries_of, entry_words};
+
+    ghost Value = { TokenShown };
+
+    ghost view = { λ t. record {
+      holder = record { entries = entries_of t.keys.now t.words.now; level = t.level };
+      compared = t.compared;
+      room = length t.keys.now;
+    } };
+
+    ghost invariant = { λ t. (length t.keys.now ≤ most_entries)
+        × (entry_words * length t.keys.now ≤ length t.words.now) };
+}
+
+impl<'a> LentToken<'a> {
+    /// The token whose entries have these keys and numbers. It goes on from a count.
+    pub(crate) fn counting(
+        keys: &'a [u32],
+        words: &'a [u32],
+        level: Option<u32>,
+        compared: u64,
+    ) -> LentToken<'a>
+        requires few { length keys.now ≤ most_entries }
+        requires whole { entry_words * length keys.now ≤ length words.now }
+        ensures holder { result.holder ≡ record { entries = entries_of keys.now words.now; level = level } }
+        ensures compared { result.compared ≡ compared }
+    {
+        LentToken {
+            keys,
+            words,
+            level,
+            compared,
+        }
+    }
+
+    /// The token whose entries have these keys and numbers. No entry was looked at.
+    pub fn new(keys: &'a [u32], words: &'a [u32], level: Option<u32>) -> LentToken<'a>
+        requires few { length keys.now ≤ most_entries }
+        requires whole { entry_words * length keys.now ≤ length words.now }
+        ensures holder { result.holder ≡ record { entries = entries_of keys.now words.now; level = level } }
+        ensures compared { result.compared ≡ 0 }
+    {
+        LentToken::counting(keys, words, level, 0)
+    }
+
+    /// The number of entries.
+    #[tactic(auto, using(crate::proofs::TokenLemmas::as_many))]
+    pub fn len(&self) -> usize
+        ensures entries { result ≡ length self.now.holder.entries }
+        ensures most { result ≤ most_entries }
+    {
+        self.keys.len()
+    }
+
+    /// The integrity level, if there is one.
+    pub fn level(&self) -> Option<u32>
+        ensures { result ≡ self.now.holder.level }
+    {
+        self.level
+    }
+
+    /// Whether the entry at an index has the SID, and is enabled or may be deny-only. There is no other way
+    /// to look at an entry, and each look counts as one.
+    #[tactic(auto, using(crate::proofs::TokenLemmas::as_many))]
+    pub fn meets(&mut self, index: usize, sid: &Sid, deny: bool) -> bool
+        requires { index < length self.old.holder.entries }
+        // The default pair is never used: the index is in range.
+        ensures value { result
+            ≡ entry_meets sid.now deny (slice_index_or self.old.holder.entries index (sid.now, EntryKind.DenyOnly)) }
+        ensures holder { self.new.holder ≡ self.old.holder }
+        ensures compared { self.new.compared ≡ counted self.old.compared }
+        ensures goes_on { self.old.compared ≤ self.new.compared }
+        ensures room { self.new.room ≡ self.old.room }
+    {
+        count(&mut self.compared);
+        let key = self.keys[index];
+        if key != key_of(sid) {
+            return false;
+        }
+        is_met(self.words, index, sid, deny)
+    }
+
+    /// Ends the token, and gives what it has counted.
+    pub fn end(self) -> Looks
+        ensures { result.count ≡ self.entry.compared }
+    {
+        let LentToken {
+            keys: _,
+            words: _,
+            level: _,
+            compared,
+        } = self;
+        Looks { count: compared }
+    }
+}
+
+impl Looks {
+    /// How many there were. At `u64::MAX` the count stays.
+    pub fn count(self) -> u64
+        ensures { result ≡ self.count }
+    {
+        let Looks { count } = self;
+        count
+    }
+}
+
+// A predictable branch beats `saturating_add` here.
+fn count(looks: &mut u64)
+    ensures { looks.new ≡ counted looks.old }
+{
+    if *looks < u64::MAX {
+        *looks += 1;
+    }
+}

@@ -1,0 +1,95 @@
+//! The numbers of 32 bits that stand for an entry of a token.
+
+ghost use Rattle.std.specs.Prelude.{◌≡◌, ◌≤◌, ◌+◌, ◌*◌, length, take, drop, slice_index};
+ghost use Rattle.sd_sid.specs.Sid.{IsSid};
+ghost use Rattle.sd_sid.specs.SidText.{same_sid};
+ghost use Rattle.sd_token.specs.Token.{entry_meets, is_enabled};
+ghost use Rattle.sd_token.specs.TokenWords.{entry_of, entry_words, kind_of, sid_key};
+
+use crate::token::EntryKind;
+use sd_sid::Sid;
+
+/// How many numbers an entry has, beside its key.
+pub const ENTRY_WORDS: usize = 19;
+
+/// The first of the sub-authorities, which are the last numbers of an entry.
+const SUBS: usize = 4;
+
+/// A number in which most SIDs differ: the last sub-authority (0 where there is none), and in its upper bits how many
+/// there are.
+pub fn key_of(sid: &Sid) -> u32
+    ensures value { result ≡ sid_key sid.now }
+    ensures limits { IsSid sid.now }
+{
+    let subs = sid.subs();
+    let last = subs.last().copied().unwrap_or(0);
+    ((subs.len() as u32) << 28).wrapping_add(last)
+}
+
+/// The numbers of an entry.
+pub fn words_of(sid: &Sid, kind: EntryKind) -> [u32; ENTRY_WORDS]
+    ensures { entry_of result ≡ (sid.now, kind) }
+{
+    let authority = sid.authority();
+    let subs = sid.subs();
+    let mut words = [0; ENTRY_WORDS];
+    words[0] = (authority >> 32) as u32;
+    words[1] = (authority % (1 << 32)) as u32;
+    words[2] = subs.len() as u32;
+    words[3] = number_of(kind);
+    words[SUBS..SUBS + subs.len()].copy_from_slice(subs);
+    words
+}
+
+/// Whether the entry at an index meets a SID.
+// Not inlined: it is rare, and the loops over keys stay small.
+#[inline(never)]
+pub(crate) fn is_met(words: &[u32], index: usize, sid: &Sid, deny: bool) -> bool
+    requires { entry_words * (index + 1) ≤ length words.now }
+    ensures { result ≡ entry_meets sid.now deny (entry_of (take entry_words (drop (entry_words * index) words.now))) }
+{
+    let entry = &words[ENTRY_WORDS * index..ENTRY_WORDS * (index + 1)];
+    is_same(entry, sid) && (is_enabled(entry[3]) || deny)
+}
+
+fn is_same(entry: &[u32], sid: &Sid) -> bool
+    requires { length entry.now ≡ entry_words }
+    ensures { result ≡ same_sid (entry_of entry.now).0 sid.now }
+{
+    authority_of(entry) == sid.authority() && subs_of(entry) == sid.subs()
+}
+
+fn authority_of(entry: &[u32]) -> u64
+    requires { length entry.now ≡ entry_words }
+    ensures { result ≡ (entry_of entry.now).0.authority }
+{
+    (u64::from(entry[0]) << 32) + u64::from(entry[1])
+}
+
+fn subs_of(entry: &[u32]) -> &[u32]
+    requires { length entry.now ≡ entry_words }
+    ensures { result.now ≡ (entry_of entry.now).0.subs }
+{
+    let count = entry[2] as usize;
+    let subs = &entry[SUBS..];
+    if count < subs.len() {
+        &subs[..count]
+    } else {
+        subs
+    }
+}
+
+fn number_of(kind: EntryKind) -> u32
+    ensures { kind_of result ≡ kind }
+{
+    match kind {
+        EntryKind::Enabled => 0,
+        EntryKind::DenyOnly => 1,
+    }
+}
+
+fn is_enabled(number: u32) -> bool
+    ensures { result ≡ is_enabled (kind_of number) }
+{
+    number == 0
+}
