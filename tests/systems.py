@@ -62,7 +62,8 @@ MOST_WORDS = 1 << 20
 TOO_OLD, OLDEST = "core2duo", "Nehalem"  # processors of qemu: the last without x86-64-v2, and the first with it
 MORE_MEMORY = 16 << 20  # that many lines may take beyond few ones
 PAGE, SMALL_STACK = 4096, 256 << 10
-STARTS, FAILED_STARTS, STARTS_OF_A_FAILURE = "starts", "failed starts", 500
+STARTS, FAILED_STARTS, FAILED_ENDS, STARTS_OF_A_FAILURE = "starts", "failed starts", "failed ends", 500
+LOADER_FAILED = 127  # the status by which Linux's loader ends a process that it finds in disorder; the program never ends so
 LINES_OF_BROWSERS = 2000
 CALL_ROUNDS = 2000
 EACH_OF_LINES = 4  # of those of rows that the slow tests in C get, one in so many
@@ -110,11 +111,12 @@ def script_of(folder, name, words):
 
     Wine now and then fails to start a program, and says so by status 1 alone. The program ends with 1 only after it has read a
     line. So where it ended with 1, and nothing has been read of a file that has something, it never ran: then it is started
-    once more, and that is noted. Any other end is the program's."""
+    once more, and that is noted. Once in 10,000 starts Linux's loader fails at the end of wine's process, adds its own message
+    and takes the program's status away. That is noted, and 'unless_lost' tries again. Any other end is the program's."""
     script = folder / f"{name} {pathlib.Path(words[-1]).name}"
     start = shlex.join(map(str, words)) + ' "$@"'
     # Empty files, since rows let no file grow.
-    for name_of in (STARTS, FAILED_STARTS):
+    for name_of in (STARTS, FAILED_STARTS, FAILED_ENDS):
         (folder / name_of).mkdir(exist_ok=True)
     again = f""": > {shlex.quote(str(folder / STARTS))}/$$
 {start}
@@ -125,8 +127,12 @@ if [ $status = 1 ] && [ -f /proc/self/fd/0 ] && [ -s /proc/self/fd/0 ]; then
     exec 9<&-
     if [ "$name$place" = pos:0 ]; then
         : > {shlex.quote(str(folder / FAILED_STARTS))}/$$
-        exec {start}
+        {start}
+        status=$?
     fi
+fi
+if [ $status = {LOADER_FAILED} ]; then
+    : > {shlex.quote(str(folder / FAILED_ENDS))}/$$
 fi
 exit $status
 """
@@ -141,16 +147,23 @@ def script_for(folder, name):
 
 
 def judge_starts(count, folder):
-    """Wine may fail to start a program, but seldom."""
-    starts, number = (len(list((folder / name).iterdir())) for name in (STARTS, FAILED_STARTS))
-    print(f"wine: {starts} starts, of which {number} failed and were made again")
-    count.add(number * STARTS_OF_A_FAILURE <= starts, f"wine failed to start {number} programs")
+    """Wine may fail at the start or the end of a program, but seldom."""
+    starts, *failed = (len(list((folder / name).iterdir())) for name in (STARTS, FAILED_STARTS, FAILED_ENDS))
+    print(f"wine: {starts} starts; {failed[0]} failed, and {failed[1]} ends, and were made again")
+    count.add(sum(failed) * STARTS_OF_A_FAILURE <= starts, f"wine failed {sum(failed)} times")
+
+
+def unless_lost(run, statuses):
+    """What 'run' gives. If wine lost how one of its programs ended, it is called once more, and what comes then counts."""
+    given = run()
+    return run() if LOADER_FAILED in statuses(given) else given
 
 
 def judged(row, program):
     """What a row comes to: each of its runs as whether it is right, and its name with what is wrong."""
+    runs = unless_lost(lambda: list(run_rows.runs(program, row, False)), lambda runs: [ended.status for _, ended, _ in runs])
     return [(not wrong, f"{name}: {'; '.join(wrong)}")
-            for name, ended, stdout in run_rows.runs(program, row, False)
+            for name, ended, stdout in runs
             for wrong in [run_rows.differences(row, ended, stdout)]]
 
 
@@ -225,7 +238,8 @@ def test_lines(count, native, program, name, files):
         lines = file.read_bytes().count(b"\n")
         for words in COMMANDS:
             words = [*words, "--from", source]
-            expected, found = answers(native, words, file), answers(program, words, file)
+            expected = answers(native, words, file)
+            found = unless_lost(lambda: answers(program, words, file), lambda ended: ended[2:])
             count.add(found == expected and lines > 0,
                 f"{name} {words}: {found == expected or first_difference(found, expected)}")
             # So consoles show them, whatever their code page.
@@ -305,7 +319,7 @@ def test_calls(count, native, calls, runs, name, number):
             (SYSTEMS[name].any_bytes or all(word.isascii() for word in row[1]) and sum(map(len, row[1])) < 32_000)]
     for row, words, data in rows[::10]:
         expected = c_library.of_program(["sdtool", *words], data, executable=native)
-        found = c_library.of_program([*runs, "plain", *words], data)
+        found = unless_lost(lambda: c_library.of_program([*runs, "plain", *words], data), lambda ended: ended[2:])
         count.add(found == expected, f"{name} run of {row}: {found} in place of {expected}"[:900])
 
 
@@ -521,7 +535,8 @@ def test_in_c(count, native, name, folder, number):
         count.add(program, f"{name}: {source}.c is not built")
     if all(programs.values()):
         # qemu-user does not follow a process that one of several threads forks.
-        words = {source: ["env", "FORKS=0", "ROUNDS=2", *SYSTEMS[name].runner, str(program)] for source, program in programs.items()}
+        words = {source: [script_of(folder, name, ["env", "FORKS=0", "ROUNDS=2", *SYSTEMS[name].runner, program])]
+                 for source, program in programs.items()}
         test_calls(count, native, words["calls"], words["runs"], name, number)
         runners = LibraryRunners(count, name, words["objects"])
         runners.test_cases()
