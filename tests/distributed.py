@@ -6,8 +6,8 @@ happens, an answer file that is there has to be what PROGRAM writes. The command
 1 KB. Then workers have another library, see other files, come late, are stopped, killed or all gone; the scheduler dies;
 the library answers wrongly; disks are full; runs are interrupted and done again after inputs, answers, parts, records or the
 library have changed. It needs Dask and fsspec (Debian: python3-dask, python3-distributed, python3-fsspec); without them it
-says so and tests nothing. Servers of files need openssh-server, python3-paramiko and python3-aiohttp, and the one of S3 a
-python3 on the PATH with moto and boto3. The last line is 'N passed, M failed'.
+says so and tests nothing. Servers of files need openssh-server, python3-paramiko, python3-aiohttp and python3-requests, and
+the one of S3 a python3 on the PATH with moto and boto3. The last line is 'N passed, M failed'.
 """
 import argparse
 import bz2
@@ -310,6 +310,7 @@ served = web.Application()
 served.router.add_static("/", sys.argv[1])
 web.run_app(served, host="127.0.0.1", port=int(sys.argv[2]))
 """
+HTTP_NEEDS = "aiohttp, requests", "python3-aiohttp, python3-requests"
 
 
 class Server(NamedTuple):
@@ -317,7 +318,7 @@ class Server(NamedTuple):
 
     url: str  # of the folder, but for the port
     words: list  # which start it, but for the port
-    module: str  # of Python, for server or client
+    module: str  # of Python, for server or client; or more than one
     package: str
 
 
@@ -337,9 +338,9 @@ def servers(place, folder):
     return {
         "sftp": Server(f"sftp://{user}@127.0.0.1:%d{folder}", [sshd, "-D", "-f", "/dev/null", *options, "-p"], "paramiko",
                        "openssh-server, python3-paramiko"),
-        "http": Server("http://127.0.0.1:%d", [place.python, "-c", FILES_OVER_HTTP, folder], "aiohttp", "python3-aiohttp"),
+        "http": Server("http://127.0.0.1:%d", [place.python, "-c", FILES_OVER_HTTP, folder], *HTTP_NEEDS),
         "http without ranges": Server("http://127.0.0.1:%d", [
-            place.python, "-m", "http.server", "--bind", "127.0.0.1", "--directory", folder], "aiohttp", "python3-aiohttp")}
+            place.python, "-m", "http.server", "--bind", "127.0.0.1", "--directory", folder], *HTTP_NEEDS)}
 
 
 def started_server(place, server):
