@@ -7,8 +7,9 @@ ghost use Rattle.sd_call_run.specs.Runs.{EndsRun, EndsWith, Runs, Shows};
 
 use crate::batch::answer_batch;
 use crate::words::{WordsFault, words_in};
-use sd_command::{Prepared, Stop, prepare};
-use sd_command_line::Refusal;
+use sd_command::{Prepared, Stop, prepare, run_line};
+use sd_command_line::{NO_MEMORY_LINE, Refusal, USAGE_LINE};
+use sd_run::RunFault;
 use std::alloc::Global;
 
 /// How a run ends: `struct sdtool_ending` of the header.
@@ -35,8 +36,8 @@ pub fn run_batch(
 {
     match words_in(alloc, words) {
         Ok(words) => end(prepare(alloc, words.as_slice()), input, output, message),
-        Err(WordsFault::NoText) => say(2, "sdtool: usage\n", message),
-        Err(WordsFault::NoMemory) => say(4, "sdtool: no memory\n", message),
+        Err(WordsFault::NoText) => say(2, USAGE_LINE, message),
+        Err(WordsFault::NoMemory) => say(4, NO_MEMORY_LINE, message),
     }
 }
 
@@ -63,7 +64,7 @@ fn answer(prepared: &mut Prepared, input: &[u8], output: &mut [u8], message: &mu
         return Ending {
             status: 3,
             length: batch.length,
-            message_length: show("sdtool: error 61 write\n", message),
+            message_length: show(run_line(RunFault::Write), message),
         };
     }
     Ending {
@@ -78,8 +79,8 @@ fn stopped(stop: &Stop, output: &mut [u8], message: &mut [u8]) -> Ending
 {
     match stop {
         Stop::Refused(refusal) => match refusal {
-            Refusal::NoMemory => say(4, "sdtool: no memory\n", message),
-            Refusal::Usage => say(2, "sdtool: usage\n", message),
+            Refusal::NoMemory => say(4, NO_MEMORY_LINE, message),
+            Refusal::Usage => say(2, USAGE_LINE, message),
             Refusal::Help(text) => Ending {
                 status: 0,
                 length: show(text.as_str(), output),

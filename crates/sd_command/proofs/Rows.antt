@@ -1,32 +1,45 @@
 -- Worked rows of command lines, computed.
-use Rattle.std.proofs.Common.{◌≡◌, ℕ, List, [], ◌∷◌, ◌++◌, None, Some, Ok, Err, true, false, codes, refl}
+use Rattle.std.proofs.Common.{◌≡◌, ◌≤◌, ◌+◌, ℕ, List, [], ◌∷◌, ◌++◌, None, Some, Result, Ok, Err, true, false, codes, refl}
 use Rattle.std.specs.List.{flat_map}
 use Rattle.std.specs.Option.{option_map}
-use Rattle.std.specs.Prelude.{length, map, replicate}
+use Rattle.std.specs.Prelude.{Bool, inl, inr, length, map, replicate}
 use Rattle.clap.specs.Words.{Text, fault_of, takes}
 use Rattle.clap.proofs.OnLiterals.{clap_on_literals}
+use Rattle.uuid.specs.Text.{by_index}
+use Rattle.sd_text.specs.Names.{run_of}
+use Rattle.sd_sid.specs.Sid.{SecurityId}
 use Rattle.sd_sid.specs.SidText.{has_form, letters_read, numbers_read, sid_reads}
+use Rattle.sd_ace.specs.GuidText.{guid_reads}
+use Rattle.sd_rights.specs.Rights.{rights_reads}
+use Rattle.sd_view.specs.declared.acl.AclPart.TheVariants as acl
+use Rattle.sd_sddl_reader.specs.Meaning.{body_reads, means}
 use Rattle.sd_check.specs.declared.ask.AskFault.TheVariants.{EmptyRequest, ReservedBits}
 use Rattle.sd_token.specs.declared.token.EntryKind.TheVariants.{DenyOnly, Enabled}
 use Rattle.sd_inherit.specs.declared.plan.Target.TheVariants.{Container, File}
-use Rattle.sd_answer.specs.declared.job.Act.TheVariants.{Convert, Derive, Explain}
+use Rattle.sd_answer.specs.declared.job.Act.TheVariants.{Check, Convert, Derive, Explain}
 use Rattle.sd_answer.specs.declared.job.Form.TheVariants.{Base64, Hex, Sddl}
 use Rattle.sd_answer.specs.declared.job.Job.{Job}
 use Rattle.sd_answer.specs.declared.job.OutputForm.TheVariants as output
 use Rattle.sd_command_line.specs.declared.options.OptionName.TheVariants as name
 use Rattle.sd_command.specs.declared.settings.UsageFault.TheVariants.{NoCommand, Unasked, Value}
 use Rattle.sd_command.specs.declared.settings.CommandName.TheVariants as command
+use Rattle.sd_run.specs.declared.engine.RunFault.{RunFault}
 use Rattle.sd_run.specs.declared.engine.RunFault.TheVariants.{Read, TooManyReads, Write}
 use Rattle.sd_command_line.specs.CommandLine.{bare_line, check_line, convert_line, derive_line, explain_line, line}
 use Rattle.sd_command_line.specs.CommandLine.{option_text}
-use Rattle.sd_command.specs.Endings.{run_line, status_of}
-use Rattle.sd_command.specs.Settings.{command_reads, form_reads, level_reads, mapping_reads, target_reads}
+use Rattle.sd_run.specs.declared.engine.Report.{Report}
+use Rattle.sd_run.specs.Told.{DrainTold, SourceTold}
+use Rattle.sd_command.specs.Endings.{EndsIdle, EndsRefused, EndsWithHelp, EndsWithoutMemory, IsIdle, IsIdleAt, RunOf}
+use Rattle.sd_command.specs.Endings.{Says, Told, run_line, status_of}
+use Rattle.sd_command.specs.Settings.{Settings, asked, check_own, domain_reads, given_level, given_object, given_sid}
+use Rattle.sd_command.specs.Settings.{command_reads, form_reads, given_token, given_want, level_reads, mapping_reads}
+use Rattle.sd_command.specs.Settings.{target_reads}
 use Rattle.sd_command.specs.TokenText.{entries_read}
 use Rattle.sd_command.specs.Usage.{usage_line}
 use Rattle.sd_command.specs.Settings.{command_chosen, convert_own, derive_own, given_creator, nobody, settings_of}
 use Rattle.sd_command.specs.Settings.{given_domain, given_kind, given_mapping, given_source, given_target, is_set}
 use Rattle.sd_command.specs.Settings.{needed_sid, task_with, with_creator}
-use Rattle.sd_rights.specs.Mapping.{directory_mapping, file_mapping, key_mapping}
+use Rattle.sd_rights.specs.Mapping.{directory_mapping, file_mapping, key_mapping, mapped}
 
 abbrev hex_to_hex : Job
 hex_to_hex = record { source = Hex; act = Convert output.Hex; domain = None; numeric = false }
@@ -185,3 +198,222 @@ pub deny_only : entries_read None (codes "WD,!SY") ≡ Some
     ((record { authority = 1; subs = 0 ∷ [] }, Enabled) ∷ (record { authority = 5; subs = 18 ∷ [] }, DenyOnly) ∷ [])
 unfolding entries_read sid_reads letters_read
 deny_only = refl
+
+-- `unfolding settled_words` lets `refl` compute what words settle
+settled_words : Unit {0}
+unfolding settings_of command_chosen convert_own check_own derive_own with_creator task_with given_creator given_domain
+    given_source given_target given_mapping given_kind given_sid needed_sid given_token given_want given_object
+    given_level asked is_set domain_reads sid_reads has_form letters_read numbers_read entries_read rights_reads run_of
+    guid_reads by_index mapped means body_reads line bare_line convert_line explain_line check_line derive_line
+    clap_on_literals
+settled_words = tt
+
+-- ---- a check, with all its options
+
+a_domain : SecurityId
+a_domain = record { authority = 5; subs = 21 ∷ 1 ∷ 2 ∷ 3 ∷ [] }
+
+domain_admins : SecurityId
+domain_admins = record { authority = 5; subs = 21 ∷ 1 ∷ 2 ∷ 3 ∷ 512 ∷ [] }
+
+user_class : List ℕ
+user_class =
+    0xbf ∷ 0x96 ∷ 0x7a ∷ 0xba ∷ 0x0d ∷ 0xe6 ∷ 0x11 ∷ 0xd0 ∷ 0xa2 ∷ 0x85 ∷ 0x00 ∷ 0xaa ∷ 0x00 ∷ 0x30 ∷ 0x49 ∷ 0xe2 ∷ []
+
+check_with : List Text → List Text
+check_with options = codes "sdtool" ∷ codes "check" ∷ options
+
+of_everyone : List Text → List Text
+of_everyone options = check_with (codes "--token" ∷ codes "WD" ∷ options)
+
+-- to read a key is 0x20019
+pub all_options : settings_of (check_with (codes "--domain" ∷ codes "S-1-5-21-1-2-3" ∷ codes "--from" ∷ codes "base64"
+    ∷ codes "--token" ∷ codes "WD,!DA" ∷ codes "--want" ∷ codes "GR" ∷ codes "--type" ∷ codes "key"
+    ∷ codes "--object" ∷ codes "bf967aba-0de6-11d0-a285-00aa003049e2" ∷ codes "--self" ∷ codes "DA"
+    ∷ codes "--security" ∷ codes "--take-ownership" ∷ codes "--level" ∷ codes "8192" ∷ []))
+    ≡ Ok (record {
+      task = record {
+        job = record {
+          source = Base64;
+          act = Check (record {
+            wanted = 0x20019;
+            maximum = false;
+            mapping = key_mapping;
+            object = Some user_class;
+            principal_self = Some domain_admins;
+            security = true;
+            take_ownership = true;
+          });
+          domain = Some a_domain;
+          numeric = false;
+        };
+        creator = None;
+      };
+      holder = record {
+        entries = (record { authority = 1; subs = 0 ∷ [] }, Enabled) ∷ (domain_admins, DenyOnly) ∷ [];
+        level = Some 8192;
+      };
+    })
+unfolding settled_words check_with a_domain domain_admins user_class
+all_options = refl
+
+-- what Everyone asks of a file, with these rights and this maximum
+asks : ℕ → Bool → Settings
+asks wanted maximum = record {
+  task = record {
+    job = record {
+      source = Hex;
+      act = Check (record {
+        wanted = wanted;
+        maximum = maximum;
+        mapping = file_mapping;
+        object = None;
+        principal_self = None;
+        security = false;
+        take_ownership = false;
+      });
+      domain = None;
+      numeric = false;
+    };
+    creator = None;
+  };
+  holder = record { entries = (record { authority = 1; subs = 0 ∷ [] }, Enabled) ∷ []; level = None };
+}
+
+-- the maximum is asked for by its option, or by bit 25 of the rights, which is no right itself
+pub maximum : settings_of (of_everyone (codes "--maximum" ∷ [])) ≡ Ok (asks 0 true)
+unfolding settled_words check_with of_everyone asks
+maximum = refl
+
+pub maximum_by_its_bit : settings_of (of_everyone (codes "--want" ∷ codes "0x2000001" ∷ [])) ≡ Ok (asks 1 true)
+unfolding settled_words check_with of_everyone asks
+maximum_by_its_bit = refl
+
+pub rights_alone : settings_of (of_everyone (codes "--want" ∷ codes "SD" ∷ [])) ≡ Ok (asks 0x10000 false)
+unfolding settled_words check_with of_everyone asks
+rights_alone = refl
+
+pub unasked : map settings_of
+    (of_everyone [] ∷ of_everyone (codes "--want" ∷ codes "0" ∷ [])
+    ∷ of_everyone (codes "--want" ∷ codes "0x4000001" ∷ []) ∷ of_everyone (codes "--want" ∷ codes "0x8000001" ∷ [])
+    ∷ [])
+    ≡ Err (Unasked EmptyRequest) ∷ Err (Unasked EmptyRequest) ∷ Err (Unasked ReservedBits)
+    ∷ Err (Unasked ReservedBits) ∷ []
+unfolding settled_words check_with of_everyone
+unasked = refl
+
+-- ---- of two options that do not read the first in order is told
+
+pub order_of_check : map settings_of
+    (check_with (codes "--domain" ∷ codes "?" ∷ codes "--from" ∷ codes "?" ∷ codes "--token" ∷ codes "WD" ∷ [])
+    ∷ check_with (codes "--from" ∷ codes "?" ∷ codes "--type" ∷ codes "?" ∷ codes "--token" ∷ codes "WD" ∷ [])
+    ∷ check_with (codes "--type" ∷ codes "?" ∷ codes "--token" ∷ codes "?" ∷ [])
+    ∷ check_with (codes "--token" ∷ codes "?" ∷ codes "--want" ∷ codes "?" ∷ [])
+    ∷ of_everyone (codes "--want" ∷ codes "?" ∷ codes "--object" ∷ codes "?" ∷ [])
+    ∷ of_everyone (codes "--object" ∷ codes "?" ∷ codes "--self" ∷ codes "?" ∷ [])
+    ∷ of_everyone (codes "--self" ∷ codes "?" ∷ codes "--level" ∷ codes "?" ∷ [])
+    ∷ of_everyone (codes "--level" ∷ codes "?" ∷ []) ∷ [])
+    ≡ Err (Value name.Domain) ∷ Err (Value name.From) ∷ Err (Value name.Type) ∷ Err (Value name.Token)
+    ∷ Err (Value name.Want) ∷ Err (Value name.Object) ∷ Err (Value name.PrincipalSelf) ∷ Err (Value name.Level) ∷ []
+unfolding settled_words check_with of_everyone
+order_of_check = refl
+
+convert_with : List Text → List Text
+convert_with options = codes "sdtool" ∷ codes "convert" ∷ options
+
+derive_with : Text → Text → Text → List Text → List Text
+derive_with kind owner group options =
+    codes "sdtool" ∷ codes "derive" ∷ codes "--kind" ∷ kind ∷ codes "--owner" ∷ owner ∷ codes "--group" ∷ group
+    ∷ options
+
+pub order_of_convert : map settings_of
+    (convert_with (codes "--domain" ∷ codes "DA" ∷ codes "--from" ∷ codes "?" ∷ [])
+    ∷ convert_with (codes "--from" ∷ codes "?" ∷ codes "--to" ∷ codes "?" ∷ []) ∷ [])
+    ≡ Err (Value name.Domain) ∷ Err (Value name.From) ∷ []
+unfolding settled_words convert_with
+order_of_convert = refl
+
+pub order_of_derive : map settings_of
+    (derive_with (codes "file") (codes "SY") (codes "SY") (codes "--from" ∷ codes "?" ∷ codes "--to" ∷ codes "?" ∷ [])
+    ∷ derive_with (codes "file") (codes "SY") (codes "SY") (codes "--to" ∷ codes "?" ∷ codes "--type" ∷ codes "?" ∷ [])
+    ∷ derive_with (codes "?") (codes "SY") (codes "SY") (codes "--type" ∷ codes "?" ∷ [])
+    ∷ derive_with (codes "?") (codes "?") (codes "SY") []
+    ∷ derive_with (codes "file") (codes "DA") (codes "?") []
+    ∷ derive_with (codes "file") (codes "SY") (codes "DA") (codes "--creator" ∷ codes "?" ∷ [])
+    ∷ derive_with (codes "file") (codes "SY") (codes "SY") (codes "--creator" ∷ codes "O:DA" ∷ []) ∷ [])
+    ≡ Err (Value name.From) ∷ Err (Value name.To) ∷ Err (Value name.Type) ∷ Err (Value name.Kind)
+    ∷ Err (Value name.Owner) ∷ Err (Value name.Group) ∷ Err (Value name.Creator) ∷ []
+unfolding settled_words derive_with
+order_of_derive = refl
+
+-- aliases of a domain, in the owner and in the creator's descriptor
+pub derived_in_a_domain : settings_of (derive_with (codes "container") (codes "DA") (codes "SY")
+    (codes "--domain" ∷ codes "S-1-5-21-1-2-3" ∷ codes "--creator" ∷ codes "O:DA" ∷ codes "--to" ∷ codes "base64"
+    ∷ codes "--type" ∷ codes "ds" ∷ codes "--numeric" ∷ []))
+    ≡ Ok (record {
+      task = record {
+        job = record {
+          source = Hex;
+          act = Derive (record {
+            target = Container;
+            owner = domain_admins;
+            group = record { authority = 5; subs = 18 ∷ [] };
+            mapping = directory_mapping;
+          }) output.Base64;
+          domain = Some a_domain;
+          numeric = true;
+        };
+        creator = Some (record {
+          control = 0x8000;
+          rm = 0;
+          owner = Some domain_admins;
+          group = None;
+          sacl = acl.Absent;
+          dacl = acl.Absent;
+        });
+      };
+      holder = nobody;
+    })
+unfolding settled_words derive_with a_domain domain_admins
+derived_in_a_domain = refl
+
+-- a domain has room for one sub-authority more
+pub domains : map domain_reads
+    (codes "S-1-5-21-1-2-3" ∷ codes "DA" ∷ codes "S-1-5-1-2-3-4-5-6-7-8-9-10-11-12-13-14"
+    ∷ codes "S-1-5-1-2-3-4-5-6-7-8-9-10-11-12-13-14-15" ∷ [])
+    ≡ Some a_domain ∷ None
+    ∷ Some (record { authority = 5; subs = 1 ∷ 2 ∷ 3 ∷ 4 ∷ 5 ∷ 6 ∷ 7 ∷ 8 ∷ 9 ∷ 10 ∷ 11 ∷ 12 ∷ 13 ∷ 14 ∷ [] }) ∷ None ∷ []
+unfolding settled_words a_domain
+domains = refl
+
+-- ---- endings
+
+pub without_memory : (told told' : Told) (status : ℕ) → EndsWithoutMemory told told' status
+    → (status ≡ 4) × IsIdle told.source told'.source told.output told'.output
+    × Says (codes "sdtool: no memory\n") told.faults told'.faults
+without_memory told told' status h = h
+
+pub refused : (told told' : Told) (status : ℕ) → EndsRefused told told' status
+    → (status ≡ 2) × IsIdle told.source told'.source told.output told'.output
+    × Says (codes "sdtool: usage\n") told.faults told'.faults
+refused told told' status h = h
+
+pub helped : (told told' : Told) (status : ℕ) → EndsWithHelp told told' status
+    → (status ≡ 0) × (told'.source ≡ told.source) × (told'.faults ≡ told.faults)
+helped told told' status (is, reads, says, grows) = (is, reads, says)
+
+pub idle_at_2 : (told told' : Told) → IsIdleAt 2 told told' → IsIdle told.source told'.source told.output told'.output
+idle_at_2 told told' h = h (inl refl)
+
+pub idle_at_4 : (told told' : Told) → IsIdleAt 4 told told' → IsIdle told.source told'.source told.output told'.output
+idle_at_4 told told' h = h (inr refl)
+
+-- a run makes at most 2 ^ 40 reads, and no comparison is counted before it
+pub most_reads : (settings : Settings) (source source' : SourceTold) (output output' : DrainTold) (report : Report)
+    → RunOf settings source source' output output' (Ok report) → source'.reads ≤ source.reads + 1099511627776
+most_reads settings source source' output output' report run = run.outcome.reads
+
+pub new_token : (settings : Settings) (source source' : SourceTold) (output output' : DrainTold)
+    (result : Result Report RunFault) (run : RunOf settings source source' output output' result)
+    → run.token.compared ≡ 0
+new_token settings source source' output output' result run = run.none_compared

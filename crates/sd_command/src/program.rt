@@ -14,7 +14,7 @@ use crate::derive_settings::give_creator;
 use crate::settings::{UsageFault, choose};
 use clap::ArgMatches;
 use sd_buffer::{SdBuf, TextBuf};
-use sd_command_line::{Refusal, parse_words};
+use sd_command_line::{NO_MEMORY_LINE, Refusal, USAGE_LINE, parse_words};
 use sd_run::{Drain, Engine, RunFault, Source, run, write_whole};
 use sd_sink::NoMemory;
 use sd_token::Token;
@@ -191,11 +191,11 @@ fn stopped<R: Source, W: Drain, E: Drain>(
     match stop {
         Stop::Refused(refusal) => match refusal {
             Refusal::NoMemory => {
-                say(faults, "sdtool: no memory\n");
+                say(faults, NO_MEMORY_LINE);
                 4
             }
             Refusal::Usage => {
-                say(faults, "sdtool: usage\n");
+                say(faults, USAGE_LINE);
                 2
             }
             Refusal::Help(text) => {
@@ -232,8 +232,8 @@ fn answered<R: Source, W: Drain, E: Drain>(
     }
 }
 
-// What the fault stream gets after a fault of the run.
-fn run_line(fault: RunFault) -> &'static str
+/// What the fault stream gets after a fault of the run.
+pub fn run_line(fault: RunFault) -> &'static str
     ensures { result.now ≡ ends.run_line fault }
 {
     match fault {

@@ -17,7 +17,7 @@ use crate::token_text::sid_under;
 use clap::ArgMatches;
 use sd_answer::{Act, Form, Job, OutputForm};
 use sd_check::AskFault;
-use sd_command_line::OptionName;
+use sd_command_line::{OptionName, USAGE_LINE};
 use sd_rights::Mapping;
 use sd_sid::Sid;
 use sd_text::MOST_SUBS;
@@ -69,7 +69,7 @@ impl UsageFault {
         ensures said { result.now ≡ usage_line self }
     {
         match self {
-            UsageFault::NoCommand => "sdtool: usage\n",
+            UsageFault::NoCommand => USAGE_LINE,
             UsageFault::Value(option) => option.row().fault_line,
             UsageFault::Unasked(AskFault::EmptyRequest) => "sdtool: error 50 empty-request\n",
             UsageFault::Unasked(AskFault::ReservedBits) => "sdtool: error 51 reserved-bits\n",

@@ -2,8 +2,10 @@
 #![tactic(auto)]
 
 mod command_line;
+mod fault_lines;
 mod options;
 mod parse;
 
+pub use fault_lines::{NO_MEMORY_LINE, USAGE_LINE};
 pub use options::{OptionName, OptionRow};
 pub use parse::{Refusal, parse_words};

@@ -4,7 +4,9 @@
 
 ghost use Rattle.std.specs.Prelude.{◌≡◌, ◌⊎◌, ◌==◌, codes, if◌then◌else◌, MatchResult};
 ghost use Rattle.std.specs.Process.{exit_status};
+ghost use Rattle.sd_command_line.specs.FaultLines.{fault_line};
 
+use sd_command_line::{NO_MEMORY_LINE, USAGE_LINE};
 use sd_filter::{FromRead, ToWrite, command};
 use std::env::{self, Env};
 use std::io::{BufWriter, ErrorKind};
@@ -20,7 +22,7 @@ const GATHERED: usize = 1 << 16;
 fn main(rt: HostRuntime) -> ExitCode {
     let ended = run(&rt);
     if let Err(status) = ended {
-        let _ = eprintln!(rt; "{}", reason(status));
+        let _ = eprint!(rt; "{}", reason(status));
     }
     exit_code(ended)
 }
@@ -68,11 +70,11 @@ fn words(rt: &(impl Env + AllocGlobal)) -> Result<Vec<String>, u8>
 }
 
 fn reason(status: u8) -> &'static str
-    ensures { result.now ≡ (if status == 4 then codes "sdtool: no memory" else codes "sdtool: usage") }
+    ensures { result.now ≡ fault_line (if status == 4 then codes "no memory" else codes "usage") }
 {
     if status == NO_MEMORY {
-        "sdtool: no memory"
+        NO_MEMORY_LINE
     } else {
-        "sdtool: usage"
+        USAGE_LINE
     }
 }
