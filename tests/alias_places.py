@@ -1,10 +1,10 @@
 #!/usr/bin/env python3
 """alias_places.py [--check]
 
-Writes crates/sd_sid/src/alias_places.rt from the tables of crates/sd_sid/src/alias.rt: where the entry of each two
+Writes crates/sd_alias/src/places.rt from the tables of crates/sd_alias/src/table.rt: where the entry of each two
 letters is, and where the rows of one authority begin and end. With --check it writes nothing, and fails if the file is
 stale; the last line is then 'N passed, M failed'. What the file says is proved all the same: a wrong place fails the
-check of sd_sid.
+check of sd_alias.
 """
 import argparse
 import pathlib
@@ -15,8 +15,8 @@ import textwrap
 sys.dont_write_bytecode = True
 import preload  # noqa: E402
 
-SOURCES = pathlib.Path(__file__).resolve().parent.parent / "crates/sd_sid/src"
-TABLES, PLACES = SOURCES / "alias.rt", SOURCES / "alias_places.rt"
+SOURCES = pathlib.Path(__file__).resolve().parent.parent / "crates/sd_alias/src"
+TABLES, PLACES = SOURCES / "table.rt", SOURCES / "places.rt"
 KNOWN = re.compile(r"known!\(b'(\w)', b'(\w)', (\d+), (\d+), \[([\d, ]+)\]\)")
 RELATIVE = re.compile(r"relative!\(b'(\w)', b'(\w)', \d+\)")
 LETTERS = 26
@@ -24,7 +24,7 @@ LETTERS = 26
 # the first of these if there are two.
 GROUPS = [("CREATOR", "`S-1-3-N`", 3, 1, None), ("NT", "`S-1-5-N`", 5, 1, None), ("BUILTIN", "`S-1-5-32-N`", 5, 2, 32)]
 HEAD = """\
-//! Where each name of two letters is in the tables of aliases. `make figures` writes this file from `alias.rt`.
+//! Where each name of two letters is in the tables of aliases. `make figures` writes this file from `table.rt`.
 
 /// The letters from A to Z.
 pub const LETTERS: usize = 26;

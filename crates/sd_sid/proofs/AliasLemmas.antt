@@ -7,8 +7,8 @@ use Rattle.std.specs.Str.{bytes_eq}
 use Rattle.sd_text.proofs.laws.Bools.{and-assoc, and-false, and-true}
 use Rattle.sd_sid.specs.Sid.{SecurityId}
 use Rattle.sd_sid.specs.SidText.{relative_alias, same_sid, sid_in}
-use Rattle.sd_sid.specs.declared.alias.DomainRelative.{DomainRelative}
-use Rattle.sd_sid.specs.declared.alias.TheConstants.{DOMAIN_RELATIVE}
+use Rattle.sd_alias.specs.declared.table.DomainRelative.{DomainRelative}
+use Rattle.sd_alias.specs.declared.table.TheConstants.{DOMAIN_RELATIVE}
 
 not_empty : (f : List ℕ) (l : ℕ) → bytes_eq [] (f ++ l ∷ []) ≡ false
 not_empty [] l = refl

@@ -5,8 +5,8 @@ use Rattle.std.specs.Prelude.{◌==◌}
 use Rattle.std.specs.List.{find, list_all}
 use Rattle.sd_text.proofs.laws.Tables.{find-passes}
 use Rattle.sd_sid.specs.Sid.{SecurityId}
-use Rattle.sd_sid.specs.declared.alias.WellKnown.{WellKnown}
-use Rattle.sd_sid.specs.declared.alias.TheConstants.{WELL_KNOWN}
+use Rattle.sd_alias.specs.declared.table.WellKnown.{WellKnown}
+use Rattle.sd_alias.specs.declared.table.TheConstants.{WELL_KNOWN}
 use Rattle.sd_sid.specs.SidText.{known_sid, same_sid}
 use Rattle.sd_sid.proofs.laws.AliasLaws.{same_sid-eq}
 

@@ -1,5 +1,4 @@
 pub mod AliasLemmas
-pub mod AliasPlaces
 pub mod Cutting
 pub mod FormLemmas
 pub mod KnownCounts

@@ -1,4 +1,3 @@
-pub mod AliasValues
 pub mod Inner
 pub mod Naming
 pub mod Sid

@@ -11,9 +11,10 @@ use Rattle.sd_text.specs.Cuts.{Cuts, cut_at}
 use Rattle.sd_text.specs.Limits.{most_field, most_subs}
 use Rattle.sd_text.specs.Numbers.{hex_digits, number}
 use Rattle.sd_sid.specs.Sid.{SecurityId}
-use Rattle.sd_sid.specs.declared.alias.WellKnown.{WellKnown}
-use Rattle.sd_sid.specs.declared.alias.DomainRelative.{DomainRelative}
-use Rattle.sd_sid.specs.declared.alias.TheConstants.{WELL_KNOWN, DOMAIN_RELATIVE}
+use Rattle.sd_alias.specs.Names.{known_named, relative_named}
+use Rattle.sd_alias.specs.declared.table.WellKnown.{WellKnown}
+use Rattle.sd_alias.specs.declared.table.DomainRelative.{DomainRelative}
+use Rattle.sd_alias.specs.declared.table.TheConstants.{WELL_KNOWN, DOMAIN_RELATIVE}
 use Rattle.sd_sid.specs.declared.sid_text.SidFault.{SidFault}
 use Rattle.sd_sid.specs.declared.sid_text.SidFault.TheVariants as faults
 
@@ -65,12 +66,6 @@ unfoldable pub alias_of : SecurityId → Option SecurityId → Option (List ℕ)
 alias_of s domain = option_or (known_alias s) (option_and_then (relative_alias s) (usable domain))
 
 -- 3. What two letters name, in either case.
-
-abbrev pub known_named : ℕ → ℕ → Option WellKnown
-known_named a b = find (λ e. e.first == to_ascii_uppercase a && e.second == to_ascii_uppercase b) WELL_KNOWN
-
-abbrev pub relative_named : ℕ → ℕ → Option DomainRelative
-relative_named a b = find (λ e. e.first == to_ascii_uppercase a && e.second == to_ascii_uppercase b) DOMAIN_RELATIVE
 
 abbrev pub relative_reads : DomainRelative → Option SecurityId → Result SecurityId SidFault
 relative_reads e None = Err faults.NeedsDomain

@@ -2,7 +2,6 @@
 #![tactic(auto)]
 
 mod alias;
-mod alias_places;
 mod naming;
 mod sid;
 mod sid_text;

@@ -14,12 +14,13 @@ use Rattle.std.proofs.lemmas.Bool.{and_parts}
 use Rattle.sd_text.proofs.laws.Bools.{and-false}
 use Rattle.sd_sid.proofs.AliasLemmas.{find-same, in_domain, relative-test}
 use Rattle.sd_sid.specs.Sid.{SecurityId}
-use Rattle.sd_sid.specs.declared.alias.WellKnown.{WellKnown}
-use Rattle.sd_sid.specs.declared.alias.DomainRelative.{DomainRelative}
-use Rattle.sd_sid.specs.declared.alias.TheConstants.{WELL_KNOWN, DOMAIN_RELATIVE}
+use Rattle.sd_alias.specs.declared.table.WellKnown.{WellKnown}
+use Rattle.sd_alias.specs.declared.table.DomainRelative.{DomainRelative}
+use Rattle.sd_alias.specs.declared.table.TheConstants.{WELL_KNOWN, DOMAIN_RELATIVE}
 use Rattle.sd_sid.specs.declared.sid_text.SidFault.TheVariants as faults
-use Rattle.sd_sid.specs.SidText.{alias_of, has_form, known_alias, known_named, known_sid, letters_read, name_reads}
-use Rattle.sd_sid.specs.SidText.{numbers_read, or_number_fault, cut_at_dashes, relative_alias, relative_named, same_sid}
+use Rattle.sd_alias.specs.Names.{known_named, relative_named}
+use Rattle.sd_sid.specs.SidText.{alias_of, has_form, known_alias, known_sid, letters_read, name_reads}
+use Rattle.sd_sid.specs.SidText.{numbers_read, or_number_fault, cut_at_dashes, relative_alias, same_sid}
 use Rattle.sd_sid.specs.SidText.{sid_in, sid_reads, usable}
 
 -- 1. Tests over the tables.

@@ -9,14 +9,15 @@ use Rattle.std.specs.Option.{option_and_then, option_map}
 use Rattle.std.proofs.lemmas.Bool.Decides.{nat_tests}
 use Rattle.sd_sid.specs.Sid.{AreWords, IsSid, SecurityId}
 use Rattle.sd_sid.specs.SidText.{decimals_read, are_letters, are_numbers, are_subs, authority_reads, begins_with_s1}
-use Rattle.sd_sid.specs.SidText.{decimal_reads, has_form, is_decimal, is_hex, known_named, known_sid, letters_read}
-use Rattle.sd_sid.specs.SidText.{name_reads, numbers_read, or_number_fault, cut_at_dashes, relative_named, sid_in}
+use Rattle.sd_alias.specs.Names.{known_named, relative_named}
+use Rattle.sd_sid.specs.SidText.{decimal_reads, has_form, is_decimal, is_hex, known_sid, letters_read}
+use Rattle.sd_sid.specs.SidText.{name_reads, numbers_read, or_number_fault, cut_at_dashes, sid_in}
 use Rattle.sd_sid.specs.SidText.{sid_of_numbers, sid_reads, usable}
 use Rattle.sd_text.specs.Numbers.{number_after, number as number_below}
 use Rattle.sd_text.specs.Cuts.{Cuts}
-use Rattle.sd_sid.specs.declared.alias.WellKnown.{WellKnown}
-use Rattle.sd_sid.specs.declared.alias.DomainRelative.{DomainRelative}
-use Rattle.sd_sid.specs.declared.alias.TheConstants.{WELL_KNOWN, DOMAIN_RELATIVE}
+use Rattle.sd_alias.specs.declared.table.WellKnown.{WellKnown}
+use Rattle.sd_alias.specs.declared.table.DomainRelative.{DomainRelative}
+use Rattle.sd_alias.specs.declared.table.TheConstants.{WELL_KNOWN, DOMAIN_RELATIVE}
 use Rattle.sd_sid.specs.declared.sid_text.SidFault.{SidFault}
 use Rattle.sd_sid.specs.declared.sid_text.SidFault.TheVariants as faults
 use Rattle.std.proofs.lemmas.Bool.{and_parts}

@@ -1,6 +1,5 @@
 use Rattle.std.proofs.Common.{refl}
-use Rattle.std.specs.Fmt.{digits}
-use Rattle.sd_sid.specs.AliasValues.{KnownAliases, RelativeAliases}
+use Rattle.sd_alias.specs.AliasValues.{KnownAliases, RelativeAliases}
 use Rattle.sd_sid.proofs.laws.AliasLaws.{alias-back, alias-letters, alias-only}
 use Rattle.sd_sid.proofs.sid.Sid.alias.Goals as goal
 
@@ -14,7 +13,7 @@ pub returns-clause-only : goal.returns-clause-only
 returns-clause-only c = alias-only c.args.self.now _ _ c.alias_in.ensures
 
 pub returns-clause-known : goal.returns-clause-known
-unfolding KnownAliases digits
+unfolding KnownAliases
 returns-clause-known c = refl
 
 pub returns-clause-relative : goal.returns-clause-relative

@@ -1,7 +1,7 @@
 use Rattle.std.proofs.Common.{ap, sym, ◌∙◌}
 use Rattle.std.specs.Option.{option_copied}
-use Rattle.sd_sid.proofs.AliasPlaces.{place-none, place-some}
-use Rattle.sd_sid.proofs.alias.place_of.Goals as goal
+use Rattle.sd_alias.proofs.AliasPlaces.{place-none, place-some}
+use Rattle.sd_alias.proofs.lookup.place_of.Goals as goal
 
 pub returns-in-Some : goal.returns-in-Some
 returns-in-Some c =

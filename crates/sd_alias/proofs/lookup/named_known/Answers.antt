@@ -1,19 +1,20 @@
 use Rattle.std.proofs.Common.{ap, sym, ◌∙◌}
 use Rattle.std.specs.Option.{option_copied}
-use Rattle.sd_sid.proofs.AliasPlaces.{fails-first, fails-second, passes, known-looked-up}
-use Rattle.sd_sid.proofs.alias.named_known.Goals as goal
-use Rattle.sd_sid.proofs.alias.named_known.Goals.{in_default-via-in-Some+then-entry-first+else-entry-second}
-use Rattle.sd_sid.proofs.alias.named_known.Goals.{in_default-via-in-Some+else-entry-first, in_default-via-in_default}
+use Rattle.sd_alias.proofs.Values.{known-values}
+use Rattle.sd_alias.proofs.AliasPlaces.{fails-first, fails-second, passes, known-looked-up}
+use Rattle.sd_alias.proofs.lookup.named_known.Goals as goal
+use Rattle.sd_alias.proofs.lookup.named_known.Goals.{in_default-via-in-Some+then-entry-first+else-entry-second}
+use Rattle.sd_alias.proofs.lookup.named_known.Goals.{in_default-via-in-Some+else-entry-first, in_default-via-in_default}
 
-pub returns-in-Some : goal.returns-in-Some
-returns-in-Some c =
+pub returns-in-Some-clause-named : goal.returns-in-Some-clause-named
+returns-in-Some-clause-named c =
     let first = c.to_ascii_uppercase-first.ensures.value in
     let second = c.to_ascii_uppercase-second.ensures.value in
     passes _ _ _ _ _ (c.if-entry-first.true ∙ first) (c.if-entry-second.true ∙ second)
     ∙ known-looked-up _ _ _ _ _ _ first second c.place_of.ensures (sym (ap option_copied c.in-Some.is) ∙ c.entry_at.ensures)
 
-pub returns-in_default : goal.returns-in_default
-returns-in_default c =
+pub returns-in_default-clause-named : goal.returns-in_default-clause-named
+returns-in_default-clause-named c =
     let first = c.to_ascii_uppercase-first.ensures.value in
     let second = c.to_ascii_uppercase-second.ensures.value in
     elim c.in_default.branch [
@@ -26,3 +27,9 @@ returns-in_default c =
       | in_default-via-in_default w ↦
           known-looked-up _ _ _ _ _ _ first second c.place_of.ensures (sym (ap option_copied w.in_default.is) ∙ c.entry_at.ensures)
     ]
+
+pub returns-in-Some-clause-values : goal.returns-in-Some-clause-values
+returns-in-Some-clause-values c = known-values
+
+pub returns-in_default-clause-values : goal.returns-in_default-clause-values
+returns-in_default-clause-values c = known-values

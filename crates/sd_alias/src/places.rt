@@ -1,4 +1,4 @@
-//! Where each name of two letters is in the tables of aliases. `make figures` writes this file from `alias.rt`.
+//! Where each name of two letters is in the tables of aliases. `make figures` writes this file from `table.rt`.
 
 /// The letters from A to Z.
 pub const LETTERS: usize = 26;

@@ -5,11 +5,11 @@ use Rattle.std.specs.Prelude.{◌==◌, slice_get}
 use Rattle.std.specs.List.{find}
 use Rattle.std.proofs.lemmas.Bool.{and_parts}
 use Rattle.std.proofs.lemmas.Bool.Decides.{nat_tests}
-use Rattle.sd_sid.specs.Inner.Places.{place_of}
-use Rattle.sd_sid.specs.declared.alias.DomainRelative.{DomainRelative}
-use Rattle.sd_sid.specs.declared.alias.TheConstants.{DOMAIN_RELATIVE, WELL_KNOWN}
-use Rattle.sd_sid.specs.declared.alias.WellKnown.{WellKnown}
-use Rattle.sd_sid.specs.declared.alias_places.TheConstants.{NO, PLACES}
+use Rattle.sd_alias.specs.Inner.Places.{place_of}
+use Rattle.sd_alias.specs.declared.table.DomainRelative.{DomainRelative}
+use Rattle.sd_alias.specs.declared.table.TheConstants.{DOMAIN_RELATIVE, WELL_KNOWN}
+use Rattle.sd_alias.specs.declared.table.WellKnown.{WellKnown}
+use Rattle.sd_alias.specs.declared.places.TheConstants.{NO, PLACES}
 
 -- each element has the place at which it stands, where the list begins at the place i
 placed : {X : Type 0} → (X → ℕ) → ℕ → List X → Bool

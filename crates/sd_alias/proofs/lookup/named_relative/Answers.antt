@@ -1,24 +1,25 @@
 use Rattle.std.proofs.Common.{arith, ap, sym, ◌∙◌}
 use Rattle.std.specs.Option.{option_copied}
-use Rattle.sd_sid.proofs.AliasPlaces.{fails-first, fails-second, passes, relative-before, relative-looked-up}
-use Rattle.sd_sid.proofs.alias.named_relative.Goals as goal
-use Rattle.sd_sid.proofs.alias.named_relative.Goals.{in_default-via-in-Some+then-entry-first+else-entry-second}
-use Rattle.sd_sid.proofs.alias.named_relative.Goals.{in_default-via-in-Some+else-entry-first, in_default-via-in_default}
+use Rattle.sd_alias.proofs.Values.{relative-values}
+use Rattle.sd_alias.proofs.AliasPlaces.{fails-first, fails-second, passes, relative-before, relative-looked-up}
+use Rattle.sd_alias.proofs.lookup.named_relative.Goals as goal
+use Rattle.sd_alias.proofs.lookup.named_relative.Goals.{in_default-via-in-Some+then-entry-first+else-entry-second}
+use Rattle.sd_alias.proofs.lookup.named_relative.Goals.{in_default-via-in-Some+else-entry-first, in_default-via-in_default}
 
-pub returns-then-place-lt49 : goal.returns-then-place-lt49
-returns-then-place-lt49 c =
+pub returns-then-place-lt49-clause-named : goal.returns-then-place-lt49-clause-named
+returns-then-place-lt49-clause-named c =
     relative-before _ _ _ _ _ c.to_ascii_uppercase-first.ensures.value c.to_ascii_uppercase-second.ensures.value
     c.place_of-place.ensures c.if-place-lt49.true
 
-pub returns-in-Some : goal.returns-in-Some
-returns-in-Some c =
+pub returns-in-Some-clause-named : goal.returns-in-Some-clause-named
+returns-in-Some-clause-named c =
     let first = c.to_ascii_uppercase-first.ensures.value in
     let second = c.to_ascii_uppercase-second.ensures.value in
     passes _ _ _ _ _ (c.if-entry-first.true ∙ first) (c.if-entry-second.true ∙ second)
     ∙ relative-looked-up _ _ _ _ _ _ first second c.place_of-place.ensures (omega arith) (sym (ap option_copied c.in-Some.is) ∙ c.entry_at.ensures)
 
-pub returns-in_default : goal.returns-in_default
-returns-in_default c =
+pub returns-in_default-clause-named : goal.returns-in_default-clause-named
+returns-in_default-clause-named c =
     let first = c.to_ascii_uppercase-first.ensures.value in
     let second = c.to_ascii_uppercase-second.ensures.value in
     elim c.in_default.branch [
@@ -31,3 +32,12 @@ returns-in_default c =
       | in_default-via-in_default w ↦
           relative-looked-up _ _ _ _ _ _ first second c.place_of-place.ensures (omega arith) (sym (ap option_copied w.in_default.is) ∙ c.entry_at.ensures)
     ]
+
+pub returns-then-place-lt49-clause-values : goal.returns-then-place-lt49-clause-values
+returns-then-place-lt49-clause-values c = relative-values
+
+pub returns-in-Some-clause-values : goal.returns-in-Some-clause-values
+returns-in-Some-clause-values c = relative-values
+
+pub returns-in_default-clause-values : goal.returns-in_default-clause-values
+returns-in_default-clause-values c = relative-values

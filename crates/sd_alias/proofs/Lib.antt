@@ -1,0 +1,2 @@
+pub mod AliasPlaces
+pub mod Values

@@ -1,0 +1,3 @@
+pub mod AliasValues
+pub mod Inner
+pub mod Names
