@@ -6,7 +6,7 @@ use Rattle.std.proofs.lemmas.Bool.{le-leb}
 use Rattle.std.proofs.lemmas.List.{drop-set-lt, get_or-set_other, get_or-set_same, length-set}
 use Rattle.std.proofs.lemmas.Slice.{between-put_mid, take-put_mid_below}
 use borrow.Rule.Slice.PartMut.{put_mid}
-use Rattle.sd_text.specs.Limits.{most_entries}
+use Rattle.sd_token.specs.Limits.{most_entries}
 use Rattle.sd_sid.specs.Sid.{SecurityId}
 use Rattle.sd_token.specs.Token.{Entry}
 use Rattle.sd_token.specs.TokenWords.{entries_of, entry_of, keyed, sid_key}

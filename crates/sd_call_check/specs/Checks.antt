@@ -3,7 +3,7 @@ use Rattle.std.specs.Prelude.{◌≡◌, ◌⊎◌, ◌+◌, ℕ, List, [], ◌�
 use Rattle.std.specs.Prelude.{drop, Option, Some, None, Result, Ok, Err}
 use Rattle.uuid.specs.Parts.{swap_fields}
 use Rattle.sd_text.specs.Chains.{◌>>=◌, fault_as, unless}
-use Rattle.sd_text.specs.Limits.{most_entries}
+use Rattle.sd_token.specs.Limits.{most_entries}
 use Rattle.sd_rights.specs.Mapping.{GenericMapping}
 use Rattle.sd_sid.specs.Sid.{SecurityId, sid_at}
 use Rattle.sd_token.specs.Token.{Entry, Holder}

@@ -2,7 +2,7 @@
 use Rattle.std.specs.Prelude.{◌≡◌, ℕ, ◌+◌, ◌*◌, Bool, ◌&&◌, ◌==◌, if◌then◌else◌, List, length, take, drop}
 use Rattle.std.specs.Prelude.{nat_le, nat_lt, slice_index, slice_range, MatchResult, Option, Result, Ok, Err}
 use Rattle.sd_text.specs.Chains.{◌>>=◌}
-use Rattle.sd_text.specs.Limits.{most_entries}
+use Rattle.sd_token.specs.Limits.{most_entries}
 use Rattle.sd_token.specs.Token.{Entry, Holder}
 use Rattle.sd_token.specs.TokenWords.{entries_of, entry_words}
 use Rattle.sd_check.specs.declared.verdict.Verdict.{Verdict}

@@ -1,14 +1,13 @@
 //! The token that an access check is for.
 
 ghost use Rattle.std.specs.Prelude.{◌≡◌, ◌≤◌, ◌+◌, ◌++◌, [], length, MatchResult, Ok, Err};
-ghost use Rattle.sd_text.specs.Limits.{most_entries};
+ghost use Rattle.sd_token.specs.Limits.{most_entries};
 ghost use Rattle.sd_call_check.specs.Checks.{entries_from, entries_in, fault_of, holder_in, kind_in};
 
 use crate::request::Request;
 use sd_call::{Argument, CallFault};
 use sd_sid::Sid;
-use sd_text::MOST_ENTRIES;
-use sd_token::{EntryKind, Token};
+use sd_token::{EntryKind, MOST_ENTRIES, Token};
 
 /// Gives a new token its SIDs, one after the other, of which each has a byte of `kinds`, and its level.
 #[tactic(auto, unfolding(crate::specs::Checks::entries_in))]

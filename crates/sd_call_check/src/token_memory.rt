@@ -2,7 +2,7 @@
 
 ghost use Rattle.std.specs.Prelude.{◌≡◌, ◌≤◌, ◌<◌, ◌+◌, ◌*◌, ℕ, [], ◌∷◌, ◌++◌, length, take, drop, slice_index, slice_range};
 ghost use Rattle.std.specs.Prelude.{MatchResult, IsTrue, Ok, Err};
-ghost use Rattle.sd_text.specs.Limits.{most_entries};
+ghost use Rattle.sd_token.specs.Limits.{most_entries};
 ghost use Rattle.sd_token.specs.TokenWords.{entries_of, entry_words};
 ghost use Rattle.sd_call_check.specs.Checks.{entries_from};
 ghost use Rattle.sd_call_check.specs.TokenMemory.{ReadsToken, entries_at, entries_held, holder_held, holds_token, token_size};
@@ -10,8 +10,7 @@ ghost use Rattle.sd_call_check.specs.TokenMemory.{ReadsToken, entries_at, entrie
 use crate::token::kind_in;
 use sd_call::{Argument, CallFault, Outcome, done, failed, too_small};
 use sd_sid::Sid;
-use sd_text::MOST_ENTRIES;
-use sd_token::{ENTRY_WORDS, EntryKind, LentToken, key_of, words_of};
+use sd_token::{ENTRY_WORDS, EntryKind, LentToken, MOST_ENTRIES, key_of, words_of};
 
 /// The first number of memory that holds a token.
 const MARK: u32 = 0x6B6F_7473;

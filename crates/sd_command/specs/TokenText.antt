@@ -5,7 +5,7 @@ use Rattle.std.specs.Str.{byte as char}
 use Rattle.std.specs.Result.{result_ok}
 use Rattle.sd_text.specs.Chains.{all_read}
 use Rattle.clap.specs.Words.{Text}
-use Rattle.sd_text.specs.Limits.{most_entries}
+use Rattle.sd_token.specs.Limits.{most_entries}
 use Rattle.sd_sid.specs.Sid.{SecurityId}
 use Rattle.sd_sid.specs.SidText.{sid_reads}
 use Rattle.sd_token.specs.Token.{Entry}

@@ -1,7 +1,6 @@
 -- The limits, each in numbers that were worked out by hand.
 use Rattle.std.proofs.Common.{◌≡◌, refl}
-use Rattle.sd_text.specs.Limits.{most_acl, most_base64_text, most_entries, most_field, most_hex_text, most_sddl_text}
-use Rattle.sd_text.specs.Limits.{most_subs}
+use Rattle.sd_text.specs.Limits.{most_acl, most_base64_text, most_field, most_hex_text, most_sddl_text, most_subs}
 
 -- MS-DTYP 2.4.2.2: the count of sub-authorities is at most 15
 sub_authorities : most_subs ≡ 15
@@ -10,9 +9,6 @@ sub_authorities = refl
 -- MS-DTYP 2.4.5: a size of 16 bits
 acl_bytes : most_acl ≡ 65535
 acl_bytes = refl
-
-token_entries : most_entries ≡ 1024
-token_entries = refl
 
 -- "S-1-0x", twelve digits, and fifteen times "-4294967295"
 field_bytes : most_field ≡ 183

@@ -1,16 +1,13 @@
 -- The limits of the definitions and of the code, written out, each with the calculation behind it.
 use Rattle.std.specs.Prelude.{◌≡◌, ◌+◌, ◌-◌, ◌*◌, ◌/◌, ◌^◌}
-use Rattle.sd_text.specs.Limits.{most_acl, most_base64_text, most_entries, most_field, most_hex_text, most_sddl_text}
-use Rattle.sd_text.specs.Limits.{most_subs}
-use Rattle.sd_text.specs.declared.limits.TheConstants.{MOST_BASE64_TEXT, MOST_ENTRIES, MOST_FIELD_SIZE, MOST_HEX_TEXT}
+use Rattle.sd_text.specs.Limits.{most_acl, most_base64_text, most_field, most_hex_text, most_sddl_text, most_subs}
+use Rattle.sd_text.specs.declared.limits.TheConstants.{MOST_BASE64_TEXT, MOST_FIELD_SIZE, MOST_HEX_TEXT}
 use Rattle.sd_text.specs.declared.limits.TheConstants.{MOST_SDDL_TEXT, MOST_SUBS}
 
 unfoldable pub LimitValues : Type 0
 LimitValues =
     (most_subs ≡ 15)
     × (MOST_SUBS ≡ 15)
-    × (most_entries ≡ 1024)
-    × (MOST_ENTRIES ≡ 1024)
     × (most_acl ≡ 2 ^ 16 - 1)
     -- S-1-, 0x and twelve digits, and 15 times a dash and ten digits
     × (most_field ≡ 4 + 14 + 15 * 11)

@@ -1,5 +1,5 @@
 //! What the readers and printers of texts share: numbers in digits, and names of two letters for bits. It also has the
-//! limits of texts, SIDs and tokens.
+//! limits of texts and SIDs.
 #![tactic(auto)]
 
 mod digits;
@@ -8,8 +8,6 @@ mod names;
 mod numbers;
 
 pub use digits::{hex_digit, print_decimal, print_decimal_behind, print_hex};
-pub use limits::{
-    MOST_BASE64_TEXT, MOST_ENTRIES, MOST_FIELD_SIZE, MOST_HEX_TEXT, MOST_SDDL_TEXT, MOST_SUBS,
-};
+pub use limits::{MOST_BASE64_TEXT, MOST_FIELD_SIZE, MOST_HEX_TEXT, MOST_SDDL_TEXT, MOST_SUBS};
 pub use names::{NamedBits, print_names, read_names};
 pub use numbers::{front_decimal, read_number};

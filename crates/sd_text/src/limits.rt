@@ -7,9 +7,6 @@ pub const MOST_FIELD_SIZE: usize = 183;
 /// The sub-authorities that a SID has at most (MS-DTYP 2.4.2).
 pub const MOST_SUBS: usize = 15;
 
-/// The entries that a token has at most.
-pub const MOST_ENTRIES: usize = 1024;
-
 /// The hex digits of a line at most: two for each of 131,226 bytes.
 pub const MOST_HEX_TEXT: usize = 262_452;
 

@@ -1,7 +1,7 @@
 -- Whom a token meets, and how many entries it has at most.
 use Rattle.std.proofs.Common.{◌≡◌, ℕ, List, [], ◌∷◌, None, true, false, refl, arith}
-use Rattle.sd_text.specs.Limits.{most_entries}
-use Rattle.sd_text.specs.declared.limits.TheConstants.{MOST_ENTRIES}
+use Rattle.sd_token.specs.Limits.{most_entries}
+use Rattle.sd_token.specs.declared.limits.TheConstants.{MOST_ENTRIES}
 use Rattle.sd_sid.specs.Sid.{SecurityId}
 use Rattle.sd_token.specs.Token.{Asks, Compares, TokenShown, meets}
 use Rattle.sd_token.specs.TokenWords.{entries_of, entry_of, nobody, sid_key}

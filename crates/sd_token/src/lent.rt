@@ -2,7 +2,7 @@
 
 ghost use Rattle.std.specs.Prelude.{◌≡◌, ◌≤◌, ◌<◌, ◌*◌, length, slice_index_or};
 ghost use Rattle.sd_sink.specs.Counts.{counted};
-ghost use Rattle.sd_text.specs.Limits.{most_entries};
+ghost use Rattle.sd_token.specs.Limits.{most_entries};
 ghost use Rattle.sd_token.specs.Token.{entry_meets};
 ghost use Rattle.sd_token.specs.TokenWords.{entries_of, entry_words};
 
@@ -28,7 +28,7 @@ pub struct Looks {
 
 impl<'a> Model for LentToken<'a> {
     ghost use Rattle.std.specs.Prelude.{◌≡◌, ◌≤◌, ◌*◌, length};
-    ghost use Rattle.sd_text.specs.Limits.{most_entries};
+    ghost use Rattle.sd_token.specs.Limits.{most_entries};
     ghost use Rattle.sd_token.specs.Token.{TokenShown};
     ghost use Rattle.sd_token.specs.TokenWords.{entries_of, entry_words};
 

@@ -2,9 +2,11 @@
 #![tactic(auto)]
 
 mod lent;
+mod limits;
 mod token;
 mod words;
 
 pub use lent::{LentToken, Looks};
+pub use limits::MOST_ENTRIES;
 pub use token::{EntryKind, Token, TokenFull};
 pub use words::{ENTRY_WORDS, key_of, words_of};

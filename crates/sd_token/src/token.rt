@@ -3,14 +3,14 @@
 ghost use Rattle.std.specs.Prelude.{◌≡◌, ◌≤◌, ◌<◌, ◌↔◌, ◌++◌, [], ◌∷◌, None, length, slice_index_or, IfOk, OnOk, OnErr};
 ghost use Rattle.std.specs.Prelude.{IsErr};
 ghost use Rattle.sd_sink.specs.Counts.{counted};
-ghost use Rattle.sd_text.specs.Limits.{most_entries};
+ghost use Rattle.sd_token.specs.Limits.{LimitValues, most_entries};
 ghost use Rattle.sd_token.specs.Token.{entry_meets};
 
 use crate::lent::{LentToken, Looks};
+use crate::limits::MOST_ENTRIES;
 use crate::words::{ENTRY_WORDS, key_of, words_of};
 use sd_sid::Sid;
 use sd_sink::NoMemory;
-use sd_text::MOST_ENTRIES;
 use std::alloc::Global;
 use std::marker::Model;
 
@@ -42,7 +42,7 @@ pub struct Token {
 
 impl Model for Token {
     ghost use Rattle.std.specs.Prelude.{◌≡◌, ◌≤◌, ◌*◌, vec_capacity, vec_len};
-    ghost use Rattle.sd_text.specs.Limits.{most_entries};
+    ghost use Rattle.sd_token.specs.Limits.{most_entries};
     ghost use Rattle.sd_token.specs.Token.{TokenShown};
     ghost use Rattle.sd_token.specs.TokenWords.{entries_of, entry_words};
 
@@ -81,7 +81,7 @@ impl Token {
 
     /// Adds an entry after the others. An entry that the token has already is kept a second time.
     /// Where it has 1,024 entries, nothing changes.
-    #[tactic(auto, using(crate::proofs::TokenLemmas::as_many, crate::proofs::TokenLemmas::entries_push))]
+    #[tactic(auto, using(crate::proofs::TokenLemmas::as_many, crate::proofs::TokenLemmas::entries_push), unfolding(crate::specs::Limits::LimitValues))]
     pub fn add(&mut self, sid: Sid, kind: EntryKind) -> Result<(), TokenFull>
         ensures full { IsErr result ↔ (most_entries ≤ length self.old.holder.entries) }
         ensures added { OnOk result
@@ -89,6 +89,8 @@ impl Token {
         ensures unchanged { OnErr result (self.new ≡ self.old) }
         ensures compared { self.new.compared ≡ self.old.compared }
         ensures room { self.old.room ≤ self.new.room }
+        // The limit has the value that LimitValues writes out.
+        ensures limit { LimitValues }
     {
         if self.keys.len() >= MOST_ENTRIES {
             return Err(TokenFull);

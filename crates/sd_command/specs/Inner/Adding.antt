@@ -3,7 +3,7 @@
 use Rattle.std.specs.Prelude.{nat_lt, Result, Ok, Err, if◌then◌else◌, ◌++◌, List, [], ◌∷◌, length, Option, Some, None}
 use Rattle.std.specs.Option.{option_and_then}
 use Rattle.clap.specs.Words.{Text}
-use Rattle.sd_text.specs.Limits.{most_entries}
+use Rattle.sd_token.specs.Limits.{most_entries}
 use Rattle.sd_sid.specs.Sid.{SecurityId}
 use Rattle.sd_token.specs.Token.{Entry}
 use Rattle.sd_command.specs.TokenText.{entry_reads}
