@@ -35,7 +35,7 @@ use Rattle.sd_control.specs.declared.part.SidPart.{SidPart}
 use Rattle.sd_control.specs.declared.part.SidPart.TheVariants as sids
 use Rattle.sd_view.proofs.laws.ApartLaws.{six-apart}
 use Rattle.sd_view.proofs.laws.AceLists.{all-more, size-more}
-use Rattle.sd_view.proofs.laws.AclLayoutLaws.{aces-many, length-aces}
+use Rattle.sd_view.proofs.laws.AclLayoutSizes.{aces-many, length-aces}
 use Rattle.sd_builder.proofs.Order.{given-reopened, more-order, null-order, order-reopened}
 use Rattle.sd_builder.proofs.Standing.{IsOneMore, given-none, list-more, none-given, null-more, room, sid-more}
 

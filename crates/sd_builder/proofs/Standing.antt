@@ -24,7 +24,7 @@ use Rattle.sd_control.specs.declared.part.Part.{Part}
 use Rattle.sd_control.specs.declared.part.Part.TheVariants as part
 use Rattle.sd_control.proofs.laws.PartLaws.{each-part, get-other, get-set}
 use Rattle.sd_view.proofs.laws.ApartLaws.{apart-with}
-use Rattle.sd_view.proofs.laws.AclLayoutLaws.{length-acl_bytes}
+use Rattle.sd_view.proofs.laws.AclLayoutSizes.{length-acl_bytes}
 
 -- what stands in some bytes stands in others
 abbrev pub Kept : List ℕ → List ℕ → Type 0

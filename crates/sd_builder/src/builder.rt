@@ -16,8 +16,8 @@ use sd_buffer::SdBuf;
 use sd_control::{
     ACL_HEADER_SIZE, HEADER_SIZE, MOST_ACL_SIZE, Part, Parts, Which, control_of, header,
 };
+use sd_layout::acl_header;
 use sd_sid::Sid;
-use sd_view::acl_header;
 
 /// The ACL would pass 65,535 bytes.
 #[derive(Clone, Copy, Debug, PartialEq, Eq)]

@@ -4,8 +4,9 @@ ghost use Rattle.std.specs.Prelude.{◌≡◌};
 ghost use Rattle.sd_view.specs.Layout.{layout};
 
 use sd_buffer::SdBuf;
+use sd_layout::put_layout;
 use sd_sink::{Sink, SinkFault};
-use sd_view::{SdView, put_layout};
+use sd_view::SdView;
 
 /// Replaces the contents of the buffer by the layout of a descriptor.
 pub fn write_layout(view: &SdView<'_>, buf: &mut SdBuf)

@@ -16,8 +16,8 @@ use crate::printing::{print_aces, print_sid};
 use crate::reading::whole_sid;
 use crate::sizes::has_object;
 use sd_control::{HEADER_SIZE, Parts, control_of, header};
+use sd_layout::acl_header;
 use sd_sink::{Print, Printer, Sink, SinkFault};
-use sd_view::acl_header;
 
 /// Puts the layout of a new descriptor whose parts have these sizes.
 pub fn put_new<S: Sink>(

@@ -4,6 +4,5 @@ pub mod FirstFault
 pub mod Parts
 pub mod ReadLaws
 mod ShowsRows
-pub mod SizeLaws
 pub mod WrittenLaws
 pub mod laws

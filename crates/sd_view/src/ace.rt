@@ -266,8 +266,8 @@ impl<'a> AceView<'a> {
         }
     }
 
-    // The bytes of the GUIDs and of the SID.
-    pub(crate) fn body(&self) -> &'a [u8]
+    /// The bytes of the GUIDs and of the SID.
+    pub fn body(&self) -> &'a [u8]
         ensures value { result.now ≡ ace_body self.now }
         ensures size { front_size self.now.kind + length result.now ≡ ace_size self.now }
         ensures short { length result.now ≤ 100 }

@@ -1,9 +1,10 @@
 //! Access control lists read in place.
 
 ghost use Rattle.std.specs.Prelude.{◌≡◌, ◌≤◌, ◌<◌, ◌+◌, ◌^◌, length, take, drop, None, Some, IfOk};
-ghost use Rattle.std.specs.Prelude.{MatchResult, option_map};
+ghost use Rattle.std.specs.Prelude.{IfSome, MatchResult, option_map};
 ghost use Rattle.std.specs.Iterator.{YieldsFirst, item_count};
 ghost use Rattle.sd_view.specs.Acl.{IsAcl, acl_size, has_object};
+ghost use Rattle.sd_view.specs.AclLayout.{acl_bytes, acl_header};
 ghost use Rattle.sd_view.specs.AclReading.{ace_fault, ace_of, acl_fault, acl_of, acl_at_front, aces_fault, aces_of};
 ghost use Rattle.sd_view.specs.Inner.ReadableAcl.{IsReadableAcl};
 ghost use Rattle.sd_view.specs.Bytes.{u16_at as u16_of};
@@ -13,6 +14,7 @@ ghost use Rattle.sd_view.specs.Reading.{fault_in};
 use crate::ace::{AceView, ace_view, check_ace};
 use crate::bytes::u16_at;
 use crate::fault::{AclFault, SdFault, fault_in};
+use crate::written_acl::is_written;
 use sd_control::{ACL_HEADER_SIZE, ACL_REVISION, ACL_REVISION_DS, Part};
 use std::marker::Model;
 
@@ -123,16 +125,20 @@ impl<'a> AclView<'a> {
         }
     }
 
-    // Its bytes as they are.
-    pub(crate) fn extent(&self) -> &'a [u8]
-        ensures value { acl_of result.now ≡ self.now }
-        ensures limits { IsReadableAcl result.now }
+    /// Its bytes, if they are its written form (MS-DTYP 2.4.5), which begins with this header.
+    pub fn written_bytes(&self, header: &[u8]) -> Option<&'a [u8]>
+        requires { header.now ≡ acl_header self.now }
+        ensures { IfSome result (λ bytes. bytes.now ≡ acl_bytes self.now) }
     {
-        self.extent
+        if is_written(self.extent, self.written.object, header) {
+            Some(self.extent)
+        } else {
+            None
+        }
     }
 
-    // What the check found for its written form.
-    pub(crate) fn written(&self) -> Written
+    /// What the header of its written form needs besides the count, as the check found it.
+    pub fn written(&self) -> Written
         ensures size { (result.size ≡ acl_size self.now) × (acl_size self.now < 2 ^ 16) }
         ensures object { result.object ≡ has_object self.now }
     {

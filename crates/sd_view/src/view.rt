@@ -345,15 +345,8 @@ impl<'a> SdView<'a> {
         (HEADER_SIZE + sids + self.acls.sacl.size + self.acls.dacl.size) as u32
     }
 
-    // What the check found for the written form of the two ACLs.
-    pub(crate) fn acls(&self) -> Acls
-        ensures { result ≡ shown_written self.now }
-    {
-        self.acls
-    }
-
-    // The owner's bytes, and none where there is no owner.
-    pub(crate) fn owner_bytes(&self) -> &'a [u8]
+    /// The owner's bytes, and none where there is no owner.
+    pub fn owner_bytes(&self) -> &'a [u8]
         ensures value { result.now ≡ sid_part self.now.owner }
         ensures short { length result.now ≤ MOST_SID_SIZE }
         ensures limits { IsDescriptor self.now }
@@ -361,8 +354,8 @@ impl<'a> SdView<'a> {
         sid_bytes_at(self.bytes, u32_at(self.bytes, 4))
     }
 
-    // The group's bytes, and none where there is no group.
-    pub(crate) fn group_bytes(&self) -> &'a [u8]
+    /// The group's bytes, and none where there is no group.
+    pub fn group_bytes(&self) -> &'a [u8]
         ensures value { result.now ≡ sid_part self.now.group }
         ensures short { length result.now ≤ MOST_SID_SIZE }
     {

@@ -3,7 +3,7 @@ use Rattle.std.proofs.Common.{◌≡◌, IfSome, ◌≤◌, ◌+◌, ◌*◌, []
 use Rattle.std.proofs.Common.{lit≤, Option, Some, None, Ok, Err, refl, arith, length-append}
 use Rattle.hex.proofs.HexLemmas.{length-encode_with}
 use Rattle.hex.specs.Hex.{lower_digits}
-use Rattle.sd_view.proofs.laws.LayoutLaws.{length-layout}
+use Rattle.sd_view.proofs.laws.LayoutSizes.{length-layout}
 use Rattle.sd_view.specs.Descriptor.{Descriptor, IsDescriptor}
 use Rattle.sd_view.specs.Layout.{layout, size}
 use Rattle.sd_token.specs.Token.{Holder}

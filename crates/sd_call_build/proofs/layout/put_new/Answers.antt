@@ -1,5 +1,5 @@
 use Rattle.std.proofs.Common.{arith}
-use Rattle.sd_view.proofs.laws.LayoutLaws.{length-layout}
+use Rattle.sd_view.proofs.laws.LayoutSizes.{length-layout}
 use Rattle.sd_call_build.specs.New.{new_descriptor}
 use Rattle.sd_call_build.proofs.layout.put_new.Goals as goal
 

@@ -1,8 +1,8 @@
 use Rattle.std.proofs.Common.{arith, ap, Ok, sym}
 use Rattle.std.proofs.lemmas.Result.{err_from_is_err_and}
 use Rattle.sd_view.specs.Descriptor.{Descriptor}
-use Rattle.sd_view.proofs.SizeLaws.{size-least}
-use Rattle.sd_view.proofs.laws.LayoutLaws.{size-most}
+use Rattle.sd_view.proofs.laws.SizeLaws.{size-least}
+use Rattle.sd_view.proofs.laws.LayoutSizes.{size-most}
 use Rattle.sd_view.proofs.ReadLaws.{fault-shows, reading-err, reading-ok, shows-fault}
 use Rattle.sd_view.proofs.view.read.Goals as goal
 

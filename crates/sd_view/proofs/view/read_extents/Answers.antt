@@ -1,4 +1,4 @@
-use Rattle.std.proofs.Common.{arith, sym}
+use Rattle.std.proofs.Common.{arith}
 use Rattle.sd_view.proofs.ReadLaws.{fault-shows, reading-err, reading-ok}
 use Rattle.sd_view.proofs.view.read_extents.Goals as goal
 

@@ -13,7 +13,7 @@ use Rattle.sd_view.specs.WrittenForm.{AclIsWritten}
 use Rattle.sd_view.specs.declared.acl.AclPart.{AclPart}
 use Rattle.sd_view.specs.declared.acl.AclPart.TheVariants as acl
 use Rattle.sd_view.specs.declared.acl.Written.{Written}
-use Rattle.sd_view.proofs.laws.LayoutLaws.{acl_size-read}
+use Rattle.sd_view.proofs.laws.LayoutSizes.{acl_size-read}
 use Rattle.sd_view.proofs.view.written_at.Goals as goal
 
 -- the revision tells whether an object ACE stands in the list

@@ -2,9 +2,9 @@ use Rattle.std.proofs.Common.{arith, ap, length, subst, ◌∙◌}
 use Rattle.sd_view.specs.Descriptor.{Descriptor, IsDescriptor}
 use Rattle.sd_view.specs.Inner.Found.{shown_written}
 use Rattle.sd_view.specs.declared.view.Acls.{Acls}
-use Rattle.sd_view.proofs.laws.LayoutLaws.{length-layout, length-sid_part, size-most}
+use Rattle.sd_view.proofs.laws.LayoutSizes.{length-layout, length-sid_part, size-most}
 use Rattle.sd_view.proofs.Parts.{written-size}
-use Rattle.sd_view.proofs.SizeLaws.{size-least}
+use Rattle.sd_view.proofs.laws.SizeLaws.{size-least}
 use Rattle.sd_view.proofs.view.SdView.size.Goals as goal
 
 pub returns-clause-value : goal.returns-clause-value

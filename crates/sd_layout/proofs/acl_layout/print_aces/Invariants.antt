@@ -2,7 +2,7 @@ use Rattle.std.proofs.Common.{◌≡◌, ◌++◌}
 use Rattle.std.specs.List.{flat_map}
 use Rattle.sd_sink.specs.Print.{Prints}
 use Rattle.sd_ace.specs.AceLayout.{ace_bytes}
-use Rattle.sd_view.proofs.acl_layout.print_aces.Given as goal
+use Rattle.sd_layout.proofs.acl_layout.print_aces.Given as goal
 
 abbrev pub invariant-loop-ace : goal.invariant-loop-ace
 invariant-loop-ace g l = record {

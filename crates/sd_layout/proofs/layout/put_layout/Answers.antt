@@ -1,8 +1,9 @@
 use Rattle.std.proofs.Common.{rules}
 use Rattle.sd_sink.proofs.laws.PrintLemmas.{printed}
-use Rattle.sd_view.proofs.laws.LayoutLaws.{layout-shows, length-layout, size-most}
-use Rattle.sd_view.proofs.SizeLaws.{size-least}
-use Rattle.sd_view.proofs.layout.put_layout.Goals as goal
+use Rattle.sd_view.proofs.laws.LayoutSizes.{length-layout, size-most}
+use Rattle.sd_view.proofs.laws.SizeLaws.{size-least}
+use Rattle.sd_layout.proofs.laws.LayoutLaws.{layout-shows}
+use Rattle.sd_layout.proofs.layout.put_layout.Goals as goal
 
 pub returns-clause-put : goal.returns-clause-put
 returns-clause-put g c = printed c.new-out.ensures.begins (search rules) c.finish.ensures c.print_layout.ensures.printed

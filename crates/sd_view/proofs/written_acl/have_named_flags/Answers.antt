@@ -6,7 +6,7 @@ use Rattle.sd_view.specs.Bytes.{u16_at}
 use Rattle.sd_view.specs.Inner.Written.{all_named_flags, named_flags}
 use Rattle.sd_view.proofs.AclLaws.{ace-bounds, aces-front}
 use Rattle.sd_view.proofs.WrittenLaws.{all_named-more, all_named-none}
-use Rattle.sd_view.proofs.acl_layout.have_named_flags.Goals as goal
+use Rattle.sd_view.proofs.written_acl.have_named_flags.Goals as goal
 
 -- what is known where one more is counted
 record Step (n m : ℕ) (left : List ℕ) : Type 0 where

@@ -1,7 +1,7 @@
 use Rattle.std.proofs.Common.{◌≡◌, ◌-◌, None}
 use Rattle.sd_view.specs.AclReading.{aces_fault}
 use Rattle.sd_view.specs.Inner.Written.{all_named_flags}
-use Rattle.sd_view.proofs.acl_layout.have_named_flags.Given as goal
+use Rattle.sd_view.proofs.written_acl.have_named_flags.Given as goal
 
 abbrev pub invariant-loop : goal.invariant-loop
 invariant-loop l = record {

@@ -5,13 +5,12 @@ ghost use Rattle.sd_sink.specs.Print.{Prints};
 ghost use Rattle.sd_sink.specs.Sink.{Puts};
 ghost use Rattle.sd_view.specs.Descriptor.{IsDescriptor, Shows};
 ghost use Rattle.sd_control.specs.Limits.{AreLimits};
-ghost use Rattle.sd_view.specs.Layout.{acl_part, descriptor_header, layout, offset_if, size};
+ghost use Rattle.sd_view.specs.Layout.{acl_part, acl_part_size, descriptor_header, layout, offset_if, size};
 
-use crate::acl::AclPart;
 use crate::acl_layout::print_acl;
-use crate::view::SdView;
 use sd_control::{HEADER_SIZE, Parts, header};
 use sd_sink::{Print, Printer, Sink, SinkFault};
+use sd_view::{AclPart, SdView};
 
 /// Puts the one layout of a descriptor (MS-DTYP 2.4.6): header, owner, group, SACL, DACL, without
 /// gaps. A part that is absent has offset 0.
@@ -36,11 +35,13 @@ pub fn print_layout<P: Print>(view: &SdView<'_>, out: &mut P)
     ensures printed { Prints (P.told out.old) (P.told out.new) (layout view.now) }
     ensures limits { IsDescriptor view.now }
 {
-    out.put(&header_of(view));
+    let sacl = view.sacl();
+    let dacl = view.dacl();
+    out.put(&header_of(view, size_of(&sacl), size_of(&dacl)));
     out.put(view.owner_bytes());
     out.put(view.group_bytes());
-    print_acl_part(&view.sacl(), out);
-    print_acl_part(&view.dacl(), out);
+    print_acl_part(&sacl, out);
+    print_acl_part(&dacl, out);
 }
 
 #[inline(always)]
@@ -52,16 +53,16 @@ fn print_acl_part<P: Print>(part: &AclPart<'_>, out: &mut P)
     }
 }
 
-fn header_of(view: &SdView<'_>) -> [u8; HEADER_SIZE]
+// The header, by the sizes of the two ACLs.
+fn header_of(view: &SdView<'_>, sacl: u32, dacl: u32) -> [u8; HEADER_SIZE]
+    requires sacl { sacl ≡ acl_part_size view.now.sacl }
+    requires dacl { dacl ≡ acl_part_size view.now.dacl }
     ensures value { result ≡ descriptor_header view.now }
     ensures limits { IsDescriptor view.now }
 {
     let first = HEADER_SIZE as u32;
     let owner = view.owner_bytes().len() as u32;
     let group = view.group_bytes().len() as u32;
-    let acls = view.acls();
-    let sacl = acls.sacl.size as u32;
-    let dacl = acls.dacl.size as u32;
     let offsets = Parts {
         owner: offset_if(first, owner),
         group: offset_if(first + owner, group),
@@ -69,6 +70,16 @@ fn header_of(view: &SdView<'_>) -> [u8; HEADER_SIZE]
         dacl: offset_if(first + owner + group + sacl, dacl),
     };
     header(view.rm(), view.control(), offsets)
+}
+
+// The written size of an ACL, and 0 where there is none.
+fn size_of(part: &AclPart<'_>) -> u32
+    ensures value { result ≡ acl_part_size part.now }
+{
+    match part {
+        AclPart::List(acl) => acl.written().size as u32,
+        _ => 0,
+    }
 }
 
 // The offset of a part of this size that begins there.

@@ -1,49 +1,28 @@
--- The layout of a descriptor shows it, and is as long as its size says.
-use Rattle.std.proofs.Common.{◌≡◌, ◌≤◌, ◌<◌, inl, ℕ, ◌+◌, ◌^◌, eqb, Bool, true, false, cond, List, [], ◌∷◌, ◌++◌}
-use Rattle.std.proofs.Common.{length, drop, slice_index, Option, Some, None, refl, sym, ap, ◌∙◌, arith, length-append}
+-- The layout of a descriptor shows it.
+use Rattle.std.proofs.Common.{◌≡◌, ◌≤◌, ◌<◌, inl, ℕ, ◌+◌, ◌^◌, eqb, Bool, true, false, cond, List, [], ◌++◌}
+use Rattle.std.proofs.Common.{length, drop, slice_index, Option, Some, None, refl, sym, ap, ◌∙◌, arith}
 use Rattle.std.specs.Prelude.{◌==◌, if◌then◌else◌, IfSome}
 use Rattle.std.proofs.lemmas.Bool.Decides.{nat_tests}
 use Rattle.std.proofs.lemmas.List.{append-nil, drop_at, drop-drop}
-use Rattle.std.specs.List.{flat_map}
 use Rattle.byteorder.specs.Endian.{little_bytes}
 use Rattle.byteorder.specs.Numbers.{little_number-reads_back}
-use Rattle.sd_ace.specs.Ace.{AccessControlEntry}
 use Rattle.sd_sid.specs.Sid.{SecurityId, IsSid, sid_size}
-use Rattle.sd_view.specs.Acl.{IsAcl, acl_size}
-use Rattle.sd_ace.specs.AceLayout.{ace_bytes}
+use Rattle.sd_view.specs.Acl.{acl_size}
 use Rattle.sd_view.specs.AclLayout.{acl_bytes}
 use Rattle.sd_view.specs.Bytes.{u16_at, u32_at}
 use Rattle.sd_view.specs.Descriptor.{Apart, AreApart, Descriptor, Extent, IsAclPart, IsDescriptor, Shows, ShowsAclPart}
 use Rattle.sd_view.specs.Descriptor.{ShowsSid, acl_extent, control_at, dacl_at, group_at, owner_at, sacl_at, sid_extent}
 use Rattle.sd_view.specs.Layout.{acl_part, acl_part_size, dacl_offset, descriptor_header, group_offset, layout}
-use Rattle.sd_view.specs.Layout.{offset_if, offsets, parts_bytes, sacl_offset, sid_part, sid_part_size, size}
+use Rattle.sd_view.specs.Layout.{offset_if, offsets, parts_bytes, sacl_offset, sid_part, sid_part_size}
 use Rattle.sd_view.specs.WrittenForm.{AclIsWritten, IsWritten, IsWrittenForm}
 use Rattle.sd_control.specs.Header.{header_bytes}
 use Rattle.sd_control.specs.declared.part.Parts.{Parts}
 use Rattle.sd_view.specs.declared.acl.AclPart.{AclPart}
 use Rattle.sd_view.specs.declared.acl.AclPart.TheVariants as acl
-use Rattle.sd_sid.proofs.laws.SidLaws.{length-sid_bytes}
 use Rattle.sd_view.proofs.laws.ApartLaws.{six-apart}
-use Rattle.sd_view.proofs.laws.AclLayoutLaws.{acl_bytes-shows, acl_size-most, length-acl_bytes}
-
--- a part has as many bytes as its size says, and is no larger than the largest SID or ACL
-pub length-sid_part : (o : Option SecurityId) → length (sid_part o) ≡ sid_part_size o
-length-sid_part None = refl
-length-sid_part (Some s) = length-sid_bytes s
-
-sid_part_size-most : (o : Option SecurityId) → IfSome o IsSid → sid_part_size o ≤ 68
-sid_part_size-most None h = omega arith
-sid_part_size-most (Some s) h = omega (arith, h.count)
-
-pub length-acl_part : (p : AclPart) → length (acl_part p) ≡ acl_part_size p
-length-acl_part acl.Absent = refl
-length-acl_part acl.Null = refl
-length-acl_part (acl.List aces) = length-acl_bytes aces
-
-acl_part_size-most : (present : Bool) (p : AclPart) → IsAclPart present p → acl_part_size p ≤ 65532
-acl_part_size-most present acl.Absent h = omega arith
-acl_part_size-most present acl.Null h = omega arith
-acl_part_size-most present (acl.List aces) h = acl_size-most aces h.1
+use Rattle.sd_view.proofs.laws.LayoutSizes.{acl_size-read, length-acl_part, length-header, length-layout, length-sid_part}
+use Rattle.sd_view.proofs.laws.LayoutSizes.{size-most}
+use Rattle.sd_layout.proofs.laws.AclLayoutLaws.{acl_bytes-shows}
 
 -- the fields of a header
 module _ (rm control : ℕ) (o : Parts ℕ) (rest : List ℕ) where
@@ -76,11 +55,6 @@ module _ (rm control : ℕ) (o : Parts ℕ) (rest : List ℕ) where
   pub header-dacl : o.dacl < 2 ^ 32 → u32_at 16 (header_bytes rm control o ++ rest) ≡ o.dacl
   unfolding u32_at header_bytes
   header-dacl h = little_number-reads_back 4 o.dacl rest h
-
--- it has 20 bytes
-length-header : (d : Descriptor) → length (descriptor_header d) ≡ 20
-unfolding header_bytes
-length-header d = refl
 
 -- a size that is not zero
 not-zero : (n : ℕ) → 0 < n → eqb n 0 ≡ false
@@ -142,15 +116,6 @@ sid-stands bytes rest offset start (Some s) at shape low h =
       ap (λ (n : ℕ). sid_extent n (Some s)) same ∙ sym extent,
     )
 
--- an ACL's size field tells its written size
-pub acl_size-read : (bytes rest : List ℕ) (aces : List AccessControlEntry) → IsAcl aces → bytes ≡ acl_bytes aces ++ rest
-    → u16_at 2 bytes ≡ acl_size aces
-unfolding u16_at
-acl_size-read bytes rest aces h found =
-    ap (u16_at 2) found
-    ∙ little_number-reads_back 2 (acl_size aces)
-    (little_bytes 2 (length aces) ++ (0 ∷ 0 ∷ (flat_map ace_bytes aces ++ rest))) h.fits
-
 -- so is an ACL
 acl-stands : (bytes rest : List ℕ) (offset start : ℕ) (present : Bool) (p : AclPart)
     → offset ≡ offset_if start (acl_part_size p)
@@ -166,30 +131,6 @@ acl-stands bytes rest offset start present (acl.List aces) at shape low h =
       (h.0, omega (arith, same, low), (acl_bytes aces, rest, found, acl_bytes-shows aces h.1)),
       ap (λ (n : ℕ). Some (offset, offset + n)) long ∙ ap (λ (n : ℕ). Some (n, n + acl_size aces)) same ∙ sym extent,
     )
-
--- header, two SIDs of at most 68 bytes and two ACLs of at most 65,532
-pub size-most : (d : Descriptor) → IsDescriptor d → size d ≤ 131220
-size-most d h =
-    let owner = sid_part_size-most d.owner h.owner in
-    let group = sid_part_size-most d.group h.group in
-    let sacl = acl_part_size-most _ d.sacl h.sacl in
-    let dacl = acl_part_size-most _ d.dacl h.dacl in
-    omega arith
-
--- five lists in a row
-length-five : (a b c d e : List ℕ)
-    → length (a ++ (b ++ (c ++ (d ++ e)))) ≡ length a + (length b + (length c + (length d + length e)))
-length-five a b c d e = simp length-append
-
--- the layout has as many bytes as its size says
-pub length-layout : (d : Descriptor) → length (layout d) ≡ size d
-length-layout d =
-    let owner = length-sid_part d.owner in
-    let group = length-sid_part d.group in
-    let sacl = length-acl_part d.sacl in
-    let dacl = length-acl_part d.dacl in
-    length-five (descriptor_header d) (sid_part d.owner) (sid_part d.group) (acl_part d.sacl) (acl_part d.dacl)
-    ∙ omega (arith, length-header d)
 
 -- the fields of the layout's header
 offset-small : (start n : ℕ) → start ≤ 131220 → offset_if start n < 2 ^ 32

@@ -4,7 +4,7 @@ use Rattle.std.proofs.lemmas.Bool.{not-true}
 use Rattle.sd_view.specs.Bytes.{u16_at}
 use Rattle.sd_view.specs.Inner.Written.{all_named_flags}
 use Rattle.sd_view.proofs.WrittenLaws.{acl-written, plain-named}
-use Rattle.sd_view.proofs.acl_layout.is_written.Goals as goal
+use Rattle.sd_view.proofs.written_acl.is_written.Goals as goal
 
 pub returns-then-not-object : goal.returns-then-not-object
 returns-then-not-object c =

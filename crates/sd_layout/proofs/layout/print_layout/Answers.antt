@@ -1,5 +1,5 @@
 use Rattle.sd_sink.proofs.laws.PrintLemmas.{prints_then}
-use Rattle.sd_view.proofs.layout.print_layout.Goals as goal
+use Rattle.sd_layout.proofs.layout.print_layout.Goals as goal
 
 pub returns-clause-printed : goal.returns-clause-printed
 returns-clause-printed g c =
@@ -7,6 +7,6 @@ returns-clause-printed g c =
       ← c.header_of.ensures.value,
       ← c.owner_bytes.ensures.value,
       ← c.group_bytes.ensures.value,
-      ← c.sacl.ensures,
-      ← c.dacl.ensures,
+      ← c.sacl-sacl.ensures,
+      ← c.dacl-dacl.ensures,
     ) (search prints_then depth 10)

@@ -1,7 +1,7 @@
 use Rattle.std.proofs.Common.{ap, ◌∙◌}
 use Rattle.sd_ace.specs.AceLayout.{ace_front}
 use Rattle.sd_sink.proofs.laws.PrintLemmas.{prints_as, prints_then}
-use Rattle.sd_view.proofs.acl_layout.print_ace.Goals as goal
+use Rattle.sd_layout.proofs.acl_layout.print_ace.Goals as goal
 
 pub returns : goal.returns
 returns g c =

@@ -1,6 +1,6 @@
 use Rattle.sd_sink.proofs.laws.PrintLoops.{Prints-item, moved}
 use Rattle.sd_ace.specs.AceLayout.{ace_bytes}
-use Rattle.sd_view.proofs.acl_layout.print_aces.Goals as goal
+use Rattle.sd_layout.proofs.acl_layout.print_aces.Goals as goal
 
 pub loop-ace-preserved : goal.loop-ace-preserved
 loop-ace-preserved g c = record {

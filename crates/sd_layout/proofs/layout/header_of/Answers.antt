@@ -1,16 +1,12 @@
 use Rattle.std.proofs.Common.{ap, length, refl, ◌∙◌}
-use Rattle.sd_view.specs.declared.view.Acls.{Acls}
-use Rattle.sd_view.proofs.laws.LayoutLaws.{length-sid_part}
-use Rattle.sd_view.proofs.Parts.{written-size}
-use Rattle.sd_view.proofs.layout.header_of.Goals as goal
+use Rattle.sd_view.proofs.laws.LayoutSizes.{length-sid_part}
+use Rattle.sd_layout.proofs.layout.header_of.Goals as goal
 
 pub returns-clause-value : goal.returns-clause-value
 returns-clause-value c =
     let d = c.args.view.now in
     let owner = ap length c.owner_bytes.ensures.value ∙ length-sid_part d.owner in
     let group = ap length c.group_bytes.ensures.value ∙ length-sid_part d.group in
-    let sacl = ap (λ (a : Acls). a.sacl.size) c.acls-acls.ensures ∙ written-size d.sacl in
-    let dacl = ap (λ (a : Acls). a.dacl.size) c.acls-acls.ensures ∙ written-size d.dacl in
     rw (
       c.header.ensures,
       c.rm.ensures,
@@ -21,6 +17,6 @@ returns-clause-value c =
       c.offset_if-4.ensures,
       owner,
       group,
-      sacl,
-      dacl,
+      c.requires.sacl,
+      c.requires.dacl,
     ) refl
