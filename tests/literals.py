@@ -318,7 +318,9 @@ class Probe:
 
     def __init__(self, definitions, crates, folder):
         self.definitions, listed = definitions, definitions.listed
-        needed = {*crates, *(name for crate in crates for name in listed[crate])}
+        needed = set(crates)
+        for crate in reversed(listed):  # crates.txt has the lowest first, so this finds libraries of libraries too
+            needed |= listed[crate] if crate in needed else set()
         rows = {crate: sorted(listed[crate]) for crate in listed if crate in needed}
         (folder / "crates").mkdir()
         for crate in rows:
