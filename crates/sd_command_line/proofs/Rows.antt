@@ -1,0 +1,188 @@
+-- Words that the program takes and refuses, by hand from docs/sdtool.1 and tests/rows/words.json.
+use Rattle.std.proofs.Common.{◌≡◌, inl, inr, ◌++◌, List, [], ◌∷◌, Some, None, Bool, true, false, map, codes, refl}
+use Rattle.std.proofs.Common.{String, Global}
+use Rattle.std.specs.Borrow.{Bor}
+use Rattle.clap.specs.Words.{Text, fault_of, takes}
+use Rattle.clap.specs.declared.error.ErrorKind.TheVariants as kind
+use Rattle.clap.proofs.OnLiterals.{clap_on_literals}
+use Rattle.sd_command_line.specs.CommandLine.{bare_line, check_line, convert_line, derive_line, explain_line, line}
+use Rattle.sd_command_line.specs.CommandLine.{option_rule, option_text, row_rule, rule_with}
+use Rattle.sd_command_line.specs.FaultLines.{fault_line, value_line}
+use Rattle.sd_command_line.specs.Refusing.{RefusedBy, is_mistake}
+use Rattle.sd_command_line.specs.declared.options.OptionName.TheVariants as name
+use Rattle.sd_command_line.specs.declared.options.OptionRow.{OptionRow}
+use Rattle.sd_command_line.specs.declared.parse.Refusal.{Refusal}
+use Rattle.sd_command_line.specs.declared.parse.Refusal.TheVariants.{Help, NoMemory, Usage}
+
+abbrev taken : List Text → Bool
+taken words = takes line (codes "sdtool" ∷ words)
+
+-- the table of options in docs/sdtool.1, in its order, each with some value
+abbrev each_option : List (List Text)
+each_option =
+    (codes "--from" ∷ codes "v" ∷ []) ∷ (codes "--to" ∷ codes "v" ∷ []) ∷ (codes "--domain" ∷ codes "v" ∷ [])
+    ∷ (codes "--numeric" ∷ []) ∷ (codes "--token" ∷ codes "v" ∷ []) ∷ (codes "--want" ∷ codes "v" ∷ [])
+    ∷ (codes "--maximum" ∷ []) ∷ (codes "--type" ∷ codes "v" ∷ []) ∷ (codes "--object" ∷ codes "v" ∷ [])
+    ∷ (codes "--self" ∷ codes "v" ∷ []) ∷ (codes "--level" ∷ codes "v" ∷ []) ∷ (codes "--security" ∷ [])
+    ∷ (codes "--take-ownership" ∷ []) ∷ (codes "--kind" ∷ codes "v" ∷ []) ∷ (codes "--owner" ∷ codes "v" ∷ [])
+    ∷ (codes "--group" ∷ codes "v" ∷ []) ∷ (codes "--creator" ∷ codes "v" ∷ []) ∷ []
+
+-- its column of commands
+
+options_of_convert : map (λ option. taken (codes "convert" ∷ option)) each_option
+    ≡ true ∷ true ∷ true ∷ true ∷ false ∷ false ∷ false ∷ false ∷ false ∷ false ∷ false ∷ false ∷ false ∷ false ∷ false
+    ∷ false ∷ false ∷ []
+unfolding line bare_line convert_line explain_line check_line derive_line clap_on_literals
+options_of_convert = refl
+
+options_of_explain : map (λ option. taken (codes "explain" ∷ option)) each_option
+    ≡ true ∷ false ∷ true ∷ true ∷ false ∷ false ∷ false ∷ false ∷ false ∷ false ∷ false ∷ false ∷ false ∷ false
+    ∷ false ∷ false ∷ false ∷ []
+unfolding line bare_line convert_line explain_line check_line derive_line clap_on_literals
+options_of_explain = refl
+
+-- The token is given, and no option may be given twice.
+options_of_check : map (λ option. taken (codes "check" ∷ codes "--token" ∷ codes "WD" ∷ option)) each_option
+    ≡ true ∷ false ∷ true ∷ false ∷ false ∷ true ∷ true ∷ true ∷ true ∷ true ∷ true ∷ true ∷ true ∷ false ∷ false
+    ∷ false ∷ false ∷ []
+unfolding line bare_line convert_line explain_line check_line derive_line clap_on_literals
+options_of_check = refl
+
+abbrev derive_file : List Text
+derive_file =
+    codes "derive" ∷ codes "--kind" ∷ codes "file" ∷ codes "--owner" ∷ codes "BA" ∷ codes "--group" ∷ codes "SY" ∷ []
+
+options_of_derive : map (λ option. taken (derive_file ++ option)) each_option
+    ≡ true ∷ true ∷ true ∷ true ∷ false ∷ false ∷ false ∷ true ∷ false ∷ false ∷ false ∷ false ∷ false ∷ false ∷ false
+    ∷ false ∷ true ∷ []
+unfolding line bare_line convert_line explain_line check_line derive_line clap_on_literals
+options_of_derive = refl
+
+-- its column of defaults: which options may be left out
+
+nothing_required : map taken ((codes "convert" ∷ []) ∷ (codes "explain" ∷ []) ∷ []) ≡ true ∷ true ∷ []
+unfolding line bare_line convert_line explain_line check_line derive_line clap_on_literals
+nothing_required = refl
+
+token_required : map taken
+    ((codes "check" ∷ []) ∷ (codes "check" ∷ codes "--maximum" ∷ [])
+    ∷ (codes "check" ∷ codes "--token" ∷ codes "WD" ∷ []) ∷ [])
+    ≡ false ∷ false ∷ true ∷ []
+unfolding line bare_line convert_line explain_line check_line derive_line clap_on_literals
+token_required = refl
+
+three_required : map taken
+    (derive_file
+    ∷ (codes "derive" ∷ codes "--owner" ∷ codes "BA" ∷ codes "--group" ∷ codes "SY" ∷ [])
+    ∷ (codes "derive" ∷ codes "--kind" ∷ codes "file" ∷ codes "--group" ∷ codes "SY" ∷ [])
+    ∷ (codes "derive" ∷ codes "--kind" ∷ codes "file" ∷ codes "--owner" ∷ codes "BA" ∷ []) ∷ [])
+    ≡ true ∷ false ∷ false ∷ false ∷ []
+unfolding line bare_line convert_line explain_line check_line derive_line clap_on_literals
+three_required = refl
+
+-- a value that is missing, empty, behind an equals sign, and one too many; an option that is given twice
+values : map (λ rest. taken (codes "convert" ∷ rest))
+    ((codes "--to" ∷ []) ∷ (codes "--to" ∷ [] ∷ []) ∷ (codes "--to=hex" ∷ [])
+    ∷ (codes "--to" ∷ codes "hex" ∷ codes "hex" ∷ []) ∷ (codes "--to" ∷ codes "hex" ∷ codes "--to" ∷ codes "hex" ∷ [])
+    ∷ [])
+    ≡ false ∷ true ∷ true ∷ false ∷ false ∷ []
+unfolding line bare_line convert_line explain_line check_line derive_line clap_on_literals
+values = refl
+
+-- A flag has no value.
+flags : map (λ rest. taken (codes "convert" ∷ rest))
+    ((codes "--numeric=v" ∷ []) ∷ (codes "--numeric" ∷ codes "v" ∷ [])
+    ∷ (codes "--numeric" ∷ codes "--numeric" ∷ []) ∷ [])
+    ≡ false ∷ false ∷ false ∷ []
+unfolding line bare_line convert_line explain_line check_line derive_line clap_on_literals
+flags = refl
+
+-- what is no command, and no command at all
+no_commands : map taken
+    ([] ∷ ([] ∷ []) ∷ (codes "frobnicate" ∷ []) ∷ (codes "CONVERT" ∷ []) ∷ (codes "sdtool" ∷ [])
+    ∷ (codes "--to" ∷ codes "hex" ∷ []) ∷ (codes "--version" ∷ []) ∷ [])
+    ≡ false ∷ false ∷ false ∷ false ∷ false ∷ false ∷ false ∷ []
+unfolding line bare_line convert_line explain_line check_line derive_line clap_on_literals
+no_commands = refl
+
+-- the names that help shows
+names : (line.top.name ≡ codes "sdtool")
+    × (map (λ command. command.name) line.subs
+    ≡ codes "convert" ∷ codes "explain" ∷ codes "check" ∷ codes "derive" ∷ [])
+unfolding line bare_line convert_line explain_line check_line derive_line
+names = (refl, refl)
+
+-- mistakes, and words that ask for help
+
+abbrev refused_by : List Text → Refusal → Type 0
+refused_by words = RefusedBy (fault_of line (codes "sdtool" ∷ words))
+
+mistaken : refused_by [] Usage × refused_by (codes "frobnicate" ∷ []) Usage × refused_by (codes "check" ∷ []) Usage
+    × refused_by (codes "convert" ∷ codes "--verbose" ∷ []) Usage
+unfolding line bare_line convert_line explain_line check_line derive_line clap_on_literals
+mistaken = (refl, refl, refl, refl)
+
+helped : (text : String Global) → refused_by (codes "--help" ∷ []) (Help text)
+    × refused_by (codes "help" ∷ []) (Help text) × refused_by (codes "help" ∷ codes "check" ∷ []) (Help text)
+    × refused_by (codes "check" ∷ codes "--help" ∷ []) (Help text)
+unfolding line bare_line convert_line explain_line check_line derive_line clap_on_literals
+helped text = (inl refl, inl refl, inl refl, inl refl)
+
+-- A row of the program's table without a name for its value is a flag.
+
+flag_of_table : rule_with None (codes "numeric") ≡ option_rule name.Numeric
+flag_of_table = refl
+
+option_of_table : (value : Bor Text) → rule_with (Some value) (codes "from") ≡ option_rule name.From
+option_of_table value = refl
+
+required_of_table : (row : OptionRow) (value : Bor Text) → row.name.now ≡ codes "kind" → row.value_name ≡ Some value
+    → row.required ≡ true → row_rule row ≡ option_rule name.Kind
+required_of_table row value n v r = rw n (rw v (rw r refl))
+
+-- the lines on the fault stream
+
+fault_lines : (fault_line (codes "usage") ≡ codes "sdtool: usage\n")
+    × (fault_line (codes "no memory") ≡ codes "sdtool: no memory\n")
+fault_lines = (refl, refl)
+
+value_lines : map value_line
+    (name.From ∷ name.To ∷ name.Domain ∷ name.Token ∷ name.Want ∷ name.Type ∷ name.Object ∷ name.PrincipalSelf
+    ∷ name.Level ∷ name.Kind ∷ name.Owner ∷ name.Group ∷ name.Creator ∷ [])
+    ≡ codes "sdtool: usage: --from\n" ∷ codes "sdtool: usage: --to\n" ∷ codes "sdtool: usage: --domain\n"
+    ∷ codes "sdtool: usage: --token\n" ∷ codes "sdtool: usage: --want\n" ∷ codes "sdtool: usage: --type\n"
+    ∷ codes "sdtool: usage: --object\n" ∷ codes "sdtool: usage: --self\n" ∷ codes "sdtool: usage: --level\n"
+    ∷ codes "sdtool: usage: --kind\n" ∷ codes "sdtool: usage: --owner\n" ∷ codes "sdtool: usage: --group\n"
+    ∷ codes "sdtool: usage: --creator\n" ∷ []
+value_lines = refl
+
+flag_words : map option_text (name.Numeric ∷ name.Maximum ∷ name.Security ∷ name.TakeOwnership ∷ [])
+    ≡ codes "numeric" ∷ codes "maximum" ∷ codes "security" ∷ codes "take-ownership" ∷ []
+flag_words = refl
+
+-- refusals: help is no mistake, nor is a want of memory, and all else is
+
+mistakes : map is_mistake
+    (kind.InvalidValue ∷ kind.UnknownArgument ∷ kind.InvalidSubcommand ∷ kind.NoEquals ∷ kind.ValueValidation
+    ∷ kind.TooManyValues ∷ kind.TooFewValues ∷ kind.WrongNumberOfValues ∷ kind.ArgumentConflict
+    ∷ kind.MissingRequiredArgument ∷ kind.MissingSubcommand ∷ kind.DisplayHelp
+    ∷ kind.DisplayHelpOnMissingArgumentOrSubcommand ∷ kind.DisplayVersion ∷ kind.OutOfMemory ∷ [])
+    ≡ true ∷ true ∷ true ∷ true ∷ true ∷ true ∷ true ∷ true ∷ true ∷ true ∷ true ∷ false ∷ true ∷ true ∷ false ∷ []
+mistakes = refl
+
+-- Memory may run out whatever the words are.
+no_memory : RefusedBy [] NoMemory
+no_memory = tt
+
+usage : RefusedBy (kind.UnknownArgument ∷ []) Usage
+usage = refl
+
+help_is_no_mistake : RefusedBy (kind.DisplayHelp ∷ []) Usage → ⊥
+help_is_no_mistake h = let bad : false ≡ true = h in cc
+
+help : (text : String Global) → RefusedBy (kind.DisplayHelp ∷ []) (Help text)
+help text = inl refl
+
+mistake_asks_for_no_help : (text : String Global) → RefusedBy (kind.UnknownArgument ∷ []) (Help text) → ⊥
+mistake_asks_for_no_help text (inl h) = let bad : kind.DisplayHelp ≡ kind.UnknownArgument = h in cc
+mistake_asks_for_no_help text (inr h) = h
