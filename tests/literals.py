@@ -9,8 +9,9 @@ the next of its type. With --rules it also changes rules: a comparison or a conn
 A bug in code and definition alike passes every contract, since contracts only compare the two. Rows (proofs/*Rows.antt)
 have their values from elsewhere. So neither code nor contract is looked at here: a change counts as refused only if a
 row fails over the changed definitions. The rows tried are those of the crate itself, or of the crates that --rows
-lists. Tables are changed too, where a definition cites them. Left out are files that code alone cites (specs/Inner),
-tables written out again (*Values.antt), and FoldedReading.antt, which a law proves equal to another definition.
+lists. Tables are changed too, where a definition cites them. Left out are files that code alone cites (specs/Inner,
+FieldReading and WholeAce), tables written out again (*Values.antt), and FoldedReading.antt, which a law proves equal to
+another definition.
 
 Many changes are judged at once: each changed file, what rests on it and the rows are modules of one crate beside copies
 of the others, and `rt check --only` runs there. First `make check` has to pass in all crates. The constants of a crate are printed by `rt check --generated` once and kept in out/literals, which
@@ -45,7 +46,7 @@ USE = re.compile(r"^use (Rattle\.[\w.]+?)(?:\.\{([^}]*)\}| as (\w+))\s*$")
 MODULE_OF_USE = re.compile(r"^use (Rattle\.[\w.]+?)(?=\.\{| as )", re.M)
 SIGNATURE = re.compile(r"^(?:abbrev |unfoldable )?(?:pub )?([\w◌>=«»]+) : (.*)$")
 VARIANTS = re.compile(r"Rattle\.(\w+)\.specs\.declared\.(?:\w+\.)*(\w+)\.TheVariants$")
-NOT_CHANGED = re.compile(r"Values$|\.specs\.Inner\.|\.FoldedReading$")
+NOT_CHANGED = re.compile(r"Values$|\.specs\.Inner\.|\.(?:FieldReading|WholeAce|FoldedReading)$")
 TOKEN = re.compile(r'codes "((?:[^"\\]|\\.)*)"|char "((?:[^"\\]|\\.)*)"|"(?:[^"\\]|\\.)*"'
                    r"|(?<![\w.◌])(0x[0-9A-Fa-f_]+|\d[\d_]*)(?!\w)|(?<![\w◌])([A-Za-z_«][\w»]*(?:\.[\w«»]+)*)"
                    r"|&&|\|\||≤|<")

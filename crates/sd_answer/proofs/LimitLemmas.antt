@@ -14,9 +14,9 @@ use Rattle.sd_view.proofs.laws.ReadingLaws.{read-limits}
 use Rattle.sd_view.specs.Descriptor.{Descriptor, IsDescriptor}
 use Rattle.sd_view.specs.Reading.{reading}
 use Rattle.sd_view.specs.declared.fault.SdFault.{SdFault}
-use Rattle.sd_sddl_reader.proofs.laws.MeaningLimits.{means-limits}
-use Rattle.sd_sddl_reader.specs.Meaning.{means}
-use Rattle.sd_sddl_reader.specs.declared.fault.SddlFault.{SddlFault}
+use Rattle.sd_sddl_builder.proofs.laws.MeaningLimits.{means-limits}
+use Rattle.sd_sddl_builder.specs.Meaning.{means}
+use Rattle.sd_sddl_builder.specs.declared.fault.SddlFault.{SddlFault}
 use Rattle.sd_answer.proofs.Base64Lemmas.{spelled-base64}
 use Rattle.sd_answer.specs.Answer.{Meaning, bytes_mean, line_limit, line_means}
 use Rattle.sd_answer.specs.Answer.{meaning, or_byte_fault, or_sddl_fault, text_means}

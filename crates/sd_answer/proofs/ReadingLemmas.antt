@@ -5,9 +5,9 @@ use Rattle.sd_sid.specs.Sid.{SecurityId}
 use Rattle.sd_view.proofs.laws.ReadingLaws.{reading-shown}
 use Rattle.sd_view.specs.Descriptor.{Descriptor, Shows}
 use Rattle.sd_view.specs.declared.fault.SdFault.{SdFault}
-use Rattle.sd_sddl_reader.specs.Meaning.{means}
+use Rattle.sd_sddl_builder.specs.Meaning.{means}
 use Rattle.sd_sddl_reader.specs.SddlReading.{ReadsSddl}
-use Rattle.sd_sddl_reader.specs.declared.fault.SddlFault.{SddlFault}
+use Rattle.sd_sddl_builder.specs.declared.fault.SddlFault.{SddlFault}
 use Rattle.sd_sddl_reader.specs.declared.reader.SddlReader.{SddlReader}
 use Rattle.sd_answer.specs.Answer.{line_limit, or_byte_fault, or_sddl_fault, text_means}
 use Rattle.sd_answer.specs.Inner.Reading.{HasRead}

@@ -10,7 +10,7 @@ use Rattle.sd_sid.specs.declared.sid_text.SidFault.TheVariants as sid
 use Rattle.sd_buffer.specs.declared.buffer.TextFault.TheVariants as text
 use Rattle.sd_control.specs.declared.part.Which.TheVariants as which
 use Rattle.sd_inherit.specs.declared.derivation.DeriveFault.TheVariants.{DerivedTooLarge}
-use Rattle.sd_sddl_reader.specs.declared.fault.SddlFault.TheVariants as sddl
+use Rattle.sd_sddl_builder.specs.declared.fault.SddlFault.TheVariants as sddl
 use Rattle.sd_control.specs.declared.limits.TheConstants.{CAPACITY}
 use Rattle.sd_control.specs.Header.{header_bytes}
 use Rattle.sd_control.specs.declared.part.Part.TheVariants as part

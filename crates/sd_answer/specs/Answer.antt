@@ -24,8 +24,8 @@ use Rattle.sd_check.specs.declared.verdict.Verdict.TheVariants.{Denied, Granted}
 use Rattle.sd_inherit.specs.Derived.{derive_fault, derived}
 use Rattle.sd_inherit.specs.declared.derivation.DeriveFault.{DeriveFault}
 use Rattle.sd_explain.specs.Explain.{explain}
-use Rattle.sd_sddl_reader.specs.Meaning.{means}
-use Rattle.sd_sddl_reader.specs.declared.fault.SddlFault.{SddlFault}
+use Rattle.sd_sddl_builder.specs.Meaning.{means}
+use Rattle.sd_sddl_builder.specs.declared.fault.SddlFault.{SddlFault}
 use Rattle.sd_sddl_printer.specs.Printed.{sddl}
 use Rattle.sd_answer.specs.Faults.{fault_text}
 use Rattle.sd_answer.specs.LineEnd.{line_feed}

@@ -8,7 +8,7 @@ use Rattle.sd_control.specs.declared.part.Part.TheVariants as part
 use Rattle.sd_view.specs.declared.fault.SdFault.TheVariants as sd
 use Rattle.sd_control.specs.Parts.{part_of}
 use Rattle.sd_inherit.specs.declared.derivation.DeriveFault.TheVariants.{DerivedTooLarge}
-use Rattle.sd_sddl_reader.specs.declared.fault.SddlFault.TheVariants as sddl
+use Rattle.sd_sddl_builder.specs.declared.fault.SddlFault.TheVariants as sddl
 use Rattle.sd_answer.specs.FaultNames.{fault_name}
 use Rattle.sd_answer.specs.declared.fault.LineFault.{LineFault}
 use Rattle.sd_answer.specs.declared.fault.LineFault.TheVariants.{TooLong, Text, Sd, Sddl, Derive}

@@ -9,7 +9,7 @@ use crate::fault_names::fault_name;
 use sd_buffer::TextFault;
 use sd_control::Which;
 use sd_inherit::DeriveFault;
-use sd_sddl_reader::SddlFault;
+use sd_sddl_builder::SddlFault;
 use sd_sid::SidFault;
 use sd_sink::{Print, Printer, Sink, SinkFault};
 use sd_text::print_decimal;

@@ -14,7 +14,7 @@ use crate::sizes::part_sizes;
 use sd_answer::LineFault;
 use sd_call::{Argument, CallFault, Front, Outcome, done, failed, too_small};
 use sd_control::{HEADER_SIZE, Parts};
-use sd_sddl_reader::SddlFault;
+use sd_sddl_builder::SddlFault;
 
 /// Gives the layout of a new descriptor.
 #[tactic(auto, unfolding(crate::specs::Build::built))]

@@ -6,7 +6,7 @@ use Rattle.sd_sid.specs.Sid.{SecurityId}
 use Rattle.sd_sid.specs.Naming.{naming_by}
 use Rattle.sd_view.specs.Descriptor.{Descriptor}
 use Rattle.sd_view.specs.Layout.{layout}
-use Rattle.sd_sddl_reader.specs.Meaning.{means}
+use Rattle.sd_sddl_builder.specs.Meaning.{means}
 use Rattle.sd_sddl_printer.specs.Printed.{sddl}
 use Rattle.sd_explain.specs.Explain.{explain}
 use Rattle.sd_answer.specs.declared.fault.LineFault.TheVariants as line

@@ -5,7 +5,7 @@ use Rattle.std.specs.Prelude.{List, ℕ}
 use Rattle.sd_sid.specs.Sid.{sid_at}
 use Rattle.sd_sid.specs.SidText.{alias_of, has_form, letters_read, numbers_read, sid_reads}
 use Rattle.sd_sid.specs.declared.sid_text.SidFault.TheVariants as sid
-use Rattle.sd_sddl_reader.specs.declared.fault.SddlFault.TheVariants as sddl
+use Rattle.sd_sddl_builder.specs.declared.fault.SddlFault.TheVariants as sddl
 use Rattle.sd_sddl_printer.specs.Printed.{trustee_text}
 use Rattle.sd_answer.specs.declared.fault.LineFault.TheVariants as line
 use Rattle.sd_call.specs.Arguments.{optional_sid_in}

@@ -6,7 +6,7 @@ use Rattle.sd_sid.specs.Naming.{naming_by}
 use Rattle.sd_sid.specs.Sid.{SecurityId, sid_at, sid_bytes}
 use Rattle.sd_sid.specs.SidText.{sid_reads}
 use Rattle.sd_sid.specs.declared.naming.Naming.{Naming}
-use Rattle.sd_sddl_reader.specs.declared.fault.SddlFault.TheVariants as sddl
+use Rattle.sd_sddl_builder.specs.declared.fault.SddlFault.TheVariants as sddl
 use Rattle.sd_sddl_printer.specs.Printed.{trustee_text}
 use Rattle.sd_answer.specs.declared.fault.LineFault.TheVariants as line
 use Rattle.sd_call.specs.Arguments.{domain_in, sid_in}

@@ -8,7 +8,7 @@ use crate::bytes::give_sid;
 use crate::name::give_name;
 use sd_answer::LineFault;
 use sd_call::{Argument, CallFault, Outcome, domain_in, failed, sid_in};
-use sd_sddl_reader::SddlFault;
+use sd_sddl_builder::SddlFault;
 use sd_sid::{Naming, Sid};
 
 /// Gives the SID that a text names, in binary.

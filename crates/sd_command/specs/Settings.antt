@@ -14,7 +14,7 @@ use Rattle.sd_token.specs.Token.{Entry, Holder}
 use Rattle.sd_view.specs.Descriptor.{Descriptor}
 use Rattle.sd_rights.specs.Rights.{rights_reads}
 use Rattle.sd_check.specs.Ask.{Asked, ask_fault, asks_maximum, wanted_of}
-use Rattle.sd_sddl_reader.specs.Meaning.{means}
+use Rattle.sd_sddl_builder.specs.Meaning.{means}
 use Rattle.sd_inherit.specs.declared.plan.Target.{Target}
 use Rattle.sd_inherit.specs.declared.plan.Target.TheVariants.{File, Container}
 use Rattle.sd_command_line.specs.CommandLine.{line, option_text}

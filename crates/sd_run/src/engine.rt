@@ -1,7 +1,7 @@
 //! The engine, which has every buffer of a run.
 
 ghost use Rattle.std.specs.Prelude.{◌≡◌, IfOk, MatchResult, None, Some, Ok, Err};
-ghost use Rattle.sd_sddl_reader.specs.Meaning.{means};
+ghost use Rattle.sd_sddl_builder.specs.Meaning.{means};
 ghost use Rattle.sd_answer.specs.Answer.{answer, bound, is_error};
 ghost use Rattle.sd_answer.specs.LineInHand.{PutsAnswer};
 ghost use Rattle.sd_answer.specs.Task.{IsDerivation};
@@ -10,7 +10,8 @@ ghost use Rattle.sd_run.specs.declared.engine.RunFault.TheVariants.{Write};
 
 use sd_answer::{Job, Line, Stores, Task, put_answer};
 use sd_buffer::{SdBuf, TextBuf};
-use sd_sddl_reader::{SddlFault, read_sddl};
+use sd_sddl_builder::SddlFault;
+use sd_sddl_reader::read_sddl;
 use sd_sink::{NoMemory, Sink, SinkFault};
 use sd_token::Token;
 use std::alloc::Global;

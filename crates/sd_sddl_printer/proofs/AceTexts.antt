@@ -8,12 +8,12 @@ use Rattle.sd_kinds.specs.Flags.{flags_text}
 use Rattle.sd_rights.specs.Rights.{rights_text}
 use Rattle.std.proofs.lemmas.Bool.{and_parts}
 use Rattle.sd_sid.specs.declared.naming.Naming.{Naming}
-use Rattle.sd_sddl_reader.specs.declared.line.AceField.{AceField}
-use Rattle.sd_sddl_reader.specs.declared.line.AceField.TheVariants as field
-use Rattle.sd_sddl_reader.specs.declared.line.Slot.TheVariants as slot
+use Rattle.sd_sddl_builder.specs.declared.slot.AceField.{AceField}
+use Rattle.sd_sddl_builder.specs.declared.slot.AceField.TheVariants as field
+use Rattle.sd_sddl_builder.specs.declared.slot.Slot.TheVariants as slot
 use Rattle.sd_text.specs.Cuts.{Cuts, with_byte}
-use Rattle.sd_sddl_reader.specs.Line.{cut_at_semicolons}
-use Rattle.sd_sddl_reader.specs.FoldedReading.{Field, ace_fields, ace_fields_from}
+use Rattle.sd_sddl_builder.specs.Line.{cut_at_semicolons}
+use Rattle.sd_sddl_builder.specs.FoldedReading.{Field, ace_fields, ace_fields_from}
 use Rattle.sd_sddl_printer.specs.Printed.{ace_text, flags_field, kind_field, kind_text, object_field, object_text}
 use Rattle.sd_sddl_printer.specs.Printed.{rights_field, trustee_field, trustee_text}
 use Rattle.sd_sddl_printer.proofs.LineCuts.{IsInner, in_parentheses, is_inner_byte}

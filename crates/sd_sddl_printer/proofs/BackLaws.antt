@@ -12,21 +12,21 @@ use Rattle.sd_control.specs.Control.{present_bit}
 use Rattle.sd_view.specs.declared.acl.AclPart.{AclPart}
 use Rattle.sd_view.specs.declared.acl.AclPart.TheVariants as acl
 use Rattle.sd_control.specs.declared.control.AclFlags.{AclFlags}
-use Rattle.sd_sddl_reader.specs.declared.fault.SddlFault.{SddlFault}
-use Rattle.sd_sddl_reader.specs.declared.line.Head.TheVariants as head
+use Rattle.sd_sddl_builder.specs.declared.fault.SddlFault.{SddlFault}
+use Rattle.sd_sddl_builder.specs.declared.slot.Head.TheVariants as head
 use Rattle.sd_control.specs.declared.part.SidPart.{SidPart}
 use Rattle.sd_control.specs.declared.part.SidPart.TheVariants as sid_part
 use Rattle.sd_sid.specs.declared.naming.Naming.{Naming}
 use Rattle.sd_control.specs.declared.part.Which.{Which}
 use Rattle.sd_control.specs.declared.part.Which.TheVariants as which
 use Rattle.sd_builder.specs.Draft.{is_present, no_parts}
-use Rattle.sd_sddl_reader.specs.FoldedReading.{Field, FieldsRead, described, fields_of, finished, folded, nothing_read}
-use Rattle.sd_sddl_reader.specs.FoldedReading.{read_fields, reads_as, if_shaped}
-use Rattle.sd_sddl_reader.specs.Line.{Sections, has_twice, is_shaped, sections_of}
-use Rattle.sd_sddl_reader.specs.Meaning.{control_flags}
+use Rattle.sd_sddl_builder.specs.FoldedReading.{Field, FieldsRead, described, fields_of, finished, folded, nothing_read}
+use Rattle.sd_sddl_builder.specs.FoldedReading.{read_fields, reads_as, if_shaped}
+use Rattle.sd_sddl_builder.specs.Line.{Sections, has_twice, is_shaped, sections_of}
+use Rattle.sd_sddl_builder.specs.Meaning.{control_flags}
 use Rattle.sd_sddl_printer.specs.Printed.{ace_text, acl_text, dacl_text, group_text, kept_bits, owner_text, plain}
 use Rattle.sd_sddl_printer.specs.Printed.{sacl_text, sddl, sid_text_of, trustee_text}
-use Rattle.sd_sddl_reader.proofs.laws.ControlFlags.{flags-stay}
+use Rattle.sd_sddl_builder.proofs.laws.ControlFlags.{flags-stay}
 use Rattle.sd_sddl_printer.proofs.AceTexts.{ace_text-inner, inner_text}
 use Rattle.sd_sddl_printer.proofs.FieldsBack.{front_text}
 use Rattle.sd_sddl_printer.proofs.LineCuts.{IsPart, Part, in_parentheses, letter_of, line-parts, printed_part}

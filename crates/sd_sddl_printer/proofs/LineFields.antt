@@ -4,14 +4,14 @@ use Rattle.std.proofs.Common.{◌∙◌}
 use Rattle.std.specs.List.{AllByRecursion, flat_map, list_all}
 use Rattle.std.proofs.lemmas.Bool.{and_parts}
 use Rattle.sd_control.specs.declared.part.Which.TheVariants as which
-use Rattle.sd_sddl_reader.specs.declared.line.Head.{Head}
-use Rattle.sd_sddl_reader.specs.declared.line.Head.TheVariants as head
+use Rattle.sd_sddl_builder.specs.declared.slot.Head.{Head}
+use Rattle.sd_sddl_builder.specs.declared.slot.Head.TheVariants as head
 use Rattle.sd_control.specs.declared.part.SidPart.TheVariants as sid_part
-use Rattle.sd_sddl_reader.specs.declared.line.Slot.TheVariants as slot
-use Rattle.sd_sddl_reader.specs.FoldedReading.{Field, ace_fields, fields_in, fields_of}
-use Rattle.sd_sddl_reader.specs.Line.{Sections, ace, aces, are_aces, are_shaped, byte, front, has_aces, has_twice}
-use Rattle.sd_sddl_reader.specs.Line.{is_acl_body, is_blank_piece, is_body, is_shaped, is_sid_body, sections_of, trim}
-use Rattle.sd_sddl_reader.specs.Line.{trim_end}
+use Rattle.sd_sddl_builder.specs.declared.slot.Slot.TheVariants as slot
+use Rattle.sd_sddl_builder.specs.FoldedReading.{Field, ace_fields, fields_in, fields_of}
+use Rattle.sd_sddl_builder.specs.Line.{Sections, ace, aces, are_aces, are_shaped, byte, front, has_aces, has_twice}
+use Rattle.sd_sddl_builder.specs.Line.{is_acl_body, is_blank_piece, is_body, is_shaped, is_sid_body, sections_of, trim}
+use Rattle.sd_sddl_builder.specs.Line.{trim_end}
 use Rattle.sd_sddl_printer.proofs.LineCuts.{Body, IsInner, IsPart, MayHold, Part, body_pieces, line-paired, line-parts}
 use Rattle.sd_sddl_printer.proofs.LineCuts.{printed_part, section_of}
 use Rattle.sd_sddl_printer.proofs.PlainTexts.{IsPlain, is_plain_byte, no_mark}

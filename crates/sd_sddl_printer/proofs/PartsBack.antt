@@ -12,24 +12,24 @@ use Rattle.sd_view.specs.Descriptor.{IsAclPart}
 use Rattle.sd_view.specs.declared.acl.AclPart.{AclPart}
 use Rattle.sd_view.specs.declared.acl.AclPart.TheVariants as acl
 use Rattle.sd_control.specs.declared.control.AclFlags.{AclFlags}
-use Rattle.sd_sddl_reader.specs.declared.fault.SddlFault.{SddlFault}
-use Rattle.sd_sddl_reader.specs.declared.line.AceField.TheVariants as field
-use Rattle.sd_sddl_reader.specs.declared.line.Head.TheVariants as head
+use Rattle.sd_sddl_builder.specs.declared.fault.SddlFault.{SddlFault}
+use Rattle.sd_sddl_builder.specs.declared.slot.AceField.TheVariants as field
+use Rattle.sd_sddl_builder.specs.declared.slot.Head.TheVariants as head
 use Rattle.sd_control.specs.declared.part.SidPart.{SidPart}
-use Rattle.sd_sddl_reader.specs.declared.line.Slot.TheVariants as slot
+use Rattle.sd_sddl_builder.specs.declared.slot.Slot.TheVariants as slot
 use Rattle.sd_sid.specs.declared.naming.Naming.{Naming}
-use Rattle.sd_sddl_reader.specs.declared.reading.AceFields.{AceFields}
+use Rattle.sd_sddl_builder.specs.declared.reading.AceFields.{AceFields}
 use Rattle.sd_control.specs.declared.part.Which.{Which}
 use Rattle.sd_control.specs.declared.part.Which.TheVariants as which
 use Rattle.sd_builder.specs.Draft.{DraftParts, begun, closed, with_ace, with_acl}
-use Rattle.sd_sddl_reader.specs.FoldedReading.{Field, FieldsRead, ace_fields, grown, large_in, no_fields, read_fields}
-use Rattle.sd_sddl_reader.specs.FoldedReading.{take_field, with_flags, with_owner_or_group, with_trustee}
-use Rattle.sd_sddl_reader.specs.Line.{ace, byte, has_aces}
+use Rattle.sd_sddl_builder.specs.FoldedReading.{Field, FieldsRead, ace_fields, grown, large_in, no_fields, read_fields}
+use Rattle.sd_sddl_builder.specs.FoldedReading.{take_field, with_flags, with_owner_or_group, with_trustee}
+use Rattle.sd_sddl_builder.specs.Line.{ace, byte, has_aces}
 use Rattle.sd_text.specs.Chains.{and_then}
 use Rattle.std.specs.Option.{option_or}
 use Rattle.sd_sddl_fields.proofs.laws.FlagRuns.{or-none}
 use Rattle.sd_sddl_printer.specs.Printed.{trustee_text}
-use Rattle.sd_sddl_reader.proofs.laws.FoldedSections.{read-append}
+use Rattle.sd_sddl_builder.proofs.laws.FoldedSections.{read-append}
 use Rattle.sd_sddl_printer.proofs.AceTexts.{field_at, inner-fields, inner_text, inner_text-is}
 use Rattle.sd_sddl_printer.proofs.FieldsBack.{front_text, front_text-plain, null_front_text, null_front_text-plain}
 use Rattle.sd_sddl_printer.proofs.FieldsBack.{take-flags, take-inherited, take-kind, take-list, take-null, take-object}

@@ -7,7 +7,7 @@ ghost use Rattle.sd_sink.specs.Sink.{Puts};
 ghost use Rattle.std.specs.Option.{option_copied};
 ghost use Rattle.sd_view.specs.Descriptor.{IsDescriptor};
 ghost use Rattle.sd_view.specs.Layout.{size};
-ghost use Rattle.sd_sddl_reader.specs.Meaning.{means};
+ghost use Rattle.sd_sddl_builder.specs.Meaning.{means};
 ghost use Rattle.sd_sddl_printer.specs.Printed.{plain, sddl, sid_text_of};
 ghost use Rattle.sd_sid.specs.Naming.{naming_by};
 

@@ -6,12 +6,12 @@ use Rattle.std.specs.List.{list_all, list_any}
 use Rattle.std.proofs.lemmas.Bool.Decides.{nat_tests}
 use Rattle.std.proofs.Math.Dec.{eqb-suc-zero}
 use Rattle.std.proofs.lemmas.Bool.{or_parts, or_right, or_left}
-use Rattle.sd_sddl_reader.specs.declared.line.Slot.{Slot}
+use Rattle.sd_sddl_builder.specs.declared.slot.Slot.{Slot}
 use Rattle.sd_sid.specs.Sid.{SecurityId}
-use Rattle.sd_sddl_reader.specs.Line.{trim, trim_end}
+use Rattle.sd_sddl_builder.specs.Line.{trim, trim_end}
 use Rattle.sd_sddl_fields.specs.FieldTexts.{is_blank}
-use Rattle.sd_sddl_reader.specs.FoldedReading.{FieldsRead, take_field}
-use Rattle.sd_sddl_reader.specs.Meaning.{is_unreadable}
+use Rattle.sd_sddl_builder.specs.FoldedReading.{FieldsRead, take_field}
+use Rattle.sd_sddl_builder.specs.Meaning.{is_unreadable}
 use Rattle.sd_sddl_fields.specs.Held.{Held, IsHeld, broken_text, held_with, held_blank, outer_with, within_with}
 use Rattle.sd_sddl_fields.specs.Held.{held_text}
 use Rattle.sd_sddl_reader.specs.Inner.Progress.{unreadable, text_with, inner_with}

@@ -7,15 +7,15 @@ use Rattle.std.specs.Option.{is_none, is_some}
 use Rattle.std.proofs.lemmas.List.{take-append-drop}
 use Rattle.std.proofs.lemmas.Bool.{and_parts}
 use Rattle.sd_sid.specs.Sid.{SecurityId}
-use Rattle.sd_sddl_reader.specs.declared.fault.SddlFault.{SddlFault}
-use Rattle.sd_sddl_reader.specs.declared.line.AceField.{AceField}
+use Rattle.sd_sddl_builder.specs.declared.fault.SddlFault.{SddlFault}
+use Rattle.sd_sddl_builder.specs.declared.slot.AceField.{AceField}
 use Rattle.sd_sddl_reader.specs.declared.line.State.TheVariants as state
 use Rattle.sd_control.specs.declared.part.SidPart.{SidPart}
 use Rattle.sd_sddl_fields.specs.Held.{Held, IsHeld, broken_text, held_run, held_with, is_plain_inside, is_plain_text}
 use Rattle.sd_sddl_reader.specs.Inner.Progress.{is_plain_outside}
-use Rattle.sd_sddl_reader.specs.Line.{head_of}
+use Rattle.sd_sddl_builder.specs.Line.{head_of}
 use Rattle.sd_sddl_fields.specs.FieldTexts.{is_blank}
-use Rattle.sd_sddl_reader.specs.FoldedReading.{FieldsRead}
+use Rattle.sd_sddl_builder.specs.FoldedReading.{FieldsRead}
 use Rattle.sd_text.specs.Chains.{unless}
 use Rattle.sd_sddl_reader.specs.Inner.Progress.{Seen, rest_answer}
 use Rattle.sd_sddl_reader.specs.Inner.Reads.{IsReader, Reads, answer_at}

@@ -9,28 +9,28 @@ use Rattle.std.proofs.lemmas.Bool.{and_right}
 use Rattle.std.proofs.Math.Bool.{or-true, or-false}
 use Rattle.sd_sid.specs.Sid.{SecurityId}
 use Rattle.sd_control.specs.declared.part.Which.{Which}
-use Rattle.sd_sddl_reader.specs.declared.fault.SddlFault.{SddlFault}
-use Rattle.sd_sddl_reader.specs.declared.fault.SddlFault.TheVariants as fault
-use Rattle.sd_sddl_reader.specs.declared.line.AceField.{AceField}
-use Rattle.sd_sddl_reader.specs.declared.line.AceField.TheVariants as field
-use Rattle.sd_sddl_reader.specs.declared.line.Head.{Head}
-use Rattle.sd_sddl_reader.specs.declared.line.Head.TheVariants as head
+use Rattle.sd_sddl_builder.specs.declared.fault.SddlFault.{SddlFault}
+use Rattle.sd_sddl_builder.specs.declared.fault.SddlFault.TheVariants as fault
+use Rattle.sd_sddl_builder.specs.declared.slot.AceField.{AceField}
+use Rattle.sd_sddl_builder.specs.declared.slot.AceField.TheVariants as field
+use Rattle.sd_sddl_builder.specs.declared.slot.Head.{Head}
+use Rattle.sd_sddl_builder.specs.declared.slot.Head.TheVariants as head
 use Rattle.sd_sddl_reader.specs.declared.line.State.{State}
 use Rattle.sd_sddl_reader.specs.declared.line.State.TheVariants as state
 use Rattle.sd_control.specs.Parts.{each_part, get_part, same_part, set_part}
 use Rattle.sd_control.specs.declared.part.Part.{Part}
 use Rattle.sd_control.specs.declared.part.Part.TheVariants as part
 use Rattle.sd_control.specs.declared.part.SidPart.{SidPart}
-use Rattle.sd_sddl_reader.specs.declared.line.Slot.{Slot}
-use Rattle.sd_sddl_reader.specs.declared.line.Slot.TheVariants as slot
+use Rattle.sd_sddl_builder.specs.declared.slot.Slot.{Slot}
+use Rattle.sd_sddl_builder.specs.declared.slot.Slot.TheVariants as slot
 use Rattle.sd_sddl_fields.specs.Held.{Held, IsHeld, no_text, held_text}
-use Rattle.sd_sddl_reader.specs.Line.{is_paired, Piece, byte, ace, pieces_from, sections, Section, Sections}
-use Rattle.sd_sddl_reader.specs.Line.{is_sid_body, are_aces, is_acl_body, are_shaped, cut_at_semicolons, front, aces}
-use Rattle.sd_sddl_reader.specs.Line.{has_aces, has_twice, has_head, head_at, head_of, sections_of, begins_with_colon}
-use Rattle.sd_sddl_reader.specs.Line.{part_of_head, same_head, is_body}
+use Rattle.sd_sddl_builder.specs.Line.{is_paired, Piece, byte, ace, pieces_from, sections, Section, Sections}
+use Rattle.sd_sddl_builder.specs.Line.{is_sid_body, are_aces, is_acl_body, are_shaped, cut_at_semicolons, front, aces}
+use Rattle.sd_sddl_builder.specs.Line.{has_aces, has_twice, has_head, head_at, head_of, sections_of, begins_with_colon}
+use Rattle.sd_sddl_builder.specs.Line.{part_of_head, same_head, is_body}
 use Rattle.sd_sddl_fields.specs.FieldTexts.{is_blank}
-use Rattle.sd_sddl_reader.specs.FoldedReading.{Field, FieldsRead, ace_fields, ace_fields_from, fields_in, fields_of}
-use Rattle.sd_sddl_reader.specs.FoldedReading.{next_field, nothing_read, read_fields, reads_as, take_field, if_shaped}
+use Rattle.sd_sddl_builder.specs.FoldedReading.{Field, FieldsRead, ace_fields, ace_fields_from, fields_in, fields_of}
+use Rattle.sd_sddl_builder.specs.FoldedReading.{next_field, nothing_read, read_fields, reads_as, take_field, if_shaped}
 use Rattle.sd_text.specs.Chains.{and_then, unless}
 use Rattle.sd_sddl_reader.specs.Inner.Progress.{Seen, is_inside, fields_left, is_shaped_here, text_with, inner_with}
 use Rattle.sd_sddl_reader.specs.Inner.Progress.{fields_here, is_seen, with_head, has_seen, judged, rest_answer}

@@ -10,18 +10,19 @@ use Rattle.sd_control.specs.declared.part.Which.{Which}
 use Rattle.sd_sddl_fields.specs.Held.{IsHeld, Held, held_run, held_with, is_plain_inside, is_plain_text, no_text}
 use Rattle.sd_sddl_fields.proofs.laws.HeldRuns.{run-fits}
 use Rattle.sd_text.specs.Chains.{unless}
-use Rattle.sd_sddl_reader.specs.Line.{byte, head_at, head_of, pieces_from}
-use Rattle.sd_sddl_reader.specs.FoldedReading.{FieldsRead, take_field}
+use Rattle.sd_sddl_builder.specs.Line.{byte, head_at, head_of, pieces_from}
+use Rattle.sd_sddl_builder.specs.FoldedReading.{FieldsRead, take_field}
 use Rattle.sd_sddl_reader.specs.Inner.Progress.{Seen, ended_with, is_inside, is_seen, rest_answer}
 use Rattle.sd_sddl_reader.specs.Inner.Progress.{state_of, with_head}
-use Rattle.sd_sddl_reader.specs.Inner.Reads.{HasReadFields, IsFresh, LineHasRead, Steps, answer_at}
+use Rattle.sd_sddl_builder.specs.FieldReading.{HasReadFields}
+use Rattle.sd_sddl_reader.specs.Inner.Reads.{IsFresh, LineHasRead, Steps, answer_at}
 use Rattle.sd_sddl_reader.specs.Inner.WholePart.{HeadAfter, IsPlainText}
-use Rattle.sd_sddl_reader.specs.declared.fault.SddlFault.{SddlFault}
-use Rattle.sd_sddl_reader.specs.declared.fault.SddlFault.TheVariants as fault
-use Rattle.sd_sddl_reader.specs.declared.line.AceField.TheVariants as field
-use Rattle.sd_sddl_reader.specs.declared.line.Head.{Head}
-use Rattle.sd_sddl_reader.specs.declared.line.Slot.{Slot}
-use Rattle.sd_sddl_reader.specs.declared.line.Slot.TheVariants as slot
+use Rattle.sd_sddl_builder.specs.declared.fault.SddlFault.{SddlFault}
+use Rattle.sd_sddl_builder.specs.declared.fault.SddlFault.TheVariants as fault
+use Rattle.sd_sddl_builder.specs.declared.slot.AceField.TheVariants as field
+use Rattle.sd_sddl_builder.specs.declared.slot.Head.{Head}
+use Rattle.sd_sddl_builder.specs.declared.slot.Slot.{Slot}
+use Rattle.sd_sddl_builder.specs.declared.slot.Slot.TheVariants as slot
 use Rattle.sd_sddl_reader.specs.declared.line.State.{State}
 use Rattle.sd_sddl_reader.specs.declared.line.State.TheVariants as state
 use Rattle.sd_sddl_reader.specs.declared.reader.SddlReader.{SddlReader}

@@ -1,5 +1,2 @@
-pub mod FoldedReading
 pub mod Inner
-pub mod Line
-pub mod Meaning
 pub mod SddlReading

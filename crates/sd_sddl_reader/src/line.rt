@@ -1,47 +1,19 @@
-//! The parts of an SDDL line, and the states of its reader.
+//! What the reader of a line looks for in its bytes, and the states of the reader.
 
 ghost use Rattle.std.specs.Prelude.{◌≡◌, ◌≤◌, ◌∷◌, ◌++◌, length, take, IfSome, Some, true};
 ghost use Rattle.std.specs.Str.{byte as char};
 ghost use Rattle.std.specs.List.{list_all};
 ghost use Rattle.sd_sddl_reader.specs.Inner.Progress.{is_plain_outside};
 ghost use Rattle.sd_sddl_reader.specs.Inner.WholePart.{HeadAfter, IsPlainText};
-ghost use Rattle.sd_sddl_reader.specs.Line.{head_of, part_of_head};
+ghost use Rattle.sd_sddl_builder.specs.Line.{head_of};
 ghost use Rattle.sd_sddl_fields.specs.FieldTexts.{is_blank};
-ghost use Rattle.sd_sddl_reader.specs.FoldedReading.{next_field};
+ghost use Rattle.sd_sddl_builder.specs.FoldedReading.{next_field};
 ghost use Rattle.sd_sddl_reader.specs.Inner.Progress.{state_of};
 
-use sd_control::{Part, SidPart, Which};
+use sd_control::{SidPart, Which};
+use sd_sddl_builder::{AceField, Head};
 use sd_sddl_fields::{is_plain_text, plain_text};
 use sd_text::MOST_FIELD_SIZE;
-
-/// What a letter announces, with a colon after it.
-#[derive(Clone, Copy)]
-pub enum Head {
-    Sid(SidPart),
-    Acl(Which),
-}
-
-/// A field of an ACE.
-#[derive(Clone, Copy)]
-pub enum AceField {
-    Kind,
-    Flags,
-    Rights,
-    Object,
-    Inherited,
-    Sid,
-}
-
-/// What a field of a line is.
-#[derive(Clone, Copy)]
-pub enum Slot {
-    /// An owner or a group.
-    Sid(SidPart),
-    /// The text of an ACL before its ACEs, and whether there are ACEs.
-    AclFlags(Which, bool),
-    /// A field of an ACE of the ACL at hand.
-    Ace(AceField),
-}
 
 /// Where in a line the next byte is.
 #[derive(Clone, Copy)]
@@ -56,17 +28,6 @@ pub enum State {
     AfterAce,
     /// In a field of an ACE.
     Ace(AceField),
-}
-
-impl From<Head> for Part {
-    ghost from_gives = { λ head part. part ≡ part_of_head head };
-
-    fn from(head: Head) -> Part {
-        match head {
-            Head::Sid(part) => part.into(),
-            Head::Acl(which) => which.into(),
-        }
-    }
 }
 
 /// What a letter announces, in either case.

@@ -7,22 +7,20 @@ ghost use Rattle.sd_sid.specs.Sid.{IsSid, SecurityId};
 ghost use Rattle.sd_view.specs.Descriptor.{IsDescriptor, Shows};
 ghost use Rattle.sd_view.specs.WrittenForm.{IsWritten, IsWrittenForm};
 ghost use Rattle.sd_sddl_fields.specs.Held.{IsHeld, no_text, held_text};
-ghost use Rattle.sd_sddl_reader.specs.Line.{byte, head_at, head_of as head_named, pieces_from};
-ghost use Rattle.sd_sddl_reader.specs.FoldedReading.{FieldsRead, finished, take_field};
+ghost use Rattle.sd_sddl_builder.specs.Line.{byte, head_at, head_of as head_named, pieces_from};
+ghost use Rattle.sd_sddl_builder.specs.FoldedReading.{FieldsRead, finished, take_field};
 ghost use Rattle.sd_text.specs.Chains.{and_then, unless};
-ghost use Rattle.sd_sddl_reader.specs.Meaning.{means};
-ghost use Rattle.sd_sddl_reader.specs.Inner.Reads.{CanTake, HasReadFields};
+ghost use Rattle.sd_sddl_builder.specs.Meaning.{means};
+ghost use Rattle.sd_sddl_builder.specs.FieldReading.{CanTake, HasReadFields};
 ghost use Rattle.sd_sddl_reader.specs.Inner.WholePart.{IsPlainText};
 ghost use Rattle.sd_sddl_reader.specs.Inner.Progress.{ended_with, is_inside, is_seen, state_of, with_head};
 
-use crate::fault::SddlFault;
 use crate::line::{
-    AceField, Head, Slot, State, first_parenthesis, front_head, head_of, next_field, next_head,
-    plain_outside, state_of,
+    State, first_parenthesis, front_head, head_of, next_field, next_head, plain_outside, state_of,
 };
-use crate::reading::{FieldReader, fault_of};
 use sd_buffer::SdBuf;
 use sd_control::{Parts, SidPart, Which};
+use sd_sddl_builder::{AceField, FieldReader, Head, SddlFault, Slot, fault_of};
 use sd_sddl_fields::{FieldText, is_blank, plain_inside};
 use sd_sid::Sid;
 
@@ -45,7 +43,8 @@ pub struct SddlReader {
 
 impl SddlReader {
     ghost use Rattle.sd_sddl_reader.specs.SddlReading.{IsReading, ReadsSddl};
-    ghost use Rattle.sd_sddl_reader.specs.Inner.Reads.{CanStep, Ends, Feeds, HasReadFields, LineHasRead, IsCalm};
+    ghost use Rattle.sd_sddl_builder.specs.FieldReading.{Ends, HasReadFields};
+    ghost use Rattle.sd_sddl_reader.specs.Inner.Reads.{CanStep, Feeds, LineHasRead, IsCalm};
     ghost use Rattle.sd_sddl_reader.specs.Inner.Reads.{IsFresh, IsReader, IsText, Reads, StepsOn, StepsOver};
     ghost use Rattle.sd_sddl_reader.specs.Inner.Reads.{StepsText, answer_at};
 

@@ -6,23 +6,23 @@ use Rattle.std.specs.Option.{is_none}
 use Rattle.std.specs.Str.{byte as char}
 use Rattle.sd_sid.specs.Sid.{SecurityId}
 use Rattle.sd_sddl_fields.specs.Held.{Held, held_text, is_plain_text}
-use Rattle.sd_sddl_reader.specs.FoldedReading.{Field, FieldsRead, ace_fields, ace_fields_from, fields_of, read_fields}
-use Rattle.sd_sddl_reader.specs.FoldedReading.{take_field, if_shaped}
-use Rattle.sd_sddl_reader.specs.Line.{Piece, Section, Sections, aces, are_aces, are_shaped, cut_at_semicolons, front}
-use Rattle.sd_sddl_reader.specs.Line.{has_aces, has_twice, head_of, is_acl_body, is_blank_piece, is_paired, is_sid_body}
-use Rattle.sd_sddl_reader.specs.Line.{part_of_head, pieces_from, sections, trim}
+use Rattle.sd_sddl_builder.specs.FoldedReading.{Field, FieldsRead, ace_fields, ace_fields_from, fields_of, read_fields}
+use Rattle.sd_sddl_builder.specs.FoldedReading.{take_field, if_shaped}
+use Rattle.sd_sddl_builder.specs.Line.{Piece, Section, Sections, aces, are_aces, are_shaped, cut_at_semicolons, front}
+use Rattle.sd_sddl_builder.specs.Line.{has_aces, has_twice, head_of, is_acl_body, is_blank_piece, is_paired, is_sid_body}
+use Rattle.sd_sddl_builder.specs.Line.{part_of_head, pieces_from, sections, trim}
 use Rattle.sd_sddl_fields.specs.FieldTexts.{is_blank}
 use Rattle.sd_text.specs.Chains.{and_then}
-use Rattle.sd_sddl_reader.specs.declared.fault.SddlFault.{SddlFault}
-use Rattle.sd_sddl_reader.specs.declared.line.AceField.{AceField}
-use Rattle.sd_sddl_reader.specs.declared.line.AceField.TheVariants as field
-use Rattle.sd_sddl_reader.specs.declared.line.Head.{Head}
-use Rattle.sd_sddl_reader.specs.declared.line.Head.TheVariants as head
+use Rattle.sd_sddl_builder.specs.declared.fault.SddlFault.{SddlFault}
+use Rattle.sd_sddl_builder.specs.declared.slot.AceField.{AceField}
+use Rattle.sd_sddl_builder.specs.declared.slot.AceField.TheVariants as field
+use Rattle.sd_sddl_builder.specs.declared.slot.Head.{Head}
+use Rattle.sd_sddl_builder.specs.declared.slot.Head.TheVariants as head
 use Rattle.sd_sddl_reader.specs.declared.line.State.{State}
 use Rattle.sd_sddl_reader.specs.declared.line.State.TheVariants as state
 use Rattle.sd_control.specs.Parts.{get_part, set_part}
 use Rattle.sd_control.specs.declared.part.Parts.{Parts}
-use Rattle.sd_sddl_reader.specs.declared.line.Slot.TheVariants as slot
+use Rattle.sd_sddl_builder.specs.declared.slot.Slot.TheVariants as slot
 
 abbrev pub is_inside : State → Bool
 is_inside state.Before = false

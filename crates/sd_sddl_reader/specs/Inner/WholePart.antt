@@ -3,9 +3,9 @@ use Rattle.std.specs.Prelude.{◌≡◌, ℕ, ◌≤◌, true, List, ◌∷◌, 
 use Rattle.std.specs.List.{list_all}
 use Rattle.std.specs.Str.{byte as char}
 use Rattle.sd_text.specs.Limits.{most_field}
-use Rattle.sd_sddl_reader.specs.Line.{head_of}
+use Rattle.sd_sddl_builder.specs.Line.{head_of}
 use Rattle.sd_sddl_fields.specs.Held.{is_plain_text}
-use Rattle.sd_sddl_reader.specs.declared.line.Head.{Head}
+use Rattle.sd_sddl_builder.specs.declared.slot.Head.{Head}
 
 -- the text of a field outside parentheses: no blank and no colon in it, and not too long
 pub record IsPlainText (text : List ℕ) : Type 0 where

@@ -2,7 +2,7 @@ use Rattle.std.proofs.Common.{sym, rules, ◌∙◌}
 use Rattle.std.specs.Option.{option_copied}
 use Rattle.sd_sink.proofs.laws.PrintLemmas.{printed}
 use Rattle.sd_sddl_printer.proofs.BackLaws.{folded-sddl}
-use Rattle.sd_sddl_reader.proofs.laws.FoldedMeaning.{folded-means}
+use Rattle.sd_sddl_builder.proofs.laws.FoldedMeaning.{folded-means}
 use Rattle.sd_sddl_printer.proofs.laws.SizeLaws.{sddl-length}
 use Rattle.sd_sid.specs.Naming.{naming_by}
 use Rattle.sd_sddl_printer.proofs.printed.put_sddl.Goals as goal

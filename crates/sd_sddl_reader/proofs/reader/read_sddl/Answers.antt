@@ -1,5 +1,5 @@
 use Rattle.std.proofs.Common.{[]}
-use Rattle.sd_sddl_reader.proofs.MeansLimits.{line-limits}
+use Rattle.sd_sddl_builder.proofs.laws.MeaningLimits.{meant-limits}
 use Rattle.sd_sddl_reader.proofs.reader.read_sddl.Goals as goal
 
 pub returns-clause-exact : goal.returns-clause-exact
@@ -11,4 +11,4 @@ returns-clause-written c = c.end.ensures.written _ _
     (c.feed_all.ensures.read _ [] (rw (c.copied.ensures) at c.new-reader.ensures.read))
 
 pub returns-clause-limits : goal.returns-clause-limits
-returns-clause-limits c = line-limits c.args.text.now _ c.note_limits.ensures
+returns-clause-limits c = meant-limits c.args.text.now _ c.note_limits.ensures

@@ -1,13 +1,13 @@
 use Rattle.std.proofs.Common.{◌≡◌, ℕ, List, [], refl, ap, ◌∙◌, ◌++◌}
 use Rattle.std.specs.Prelude.{Option}
 use Rattle.sd_sid.specs.Sid.{SecurityId}
-use Rattle.sd_sddl_reader.specs.Meaning.{means}
-use Rattle.sd_sddl_reader.specs.FoldedReading.{FieldsRead, finished, folded, reads_as}
+use Rattle.sd_sddl_builder.specs.Meaning.{means}
+use Rattle.sd_sddl_builder.specs.FoldedReading.{FieldsRead, finished, folded, reads_as}
 use Rattle.std.specs.Option.{option_to_list}
 use Rattle.sd_sddl_reader.specs.Inner.Reads.{LineHasRead, Reads, answer_at}
 use Rattle.sd_sddl_reader.proofs.FieldTexts.{append_nothing}
 use Rattle.sd_sddl_reader.proofs.FitLaws.{keeps-same}
-use Rattle.sd_sddl_reader.proofs.laws.FoldedMeaning.{folded-means}
+use Rattle.sd_sddl_builder.proofs.laws.FoldedMeaning.{folded-means}
 use Rattle.sd_sddl_reader.proofs.reader.SddlReader.end.Goals.{in-Some, in_default}
 use Rattle.sd_sddl_reader.proofs.reader.SddlReader.end.Goals as goal
 

@@ -1,5 +1,5 @@
 use Rattle.std.proofs.Common.{true, refl, sym, ap, ◌∙◌, arith}
-use Rattle.sd_sddl_reader.specs.declared.line.AceField.TheVariants as field
+use Rattle.sd_sddl_builder.specs.declared.slot.AceField.TheVariants as field
 use Rattle.sd_sddl_reader.specs.declared.line.State.TheVariants as state
 use Rattle.sd_text.specs.Chains.{unless}
 use Rattle.sd_sddl_reader.specs.declared.reader.SddlReader.{SddlReader}

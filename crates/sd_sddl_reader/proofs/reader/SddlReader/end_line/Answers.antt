@@ -1,11 +1,12 @@
 use Rattle.std.proofs.Common.{subst, ◌≡◌, true, false, [], ap, sym, ◌∙◌, Ok, Err}
 use Rattle.std.specs.Prelude.{Result}
-use Rattle.sd_sddl_reader.specs.declared.fault.SddlFault.{SddlFault}
-use Rattle.sd_sddl_reader.specs.declared.fault.SddlFault.TheVariants as fault
+use Rattle.sd_sddl_builder.specs.declared.fault.SddlFault.{SddlFault}
+use Rattle.sd_sddl_builder.specs.declared.fault.SddlFault.TheVariants as fault
 use Rattle.sd_sddl_reader.specs.declared.reader.SddlReader.{SddlReader}
-use Rattle.sd_sddl_reader.specs.FoldedReading.{FieldsRead, finished}
+use Rattle.sd_sddl_builder.specs.FoldedReading.{FieldsRead, finished}
 use Rattle.sd_text.specs.Chains.{unless}
-use Rattle.sd_sddl_reader.specs.Inner.Reads.{answer_at, Ends}
+use Rattle.sd_sddl_builder.specs.FieldReading.{Ends}
+use Rattle.sd_sddl_reader.specs.Inner.Reads.{answer_at}
 use Rattle.sd_sddl_reader.proofs.Steps.{finished_once, finished_twice, outside_of, unfinished, unsound}
 use Rattle.sd_sddl_reader.proofs.reader.SddlReader.end_line.Goals as goal
 

@@ -1,8 +1,8 @@
 use Rattle.std.proofs.Common.{◌≡◌, ℕ, true, List, [], ◌∷◌, refl, ap, sym, ◌∙◌, ◌++◌, append_assoc, None, Err}
 use Rattle.std.specs.Prelude.{Option}
 use Rattle.sd_sid.specs.Sid.{SecurityId}
-use Rattle.sd_sddl_reader.specs.declared.fault.SddlFault.TheVariants as fault
-use Rattle.sd_sddl_reader.specs.FoldedReading.{reads_as}
+use Rattle.sd_sddl_builder.specs.declared.fault.SddlFault.TheVariants as fault
+use Rattle.sd_sddl_builder.specs.FoldedReading.{reads_as}
 use Rattle.sd_text.specs.Chains.{unless}
 use Rattle.std.specs.Option.{option_to_list}
 use Rattle.sd_sddl_reader.specs.Inner.Reads.{answer_at}

@@ -3,7 +3,7 @@ use Rattle.std.specs.Prelude.{Option, None}
 use Rattle.sd_sid.specs.Sid.{SecurityId}
 use Rattle.sd_sddl_fields.specs.Held.{no_text}
 use Rattle.sd_sddl_reader.specs.Inner.Reads.{FedTo, IsReader, Reads}
-use Rattle.sd_sddl_reader.specs.declared.line.AceField.TheVariants as field
+use Rattle.sd_sddl_builder.specs.declared.slot.AceField.TheVariants as field
 use Rattle.sd_sddl_reader.specs.declared.line.State.TheVariants as state
 use Rattle.sd_sddl_reader.proofs.reader.SddlReader.feed_aces.Given as goal
 

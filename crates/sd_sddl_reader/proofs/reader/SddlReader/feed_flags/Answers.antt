@@ -1,5 +1,5 @@
 use Rattle.std.proofs.Common.{◌++◌, refl, true, ap, length, length-append, arith}
-use Rattle.sd_sddl_reader.specs.declared.line.AceField.TheVariants as field
+use Rattle.sd_sddl_builder.specs.declared.slot.AceField.TheVariants as field
 use Rattle.sd_sddl_reader.specs.declared.line.State.TheVariants as state
 use Rattle.sd_sddl_reader.proofs.FitLaws.{can-take-front}
 use Rattle.sd_sddl_reader.proofs.WholeFields.{fed-on, reader-at}

@@ -1,7 +1,7 @@
 use Rattle.std.proofs.Common.{refl, ap, ◌∙◌, arith}
 use Rattle.std.specs.Prelude.{Option}
 use Rattle.sd_sid.specs.Sid.{SecurityId}
-use Rattle.sd_sddl_reader.specs.FoldedReading.{nothing_read, reads_as}
+use Rattle.sd_sddl_builder.specs.FoldedReading.{nothing_read, reads_as}
 use Rattle.sd_sddl_reader.proofs.Steps.{started}
 use Rattle.sd_sddl_reader.proofs.FitLaws.{fits-start}
 use Rattle.sd_sddl_reader.proofs.reader.SddlReader.new.Goals as goal

@@ -1,5 +1,5 @@
 use Rattle.std.proofs.Common.{refl, sym}
-use Rattle.sd_sddl_reader.specs.FoldedReading.{take_field}
+use Rattle.sd_sddl_builder.specs.FoldedReading.{take_field}
 use Rattle.sd_sddl_reader.proofs.reader.SddlReader.take_held.Goals as goal
 
 pub returns-then-is_broken-clause-read : goal.returns-then-is_broken-clause-read

@@ -1,4 +1,4 @@
-use Rattle.sd_sddl_reader.proofs.WholeFields.{whole-readable}
+use Rattle.sd_sddl_builder.proofs.laws.WholeTexts.{whole-readable}
 use Rattle.sd_sddl_reader.proofs.WholeParts.{text-inside}
 use Rattle.sd_sddl_reader.proofs.reader.SddlReader.take_whole.Goals as goal
 

@@ -1,0 +1,7 @@
+-- Laws of the definitions alone, which crates above may cite.
+pub mod ControlFlags
+pub mod FieldParts
+pub mod FoldedMeaning
+pub mod FoldedSections
+pub mod MeaningLimits
+pub mod WholeTexts

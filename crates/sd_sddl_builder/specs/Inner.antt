@@ -1,0 +1,2 @@
+-- What private contracts cite. No definition rests on this file.
+pub mod AceEnds

@@ -1,0 +1,6 @@
+pub mod FieldReading
+pub mod FoldedReading
+pub mod Inner
+pub mod Line
+pub mod Meaning
+pub mod WholeAce

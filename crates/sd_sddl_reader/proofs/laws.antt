@@ -1,5 +1,0 @@
--- Laws of the definitions alone, which crates above may cite.
-pub mod ControlFlags
-pub mod FoldedMeaning
-pub mod FoldedSections
-pub mod MeaningLimits

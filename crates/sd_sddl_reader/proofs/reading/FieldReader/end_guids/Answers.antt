@@ -1,5 +1,0 @@
-use Rattle.sd_sddl_reader.proofs.WholeFields.{sound-objects}
-use Rattle.sd_sddl_reader.proofs.reading.FieldReader.end_guids.Goals as goal
-
-pub end_ace-requires-clause-sound : goal.end_ace-requires-clause-sound
-end_ace-requires-clause-sound c = sound-objects c.args.ace _ _ _ _ c.requires.sound c.in-Some.ensures
