@@ -1,9 +1,12 @@
 //! What stands in an ACE before its GUIDs and its SID, as it is written.
 
-ghost use Rattle.std.specs.Prelude.{◌≡◌, ◌+◌, length, take, if◌then◌else◌};
+ghost use Rattle.std.specs.Prelude.{◌≡◌, ◌+◌, [], ◌∷◌, ◌++◌, length, take, if◌then◌else◌};
+ghost use Rattle.byteorder.specs.Endian.{little_bytes};
+ghost use Rattle.sd_kinds.specs.Kinds.{is_object, kind_code};
 ghost use Rattle.sd_ace.specs.AceLayout.{ace_front};
 
 use crate::ace::Ace;
+use sd_kinds::AceKind;
 use byteorder::{ByteOrder, LittleEndian};
 use std::marker::Model;
 
@@ -37,13 +40,22 @@ impl AceFront {
         ensures { result ≡ ace_front ace.now }
     {
         let present = object_flags(ace.object().is_some(), ace.inherited().is_some());
+        AceFront::of_parts(ace.kind(), ace.flags(), ace.size(), ace.mask(), present)
+    }
+
+    /// That of an ACE of this kind, with these flags, this size and mask, and these object flags where its kind has them.
+    #[inline(always)]
+    pub fn of_parts(kind: AceKind, flags: u8, size: u16, mask: u32, present: u32) -> AceFront
+        ensures { result ≡ kind_code kind ∷ flags ∷ little_bytes 2 size
+            ++ (little_bytes 4 mask ++ (if is_object kind then little_bytes 4 present else [])) }
+    {
         let mut cells = [0; OBJECT_FRONT_SIZE];
-        cells[0] = ace.kind().code();
-        cells[1] = ace.flags();
-        LittleEndian::write_u16(&mut cells[2..], ace.size());
-        LittleEndian::write_u32(&mut cells[4..], ace.mask());
+        cells[0] = kind.code();
+        cells[1] = flags;
+        LittleEndian::write_u16(&mut cells[2..], size);
+        LittleEndian::write_u32(&mut cells[4..], mask);
         LittleEndian::write_u32(&mut cells[8..], present);
-        let len = if ace.kind().is_object() {
+        let len = if kind.is_object() {
             OBJECT_FRONT_SIZE
         } else {
             FRONT_SIZE
@@ -75,9 +87,9 @@ impl AceFront {
     }
 }
 
-// Which GUIDs are present (MS-DTYP 2.4.4.3).
+/// Which GUIDs are present (MS-DTYP 2.4.4.3), as an ACE of an object kind says it.
 #[inline(always)]
-fn object_flags(object: bool, inherited: bool) -> u32
+pub fn object_flags(object: bool, inherited: bool) -> u32
     ensures { result ≡ (if object then 1 else 0) + (if inherited then 2 else 0) }
 {
     u32::from(object) + 2 * u32::from(inherited)

@@ -11,6 +11,7 @@ ghost use Rattle.sd_builder.specs.Draft.{open_size, with_ace, with_acl, with_gro
 ghost use Rattle.sd_view.specs.declared.acl.AclPart.TheVariants as acl;
 
 use crate::append::{append_ace, append_sid_at};
+use crate::changed::{ChangedAce, append_changed};
 use sd_ace::Ace;
 use sd_buffer::SdBuf;
 use sd_control::{
@@ -121,6 +122,28 @@ impl Builder {
             return Err(AclTooLarge);
         }
         append_ace(buf, ace);
+        if let Some(open) = &mut self.open {
+            open.add(ace.kind().is_object());
+        }
+        Ok(())
+    }
+
+    /// Appends an ACE that is another one with changes, as `ace` appends the ACE that it is.
+    #[inline(always)]
+    pub fn changed_ace(&mut self, buf: &mut SdBuf, ace: &ChangedAce<'_>) -> Result<(), AclTooLarge>
+        requires { (t : Draft) × Builds self.old buf.old t × IsOpen t.parts }
+        ensures full { (t : Draft) → Builds self.old buf.old t
+            → (IsErr result ↔ (2 ^ 16 ≤ open_size t.parts + ace_size ace.now)) }
+        ensures ok { (t : Draft) → Builds self.old buf.old t
+            → OnOk result (Builds self.new buf.new (record t { parts = with_ace ace.now t.parts })) }
+        ensures same { OnErr result ((self.new ≡ self.old) × (buf.new ≡ buf.old)) }
+    {
+        let open = self.open.unwrap();
+        let acl_size = buf.bytes().len() - open.start as usize + usize::from(ace.size());
+        if acl_size > MOST_ACL_SIZE {
+            return Err(AclTooLarge);
+        }
+        append_changed(buf, ace);
         if let Some(open) = &mut self.open {
             open.add(ace.kind().is_object());
         }

@@ -3,7 +3,9 @@
 
 mod append;
 mod builder;
+mod changed;
 mod written;
 
 pub use builder::{AclTooLarge, Builder};
+pub use changed::ChangedAce;
 pub use written::write_layout;

@@ -9,18 +9,18 @@ ghost use Rattle.sd_inherit.specs.Derived.{sacl_of};
 use crate::flags::{copied_flags, onward_flags};
 use crate::heirs::{differs, heir, heir_mask};
 use crate::plan::{Plan, Target};
-use sd_ace::Ace;
+use sd_builder::ChangedAce;
 use sd_kinds::{CONTAINER_INHERIT, INHERIT_ONLY, NO_PROPAGATE, OBJECT_INHERIT, has_flag};
-use sd_sid::Sid;
+use sd_view::AceView;
 
 /// What a new object gets from one ACE: at most one for itself, and then at most one to hand on.
-#[derive(Clone, Copy)]
-pub struct Copies {
-    pub effective: Option<Ace>,
-    pub inherit_only: Option<Ace>,
+#[derive(Drop)]
+pub struct Copies<'a> {
+    pub effective: Option<ChangedAce<'a>>,
+    pub inherit_only: Option<ChangedAce<'a>>,
 }
 
-impl Copies {
+impl Copies<'_> {
     /// Whether there is no copy.
     pub fn is_empty(&self) -> bool
         ensures { result ≡ not (is_present (sacl_of (listed self.now))) }
@@ -31,7 +31,7 @@ impl Copies {
 
 /// The copies of an ACE.
 #[tactic(auto, unfolding(crate::specs::Copies::copies))]
-pub fn copies_of(plan: &Plan, ace: &Ace) -> Copies
+pub fn copies_of<'a>(plan: &'a Plan, ace: &'a AceView<'a>) -> Copies<'a>
     ensures { listed result ≡ copies plan.now ace.now }
 {
     match plan.target {
@@ -40,7 +40,7 @@ pub fn copies_of(plan: &Plan, ace: &Ace) -> Copies
     }
 }
 
-fn file_copies(plan: &Plan, ace: &Ace) -> Copies
+fn file_copies<'a>(plan: &'a Plan, ace: &'a AceView<'a>) -> Copies<'a>
     ensures { listed result ≡ copies_for Target.File plan.now ace.now }
 {
     if has_flag(ace.flags(), OBJECT_INHERIT) {
@@ -49,7 +49,7 @@ fn file_copies(plan: &Plan, ace: &Ace) -> Copies
     no_copy()
 }
 
-fn container_copies(plan: &Plan, ace: &Ace) -> Copies
+fn container_copies<'a>(plan: &'a Plan, ace: &'a AceView<'a>) -> Copies<'a>
     ensures { listed result ≡ copies_for Target.Container plan.now ace.now }
 {
     let flags = ace.flags();
@@ -77,7 +77,7 @@ fn container_copies(plan: &Plan, ace: &Ace) -> Copies
 }
 
 /// No ACE.
-pub fn no_copy() -> Copies
+pub fn no_copy<'a>() -> Copies<'a>
     ensures value { result ≡ record { effective = None; inherit_only = None } }
 {
     Copies {
@@ -87,8 +87,8 @@ pub fn no_copy() -> Copies
 }
 
 /// One ACE, for the new object alone or with flags for what is made in it.
-pub fn one_copy(ace: Ace) -> Copies
-    ensures value { result ≡ record { effective = Some ace; inherit_only = None } }
+pub fn one_copy(ace: ChangedAce<'_>) -> Copies<'_>
+    ensures value { result ≡ record { effective = Some ace.entry; inherit_only = None } }
 {
     Copies {
         effective: Some(ace),
@@ -97,7 +97,7 @@ pub fn one_copy(ace: Ace) -> Copies
 }
 
 // The copy for the new object itself, with the flags that go on.
-fn effective_copy(plan: &Plan, ace: &Ace, onward: u8) -> Ace
+fn effective_copy<'a>(plan: &'a Plan, ace: &'a AceView<'a>, onward: u8) -> ChangedAce<'a>
     requires { onward < 4 }
     ensures { result ≡ effective_copy plan.now ace.now onward }
 {
@@ -105,27 +105,25 @@ fn effective_copy(plan: &Plan, ace: &Ace, onward: u8) -> Ace
 }
 
 /// The ACE for the new object itself, with these flags.
-pub fn for_itself(plan: &Plan, ace: &Ace, flags: u8) -> Ace
+pub fn for_itself<'a>(plan: &'a Plan, ace: &'a AceView<'a>, flags: u8) -> ChangedAce<'a>
     requires { flags / 0x20 % 2 ≡ 0 }
     ensures { result ≡ for_itself plan.now ace.now flags }
 {
-    changed(ace, flags, heir_mask(plan, ace), heir(plan, ace.sid()))
+    ChangedAce::new(ace, flags, heir_mask(plan, ace), heir(plan, ace))
 }
 
 // The copy to hand on.
-fn inherit_only_copy(ace: &Ace) -> Ace
+fn inherit_only_copy<'a>(ace: &'a AceView<'a>) -> ChangedAce<'a>
     ensures { result ≡ inherit_only_copy ace.now }
 {
     let added = INHERIT_ONLY + onward_flags(ace.flags());
-    changed(ace, copied_flags(ace.flags(), added), ace.mask(), ace.sid())
+    with_flags(ace, copied_flags(ace.flags(), added))
 }
 
-/// The same ACE with other flags, another mask and another SID.
-pub fn changed(ace: &Ace, flags: u8, mask: u32, sid: Sid) -> Ace
+/// The same ACE with other flags.
+pub fn with_flags<'a>(ace: &'a AceView<'a>, flags: u8) -> ChangedAce<'a>
     requires { flags / 0x20 % 2 ≡ 0 }
-    ensures { result ≡ record ace.now { flags = flags; mask = mask; sid = sid } }
+    ensures { result ≡ record ace.now { flags = flags } }
 {
-    // Kind and GUIDs are those of an ACE.
-    let _ = ace.size();
-    Ace::new(ace.kind(), flags, mask, ace.object(), ace.inherited(), sid).unwrap()
+    ChangedAce::new(ace, flags, ace.mask(), None)
 }

@@ -15,9 +15,8 @@ ghost use Rattle.sd_inherit.specs.declared.inherited.Origin.TheVariants as origi
 use crate::copies::{Copies, copies_of, no_copy};
 use crate::plan::Plan;
 use crate::taken::taken_of;
-use sd_ace::Ace;
 use sd_buffer::SdBuf;
-use sd_builder::{AclTooLarge, Builder};
+use sd_builder::{AclTooLarge, Builder, ChangedAce};
 use sd_control::Which;
 use sd_kinds::{CONTAINER_INHERIT, OBJECT_INHERIT, has_flag};
 use sd_view::{AceView, Aces, AclPart};
@@ -176,7 +175,7 @@ impl AceSource<'_> {
         self,
         builder: &mut Builder,
         buf: &mut SdBuf,
-        first: &Copies,
+        first: &Copies<'_>,
     ) -> Result<(), AclTooLarge>
         requires { (t : Draft) × Builds builder.old buf.old t × CanBegin which.Sacl t.parts }
         ensures ok { (t : Draft) → Builds builder.old buf.old t → CanBegin which.Sacl t.parts
@@ -210,28 +209,32 @@ impl AceSource<'_> {
 
 // What one ACE gives.
 #[inline(always)]
-fn given_by(origin: Origin, plan: &Plan, ace: &AceView<'_>) -> Copies
+fn given_by<'a>(origin: Origin, plan: &'a Plan, ace: &'a AceView<'a>) -> Copies<'a>
     ensures { listed result ≡ gives origin plan.now ace.now }
 {
     match origin {
-        Origin::Creator => taken_of(plan, &ace.ace()),
+        Origin::Creator => taken_of(plan, ace),
         Origin::Parent => inherited_from(plan, ace),
     }
 }
 
 // The copies of one ACE. Many ACEs are for their container alone, so the flags are looked at before the rest is read.
 #[tactic(auto, unfolding(crate::specs::Copies::copies))]
-fn inherited_from(plan: &Plan, ace: &AceView<'_>) -> Copies
+fn inherited_from<'a>(plan: &'a Plan, ace: &'a AceView<'a>) -> Copies<'a>
     ensures { listed result ≡ copies plan.now ace.now }
 {
     let flags = ace.flags();
     if !has_flag(flags, OBJECT_INHERIT) && !has_flag(flags, CONTAINER_INHERIT) {
         return no_copy();
     }
-    copies_of(plan, &ace.ace())
+    copies_of(plan, ace)
 }
 
-fn put_copies(builder: &mut Builder, buf: &mut SdBuf, copies: &Copies) -> Result<(), AclTooLarge>
+fn put_copies(
+    builder: &mut Builder,
+    buf: &mut SdBuf,
+    copies: &Copies<'_>,
+) -> Result<(), AclTooLarge>
     requires { (t : Draft) × Builds builder.old buf.old t × HasOpen t }
     ensures ok { (t : Draft) → Builds builder.old buf.old t
         → OnOk result (Builds builder.new buf.new (with_aces (listed copies.now) t)) }
@@ -242,7 +245,11 @@ fn put_copies(builder: &mut Builder, buf: &mut SdBuf, copies: &Copies) -> Result
     put_copy(builder, buf, &copies.inherit_only)
 }
 
-fn put_copy(builder: &mut Builder, buf: &mut SdBuf, copy: &Option<Ace>) -> Result<(), AclTooLarge>
+fn put_copy(
+    builder: &mut Builder,
+    buf: &mut SdBuf,
+    copy: &Option<ChangedAce<'_>>,
+) -> Result<(), AclTooLarge>
     requires { (t : Draft) × Builds builder.old buf.old t × HasOpen t }
     ensures ok { (t : Draft) → Builds builder.old buf.old t
         → OnOk result (Builds builder.new buf.new (with_aces (one_or_none copy.now) t)) }
@@ -251,6 +258,6 @@ fn put_copy(builder: &mut Builder, buf: &mut SdBuf, copy: &Option<Ace>) -> Resul
 {
     match copy {
         None => Ok(()),
-        Some(ace) => builder.ace(buf, ace),
+        Some(ace) => builder.changed_ace(buf, ace),
     }
 }

@@ -229,6 +229,13 @@ impl<'a> AceView<'a> {
         Sid::at_front(&self.extent[sid_offset(self.extent)..])
     }
 
+    /// How many sub-authorities the SID has.
+    pub fn sub_count(&self) -> usize
+        ensures { result ≡ length self.now.sid.subs }
+    {
+        usize::from(self.extent[sid_offset(self.extent) + 1])
+    }
+
     /// The written size in bytes, without what follows the SID: at most 112.
     pub fn size(&self) -> u16
         ensures value { result ≡ ace_size self.now }
