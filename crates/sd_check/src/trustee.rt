@@ -15,14 +15,7 @@ pub fn meets_any(token: &mut LentToken, sid: &Sid, deny: bool) -> bool
     ensures value { result ≡ meets sid.now deny token.old.holder.entries }
     ensures asks { Asks token.old token.new 1 }
 {
-    // Of a copy the compiler knows that counting does not change it, so the key that is compared is made once.
-    let sid = *sid;
-    for i in 0..token.len() {
-        if token.meets(i, &sid, deny) {
-            return true;
-        }
-    }
-    false
+    token.meets_any(sid, deny)
 }
 
 /// The same for a SID that may be missing; without one, nothing is compared.

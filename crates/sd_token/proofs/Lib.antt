@@ -1,3 +1,4 @@
 mod Rows
+pub mod LookLemmas
 pub mod TokenLemmas
 pub mod laws

@@ -3,7 +3,7 @@ use Rattle.std.proofs.Common.{◌≡◌, ℕ, List, [], ◌∷◌, None, true, f
 use Rattle.sd_token.specs.Limits.{most_entries}
 use Rattle.sd_token.specs.declared.limits.TheConstants.{MOST_ENTRIES}
 use Rattle.sd_sid.specs.Sid.{SecurityId}
-use Rattle.sd_token.specs.Token.{Asks, Compares, TokenShown, meets}
+use Rattle.sd_token.specs.Token.{Asks, Compares, TokenShown, counted_by, looks, meets}
 use Rattle.sd_token.specs.TokenWords.{entries_of, entry_of, nobody, sid_key}
 use Rattle.sd_token.specs.declared.token.EntryKind.TheVariants.{Enabled, DenyOnly}
 
@@ -99,3 +99,20 @@ with_another_key = refl
 
 no_key : entries_of [] administrators_words ≡ []
 no_key = refl
+
+-- an entry that does not meet the SID is looked at and passed over, and none behind the first that does is looked at
+looked : looks everyone false
+    ((everyone, DenyOnly) ∷ (administrators, Enabled) ∷ (everyone, Enabled) ∷ (everyone, Enabled) ∷ []) ≡ 3
+unfolding everyone administrators
+looked = refl
+
+looked_at_all : looks everyone false ((administrators, Enabled) ∷ (everyone, DenyOnly) ∷ []) ≡ 2
+unfolding everyone administrators
+looked_at_all = refl
+
+looked_at_none : looks everyone true [] ≡ 0
+unfolding everyone
+looked_at_none = refl
+
+count_goes_on : (counted_by 3 5 ≡ 8) × (counted_by 3 18446744073709551613 ≡ 18446744073709551615)
+count_goes_on = (refl, refl)

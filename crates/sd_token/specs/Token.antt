@@ -1,5 +1,6 @@
 -- Tokens (MS-DTYP 2.5.2): what contracts see of one, and which SIDs it meets.
-use Rattle.std.specs.Prelude.{◌≡◌, ◌≤◌, ℕ, ◌+◌, ◌*◌, Bool, true, false, ◌&&◌, ◌||◌, List, Option, length}
+use Rattle.std.specs.Prelude.{◌≡◌, ◌≤◌, ℕ, suc, ◌+◌, ◌-◌, ◌*◌, ◌^◌, min, Bool, true, false, ◌&&◌, ◌||◌, if◌then◌else◌}
+use Rattle.std.specs.Prelude.{List, [], ◌∷◌, Option, length}
 use Rattle.std.specs.List.{list_any}
 use Rattle.sd_sid.specs.Sid.{SecurityId}
 use Rattle.sd_sid.specs.SidText.{same_sid}
@@ -33,6 +34,15 @@ entry_meets s deny e = same_sid e.0 s && (is_enabled e.1 || deny)
 -- some entry meets the SID
 abbrev pub meets : SecurityId → Bool → List Entry → Bool
 meets s deny entries = list_any (entry_meets s deny) entries
+
+-- how many entries are looked at, from the first on, until one meets the SID
+abbrev pub looks : SecurityId → Bool → List Entry → ℕ
+looks s deny [] = 0
+looks s deny (e ∷ entries) = if entry_meets s deny e then 1 else suc (looks s deny entries)
+
+-- a count of 64 bits that goes on by n, and stays at its end
+abbrev pub counted_by : ℕ → ℕ → ℕ
+counted_by n count = min (count + n) (2 ^ 64 - 1)
 
 -- the count of comparisons goes on, by at most n
 pub record Compares (token token' : TokenShown) (n : ℕ) : Type 0 where

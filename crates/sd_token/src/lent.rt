@@ -3,7 +3,7 @@
 ghost use Rattle.std.specs.Prelude.{◌≡◌, ◌≤◌, ◌<◌, ◌*◌, length, slice_index_or};
 ghost use Rattle.sd_sink.specs.Counts.{counted};
 ghost use Rattle.sd_token.specs.Limits.{most_entries};
-ghost use Rattle.sd_token.specs.Token.{entry_meets};
+ghost use Rattle.sd_token.specs.Token.{Asks, counted_by, entry_meets, looks, meets};
 ghost use Rattle.sd_token.specs.TokenWords.{entries_of, entry_words};
 
 use crate::token::EntryKind;
@@ -112,6 +112,20 @@ impl<'a> LentToken<'a> {
         is_met(self.words, index, sid, deny)
     }
 
+    /// Whether an entry has the SID, and is enabled or may be deny-only. Entries are looked at up to the first that does,
+    /// and each look counts as one. So the looks are counted at the end, and the loop has the keys alone.
+    pub fn meets_any(&mut self, sid: &Sid, deny: bool) -> bool
+        ensures value { result ≡ meets sid.now deny self.old.holder.entries }
+        ensures holder { self.new.holder ≡ self.old.holder }
+        ensures compared { self.new.compared ≡ counted_by (looks sid.now deny self.old.holder.entries) self.old.compared }
+        ensures asks { Asks self.old self.new 1 }
+        ensures room { self.new.room ≡ self.old.room }
+    {
+        let (met, looked) = search(self.keys, self.words, sid, deny);
+        self.compared = self.compared.saturating_add(looked as u64);
+        met
+    }
+
     /// Ends the token, and gives what it has counted.
     pub fn end(self) -> Looks
         ensures { result.count ≡ self.entry.compared }
@@ -134,6 +148,23 @@ impl Looks {
         let Looks { count } = self;
         count
     }
+}
+
+// Whether an entry meets the SID, and how many were looked at.
+#[inline(always)]
+fn search(keys: &[u32], words: &[u32], sid: &Sid, deny: bool) -> (bool, usize)
+    requires few { length keys.now ≤ most_entries }
+    requires whole { entry_words * length keys.now ≤ length words.now }
+    ensures met { result.0 ≡ meets sid.now deny (entries_of keys.now words.now) }
+    ensures looked { result.1 ≡ looks sid.now deny (entries_of keys.now words.now) }
+{
+    let key = key_of(sid);
+    for i in 0..keys.len() {
+        if keys[i] == key && is_met(words, i, sid, deny) {
+            return (true, i + 1);
+        }
+    }
+    (false, keys.len())
 }
 
 // A predictable branch beats `saturating_add` here.
