@@ -1,11 +1,10 @@
 //! Access control entries (MS-DTYP 2.4.4).
 
-ghost use Rattle.std.specs.Prelude.{◌≡◌, ◌<◌, ◌≤◌, ◌↔◌, ◌/◌, ◌%◌, IsSome, IfSome, length, true};
-ghost use Rattle.std.specs.List.{All};
-ghost use Rattle.sd_ace.specs.Ace.{GuidsFit, IsAce, IsGuid, ace_size, guid_size as size_of_guid};
+ghost use Rattle.std.specs.Prelude.{◌≡◌, ◌≤◌, ◌↔◌, ◌/◌, ◌%◌, IsSome, IfSome, true};
+ghost use Rattle.sd_ace.specs.Ace.{GuidsFit, IsAce, ace_size};
 ghost use Rattle.sd_kinds.specs.Kinds.{is_object};
 
-use crate::ace_front::{FRONT_SIZE, OBJECT_FRONT_SIZE};
+use crate::ace_parts::AceParts;
 use sd_kinds::AceKind;
 use sd_sid::Sid;
 use std::marker::Model;
@@ -90,12 +89,22 @@ impl Ace {
         ensures most { result ≤ 112 }
         ensures limits { IsAce self.now }
     {
-        let sid_size = self.sid.size() as u16;
-        if !self.kind.is_object() {
-            return FRONT_SIZE as u16 + sid_size;
+        self.parts().size()
+    }
+
+    /// Its parts, by reference.
+    #[inline(always)]
+    pub fn parts(&self) -> AceParts<'_>
+        ensures { result ≡ self.now }
+    {
+        AceParts {
+            kind: self.kind,
+            flags: self.flags,
+            mask: self.mask,
+            object: &self.object,
+            inherited: &self.inherited,
+            sid: &self.sid,
         }
-        let guids_size = guid_size(self.object) + guid_size(self.inherited);
-        OBJECT_FRONT_SIZE as u16 + guids_size + sid_size
     }
 
     /// What it does.
@@ -153,23 +162,4 @@ fn guids_fit(kind: AceKind, object: &Option<Uuid>, inherited: &Option<Uuid>) -> 
     ensures { (result ≡ true) ↔ GuidsFit (is_object kind) object.now inherited.now }
 {
     kind.is_object() || object.is_none() && inherited.is_none()
-}
-
-// The bytes of a GUID that may be there.
-fn guid_size(guid: Option<Uuid>) -> u16
-    ensures value { result ≡ size_of_guid guid }
-    ensures limits { IfSome guid IsGuid }
-{
-    match guid {
-        None => 0,
-        Some(guid) => byte_count(guid.as_bytes().as_slice()) as u16,
-    }
-}
-
-// How many bytes there are. A slice shows that each is below 256; an array does not.
-fn byte_count(bytes: &[u8]) -> usize
-    ensures value { result ≡ length bytes.now }
-    ensures bytes { All (λ b. b < 256) bytes.now }
-{
-    bytes.len()
 }

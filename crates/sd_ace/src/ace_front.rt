@@ -6,8 +6,9 @@ ghost use Rattle.sd_kinds.specs.Kinds.{is_object, kind_code};
 ghost use Rattle.sd_ace.specs.AceLayout.{ace_front};
 
 use crate::ace::Ace;
-use sd_kinds::AceKind;
+use crate::ace_parts::AceParts;
 use byteorder::{ByteOrder, LittleEndian};
+use sd_kinds::AceKind;
 use std::marker::Model;
 
 /// The bytes of an ACE before its SID, or before the object flags: type, flags, size and mask.
@@ -39,13 +40,21 @@ impl AceFront {
     pub fn of_ace(ace: &Ace) -> AceFront
         ensures { result ≡ ace_front ace.now }
     {
+        AceFront::of_parts(&ace.parts())
+    }
+
+    /// That of an ACE whose parts stand elsewhere.
+    #[inline(always)]
+    pub fn of_parts(ace: &AceParts<'_>) -> AceFront
+        ensures { result ≡ ace_front ace.now }
+    {
         let present = object_flags(ace.object().is_some(), ace.inherited().is_some());
-        AceFront::of_parts(ace.kind(), ace.flags(), ace.size(), ace.mask(), present)
+        AceFront::of_fields(ace.kind(), ace.flags(), ace.size(), ace.mask(), present)
     }
 
     /// That of an ACE of this kind, with these flags, this size and mask, and these object flags where its kind has them.
     #[inline(always)]
-    pub fn of_parts(kind: AceKind, flags: u8, size: u16, mask: u32, present: u32) -> AceFront
+    pub fn of_fields(kind: AceKind, flags: u8, size: u16, mask: u32, present: u32) -> AceFront
         ensures { result ≡ kind_code kind ∷ flags ∷ little_bytes 2 size
             ++ (little_bytes 4 mask ++ (if is_object kind then little_bytes 4 present else [])) }
     {

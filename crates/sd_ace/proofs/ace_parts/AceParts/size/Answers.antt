@@ -1,7 +1,7 @@
 use Rattle.std.proofs.Common.{◌≡◌, sym, ◌∙◌, Option, List, ℕ, None, Some, Bool, true, false, IfSome}
 use Rattle.sd_ace.specs.Ace.{GuidsFit, IsGuid}
 use Rattle.sd_kinds.specs.Kinds.{is_object}
-use Rattle.sd_ace.proofs.ace.Ace.size.Goals as goal
+use Rattle.sd_ace.proofs.ace_parts.AceParts.size.Goals as goal
 
 -- a kind that may have no GUID has none
 no_guids : (b : Bool) (object inherited : Option (List ℕ)) → b ≡ false → GuidsFit b object inherited
@@ -15,7 +15,7 @@ pub returns-then-not-is_object-clause-limits : goal.returns-then-not-is_object-c
 returns-then-not-is_object-clause-limits c =
     let h = c.self.invariant in
     let plain = sym c.is_object.ensures ∙ c.if-not-is_object.true in
-    let guids = no_guids (is_object c.self.inside.kind) c.self.inside.object c.self.inside.inherited plain h.3 in
+    let guids = no_guids (is_object c.self.inside.kind) c.self.inside.object.now c.self.inside.inherited.now plain h.3 in
     rw (← c.self.view_is) (record {
       flags = h.0;
       clear = h.1;

@@ -5,7 +5,7 @@ use Rattle.sd_kinds.specs.declared.kinds.AceKind.{AceKind}
 use Rattle.sd_builder.specs.declared.builder.OpenAcl.{OpenAcl}
 use Rattle.sd_builder.specs.Draft.{open_size}
 use Rattle.sd_builder.proofs.Building.{ace-builds, is-open, open-roomy, open-size}
-use Rattle.sd_builder.proofs.builder.Builder.ace.Goals as goal
+use Rattle.sd_builder.proofs.builder.Builder.ace_of.Goals as goal
 
 pub unwrap-open-requires : goal.unwrap-open-requires
 unwrap-open-requires c = is-open _ _ c.requires.0 c.requires.1 c.requires.2
@@ -45,7 +45,7 @@ added o p object kind k e f g = rw (e, f, g) refl
 pub returns-in-Some-clause-ok : goal.returns-in-Some-clause-ok
 returns-in-Some-clause-ok c =
     λ t h.
-    let o = c.in-Some.open in
+    let o = c.in-Some.acl in
     let a = c.args.ace.now in
     let size = open-size _ _ t _ h c.unwrap-open.ensures in
     let fits : open_size t.parts + ace_size a < 65536 = omega (arith, size, ap length c.bytes.ensures.value) in
