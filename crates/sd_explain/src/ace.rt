@@ -5,6 +5,7 @@ ghost use Rattle.sd_kinds.specs.Flags.{flags_text};
 ghost use Rattle.sd_kinds.specs.Kinds.{kind_letters};
 ghost use Rattle.sd_explain.specs.Explain.{ace_head, ace_line, ace_rights, ace_trustee, guid_words, or_none};
 
+use crate::acl::PART_SIZE;
 use crate::sid::print_sid;
 use sd_ace::print_guid;
 use sd_kinds::{AceKind, print_flags};
@@ -18,7 +19,7 @@ use uuid::Uuid;
 /// Prints the line of an ACE.
 pub fn print_ace<P: Print>(
     naming: &Naming,
-    part: &[u8],
+    part: &[u8; PART_SIZE],
     number: u32,
     ace: &AceView<'_>,
     out: &mut P,
@@ -34,7 +35,7 @@ pub fn print_ace<P: Print>(
 }
 
 // The part, the number and the kind.
-fn print_head<P: Print>(part: &[u8], number: u32, kind: AceKind, out: &mut P)
+fn print_head<P: Print>(part: &[u8; PART_SIZE], number: u32, kind: AceKind, out: &mut P)
     ensures { Prints (P.told out.old) (P.told out.new) (ace_head part.now number kind) }
 {
     out.put(part);

@@ -9,8 +9,11 @@ use sd_sink::Print;
 use sd_text::print_decimal;
 use sd_view::{AclPart, AclView};
 
+/// The characters of a part's name, with the blank behind it. As many as are known are written at once.
+pub const PART_SIZE: usize = 5;
+
 /// Prints the lines of an ACL: that it is absent or null, or how many ACEs it has, and then a line for each.
-pub fn print_acl<P: Print>(naming: &Naming, part: &[u8], acl: &AclPart<'_>, out: &mut P)
+pub fn print_acl<P: Print>(naming: &Naming, part: &[u8; PART_SIZE], acl: &AclPart<'_>, out: &mut P)
     ensures { Prints (P.told out.old) (P.told out.new) (acl_lines naming.now part.now acl.now) }
 {
     match acl {
@@ -29,7 +32,7 @@ pub fn print_acl<P: Print>(naming: &Naming, part: &[u8], acl: &AclPart<'_>, out:
     }
 }
 
-fn print_count<P: Print>(part: &[u8], count: u16, out: &mut P)
+fn print_count<P: Print>(part: &[u8; PART_SIZE], count: u16, out: &mut P)
     ensures { Prints (P.told out.old) (P.told out.new) (count_line part.now count) }
 {
     out.put(part);
@@ -38,7 +41,7 @@ fn print_count<P: Print>(part: &[u8], count: u16, out: &mut P)
     out.put(b"\n");
 }
 
-fn print_aces<P: Print>(naming: &Naming, part: &[u8], acl: &AclView<'_>, out: &mut P)
+fn print_aces<P: Print>(naming: &Naming, part: &[u8; PART_SIZE], acl: &AclView<'_>, out: &mut P)
     ensures { Prints (P.told out.old) (P.told out.new) (ace_lines naming.now part.now acl.now) }
 {
     let mut number = 0;

@@ -6,7 +6,7 @@ use sd_sid::{Naming, Sid};
 use sd_sink::Print;
 
 /// Prints the line of an owner or a group, which may be absent.
-pub fn print_sid_line<P: Print>(naming: &Naming, part: &[u8], sid: Option<Sid>, out: &mut P)
+pub fn print_sid_line<P: Print>(naming: &Naming, part: &[u8; 6], sid: Option<Sid>, out: &mut P)
     ensures { Prints (P.told out.old) (P.told out.new) (sid_line naming.now part.now sid) }
 {
     out.put(part);

@@ -11,10 +11,13 @@ use sd_sid::Naming;
 use sd_sink::Print;
 use sd_view::{AclPart, AclView};
 
+/// The characters of a head. As many as are known are written at once.
+pub const HEAD_SIZE: usize = 2;
+
 /// Prints an ACL behind its head, `D:` or `S:`; nothing for one that is absent.
 pub fn print_acl<P: Print>(
     naming: &Naming,
-    head: &[u8],
+    head: &[u8; HEAD_SIZE],
     flags: AclFlags,
     part: &AclPart<'_>,
     out: &mut P,

@@ -11,7 +11,7 @@ ghost use Rattle.sd_sddl_builder.specs.Meaning.{means};
 ghost use Rattle.sd_sddl_printer.specs.Printed.{plain, sddl, sid_text_of};
 ghost use Rattle.sd_sid.specs.Naming.{naming_by};
 
-use crate::acl::print_acl;
+use crate::acl::{HEAD_SIZE, print_acl};
 use crate::trustee::print_trustee;
 use sd_control::{AclFlags, Which};
 use sd_sid::{Naming, Sid};
@@ -71,7 +71,7 @@ fn print_parts<P: Print>(naming: &Naming, view: &SdView<'_>, out: &mut P)
 }
 
 // Prints a SID behind its head; nothing where there is none.
-fn print_sid<P: Print>(naming: &Naming, head: &[u8], sid: Option<Sid>, out: &mut P)
+fn print_sid<P: Print>(naming: &Naming, head: &[u8; HEAD_SIZE], sid: Option<Sid>, out: &mut P)
     ensures { Prints (P.told out.old) (P.told out.new) (sid_text_of naming.now head.now sid) }
 {
     if let Some(sid) = sid {
