@@ -10,7 +10,7 @@ use crate::sid::print_sid;
 use sd_ace::print_guid;
 use sd_kinds::{AceKind, print_flags};
 use sd_rights::print_rights;
-use sd_sid::{Naming, Sid};
+use sd_sid::{Naming, SidView};
 use sd_sink::Print;
 use sd_text::{print_decimal, print_hex};
 use sd_view::AceView;
@@ -31,7 +31,7 @@ pub fn print_ace<P: Print>(
     print_access(kind, ace.flags(), ace.mask(), out);
     print_object(b" object ", ace.object(), out);
     print_object(b" inherited ", ace.inherited(), out);
-    print_trustee(naming, &ace.sid(), out);
+    print_trustee(naming, &ace.trustee(), out);
 }
 
 // The part, the number and the kind.
@@ -89,7 +89,7 @@ fn print_object<P: Print>(name: &[u8], guid: Option<Uuid>, out: &mut P)
     }
 }
 
-fn print_trustee<P: Print>(naming: &Naming, sid: &Sid, out: &mut P)
+fn print_trustee<P: Print>(naming: &Naming, sid: &SidView<'_>, out: &mut P)
     ensures { Prints (P.told out.old) (P.told out.new) (ace_trustee naming.now sid.now) }
 {
     out.put(b" sid ");

@@ -57,8 +57,8 @@ fn print_lines<P: Print>(naming: &Naming, view: &SdView<'_>, out: &mut P)
 {
     print_control(view.control(), out);
     print_rm(view.rm(), out);
-    print_sid_line(naming, b"owner ", view.owner(), out);
-    print_sid_line(naming, b"group ", view.group(), out);
+    print_sid_line(naming, b"owner ", view.owner_in_place(), out);
+    print_sid_line(naming, b"group ", view.group_in_place(), out);
     print_acl(naming, b"dacl ", &view.dacl(), out);
     print_acl(naming, b"sacl ", &view.sacl(), out);
     out.put(b"end\n");

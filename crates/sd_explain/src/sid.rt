@@ -2,20 +2,25 @@
 ghost use Rattle.sd_sink.specs.Print.{Prints};
 ghost use Rattle.sd_explain.specs.Explain.{name_after, sid_line, sid_or_none, sid_words};
 
-use sd_sid::{Naming, Sid};
+use sd_sid::{Naming, SidView};
 use sd_sink::Print;
 
 /// Prints the line of an owner or a group, which may be absent.
-pub fn print_sid_line<P: Print>(naming: &Naming, part: &[u8; 6], sid: Option<Sid>, out: &mut P)
-    ensures { Prints (P.told out.old) (P.told out.new) (sid_line naming.now part.now sid) }
+pub fn print_sid_line<P: Print>(
+    naming: &Naming,
+    part: &[u8; 6],
+    sid: Option<SidView<'_>>,
+    out: &mut P,
+)
+    ensures { Prints (P.told out.old) (P.told out.new) (sid_line naming.now part.now sid.entry) }
 {
     out.put(part);
     print_sid_or_none(naming, sid, out);
     out.put(b"\n");
 }
 
-fn print_sid_or_none<P: Print>(naming: &Naming, sid: Option<Sid>, out: &mut P)
-    ensures { Prints (P.told out.old) (P.told out.new) (sid_or_none naming.now sid) }
+fn print_sid_or_none<P: Print>(naming: &Naming, sid: Option<SidView<'_>>, out: &mut P)
+    ensures { Prints (P.told out.old) (P.told out.new) (sid_or_none naming.now sid.entry) }
 {
     match sid {
         Some(sid) => print_sid(naming, &sid, out),
@@ -25,11 +30,11 @@ fn print_sid_or_none<P: Print>(naming: &Naming, sid: Option<Sid>, out: &mut P)
 
 /// Prints the text of a SID, and its alias behind it.
 #[inline(always)]
-pub fn print_sid<P: Print>(naming: &Naming, sid: &Sid, out: &mut P)
+pub fn print_sid<P: Print>(naming: &Naming, sid: &SidView<'_>, out: &mut P)
     ensures { Prints (P.told out.old) (P.told out.new) (sid_words naming.now sid.now) }
 {
     sid.print_text(out);
-    print_alias(naming.alias(sid), out);
+    print_alias(naming.alias_of(sid), out);
 }
 
 // Prints a blank and the alias, where there is one.

@@ -23,7 +23,7 @@ pub fn print_ace<P: Print>(naming: &Naming, ace: &AceView<'_>, out: &mut P)
     out.put(b";");
     print_rights(kind, ace.mask(), out);
     print_objects(ace, out);
-    print_trustee(naming, &ace.sid(), out);
+    print_trustee(naming, &ace.trustee(), out);
     out.put(b")");
 }
 

@@ -14,7 +14,7 @@ ghost use Rattle.sd_sid.specs.Naming.{naming_by};
 use crate::acl::{HEAD_SIZE, print_acl};
 use crate::trustee::print_trustee;
 use sd_control::{AclFlags, Which};
-use sd_sid::{Naming, Sid};
+use sd_sid::{Naming, Sid, SidView};
 use sd_sink::{Gather, Print, Sink, SinkFault};
 use sd_view::SdView;
 
@@ -62,8 +62,8 @@ fn print_parts<P: Print>(naming: &Naming, view: &SdView<'_>, out: &mut P)
     ensures limits { IsDescriptor view.now }
 {
     let control = view.control();
-    print_sid(naming, b"O:", view.owner(), out);
-    print_sid(naming, b"G:", view.group(), out);
+    print_sid(naming, b"O:", view.owner_in_place(), out);
+    print_sid(naming, b"G:", view.group_in_place(), out);
     let dacl_flags = AclFlags::of(Which::Dacl, control);
     let sacl_flags = AclFlags::of(Which::Sacl, control);
     print_acl(naming, b"D:", dacl_flags, &view.dacl(), out);
@@ -71,8 +71,13 @@ fn print_parts<P: Print>(naming: &Naming, view: &SdView<'_>, out: &mut P)
 }
 
 // Prints a SID behind its head; nothing where there is none.
-fn print_sid<P: Print>(naming: &Naming, head: &[u8; HEAD_SIZE], sid: Option<Sid>, out: &mut P)
-    ensures { Prints (P.told out.old) (P.told out.new) (sid_text_of naming.now head.now sid) }
+fn print_sid<P: Print>(
+    naming: &Naming,
+    head: &[u8; HEAD_SIZE],
+    sid: Option<SidView<'_>>,
+    out: &mut P,
+)
+    ensures { Prints (P.told out.old) (P.told out.new) (sid_text_of naming.now head.now sid.entry) }
 {
     if let Some(sid) = sid {
         out.put(head);

@@ -3,16 +3,16 @@
 ghost use Rattle.sd_sink.specs.Print.{Prints};
 ghost use Rattle.sd_sddl_printer.specs.Printed.{trustee_text};
 
-use sd_sid::{Naming, Sid};
+use sd_sid::{Naming, SidView};
 use sd_sink::Print;
 
 /// Prints the alias of a SID, or its text.
 #[inline(always)]
 #[tactic(auto, unfolding(crate::specs::Printed::trustee_text))]
-pub fn print_trustee<P: Print>(naming: &Naming, sid: &Sid, out: &mut P)
+pub fn print_trustee<P: Print>(naming: &Naming, sid: &SidView<'_>, out: &mut P)
     ensures { Prints (P.told out.old) (P.told out.new) (trustee_text naming.now sid.now) }
 {
-    match naming.alias(sid) {
+    match naming.alias_of(sid) {
         Some(alias) => out.put(&alias),
         None => sid.print_text(out),
     }

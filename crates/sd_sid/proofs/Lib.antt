@@ -6,5 +6,6 @@ pub mod SidFronts
 mod SidRows
 pub mod TextLemmas
 pub mod UsualNumbers
+pub mod ViewLemmas
 pub mod Words
 pub mod laws

@@ -26,7 +26,7 @@ const NT: u64 = 5;
 const BUILTIN: u32 = 32;
 
 /// The first sub-authority of the SID of user-mode drivers, `S-1-5-84-0-0-0-0-0`. No other name has six.
-const USER_MODE_DRIVERS: u32 = 84;
+pub(crate) const USER_MODE_DRIVERS: u32 = 84;
 
 /// The authority of creators, `S-1-3`.
 const CREATOR: u64 = 3;
@@ -61,7 +61,7 @@ fn alias_in(sid: &Sid, domain: Option<&Sid>) -> Option<[u8; 2]>
     }
 }
 
-fn usable(domain: Option<&Sid>) -> Option<&Sid>
+pub(crate) fn usable(domain: Option<&Sid>) -> Option<&Sid>
     ensures { option_copied result ≡ usable (option_copied domain.entry) }
 {
     match domain {
@@ -81,6 +81,13 @@ fn known_alias(sid: &Sid) -> Option<[u8; 2]>
     find_alias(sid)
 }
 
+#[inline(never)]
+fn find_alias(sid: &Sid) -> Option<[u8; 2]>
+    ensures { result ≡ known_alias sid.now }
+{
+    find_named(sid.authority(), sid.subs())
+}
+
 // Whether the SID of a name has as many sub-authorities: one, two, or six with this first one.
 #[inline(always)]
 fn may_be_known(sid: &Sid) -> bool
@@ -91,18 +98,19 @@ fn may_be_known(sid: &Sid) -> bool
     subs.len() == 1 || subs.len() == 2 || subs.len() == MOST_KNOWN && subs[0] == USER_MODE_DRIVERS
 }
 
-#[inline(never)]
-fn find_alias(sid: &Sid) -> Option<[u8; 2]>
-    ensures { result ≡ known_alias sid.now }
+// The alias that the SID of these parts has everywhere.
+#[inline(always)]
+pub(crate) fn find_named(authority: u64, subs: &[u32]) -> Option<[u8; 2]>
+    ensures { result ≡ known_alias (record { authority = authority; subs = subs.now }) }
 {
-    let entry = known_entry(sid)?;
+    let entry = known_entry(authority, subs)?;
     Some([entry.first, entry.second])
 }
 
-fn known_entry(sid: &Sid) -> Option<WellKnown>
-    ensures { result ≡ find (λ e. same_sid (known_sid e) sid.now) WELL_KNOWN }
+fn known_entry(authority: u64, subs: &[u32]) -> Option<WellKnown>
+    ensures { result ≡ find (λ e. same_sid (known_sid e) (record { authority = authority; subs = subs.now })) WELL_KNOWN }
 {
-    match (sid.authority(), sid.subs()) {
+    match (authority, subs) {
         (CREATOR, [sub]) => find_known_at(0, *sub, &WELL_KNOWN[CREATOR_NAMES..CREATOR_NAMES_END]),
         (NT, [sub]) => find_known_at(0, *sub, &WELL_KNOWN[NT_NAMES..NT_NAMES_END]),
         (NT, [BUILTIN, sub]) => find_known_at(
@@ -110,7 +118,7 @@ fn known_entry(sid: &Sid) -> Option<WellKnown>
             *sub,
             &WELL_KNOWN[BUILTIN_NAMES..BUILTIN_NAMES_END],
         ),
-        _ => find_known(&WELL_KNOWN, sid),
+        _ => find_known(&WELL_KNOWN, authority, subs),
     }
 }
 
@@ -122,26 +130,27 @@ fn find_known_at(at: usize, sub: u32, table: &[WellKnown]) -> Option<WellKnown>
     table.iter().copied().find(|entry| entry.subs[at] == sub)
 }
 
-fn find_known(table: &[WellKnown], sid: &Sid) -> Option<WellKnown>
-    ensures { result ≡ find (λ e. same_sid (known_sid e) sid.now) table.now }
+#[inline(never)]
+fn find_known(table: &[WellKnown], authority: u64, subs: &[u32]) -> Option<WellKnown>
+    ensures { result ≡ find (λ e. same_sid (known_sid e) (record { authority = authority; subs = subs.now })) table.now }
 {
     for entry in table {
-        if is_known(entry, sid) {
+        if is_known(entry, authority, subs) {
             return Some(*entry);
         }
     }
     None
 }
 
-fn is_known(entry: &WellKnown, sid: &Sid) -> bool
-    ensures { result ≡ same_sid (known_sid entry.now) sid.now }
+fn is_known(entry: &WellKnown, authority: u64, subs: &[u32]) -> bool
+    ensures { result ≡ same_sid (known_sid entry.now) (record { authority = authority; subs = subs.now }) }
 {
     let count = entry.count.min(MOST_KNOWN);
-    u64::from(entry.authority) == sid.authority() && &entry.subs[..count] == sid.subs()
+    u64::from(entry.authority) == authority && &entry.subs[..count] == subs
 }
 
 #[inline(never)]
-fn relative_alias(sid: &Sid, domain: &Sid) -> Option<[u8; 2]>
+pub(crate) fn relative_alias(sid: &Sid, domain: &Sid) -> Option<[u8; 2]>
     ensures { result ≡ relative_alias sid.now domain.now }
 {
     let (last, front) = sid.subs().split_last()?;

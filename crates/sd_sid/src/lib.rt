@@ -5,8 +5,10 @@ mod alias;
 mod naming;
 mod sid;
 mod sid_text;
+mod sid_view;
 mod usual_sid;
 
 pub use naming::Naming;
 pub use sid::Sid;
 pub use sid_text::SidFault;
+pub use sid_view::SidView;

@@ -214,7 +214,7 @@ fn print_any<P: Print>(sid: &Sid, out: &mut P)
 }
 
 // Decimal below 2^32, and else twelve hex digits.
-fn print_authority<P: Print>(authority: u64, out: &mut P)
+pub(crate) fn print_authority<P: Print>(authority: u64, out: &mut P)
     ensures { Prints (P.told out.old) (P.told out.new) (authority_text authority) }
 {
     if authority < 1 << 32 {

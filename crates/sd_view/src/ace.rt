@@ -17,7 +17,7 @@ use crate::bytes::{u16_at, u32_at};
 use crate::fault::AclFault;
 use sd_ace::{Ace, FRONT_SIZE, OBJECT_FRONT_SIZE, UNUSED_FLAG, guid_read};
 use sd_kinds::AceKind;
-use sd_sid::Sid;
+use sd_sid::{Sid, SidView};
 use std::marker::Model;
 use uuid::Uuid;
 
@@ -227,6 +227,13 @@ impl<'a> AceView<'a> {
         ensures { result ≡ self.now.sid }
     {
         Sid::at_front(&self.extent[sid_offset(self.extent)..])
+    }
+
+    /// The SID of the trustee, read in place.
+    pub fn trustee(&self) -> SidView<'a>
+        ensures { result ≡ self.now.sid }
+    {
+        SidView::at_front(&self.extent[sid_offset(self.extent)..])
     }
 
     /// How many sub-authorities the SID has.

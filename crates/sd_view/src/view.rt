@@ -19,7 +19,7 @@ use crate::fault::{SdFault, fault_in};
 use sd_control::{
     ACL_REVISION_DS, DACL_PRESENT, HEADER_SIZE, Part, Parts, SACL_PRESENT, SELF_RELATIVE, has_bit,
 };
-use sd_sid::Sid;
+use sd_sid::{Sid, SidView};
 use std::marker::Model;
 
 /// What is kept of an ACL that is not there.
@@ -316,6 +316,20 @@ impl<'a> SdView<'a> {
         sid_in(self.bytes, u32_at(self.bytes, 8))
     }
 
+    /// The SID of the owner, read in place.
+    pub fn owner_in_place(&self) -> Option<SidView<'a>>
+        ensures { result ≡ self.now.owner }
+    {
+        sid_view_in(self.bytes, u32_at(self.bytes, 4))
+    }
+
+    /// The SID of the primary group, read in place.
+    pub fn group_in_place(&self) -> Option<SidView<'a>>
+        ensures { result ≡ self.now.group }
+    {
+        sid_view_in(self.bytes, u32_at(self.bytes, 8))
+    }
+
     /// The system ACL: what is audited, and the mandatory label.
     pub fn sacl(&self) -> AclPart<'a>
         ensures { result ≡ self.now.sacl }
@@ -373,6 +387,18 @@ fn sid_in(bytes: &[u8], offset: u32) -> Option<Sid>
         return None;
     }
     Some(Sid::at_front(&bytes[offset as usize..]))
+}
+
+// The same, read in place.
+#[tactic(auto, unfolding(crate::specs::Reading::sid_shown))]
+fn sid_view_in(bytes: &[u8], offset: u32) -> Option<SidView<'_>>
+    requires { IsSidAt bytes.now offset }
+    ensures { result ≡ sid_shown bytes.now offset }
+{
+    if offset == 0 {
+        return None;
+    }
+    Some(SidView::at_front(&bytes[offset as usize..]))
 }
 
 // The bytes of the SID at an offset that was checked.

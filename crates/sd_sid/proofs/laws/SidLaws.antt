@@ -32,7 +32,7 @@ pub test-Stands : (bytes : List ℕ) → SidStands bytes → sid_stands bytes �
 test-Stands bytes h = let a = h.header in let b = h.revision in let c = h.count in let d = h.whole in grind
     (arith, nat_tests)
 
-length-words : (n : ℕ) (bs : List ℕ) → length (words n bs) ≡ n
+pub length-words : (n : ℕ) (bs : List ℕ) → length (words n bs) ≡ n
 length-words zero bs = refl
 length-words (suc n) bs = let ih = length-words n (drop 4 bs) in omega (arith, ih)
 

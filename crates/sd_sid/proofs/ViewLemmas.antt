@@ -1,0 +1,60 @@
+-- The parts of a SID in its bytes.
+use Rattle.std.proofs.Common.{◌≡◌, ◌≤◌, ◌<◌, ℕ, zero, suc, ◌+◌, ◌-◌, ◌*◌, true, ◌&&◌, refl, sym, ap, ◌∙◌}
+use Rattle.std.proofs.Common.{List, ◌++◌, slice_index, codes, drop, length, arith}
+use Rattle.std.specs.Prelude.{◌==◌, nat_le}
+use Rattle.std.proofs.lemmas.Bool.{and_parts}
+use Rattle.std.proofs.lemmas.Bool.Decides.{nat_tests}
+use Rattle.std.proofs.lemmas.List.{drop-drop}
+use Rattle.std.specs.List.{flat_map}
+use Rattle.std.specs.Fmt.{digits}
+use Rattle.byteorder.specs.Endian.{little_number}
+use Rattle.sd_sid.specs.Sid.{SecurityId, sid_of, words}
+use Rattle.sd_sid.specs.SidText.{sid_text, sub_text}
+use Rattle.sd_sid.proofs.laws.SidLaws.{length-words}
+
+-- one of the words
+pub words-at : (n i : ℕ) (bs : List ℕ) → i < n → slice_index (words n bs) i ≡ little_number 4 (drop (4 * i) bs)
+words-at zero i bs h = absurd (omega arith)
+words-at (suc n) zero bs h = refl
+words-at (suc n) (suc i) bs h =
+    let place : 4 + 4 * i ≡ 4 * suc i = omega arith in
+    words-at n i (drop 4 bs) (omega arith)
+    ∙ ap (little_number 4) (drop-drop (4 * i) 4 bs ∙ ap (λ (k : ℕ). drop k bs) place)
+
+-- as many sub-authorities as the bytes say
+pub subs-count : (bytes : List ℕ) (s : SecurityId) → sid_of bytes ≡ s → length s.subs ≡ slice_index bytes 1
+subs-count bytes s e = ap (λ (t : SecurityId). length t.subs) (sym e) ∙ length-words (slice_index bytes 1) (drop 8 bytes)
+
+-- one of the sub-authorities
+pub sub-at : (bytes : List ℕ) (s : SecurityId) (i : ℕ) → sid_of bytes ≡ s → i < length s.subs
+    → little_number 4 (drop (8 + 4 * i) bytes) ≡ slice_index s.subs i
+sub-at bytes s i e h =
+    let count = subs-count bytes s e in
+    sym (words-at (slice_index bytes 1) i (drop 8 bytes) (omega (arith, count))
+    ∙ ap (little_number 4) (drop-drop (4 * i) 8 bytes)) ∙ ap (λ (t : SecurityId). slice_index t.subs i) e
+
+domain_words-text : (s : SecurityId) (n : ℕ) (bs : List ℕ) → s.authority ≡ 5 → s.subs ≡ words n bs → 1 ≤ n
+    → slice_index s.subs 0 ≡ 21
+    → codes "S-1-5-21" ++ flat_map sub_text (words (n - 1) (drop 4 bs)) ≡ sid_text s
+unfolding digits
+domain_words-text s zero bs five same some first = absurd (omega arith)
+domain_words-text s (suc n) bs five same some first =
+    let one : little_number 4 bs ≡ 21 = rw same at first in
+    let less : suc n - 1 ≡ n = omega arith in
+    rw (same, five, one, less) refl
+
+-- the text of a SID that begins as those of domains do
+pub domain_view-text : (bytes : List ℕ) (s : SecurityId) → sid_of bytes ≡ s
+    → (nat_le 1 (length s.subs) && s.authority == 5 && slice_index s.subs 0 == 21) ≡ true
+    → codes "S-1-5-21" ++ flat_map sub_text (words (slice_index bytes 1 - 1) (drop 12 bytes)) ≡ sid_text s
+domain_view-text bytes s e test =
+    let last = and_parts (nat_le 1 (length s.subs) && s.authority == 5) (slice_index s.subs 0 == 21) test in
+    let front = and_parts (nat_le 1 (length s.subs)) (s.authority == 5) last.0 in
+    let count = subs-count bytes s e in
+    let some : 1 ≤ length s.subs = let t = front.0 in grind (arith, nat_tests) in
+    let five : s.authority ≡ 5 = let t = front.1 in grind (arith, nat_tests) in
+    let first : slice_index s.subs 0 ≡ 21 = let t = last.1 in grind (arith, nat_tests) in
+    ap (λ (r : List ℕ). codes "S-1-5-21" ++ flat_map sub_text (words (slice_index bytes 1 - 1) r))
+    (sym (drop-drop 4 8 bytes))
+    ∙ domain_words-text s (slice_index bytes 1) (drop 8 bytes) five (ap (λ (t : SecurityId). t.subs) (sym e))
+    (omega (arith, count, some)) first

@@ -1,0 +1,200 @@
+//! SIDs read in place.
+
+ghost use Rattle.std.specs.Prelude.{◌≡◌, ◌≤◌, ◌<◌, ◌+◌, ◌*◌, ◌==◌, ◌&&◌, ◌||◌, drop, length, nat_le, slice_index};
+ghost use Rattle.byteorder.specs.Endian.{little_number};
+ghost use Rattle.std.specs.List.{flat_map};
+ghost use Rattle.std.specs.Option.{option_copied};
+ghost use Rattle.sd_sink.specs.Print.{Prints};
+ghost use Rattle.sd_sid.specs.Sid.{sid_of, words};
+ghost use Rattle.sd_sid.specs.SidText.{alias_of, known_alias, relative_alias, sid_text, sub_text};
+ghost use Rattle.sd_text.specs.Limits.{most_subs};
+
+use crate::alias::{USER_MODE_DRIVERS, find_named, relative_alias, usable};
+use crate::sid::Sid;
+use crate::sid_text::print_authority;
+use byteorder::{BigEndian, ByteOrder, LittleEndian};
+use sd_alias::MOST_KNOWN;
+use sd_sink::Print;
+use sd_text::print_decimal_behind;
+use std::marker::Model;
+
+/// The bytes of a SID without sub-authorities.
+const HEADER_SIZE: usize = 8;
+
+/// The authority of Windows itself, and the first sub-authority of a domain's SIDs: `S-1-5-21`.
+const NT: u64 = 5;
+
+const DOMAIN: u32 = 21;
+
+/// A SID in the bytes that show it (MS-DTYP 2.4.2.2).
+#[derive(Drop)]
+pub struct SidView<'a> {
+    // They begin with it. What follows it is not looked at.
+    bytes: &'a [u8],
+}
+
+impl<'a> Model for SidView<'a> {
+    ghost use Rattle.std.specs.Prelude.{◌≤◌, ◌+◌, ◌*◌, length, slice_index};
+    ghost use Rattle.sd_text.specs.Limits.{most_subs};
+    ghost use Rattle.sd_sid.specs.Sid.{SecurityId, sid_of};
+
+    ghost Value = { SecurityId };
+
+    ghost view = { λ v. sid_of v.bytes.now };
+
+    ghost invariant = { λ v. (slice_index v.bytes.now 1 ≤ most_subs)
+        × (8 + 4 * slice_index v.bytes.now 1 ≤ length v.bytes.now) };
+}
+
+impl<'a> SidView<'a> {
+    /// The SID at the front of bytes that begin with one, as `Sid::at_front` reads it.
+    #[inline(always)]
+    pub fn at_front(bytes: &'a [u8]) -> SidView<'a>
+        requires count { slice_index bytes.now 1 ≤ most_subs }
+        requires whole { 8 + 4 * slice_index bytes.now 1 ≤ length bytes.now }
+        ensures exact { result ≡ sid_of bytes.now }
+    {
+        SidView { bytes }
+    }
+
+    /// The SID by value.
+    pub fn sid(&self) -> Sid
+        ensures { result ≡ self.now }
+    {
+        Sid::at_front(self.bytes)
+    }
+
+    #[inline(always)]
+    fn authority(&self) -> u64
+        ensures { result ≡ self.now.authority }
+    {
+        BigEndian::read_u48(&self.bytes[2..])
+    }
+
+    // How many sub-authorities it has.
+    #[inline(always)]
+    fn count(&self) -> usize
+        ensures { result ≡ length self.now.subs }
+    {
+        usize::from(self.bytes[1])
+    }
+
+    #[inline(always)]
+    fn sub(&self, at: usize) -> u32
+        requires { at < length self.now.subs }
+        ensures { result ≡ slice_index self.now.subs at }
+    {
+        word_at(self.bytes, HEADER_SIZE + 4 * at)
+    }
+
+    /// Prints the text, as `Sid::print_text` does.
+    #[inline(always)]
+    pub fn print_text<P: Print>(&self, out: &mut P)
+        ensures put { Prints (P.told out.old) (P.told out.new) (sid_text self.now) }
+    {
+        // Most SIDs are of a domain.
+        if self.is_of_domain() {
+            out.put(b"S-1-5-21");
+            print_subs(
+                &self.bytes[HEADER_SIZE + 4..],
+                usize::from(self.bytes[1]) - 1,
+                out,
+            );
+        } else {
+            self.print_any(out);
+        }
+    }
+
+    #[inline(always)]
+    fn is_of_domain(&self) -> bool
+        ensures { result ≡ (nat_le 1 (length self.now.subs) && self.now.authority == 5
+            && slice_index self.now.subs 0 == 21) }
+    {
+        self.count() >= 1 && self.authority() == NT && self.sub(0) == DOMAIN
+    }
+
+    #[inline(never)]
+    fn print_any<P: Print>(&self, out: &mut P)
+        ensures { Prints (P.told out.old) (P.told out.new) (sid_text self.now) }
+    {
+        out.put(b"S-1-");
+        print_authority(self.authority(), out);
+        print_subs(&self.bytes[HEADER_SIZE..], usize::from(self.bytes[1]), out);
+    }
+
+    /// The two letters that name it, everywhere or in the domain, as `Sid::alias` finds them.
+    #[inline(always)]
+    #[tactic(auto, unfolding(crate::specs::SidText::alias_of))]
+    pub fn alias(&self, domain: Option<&Sid>) -> Option<[u8; 2]>
+        ensures exact { result ≡ alias_of self.now (option_copied domain.entry) }
+    {
+        match self.known_alias() {
+            Some(name) => Some(name),
+            None => self.relative_alias(usable(domain)?),
+        }
+    }
+
+    // Most SIDs have more sub-authorities than those with a name. So the test for these is inlined, and the search is
+    // a call.
+    #[inline(always)]
+    fn known_alias(&self) -> Option<[u8; 2]>
+        ensures { result ≡ known_alias self.now }
+    {
+        if !self.may_be_known() {
+            return None;
+        }
+        self.find_alias()
+    }
+
+    // Whether the SID of a name has as many sub-authorities: one, two, or six with this first one.
+    #[inline(always)]
+    fn may_be_known(&self) -> bool
+        ensures { result ≡ (length self.now.subs == 1 || length self.now.subs == 2
+            || (length self.now.subs == 6 && slice_index self.now.subs 0 == 84)) }
+    {
+        let count = self.count();
+        count == 1 || count == 2 || count == MOST_KNOWN && self.sub(0) == USER_MODE_DRIVERS
+    }
+
+    #[inline(never)]
+    fn find_alias(&self) -> Option<[u8; 2]>
+        ensures { result ≡ known_alias self.now }
+    {
+        // Nearly all of the names have one sub-authority or two.
+        match self.count() {
+            1 => find_named(self.authority(), &[self.sub(0)]),
+            2 => find_named(self.authority(), &[self.sub(0), self.sub(1)]),
+            _ => {
+                let sid = self.sid();
+                find_named(sid.authority(), sid.subs())
+            }
+        }
+    }
+
+    // Few descriptors are printed under a domain, so the SID is copied for its name there.
+    #[inline(never)]
+    fn relative_alias(&self, domain: &Sid) -> Option<[u8; 2]>
+        ensures { result ≡ relative_alias self.now domain.now }
+    {
+        relative_alias(&self.sid(), domain)
+    }
+}
+
+#[inline(always)]
+fn word_at(bytes: &[u8], offset: usize) -> u32
+    requires { offset + 4 ≤ length bytes.now }
+    ensures { result ≡ little_number 4 (drop offset bytes.now) }
+{
+    LittleEndian::read_u32(&bytes[offset..])
+}
+
+// Prints a dash and a number for each sub-authority at the front of the bytes.
+#[inline(never)]
+fn print_subs<P: Print>(bytes: &[u8], count: usize, out: &mut P)
+    requires { 4 * count ≤ length bytes.now }
+    ensures { Prints (P.told out.old) (P.told out.new) (flat_map sub_text (words count bytes.now)) }
+{
+    for i in 0..count {
+        print_decimal_behind(b'-', word_at(bytes, 4 * i), out);
+    }
+}
