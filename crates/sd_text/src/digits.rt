@@ -30,6 +30,7 @@ pub fn print_decimal<P: Print>(number: u32, out: &mut P)
 }
 
 /// Prints a character and a number in decimal.
+#[inline(always)]
 pub fn print_decimal_behind<P: Print>(character: u8, number: u32, out: &mut P)
     ensures { Prints (P.told out.old) (P.told out.new) (character ∷ decimal number) }
 {
