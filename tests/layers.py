@@ -19,7 +19,7 @@ import preload  # noqa: E402
 
 COMMENTS = {".rt": re.compile(r"//.*"), ".antt": re.compile(r"(?<!\S)--.*")}
 MODULE = re.compile(r"\bRattle[.·](?:\w+[.·]below[.·])?(\w+)((?:[.·][\w-]+)*)")
-RUST_PATH = re.compile(r"(?<![\w:.])(\w+)::|\buse\s+(\w+)\s*(?:;|as\b)")
+RUST_PATH = re.compile(r"(?<![\w:.])(\w+)::|\buse\s+(\w+)(?:\s*;|\s+as\b)")
 OF_ONE_FUNCTION = {"Goals", "Given", "Answers", "Invariants", "Proof"}
 MOST_LINES = 1200  # of src
 

@@ -2,7 +2,8 @@
 ghost use Rattle.sd_sink.specs.Print.{Prints};
 ghost use Rattle.sd_explain.specs.Explain.{name_after, sid_line, sid_or_none, sid_words};
 
-use sd_sid::{Naming, SidView};
+use sd_sid::Naming;
+use sd_sid_view::SidView;
 use sd_sink::Print;
 
 /// Prints the line of an owner or a group, which may be absent.
@@ -34,7 +35,7 @@ pub fn print_sid<P: Print>(naming: &Naming, sid: &SidView<'_>, out: &mut P)
     ensures { Prints (P.told out.old) (P.told out.new) (sid_words naming.now sid.now) }
 {
     sid.print_text(out);
-    print_alias(naming.alias_of(sid), out);
+    print_alias(sid.alias_by(naming), out);
 }
 
 // Prints a blank and the alias, where there is one.

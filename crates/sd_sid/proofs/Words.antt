@@ -1,21 +1,10 @@
 -- The loop that fills a SID's array, word by word.
-use Rattle.std.proofs.Common.{◌≡◌, ◌<◌, ℕ, zero, suc, ◌+◌, ◌-◌, ◌*◌, ◌^◌, List, [], ◌∷◌, ◌++◌, length, take, drop, set}
+use Rattle.std.proofs.Common.{◌≡◌, ◌<◌, ℕ, zero, suc, ◌+◌, ◌-◌, ◌*◌, ◌^◌, List, [], ◌∷◌, length, take, drop, set}
 use Rattle.std.proofs.Common.{replicate, refl, sym, ap, ◌∙◌, arith}
 use Rattle.std.proofs.lemmas.List.{drop-drop, take_more_set, drop-set-lt, drop-replicate, length-set}
 use Rattle.byteorder.specs.Endian.{little_number}
 use Rattle.sd_sid.specs.Sid.{AreWords, words}
-
--- one word more
-pub words-more : (n m : ℕ) (bs : List ℕ) → m ≡ n + 1 → words m bs ≡ words n bs ++ little_number 4 (drop (4 * n) bs) ∷ []
-words-more zero m bs e = rw e refl
-words-more (suc n) zero bs e = absurd (omega arith)
-words-more (suc n) (suc m) bs e =
-    let ih = words-more n m (drop 4 bs) (omega arith) in
-    let moved = drop-drop (4 * n) 4 bs in
-    let place : 4 + 4 * n ≡ 4 * suc n = omega arith in
-    ap (λ (r : List ℕ). little_number 4 bs ∷ r)
-    (ih ∙ ap (λ (r : List ℕ). words n (drop 4 bs) ++ little_number 4 r ∷ [])
-    (moved ∙ ap (λ (k : ℕ). drop k bs) place))
+use Rattle.sd_sid.proofs.laws.SidLaws.{words-more}
 
 AreWords-zeros : (n : ℕ) → AreWords (replicate n 0)
 AreWords-zeros zero i = omega arith

@@ -26,7 +26,7 @@ const NT: u64 = 5;
 const BUILTIN: u32 = 32;
 
 /// The first sub-authority of the SID of user-mode drivers, `S-1-5-84-0-0-0-0-0`. No other name has six.
-pub(crate) const USER_MODE_DRIVERS: u32 = 84;
+pub const USER_MODE_DRIVERS: u32 = 84;
 
 /// The authority of creators, `S-1-3`.
 const CREATOR: u64 = 3;
@@ -61,7 +61,8 @@ fn alias_in(sid: &Sid, domain: Option<&Sid>) -> Option<[u8; 2]>
     }
 }
 
-pub(crate) fn usable(domain: Option<&Sid>) -> Option<&Sid>
+/// A domain of 15 sub-authorities counts as none.
+pub fn usable(domain: Option<&Sid>) -> Option<&Sid>
     ensures { option_copied result ≡ usable (option_copied domain.entry) }
 {
     match domain {
@@ -98,9 +99,9 @@ fn may_be_known(sid: &Sid) -> bool
     subs.len() == 1 || subs.len() == 2 || subs.len() == MOST_KNOWN && subs[0] == USER_MODE_DRIVERS
 }
 
-// The alias that the SID of these parts has everywhere.
+/// The alias that the SID of these parts has everywhere.
 #[inline(always)]
-pub(crate) fn find_named(authority: u64, subs: &[u32]) -> Option<[u8; 2]>
+pub fn find_named(authority: u64, subs: &[u32]) -> Option<[u8; 2]>
     ensures { result ≡ known_alias (record { authority = authority; subs = subs.now }) }
 {
     let entry = known_entry(authority, subs)?;
@@ -149,8 +150,9 @@ fn is_known(entry: &WellKnown, authority: u64, subs: &[u32]) -> bool
     u64::from(entry.authority) == authority && &entry.subs[..count] == subs
 }
 
+/// The alias that a SID has in a domain.
 #[inline(never)]
-pub(crate) fn relative_alias(sid: &Sid, domain: &Sid) -> Option<[u8; 2]>
+pub fn relative_alias(sid: &Sid, domain: &Sid) -> Option<[u8; 2]>
     ensures { result ≡ relative_alias sid.now domain.now }
 {
     let (last, front) = sid.subs().split_last()?;

@@ -5,10 +5,9 @@ mod alias;
 mod naming;
 mod sid;
 mod sid_text;
-mod sid_view;
 mod usual_sid;
 
+pub use alias::{USER_MODE_DRIVERS, find_named, relative_alias, usable};
 pub use naming::Naming;
 pub use sid::Sid;
-pub use sid_text::SidFault;
-pub use sid_view::SidView;
+pub use sid_text::{SidFault, print_authority};

@@ -4,7 +4,6 @@ ghost use Rattle.std.specs.Prelude.{◌≡◌};
 ghost use Rattle.sd_sid.specs.Naming.{alias_by};
 
 use crate::sid::Sid;
-use crate::sid_view::SidView;
 
 /// How SIDs are printed: by aliases, with those of the domain if there is one, or by numbers alone.
 #[derive(Clone, Copy)]
@@ -24,16 +23,5 @@ impl Naming {
             return None;
         }
         sid.alias(self.domain.as_ref())
-    }
-
-    /// The same for a SID that is read in place.
-    #[inline(always)]
-    pub fn alias_of(&self, sid: &SidView<'_>) -> Option<[u8; 2]>
-        ensures { result ≡ alias_by self.now sid.now }
-    {
-        if !self.numeric {
-            return sid.alias(self.domain.as_ref());
-        }
-        None
     }
 }

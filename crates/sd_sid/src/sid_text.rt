@@ -213,8 +213,8 @@ fn print_any<P: Print>(sid: &Sid, out: &mut P)
     print_subs(sid.subs(), out);
 }
 
-// Decimal below 2^32, and else twelve hex digits.
-pub(crate) fn print_authority<P: Print>(authority: u64, out: &mut P)
+/// Prints an authority as the text of a SID has it: decimal below 2^32, and else twelve hex digits.
+pub fn print_authority<P: Print>(authority: u64, out: &mut P)
     ensures { Prints (P.told out.old) (P.told out.new) (authority_text authority) }
 {
     if authority < 1 << 32 {

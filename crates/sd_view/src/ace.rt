@@ -17,7 +17,8 @@ use crate::bytes::{u16_at, u32_at};
 use crate::fault::AclFault;
 use sd_ace::{Ace, FRONT_SIZE, OBJECT_FRONT_SIZE, UNUSED_FLAG, guid_read};
 use sd_kinds::AceKind;
-use sd_sid::{Sid, SidView};
+use sd_sid::Sid;
+use sd_sid_view::SidView;
 use std::marker::Model;
 use uuid::Uuid;
 

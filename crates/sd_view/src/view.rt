@@ -19,7 +19,8 @@ use crate::fault::{SdFault, fault_in};
 use sd_control::{
     ACL_REVISION_DS, DACL_PRESENT, HEADER_SIZE, Part, Parts, SACL_PRESENT, SELF_RELATIVE, has_bit,
 };
-use sd_sid::{Sid, SidView};
+use sd_sid::Sid;
+use sd_sid_view::SidView;
 use std::marker::Model;
 
 /// What is kept of an ACL that is not there.

@@ -4,7 +4,7 @@ use Rattle.std.proofs.Common.{drop, slice_index, Option, Some, None, refl, sym, 
 use Rattle.std.proofs.Common.{length-append, length-drop, subst}
 use Rattle.std.proofs.lemmas.Bool.Decides.{nat_tests}
 use Rattle.std.proofs.lemmas.Option.{cond_some}
-use Rattle.std.proofs.lemmas.List.{take-append-drop}
+use Rattle.std.proofs.lemmas.List.{drop-drop, take-append-drop}
 use Rattle.std.proofs.Math.Seq.{take-add}
 use Rattle.std.specs.List.{flat_map}
 use Rattle.byteorder.specs.Endian.{big_bytes, big_number, little_bytes, little_number}
@@ -163,3 +163,15 @@ unfolding sid_at
 sid_of-at bytes s n e =
     let parts = cond_some (sid_stands bytes) (sid_of bytes, 8 + 4 * slice_index bytes 1) (s, n) e in
     ap (λ (p : SecurityId × ℕ). p.0) parts.1
+
+-- one word more
+pub words-more : (n m : ℕ) (bs : List ℕ) → m ≡ n + 1 → words m bs ≡ words n bs ++ little_number 4 (drop (4 * n) bs) ∷ []
+words-more zero m bs e = rw e refl
+words-more (suc n) zero bs e = absurd (omega arith)
+words-more (suc n) (suc m) bs e =
+    let ih = words-more n m (drop 4 bs) (omega arith) in
+    let moved = drop-drop (4 * n) 4 bs in
+    let place : 4 + 4 * n ≡ 4 * suc n = omega arith in
+    ap (λ (r : List ℕ). little_number 4 bs ∷ r)
+    (ih ∙ ap (λ (r : List ℕ). words n (drop 4 bs) ++ little_number 4 r ∷ [])
+    (moved ∙ ap (λ (k : ℕ). drop k bs) place))

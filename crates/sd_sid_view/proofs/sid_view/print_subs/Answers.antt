@@ -4,8 +4,8 @@ use Rattle.sd_sink.proofs.laws.PrintLemmas.{prints_as}
 use Rattle.sd_sink.proofs.laws.PrintLoops.{Prints-item}
 use Rattle.sd_sid.specs.Sid.{words}
 use Rattle.sd_sid.specs.SidText.{sub_text}
-use Rattle.sd_sid.proofs.Words.{words-more}
-use Rattle.sd_sid.proofs.sid_view.print_subs.Goals as goal
+use Rattle.sd_sid.proofs.laws.SidLaws.{words-more}
+use Rattle.sd_sid_view.proofs.sid_view.print_subs.Goals as goal
 
 pub loop-i-preserved : goal.loop-i-preserved
 loop-i-preserved g c =

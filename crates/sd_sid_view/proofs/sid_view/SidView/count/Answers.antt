@@ -1,6 +1,6 @@
 use Rattle.std.proofs.Common.{sym, ◌∙◌}
-use Rattle.sd_sid.proofs.ViewLemmas.{subs-count}
-use Rattle.sd_sid.proofs.sid_view.SidView.count.Goals as goal
+use Rattle.sd_sid_view.proofs.ViewLemmas.{subs-count}
+use Rattle.sd_sid_view.proofs.sid_view.SidView.count.Goals as goal
 
 pub returns : goal.returns
 returns c = c.from.ensures ∙ sym (subs-count c.self.inside.bytes.now c.args.self.now c.self.view_is)

@@ -7,13 +7,12 @@ ghost use Rattle.std.specs.Option.{option_copied};
 ghost use Rattle.sd_sink.specs.Print.{Prints};
 ghost use Rattle.sd_sid.specs.Sid.{sid_of, words};
 ghost use Rattle.sd_sid.specs.SidText.{alias_of, known_alias, relative_alias, sid_text, sub_text};
+ghost use Rattle.sd_sid.specs.Naming.{alias_by};
 ghost use Rattle.sd_text.specs.Limits.{most_subs};
 
-use crate::alias::{USER_MODE_DRIVERS, find_named, relative_alias, usable};
-use crate::sid::Sid;
-use crate::sid_text::print_authority;
 use byteorder::{BigEndian, ByteOrder, LittleEndian};
 use sd_alias::MOST_KNOWN;
+use sd_sid::{Naming, Sid, USER_MODE_DRIVERS, find_named, print_authority, relative_alias, usable};
 use sd_sink::Print;
 use sd_text::print_decimal_behind;
 use std::marker::Model;
@@ -124,7 +123,7 @@ impl<'a> SidView<'a> {
 
     /// The two letters that name it, everywhere or in the domain, as `Sid::alias` finds them.
     #[inline(always)]
-    #[tactic(auto, unfolding(crate::specs::SidText::alias_of))]
+    #[tactic(auto, unfolding(sd_sid::specs::SidText::alias_of))]
     pub fn alias(&self, domain: Option<&Sid>) -> Option<[u8; 2]>
         ensures exact { result ≡ alias_of self.now (option_copied domain.entry) }
     {
@@ -132,6 +131,17 @@ impl<'a> SidView<'a> {
             Some(name) => Some(name),
             None => self.relative_alias(usable(domain)?),
         }
+    }
+
+    /// The alias by which it is printed, as `Naming::alias` finds it.
+    #[inline(always)]
+    pub fn alias_by(&self, naming: &Naming) -> Option<[u8; 2]>
+        ensures { result ≡ alias_by naming.now self.now }
+    {
+        if !naming.numeric {
+            return self.alias(naming.domain.as_ref());
+        }
+        None
     }
 
     // Most SIDs have more sub-authorities than those with a name. So the test for these is inlined, and the search is

@@ -1,6 +1,6 @@
 use Rattle.std.proofs.Common.{arith, ◌∙◌}
-use Rattle.sd_sid.proofs.ViewLemmas.{sub-at, subs-count}
-use Rattle.sd_sid.proofs.sid_view.SidView.sub.Goals as goal
+use Rattle.sd_sid_view.proofs.ViewLemmas.{sub-at, subs-count}
+use Rattle.sd_sid_view.proofs.sid_view.SidView.sub.Goals as goal
 
 pub overflow_mul-at : goal.overflow_mul-at
 overflow_mul-at c =

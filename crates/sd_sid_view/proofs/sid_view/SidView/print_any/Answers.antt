@@ -4,7 +4,7 @@ use Rattle.std.specs.List.{flat_map}
 use Rattle.sd_sink.proofs.laws.PrintLemmas.{prints_as, prints_then}
 use Rattle.sd_sid.specs.Sid.{SecurityId, words}
 use Rattle.sd_sid.specs.SidText.{sub_text}
-use Rattle.sd_sid.proofs.sid_view.SidView.print_any.Goals as goal
+use Rattle.sd_sid_view.proofs.sid_view.SidView.print_any.Goals as goal
 
 pub returns : goal.returns
 returns g c =

@@ -4,8 +4,8 @@ use Rattle.std.specs.List.{flat_map}
 use Rattle.sd_sink.proofs.laws.PrintLemmas.{prints_as, prints_then}
 use Rattle.sd_sid.specs.Sid.{words}
 use Rattle.sd_sid.specs.SidText.{sub_text}
-use Rattle.sd_sid.proofs.ViewLemmas.{domain_view-text}
-use Rattle.sd_sid.proofs.sid_view.SidView.print_text.Goals as goal
+use Rattle.sd_sid_view.proofs.ViewLemmas.{domain_view-text}
+use Rattle.sd_sid_view.proofs.sid_view.SidView.print_text.Goals as goal
 
 pub returns-then-is_of_domain : goal.returns-then-is_of_domain
 returns-then-is_of_domain g c =
