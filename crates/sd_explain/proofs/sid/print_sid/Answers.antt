@@ -5,5 +5,5 @@ use Rattle.sd_explain.proofs.sid.print_sid.Goals as goal
 pub returns : goal.returns
 unfolding sid_words
 returns g c =
-    let alias = rw c.alias_of.ensures at c.print_alias.ensures in
+    let alias = rw c.alias_by.ensures at c.print_alias.ensures in
     prints_then c.print_text.ensures.put alias
