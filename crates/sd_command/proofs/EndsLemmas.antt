@@ -1,5 +1,5 @@
 -- What a run makes of words that settle a job.
-use Rattle.std.proofs.Common.{◌≡◌, ◌++◌, ℕ, inl, inr, List, Option, None, Some, Result, Ok, Err, sym, subst, true}
+use Rattle.std.proofs.Common.{◌≡◌, ℕ, inl, inr, List, Option, None, Some, Result, Ok, Err, sym, subst, true}
 use Rattle.std.specs.Io.KnownBytes.{Appends, Keeps}
 use Rattle.clap.specs.Words.{Text, takes}
 use Rattle.sd_command_line.specs.CommandLine.{line}

@@ -1,8 +1,9 @@
 -- Worked rows of command lines, computed.
-use Rattle.std.proofs.Common.{◌≡◌, ◌≤◌, ◌+◌, ℕ, List, [], ◌∷◌, ◌++◌, None, Some, Result, Ok, Err, true, false, codes, refl}
+use Rattle.std.proofs.Common.{◌≡◌, ◌≤◌, ◌+◌, ℕ, List, [], ◌∷◌, ◌++◌, None, Some, Result, Ok, Err, true, false, codes}
+use Rattle.std.proofs.Common.{inl, inr, refl}
 use Rattle.std.specs.List.{flat_map}
 use Rattle.std.specs.Option.{option_map}
-use Rattle.std.specs.Prelude.{Bool, inl, inr, length, map, replicate}
+use Rattle.std.specs.Prelude.{Bool, length, map, replicate}
 use Rattle.clap.specs.Words.{Text, fault_of, takes}
 use Rattle.clap.proofs.OnLiterals.{clap_on_literals}
 use Rattle.uuid.specs.Text.{by_index}
@@ -29,7 +30,7 @@ use Rattle.sd_command_line.specs.CommandLine.{bare_line, check_line, convert_lin
 use Rattle.sd_command_line.specs.CommandLine.{option_text}
 use Rattle.sd_run.specs.declared.engine.Report.{Report}
 use Rattle.sd_run.specs.Told.{DrainTold, SourceTold}
-use Rattle.sd_command.specs.Endings.{EndsIdle, EndsRefused, EndsWithHelp, EndsWithoutMemory, IsIdle, IsIdleAt, RunOf}
+use Rattle.sd_command.specs.Endings.{EndsRefused, EndsWithHelp, EndsWithoutMemory, IsIdle, IsIdleAt, RunOf}
 use Rattle.sd_command.specs.Endings.{Says, Told, run_line, status_of}
 use Rattle.sd_command.specs.Settings.{Settings, asked, check_own, domain_reads, given_level, given_object, given_sid}
 use Rattle.sd_command.specs.Settings.{command_reads, form_reads, given_token, given_want, level_reads, mapping_reads}
@@ -227,7 +228,7 @@ of_everyone : List Text → List Text
 of_everyone options = check_with (codes "--token" ∷ codes "WD" ∷ options)
 
 -- to read a key is 0x20019
-pub all_options : settings_of (check_with (codes "--domain" ∷ codes "S-1-5-21-1-2-3" ∷ codes "--from" ∷ codes "base64"
+all_options : settings_of (check_with (codes "--domain" ∷ codes "S-1-5-21-1-2-3" ∷ codes "--from" ∷ codes "base64"
     ∷ codes "--token" ∷ codes "WD,!DA" ∷ codes "--want" ∷ codes "GR" ∷ codes "--type" ∷ codes "key"
     ∷ codes "--object" ∷ codes "bf967aba-0de6-11d0-a285-00aa003049e2" ∷ codes "--self" ∷ codes "DA"
     ∷ codes "--security" ∷ codes "--take-ownership" ∷ codes "--level" ∷ codes "8192" ∷ []))
@@ -281,19 +282,19 @@ asks wanted maximum = record {
 }
 
 -- the maximum is asked for by its option, or by bit 25 of the rights, which is no right itself
-pub maximum : settings_of (of_everyone (codes "--maximum" ∷ [])) ≡ Ok (asks 0 true)
+maximum : settings_of (of_everyone (codes "--maximum" ∷ [])) ≡ Ok (asks 0 true)
 unfolding settled_words check_with of_everyone asks
 maximum = refl
 
-pub maximum_by_its_bit : settings_of (of_everyone (codes "--want" ∷ codes "0x2000001" ∷ [])) ≡ Ok (asks 1 true)
+maximum_by_its_bit : settings_of (of_everyone (codes "--want" ∷ codes "0x2000001" ∷ [])) ≡ Ok (asks 1 true)
 unfolding settled_words check_with of_everyone asks
 maximum_by_its_bit = refl
 
-pub rights_alone : settings_of (of_everyone (codes "--want" ∷ codes "SD" ∷ [])) ≡ Ok (asks 0x10000 false)
+rights_alone : settings_of (of_everyone (codes "--want" ∷ codes "SD" ∷ [])) ≡ Ok (asks 0x10000 false)
 unfolding settled_words check_with of_everyone asks
 rights_alone = refl
 
-pub unasked : map settings_of
+unasked : map settings_of
     (of_everyone [] ∷ of_everyone (codes "--want" ∷ codes "0" ∷ [])
     ∷ of_everyone (codes "--want" ∷ codes "0x4000001" ∷ []) ∷ of_everyone (codes "--want" ∷ codes "0x8000001" ∷ [])
     ∷ [])
@@ -304,7 +305,7 @@ unasked = refl
 
 -- ---- of two options that do not read the first in order is told
 
-pub order_of_check : map settings_of
+order_of_check : map settings_of
     (check_with (codes "--domain" ∷ codes "?" ∷ codes "--from" ∷ codes "?" ∷ codes "--token" ∷ codes "WD" ∷ [])
     ∷ check_with (codes "--from" ∷ codes "?" ∷ codes "--type" ∷ codes "?" ∷ codes "--token" ∷ codes "WD" ∷ [])
     ∷ check_with (codes "--type" ∷ codes "?" ∷ codes "--token" ∷ codes "?" ∷ [])
@@ -326,14 +327,14 @@ derive_with kind owner group options =
     codes "sdtool" ∷ codes "derive" ∷ codes "--kind" ∷ kind ∷ codes "--owner" ∷ owner ∷ codes "--group" ∷ group
     ∷ options
 
-pub order_of_convert : map settings_of
+order_of_convert : map settings_of
     (convert_with (codes "--domain" ∷ codes "DA" ∷ codes "--from" ∷ codes "?" ∷ [])
     ∷ convert_with (codes "--from" ∷ codes "?" ∷ codes "--to" ∷ codes "?" ∷ []) ∷ [])
     ≡ Err (Value name.Domain) ∷ Err (Value name.From) ∷ []
 unfolding settled_words convert_with
 order_of_convert = refl
 
-pub order_of_derive : map settings_of
+order_of_derive : map settings_of
     (derive_with (codes "file") (codes "SY") (codes "SY") (codes "--from" ∷ codes "?" ∷ codes "--to" ∷ codes "?" ∷ [])
     ∷ derive_with (codes "file") (codes "SY") (codes "SY") (codes "--to" ∷ codes "?" ∷ codes "--type" ∷ codes "?" ∷ [])
     ∷ derive_with (codes "?") (codes "SY") (codes "SY") (codes "--type" ∷ codes "?" ∷ [])
@@ -347,7 +348,7 @@ unfolding settled_words derive_with
 order_of_derive = refl
 
 -- aliases of a domain, in the owner and in the creator's descriptor
-pub derived_in_a_domain : settings_of (derive_with (codes "container") (codes "DA") (codes "SY")
+derived_in_a_domain : settings_of (derive_with (codes "container") (codes "DA") (codes "SY")
     (codes "--domain" ∷ codes "S-1-5-21-1-2-3" ∷ codes "--creator" ∷ codes "O:DA" ∷ codes "--to" ∷ codes "base64"
     ∷ codes "--type" ∷ codes "ds" ∷ codes "--numeric" ∷ []))
     ≡ Ok (record {
@@ -378,42 +379,43 @@ unfolding settled_words derive_with a_domain domain_admins
 derived_in_a_domain = refl
 
 -- a domain has room for one sub-authority more
-pub domains : map domain_reads
+domains : map domain_reads
     (codes "S-1-5-21-1-2-3" ∷ codes "DA" ∷ codes "S-1-5-1-2-3-4-5-6-7-8-9-10-11-12-13-14"
     ∷ codes "S-1-5-1-2-3-4-5-6-7-8-9-10-11-12-13-14-15" ∷ [])
     ≡ Some a_domain ∷ None
-    ∷ Some (record { authority = 5; subs = 1 ∷ 2 ∷ 3 ∷ 4 ∷ 5 ∷ 6 ∷ 7 ∷ 8 ∷ 9 ∷ 10 ∷ 11 ∷ 12 ∷ 13 ∷ 14 ∷ [] }) ∷ None ∷ []
+    ∷ Some (record { authority = 5; subs = 1 ∷ 2 ∷ 3 ∷ 4 ∷ 5 ∷ 6 ∷ 7 ∷ 8 ∷ 9 ∷ 10 ∷ 11 ∷ 12 ∷ 13 ∷ 14 ∷ [] })
+    ∷ None ∷ []
 unfolding settled_words a_domain
 domains = refl
 
 -- ---- endings
 
-pub without_memory : (told told' : Told) (status : ℕ) → EndsWithoutMemory told told' status
+without_memory : (told told' : Told) (status : ℕ) → EndsWithoutMemory told told' status
     → (status ≡ 4) × IsIdle told.source told'.source told.output told'.output
     × Says (codes "sdtool: no memory\n") told.faults told'.faults
 without_memory told told' status h = h
 
-pub refused : (told told' : Told) (status : ℕ) → EndsRefused told told' status
+refused : (told told' : Told) (status : ℕ) → EndsRefused told told' status
     → (status ≡ 2) × IsIdle told.source told'.source told.output told'.output
     × Says (codes "sdtool: usage\n") told.faults told'.faults
 refused told told' status h = h
 
-pub helped : (told told' : Told) (status : ℕ) → EndsWithHelp told told' status
+helped : (told told' : Told) (status : ℕ) → EndsWithHelp told told' status
     → (status ≡ 0) × (told'.source ≡ told.source) × (told'.faults ≡ told.faults)
 helped told told' status (is, reads, says, grows) = (is, reads, says)
 
-pub idle_at_2 : (told told' : Told) → IsIdleAt 2 told told' → IsIdle told.source told'.source told.output told'.output
+idle_at_2 : (told told' : Told) → IsIdleAt 2 told told' → IsIdle told.source told'.source told.output told'.output
 idle_at_2 told told' h = h (inl refl)
 
-pub idle_at_4 : (told told' : Told) → IsIdleAt 4 told told' → IsIdle told.source told'.source told.output told'.output
+idle_at_4 : (told told' : Told) → IsIdleAt 4 told told' → IsIdle told.source told'.source told.output told'.output
 idle_at_4 told told' h = h (inr refl)
 
 -- a run makes at most 2 ^ 40 reads, and no comparison is counted before it
-pub most_reads : (settings : Settings) (source source' : SourceTold) (output output' : DrainTold) (report : Report)
+most_reads : (settings : Settings) (source source' : SourceTold) (output output' : DrainTold) (report : Report)
     → RunOf settings source source' output output' (Ok report) → source'.reads ≤ source.reads + 1099511627776
 most_reads settings source source' output output' report run = run.outcome.reads
 
-pub new_token : (settings : Settings) (source source' : SourceTold) (output output' : DrainTold)
+new_token : (settings : Settings) (source source' : SourceTold) (output output' : DrainTold)
     (result : Result Report RunFault) (run : RunOf settings source source' output output' result)
     → run.token.compared ≡ 0
 new_token settings source source' output output' result run = run.none_compared

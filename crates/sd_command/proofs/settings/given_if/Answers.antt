@@ -1,4 +1,4 @@
-use Rattle.std.proofs.Common.{rules, ◌≡◌, Some, None, ap, option_map, sym, ◌∙◌}
+use Rattle.std.proofs.Common.{rules, ◌≡◌, Some, None}
 use Rattle.sd_command.specs.Settings.{text_given}
 use Rattle.clap.specs.Words.{found_of, rows_of}
 use Rattle.sd_command.proofs.GivenLemmas.{if-is}
