@@ -40,7 +40,7 @@ help:
 	@echo 'make quick             builds the program without a proof, and tries it on rows and random lines (a minute)'
 	@echo 'make check CRATE=NAME  proves a crate, reusing the work of earlier checks (seconds to 2 minutes)'
 	@echo 'make rows ID=WORD      runs the rows whose names contain WORD on the built program (seconds; ID= for all)'
-	@echo 'make test              runs the gate and all tests of the built program (about 40 minutes); ends with N passed, M failed'
+	@echo 'make test              runs the gate and all tests of the built program (about an hour); ends with N passed, M failed'
 	@echo 'make edits             tries every edit that the check must refuse, also those that the gate leaves out (an hour or two);'
 	@echo '                       CRATE=NAME tries those of a crate, EDIT=WORD those with WORD in their names (10 to 30 seconds each)'
 	@echo 'make figures           rewrites what is written by scripts: the figures in docs/GATE.md and docs/DEFINITIONS.md, the places'

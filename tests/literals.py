@@ -14,8 +14,9 @@ FieldReading and WholeAce), tables written out again (*Values.antt), and FoldedR
 another definition.
 
 Many changes are judged at once: each changed file, what rests on it and the rows are modules of one crate beside copies
-of the others, and `rt check --only` runs there. First `make check` has to pass in all crates. The constants of a crate are printed by `rt check --generated` once and kept in out/literals, which
-takes a minute or two a crate, and longer for sd_sid.
+of the others, and `rt check --only` runs there. First `make check` has to pass in all crates. The constants of a crate
+are printed by `rt check --generated` once and kept in out/literals, which takes a minute or two a crate, and longer for
+sd_sid.
 
 A line tells of each change that no row refuses, and of each that does not read, as a case that stands twice. The last
 line counts them: 'N refused, M left, K unread'. The status is 1 where one is left.
