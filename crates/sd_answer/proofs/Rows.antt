@@ -8,12 +8,12 @@ use Rattle.sd_text.specs.Limits.{most_base64_text, most_hex_text, most_sddl_text
 use Rattle.sd_sid.specs.Sid.{sid_at}
 use Rattle.sd_sid.specs.declared.sid_text.SidFault.TheVariants as sid
 use Rattle.sd_buffer.specs.declared.buffer.TextFault.TheVariants as text
-use Rattle.sd_control.specs.declared.part.Which.TheVariants as which
+use Rattle.sd_parts.specs.declared.part.Which.TheVariants as which
 use Rattle.sd_inherit.specs.declared.derivation.DeriveFault.TheVariants.{DerivedTooLarge}
 use Rattle.sd_sddl_builder.specs.declared.fault.SddlFault.TheVariants as sddl
-use Rattle.sd_control.specs.declared.limits.TheConstants.{CAPACITY}
-use Rattle.sd_control.specs.Header.{header_bytes}
-use Rattle.sd_control.specs.declared.part.Part.TheVariants as part
+use Rattle.sd_parts.specs.declared.limits.TheConstants.{CAPACITY}
+use Rattle.sd_parts.specs.Header.{header_bytes}
+use Rattle.sd_parts.specs.declared.part.Part.TheVariants as part
 use Rattle.sd_buffer.specs.Text.{base64_spells, hex_spells}
 use Rattle.sd_view.specs.Bytes.{u16_at, u32_at}
 use Rattle.sd_view.specs.Reading.{acl_part_fault, acl_shown, fault, header_fault, overlap_fault}

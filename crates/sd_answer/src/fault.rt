@@ -7,8 +7,8 @@ ghost use Rattle.sd_answer.specs.Faults.{fault_text, named_parts, number, part_t
 
 use crate::fault_names::fault_name;
 use sd_buffer::TextFault;
-use sd_control::Which;
 use sd_inherit::DeriveFault;
+use sd_parts::Which;
 use sd_sddl_builder::SddlFault;
 use sd_sid::SidFault;
 use sd_sink::{Print, Printer, Sink, SinkFault};

@@ -5,13 +5,13 @@ ghost use Rattle.std.specs.Prelude.{vec_capacity, Ok, Err, IfOk, OnOk, OnErr, Is
 ghost use Rattle.base64.specs.Decode.{decoded_estimate};
 ghost use Rattle.sd_text.specs.Limits.{most_base64_text, most_hex_text};
 ghost use Rattle.sd_buffer.specs.Text.{IsOneEncoding, base64_spells, hex_spells};
-ghost use Rattle.sd_control.specs.declared.limits.TheConstants.{CAPACITY};
+ghost use Rattle.sd_parts.specs.declared.limits.TheConstants.{CAPACITY};
 
 use crate::hex_reader::HexReader;
 use base64::decoded_len_estimate;
 use base64::engine::general_purpose::STANDARD;
-use sd_control::CAPACITY;
-use sd_sink::NoMemory;
+use sd_memory::NoMemory;
+use sd_parts::CAPACITY;
 use sd_text::MOST_BASE64_TEXT;
 use std::alloc::Global;
 use std::marker::Model;

@@ -26,13 +26,13 @@ use Rattle.sd_view.specs.declared.acl.AclPart.{AclPart}
 use Rattle.sd_view.specs.declared.acl.AclPart.TheVariants as acl
 use Rattle.sd_builder.specs.declared.builder.Builder.{Builder}
 use Rattle.sd_builder.specs.declared.builder.OpenAcl.{OpenAcl}
-use Rattle.sd_control.specs.declared.part.Which.{Which}
-use Rattle.sd_control.specs.declared.part.Which.TheVariants as lists
-use Rattle.sd_control.specs.Parts.{each_part, get_part, part_of, same_part, sid_part_of}
-use Rattle.sd_control.specs.declared.part.Part.{Part}
-use Rattle.sd_control.specs.declared.part.Part.TheVariants as part
-use Rattle.sd_control.specs.declared.part.SidPart.{SidPart}
-use Rattle.sd_control.specs.declared.part.SidPart.TheVariants as sids
+use Rattle.sd_parts.specs.declared.part.Which.{Which}
+use Rattle.sd_parts.specs.declared.part.Which.TheVariants as lists
+use Rattle.sd_parts.specs.Parts.{each_part, get_part, part_of, same_part, sid_part_of}
+use Rattle.sd_parts.specs.declared.part.Part.{Part}
+use Rattle.sd_parts.specs.declared.part.Part.TheVariants as part
+use Rattle.sd_parts.specs.declared.part.SidPart.{SidPart}
+use Rattle.sd_parts.specs.declared.part.SidPart.TheVariants as sids
 use Rattle.sd_view.proofs.laws.ApartLaws.{six-apart}
 use Rattle.sd_view.proofs.laws.AceLists.{all-more, size-more}
 use Rattle.sd_view.proofs.laws.AclLayoutSizes.{aces-many, length-aces}

@@ -7,15 +7,15 @@ use Rattle.sd_view.specs.AclLayout.{acl_bytes}
 use Rattle.sd_builder.specs.Builds.{Builds}
 use Rattle.sd_builder.specs.Inner.Building.{PartStands, PartsStand, StandsInOrder, extent_at, given, given_acl}
 use Rattle.sd_builder.specs.Inner.Building.{given_sid, given_size}
-use Rattle.sd_control.specs.Parts.{get_part}
-use Rattle.sd_control.specs.declared.part.Part.{Part}
-use Rattle.sd_control.specs.declared.part.Part.TheVariants as part
-use Rattle.sd_control.specs.declared.part.Parts.{Parts}
-use Rattle.sd_control.specs.Control.{control_of}
+use Rattle.sd_parts.specs.Parts.{get_part}
+use Rattle.sd_parts.specs.declared.part.Part.{Part}
+use Rattle.sd_parts.specs.declared.part.Part.TheVariants as part
+use Rattle.sd_parts.specs.declared.part.Parts.{Parts}
+use Rattle.sd_parts.specs.Control.{control_of}
 use Rattle.sd_view.specs.Descriptor.{Shows, ShowsAclPart, ShowsSid, acl_extent, dacl_at, group_at, owner_at, sacl_at}
 use Rattle.sd_view.specs.Descriptor.{sid_extent}
 use Rattle.sd_builder.specs.Draft.{Draft, DraftParts, built, built_bytes, is_present}
-use Rattle.sd_control.specs.Header.{header_bytes}
+use Rattle.sd_parts.specs.Header.{header_bytes}
 use Rattle.sd_view.specs.WrittenForm.{AclIsWritten, IsWritten, IsWrittenForm}
 use Rattle.sd_view.specs.declared.acl.AclPart.{AclPart}
 use Rattle.sd_view.specs.declared.acl.AclPart.TheVariants as acl
@@ -24,7 +24,7 @@ use Rattle.sd_sid.proofs.laws.SidLaws.{length-sid_bytes}
 use Rattle.sd_view.specs.Layout.{acl_part_size, sid_part_size}
 use Rattle.sd_view.proofs.laws.AclLayoutSizes.{length-acl_bytes}
 use Rattle.sd_layout.proofs.laws.AclLayoutLaws.{acl_bytes-shows}
-use Rattle.sd_control.proofs.laws.ControlLaws.{control-bits}
+use Rattle.sd_parts.proofs.laws.ControlLaws.{control-bits}
 use Rattle.sd_builder.proofs.Building.{closed-from}
 use Rattle.sd_view.proofs.laws.LayoutSizes.{acl_size-read}
 use Rattle.sd_layout.proofs.laws.LayoutLaws.{header-control, header-dacl, header-group, header-owner, header-revision}

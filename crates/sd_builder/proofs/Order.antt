@@ -10,11 +10,11 @@ use Rattle.sd_sid.specs.Sid.{SecurityId}
 use Rattle.sd_view.specs.Layout.{acl_part, sid_part}
 use Rattle.sd_view.specs.declared.acl.AclPart.{AclPart}
 use Rattle.sd_view.specs.declared.acl.AclPart.TheVariants as acl
-use Rattle.sd_control.specs.declared.part.Which.{Which}
-use Rattle.sd_control.specs.Parts.{get_part, same_part}
-use Rattle.sd_control.proofs.laws.PartLaws.{each-part, get-other, get-set, same-self, same-sym}
-use Rattle.sd_control.specs.declared.part.Part.{Part}
-use Rattle.sd_control.specs.declared.part.Part.TheVariants as part
+use Rattle.sd_parts.specs.declared.part.Which.{Which}
+use Rattle.sd_parts.specs.Parts.{get_part, same_part}
+use Rattle.sd_parts.proofs.laws.PartLaws.{each-part, get-other, get-set, same-self, same-sym}
+use Rattle.sd_parts.specs.declared.part.Part.{Part}
+use Rattle.sd_parts.specs.declared.part.Part.TheVariants as part
 use Rattle.sd_builder.specs.Draft.{Draft, DraftParts, bytes_in_order, offset_among, offset_of, part_bytes}
 use Rattle.sd_builder.specs.Inner.Building.{Given, StandsInOrder, given, given_acl, given_bytes, given_sid, null}
 use Rattle.sd_builder.specs.Inner.Building.{placed}

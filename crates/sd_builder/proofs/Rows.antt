@@ -10,19 +10,19 @@ use Rattle.sd_kinds.specs.Kinds.{kind_code, kind_entry, kind_of}
 use Rattle.sd_sid.specs.Sid.{SecurityId, sid_at, sid_bytes}
 use Rattle.sd_buffer.specs.declared.buffer.TextFault.{TextFault}
 use Rattle.sd_buffer.specs.declared.buffer.TextFault.TheVariants.{Base64, HexDigit, HexOdd}
-use Rattle.sd_control.specs.declared.part.Part.TheVariants.{Owner, Group, Sacl, Dacl}
+use Rattle.sd_parts.specs.declared.part.Part.TheVariants.{Owner, Group, Sacl, Dacl}
 use Rattle.sd_view.specs.declared.fault.SdFault.TheVariants as faults
 use Rattle.sd_view.specs.Bytes.{u16_at, u32_at}
-use Rattle.sd_control.specs.Control.{acl_flags, flag_bits}
-use Rattle.sd_control.specs.declared.part.Which.{Which}
-use Rattle.sd_control.specs.declared.part.Which.TheVariants as which
-use Rattle.sd_control.specs.declared.control.AclFlags.{AclFlags}
-use Rattle.sd_control.specs.declared.control.ControlBit.{ControlBit}
-use Rattle.sd_control.specs.declared.control.TheConstants.{CONTROL_BITS}
+use Rattle.sd_parts.specs.Control.{acl_flags, flag_bits}
+use Rattle.sd_parts.specs.declared.part.Which.{Which}
+use Rattle.sd_parts.specs.declared.part.Which.TheVariants as which
+use Rattle.sd_parts.specs.declared.control.AclFlags.{AclFlags}
+use Rattle.sd_parts.specs.declared.control.ControlBit.{ControlBit}
+use Rattle.sd_parts.specs.declared.control.TheConstants.{CONTROL_BITS}
 use Rattle.sd_builder.specs.Draft.{CanBegin, Draft, begun, built, built_bytes, closed, ended, is_present}
 use Rattle.sd_builder.specs.Draft.{no_parts, nothing_given, open_size, with_ace, with_acl, with_group, with_owner}
 use Rattle.sd_view.specs.Descriptor.{Descriptor}
-use Rattle.sd_control.specs.Header.{header_bytes}
+use Rattle.sd_parts.specs.Header.{header_bytes}
 use Rattle.sd_view.specs.Layout.{layout, size}
 use Rattle.sd_view.specs.Ace.{announces_inherited, announces_object}
 use Rattle.sd_view.specs.AclReading.{ace_fault, aces_fault, aces_of, acl_fault, guid_if, inherited_in, kind_in}

@@ -19,10 +19,10 @@ use Rattle.sd_builder.specs.Draft.{DraftParts}
 use Rattle.sd_view.specs.declared.acl.AclPart.{AclPart}
 use Rattle.sd_view.specs.declared.acl.AclPart.TheVariants as acl
 use Rattle.sd_builder.specs.declared.builder.Builder.{Builder}
-use Rattle.sd_control.specs.Parts.{get_part, same_part}
-use Rattle.sd_control.specs.declared.part.Part.{Part}
-use Rattle.sd_control.specs.declared.part.Part.TheVariants as part
-use Rattle.sd_control.proofs.laws.PartLaws.{each-part, get-other, get-set}
+use Rattle.sd_parts.specs.Parts.{get_part, same_part}
+use Rattle.sd_parts.specs.declared.part.Part.{Part}
+use Rattle.sd_parts.specs.declared.part.Part.TheVariants as part
+use Rattle.sd_parts.proofs.laws.PartLaws.{each-part, get-other, get-set}
 use Rattle.sd_view.proofs.laws.ApartLaws.{apart-with}
 use Rattle.sd_view.proofs.laws.AclLayoutSizes.{length-acl_bytes}
 

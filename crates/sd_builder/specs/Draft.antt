@@ -5,19 +5,19 @@ use Rattle.std.specs.List.{flat_map}
 use Rattle.sd_ace.specs.Ace.{AccessControlEntry}
 use Rattle.sd_sid.specs.Sid.{SecurityId}
 use Rattle.sd_view.specs.Acl.{acl_size}
-use Rattle.sd_control.specs.Control.{control_of}
+use Rattle.sd_parts.specs.Control.{control_of}
 use Rattle.sd_view.specs.Descriptor.{Descriptor}
-use Rattle.sd_control.specs.Header.{header_bytes}
+use Rattle.sd_parts.specs.Header.{header_bytes}
 use Rattle.sd_view.specs.Layout.{acl_part, sid_part}
 use Rattle.sd_view.specs.declared.acl.AclPart.{AclPart}
 use Rattle.sd_view.specs.declared.acl.AclPart.TheVariants as acl
-use Rattle.sd_control.specs.Parts.{part_of, same_part}
-use Rattle.sd_control.specs.declared.part.Part.{Part}
-use Rattle.sd_control.specs.declared.part.Part.TheVariants as part
-use Rattle.sd_control.specs.declared.part.SidPart.{SidPart}
-use Rattle.sd_control.specs.declared.part.SidPart.TheVariants as sids
-use Rattle.sd_control.specs.declared.part.Which.{Which}
-use Rattle.sd_control.specs.declared.part.Which.TheVariants as which
+use Rattle.sd_parts.specs.Parts.{part_of, same_part}
+use Rattle.sd_parts.specs.declared.part.Part.{Part}
+use Rattle.sd_parts.specs.declared.part.Part.TheVariants as part
+use Rattle.sd_parts.specs.declared.part.SidPart.{SidPart}
+use Rattle.sd_parts.specs.declared.part.SidPart.TheVariants as sids
+use Rattle.sd_parts.specs.declared.part.Which.{Which}
+use Rattle.sd_parts.specs.declared.part.Which.TheVariants as which
 
 -- 1. The parts.
 

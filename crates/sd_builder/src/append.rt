@@ -7,12 +7,12 @@ ghost use Rattle.sd_ace.specs.Ace.{ace_size};
 ghost use Rattle.sd_sid.specs.Sid.{IsSid, sid_bytes, sid_size};
 ghost use Rattle.sd_kinds.specs.Kinds.{is_object};
 ghost use Rattle.sd_ace.specs.AceLayout.{ace_bytes, ace_front, guid_part, guids};
-ghost use Rattle.sd_control.specs.declared.limits.TheConstants.{CAPACITY, MOST_SID_SIZE};
+ghost use Rattle.sd_parts.specs.declared.limits.TheConstants.{CAPACITY, MOST_SID_SIZE};
 
 use byteorder::{BigEndian, ByteOrder, LittleEndian};
 use sd_ace::{AceFront, AceParts, guid_bytes};
 use sd_buffer::SdBuf;
-use sd_control::SID_HEADER_SIZE;
+use sd_parts::SID_HEADER_SIZE;
 use sd_sid::Sid;
 use uuid::Uuid;
 

@@ -14,10 +14,10 @@ use crate::append::{append_ace, append_sid_at};
 use crate::changed::{ChangedAce, append_changed};
 use sd_ace::{Ace, AceParts};
 use sd_buffer::SdBuf;
-use sd_control::{
+use sd_layout::acl_header;
+use sd_parts::{
     ACL_HEADER_SIZE, HEADER_SIZE, MOST_ACL_SIZE, Part, Parts, Which, control_of, header,
 };
-use sd_layout::acl_header;
 use sd_sid::Sid;
 
 /// The ACL would pass 65,535 bytes.

@@ -4,7 +4,7 @@ ghost use Rattle.std.specs.Prelude.{◌≡◌, ◌≤◌, ◌+◌, ◌/◌, ◌%
 ghost use Rattle.std.specs.Option.{option_copied};
 ghost use Rattle.sd_ace.specs.Ace.{IsAce, ace_size};
 ghost use Rattle.sd_ace.specs.AceLayout.{ace_bytes, ace_front};
-ghost use Rattle.sd_control.specs.declared.limits.TheConstants.{CAPACITY};
+ghost use Rattle.sd_parts.specs.declared.limits.TheConstants.{CAPACITY};
 
 use crate::append::append_ace;
 use sd_ace::{Ace, AceFront, object_flags};

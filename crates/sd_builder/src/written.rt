@@ -27,7 +27,7 @@ struct BufSink<'a> {
 
 impl<'a> Sink for BufSink<'a> {
     ghost use Rattle.std.specs.Prelude.{Some, ◌-◌, length};
-    ghost use Rattle.sd_control.specs.declared.limits.TheConstants.{CAPACITY};
+    ghost use Rattle.sd_parts.specs.declared.limits.TheConstants.{CAPACITY};
 
     ghost told = { λ s. record { identity = s.buf.ghost_name; contents = Some s.buf.now; failures = s.failures; room = CAPACITY - length s.buf.now } };
 

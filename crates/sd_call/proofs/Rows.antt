@@ -3,7 +3,7 @@ use Rattle.std.proofs.Common.{◌≡◌, ℕ, List, [], ◌∷◌, length, take,
 use Rattle.sd_text.specs.Chains.{fault_as}
 use Rattle.sd_answer.specs.declared.fault.LineFault.TheVariants as line
 use Rattle.sd_check.specs.declared.ask.AskFault.TheVariants as ask
-use Rattle.sd_control.specs.declared.part.Part.TheVariants as part
+use Rattle.sd_parts.specs.declared.part.Part.TheVariants as part
 use Rattle.sd_sid.specs.Sid.{sid_at}
 use Rattle.sd_view.specs.Reading.{reading}
 use Rattle.sd_view.specs.declared.fault.SdFault.TheVariants as sd

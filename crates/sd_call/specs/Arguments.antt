@@ -1,7 +1,7 @@
 -- Arguments as the values that they spell.
 use Rattle.std.specs.Prelude.{ℕ, List, if◌then◌else◌, nat_eq, nat_lt, length, Option, Some, None, Result, Ok, Err}
 use Rattle.sd_text.specs.Chains.{fault_as}
-use Rattle.sd_control.specs.declared.limits.TheConstants.{CAPACITY}
+use Rattle.sd_parts.specs.declared.limits.TheConstants.{CAPACITY}
 use Rattle.sd_rights.specs.Mapping.{GenericMapping, directory_mapping, file_mapping, key_mapping}
 use Rattle.sd_sid.specs.Sid.{SecurityId, sid_at}
 use Rattle.sd_view.specs.Descriptor.{Descriptor}

@@ -4,8 +4,8 @@ use Rattle.std.specs.Borrow.{Bor}
 use Rattle.sd_sid.specs.Sid.{sid_at}
 use Rattle.sd_kinds.specs.Kinds.{kind_code, kind_entry, kind_of}
 use Rattle.sd_kinds.specs.declared.kinds.AceKind.TheVariants as kinds
-use Rattle.sd_control.specs.Header.{header_bytes}
-use Rattle.sd_control.specs.declared.part.Which.TheVariants.{Dacl, Sacl}
+use Rattle.sd_parts.specs.Header.{header_bytes}
+use Rattle.sd_parts.specs.declared.part.Which.TheVariants.{Dacl, Sacl}
 use Rattle.sd_view.specs.Descriptor.{Descriptor}
 use Rattle.sd_view.specs.Layout.{acl_part_size}
 use Rattle.sd_view.specs.declared.acl.AclPart.TheVariants as acl

@@ -9,10 +9,10 @@ use Rattle.sd_kinds.specs.Kinds.{is_object, kind_of}
 use Rattle.sd_kinds.specs.declared.kinds.AceKind.{AceKind}
 use Rattle.sd_kinds.specs.declared.kinds.AceKind.TheVariants as kinds
 use Rattle.sd_sid.specs.Sid.{SecurityId, sid_at}
-use Rattle.sd_control.specs.Control.{control_of}
-use Rattle.sd_control.specs.declared.part.Parts.{Parts}
-use Rattle.sd_control.specs.declared.part.Which.{Which}
-use Rattle.sd_control.specs.declared.part.Which.TheVariants as which
+use Rattle.sd_parts.specs.Control.{control_of}
+use Rattle.sd_parts.specs.declared.part.Parts.{Parts}
+use Rattle.sd_parts.specs.declared.part.Which.{Which}
+use Rattle.sd_parts.specs.declared.part.Which.TheVariants as which
 use Rattle.sd_view.specs.Descriptor.{Descriptor}
 use Rattle.sd_view.specs.Layout.{acl_part_size, sid_part_size}
 use Rattle.sd_view.specs.declared.acl.AclPart.{AclPart}

@@ -13,7 +13,7 @@ use crate::reading::{first_wrong, is_wrong_sid};
 use crate::sizes::part_sizes;
 use sd_answer::LineFault;
 use sd_call::{Argument, CallFault, Front, Outcome, done, failed, too_small};
-use sd_control::{HEADER_SIZE, Parts};
+use sd_parts::{HEADER_SIZE, Parts};
 use sd_sddl_builder::SddlFault;
 
 /// Gives the layout of a new descriptor.

@@ -15,8 +15,8 @@ use crate::new::{LIST, NewAce, NewAcl, NewDescriptor};
 use crate::printing::{print_aces, print_sid};
 use crate::reading::whole_sid;
 use crate::sizes::has_object;
-use sd_control::{HEADER_SIZE, Parts, control_of, header};
 use sd_layout::acl_header;
+use sd_parts::{HEADER_SIZE, Parts, control_of, header};
 use sd_sink::{Print, Printer, Sink, SinkFault};
 
 /// Puts the layout of a new descriptor whose parts have these sizes.

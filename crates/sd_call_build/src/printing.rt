@@ -12,7 +12,7 @@ use crate::new::NewAce;
 use crate::reading::shown_ace;
 use sd_ace::{Ace, AceFront, guid_bytes};
 use sd_call_sids::write_sid;
-use sd_control::MOST_SID_SIZE;
+use sd_parts::MOST_SID_SIZE;
 use sd_sid::Sid;
 use sd_sink::Print;
 use uuid::Uuid;

@@ -9,7 +9,7 @@ ghost use Rattle.sd_call_build.specs.New.{part_sizes, shown_ace, whole_sid};
 
 use crate::new::{LIST, NewAce, NewAcl, NewDescriptor};
 use crate::reading::{ace_in, shown_ace, whole_sid};
-use sd_control::{ACL_HEADER_SIZE, MOST_ACL_SIZE, Parts, Which};
+use sd_parts::{ACL_HEADER_SIZE, MOST_ACL_SIZE, Parts, Which};
 
 /// The size of an ACL of these ACEs. None where it would pass 65,535 bytes.
 pub fn acl_size(aces: &[NewAce<'_>]) -> Option<usize>

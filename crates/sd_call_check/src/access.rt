@@ -8,7 +8,7 @@ use crate::request::Request;
 use crate::verdict::{VerdictOutcome, told, untold};
 use sd_call::{CallFault, descriptor_in};
 use sd_check::{Ask, Verdict, check};
-use sd_sink::NoMemory;
+use sd_memory::NoMemory;
 use sd_token::Token;
 use std::alloc::Global;
 

@@ -3,7 +3,7 @@ use Rattle.std.proofs.Common.{◌≡◌, ℕ, List, [], ◌∷◌, ◌++◌, len
 use Rattle.std.specs.Fmt.{digits}
 use Rattle.sd_sid.specs.Sid.{sid_at}
 use Rattle.sd_sid.specs.SidText.{alias_of}
-use Rattle.sd_control.specs.Header.{header_bytes}
+use Rattle.sd_parts.specs.Header.{header_bytes}
 use Rattle.sd_view.specs.Bytes.{u16_at, u32_at}
 use Rattle.sd_view.specs.Reading.{acl_part_fault, acl_shown, fault, header_fault, overlap_fault, overlaps_fault}
 use Rattle.sd_view.specs.Reading.{parts_fault, reading, sid_fault, sid_shown}

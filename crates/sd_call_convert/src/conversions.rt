@@ -14,9 +14,9 @@ use sd_call::{
     CallFault, Front, Outcome, descriptor_in, domain_in, done, failed, give, no_memory, too_small,
 };
 use sd_layout::put_layout;
+use sd_memory::NoMemory;
 use sd_sddl_reader::read_sddl;
 use sd_sid::Sid;
-use sd_sink::NoMemory;
 use sd_text::MOST_SDDL_TEXT;
 use sd_view::{SdView, view_written};
 use std::alloc::Global;

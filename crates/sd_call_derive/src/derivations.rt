@@ -10,7 +10,7 @@ use sd_call::{
     Argument, CallFault, Outcome, descriptor_in, failed, give, mapping_in, no_memory, sid_in,
 };
 use sd_inherit::{Plan, Target, derive};
-use sd_sink::NoMemory;
+use sd_memory::NoMemory;
 use sd_view::SdView;
 use std::alloc::Global;
 

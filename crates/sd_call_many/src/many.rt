@@ -8,7 +8,7 @@ use crate::bytes::Bytes;
 use sd_call::{Outcome, done, failed, no_memory, too_small};
 use sd_call_check::{Request, VerdictOutcome, asker_in, check_asker, told, verdict_on};
 use sd_check::Ask;
-use sd_sink::NoMemory;
+use sd_memory::NoMemory;
 use sd_token::Token;
 use std::alloc::Global;
 

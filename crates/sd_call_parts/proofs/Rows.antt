@@ -2,7 +2,7 @@
 use Rattle.std.proofs.Common.{◌≡◌, [], ◌∷◌, ◌++◌, true, false, Some, None, Ok, Err, refl}
 use Rattle.std.specs.Prelude.{List, ℕ}
 use Rattle.sd_ace.specs.Ace.{AccessControlEntry}
-use Rattle.sd_control.specs.declared.part.Part.TheVariants as part
+use Rattle.sd_parts.specs.declared.part.Part.TheVariants as part
 use Rattle.sd_kinds.specs.declared.kinds.AceKind.TheVariants as kinds
 use Rattle.sd_sid.specs.Sid.{sid_at}
 use Rattle.sd_kinds.specs.Kinds.{kind_code, kind_entry, kind_of}

@@ -1,6 +1,6 @@
 -- What is found in a descriptor (MS-DTYP 2.4.6): its header, and where its parts lie.
 use Rattle.std.specs.Prelude.{ℕ, ◌-◌, List, length, Some, None, Result, Ok, Err}
-use Rattle.sd_control.specs.declared.part.Parts.{Parts}
+use Rattle.sd_parts.specs.declared.part.Parts.{Parts}
 use Rattle.sd_call.specs.Arguments.{descriptor_in}
 use Rattle.sd_call.specs.Outcomes.{named_parts, number, part_number}
 use Rattle.sd_call.specs.declared.outcome.CallFault.{CallFault}

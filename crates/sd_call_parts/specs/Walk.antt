@@ -5,7 +5,7 @@ use Rattle.sd_text.specs.Chains.{unless}
 use Rattle.sd_ace.specs.Ace.{AccessControlEntry, guid_size, sid_offset}
 use Rattle.sd_kinds.specs.Kinds.{kind_code}
 use Rattle.sd_sid.specs.Sid.{sid_size}
-use Rattle.sd_control.specs.declared.part.Part.TheVariants as part
+use Rattle.sd_parts.specs.declared.part.Part.TheVariants as part
 use Rattle.sd_view.specs.AclReading.{ace_fault, ace_of, acl_at_front}
 use Rattle.sd_view.specs.Bytes.{u16_at}
 use Rattle.sd_view.specs.Reading.{fault_in}

@@ -7,7 +7,7 @@ ghost use Rattle.sd_call_parts.specs.Contents.{refused};
 use crate::place::{Place, nowhere};
 use sd_answer::LineFault;
 use sd_call::{CallFault, failed};
-use sd_control::{CAPACITY, Parts};
+use sd_parts::{CAPACITY, Parts};
 use sd_view::{AclPart, Extent, SdView, read_extents};
 
 /// Where an ACL of a descriptor lies: `struct sdtool_acl_place` of the header.

@@ -8,7 +8,7 @@ ghost use Rattle.sd_call_parts.specs.Walk.{behind, begins_with_header, front_fou
 use crate::ace::{AceFound, found};
 use crate::place::Place;
 use byteorder::{ByteOrder, LittleEndian};
-use sd_control::{ACL_HEADER_SIZE, ACL_REVISION, ACL_REVISION_DS};
+use sd_parts::{ACL_HEADER_SIZE, ACL_REVISION, ACL_REVISION_DS};
 use sd_view::{Part, SdFault, front_ace};
 
 /// What comes next in an ACL. A fault is told as one of a DACL, since an ACL by itself is in no part.

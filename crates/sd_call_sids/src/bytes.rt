@@ -7,7 +7,7 @@ ghost use Rattle.sd_sid.specs.Sid.{sid_bytes, sid_size};
 
 use byteorder::{BigEndian, ByteOrder, LittleEndian};
 use sd_call::{Outcome, give};
-use sd_control::{MOST_SID_SIZE, SID_HEADER_SIZE};
+use sd_parts::{MOST_SID_SIZE, SID_HEADER_SIZE};
 use sd_sid::Sid;
 
 /// Gives the bytes of a SID.

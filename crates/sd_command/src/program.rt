@@ -15,8 +15,8 @@ use crate::settings::{UsageFault, choose};
 use clap::ArgMatches;
 use sd_buffer::{SdBuf, TextBuf};
 use sd_command_line::{NO_MEMORY_LINE, Refusal, USAGE_LINE, parse_words};
+use sd_memory::NoMemory;
 use sd_run::{Drain, Engine, RunFault, Source, run, write_whole};
-use sd_sink::NoMemory;
 use sd_token::Token;
 use std::alloc::Global;
 

@@ -19,8 +19,8 @@ use Rattle.sd_text.specs.Bits.{has_bit}
 use Rattle.sd_view.specs.Descriptor.{Descriptor}
 use Rattle.sd_view.specs.declared.acl.AclPart.{AclPart}
 use Rattle.sd_view.specs.declared.acl.AclPart.TheVariants as acl
-use Rattle.sd_control.specs.declared.control.ControlBit.{ControlBit}
-use Rattle.sd_control.specs.declared.control.TheConstants.{CONTROL_BITS}
+use Rattle.sd_parts.specs.declared.control.ControlBit.{ControlBit}
+use Rattle.sd_parts.specs.declared.control.TheConstants.{CONTROL_BITS}
 
 -- ---- the header (MS-DTYP 2.4.6)
 

@@ -2,10 +2,10 @@
 ghost use Rattle.std.specs.Prelude.{◌<◌};
 ghost use Rattle.std.specs.List.{flat_map};
 ghost use Rattle.sd_sink.specs.Print.{Prints};
-ghost use Rattle.sd_control.specs.declared.control.TheConstants.{CONTROL_BITS};
+ghost use Rattle.sd_parts.specs.declared.control.TheConstants.{CONTROL_BITS};
 ghost use Rattle.sd_explain.specs.Explain.{code_if, control_line, rm_line};
 
-use sd_control::{CONTROL_BITS, ControlBit};
+use sd_parts::{CONTROL_BITS, ControlBit};
 use sd_sink::Print;
 use sd_text::print_hex;
 

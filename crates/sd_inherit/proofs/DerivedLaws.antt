@@ -11,7 +11,7 @@ use Rattle.sd_builder.specs.Draft.{CanBegin, Draft, DraftParts, built, is_presen
 use Rattle.sd_builder.specs.Draft.{with_owner}
 use Rattle.sd_view.specs.declared.acl.AclPart.{AclPart}
 use Rattle.sd_view.specs.declared.acl.AclPart.TheVariants as acl
-use Rattle.sd_control.specs.declared.part.Which.TheVariants.{Sacl, Dacl}
+use Rattle.sd_parts.specs.declared.part.Which.TheVariants.{Sacl, Dacl}
 use Rattle.sd_inherit.specs.Inner.Building.{aces_in, bits_beside, given, gives, is_null, source_acl, with_part}
 use Rattle.sd_inherit.specs.Copies.{copies}
 use Rattle.sd_inherit.specs.Derived.{dacl_beside, derive_fault, derived, inherited, is_list, is_too_large, new_aces}

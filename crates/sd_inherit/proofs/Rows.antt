@@ -14,7 +14,7 @@ use Rattle.sd_inherit.specs.Copies.{copies}
 use Rattle.sd_inherit.specs.Derived.{derive_fault, derived}
 use Rattle.sd_inherit.specs.PlanLimits.{IsPlan}
 use Rattle.sd_inherit.specs.Taken.{taken}
-use Rattle.sd_control.specs.declared.part.Which.TheVariants.{Dacl, Sacl}
+use Rattle.sd_parts.specs.declared.part.Which.TheVariants.{Dacl, Sacl}
 use Rattle.sd_inherit.specs.declared.derivation.DeriveFault.TheVariants.{DerivedTooLarge}
 use Rattle.sd_inherit.specs.declared.plan.Plan.{Plan}
 use Rattle.sd_inherit.specs.declared.plan.Target.{Target}

@@ -14,7 +14,7 @@ use crate::inherited::AclSources;
 use crate::plan::Plan;
 use sd_buffer::SdBuf;
 use sd_builder::Builder;
-use sd_control::{AclFlags, Which};
+use sd_parts::{AclFlags, Which};
 use sd_view::{AclPart, SdView};
 
 /// Why nothing is derived.

@@ -5,7 +5,7 @@ ghost use Rattle.sd_view.specs.Acl.{aces_size, acl_size};
 ghost use Rattle.sd_builder.specs.Builds.{Builds};
 ghost use Rattle.sd_builder.specs.Draft.{CanBegin, Draft, is_present, open_size};
 ghost use Rattle.sd_view.specs.declared.acl.AclPart.TheVariants as acl;
-ghost use Rattle.sd_control.specs.declared.part.Which.TheVariants as which;
+ghost use Rattle.sd_parts.specs.declared.part.Which.TheVariants as which;
 ghost use Rattle.sd_inherit.specs.Inner.Building.{HasOpen, all_given, gathered_from, given, gives, listed};
 ghost use Rattle.sd_inherit.specs.Inner.Building.{one_or_none, source_acl, with_aces, with_part};
 ghost use Rattle.sd_inherit.specs.Copies.{copies};
@@ -17,8 +17,8 @@ use crate::plan::Plan;
 use crate::taken::taken_of;
 use sd_buffer::SdBuf;
 use sd_builder::{AclTooLarge, Builder, ChangedAce};
-use sd_control::Which;
 use sd_kinds::{CONTAINER_INHERIT, OBJECT_INHERIT, has_flag};
+use sd_parts::Which;
 use sd_view::{AceView, Aces, AclPart};
 
 /// Whose ACEs are gathered.

@@ -8,7 +8,7 @@ ghost use Rattle.sd_ace.specs.AceLayout.{ace_bytes};
 ghost use Rattle.sd_view.specs.AclLayout.{acl_bytes, acl_header as header_bytes, revision_if};
 
 use sd_ace::AceFront;
-use sd_control::{ACL_REVISION, ACL_REVISION_DS};
+use sd_parts::{ACL_REVISION, ACL_REVISION_DS};
 use sd_sink::Print;
 use sd_view::{AceView, AclView};
 

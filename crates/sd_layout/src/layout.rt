@@ -4,11 +4,11 @@ ghost use Rattle.std.specs.Prelude.{◌≡◌, ◌≤◌, ◌<◌, ◌+◌, ℕ,
 ghost use Rattle.sd_sink.specs.Print.{Prints};
 ghost use Rattle.sd_sink.specs.Sink.{Puts};
 ghost use Rattle.sd_view.specs.Descriptor.{IsDescriptor, Shows};
-ghost use Rattle.sd_control.specs.Limits.{AreLimits};
+ghost use Rattle.sd_parts.specs.Limits.{AreLimits};
 ghost use Rattle.sd_view.specs.Layout.{acl_part, acl_part_size, descriptor_header, layout, offset_if, size};
 
 use crate::acl_layout::print_acl;
-use sd_control::{HEADER_SIZE, Parts, header};
+use sd_parts::{HEADER_SIZE, Parts, header};
 use sd_sink::{Print, Printer, Sink, SinkFault};
 use sd_view::{AclPart, SdView};
 

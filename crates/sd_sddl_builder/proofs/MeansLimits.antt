@@ -22,8 +22,8 @@ use Rattle.sd_view.specs.Descriptor.{Descriptor, IsAclPart, IsDescriptor}
 use Rattle.sd_builder.specs.Draft.{DraftParts, closed, closed_in, is_present, more_in, with_acl}
 use Rattle.sd_view.specs.declared.acl.AclPart.{AclPart}
 use Rattle.sd_view.specs.declared.acl.AclPart.TheVariants as acl
-use Rattle.sd_control.specs.declared.part.Which.{Which}
-use Rattle.sd_control.specs.declared.part.Which.TheVariants as which
+use Rattle.sd_parts.specs.declared.part.Which.{Which}
+use Rattle.sd_parts.specs.declared.part.Which.TheVariants as which
 use Rattle.sd_sddl_builder.specs.FoldedReading.{Field, FieldsRead, ace_of_fields, begun_or_null, described, fault_of}
 use Rattle.sd_sddl_builder.specs.FoldedReading.{fields_of, finished, folded, large_in, no_fields, nothing_read}
 use Rattle.sd_sddl_builder.specs.FoldedReading.{read_fields, reads_as, take_ace_field, take_field, take_front}
@@ -34,18 +34,18 @@ use Rattle.sd_text.specs.Chains.{and_then}
 use Rattle.sd_sddl_builder.specs.Meaning.{is_unreadable, means, unless_large}
 use Rattle.sd_sddl_fields.specs.FieldTexts.{front_reads, kind_reads, object_reads}
 use Rattle.sd_sddl_builder.specs.FieldReading.{AreAceFields}
-use Rattle.sd_control.specs.declared.control.AclFlags.{AclFlags}
+use Rattle.sd_parts.specs.declared.control.AclFlags.{AclFlags}
 use Rattle.sd_sddl_builder.specs.declared.fault.SddlFault.{SddlFault}
 use Rattle.sd_sddl_builder.specs.declared.fault.SddlFault.TheVariants as fault
 use Rattle.sd_sddl_builder.specs.declared.slot.AceField.{AceField}
 use Rattle.sd_sddl_builder.specs.declared.slot.AceField.TheVariants as field
-use Rattle.sd_control.specs.declared.part.SidPart.{SidPart}
-use Rattle.sd_control.specs.declared.part.SidPart.TheVariants as sid_part
+use Rattle.sd_parts.specs.declared.part.SidPart.{SidPart}
+use Rattle.sd_parts.specs.declared.part.SidPart.TheVariants as sid_part
 use Rattle.sd_sddl_builder.specs.declared.slot.Slot.{Slot}
 use Rattle.sd_sddl_builder.specs.declared.slot.Slot.TheVariants as slot
 use Rattle.sd_sddl_builder.specs.declared.reading.AceFields.{AceFields}
 use Rattle.sd_sddl_fields.specs.declared.field_texts.AclFront.{AclFront}
-use Rattle.sd_control.proofs.laws.ControlLaws.{control-bits}
+use Rattle.sd_parts.proofs.laws.ControlLaws.{control-bits}
 use Rattle.sd_sddl_builder.proofs.laws.ControlFlags.{flags-small}
 use Rattle.sd_sddl_builder.proofs.laws.FoldedMeaning.{folded-means}
 use Rattle.sd_sddl_builder.proofs.FieldLaws.{sound-flags, sound-inherited, sound-kind, sound-mask, sound-object}

@@ -12,7 +12,7 @@ use Rattle.sd_sddl_builder.specs.FoldedReading.{FieldsRead, ace_of_fields, large
 use Rattle.sd_sddl_builder.specs.FieldReading.{BuildsParts, HasReadFields}
 use Rattle.sd_sddl_builder.specs.declared.reading.FieldReader.{FieldReader}
 use Rattle.sd_builder.specs.declared.builder.Builder.{Builder}
-use Rattle.sd_control.specs.declared.part.Which.{Which}
+use Rattle.sd_parts.specs.declared.part.Which.{Which}
 
 -- the ACL that is open is the same one, where one is
 is_open_with : (x y : Option (Which × List AccessControlEntry)) → option_map (λ o. o.0) x ≡ option_map (λ o. o.0) y

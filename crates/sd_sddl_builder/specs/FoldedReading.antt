@@ -17,10 +17,10 @@ use Rattle.sd_view.specs.Acl.{acl_size}
 use Rattle.sd_view.specs.Descriptor.{Descriptor}
 use Rattle.sd_builder.specs.Draft.{DraftParts, begun, built, closed, no_parts, with_ace, with_acl}
 use Rattle.sd_view.specs.declared.acl.AclPart.TheVariants as acl
-use Rattle.sd_control.specs.declared.part.Which.{Which}
-use Rattle.sd_control.specs.declared.part.Which.TheVariants as which
-use Rattle.sd_control.specs.Control.{no_flags}
-use Rattle.sd_control.specs.declared.control.AclFlags.{AclFlags}
+use Rattle.sd_parts.specs.declared.part.Which.{Which}
+use Rattle.sd_parts.specs.declared.part.Which.TheVariants as which
+use Rattle.sd_parts.specs.Control.{no_flags}
+use Rattle.sd_parts.specs.declared.control.AclFlags.{AclFlags}
 use Rattle.std.specs.Option.{option_or}
 use Rattle.sd_sddl_fields.specs.FieldTexts.{front_reads, kind_reads, object_reads}
 use Rattle.sd_sddl_builder.specs.Line.{Piece, Section, aces, cut_at_semicolons, front, has_aces, has_twice, is_shaped}
@@ -33,8 +33,8 @@ use Rattle.sd_sddl_builder.specs.declared.slot.AceField.{AceField}
 use Rattle.sd_sddl_builder.specs.declared.slot.AceField.TheVariants as field
 use Rattle.sd_sddl_builder.specs.declared.slot.Head.{Head}
 use Rattle.sd_sddl_builder.specs.declared.slot.Head.TheVariants as head
-use Rattle.sd_control.specs.declared.part.SidPart.{SidPart}
-use Rattle.sd_control.specs.declared.part.SidPart.TheVariants as sid_part
+use Rattle.sd_parts.specs.declared.part.SidPart.{SidPart}
+use Rattle.sd_parts.specs.declared.part.SidPart.TheVariants as sid_part
 use Rattle.sd_sddl_builder.specs.declared.slot.Slot.{Slot}
 use Rattle.sd_sddl_builder.specs.declared.slot.Slot.TheVariants as slot
 use Rattle.sd_sddl_builder.specs.declared.reading.AceFields.{AceFields}

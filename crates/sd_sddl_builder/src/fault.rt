@@ -1,6 +1,6 @@
 //! Why a line is no descriptor.
 
-use sd_control::Which;
+use sd_parts::Which;
 use sd_sid::SidFault;
 
 /// Why a line is no descriptor: the first condition that holds. 20 and 21 are looked at first; then 22 to 29, field by

@@ -14,8 +14,8 @@ use crate::slot::{AceField, Slot};
 use sd_ace::AceParts;
 use sd_buffer::SdBuf;
 use sd_builder::Builder;
-use sd_control::{AclFlags, SidPart, Which};
 use sd_kinds::{AceKind, flags_from_text};
+use sd_parts::{AclFlags, SidPart, Which};
 use sd_rights::rights_from_text;
 use sd_sddl_fields::{
     NO_FLAGS, after, behind, front_flags, front_from_text, front_kind, front_objects, front_rights,

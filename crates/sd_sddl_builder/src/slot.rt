@@ -3,7 +3,7 @@
 ghost use Rattle.std.specs.Prelude.{◌≡◌};
 ghost use Rattle.sd_sddl_builder.specs.Line.{part_of_head};
 
-use sd_control::{Part, SidPart, Which};
+use sd_parts::{Part, SidPart, Which};
 
 /// What a letter announces, with a colon after it.
 #[derive(Clone, Copy)]

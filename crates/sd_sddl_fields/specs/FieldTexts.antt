@@ -9,8 +9,8 @@ use Rattle.std.specs.Str.{byte as char, str_eq_ignore_ascii_case}
 use Rattle.sd_kinds.specs.Kinds.{is_object, kind_named}
 use Rattle.sd_ace.specs.GuidText.{guid_reads}
 use Rattle.sd_kinds.specs.declared.kinds.AceKind.{AceKind}
-use Rattle.sd_control.specs.Control.{no_flags}
-use Rattle.sd_control.specs.declared.control.AclFlags.{AclFlags}
+use Rattle.sd_parts.specs.Control.{no_flags}
+use Rattle.sd_parts.specs.declared.control.AclFlags.{AclFlags}
 use Rattle.sd_sddl_fields.specs.declared.field_texts.AclFront.{AclFront}
 
 -- a space or a tab

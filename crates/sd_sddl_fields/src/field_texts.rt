@@ -2,12 +2,12 @@
 
 ghost use Rattle.std.specs.Prelude.{◌≡◌, Some, None};
 ghost use Rattle.std.specs.Str.{str_eq_ignore_ascii_case};
-ghost use Rattle.sd_control.specs.Control.{no_flags};
+ghost use Rattle.sd_parts.specs.Control.{no_flags};
 ghost use Rattle.sd_sddl_fields.specs.FieldTexts.{ends_with_null, flags_after, front_reads, object_reads, two_letters};
 
 use sd_ace::guid_from_text;
-use sd_control::AclFlags;
 use sd_kinds::AceKind;
+use sd_parts::AclFlags;
 use uuid::Uuid;
 
 /// The text of an ACL before its ACEs: its flags, and whether it is null.

@@ -7,18 +7,18 @@ use Rattle.std.proofs.lemmas.Grind.{flat_map-append}
 use Rattle.sd_ace.specs.Ace.{AccessControlEntry}
 use Rattle.sd_sid.specs.Sid.{SecurityId}
 use Rattle.sd_view.specs.Descriptor.{Descriptor, IsDescriptor}
-use Rattle.sd_control.specs.Control.{dacl_present, sacl_present, acl_flags, bit_if, flag_bits, no_flags, control_of}
-use Rattle.sd_control.specs.Control.{present_bit}
+use Rattle.sd_parts.specs.Control.{dacl_present, sacl_present, acl_flags, bit_if, flag_bits, no_flags, control_of}
+use Rattle.sd_parts.specs.Control.{present_bit}
 use Rattle.sd_view.specs.declared.acl.AclPart.{AclPart}
 use Rattle.sd_view.specs.declared.acl.AclPart.TheVariants as acl
-use Rattle.sd_control.specs.declared.control.AclFlags.{AclFlags}
+use Rattle.sd_parts.specs.declared.control.AclFlags.{AclFlags}
 use Rattle.sd_sddl_builder.specs.declared.fault.SddlFault.{SddlFault}
 use Rattle.sd_sddl_builder.specs.declared.slot.Head.TheVariants as head
-use Rattle.sd_control.specs.declared.part.SidPart.{SidPart}
-use Rattle.sd_control.specs.declared.part.SidPart.TheVariants as sid_part
+use Rattle.sd_parts.specs.declared.part.SidPart.{SidPart}
+use Rattle.sd_parts.specs.declared.part.SidPart.TheVariants as sid_part
 use Rattle.sd_sid.specs.declared.naming.Naming.{Naming}
-use Rattle.sd_control.specs.declared.part.Which.{Which}
-use Rattle.sd_control.specs.declared.part.Which.TheVariants as which
+use Rattle.sd_parts.specs.declared.part.Which.{Which}
+use Rattle.sd_parts.specs.declared.part.Which.TheVariants as which
 use Rattle.sd_builder.specs.Draft.{is_present, no_parts}
 use Rattle.sd_sddl_builder.specs.FoldedReading.{Field, FieldsRead, described, fields_of, finished, folded, nothing_read}
 use Rattle.sd_sddl_builder.specs.FoldedReading.{read_fields, reads_as, if_shaped}

@@ -19,11 +19,11 @@ use Rattle.sd_sid.proofs.laws.TextLaws.{sid_text-reads}
 use Rattle.sd_sid.specs.declared.naming.Naming.{Naming}
 use Rattle.sd_sddl_builder.specs.declared.fault.SddlFault.TheVariants as fault
 use Rattle.sd_sddl_builder.specs.declared.slot.AceField.TheVariants as field
-use Rattle.sd_control.specs.declared.part.SidPart.{SidPart}
+use Rattle.sd_parts.specs.declared.part.SidPart.{SidPart}
 use Rattle.sd_sddl_builder.specs.declared.slot.Slot.{Slot}
 use Rattle.sd_sddl_builder.specs.declared.slot.Slot.TheVariants as slot
-use Rattle.sd_control.specs.declared.control.AclFlags.{AclFlags}
-use Rattle.sd_control.specs.declared.part.Which.{Which}
+use Rattle.sd_parts.specs.declared.control.AclFlags.{AclFlags}
+use Rattle.sd_parts.specs.declared.part.Which.{Which}
 use Rattle.sd_sddl_builder.specs.FoldedReading.{FieldsRead, begun_or_null, no_fields, take_ace_field, take_field}
 use Rattle.sd_sddl_builder.specs.FoldedReading.{take_front, take_readable, with_flags, with_owner_or_group, with_sid}
 use Rattle.sd_sddl_builder.specs.FoldedReading.{with_trustee, with_value}

@@ -4,10 +4,10 @@ use Rattle.std.proofs.Common.{append-nil, append_assoc, eqb-true}
 use Rattle.std.specs.Prelude.{◌==◌}
 use Rattle.std.specs.List.{AllByRecursion, flat_map, list_all}
 use Rattle.std.proofs.lemmas.Bool.{and_parts}
-use Rattle.sd_control.specs.declared.part.Which.TheVariants as which
+use Rattle.sd_parts.specs.declared.part.Which.TheVariants as which
 use Rattle.sd_sddl_builder.specs.declared.slot.Head.{Head}
 use Rattle.sd_sddl_builder.specs.declared.slot.Head.TheVariants as head
-use Rattle.sd_control.specs.declared.part.SidPart.TheVariants as sid_part
+use Rattle.sd_parts.specs.declared.part.SidPart.TheVariants as sid_part
 use Rattle.sd_sddl_builder.specs.Line.{Piece, LinePieces, Section, Sections, ace, begins_with_colon, byte}
 use Rattle.sd_sddl_builder.specs.Line.{has_six_fields, head_of, is_paired, sections_of, pieces_from, sections}
 use Rattle.sd_sddl_printer.proofs.PlainTexts.{IsPlain, is_plain_byte, no_mark}

@@ -3,10 +3,10 @@ use Rattle.std.proofs.Common.{◌≡◌, ℕ, Bool, true, false, ◌&&◌, List,
 use Rattle.std.proofs.Common.{◌∙◌}
 use Rattle.std.specs.List.{AllByRecursion, flat_map, list_all}
 use Rattle.std.proofs.lemmas.Bool.{and_parts}
-use Rattle.sd_control.specs.declared.part.Which.TheVariants as which
+use Rattle.sd_parts.specs.declared.part.Which.TheVariants as which
 use Rattle.sd_sddl_builder.specs.declared.slot.Head.{Head}
 use Rattle.sd_sddl_builder.specs.declared.slot.Head.TheVariants as head
-use Rattle.sd_control.specs.declared.part.SidPart.TheVariants as sid_part
+use Rattle.sd_parts.specs.declared.part.SidPart.TheVariants as sid_part
 use Rattle.sd_sddl_builder.specs.declared.slot.Slot.TheVariants as slot
 use Rattle.sd_sddl_builder.specs.FoldedReading.{Field, ace_fields, fields_in, fields_of}
 use Rattle.sd_sddl_builder.specs.Line.{Sections, ace, aces, are_aces, are_shaped, byte, front, has_aces, has_twice}

@@ -29,7 +29,7 @@ use Rattle.sd_sid.proofs.laws.TextLaws.{sid_text-bytes}
 use Rattle.sd_sid.specs.declared.naming.Naming.{Naming}
 use Rattle.sd_sddl_fields.specs.FieldTexts.{is_blank}
 use Rattle.sd_sddl_builder.specs.Meaning.{is_unreadable}
-use Rattle.sd_control.specs.declared.control.AclFlags.{AclFlags}
+use Rattle.sd_parts.specs.declared.control.AclFlags.{AclFlags}
 use Rattle.sd_sddl_printer.specs.Printed.{acl_flags_text, kind_text, object_text, text_if, trustee_text}
 
 -- 1. Plain bytes.

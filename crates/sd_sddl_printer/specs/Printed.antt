@@ -11,15 +11,15 @@ use Rattle.sd_rights.specs.Rights.{rights_text}
 use Rattle.sd_sid.specs.Sid.{SecurityId}
 use Rattle.sd_sid.specs.SidText.{sid_text}
 use Rattle.sd_kinds.specs.declared.kinds.AceKind.{AceKind}
-use Rattle.sd_control.specs.Control.{acl_flags, flag_bits, present_bit}
+use Rattle.sd_parts.specs.Control.{acl_flags, flag_bits, present_bit}
 use Rattle.sd_view.specs.Descriptor.{Descriptor}
 use Rattle.sd_sid.specs.declared.naming.Naming.{Naming}
 use Rattle.sd_view.specs.declared.acl.AclPart.{AclPart}
 use Rattle.sd_view.specs.declared.acl.AclPart.TheVariants as acl
-use Rattle.sd_control.specs.declared.part.Which.{Which}
-use Rattle.sd_control.specs.declared.part.Which.TheVariants as which
-use Rattle.sd_control.specs.declared.control.AclFlags.{AclFlags}
-use Rattle.sd_control.specs.declared.control.TheConstants.{SELF_RELATIVE}
+use Rattle.sd_parts.specs.declared.part.Which.{Which}
+use Rattle.sd_parts.specs.declared.part.Which.TheVariants as which
+use Rattle.sd_parts.specs.declared.control.AclFlags.{AclFlags}
+use Rattle.sd_parts.specs.declared.control.TheConstants.{SELF_RELATIVE}
 
 -- the alias of a SID, under a domain; its text where it has none, or where numbers are asked for
 unfoldable pub trustee_text : Naming → SecurityId → List ℕ

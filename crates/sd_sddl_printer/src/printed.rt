@@ -13,7 +13,7 @@ ghost use Rattle.sd_sid.specs.Naming.{naming_by};
 
 use crate::acl::{HEAD_SIZE, print_acl};
 use crate::trustee::print_trustee;
-use sd_control::{AclFlags, Which};
+use sd_parts::{AclFlags, Which};
 use sd_sid::{Naming, Sid};
 use sd_sid_view::SidView;
 use sd_sink::{Gather, Print, Sink, SinkFault};

@@ -4,8 +4,8 @@ use Rattle.std.proofs.Common.{true≢false}
 use Rattle.std.specs.Prelude.{if◌then◌else◌, ◌||◌, not, IfOk, Result, Ok, Err}
 use Rattle.std.proofs.lemmas.Bool.{or_left, or_right, not_from_false}
 use Rattle.sd_sid.specs.Sid.{SecurityId}
-use Rattle.sd_control.specs.Parts.{each_part, get_part}
-use Rattle.sd_control.proofs.laws.PartLaws.{same-is, same-self}
+use Rattle.sd_parts.specs.Parts.{each_part, get_part}
+use Rattle.sd_parts.proofs.laws.PartLaws.{same-is, same-self}
 use Rattle.sd_sddl_builder.specs.Line.{part_of_head, same_head}
 use Rattle.sd_sddl_builder.specs.FoldedReading.{FieldsRead, nothing_read, take_field}
 use Rattle.sd_text.specs.Chains.{and_then, unless}
@@ -22,11 +22,11 @@ use Rattle.sd_sddl_builder.specs.declared.slot.Head.{Head}
 use Rattle.sd_sddl_builder.specs.declared.slot.Head.TheVariants as head
 use Rattle.sd_sddl_reader.specs.declared.line.State.{State}
 use Rattle.sd_sddl_reader.specs.declared.line.State.TheVariants as state
-use Rattle.sd_control.specs.declared.part.SidPart.TheVariants as sid_part
+use Rattle.sd_parts.specs.declared.part.SidPart.TheVariants as sid_part
 use Rattle.sd_sddl_builder.specs.declared.slot.Slot.TheVariants as slot
 use Rattle.sd_sddl_reader.specs.declared.reader.SddlReader.{SddlReader}
-use Rattle.sd_control.specs.declared.part.Which.{Which}
-use Rattle.sd_control.specs.declared.part.Which.TheVariants as which
+use Rattle.sd_parts.specs.declared.part.Which.{Which}
+use Rattle.sd_parts.specs.declared.part.Which.TheVariants as which
 
 -- 1. Where no fault is found, none was there, and the field was read.
 pub taken : (fault : Option SddlFault) (t u : FieldsRead) (next : FieldsRead → Result FieldsRead SddlFault)

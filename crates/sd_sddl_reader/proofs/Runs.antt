@@ -10,7 +10,7 @@ use Rattle.sd_sid.specs.Sid.{SecurityId}
 use Rattle.sd_sddl_builder.specs.declared.fault.SddlFault.{SddlFault}
 use Rattle.sd_sddl_builder.specs.declared.slot.AceField.{AceField}
 use Rattle.sd_sddl_reader.specs.declared.line.State.TheVariants as state
-use Rattle.sd_control.specs.declared.part.SidPart.{SidPart}
+use Rattle.sd_parts.specs.declared.part.SidPart.{SidPart}
 use Rattle.sd_sddl_fields.specs.Held.{Held, IsHeld, broken_text, held_run, held_with, is_plain_inside, is_plain_text}
 use Rattle.sd_sddl_reader.specs.Inner.Progress.{is_plain_outside}
 use Rattle.sd_sddl_builder.specs.Line.{head_of}

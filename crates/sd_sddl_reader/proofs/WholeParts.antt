@@ -5,8 +5,8 @@ use Rattle.std.specs.Prelude.{◌==◌, if◌then◌else◌, Option, Result}
 use Rattle.std.specs.List.{list_all}
 use Rattle.std.proofs.lemmas.Bool.{and_parts}
 use Rattle.sd_sid.specs.Sid.{SecurityId}
-use Rattle.sd_control.specs.declared.part.SidPart.{SidPart}
-use Rattle.sd_control.specs.declared.part.Which.{Which}
+use Rattle.sd_parts.specs.declared.part.SidPart.{SidPart}
+use Rattle.sd_parts.specs.declared.part.Which.{Which}
 use Rattle.sd_sddl_fields.specs.Held.{IsHeld, Held, held_run, held_with, is_plain_inside, is_plain_text, no_text}
 use Rattle.sd_sddl_fields.proofs.laws.HeldRuns.{run-fits}
 use Rattle.sd_text.specs.Chains.{unless}

@@ -10,7 +10,7 @@ ghost use Rattle.sd_sddl_fields.specs.FieldTexts.{is_blank};
 ghost use Rattle.sd_sddl_builder.specs.FoldedReading.{next_field};
 ghost use Rattle.sd_sddl_reader.specs.Inner.Progress.{state_of};
 
-use sd_control::{SidPart, Which};
+use sd_parts::{SidPart, Which};
 use sd_sddl_builder::{AceField, Head};
 use sd_sddl_fields::{is_plain_text, plain_text};
 use sd_text::MOST_FIELD_SIZE;

@@ -19,7 +19,7 @@ use crate::line::{
     State, first_parenthesis, front_head, head_of, next_field, next_head, plain_outside, state_of,
 };
 use sd_buffer::SdBuf;
-use sd_control::{Parts, SidPart, Which};
+use sd_parts::{Parts, SidPart, Which};
 use sd_sddl_builder::{AceField, FieldReader, Head, SddlFault, Slot, fault_of};
 use sd_sddl_fields::{FieldText, is_blank, plain_inside};
 use sd_sid::Sid;

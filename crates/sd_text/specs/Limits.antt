@@ -15,7 +15,7 @@ abbrev pub most_acl : ℕ
 most_acl = 65535
 
 -- the characters of a line, without its LF and a dropped CR: for a descriptor of 131,226 bytes (`CAPACITY` of
--- sd_control) two hex digits a byte, four characters of base64 for three bytes, and in SDDL eight a byte and 64
+-- sd_parts) two hex digits a byte, four characters of base64 for three bytes, and in SDDL eight a byte and 64
 abbrev pub most_hex_text : ℕ
 most_hex_text = 262452
 

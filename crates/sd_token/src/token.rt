@@ -9,8 +9,8 @@ ghost use Rattle.sd_token.specs.Token.{entry_meets};
 use crate::lent::{LentToken, Looks};
 use crate::limits::MOST_ENTRIES;
 use crate::words::{ENTRY_WORDS, key_of, words_of};
+use sd_memory::NoMemory;
 use sd_sid::Sid;
-use sd_sink::NoMemory;
 use std::alloc::Global;
 use std::marker::Model;
 

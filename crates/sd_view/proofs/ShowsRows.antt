@@ -6,9 +6,9 @@ use Rattle.sd_kinds.specs.Kinds.{kind_code, kind_entry}
 use Rattle.sd_kinds.specs.declared.kinds.AceKind.TheVariants as kinds
 use Rattle.sd_sid.specs.Sid.{AreWords, BeginsWithSid, IsSid, SecurityId}
 use Rattle.sd_ace.specs.Ace.{AccessControlEntry}
-use Rattle.sd_control.specs.Parts.{each_part}
-use Rattle.sd_control.specs.declared.part.Part.TheVariants.{Owner, Sacl}
-use Rattle.sd_control.specs.declared.part.Parts.{Parts}
+use Rattle.sd_parts.specs.Parts.{each_part}
+use Rattle.sd_parts.specs.declared.part.Part.TheVariants.{Owner, Sacl}
+use Rattle.sd_parts.specs.declared.part.Parts.{Parts}
 use Rattle.sd_view.specs.Ace.{ShowsAce, ShowsGuid, announces_inherited, announces_object}
 use Rattle.sd_view.specs.Acl.{IsAcl, ShowsAcl}
 use Rattle.sd_view.specs.Bytes.{u16_at, u32_at}

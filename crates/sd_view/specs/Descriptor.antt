@@ -4,10 +4,10 @@ use Rattle.std.specs.Prelude.{Option, Some, None, IfSome}
 use Rattle.sd_sid.specs.Sid.{SecurityId, IsSid, BeginsWithSid, sid_size}
 use Rattle.sd_view.specs.Acl.{BeginsWithAcl, IsAcl}
 use Rattle.sd_view.specs.Bytes.{u16_at, u32_at}
-use Rattle.sd_control.specs.Control.{self_relative, sacl_present, dacl_present}
-use Rattle.sd_control.specs.Parts.{get_part, same_part}
-use Rattle.sd_control.specs.declared.part.Part.{Part}
-use Rattle.sd_control.specs.declared.part.Parts.{Parts}
+use Rattle.sd_parts.specs.Control.{self_relative, sacl_present, dacl_present}
+use Rattle.sd_parts.specs.Parts.{get_part, same_part}
+use Rattle.sd_parts.specs.declared.part.Part.{Part}
+use Rattle.sd_parts.specs.declared.part.Parts.{Parts}
 use Rattle.sd_view.specs.declared.acl.AclPart.{AclPart}
 use Rattle.sd_view.specs.declared.acl.AclPart.TheVariants as acl
 

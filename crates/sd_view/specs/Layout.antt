@@ -1,7 +1,7 @@
 -- The one written form of a descriptor (MS-DTYP 2.4.6).
 use Rattle.std.specs.Prelude.{ℕ, ◌+◌, ◌==◌, if◌then◌else◌, List, [], ◌++◌, Option, Some, None}
-use Rattle.sd_control.specs.Header.{header_bytes}
-use Rattle.sd_control.specs.declared.part.Parts.{Parts}
+use Rattle.sd_parts.specs.Header.{header_bytes}
+use Rattle.sd_parts.specs.declared.part.Parts.{Parts}
 use Rattle.sd_sid.specs.Sid.{SecurityId, sid_bytes, sid_size}
 use Rattle.sd_view.specs.Acl.{acl_size}
 use Rattle.sd_view.specs.AclLayout.{acl_bytes}

@@ -3,8 +3,8 @@
 use Rattle.std.specs.Prelude.{ℕ, ◌+◌, ◌==◌, ◌||◌, ◌&&◌, not, nat_lt, Bool, false, if◌then◌else◌, List, length, drop}
 use Rattle.std.specs.Prelude.{slice_index, Option, Some, None, option_map, is_some, Result}
 use Rattle.sd_sid.specs.Sid.{SecurityId, sid_at}
-use Rattle.sd_control.specs.declared.part.Part.{Part}
-use Rattle.sd_control.specs.declared.part.Part.TheVariants.{Owner, Group, Sacl, Dacl}
+use Rattle.sd_parts.specs.declared.part.Part.{Part}
+use Rattle.sd_parts.specs.declared.part.Part.TheVariants.{Owner, Group, Sacl, Dacl}
 use Rattle.sd_view.specs.declared.fault.SdFault.{SdFault}
 use Rattle.sd_view.specs.declared.fault.SdFault.TheVariants as faults
 use Rattle.sd_view.specs.declared.fault.AclFault.{AclFault}
@@ -15,9 +15,9 @@ use Rattle.std.specs.Option.{option_or}
 use Rattle.sd_text.specs.Chains.{unless}
 use Rattle.sd_view.specs.AclReading.{acl_fault, acl_of, acl_at_front}
 use Rattle.sd_view.specs.Descriptor.{Descriptor, Extent, control_at, dacl_at, extents_of, group_at, owner_at, sacl_at}
-use Rattle.sd_control.specs.Control.{dacl_present, sacl_present, self_relative}
-use Rattle.sd_control.specs.Parts.{get_part}
-use Rattle.sd_control.specs.declared.part.Parts.{Parts}
+use Rattle.sd_parts.specs.Control.{dacl_present, sacl_present, self_relative}
+use Rattle.sd_parts.specs.Parts.{get_part}
+use Rattle.sd_parts.specs.declared.part.Parts.{Parts}
 
 -- the SID at an offset; an offset of 0 means that there is none
 unfoldable pub sid_shown : List ℕ → ℕ → Option SecurityId

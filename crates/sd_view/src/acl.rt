@@ -15,7 +15,7 @@ use crate::ace::{AceView, ace_view, check_ace};
 use crate::bytes::u16_at;
 use crate::fault::{AclFault, SdFault, fault_in};
 use crate::written_acl::is_written;
-use sd_control::{ACL_HEADER_SIZE, ACL_REVISION, ACL_REVISION_DS, Part};
+use sd_parts::{ACL_HEADER_SIZE, ACL_REVISION, ACL_REVISION_DS, Part};
 use std::marker::Model;
 
 /// What the header of a written ACL needs besides the count: its size, and whether it has an object ACE.

@@ -3,7 +3,7 @@
 ghost use Rattle.std.specs.Prelude.{◌≡◌};
 ghost use Rattle.sd_view.specs.Reading.{fault_in};
 
-use sd_control::Part;
+use sd_parts::Part;
 
 /// Why bytes show no descriptor: the first condition that holds. 5, 6 and 7 are looked at first; then 8
 /// to 13, part by part in the order of `Part`, and within an ACL ACE by ACE; then 14.

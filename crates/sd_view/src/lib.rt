@@ -11,5 +11,5 @@ mod written_acl;
 pub use ace::AceView;
 pub use acl::{Aces, AclPart, AclView, Written, front_ace};
 pub use fault::SdFault;
-pub use sd_control::Part;
+pub use sd_parts::Part;
 pub use view::{Extent, SdView, read, read_extents, view_written};

@@ -1,7 +1,7 @@
 //! Descriptors read in place.
 
 ghost use Rattle.std.specs.Prelude.{◌≡◌, ◌≤◌, ◌<◌, ◌+◌, ◌*◌, ℕ, List, length, Ok, Err, IfOk, OnOk, MatchResult};
-ghost use Rattle.sd_control.specs.Control.{AreControlBits};
+ghost use Rattle.sd_parts.specs.Control.{AreControlBits};
 ghost use Rattle.sd_view.specs.Descriptor.{Descriptor, Shows, IsAclPart, IsDescriptor, acl_extent, extents_of};
 ghost use Rattle.sd_view.specs.Descriptor.{sid_extent};
 ghost use Rattle.sd_view.specs.Layout.{layout, sid_part, size};
@@ -11,12 +11,12 @@ ghost use Rattle.sd_view.specs.Reading.{acl_part_fault, acl_shown, fault, header
 ghost use Rattle.sd_view.specs.Reading.{overlaps_fault, parts_fault, reading, share_a_byte as share_of, shown};
 ghost use Rattle.sd_view.specs.Reading.{sid_fault, sid_shown};
 ghost use Rattle.sd_view.specs.Inner.Readable.{IsAclAt, IsSidAt};
-ghost use Rattle.sd_control.specs.declared.limits.TheConstants.{HEADER_SIZE, MOST_SID_SIZE};
+ghost use Rattle.sd_parts.specs.declared.limits.TheConstants.{HEADER_SIZE, MOST_SID_SIZE};
 
 use crate::acl::{AclPart, Written, acl_view, check_acl};
 use crate::bytes::{u16_at, u32_at};
 use crate::fault::{SdFault, fault_in};
-use sd_control::{
+use sd_parts::{
     ACL_REVISION_DS, DACL_PRESENT, HEADER_SIZE, Part, Parts, SACL_PRESENT, SELF_RELATIVE, has_bit,
 };
 use sd_sid::Sid;

@@ -10,7 +10,7 @@ ghost use Rattle.sd_view.specs.Inner.Written.{all_named_flags};
 use crate::ace::has_named_flags;
 use crate::bytes::u16_at;
 use byteorder::{ByteOrder, LittleEndian};
-use sd_control::ACL_HEADER_SIZE;
+use sd_parts::ACL_HEADER_SIZE;
 
 // Whether an ACL has its written form: it has this header, and so no spare bytes, and its object flags are all
 // named.

@@ -5,19 +5,19 @@ use Rattle.std.proofs.Common.{None, refl, sym, ap, subst, ◌∙◌, arith}
 use Rattle.std.specs.Prelude.{if◌then◌else◌, is_some}
 use Rattle.std.specs.List.{filter, flat_map}
 use Rattle.sd_sid.specs.Sid.{SecurityId}
-use Rattle.sd_control.specs.Control.{control_of}
+use Rattle.sd_parts.specs.Control.{control_of}
 use Rattle.sd_view.specs.Layout.{acl_part, acl_part_size, layout, offset_if, parts_bytes, sid_part, sid_part_size}
 use Rattle.sd_view.specs.WrittenForm.{IsWritten}
 use Rattle.sd_view.specs.declared.acl.AclPart.{AclPart}
 use Rattle.sd_view.specs.declared.acl.AclPart.TheVariants as acl
-use Rattle.sd_control.specs.declared.part.Part.{Part}
-use Rattle.sd_control.specs.declared.part.Part.TheVariants as part
+use Rattle.sd_parts.specs.declared.part.Part.{Part}
+use Rattle.sd_parts.specs.declared.part.Part.TheVariants as part
 use Rattle.sd_view.proofs.laws.LayoutSizes.{length-acl_part, length-sid_part}
 use Rattle.sd_layout.proofs.laws.LayoutLaws.{offset-stands}
 use Rattle.sd_builder.specs.Builds.{Builds}
 use Rattle.sd_builder.specs.Draft.{Draft, DraftParts, built, built_bytes, is_present, offset_among, part_bytes}
-use Rattle.sd_control.specs.Parts.{same_part}
-use Rattle.sd_control.proofs.laws.PartLaws.{same-is}
+use Rattle.sd_parts.specs.Parts.{same_part}
+use Rattle.sd_parts.proofs.laws.PartLaws.{same-is}
 use Rattle.sd_builder.specs.declared.builder.Builder.{Builder}
 use Rattle.sd_builder.proofs.Building.{closed-from}
 use Rattle.sd_builder.proofs.Finished.{exact, is-written}

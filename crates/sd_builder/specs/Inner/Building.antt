@@ -13,11 +13,11 @@ use Rattle.sd_view.specs.declared.acl.AclPart.{AclPart}
 use Rattle.sd_view.specs.declared.acl.AclPart.TheVariants as acl
 use Rattle.sd_builder.specs.declared.builder.Builder.{Builder}
 use Rattle.sd_builder.specs.declared.builder.OpenAcl.{OpenAcl}
-use Rattle.sd_control.specs.declared.part.Which.{Which}
-use Rattle.sd_control.specs.Parts.{get_part, set_part}
-use Rattle.sd_control.specs.declared.part.Part.{Part}
-use Rattle.sd_control.specs.declared.part.Parts.{Parts}
-use Rattle.sd_control.specs.declared.part.Part.TheVariants as part
+use Rattle.sd_parts.specs.declared.part.Which.{Which}
+use Rattle.sd_parts.specs.Parts.{get_part, set_part}
+use Rattle.sd_parts.specs.declared.part.Part.{Part}
+use Rattle.sd_parts.specs.declared.part.Parts.{Parts}
+use Rattle.sd_parts.specs.declared.part.Part.TheVariants as part
 
 -- a part's bytes at its offset, past the header
 pub record Stands (bytes : List ℕ) (offset : ℕ) (part : List ℕ) : Type 0 where

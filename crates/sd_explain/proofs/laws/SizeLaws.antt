@@ -26,12 +26,12 @@ use Rattle.sd_sid.proofs.laws.TextLaws.{length-sid_text}
 use Rattle.sd_view.specs.Acl.{aces_size}
 use Rattle.sd_text.specs.Bits.{has_bit}
 use Rattle.sd_view.specs.Descriptor.{Descriptor, IsAclPart, IsDescriptor}
-use Rattle.sd_control.specs.Control.{dacl_present, sacl_present}
+use Rattle.sd_parts.specs.Control.{dacl_present, sacl_present}
 use Rattle.sd_view.specs.Layout.{acl_part_size, sid_part_size, size}
 use Rattle.sd_view.specs.declared.acl.AclPart.{AclPart}
 use Rattle.sd_view.specs.declared.acl.AclPart.TheVariants as acl
-use Rattle.sd_control.specs.declared.control.ControlBit.{ControlBit}
-use Rattle.sd_control.specs.declared.control.TheConstants.{CONTROL_BITS}
+use Rattle.sd_parts.specs.declared.control.ControlBit.{ControlBit}
+use Rattle.sd_parts.specs.declared.control.TheConstants.{CONTROL_BITS}
 use Rattle.sd_explain.specs.Explain.{ace_head, ace_line, ace_rights, ace_trustee, acl_lines, code_if, control_line}
 use Rattle.sd_explain.specs.Explain.{count_line, explain, guid_words, name_after, or_none, rm_line, sid_line, sid_words}
 

@@ -13,11 +13,11 @@ use Rattle.sd_sid.specs.SidText.{same_sid}
 use Rattle.sd_rights.specs.Rights.{is_label}
 use Rattle.sd_view.specs.Acl.{IsAcl, acl_size}
 use Rattle.sd_builder.specs.Draft.{is_present}
-use Rattle.sd_control.proofs.laws.ControlLaws.{bit_if-most, control-bits}
-use Rattle.sd_control.specs.Control.{dacl_present, flag_bits, sacl_present}
-use Rattle.sd_control.specs.declared.control.AclFlags.{AclFlags}
-use Rattle.sd_control.specs.declared.part.Which.{Which}
-use Rattle.sd_control.specs.declared.part.Which.TheVariants.{Dacl, Sacl}
+use Rattle.sd_parts.proofs.laws.ControlLaws.{bit_if-most, control-bits}
+use Rattle.sd_parts.specs.Control.{dacl_present, flag_bits, sacl_present}
+use Rattle.sd_parts.specs.declared.control.AclFlags.{AclFlags}
+use Rattle.sd_parts.specs.declared.part.Which.{Which}
+use Rattle.sd_parts.specs.declared.part.Which.TheVariants.{Dacl, Sacl}
 use Rattle.sd_view.specs.Descriptor.{Descriptor, IsAclPart, IsDescriptor}
 use Rattle.sd_view.specs.declared.acl.AclPart.{AclPart}
 use Rattle.sd_view.specs.declared.acl.AclPart.TheVariants as acl

@@ -3,13 +3,13 @@ use Rattle.std.specs.Prelude.{◌<◌, ℕ, ◌+◌, ◌^◌, Bool, true, false,
 use Rattle.std.specs.List.{flat_map}
 use Rattle.sd_ace.specs.Ace.{AccessControlEntry}
 use Rattle.sd_builder.specs.Draft.{Draft, IsOpen, open_size, with_acl}
-use Rattle.sd_control.specs.Parts.{part_of}
+use Rattle.sd_parts.specs.Parts.{part_of}
 use Rattle.sd_view.specs.declared.acl.AclPart.{AclPart}
 use Rattle.sd_view.specs.declared.acl.AclPart.TheVariants as acl
-use Rattle.sd_control.specs.declared.control.AclFlags.{AclFlags}
-use Rattle.sd_control.specs.Control.{flag_bits}
-use Rattle.sd_control.specs.declared.part.Which.{Which}
-use Rattle.sd_control.specs.declared.part.Which.TheVariants.{Dacl, Sacl}
+use Rattle.sd_parts.specs.declared.control.AclFlags.{AclFlags}
+use Rattle.sd_parts.specs.Control.{flag_bits}
+use Rattle.sd_parts.specs.declared.part.Which.{Which}
+use Rattle.sd_parts.specs.declared.part.Which.TheVariants.{Dacl, Sacl}
 use Rattle.sd_view.specs.Descriptor.{Descriptor}
 use Rattle.sd_inherit.specs.Derived.{gathered, inherited, is_protected}
 use Rattle.sd_inherit.specs.Copies.{copies}

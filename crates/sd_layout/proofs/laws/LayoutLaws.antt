@@ -15,8 +15,8 @@ use Rattle.sd_view.specs.Descriptor.{ShowsSid, acl_extent, control_at, dacl_at, 
 use Rattle.sd_view.specs.Layout.{acl_part, acl_part_size, dacl_offset, descriptor_header, group_offset, layout}
 use Rattle.sd_view.specs.Layout.{offset_if, offsets, parts_bytes, sacl_offset, sid_part, sid_part_size}
 use Rattle.sd_view.specs.WrittenForm.{AclIsWritten, IsWritten, IsWrittenForm}
-use Rattle.sd_control.specs.Header.{header_bytes}
-use Rattle.sd_control.specs.declared.part.Parts.{Parts}
+use Rattle.sd_parts.specs.Header.{header_bytes}
+use Rattle.sd_parts.specs.declared.part.Parts.{Parts}
 use Rattle.sd_view.specs.declared.acl.AclPart.{AclPart}
 use Rattle.sd_view.specs.declared.acl.AclPart.TheVariants as acl
 use Rattle.sd_view.proofs.laws.ApartLaws.{six-apart}

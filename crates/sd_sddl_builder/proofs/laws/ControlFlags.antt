@@ -1,8 +1,8 @@
 -- The flags of both ACLs in a control word.
 use Rattle.std.proofs.Common.{◌≡◌, ◌<◌, ℕ, ◌+◌, ◌*◌, ◌^◌, ap, sym, ◌∙◌, arith}
-use Rattle.sd_control.specs.Control.{bit_if, other_flags}
-use Rattle.sd_control.specs.declared.control.AclFlags.{AclFlags}
-use Rattle.sd_control.proofs.laws.ControlLaws.{bit_if-most, bit_if-times}
+use Rattle.sd_parts.specs.Control.{bit_if, other_flags}
+use Rattle.sd_parts.specs.declared.control.AclFlags.{AclFlags}
+use Rattle.sd_parts.proofs.laws.ControlLaws.{bit_if-most, bit_if-times}
 use Rattle.sd_sddl_builder.specs.Meaning.{control_flags}
 
 -- the flags stand in the upper byte, without its highest bit

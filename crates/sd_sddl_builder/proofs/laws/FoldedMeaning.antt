@@ -13,8 +13,8 @@ use Rattle.sd_builder.specs.Draft.{DraftParts, built, closed, closed_in, is_pres
 use Rattle.sd_view.specs.Layout.{acl_part_size}
 use Rattle.sd_view.specs.declared.acl.AclPart.{AclPart}
 use Rattle.sd_view.specs.declared.acl.AclPart.TheVariants as acl
-use Rattle.sd_control.specs.declared.part.Which.{Which}
-use Rattle.sd_control.specs.declared.part.Which.TheVariants as which
+use Rattle.sd_parts.specs.declared.part.Which.{Which}
+use Rattle.sd_parts.specs.declared.part.Which.TheVariants as which
 use Rattle.std.specs.Option.{option_or}
 use Rattle.sd_sddl_fields.specs.FieldTexts.{front_reads}
 use Rattle.sd_sddl_builder.specs.FoldedReading.{FieldsRead, described, fields_of, finished, folded, large_in}
@@ -25,12 +25,12 @@ use Rattle.sd_text.specs.Chains.{and_then}
 use Rattle.sd_sddl_builder.specs.Meaning.{Said, acl_said, body_reads, control_flags, descriptor_of, each, acl_part_reads}
 use Rattle.sd_sddl_builder.specs.Meaning.{field_reads, first_large, means, section_reads, sections_mean, sid_field_reads}
 use Rattle.sd_sddl_builder.specs.Meaning.{sid_said, unless_large, picked_acl, picked_flags, picked_sid}
-use Rattle.sd_control.specs.Control.{bit_if}
-use Rattle.sd_control.specs.declared.control.AclFlags.{AclFlags}
+use Rattle.sd_parts.specs.Control.{bit_if}
+use Rattle.sd_parts.specs.declared.control.AclFlags.{AclFlags}
 use Rattle.sd_sddl_builder.specs.declared.fault.SddlFault.TheVariants as fault
 use Rattle.sd_sddl_builder.specs.declared.slot.Head.{Head}
 use Rattle.sd_sddl_builder.specs.declared.slot.Head.TheVariants as head
-use Rattle.sd_control.specs.declared.part.SidPart.TheVariants as sid_part
+use Rattle.sd_parts.specs.declared.part.SidPart.TheVariants as sid_part
 use Rattle.sd_sddl_builder.specs.declared.reading.AceFields.{AceFields}
 use Rattle.sd_sddl_fields.specs.declared.field_texts.AclFront.{AclFront}
 use Rattle.sd_sddl_builder.proofs.laws.ControlFlags.{flags-stay}

@@ -16,7 +16,7 @@ use Rattle.sd_sid.specs.declared.sid_text.SidFault.TheVariants.{SidForm}
 use Rattle.sd_builder.specs.Draft.{begun, closed, with_ace, with_acl}
 use Rattle.sd_view.specs.declared.acl.AclPart.{AclPart}
 use Rattle.sd_view.specs.declared.acl.AclPart.TheVariants as acl
-use Rattle.sd_control.specs.declared.part.Which.{Which}
+use Rattle.sd_parts.specs.declared.part.Which.{Which}
 use Rattle.sd_sddl_fields.specs.FieldTexts.{front_reads, kind_reads, object_reads}
 use Rattle.sd_sddl_builder.specs.FoldedReading.{Field, FieldsRead, ace_fields, ace_fields_from, ace_of_fields, fields_in}
 use Rattle.sd_sddl_builder.specs.FoldedReading.{fields_of, grown, no_fields, read_fields, take_ace_field, take_field}
@@ -28,7 +28,7 @@ use Rattle.sd_sddl_fields.specs.FieldTexts.{is_blank}
 use Rattle.sd_text.specs.Chains.{and_then}
 use Rattle.sd_sddl_builder.specs.Meaning.{Said, acl_said, ace_reads, body_reads, each, acl_part_reads, field_reads}
 use Rattle.sd_sddl_builder.specs.Meaning.{is_unreadable, section_reads, sid_field_reads, sid_or_fault, sid_said}
-use Rattle.sd_control.specs.declared.control.AclFlags.{AclFlags}
+use Rattle.sd_parts.specs.declared.control.AclFlags.{AclFlags}
 use Rattle.sd_sddl_builder.specs.declared.fault.SddlFault.{SddlFault}
 use Rattle.sd_sddl_builder.specs.declared.fault.SddlFault.TheVariants as fault
 use Rattle.sd_sddl_builder.specs.declared.slot.AceField.{AceField}

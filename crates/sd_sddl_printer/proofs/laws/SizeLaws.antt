@@ -18,14 +18,14 @@ use Rattle.sd_ace.proofs.laws.GuidTexts.{guid_text-length}
 use Rattle.sd_rights.proofs.laws.RightsLaws.{rights_text-length}
 use Rattle.sd_sid.proofs.laws.TextLaws.{length-sid_text}
 use Rattle.sd_view.specs.Acl.{aces_size}
-use Rattle.sd_control.specs.Control.{acl_flags, dacl_present, sacl_present}
+use Rattle.sd_parts.specs.Control.{acl_flags, dacl_present, sacl_present}
 use Rattle.sd_view.specs.Descriptor.{Descriptor, IsAclPart, IsDescriptor}
 use Rattle.sd_view.specs.Layout.{acl_part_size, sid_part_size, size}
 use Rattle.sd_view.specs.declared.acl.AclPart.{AclPart}
 use Rattle.sd_view.specs.declared.acl.AclPart.TheVariants as acl
 use Rattle.sd_sid.specs.declared.naming.Naming.{Naming}
-use Rattle.sd_control.specs.declared.part.Which.TheVariants as which
-use Rattle.sd_control.specs.declared.control.AclFlags.{AclFlags}
+use Rattle.sd_parts.specs.declared.part.Which.TheVariants as which
+use Rattle.sd_parts.specs.declared.control.AclFlags.{AclFlags}
 use Rattle.std.specs.Option.{unwrap_or}
 use Rattle.sd_sddl_printer.specs.Printed.{ace_text, acl_flags_text, acl_text, dacl_text, flags_field, group_text}
 use Rattle.sd_sddl_printer.specs.Printed.{kind_field, kind_text, object_field, object_text, owner_text, rights_field}

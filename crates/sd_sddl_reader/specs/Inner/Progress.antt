@@ -20,8 +20,8 @@ use Rattle.sd_sddl_builder.specs.declared.slot.Head.{Head}
 use Rattle.sd_sddl_builder.specs.declared.slot.Head.TheVariants as head
 use Rattle.sd_sddl_reader.specs.declared.line.State.{State}
 use Rattle.sd_sddl_reader.specs.declared.line.State.TheVariants as state
-use Rattle.sd_control.specs.Parts.{get_part, set_part}
-use Rattle.sd_control.specs.declared.part.Parts.{Parts}
+use Rattle.sd_parts.specs.Parts.{get_part, set_part}
+use Rattle.sd_parts.specs.declared.part.Parts.{Parts}
 use Rattle.sd_sddl_builder.specs.declared.slot.Slot.TheVariants as slot
 
 abbrev pub is_inside : State → Bool

@@ -1,10 +1,10 @@
 -- Parts that share no byte.
 use Rattle.std.proofs.Common.{◌≡◌, inl, inr, false, Some, None, subst, sym}
-use Rattle.sd_control.specs.Parts.{get_part, same_part}
-use Rattle.sd_control.specs.declared.part.Part.{Part}
-use Rattle.sd_control.specs.declared.part.Part.TheVariants.{Owner, Group, Sacl, Dacl}
-use Rattle.sd_control.specs.declared.part.Parts.{Parts}
-use Rattle.sd_control.proofs.laws.PartLaws.{each-part}
+use Rattle.sd_parts.specs.Parts.{get_part, same_part}
+use Rattle.sd_parts.specs.declared.part.Part.{Part}
+use Rattle.sd_parts.specs.declared.part.Part.TheVariants.{Owner, Group, Sacl, Dacl}
+use Rattle.sd_parts.specs.declared.part.Parts.{Parts}
+use Rattle.sd_parts.proofs.laws.PartLaws.{each-part}
 use Rattle.sd_view.specs.Descriptor.{Apart, AreApart, Extent}
 
 pub apart-sym : (e f : Extent) → Apart e f → Apart f e

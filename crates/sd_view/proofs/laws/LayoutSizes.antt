@@ -9,7 +9,7 @@ use Rattle.sd_ace.specs.Ace.{AccessControlEntry}
 use Rattle.sd_ace.specs.AceLayout.{ace_bytes}
 use Rattle.sd_sid.specs.Sid.{SecurityId, IsSid}
 use Rattle.sd_sid.proofs.laws.SidLaws.{length-sid_bytes}
-use Rattle.sd_control.specs.Header.{header_bytes}
+use Rattle.sd_parts.specs.Header.{header_bytes}
 use Rattle.sd_view.specs.Acl.{IsAcl, acl_size}
 use Rattle.sd_view.specs.AclLayout.{acl_bytes}
 use Rattle.sd_view.specs.Bytes.{u16_at}

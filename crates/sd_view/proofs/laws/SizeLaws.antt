@@ -7,8 +7,8 @@ use Rattle.sd_view.specs.Acl.{BeginsWithAcl, acl_size}
 use Rattle.sd_view.specs.Bytes.{u16_at}
 use Rattle.sd_view.specs.Descriptor.{Apart, AreApart, Descriptor, Extent, Shows, ShowsAclPart, ShowsSid, acl_extent}
 use Rattle.sd_view.specs.Descriptor.{dacl_at, group_at, owner_at, sacl_at, sid_extent}
-use Rattle.sd_control.specs.Control.{dacl_present, sacl_present}
-use Rattle.sd_control.specs.declared.part.Part.TheVariants.{Owner, Group, Sacl, Dacl}
+use Rattle.sd_parts.specs.Control.{dacl_present, sacl_present}
+use Rattle.sd_parts.specs.declared.part.Part.TheVariants.{Owner, Group, Sacl, Dacl}
 use Rattle.sd_view.specs.Layout.{acl_part_size, sid_part_size, size}
 use Rattle.sd_view.specs.declared.acl.AclPart.{AclPart}
 use Rattle.sd_view.specs.declared.acl.AclPart.TheVariants as acl

@@ -1,4 +1,4 @@
-use Rattle.sd_control.specs.declared.control.TheConstants.{CONTROL_BITS}
+use Rattle.sd_parts.specs.declared.control.TheConstants.{CONTROL_BITS}
 use Rattle.sd_sink.proofs.laws.PrintLoops.{Prints-next}
 use Rattle.sd_explain.specs.Explain.{code_if}
 use Rattle.sd_explain.proofs.control.print_codes.Goals as goal

@@ -1,7 +1,7 @@
 use Rattle.std.proofs.Common.{take}
 use Rattle.std.specs.List.{flat_map}
 use Rattle.sd_sink.specs.Print.{Prints}
-use Rattle.sd_control.specs.declared.control.TheConstants.{CONTROL_BITS}
+use Rattle.sd_parts.specs.declared.control.TheConstants.{CONTROL_BITS}
 use Rattle.sd_explain.specs.Explain.{code_if}
 use Rattle.sd_explain.proofs.control.print_codes.Given as goal
 

@@ -1,5 +1,5 @@
 use Rattle.std.proofs.Common.{◌≡◌, length}
-use Rattle.sd_control.specs.Control.{no_flags}
+use Rattle.sd_parts.specs.Control.{no_flags}
 use Rattle.sd_sddl_fields.specs.FieldTexts.{flags_after}
 use Rattle.sd_sddl_fields.proofs.field_texts.flags_from_run.Given as goal
 

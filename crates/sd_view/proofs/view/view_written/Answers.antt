@@ -1,5 +1,5 @@
 use Rattle.std.proofs.Common.{◌≡◌, ℕ, Bool, List, ap, arith, sym, subst, ◌∙◌}
-use Rattle.sd_control.specs.Control.{dacl_present, sacl_present}
+use Rattle.sd_parts.specs.Control.{dacl_present, sacl_present}
 use Rattle.sd_sid.proofs.laws.Numbers.{AreBytes}
 use Rattle.sd_view.specs.Descriptor.{Descriptor, IsAclPart, Shows, control_at, dacl_at, sacl_at}
 use Rattle.sd_view.specs.Inner.Found.{shown_written, written_of}

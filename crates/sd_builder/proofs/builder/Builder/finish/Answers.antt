@@ -1,7 +1,7 @@
 use Rattle.std.proofs.Common.{◌≡◌, ◌+◌, length, ap, arith}
 use Rattle.std.specs.Prelude.{is_some}
-use Rattle.sd_control.specs.Control.{control_of}
-use Rattle.sd_control.specs.Header.{header_bytes}
+use Rattle.sd_parts.specs.Control.{control_of}
+use Rattle.sd_parts.specs.Header.{header_bytes}
 use Rattle.sd_builder.proofs.Finished.{finish-exact, finish-form, finish-room, finish-shows, header_for}
 use Rattle.sd_builder.proofs.Finished.{length-header_for}
 use Rattle.sd_builder.proofs.builder.Builder.finish.Goals as goal

@@ -1,5 +1,5 @@
 use Rattle.std.proofs.Common.{ap}
-use Rattle.sd_control.specs.declared.part.SidPart.TheVariants.{Owner}
+use Rattle.sd_parts.specs.declared.part.SidPart.TheVariants.{Owner}
 use Rattle.sd_builder.specs.Inner.Building.{given_sid}
 use Rattle.sd_builder.proofs.Building.{sid-builds, sid-room}
 use Rattle.sd_builder.proofs.builder.Builder.owner.Goals as goal

@@ -1,5 +1,5 @@
 use Rattle.std.proofs.Common.{[], ◌∷◌, ◌++◌, Some, refl}
-use Rattle.sd_control.specs.declared.part.Part.TheVariants as part
+use Rattle.sd_parts.specs.declared.part.Part.TheVariants as part
 use Rattle.sd_builder.specs.Draft.{closed}
 use Rattle.sd_sddl_builder.proofs.FieldLaws.{holds-parts}
 use Rattle.sd_sddl_builder.proofs.reading.FieldReader.put_sid.Goals as goal

@@ -1,7 +1,7 @@
 //! The parts of a descriptor (MS-DTYP 2.4.6), and a value for each of them.
 
 ghost use Rattle.std.specs.Prelude.{◌≡◌};
-ghost use Rattle.sd_control.specs.Parts.{each_part, get_part, part_of, set_part, sid_part_of};
+ghost use Rattle.sd_parts.specs.Parts.{each_part, get_part, part_of, set_part, sid_part_of};
 
 /// A part of a descriptor, in the order of the written layout.
 #[derive(Clone, Copy, Debug, PartialEq, Eq)]

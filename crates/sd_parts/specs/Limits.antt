@@ -1,7 +1,7 @@
 -- The sizes of the parts of a descriptor and the revisions of ACLs, in numbers: the constants of src/limits.rt.
 use Rattle.std.specs.Prelude.{◌≡◌}
-use Rattle.sd_control.specs.declared.limits.TheConstants.{ACL_HEADER_SIZE, ACL_REVISION, ACL_REVISION_DS, CAPACITY}
-use Rattle.sd_control.specs.declared.limits.TheConstants.{HEADER_SIZE, MOST_ACL_SIZE, MOST_SID_SIZE, SID_HEADER_SIZE}
+use Rattle.sd_parts.specs.declared.limits.TheConstants.{ACL_HEADER_SIZE, ACL_REVISION, ACL_REVISION_DS, CAPACITY}
+use Rattle.sd_parts.specs.declared.limits.TheConstants.{HEADER_SIZE, MOST_ACL_SIZE, MOST_SID_SIZE, SID_HEADER_SIZE}
 
 -- what the constants are
 pub record AreLimits : Type 0 where

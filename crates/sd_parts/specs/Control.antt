@@ -3,15 +3,15 @@
 -- `AreListedBits` say which numbers these are.
 use Rattle.std.specs.Prelude.{◌≡◌, ℕ, ◌+◌, ◌-◌, Bool, true, false, List, [], ◌∷◌, codes, map}
 use Rattle.sd_text.specs.Bits.{bit_of, has_bit}
-use Rattle.sd_control.specs.declared.part.Which.{Which}
-use Rattle.sd_control.specs.declared.part.Which.TheVariants as which
-use Rattle.sd_control.specs.declared.control.AclFlags.{AclFlags}
-use Rattle.sd_control.specs.declared.control.ControlBit.{ControlBit}
-use Rattle.sd_control.specs.declared.control.TheConstants.{DACL_AUTO_INHERITED, DACL_AUTO_INHERIT_REQUIRED}
-use Rattle.sd_control.specs.declared.control.TheConstants.{DACL_DEFAULTED, DACL_PRESENT, DACL_PROTECTED}
-use Rattle.sd_control.specs.declared.control.TheConstants.{GROUP_DEFAULTED, OWNER_DEFAULTED, RM_CONTROL_VALID}
-use Rattle.sd_control.specs.declared.control.TheConstants.{SACL_AUTO_INHERITED, SACL_AUTO_INHERIT_REQUIRED}
-use Rattle.sd_control.specs.declared.control.TheConstants.{SACL_DEFAULTED, SACL_PRESENT, SACL_PROTECTED, SELF_RELATIVE}
+use Rattle.sd_parts.specs.declared.part.Which.{Which}
+use Rattle.sd_parts.specs.declared.part.Which.TheVariants as which
+use Rattle.sd_parts.specs.declared.control.AclFlags.{AclFlags}
+use Rattle.sd_parts.specs.declared.control.ControlBit.{ControlBit}
+use Rattle.sd_parts.specs.declared.control.TheConstants.{DACL_AUTO_INHERITED, DACL_AUTO_INHERIT_REQUIRED}
+use Rattle.sd_parts.specs.declared.control.TheConstants.{DACL_DEFAULTED, DACL_PRESENT, DACL_PROTECTED}
+use Rattle.sd_parts.specs.declared.control.TheConstants.{GROUP_DEFAULTED, OWNER_DEFAULTED, RM_CONTROL_VALID}
+use Rattle.sd_parts.specs.declared.control.TheConstants.{SACL_AUTO_INHERITED, SACL_AUTO_INHERIT_REQUIRED}
+use Rattle.sd_parts.specs.declared.control.TheConstants.{SACL_DEFAULTED, SACL_PRESENT, SACL_PROTECTED, SELF_RELATIVE}
 
 -- a bit where it is to be set
 abbrev pub bit_if : Bool → ℕ → ℕ

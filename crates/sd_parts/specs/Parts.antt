@@ -1,12 +1,12 @@
 -- The parts of a descriptor (MS-DTYP 2.4.6), and a value for each of them.
 use Rattle.std.specs.Prelude.{Bool, true, false}
-use Rattle.sd_control.specs.declared.part.Part.{Part}
-use Rattle.sd_control.specs.declared.part.Part.TheVariants.{Owner, Group, Sacl, Dacl}
-use Rattle.sd_control.specs.declared.part.Parts.{Parts}
-use Rattle.sd_control.specs.declared.part.SidPart.{SidPart}
-use Rattle.sd_control.specs.declared.part.SidPart.TheVariants as sid
-use Rattle.sd_control.specs.declared.part.Which.{Which}
-use Rattle.sd_control.specs.declared.part.Which.TheVariants as which
+use Rattle.sd_parts.specs.declared.part.Part.{Part}
+use Rattle.sd_parts.specs.declared.part.Part.TheVariants.{Owner, Group, Sacl, Dacl}
+use Rattle.sd_parts.specs.declared.part.Parts.{Parts}
+use Rattle.sd_parts.specs.declared.part.SidPart.{SidPart}
+use Rattle.sd_parts.specs.declared.part.SidPart.TheVariants as sid
+use Rattle.sd_parts.specs.declared.part.Which.{Which}
+use Rattle.sd_parts.specs.declared.part.Which.TheVariants as which
 
 -- the part that a SID or an ACL is
 abbrev pub sid_part_of : SidPart → Part

@@ -1,23 +1,23 @@
 -- The control word and the sizes of parts, with the numbers of MS-DTYP 2.4.6, 2.4.5 and 2.4.2.
 use Rattle.std.proofs.Common.{◌≡◌, ℕ, List, [], ◌∷◌, true, false, codes, refl}
 use Rattle.std.specs.Prelude.{map}
-use Rattle.sd_control.specs.Control.{acl_flags, all_flags, control_of, dacl_present, flag_bits, no_flags, other_acl}
-use Rattle.sd_control.specs.Control.{present_bit, sacl_present, self_relative}
-use Rattle.sd_control.specs.Header.{header_bytes}
-use Rattle.sd_control.specs.Parts.{each_part, get_part, part_of, same_part, set_part, sid_part_of}
-use Rattle.sd_control.specs.declared.control.TheConstants.{CONTROL_BITS, DACL_AUTO_INHERITED, DACL_AUTO_INHERIT_REQUIRED}
-use Rattle.sd_control.specs.declared.control.TheConstants.{DACL_DEFAULTED, DACL_PRESENT, DACL_PROTECTED}
-use Rattle.sd_control.specs.declared.control.TheConstants.{GROUP_DEFAULTED, OWNER_DEFAULTED, RM_CONTROL_VALID}
-use Rattle.sd_control.specs.declared.control.TheConstants.{SACL_AUTO_INHERITED, SACL_AUTO_INHERIT_REQUIRED}
-use Rattle.sd_control.specs.declared.control.TheConstants.{SACL_DEFAULTED, SACL_PRESENT, SACL_PROTECTED, SELF_RELATIVE}
-use Rattle.sd_control.specs.declared.limits.TheConstants.{ACL_HEADER_SIZE, ACL_REVISION, ACL_REVISION_DS, CAPACITY}
-use Rattle.sd_control.specs.declared.limits.TheConstants.{HEADER_SIZE, MOST_ACL_SIZE, MOST_SID_SIZE, SID_HEADER_SIZE}
-use Rattle.sd_control.specs.declared.control.AclFlags.{AclFlags}
-use Rattle.sd_control.specs.declared.part.Part.{Part}
-use Rattle.sd_control.specs.declared.part.Part.TheVariants.{Owner, Group, Sacl, Dacl}
-use Rattle.sd_control.specs.declared.part.Parts.{Parts}
-use Rattle.sd_control.specs.declared.part.SidPart.TheVariants as sid
-use Rattle.sd_control.specs.declared.part.Which.TheVariants as which
+use Rattle.sd_parts.specs.Control.{acl_flags, all_flags, control_of, dacl_present, flag_bits, no_flags, other_acl}
+use Rattle.sd_parts.specs.Control.{present_bit, sacl_present, self_relative}
+use Rattle.sd_parts.specs.Header.{header_bytes}
+use Rattle.sd_parts.specs.Parts.{each_part, get_part, part_of, same_part, set_part, sid_part_of}
+use Rattle.sd_parts.specs.declared.control.TheConstants.{CONTROL_BITS, DACL_AUTO_INHERITED, DACL_AUTO_INHERIT_REQUIRED}
+use Rattle.sd_parts.specs.declared.control.TheConstants.{DACL_DEFAULTED, DACL_PRESENT, DACL_PROTECTED}
+use Rattle.sd_parts.specs.declared.control.TheConstants.{GROUP_DEFAULTED, OWNER_DEFAULTED, RM_CONTROL_VALID}
+use Rattle.sd_parts.specs.declared.control.TheConstants.{SACL_AUTO_INHERITED, SACL_AUTO_INHERIT_REQUIRED}
+use Rattle.sd_parts.specs.declared.control.TheConstants.{SACL_DEFAULTED, SACL_PRESENT, SACL_PROTECTED, SELF_RELATIVE}
+use Rattle.sd_parts.specs.declared.limits.TheConstants.{ACL_HEADER_SIZE, ACL_REVISION, ACL_REVISION_DS, CAPACITY}
+use Rattle.sd_parts.specs.declared.limits.TheConstants.{HEADER_SIZE, MOST_ACL_SIZE, MOST_SID_SIZE, SID_HEADER_SIZE}
+use Rattle.sd_parts.specs.declared.control.AclFlags.{AclFlags}
+use Rattle.sd_parts.specs.declared.part.Part.{Part}
+use Rattle.sd_parts.specs.declared.part.Part.TheVariants.{Owner, Group, Sacl, Dacl}
+use Rattle.sd_parts.specs.declared.part.Parts.{Parts}
+use Rattle.sd_parts.specs.declared.part.SidPart.TheVariants as sid
+use Rattle.sd_parts.specs.declared.part.Which.TheVariants as which
 
 -- each named bit, in rising order: 0x40 and 0x80 have no name
 named_bits : map (λ b. b.bit) CONTROL_BITS

@@ -6,11 +6,11 @@ use Rattle.std.proofs.lemmas.Bool.Decides.{nat_tests}
 use Rattle.std.proofs.lemmas.Nat.{or_disjoint}
 use Rattle.std.proofs.lemmas.Nat.Bits.{and_pow, bit_at_or, bit_at-pow_other}
 use Rattle.sd_text.specs.Bits.{has_bit}
-use Rattle.sd_control.specs.Control.{acl_flags, all_flags, bit_if, control_of, flag_bits, no_flags, other_acl}
-use Rattle.sd_control.specs.Control.{dacl_present, sacl_present, self_relative}
-use Rattle.sd_control.specs.declared.part.Which.{Which}
-use Rattle.sd_control.specs.declared.part.Which.TheVariants as lists
-use Rattle.sd_control.specs.declared.control.AclFlags.{AclFlags}
+use Rattle.sd_parts.specs.Control.{acl_flags, all_flags, bit_if, control_of, flag_bits, no_flags, other_acl}
+use Rattle.sd_parts.specs.Control.{dacl_present, sacl_present, self_relative}
+use Rattle.sd_parts.specs.declared.part.Which.{Which}
+use Rattle.sd_parts.specs.declared.part.Which.TheVariants as lists
+use Rattle.sd_parts.specs.declared.control.AclFlags.{AclFlags}
 
 -- a bit more, where it is clear
 add-bit : (n k : ℕ) → bit_at n k ≡ 0 → bit_or n (2 ^ k) ≡ n + 2 ^ k

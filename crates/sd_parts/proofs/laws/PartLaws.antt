@@ -1,9 +1,9 @@
 -- Parts that are the same or not, and the value for a part that was replaced.
 use Rattle.std.proofs.Common.{◌≡◌, true, false, refl}
-use Rattle.sd_control.specs.Parts.{get_part, same_part, set_part}
-use Rattle.sd_control.specs.declared.part.Part.{Part}
-use Rattle.sd_control.specs.declared.part.Part.TheVariants.{Owner, Group, Sacl, Dacl}
-use Rattle.sd_control.specs.declared.part.Parts.{Parts}
+use Rattle.sd_parts.specs.Parts.{get_part, same_part, set_part}
+use Rattle.sd_parts.specs.declared.part.Part.{Part}
+use Rattle.sd_parts.specs.declared.part.Part.TheVariants.{Owner, Group, Sacl, Dacl}
+use Rattle.sd_parts.specs.declared.part.Parts.{Parts}
 
 pub same-self : (p : Part) → same_part p p ≡ true
 same-self Owner = refl

@@ -1,5 +1,5 @@
-use Rattle.sd_control.proofs.laws.ControlLaws.{bits-same, flags-apart}
-use Rattle.sd_control.proofs.control.AclFlags.bits.Goals as goal
+use Rattle.sd_parts.proofs.laws.ControlLaws.{bits-same, flags-apart}
+use Rattle.sd_parts.proofs.control.AclFlags.bits.Goals as goal
 
 pub returns-in-Sacl-clause-apart : goal.returns-in-Sacl-clause-apart
 returns-in-Sacl-clause-apart c = flags-apart c.args.which c.args.self

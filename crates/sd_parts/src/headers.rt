@@ -1,7 +1,7 @@
 //! The header of a descriptor (MS-DTYP 2.4.6).
 
 ghost use Rattle.std.specs.Prelude.{◌≡◌};
-ghost use Rattle.sd_control.specs.Header.{header_bytes};
+ghost use Rattle.sd_parts.specs.Header.{header_bytes};
 
 use crate::limits::HEADER_SIZE;
 use crate::part::Parts;

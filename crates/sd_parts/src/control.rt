@@ -2,8 +2,8 @@
 
 ghost use Rattle.std.specs.Prelude.{◌≡◌, ◌<◌, ◌+◌, ◌^◌, ℕ, false};
 ghost use Rattle.sd_text.specs.Bits.{bit_of, has_bit};
-ghost use Rattle.sd_control.specs.Control.{AreListedBits, acl_flags, all_flags, bit_if, flag_bits, no_flags, other_acl};
-ghost use Rattle.sd_control.specs.Control.{control_of};
+ghost use Rattle.sd_parts.specs.Control.{AreListedBits, acl_flags, all_flags, bit_if, flag_bits, no_flags, other_acl};
+ghost use Rattle.sd_parts.specs.Control.{control_of};
 
 use crate::part::Which;
 

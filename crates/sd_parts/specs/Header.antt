@@ -1,7 +1,7 @@
 -- The header of a descriptor (MS-DTYP 2.4.6).
 use Rattle.std.specs.Prelude.{ℕ, List, ◌∷◌, ◌++◌}
 use Rattle.byteorder.specs.Endian.{little_bytes}
-use Rattle.sd_control.specs.declared.part.Parts.{Parts}
+use Rattle.sd_parts.specs.declared.part.Parts.{Parts}
 
 -- revision, resource manager byte, control word, and the offsets of owner, group, SACL and DACL
 unfoldable pub header_bytes : ℕ → ℕ → Parts ℕ → List ℕ
