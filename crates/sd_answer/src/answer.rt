@@ -1,17 +1,17 @@
 //! The answer to a line.
 
 ghost use Rattle.std.specs.Prelude.{◌≡◌, ℕ, List, [], ◌∷◌, true, Ok, Err};
-ghost use Rattle.std.specs.Option.{option_copied};
 ghost use Rattle.sd_sink.specs.Print.{Prints};
-ghost use Rattle.sd_view.specs.Descriptor.{Descriptor};
+ghost use Rattle.sd_view.specs.Descriptor.{Descriptor, Shows};
 ghost use Rattle.sd_view.specs.Layout.{layout};
+ghost use Rattle.sd_view.specs.WrittenForm.{IsWrittenForm};
 ghost use Rattle.sd_token.specs.Token.{Compares};
 ghost use Rattle.sd_inherit.specs.Derived.{derive_fault, derived};
 ghost use Rattle.sd_explain.specs.Explain.{explain};
 ghost use Rattle.sd_sddl_printer.specs.Printed.{sddl};
 ghost use Rattle.sd_answer.specs.Answer.{act_outcome, answer, bound, converted, form_text, is_error};
 ghost use Rattle.sd_answer.specs.Answer.{naming_of, refused, unless_too_large, verdict_text};
-ghost use Rattle.sd_answer.specs.Inner.Printing.{CanPrint, IsGiven, PrintsAnswer};
+ghost use Rattle.sd_answer.specs.Inner.Printing.{PrintsAnswer};
 ghost use Rattle.sd_answer.specs.LineEnd.{line_feed};
 ghost use Rattle.sd_answer.specs.LineInHand.{HoldsText, IsReady, PutsAnswer};
 
@@ -125,7 +125,7 @@ fn print_act<P: Print>(
     let job = &task.job;
     match job.act {
         Act::Convert(form) => {
-            print_form(job, form, Some(view), stores, out);
+            print_form(job, form, view, stores, out);
             print_end(false, out)
         }
         Act::Explain => {
@@ -140,53 +140,49 @@ fn print_act<P: Print>(
     }
 }
 
-// Prints a descriptor in a form: that of the view, or without a view the one that is written in the buffer.
+// Prints a descriptor in a form, from where it is read.
 #[tactic(auto, unfolding(crate::specs::Answer::form_text))]
 fn print_form<P: Print>(
     job: &Job,
     form: OutputForm,
-    view: Option<&SdView<'_>>,
+    view: &SdView<'_>,
     stores: &mut Stores,
     out: &mut P,
 )
-    requires { CanPrint (option_copied view) stores.old.written }
-    ensures { (d : Descriptor) → IsGiven (option_copied view.entry) stores.old.written d
-        → Prints (P.told out.old) (P.told out.new) (form_text job.now form d) }
+    ensures { Prints (P.told out.old) (P.told out.new) (form_text job.now form view.now) }
 {
     match form {
         OutputForm::Hex => {
-            lay_out(view, &mut stores.written);
+            write_layout(view, &mut stores.written);
             print_hex(stores.written.bytes(), &mut stores.spelled, out);
         }
         OutputForm::Base64 => {
-            lay_out(view, &mut stores.written);
+            write_layout(view, &mut stores.written);
             print_base64(stores.written.bytes(), &mut stores.spelled, out);
         }
-        OutputForm::Sddl => print_as_sddl(job, view, &stores.written, out),
+        OutputForm::Sddl => print_as_sddl(job, view, out),
     }
 }
 
-// Writes the descriptor of the view into the buffer. Without a view its bytes are there already.
-fn lay_out(view: Option<&SdView<'_>>, written: &mut SdBuf)
-    ensures { (d : Descriptor) → IsGiven (option_copied view.entry) written.old d → written.new ≡ layout d }
+// Prints the descriptor that was written into the buffer, in a form.
+#[tactic(auto, unfolding(crate::specs::Answer::form_text))]
+fn print_written<P: Print>(job: &Job, form: OutputForm, stores: &mut Stores, out: &mut P)
+    requires { IsWrittenForm stores.old.written }
+    ensures { (d : Descriptor) → Shows stores.old.written d → stores.old.written ≡ layout d
+        → Prints (P.told out.old) (P.told out.new) (form_text job.now form d) }
 {
-    if let Some(view) = view {
-        write_layout(view, written);
+    match form {
+        OutputForm::Hex => print_hex(stores.written.bytes(), &mut stores.spelled, out),
+        OutputForm::Base64 => print_base64(stores.written.bytes(), &mut stores.spelled, out),
+        OutputForm::Sddl => print_as_sddl(job, &view_written(stores.written.bytes()), out),
     }
 }
 
-// Prints the descriptor as SDDL.
-fn print_as_sddl<P: Print>(job: &Job, view: Option<&SdView<'_>>, written: &SdBuf, out: &mut P)
-    requires { CanPrint (option_copied view) written.now }
-    ensures { (d : Descriptor) → IsGiven (option_copied view.entry) written.now d
-        → Prints (P.told out.old) (P.told out.new) (sddl (naming_of job.now) d) }
+// Prints a descriptor as SDDL.
+fn print_as_sddl<P: Print>(job: &Job, view: &SdView<'_>, out: &mut P)
+    ensures { Prints (P.told out.old) (P.told out.new) (sddl (naming_of job.now) view.now) }
 {
-    if let Some(view) = view {
-        print_sddl(view, job.domain.as_ref(), job.numeric, out);
-        return;
-    }
-    let view = view_written(written.bytes());
-    print_sddl(&view, job.domain.as_ref(), job.numeric, out);
+    print_sddl(view, job.domain.as_ref(), job.numeric, out);
 }
 
 // Prints the descriptor of a new object in a form, or why there is none.
@@ -206,7 +202,7 @@ fn print_derived<P: Print>(
 {
     match derive(parent, task.creator.as_ref(), plan, &mut stores.written) {
         Ok(()) => {
-            print_form(&task.job, form, None, stores, out);
+            print_written(&task.job, form, stores, out);
             print_end(false, out)
         }
         Err(fault) => print_error(&LineFault::Derive(fault), out),

@@ -5,7 +5,7 @@ use Rattle.sd_answer.proofs.answer.print_act.Goals as goal
 
 pub returns-in-Convert-clause-printed : goal.returns-in-Convert-clause-printed
 returns-in-Convert-clause-printed g c =
-    rw c.in-Convert.is (prints_then (c.print_form.ensures _ refl) c.print_end.ensures.0, c.print_end.ensures.1)
+    rw c.in-Convert.is (prints_then c.print_form.ensures c.print_end.ensures.0, c.print_end.ensures.1)
 
 pub returns-in-Convert-clause-compared : goal.returns-in-Convert-clause-compared
 returns-in-Convert-clause-compared g c = rw c.in-Convert.is (Compares-none c.args.token.now _)
