@@ -75,15 +75,6 @@ impl<'a> LentToken<'a> {
         LentToken::counting(keys, words, level, 0)
     }
 
-    /// The number of entries.
-    #[tactic(auto, using(crate::proofs::TokenLemmas::as_many))]
-    pub fn len(&self) -> usize
-        ensures entries { result ≡ length self.now.holder.entries }
-        ensures most { result ≤ most_entries }
-    {
-        self.keys.len()
-    }
-
     /// The integrity level, if there is one.
     pub fn level(&self) -> Option<u32>
         ensures { result ≡ self.now.holder.level }
