@@ -6,17 +6,18 @@ cd "$(dirname "$0")/.." || exit 2
 program=crates/sdtool/out/sdtool
 passed=0
 failed=0
-comparison=
 library=
+lanes=()
 logs=$(mktemp -d) || exit 2
-log=$logs/part
 copy=$logs/tree
 trap end EXIT
 
 # Nothing goes on in the background after the tests, however they end.
 end() {
-    [[ -z $comparison ]] || kill "$comparison" 2>/dev/null
-    [[ -z $library ]] || kill -- "-$library" 2>/dev/null
+    local job
+    for job in $library "${lanes[@]}"; do
+        kill -- "-$job" 2>/dev/null
+    done
     wait
     rm -rf "$logs"
 }
@@ -33,8 +34,54 @@ add() {
 
 count() {
     echo "== $*"
-    "$@" 2>&1 | tee "$log"
-    add "$log" "${PIPESTATUS[0]}"
+    "$@" 2>&1 | tee "$logs/part"
+    add "$logs/part" "${PIPESTATUS[0]}"
+}
+
+# Runs the parts of a lane one after the other. What a part prints comes out whole when it has ended, with its time, since
+# other lanes print too.
+run_lane() {
+    local folder=$1 part log began number=0
+    shift
+    for part; do
+        log=$folder/$((number += 1))
+        began=$SECONDS
+        # Each part is a command and its words.
+        $part >"$log" 2>&1
+        echo $? >"$log.status"
+        {
+            flock 9
+            echo "== $part ($((SECONDS - began)) s)"
+            cat "$log"
+        } 9>"$logs/lock"
+    done
+}
+
+# Starts a lane of parts beside the others. A group of processes of its own is what `end` stops.
+start_lane() {
+    local folder=$logs/lane${#lanes[@]}
+    mkdir "$folder"
+    set -m
+    run_lane "$folder" "$@" </dev/null &
+    lanes+=($!)
+    set +m
+    echo $# >"$folder/parts"
+}
+
+# Waits for all lanes, and adds their parts. A part that left no status counts as one that failed.
+add_lanes() {
+    local folder number
+    wait "${lanes[@]}"
+    lanes=()
+    for folder in "$logs"/lane*; do
+        for ((number = 1; number <= $(<"$folder/parts"); number += 1)); do
+            if [[ -f $folder/$number.status ]]; then
+                add "$folder/$number" "$(<"$folder/$number.status")"
+            else
+                ((failed += 1))
+            fi
+        done
+    done
 }
 
 # Builds the library, and all for other systems, in a copy of the tree, where the gate does not set aside what was proved.
@@ -58,6 +105,14 @@ take_systems() {
     "${MAKE:-make}" --no-print-directory --directory "$copy" systems && cp -r "$copy/out/systems" out
 }
 
+# The page has a module inside that is built for WebAssembly. Where that is there, so has to be the page.
+build_page() {
+    if [[ -f out/systems/wasm/sdtool.wasm ]] && ! "${MAKE:-make}" --no-print-directory --assume-old=wasm page; then
+        echo "the page is not built"
+        ((failed += 1))
+    fi
+}
+
 # No older program or library is to be tested where the gate stops before it has built one.
 rm -rf "$program" out/lib out/sdtool.html out/systems
 count tests/layers.py
@@ -73,50 +128,26 @@ start_library
 count rt ci
 count tests/run_rows.py --reference
 if "${MAKE:-make}" --no-print-directory program; then
-    # The longest part keeps one processor busy, so the others run beside it.
-    tests/compare.py "$program" >"$logs/comparison" 2>&1 &
-    comparison=$!
-    count tests/run_rows.py "$program"
-    count tests/run_rows.py "$program" --one-byte
-    count tests/refused_allocations.py "$program"
-    count tests/tables.py "$program"
-    count tests/run_examples.py "$program"
-    count tests/hostile_lists.py "$program"
-    count tests/door_examples.py
-    count tests/completions.py "$program"
-    count tests/system_calls.py "$program"
-    count tests/memory.py "$program"
-    count tests/device_faults.py "$program"
+    # Four lanes, none much longer than the others. What starts a browser or another system's programs is in one, so that
+    # no two of these wait for each other.
+    start_lane "tests/compare.py $program"
+    start_lane "tests/run_rows.py $program" "tests/run_rows.py $program --one-byte" \
+        "tests/refused_allocations.py $program" "tests/tables.py $program" "tests/run_examples.py $program" \
+        "tests/hostile_lists.py $program" tests/door_examples.py "tests/completions.py $program" \
+        "tests/system_calls.py $program" "tests/memory.py $program" "tests/device_faults.py $program"
     if take_library; then
         take_systems
-        count tests/c_library.py "$program"
-        count tests/c_objects.py "$program"
-        count tests/c_stacks.py
-        count tests/c_install.py
-        count tests/c_examples.py
-        count tests/python_calls.py "$program"
-        count tests/python_objects.py "$program"
-        count tests/python_wheels.py
-        count tests/distributed.py "$program"
-        count tests/audit.py
-        # The page has a module inside that is built for WebAssembly. Where that is there, so has to be the page.
-        if [[ -f out/systems/wasm/sdtool.wasm ]] && ! "${MAKE:-make}" --no-print-directory --assume-old=wasm page; then
-            echo "the page is not built"
-            ((failed += 1))
-        fi
-        count tests/page.py "$program"
-        count tests/page_schema.py
+        build_page
+        start_lane "tests/c_library.py $program" "tests/c_objects.py $program" tests/c_stacks.py tests/c_install.py \
+            tests/c_examples.py "tests/python_calls.py $program" "tests/python_objects.py $program" \
+            tests/python_wheels.py "tests/distributed.py $program" tests/audit.py
+        start_lane "tests/page.py $program" tests/page_schema.py "tests/systems.py $program"
     else
         echo "the library is not built, so its tests have not run"
         ((failed += 1))
+        start_lane "tests/systems.py $program"
     fi
-    count tests/systems.py "$program"
-    wait "$comparison"
-    status=$?
-    comparison=
-    echo "== tests/compare.py $program"
-    cat "$logs/comparison"
-    add "$logs/comparison" "$status"
+    add_lanes
 else
     echo "the program is not built, so its tests have not run"
     ((failed += 1))
