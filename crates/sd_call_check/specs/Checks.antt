@@ -36,14 +36,20 @@ abbrev pub sid_found : ℕ → Option (SecurityId × ℕ) → Result (SecurityId
 sid_found n None = Err (call.Argument which.Sids n)
 sid_found n (Some found) = Ok found
 
+-- the entry with this number, whose SID stands at the front of the bytes, and the SID's size
+abbrev pub entry_at : ℕ → List ℕ → ℕ → Result (Entry × ℕ) CallFault
+entry_at n sids byte = do
+  kind ← kind_in n byte
+  found ← sid_found n (sid_at sids)
+  Ok ((found.0, kind), found.1)
+
 -- From the entry with this number on: the SIDs one after the other with nothing behind the last, and a byte for each.
 abbrev pub entries_from : ℕ → List ℕ → List ℕ → Result (List Entry) CallFault
 entries_from n sids [] = if nat_eq (length sids) 0 then Ok [] else Err (call.Argument which.Sids n)
 entries_from n sids (byte ∷ bytes) = do
-  kind ← kind_in n byte
-  front ← sid_found n (sid_at sids)
+  front ← entry_at n sids byte
   others ← entries_from (n + 1) (drop front.1 sids) bytes
-  Ok ((front.0, kind) ∷ others)
+  Ok (front.0 ∷ others)
 
 abbrev pub level_of : Request → Option ℕ
 level_of request = if request.has_level then Some request.level else None

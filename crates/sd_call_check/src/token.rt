@@ -1,8 +1,8 @@
 //! The token that an access check is for.
 
-ghost use Rattle.std.specs.Prelude.{◌≡◌, ◌≤◌, ◌+◌, ◌++◌, [], length, MatchResult, Ok, Err};
+ghost use Rattle.std.specs.Prelude.{◌≡◌, ◌≤◌, ◌+◌, ◌++◌, [], length, MatchResult, IfOk, Ok, Err};
 ghost use Rattle.sd_token.specs.Limits.{most_entries};
-ghost use Rattle.sd_call_check.specs.Checks.{entries_from, entries_in, fault_of, holder_in, kind_in};
+ghost use Rattle.sd_call_check.specs.Checks.{entries_from, entries_in, entry_at, fault_of, holder_in, kind_in};
 
 use crate::request::Request;
 use sd_call::{Argument, CallFault};
@@ -31,7 +31,7 @@ pub fn give_holder(
 }
 
 // Adds the SIDs, one after the other.
-#[tactic(auto, using(crate::proofs::TokenLemmas::sid_fits, crate::proofs::TokenLemmas::behind_none))]
+#[tactic(auto, using(crate::proofs::TokenLemmas::behind_none))]
 fn add_entries(token: &mut Token, sids: &[u8], kinds: &[u8]) -> Result<(), CallFault>
     requires none { token.old.holder.entries ≡ [] }
     requires few { length kinds.now ≤ most_entries }
@@ -43,10 +43,7 @@ fn add_entries(token: &mut Token, sids: &[u8], kinds: &[u8]) -> Result<(), CallF
     let mut rest = sids;
     let mut kinds_left = kinds;
     while let Some((byte, others)) = kinds_left.split_first() {
-        let kind = kind_in(*byte, n)?;
-        let Some((sid, size)) = Sid::read(rest) else {
-            return Err(CallFault::Argument(Argument::Sids, n));
-        };
+        let ((sid, kind), size) = entry_at(n, rest, *byte)?;
         // There is room for all.
         if token.add(sid, kind).is_err() {
             return Err(CallFault::Argument(Argument::Entries, n));
@@ -55,11 +52,7 @@ fn add_entries(token: &mut Token, sids: &[u8], kinds: &[u8]) -> Result<(), CallF
         kinds_left = others;
         n += 1;
     }
-    if rest.is_empty() {
-        Ok(())
-    } else {
-        Err(CallFault::Argument(Argument::Sids, n))
-    }
+    nothing_behind(n, rest)
 }
 
 /// Whether these are the entries of a token, told without one.
@@ -74,7 +67,6 @@ pub fn check_entries(sids: &[u8], kinds: &[u8]) -> Result<(), CallFault>
 }
 
 // Reads the SIDs, one after the other.
-#[tactic(auto, using(crate::proofs::TokenLemmas::sid_fits))]
 fn read_entries(sids: &[u8], kinds: &[u8]) -> Result<(), CallFault>
     ensures { result ≡ fault_of (entries_from 0 sids.now kinds.now) }
 {
@@ -82,22 +74,44 @@ fn read_entries(sids: &[u8], kinds: &[u8]) -> Result<(), CallFault>
     let mut sids_left = sids;
     let mut kinds_left = kinds;
     while let Some((byte, later)) = kinds_left.split_first() {
-        let _ = kind_in(*byte, n)?;
-        match Sid::read(sids_left) {
-            Some((_, size)) => sids_left = &sids_left[size..],
-            None => return Err(CallFault::Argument(Argument::Sids, n)),
-        }
+        let (_, size) = entry_at(n, sids_left, *byte)?;
+        sids_left = &sids_left[size..];
         kinds_left = later;
         n += 1;
     }
-    if !sids_left.is_empty() {
-        return Err(CallFault::Argument(Argument::Sids, n));
+    nothing_behind(n, sids_left)
+}
+
+// The entry with this number, whose SID stands at the front of the bytes, and the SID's size.
+#[tactic(auto, using(crate::proofs::TokenLemmas::sid_fits))]
+pub(crate) fn entry_at(
+    n: usize,
+    sids: &[u8],
+    byte: u8,
+) -> Result<((Sid, EntryKind), usize), CallFault>
+    ensures exact { result ≡ entry_at n sids.now byte }
+    ensures within { IfOk result (λ front. front.1 ≤ length sids.now) }
+{
+    let kind = kind_in(byte, n)?;
+    match Sid::read(sids) {
+        Some((sid, size)) => Ok(((sid, kind), size)),
+        None => Err(CallFault::Argument(Argument::Sids, n)),
     }
-    Ok(())
+}
+
+// Nothing may stand behind the last SID.
+pub(crate) fn nothing_behind(n: usize, sids: &[u8]) -> Result<(), CallFault>
+    ensures { result ≡ fault_of (entries_from n sids.now []) }
+{
+    if sids.is_empty() {
+        Ok(())
+    } else {
+        Err(CallFault::Argument(Argument::Sids, n))
+    }
 }
 
 // The kind of the entry with this number.
-pub(crate) fn kind_in(byte: u8, n: usize) -> Result<EntryKind, CallFault>
+fn kind_in(byte: u8, n: usize) -> Result<EntryKind, CallFault>
     ensures { result ≡ kind_in n byte }
 {
     match byte {

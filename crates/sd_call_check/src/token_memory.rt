@@ -7,7 +7,7 @@ ghost use Rattle.sd_token.specs.TokenWords.{entries_of, entry_words};
 ghost use Rattle.sd_call_check.specs.Checks.{entries_from};
 ghost use Rattle.sd_call_check.specs.TokenMemory.{ReadsToken, entries_at, entries_held, holder_held, holds_token, token_size};
 
-use crate::token::kind_in;
+use crate::token::{entry_at, nothing_behind};
 use sd_call::{Argument, CallFault, Outcome, done, failed, too_small};
 use sd_sid::Sid;
 use sd_token::{ENTRY_WORDS, EntryKind, LentToken, MOST_ENTRIES, key_of, words_of};
@@ -101,7 +101,7 @@ fn write_token(numbers: &mut [u32], sids: &[u8], kinds: &[u8]) -> Result<(), Cal
 }
 
 // Writes the entries, one after the other.
-#[tactic(auto, using(crate::proofs::TokenLemmas::sid_fits, crate::proofs::TokenLemmas::behind_none))]
+#[tactic(auto, using(crate::proofs::TokenLemmas::behind_none))]
 fn write_entries(
     keys: &mut [u32],
     words: &mut [u32],
@@ -119,20 +119,13 @@ fn write_entries(
     let mut rest = sids;
     let mut kinds_left = kinds;
     while let Some((byte, others)) = kinds_left.split_first() {
-        let kind = kind_in(*byte, n)?;
-        let Some((sid, size)) = Sid::read(rest) else {
-            return Err(CallFault::Argument(Argument::Sids, n));
-        };
+        let ((sid, kind), size) = entry_at(n, rest, *byte)?;
         write_entry(keys, words, n, &sid, kind);
         rest = &rest[size..];
         kinds_left = others;
         n += 1;
     }
-    if rest.is_empty() {
-        Ok(())
-    } else {
-        Err(CallFault::Argument(Argument::Sids, n))
-    }
+    nothing_behind(n, rest)
 }
 
 // Writes the entry with this number, behind those before it.
