@@ -18,8 +18,10 @@ use sd_answer::{Line, Stores, Task, put_answer};
 use sd_sink::SinkFault;
 use sd_token::Token;
 
-/// The bytes that are searched for an LF at once.
-const BLOCK: usize = 32;
+/// The bytes that are searched for an LF at once: many, and few where the line may end.
+const MANY: usize = 128;
+
+const FEW: usize = 16;
 
 // Answers the line in hand, counts it, and begins the next.
 fn answer_line<W: Drain>(
@@ -106,14 +108,28 @@ pub fn line_end(bytes: &[u8]) -> Option<usize>
     ensures found { IfSome result (λ n. (n < length bytes.now) × (slice_index bytes.now n ≡ line_feed)) }
     ensures before { (k : ℕ) → k < unwrap_or result (length bytes.now) → slice_index bytes.now k ≢ line_feed }
 {
-    let mut start = 0;
-    while bytes.len() - start >= BLOCK && !has_lf(&bytes[start..start + BLOCK]) {
-        start += BLOCK;
-    }
+    let passed = pass_blocks(bytes, 0, MANY);
+    let start = pass_blocks(bytes, passed, FEW);
     match first_lf(&bytes[start..]) {
         Some(n) => Some(start + n),
         None => None,
     }
+}
+
+// Passes over whole blocks of a size that have no LF, from a place on before which there is none.
+#[inline(always)]
+fn pass_blocks(bytes: &[u8], from: usize, size: usize) -> usize
+    requires size { 0 < size }
+    requires from { from ≤ length bytes.now }
+    requires none { (k : ℕ) → k < from → slice_index bytes.now k ≢ line_feed }
+    ensures within { result ≤ length bytes.now }
+    ensures before { (k : ℕ) → k < result → slice_index bytes.now k ≢ line_feed }
+{
+    let mut start = from;
+    while bytes.len() - start >= size && !has_lf(&bytes[start..start + size]) {
+        start += size;
+    }
+    start
 }
 
 fn first_lf(bytes: &[u8]) -> Option<usize>
@@ -124,6 +140,7 @@ fn first_lf(bytes: &[u8]) -> Option<usize>
 }
 
 // Whether an LF is among the bytes. It looks at all of them, and so at several at a time.
+#[inline(always)]
 fn has_lf(bytes: &[u8]) -> bool
     ensures { result ≡ false → (k : ℕ) → k < length bytes.now → slice_index bytes.now k ≢ line_feed }
 {

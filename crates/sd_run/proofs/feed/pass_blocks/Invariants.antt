@@ -1,5 +1,5 @@
 use Rattle.std.proofs.Common.{◌≢◌, ◌<◌, ◌≤◌, ◌-◌, ℕ, length, get_or}
-use Rattle.sd_run.proofs.feed.line_end.Given as goal
+use Rattle.sd_run.proofs.feed.pass_blocks.Given as goal
 
 abbrev pub invariant-loop-start : goal.invariant-loop-start
 invariant-loop-start l = record {
