@@ -56,6 +56,13 @@ impl Model for Ace {
 impl Ace {
     /// The ACE of these parts. None where the flags have 0x20, or where a kind that is no object kind
     /// comes with a GUID.
+    ///
+    /// ```
+    /// let everyone = Sid::new(1, &[0]).expect(&rt, "a SID");
+    /// let ace = Ace::new(AceKind::Allow, 0, 0x1f01ff, None, None, everyone).expect(&rt, "an ACE");
+    /// assert!(rt; ace.size() == 20 && ace.mask() == 0x1f01ff);
+    /// assert!(rt; Ace::new(AceKind::Allow, UNUSED_FLAG, 1, None, None, everyone) == None);
+    /// ```
     pub fn new(
         kind: AceKind,
         flags: u8,

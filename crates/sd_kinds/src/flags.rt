@@ -47,6 +47,11 @@ pub const FLAGS: [NamedBits; 7] = [
 ];
 
 /// Whether a flag is set among those of an ACE. It is one of `FLAGS`, and not several at once.
+///
+/// ```
+/// assert!(rt; has_flag(0x13, INHERITED));
+/// assert!(rt; !has_flag(0x03, INHERITED));
+/// ```
 #[inline(always)]
 pub fn has_flag(flags: u8, flag: u8) -> bool
     requires { IsTrue (is_flag flag) }
@@ -56,6 +61,12 @@ pub fn has_flag(flags: u8, flag: u8) -> bool
 }
 
 /// Puts the names of an ACE's flags, as `OICI` for 3. Bit 0x20 has no name.
+///
+/// ```
+/// let mut sink = TextSink::new(&rt);
+/// assert!(rt; put_flags(OBJECT_INHERIT | CONTAINER_INHERIT, &mut sink) == Ok(()));
+/// assert!(rt; sink.bytes() == b"OICI".as_slice());
+/// ```
 pub fn put_flags<S: Sink>(flags: u8, sink: &mut S) -> Result<(), SinkFault>
     ensures put { Puts (S.told sink.old) (S.told sink.new) (flags_text flags) result }
     // The text reads as the flags.
@@ -83,6 +94,11 @@ pub fn print_flags<P: Print>(flags: u8, out: &mut P)
 
 /// The flags of a text of at most 183 bytes (MS-DTYP 2.5.1.1): names of two letters, in either case and any
 /// order, also repeated, as `CIOI` for 3. None for any other text.
+///
+/// ```
+/// assert!(rt; flags_from_text(b"ciID") == Some(CONTAINER_INHERIT | INHERITED));
+/// assert!(rt; flags_from_text(b"CI ID") == None);
+/// ```
 #[tactic(auto, unfolding(crate::specs::Flags::flags_reads, sd_text::specs::LimitValues::LimitValues))]
 pub fn flags_from_text(text: &[u8]) -> Option<u8>
     ensures exact { result ≡ flags_reads text.now }

@@ -79,6 +79,11 @@ impl AceKind {
     }
 
     /// The kind of a type byte. None where no kind has it.
+    ///
+    /// ```
+    /// assert!(rt; AceKind::from_code(0x11) == Some(AceKind::Label));
+    /// assert!(rt; AceKind::from_code(0x09) == None);
+    /// ```
     #[tactic(auto, unfolding(crate::specs::KindValues::KindValues))]
     #[inline(always)]
     pub fn from_code(code: u8) -> Option<AceKind>
@@ -102,6 +107,11 @@ impl AceKind {
     }
 
     /// The kind that has these letters, in either case. None where no kind has them.
+    ///
+    /// ```
+    /// assert!(rt; AceKind::from_text(b"OA") == Some(AceKind::ObjectAllow));
+    /// assert!(rt; AceKind::from_text(b"XA") == None);
+    /// ```
     #[tactic(auto, unfolding(crate::specs::Kinds::kind_named))]
     pub fn from_text(text: &[u8]) -> Option<AceKind>
         ensures exact { result ≡ kind_named text.now }

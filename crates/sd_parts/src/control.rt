@@ -59,6 +59,11 @@ pub struct ControlBit {
 
 impl ControlBit {
     /// Whether it is set in a control word.
+    ///
+    /// ```
+    /// let set = CONTROL_BITS.iter().filter(|bit| bit.is_set(0x8014)).count();
+    /// assert!(rt; set == 3);
+    /// ```
     pub fn is_set(&self, control: u16) -> bool
         requires { 0 < self.now.bit }
         ensures value { result ≡ has_bit self.now.bit control }
@@ -108,6 +113,11 @@ pub struct AclFlags {
 
 impl AclFlags {
     /// The flags of an ACL in a control word.
+    ///
+    /// ```
+    /// assert!(rt; AclFlags::of(Which::Dacl, 0x9004).protected);
+    /// assert!(rt; !AclFlags::of(Which::Sacl, 0x9004).protected);
+    /// ```
     pub fn of(which: Which, control: u16) -> AclFlags
         ensures { result ≡ acl_flags which control }
     {

@@ -43,6 +43,11 @@ pub const BELOW_SYSTEM_SECURITY: u32 = 0xff_ffff;
 pub const ALL_RIGHTS: u32 = 0x1ff_ffff;
 
 /// Whether a mask has a right, whose own mask is one bit.
+///
+/// ```
+/// assert!(rt; has_right(0x1f01ff, WRITE_DAC));
+/// assert!(rt; !has_right(0x120089, WRITE_DAC));
+/// ```
 #[inline(always)]
 pub fn has_right(mask: u32, right: u32) -> bool
     requires { 0 < right }

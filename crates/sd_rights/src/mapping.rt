@@ -114,6 +114,11 @@ impl Mapping {
     }
 
     /// The mask with each generic right replaced by the rights that it means.
+    ///
+    /// ```
+    /// assert!(rt; Mapping::FILE.map(GENERIC_ALL) == 0x1f01ff);
+    /// assert!(rt; Mapping::KEY.map(GENERIC_READ | DELETE) == 0x30019);
+    /// ```
     #[tactic(auto, unfolding(crate::specs::Mapping::mapped, crate::specs::MappingValues::MappingValues))]
     pub fn map(&self, mask: u32) -> u32
         ensures value { result ≡ mapped self.now mask }

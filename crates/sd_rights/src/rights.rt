@@ -20,6 +20,12 @@ const HEX_SIZE: usize = 10;
 
 /// Puts the text of an access mask (MS-DTYP 2.5.1.1): names if every bit of the mask has a name in an
 /// ACE of this kind, else hex digits. So 1 is `CC`, and `NW` in a label.
+///
+/// ```
+/// let mut sink = TextSink::new(&rt);
+/// assert!(rt; put_rights(AceKind::Allow, 0x1f01ff, &mut sink) == Ok(()));
+/// assert!(rt; sink.bytes() == b"FA".as_slice());
+/// ```
 pub fn put_rights<S: Sink>(kind: AceKind, mask: u32, sink: &mut S) -> Result<(), SinkFault>
     ensures put { Puts (S.told sink.old) (S.told sink.new) (rights_text kind mask) result }
     // The text reads as the mask.

@@ -10,6 +10,12 @@ use sd_text::{MOST_FIELD_SIZE, read_names, read_number};
 /// with a decimal digit is a number below 2^32: hex after `0x` or `0X`, octal after any other zero, and else
 /// decimal. Any other is a run of names of two letters, in either case and any order, also repeated; each
 /// name reads in every kind of ACE. None for a text that is neither. So `CCDC`, `0x3`, `03` and `3` are one mask.
+///
+/// ```
+/// assert!(rt; rights_from_text(b"FR") == Some(0x120089));
+/// assert!(rt; rights_from_text(b"RCWD") == Some(READ_CONTROL | WRITE_DAC));
+/// assert!(rt; rights_from_text(b"F") == None);
+/// ```
 #[tactic(auto, unfolding(crate::specs::Rights::rights_reads))]
 pub fn rights_from_text(text: &[u8]) -> Option<u32>
     ensures { result ≡ rights_reads text.now }

@@ -33,6 +33,11 @@ const CREATOR: u64 = 3;
 
 impl Sid {
     /// The two letters that name it, everywhere or in the domain. A domain of 15 sub-authorities has no aliases.
+    ///
+    /// ```
+    /// let system = Sid::new(5, &[18]).expect(&rt, "a SID");
+    /// assert!(rt; system.alias(None) == Some(*b"SY"));
+    /// ```
     #[inline(always)]
     pub fn alias(&self, domain: Option<&Sid>) -> Option<[u8; 2]>
         ensures exact { result ≡ alias_of self.now (option_copied domain.entry) }

@@ -6,6 +6,12 @@ ghost use Rattle.sd_sid.specs.Naming.{alias_by};
 use crate::sid::Sid;
 
 /// How SIDs are printed: by aliases, with those of the domain if there is one, or by numbers alone.
+///
+/// ```
+/// let naming = Naming { domain: Sid::new(5, &[21, 1, 2, 3]), numeric: false };
+/// let admins = Sid::new(5, &[21, 1, 2, 3, 512]).expect(&rt, "a SID");
+/// assert!(rt; naming.alias(&admins) == Some(*b"DA"));
+/// ```
 #[derive(Clone, Copy)]
 pub struct Naming {
     pub domain: Option<Sid>,

@@ -52,6 +52,10 @@ impl Model for Sid {
 impl Sid {
     /// The SID of these parts. None where the authority is 2^48 or more, or where there are more than
     /// 15 sub-authorities.
+    ///
+    /// ```
+    /// assert!(rt; Sid::new(5, &[32, 544]).map(|sid| sid.size()) == Some(16));
+    /// ```
     pub fn new(authority: u64, subs: &[u32]) -> Option<Sid>
         ensures found { IsSome result ↔ ((authority < 2 ^ 48) × (length subs.now ≤ most_subs)) }
         ensures value { IfSome result (λ s. s ≡ record { authority = authority; subs = subs.now }) }

@@ -43,6 +43,12 @@ const HEX_DIGITS: usize = 12;
 impl Sid {
     /// Puts the text: `S-1-`, the authority, and a dash and a number for each sub-authority. Numbers are
     /// decimal; an authority of 2^32 or more is `0x` and twelve hex digits. As `S-1-5-32-544`.
+    ///
+    /// ```
+    /// let mut sink = TextSink::new(&rt);
+    /// let system = Sid::new(5, &[18]).expect(&rt, "a SID");
+    /// assert!(rt; system.put_text(&mut sink) == Ok(()) && sink.bytes() == b"S-1-5-18".as_slice());
+    /// ```
     pub fn put_text<S: Sink>(&self, sink: &mut S) -> Result<(), SinkFault>
         ensures put { Puts (S.told sink.old) (S.told sink.new) (sid_text self.now) result }
         // The text reads back, and has letters, digits and dashes alone.
@@ -76,6 +82,10 @@ impl Sid {
     /// as `0x` and twelve hex digits, and at most 15 times a dash and a decimal number: at most 183 bytes,
     /// letters in either case, and numbers of at most ten digits below 2^32. The form is looked at before
     /// the numbers. So `BA`, `ba` and `S-1-5-32-544` are one SID.
+    ///
+    /// ```
+    /// assert!(rt; Sid::from_text(b"BA", None).ok() == Sid::new(5, &[32, 544]));
+    /// ```
     #[tactic(auto, unfolding(crate::specs::SidText::sid_reads))]
     #[inline(always)]
     pub fn from_text(text: &[u8], domain: Option<&Sid>) -> Result<Sid, SidFault>

@@ -8,6 +8,15 @@ use crate::print::Print;
 use crate::sink::{Sink, SinkFault};
 
 /// A printer that gathers small texts, and hands them down when it is full and when it finishes.
+///
+/// ```
+/// let mut sink = TextSink::new(&rt);
+/// let mut out = Gather::new(&mut sink);
+/// print_rights(AceKind::Allow, 0x1f01ff, &mut out);
+/// out.put(b";;;WD");
+/// assert!(rt; out.finish() == Ok(()));
+/// assert!(rt; sink.bytes() == b"FA;;;WD".as_slice());
+/// ```
 #[derive(Drop)]
 pub struct Gather<'a, S: Sink> {
     pub sink: &'a mut S,

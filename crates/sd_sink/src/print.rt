@@ -6,6 +6,15 @@ ghost use Rattle.sd_sink.specs.Print.{PrintTold, Prints, Finishes};
 use crate::sink::SinkFault;
 
 /// Prints texts, and remembers a failure: after it nothing is handed down.
+///
+/// ```
+/// let mut sink = TextSink::new(&rt);
+/// let mut out = Printer::new(&mut sink);
+/// out.put(b"O:");
+/// out.put(b"BA");
+/// assert!(rt; out.finish() == Ok(()));
+/// assert!(rt; sink.bytes() == b"O:BA".as_slice());
+/// ```
 pub trait Print {
     /// What it holds, what a contract sees of the sink below it, and whether a call failed.
     ghost told: { Self → PrintTold };

@@ -7,6 +7,14 @@ use crate::print::Print;
 use crate::sink::{Sink, SinkFault};
 
 /// A printer that hands each text down at once.
+///
+/// ```
+/// let mut sink = TextSink::new(&rt);
+/// let mut out = Printer::new(&mut sink);
+/// out.put(b"D:");
+/// assert!(rt; !out.failed && out.finish() == Ok(()));
+/// assert!(rt; sink.bytes() == b"D:".as_slice());
+/// ```
 #[derive(Drop)]
 pub struct Printer<'a, S: Sink> {
     pub sink: &'a mut S,

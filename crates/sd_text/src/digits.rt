@@ -17,6 +17,14 @@ static PAIRS: [u8; 200] =
 static HEX_DIGITS: [u8; 16] = *b"0123456789abcdef";
 
 /// Prints a number in decimal, without leading zeros.
+///
+/// ```
+/// let mut sink = TextSink::new(&rt);
+/// let mut out = Printer::new(&mut sink);
+/// print_decimal(544, &mut out);
+/// assert!(rt; out.finish() == Ok(()));
+/// assert!(rt; sink.bytes() == b"544".as_slice());
+/// ```
 pub fn print_decimal<P: Print>(number: u32, out: &mut P)
     ensures { Prints (P.told out.old) (P.told out.new) (decimal number) }
 {
@@ -41,6 +49,14 @@ pub fn print_decimal_behind<P: Print>(character: u8, number: u32, out: &mut P)
 }
 
 /// Prints the last hex digits of a number, as many as are asked for, with leading zeros.
+///
+/// ```
+/// let mut sink = TextSink::new(&rt);
+/// let mut out = Printer::new(&mut sink);
+/// print_hex(4, 0x220, &mut out);
+/// assert!(rt; out.finish() == Ok(()));
+/// assert!(rt; sink.bytes() == b"0220".as_slice());
+/// ```
 pub fn print_hex<P: Print>(digits: usize, number: u64, out: &mut P)
     requires { digits ≤ 16 }
     ensures { Prints (P.told out.old) (P.told out.new) (hex_digits digits number) }

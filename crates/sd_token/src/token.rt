@@ -81,6 +81,13 @@ impl Token {
 
     /// Adds an entry after the others. An entry that the token has already is kept a second time.
     /// Where it has 1,024 entries, nothing changes.
+    ///
+    /// ```
+    /// let administrators = Sid::new(5, &[32, 544]).expect(&rt, "a SID");
+    /// let mut token = Token::new(rt.alloc()).expect(&rt, "memory");
+    /// assert!(rt; token.add(administrators, EntryKind::DenyOnly) == Ok(()));
+    /// assert!(rt; token.len() == 1);
+    /// ```
     #[tactic(auto, using(crate::proofs::TokenLemmas::as_many, crate::proofs::TokenLemmas::entries_push), unfolding(crate::specs::Limits::LimitValues))]
     pub fn add(&mut self, sid: Sid, kind: EntryKind) -> Result<(), TokenFull>
         ensures full { IsErr result ↔ (most_entries ≤ length self.old.holder.entries) }
@@ -140,6 +147,14 @@ impl Token {
 
     /// Whether the entry at an index has the SID, and is enabled or may be deny-only. There is no other way
     /// to look at an entry, and each look counts as one.
+    ///
+    /// ```
+    /// let users = Sid::new(5, &[32, 545]).expect(&rt, "a SID");
+    /// let mut token = Token::new(rt.alloc()).expect(&rt, "memory");
+    /// assert!(rt; token.add(users, EntryKind::DenyOnly) == Ok(()));
+    /// assert!(rt; token.meets(0, &users, true) && !token.meets(0, &users, false));
+    /// assert!(rt; token.compared() == 2);
+    /// ```
     pub fn meets(&mut self, index: usize, sid: &Sid, deny: bool) -> bool
         requires { index < length self.old.holder.entries }
         // The default pair is never used: the index is in range.

@@ -195,6 +195,17 @@ impl<'a> AceView<'a> {
     }
 
     /// The access mask (MS-DTYP 2.4.3).
+    ///
+    /// ```
+    /// let mut buf = SdBuf::new(rt.alloc()).expect(&rt, "memory");
+    /// assert!(rt; read_sddl(b"D:(A;;FA;;;WD)", None, &mut buf) == Ok(()));
+    /// let view = read(buf.bytes()).expect(&rt, "a descriptor");
+    /// let first = match view.dacl() {
+    ///     AclPart::List(acl) => acl.aces().next().map(|ace| ace.mask()),
+    ///     AclPart::Absent | AclPart::Null => None,
+    /// };
+    /// assert!(rt; first == Some(0x1f01ff));
+    /// ```
     pub fn mask(&self) -> u32
         ensures { result ≡ self.now.mask }
     {

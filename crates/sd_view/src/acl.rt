@@ -114,6 +114,14 @@ impl<'a> AclView<'a> {
     }
 
     /// Its ACEs, in order.
+    ///
+    /// ```
+    /// let mut buf = SdBuf::new(rt.alloc()).expect(&rt, "memory");
+    /// assert!(rt; read_sddl(b"D:(A;;FA;;;WD)(A;;FR;;;BU)", None, &mut buf) == Ok(()));
+    /// let view = read(buf.bytes()).expect(&rt, "a descriptor");
+    /// let count = if let AclPart::List(acl) = view.dacl() { acl.aces().count() } else { 0 };
+    /// assert!(rt; count == 2);
+    /// ```
     pub fn aces(&self) -> Aces<'a>
         ensures value { result ≡ self.now }
         ensures limits { IsAcl self.now }

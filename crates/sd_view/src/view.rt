@@ -62,6 +62,12 @@ pub struct Acls {
 pub type Extent = Option<(u64, u64)>;
 
 /// The descriptor that the bytes show (MS-DTYP 2.4.6), or the first fault of the bytes.
+///
+/// ```
+/// let bytes = *b"\x01\0\x04\x80\0\0\0\0\0\0\0\0\0\0\0\0\0\0\0\0";
+/// assert!(rt; read(&bytes).map(|view| view.control()) == Ok(0x8004));
+/// assert!(rt; read(&bytes[..19]).err() == Some(SdFault::Short));
+/// ```
 pub fn read(bytes: &[u8]) -> Result<SdView<'_>, SdFault>
     // What is read is shown.
     ensures found { IfOk result (λ d. Shows bytes.now d) }
@@ -96,6 +102,12 @@ pub fn read_extents(bytes: &[u8]) -> Result<(SdView<'_>, Parts<Extent>), SdFault
 
 /// The descriptor that bytes in their written form show (MS-DTYP 2.4.6). Nothing is checked, and of each ACL only the
 /// header is read.
+///
+/// ```
+/// let mut buf = SdBuf::new(rt.alloc()).expect(&rt, "memory");
+/// assert!(rt; read_sddl(b"G:SY", None, &mut buf) == Ok(()));
+/// assert!(rt; view_written(buf.bytes()).group() == Sid::new(5, &[18]));
+/// ```
 pub fn view_written(bytes: &[u8]) -> SdView<'_>
     requires { IsWrittenForm bytes.now }
     ensures found { Shows bytes.now result }
@@ -304,6 +316,13 @@ impl<'a> SdView<'a> {
     }
 
     /// The SID of the owner, if there is one.
+    ///
+    /// ```
+    /// let mut buf = SdBuf::new(rt.alloc()).expect(&rt, "memory");
+    /// assert!(rt; read_sddl(b"O:BA", None, &mut buf) == Ok(()));
+    /// let view = read(buf.bytes()).expect(&rt, "a descriptor");
+    /// assert!(rt; view.owner() == Sid::new(5, &[32, 544]));
+    /// ```
     pub fn owner(&self) -> Option<Sid>
         ensures { result ≡ self.now.owner }
     {
@@ -340,6 +359,13 @@ impl<'a> SdView<'a> {
     }
 
     /// The discretionary ACL: who is allowed what.
+    ///
+    /// ```
+    /// let mut buf = SdBuf::new(rt.alloc()).expect(&rt, "memory");
+    /// assert!(rt; read_sddl(b"D:NO_ACCESS_CONTROL", None, &mut buf) == Ok(()));
+    /// let view = read(buf.bytes()).expect(&rt, "a descriptor");
+    /// assert!(rt; matches!(view.dacl(), AclPart::Null));
+    /// ```
     pub fn dacl(&self) -> AclPart<'a>
         ensures { result ≡ self.now.dacl }
     {
