@@ -31,6 +31,12 @@ pub enum LineFault {
 }
 
 /// Puts the text of an `error` line, without its LF: at most 63 bytes.
+///
+/// ```
+/// let mut sink = TextSink::new(&rt);
+/// assert!(rt; put_fault(&LineFault::Sd(SdFault::AceSize(Part::Dacl)), &mut sink) == Ok(()));
+/// assert!(rt; sink.bytes() == b"error 11 ace-size dacl".as_slice());
+/// ```
 pub fn put_fault<S: Sink>(fault: &LineFault, sink: &mut S) -> Result<(), SinkFault>
     ensures put { Puts (S.told sink.old) (S.told sink.new) (fault_text fault.now) result }
     ensures short { length (fault_text fault.now) < 64 }
@@ -57,6 +63,10 @@ pub fn print_fault<P: Print>(fault: &LineFault, out: &mut P)
 
 impl LineFault {
     /// The number of the fault in its `error` line.
+    ///
+    /// ```
+    /// assert!(rt; LineFault::Text(TextFault::HexDigit).number() == 2);
+    /// ```
     pub fn number(&self) -> u32
         ensures { result ≡ number self.now }
     {

@@ -85,6 +85,12 @@ impl<const MOST: usize> ByteBuf<MOST> {
     }
 
     /// Appends all of the bytes, or none if there is no room for all.
+    ///
+    /// ```
+    /// let mut text = TextBuf::new(rt.alloc()).expect(&rt, "memory");
+    /// assert!(rt; text.extend(b"Zm9v") == Ok(()) && text.push(b'Y') == Ok(()));
+    /// assert!(rt; text.bytes() == b"Zm9vY".as_slice());
+    /// ```
     pub fn extend(&mut self, bytes: &[u8]) -> Result<(), Full>
         ensures full { IsErr result ↔ (MOST - length self.old < length bytes.now) }
         ensures ok { OnOk result (self.new ≡ self.old ++ bytes.now) }
@@ -149,6 +155,12 @@ impl<const MOST: usize> ByteBuf<MOST> {
 impl SdBuf {
     /// Replaces the contents by the bytes that a hex text of at most 262,452 characters spells. After a
     /// fault the buffer is empty.
+    ///
+    /// ```
+    /// let mut buf = SdBuf::new(rt.alloc()).expect(&rt, "memory");
+    /// assert!(rt; buf.from_hex(b"01fF") == Ok(()) && buf.bytes() == b"\x01\xff".as_slice());
+    /// assert!(rt; buf.from_hex(b"01f") == Err(TextFault::HexOdd) && buf.bytes().is_empty());
+    /// ```
     pub fn from_hex(&mut self, text: &[u8]) -> Result<(), TextFault>
         requires { length text.now ≤ most_hex_text }
         ensures { MatchResult (hex_spells text.now)
@@ -181,6 +193,12 @@ impl SdBuf {
     /// Replaces the contents by the bytes that a base64 text of at most 174,968 characters spells
     /// (RFC 4648, section 4), with all of its padding and nothing else in it. After a fault the
     /// buffer is empty.
+    ///
+    /// ```
+    /// let mut buf = SdBuf::new(rt.alloc()).expect(&rt, "memory");
+    /// assert!(rt; buf.from_base64(b"Zm9vYg==") == Ok(()) && buf.bytes() == b"foob".as_slice());
+    /// assert!(rt; buf.from_base64(b"Zm9vYg") == Err(TextFault::Base64));
+    /// ```
     pub fn from_base64(&mut self, text: &[u8]) -> Result<(), TextFault>
         requires { length text.now ≤ most_base64_text }
         ensures exact { MatchResult (base64_spells text.now)

@@ -9,6 +9,15 @@ use crate::buffer::{SdBuf, TextFault};
 
 /// A reader of one line of hex, in pieces that are cut anywhere, beside the buffer into which its bytes go. Each call
 /// takes the buffer as the reader's last call left it.
+///
+/// ```
+/// let mut buf = SdBuf::new(rt.alloc()).expect(&rt, "memory");
+/// let mut reader = HexReader::new(&mut buf);
+/// reader.feed_all(&mut buf, b"01f");
+/// reader.feed_all(&mut buf, b"f");
+/// assert!(rt; reader.finish(&mut buf) == Ok(()));
+/// assert!(rt; buf.bytes() == b"\x01\xff".as_slice());
+/// ```
 #[derive(Clone, Copy)]
 pub struct HexReader {
     // The first character of a pair whose second has not come; it is judged with its pair.

@@ -27,6 +27,19 @@ pub struct AclTooLarge;
 /// A descriptor that is built in a buffer beside it (MS-DTYP 2.4.6): owner, group and the two ACLs, each at most once
 /// and in any order, and then `finish`. Each call takes the buffer as the builder's last call left it. The parts stand
 /// in the buffer in the order of the calls, without gaps.
+///
+/// ```
+/// let everyone = Sid::new(1, &[0]).expect(&rt, "a SID");
+/// let mut buf = SdBuf::new(rt.alloc()).expect(&rt, "memory");
+/// let mut builder = Builder::new(&mut buf);
+/// builder.owner(&mut buf, &everyone);
+/// builder.begin_acl(&mut buf, Which::Dacl);
+/// builder.end_acl(&mut buf);
+/// builder.finish(&mut buf, 0, 0);
+/// let mut same = SdBuf::new(rt.alloc()).expect(&rt, "memory");
+/// let text = b"01000480140000000000000000000000200000000101000000000001000000000200080000000000";
+/// assert!(rt; same.from_hex(text) == Ok(()) && buf.bytes() == same.bytes());
+/// ```
 #[derive(Drop)]
 pub struct Builder {
     // The offsets of the parts that were given, and 0 for an ACL that is null.

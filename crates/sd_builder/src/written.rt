@@ -9,6 +9,14 @@ use sd_sink::{Sink, SinkFault};
 use sd_view::SdView;
 
 /// Replaces the contents of the buffer by the layout of a descriptor.
+///
+/// ```
+/// let bytes = *b"\x01\0\0\x80\0\0\0\0\0\0\0\0\0\0\0\0\0\0\0\0 and more";
+/// let view = read(&bytes).expect(&rt, "a descriptor");
+/// let mut buf = SdBuf::new(rt.alloc()).expect(&rt, "memory");
+/// write_layout(&view, &mut buf);
+/// assert!(rt; buf.bytes() == &bytes[..20]);
+/// ```
 pub fn write_layout(view: &SdView<'_>, buf: &mut SdBuf)
     ensures { buf.new ≡ layout view.now }
 {

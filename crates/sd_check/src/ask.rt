@@ -70,6 +70,12 @@ impl Ask {
     /// What is asked: the rights of the desired mask, whose generic rights mean what the mapping says, and with
     /// `maximum`, or with bit 25 in the mask, all that is granted. ACEs with an object type count where it is
     /// `object`; the SID PRINCIPAL SELF means `principal_self`.
+    ///
+    /// ```
+    /// let held = Privileges { security: false, take_ownership: false };
+    /// assert!(rt; Ask::new(GENERIC_READ, false, Mapping::FILE, None, None, held).is_ok());
+    /// assert!(rt; Ask::new(0, false, Mapping::FILE, None, None, held) == Err(AskFault::EmptyRequest));
+    /// ```
     pub fn new(
         desired: u32,
         maximum: bool,

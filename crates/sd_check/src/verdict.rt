@@ -34,6 +34,16 @@ pub enum Verdict {
 /// is neither null nor absent, the token's entries are compared with the owner. If one of them is the owner, the DACL
 /// is also searched for an ACE for OWNER RIGHTS. Then the ACEs are walked once for the rights in question that the
 /// label leaves, and only until each of them is decided.
+///
+/// ```
+/// let held = Privileges { security: false, take_ownership: true };
+/// let ask = Ask::new(WRITE_OWNER, false, Mapping::FILE, None, None, held).expect(&rt, "rights");
+/// let mut token = Token::new(rt.alloc()).expect(&rt, "memory");
+/// let mut buf = SdBuf::new(rt.alloc()).expect(&rt, "memory");
+/// assert!(rt; read_sddl(b"D:", None, &mut buf) == Ok(()));
+/// let view = read(buf.bytes()).expect(&rt, "a descriptor");
+/// assert!(rt; check(&view, &mut token, &ask) == Verdict::Granted(WRITE_OWNER));
+/// ```
 pub fn check(view: &SdView, token: &mut Token, ask: &Ask) -> Verdict
     ensures verdict { result ≡ verdict view.now token.old.holder ask.now }
     // Each entry is compared at most once with the owner, and at most once for each ACE that is needed.

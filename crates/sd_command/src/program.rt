@@ -23,6 +23,19 @@ use std::alloc::Global;
 /// Reads the words, answers the input, and returns the exit status: 0; 1 if a line was answered by an `error` line;
 /// 2 if the words are wrong; 3 after a fault of the run; 4 if memory ran out before the first read. Statuses 2 to 4
 /// come with a message on the fault stream.
+///
+/// ```
+/// let mut words = Vec::new(rt.alloc());
+/// for word in ["sdtool", "convert", "--from", "sddl", "--numeric", "--domain", "S-1-5-21-1-2-3"] {
+///     let word = String::from_str(rt.alloc(), word).expect(&rt, "memory");
+///     assert!(rt; words.push(word).is_ok());
+/// }
+/// let mut lines = FromRead::new(b"O:DA\n".as_slice());
+/// let (mut out, mut err) = (Vec::new(rt.alloc()), Vec::new(rt.alloc()));
+/// let (mut answers, mut faults) = (ToWrite::new(&mut out), ToWrite::new(&mut err));
+/// assert!(rt; command(rt.alloc(), words, &mut lines, &mut answers, &mut faults) == 0);
+/// assert!(rt; out.as_slice() == b"O:S-1-5-21-1-2-3-512\n".as_slice() && err.is_empty());
+/// ```
 pub fn command<R: Source, W: Drain, E: Drain>(
     alloc: Global,
     words: Vec<String>,

@@ -21,6 +21,16 @@ use sd_view::SdView;
 /// Each line ends with an LF, the last one too. At most eight characters for each byte of the written layout,
 /// and 64. SIDs have their aliases beside them, those of the domain too, unless numbers alone are asked for; a
 /// domain of 15 sub-authorities counts as none.
+///
+/// ```
+/// let mut buf = SdBuf::new(rt.alloc()).expect(&rt, "memory");
+/// assert!(rt; read_sddl(b"D:NO_ACCESS_CONTROL", None, &mut buf) == Ok(()));
+/// let view = read(buf.bytes()).expect(&rt, "a descriptor");
+/// let mut sink = TextSink::new(&rt);
+/// let text = b"control 0x8004 DP SR\nrm 0x00\nowner none\ngroup none\ndacl null\nsacl absent\nend\n";
+/// assert!(rt; put_explain(&view, None, false, &mut sink) == Ok(()));
+/// assert!(rt; sink.bytes() == text.as_slice());
+/// ```
 pub fn put_explain<S: Sink>(
     view: &SdView<'_>,
     domain: Option<&Sid>,

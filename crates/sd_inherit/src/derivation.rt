@@ -28,6 +28,24 @@ pub enum DeriveFault {
 /// parent's descriptor. It has the owner and group of the plan, what is taken from the ACLs of the creator's
 /// descriptor, if there is one, and the copies of the parent's ACEs. Of two faults the SACL's is reported. After a
 /// fault the buffer is empty.
+///
+/// ```
+/// let plan = Plan {
+///     target: Target::Container,
+///     owner: Sid::new(5, &[32, 544]).expect(&rt, "a SID"),
+///     group: Sid::new(5, &[18]).expect(&rt, "a SID"),
+///     mapping: Mapping::FILE,
+/// };
+/// let mut buf = SdBuf::new(rt.alloc()).expect(&rt, "memory");
+/// let mut made = SdBuf::new(rt.alloc()).expect(&rt, "memory");
+/// assert!(rt; read_sddl(b"D:(A;OICINP;GR;;;CG)", None, &mut buf) == Ok(()));
+/// let parent = read(buf.bytes()).expect(&rt, "a descriptor");
+/// assert!(rt; derive(&parent, None, &plan, &mut made) == Ok(()));
+/// let child = read(made.bytes()).expect(&rt, "a descriptor");
+/// let mut sink = TextSink::new(&rt);
+/// assert!(rt; put_sddl(&child, None, false, &mut sink) == Ok(()));
+/// assert!(rt; sink.bytes() == b"O:BAG:SYD:AI(A;ID;FR;;;SY)".as_slice());
+/// ```
 pub fn derive(
     parent: &SdView,
     creator: Option<&SdView>,

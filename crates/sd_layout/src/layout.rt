@@ -14,6 +14,16 @@ use sd_view::{AclPart, SdView};
 
 /// Puts the one layout of a descriptor (MS-DTYP 2.4.6): header, owner, group, SACL, DACL, without
 /// gaps. A part that is absent has offset 0.
+///
+/// ```
+/// let mut buf = SdBuf::new(rt.alloc()).expect(&rt, "memory");
+/// let gap = b"010000800000000000000000140000001c00000002000800000000000200080000000000";
+/// assert!(rt; buf.from_hex(gap) == Ok(()));
+/// let view = read(buf.bytes()).expect(&rt, "a descriptor");
+/// let mut sink = TextSink::new(&rt);
+/// assert!(rt; put_layout(&view, &mut sink) == Ok(()));
+/// assert!(rt; buf.bytes().len() == 36 && sink.bytes().len() == 20);
+/// ```
 pub fn put_layout<S: Sink>(view: &SdView<'_>, sink: &mut S) -> Result<(), SinkFault>
     ensures put { Puts (S.told sink.old) (S.told sink.new) (layout view.now) result }
     // What is put shows the descriptor.

@@ -18,6 +18,13 @@ impl From<DeviceFault> for SinkFault {
 }
 
 /// What a run reads from.
+///
+/// ```
+/// let mut lines = FromRead::new(b"D:\n".as_slice());
+/// let mut buf = [0; 8];
+/// assert!(rt; lines.read(&mut buf) == Ok(3) && buf.starts_with(b"D:\n"));
+/// assert!(rt; lines.read(&mut buf) == Ok(0));
+/// ```
 pub trait Source {
     /// The bytes that it has still to give, and its counts of calls.
     ghost told: { Self → SourceTold };
@@ -33,6 +40,13 @@ pub trait Source {
 }
 
 /// What a run writes to.
+///
+/// ```
+/// let mut out = Vec::new(rt.alloc());
+/// let mut answers = ToWrite::new(&mut out);
+/// assert!(rt; answers.write(b"D:\n") == Ok(3) && answers.flush() == Ok(()));
+/// assert!(rt; out.as_slice() == b"D:\n".as_slice());
+/// ```
 pub trait Drain {
     /// The bytes that it took, its count of failed calls, and whether the last call was a flush that
     /// succeeded.

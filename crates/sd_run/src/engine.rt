@@ -116,6 +116,16 @@ impl Engine {
 
     /// Puts the answer to one line, with its LF. Returns whether it is an `error` line. The creator's descriptor is read
     /// for each line, so `run` is faster for many. It takes no memory.
+    ///
+    /// ```
+    /// let act = Act::Convert(OutputForm::Sddl);
+    /// let job = Job { source: Form::Hex, act, domain: None, numeric: false };
+    /// let mut engine = Engine::new(rt.alloc(), job).expect(&rt, "memory");
+    /// let mut token = Token::new(rt.alloc()).expect(&rt, "memory");
+    /// let mut sink = TextSink::new(&rt);
+    /// assert!(rt; engine.answer(b"zz", &mut token, &mut sink) == Ok(true));
+    /// assert!(rt; sink.bytes() == b"error 2 hex-digit\n".as_slice());
+    /// ```
     pub fn answer<S: Sink>(
         &mut self,
         line: &[u8],

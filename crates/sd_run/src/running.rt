@@ -39,6 +39,18 @@ const PIECE: usize = 8192;
 /// - `TooManyReads` (62): 2^40 reads brought no end. What is answered is as after a failed read.
 ///
 /// The engine can run again after any return. It starts without a held line.
+///
+/// ```
+/// let act = Act::Convert(OutputForm::Sddl);
+/// let job = Job { source: Form::Hex, act, domain: None, numeric: false };
+/// let mut engine = Engine::new(rt.alloc(), job).expect(&rt, "memory");
+/// let mut token = Token::new(rt.alloc()).expect(&rt, "memory");
+/// let mut lines = FromRead::new(b"0100049500000000000000000000000000000000\nzz\n".as_slice());
+/// let mut out = Vec::new(rt.alloc());
+/// let report = run(&mut engine, &mut token, &mut lines, &mut ToWrite::new(&mut out));
+/// assert!(rt; report == Ok(Report { lines: 2, faults: 1 }));
+/// assert!(rt; out.as_slice() == b"D:PARAINO_ACCESS_CONTROL\nerror 2 hex-digit\n".as_slice());
+/// ```
 pub fn run<R: Source, W: Drain>(
     engine: &mut Engine,
     token: &mut Token,

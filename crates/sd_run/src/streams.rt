@@ -16,6 +16,11 @@ pub struct FromRead<R: Read> {
 
 impl<R: Read> FromRead<R> {
     /// No call is counted yet.
+    ///
+    /// ```
+    /// let mut lines = FromRead::new(b"".as_slice());
+    /// assert!(rt; lines.read(&mut [0; 8]) == Ok(0));
+    /// ```
     pub fn new(reader: R) -> Self
         ensures told { ⟦<FromRead<R> as Source>⟧.told result
             ≡ record { left = R.remaining reader; reads = 0; ends = 0; failures = 0 } }
@@ -62,6 +67,13 @@ pub struct ToWrite<W: Write> {
 
 impl<W: Write> ToWrite<W> {
     /// No call is counted yet.
+    ///
+    /// ```
+    /// let mut out = Vec::new(rt.alloc());
+    /// let mut answers = ToWrite::new(&mut out);
+    /// assert!(rt; answers.write(b"O:BA") == Ok(4));
+    /// assert!(rt; out.len() == 4);
+    /// ```
     pub fn new(writer: W) -> Self
         ensures told { ⟦<ToWrite<W> as Drain>⟧.told result
             ≡ record { taken = W.contents writer; failures = 0; flushed = false } }

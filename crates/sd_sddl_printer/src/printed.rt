@@ -24,6 +24,15 @@ use sd_view::SdView;
 /// domain too, unless numbers alone are asked for; a domain of 15 sub-authorities counts as none. What SDDL
 /// has no letters for is dropped: the resource manager byte, and of the control word all but the present
 /// bits and the flags of ACLs that are not absent. As `O:BAD:(A;;FA;;;WD)`.
+///
+/// ```
+/// let mut buf = SdBuf::new(rt.alloc()).expect(&rt, "memory");
+/// assert!(rt; buf.from_hex(b"0100049500000000000000000000000000000000") == Ok(()));
+/// let view = read(buf.bytes()).expect(&rt, "a descriptor");
+/// let mut sink = TextSink::new(&rt);
+/// assert!(rt; put_sddl(&view, None, false, &mut sink) == Ok(()));
+/// assert!(rt; sink.bytes() == b"D:PARAINO_ACCESS_CONTROL".as_slice());
+/// ```
 pub fn put_sddl<S: Sink>(
     view: &SdView<'_>,
     domain: Option<&Sid>,

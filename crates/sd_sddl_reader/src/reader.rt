@@ -25,6 +25,15 @@ use sd_sddl_fields::{FieldText, is_blank, plain_inside};
 use sd_sid::Sid;
 
 /// A reader of one line, by bytes or pieces, beside the buffer in which the descriptor is built.
+///
+/// ```
+/// let mut buf = SdBuf::new(rt.alloc()).expect(&rt, "memory");
+/// let mut reader = SddlReader::new(None, &mut buf);
+/// reader.feed_all(&mut buf, b"D:P(A;;F");
+/// reader.feed_all(&mut buf, b"A;;;WD)");
+/// assert!(rt; reader.finish(&mut buf) == Ok(()));
+/// assert!(rt; buf.bytes().len() == 48);
+/// ```
 #[derive(Drop)]
 pub struct SddlReader {
     state: State,
@@ -597,6 +606,15 @@ fn note_limits(domain: Option<&Sid>)
 /// Reads a line of SDDL (MS-DTYP 2.5.1), such as `O:BAD:(A;;FA;;;WD)`, with the aliases of a domain. The buffer then
 /// holds bytes that show the descriptor that the line means. If the line has a fault, `read_sddl` returns the first one
 /// and leaves the buffer empty.
+///
+/// ```
+/// let mut buf = SdBuf::new(rt.alloc()).expect(&rt, "memory");
+/// let mut same = SdBuf::new(rt.alloc()).expect(&rt, "memory");
+/// assert!(rt; read_sddl(b"D:", None, &mut buf) == Ok(()));
+/// assert!(rt; same.from_hex(b"01000480000000000000000000000000140000000200080000000000") == Ok(()));
+/// assert!(rt; buf.bytes() == same.bytes());
+/// assert!(rt; read_sddl(b"O:ZZ", None, &mut buf) == Err(SddlFault::Sid(SidFault::Alias)));
+/// ```
 pub fn read_sddl(text: &[u8], domain: Option<&Sid>, buf: &mut SdBuf) -> Result<(), SddlFault>
     ensures exact { MatchResult (means text.now (option_copied domain.entry))
         (λ d. (result ≡ Ok tt) × Shows buf.new d)
