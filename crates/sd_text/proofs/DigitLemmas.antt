@@ -7,7 +7,7 @@ use Rattle.std.specs.Prelude.{◌==◌}
 use Rattle.std.proofs.lemmas.Bool.{and_parts}
 use Rattle.std.proofs.lemmas.Fmt.{decimal_digit, decimal_step}
 use Rattle.std.proofs.lemmas.List.{take_more_set}
-use Rattle.sd_text.specs.declared.digits.TheConstants.{PAIRS}
+use Rattle.sd_text.specs.declared.digits.TheConstants.{HEX_PAIRS, PAIRS}
 use Rattle.sd_text.specs.Inner.Digits.{IsWritten, four_digits, two_digits}
 use Rattle.sd_text.specs.Numbers.{hex_digits}
 
@@ -110,3 +110,45 @@ two-cells cells at x y room =
 pub hex_digits-step : (k i n : ℕ) → i < k → hex_digits (k - i) n ≡ hex_digits (k - (i + 1)) (n / 16)
     ++ digit_glyph false (n % 16) ∷ []
 hex_digits-step k i n h = let more : k - i ≡ suc (k - (i + 1)) = omega arith in ap (λ (j : ℕ). hex_digits j n) more
+
+-- the table of hex pairs holds both digits of each byte
+are_hex_pairs : ℕ → Bool
+are_hex_pairs zero = true
+are_hex_pairs (suc p) =
+    (get_or HEX_PAIRS (2 * p) 0 == digit_glyph false (p / 16) && get_or HEX_PAIRS (2 * p + 1) 0 == digit_glyph false (p % 16))
+    && are_hex_pairs p
+
+hex-below : (n p : ℕ) → are_hex_pairs n ≡ true → p < n
+    → (get_or HEX_PAIRS (2 * p) 0 ≡ digit_glyph false (p / 16)) × (get_or HEX_PAIRS (2 * p + 1) 0 ≡ digit_glyph false (p % 16))
+unfolding are_hex_pairs
+hex-below zero p all h = absurd (omega arith)
+hex-below (suc n) p all h =
+    let parts = and_parts _ (are_hex_pairs n) all in
+    let here = and_parts (get_or HEX_PAIRS (2 * n) 0 == digit_glyph false (n / 16)) _ parts.0 in
+    elim (eq-zero-or-pos (n - p)) [
+      | inl z ↦ let e : p ≡ n = omega arith in rw e (eqb-true _ _ here.0, eqb-true _ _ here.1)
+      | inr g ↦ hex-below n p parts.1 (omega arith)
+    ]
+
+hex-at : (p : ℕ) → p < 256
+    → (get_or HEX_PAIRS (2 * p) 0 ≡ digit_glyph false (p / 16)) × (get_or HEX_PAIRS (2 * p + 1) 0 ≡ digit_glyph false (p % 16))
+unfolding are_hex_pairs
+hex-at p small = hex-below 256 p refl small
+
+-- the last two hex digits of a number are those of its last byte
+pub hex-pair : (n : ℕ) → (get_or HEX_PAIRS (2 * (n % 256)) 0 ≡ digit_glyph false (n / 16 % 16))
+    × (get_or HEX_PAIRS (2 * (n % 256) + 1) 0 ≡ digit_glyph false (n % 16))
+hex-pair n =
+    let p = hex-at (n % 256) (omega arith) in
+    let tall : n % 256 / 16 ≡ n / 16 % 16 = omega arith in
+    let low : n % 256 % 16 ≡ n % 16 = omega arith in
+    (p.0 ∙ ap (digit_glyph false) tall, p.1 ∙ ap (digit_glyph false) low)
+
+-- eight hex digits are those of four bytes
+pub hex-eight : (n : ℕ) → hex_digits 2 (n / 2 ^ 24) ++ (hex_digits 2 (n / 2 ^ 16) ++ (hex_digits 2 (n / 2 ^ 8)
+    ++ hex_digits 2 n)) ≡ hex_digits 8 n
+hex-eight n =
+    let first : n / 2 ^ 24 ≡ n / 16 / 16 / 16 / 16 / 16 / 16 = omega arith in
+    let second : n / 2 ^ 16 ≡ n / 16 / 16 / 16 / 16 = omega arith in
+    let third : n / 2 ^ 8 ≡ n / 16 / 16 = omega arith in
+    rw (first, second, third) refl
