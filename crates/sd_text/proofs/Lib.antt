@@ -1,4 +1,6 @@
+pub mod BehindZeros
 pub mod DigitLemmas
+pub mod DigitsInFront
 pub mod EightDigits
 pub mod FrontDigits
 pub mod NumberLemmas
