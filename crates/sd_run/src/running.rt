@@ -38,7 +38,7 @@ const PIECE: usize = 8192;
 ///   read, or with the input, can lack an answer.
 /// - `TooManyReads` (62): 2^40 reads brought no end. What is answered is as after a failed read.
 ///
-/// The engine can run again after any return. It starts without a held line.
+/// The engine can run again after any return. It starts with an empty line.
 ///
 /// ```
 /// let act = Act::Convert(OutputForm::Sddl);

@@ -36,7 +36,7 @@ fn exit_code(ended: Result<u8, u8>) -> ExitCode
     }
 }
 
-// The status of the command, or of what is wrong before it.
+// Reads the words, makes room for the output, and runs the command over the standard streams.
 fn run(rt: &HostRuntime) -> Result<u8, u8>
     ensures { MatchResult result (λ _. Unit {0}) (λ status. (status ≡ 2) ⊎ (status ≡ 4)) }
 {
@@ -50,7 +50,7 @@ fn run(rt: &HostRuntime) -> Result<u8, u8>
         &mut ToWrite::new(&mut output),
         &mut ToWrite::new(rt.stderr()),
     );
-    // What a failed output did not take is let go: nothing is written after the verdict.
+    // What a failed output did not take is let go: nothing is written after the message of the error.
     let _ = output.into_parts();
     Ok(status)
 }
