@@ -15,11 +15,11 @@ use Rattle.sd_parts.specs.declared.limits.TheConstants.{CAPACITY}
 use Rattle.sd_parts.specs.Header.{header_bytes}
 use Rattle.sd_parts.specs.declared.part.Part.TheVariants as part
 use Rattle.sd_buffer.specs.Text.{base64_spells, hex_spells}
-use Rattle.sd_view.specs.Bytes.{u16_at, u32_at}
+use Rattle.sd_acl_view.specs.Bytes.{u16_at, u32_at}
 use Rattle.sd_view.specs.Reading.{acl_part_fault, acl_shown, fault, header_fault, overlap_fault}
 use Rattle.sd_view.specs.Reading.{overlaps_fault, parts_fault, reading, sid_fault, sid_shown}
 use Rattle.sd_view.specs.declared.fault.SdFault.TheVariants as sd
-use Rattle.sd_view.specs.declared.acl.AclPart.TheVariants as acl
+use Rattle.sd_view.specs.declared.acl_part.AclPart.TheVariants as acl
 use Rattle.sd_explain.specs.Explain.{control_line, explain, rm_line, sid_line}
 use Rattle.sd_check.specs.declared.verdict.Verdict.TheVariants.{Denied, Granted}
 use Rattle.sd_token.specs.Token.{Holder}

@@ -13,17 +13,17 @@ use Rattle.byteorder.specs.Endian.{little_bytes}
 use Rattle.sd_ace.specs.Ace.{AccessControlEntry, IsAce, ace_size}
 use Rattle.sd_kinds.specs.Kinds.{is_object}
 use Rattle.sd_sid.specs.Sid.{SecurityId, IsSid, sid_bytes}
-use Rattle.sd_view.specs.Acl.{acl_size, has_object}
+use Rattle.sd_acl_view.specs.Acl.{acl_size, has_object}
 use Rattle.sd_ace.specs.AceLayout.{ace_bytes}
-use Rattle.sd_view.specs.AclLayout.{acl_bytes, acl_header, revision_if}
+use Rattle.sd_acl_view.specs.AclLayout.{acl_bytes, acl_header, revision_if}
 use Rattle.sd_builder.specs.Builds.{Builds}
 use Rattle.sd_builder.specs.Inner.Building.{Building, OpenAt, OpenIsFree, OpenStands, PartStands, PartsStand}
 use Rattle.sd_builder.specs.Inner.Building.{StandsInOrder}
 use Rattle.sd_builder.specs.Inner.Building.{given, given_acl, list, nothing, placed, sid}
 use Rattle.sd_builder.specs.Draft.{CanBegin, Draft, DraftParts, IsOpen, IsOpenIn, acl_for, begun, closed_in, ended}
 use Rattle.sd_builder.specs.Draft.{ended_in, nothing_given, open_size, open_size_in, with_ace, with_acl, with_sid}
-use Rattle.sd_view.specs.declared.acl.AclPart.{AclPart}
-use Rattle.sd_view.specs.declared.acl.AclPart.TheVariants as acl
+use Rattle.sd_view.specs.declared.acl_part.AclPart.{AclPart}
+use Rattle.sd_view.specs.declared.acl_part.AclPart.TheVariants as acl
 use Rattle.sd_builder.specs.declared.builder.Builder.{Builder}
 use Rattle.sd_builder.specs.declared.builder.OpenAcl.{OpenAcl}
 use Rattle.sd_parts.specs.declared.part.Which.{Which}
@@ -34,8 +34,8 @@ use Rattle.sd_parts.specs.declared.part.Part.TheVariants as part
 use Rattle.sd_parts.specs.declared.part.SidPart.{SidPart}
 use Rattle.sd_parts.specs.declared.part.SidPart.TheVariants as sids
 use Rattle.sd_view.proofs.laws.ApartLaws.{six-apart}
-use Rattle.sd_view.proofs.laws.AceLists.{all-more, size-more}
-use Rattle.sd_view.proofs.laws.AclLayoutSizes.{aces-many, length-aces}
+use Rattle.sd_acl_view.proofs.laws.AceLists.{all-more, size-more}
+use Rattle.sd_acl_view.proofs.laws.AclLayoutSizes.{aces-many, length-aces}
 use Rattle.sd_builder.proofs.Order.{given-reopened, more-order, null-order, order-reopened}
 use Rattle.sd_builder.proofs.Standing.{IsOneMore, given-none, list-more, none-given, null-more, room, sid-more}
 

@@ -3,7 +3,7 @@ use Rattle.std.proofs.Common.{◌≡◌, ◌≤◌, ◌<◌, ℕ, ◌+◌, ◌^�
 use Rattle.std.proofs.Common.{ap, subst, ◌∙◌, arith, length-append, length-drop}
 use Rattle.std.specs.Prelude.{is_some, unwrap_or}
 use Rattle.sd_sid.specs.Sid.{SecurityId}
-use Rattle.sd_view.specs.AclLayout.{acl_bytes}
+use Rattle.sd_acl_view.specs.AclLayout.{acl_bytes}
 use Rattle.sd_builder.specs.Builds.{Builds}
 use Rattle.sd_builder.specs.Inner.Building.{PartStands, PartsStand, StandsInOrder, extent_at, given, given_acl}
 use Rattle.sd_builder.specs.Inner.Building.{given_sid, given_size}
@@ -17,12 +17,12 @@ use Rattle.sd_view.specs.Descriptor.{sid_extent}
 use Rattle.sd_builder.specs.Draft.{Draft, DraftParts, built, built_bytes, is_present}
 use Rattle.sd_parts.specs.Header.{header_bytes}
 use Rattle.sd_view.specs.WrittenForm.{AclIsWritten, IsWritten, IsWrittenForm}
-use Rattle.sd_view.specs.declared.acl.AclPart.{AclPart}
-use Rattle.sd_view.specs.declared.acl.AclPart.TheVariants as acl
+use Rattle.sd_view.specs.declared.acl_part.AclPart.{AclPart}
+use Rattle.sd_view.specs.declared.acl_part.AclPart.TheVariants as acl
 use Rattle.sd_builder.specs.declared.builder.Builder.{Builder}
 use Rattle.sd_sid.proofs.laws.SidLaws.{length-sid_bytes}
 use Rattle.sd_view.specs.Layout.{acl_part_size, sid_part_size}
-use Rattle.sd_view.proofs.laws.AclLayoutSizes.{length-acl_bytes}
+use Rattle.sd_acl_view.proofs.laws.AclLayoutSizes.{length-acl_bytes}
 use Rattle.sd_layout.proofs.laws.AclLayoutLaws.{acl_bytes-shows}
 use Rattle.sd_parts.proofs.laws.ControlLaws.{control-bits}
 use Rattle.sd_builder.proofs.Building.{closed-from}

@@ -12,7 +12,7 @@ use Rattle.sd_buffer.specs.declared.buffer.TextFault.{TextFault}
 use Rattle.sd_buffer.specs.declared.buffer.TextFault.TheVariants.{Base64, HexDigit, HexOdd}
 use Rattle.sd_parts.specs.declared.part.Part.TheVariants.{Owner, Group, Sacl, Dacl}
 use Rattle.sd_view.specs.declared.fault.SdFault.TheVariants as faults
-use Rattle.sd_view.specs.Bytes.{u16_at, u32_at}
+use Rattle.sd_acl_view.specs.Bytes.{u16_at, u32_at}
 use Rattle.sd_parts.specs.Control.{acl_flags, flag_bits}
 use Rattle.sd_parts.specs.declared.part.Which.{Which}
 use Rattle.sd_parts.specs.declared.part.Which.TheVariants as which
@@ -24,10 +24,10 @@ use Rattle.sd_builder.specs.Draft.{no_parts, nothing_given, open_size, with_ace,
 use Rattle.sd_view.specs.Descriptor.{Descriptor}
 use Rattle.sd_parts.specs.Header.{header_bytes}
 use Rattle.sd_view.specs.Layout.{layout, size}
-use Rattle.sd_view.specs.Ace.{announces_inherited, announces_object}
-use Rattle.sd_view.specs.AclReading.{ace_fault, aces_fault, aces_of, acl_fault, guid_if, inherited_in, kind_in}
-use Rattle.sd_view.specs.AclReading.{object_in, extent_fault, sid_offset_in}
-use Rattle.sd_view.specs.declared.acl.AclPart.TheVariants as acl
+use Rattle.sd_acl_view.specs.Ace.{announces_inherited, announces_object}
+use Rattle.sd_acl_view.specs.AclReading.{ace_fault, aces_fault, aces_of, acl_fault, guid_if, inherited_in, kind_in}
+use Rattle.sd_acl_view.specs.AclReading.{object_in, extent_fault, sid_offset_in}
+use Rattle.sd_view.specs.declared.acl_part.AclPart.TheVariants as acl
 use Rattle.sd_ace.specs.Ace.{AccessControlEntry}
 use Rattle.sd_kinds.specs.declared.kinds.AceKind.TheVariants as kinds
 use Rattle.sd_view.specs.Reading.{acl_part_fault, acl_shown, fault, header_fault, overlap_fault, overlaps_fault}

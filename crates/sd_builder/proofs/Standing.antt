@@ -9,22 +9,22 @@ use Rattle.std.proofs.Math.Seq.{drop-append_seam}
 use Rattle.sd_ace.specs.Ace.{AccessControlEntry}
 use Rattle.sd_sid.specs.Sid.{SecurityId, IsSid, sid_bytes}
 use Rattle.sd_sid.proofs.laws.SidLaws.{length-sid_bytes}
-use Rattle.sd_view.specs.Acl.{IsAcl}
-use Rattle.sd_view.specs.AclLayout.{acl_bytes}
+use Rattle.sd_acl_view.specs.Acl.{IsAcl}
+use Rattle.sd_acl_view.specs.AclLayout.{acl_bytes}
 use Rattle.sd_builder.specs.Inner.Building.{Given, PartStands, PartsStand, Stands, closed_size, extent_at, extents_kept}
 use Rattle.sd_builder.specs.Inner.Building.{given, given_acl, given_bytes, given_sid, given_size, list, nothing, null}
 use Rattle.sd_builder.specs.Inner.Building.{placed, sid}
 use Rattle.sd_view.specs.Descriptor.{Apart, Extent}
 use Rattle.sd_builder.specs.Draft.{DraftParts}
-use Rattle.sd_view.specs.declared.acl.AclPart.{AclPart}
-use Rattle.sd_view.specs.declared.acl.AclPart.TheVariants as acl
+use Rattle.sd_view.specs.declared.acl_part.AclPart.{AclPart}
+use Rattle.sd_view.specs.declared.acl_part.AclPart.TheVariants as acl
 use Rattle.sd_builder.specs.declared.builder.Builder.{Builder}
 use Rattle.sd_parts.specs.Parts.{get_part, same_part}
 use Rattle.sd_parts.specs.declared.part.Part.{Part}
 use Rattle.sd_parts.specs.declared.part.Part.TheVariants as part
 use Rattle.sd_parts.proofs.laws.PartLaws.{each-part, get-other, get-set}
 use Rattle.sd_view.proofs.laws.ApartLaws.{apart-with}
-use Rattle.sd_view.proofs.laws.AclLayoutSizes.{length-acl_bytes}
+use Rattle.sd_acl_view.proofs.laws.AclLayoutSizes.{length-acl_bytes}
 
 -- what stands in some bytes stands in others
 abbrev pub Kept : List ℕ → List ℕ → Type 0

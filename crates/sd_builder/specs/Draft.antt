@@ -4,13 +4,13 @@ use Rattle.std.specs.Prelude.{Some, None}
 use Rattle.std.specs.List.{flat_map}
 use Rattle.sd_ace.specs.Ace.{AccessControlEntry}
 use Rattle.sd_sid.specs.Sid.{SecurityId}
-use Rattle.sd_view.specs.Acl.{acl_size}
+use Rattle.sd_acl_view.specs.Acl.{acl_size}
 use Rattle.sd_parts.specs.Control.{control_of}
 use Rattle.sd_view.specs.Descriptor.{Descriptor}
 use Rattle.sd_parts.specs.Header.{header_bytes}
 use Rattle.sd_view.specs.Layout.{acl_part, sid_part}
-use Rattle.sd_view.specs.declared.acl.AclPart.{AclPart}
-use Rattle.sd_view.specs.declared.acl.AclPart.TheVariants as acl
+use Rattle.sd_view.specs.declared.acl_part.AclPart.{AclPart}
+use Rattle.sd_view.specs.declared.acl_part.AclPart.TheVariants as acl
 use Rattle.sd_parts.specs.Parts.{part_of, same_part}
 use Rattle.sd_parts.specs.declared.part.Part.{Part}
 use Rattle.sd_parts.specs.declared.part.Part.TheVariants as part

@@ -8,7 +8,7 @@ ghost use Rattle.sd_view.specs.Descriptor.{Shows};
 ghost use Rattle.sd_view.specs.WrittenForm.{IsWrittenForm};
 ghost use Rattle.sd_builder.specs.Draft.{CanBegin, Draft, IsOpen, begun, built, built_bytes, ended, nothing_given};
 ghost use Rattle.sd_builder.specs.Draft.{open_size, with_ace, with_acl, with_group, with_owner};
-ghost use Rattle.sd_view.specs.declared.acl.AclPart.TheVariants as acl;
+ghost use Rattle.sd_view.specs.declared.acl_part.AclPart.TheVariants as acl;
 
 use crate::append::{append_ace, append_sid_at};
 use crate::changed::{ChangedAce, append_changed};

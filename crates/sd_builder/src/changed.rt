@@ -8,10 +8,10 @@ ghost use Rattle.sd_parts.specs.declared.limits.TheConstants.{CAPACITY};
 
 use crate::append::append_ace;
 use sd_ace::{Ace, AceFront, object_flags};
+use sd_acl_view::AceView;
 use sd_buffer::SdBuf;
 use sd_kinds::AceKind;
 use sd_sid::Sid;
-use sd_view::AceView;
 use std::marker::Model;
 
 /// An ACE in the bytes that show it, with other flags, another mask, and another SID if one is given. Kind and GUIDs

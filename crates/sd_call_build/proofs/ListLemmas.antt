@@ -4,10 +4,10 @@ use Rattle.std.proofs.lemmas.Bool.Decides.{nat_tests}
 use Rattle.std.proofs.lemmas.List.{length-map}
 use Rattle.byteorder.specs.Endian.{little_bytes}
 use Rattle.sd_ace.specs.Ace.{AccessControlEntry}
-use Rattle.sd_view.specs.Acl.{acl_size, has_object}
-use Rattle.sd_view.specs.AclLayout.{acl_header, revision_if}
-use Rattle.sd_view.specs.declared.acl.AclPart.TheVariants as acl
-use Rattle.sd_view.proofs.laws.AclLayoutSizes.{aces-many}
+use Rattle.sd_acl_view.specs.Acl.{acl_size, has_object}
+use Rattle.sd_acl_view.specs.AclLayout.{acl_header, revision_if}
+use Rattle.sd_view.specs.declared.acl_part.AclPart.TheVariants as acl
+use Rattle.sd_acl_view.proofs.laws.AclLayoutSizes.{aces-many}
 use Rattle.sd_call_build.specs.New.{acl_shown, shown_ace}
 use Rattle.sd_call_build.specs.declared.new.NewAce.{NewAce}
 use Rattle.sd_call_build.specs.declared.new.NewAcl.{NewAcl}

@@ -7,8 +7,8 @@ use Rattle.std.specs.List.{flat_map, list_any}
 use Rattle.sd_ace.specs.Ace.{AccessControlEntry, ace_size}
 use Rattle.sd_ace.specs.AceLayout.{ace_bytes}
 use Rattle.sd_kinds.specs.Kinds.{is_object}
-use Rattle.sd_view.specs.Acl.{acl_size, aces_size, has_object}
-use Rattle.sd_view.proofs.laws.AceLists.{size-more}
+use Rattle.sd_acl_view.specs.Acl.{acl_size, aces_size, has_object}
+use Rattle.sd_acl_view.proofs.laws.AceLists.{size-more}
 use Rattle.sd_call_build.specs.New.{is_object_ace, shown_ace}
 use Rattle.sd_call_build.specs.declared.new.NewAce.{NewAce}
 

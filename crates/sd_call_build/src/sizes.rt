@@ -2,7 +2,7 @@
 
 ghost use Rattle.std.specs.Prelude.{◌≡◌, ◌≤◌, ◌<◌, ◌^◌, map, None, Some, IfOk, MatchOption, MatchResult};
 ghost use Rattle.std.specs.List.{AllPass, list_any};
-ghost use Rattle.sd_view.specs.Acl.{acl_size, has_object};
+ghost use Rattle.sd_acl_view.specs.Acl.{acl_size, has_object};
 ghost use Rattle.sd_view.specs.Layout.{acl_part_size, sid_part_size};
 ghost use Rattle.sd_call_build.specs.New.{AreSmall, acl_shown, is_ace, is_object_ace, large_part, new_descriptor};
 ghost use Rattle.sd_call_build.specs.New.{part_sizes, shown_ace, whole_sid};

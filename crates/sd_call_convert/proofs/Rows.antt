@@ -4,10 +4,10 @@ use Rattle.std.specs.Fmt.{digits}
 use Rattle.sd_sid.specs.Sid.{sid_at}
 use Rattle.sd_sid.specs.SidText.{alias_of}
 use Rattle.sd_parts.specs.Header.{header_bytes}
-use Rattle.sd_view.specs.Bytes.{u16_at, u32_at}
+use Rattle.sd_acl_view.specs.Bytes.{u16_at, u32_at}
 use Rattle.sd_view.specs.Reading.{acl_part_fault, acl_shown, fault, header_fault, overlap_fault, overlaps_fault}
 use Rattle.sd_view.specs.Reading.{parts_fault, reading, sid_fault, sid_shown}
-use Rattle.sd_view.specs.declared.acl.AclPart.TheVariants as acl
+use Rattle.sd_view.specs.declared.acl_part.AclPart.TheVariants as acl
 use Rattle.sd_view.specs.declared.fault.SdFault.TheVariants as sd
 use Rattle.sd_explain.specs.Explain.{control_line, explain, rm_line, sid_line}
 use Rattle.sd_sddl_printer.specs.Printed.{dacl_text, group_text, owner_text, sacl_text, sddl, trustee_text}

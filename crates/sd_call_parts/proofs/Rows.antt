@@ -6,13 +6,13 @@ use Rattle.sd_parts.specs.declared.part.Part.TheVariants as part
 use Rattle.sd_kinds.specs.declared.kinds.AceKind.TheVariants as kinds
 use Rattle.sd_sid.specs.Sid.{sid_at}
 use Rattle.sd_kinds.specs.Kinds.{kind_code, kind_entry, kind_of}
-use Rattle.sd_view.specs.Ace.{announces_inherited, announces_object}
-use Rattle.sd_view.specs.AclReading.{ace_fault, aces_fault, aces_of, acl_fault, extent_fault, guid_if, inherited_in}
-use Rattle.sd_view.specs.AclReading.{kind_in, object_in, sid_offset_in}
-use Rattle.sd_view.specs.Bytes.{u16_at, u32_at}
+use Rattle.sd_acl_view.specs.Ace.{announces_inherited, announces_object}
+use Rattle.sd_acl_view.specs.AclReading.{ace_fault, aces_fault, aces_of, acl_fault, extent_fault, guid_if, inherited_in}
+use Rattle.sd_acl_view.specs.AclReading.{kind_in, object_in, sid_offset_in}
+use Rattle.sd_acl_view.specs.Bytes.{u16_at, u32_at}
 use Rattle.sd_view.specs.Reading.{acl_part_fault, acl_shown, fault, header_fault, overlap_fault, overlaps_fault}
 use Rattle.sd_view.specs.Reading.{parts_fault, reading, sid_fault, sid_shown}
-use Rattle.sd_view.specs.declared.acl.AclPart.TheVariants as lists
+use Rattle.sd_view.specs.declared.acl_part.AclPart.TheVariants as lists
 use Rattle.sd_view.specs.declared.fault.SdFault.TheVariants as sd
 use Rattle.sd_answer.specs.declared.fault.LineFault.TheVariants as line
 use Rattle.sd_call.specs.Arguments.{descriptor_in}

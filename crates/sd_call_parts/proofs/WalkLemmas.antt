@@ -3,7 +3,7 @@ use Rattle.std.proofs.Common.{◌≡◌, inl, inr, ℕ, ◌-◌, List, [], lengt
 use Rattle.std.proofs.lemmas.Bool.{cases_Bool, ltb-false, ltb-true}
 use Rattle.std.proofs.Common.{nat_lt}
 use Rattle.std.proofs.lemmas.List.{drop_all}
-use Rattle.sd_view.specs.AclReading.{ace_fault}
+use Rattle.sd_acl_view.specs.AclReading.{ace_fault}
 use Rattle.sd_call_parts.specs.Walk.{front_found}
 
 behind_all : (number offset other : ℕ) → front_found number offset [] ≡ front_found number other []

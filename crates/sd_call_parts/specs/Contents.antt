@@ -5,8 +5,8 @@ use Rattle.sd_call.specs.Arguments.{descriptor_in}
 use Rattle.sd_call.specs.Outcomes.{named_parts, number, part_number}
 use Rattle.sd_call.specs.declared.outcome.CallFault.{CallFault}
 use Rattle.sd_view.specs.Descriptor.{Descriptor, Extent, extents_of}
-use Rattle.sd_view.specs.declared.acl.AclPart.{AclPart}
-use Rattle.sd_view.specs.declared.acl.AclPart.TheVariants as acl
+use Rattle.sd_view.specs.declared.acl_part.AclPart.{AclPart}
+use Rattle.sd_view.specs.declared.acl_part.AclPart.TheVariants as acl
 use Rattle.sd_call_parts.specs.Places.{nowhere}
 use Rattle.sd_call_parts.specs.declared.contents.AclPlace.{AclPlace}
 use Rattle.sd_call_parts.specs.declared.contents.Contents.{Contents}

@@ -6,8 +6,8 @@ use Rattle.sd_ace.specs.Ace.{AccessControlEntry, guid_size, sid_offset}
 use Rattle.sd_kinds.specs.Kinds.{kind_code}
 use Rattle.sd_sid.specs.Sid.{sid_size}
 use Rattle.sd_parts.specs.declared.part.Part.TheVariants as part
-use Rattle.sd_view.specs.AclReading.{ace_fault, ace_of, acl_at_front}
-use Rattle.sd_view.specs.Bytes.{u16_at}
+use Rattle.sd_acl_view.specs.AclReading.{ace_fault, ace_of, acl_at_front}
+use Rattle.sd_acl_view.specs.Bytes.{u16_at}
 use Rattle.sd_view.specs.Reading.{fault_in}
 use Rattle.sd_view.specs.declared.fault.SdFault.{SdFault}
 use Rattle.sd_view.specs.declared.fault.SdFault.TheVariants as faults

@@ -6,8 +6,8 @@ ghost use Rattle.sd_call_parts.specs.Walk.{found, guid_place};
 
 use crate::place::{Place, nowhere};
 use sd_ace::{FRONT_SIZE, OBJECT_FRONT_SIZE};
+use sd_acl_view::AceView;
 use sd_kinds::AceKind;
-use sd_view::AceView;
 use uuid::Uuid;
 
 /// The bytes of a GUID.

@@ -1,15 +1,16 @@
 //! The steps of a walk through an ACL (MS-DTYP 2.4.5), one ACE after the other.
 
 ghost use Rattle.std.specs.Prelude.{◌≡◌, ◌≤◌, ◌<◌, ◌+◌, ◌-◌, ◌^◌, length, drop, true, false, MatchOption, OnOk};
-ghost use Rattle.sd_view.specs.AclReading.{acl_at_front};
-ghost use Rattle.sd_view.specs.Bytes.{u16_at as u16_of};
+ghost use Rattle.sd_acl_view.specs.AclReading.{acl_at_front};
+ghost use Rattle.sd_acl_view.specs.Bytes.{u16_at as u16_of};
 ghost use Rattle.sd_call_parts.specs.Walk.{behind, begins_with_header, front_found, next};
 
 use crate::ace::{AceFound, found};
 use crate::place::Place;
 use byteorder::{ByteOrder, LittleEndian};
+use sd_acl_view::front_ace;
 use sd_parts::{ACL_HEADER_SIZE, ACL_REVISION, ACL_REVISION_DS};
-use sd_view::{Part, SdFault, front_ace};
+use sd_view::{Part, SdFault, fault_in};
 
 /// What comes next in an ACL. A fault is told as one of a DACL, since an ACL by itself is in no part.
 #[tactic(auto, unfolding(crate::specs::Walk::next))]
@@ -45,7 +46,7 @@ fn front_found(number: u32, offset: usize, bytes: &[u8]) -> Result<AceFound, SdF
     requires { offset < 2 ^ 32 }
     ensures { result ≡ front_found number offset bytes.now }
 {
-    match front_ace(Part::Dacl, bytes) {
+    match front_ace(bytes) {
         Ok((ace, rest)) => Ok(found(
             &ace,
             number,
@@ -54,7 +55,7 @@ fn front_found(number: u32, offset: usize, bytes: &[u8]) -> Result<AceFound, SdF
                 size: bytes.len() - rest.len(),
             },
         )),
-        Err(fault) => Err(fault),
+        Err(fault) => Err(fault_in(Part::Dacl, fault)),
     }
 }
 
@@ -94,7 +95,7 @@ fn behind(bytes: &[u8], offset: usize) -> &[u8]
     &bytes[offset.min(bytes.len())..]
 }
 
-#[tactic(auto, unfolding(sd_view::specs::Bytes::u16_at))]
+#[tactic(auto, unfolding(sd_acl_view::specs::Bytes::u16_at))]
 fn u16_at(bytes: &[u8], offset: usize) -> u16
     requires { offset + 2 ≤ length bytes.now }
     ensures { result ≡ u16_of offset bytes.now }

@@ -6,8 +6,8 @@ use Rattle.sd_rights.specs.Mapping.{carries, mapped}
 use Rattle.sd_sid.specs.SidText.{same_sid}
 use Rattle.sd_token.specs.Token.{Entry, Holder}
 use Rattle.sd_view.specs.Descriptor.{Descriptor}
-use Rattle.sd_view.specs.declared.acl.AclPart.{AclPart}
-use Rattle.sd_view.specs.declared.acl.AclPart.TheVariants as acl
+use Rattle.sd_view.specs.declared.acl_part.AclPart.{AclPart}
+use Rattle.sd_view.specs.declared.acl_part.AclPart.TheVariants as acl
 use Rattle.sd_rights.specs.AccessRights.{read_control, system_security, write_dac, write_owner}
 use Rattle.sd_check.specs.Acl.{listed_aces}
 use Rattle.sd_check.specs.Ask.{Asked}

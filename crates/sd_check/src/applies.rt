@@ -7,9 +7,10 @@ ghost use Rattle.sd_check.specs.Applies.{subject};
 
 use crate::ask::Ask;
 use crate::trustee::{is_owner_rights, is_principal_self, meets_any, some_meets};
+use sd_acl_view::AceView;
 use sd_kinds::{AceKind, INHERIT_ONLY, has_flag};
 use sd_token::LentToken;
-use sd_view::{AceView, SdView};
+use sd_view::SdView;
 use uuid::Uuid;
 
 /// Whether the ACE speaks of the token, and of the object that is asked for.

@@ -8,11 +8,12 @@ ghost use Rattle.sd_check.specs.Inner.Scan.{asks_owner, given_mask};
 use crate::applies::is_effective;
 use crate::ask::Ask;
 use crate::trustee::{is_owner_rights, some_meets};
+use sd_acl_view::{AceView, AclView};
 use sd_rights::{
     ACCESS_SYSTEM_SECURITY, BELOW_SYSTEM_SECURITY, READ_CONTROL, WRITE_DAC, WRITE_OWNER, mask_if,
 };
 use sd_token::LentToken;
-use sd_view::{AceView, AclPart, AclView, SdView};
+use sd_view::{AclPart, SdView};
 
 /// The rights that are granted whatever the ACEs say, as far as they are in question.
 #[tactic(auto, unfolding(crate::specs::Inner::Scan::given_mask))]

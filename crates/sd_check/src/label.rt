@@ -6,11 +6,12 @@ ghost use Rattle.sd_check.specs.Inner.Scan.{left_mask, permitted_mask};
 ghost use Rattle.sd_check.specs.Label.{is_mandatory_label, label, label_of, names_level};
 
 use crate::ask::Ask;
+use sd_acl_view::{AceView, AclView};
 use sd_kinds::{INHERIT_ONLY, has_flag};
 use sd_rights::{ACCESS_SYSTEM_SECURITY, ALL_RIGHTS, Mapping, has_right, is_label, mask_if};
 use sd_sid::Sid;
 use sd_token::LentToken;
-use sd_view::{AceView, AclPart, AclView, SdView};
+use sd_view::{AclPart, SdView};
 
 /// What a mandatory label says: the integrity level of the object, and what a token of a lower level may not do.
 #[derive(Clone, Copy, Debug, PartialEq, Eq)]

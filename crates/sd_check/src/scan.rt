@@ -10,8 +10,9 @@ ghost use Rattle.sd_check.specs.Inner.Scan.{scan_need};
 
 use crate::applies::{applies, is_allow};
 use crate::ask::Ask;
+use sd_acl_view::{AceView, AclView};
 use sd_token::LentToken;
-use sd_view::{AceView, AclPart, AclView, SdView};
+use sd_view::{AclPart, SdView};
 
 /// The rights of a mask that the ACEs grant.
 pub fn scan(view: &SdView, token: &mut LentToken, ask: &Ask, question: u32) -> u32

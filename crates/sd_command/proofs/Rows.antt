@@ -12,7 +12,7 @@ use Rattle.sd_sid.specs.Sid.{SecurityId}
 use Rattle.sd_sid.specs.SidText.{has_form, letters_read, numbers_read, sid_reads}
 use Rattle.sd_ace.specs.GuidText.{guid_reads}
 use Rattle.sd_rights.specs.Rights.{rights_reads}
-use Rattle.sd_view.specs.declared.acl.AclPart.TheVariants as acl
+use Rattle.sd_view.specs.declared.acl_part.AclPart.TheVariants as acl
 use Rattle.sd_sddl_builder.specs.Meaning.{body_reads, means}
 use Rattle.sd_check.specs.declared.ask.AskFault.TheVariants.{EmptyRequest, ReservedBits}
 use Rattle.sd_token.specs.declared.token.EntryKind.TheVariants.{DenyOnly, Enabled}

@@ -12,7 +12,7 @@ use Rattle.sd_sid.specs.SidText.{alias_of}
 use Rattle.sd_kinds.specs.declared.kinds.AceKind.TheVariants as kinds
 use Rattle.sd_sid.specs.declared.naming.Naming.{Naming}
 use Rattle.sd_view.specs.Descriptor.{Descriptor}
-use Rattle.sd_view.specs.declared.acl.AclPart.TheVariants as acl
+use Rattle.sd_view.specs.declared.acl_part.AclPart.TheVariants as acl
 use Rattle.sd_explain.specs.Explain.{ace_head, ace_line, ace_rights, ace_trustee, control_line, count_line, explain}
 use Rattle.sd_explain.specs.Explain.{rm_line, sid_line, sid_words}
 

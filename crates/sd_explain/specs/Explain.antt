@@ -17,8 +17,8 @@ use Rattle.sd_kinds.specs.declared.kinds.AceKind.{AceKind}
 use Rattle.sd_sid.specs.declared.naming.Naming.{Naming}
 use Rattle.sd_text.specs.Bits.{has_bit}
 use Rattle.sd_view.specs.Descriptor.{Descriptor}
-use Rattle.sd_view.specs.declared.acl.AclPart.{AclPart}
-use Rattle.sd_view.specs.declared.acl.AclPart.TheVariants as acl
+use Rattle.sd_view.specs.declared.acl_part.AclPart.{AclPart}
+use Rattle.sd_view.specs.declared.acl_part.AclPart.TheVariants as acl
 use Rattle.sd_parts.specs.declared.control.ControlBit.{ControlBit}
 use Rattle.sd_parts.specs.declared.control.TheConstants.{CONTROL_BITS}
 

@@ -8,13 +8,13 @@ ghost use Rattle.sd_explain.specs.Explain.{ace_head, ace_line, ace_rights, ace_t
 use crate::acl::PART_SIZE;
 use crate::sid::print_sid;
 use sd_ace::print_guid;
+use sd_acl_view::AceView;
 use sd_kinds::{AceKind, print_flags};
 use sd_rights::print_rights;
 use sd_sid::Naming;
 use sd_sid_view::SidView;
 use sd_sink::Print;
 use sd_text::{print_decimal, print_hex};
-use sd_view::AceView;
 use uuid::Uuid;
 
 /// Prints the line of an ACE.
@@ -32,7 +32,7 @@ pub fn print_ace<P: Print>(
     print_access(kind, ace.flags(), ace.mask(), out);
     print_object(b" object ", ace.object(), out);
     print_object(b" inherited ", ace.inherited(), out);
-    print_trustee(naming, &ace.trustee(), out);
+    print_trustee(naming, &ace.sid_in_place(), out);
 }
 
 // The part, the number and the kind.

@@ -4,10 +4,11 @@ ghost use Rattle.sd_sink.specs.Print.{Prints};
 ghost use Rattle.sd_explain.specs.Explain.{ace_lines, acl_lines, count_line};
 
 use crate::ace::print_ace;
+use sd_acl_view::AclView;
 use sd_sid::Naming;
 use sd_sink::Print;
 use sd_text::print_decimal;
-use sd_view::{AclPart, AclView};
+use sd_view::AclPart;
 
 /// The characters of a part's name, with the blank behind it. As many as are known are written at once.
 pub const PART_SIZE: usize = 5;

@@ -5,7 +5,7 @@ use Rattle.std.specs.List.{flat_map}
 use Rattle.std.proofs.lemmas.Bool.{cases_lt}
 use Rattle.std.proofs.lemmas.List.Concat.{flat_map-append}
 use Rattle.sd_ace.specs.Ace.{AccessControlEntry}
-use Rattle.sd_view.specs.Acl.{aces_size}
+use Rattle.sd_acl_view.specs.Acl.{aces_size}
 use Rattle.sd_builder.specs.Draft.{Draft, IsOpenIn, open_size, open_size_in}
 use Rattle.sd_parts.specs.declared.part.Which.{Which}
 use Rattle.sd_inherit.specs.Inner.Building.{HasOpen, more_aces, with_aces}

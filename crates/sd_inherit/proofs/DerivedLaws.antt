@@ -4,13 +4,13 @@ use Rattle.std.proofs.Common.{refl, sym}
 use Rattle.std.specs.List.{flat_map}
 use Rattle.std.proofs.lemmas.Bool.{le-leb, leb-true}
 use Rattle.sd_ace.specs.Ace.{AccessControlEntry}
-use Rattle.sd_view.specs.Acl.{acl_size}
+use Rattle.sd_acl_view.specs.Acl.{acl_size}
 use Rattle.sd_view.specs.Descriptor.{Descriptor}
 use Rattle.sd_builder.proofs.laws.BuiltBytes.{layout_order}
 use Rattle.sd_builder.specs.Draft.{CanBegin, Draft, DraftParts, built, is_present, nothing_given, with_group}
 use Rattle.sd_builder.specs.Draft.{with_owner}
-use Rattle.sd_view.specs.declared.acl.AclPart.{AclPart}
-use Rattle.sd_view.specs.declared.acl.AclPart.TheVariants as acl
+use Rattle.sd_view.specs.declared.acl_part.AclPart.{AclPart}
+use Rattle.sd_view.specs.declared.acl_part.AclPart.TheVariants as acl
 use Rattle.sd_parts.specs.declared.part.Which.TheVariants.{Sacl, Dacl}
 use Rattle.sd_inherit.specs.Inner.Building.{aces_in, bits_beside, given, gives, is_null, source_acl, with_part}
 use Rattle.sd_inherit.specs.Copies.{copies}

@@ -5,12 +5,12 @@ use Rattle.std.specs.Prelude.{Some, None}
 use Rattle.std.specs.List.{flat_map}
 use Rattle.sd_text.specs.Limits.{most_acl}
 use Rattle.sd_ace.specs.Ace.{AccessControlEntry}
-use Rattle.sd_view.specs.Acl.{acl_size}
+use Rattle.sd_acl_view.specs.Acl.{acl_size}
 use Rattle.sd_parts.specs.Control.{acl_flags, control_of, flag_bits}
 use Rattle.sd_view.specs.Descriptor.{Descriptor}
 use Rattle.sd_builder.specs.Draft.{is_present}
-use Rattle.sd_view.specs.declared.acl.AclPart.{AclPart}
-use Rattle.sd_view.specs.declared.acl.AclPart.TheVariants as acl
+use Rattle.sd_view.specs.declared.acl_part.AclPart.{AclPart}
+use Rattle.sd_view.specs.declared.acl_part.AclPart.TheVariants as acl
 use Rattle.sd_parts.specs.declared.control.AclFlags.{AclFlags}
 use Rattle.sd_parts.specs.declared.part.Which.{Which}
 use Rattle.sd_parts.specs.declared.part.Which.TheVariants.{Sacl, Dacl}

@@ -9,9 +9,9 @@ ghost use Rattle.sd_inherit.specs.Derived.{sacl_of};
 use crate::flags::{copied_flags, onward_flags};
 use crate::heirs::{differs, heir, heir_mask};
 use crate::plan::{Plan, Target};
+use sd_acl_view::AceView;
 use sd_builder::ChangedAce;
 use sd_kinds::{CONTAINER_INHERIT, INHERIT_ONLY, NO_PROPAGATE, OBJECT_INHERIT, has_flag};
-use sd_view::AceView;
 
 /// What a new object gets from one ACE: at most one for itself, and then at most one to hand on.
 #[derive(Drop)]

@@ -6,9 +6,9 @@ ghost use Rattle.sd_sid.specs.SidText.{same_sid};
 ghost use Rattle.sd_inherit.specs.Copies.{creator_group, creator_owner, has_generic, heir, heir_mask, differs};
 
 use crate::plan::Plan;
+use sd_acl_view::AceView;
 use sd_rights::{GENERIC_RIGHTS, is_label};
 use sd_sid::Sid;
-use sd_view::AceView;
 
 /// The SIDs that are replaced have one sub-authority, and most others more. So no other is read.
 const CREATOR_SUBS: usize = 1;

@@ -1,10 +1,10 @@
 //! ACLs of what is taken and what is inherited, built.
 
 ghost use Rattle.std.specs.Prelude.{◌≡◌, ◌≤◌, ◌+◌, ◌^◌, ◌↔◌, ◌++◌, IsErr, IfOk, OnOk};
-ghost use Rattle.sd_view.specs.Acl.{aces_size, acl_size};
+ghost use Rattle.sd_acl_view.specs.Acl.{aces_size, acl_size};
 ghost use Rattle.sd_builder.specs.Builds.{Builds};
 ghost use Rattle.sd_builder.specs.Draft.{CanBegin, Draft, is_present, open_size};
-ghost use Rattle.sd_view.specs.declared.acl.AclPart.TheVariants as acl;
+ghost use Rattle.sd_view.specs.declared.acl_part.AclPart.TheVariants as acl;
 ghost use Rattle.sd_parts.specs.declared.part.Which.TheVariants as which;
 ghost use Rattle.sd_inherit.specs.Inner.Building.{HasOpen, all_given, gathered_from, given, gives, listed};
 ghost use Rattle.sd_inherit.specs.Inner.Building.{one_or_none, source_acl, with_aces, with_part};
@@ -15,11 +15,12 @@ ghost use Rattle.sd_inherit.specs.declared.inherited.Origin.TheVariants as origi
 use crate::copies::{Copies, copies_of, no_copy};
 use crate::plan::Plan;
 use crate::taken::taken_of;
+use sd_acl_view::{AceView, Aces};
 use sd_buffer::SdBuf;
 use sd_builder::{AclTooLarge, Builder, ChangedAce};
 use sd_kinds::{CONTAINER_INHERIT, OBJECT_INHERIT, has_flag};
 use sd_parts::Which;
-use sd_view::{AceView, Aces, AclPart};
+use sd_view::AclPart;
 
 /// Whose ACEs are gathered.
 #[derive(Clone, Copy, Debug, PartialEq, Eq)]

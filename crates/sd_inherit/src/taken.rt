@@ -8,9 +8,9 @@ use crate::copies::{Copies, for_itself, no_copy, one_copy, with_flags};
 use crate::flags::{audit_flags, inherit_only_flags};
 use crate::heirs::differs;
 use crate::plan::{Plan, Target};
+use sd_acl_view::AceView;
 use sd_builder::ChangedAce;
 use sd_kinds::{CONTAINER_INHERIT, INHERIT_ONLY, INHERITED, OBJECT_INHERIT, has_flag};
-use sd_view::AceView;
 
 /// What a new object takes from an ACE of its creator's descriptor.
 #[tactic(auto, unfolding(crate::specs::Taken::taken))]

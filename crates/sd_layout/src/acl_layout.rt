@@ -5,12 +5,12 @@ ghost use Rattle.std.specs.List.{flat_map};
 ghost use Rattle.byteorder.specs.Endian.{little_bytes};
 ghost use Rattle.sd_sink.specs.Print.{Prints};
 ghost use Rattle.sd_ace.specs.AceLayout.{ace_bytes};
-ghost use Rattle.sd_view.specs.AclLayout.{acl_bytes, acl_header as header_bytes, revision_if};
+ghost use Rattle.sd_acl_view.specs.AclLayout.{acl_bytes, acl_header as header_bytes, revision_if};
 
 use sd_ace::AceFront;
+use sd_acl_view::{AceView, AclView};
 use sd_parts::{ACL_REVISION, ACL_REVISION_DS};
 use sd_sink::Print;
-use sd_view::{AceView, AclView};
 
 /// Prints an ACL: its header, and its ACEs one after the other; at once if it has this form already.
 #[inline(always)]

@@ -4,7 +4,7 @@ use Rattle.std.proofs.Common.{Bool, true, false, refl, subst, arith}
 use Rattle.std.specs.Prelude.{◌&&◌, nat_lt, if◌then◌else◌}
 use Rattle.std.specs.Option.{option_map, option_or}
 use Rattle.std.proofs.lemmas.Bool.Decides.{nat_tests}
-use Rattle.sd_view.proofs.laws.AceLists.{all-more}
+use Rattle.sd_acl_view.proofs.laws.AceLists.{all-more}
 use Rattle.sd_ace.specs.Ace.{AccessControlEntry, IsAce, IsGuid}
 use Rattle.sd_kinds.specs.Kinds.{is_object}
 use Rattle.sd_kinds.specs.Flags.{flags_reads}
@@ -17,11 +17,11 @@ use Rattle.sd_sid.specs.declared.sid_text.SidFault.{SidFault}
 use Rattle.sd_rights.proofs.laws.ReadLimits.{flags-limits, rights-limit}
 use Rattle.sd_sid.proofs.laws.ReadLimits.{sid-limits}
 use Rattle.sd_ace.proofs.laws.GuidLimits.{guid-limits}
-use Rattle.sd_view.specs.Acl.{IsAcl, acl_size}
+use Rattle.sd_acl_view.specs.Acl.{IsAcl, acl_size}
 use Rattle.sd_view.specs.Descriptor.{Descriptor, IsAclPart, IsDescriptor}
 use Rattle.sd_builder.specs.Draft.{DraftParts, closed, closed_in, is_present, more_in, with_acl}
-use Rattle.sd_view.specs.declared.acl.AclPart.{AclPart}
-use Rattle.sd_view.specs.declared.acl.AclPart.TheVariants as acl
+use Rattle.sd_view.specs.declared.acl_part.AclPart.{AclPart}
+use Rattle.sd_view.specs.declared.acl_part.AclPart.TheVariants as acl
 use Rattle.sd_parts.specs.declared.part.Which.{Which}
 use Rattle.sd_parts.specs.declared.part.Which.TheVariants as which
 use Rattle.sd_sddl_builder.specs.FoldedReading.{Field, FieldsRead, ace_of_fields, begun_or_null, described, fault_of}

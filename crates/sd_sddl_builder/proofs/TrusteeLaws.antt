@@ -3,10 +3,10 @@ use Rattle.std.proofs.Common.{◌≡◌, ℕ, ◌+◌, ◌≤◌, ◌^◌, List,
 use Rattle.std.specs.Prelude.{if◌then◌else◌, is_some, nat_lt}
 use Rattle.std.specs.Option.{option_map}
 use Rattle.std.proofs.lemmas.Bool.Decides.{nat_tests}
-use Rattle.sd_view.proofs.laws.AceLists.{size-more}
+use Rattle.sd_acl_view.proofs.laws.AceLists.{size-more}
 use Rattle.sd_ace.specs.Ace.{AccessControlEntry, ace_size}
 use Rattle.sd_sid.specs.Sid.{SecurityId}
-use Rattle.sd_view.specs.Acl.{acl_size}
+use Rattle.sd_acl_view.specs.Acl.{acl_size}
 use Rattle.sd_builder.specs.Draft.{IsOpen, IsOpenIn, more_in, open_size, open_size_in, with_ace}
 use Rattle.sd_sddl_builder.specs.FoldedReading.{FieldsRead, ace_of_fields, large_in, with_trustee}
 use Rattle.sd_sddl_builder.specs.FieldReading.{BuildsParts, HasReadFields}

@@ -5,7 +5,7 @@ use Rattle.sd_ace.specs.Ace.{GuidsFit}
 use Rattle.sd_kinds.specs.Kinds.{is_object}
 use Rattle.sd_view.specs.Descriptor.{Descriptor, Shows}
 use Rattle.sd_view.specs.WrittenForm.{IsWritten}
-use Rattle.sd_view.specs.declared.acl.AclPart.TheVariants as acl
+use Rattle.sd_view.specs.declared.acl_part.AclPart.TheVariants as acl
 use Rattle.sd_parts.specs.declared.part.Part.{Part}
 use Rattle.sd_builder.specs.Builds.{Builds}
 use Rattle.sd_builder.specs.declared.builder.Builder.{Builder}

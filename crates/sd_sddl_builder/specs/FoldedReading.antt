@@ -13,10 +13,10 @@ use Rattle.sd_sid.specs.SidText.{sid_reads}
 use Rattle.sd_kinds.specs.declared.kinds.AceKind.TheVariants as kinds
 use Rattle.sd_sid.specs.declared.sid_text.SidFault.{SidFault}
 use Rattle.sd_sid.specs.declared.sid_text.SidFault.TheVariants.{SidForm}
-use Rattle.sd_view.specs.Acl.{acl_size}
+use Rattle.sd_acl_view.specs.Acl.{acl_size}
 use Rattle.sd_view.specs.Descriptor.{Descriptor}
 use Rattle.sd_builder.specs.Draft.{DraftParts, begun, built, closed, no_parts, with_ace, with_acl}
-use Rattle.sd_view.specs.declared.acl.AclPart.TheVariants as acl
+use Rattle.sd_view.specs.declared.acl_part.AclPart.TheVariants as acl
 use Rattle.sd_parts.specs.declared.part.Which.{Which}
 use Rattle.sd_parts.specs.declared.part.Which.TheVariants as which
 use Rattle.sd_parts.specs.Control.{no_flags}

@@ -9,8 +9,8 @@ use Rattle.sd_sid.specs.Sid.{SecurityId}
 use Rattle.sd_view.specs.Descriptor.{Descriptor, IsDescriptor}
 use Rattle.sd_parts.specs.Control.{dacl_present, sacl_present, acl_flags, bit_if, flag_bits, no_flags, control_of}
 use Rattle.sd_parts.specs.Control.{present_bit}
-use Rattle.sd_view.specs.declared.acl.AclPart.{AclPart}
-use Rattle.sd_view.specs.declared.acl.AclPart.TheVariants as acl
+use Rattle.sd_view.specs.declared.acl_part.AclPart.{AclPart}
+use Rattle.sd_view.specs.declared.acl_part.AclPart.TheVariants as acl
 use Rattle.sd_parts.specs.declared.control.AclFlags.{AclFlags}
 use Rattle.sd_sddl_builder.specs.declared.fault.SddlFault.{SddlFault}
 use Rattle.sd_sddl_builder.specs.declared.slot.Head.TheVariants as head

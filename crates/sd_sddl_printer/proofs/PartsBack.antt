@@ -7,10 +7,10 @@ use Rattle.std.proofs.lemmas.Bool.Decides.{nat_tests}
 use Rattle.sd_ace.specs.Ace.{AccessControlEntry, GuidsFit, IsAce, IsGuid}
 use Rattle.sd_kinds.specs.Kinds.{is_object}
 use Rattle.sd_sid.specs.Sid.{IsSid, SecurityId}
-use Rattle.sd_view.specs.Acl.{acl_size, aces_size}
+use Rattle.sd_acl_view.specs.Acl.{acl_size, aces_size}
 use Rattle.sd_view.specs.Descriptor.{IsAclPart}
-use Rattle.sd_view.specs.declared.acl.AclPart.{AclPart}
-use Rattle.sd_view.specs.declared.acl.AclPart.TheVariants as acl
+use Rattle.sd_view.specs.declared.acl_part.AclPart.{AclPart}
+use Rattle.sd_view.specs.declared.acl_part.AclPart.TheVariants as acl
 use Rattle.sd_parts.specs.declared.control.AclFlags.{AclFlags}
 use Rattle.sd_sddl_builder.specs.declared.fault.SddlFault.{SddlFault}
 use Rattle.sd_sddl_builder.specs.declared.slot.AceField.TheVariants as field

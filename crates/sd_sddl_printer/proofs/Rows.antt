@@ -11,7 +11,7 @@ use Rattle.sd_sid.specs.Sid.{SecurityId}
 use Rattle.sd_sid.specs.SidText.{alias_of}
 use Rattle.sd_kinds.specs.declared.kinds.AceKind.TheVariants as kinds
 use Rattle.sd_view.specs.Descriptor.{Descriptor}
-use Rattle.sd_view.specs.declared.acl.AclPart.TheVariants as acl
+use Rattle.sd_view.specs.declared.acl_part.AclPart.TheVariants as acl
 use Rattle.sd_sid.specs.declared.naming.Naming.{Naming}
 use Rattle.sd_sddl_printer.specs.Printed.{ace_text, acl_flags_text, dacl_text, flags_field, group_text, kind_field}
 use Rattle.sd_sddl_printer.specs.Printed.{object_field, owner_text, plain, rights_field, sacl_text, sddl, trustee_field}

@@ -6,11 +6,11 @@ ghost use Rattle.sd_sddl_printer.specs.Printed.{ace_text, kind_field, object_fie
 
 use crate::trustee::print_trustee;
 use sd_ace::print_guid;
+use sd_acl_view::AceView;
 use sd_kinds::{AceKind, print_flags};
 use sd_rights::print_rights;
 use sd_sid::Naming;
 use sd_sink::Print;
-use sd_view::AceView;
 use uuid::Uuid;
 
 /// Prints an ACE.
@@ -23,7 +23,7 @@ pub fn print_ace<P: Print>(naming: &Naming, ace: &AceView<'_>, out: &mut P)
     out.put(b";");
     print_rights(kind, ace.mask(), out);
     print_objects(ace, out);
-    print_trustee(naming, &ace.trustee(), out);
+    print_trustee(naming, &ace.sid_in_place(), out);
     out.put(b")");
 }
 

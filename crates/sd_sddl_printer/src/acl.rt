@@ -6,10 +6,11 @@ ghost use Rattle.sd_sink.specs.Print.{Prints};
 ghost use Rattle.sd_sddl_printer.specs.Printed.{ace_text, acl_flags_text, acl_text, text_if};
 
 use crate::ace::print_ace;
+use sd_acl_view::AclView;
 use sd_parts::AclFlags;
 use sd_sid::Naming;
 use sd_sink::Print;
-use sd_view::{AclPart, AclView};
+use sd_view::AclPart;
 
 /// The characters of a head. As many as are known are written at once.
 pub const HEAD_SIZE: usize = 2;

@@ -5,8 +5,8 @@ use Rattle.std.proofs.lemmas.Bool.Decides.{nat_tests}
 use Rattle.std.proofs.lemmas.List.{take_at}
 use Rattle.sd_sid.specs.Sid.{sid_bytes, sid_of, sid_stands}
 use Rattle.sd_sid.proofs.laws.Numbers.{AreBytes, AreBytes-drop}
-use Rattle.sd_view.specs.declared.acl.AclPart.{AclPart}
-use Rattle.sd_view.specs.declared.acl.AclPart.TheVariants as acl
+use Rattle.sd_view.specs.declared.acl_part.AclPart.{AclPart}
+use Rattle.sd_view.specs.declared.acl_part.AclPart.TheVariants as acl
 use Rattle.sd_view.specs.Inner.Found.{written_of}
 use Rattle.sd_view.specs.Layout.{acl_part_size, sid_part}
 use Rattle.sd_view.specs.Reading.{sid_shown}

@@ -10,16 +10,16 @@ use Rattle.byteorder.specs.Numbers.{little_from-lt}
 use Rattle.sd_sid.specs.Sid.{SecurityId, IsSid, BeginsWithSid, sid_at, sid_of, sid_size, sid_stands}
 use Rattle.sd_sid.proofs.laws.Numbers.{AreBytes, AreBytes-drop, AreBytes-take}
 use Rattle.sd_sid.proofs.laws.SidLaws.{sid_at-bytes, sid_at-found}
-use Rattle.sd_view.specs.Bytes.{u16_at}
+use Rattle.sd_acl_view.specs.Bytes.{u16_at}
 use Rattle.sd_parts.specs.declared.part.Part.{Part}
 use Rattle.sd_parts.specs.declared.part.Part.TheVariants.{Owner, Group, Sacl, Dacl}
 use Rattle.sd_view.specs.declared.fault.SdFault.{SdFault}
-use Rattle.sd_view.specs.declared.fault.AclFault.{AclFault}
-use Rattle.sd_view.specs.declared.acl.AclPart.{AclPart}
-use Rattle.sd_view.specs.declared.acl.AclPart.TheVariants as acl
+use Rattle.sd_acl_view.specs.declared.fault.AclFault.{AclFault}
+use Rattle.sd_view.specs.declared.acl_part.AclPart.{AclPart}
+use Rattle.sd_view.specs.declared.acl_part.AclPart.TheVariants as acl
 use Rattle.sd_ace.specs.Ace.{AccessControlEntry}
-use Rattle.sd_view.specs.Acl.{BeginsWithAcl}
-use Rattle.sd_view.specs.AclReading.{acl_fault, acl_of, acl_at_front}
+use Rattle.sd_acl_view.specs.Acl.{BeginsWithAcl}
+use Rattle.sd_acl_view.specs.AclReading.{acl_fault, acl_of, acl_at_front}
 use Rattle.sd_view.specs.Descriptor.{Apart, AreApart, Descriptor, Extent, IsAclPart, IsDescriptor, Shows, ShowsAclPart}
 use Rattle.sd_view.specs.Descriptor.{ShowsSid, control_at, dacl_at, extents_of, group_at, owner_at, sacl_at}
 use Rattle.sd_parts.specs.Control.{dacl_present, sacl_present, self_relative}
@@ -29,8 +29,8 @@ use Rattle.sd_view.specs.Inner.Readable.{IsAclAt, IsSidAt, Readable}
 use Rattle.sd_parts.specs.Parts.{get_part, same_part}
 use Rattle.sd_parts.specs.declared.part.Parts.{Parts}
 use Rattle.sd_view.proofs.laws.ApartLaws.{six-apart}
-use Rattle.sd_view.proofs.AclLaws.{acl-begins, acl-readable, begins-acl, shows-acl-limits}
-use Rattle.sd_view.proofs.FirstFault.{first_none, none_first, otherwise, passed, went_on}
+use Rattle.sd_acl_view.proofs.laws.AclLaws.{acl-begins, acl-readable, begins-acl, shows-acl-limits}
+use Rattle.sd_acl_view.proofs.laws.FirstFault.{first_none, none_first, otherwise, passed, went_on}
 
 -- a header without a fault
 record Header (bytes : List ℕ) : Type 0 where

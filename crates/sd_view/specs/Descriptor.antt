@@ -2,14 +2,14 @@
 use Rattle.std.specs.Prelude.{◌≡◌, ◌≤◌, ◌<◌, ℕ, ◌+◌, ◌^◌, ◌⊎◌, Bool, true, false, List, length, drop, slice_index}
 use Rattle.std.specs.Prelude.{Option, Some, None, IfSome}
 use Rattle.sd_sid.specs.Sid.{SecurityId, IsSid, BeginsWithSid, sid_size}
-use Rattle.sd_view.specs.Acl.{BeginsWithAcl, IsAcl}
-use Rattle.sd_view.specs.Bytes.{u16_at, u32_at}
+use Rattle.sd_acl_view.specs.Acl.{BeginsWithAcl, IsAcl}
+use Rattle.sd_acl_view.specs.Bytes.{u16_at, u32_at}
 use Rattle.sd_parts.specs.Control.{self_relative, sacl_present, dacl_present}
 use Rattle.sd_parts.specs.Parts.{get_part, same_part}
 use Rattle.sd_parts.specs.declared.part.Part.{Part}
 use Rattle.sd_parts.specs.declared.part.Parts.{Parts}
-use Rattle.sd_view.specs.declared.acl.AclPart.{AclPart}
-use Rattle.sd_view.specs.declared.acl.AclPart.TheVariants as acl
+use Rattle.sd_view.specs.declared.acl_part.AclPart.{AclPart}
+use Rattle.sd_view.specs.declared.acl_part.AclPart.TheVariants as acl
 
 pub record Descriptor : Type 0 where
   -- the control word

@@ -1,5 +1,3 @@
 -- What private contracts and invariants cite. No definition rests on these files.
 pub mod Found
 pub mod Readable
-pub mod ReadableAcl
-pub mod Written

@@ -3,11 +3,11 @@ use Rattle.std.specs.Prelude.{ℕ, ◌+◌, ◌==◌, if◌then◌else◌, List,
 use Rattle.sd_parts.specs.Header.{header_bytes}
 use Rattle.sd_parts.specs.declared.part.Parts.{Parts}
 use Rattle.sd_sid.specs.Sid.{SecurityId, sid_bytes, sid_size}
-use Rattle.sd_view.specs.Acl.{acl_size}
-use Rattle.sd_view.specs.AclLayout.{acl_bytes}
+use Rattle.sd_acl_view.specs.Acl.{acl_size}
+use Rattle.sd_acl_view.specs.AclLayout.{acl_bytes}
 use Rattle.sd_view.specs.Descriptor.{Descriptor}
-use Rattle.sd_view.specs.declared.acl.AclPart.{AclPart}
-use Rattle.sd_view.specs.declared.acl.AclPart.TheVariants as acl
+use Rattle.sd_view.specs.declared.acl_part.AclPart.{AclPart}
+use Rattle.sd_view.specs.declared.acl_part.AclPart.TheVariants as acl
 
 -- the bytes of a part, and how many there are
 abbrev pub sid_part : Option SecurityId → List ℕ

@@ -1,8 +1,3 @@
-pub mod Ace
-pub mod Acl
-pub mod AclLayout
-pub mod AclReading
-pub mod Bytes
 pub mod Descriptor
 pub mod Inner
 pub mod Layout

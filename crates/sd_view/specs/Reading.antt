@@ -7,13 +7,13 @@ use Rattle.sd_parts.specs.declared.part.Part.{Part}
 use Rattle.sd_parts.specs.declared.part.Part.TheVariants.{Owner, Group, Sacl, Dacl}
 use Rattle.sd_view.specs.declared.fault.SdFault.{SdFault}
 use Rattle.sd_view.specs.declared.fault.SdFault.TheVariants as faults
-use Rattle.sd_view.specs.declared.fault.AclFault.{AclFault}
-use Rattle.sd_view.specs.declared.fault.AclFault.TheVariants as lists
-use Rattle.sd_view.specs.declared.acl.AclPart.{AclPart}
-use Rattle.sd_view.specs.declared.acl.AclPart.TheVariants as acl
+use Rattle.sd_acl_view.specs.declared.fault.AclFault.{AclFault}
+use Rattle.sd_acl_view.specs.declared.fault.AclFault.TheVariants as lists
+use Rattle.sd_view.specs.declared.acl_part.AclPart.{AclPart}
+use Rattle.sd_view.specs.declared.acl_part.AclPart.TheVariants as acl
 use Rattle.std.specs.Option.{option_or}
 use Rattle.sd_text.specs.Chains.{unless}
-use Rattle.sd_view.specs.AclReading.{acl_fault, acl_of, acl_at_front}
+use Rattle.sd_acl_view.specs.AclReading.{acl_fault, acl_of, acl_at_front}
 use Rattle.sd_view.specs.Descriptor.{Descriptor, Extent, control_at, dacl_at, extents_of, group_at, owner_at, sacl_at}
 use Rattle.sd_parts.specs.Control.{dacl_present, sacl_present, self_relative}
 use Rattle.sd_parts.specs.Parts.{get_part}

@@ -1,10 +1,10 @@
 -- Bytes of a descriptor that have no gap, and the one written form of each part (MS-DTYP 2.4.6).
 use Rattle.std.specs.Prelude.{◌≡◌, ℕ, List, ◌++◌, length, drop}
-use Rattle.sd_view.specs.AclLayout.{acl_bytes}
+use Rattle.sd_acl_view.specs.AclLayout.{acl_bytes}
 use Rattle.sd_view.specs.Descriptor.{Descriptor, Shows, dacl_at, sacl_at}
 use Rattle.sd_view.specs.Layout.{size}
-use Rattle.sd_view.specs.declared.acl.AclPart.{AclPart}
-use Rattle.sd_view.specs.declared.acl.AclPart.TheVariants as acl
+use Rattle.sd_view.specs.declared.acl_part.AclPart.{AclPart}
+use Rattle.sd_view.specs.declared.acl_part.AclPart.TheVariants as acl
 
 -- an ACL stands in its written form (MS-DTYP 2.4.5); the offset is 0 where none stands
 abbrev pub AclIsWritten : List ℕ → ℕ → AclPart → Type 0

@@ -3,6 +3,7 @@
 ghost use Rattle.std.specs.Prelude.{◌≡◌};
 ghost use Rattle.sd_view.specs.Reading.{fault_in};
 
+use sd_acl_view::AclFault;
 use sd_parts::Part;
 
 /// Why bytes show no descriptor: the first condition that holds. 5, 6 and 7 are looked at first; then 8
@@ -33,18 +34,8 @@ pub enum SdFault {
     Overlap(Part, Part),
 }
 
-// Why bytes begin with no ACL.
-#[derive(Clone, Copy, Debug, PartialEq, Eq)]
-pub enum AclFault {
-    Acl,
-    AceSize,
-    AceType,
-    AceFlags,
-    Sid,
-}
-
-// An ACL's fault, in a part.
-pub(crate) fn fault_in(part: Part, fault: AclFault) -> SdFault
+/// An ACL's fault, in a part.
+pub fn fault_in(part: Part, fault: AclFault) -> SdFault
     ensures { result ≡ fault_in part fault }
 {
     match fault {

@@ -6,16 +6,17 @@ ghost use Rattle.sd_view.specs.Descriptor.{Descriptor, Shows, IsAclPart, IsDescr
 ghost use Rattle.sd_view.specs.Descriptor.{sid_extent};
 ghost use Rattle.sd_view.specs.Layout.{layout, sid_part, size};
 ghost use Rattle.sd_view.specs.WrittenForm.{AclIsWritten, IsWrittenForm};
-ghost use Rattle.sd_view.specs.Inner.Found.{FailsBy, shown_written, written_of};
+ghost use Rattle.sd_acl_view.specs.AclChecks.{FailsBy};
+ghost use Rattle.sd_view.specs.Inner.Found.{shown_written, written_of};
 ghost use Rattle.sd_view.specs.Reading.{acl_part_fault, acl_shown, fault, header_fault, overlap_fault};
 ghost use Rattle.sd_view.specs.Reading.{overlaps_fault, parts_fault, reading, share_a_byte as share_of, shown};
 ghost use Rattle.sd_view.specs.Reading.{sid_fault, sid_shown};
 ghost use Rattle.sd_view.specs.Inner.Readable.{IsAclAt, IsSidAt};
 ghost use Rattle.sd_parts.specs.declared.limits.TheConstants.{HEADER_SIZE, MOST_SID_SIZE};
 
-use crate::acl::{AclPart, Written, acl_view, check_acl};
-use crate::bytes::{u16_at, u32_at};
+use crate::acl_part::AclPart;
 use crate::fault::{SdFault, fault_in};
+use sd_acl_view::{Written, acl_view, check_acl, u16_at, u32_at};
 use sd_parts::{
     ACL_REVISION_DS, DACL_PRESENT, HEADER_SIZE, Part, Parts, SACL_PRESENT, SELF_RELATIVE, has_bit,
 };

@@ -8,8 +8,8 @@ use Rattle.sd_sid.specs.Sid.{SecurityId}
 use Rattle.sd_parts.specs.Control.{control_of}
 use Rattle.sd_view.specs.Layout.{acl_part, acl_part_size, layout, offset_if, parts_bytes, sid_part, sid_part_size}
 use Rattle.sd_view.specs.WrittenForm.{IsWritten}
-use Rattle.sd_view.specs.declared.acl.AclPart.{AclPart}
-use Rattle.sd_view.specs.declared.acl.AclPart.TheVariants as acl
+use Rattle.sd_view.specs.declared.acl_part.AclPart.{AclPart}
+use Rattle.sd_view.specs.declared.acl_part.AclPart.TheVariants as acl
 use Rattle.sd_parts.specs.declared.part.Part.{Part}
 use Rattle.sd_parts.specs.declared.part.Part.TheVariants as part
 use Rattle.sd_view.proofs.laws.LayoutSizes.{length-acl_part, length-sid_part}

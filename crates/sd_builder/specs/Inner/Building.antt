@@ -4,13 +4,13 @@ use Rattle.std.specs.Prelude.{◌≡◌, ◌≤◌, ℕ, ◌+◌, List, [], leng
 use Rattle.std.specs.List.{flat_map}
 use Rattle.sd_ace.specs.Ace.{AccessControlEntry}
 use Rattle.sd_sid.specs.Sid.{SecurityId, IsSid, sid_bytes, sid_size}
-use Rattle.sd_view.specs.Acl.{IsAcl, acl_size, has_object}
+use Rattle.sd_acl_view.specs.Acl.{IsAcl, acl_size, has_object}
 use Rattle.sd_ace.specs.AceLayout.{ace_bytes}
-use Rattle.sd_view.specs.AclLayout.{acl_bytes}
+use Rattle.sd_acl_view.specs.AclLayout.{acl_bytes}
 use Rattle.sd_view.specs.Descriptor.{AreApart, Extent}
 use Rattle.sd_builder.specs.Draft.{Draft, DraftParts, acl_for, bytes_in_order, offset_of}
-use Rattle.sd_view.specs.declared.acl.AclPart.{AclPart}
-use Rattle.sd_view.specs.declared.acl.AclPart.TheVariants as acl
+use Rattle.sd_view.specs.declared.acl_part.AclPart.{AclPart}
+use Rattle.sd_view.specs.declared.acl_part.AclPart.TheVariants as acl
 use Rattle.sd_builder.specs.declared.builder.Builder.{Builder}
 use Rattle.sd_builder.specs.declared.builder.OpenAcl.{OpenAcl}
 use Rattle.sd_parts.specs.declared.part.Which.{Which}

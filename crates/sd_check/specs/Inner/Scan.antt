@@ -6,7 +6,7 @@ use Rattle.sd_ace.specs.Ace.{AccessControlEntry}
 use Rattle.sd_rights.specs.Mapping.{GenericMapping, carries, mask_if}
 use Rattle.sd_token.specs.Token.{Entry, Holder}
 use Rattle.sd_view.specs.Descriptor.{Descriptor}
-use Rattle.sd_view.specs.declared.acl.AclPart.{AclPart}
+use Rattle.sd_view.specs.declared.acl_part.AclPart.{AclPart}
 use Rattle.sd_rights.specs.AccessRights.{below_system_security, every_right, owner_mask, system_security_mask}
 use Rattle.sd_rights.specs.AccessRights.{write_owner_mask}
 use Rattle.sd_check.specs.Ask.{Asked}

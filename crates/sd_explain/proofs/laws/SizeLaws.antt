@@ -23,13 +23,13 @@ use Rattle.sd_ace.proofs.laws.GuidTexts.{guid_text-length}
 use Rattle.sd_kinds.proofs.laws.KindLaws.{letters-few}
 use Rattle.sd_rights.proofs.laws.RightsLaws.{rights_text-length}
 use Rattle.sd_sid.proofs.laws.TextLaws.{length-sid_text}
-use Rattle.sd_view.specs.Acl.{aces_size}
+use Rattle.sd_acl_view.specs.Acl.{aces_size}
 use Rattle.sd_text.specs.Bits.{has_bit}
 use Rattle.sd_view.specs.Descriptor.{Descriptor, IsAclPart, IsDescriptor}
 use Rattle.sd_parts.specs.Control.{dacl_present, sacl_present}
 use Rattle.sd_view.specs.Layout.{acl_part_size, sid_part_size, size}
-use Rattle.sd_view.specs.declared.acl.AclPart.{AclPart}
-use Rattle.sd_view.specs.declared.acl.AclPart.TheVariants as acl
+use Rattle.sd_view.specs.declared.acl_part.AclPart.{AclPart}
+use Rattle.sd_view.specs.declared.acl_part.AclPart.TheVariants as acl
 use Rattle.sd_parts.specs.declared.control.ControlBit.{ControlBit}
 use Rattle.sd_parts.specs.declared.control.TheConstants.{CONTROL_BITS}
 use Rattle.sd_explain.specs.Explain.{ace_head, ace_line, ace_rights, ace_trustee, acl_lines, code_if, control_line}

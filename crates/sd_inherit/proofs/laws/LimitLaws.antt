@@ -11,7 +11,7 @@ use Rattle.sd_rights.specs.Mapping.{GenericMapping, IsMapping, carries, mapped, 
 use Rattle.sd_sid.specs.Sid.{IsSid, SecurityId}
 use Rattle.sd_sid.specs.SidText.{same_sid}
 use Rattle.sd_rights.specs.Rights.{is_label}
-use Rattle.sd_view.specs.Acl.{IsAcl, acl_size}
+use Rattle.sd_acl_view.specs.Acl.{IsAcl, acl_size}
 use Rattle.sd_builder.specs.Draft.{is_present}
 use Rattle.sd_parts.proofs.laws.ControlLaws.{bit_if-most, control-bits}
 use Rattle.sd_parts.specs.Control.{dacl_present, flag_bits, sacl_present}
@@ -19,8 +19,8 @@ use Rattle.sd_parts.specs.declared.control.AclFlags.{AclFlags}
 use Rattle.sd_parts.specs.declared.part.Which.{Which}
 use Rattle.sd_parts.specs.declared.part.Which.TheVariants.{Dacl, Sacl}
 use Rattle.sd_view.specs.Descriptor.{Descriptor, IsAclPart, IsDescriptor}
-use Rattle.sd_view.specs.declared.acl.AclPart.{AclPart}
-use Rattle.sd_view.specs.declared.acl.AclPart.TheVariants as acl
+use Rattle.sd_view.specs.declared.acl_part.AclPart.{AclPart}
+use Rattle.sd_view.specs.declared.acl_part.AclPart.TheVariants as acl
 use Rattle.sd_inherit.specs.Copies.{copies, copies_for, creator_group, creator_owner, differs, effective_copy, heir}
 use Rattle.sd_inherit.specs.Copies.{heir_mask, inherit_only_copy, is_for_containers, is_for_files, is_for_one_level}
 use Rattle.sd_inherit.specs.Copies.{onward_flags}

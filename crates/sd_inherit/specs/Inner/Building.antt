@@ -4,8 +4,8 @@ use Rattle.std.specs.List.{flat_map}
 use Rattle.sd_ace.specs.Ace.{AccessControlEntry}
 use Rattle.sd_builder.specs.Draft.{Draft, IsOpen, open_size, with_acl}
 use Rattle.sd_parts.specs.Parts.{part_of}
-use Rattle.sd_view.specs.declared.acl.AclPart.{AclPart}
-use Rattle.sd_view.specs.declared.acl.AclPart.TheVariants as acl
+use Rattle.sd_view.specs.declared.acl_part.AclPart.{AclPart}
+use Rattle.sd_view.specs.declared.acl_part.AclPart.TheVariants as acl
 use Rattle.sd_parts.specs.declared.control.AclFlags.{AclFlags}
 use Rattle.sd_parts.specs.Control.{flag_bits}
 use Rattle.sd_parts.specs.declared.part.Which.{Which}

@@ -10,13 +10,13 @@ use Rattle.uuid.proofs.RoundTrips.{swap_twice}
 use Rattle.sd_ace.specs.Ace.{AccessControlEntry, GuidsFit, IsAce, IsGuid, ace_size, guid_size}
 use Rattle.sd_kinds.specs.Kinds.{is_object, kind_code}
 use Rattle.sd_sid.specs.Sid.{SecurityId, IsSid, BeginsWithSid, sid_bytes}
-use Rattle.sd_view.specs.Ace.{ShowsAce, ShowsGuid, announces_inherited, announces_object}
-use Rattle.sd_view.specs.Acl.{IsAcl, ShowsAces, ShowsAcl, acl_size, has_object}
+use Rattle.sd_acl_view.specs.Ace.{ShowsAce, ShowsGuid, announces_inherited, announces_object}
+use Rattle.sd_acl_view.specs.Acl.{IsAcl, ShowsAces, ShowsAcl, acl_size, has_object}
 use Rattle.sd_ace.specs.AceLayout.{ace_bytes, guids, object_flags}
-use Rattle.sd_view.specs.AclLayout.{acl_bytes, revision_if}
-use Rattle.sd_view.specs.Bytes.{u16_at, u32_at}
-use Rattle.sd_view.proofs.laws.AclLayoutSizes.{ace_size-fourth, ace_size-small, aces-many, bytes_by, front_by}
-use Rattle.sd_view.proofs.laws.AclLayoutSizes.{length-ace_bytes, length-acl_bytes}
+use Rattle.sd_acl_view.specs.AclLayout.{acl_bytes, revision_if}
+use Rattle.sd_acl_view.specs.Bytes.{u16_at, u32_at}
+use Rattle.sd_acl_view.proofs.laws.AclLayoutSizes.{ace_size-fourth, ace_size-small, aces-many, bytes_by, front_by}
+use Rattle.sd_acl_view.proofs.laws.AclLayoutSizes.{length-ace_bytes, length-acl_bytes}
 
 -- the bytes of a SID begin with it
 begins : (s : SecurityId) → IsSid s → BeginsWithSid (sid_bytes s) s

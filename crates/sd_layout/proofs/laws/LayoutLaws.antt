@@ -7,9 +7,9 @@ use Rattle.std.proofs.lemmas.List.{append-nil, drop_at, drop-drop}
 use Rattle.byteorder.specs.Endian.{little_bytes}
 use Rattle.byteorder.specs.Numbers.{little_number-reads_back}
 use Rattle.sd_sid.specs.Sid.{SecurityId, IsSid, sid_size}
-use Rattle.sd_view.specs.Acl.{acl_size}
-use Rattle.sd_view.specs.AclLayout.{acl_bytes}
-use Rattle.sd_view.specs.Bytes.{u16_at, u32_at}
+use Rattle.sd_acl_view.specs.Acl.{acl_size}
+use Rattle.sd_acl_view.specs.AclLayout.{acl_bytes}
+use Rattle.sd_acl_view.specs.Bytes.{u16_at, u32_at}
 use Rattle.sd_view.specs.Descriptor.{Apart, AreApart, Descriptor, Extent, IsAclPart, IsDescriptor, Shows, ShowsAclPart}
 use Rattle.sd_view.specs.Descriptor.{ShowsSid, acl_extent, control_at, dacl_at, group_at, owner_at, sacl_at, sid_extent}
 use Rattle.sd_view.specs.Layout.{acl_part, acl_part_size, dacl_offset, descriptor_header, group_offset, layout}
@@ -17,8 +17,8 @@ use Rattle.sd_view.specs.Layout.{offset_if, offsets, parts_bytes, sacl_offset, s
 use Rattle.sd_view.specs.WrittenForm.{AclIsWritten, IsWritten, IsWrittenForm}
 use Rattle.sd_parts.specs.Header.{header_bytes}
 use Rattle.sd_parts.specs.declared.part.Parts.{Parts}
-use Rattle.sd_view.specs.declared.acl.AclPart.{AclPart}
-use Rattle.sd_view.specs.declared.acl.AclPart.TheVariants as acl
+use Rattle.sd_view.specs.declared.acl_part.AclPart.{AclPart}
+use Rattle.sd_view.specs.declared.acl_part.AclPart.TheVariants as acl
 use Rattle.sd_view.proofs.laws.ApartLaws.{six-apart}
 use Rattle.sd_view.proofs.laws.LayoutSizes.{acl_size-read, length-acl_part, length-header, length-layout, length-sid_part}
 use Rattle.sd_view.proofs.laws.LayoutSizes.{size-most}

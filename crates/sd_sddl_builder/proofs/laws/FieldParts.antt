@@ -7,7 +7,7 @@ use Rattle.sd_kinds.specs.Flags.{flags_reads}
 use Rattle.sd_rights.specs.Rights.{rights_reads}
 use Rattle.sd_sid.specs.SidText.{sid_reads}
 use Rattle.sd_sid.specs.declared.sid_text.SidFault.{SidFault}
-use Rattle.sd_view.specs.declared.acl.AclPart.TheVariants as acl
+use Rattle.sd_view.specs.declared.acl_part.AclPart.TheVariants as acl
 use Rattle.sd_builder.specs.Draft.{DraftParts, IsOpen, IsOpenIn, acl_for, closed, closed_in, more_in, with_ace}
 use Rattle.sd_sddl_builder.specs.Line.{same_head}
 use Rattle.sd_sddl_builder.specs.FoldedReading.{FieldsRead, ace_of_fields, begun_or_null, fault_of}

@@ -17,12 +17,12 @@ use Rattle.sd_kinds.proofs.laws.FlagLaws.{flags_text-length}
 use Rattle.sd_ace.proofs.laws.GuidTexts.{guid_text-length}
 use Rattle.sd_rights.proofs.laws.RightsLaws.{rights_text-length}
 use Rattle.sd_sid.proofs.laws.TextLaws.{length-sid_text}
-use Rattle.sd_view.specs.Acl.{aces_size}
+use Rattle.sd_acl_view.specs.Acl.{aces_size}
 use Rattle.sd_parts.specs.Control.{acl_flags, dacl_present, sacl_present}
 use Rattle.sd_view.specs.Descriptor.{Descriptor, IsAclPart, IsDescriptor}
 use Rattle.sd_view.specs.Layout.{acl_part_size, sid_part_size, size}
-use Rattle.sd_view.specs.declared.acl.AclPart.{AclPart}
-use Rattle.sd_view.specs.declared.acl.AclPart.TheVariants as acl
+use Rattle.sd_view.specs.declared.acl_part.AclPart.{AclPart}
+use Rattle.sd_view.specs.declared.acl_part.AclPart.TheVariants as acl
 use Rattle.sd_sid.specs.declared.naming.Naming.{Naming}
 use Rattle.sd_parts.specs.declared.part.Which.TheVariants as which
 use Rattle.sd_parts.specs.declared.control.AclFlags.{AclFlags}

@@ -10,14 +10,14 @@ use Rattle.sd_ace.specs.AceLayout.{ace_bytes}
 use Rattle.sd_sid.specs.Sid.{SecurityId, IsSid}
 use Rattle.sd_sid.proofs.laws.SidLaws.{length-sid_bytes}
 use Rattle.sd_parts.specs.Header.{header_bytes}
-use Rattle.sd_view.specs.Acl.{IsAcl, acl_size}
-use Rattle.sd_view.specs.AclLayout.{acl_bytes}
-use Rattle.sd_view.specs.Bytes.{u16_at}
+use Rattle.sd_acl_view.specs.Acl.{IsAcl, acl_size}
+use Rattle.sd_acl_view.specs.AclLayout.{acl_bytes}
+use Rattle.sd_acl_view.specs.Bytes.{u16_at}
 use Rattle.sd_view.specs.Descriptor.{Descriptor, IsAclPart, IsDescriptor}
 use Rattle.sd_view.specs.Layout.{acl_part, acl_part_size, descriptor_header, layout, sid_part, sid_part_size, size}
-use Rattle.sd_view.specs.declared.acl.AclPart.{AclPart}
-use Rattle.sd_view.specs.declared.acl.AclPart.TheVariants as acl
-use Rattle.sd_view.proofs.laws.AclLayoutSizes.{acl_size-most, length-acl_bytes}
+use Rattle.sd_view.specs.declared.acl_part.AclPart.{AclPart}
+use Rattle.sd_view.specs.declared.acl_part.AclPart.TheVariants as acl
+use Rattle.sd_acl_view.proofs.laws.AclLayoutSizes.{acl_size-most, length-acl_bytes}
 
 -- a part has as many bytes as its size says, and is no larger than the largest SID or ACL
 pub length-sid_part : (o : Option SecurityId) → length (sid_part o) ≡ sid_part_size o

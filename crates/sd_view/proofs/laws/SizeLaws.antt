@@ -3,16 +3,16 @@ use Rattle.std.proofs.Common.{◌≡◌, ◌≤◌, ◌⊎◌, inl, inr, ℕ, �
 use Rattle.std.proofs.Common.{◌∙◌, arith, length-append, length-drop}
 use Rattle.sd_ace.specs.Ace.{AccessControlEntry}
 use Rattle.sd_sid.specs.Sid.{SecurityId}
-use Rattle.sd_view.specs.Acl.{BeginsWithAcl, acl_size}
-use Rattle.sd_view.specs.Bytes.{u16_at}
+use Rattle.sd_acl_view.specs.Acl.{BeginsWithAcl, acl_size}
+use Rattle.sd_acl_view.specs.Bytes.{u16_at}
 use Rattle.sd_view.specs.Descriptor.{Apart, AreApart, Descriptor, Extent, Shows, ShowsAclPart, ShowsSid, acl_extent}
 use Rattle.sd_view.specs.Descriptor.{dacl_at, group_at, owner_at, sacl_at, sid_extent}
 use Rattle.sd_parts.specs.Control.{dacl_present, sacl_present}
 use Rattle.sd_parts.specs.declared.part.Part.TheVariants.{Owner, Group, Sacl, Dacl}
 use Rattle.sd_view.specs.Layout.{acl_part_size, sid_part_size, size}
-use Rattle.sd_view.specs.declared.acl.AclPart.{AclPart}
-use Rattle.sd_view.specs.declared.acl.AclPart.TheVariants as acl
-use Rattle.sd_view.proofs.AclLaws.{acl-fits, sid-room, u16_at-front}
+use Rattle.sd_view.specs.declared.acl_part.AclPart.{AclPart}
+use Rattle.sd_view.specs.declared.acl_part.AclPart.TheVariants as acl
+use Rattle.sd_acl_view.proofs.laws.AclLaws.{acl-fits, sid-room, u16_at-front}
 
 -- an ACL's extent is as long as its size field says, and at least as long as its written size
 acl-inside : (offset : ℕ) (bytes : List ℕ) (aces : List AccessControlEntry) → 20 ≤ offset

@@ -9,5 +9,5 @@ returns g c =
     let access = rw (c.kind-kind.ensures.value, c.flags.ensures, c.mask.ensures) at c.print_access.ensures in
     let object = rw c.object.ensures at c.print_object.ensures in
     let inherited = rw c.inherited.ensures at c.print_object-2.ensures in
-    let trustee = rw c.trustee.ensures at c.print_trustee.ensures in
+    let trustee = rw c.sid_in_place.ensures at c.print_trustee.ensures in
     prints_then head (prints_then access (prints_then object (prints_then inherited trustee)))

@@ -6,7 +6,7 @@ use Rattle.sd_view.specs.Inner.Found.{shown_written, written_of}
 use Rattle.sd_view.specs.Inner.Readable.{IsAclAt, Readable}
 use Rattle.sd_view.specs.Reading.{acl_shown, shown}
 use Rattle.sd_view.specs.WrittenForm.{AclIsWritten, IsWritten, IsWrittenForm}
-use Rattle.sd_view.specs.declared.acl.Written.{Written}
+use Rattle.sd_acl_view.specs.declared.acl.Written.{Written}
 use Rattle.sd_view.specs.declared.view.Acls.{Acls}
 use Rattle.sd_view.proofs.ReadLaws.{fault-shows, reading-ok, shows-fault}
 use Rattle.sd_view.proofs.view.view_written.Goals as goal

@@ -2,17 +2,17 @@ use Rattle.std.proofs.Common.{◌≡◌, ℕ, Bool, true, false, List, ◌++◌,
 use Rattle.std.proofs.lemmas.Bool.Decides.{nat_tests}
 use Rattle.std.proofs.lemmas.List.{take_rest}
 use Rattle.sd_ace.specs.Ace.{AccessControlEntry}
-use Rattle.sd_view.specs.Acl.{IsAcl, acl_size, has_object}
-use Rattle.sd_view.specs.AclLayout.{acl_bytes, revision_if}
-use Rattle.sd_view.specs.AclReading.{acl_at_front, acl_of}
-use Rattle.sd_view.specs.Bytes.{u16_at}
+use Rattle.sd_acl_view.specs.Acl.{IsAcl, acl_size, has_object}
+use Rattle.sd_acl_view.specs.AclLayout.{acl_bytes, revision_if}
+use Rattle.sd_acl_view.specs.AclReading.{acl_at_front, acl_of}
+use Rattle.sd_acl_view.specs.Bytes.{u16_at}
 use Rattle.sd_view.specs.Descriptor.{IsAclPart}
 use Rattle.sd_view.specs.Inner.Found.{written_of}
 use Rattle.sd_view.specs.Reading.{acl_shown}
 use Rattle.sd_view.specs.WrittenForm.{AclIsWritten}
-use Rattle.sd_view.specs.declared.acl.AclPart.{AclPart}
-use Rattle.sd_view.specs.declared.acl.AclPart.TheVariants as acl
-use Rattle.sd_view.specs.declared.acl.Written.{Written}
+use Rattle.sd_view.specs.declared.acl_part.AclPart.{AclPart}
+use Rattle.sd_view.specs.declared.acl_part.AclPart.TheVariants as acl
+use Rattle.sd_acl_view.specs.declared.acl.Written.{Written}
 use Rattle.sd_view.proofs.laws.LayoutSizes.{acl_size-read}
 use Rattle.sd_view.proofs.view.written_at.Goals as goal
 

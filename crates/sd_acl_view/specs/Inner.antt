@@ -1,0 +1,3 @@
+-- What private contracts and invariants cite. No definition rests on these files.
+pub mod ReadableAce
+pub mod Written
