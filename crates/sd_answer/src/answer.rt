@@ -17,7 +17,7 @@ ghost use Rattle.sd_answer.specs.LineInHand.{HoldsText, IsReady, PutsAnswer};
 
 use crate::base64_text::print_base64;
 use crate::fault::{LineFault, print_fault};
-use crate::hex_text::{GATHERED, print_hex};
+use crate::hex_text::{SPELLED, print_hex};
 use crate::job::{Act, Job, OutputForm, Task};
 use crate::line::Line;
 use sd_buffer::SdBuf;
@@ -36,7 +36,7 @@ use sd_view::{SdView, view_written};
 #[derive(Drop)]
 pub struct Stores {
     pub written: SdBuf,
-    pub spelled: [u8; GATHERED],
+    pub spelled: [u8; SPELLED],
 }
 
 impl Stores {
@@ -44,7 +44,7 @@ impl Stores {
     pub fn over(written: SdBuf) -> Stores {
         Stores {
             written,
-            spelled: [0; GATHERED],
+            spelled: [0; SPELLED],
         }
     }
 }

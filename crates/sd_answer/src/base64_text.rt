@@ -5,18 +5,18 @@ ghost use Rattle.base64.specs.Engines.{standard};
 ghost use Rattle.base64.specs.GeneralPurpose.{encode_of, encoded_size_of};
 ghost use Rattle.sd_sink.specs.Print.{Prints};
 
-use crate::hex_text::GATHERED;
+use crate::hex_text::SPELLED;
 use base64::engine::general_purpose::STANDARD;
 use sd_sink::Print;
 
 /// Prints the bytes as base64 (RFC 4648, section 4), by way of the cells.
-pub fn print_base64<P: Print>(bytes: &[u8], cells: &mut [u8; GATHERED], out: &mut P)
+pub fn print_base64<P: Print>(bytes: &[u8], cells: &mut [u8; SPELLED], out: &mut P)
     ensures { Prints (P.told out.old) (P.told out.new) (encode_of standard bytes.now) }
 {
     let mut at = 0;
     while at < bytes.len() {
         // Of a multiple of three bytes, so that the last piece alone has padding.
-        let n = (bytes.len() - at).min(GATHERED / 4 * 3);
+        let n = (bytes.len() - at).min(SPELLED / 4 * 3);
         let characters = encode_base64(&bytes[at..at + n], cells);
         out.put(&cells[..characters]);
         at += n;

@@ -7,15 +7,15 @@ ghost use Rattle.sd_sink.specs.Print.{Prints};
 use sd_sink::Print;
 
 /// The characters that are gathered before they are printed: of hex 512 bytes, of base64 768.
-pub const GATHERED: usize = 1024;
+pub const SPELLED: usize = 1024;
 
 /// Prints the bytes as lower-case hex, by way of the cells.
-pub fn print_hex<P: Print>(bytes: &[u8], cells: &mut [u8; GATHERED], out: &mut P)
+pub fn print_hex<P: Print>(bytes: &[u8], cells: &mut [u8; SPELLED], out: &mut P)
     ensures { Prints (P.told out.old) (P.told out.new) (encode_lower bytes.now) }
 {
     let mut at = 0;
     while at < bytes.len() {
-        let n = (bytes.len() - at).min(GATHERED / 2);
+        let n = (bytes.len() - at).min(SPELLED / 2);
         let digits = encode_hex(&bytes[at..at + n], cells);
         out.put(&cells[..digits]);
         at += n;

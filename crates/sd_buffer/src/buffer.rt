@@ -65,10 +65,8 @@ impl<const MOST: usize> ByteBuf<MOST> {
     pub fn new(alloc: Global) -> Result<Self, NoMemory>
         ensures { IfOk result (λ b. b ≡ []) }
     {
-        match Vec::with_capacity(alloc, MOST) {
-            Ok(cells) => Ok(ByteBuf { cells, held: 0 }),
-            Err(_) => Err(NoMemory),
-        }
+        let cells = Vec::with_capacity(alloc, MOST)?;
+        Ok(ByteBuf { cells, held: 0 })
     }
 
     /// Appends a byte. Full exactly where `MOST` bytes are held, and then unchanged.

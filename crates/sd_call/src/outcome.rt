@@ -7,6 +7,7 @@ ghost use Rattle.sd_call.specs.Outcomes.{part_number, too_small};
 use crate::argument::{Argument, argument_number};
 use sd_answer::LineFault;
 use sd_check::AskFault;
+use sd_memory::NoMemory;
 use sd_view::Part;
 
 /// The output has too little room.
@@ -72,7 +73,7 @@ pub fn too_small(length: usize) -> Outcome
 }
 
 /// An allocation was refused.
-pub fn no_memory() -> Outcome
+pub fn no_memory(_refused: NoMemory) -> Outcome
     ensures { result ≡ no_memory }
 {
     Outcome {

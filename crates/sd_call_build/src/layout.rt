@@ -7,7 +7,7 @@ ghost use Rattle.sd_sink.specs.Sink.{Puts};
 ghost use Rattle.sd_builder.specs.Draft.{is_present};
 ghost use Rattle.sd_acl_view.specs.Acl.{acl_size};
 ghost use Rattle.sd_acl_view.specs.AclLayout.{acl_bytes};
-ghost use Rattle.sd_view.specs.Layout.{acl_part, acl_part_size, descriptor_header, layout, offset_if, sid_part};
+ghost use Rattle.sd_view.specs.Layout.{acl_part, acl_part_size, descriptor_header, layout, sid_part};
 ghost use Rattle.sd_call_build.specs.New.{AreSmall, acl_shown, is_ace, new_descriptor, part_sizes, shown_ace};
 ghost use Rattle.sd_call_build.specs.New.{whole_sid};
 
@@ -15,7 +15,7 @@ use crate::new::{LIST, NewAce, NewAcl, NewDescriptor};
 use crate::printing::{print_aces, print_sid};
 use crate::reading::whole_sid;
 use crate::sizes::has_object;
-use sd_layout::acl_header;
+use sd_layout::{acl_header, offsets_of};
 use sd_parts::{HEADER_SIZE, Parts, control_of, header};
 use sd_sink::{Print, Printer, Sink, SinkFault};
 
@@ -58,28 +58,8 @@ fn header_of(new: &NewDescriptor<'_>, sizes: &Parts<u32>) -> [u8; HEADER_SIZE]
     requires small { AreSmall sizes.now }
     ensures { result ≡ descriptor_header (new_descriptor new.now) }
 {
-    let first = HEADER_SIZE as u32;
-    let Parts {
-        owner,
-        group,
-        sacl,
-        dacl,
-    } = *sizes;
-    let offsets = Parts {
-        owner: offset_if(first, owner),
-        group: offset_if(first + owner, group),
-        sacl: offset_if(first + owner + group, sacl),
-        dacl: offset_if(first + owner + group + sacl, dacl),
-    };
     let control = control_of(new.control, is_present(&new.sacl), is_present(&new.dacl));
-    header(new.resource_manager, control, offsets)
-}
-
-// The offset of a part of this size that begins there.
-fn offset_if(start: u32, size: u32) -> u32
-    ensures { result ≡ offset_if start size }
-{
-    if size == 0 { 0 } else { start }
+    header(new.resource_manager, control, offsets_of(sizes))
 }
 
 fn is_present(acl: &NewAcl<'_>) -> bool

@@ -24,7 +24,7 @@ pub fn check_access(
 ) -> VerdictOutcome
     ensures { Tells (checked bytes.now sids.now kinds.now object.now principal_self.now request.now) result }
 {
-    check_with(
+    check_in_new_token(
         Token::new(alloc),
         bytes,
         sids,
@@ -36,7 +36,7 @@ pub fn check_access(
 }
 
 // The same with a new token. Where memory was refused for one, a fault of the arguments is told all the same.
-fn check_with(
+fn check_in_new_token(
     token: Result<Token, NoMemory>,
     bytes: &[u8],
     sids: &[u8],
@@ -61,10 +61,12 @@ fn check_with(
             principal_self,
             request,
         )),
-        Err(_) => match check_arguments(bytes, sids, kinds, object, principal_self, request) {
-            Ok(()) => untold(),
-            Err(fault) => told(Err(fault)),
-        },
+        Err(refused) => {
+            match check_arguments(bytes, sids, kinds, object, principal_self, request) {
+                Ok(()) => untold(refused),
+                Err(fault) => told(Err(fault)),
+            }
+        }
     }
 }
 

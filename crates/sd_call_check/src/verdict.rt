@@ -5,6 +5,7 @@ ghost use Rattle.sd_call_check.specs.Checks.{told, untold};
 
 use sd_call::{CallFault, Outcome, done, failed, no_memory};
 use sd_check::Verdict;
+use sd_memory::NoMemory;
 
 /// What an access check hands back: `struct sdtool_verdict` of the header.
 #[repr(C)]
@@ -38,10 +39,10 @@ pub fn told(answer: Result<Verdict, CallFault>) -> VerdictOutcome
 }
 
 /// An allocation was refused.
-pub fn untold() -> VerdictOutcome
+pub fn untold(refused: NoMemory) -> VerdictOutcome
     ensures { result ≡ untold }
 {
-    with_rights(no_memory(), 0, false)
+    with_rights(no_memory(refused), 0, false)
 }
 
 // What a call hands back, with rights beside it.

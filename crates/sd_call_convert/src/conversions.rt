@@ -99,7 +99,7 @@ fn give_meant(
             Ok(view) => give_layout(&view, output),
             Err(fault) => failed(fault),
         },
-        Err(_) => no_memory(),
+        Err(refused) => no_memory(refused),
     }
 }
 

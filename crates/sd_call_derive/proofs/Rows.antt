@@ -17,7 +17,7 @@ use Rattle.sd_call.specs.Arguments.{descriptor_in}
 use Rattle.sd_call.specs.declared.argument.Argument.TheVariants as which
 use Rattle.sd_call.specs.declared.outcome.CallFault.TheVariants as call
 use Rattle.sd_call_derive.specs.Derivations.{creator_in, derivation, new_layout, origin_in, plan_in, target_in}
-use Rattle.sd_call_derive.specs.declared.derivations.Origin.{Origin}
+use Rattle.sd_call_derive.specs.declared.derivations.DerivationInput.{DerivationInput}
 
 -- enum sdtool_kind
 targets : (target_in 0 ≡ Ok target.File) × (target_in 1 ≡ Ok target.Container)
@@ -109,6 +109,6 @@ unfolding origin_in plan_in sid_at creator_in descriptor_in reading fault header
 nothing_inherited = refl
 
 -- an ACL that is too large is told as the program does
-too_large : (from : Origin) (why : DeriveFault) → derive_fault from.parent from.creator from.plan ≡ Some why
+too_large : (from : DerivationInput) (why : DeriveFault) → derive_fault from.parent from.creator from.plan ≡ Some why
     → new_layout from ≡ Err (call.Line (line.Derive why))
 too_large from why h = rw h refl

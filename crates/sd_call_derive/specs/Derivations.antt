@@ -13,7 +13,7 @@ use Rattle.sd_call.specs.declared.argument.Argument.TheVariants as which
 use Rattle.sd_call.specs.declared.outcome.CallFault.{CallFault}
 use Rattle.sd_call.specs.declared.outcome.CallFault.TheVariants.{Line}
 use Rattle.sd_call.specs.declared.outcome.CallFault.TheVariants as call
-use Rattle.sd_call_derive.specs.declared.derivations.Origin.{Origin}
+use Rattle.sd_call_derive.specs.declared.derivations.DerivationInput.{DerivationInput}
 
 -- what is made, by its number
 abbrev pub target_in : ℕ → Result Target CallFault
@@ -39,7 +39,7 @@ unfoldable pub creator_in : List ℕ → Result (Option Descriptor) CallFault
 creator_in bytes = if nat_eq (length bytes) 0 then Ok None else some_creator (descriptor_in bytes)
 
 -- what the arguments derive from
-unfoldable pub origin_in : List ℕ → List ℕ → List ℕ → List ℕ → ℕ → ℕ → Result Origin CallFault
+unfoldable pub origin_in : List ℕ → List ℕ → List ℕ → List ℕ → ℕ → ℕ → Result DerivationInput CallFault
 origin_in parent creator owner group kind mapping = do
   plan ← plan_in kind mapping owner group
   brought ← creator_in creator
@@ -47,7 +47,7 @@ origin_in parent creator owner group kind mapping = do
   Ok (record { parent = d; creator = brought; plan = plan })
 
 -- the new descriptor in its one layout, or the ACL that is too large
-abbrev pub new_layout : Origin → Result (List ℕ) CallFault
+abbrev pub new_layout : DerivationInput → Result (List ℕ) CallFault
 new_layout origin =
     fault_as (λ fault. Line (line.Derive fault))
     (unless (derive_fault origin.parent origin.creator origin.plan)

@@ -37,7 +37,7 @@ pub fn derive_new(
 
 /// What a descriptor is derived from.
 #[derive(Drop)]
-pub struct Origin<'a> {
+pub struct DerivationInput<'a> {
     pub parent: SdView<'a>,
     pub creator: Option<SdView<'a>>,
     pub plan: Plan,
@@ -52,13 +52,13 @@ fn origin_in<'a>(
     group: &[u8],
     kind: u32,
     mapping: u32,
-) -> Result<Origin<'a>, CallFault>
+) -> Result<DerivationInput<'a>, CallFault>
     ensures { result ≡ origin_in parent.now creator.now owner.now group.now kind mapping }
 {
     let plan = plan_in(kind, mapping, owner, group)?;
     let creator = creator_in(creator)?;
     let parent = descriptor_in(parent)?;
-    Ok(Origin {
+    Ok(DerivationInput {
         parent,
         creator,
         plan,
@@ -66,19 +66,23 @@ fn origin_in<'a>(
 }
 
 // Gives the new descriptor, unless memory was refused for a buffer.
-fn give_derived(origin: &Origin<'_>, buf: Result<SdBuf, NoMemory>, output: &mut [u8]) -> Outcome
+fn give_derived(
+    origin: &DerivationInput<'_>,
+    buf: Result<SdBuf, NoMemory>,
+    output: &mut [u8],
+) -> Outcome
     ensures { MatchResult buf
         (λ _. Answers (new_layout origin.now) output.old output.new result)
         (λ _. Refused output.old output.new result) }
 {
     match buf {
         Ok(mut buf) => give_derived_in(origin, &mut buf, output),
-        Err(_) => no_memory(),
+        Err(refused) => no_memory(refused),
     }
 }
 
 // Gives the new descriptor. It is built in the buffer, whatever that holds.
-fn give_derived_in(origin: &Origin<'_>, buf: &mut SdBuf, output: &mut [u8]) -> Outcome
+fn give_derived_in(origin: &DerivationInput<'_>, buf: &mut SdBuf, output: &mut [u8]) -> Outcome
     ensures { Answers (new_layout origin.now) output.old output.new result }
 {
     match derive(&origin.parent, origin.creator.as_ref(), &origin.plan, buf) {

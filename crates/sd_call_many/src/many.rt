@@ -68,8 +68,8 @@ fn judge_with(
             }
             Err(fault) => failed(fault),
         },
-        Err(_) => match check_asker(sids, kinds, object, principal_self, request) {
-            Ok(()) => no_memory(),
+        Err(refused) => match check_asker(sids, kinds, object, principal_self, request) {
+            Ok(()) => no_memory(refused),
             Err(fault) => failed(fault),
         },
     }

@@ -38,7 +38,7 @@ use Rattle.sd_command.specs.Settings.{target_reads}
 use Rattle.sd_command.specs.TokenText.{entries_read}
 use Rattle.sd_command.specs.Usage.{usage_line}
 use Rattle.sd_command.specs.Settings.{command_chosen, convert_own, derive_own, given_creator, nobody, settings_of}
-use Rattle.sd_command.specs.Settings.{given_domain, given_kind, given_mapping, given_source, given_target, is_set}
+use Rattle.sd_command.specs.Settings.{given_domain, given_kind, given_mapping, given_form, given_output_form, is_set}
 use Rattle.sd_command.specs.Settings.{needed_sid, task_with, with_creator}
 use Rattle.sd_rights.specs.Mapping.{directory_mapping, file_mapping, key_mapping, mapped}
 
@@ -60,14 +60,14 @@ unfolding line bare_line convert_line explain_line check_line derive_line clap_o
 no_fault = refl
 
 pub settled : settings_of to_hex ≡ Ok (record { task = record { job = hex_to_hex; creator = None }; holder = nobody })
-unfolding settings_of command_chosen convert_own with_creator task_with given_creator given_domain given_source
-    given_target is_set
+unfolding settings_of command_chosen convert_own with_creator task_with given_creator given_domain given_form
+    given_output_form is_set
     line bare_line convert_line explain_line check_line derive_line clap_on_literals
 settled = refl
 
 pub not_settled : settings_of to_xml ≡ Err (Value name.To)
-unfolding settings_of command_chosen convert_own with_creator task_with given_creator given_domain given_source
-    given_target is_set
+unfolding settings_of command_chosen convert_own with_creator task_with given_creator given_domain given_form
+    given_output_form is_set
     line bare_line convert_line explain_line check_line derive_line clap_on_literals
 not_settled = refl
 
@@ -78,8 +78,8 @@ pub explained : settings_of explain_sddl ≡ Ok (record {
   task = record { job = record { source = Sddl; act = Explain; domain = None; numeric = true }; creator = None };
   holder = nobody;
 })
-unfolding settings_of command_chosen convert_own with_creator task_with given_creator given_domain given_source
-    given_target is_set
+unfolding settings_of command_chosen convert_own with_creator task_with given_creator given_domain given_form
+    given_output_form is_set
     line bare_line convert_line explain_line check_line derive_line clap_on_literals
 explained = refl
 
@@ -111,8 +111,8 @@ pub derived : settings_of derive_file ≡ Ok (record {
   };
   holder = nobody;
 })
-unfolding settings_of command_chosen derive_own with_creator task_with given_creator given_domain given_source
-    given_target given_mapping given_kind needed_sid is_set sid_reads has_form numbers_read line bare_line convert_line
+unfolding settings_of command_chosen derive_own with_creator task_with given_creator given_domain given_form
+    given_output_form given_mapping given_kind needed_sid is_set sid_reads has_form numbers_read line bare_line convert_line
     explain_line check_line derive_line clap_on_literals
 derived = refl
 
@@ -203,7 +203,7 @@ deny_only = refl
 -- `unfolding settled_words` lets `refl` compute what words settle
 settled_words : Unit {0}
 unfolding settings_of command_chosen convert_own check_own derive_own with_creator task_with given_creator given_domain
-    given_source given_target given_mapping given_kind given_sid needed_sid given_token given_want given_object
+    given_form given_output_form given_mapping given_kind given_sid needed_sid given_token given_want given_object
     given_level asked is_set domain_reads sid_reads has_form letters_read numbers_read entries_read rights_reads run_of
     guid_reads by_index mapped means body_reads line bare_line convert_line explain_line check_line derive_line
     clap_on_literals

@@ -87,12 +87,12 @@ unfoldable pub given_domain : List Row → Result (Option SecurityId) UsageFault
 given_domain rows = given_if name.Domain domain_reads rows
 
 -- hex where the option is left out
-unfoldable pub given_source : List Row → Result Form UsageFault
-given_source rows = given_or name.From Hex form_reads rows
+unfoldable pub given_form : List Row → Result Form UsageFault
+given_form rows = given_or name.From Hex form_reads rows
 
 -- SDDL where the option is left out
-unfoldable pub given_target : List Row → Result OutputForm UsageFault
-given_target rows = given_or name.To output.Sddl output_form_reads rows
+unfoldable pub given_output_form : List Row → Result OutputForm UsageFault
+given_output_form rows = given_or name.To output.Sddl output_form_reads rows
 
 -- a flag's text is `true` where it is given
 abbrev pub is_true : Option Text → Bool
@@ -199,7 +199,7 @@ nobody = record { entries = []; level = None }
 
 unfoldable pub convert_own : List Row → Result Own UsageFault
 convert_own rows = do
-  target ← given_target rows
+  target ← given_output_form rows
   Ok (record { act = Convert target; holder = nobody; creator = None })
 
 abbrev pub explain_own : Result Own UsageFault
@@ -218,7 +218,7 @@ check_own domain rows = do
 
 unfoldable pub derive_own : Option SecurityId → List Row → Result Own UsageFault
 derive_own domain rows = do
-  target ← given_target rows
+  target ← given_output_form rows
   mapping ← given_mapping rows
   kind ← given_kind rows
   owner ← needed_sid name.Owner domain rows
@@ -246,7 +246,7 @@ pub record Chosen : Type 0 where
 unfoldable pub command_chosen : CommandName → List Row → Result Chosen UsageFault
 command_chosen command rows = do
   domain ← given_domain rows
-  source ← given_source rows
+  source ← given_form rows
   own ← command_own command domain rows
   Ok (record {
     job = record { source = source; act = own.act; domain = domain; numeric = is_set name.Numeric rows };

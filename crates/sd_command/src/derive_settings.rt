@@ -9,7 +9,7 @@ ghost use Rattle.sd_command.specs.Inner.Adding.{gives};
 ghost use Rattle.sd_command.specs.Inner.Choosing.{own_with};
 
 use crate::settings::{
-    Own, UsageFault, given_mapping, given_needed, given_sid, given_target, text_of,
+    Own, UsageFault, given_mapping, given_needed, given_output_form, given_sid, text_of,
 };
 use clap::ArgMatches;
 use sd_answer::Act;
@@ -28,7 +28,7 @@ pub(crate) fn derive_own<'a>(
         ≡ specs.derive_own (option_copied domain.entry) (rows_of (found_of matches.now)) }
     ensures derives { IfOk result (λ own. IfSome own.creator (λ _. IsDerivation own.act)) }
 {
-    let form = given_target(matches)?;
+    let form = given_output_form(matches)?;
     let mapping = given_mapping(matches)?;
     let target = given_kind(matches)?;
     let owner = needed_sid(matches, OptionName::Owner, domain)?;

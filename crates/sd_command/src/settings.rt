@@ -117,7 +117,7 @@ fn command_choice<'a>(
     ensures compared { token.new.compared ≡ token.old.compared }
 {
     let domain = given_domain(matches)?;
-    let source = given_source(matches)?;
+    let source = given_form(matches)?;
     let own = match command_own(command, matches, domain.as_ref(), token) {
         Ok(own) => own,
         Err(fault) => return Err(fault),
@@ -173,7 +173,7 @@ fn convert_own<'a>(matches: &ArgMatches<'a>) -> Result<Own<'a>, UsageFault>
     ensures chosen { own_with nobody result ≡ specs.convert_own (rows_of (found_of matches.now)) }
     ensures none { IfOk result (λ own. own.creator ≡ None) }
 {
-    let target = given_target(matches)?;
+    let target = given_output_form(matches)?;
     Ok(without_creator(Act::Convert(target)))
 }
 
@@ -249,15 +249,15 @@ fn domain_from_text(text: &str) -> Option<Sid>
 }
 
 // Hex where the option is left out.
-fn given_source(matches: &ArgMatches<'_>) -> Result<Form, UsageFault>
-    ensures { result ≡ specs.given_source (rows_of (found_of matches.now)) }
+fn given_form(matches: &ArgMatches<'_>) -> Result<Form, UsageFault>
+    ensures { result ≡ specs.given_form (rows_of (found_of matches.now)) }
 {
     given_or(matches, OptionName::From, Form::Hex, form_from_text)
 }
 
 // SDDL where the option is left out.
-pub(crate) fn given_target(matches: &ArgMatches<'_>) -> Result<OutputForm, UsageFault>
-    ensures { result ≡ specs.given_target (rows_of (found_of matches.now)) }
+pub(crate) fn given_output_form(matches: &ArgMatches<'_>) -> Result<OutputForm, UsageFault>
+    ensures { result ≡ specs.given_output_form (rows_of (found_of matches.now)) }
 {
     given_or(
         matches,

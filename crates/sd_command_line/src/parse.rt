@@ -12,7 +12,7 @@ use clap::error::ErrorKind;
 use clap::{ArgMatches, Error};
 use std::alloc::{AllocError, Global};
 
-/// Why there are no matches.
+/// Why there are no matches. That is no fault where help is asked for.
 #[derive(Debug, Drop)]
 pub enum Refusal {
     NoMemory,
@@ -29,7 +29,7 @@ impl From<AllocError> for Refusal {
     }
 }
 
-// The text of the help that `clap` answers.
+// Why there are no matches, by the kind of the error that `clap` gives.
 fn reason(alloc: Global, error: &Error) -> Refusal
     ensures { RefusedFor error.now result }
 {

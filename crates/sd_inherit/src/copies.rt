@@ -13,11 +13,11 @@ use sd_acl_view::AceView;
 use sd_builder::ChangedAce;
 use sd_kinds::{CONTAINER_INHERIT, INHERIT_ONLY, NO_PROPAGATE, OBJECT_INHERIT, has_flag};
 
-/// What a new object gets from one ACE: at most one for itself, and then at most one to hand on.
+/// What a new object gets from one ACE: none, one, or one for itself and then one to hand on.
 #[derive(Drop)]
 pub struct Copies<'a> {
-    pub effective: Option<ChangedAce<'a>>,
-    pub inherit_only: Option<ChangedAce<'a>>,
+    pub first: Option<ChangedAce<'a>>,
+    pub second: Option<ChangedAce<'a>>,
 }
 
 impl Copies<'_> {
@@ -25,7 +25,7 @@ impl Copies<'_> {
     pub fn is_empty(&self) -> bool
         ensures { result ≡ not (is_present (sacl_of (listed self.now))) }
     {
-        self.effective.is_none() && self.inherit_only.is_none()
+        self.first.is_none() && self.second.is_none()
     }
 }
 
@@ -62,37 +62,33 @@ fn container_copies<'a>(plan: &'a Plan, ace: &'a AceView<'a>) -> Copies<'a>
             return one_copy(effective_copy(plan, ace, onward_flags(flags)));
         }
         return Copies {
-            effective: Some(effective_copy(plan, ace, 0)),
-            inherit_only: Some(inherit_only_copy(ace)),
+            first: Some(effective_copy(plan, ace, 0)),
+            second: Some(inherit_only_copy(ace)),
         };
     }
-    Copies {
-        effective: None,
-        inherit_only: if has_flag(flags, OBJECT_INHERIT) && !one_level {
-            Some(inherit_only_copy(ace))
-        } else {
-            None
-        },
+    if has_flag(flags, OBJECT_INHERIT) && !one_level {
+        return one_copy(inherit_only_copy(ace));
     }
+    no_copy()
 }
 
 /// No ACE.
 pub fn no_copy<'a>() -> Copies<'a>
-    ensures value { result ≡ record { effective = None; inherit_only = None } }
+    ensures value { result ≡ record { first = None; second = None } }
 {
     Copies {
-        effective: None,
-        inherit_only: None,
+        first: None,
+        second: None,
     }
 }
 
-/// One ACE, for the new object alone or with flags for what is made in it.
+/// One ACE: for the new object alone, with flags for what is made in it, or to hand on.
 pub fn one_copy(ace: ChangedAce<'_>) -> Copies<'_>
-    ensures value { result ≡ record { effective = Some ace.entry; inherit_only = None } }
+    ensures value { result ≡ record { first = Some ace.entry; second = None } }
 {
     Copies {
-        effective: Some(ace),
-        inherit_only: None,
+        first: Some(ace),
+        second: None,
     }
 }
 

@@ -164,10 +164,10 @@ fn is_present(part: &AclPart) -> bool
 }
 
 // Whether the new ACL is a list: it is there, and is not null because the creator's is.
-fn is_list(stands: bool, creators: &AclPart) -> bool
-    ensures { result ≡ (stands && not (is_null creators.now)) }
+fn is_list(present: bool, creators: &AclPart) -> bool
+    ensures { result ≡ (present && not (is_null creators.now)) }
 {
-    stands && !matches!(creators, AclPart::Null)
+    present && !matches!(creators, AclPart::Null)
 }
 
 // The bits of the control word that are flags of the new ACLs, of which it is known whether they are lists.

@@ -242,8 +242,8 @@ fn put_copies(
     ensures full { (t : Draft) → Builds builder.old buf.old t → HasOpen t
         → (IsErr result ↔ (2 ^ 16 ≤ open_size t.parts + aces_size (listed copies.now))) }
 {
-    put_copy(builder, buf, &copies.effective)?;
-    put_copy(builder, buf, &copies.inherit_only)
+    put_copy(builder, buf, &copies.first)?;
+    put_copy(builder, buf, &copies.second)
 }
 
 fn put_copy(

@@ -49,8 +49,8 @@ fn taken_by_container<'a>(plan: &'a Plan, ace: &'a AceView<'a>) -> Copies<'a>
         return one_copy(as_it_is(ace));
     }
     Copies {
-        effective: Some(own_ace(plan, ace)),
-        inherit_only: Some(handed_on(ace)),
+        first: Some(own_ace(plan, ace)),
+        second: Some(handed_on(ace)),
     }
 }
 

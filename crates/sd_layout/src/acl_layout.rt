@@ -9,7 +9,7 @@ ghost use Rattle.sd_acl_view.specs.AclLayout.{acl_bytes, acl_header as header_by
 
 use sd_ace::AceFront;
 use sd_acl_view::{AceView, AclView};
-use sd_parts::{ACL_REVISION, ACL_REVISION_DS};
+use sd_parts::{ACL_HEADER_SIZE, ACL_REVISION, ACL_REVISION_DS};
 use sd_sink::Print;
 
 /// Prints an ACL: its header, and its ACEs one after the other; at once if it has this form already.
@@ -27,15 +27,15 @@ pub(crate) fn print_acl<P: Print>(acl: &AclView<'_>, out: &mut P)
     }
 }
 
-fn header_of(acl: &AclView<'_>) -> [u8; 8]
+fn header_of(acl: &AclView<'_>) -> [u8; ACL_HEADER_SIZE]
     ensures { result ≡ header_bytes acl.now }
 {
     let written = acl.written();
     acl_header(written.object, written.size as u16, acl.count())
 }
 
-// The header of an ACL, by whether it has an object ACE, its size and the number of its ACEs.
-pub fn acl_header(object: bool, size: u16, count: u16) -> [u8; 8]
+/// The header of an ACL (MS-DTYP 2.4.5), by whether it has an object ACE, its size in bytes and the number of its ACEs.
+pub fn acl_header(object: bool, size: u16, count: u16) -> [u8; ACL_HEADER_SIZE]
     ensures { result ≡ revision_if object ∷ 0 ∷ little_bytes 2 size ++ (little_bytes 2 count ++ (0 ∷ 0 ∷ [])) }
 {
     let revision = if object {

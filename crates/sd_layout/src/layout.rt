@@ -1,6 +1,6 @@
 //! The written form of a descriptor.
 
-ghost use Rattle.std.specs.Prelude.{◌≡◌, ◌≤◌, ◌<◌, ◌+◌, ℕ, List, length};
+ghost use Rattle.std.specs.Prelude.{◌≡◌, ◌≤◌, ◌<◌, ◌+◌, ◌^◌, ℕ, List, length};
 ghost use Rattle.sd_sink.specs.Print.{Prints};
 ghost use Rattle.sd_sink.specs.Sink.{Puts};
 ghost use Rattle.sd_view.specs.Descriptor.{IsDescriptor, Shows};
@@ -70,16 +70,34 @@ fn header_of(view: &SdView<'_>, sacl: u32, dacl: u32) -> [u8; HEADER_SIZE]
     ensures value { result ≡ descriptor_header view.now }
     ensures limits { IsDescriptor view.now }
 {
-    let first = HEADER_SIZE as u32;
-    let owner = view.owner_bytes().len() as u32;
-    let group = view.group_bytes().len() as u32;
-    let offsets = Parts {
-        owner: offset_if(first, owner),
-        group: offset_if(first + owner, group),
-        sacl: offset_if(first + owner + group, sacl),
-        dacl: offset_if(first + owner + group + sacl, dacl),
+    let sizes = Parts {
+        owner: view.owner_bytes().len() as u32,
+        group: view.group_bytes().len() as u32,
+        sacl,
+        dacl,
     };
-    header(view.rm(), view.control(), offsets)
+    header(view.rm(), view.control(), offsets_of(&sizes))
+}
+
+/// The offsets of parts of these sizes: owner, group, SACL and DACL without gaps, and 0 for what has no bytes.
+pub fn offsets_of(sizes: &Parts<u32>) -> Parts<u32>
+    requires { sizes.now.owner + sizes.now.group + sizes.now.sacl < 2 ^ 31 }
+    ensures { result ≡ record {
+      owner = offset_if 20 sizes.now.owner;
+      group = offset_if (20 + sizes.now.owner) sizes.now.group;
+      sacl = offset_if (20 + sizes.now.owner + sizes.now.group) sizes.now.sacl;
+      dacl = offset_if (20 + sizes.now.owner + sizes.now.group + sizes.now.sacl) sizes.now.dacl;
+    } }
+{
+    let group = HEADER_SIZE as u32 + sizes.owner;
+    let sacl = group + sizes.group;
+    let dacl = sacl + sizes.sacl;
+    Parts {
+        owner: offset_if(HEADER_SIZE as u32, sizes.owner),
+        group: offset_if(group, sizes.group),
+        sacl: offset_if(sacl, sizes.sacl),
+        dacl: offset_if(dacl, sizes.dacl),
+    }
 }
 
 // The written size of an ACL, and 0 where there is none.

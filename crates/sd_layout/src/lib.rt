@@ -5,4 +5,4 @@ mod acl_layout;
 mod layout;
 
 pub use acl_layout::acl_header;
-pub use layout::{print_layout, put_layout};
+pub use layout::{offsets_of, print_layout, put_layout};

@@ -70,7 +70,7 @@ impl ControlBit {
         // The bits that have names are those of the standard, each with its letters.
         ensures table { AreListedBits CONTROL_BITS }
     {
-        has_bit(self.bit, control)
+        has_bit(control, self.bit)
     }
 }
 
@@ -123,14 +123,14 @@ impl AclFlags {
     {
         match which {
             Which::Sacl => AclFlags {
-                protected: has_bit(SACL_PROTECTED, control),
-                auto_inherit_required: has_bit(SACL_AUTO_INHERIT_REQUIRED, control),
-                auto_inherited: has_bit(SACL_AUTO_INHERITED, control),
+                protected: has_bit(control, SACL_PROTECTED),
+                auto_inherit_required: has_bit(control, SACL_AUTO_INHERIT_REQUIRED),
+                auto_inherited: has_bit(control, SACL_AUTO_INHERITED),
             },
             Which::Dacl => AclFlags {
-                protected: has_bit(DACL_PROTECTED, control),
-                auto_inherit_required: has_bit(DACL_AUTO_INHERIT_REQUIRED, control),
-                auto_inherited: has_bit(DACL_AUTO_INHERITED, control),
+                protected: has_bit(control, DACL_PROTECTED),
+                auto_inherit_required: has_bit(control, DACL_AUTO_INHERIT_REQUIRED),
+                auto_inherited: has_bit(control, DACL_AUTO_INHERITED),
             },
         }
     }
@@ -164,21 +164,22 @@ impl AclFlags {
     }
 }
 
+/// Whether a control word has a bit, given by its mask (MS-DTYP 2.4.6).
 #[inline(always)]
-pub fn has_bit(bit: u16, control: u16) -> bool
+pub fn has_bit(control: u16, bit: u16) -> bool
     requires { 0 < bit }
     ensures { result ≡ has_bit bit control }
 {
     control / bit % 2 == 1
 }
 
-fn bit_if(stands: bool, bit: u16) -> u16
-    ensures { result ≡ bit_if stands bit }
+fn bit_if(present: bool, bit: u16) -> u16
+    ensures { result ≡ bit_if present bit }
 {
-    if stands { bit } else { 0 }
+    if present { bit } else { 0 }
 }
 
-// A bit of a word, by its number.
+// A bit of a word, by its mask.
 #[inline(always)]
 fn bit_of(bit: u16, word: u16) -> u16
     requires { 0 < bit }

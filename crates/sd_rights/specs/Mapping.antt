@@ -6,7 +6,7 @@ use Rattle.sd_rights.specs.declared.mapping.TheConstants.{FILE_GENERIC_READ, FIL
 use Rattle.sd_rights.specs.declared.mapping.TheConstants.{KEY_EXECUTE, KEY_READ, KEY_WRITE}
 use Rattle.sd_rights.specs.AccessRights.{generic_all, generic_execute, generic_read, generic_write}
 
--- the mask has the right, a bit by its number
+-- the mask has the right, given by its place
 abbrev pub carries : ℕ → ℕ → Bool
 carries mask right = mask / 2 ^ right % 2 == 1
 

@@ -60,10 +60,10 @@ fn print_acl_flags<P: Print>(flags: AclFlags, out: &mut P)
 
 // Prints a text that may be left out. Inlined, so that the text is known, and nothing is copied where it is left out.
 #[inline(always)]
-fn print_if<P: Print>(stands: bool, text: &[u8], out: &mut P)
-    ensures { Prints (P.told out.old) (P.told out.new) (text_if stands text.now) }
+fn print_if<P: Print>(present: bool, text: &[u8], out: &mut P)
+    ensures { Prints (P.told out.old) (P.told out.new) (text_if present text.now) }
 {
-    if stands {
+    if present {
         out.put(text);
     }
 }

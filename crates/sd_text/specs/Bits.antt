@@ -1,4 +1,4 @@
--- Bits of a word, each told by its number, a power of two.
+-- Bits of a word, each given by its mask, a power of two.
 use Rattle.std.specs.Prelude.{ℕ, ◌*◌, ◌/◌, ◌%◌, ◌==◌, Bool}
 
 -- whether a bit is set

@@ -66,17 +66,14 @@ impl Token {
         ensures compared { IfOk result (λ t. t.compared ≡ 0) }
         ensures reserved { IfOk result (λ t. most_entries ≤ t.room) }
     {
-        let keys = Vec::with_capacity(alloc, MOST_ENTRIES);
-        let words = Vec::with_capacity(alloc, ENTRY_WORDS * MOST_ENTRIES);
-        match (keys, words) {
-            (Ok(keys), Ok(words)) => Ok(Token {
-                keys,
-                words,
-                compared: 0,
-                level: None,
-            }),
-            _ => Err(NoMemory),
-        }
+        let keys = Vec::with_capacity(alloc, MOST_ENTRIES)?;
+        let words = Vec::with_capacity(alloc, ENTRY_WORDS * MOST_ENTRIES)?;
+        Ok(Token {
+            keys,
+            words,
+            compared: 0,
+            level: None,
+        })
     }
 
     /// Adds an entry after the others. An entry that the token has already is kept a second time.

@@ -120,9 +120,9 @@ pub fn view_written(bytes: &[u8]) -> SdView<'_>
     ensures whole { length bytes.now ≡ size result }
 {
     let control = u16_at(bytes, 2);
-    let has_sacl = has_bit(SACL_PRESENT, control);
+    let has_sacl = has_bit(control, SACL_PRESENT);
     let sacl = written_at(bytes, has_sacl, u32_at(bytes, 12));
-    let has_dacl = has_bit(DACL_PRESENT, control);
+    let has_dacl = has_bit(control, DACL_PRESENT);
     let dacl = written_at(bytes, has_dacl, u32_at(bytes, 16));
     let acls = Acls { sacl, dacl };
     SdView { bytes, acls }
@@ -183,7 +183,7 @@ fn check_header(bytes: &[u8]) -> Result<(), SdFault>
     if bytes[0] != 1 {
         return Err(SdFault::Revision);
     }
-    if !has_bit(SELF_RELATIVE, u16_at(bytes, 2)) {
+    if !has_bit(u16_at(bytes, 2), SELF_RELATIVE) {
         return Err(SdFault::NotSelfRelative);
     }
     Ok(())
@@ -200,9 +200,9 @@ fn check_parts(bytes: &[u8]) -> Result<(Parts<Extent>, Acls), SdFault>
     let control = u16_at(bytes, 2);
     let owner = check_sid(Part::Owner, bytes, u32_at(bytes, 4))?;
     let group = check_sid(Part::Group, bytes, u32_at(bytes, 8))?;
-    let has_sacl = has_bit(SACL_PRESENT, control);
+    let has_sacl = has_bit(control, SACL_PRESENT);
     let (sacl, sacl_written) = check_acl_part(Part::Sacl, bytes, has_sacl, u32_at(bytes, 12))?;
-    let has_dacl = has_bit(DACL_PRESENT, control);
+    let has_dacl = has_bit(control, DACL_PRESENT);
     let (dacl, dacl_written) = check_acl_part(Part::Dacl, bytes, has_dacl, u32_at(bytes, 16))?;
     let extents = Parts {
         owner,
@@ -355,7 +355,7 @@ impl<'a> SdView<'a> {
     pub fn sacl(&self) -> AclPart<'a>
         ensures { result ≡ self.now.sacl }
     {
-        let present = has_bit(SACL_PRESENT, self.control());
+        let present = has_bit(self.control(), SACL_PRESENT);
         acl_in(self.bytes, present, u32_at(self.bytes, 12), self.acls.sacl)
     }
 
@@ -370,7 +370,7 @@ impl<'a> SdView<'a> {
     pub fn dacl(&self) -> AclPart<'a>
         ensures { result ≡ self.now.dacl }
     {
-        let present = has_bit(DACL_PRESENT, self.control());
+        let present = has_bit(self.control(), DACL_PRESENT);
         acl_in(self.bytes, present, u32_at(self.bytes, 16), self.acls.dacl)
     }
 

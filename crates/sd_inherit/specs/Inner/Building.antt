@@ -28,7 +28,7 @@ one_or_none (Some a) = a ∷ []
 
 -- the copies of an ACE, in order
 abbrev pub listed : Copies → List AccessControlEntry
-listed c = one_or_none c.effective ++ one_or_none c.inherit_only
+listed c = one_or_none c.first ++ one_or_none c.second
 
 -- what one ACE of either descriptor gives
 abbrev pub gives : Origin → Plan → AccessControlEntry → List AccessControlEntry

@@ -1,7 +1,7 @@
 use Rattle.std.proofs.Common.{rules}
 use Rattle.sd_command.specs.Settings as specs
-use Rattle.sd_command.proofs.settings.given_source.Goals as goal
+use Rattle.sd_command.proofs.settings.given_form.Goals as goal
 
 pub returns : goal.returns
-unfolding specs.given_source
+unfolding specs.given_form
 returns c = c.given_or.ensures specs.form_reads (λ text value h. search rules)
