@@ -3,7 +3,6 @@ pub mod Cutting
 pub mod FormLemmas
 pub mod SidFronts
 mod SidRows
-pub mod TextLemmas
 pub mod UsualNumbers
 pub mod Words
 pub mod laws

@@ -1,7 +1,6 @@
 -- Laws of the definitions alone, which crates above may cite.
 pub mod AliasLaws
 pub mod AliasNames
-pub mod KnownCounts
 pub mod Numbers
 pub mod ReadLimits
 pub mod SidLaws

@@ -1,9 +1,9 @@
 //! The SIDs that two letters name (MS-DTYP 2.5.1.1), and the letters that name a SID.
 
-ghost use Rattle.std.specs.Prelude.{◌≡◌, ℕ, [], ◌∷◌, ◌==◌, ◌&&◌, ◌||◌, length, IfSome, Some, Ok, slice_index, true, ◌<◌};
+ghost use Rattle.std.specs.Prelude.{◌≡◌, ℕ, [], ◌∷◌, ◌==◌, ◌&&◌, IfSome, Some, Ok, slice_index, true, ◌<◌};
 ghost use Rattle.std.specs.Char.{is_ascii_uppercase, to_ascii_uppercase};
 ghost use Rattle.std.specs.List.{find, list_all};
-ghost use Rattle.std.specs.Option.{option_copied, option_map};
+ghost use Rattle.std.specs.Option.{option_copied};
 ghost use Rattle.std.specs.Str.{bytes_eq};
 ghost use Rattle.sd_alias.specs.AliasValues.{KnownAliases, RelativeAliases};
 ghost use Rattle.sd_sid.specs.SidText.{alias_of, known_alias, known_sid, letters_read, relative_alias, same_sid};
@@ -24,9 +24,6 @@ const NT: u64 = 5;
 
 /// The first sub-authority of the groups that each machine has.
 const BUILTIN: u32 = 32;
-
-/// The first sub-authority of the SID of user-mode drivers, `S-1-5-84-0-0-0-0-0`. No other name has six.
-pub const USER_MODE_DRIVERS: u32 = 84;
 
 /// The authority of creators, `S-1-3`.
 const CREATOR: u64 = 3;
@@ -60,7 +57,7 @@ impl Sid {
 fn alias_in(sid: &Sid, domain: Option<&Sid>) -> Option<[u8; 2]>
     ensures { result ≡ alias_of sid.now (option_copied domain.entry) }
 {
-    match known_alias(sid) {
+    match find_named(sid.authority(), sid.subs()) {
         Some(name) => Some(name),
         None => relative_alias(sid, usable(domain)?),
     }
@@ -74,34 +71,6 @@ pub fn usable(domain: Option<&Sid>) -> Option<&Sid>
         Some(domain) if domain.subs().len() < MOST_SUBS => Some(domain),
         _ => None,
     }
-}
-
-// Most SIDs are of a domain and have no name. So the test for these is inlined, and the search is a call.
-#[inline(always)]
-fn known_alias(sid: &Sid) -> Option<[u8; 2]>
-    ensures { result ≡ known_alias sid.now }
-{
-    if !may_be_known(sid) {
-        return None;
-    }
-    find_alias(sid)
-}
-
-#[inline(never)]
-fn find_alias(sid: &Sid) -> Option<[u8; 2]>
-    ensures { result ≡ known_alias sid.now }
-{
-    find_named(sid.authority(), sid.subs())
-}
-
-// Whether the SID of a name has as many sub-authorities: one, two, or six with this first one.
-#[inline(always)]
-fn may_be_known(sid: &Sid) -> bool
-    ensures { result ≡ (length sid.now.subs == 1 || length sid.now.subs == 2
-        || (length sid.now.subs == 6 && slice_index sid.now.subs 0 == 84)) }
-{
-    let subs = sid.subs();
-    subs.len() == 1 || subs.len() == 2 || subs.len() == MOST_KNOWN && subs[0] == USER_MODE_DRIVERS
 }
 
 /// The alias that the SID of these parts has everywhere.
@@ -140,12 +109,10 @@ fn find_known_at(at: usize, sub: u32, table: &[WellKnown]) -> Option<WellKnown>
 fn find_known(table: &[WellKnown], authority: u64, subs: &[u32]) -> Option<WellKnown>
     ensures { result ≡ find (λ e. same_sid (known_sid e) (record { authority = authority; subs = subs.now })) table.now }
 {
-    for entry in table {
-        if is_known(entry, authority, subs) {
-            return Some(*entry);
-        }
-    }
-    None
+    table
+        .iter()
+        .copied()
+        .find(|entry| is_known(entry, authority, subs))
 }
 
 fn is_known(entry: &WellKnown, authority: u64, subs: &[u32]) -> bool

@@ -7,7 +7,10 @@ mod sid;
 mod sid_text;
 mod usual_sid;
 
-pub use alias::{USER_MODE_DRIVERS, find_named, relative_alias, usable};
 pub use naming::Naming;
 pub use sid::Sid;
-pub use sid_text::{SidFault, print_authority};
+pub use sid_text::SidFault;
+
+// For `sd_sid_view` alone, which prints and names SIDs where they are read.
+pub use alias::{find_named, relative_alias, usable};
+pub use sid_text::print_authority;

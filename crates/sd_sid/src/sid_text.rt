@@ -2,7 +2,7 @@
 ghost use Rattle.std.specs.Prelude.{◌≡◌, false, true, ◌+◌, ◌*◌, ◌<◌, ◌≤◌, ◌^◌, [], ◌∷◌, length, take, drop};
 ghost use Rattle.std.specs.Prelude.{slice_index, nat_lt, if◌then◌else◌, IfSome, MatchOption, MatchResult, Option, None, Ok, Err};
 ghost use Rattle.std.specs.Char.{is_digit};
-ghost use Rattle.std.specs.List.{flat_map, list_all};
+ghost use Rattle.std.specs.List.{list_all};
 ghost use Rattle.std.specs.Option.{option_copied, option_map};
 ghost use Rattle.sd_sid.specs.Sid.{IsSid, SecurityId};
 ghost use Rattle.sd_sink.specs.Print.{Prints};
@@ -14,7 +14,7 @@ ghost use Rattle.sd_sid.specs.Inner.Read.{IsRead};
 ghost use Rattle.sd_sid.specs.SidText.{decimals_read, are_letters, are_numbers, are_subs, authority_reads};
 ghost use Rattle.sd_sid.specs.SidText.{authority_text, begins_with_s1, decimal_reads, has_form, is_decimal, is_hex};
 ghost use Rattle.sd_sid.specs.SidText.{is_sid_byte, numbers_read, or_number_fault, cut_at_dashes, sid_front, sid_reads};
-ghost use Rattle.sd_sid.specs.SidText.{sid_text, sub_text};
+ghost use Rattle.sd_sid.specs.SidText.{sid_text};
 
 use crate::alias::read_letters;
 use crate::sid::Sid;
@@ -62,18 +62,14 @@ impl Sid {
     }
 
     /// Prints the text, as `put_text` puts it.
-    #[inline(always)]
     pub fn print_text<P: Print>(&self, out: &mut P)
         ensures put { Prints (P.told out.old) (P.told out.new) (sid_text self.now) }
         ensures limits { IsSid self.now }
     {
-        match (self.authority(), self.subs()) {
-            // Most SIDs are of a domain.
-            (5, [21, rest @ ..]) => {
-                out.put(b"S-1-5-21");
-                print_subs(rest, out);
-            }
-            _ => print_any(self, out),
+        out.put(b"S-1-");
+        print_authority(self.authority(), out);
+        for sub in self.subs() {
+            print_decimal_behind(b'-', *sub, out);
         }
     }
 
@@ -213,16 +209,6 @@ fn read_any(text: &[u8], sid: &mut Sid) -> Result<(), SidFault>
     }
 }
 
-// Prints the text of any SID. Not inlined: most SIDs without an alias are of a domain.
-#[inline(never)]
-fn print_any<P: Print>(sid: &Sid, out: &mut P)
-    ensures { Prints (P.told out.old) (P.told out.new) (sid_text sid.now) }
-{
-    out.put(b"S-1-");
-    print_authority(sid.authority(), out);
-    print_subs(sid.subs(), out);
-}
-
 /// Prints an authority as the text of a SID has it: decimal below 2^32, and else twelve hex digits.
 pub fn print_authority<P: Print>(authority: u64, out: &mut P)
     ensures { Prints (P.told out.old) (P.told out.new) (authority_text authority) }
@@ -232,14 +218,6 @@ pub fn print_authority<P: Print>(authority: u64, out: &mut P)
     }
     out.put(b"0x");
     print_hex(HEX_DIGITS, authority, out);
-}
-
-fn print_subs<P: Print>(subs: &[u32], out: &mut P)
-    ensures { Prints (P.told out.old) (P.told out.new) (flat_map sub_text subs.now) }
-{
-    for sub in subs {
-        print_decimal_behind(b'-', *sub, out);
-    }
 }
 
 fn are_letters(text: &[u8]) -> bool
@@ -335,12 +313,7 @@ fn are_digits(base: u32, text: &[u8]) -> bool
     requires high { base ≤ 16 }
     ensures { result ≡ list_all (λ b. is_digit b base) text.now }
 {
-    for byte in text {
-        if !char::from(*byte).is_digit(base) {
-            return false;
-        }
-    }
-    true
+    text.iter().all(|byte| char::from(*byte).is_digit(base))
 }
 
 #[tactic(auto, unfolding(crate::specs::SidText::numbers_read))]

@@ -1,1 +1,2 @@
+mod KnownCounts
 pub mod ViewLemmas

@@ -3,7 +3,6 @@
 ghost use Rattle.std.specs.Prelude.{◌≡◌, ◌≤◌, ◌<◌, ◌+◌, ◌*◌, ◌==◌, ◌&&◌, ◌||◌, drop, length, nat_le, slice_index};
 ghost use Rattle.byteorder.specs.Endian.{little_number};
 ghost use Rattle.std.specs.List.{flat_map};
-ghost use Rattle.std.specs.Option.{option_copied};
 ghost use Rattle.sd_sink.specs.Print.{Prints};
 ghost use Rattle.sd_sid.specs.Sid.{sid_of, words};
 ghost use Rattle.sd_sid.specs.SidText.{alias_of, known_alias, relative_alias, sid_text, sub_text};
@@ -12,7 +11,7 @@ ghost use Rattle.sd_text.specs.Limits.{most_subs};
 
 use byteorder::{BigEndian, ByteOrder, LittleEndian};
 use sd_alias::MOST_KNOWN;
-use sd_sid::{Naming, Sid, USER_MODE_DRIVERS, find_named, print_authority, relative_alias, usable};
+use sd_sid::{Naming, Sid, find_named, print_authority, relative_alias, usable};
 use sd_sink::Print;
 use sd_text::print_decimal_behind;
 use std::marker::Model;
@@ -24,6 +23,9 @@ const HEADER_SIZE: usize = 8;
 const NT: u64 = 5;
 
 const DOMAIN: u32 = 21;
+
+/// The first sub-authority of the SID of user-mode drivers, `S-1-5-84-0-0-0-0-0`. No other name has six.
+const USER_MODE_DRIVERS: u32 = 84;
 
 /// A SID in the bytes that show it (MS-DTYP 2.4.2.2).
 #[derive(Drop)]
@@ -121,27 +123,19 @@ impl<'a> SidView<'a> {
         print_subs(&self.bytes[HEADER_SIZE..], usize::from(self.bytes[1]), out);
     }
 
-    /// The two letters that name it, everywhere or in the domain, as `Sid::alias` finds them.
-    #[inline(always)]
-    #[tactic(auto, unfolding(sd_sid::specs::SidText::alias_of))]
-    pub fn alias(&self, domain: Option<&Sid>) -> Option<[u8; 2]>
-        ensures exact { result ≡ alias_of self.now (option_copied domain.entry) }
-    {
-        match self.known_alias() {
-            Some(name) => Some(name),
-            None => self.relative_alias(usable(domain)?),
-        }
-    }
-
     /// The alias by which it is printed, as `Naming::alias` finds it.
     #[inline(always)]
+    #[tactic(auto, unfolding(sd_sid::specs::SidText::alias_of))]
     pub fn alias_by(&self, naming: &Naming) -> Option<[u8; 2]>
         ensures { result ≡ alias_by naming.now self.now }
     {
-        if !naming.numeric {
-            return self.alias(naming.domain.as_ref());
+        if naming.numeric {
+            return None;
         }
-        None
+        match self.known_alias() {
+            Some(name) => Some(name),
+            None => self.relative_alias(usable(naming.domain.as_ref())?),
+        }
     }
 
     // Most SIDs have more sub-authorities than those with a name. So the test for these is inlined, and the search is

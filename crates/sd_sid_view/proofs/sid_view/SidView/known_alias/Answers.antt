@@ -1,6 +1,6 @@
 use Rattle.std.proofs.Common.{◌∷◌, [], ap, sym, ◌∙◌}
 use Rattle.std.specs.Option.{option_map}
-use Rattle.sd_sid.proofs.laws.KnownCounts.{unknown}
+use Rattle.sd_sid_view.proofs.KnownCounts.{unknown}
 use Rattle.sd_sid_view.proofs.sid_view.SidView.known_alias.Goals as goal
 
 pub returns-then-not-may_be_known : goal.returns-then-not-may_be_known
