@@ -1,22 +1,15 @@
-use Rattle.std.proofs.Common.{◌≡◌, ◌+◌, false, get_or, arith}
-use Rattle.std.specs.Prelude.{◌==◌}
-use Rattle.std.proofs.lemmas.Bool.Decides.{nat_tests}
+use Rattle.std.proofs.Common.{◌≡◌, ◌+◌, arith, drop, drop-cons, refl}
 use Rattle.std.proofs.lemmas.List.{take_rest}
-use Rattle.sd_sid.proofs.Cutting.{cut_start, cut_step, cut_here, cut_end}
+use Rattle.sd_sid.proofs.Cutting.{cut_end, cut_here, dash_at}
 use Rattle.sd_sid.proofs.sid_text.cut.Goals as goal
-
-pub loop-i-init : goal.loop-i-init
-loop-i-init c = cut_start c.args.text.now
-
-pub loop-i-preserved : goal.loop-i-preserved
-loop-i-preserved c =
-    let e : (get_or c.args.text.now c.loop-i.i 0 == 45) ≡ false = grind (arith, nat_tests) in
-    cut_step c.args.text.now c.loop-i.i (omega arith) e c.loop-i.invariant
 
 pub returns-then-byte-eq45-clause-cut : goal.returns-then-byte-eq45-clause-cut
 returns-then-byte-eq45-clause-cut c =
-    rw (take_rest c.args.text.now (c.loop-i.i + 1))
-    (cut_here c.args.text.now c.loop-i.i (omega arith) c.if-byte-eq45.true c.loop-i.invariant)
+    let text = c.args.text.now in
+    let i = c.loop-i.i in
+    let here : dash_at (drop i text) ≡ 0 = rw (drop-cons text i 0 (omega arith), c.if-byte-eq45.true) refl in
+    let at : dash_at text ≡ i = omega (arith, here, c.loop-i.invariant) in
+    rw (take_rest text (i + 1)) (rw at at (cut_here text (omega (arith, at))))
 
 pub returns-clause-cut : goal.returns-clause-cut
-returns-clause-cut c = cut_end c.args.text.now c.loop-i.i (omega arith) c.loop-i.invariant
+returns-clause-cut c = cut_end c.args.text.now (omega (arith, c.loop-i.invariant))
