@@ -1,7 +1,10 @@
 //! Descriptors built part by part in a buffer.
 
-ghost use Rattle.std.specs.Prelude.{◌≡◌, ◌≤◌, ◌<◌, ◌+◌, ◌^◌, ◌↔◌, ◌||◌, None, IsErr, OnOk, OnErr};
-ghost use Rattle.sd_ace.specs.Ace.{ace_size};
+ghost use Rattle.std.specs.Prelude.{◌≡◌, ◌≤◌, ◌+◌, ◌^◌, ◌++◌, ◌↔◌, length, None, IsErr, OnOk, OnErr};
+ghost use Rattle.sd_ace.specs.Ace.{AccessControlEntry, IsAce, ace_size};
+ghost use Rattle.sd_ace.specs.AceLayout.{ace_bytes};
+ghost use Rattle.sd_kinds.specs.Kinds.{is_object};
+ghost use Rattle.sd_parts.specs.declared.limits.TheConstants.{CAPACITY};
 ghost use Rattle.sd_builder.specs.Builds.{Builds};
 ghost use Rattle.sd_builder.specs.Inner.Building.{placed};
 ghost use Rattle.sd_view.specs.Descriptor.{Shows};
@@ -55,17 +58,6 @@ pub struct OpenAcl {
     // The number of its ACEs, and whether an object ACE is among them.
     count: u16,
     object: bool,
-}
-
-impl OpenAcl {
-    // Counts one more ACE.
-    fn add(&mut self, object: bool)
-        requires { self.old.count + 1 < 2 ^ 16 }
-        ensures { self.new ≡ record self.old { count = self.old.count + 1; object = self.old.object || object } }
-    {
-        self.count += 1;
-        self.object = self.object || object;
-    }
 }
 
 impl Builder {
@@ -141,15 +133,8 @@ impl Builder {
             → OnOk result (Builds self.new buf.new (record t { parts = with_ace ace.now t.parts })) }
         ensures same { OnErr result ((self.new ≡ self.old) × (buf.new ≡ buf.old)) }
     {
-        let open = self.open.unwrap();
-        let size = buf.bytes().len() - open.start as usize + usize::from(ace.size());
-        if size > MOST_ACL_SIZE {
-            return Err(AclTooLarge);
-        }
+        self.count_ace(buf, ace.size(), ace.kind().is_object())?;
         append_ace(buf, ace);
-        if let Some(acl) = &mut self.open {
-            acl.add(ace.kind().is_object());
-        }
         Ok(())
     }
 
@@ -163,15 +148,32 @@ impl Builder {
             → OnOk result (Builds self.new buf.new (record t { parts = with_ace ace.now t.parts })) }
         ensures same { OnErr result ((self.new ≡ self.old) × (buf.new ≡ buf.old)) }
     {
+        self.count_ace(buf, ace.size(), ace.kind().is_object())?;
+        append_changed(buf, ace);
+        Ok(())
+    }
+
+    // Counts an ACE whose bytes the caller appends next, if the ACL that is open has room for it.
+    #[inline(always)]
+    fn count_ace(&mut self, buf: &SdBuf, size: u16, object: bool) -> Result<(), AclTooLarge>
+        requires { (t : Draft) × Builds self.old buf.now t × IsOpen t.parts }
+        ensures full { (t : Draft) → Builds self.old buf.now t → (IsErr result ↔ (2 ^ 16 ≤ open_size t.parts + size)) }
+        ensures room { OnOk result (length buf.now + size ≤ CAPACITY) }
+        ensures ok { (t : Draft) (a : AccessControlEntry) → Builds self.old buf.now t
+            → IsAce a → size ≡ ace_size a → object ≡ is_object a.kind
+            → OnOk result (Builds self.new (buf.now ++ ace_bytes a) (record t { parts = with_ace a t.parts })) }
+        ensures same { OnErr result (self.new ≡ self.old) }
+    {
         let open = self.open.unwrap();
-        let acl_size = buf.bytes().len() - open.start as usize + usize::from(ace.size());
+        let acl_size = buf.bytes().len() - open.start as usize + usize::from(size);
         if acl_size > MOST_ACL_SIZE {
             return Err(AclTooLarge);
         }
-        append_changed(buf, ace);
-        if let Some(open) = &mut self.open {
-            open.add(ace.kind().is_object());
-        }
+        self.open = Some(OpenAcl {
+            count: open.count + 1,
+            object: open.object || object,
+            ..open
+        });
         Ok(())
     }
 
