@@ -1,12 +1,8 @@
 -- What a run makes of words that settle a job.
 use Rattle.std.proofs.Common.{◌≡◌, ℕ, inl, inr, List, Option, None, Some, Result, Ok, Err, sym, subst, true}
-use Rattle.std.specs.Io.KnownBytes.{Appends, Keeps}
 use Rattle.clap.specs.Words.{Text, takes}
 use Rattle.sd_command_line.specs.CommandLine.{line}
-use Rattle.sd_sink.specs.Sink.{Puts}
-use Rattle.sd_sink.specs.declared.sink.SinkFault.{SinkFault}
-use Rattle.sd_run.specs.Told.{DrainTold, sink_of}
-use Rattle.sd_command.specs.Endings.{Told, EndsBy, EndsTaken, EndsSettled, EndsRun, Grows, settled}
+use Rattle.sd_command.specs.Endings.{Told, EndsBy, EndsTaken, EndsSettled, EndsRun, settled}
 use Rattle.sd_command.specs.Preparing.{EndsPrepared, PreparesBy, StopsTaken, settled as of}
 use Rattle.sd_command_line.specs.declared.parse.Refusal.TheVariants.{Help, NoMemory, Usage}
 use Rattle.sd_command.specs.declared.program.Stop.{Stop}
@@ -48,21 +44,6 @@ pub by-prepared : (words : List Text) (prepared : Result Prepared Stop) (told to
 by-prepared words (Ok prepared) told told' status p e = by-run words prepared told told' status p e
 by-prepared words (Err (stop.Refused NoMemory)) told told' status p e = EndsBy.without_memory e
 by-prepared words (Err (stop.Refused Usage)) told told' status p e = EndsBy.refused p e
-by-prepared words (Err (stop.Refused (Help text))) told told' status p e = EndsBy.helped p e
+by-prepared words (Err (stop.Refused (Help text))) told told' status p e = EndsBy.helped p (text, e)
 by-prepared words (Err (stop.Value fault)) told told' status p e =
     settled p.0 (subst (λ (s : Result Settings UsageFault). EndsSettled s told told' status) (sym p.1) e)
-
-keeps-appended : (old mid new : Option (List ℕ)) (bytes : List ℕ) → Appends old mid bytes → Keeps mid new
-    → Appends old new bytes
-keeps-appended None mid new bytes appended keeps = tt
-keeps-appended (Some xs) None new bytes appended keeps = absurd appended
-keeps-appended (Some xs) (Some ys) None bytes appended keeps = absurd keeps
-keeps-appended (Some xs) (Some ys) (Some zs) bytes appended keeps = cc
-
--- a text that is put and then passed on
-pub put-grows : (old mid new : DrainTold) (text : List ℕ) (result : Result (Unit {0}) SinkFault)
-    → Puts (sink_of old) (sink_of mid) text result → Keeps mid.taken new.taken → Grows old new
-put-grows old mid new text (Ok done) put keeps =
-    (text, keeps-appended old.taken mid.taken new.taken text put.appended keeps)
-put-grows old mid new text (Err fault) put keeps =
-    (put.part, keeps-appended old.taken mid.taken new.taken put.part put.appended keeps)

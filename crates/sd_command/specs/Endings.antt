@@ -1,12 +1,13 @@
 -- How the program ends: its exit status, what it read, what it wrote, and what the fault stream got.
 use Rattle.std.specs.Prelude.{◌≡◌, ◌⊎◌, ◌++◌, ◌==◌, ℕ, ◌^◌, true, List, [], Result, Ok, Err, codes, if◌then◌else◌}
-use Rattle.std.specs.Io.KnownBytes.{Appends}
+use Rattle.std.specs.Io.KnownBytes.{Keeps}
 use Rattle.std.specs.List.{list_any}
 use Rattle.clap.specs.Words.{Text, IsAmong, fault_of}
 use Rattle.clap.specs.declared.error.ErrorKind.TheVariants as kind
 use Rattle.sd_sink.specs.Sink.{PutAll, PutSome}
 use Rattle.sd_token.specs.Token.{TokenShown}
-use Rattle.sd_run.specs.Told.{SourceTold, DrainTold, sink_of}
+use Rattle.sd_run.specs.Told.{SourceTold, DrainTold, failed_flushes_after, is_flush, sink_of}
+use Rattle.sd_run.specs.declared.device.DeviceFault.{DeviceFault}
 use Rattle.sd_run.specs.Outcome.{Outcome}
 use Rattle.sd_command_line.specs.CommandLine.{line}
 use Rattle.sd_command_line.specs.Refusing.{is_mistake}
@@ -68,14 +69,23 @@ EndsWithoutMemory = EndsIdle 4 (fault_line (codes "no memory"))
 abbrev pub EndsRefused : Told → Told → ℕ → Type 0
 EndsRefused = EndsIdle 2 (fault_line (codes "usage"))
 
--- a drain took some bytes more
-abbrev pub Grows : DrainTold → DrainTold → Type 0
-Grows drain drain' = (bytes : List ℕ) × Appends drain.taken drain'.taken bytes
+-- the text was put, or a prefix of it where the drain failed, and then the drain was flushed, whether that failed or not
+pub record HandsOn (text : List ℕ) (drain drain' : DrainTold) : Type 0 where
+  pub written : DrainTold
+  pub says : Says text drain written
+  pub keeps : Keeps written.taken drain'.taken
+  pub flush : Result (Unit {0}) DeviceFault
+  pub failures : drain'.failures ≡ failed_flushes_after flush written.failures
+  pub flushed : drain'.flushed ≡ is_flush flush
 
--- nothing was read and nothing was said; the output got help, which is `clap`'s text
+-- nothing was read and nothing was said; the output got this text of help
+abbrev pub ShowsHelp : List ℕ → Told → Told → ℕ → Type 0
+ShowsHelp text told told' status =
+    (status ≡ 0) × (told'.source ≡ told.source) × (told'.faults ≡ told.faults) × HandsOn text told.output told'.output
+
+-- The text is that of `clap`, whose contracts do not say which text that is.
 abbrev pub EndsWithHelp : Told → Told → ℕ → Type 0
-EndsWithHelp told told' status =
-    (status ≡ 0) × (told'.source ≡ told.source) × (told'.faults ≡ told.faults) × Grows told.output told'.output
+EndsWithHelp told told' status = (text : List ℕ) × ShowsHelp text told told' status
 
 abbrev pub status_of : Result Report RunFault → ℕ
 status_of (Ok report) = if report.faults == 0 then 0 else 1

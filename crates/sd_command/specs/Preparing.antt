@@ -5,7 +5,7 @@ use Rattle.sd_command_line.specs.CommandLine.{line}
 use Rattle.sd_command_line.specs.Refusing.{RefusedBy}
 use Rattle.sd_command.specs.Settings.{Settings, settings_of}
 use Rattle.sd_command.specs.Usage.{usage_line}
-use Rattle.sd_command.specs.Endings.{Told, EndsIdle, EndsRefused, EndsRun, EndsWithHelp, EndsWithoutMemory}
+use Rattle.sd_command.specs.Endings.{Told, EndsIdle, EndsRefused, EndsRun, EndsWithoutMemory, ShowsHelp}
 use Rattle.sd_command_line.specs.declared.parse.Refusal.TheVariants.{NoMemory, Usage, Help}
 use Rattle.sd_command.specs.declared.program.Prepared.{Prepared}
 use Rattle.sd_command.specs.declared.program.Stop.{Stop}
@@ -37,7 +37,7 @@ PreparesBy words (Err (stop.Value fault)) =
 abbrev pub StopsBy : Stop → Told → Told → ℕ → Type 0
 StopsBy (stop.Refused NoMemory) = EndsWithoutMemory
 StopsBy (stop.Refused Usage) = EndsRefused
-StopsBy (stop.Refused (Help text)) = EndsWithHelp
+StopsBy (stop.Refused (Help text)) = ShowsHelp text
 StopsBy (stop.Value fault) = EndsIdle 2 (usage_line fault)
 
 -- a run of what is prepared, or an ending without one

@@ -184,11 +184,19 @@ fn end<R: Source, W: Drain, E: Drain>(
     }
 }
 
-// A fault stream that fails changes nothing.
-fn say<E: Drain>(faults: &mut E, text: &str)
-    ensures { ends.Says text.now (E.told faults.old) (E.told faults.new) }
+// A stream that fails changes nothing.
+fn say<E: Drain>(drain: &mut E, text: &str)
+    ensures { ends.Says text.now (E.told drain.old) (E.told drain.new) }
 {
-    let _ = write_whole(faults, text.as_bytes());
+    let _ = write_whole(drain, text.as_bytes());
+}
+
+// The same, and passes it on.
+fn hand_on<W: Drain>(drain: &mut W, text: &str)
+    ensures { ends.HandsOn text.now (W.told drain.old) (W.told drain.new) }
+{
+    say(drain, text);
+    let _ = drain.flush();
 }
 
 fn stopped<R: Source, W: Drain, E: Drain>(
@@ -212,8 +220,7 @@ fn stopped<R: Source, W: Drain, E: Drain>(
                 2
             }
             Refusal::Help(text) => {
-                let _ = write_whole(output, text.as_str().as_bytes());
-                let _ = output.flush();
+                hand_on(output, text.as_str());
                 0
             }
         },
