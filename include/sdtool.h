@@ -16,7 +16,7 @@
  * version can compare sdtool_version_number() with the SDTOOL_VERSION that it was compiled with.
  *
  * Sizes and lengths are in bytes. Texts are bytes without a final NUL. Input and output must not overlap. A pointer
- * may be null if its size is 0.
+ * may be null if its size is 0. What an output holds behind its answer is unspecified.
  */
 #ifndef SDTOOL_H
 #define SDTOOL_H
