@@ -1,24 +1,9 @@
 -- The form of a SID's text.
-use Rattle.std.proofs.Common.{◌≡◌, ◌≤◌, ◌+◌, ◌-◌, ℕ, Bool, true, ◌&&◌, List, length, drop, take, ap, sym, ◌∙◌, arith}
+use Rattle.std.proofs.Common.{◌≡◌, ◌≤◌, ◌-◌, ℕ, Bool, true, ◌&&◌, List, length, drop, take, ap, sym, ◌∙◌, arith}
 use Rattle.std.specs.Prelude.{nat_le}
 use Rattle.std.proofs.lemmas.Bool.Decides.{nat_tests}
 use Rattle.std.proofs.lemmas.List.{take_rest}
-use Rattle.std.proofs.lemmas.Bool.{and_parts}
-use Rattle.sd_text.specs.Cuts.{Cuts}
-use Rattle.sd_sid.specs.SidText.{cut_at_dashes, are_subs, are_numbers, begins_with_s1, has_form}
-
-few : (p : Cuts) → are_numbers p ≡ true → length p.others ≤ 15
-few p e =
-    let subs = (and_parts _ (are_subs 0 p.others) e).1 in
-    let count = (and_parts (nat_le (0 + length p.others) 15) _ subs).0 in
-    grind (arith, nat_tests)
-
--- a text of the form has at most 15 sub-authorities
-pub has_form-few : (text : List ℕ) → has_form text ≡ true
-    → length (cut_at_dashes (take (length text - 4) (drop 4 text))).others ≤ 15
-unfolding has_form
-has_form-few text e = let parts = and_parts _ (are_numbers (cut_at_dashes (drop 4 text))) e in rw take_rest
-    (few (cut_at_dashes (drop 4 text)) parts.1)
+use Rattle.sd_sid.specs.SidText.{cut_at_dashes, are_numbers, begins_with_s1, has_form}
 
 pub form_is : (text : List ℕ) (r : Bool) → length text ≤ 183 → begins_with_s1 text ≡ true
     → r ≡ are_numbers (cut_at_dashes (take (length text - 4) (drop 4 text))) → r ≡ has_form text

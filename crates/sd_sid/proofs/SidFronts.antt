@@ -1,8 +1,7 @@
 -- The letters, digits and dashes at the front of a text.
-use Rattle.std.proofs.Common.{◌≡◌, ℕ, ◌+◌, ◌≤◌, Bool, true, false, ◌&&◌, List, [], ◌∷◌, ◌++◌, length, take, drop}
+use Rattle.std.proofs.Common.{◌≡◌, ℕ, ◌+◌, ◌≤◌, Bool, true, false, List, [], ◌∷◌, ◌++◌, length, take, drop}
 use Rattle.std.proofs.Common.{get_or, Option, None, Some, refl, ap, subst, take-append-drop, sym, ◌∙◌, arith, append-nil}
-use Rattle.std.proofs.Common.{length-append}
-use Rattle.std.proofs.lemmas.List.{length-take-le}
+use Rattle.std.proofs.Common.{length-append, slice_index}
 use Rattle.std.specs.Prelude.{◌==◌, nat_le, nat_lt, not}
 use Rattle.std.specs.Char.{is_ascii_alphabetic, is_digit, to_ascii_uppercase}
 use Rattle.std.specs.List.{list_all}
@@ -67,20 +66,15 @@ letter_byte : (c : ℕ) → is_ascii_alphabetic c ≡ true → is_sid_byte c ≡
 letter_byte c e = grind (arith, nat_tests)
 
 -- the bytes of `S-1-` stand at the front
-s_byte : (b : ℕ) → (to_ascii_uppercase b == 83) ≡ true → is_sid_byte b ≡ true
-s_byte b e = grind (arith, nat_tests)
-
-byte_is : (b n : ℕ) → (b == n) ≡ true → b ≡ n
-byte_is b n e = grind (arith, nat_tests)
-
 s1-front : (text : List ℕ) → begins_with_s1 text ≡ true → 4 ≤ length text
-    → sid_front text ≡ take 4 text ++ sid_front (drop 4 text)
+    → sid_front text ≡ slice_index text 0 ∷ 45 ∷ 49 ∷ 45 ∷ sid_front (drop 4 text)
 s1-front (a ∷ b ∷ c ∷ d ∷ rest) e long =
-    let three = and_parts (to_ascii_uppercase a == 83 && b == 45 && c == 49) (d == 45) e in
-    let two = and_parts (to_ascii_uppercase a == 83 && b == 45) (c == 49) three.0 in
-    let one = and_parts (to_ascii_uppercase a == 83) (b == 45) two.0 in
-    rw (byte_is b 45 one.1, byte_is c 49 two.1, byte_is d 45 three.1) (
-    front-more a (45 ∷ 49 ∷ 45 ∷ rest) (s_byte a one.0)
+    let s : is_sid_byte a ≡ true = grind (arith, nat_tests) in
+    let first : b ≡ 45 = grind (arith, nat_tests) in
+    let one : c ≡ 49 = grind (arith, nat_tests) in
+    let second : d ≡ 45 = grind (arith, nat_tests) in
+    rw (first, one, second) (
+    front-more a (45 ∷ 49 ∷ 45 ∷ rest) s
     ∙ ap (λ (t : List ℕ). a ∷ t) (front-more 45 (49 ∷ 45 ∷ rest) refl)
     ∙ ap (λ (t : List ℕ). a ∷ 45 ∷ t) (front-more 49 (45 ∷ rest) refl)
     ∙ ap (λ (t : List ℕ). a ∷ 45 ∷ 49 ∷ t) (front-more 45 rest refl))
@@ -90,34 +84,18 @@ s1-front (a ∷ []) e long = absurd (omega arith)
 s1-front [] e long = absurd (omega arith)
 
 front-begins : (text : List ℕ) → begins_with_s1 text ≡ true → 4 ≤ length text → begins_with_s1 (sid_front text) ≡ true
-front-begins text e long = rw (s1-front text e long) (begins text (sid_front (drop 4 text)) e long)
-  where
-    begins : (xs rest : List ℕ) → begins_with_s1 xs ≡ true → 4 ≤ length xs → begins_with_s1 (take 4 xs ++ rest) ≡ true
-    begins (a ∷ b ∷ c ∷ d ∷ xs) rest e long = e
-    begins (a ∷ b ∷ c ∷ []) rest e long = absurd (omega arith)
-    begins (a ∷ b ∷ []) rest e long = absurd (omega arith)
-    begins (a ∷ []) rest e long = absurd (omega arith)
-    begins [] rest e long = absurd (omega arith)
-
-behind : (xs rest : List ℕ) → 4 ≤ length xs → drop 4 (take 4 xs ++ rest) ≡ rest
-behind (a ∷ b ∷ c ∷ d ∷ xs) rest long = refl
-behind (a ∷ b ∷ c ∷ []) rest long = absurd (omega arith)
-behind (a ∷ b ∷ []) rest long = absurd (omega arith)
-behind (a ∷ []) rest long = absurd (omega arith)
-behind [] rest long = absurd (omega arith)
+front-begins text e long =
+    let s : (to_ascii_uppercase (slice_index text 0) == 83) ≡ true = grind (arith, nat_tests) in
+    rw (s1-front text e long, s) refl
 
 -- what follows `S-1-` in the text of a SID at the front
 pub s1-behind : (text : List ℕ) → begins_with_s1 text ≡ true → 4 ≤ length text
     → drop 4 (sid_front text) ≡ sid_front (drop 4 text)
-s1-behind text e long = ap (drop 4) (s1-front text e long) ∙ behind text (sid_front (drop 4 text)) long
+s1-behind text e long = ap (drop 4) (s1-front text e long)
 
 pub s1-size : (text : List ℕ) → begins_with_s1 text ≡ true → 4 ≤ length text
     → length (sid_front text) ≡ length (sid_front (drop 4 text)) + 4
-s1-size text e long =
-    let parts = length-append (take 4 text) (sid_front (drop 4 text)) in
-    let four : length (take 4 text) ≡ 4 = length-take-le 4 text long in
-    let whole = ap length (s1-front text e long) in
-    omega arith
+s1-size text e long = let whole = ap length (s1-front text e long) in omega (arith, whole)
 
 pub s1-form : (text : List ℕ) → begins_with_s1 text ≡ true → 4 ≤ length text
     → length (sid_front (drop 4 text)) ≤ 179 → are_numbers (cut_at_dashes (sid_front (drop 4 text))) ≡ true

@@ -109,10 +109,12 @@ fn find_known_at(at: usize, sub: u32, table: &[WellKnown]) -> Option<WellKnown>
 fn find_known(table: &[WellKnown], authority: u64, subs: &[u32]) -> Option<WellKnown>
     ensures { result ≡ find (λ e. same_sid (known_sid e) (record { authority = authority; subs = subs.now })) table.now }
 {
-    table
-        .iter()
-        .copied()
-        .find(|entry| is_known(entry, authority, subs))
+    for entry in table {
+        if is_known(entry, authority, subs) {
+            return Some(*entry);
+        }
+    }
+    None
 }
 
 fn is_known(entry: &WellKnown, authority: u64, subs: &[u32]) -> bool

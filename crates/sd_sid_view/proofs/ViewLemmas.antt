@@ -2,7 +2,6 @@
 use Rattle.std.proofs.Common.{◌≡◌, ◌≤◌, ◌<◌, ℕ, zero, suc, ◌+◌, ◌-◌, ◌*◌, true, ◌&&◌, refl, sym, ap, ◌∙◌}
 use Rattle.std.proofs.Common.{List, ◌++◌, slice_index, codes, drop, length, arith}
 use Rattle.std.specs.Prelude.{◌==◌, nat_le}
-use Rattle.std.proofs.lemmas.Bool.{and_parts}
 use Rattle.std.proofs.lemmas.Bool.Decides.{nat_tests}
 use Rattle.std.proofs.lemmas.List.{drop-drop}
 use Rattle.std.specs.List.{flat_map}
@@ -10,7 +9,7 @@ use Rattle.std.specs.Fmt.{digits}
 use Rattle.byteorder.specs.Endian.{little_number}
 use Rattle.sd_sid.specs.Sid.{SecurityId, sid_of, words}
 use Rattle.sd_sid.specs.SidText.{sid_text, sub_text}
-use Rattle.sd_sid.proofs.laws.SidLaws.{length-words}
+use Rattle.sd_sid.proofs.laws.SidLaws.{subs-count}
 
 -- one of the words
 pub words-at : (n i : ℕ) (bs : List ℕ) → i < n → slice_index (words n bs) i ≡ little_number 4 (drop (4 * i) bs)
@@ -20,10 +19,6 @@ words-at (suc n) (suc i) bs h =
     let place : 4 + 4 * i ≡ 4 * suc i = omega arith in
     words-at n i (drop 4 bs) (omega arith)
     ∙ ap (little_number 4) (drop-drop (4 * i) 4 bs ∙ ap (λ (k : ℕ). drop k bs) place)
-
--- as many sub-authorities as the bytes say
-pub subs-count : (bytes : List ℕ) (s : SecurityId) → sid_of bytes ≡ s → length s.subs ≡ slice_index bytes 1
-subs-count bytes s e = ap (λ (t : SecurityId). length t.subs) (sym e) ∙ length-words (slice_index bytes 1) (drop 8 bytes)
 
 -- one of the sub-authorities
 pub sub-at : (bytes : List ℕ) (s : SecurityId) (i : ℕ) → sid_of bytes ≡ s → i < length s.subs
@@ -48,12 +43,10 @@ pub domain_view-text : (bytes : List ℕ) (s : SecurityId) → sid_of bytes ≡ 
     → (nat_le 1 (length s.subs) && s.authority == 5 && slice_index s.subs 0 == 21) ≡ true
     → codes "S-1-5-21" ++ flat_map sub_text (words (slice_index bytes 1 - 1) (drop 12 bytes)) ≡ sid_text s
 domain_view-text bytes s e test =
-    let last = and_parts (nat_le 1 (length s.subs) && s.authority == 5) (slice_index s.subs 0 == 21) test in
-    let front = and_parts (nat_le 1 (length s.subs)) (s.authority == 5) last.0 in
     let count = subs-count bytes s e in
-    let some : 1 ≤ length s.subs = let t = front.0 in grind (arith, nat_tests) in
-    let five : s.authority ≡ 5 = let t = front.1 in grind (arith, nat_tests) in
-    let first : slice_index s.subs 0 ≡ 21 = let t = last.1 in grind (arith, nat_tests) in
+    let some : 1 ≤ length s.subs = grind (arith, nat_tests) in
+    let five : s.authority ≡ 5 = grind (arith, nat_tests) in
+    let first : slice_index s.subs 0 ≡ 21 = grind (arith, nat_tests) in
     ap (λ (r : List ℕ). codes "S-1-5-21" ++ flat_map sub_text (words (slice_index bytes 1 - 1) r))
     (sym (drop-drop 4 8 bytes))
     ∙ domain_words-text s (slice_index bytes 1) (drop 8 bytes) five (ap (λ (t : SecurityId). t.subs) (sym e))

@@ -21,19 +21,16 @@ use Rattle.sd_alias.specs.declared.table.TheConstants.{WELL_KNOWN, DOMAIN_RELATI
 use Rattle.sd_sid.specs.declared.sid_text.SidFault.{SidFault}
 use Rattle.sd_sid.specs.declared.sid_text.SidFault.TheVariants as faults
 use Rattle.std.proofs.lemmas.Bool.{and_parts}
+use Rattle.sd_text.proofs.laws.Tables.{find-passes}
 use Rattle.sd_sid.proofs.laws.TextLaws.{AreWords-rest}
 
 -- what holds of each entry of a table holds of the one that is found
 found : {X : Type 0} (p q : X → Bool) (xs : List X) → list_all q xs ≡ true → IfSome (find p xs) (λ x. q x ≡ true)
-found p q [] all = tt
-found p q (y ∷ ys) all =
-    let parts = and_parts (q y) _ all in
-    by_test (p y) parts.0 (found p q ys parts.1)
+found {X} p q xs all = by_found (find p xs) refl
   where
-    by_test : (b : Bool) → q y ≡ true → IfSome (find p ys) (λ x. q x ≡ true)
-        → IfSome (if b then Some y else find p ys) (λ x. q x ≡ true)
-    by_test true h more = h
-    by_test false h more = more
+    by_found : (o : Option X) → find p xs ≡ o → IfSome o (λ x. q x ≡ true)
+    by_found None e = tt
+    by_found (Some x) e = (find-passes p q xs x e all).1
 
 -- 1. Numbers.
 
@@ -177,7 +174,8 @@ letters-limits a b domain h =
     by_known None (Some e) (Some d) k l m = relative-limits d e m l
     by_known None None u k l m = tt
 
-form-few : (text : List ℕ) → has_form text ≡ true → length (cut_at_dashes (drop 4 text)).others ≤ 15
+-- a text of the form has at most 15 sub-authorities
+pub form-few : (text : List ℕ) → has_form text ≡ true → length (cut_at_dashes (drop 4 text)).others ≤ 15
 unfolding has_form
 form-few text e =
     let p = cut_at_dashes (drop 4 text) in

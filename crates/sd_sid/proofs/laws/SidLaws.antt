@@ -136,6 +136,10 @@ sid_at-stands bytes h t = (
   rw (test-Stands bytes t) refl,
 )
 
+-- as many sub-authorities as the bytes say
+pub subs-count : (bytes : List ℕ) (s : SecurityId) → sid_of bytes ≡ s → length s.subs ≡ slice_index bytes 1
+subs-count bytes s e = ap (λ (t : SecurityId). length t.subs) (sym e) ∙ length-words (slice_index bytes 1) (drop 8 bytes)
+
 -- what reads as a SID is its bytes
 pub sid_at-found : (bytes : List ℕ) (s : SecurityId) (n : ℕ) → AreBytes bytes → sid_at bytes ≡ Some (s, n)
     → BeginsWithSid bytes s × (n ≡ sid_size s)
@@ -145,8 +149,7 @@ sid_at-found bytes s n h e =
     let stands = Stands-test bytes parts.0 in
     let same : sid_of bytes ≡ s = ap (λ (p : SecurityId × ℕ). p.0) parts.1 in
     let size : 8 + 4 * slice_index bytes 1 ≡ n = ap (λ (p : SecurityId × ℕ). p.1) parts.1 in
-    let count : length s.subs ≡ slice_index bytes 1 = ap (λ (t : SecurityId). length t.subs) (sym same)
-    ∙ length-words (slice_index bytes 1) (drop 8 bytes) in
+    let count = subs-count bytes s same in
     (subst (λ (t : SecurityId). BeginsWithSid bytes t) same (sid_of-stands bytes h stands), omega (arith, size, count))
 
 -- what begins with a SID has all of its bytes

@@ -1,5 +1,5 @@
 use Rattle.std.proofs.Common.{sym, ◌∙◌}
-use Rattle.sd_sid_view.proofs.ViewLemmas.{subs-count}
+use Rattle.sd_sid.proofs.laws.SidLaws.{subs-count}
 use Rattle.sd_sid_view.proofs.sid_view.SidView.count.Goals as goal
 
 pub returns : goal.returns

@@ -1,5 +1,6 @@
 use Rattle.std.proofs.Common.{arith, ◌∙◌}
-use Rattle.sd_sid_view.proofs.ViewLemmas.{sub-at, subs-count}
+use Rattle.sd_sid_view.proofs.ViewLemmas.{sub-at}
+use Rattle.sd_sid.proofs.laws.SidLaws.{subs-count}
 use Rattle.sd_sid_view.proofs.sid_view.SidView.sub.Goals as goal
 
 pub overflow_mul-at : goal.overflow_mul-at
