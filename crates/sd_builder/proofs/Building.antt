@@ -37,7 +37,7 @@ use Rattle.sd_view.proofs.laws.ApartLaws.{six-apart}
 use Rattle.sd_acl_view.proofs.laws.AceLists.{all-more, size-more}
 use Rattle.sd_acl_view.proofs.laws.AclLayoutSizes.{aces-many, length-aces}
 use Rattle.sd_builder.proofs.Order.{given-reopened, more-order, null-order, order-reopened}
-use Rattle.sd_builder.proofs.Standing.{IsOneMore, given-none, list-more, none-given, null-more, room, sid-more}
+use Rattle.sd_builder.proofs.Standing.{IsOneMore, given-none, none-given, null-more, part-more, room, stands-last}
 
 -- what the builder keeps and what it was given agree on which ACL is open
 open-given : (front tail : List ℕ) (o : Option OpenAcl) (u : Option (Which × List AccessControlEntry))
@@ -168,8 +168,9 @@ sid-builds b bytes t0 t p s h0 free e limits h =
     let now = closed-from b bytes t0 t h0 e h in
     let none = still-free b bytes t0 t (sid_part_of p) (closed-from b bytes t0 t0 h0 e h0) now free in
     let more = with-sid t.parts p s none.1 in
-    building _ _ _ (sid-more bytes b t.parts _ (sid_part_of p) s more limits now.parts)
-    (more-order bytes b t _ (sid_part_of p) (sid s) more none.0 (room bytes b t.parts now.parts).low now.order)
+    let low = (room bytes b t.parts now.parts).low in
+    building _ _ _ (part-more bytes b t.parts _ (sid_part_of p) (sid s) more (limits, stands-last bytes _ low) now.parts)
+    (more-order bytes b t _ (sid_part_of p) (sid s) more none.0 low now.order)
     now.kept (sid-open t.parts p s ∙ now.given)
 
 -- an ACL that is not given yet
@@ -481,8 +482,9 @@ end-builds b bytes t o size header e total front h =
     let none = given-none found.closed (get_part p b.offsets) _ (found.parts.each p)
     (absent-given w t.parts found.free) in
     let more = with-acl w t.parts (acl.List found.aces) (absent-given w t.parts found.free) in
-    let stands = list-more found.closed b t.parts _ p found.aces more found.at.limits found.parts in
     let low = (room found.closed b t.parts found.parts).low in
+    let stands = part-more found.closed b t.parts _ p (list found.aces) more
+    (found.at.limits, stands-last found.closed _ low) found.parts in
     let order = more-order found.closed b t _ p (list found.aces) more none low found.order in
     let kept = kept-is b o w n found.at.list found.at.start in
     let given = given-ended w found.aces t found.given in

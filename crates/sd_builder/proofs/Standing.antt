@@ -6,10 +6,8 @@ use Rattle.std.specs.Prelude.{unwrap_or}
 use Rattle.std.proofs.lemmas.List.{append-nil, drop-append-le}
 use Rattle.std.proofs.lemmas.Slice.{drop-append-drop}
 use Rattle.std.proofs.Math.Seq.{drop-append_seam}
-use Rattle.sd_ace.specs.Ace.{AccessControlEntry}
-use Rattle.sd_sid.specs.Sid.{SecurityId, IsSid, sid_bytes}
+use Rattle.sd_sid.specs.Sid.{SecurityId, sid_bytes}
 use Rattle.sd_sid.proofs.laws.SidLaws.{length-sid_bytes}
-use Rattle.sd_acl_view.specs.Acl.{IsAcl}
 use Rattle.sd_acl_view.specs.AclLayout.{acl_bytes}
 use Rattle.sd_builder.specs.Inner.Building.{Given, PartStands, PartsStand, Stands, closed_size, extent_at, extents_kept}
 use Rattle.sd_builder.specs.Inner.Building.{given, given_acl, given_bytes, given_sid, given_size, list, nothing, null}
@@ -48,7 +46,7 @@ headed bytes header long offset part h = record {
 }
 
 -- what is appended stands at the end
-stands-last : (bytes part : List ℕ) → 20 ≤ length bytes → Stands (bytes ++ part) (length bytes) part
+pub stands-last : (bytes part : List ℕ) → 20 ≤ length bytes → Stands (bytes ++ part) (length bytes) part
 stands-last bytes part h = record {
   low = h;
   inside = omega (arith, length-append bytes part);
@@ -91,10 +89,14 @@ part-ends bytes (Some offset) null h = tt
 part-ends bytes (Some offset) (sid s) h = omega (arith, h.1.inside, length-sid_bytes s)
 part-ends bytes (Some offset) (list aces) h = omega (arith, h.1.inside, length-acl_bytes aces)
 
--- so an extent at the end of the bytes shares none with another
-last-apart : (n m : ℕ) (e : Extent) → EndsWithin e n → Apart (Some (n, m)) e
-last-apart n m None h = tt
-last-apart n m (Some p) h = inr h
+-- so a part at the end of the bytes shares none with another
+last-apart : (n : ℕ) (g : Given) (e : Extent) → EndsWithin e n → Apart (extent_at (Some n) g) e
+last-apart n nothing e h = tt
+last-apart n null e h = tt
+last-apart n (sid s) None h = tt
+last-apart n (sid s) (Some p) h = inr h
+last-apart n (list aces) None h = tt
+last-apart n (list aces) (Some p) h = inr h
 
 -- the offsets and the number of the bytes are small
 pub part-small : (bytes : List ℕ) (offset : Option ℕ) (g : Given) → PartStands bytes offset g → length bytes ≤ 131226
@@ -202,21 +204,13 @@ one-more bytes new b t u p n g more keep stands long beside h =
       size = omega (arith, h.size, long, closed-more t u p g more);
     }
 
--- a SID, a list or a null ACL more
-pub sid-more : (bytes : List ℕ) (b : Builder) (t u : DraftParts) (p : Part) (s : SecurityId) → IsOneMore t u p (sid s)
-    → IsSid s → PartsStand bytes b t → PartsStand (bytes ++ sid_bytes s) (placed p (length bytes) b) u
-sid-more bytes b t u p s more limits h =
-    one-more bytes _ b t u p (length bytes) (sid s) more (appended bytes (sid_bytes s))
-    (limits, stands-last bytes (sid_bytes s) (room bytes b t h).low) (length-append bytes (sid_bytes s))
-    (last-apart (length bytes) _) h
-
-pub list-more : (bytes : List ℕ) (b : Builder) (t u : DraftParts) (p : Part) (aces : List AccessControlEntry)
-    → IsOneMore t u p (list aces) → IsAcl aces → PartsStand bytes b t
-    → PartsStand (bytes ++ acl_bytes aces) (placed p (length bytes) b) u
-list-more bytes b t u p aces more limits h =
-    one-more bytes _ b t u p (length bytes) (list aces) more (appended bytes (acl_bytes aces))
-    (limits, stands-last bytes (acl_bytes aces) (room bytes b t h).low) (length-append bytes (acl_bytes aces))
-    (last-apart (length bytes) _) h
+-- a part with bytes more, or a null ACL
+pub part-more : (bytes : List ℕ) (b : Builder) (t u : DraftParts) (p : Part) (g : Given) → IsOneMore t u p g
+    → PartStands (bytes ++ given_bytes g) (Some (length bytes)) g → PartsStand bytes b t
+    → PartsStand (bytes ++ given_bytes g) (placed p (length bytes) b) u
+part-more bytes b t u p g more stands h =
+    one-more bytes _ b t u p (length bytes) g more (appended bytes (given_bytes g)) stands
+    (length-append bytes (given_bytes g)) (last-apart (length bytes) g) h
 
 pub null-more : (bytes : List ℕ) (b : Builder) (t u : DraftParts) (p : Part) → IsOneMore t u p null
     → PartsStand bytes b t → PartsStand bytes (placed p 0 b) u

@@ -14,31 +14,17 @@ patch-requires c = omega (
   finish-room _ _ c.requires.0 c.requires.1 c.requires.2,
 )
 
-pub returns-clause-shows : goal.returns-clause-shows
-returns-clause-shows c =
-    λ t h.
+pub returns : goal.returns
+returns c =
     let b = c.args.self.now in
-    let word = control_of c.args.flags (is_some b.offsets.sacl) (is_some b.offsets.dacl) in
-    let head : c.header.result ≡ header_for c.args.rm word b = cc in
-    let long : 0 + length c.header.result ≡ 20 = omega (arith, ap length head, length-header_for c.args.rm word b) in
-    rw (c.patch.ensures, long, head)
-    (finish-shows b c.args.buf.now c.requires.0 t c.args.flags c.args.rm c.requires.1 c.requires.2 (omega arith) h)
-
-pub returns-clause-exact : goal.returns-clause-exact
-returns-clause-exact c =
-    λ t h.
-    let b = c.args.self.now in
-    let word = control_of c.args.flags (is_some b.offsets.sacl) (is_some b.offsets.dacl) in
-    let head : c.header.result ≡ header_for c.args.rm word b = cc in
-    let long : 0 + length c.header.result ≡ 20 = omega (arith, ap length head, length-header_for c.args.rm word b) in
-    rw (c.patch.ensures, long, head)
-    (finish-exact b c.args.buf.now c.requires.0 t c.args.flags c.args.rm c.requires.1 c.requires.2 h)
-
-pub returns-clause-form : goal.returns-clause-form
-returns-clause-form c =
-    let b = c.args.self.now in
-    let word = control_of c.args.flags (is_some b.offsets.sacl) (is_some b.offsets.dacl) in
-    let head : c.header.result ≡ header_for c.args.rm word b = cc in
-    let long : 0 + length c.header.result ≡ 20 = omega (arith, ap length head, length-header_for c.args.rm word b) in
-    rw (c.patch.ensures, long, head)
-    (finish-form b c.args.buf.now c.requires.0 c.args.flags c.args.rm c.requires.1 c.requires.2 (omega arith))
+    let bytes = c.args.buf.now in
+    let flags = c.args.flags in
+    let rm = c.args.rm in
+    let word = control_of flags (is_some b.offsets.sacl) (is_some b.offsets.dacl) in
+    let head : c.header.result ≡ header_for rm word b = cc in
+    let long : 0 + length c.header.result ≡ 20 = omega (arith, ap length head, length-header_for rm word b) in
+    rw (c.patch.ensures, long, head) (record {
+      exact = λ t h. finish-exact b bytes c.requires.0 t flags rm c.requires.1 c.requires.2 h;
+      shows = λ t h. finish-shows b bytes c.requires.0 t flags rm c.requires.1 c.requires.2 (omega arith) h;
+      form = finish-form b bytes c.requires.0 flags rm c.requires.1 c.requires.2 (omega arith);
+    })
