@@ -26,7 +26,6 @@ use sd_check::{Verdict, check};
 use sd_explain::print_explain;
 use sd_inherit::{Plan, derive};
 use sd_sddl_printer::print_sddl;
-use sd_sid::Sid;
 use sd_sink::{Gather, Print, Sink, SinkFault};
 use sd_text::print_hex as print_hex_digits;
 use sd_token::Token;

@@ -1,18 +1,17 @@
 //! SIDs and ACEs appended to a buffer.
 
-ghost use Rattle.std.specs.Prelude.{◌≡◌, ◌≤◌, ◌+◌, ◌*◌, ◌++◌, ◌∷◌, length};
+ghost use Rattle.std.specs.Prelude.{◌≡◌, ◌≤◌, ◌+◌, ◌*◌, ◌++◌, length};
 ghost use Rattle.std.specs.List.{flat_map};
-ghost use Rattle.byteorder.specs.Endian.{big_bytes, little_bytes};
+ghost use Rattle.byteorder.specs.Endian.{little_bytes};
 ghost use Rattle.sd_ace.specs.Ace.{ace_size};
 ghost use Rattle.sd_sid.specs.Sid.{IsSid, sid_bytes, sid_size};
 ghost use Rattle.sd_kinds.specs.Kinds.{is_object};
 ghost use Rattle.sd_ace.specs.AceLayout.{ace_bytes, ace_front, guid_part, guids};
 ghost use Rattle.sd_parts.specs.declared.limits.TheConstants.{CAPACITY, MOST_SID_SIZE};
 
-use byteorder::{BigEndian, ByteOrder, LittleEndian};
+use byteorder::{ByteOrder, LittleEndian};
 use sd_ace::{AceFront, AceParts, guid_bytes};
 use sd_buffer::SdBuf;
-use sd_parts::SID_HEADER_SIZE;
 use sd_sid::Sid;
 use uuid::Uuid;
 
@@ -26,23 +25,12 @@ pub(crate) fn append_sid(buf: &mut SdBuf, sid: &Sid)
     ensures { buf.new ≡ buf.old ++ sid_bytes sid.now }
 {
     let subs = sid.subs();
-    buf.append(&sid_front(sid));
+    buf.append(&sid.header());
     if subs.len() == ACCOUNT_SUBS {
         buf.append(&account_subs(subs));
     } else {
         append_subs(buf, subs);
     }
-}
-
-// The bytes of a SID before its sub-authorities.
-fn sid_front(sid: &Sid) -> [u8; SID_HEADER_SIZE]
-    ensures { result ≡ 1 ∷ length sid.now.subs ∷ big_bytes 6 sid.now.authority }
-{
-    let mut front = [0; SID_HEADER_SIZE];
-    front[0] = 1;
-    front[1] = sid.subs().len() as u8;
-    BigEndian::write_u48(&mut front[2..], sid.authority());
-    front
 }
 
 // The bytes of as many sub-authorities as an account of a domain has. Their number is known when the program is built,

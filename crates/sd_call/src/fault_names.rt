@@ -1,6 +1,5 @@
 //! The names of faults.
 
-ghost use Rattle.std.specs.Prelude.{◌≡◌};
 ghost use Rattle.sd_call.specs.Outcomes.{Answers};
 ghost use Rattle.sd_call.specs.FaultNames.{name_of};
 

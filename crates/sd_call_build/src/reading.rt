@@ -1,13 +1,11 @@
 //! The parts of a new descriptor as the values that they spell.
 
-ghost use Rattle.std.specs.Prelude.{◌≡◌, ◌↔◌, ◌≤◌, ◌/◌, ◌%◌, true, not};
+ghost use Rattle.std.specs.Prelude.{◌≡◌, true, not};
 ghost use Rattle.std.specs.List.{position};
-ghost use Rattle.sd_ace.specs.Ace.{GuidsFit};
-ghost use Rattle.sd_kinds.specs.Kinds.{is_object};
-ghost use Rattle.sd_call_build.specs.New.{ace_in, can_be, guid_in, is_ace, is_wrong_sid, shown_ace, whole_sid};
+ghost use Rattle.sd_call_build.specs.New.{ace_in, guid_in, is_ace, is_wrong_sid, shown_ace, whole_sid};
 
 use crate::new::NewAce;
-use sd_ace::{Ace, UNUSED_FLAG, guid_read};
+use sd_ace::{Ace, guid_read};
 use sd_kinds::AceKind;
 use sd_sid::Sid;
 use uuid::Uuid;

@@ -1,6 +1,6 @@
 //! The token that an access check is for.
 
-ghost use Rattle.std.specs.Prelude.{◌≡◌, ◌≤◌, ◌+◌, ◌++◌, [], length, MatchResult, IfOk, Ok, Err};
+ghost use Rattle.std.specs.Prelude.{◌≡◌, ◌≤◌, ◌+◌, [], length, MatchResult, IfOk, Ok, Err};
 ghost use Rattle.sd_token.specs.Limits.{most_entries};
 ghost use Rattle.sd_call_check.specs.Checks.{entries_from, entries_in, entry_at, fault_of, holder_in, kind_in};
 

@@ -1,6 +1,6 @@
 //! The steps of a walk through an ACL (MS-DTYP 2.4.5), one ACE after the other.
 
-ghost use Rattle.std.specs.Prelude.{◌≡◌, ◌≤◌, ◌<◌, ◌+◌, ◌-◌, ◌^◌, length, drop, true, false, MatchOption, OnOk};
+ghost use Rattle.std.specs.Prelude.{◌≡◌, ◌≤◌, ◌<◌, ◌+◌, ◌-◌, ◌^◌, length, drop, true, false, MatchOption};
 ghost use Rattle.sd_acl_view.specs.AclReading.{acl_at_front};
 ghost use Rattle.sd_acl_view.specs.Bytes.{u16_at as u16_of};
 ghost use Rattle.sd_call_parts.specs.Walk.{behind, begins_with_header, front_found, next};

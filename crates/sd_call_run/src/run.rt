@@ -1,6 +1,5 @@
 //! The call that runs the whole tool on a batch in memory.
 
-ghost use Rattle.std.specs.Prelude.{◌≡◌};
 ghost use Rattle.sd_command.specs.Preparing.{settled};
 ghost use Rattle.sd_call_run.specs.Inner.Batches.{EndsPrepared, EndsStopped};
 ghost use Rattle.sd_call_run.specs.Runs.{EndsRun, EndsWith, Runs, Shows};

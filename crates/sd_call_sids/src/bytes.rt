@@ -1,11 +1,10 @@
 //! The bytes of a SID (MS-DTYP 2.4.2.2).
 
-ghost use Rattle.std.specs.Prelude.{◌≡◌, ◌∷◌, ◌++◌, length};
-ghost use Rattle.byteorder.specs.Endian.{big_bytes};
+ghost use Rattle.std.specs.Prelude.{◌≡◌, length};
 ghost use Rattle.sd_call.specs.Outcomes.{Gives};
 ghost use Rattle.sd_sid.specs.Sid.{sid_bytes, sid_size};
 
-use byteorder::{BigEndian, ByteOrder, LittleEndian};
+use byteorder::{ByteOrder, LittleEndian};
 use sd_call::{Outcome, give};
 use sd_parts::{MOST_SID_SIZE, SID_HEADER_SIZE};
 use sd_sid::Sid;
@@ -26,17 +25,6 @@ pub fn write_sid(sid: &Sid, cells: &mut [u8])
     ensures { cells.new ≡ sid_bytes sid.now }
 {
     let (front, subs) = cells.split_at_mut(SID_HEADER_SIZE);
-    front.copy_from_slice(&sid_front(sid));
+    front.copy_from_slice(&sid.header());
     LittleEndian::write_u32_into(sid.subs(), subs);
-}
-
-// The bytes before the sub-authorities: revision, count and identifier authority.
-fn sid_front(sid: &Sid) -> [u8; SID_HEADER_SIZE]
-    ensures { result ≡ 1 ∷ length sid.now.subs ∷ big_bytes 6 sid.now.authority }
-{
-    let mut front = [0; SID_HEADER_SIZE];
-    front[0] = 1;
-    front[1] = sid.subs().len() as u8;
-    BigEndian::write_u48(&mut front[2..], sid.authority());
-    front
 }

@@ -1,6 +1,6 @@
 //! The name of a SID: its alias, or its text.
 
-ghost use Rattle.std.specs.Prelude.{◌≡◌, ◌≤◌, ◌<◌, length, take, MatchOption};
+ghost use Rattle.std.specs.Prelude.{◌≡◌, ◌≤◌, ◌<◌, length};
 ghost use Rattle.sd_call.specs.Outcomes.{Fills, Gives};
 ghost use Rattle.sd_sddl_printer.specs.Printed.{trustee_text};
 ghost use Rattle.sd_sink.specs.Sink.{Puts};

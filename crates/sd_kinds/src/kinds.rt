@@ -6,7 +6,6 @@ ghost use Rattle.std.specs.Option.{option_copied};
 ghost use Rattle.std.specs.Str.{str_eq_ignore_ascii_case};
 ghost use Rattle.sd_kinds.specs.KindValues.{KindValues};
 ghost use Rattle.sd_kinds.specs.Kinds.{is_object, kind_code, kind_entry, kind_letters, kind_named, kind_of, letters_of};
-ghost use Rattle.sd_kinds.specs.Kinds.{same_kind};
 
 /// What an ACE does (MS-DTYP 2.4.4.1).
 #[derive(Clone, Copy, Debug, PartialEq, Eq)]

@@ -48,7 +48,7 @@ pub struct FieldReader {
 }
 
 impl FieldReader {
-    ghost use Rattle.std.specs.Prelude.{◌≡◌, ◌/◌, Ok, Err, Some, None, Option};
+    ghost use Rattle.std.specs.Prelude.{◌≡◌, Ok, Err, Some, None, Option};
     ghost use Rattle.sd_builder.specs.Draft.{IsOpen, closed};
     ghost use Rattle.sd_sddl_builder.specs.declared.slot.Head.TheVariants as head;
     ghost use Rattle.sd_sddl_builder.specs.FoldedReading.{FieldsRead, begun_or_null, finished, nothing_read};

@@ -1,6 +1,5 @@
 //! ACLs as SDDL (MS-DTYP 2.5.1.1).
 
-ghost use Rattle.std.specs.Prelude.{◌≡◌};
 ghost use Rattle.std.specs.List.{flat_map};
 ghost use Rattle.sd_sink.specs.Print.{Prints};
 ghost use Rattle.sd_sddl_printer.specs.Printed.{ace_text, acl_flags_text, acl_text, text_if};

@@ -6,7 +6,6 @@ ghost use Rattle.std.specs.List.{list_all};
 ghost use Rattle.sd_sddl_reader.specs.Inner.Progress.{is_plain_outside};
 ghost use Rattle.sd_sddl_reader.specs.Inner.WholePart.{HeadAfter, IsPlainText};
 ghost use Rattle.sd_sddl_builder.specs.Line.{head_of};
-ghost use Rattle.sd_sddl_fields.specs.FieldTexts.{is_blank};
 ghost use Rattle.sd_sddl_builder.specs.FoldedReading.{next_field};
 ghost use Rattle.sd_sddl_reader.specs.Inner.Progress.{state_of};
 

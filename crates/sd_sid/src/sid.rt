@@ -3,6 +3,7 @@
 ghost use Rattle.std.specs.Prelude.{◌≡◌, ◌≤◌, ◌<◌, ◌+◌, ◌*◌, ◌^◌, ◌↔◌, [], ◌∷◌, ◌++◌, length, slice_index, IsSome};
 ghost use Rattle.std.specs.Prelude.{IfSome, Some};
 ghost use Rattle.std.specs.Option.{option_map};
+ghost use Rattle.byteorder.specs.Endian.{big_bytes};
 ghost use Rattle.sd_text.specs.Limits.{most_subs};
 ghost use Rattle.sd_sid.specs.Sid.{SecurityId, IsSid, BeginsWithSid, sid_at, sid_of, sid_size};
 
@@ -171,6 +172,17 @@ impl Sid {
         ensures limits { IsSid self.now }
     {
         HEADER_SIZE + 4 * self.count
+    }
+
+    /// The bytes before the sub-authorities (MS-DTYP 2.4.2.2): revision, count and identifier authority.
+    pub fn header(&self) -> [u8; HEADER_SIZE]
+        ensures { result ≡ 1 ∷ length self.now.subs ∷ big_bytes 6 self.now.authority }
+    {
+        let mut header = [0; HEADER_SIZE];
+        header[0] = 1;
+        header[1] = self.count as u8;
+        BigEndian::write_u48(&mut header[2..], self.authority);
+        header
     }
 
     /// The identifier authority, below 2^48.

@@ -8,7 +8,6 @@ ghost use Rattle.sd_sid.specs.Sid.{IsSid, SecurityId};
 ghost use Rattle.sd_sink.specs.Print.{Prints};
 ghost use Rattle.sd_sink.specs.Sink.{Puts};
 ghost use Rattle.sd_text.specs.Limits.{most_subs};
-ghost use Rattle.sd_text.specs.Numbers.{number};
 ghost use Rattle.sd_text.specs.Cuts.{all_cuts};
 ghost use Rattle.sd_sid.specs.Inner.Read.{IsRead};
 ghost use Rattle.sd_sid.specs.SidText.{decimals_read, are_letters, are_numbers, are_subs, authority_reads};
@@ -23,6 +22,7 @@ use sd_sink::{Print, Printer, Sink, SinkFault};
 use sd_text::{
     MOST_FIELD_SIZE, MOST_SUBS, print_decimal, print_decimal_behind, print_hex, read_number,
 };
+use std::str::FromStr;
 
 /// Why a text is no SID.
 #[derive(Clone, Copy, Debug, PartialEq, Eq)]
@@ -112,6 +112,17 @@ impl Sid {
         ensures within { result.1 ≤ length text.now }
     {
         read_front(text, domain, sid)
+    }
+}
+
+/// Reads a SID as `from_text` does, without a domain.
+impl FromStr for Sid {
+    type Err = SidFault;
+
+    ghost from_str_gives = { λ text result. result ≡ sid_reads text None };
+
+    fn from_str(text: &str) -> Result<Sid, SidFault> {
+        Sid::from_text(text.as_bytes(), None)
     }
 }
 

@@ -1,6 +1,6 @@
 //! The usual text of a SID, with decimal numbers alone, read in one pass from the front of a longer text.
 
-ghost use Rattle.std.specs.Prelude.{◌≡◌, ◌≤◌, ◌<◌, ◌+◌, ◌^◌, ◌++◌, [], List, ℕ, codes, length, take, drop, true};
+ghost use Rattle.std.specs.Prelude.{◌≡◌, ◌≤◌, ◌<◌, ◌+◌, ◌++◌, [], List, ℕ, codes, length, drop, true};
 ghost use Rattle.std.specs.Prelude.{IfSome, MatchOption, Some};
 ghost use Rattle.std.specs.Option.{option_map};
 ghost use Rattle.sd_text.specs.Cuts.{all_cuts};

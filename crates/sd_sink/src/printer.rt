@@ -1,7 +1,7 @@
 //! A printer that hands each text down at once.
 
 ghost use Rattle.std.specs.Prelude.{◌≡◌, false};
-ghost use Rattle.sd_sink.specs.Print.{Prints, Begins};
+ghost use Rattle.sd_sink.specs.Print.{Begins};
 
 use crate::print::Print;
 use crate::sink::{Sink, SinkFault};

@@ -1,6 +1,6 @@
 //! The numbers of 32 bits that stand for an entry of a token.
 
-ghost use Rattle.std.specs.Prelude.{◌≡◌, ◌≤◌, ◌+◌, ◌*◌, length, take, drop, slice_index};
+ghost use Rattle.std.specs.Prelude.{◌≡◌, ◌≤◌, ◌+◌, ◌*◌, length, take, drop};
 ghost use Rattle.sd_sid.specs.Sid.{IsSid};
 ghost use Rattle.sd_sid.specs.SidText.{same_sid};
 ghost use Rattle.sd_token.specs.Token.{entry_meets, is_enabled};
