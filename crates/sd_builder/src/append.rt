@@ -6,7 +6,7 @@ ghost use Rattle.byteorder.specs.Endian.{little_bytes};
 ghost use Rattle.sd_ace.specs.Ace.{ace_size};
 ghost use Rattle.sd_sid.specs.Sid.{IsSid, sid_bytes, sid_size};
 ghost use Rattle.sd_kinds.specs.Kinds.{is_object};
-ghost use Rattle.sd_ace.specs.AceLayout.{ace_bytes, ace_front, guid_part, guids};
+ghost use Rattle.sd_ace.specs.AceLayout.{ace_bytes, guid_part, guids};
 ghost use Rattle.sd_parts.specs.declared.limits.TheConstants.{CAPACITY, MOST_SID_SIZE};
 
 use byteorder::{ByteOrder, LittleEndian};
@@ -73,18 +73,10 @@ pub(crate) fn append_ace(buf: &mut SdBuf, ace: &AceParts<'_>)
     requires { length buf.old + ace_size ace.now ≤ CAPACITY }
     ensures { buf.new ≡ buf.old ++ ace_bytes ace.now }
 {
-    append_front(buf, ace);
-    append_guids(buf, ace);
-    append_sid(buf, ace.trustee());
-}
-
-// Appends what comes before the GUIDs. There is room for the longest, so that its cells are copied at once.
-fn append_front(buf: &mut SdBuf, ace: &AceParts<'_>)
-    requires { length buf.old + 12 ≤ CAPACITY }
-    ensures { buf.new ≡ buf.old ++ ace_front ace.now }
-{
     let front = AceFront::of_parts(ace);
     buf.append_front(front.cells(), front.len());
+    append_guids(buf, ace);
+    append_sid(buf, ace.trustee());
 }
 
 // Appends the GUIDs, which only object kinds have.
