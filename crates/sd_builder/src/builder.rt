@@ -169,11 +169,11 @@ impl Builder {
         if acl_size > MOST_ACL_SIZE {
             return Err(AclTooLarge);
         }
-        self.open = Some(OpenAcl {
-            count: open.count + 1,
-            object: open.object || object,
-            ..open
-        });
+        // In place: a new `Some` would write all of its fields.
+        if let Some(acl) = &mut self.open {
+            acl.count += 1;
+            acl.object |= object;
+        }
         Ok(())
     }
 

@@ -1,10 +1,8 @@
-use Rattle.std.proofs.Common.{◌≡◌, ◌<◌, ◌+◌, ◌||◌, length, refl, ap, arith}
+use Rattle.std.proofs.Common.{◌<◌, ◌+◌, length, refl, ap, arith}
 use Rattle.sd_ace.specs.Ace.{ace_size}
-use Rattle.sd_kinds.specs.Kinds.{is_object}
 use Rattle.sd_builder.specs.Draft.{open_size}
 use Rattle.sd_builder.proofs.Building.{ace-builds, is-open, open-roomy, open-size}
 use Rattle.sd_builder.proofs.builder.Builder.count_ace.Goals as goal
-use Rattle.sd_builder.proofs.builder.Builder.count_ace.Goals.{then-open, else-open}
 
 pub unwrap-open-requires : goal.unwrap-open-requires
 unwrap-open-requires c = is-open _ _ c.requires.0 c.requires.1 c.requires.2
@@ -19,29 +17,25 @@ returns-then-acl_size-gt-MOST_ACL_SIZE-clause-full c =
     let size = open-size _ _ t _ h c.unwrap-open.ensures in
     (λ e. omega (arith, size, ap length c.bytes.ensures.value), λ e. refl)
 
-pub overflow_add-self : goal.overflow_add-self
-overflow_add-self c =
-    let r = open-roomy _ _ c.requires.0 _ c.requires.1 c.unwrap-open.ensures in omega (arith, r.count)
+pub overflow_add-acl : goal.overflow_add-acl
+overflow_add-acl c =
+    let r = open-roomy _ _ c.requires.0 _ c.requires.1 c.in-Some.is in omega (arith, r.count)
 
-pub returns-clause-full : goal.returns-clause-full
-returns-clause-full c =
+pub returns-in-Some-clause-full : goal.returns-in-Some-clause-full
+returns-in-Some-clause-full c =
     λ t h.
     let size = open-size _ _ t _ h c.unwrap-open.ensures in
     (λ e. absurd (cc), λ e. absurd (omega (arith, size, ap length c.bytes.ensures.value)))
 
-pub returns-clause-room : goal.returns-clause-room
-returns-clause-room c =
+pub returns-in-Some-clause-room : goal.returns-in-Some-clause-room
+returns-in-Some-clause-room c =
     let r = open-roomy _ _ c.requires.0 _ c.requires.1 c.unwrap-open.ensures in
     omega (arith, r.start, r.room, ap length c.bytes.ensures.value)
 
-pub returns-clause-ok : goal.returns-clause-ok
-returns-clause-ok c =
+pub returns-in-Some-clause-ok : goal.returns-in-Some-clause-ok
+returns-in-Some-clause-ok c =
     λ t a h limits of_size of_kind.
-    let o = c.unwrap-open.result in
+    let o = c.in-Some.acl in
     let size = open-size _ _ t _ h c.unwrap-open.ensures in
     let fits : open_size t.parts + ace_size a < 65536 = omega (arith, size, of_size, ap length c.bytes.ensures.value) in
-    let object : c.if-open.self ≡ (o.object || is_object a.kind) = elim c.if-open.branch [
-      | then-open w ↦ cc
-      | else-open w ↦ cc
-    ] in
-    rw object (ace-builds _ _ t o a c.unwrap-open.ensures limits fits h)
+    rw of_kind (ace-builds _ _ t o a c.in-Some.is limits fits h)
