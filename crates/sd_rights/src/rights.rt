@@ -1,22 +1,18 @@
 //! Printing access rights (MS-DTYP 2.5.1.1).
 
-ghost use Rattle.std.specs.Prelude.{◌≡◌, ◌≤◌, ◌<◌, ◌==◌, bit_and, drop, false, length, Some};
-ghost use Rattle.std.specs.Fmt.{digits};
+ghost use Rattle.std.specs.Prelude.{◌≡◌, ◌≤◌, ◌==◌, bit_and, length, Some};
 ghost use Rattle.std.specs.List.{find};
 ghost use Rattle.sd_sink.specs.Print.{Prints};
 ghost use Rattle.sd_text.specs.Names.{named_bits};
 ghost use Rattle.sd_rights.specs.RightValues.{CompoundRights, LabelRights, SingleRights};
-ghost use Rattle.sd_rights.specs.Rights.{hex_text, is_label, names_or_hex, rights_reads, rights_text};
+ghost use Rattle.sd_rights.specs.Rights.{is_label, names_or_hex, rights_reads, rights_text};
 ghost use Rattle.sd_sink.specs.Sink.{Puts};
 ghost use Rattle.sd_rights.specs.declared.rights_table.TheConstants.{COMPOUNDS};
 
 use crate::rights_table::{COMPOUNDS, LABEL_BITS, LABELS, SINGLE_BITS, SINGLES};
 use sd_kinds::AceKind;
 use sd_sink::{Print, Printer, Sink, SinkFault};
-use sd_text::{NamedBits, hex_digit, print_names};
-
-/// `0x` and the eight digits of the largest mask.
-const HEX_SIZE: usize = 10;
+use sd_text::{NamedBits, print_hex_number, print_names};
 
 /// Puts the text of an access mask (MS-DTYP 2.5.1.1): names if every bit of the mask has a name in an
 /// ACE of this kind, else hex digits. So 1 is `CC`, and `NW` in a label.
@@ -48,7 +44,7 @@ pub fn print_rights<P: Print>(kind: AceKind, mask: u32, out: &mut P)
     ensures { Prints (P.told out.old) (P.told out.new) (rights_text kind mask) }
 {
     if mask == 0 {
-        return print_hex(mask, out);
+        return print_hex_number(mask, out);
     }
     if is_label(kind) {
         return print_names_or_hex(&LABELS, LABEL_BITS, mask, out);
@@ -85,34 +81,6 @@ fn print_names_or_hex<P: Print>(table: &[NamedBits], bits: u32, mask: u32, out: 
     if mask & bits == mask {
         print_names(table, mask, out);
     } else {
-        print_hex(mask, out);
+        print_hex_number(mask, out);
     }
-}
-
-fn print_hex<P: Print>(mask: u32, out: &mut P)
-    ensures { Prints (P.told out.old) (P.told out.new) (hex_text mask) }
-{
-    let mut buffer = [0; HEX_SIZE];
-    let start = write_digits(mask, &mut buffer);
-    buffer[start - 1] = b'x';
-    buffer[start - 2] = b'0';
-    out.put(&buffer[start - 2..]);
-}
-
-// Writes the hex digits to the end of the buffer, and answers where they start.
-fn write_digits(mask: u32, buffer: &mut [u8; HEX_SIZE]) -> usize
-    ensures low { 2 ≤ result }
-    ensures high { result ≤ 10 }
-    ensures digits { drop result buffer.new ≡ digits 16 false mask }
-{
-    let mut start = HEX_SIZE;
-    let mut rest = mask;
-    while rest >= 16 {
-        start -= 1;
-        buffer[start] = hex_digit((rest % 16) as u8);
-        rest /= 16;
-    }
-    start -= 1;
-    buffer[start] = hex_digit(rest as u8);
-    start
 }

@@ -74,6 +74,11 @@ pub written_as : {at end : ℕ} {text other old new : List ℕ} → text ≡ oth
     → IsWritten at other end old new
 written_as {at} {end} {text} {other} {old} {new} e p = subst (λ (t : List ℕ). IsWritten at t end old new) e p
 
+-- the same end in other words
+pub written_to : {at end other : ℕ} {text old new : List ℕ} → end ≡ other → IsWritten at text end old new
+    → IsWritten at text other old new
+written_to {at} {end} {other} {text} {old} {new} e p = subst (λ n. IsWritten at text n old new) e p
+
 -- the table of pairs holds the digits of each number below 100
 are_pairs : ℕ → Bool
 are_pairs zero = true

@@ -3,6 +3,7 @@ pub mod DigitLemmas
 pub mod DigitsInFront
 pub mod EightDigits
 pub mod FrontDigits
+pub mod HexNumber
 pub mod NumberLemmas
 mod Rows
 pub mod laws

@@ -1,7 +1,7 @@
 //! Numbers in digits.
 
-ghost use Rattle.std.specs.Prelude.{◌≡◌, false, ◌+◌, ◌<◌, ◌≤◌, ◌∷◌, take};
-ghost use Rattle.std.specs.Fmt.{decimal, digit_glyph};
+ghost use Rattle.std.specs.Prelude.{◌≡◌, false, ◌+◌, ◌-◌, ◌<◌, ◌≤◌, ◌∷◌, ◌++◌, codes, take};
+ghost use Rattle.std.specs.Fmt.{decimal, digit_glyph, digits};
 ghost use Rattle.sd_sink.specs.Print.{Prints};
 ghost use Rattle.sd_text.specs.Numbers.{hex_digits};
 ghost use Rattle.sd_text.specs.Inner.Digits.{IsWritten, four_digits, two_digits};
@@ -74,6 +74,46 @@ pub fn print_hex<P: Print>(digits: usize, number: u64, out: &mut P)
     out.put_front(&cells, digits);
 }
 
+/// Prints `0x` and a number in hex, without leading zeros.
+///
+/// ```
+/// let mut sink = TextSink::new(&rt);
+/// let mut out = Printer::new(&mut sink);
+/// print_hex_number(0x1f01ff, &mut out);
+/// assert!(rt; out.finish() == Ok(()));
+/// assert!(rt; sink.bytes() == b"0x1f01ff".as_slice());
+/// ```
+pub fn print_hex_number<P: Print>(number: u32, out: &mut P)
+    ensures { Prints (P.told out.old) (P.told out.new) (codes "0x" ++ digits 16 false number) }
+{
+    let mut cells = [0; FRONT];
+    let end = write_hex_number(number, &mut cells);
+    out.put_front(&cells, end);
+}
+
+// Writes `0x` and a number in hex, without leading zeros, and says where it ends. What is behind the end is no digit of
+// the number: the leading zeros are moved out to the left, so that the first digit is the first of eight.
+#[inline(always)]
+fn write_hex_number(number: u32, cells: &mut [u8; FRONT]) -> usize
+    ensures written { take result cells.new ≡ codes "0x" ++ digits 16 false number }
+    ensures within { result ≤ 10 }
+{
+    let zeros = leading_hex_zeros(number);
+    cells[0] = b'0';
+    cells[1] = b'x';
+    write_hex_eight(u64::from(number) << (4 * zeros), cells, 2);
+    10 - zeros
+}
+
+// How many of the eight hex digits of a number are zeros in front of it. The number 0 has a digit too.
+#[inline(always)]
+fn leading_hex_zeros(number: u32) -> usize
+    ensures few { result ≤ 7 }
+    ensures digits { hex_digits (8 - result) number ≡ digits 16 false number }
+{
+    (number | 1).leading_zeros() as usize / 4
+}
+
 // Writes as many hex digits of a number, the last ones, to the front.
 fn write_hex(digits: usize, number: u64, cells: &mut [u8; FRONT])
     requires { digits ≤ 16 }
@@ -81,7 +121,7 @@ fn write_hex(digits: usize, number: u64, cells: &mut [u8; FRONT])
 {
     // Most calls ask for the eight digits of an access mask.
     if digits == 8 {
-        write_hex_eight(number, cells);
+        write_hex_eight(number, cells, 0);
         return;
     }
     let mut left = number;
@@ -95,13 +135,14 @@ fn write_hex(digits: usize, number: u64, cells: &mut [u8; FRONT])
 
 // Writes the last eight hex digits of a number, a byte's two at once and with no loop.
 #[inline(always)]
-fn write_hex_eight(number: u64, cells: &mut [u8; FRONT])
-    ensures { take 8 cells.new ≡ hex_digits 8 number }
+fn write_hex_eight(number: u64, cells: &mut [u8; FRONT], at: usize)
+    requires { at + 8 ≤ 16 }
+    ensures { IsWritten at (hex_digits 8 number) (at + 8) cells.old cells.new }
 {
-    write_hex_pair(number / (1 << 24), cells, 0);
-    write_hex_pair(number / (1 << 16), cells, 2);
-    write_hex_pair(number / (1 << 8), cells, 4);
-    write_hex_pair(number, cells, 6);
+    write_hex_pair(number / (1 << 24), cells, at);
+    write_hex_pair(number / (1 << 16), cells, at + 2);
+    write_hex_pair(number / (1 << 8), cells, at + 4);
+    write_hex_pair(number, cells, at + 6);
 }
 
 // Writes the last two hex digits of a number.
@@ -116,9 +157,9 @@ fn write_hex_pair(number: u64, cells: &mut [u8; FRONT], at: usize)
     cells[at + 1] = second;
 }
 
-/// The lower-case digit of a value.
+// The lower-case digit of a value.
 #[inline(always)]
-pub fn hex_digit(value: u8) -> u8
+fn hex_digit(value: u8) -> u8
     requires { value < 16 }
     ensures { result ≡ digit_glyph false value }
 {

@@ -1,16 +1,15 @@
 -- The hex digits of a mask, from the last one to the first.
 use Rattle.std.proofs.Common.{◌≡◌, ℕ, zero, suc, ◌+◌, ◌-◌, ◌/◌, ◌%◌, ◌^◌, ◌<◌, ◌≤◌, Bool, true, false, List, [], ◌∷◌}
-use Rattle.std.proofs.Common.{length, drop, slice_set, arith, ap, ◌∙◌, refl, eq-eqb, ne_eqb, lt-ltb}
+use Rattle.std.proofs.Common.{length, arith, ap, ◌∙◌, refl, eq-eqb, ne_eqb, lt-ltb}
 use Rattle.std.specs.Prelude.{◌==◌, if◌then◌else◌}
 use Rattle.std.specs.Char.{digit_value, is_digit}
 use Rattle.std.specs.List.{list_all}
 use Rattle.std.specs.Str.Parse.{AllDigits}
 use Rattle.std.specs.Fmt.{digits, digits_onto, digit_glyph}
 use Rattle.std.proofs.lemmas.Bool.{eqb-false}
-use Rattle.std.proofs.lemmas.Grind.{common_steps}
 use Rattle.std.proofs.Math.Nat.{pow-suc, pow-zero}
 
--- 1. Digits in a buffer.
+-- 1. Digits from the last one on.
 
 pub digits_onto-nil : (n : ℕ) → digits_onto 64 16 false n [] ≡ digits 16 false n
 unfolding digits
@@ -32,20 +31,9 @@ digits_onto_step (suc k) n tail some ne =
     ∙ ap (λ (j : ℕ). digits_onto j 16 false (n / 16) (digit_glyph false (n % 16) ∷ tail)) {x = k} {y = suc k - 1}
     (omega arith)
 
--- what is written before an index stands in front of what follows it
-pub drop-set_before : (bytes : List ℕ) (i x : ℕ) → 0 < i → i ≤ length bytes
-    → drop (i - 1) (slice_set bytes (i - 1) x) ≡ x ∷ drop i bytes
-drop-set_before bytes i x some within = grind (arith, common_steps)
-
 -- 2. How many digits there are.
 
--- below a power of 16 from 16 on: there are two digits or more
-pub two_digits : (n r : ℕ) → r < 16 ^ n → 16 ≤ r → 2 ≤ n
-two_digits zero r small large = omega (arith, pow-zero 16)
-two_digits (suc zero) r small large = omega (arith, pow-suc 16 zero, pow-zero 16)
-two_digits (suc (suc n)) r small large = omega arith
-
--- and one digit fewer without the last one
+-- one digit fewer without the last one
 shift : (n r : ℕ) → r < 16 ^ suc n → r / 16 < 16 ^ n
 shift n r small = let e = pow-suc 16 n in omega arith
 
