@@ -116,6 +116,7 @@ build_page() {
 # No older program or library is to be tested where the gate stops before it has built one.
 rm -rf "$program" out/lib out/sdtool.html out/systems
 count tests/layers.py
+count tests/c_interface.py
 count tests/alias_places.py --check
 count packaging/completions.py --check
 count tests/figures.py --check
