@@ -254,14 +254,16 @@ def test_arguments(count, runner):
     whole = {"check": [empty, sid * 2, "0001", "00" * 16, sid, "131072", "0", "0", none],
              "derive": [empty, none, sid, sid, "0", "0"]}
     not_sids = [none, sid + "00", sid[:-2]]
+    # The low 8 or 16 bits of these are right ones, but nothing may cut them.
+    too_high = ["256", "257", "258", "65536", "65537", "65538", "4294967295"]
     # For each place the number of the argument, and each wrong value with the entry that is wrong.
     wrong = {"check": {1: (2, {none: 0, sid: 1, sid[:-2] + sid: 2, sid * 2 + "01": 2, sid * 3: 2,
                                "02" + sid[2:] + sid: 0}),
                        2: (3, {"0002": 1, "ff00": 0}), 3: (4, {"00": 0, "00" * 15: 0, "00" * 17: 0}),
-                       4: (5, {sid[:-2]: 0, sid + "00": 0, "00": 0}), 6: (6, {"3": 0, "4294967295": 0})},
+                       4: (5, {sid[:-2]: 0, sid + "00": 0, "00": 0}), 6: (6, dict.fromkeys(["3", *too_high], 0))},
              "derive": {1: (7, {"00": 0, "01" * 20: 0}), 2: (8, dict.fromkeys(not_sids, 0)),
-                        3: (9, dict.fromkeys(not_sids, 0)), 4: (10, {"2": 0, "4294967295": 0}),
-                        5: (6, {"3": 0, "4294967295": 0})}}
+                        3: (9, dict.fromkeys(not_sids, 0)), 4: (10, dict.fromkeys(["2", *too_high], 0)),
+                        5: (6, dict.fromkeys(["3", *too_high], 0))}}
     for job, places in wrong.items():
         lines, expected = [], ""
         for place, (argument, values) in places.items():
@@ -391,12 +393,12 @@ def test_python_runs(count, program, rows):
 
 
 def test_fault_texts(count):
-    """Each number below 200 has the name that docs/FORMAT.md gives it, or none."""
+    """Each number below 600 has the name that docs/FORMAT.md gives it, or none. One that is too high has none."""
     import sdtool  # noqa: PLC0415
     document = (TOP / "docs" / "FORMAT.md").read_text(encoding="utf-8")
     names = {int(number): name for number, name in re.findall(r"(?m)^\| `error (\d+) ([a-z0-9-]+)", document)}
     names.update((int(number), name) for number, name in re.findall(r"(?m)^\| (7\d) \| `([a-z-]+)` \|", document))
-    for number in [*range(200), 1 << 16, (1 << 32) - 1]:
+    for number in [*range(600), 1 << 16, *((1 << 16) + number for number in names), (1 << 24) + 1, (1 << 32) - 1]:
         try:
             found = sdtool.fault_text(number)
         except sdtool.ArgumentFault:

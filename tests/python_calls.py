@@ -126,7 +126,7 @@ def test_numbers(count):
         for name in ("wanted", "level"):
             problem = raised(ask, **{name: number})
             count.add(type(problem) is sdtool.ArgumentFault and problem.argument == name, f"{name}={number}: {problem!r}")
-    for number in (-1, 2**32 + 25, 2**64 + 25, 25 - 2**32):
+    for number in (-1, 2**8 + 25, 2**16 + 25, 2**24 + 25, 2**32 + 25, 2**64 + 25, 25 - 2**32):
         problem = raised(sdtool.fault_text, number)
         count.add(type(problem) is sdtool.ArgumentFault and problem.argument == "number", f"fault_text({number}): {problem!r}")
     for number in (-1, 0, 2**32):

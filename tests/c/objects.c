@@ -1091,6 +1091,64 @@ static void arguments_of_many(void)
     release(short_guid.cells, short_guid.size);
 }
 
+static void wrong_state(const struct sdtool_new_ace *ace, uint32_t state)
+{
+    struct sdtool_new_descriptor d = {.sacl = {.state = state}};
+
+    expect_build(&d, SDTOOL_ARGUMENT, 0, SDTOOL_ARGUMENT_SACL, 0, "the state of a SACL that is too high");
+    d.sacl.aces = ace;
+    d.sacl.ace_count = 1;
+    expect_build(&d, SDTOOL_ARGUMENT, 0, SDTOOL_ARGUMENT_SACL, 0, "the state of a SACL with an ACE that is too high");
+    d.dacl = d.sacl;
+    d.sacl = (struct sdtool_new_acl){NULL, 0, SDTOOL_ACL_ABSENT};
+    expect_build(&d, SDTOOL_ARGUMENT, 0, SDTOOL_ARGUMENT_DACL, 0, "the state of a DACL with an ACE that is too high");
+    d.dacl.ace_count = 0;
+    expect_build(&d, SDTOOL_ARGUMENT, 0, SDTOOL_ARGUMENT_DACL, 0, "the state of a DACL that is too high");
+}
+
+static void wrong_mapping(const struct question *right, const struct token *token, uint32_t mapping)
+{
+    static const struct sdtool_verdict expected = {.fault = SDTOOL_ARGUMENT, .argument = SDTOOL_ARGUMENT_MAPPING};
+    uint8_t empty[20] = {1, 0, 0, 0x80};
+    struct sdtool_bytes one = {empty, sizeof empty};
+    struct question q = *right;
+    struct sdtool_verdict verdict;
+
+    q.request.mapping = mapping;
+    try_many(&q, &one, 1, 1, SDTOOL_ARGUMENT, SDTOOL_ARGUMENT_MAPPING, 0, 0);
+    verdict = check(&q, &one);
+    expect(are_same(&verdict, &expected), "a mapping that is too high");
+    verdict = check_with(&q, token, &one);
+    expect(are_same(&verdict, &expected), "a mapping that is too high, with a token");
+}
+
+/* Numbers whose low 8, 16 or 24 bits are a right number: nothing may cut them. */
+static void numbers_too_high(void)
+{
+    struct bytes sid = a_sid(1), zero = copied("", 1), nothing = {NULL, 0};
+    struct sdtool_new_ace ace = {.sid = lent(&sid)};
+    struct question q = {sid, zero, nothing, nothing, {.wanted = 1}};
+    struct token token = token_memory(SDTOOL_TOKEN_WORDS(1));
+    struct sdtool_outcome o = read_token(&q, &token);
+
+    expect(is_outcome(&o, SDTOOL_OK, 0, 0, 0, token.count), "a token of one SID");
+    for (uint32_t high = 256; high != 0; high <<= 8) {
+        for (uint32_t low = 0; low <= 2; low++) {
+            wrong_state(&ace, high + low);
+            wrong_mapping(&q, &token, high + low);
+        }
+        for (uint32_t low = 0; low <= SDTOOL_NO_MEMORY; low++) {
+            uint8_t text[SDTOOL_MOST_FAULT_TEXT];
+
+            o = sdtool_fault_text(high + low, text, sizeof text);
+            expect(is_outcome(&o, SDTOOL_ARGUMENT, 0, SDTOOL_ARGUMENT_FAULT, 0, 0), "a fault that is too high");
+        }
+    }
+    forget(&token);
+    release(sid.cells, sid.size);
+    release(zero.cells, zero.size);
+}
+
 /* An ACL of so many bytes as it is written: ACEs of 16 bytes, and a last one of the rest. */
 static struct sdtool_new_acl acl_of(size_t size, struct sdtool_new_ace *aces, const struct sdtool_bytes *sids)
 {
@@ -1236,6 +1294,7 @@ int main(int count, char **words)
         order_of_arguments();
         arguments_of_sids();
         arguments_of_many();
+        numbers_too_high();
         tokens_of_most_sids();
     } else if (strcmp(job, "large") == 0) {
         large();
