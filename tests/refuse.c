@@ -3,8 +3,9 @@
 //   REFUSE_AT=K            refuses the Kth allocation, and no other
 //   REFUSE_WHEN_READING=1  refuses every allocation from the first read of the standard input on
 //   REFUSE_TELL=FD         where it tells, one letter for each event: 'r' the first read of the standard
-//                          input, 'l' an allocation of LARGE bytes or more, 'm' another of MIDDLING bytes or
-//                          more; and a refused one 'L', 'M', or 'S' where it is smaller
+//                          input, 'x' an allocation of more than MOST bytes, 'l' another of LARGE bytes or
+//                          more, 'm' another of MIDDLING bytes or more; and a refused one 'X', 'L', 'M', or 'S'
+//                          where it is smaller
 //
 // It includes nothing, so that a C compiler is enough to build it: no header of a C library is wanted.
 typedef __SIZE_TYPE__ size_t;
@@ -19,6 +20,7 @@ extern char *getenv(const char *name);
 extern long atol(const char *text);
 
 enum { OUT_OF_MEMORY = 12 };  // ENOMEM on Linux
+enum { MOST = 174968 };       // the characters of the largest descriptor in base64
 enum { LARGE = 131226 };      // the bytes of the largest descriptor
 enum { MIDDLING = 8192 };     // eight bytes for each entry of the largest token
 
@@ -46,12 +48,16 @@ static void tell(char event) {
         __builtin_trap();
 }
 
+static char letter(size_t size) {
+    return size > MOST ? 'x' : size >= LARGE ? 'l' : size >= MIDDLING ? 'm' : 's';
+}
+
 static int is_refused(size_t size) {
     int refused = ++allocations == refused_one || (refuses_when_reading && is_reading);
     if (refused)
-        tell(size >= LARGE ? 'L' : size >= MIDDLING ? 'M' : 'S');
+        tell((char)(letter(size) - 'a' + 'A'));
     else if (size >= MIDDLING)
-        tell(size >= LARGE ? 'l' : 'm');
+        tell(letter(size));
     return refused;
 }
 

@@ -5,7 +5,8 @@ Refuses the program's allocations, by a small library (refuse.c) that is preload
 First each allocation of a few command lines in turn: the program says `sdtool: no memory`, ends with status 4, and has
 neither read nor written anything. One allocation of each may be dispensable: refused, it changes nothing.
 Before its first read the program takes memory for the token, in two allocations, and for the engine, in four that are
-as large as a descriptor or larger: none of them is dispensable.
+as large as a descriptor or larger: none of them is dispensable. No allocation is larger than the engine's buffer for
+base64, of 174,968 bytes, so a buffer that is doubled fails the test.
 Then every allocation from the first read on: there is none, so nothing changes.
 The last line is 'N passed, M failed'.
 """
@@ -42,7 +43,7 @@ FAULTY_ACLS = [WITH_DACL[:-2], WITH_DACL[:-40] + b"09" + ACE[2:], WITH_DACL[:-40
                b"01001480000000000000000014000000140000000200080000000000"]
 # The list of words is copied to a block that just fits; where there is no such block, it stays where it is.
 DISPENSABLE = 1
-# What the library tells of the token, the engine and the first read.
+# What the library tells of the token, the engine and the first read. An allocation above the most, x, is in none.
 TOKEN, ENGINE, READ = b"mm", b"llll", b"r"
 CREATOR, LONG_CREATOR = ("O:DAG:DUD:P" + "(A;OICI;FA;;;CO)" * count + "S:(ML;;NW;;;HI)" for count in (200, 3000))
 COMMAND_LINES = [
