@@ -64,7 +64,7 @@ impl Token {
     pub fn new(alloc: Global) -> Result<Token, NoMemory>
         ensures holder { IfOk result (λ t. t.holder ≡ record { entries = []; level = None }) }
         ensures compared { IfOk result (λ t. t.compared ≡ 0) }
-        ensures reserved { IfOk result (λ t. most_entries ≤ t.room) }
+        ensures reserved { IfOk result (λ t. t.room ≡ most_entries) }
     {
         let keys = Vec::with_capacity(alloc, MOST_ENTRIES)?;
         let words = Vec::with_capacity(alloc, ENTRY_WORDS * MOST_ENTRIES)?;
