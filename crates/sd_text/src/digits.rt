@@ -1,10 +1,11 @@
 //! Numbers in digits.
 
-ghost use Rattle.std.specs.Prelude.{◌≡◌, false, ◌+◌, ◌-◌, ◌<◌, ◌≤◌, ◌∷◌, ◌++◌, codes, take};
+ghost use Rattle.std.specs.Prelude.{◌≡◌, false, ◌+◌, ◌-◌, ◌*◌, ◌/◌, ◌%◌, ◌^◌, ◌<◌, ◌≤◌, ◌∷◌, ◌++◌, codes, take};
 ghost use Rattle.std.specs.Fmt.{decimal, digit_glyph, digits};
+ghost use Rattle.std.specs.Int.{to_le_bytes, w64};
 ghost use Rattle.sd_sink.specs.Print.{Prints};
 ghost use Rattle.sd_text.specs.Numbers.{hex_digits};
-ghost use Rattle.sd_text.specs.Inner.Digits.{IsWritten, four_digits, two_digits};
+ghost use Rattle.sd_text.specs.Inner.Digits.{IsWritten, eight_digits, four_digits, two_digits};
 
 use sd_sink::{FRONT, Print};
 
@@ -23,6 +24,9 @@ static HEX_PAIRS: [u8; 512] =
 
 /// The hex digits in lower case.
 static HEX_DIGITS: [u8; 16] = *b"0123456789abcdef";
+
+/// The digit zero in each byte of a word.
+const ZEROS: u64 = 0x3030_3030_3030_3030;
 
 /// Prints a number in decimal, without leading zeros.
 ///
@@ -181,11 +185,17 @@ fn write_decimal(number: u32, cells: &mut [u8; FRONT], at: usize) -> usize
         write_four(number % 10_000, cells, end);
         return end + 4;
     }
-    let last = number % 100_000_000;
-    let end = write_first_two(number / 100_000_000, cells, at);
-    write_four(last / 10_000, cells, end);
-    write_four(last % 10_000, cells, end + 4);
-    end + 8
+    // Each branch copies the word to a place that it knows, which costs less than one copy behind both.
+    let last = digits_word(number % 100_000_000);
+    let first = number / 100_000_000;
+    if first < 10 {
+        write_digit(first, cells, at);
+        write_word(last, cells, at + 1);
+        return at + 9;
+    }
+    write_pair(first, cells, at);
+    write_word(last, cells, at + 2);
+    at + 10
 }
 
 // Writes a number of at most four digits, without leading zeros, and says where it ends.
@@ -213,11 +223,21 @@ fn write_first_two(number: u32, cells: &mut [u8; FRONT], at: usize) -> usize
     ensures within { result ≤ at + 2 }
 {
     if number < 10 {
-        cells[at] = b'0' + number as u8;
+        write_digit(number, cells, at);
         return at + 1;
     }
     write_pair(number, cells, at);
     at + 2
+}
+
+// Writes a number of one digit.
+#[inline(always)]
+fn write_digit(number: u32, cells: &mut [u8; FRONT], at: usize)
+    requires short { number < 10 }
+    requires room { at + 1 ≤ 16 }
+    ensures { IsWritten at (decimal number) (at + 1) cells.old cells.new }
+{
+    cells[at] = b'0' + number as u8;
 }
 
 // Writes four digits, leading zeros too.
@@ -242,4 +262,67 @@ fn write_pair(pair: u32, cells: &mut [u8; FRONT], at: usize)
     let (tens, ones) = (PAIRS[from], PAIRS[from + 1]);
     cells[at] = tens;
     cells[at + 1] = ones;
+}
+
+// Writes the bytes of a word, the lowest of them first.
+#[inline(always)]
+fn write_word(word: u64, cells: &mut [u8; FRONT], at: usize)
+    requires { at + 8 ≤ 16 }
+    ensures { IsWritten at (to_le_bytes w64 word) (at + 8) cells.old cells.new }
+{
+    cells[at..at + 8].copy_from_slice(&word.to_le_bytes());
+}
+
+// The word that has the eight digits of a number in its bytes, the first of them lowest. The number is cut into halves of
+// four digits, these into pairs and these into digits, each step for the whole word at once.
+#[inline(always)]
+fn digits_word(number: u32) -> u64
+    requires { number < 10 ^ 8 }
+    ensures { to_le_bytes w64 result ≡ eight_digits number }
+{
+    let pairs = pairs_word(number);
+    // The tens, and one byte further what they leave of the pairs.
+    pairs * 256 - tens_word(pairs) * (256 * 10 - 1) + ZEROS
+}
+
+// The word that has the four pairs of those digits in its quarters, the first of them lowest.
+#[inline(always)]
+fn pairs_word(number: u32) -> u64
+    requires { number < 10 ^ 8 }
+    ensures { result ≡ number / 10000 / 100 + number / 10000 % 100 * 2 ^ 16
+        + number % 10000 / 100 * 2 ^ 32 + number % 10000 % 100 * 2 ^ 48 }
+{
+    let number = u64::from(number);
+    let halves = number / 10_000 + number % 10_000 * (1 << 32);
+    // The hundreds, and a quarter further what they leave of the halves.
+    halves * 65_536 - hundreds_word(halves) * (65_536 * 100 - 1)
+}
+
+// A hundredth of each half of a word. It is exact below 10,000, as 10,486 / 2 ^ 20 is hardly more than 1 / 100. The
+// remainders take away what the upper half left behind its own hundredth.
+#[inline(always)]
+fn hundreds_word(halves: u64) -> u64
+    requires low { halves % 2 ^ 32 < 10000 }
+    requires high { halves / 2 ^ 32 < 10000 }
+    ensures { result ≡ halves % 2 ^ 32 / 100 + halves / 2 ^ 32 / 100 * 2 ^ 32 }
+{
+    let shares = halves * 10_486 / (1 << 20);
+    shares % 128 + shares / (1 << 32) % 128 * (1 << 32)
+}
+
+// A tenth of each quarter of a word, in the same way: it is exact below 100.
+#[inline(always)]
+fn tens_word(pairs: u64) -> u64
+    requires first { pairs % 2 ^ 16 < 100 }
+    requires second { pairs / 2 ^ 16 % 2 ^ 16 < 100 }
+    requires third { pairs / 2 ^ 32 % 2 ^ 16 < 100 }
+    requires fourth { pairs / 2 ^ 48 < 100 }
+    ensures { result ≡ pairs % 2 ^ 16 / 10 + pairs / 2 ^ 16 % 2 ^ 16 / 10 * 2 ^ 16
+        + pairs / 2 ^ 32 % 2 ^ 16 / 10 * 2 ^ 32 + pairs / 2 ^ 48 / 10 * 2 ^ 48 }
+{
+    let shares = pairs * 103 / 1024;
+    shares % 16
+        + shares / (1 << 16) % 16 * (1 << 16)
+        + shares / (1 << 32) % 16 * (1 << 32)
+        + shares / (1 << 48) % 16 * (1 << 48)
 }
