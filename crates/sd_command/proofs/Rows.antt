@@ -402,7 +402,7 @@ refused told told' status h = h
 
 helped : (told told' : Told) (status : ℕ) → EndsWithHelp told told' status
     → (status ≡ 0) × (told'.source ≡ told.source) × (told'.faults ≡ told.faults)
-helped told told' status (text, is, reads, says, handed) = (is, reads, says)
+helped told told' status (text, shows) = (shows.0, shows.1, shows.2)
 
 idle_at_2 : (told told' : Told) → IsIdleAt 2 told told' → IsIdle told.source told'.source told.output told'.output
 idle_at_2 told told' h = h (inl refl)
