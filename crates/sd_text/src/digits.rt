@@ -1,6 +1,6 @@
 //! Numbers in digits.
 
-ghost use Rattle.std.specs.Prelude.{◌≡◌, false, ◌+◌, ◌-◌, ◌*◌, ◌/◌, ◌%◌, ◌^◌, ◌<◌, ◌≤◌, ◌∷◌, ◌++◌, codes, take};
+ghost use Rattle.std.specs.Prelude.{◌≡◌, false, ◌+◌, ◌-◌, ◌*◌, ◌/◌, ◌%◌, ◌^◌, ◌<◌, ◌≤◌, ◌∷◌, ◌++◌, codes, length, take};
 ghost use Rattle.std.specs.Fmt.{decimal, digit_glyph, digits};
 ghost use Rattle.std.specs.Int.{to_le_bytes, w64};
 ghost use Rattle.sd_sink.specs.Print.{Prints};
@@ -270,7 +270,18 @@ fn write_word(word: u64, cells: &mut [u8; FRONT], at: usize)
     requires { at + 8 ≤ 16 }
     ensures { IsWritten at (to_le_bytes w64 word) (at + 8) cells.old cells.new }
 {
-    cells[at..at + 8].copy_from_slice(&word.to_le_bytes());
+    set_word(word, &mut cells[at..at + 8]);
+}
+
+// The same to a place of eight bytes. It is set as an array, since `copy_from_slice` would look for an overlap.
+#[inline(always)]
+fn set_word(word: u64, place: &mut [u8])
+    requires { length place.old ≡ 8 }
+    ensures { place.new ≡ to_le_bytes w64 word }
+{
+    if let Some(place) = place.as_mut_array::<8>() {
+        *place = word.to_le_bytes();
+    }
 }
 
 // The word that has the eight digits of a number in its bytes, the first of them lowest. The number is cut into halves of
