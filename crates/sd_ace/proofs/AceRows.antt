@@ -141,3 +141,23 @@ fifteen_bytes h = let less = h.size in omega arith
 
 wide_byte : IsGuid (0x100 ∷ replicate 15 0) → ⊥
 wide_byte h = let more = h.bytes 0 0 (omega arith) in omega arith
+
+-- each of the two GUIDs by itself
+
+of_types : Option (List ℕ) → Option (List ℕ) → AccessControlEntry
+of_types object inherited = record {
+  kind = kinds.ObjectAllow;
+  flags = 0;
+  mask = 0;
+  object = object;
+  inherited = inherited;
+  sid = record { authority = 5; subs = [] };
+}
+
+short_object : IsAce (of_types (Some (replicate 15 0)) (Some user_class)) → ⊥
+unfolding of_types user_class
+short_object h = let less = h.object.size in omega arith
+
+short_inherited : IsAce (of_types (Some user_class) (Some (replicate 15 0))) → ⊥
+unfolding of_types user_class
+short_inherited h = let less = h.inherited.size in omega arith
