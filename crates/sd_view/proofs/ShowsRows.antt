@@ -1,16 +1,25 @@
--- Worked bytes, and the descriptors that they show (MS-DTYP 2.4.6); and the limits of descriptors.
-use Rattle.std.proofs.Common.{inl, inr, ℕ, zero, suc, true, false, List, [], ◌∷◌, ◌++◌, Some, None}
-use Rattle.std.proofs.Common.{refl, replicate, arith}
-use Rattle.sd_sid.specs.Sid.{AreWords, BeginsWithSid, IsSid, SecurityId}
+-- Worked bytes, and the descriptors that they show (MS-DTYP 2.4.6); the limits of descriptors; the first fault of some
+-- bytes (docs/FORMAT.md, "Errors"), and the written form.
+use Rattle.std.proofs.Common.{◌≡◌, inl, inr, ℕ, zero, suc, true, false, List, [], ◌∷◌, ◌++◌, Some, None, map}
+use Rattle.std.proofs.Common.{Ok, refl, replicate, take, arith}
+use Rattle.sd_sid.specs.Sid.{AreWords, BeginsWithSid, IsSid, SecurityId, sid_at}
+use Rattle.sd_ace.specs.Ace.{AccessControlEntry}
+use Rattle.sd_parts.specs.Header.{header_bytes}
 use Rattle.sd_parts.specs.Parts.{each_part}
-use Rattle.sd_parts.specs.declared.part.Part.TheVariants.{Owner, Sacl}
+use Rattle.sd_parts.specs.declared.part.Part.TheVariants.{Dacl, Group, Owner, Sacl}
 use Rattle.sd_parts.specs.declared.part.Parts.{Parts}
 use Rattle.sd_acl_view.specs.Acl.{ShowsAcl}
+use Rattle.sd_acl_view.specs.AclReading.{aces_fault, aces_of, acl_fault}
 use Rattle.sd_acl_view.specs.Bytes.{u16_at, u32_at}
-use Rattle.sd_view.specs.Descriptor.{AreApart, Descriptor, Extent, IsDescriptor, Shows, ShowsAclPart, ShowsSid}
+use Rattle.sd_view.specs.Descriptor.{Apart, AreApart, Descriptor, Extent, IsDescriptor, Shows, ShowsAclPart, ShowsSid}
+use Rattle.sd_view.specs.Descriptor.{acl_extent, control_at, dacl_at, extents_of, group_at, owner_at, sacl_at}
+use Rattle.sd_view.specs.Layout.{layout, offsets, size}
+use Rattle.sd_view.specs.Reading.{acl_part_fault, acl_shown, fault, header_fault, overlap_fault, overlaps_fault}
+use Rattle.sd_view.specs.Reading.{parts_fault, reading, sid_fault, sid_shown}
 use Rattle.sd_view.proofs.laws.ApartLaws.{six-apart}
 use Rattle.sd_view.specs.WrittenForm.{AclIsWritten, IsWritten}
 use Rattle.sd_view.specs.declared.acl_part.AclPart.TheVariants as acl
+use Rattle.sd_view.specs.declared.fault.SdFault.TheVariants as faults
 
 -- `unfolding computed` lets `refl` compute a row
 computed : Unit {0}
@@ -242,3 +251,198 @@ null_elsewhere h = cc
 
 absent_elsewhere : AclIsWritten [] 20 acl.Absent → ⊥
 absent_elsewhere h = cc
+
+-- an ACL of revision 4 without an object ACE is not in its written form, wherever it stands
+other_revision : AclIsWritten no_ace_bytes 0 (acl.List []) → ⊥
+unfolding no_ace_bytes
+other_revision h = let same = h.1 in cc
+
+-- S-1-5-32-544, whose 16 bytes are no other part's
+administrators : SecurityId
+administrators = record { authority = 5; subs = 32 ∷ 544 ∷ [] }
+
+administrators_bytes : List ℕ
+administrators_bytes = 1 ∷ 2 ∷ 0 ∷ 0 ∷ 0 ∷ 0 ∷ 0 ∷ 5 ∷ 32 ∷ 0 ∷ 0 ∷ 0 ∷ 32 ∷ 2 ∷ 0 ∷ 0 ∷ []
+
+whole : Descriptor
+whole = record {
+  control = 0x8014;
+  rm = 7;
+  owner = Some administrators;
+  group = Some everyone;
+  sacl = acl.List [];
+  dacl = acl.List [];
+}
+
+-- all four parts: the owner, the group, the SACL and the DACL
+whole_bytes : List ℕ
+whole_bytes =
+    (1 ∷ 7 ∷ 0x14 ∷ 0x80 ∷ 20 ∷ 0 ∷ 0 ∷ 0 ∷ 36 ∷ 0 ∷ 0 ∷ 0 ∷ 48 ∷ 0 ∷ 0 ∷ 0 ∷ 56 ∷ 0 ∷ 0 ∷ 0 ∷ [])
+    ++ administrators_bytes ++ everyones_bytes ++ (2 ∷ 0 ∷ 8 ∷ 0 ∷ 0 ∷ 0 ∷ 0 ∷ 0 ∷ 2 ∷ 0 ∷ 8 ∷ 0 ∷ 0 ∷ 0 ∷ 0 ∷ 0 ∷ [])
+
+-- `unfolding written_parts` lets `refl` compute the written form of `whole`
+written_parts : Unit {0}
+unfolding computed header_bytes everyone everyones_bytes administrators administrators_bytes whole whole_bytes
+written_parts = tt
+
+whole_places : (offsets whole ≡ record { owner = 20; group = 36; sacl = 48; dacl = 56 }) × (size whole ≡ 64)
+unfolding written_parts
+whole_places = (refl, refl)
+
+whole_layout : layout whole ≡ whole_bytes
+unfolding written_parts
+whole_layout = refl
+
+whole_is_written : IsWritten whole_bytes whole
+unfolding written_parts
+whole_is_written = record { size = refl; sacl = (2 ∷ 0 ∷ 8 ∷ 0 ∷ 0 ∷ 0 ∷ 0 ∷ 0 ∷ [], refl); dacl = ([], refl) }
+
+-- what is not there takes no room, and its offset is 0
+
+without_group : (offsets (record whole { group = None }) ≡ record { owner = 20; group = 0; sacl = 36; dacl = 44 })
+    × (size (record whole { group = None }) ≡ 52)
+unfolding written_parts
+without_group = (refl, refl)
+
+without_owner_and_sacl :
+    (offsets (record whole { owner = None; sacl = acl.Null }) ≡ record { owner = 0; group = 20; sacl = 0; dacl = 32 })
+    × (size (record whole { owner = None; sacl = acl.Null }) ≡ 40)
+unfolding written_parts
+without_owner_and_sacl = (refl, refl)
+
+without_dacl : (offsets (record whole { dacl = acl.Absent }) ≡ record { owner = 20; group = 36; sacl = 48; dacl = 0 })
+    × (size (record whole { dacl = acl.Absent }) ≡ 56)
+unfolding written_parts
+without_dacl = (refl, refl)
+
+-- 3. Places that the header names, and extents.
+
+-- the control word has 16 bits, and each offset 32
+named_places : List ℕ
+named_places = 1 ∷ 0 ∷ 0x34 ∷ 0x92 ∷ 1 ∷ 2 ∷ 3 ∷ 4 ∷ 5 ∷ 6 ∷ 7 ∷ 8 ∷ 9 ∷ 10 ∷ 11 ∷ 12 ∷ 13 ∷ 14 ∷ 15 ∷ 16 ∷ []
+
+fields_of_the_header : control_at named_places ∷ owner_at named_places ∷ group_at named_places ∷ sacl_at named_places
+    ∷ dacl_at named_places ∷ [] ≡ 0x9234 ∷ 0x04030201 ∷ 0x08070605 ∷ 0x0c0b0a09 ∷ 0x100f0e0d ∷ []
+unfolding computed named_places
+fields_of_the_header = refl
+
+-- parts that meet share no byte, whichever comes first, and no part of a part that is not there is shared
+meet : Apart (Some (20, 32)) (Some (32, 40)) × Apart (Some (32, 40)) (Some (20, 32)) × Apart (Some (20, 32)) None
+    × Apart None (Some (20, 32))
+meet = (inl (omega arith), inr (omega arith), tt, tt)
+
+-- An ACL ends where its size of 16 bits says, whatever its ACEs need, so its spare bytes count. A null ACL has no
+-- extent.
+extents_of_acls : (aces : List AccessControlEntry)
+    → (acl_extent (9 ∷ 9 ∷ 9 ∷ 2 ∷ 0 ∷ 32 ∷ 1 ∷ 1 ∷ 0 ∷ []) 3 (acl.List aces) ≡ Some (3, 291))
+    × (acl_extent no_ace_bytes 0 acl.Null ≡ None) × (acl_extent no_ace_bytes 0 acl.Absent ≡ None)
+unfolding computed
+extents_of_acls aces = (refl, refl, refl)
+
+extents_of_the_whole : extents_of whole_bytes whole
+    ≡ record { owner = Some (20, 36); group = Some (36, 48); sacl = Some (48, 56); dacl = Some (56, 64) }
+unfolding written_parts
+extents_of_the_whole = refl
+
+-- 4. The first fault.
+
+-- `unfolding read` lets `refl` compute what is read of some bytes
+read : Unit {0}
+unfolding computed sid_at aces_fault aces_of acl_fault header_fault sid_fault acl_part_fault parts_fault overlap_fault
+    overlaps_fault sid_shown acl_shown fault reading
+read = tt
+
+whole_is_read : reading whole_bytes ≡ Ok whole
+unfolding read written_parts
+whole_is_read = refl
+
+-- 5, 6 and 7, of which 5 comes first
+header_faults : map fault
+    (take 19 (0 ∷ 0 ∷ bare_bytes) ∷ (0 ∷ 0 ∷ 0 ∷ 0 ∷ replicate 16 0) ∷ (2 ∷ 0 ∷ 0 ∷ 0x80 ∷ replicate 16 0)
+    ∷ (1 ∷ 0 ∷ 0xff ∷ 0x7f ∷ replicate 16 0) ∷ bare_bytes ∷ [])
+    ≡ Some faults.Short ∷ Some faults.Revision ∷ Some faults.Revision ∷ Some faults.NotSelfRelative ∷ None ∷ []
+unfolding read bare_bytes
+header_faults = refl
+
+-- 8 and 9 of a SID: an offset in the header, one with fewer than 8 bytes behind it, no SID there, and a SID that is cut
+
+behind_a_header : List ℕ → List ℕ
+behind_a_header bytes = replicate 20 0 ++ bytes
+
+sid_faults : map (λ at. sid_fault Group (behind_a_header everyones_bytes) at) (0 ∷ 1 ∷ 19 ∷ 20 ∷ 24 ∷ 25 ∷ 0x10014 ∷ [])
+    ≡ None ∷ Some (faults.Offset Group) ∷ Some (faults.Offset Group) ∷ None ∷ Some (faults.Sid Group)
+    ∷ Some (faults.Offset Group) ∷ Some (faults.Offset Group) ∷ []
+unfolding read behind_a_header everyones_bytes
+sid_faults = refl
+
+cut_sids : map (λ cut. sid_fault Owner (behind_a_header (take cut everyones_bytes)) 20) (7 ∷ 8 ∷ 11 ∷ 12 ∷ [])
+    ≡ Some (faults.Offset Owner) ∷ Some (faults.Sid Owner) ∷ Some (faults.Sid Owner) ∷ None ∷ []
+unfolding read behind_a_header everyones_bytes
+cut_sids = refl
+
+-- 8 and 10 of an ACL: the same, an ACL that is absent wherever its offset leads, and one that passes the end
+acl_faults : map (λ at. acl_part_fault Dacl (behind_a_header no_ace_bytes) true at)
+    (0 ∷ 1 ∷ 19 ∷ 20 ∷ 21 ∷ 0x10014 ∷ [])
+    ≡ None ∷ Some (faults.Offset Dacl) ∷ Some (faults.Offset Dacl) ∷ None ∷ Some (faults.Offset Dacl)
+    ∷ Some (faults.Offset Dacl) ∷ []
+unfolding read behind_a_header no_ace_bytes
+acl_faults = refl
+
+absent_acl : map (λ at. acl_part_fault Sacl (behind_a_header no_ace_bytes) false at) (0 ∷ 1 ∷ 21 ∷ [])
+    ≡ None ∷ None ∷ None ∷ []
+unfolding read behind_a_header no_ace_bytes
+absent_acl = refl
+
+past_the_end : acl_part_fault Sacl (behind_a_header (2 ∷ 0 ∷ 9 ∷ 0 ∷ 0 ∷ 0 ∷ 0 ∷ 0 ∷ [])) true 20
+    ≡ Some (faults.Acl Sacl)
+unfolding read behind_a_header
+past_the_end = refl
+
+-- The parts are looked at in the order owner, group, SACL, DACL, before any two of them. Offset 1 is in the header.
+at_1 : ℕ → ℕ → ℕ → ℕ → List ℕ
+at_1 owner group sacl dacl =
+    1 ∷ 0 ∷ 0x14 ∷ 0x80 ∷ owner ∷ 0 ∷ 0 ∷ 0 ∷ group ∷ 0 ∷ 0 ∷ 0 ∷ sacl ∷ 0 ∷ 0 ∷ 0 ∷ dacl ∷ 0 ∷ 0 ∷ 0 ∷ everyones_bytes
+
+order_of_parts : map fault (at_1 1 1 1 1 ∷ at_1 20 1 1 1 ∷ at_1 20 20 1 1 ∷ at_1 20 20 0 1 ∷ at_1 20 20 0 0 ∷ [])
+    ≡ Some (faults.Offset Owner) ∷ Some (faults.Offset Group) ∷ Some (faults.Offset Sacl) ∷ Some (faults.Offset Dacl)
+    ∷ Some (faults.Overlap Owner Group) ∷ []
+unfolding read at_1 everyones_bytes
+order_of_parts = refl
+
+-- 14: a part takes the bytes from its first on and before its last; parts that meet share none
+
+shared : List Extent → List (Parts Extent)
+shared others = map (λ other. record (each_part None) { group = Some (30, 40); dacl = other }) others
+
+sharing : map (overlap_fault Group Dacl)
+    (shared (Some (20, 30) ∷ Some (20, 31) ∷ Some (39, 50) ∷ Some (40, 50) ∷ Some (32, 33) ∷ Some (20, 50) ∷ None ∷ []))
+    ≡ None ∷ Some (faults.Overlap Group Dacl) ∷ Some (faults.Overlap Group Dacl) ∷ None
+    ∷ Some (faults.Overlap Group Dacl) ∷ Some (faults.Overlap Group Dacl) ∷ None ∷ []
+unfolding read shared
+sharing = refl
+
+-- the first pair in the order of docs/FORMAT.md, where each part is in all others or in none
+parts_at_20 : Extent → Extent → Extent → Extent → Parts Extent
+parts_at_20 owner group sacl dacl = record { owner = owner; group = group; sacl = sacl; dacl = dacl }
+
+here : Extent
+here = Some (20, 32)
+
+order_of_pairs : map overlaps_fault
+    (parts_at_20 here here here here ∷ parts_at_20 here None here here ∷ parts_at_20 here None None here
+    ∷ parts_at_20 None here here here ∷ parts_at_20 None here None here ∷ parts_at_20 None None here here
+    ∷ parts_at_20 None None None here ∷ [])
+    ≡ Some (faults.Overlap Owner Group) ∷ Some (faults.Overlap Owner Sacl) ∷ Some (faults.Overlap Owner Dacl)
+    ∷ Some (faults.Overlap Group Sacl) ∷ Some (faults.Overlap Group Dacl) ∷ Some (faults.Overlap Sacl Dacl) ∷ None ∷ []
+unfolding read parts_at_20 here
+order_of_pairs = refl
+
+-- the group stands in the spare bytes of the DACL, of which its ACE needs none
+in_spare_bytes : List ℕ
+in_spare_bytes =
+    (1 ∷ 0 ∷ 4 ∷ 0x80 ∷ 0 ∷ 0 ∷ 0 ∷ 0 ∷ 28 ∷ 0 ∷ 0 ∷ 0 ∷ 0 ∷ 0 ∷ 0 ∷ 0 ∷ 20 ∷ 0 ∷ 0 ∷ 0 ∷ [])
+    ++ (2 ∷ 0 ∷ 20 ∷ 0 ∷ 0 ∷ 0 ∷ 0 ∷ 0 ∷ []) ++ everyones_bytes
+
+group_in_the_dacl : fault in_spare_bytes ≡ Some (faults.Overlap Group Dacl)
+unfolding read in_spare_bytes everyones_bytes
+group_in_the_dacl = refl
