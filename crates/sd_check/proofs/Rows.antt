@@ -374,6 +374,25 @@ type_is_denied : to_everyone (typed kinds.ObjectDeny 0x100 everyone ∷ ace kind
 unfolding computed everyone ace descriptor files asked held of_everyone to_everyone object_type typed of_type
 type_is_denied = refl
 
+-- another one in its first byte, or in its last
+
+other_types : List (List ℕ)
+other_types =
+    (0xbb ∷ 0x7a ∷ 0x96 ∷ 0xbf ∷ 0xe6 ∷ 0x0d ∷ 0xd0 ∷ 0x11 ∷ 0xa2 ∷ 0x85 ∷ 0 ∷ 0xaa ∷ 0 ∷ 0x30 ∷ 0x49 ∷ 0xe2 ∷ [])
+    ∷ (0xba ∷ 0x7a ∷ 0x96 ∷ 0xbf ∷ 0xe6 ∷ 0x0d ∷ 0xd0 ∷ 0x11 ∷ 0xa2 ∷ 0x85 ∷ 0 ∷ 0xaa ∷ 0 ∷ 0x30 ∷ 0x49 ∷ 0xe3 ∷ [])
+    ∷ []
+
+another_type_is_asked : map (λ other. to_everyone (typed kinds.ObjectAllow 0x100 everyone ∷ [])
+    (record (asked 0x100 false) { object = Some other })) other_types ≡ Denied 0x100 ∷ Denied 0x100 ∷ []
+unfolding computed everyone ace descriptor files asked held of_everyone to_everyone object_type typed other_types
+another_type_is_asked = refl
+
+another_type_is_denied : map (λ other. to_everyone
+    (typed kinds.ObjectDeny 0x100 everyone ∷ ace kinds.Allow 0 0x1f01ff everyone ∷ [])
+    (record (asked 0x100 false) { object = Some other })) other_types ≡ Granted 0x100 ∷ Granted 0x100 ∷ []
+unfolding computed everyone ace descriptor files asked held of_everyone to_everyone object_type typed other_types
+another_type_is_denied = refl
+
 inherited_type : to_everyone
     (record (ace kinds.ObjectAllow 0 0x100 everyone) { inherited = Some object_type } ∷ []) (asked 0x100 false)
     ≡ Granted 0x100
