@@ -107,3 +107,43 @@ typed_line : ace_line named (codes "dacl ") 10 typed
     ++ codes " inherited 10111213-2021-3031-0102-030405060708 sid S-1-1-0 WD\n"
 unfolding explained by_index named typed user_class other_class everyone
 typed_line = refl
+
+-- ---- a domain
+
+-- S-1-5-21-1-2-3, with its administrators and its users
+a_domain : SecurityId
+a_domain = record { authority = 5; subs = 21 ∷ 1 ∷ 2 ∷ 3 ∷ [] }
+
+domain_admins : SecurityId
+domain_admins = record { authority = 5; subs = 21 ∷ 1 ∷ 2 ∷ 3 ∷ 512 ∷ [] }
+
+domain_users : SecurityId
+domain_users = record { authority = 5; subs = 21 ∷ 1 ∷ 2 ∷ 3 ∷ 513 ∷ [] }
+
+-- an alias of a domain is printed under that domain alone, and not where numbers alone are asked for
+words_of_admins : sid_words (record { domain = Some a_domain; numeric = false }) domain_admins
+    ∷ sid_words (record { domain = Some a_domain; numeric = true }) domain_admins
+    ∷ sid_words (record { domain = None; numeric = false }) domain_admins
+    ∷ sid_words (record { domain = Some domain_users; numeric = false }) domain_admins ∷ []
+    ≡ codes "S-1-5-21-1-2-3-512 DA" ∷ codes "S-1-5-21-1-2-3-512" ∷ codes "S-1-5-21-1-2-3-512"
+    ∷ codes "S-1-5-21-1-2-3-512" ∷ []
+unfolding explained a_domain domain_admins domain_users
+words_of_admins = refl
+
+-- of the owner, of the group and of the ACEs of both ACLs
+in_a_domain : Descriptor
+in_a_domain = record {
+  control = 0x8014;
+  rm = 0;
+  owner = Some domain_admins;
+  group = Some domain_users;
+  sacl = acl.List (record full_access { kind = kinds.Audit; flags = 0x40; sid = domain_users } ∷ []);
+  dacl = acl.List (record full_access { sid = domain_admins } ∷ []);
+}
+
+lines_of_a_domain : explain (record { domain = Some a_domain; numeric = false }) in_a_domain
+    ≡ codes "control 0x8014 DP SP SR\nrm 0x00\nowner S-1-5-21-1-2-3-512 DA\ngroup S-1-5-21-1-2-3-513 DU\ndacl list 1\n"
+    ++ codes "dacl 1 A flags none mask 0x001f01ff rights FA sid S-1-5-21-1-2-3-512 DA\nsacl list 1\n"
+    ++ codes "sacl 1 AU flags SA mask 0x001f01ff rights FA sid S-1-5-21-1-2-3-513 DU\nend\n"
+unfolding explained a_domain domain_admins domain_users in_a_domain full_access
+lines_of_a_domain = refl
