@@ -1,15 +1,21 @@
 -- Worked rows of lines and answers, computed.
-use Rattle.std.proofs.Common.{◌≡◌, ℕ, ◌+◌, ◌*◌, ◌/◌, List, [], ◌∷◌, ◌++◌, Some, None, true, false, codes, refl}
+use Rattle.std.proofs.Common.{◌≡◌, ◌∙◌, ℕ, ◌+◌, ◌*◌, ◌-◌, ◌/◌, ◌^◌, List, [], ◌∷◌, ◌++◌, Option, Some, None}
+use Rattle.std.proofs.Common.{Ok, Err, true, false, codes, ap, drop, length, min, refl, replicate, sym, arith}
 use Rattle.std.specs.Fmt.{digits}
 use Rattle.std.specs.Prelude.{map}
 use Rattle.base64.proofs.OnLiterals.{base64_on_literals}
 use Rattle.hex.proofs.OnLiterals.{hex_on_literals}
 use Rattle.sd_text.specs.Limits.{most_base64_text, most_hex_text, most_sddl_text}
-use Rattle.sd_sid.specs.Sid.{sid_at}
+use Rattle.sd_sid.specs.Sid.{SecurityId, sid_at}
+use Rattle.sd_sid.specs.SidText.{alias_of, has_form, letters_read, numbers_read, sid_reads}
 use Rattle.sd_sid.specs.declared.sid_text.SidFault.TheVariants as sid
 use Rattle.sd_buffer.specs.declared.buffer.TextFault.TheVariants as text
 use Rattle.sd_parts.specs.declared.part.Which.TheVariants as which
+use Rattle.sd_inherit.specs.Derived.{derive_fault, derived}
 use Rattle.sd_inherit.specs.declared.derivation.DeriveFault.TheVariants.{DerivedTooLarge}
+use Rattle.sd_inherit.specs.declared.plan.Plan.{Plan}
+use Rattle.sd_inherit.specs.declared.plan.Target.TheVariants.{File}
+use Rattle.sd_sddl_builder.specs.Meaning.{body_reads, means}
 use Rattle.sd_sddl_builder.specs.declared.fault.SddlFault.TheVariants as sddl
 use Rattle.sd_parts.specs.declared.limits.TheConstants.{CAPACITY}
 use Rattle.sd_parts.specs.Header.{header_bytes}
@@ -20,22 +26,31 @@ use Rattle.sd_view.specs.Reading.{acl_part_fault, acl_shown, fault, header_fault
 use Rattle.sd_view.specs.Reading.{overlaps_fault, parts_fault, reading, sid_fault, sid_shown}
 use Rattle.sd_view.specs.declared.fault.SdFault.TheVariants as sd
 use Rattle.sd_view.specs.declared.acl_part.AclPart.TheVariants as acl
-use Rattle.sd_explain.specs.Explain.{control_line, explain, rm_line, sid_line}
+use Rattle.sd_view.specs.Descriptor.{Descriptor}
+use Rattle.sd_explain.specs.Explain.{control_line, explain, rm_line, sid_line, sid_words}
+use Rattle.sd_sddl_printer.specs.Printed.{acl_flags_text, dacl_text, group_text, owner_text, sacl_text, sddl as sddl_of}
+use Rattle.sd_sddl_printer.specs.Printed.{trustee_text}
+use Rattle.sd_sink.specs.Sink.{SinkTold}
 use Rattle.sd_check.specs.declared.verdict.Verdict.TheVariants.{Denied, Granted}
 use Rattle.sd_token.specs.Token.{Holder}
 use Rattle.sd_token.specs.declared.token.EntryKind.TheVariants.{Enabled}
 use Rattle.sd_check.specs.Ask.{Asked}
 use Rattle.sd_check.specs.Granted.{granted}
 use Rattle.sd_check.specs.Verdict.{missing, rights_below, verdict, won}
-use Rattle.sd_answer.specs.Answer.{answer, bound, form_text, is_error, line_limit, line_means, output_of, printed_size}
-use Rattle.sd_answer.specs.Answer.{verdict_text}
+use Rattle.sd_answer.specs.Answer.{act_outcome, answer, bound, form_text, is_error, line_limit, line_means, output_of}
+use Rattle.sd_answer.specs.Answer.{printed_size, text_means, verdict_text}
+use Rattle.sd_answer.specs.FaultNames.{fault_name}
 use Rattle.sd_answer.specs.Faults.{fault_text}
+use Rattle.sd_answer.specs.Inner.Reading.{HasRead}
 use Rattle.sd_answer.specs.LineEnd.{without_cr}
+use Rattle.sd_answer.specs.LineInHand.{Holds, HoldsText, PutsAnswer, pending}
+use Rattle.sd_answer.specs.declared.line.Line.{Line}
 use Rattle.sd_answer.specs.declared.fault.LineFault.TheVariants.{Derive, Sd, Sddl, Text, TooLong}
 use Rattle.sd_answer.specs.declared.job.Act.{Act}
-use Rattle.sd_answer.specs.declared.job.Act.TheVariants.{Check, Convert, Explain}
+use Rattle.sd_answer.specs.declared.job.Act.TheVariants.{Check, Convert, Derive as DeriveAct, Explain}
 use Rattle.sd_answer.specs.declared.job.Form.TheVariants.{Base64, Hex, Sddl as SddlForm}
 use Rattle.sd_answer.specs.declared.job.Job.{Job}
+use Rattle.sd_answer.specs.declared.job.OutputForm.{OutputForm}
 use Rattle.sd_answer.specs.declared.job.OutputForm.TheVariants as output
 use Rattle.sd_answer.specs.declared.job.Task.{Task}
 
@@ -205,3 +220,183 @@ explain_answer = refl
 printed_sizes : printed_size None ∷ printed_size (Some (record
     { control = 0x8000; rm = 0; owner = None; group = None; sacl = acl.Absent; dacl = acl.Absent })) ∷ [] ≡ 0 ∷ 20 ∷ []
 printed_sizes = refl
+
+-- the names of faults that no line has (docs/FORMAT.md, "Errors"), and no name between
+
+further_names : map fault_name (50 ∷ 51 ∷ 60 ∷ 61 ∷ 62 ∷ 70 ∷ 71 ∷ 72 ∷ [])
+    ≡ codes "empty-request" ∷ codes "reserved-bits" ∷ codes "read" ∷ codes "write" ∷ codes "too-many-reads"
+    ∷ codes "argument" ∷ codes "too-small" ∷ codes "no-memory" ∷ []
+further_names = refl
+
+no_names : map fault_name
+    (0 ∷ 15 ∷ 16 ∷ 17 ∷ 18 ∷ 19 ∷ 31 ∷ 32 ∷ 33 ∷ 34 ∷ 35 ∷ 36 ∷ 37 ∷ 38 ∷ 39 ∷ 41 ∷ 42 ∷ 43 ∷ 44 ∷ 45 ∷ 46 ∷ 47
+    ∷ 48 ∷ 49 ∷ 52 ∷ 53 ∷ 54 ∷ 55 ∷ 56 ∷ 57 ∷ 58 ∷ 59 ∷ 63 ∷ 64 ∷ 65 ∷ 66 ∷ 67 ∷ 68 ∷ 69 ∷ 73 ∷ 74 ∷ 256 ∷ 257 ∷ [])
+    ≡ replicate 43 []
+no_names = refl
+
+-- the edge of each form's limit: a line of so many bytes is read, and one of a byte more is too long, whatever it has
+
+longest_hex : (line : List ℕ) → length line ≡ 262452 → line_means Hex None line ≡ text_means Hex None line
+unfolding line_means
+longest_hex line n = rw n refl
+
+too_long_hex : (line : List ℕ) → length line ≡ 262453 → line_means Hex None line ≡ Err TooLong
+unfolding line_means
+too_long_hex line n = rw n refl
+
+longest_base64 : (line : List ℕ) → length line ≡ 174968 → line_means Base64 None line ≡ text_means Base64 None line
+unfolding line_means
+longest_base64 line n = rw n refl
+
+too_long_base64 : (line : List ℕ) → length line ≡ 174969 → line_means Base64 None line ≡ Err TooLong
+unfolding line_means
+too_long_base64 line n = rw n refl
+
+longest_sddl : (line : List ℕ) → length line ≡ 1049872 → line_means SddlForm None line ≡ text_means SddlForm None line
+unfolding line_means
+longest_sddl line n = rw n refl
+
+too_long_sddl : (line : List ℕ) → length line ≡ 1049873 → line_means SddlForm None line ≡ Err TooLong
+unfolding line_means
+too_long_sddl line n = rw n refl
+
+-- ---- more than a header
+
+-- `unfolding answered` lets `refl` compute an answer
+answered : Unit {0}
+unfolding counted form_text base64_spells base64_on_literals sid_at means body_reads sid_reads has_form letters_read
+    numbers_read explain control_line rm_line sid_line sid_words sddl_of owner_text group_text dacl_text sacl_text
+    acl_flags_text trustee_text alias_of digits derived derive_fault fault_text
+answered = tt
+
+-- Everyone as the owner, behind four bytes that no part has, and a null DACL; and without these bytes
+loose : List ℕ
+loose = codes "0100048018000000000000000000000000000000eeeeeeee010100000000000100000000"
+
+in_form : OutputForm → Job
+in_form form = record { source = Hex; act = Convert form; domain = None; numeric = false }
+
+forms_of_loose : map (λ form. answer (alone (in_form form)) nobody loose)
+    (output.Hex ∷ output.Base64 ∷ output.Sddl ∷ [])
+    ≡ codes "0100048014000000000000000000000000000000010100000000000100000000\n"
+    ∷ codes "AQAEgBQAAAAAAAAAAAAAAAAAAAABAQAAAAAAAQAAAAA=\n" ∷ codes "O:WDD:NO_ACCESS_CONTROL\n" ∷ []
+unfolding answered loose in_form
+forms_of_loose = refl
+
+-- the same from base64, and an owner and a group from SDDL
+
+base64_of_loose : answer (alone base64_to_hex) nobody (codes "AQAEgBgAAAAAAAAAAAAAAAAAAADu7u7uAQEAAAAAAAEAAAAA")
+    ≡ codes "0100048014000000000000000000000000000000010100000000000100000000\n"
+unfolding answered
+base64_of_loose = refl
+
+two_sids : answer (alone (record base64_to_hex { source = SddlForm })) nobody (codes "G:SYO:WD")
+    ≡ codes "0100008014000000200000000000000000000000" ++ codes "010100000000000100000000"
+    ++ codes "010100000000000512000000\n"
+unfolding answered
+two_sids = refl
+
+-- ---- a domain: S-1-5-21-1-2-3, whose administrators are the owner
+
+a_domain : SecurityId
+a_domain = record { authority = 5; subs = 21 ∷ 1 ∷ 2 ∷ 3 ∷ [] }
+
+owned_by_admins : List ℕ
+owned_by_admins =
+    codes "0100008014000000000000000000000000000000" ++ codes "01050000000000051500000001000000020000000300000000020000"
+
+under_domain : Act → Job
+under_domain act = record { source = Hex; act = act; domain = Some a_domain; numeric = false }
+
+-- an alias of the domain is printed under it alone, and not where numbers are asked for
+printed_in_a_domain : answer (alone (under_domain (Convert output.Sddl))) nobody owned_by_admins
+    ∷ answer (alone (record (under_domain (Convert output.Sddl)) { numeric = true })) nobody owned_by_admins
+    ∷ answer (alone (hex_to (Convert output.Sddl))) nobody owned_by_admins ∷ []
+    ≡ codes "O:DA\n" ∷ codes "O:S-1-5-21-1-2-3-512\n" ∷ codes "O:S-1-5-21-1-2-3-512\n" ∷ []
+unfolding answered a_domain owned_by_admins under_domain
+printed_in_a_domain = refl
+
+explained_in_a_domain : answer (alone (under_domain Explain)) nobody owned_by_admins
+    ∷ answer (alone (record (under_domain Explain) { numeric = true })) nobody owned_by_admins ∷ []
+    ≡ codes "control 0x8000 SR\nrm 0x00\nowner S-1-5-21-1-2-3-512 DA\ngroup none\ndacl absent\nsacl absent\nend\n"
+    ∷ codes "control 0x8000 SR\nrm 0x00\nowner S-1-5-21-1-2-3-512\ngroup none\ndacl absent\nsacl absent\nend\n" ∷ []
+unfolding answered a_domain owned_by_admins under_domain
+explained_in_a_domain = refl
+
+-- a line of SDDL is read under it
+admins : SecurityId
+admins = record { authority = 5; subs = 21 ∷ 1 ∷ 2 ∷ 3 ∷ 512 ∷ [] }
+
+read_in_a_domain : line_means SddlForm (Some a_domain) (codes "O:DA") ∷ line_means SddlForm None (codes "O:DA") ∷ []
+    ≡ Ok (record
+    { control = 0x8000; rm = 0; owner = Some admins; group = None; sacl = acl.Absent; dacl = acl.Absent })
+    ∷ Err (Sddl (sddl.Sid sid.NeedsDomain)) ∷ []
+unfolding answered a_domain admins
+read_in_a_domain = refl
+
+answers_in_a_domain :
+    answer (alone (record (under_domain (Convert output.Hex)) { source = SddlForm })) nobody (codes "O:DA")
+    ∷ answer (alone (record (hex_to (Convert output.Hex)) { source = SddlForm })) nobody (codes "O:DA") ∷ []
+    ≡ (owned_by_admins ++ 10 ∷ []) ∷ codes "error 23 needs-domain\n" ∷ []
+unfolding answered a_domain owned_by_admins under_domain
+answers_in_a_domain = refl
+
+-- ---- a derivation, from a container that hands nothing on (MS-DTYP 2.5.3.4)
+
+for_a_file : Plan
+for_a_file = record {
+  target = File;
+  owner = record { authority = 5; subs = 18 ∷ [] };
+  group = record { authority = 1; subs = 0 ∷ [] };
+  mapping = record { read = 1; write = 2; execute = 4; all = 7 };
+}
+
+with_null_dacl : Descriptor
+with_null_dacl =
+    record { control = 0x8004; rm = 0; owner = None; group = None; sacl = acl.Absent; dacl = acl.Null }
+
+derive_with : Option Descriptor → Task
+derive_with creator = record { job = hex_to (DeriveAct for_a_file output.Sddl); creator = creator }
+
+-- a null DACL of the creator's stays null, and without a creator the DACL is empty
+derived_answers : answer (derive_with (Some with_null_dacl)) nobody header_alone
+    ∷ answer (derive_with None) nobody header_alone ∷ []
+    ≡ codes "O:SYG:WDD:NO_ACCESS_CONTROL\n" ∷ codes "O:SYG:WDD:AI\n" ∷ []
+unfolding answered for_a_file with_null_dacl derive_with
+derived_answers = refl
+
+-- what cannot be derived, with the creator's descriptor, is `error 40`
+derived_too_large : (d : Descriptor) (creator : Option Descriptor)
+    → derive_fault d creator for_a_file ≡ Some (DerivedTooLarge which.Dacl)
+    → act_outcome (derive_with creator) nobody (DeriveAct for_a_file output.Hex) d
+    ≡ record { text = codes "error 40 derived-too-large dacl\n"; is_error = true; bound = 0; printed = None }
+unfolding fault_text digits derive_with
+derived_too_large d creator h = rw h refl
+
+-- ---- the line in hand
+
+-- one that is as long as its limit is held whole
+holds_the_longest : (line : Line) (text : List ℕ) → length text ≡ 174968 → HoldsText base64_to_hex line text
+    → HasRead line.reader line.read line.held None text
+holds_the_longest line text n h = h.whole (omega arith)
+
+-- its bytes are counted, up to 2^64 - 1
+counts_bytes : (line : Line) → HoldsText base64_to_hex line (codes "abc") → line.count ≡ 3
+counts_bytes line h = h.counted
+
+counts_no_more : (line : Line) (text : List ℕ) → length text ≡ 2 ^ 64 → HoldsText base64_to_hex line text
+    → line.count ≡ 18446744073709551615
+counts_no_more line text n h = h.counted ∙ ap (λ bytes. min bytes (2 ^ 64 - 1)) n
+
+-- a CR at the end waits, and is not counted
+cr_waits : (line : Line) → Holds base64_to_hex line (codes "a\r") → (line.count ≡ 1) × (pending line.cr ≡ 13 ∷ [])
+unfolding without_cr
+cr_waits line h = (h.text.counted, sym (ap (λ bytes. drop 1 bytes) h.waits))
+
+no_cr_waits : (line : Line) → Holds base64_to_hex line (codes "\ra") → (line.count ≡ 2) × (pending line.cr ≡ [])
+unfolding without_cr
+no_cr_waits line h = (h.text.counted, sym (ap (λ bytes. drop 2 bytes) h.waits))
+
+-- an answer tells whether it is an error
+tells_errors : (old new : SinkTold) → PutsAnswer old new (codes "error 5 short\n") true (Ok false) → ⊥
+tells_errors old new h = let same = h.1 in cc
