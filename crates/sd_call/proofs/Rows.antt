@@ -1,5 +1,6 @@
 -- The numbers that a caller sees, as include/sdtool.h writes them out, and what a number means.
-use Rattle.std.proofs.Common.{◌≡◌, ℕ, List, [], ◌∷◌, length, take, Some, None, Ok, Err, codes, refl, arith}
+use Rattle.std.proofs.Common.{◌≡◌, ℕ, List, [], ◌∷◌, length, map, take, Some, None, Ok, Err, codes}
+use Rattle.std.proofs.Common.{refl, replicate, arith}
 use Rattle.sd_text.specs.Chains.{fault_as}
 use Rattle.sd_answer.specs.declared.fault.LineFault.TheVariants as line
 use Rattle.sd_check.specs.declared.ask.AskFault.TheVariants as ask
@@ -72,6 +73,11 @@ of_directories = refl
 of_nothing : mapping_in 3 ≡ Err (call.Argument which.Mapping 0)
 of_nothing = refl
 
+-- a number is not cut to 8 or 16 bits
+of_wide_numbers : map mapping_in (256 ∷ 257 ∷ 258 ∷ 0x1_0000 ∷ 0x1_0001 ∷ 0xffff_ffff ∷ [])
+    ≡ replicate 6 (Err (call.Argument which.Mapping 0))
+of_wide_numbers = refl
+
 -- A SID takes all bytes of its argument: S-1-1-0, with a byte behind it, and cut.
 everyone : sid_in which.Owner (1 ∷ 1 ∷ 0 ∷ 0 ∷ 0 ∷ 0 ∷ 0 ∷ 1 ∷ 0 ∷ 0 ∷ 0 ∷ 0 ∷ [])
     ≡ Ok (record { authority = 1; subs = 0 ∷ [] })
@@ -115,6 +121,11 @@ names = (refl, refl, refl)
 no_names : (name_of 0 ≡ Err (call.Argument which.Fault 0)) × (name_of 73 ≡ Err (call.Argument which.Fault 0))
 unfolding name_of
 no_names = (refl, refl)
+
+-- neither is the number of a fault
+wide_names : map name_of (256 ∷ 257 ∷ 0x1_0001 ∷ 0xffff_ffff ∷ []) ≡ replicate 4 (Err (call.Argument which.Fault 0))
+unfolding name_of
+wide_names = refl
 
 -- Two bytes: an output of two has room for them, and one of a single byte has not.
 abbrev two : List ℕ
