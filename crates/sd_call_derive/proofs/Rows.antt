@@ -1,5 +1,5 @@
 -- The arguments of a derivation and what it gives, by hand from include/sdtool.h (MS-DTYP 2.4.6 and 2.5.3.4).
-use Rattle.std.proofs.Common.{◌≡◌, ℕ, List, [], ◌∷◌, Some, None, Ok, Err, refl}
+use Rattle.std.proofs.Common.{◌≡◌, ℕ, List, [], ◌∷◌, map, Some, None, Ok, Err, refl, replicate}
 use Rattle.sd_sid.specs.Sid.{sid_at}
 use Rattle.sd_rights.specs.Mapping.{file_mapping, key_mapping}
 use Rattle.sd_inherit.specs.Derived.{derive_fault, derived}
@@ -23,6 +23,11 @@ use Rattle.sd_call_derive.specs.declared.derivations.DerivationInput.{Derivation
 targets : (target_in 0 ≡ Ok target.File) × (target_in 1 ≡ Ok target.Container)
     × (target_in 2 ≡ Err (call.Argument which.Kind 0))
 targets = (refl, refl, refl)
+
+-- a number is not cut to 8 or 16 bits
+wide_targets : map target_in (256 ∷ 257 ∷ 0x1_0000 ∷ 0x1_0001 ∷ 0xffff_ffff ∷ [])
+    ≡ replicate 5 (Err (call.Argument which.Kind 0))
+wide_targets = refl
 
 no_creator : creator_in [] ≡ Ok None
 unfolding creator_in
