@@ -10,11 +10,12 @@ use Rattle.sd_call.specs.Arguments.{optional_sid_in}
 use Rattle.sd_call.specs.declared.argument.Argument.TheVariants as which
 use Rattle.sd_call.specs.declared.outcome.CallFault.{CallFault}
 use Rattle.sd_call.specs.declared.outcome.CallFault.TheVariants as call
-use Rattle.sd_call_check.specs.Checks.{Tells, ask_in, asked, asker_in, entries_from, entries_in, kind_in, object_in, told}
-use Rattle.sd_call_check.specs.Checks.{told_without_memory, untold}
+use Rattle.sd_call_check.specs.Checks.{Tells, ask_in, asked, asker_in, checked, entries_from, entries_in, kind_in}
+use Rattle.sd_call_check.specs.Checks.{level_of, object_in, told, told_without_memory, untold, verdict_on}
 use Rattle.sd_call_check.specs.declared.request.Request.{Request}
 use Rattle.sd_call_check.specs.declared.verdict.VerdictOutcome.{VerdictOutcome}
-use Rattle.sd_call_check.specs.TokenMemory.{ReadsToken, entries_held, holds_token, read_or_failed, reading, token_size}
+use Rattle.sd_call_check.specs.TokenMemory.{ReadsToken, checked_held, entries_held, holds_token, read_or_failed}
+use Rattle.sd_call_check.specs.TokenMemory.{reading, token_size}
 use Rattle.sd_call.specs.Outcomes.{done, failed, too_small}
 
 -- enum sdtool_entry
@@ -76,6 +77,11 @@ request = record {
   take_ownership = false;
 }
 
+-- Without HAS_LEVEL the level means nothing, and with it 0 is a level.
+levels : level_of (record request { has_level = false }) ∷ level_of (record request { level = 0 }) ∷ level_of request
+    ∷ [] ≡ None ∷ Some 0 ∷ Some 8192 ∷ []
+levels = refl
+
 asker : asker_in everyone (1 ∷ []) [] system request ≡ Ok (
   record { entries = (record { authority = 1; subs = 0 ∷ [] }, DenyOnly) ∷ []; level = Some 8192 },
   record {
@@ -110,6 +116,25 @@ take_ownership : asked (record request { wanted = 2; security = false; take_owne
 unfolding mapped
 take_ownership = refl
 
+-- bytes 00 01 02 .. 0f, and the GUID that they spell
+abbrev type_bytes : List ℕ
+type_bytes = 0 ∷ 1 ∷ 2 ∷ 3 ∷ 4 ∷ 5 ∷ 6 ∷ 7 ∷ 8 ∷ 9 ∷ 10 ∷ 11 ∷ 12 ∷ 13 ∷ 14 ∷ 15 ∷ []
+
+abbrev type : List ℕ
+type = 3 ∷ 2 ∷ 1 ∷ 0 ∷ 5 ∷ 4 ∷ 7 ∷ 6 ∷ 8 ∷ 9 ∷ 10 ∷ 11 ∷ 12 ∷ 13 ∷ 14 ∷ 15 ∷ []
+
+object_is_asked : ask_in (record request { wanted = 1; security = false }) type_bytes [] ≡ Ok (record {
+  wanted = 1;
+  maximum = false;
+  mapping = key_mapping;
+  object = Some type;
+  principal_self = None;
+  security = false;
+  take_ownership = false;
+})
+unfolding ask_in object_in optional_sid_in mapped
+object_is_asked = refl
+
 -- The token is looked at first, and then mapping, object type, PRINCIPAL SELF and what is wanted.
 order : (asker_in [] (2 ∷ []) (0 ∷ []) (0 ∷ []) (record request { mapping = 3 }) ≡ Err (call.Argument which.Entries 0))
     × (asker_in [] [] (0 ∷ []) (0 ∷ []) (record request { mapping = 3 }) ≡ Err (call.Argument which.Mapping 0))
@@ -119,6 +144,24 @@ order : (asker_in [] (2 ∷ []) (0 ∷ []) (0 ∷ []) (record request { mapping 
     × (asker_in [] [] [] [] (record request { wanted = 0x04000000 }) ≡ Err (call.Ask ReservedBits))
 unfolding asker_in entries_in ask_in object_in optional_sid_in sid_at
 order = (refl, refl, refl, refl, refl, refl)
+
+-- The descriptor is looked at last, whatever its bytes are: with the asker of `asker`, and behind what is wrong with it.
+descriptor_last : (bytes : List ℕ)
+    → (checked bytes [] (2 ∷ []) [] [] (record request { wanted = 0 }) ≡ Err (call.Argument which.Entries 0))
+    × (checked bytes [] [] [] [] (record request { wanted = 0 }) ≡ Err (call.Ask EmptyRequest))
+    × (checked bytes everyone (1 ∷ []) type_bytes system (record request { has_level = false }) ≡ verdict_on bytes
+    (record { entries = (record { authority = 1; subs = 0 ∷ [] }, DenyOnly) ∷ []; level = None })
+    (record {
+      wanted = 0x20019;
+      maximum = false;
+      mapping = key_mapping;
+      object = Some type;
+      principal_self = Some (record { authority = 5; subs = 18 ∷ [] });
+      security = true;
+      take_ownership = false;
+    }))
+unfolding asker_in entries_in ask_in object_in optional_sid_in sid_at mapped
+descriptor_last bytes = (refl, refl, refl)
 
 -- struct sdtool_verdict
 granted : told (Ok (Granted 0x120089))
@@ -276,3 +319,45 @@ leaves_the_earlier_token : ReadsToken everyone (2 ∷ []) everyone_memory everyo
     (failed (call.Argument which.Entries 0)) → ⊥
 unfolding reading entries_held everyone_memory
 leaves_the_earlier_token h = let none = h.1 in cc
+
+-- ---- a check with a token in memory
+
+-- TOKEN is looked at first, then what is asked, and the descriptor last.
+order_with_a_token : (bytes : List ℕ)
+    → (checked_held bytes (0 ∷ 0 ∷ []) (0 ∷ []) (0 ∷ []) (record request { mapping = 3 })
+    ≡ Err (call.Argument which.Token 0))
+    × (checked_held bytes [] [] [] (record request { wanted = 0 }) ≡ Err (call.Argument which.Token 0))
+    × (checked_held bytes everyone_memory (0 ∷ []) (0 ∷ []) (record request { mapping = 3 })
+    ≡ Err (call.Argument which.Mapping 0))
+    × (checked_held bytes everyone_memory [] [] (record request { wanted = 0 }) ≡ Err (call.Ask EmptyRequest))
+unfolding ask_in object_in optional_sid_in entries_held everyone_memory
+order_with_a_token bytes = (refl, refl, refl, refl)
+
+-- what is asked by an entry of the token, with the level of the request and without it
+with_a_token : (bytes : List ℕ)
+    → (checked_held bytes everyone_memory type_bytes [] (record request { wanted = 1; security = false })
+    ≡ verdict_on bytes
+    (record { entries = (record { authority = 1; subs = 0 ∷ [] }, DenyOnly) ∷ []; level = Some 8192 })
+    (record {
+      wanted = 1;
+      maximum = false;
+      mapping = key_mapping;
+      object = Some type;
+      principal_self = None;
+      security = false;
+      take_ownership = false;
+    }))
+    × (checked_held bytes everyone_memory [] system (record request { has_level = false; take_ownership = true })
+    ≡ verdict_on bytes
+    (record { entries = (record { authority = 1; subs = 0 ∷ [] }, DenyOnly) ∷ []; level = None })
+    (record {
+      wanted = 0x20019;
+      maximum = false;
+      mapping = key_mapping;
+      object = None;
+      principal_self = Some (record { authority = 5; subs = 18 ∷ [] });
+      security = true;
+      take_ownership = true;
+    }))
+unfolding ask_in object_in optional_sid_in sid_at mapped entries_held everyone_memory
+with_a_token bytes = (refl, refl)
