@@ -2,20 +2,24 @@
 use Rattle.std.proofs.Common.{◌≡◌, ℕ, List, [], ◌∷◌, ◌++◌, length, true, false, Some, None, codes, Ok, Err, refl}
 use Rattle.std.specs.Fmt.{digits}
 use Rattle.sd_sid.specs.Sid.{sid_at}
-use Rattle.sd_sid.specs.SidText.{alias_of}
+use Rattle.sd_sid.specs.SidText.{alias_of, has_form, letters_read, numbers_read, sid_reads}
+use Rattle.sd_sid.specs.declared.sid_text.SidFault.TheVariants as sid
 use Rattle.sd_parts.specs.Header.{header_bytes}
 use Rattle.sd_acl_view.specs.Bytes.{u16_at, u32_at}
 use Rattle.sd_view.specs.Reading.{acl_part_fault, acl_shown, fault, header_fault, overlap_fault, overlaps_fault}
 use Rattle.sd_view.specs.Reading.{parts_fault, reading, sid_fault, sid_shown}
 use Rattle.sd_view.specs.declared.acl_part.AclPart.TheVariants as acl
 use Rattle.sd_view.specs.declared.fault.SdFault.TheVariants as sd
-use Rattle.sd_explain.specs.Explain.{control_line, explain, rm_line, sid_line}
+use Rattle.sd_explain.specs.Explain.{control_line, explain, rm_line, sid_line, sid_words}
+use Rattle.sd_sddl_builder.specs.Meaning.{body_reads, means}
+use Rattle.sd_sddl_builder.specs.declared.fault.SddlFault.TheVariants as sddl_fault
 use Rattle.sd_sddl_printer.specs.Printed.{dacl_text, group_text, owner_text, sacl_text, sddl, trustee_text}
 use Rattle.sd_answer.specs.declared.fault.LineFault.TheVariants as line
 use Rattle.sd_call.specs.Arguments.{descriptor_in, optional_sid_in}
 use Rattle.sd_call.specs.declared.argument.Argument.TheVariants as which
 use Rattle.sd_call.specs.declared.outcome.CallFault.TheVariants as call
-use Rattle.sd_call_convert.specs.Conversions.{domain_for, explained, laid_out, named_in, normalized, read_under, to_sddl}
+use Rattle.sd_call_convert.specs.Conversions.{domain_for, explained, from_sddl, laid_out, named_in, normalized, read_under}
+use Rattle.sd_call_convert.specs.Conversions.{text_in, to_sddl}
 
 -- The domain is looked at before the descriptor, and before the length of a text.
 domain_first : (to_sddl [] (1 ∷ []) false ≡ Err (call.Argument which.Domain 0))
@@ -87,3 +91,44 @@ meant : laid_out (Ok (record {
 })) ≡ Ok owned
 unfolding header_bytes
 meant = refl
+
+-- ---- a domain: S-1-5-21-1-2-3, whose administrators are the owner
+
+abbrev domain : List ℕ
+domain = 1 ∷ 4 ∷ 0 ∷ 0 ∷ 0 ∷ 0 ∷ 0 ∷ 5 ∷ 21 ∷ 0 ∷ 0 ∷ 0 ∷ 1 ∷ 0 ∷ 0 ∷ 0 ∷ 2 ∷ 0 ∷ 0 ∷ 0 ∷ 3 ∷ 0 ∷ 0 ∷ 0 ∷ []
+
+abbrev owned_by_admins : List ℕ
+owned_by_admins = (1 ∷ 0 ∷ 0 ∷ 0x80 ∷ 20 ∷ 0 ∷ 0 ∷ 0 ∷ 0 ∷ 0 ∷ 0 ∷ 0 ∷ 0 ∷ 0 ∷ 0 ∷ 0 ∷ 0 ∷ 0 ∷ 0 ∷ 0 ∷ [])
+    ++ (1 ∷ 5 ∷ 0 ∷ 0 ∷ 0 ∷ 0 ∷ 0 ∷ 5 ∷ 21 ∷ 0 ∷ 0 ∷ 0 ∷ 1 ∷ 0 ∷ 0 ∷ 0 ∷ 2 ∷ 0 ∷ 0 ∷ 0 ∷ 3 ∷ 0 ∷ 0 ∷ 0
+    ∷ 0 ∷ 2 ∷ 0 ∷ 0 ∷ [])
+
+-- The alias is printed under its domain alone, and not where numbers are asked for.
+printed_in_a_domain : (to_sddl owned_by_admins domain false ≡ Ok (codes "O:DA"))
+    × (to_sddl owned_by_admins domain true ≡ Ok (codes "O:S-1-5-21-1-2-3-512"))
+    × (to_sddl owned_by_admins [] false ≡ Ok (codes "O:S-1-5-21-1-2-3-512"))
+unfolding named_in optional_sid_in descriptor_in reading fault header_fault parts_fault sid_fault sid_shown sid_at
+    acl_part_fault acl_shown overlaps_fault overlap_fault u16_at u32_at sddl owner_text group_text dacl_text sacl_text
+    trustee_text alias_of digits
+printed_in_a_domain = (refl, refl, refl)
+
+explained_in_a_domain : (explained owned_by_admins domain false
+    ≡ Ok (codes "control 0x8000 SR\nrm 0x00\nowner S-1-5-21-1-2-3-512 DA\ngroup none\ndacl absent\nsacl absent\nend\n"))
+    × (explained owned_by_admins domain true
+    ≡ Ok (codes "control 0x8000 SR\nrm 0x00\nowner S-1-5-21-1-2-3-512\ngroup none\ndacl absent\nsacl absent\nend\n"))
+unfolding named_in optional_sid_in descriptor_in reading fault header_fault parts_fault sid_fault sid_shown sid_at
+    acl_part_fault acl_shown overlaps_fault overlap_fault u16_at u32_at explain control_line rm_line sid_line sid_words
+    alias_of digits
+explained_in_a_domain = (refl, refl)
+
+read_in_a_domain : (from_sddl (codes "O:DA") domain ≡ Ok owned_by_admins)
+    × (from_sddl (codes "O:S-1-5-21-1-2-3-512") [] ≡ Ok owned_by_admins)
+    × (from_sddl (codes "O:DA") [] ≡ Err (call.Line (line.Sddl (sddl_fault.Sid sid.NeedsDomain))))
+unfolding optional_sid_in read_under sid_at means body_reads sid_reads has_form letters_read numbers_read header_bytes
+read_in_a_domain = (refl, refl, refl)
+
+-- The domain is looked at before the text, and a fault of the text is told as the program does.
+faults_of_a_text : (from_sddl (codes "O") (1 ∷ []) ≡ Err (call.Argument which.Domain 0))
+    × (from_sddl (codes "O") [] ≡ Err (call.Line (line.Sddl sddl_fault.Shape)))
+    × (text_in None (codes "O:BAO:BA") ≡ Err (call.Line (line.Sddl sddl_fault.PartTwice)))
+unfolding optional_sid_in read_under sid_at means
+faults_of_a_text = (refl, refl, refl)
