@@ -54,11 +54,13 @@ to_numbers : sid_to_text administrators [] true ≡ Ok (codes "S-1-5-32-544")
 unfolding named_in optional_sid_in sid_at alias_of digits trustee_text
 to_numbers = refl
 
--- under a domain the relative alias, and else the numbers
+-- under a domain the relative alias, and else the numbers, also where numbers alone are asked for under a domain
 to_relative_alias : (sid_to_text domain_admins domain false ≡ Ok (codes "DA"))
     × (sid_to_text domain_admins [] false ≡ Ok (codes "S-1-5-21-1-2-3-512"))
+    × (sid_to_text domain_admins domain true ≡ Ok (codes "S-1-5-21-1-2-3-512"))
+    × (sid_to_text administrators domain true ≡ Ok (codes "S-1-5-32-544"))
 unfolding named_in optional_sid_in sid_at alias_of digits trustee_text
-to_relative_alias = (refl, refl)
+to_relative_alias = (refl, refl, refl, refl)
 
 -- The SID is looked at before the domain, and it takes all of its bytes.
 wrong_sid : sid_to_text [] (1 ∷ []) false ≡ Err (call.Argument which.Sid 0)
