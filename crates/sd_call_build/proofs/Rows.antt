@@ -113,12 +113,55 @@ ace : ace_in deny ≡ Some (record {
 unfolding ace_in sid_at kind_of kind_code kind_entry
 ace = refl
 
+-- (OA;CI;0x2;U;V;WD), where the two GUIDs are others, and with the second alone
+abbrev type_bytes : List ℕ
+type_bytes = 0 ∷ 1 ∷ 2 ∷ 3 ∷ 4 ∷ 5 ∷ 6 ∷ 7 ∷ 8 ∷ 9 ∷ 10 ∷ 11 ∷ 12 ∷ 13 ∷ 14 ∷ 15 ∷ []
+
+abbrev other_bytes : List ℕ
+other_bytes = 16 ∷ 17 ∷ 18 ∷ 19 ∷ 20 ∷ 21 ∷ 22 ∷ 23 ∷ 24 ∷ 25 ∷ 26 ∷ 27 ∷ 28 ∷ 29 ∷ 30 ∷ 31 ∷ []
+
+abbrev type : List ℕ
+type = 3 ∷ 2 ∷ 1 ∷ 0 ∷ 5 ∷ 4 ∷ 7 ∷ 6 ∷ 8 ∷ 9 ∷ 10 ∷ 11 ∷ 12 ∷ 13 ∷ 14 ∷ 15 ∷ []
+
+abbrev other_type : List ℕ
+other_type = 19 ∷ 18 ∷ 17 ∷ 16 ∷ 21 ∷ 20 ∷ 23 ∷ 22 ∷ 24 ∷ 25 ∷ 26 ∷ 27 ∷ 28 ∷ 29 ∷ 30 ∷ 31 ∷ []
+
+abbrev of_types : List ℕ → List ℕ → NewAce
+of_types object inherited =
+    record deny { kind = 5; object_type = lent object; inherited_object_type = lent inherited }
+
+object_aces : (ace_in (of_types type_bytes other_bytes) ≡ Some (record {
+  kind = kinds.ObjectAllow;
+  flags = 2;
+  mask = 2;
+  object = Some type;
+  inherited = Some other_type;
+  sid = record { authority = 1; subs = 0 ∷ [] };
+})) × (ace_in (of_types [] other_bytes) ≡ Some (record {
+  kind = kinds.ObjectAllow;
+  flags = 2;
+  mask = 2;
+  object = None;
+  inherited = Some other_type;
+  sid = record { authority = 1; subs = 0 ∷ [] };
+}))
+unfolding ace_in sid_at kind_of kind_code kind_entry
+object_aces = (refl, refl)
+
 -- The first ACE that can't be is told. So is any ACE of an ACL that is no list, and a state that is none.
 wrong : (wrong_ace (list (deny ∷ unknown ∷ unknown ∷ [])) ≡ Some 1) × (wrong_ace (list (deny ∷ [])) ≡ None)
     × (wrong_ace (record { aces = lent (deny ∷ []); state = 1 }) ≡ Some 0)
     × (wrong_ace (record { aces = lent []; state = 1 }) ≡ None) × (wrong_ace (record { aces = lent []; state = 3 }) ≡ Some 0)
 unfolding ace_in sid_at kind_of kind_code kind_entry
 wrong = (refl, refl, refl, refl, refl)
+
+-- An absent ACL has no ACE either, and a state is not cut to 8 bits.
+no_list : wrong_ace (record { aces = lent (deny ∷ []); state = 0 }) ∷ wrong_ace (record { aces = lent []; state = 0 })
+    ∷ wrong_ace (record { aces = lent []; state = 256 }) ∷ wrong_ace (record { aces = lent []; state = 257 })
+    ∷ wrong_ace (record { aces = lent []; state = 258 }) ∷ wrong_ace (record { aces = lent (deny ∷ []); state = 258 })
+    ∷ [] ≡ Some 0 ∷ None ∷ Some 0 ∷ Some 0 ∷ Some 0 ∷ Some 0 ∷ []
+unfolding ace_in sid_at kind_of kind_code kind_entry
+no_list = refl
 
 abbrev of_parts : List ℕ → List ℕ → NewAcl → NewAcl → NewDescriptor
 of_parts owner group sacl dacl = record {
@@ -129,6 +172,9 @@ of_parts owner group sacl dacl = record {
   control = 0x1004;
   resource_manager = 0;
 }
+
+abbrev absent : NewAcl
+absent = record { aces = lent []; state = 0 }
 
 abbrev none : NewAcl
 none = record { aces = lent []; state = 3 }
@@ -141,6 +187,13 @@ order : (new_fault (of_parts (1 ∷ []) (1 ∷ []) none none) ≡ Some (call.Arg
     × (new_fault (of_parts [] [] (list []) (list [])) ≡ None)
 unfolding new_fault sid_at
 order = (refl, refl, refl, refl, refl)
+
+-- The ACE that can't be is told by its number, from 0 on.
+entries : (new_fault (of_parts [] [] (list []) (list (deny ∷ unknown ∷ []))) ≡ Some (call.Argument argument.Dacl 1))
+    × (new_fault (of_parts [] [] (list (deny ∷ deny ∷ unknown ∷ [])) (list (unknown ∷ [])))
+    ≡ Some (call.Argument argument.Sacl 2))
+unfolding new_fault ace_in sid_at kind_of kind_code kind_entry
+entries = (refl, refl)
 
 -- 2.4.6: of the control word, SR and the bits for the ACLs are set as they have to be
 descriptor : new_descriptor (of_parts everyone system (record { aces = lent []; state = 0 }) (list (deny ∷ []))) ≡ record {
@@ -167,6 +220,13 @@ layout : built (of_parts everyone system (record { aces = lent []; state = 0 }) 
     ++ (2 ∷ 0 ∷ 28 ∷ 0 ∷ 1 ∷ 0 ∷ 0 ∷ 0 ∷ []) ++ (1 ∷ 2 ∷ 20 ∷ 0 ∷ 2 ∷ 0 ∷ 0 ∷ 0 ∷ []) ++ everyone)
 unfolding built new_fault ace_in sid_at kind_of kind_code kind_entry header_bytes
 layout = refl
+
+-- the resource manager byte, behind the revision
+resource_manager : ((new_descriptor (record (of_parts [] [] absent absent) { resource_manager = 7 })).rm ≡ 7)
+    × (built (record (of_parts [] [] absent absent) { resource_manager = 7 })
+    ≡ Ok (1 ∷ 7 ∷ 0 ∷ 0x90 ∷ 0 ∷ 0 ∷ 0 ∷ 0 ∷ 0 ∷ 0 ∷ 0 ∷ 0 ∷ 0 ∷ 0 ∷ 0 ∷ 0 ∷ 0 ∷ 0 ∷ 0 ∷ 0 ∷ []))
+unfolding built new_fault sid_at header_bytes
+resource_manager = (refl, refl)
 
 not_built : built (of_parts (1 ∷ []) [] (list []) (list [])) ≡ Err (call.Argument argument.Owner 0)
 unfolding built new_fault sid_at
