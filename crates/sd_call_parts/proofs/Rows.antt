@@ -209,6 +209,35 @@ all_parts : contents_in whole ≡ record {
 unfolding computed whole system
 all_parts = refl
 
+-- an ACL of 56 bytes: an ACE of 24 bytes whose SID ends 4 bytes earlier, an ACE behind it, and 4 more spare bytes
+spare : List ℕ
+spare = (2 ∷ 0 ∷ 56 ∷ 0 ∷ 2 ∷ 0 ∷ 0 ∷ 0 ∷ []) ++ (0 ∷ 2 ∷ 24 ∷ 0 ∷ 0xff ∷ 1 ∷ 0x1f ∷ 0 ∷ []) ++ everyone
+    ++ (9 ∷ 9 ∷ 9 ∷ 9 ∷ []) ++ (1 ∷ 0 ∷ 20 ∷ 0 ∷ 2 ∷ 0 ∷ 0 ∷ 0 ∷ []) ++ everyone ++ (9 ∷ 9 ∷ 9 ∷ 9 ∷ [])
+
+-- An ACE ends where its size says, and the next one is behind that.
+spare_behind_a_sid : (next spare start ≡ Ok (Some (record first { place = place 8 24 })))
+    × (next spare (record first { place = place 8 24 })
+    ≡ Ok (Some (record second { place = place 32 20; sid = place 40 12 })))
+    × (next spare (record second { place = place 32 20; sid = place 40 12 }) ≡ Ok None)
+unfolding next begins_with_header front_found computed spare
+spare_behind_a_sid = (refl, refl, refl)
+
+-- So does an ACL: that one stands at 20, and the owner behind its spare bytes.
+spare_in_an_acl : contents_in ((1 ∷ 0 ∷ 4 ∷ 0x80 ∷ 76 ∷ 0 ∷ 0 ∷ 0 ∷ 0 ∷ 0 ∷ 0 ∷ 0 ∷ 0 ∷ 0 ∷ 0 ∷ 0 ∷ 20 ∷ 0 ∷ 0 ∷ 0 ∷ [])
+    ++ spare ++ system) ≡ record {
+      fault = 0;
+      part = 0;
+      other_part = 0;
+      control = 0x8004;
+      resource_manager = 0;
+      owner = place 76 12;
+      group = place 0 0;
+      sacl = list 0 0 0 0;
+      dacl = list 2 2 20 56;
+    }
+unfolding computed spare system
+spare_in_an_acl = refl
+
 -- a null DACL, and nothing else: its present bit is set, and its offset is 0
 null_dacl : contents_in (1 ∷ 0 ∷ 4 ∷ 0x80 ∷ 0 ∷ 0 ∷ 0 ∷ 0 ∷ 0 ∷ 0 ∷ 0 ∷ 0 ∷ 0 ∷ 0 ∷ 0 ∷ 0 ∷ 0 ∷ 0 ∷ 0 ∷ 0 ∷ []) ≡ record {
   fault = 0;
