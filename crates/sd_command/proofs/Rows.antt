@@ -294,6 +294,40 @@ rights_alone : settings_of (of_everyone (codes "--want" ∷ codes "SD" ∷ [])) 
 unfolding settled_words check_with of_everyone asks
 rights_alone = refl
 
+-- each privilege by its own option
+
+with_privileges : Bool → Bool → Settings
+with_privileges security take_ownership = record {
+  task = record {
+    job = record {
+      source = Hex;
+      act = Check (record {
+        wanted = 1;
+        maximum = false;
+        mapping = file_mapping;
+        object = None;
+        principal_self = None;
+        security = security;
+        take_ownership = take_ownership;
+      });
+      domain = None;
+      numeric = false;
+    };
+    creator = None;
+  };
+  holder = record { entries = (record { authority = 1; subs = 0 ∷ [] }, Enabled) ∷ []; level = None };
+}
+
+security_alone : settings_of (of_everyone (codes "--want" ∷ codes "1" ∷ codes "--security" ∷ []))
+    ≡ Ok (with_privileges true false)
+unfolding settled_words check_with of_everyone with_privileges
+security_alone = refl
+
+take_ownership_alone : settings_of (of_everyone (codes "--want" ∷ codes "1" ∷ codes "--take-ownership" ∷ []))
+    ≡ Ok (with_privileges false true)
+unfolding settled_words check_with of_everyone with_privileges
+take_ownership_alone = refl
+
 unasked : map settings_of
     (of_everyone [] ∷ of_everyone (codes "--want" ∷ codes "0" ∷ [])
     ∷ of_everyone (codes "--want" ∷ codes "0x4000001" ∷ []) ∷ of_everyone (codes "--want" ∷ codes "0x8000001" ∷ [])
@@ -377,6 +411,29 @@ derived_in_a_domain : settings_of (derive_with (codes "container") (codes "DA") 
     })
 unfolding settled_words derive_with a_domain domain_admins
 derived_in_a_domain = refl
+
+-- and in the group, which needs the domain as the owner does
+group_in_a_domain : settings_of (derive_with (codes "file") (codes "SY") (codes "DA")
+    (codes "--domain" ∷ codes "S-1-5-21-1-2-3" ∷ []))
+    ≡ Ok (record {
+      task = record {
+        job = record {
+          source = Hex;
+          act = Derive (record {
+            target = File;
+            owner = record { authority = 5; subs = 18 ∷ [] };
+            group = domain_admins;
+            mapping = file_mapping;
+          }) output.Sddl;
+          domain = Some a_domain;
+          numeric = false;
+        };
+        creator = None;
+      };
+      holder = nobody;
+    })
+unfolding settled_words derive_with a_domain domain_admins
+group_in_a_domain = refl
 
 -- a domain has room for one sub-authority more
 domains : map domain_reads
