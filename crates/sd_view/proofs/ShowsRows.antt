@@ -1,7 +1,7 @@
 -- Worked bytes, and the descriptors that they show (MS-DTYP 2.4.6); the limits of descriptors; the first fault of some
 -- bytes (docs/FORMAT.md, "Errors"), and the written form.
 use Rattle.std.proofs.Common.{◌≡◌, inl, inr, ℕ, zero, suc, true, false, List, [], ◌∷◌, ◌++◌, Some, None, map}
-use Rattle.std.proofs.Common.{Ok, refl, replicate, take, arith}
+use Rattle.std.proofs.Common.{Ok, Err, drop, refl, replicate, take, arith}
 use Rattle.sd_sid.specs.Sid.{AreWords, BeginsWithSid, IsSid, SecurityId, sid_at}
 use Rattle.sd_ace.specs.Ace.{AccessControlEntry}
 use Rattle.sd_parts.specs.Header.{header_bytes}
@@ -9,15 +9,18 @@ use Rattle.sd_parts.specs.Parts.{each_part}
 use Rattle.sd_parts.specs.declared.part.Part.TheVariants.{Dacl, Group, Owner, Sacl}
 use Rattle.sd_parts.specs.declared.part.Parts.{Parts}
 use Rattle.sd_acl_view.specs.Acl.{ShowsAcl}
+use Rattle.sd_acl_view.specs.AclLayout.{acl_bytes}
 use Rattle.sd_acl_view.specs.AclReading.{aces_fault, aces_of, acl_fault}
 use Rattle.sd_acl_view.specs.Bytes.{u16_at, u32_at}
 use Rattle.sd_view.specs.Descriptor.{Apart, AreApart, Descriptor, Extent, IsDescriptor, Shows, ShowsAclPart, ShowsSid}
 use Rattle.sd_view.specs.Descriptor.{acl_extent, control_at, dacl_at, extents_of, group_at, owner_at, sacl_at}
-use Rattle.sd_view.specs.Layout.{layout, offsets, size}
-use Rattle.sd_view.specs.Reading.{acl_part_fault, acl_shown, fault, header_fault, overlap_fault, overlaps_fault}
+use Rattle.sd_view.specs.Layout.{acl_part, layout, offsets, parts_bytes, size}
+use Rattle.sd_view.specs.Reading.{acl_part_fault, acl_shown, fault, fault_in, header_fault, overlap_fault, overlaps_fault}
 use Rattle.sd_view.specs.Reading.{parts_fault, reading, sid_fault, sid_shown}
 use Rattle.sd_view.proofs.laws.ApartLaws.{six-apart}
 use Rattle.sd_view.specs.WrittenForm.{AclIsWritten, IsWritten}
+use Rattle.sd_acl_view.specs.declared.fault.AclFault.TheVariants as lists
+use Rattle.sd_view.specs.declared.acl_part.AclPart.{AclPart}
 use Rattle.sd_view.specs.declared.acl_part.AclPart.TheVariants as acl
 use Rattle.sd_view.specs.declared.fault.SdFault.TheVariants as faults
 
@@ -257,6 +260,11 @@ other_revision : AclIsWritten no_ace_bytes 0 (acl.List []) → ⊥
 unfolding no_ace_bytes
 other_revision h = let same = h.1 in cc
 
+-- all of an ACL's bytes stand, not its header alone
+written_acl : (bytes : List ℕ) (offset : ℕ) (aces : List AccessControlEntry) → AclIsWritten bytes offset (acl.List aces)
+    → (rest : List ℕ) × (drop offset bytes ≡ acl_bytes aces ++ rest)
+written_acl bytes offset aces h = h
+
 -- S-1-5-32-544, whose 16 bytes are no other part's
 administrators : SecurityId
 administrators = record { authority = 5; subs = 32 ∷ 544 ∷ [] }
@@ -296,6 +304,14 @@ whole_layout = refl
 whole_is_written : IsWritten whole_bytes whole
 unfolding written_parts
 whole_is_written = record { size = refl; sacl = (2 ∷ 0 ∷ 8 ∷ 0 ∷ 0 ∷ 0 ∷ 0 ∷ 0 ∷ [], refl); dacl = ([], refl) }
+
+-- the parts stand in this order, an ACL with all of its bytes
+order_of_the_layout : (sacl dacl : AclPart) (aces : List AccessControlEntry)
+    → (parts_bytes (record whole { sacl = sacl; dacl = dacl })
+    ≡ administrators_bytes ++ (everyones_bytes ++ (acl_part sacl ++ acl_part dacl)))
+    × (acl_part (acl.List aces) ≡ acl_bytes aces) × (acl_part acl.Null ≡ []) × (acl_part acl.Absent ≡ [])
+unfolding written_parts
+order_of_the_layout sacl dacl aces = (refl, refl, refl, refl)
 
 -- what is not there takes no room, and its offset is 0
 
@@ -356,6 +372,22 @@ whole_is_read : reading whole_bytes ≡ Ok whole
 unfolding read written_parts
 whole_is_read = refl
 
+-- each ACL under its own bit and at its own offset
+others_are_read : reading owned_bytes ∷ reading audited_bytes ∷ reading bare_bytes ∷ [] ≡ Ok owned ∷ Ok audited ∷ Ok bare ∷ []
+unfolding read owned_bytes owned audited_bytes audited bare_bytes bare everyones_bytes everyone no_ace_bytes
+others_are_read = refl
+
+acls_are_shown : acl_shown no_ace_bytes false 0 ∷ acl_shown (9 ∷ no_ace_bytes) false 1 ∷ acl_shown no_ace_bytes true 0
+    ∷ acl_shown (9 ∷ no_ace_bytes) true 1 ∷ [] ≡ acl.Absent ∷ acl.Absent ∷ acl.Null ∷ acl.List [] ∷ []
+unfolding read no_ace_bytes
+acls_are_shown = refl
+
+-- 10, 11, 12, 13 and 9 of an ACL are those of its part
+faults_of_an_acl : map (fault_in Sacl)
+    (lists.Acl ∷ lists.AceSize ∷ lists.AceType ∷ lists.AceFlags ∷ lists.Sid ∷ [])
+    ≡ faults.Acl Sacl ∷ faults.AceSize Sacl ∷ faults.AceType Sacl ∷ faults.AceFlags Sacl ∷ faults.Sid Sacl ∷ []
+faults_of_an_acl = refl
+
 -- 5, 6 and 7, of which 5 comes first
 header_faults : map fault
     (take 19 (0 ∷ 0 ∷ bare_bytes) ∷ (0 ∷ 0 ∷ 0 ∷ 0 ∷ replicate 16 0) ∷ (2 ∷ 0 ∷ 0 ∷ 0x80 ∷ replicate 16 0)
@@ -409,6 +441,18 @@ order_of_parts : map fault (at_1 1 1 1 1 ∷ at_1 20 1 1 1 ∷ at_1 20 20 1 1 �
 unfolding read at_1 everyones_bytes
 order_of_parts = refl
 
+-- an ACL is looked at under its own bit alone
+with_acls : ℕ → ℕ → ℕ → List ℕ
+with_acls bits sacl dacl =
+    1 ∷ 0 ∷ bits ∷ 0x80 ∷ 0 ∷ 0 ∷ 0 ∷ 0 ∷ 0 ∷ 0 ∷ 0 ∷ 0 ∷ sacl ∷ 0 ∷ 0 ∷ 0 ∷ dacl ∷ 0 ∷ 0 ∷ 0 ∷ []
+
+present_acls : map fault
+    (with_acls 0x10 1 0 ∷ with_acls 0x04 1 0 ∷ with_acls 0x04 0 1 ∷ with_acls 0x10 0 1 ∷ with_acls 0 1 1
+    ∷ with_acls 0x14 1 1 ∷ [])
+    ≡ Some (faults.Offset Sacl) ∷ None ∷ Some (faults.Offset Dacl) ∷ None ∷ None ∷ Some (faults.Offset Sacl) ∷ []
+unfolding read with_acls
+present_acls = refl
+
 -- 14: a part takes the bytes from its first on and before its last; parts that meet share none
 
 shared : List Extent → List (Parts Extent)
@@ -443,6 +487,6 @@ in_spare_bytes =
     (1 ∷ 0 ∷ 4 ∷ 0x80 ∷ 0 ∷ 0 ∷ 0 ∷ 0 ∷ 28 ∷ 0 ∷ 0 ∷ 0 ∷ 0 ∷ 0 ∷ 0 ∷ 0 ∷ 20 ∷ 0 ∷ 0 ∷ 0 ∷ [])
     ++ (2 ∷ 0 ∷ 20 ∷ 0 ∷ 0 ∷ 0 ∷ 0 ∷ 0 ∷ []) ++ everyones_bytes
 
-group_in_the_dacl : fault in_spare_bytes ≡ Some (faults.Overlap Group Dacl)
+group_in_the_dacl : reading in_spare_bytes ≡ Err (faults.Overlap Group Dacl)
 unfolding read in_spare_bytes everyones_bytes
 group_in_the_dacl = refl
