@@ -161,3 +161,11 @@ short_object h = let less = h.object.size in omega arith
 short_inherited : IsAce (of_types (Some user_class) (Some (replicate 15 0))) → ⊥
 unfolding of_types user_class
 short_inherited h = let less = h.inherited.size in omega arith
+
+object_in_a_plain_ace : IsAce (record (limited 0 0) { object = Some user_class }) → ⊥
+unfolding limited
+object_in_a_plain_ace h = h.fit
+
+inherited_in_a_plain_ace : IsAce (record (limited 0 0) { inherited = Some user_class }) → ⊥
+unfolding limited
+inherited_in_a_plain_ace h = h.fit
