@@ -1,5 +1,6 @@
 -- What stands before the first read: what is prepared for a run, or why nothing is read.
 use Rattle.std.specs.Prelude.{◌≡◌, ℕ, List, [], Result, Ok, Err}
+use Rattle.std.specs.String.{string_bytes}
 use Rattle.clap.specs.Words.{Text, fault_of}
 use Rattle.sd_command_line.specs.CommandLine.{line}
 use Rattle.sd_command_line.specs.Refusing.{RefusedBy}
@@ -37,7 +38,7 @@ PreparesBy words (Err (stop.Value fault)) =
 abbrev pub StopsBy : Stop → Told → Told → ℕ → Type 0
 StopsBy (stop.Refused NoMemory) = EndsWithoutMemory
 StopsBy (stop.Refused Usage) = EndsRefused
-StopsBy (stop.Refused (Help text)) = ShowsHelp text
+StopsBy (stop.Refused (Help text)) = ShowsHelp (string_bytes text)
 StopsBy (stop.Value fault) = EndsIdle 2 (usage_line fault)
 
 -- a run of what is prepared, or an ending without one
