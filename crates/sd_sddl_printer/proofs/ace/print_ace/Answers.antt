@@ -9,7 +9,7 @@ returns g c =
     let kind = rw c.kind-kind.ensures.value at c.print_kind.ensures in
     let flags = rw c.flags.ensures at c.print_flags.ensures in
     let rights = rw (c.kind-kind.ensures.value, c.mask.ensures) at c.print_rights.ensures in
-    let trustee = rw c.trustee.ensures at c.print_trustee.ensures in
+    let trustee = rw c.sid_in_place.ensures at c.print_trustee.ensures in
     prints_as (simp append_assoc refl)
     (prints_then kind (prints_then flags (prints_then c.put.ensures (prints_then rights
     (prints_then c.print_objects.ensures (prints_then trustee c.put-2.ensures))))))
