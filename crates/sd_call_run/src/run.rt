@@ -2,12 +2,12 @@
 
 ghost use Rattle.sd_command.specs.Preparing.{settled};
 ghost use Rattle.sd_call_run.specs.Inner.Batches.{EndsPrepared, EndsStopped};
-ghost use Rattle.sd_call_run.specs.Runs.{EndsRun, EndsWith, Runs, Shows};
+ghost use Rattle.sd_call_run.specs.Runs.{EndsRun, Runs, Shows};
 
 use crate::batch::answer_batch;
 use crate::words::{WordsFault, words_in};
-use sd_command::{Prepared, Stop, prepare, run_line};
-use sd_command_line::{NO_MEMORY_LINE, Refusal, USAGE_LINE};
+use sd_command::{Notice, Prepared, Stop, prepare, run_line};
+use sd_command_line::{ANSWERED_STATUS, FAILED_STATUS, FAULTY_STATUS, Refusal};
 use sd_run::RunFault;
 use std::alloc::Global;
 
@@ -35,8 +35,8 @@ pub fn run_batch(
 {
     match words_in(alloc, words) {
         Ok(words) => end(prepare(alloc, words.as_slice()), input, output, message),
-        Err(WordsFault::NoText) => say(2, USAGE_LINE, message),
-        Err(WordsFault::NoMemory) => say(4, NO_MEMORY_LINE, message),
+        Err(WordsFault::NoText) => stopped(&Stop::Refused(Refusal::Usage), output, message),
+        Err(WordsFault::NoMemory) => stopped(&Stop::Refused(Refusal::NoMemory), output, message),
     }
 }
 
@@ -61,13 +61,18 @@ fn answer(prepared: &mut Prepared, input: &[u8], output: &mut [u8], message: &mu
     let batch = answer_batch(prepared, input, output);
     if !batch.all {
         return Ending {
-            status: 3,
+            status: u32::from(FAILED_STATUS),
             length: batch.length,
             message_length: show(run_line(RunFault::Write), message),
         };
     }
+    let status = if batch.faulty {
+        FAULTY_STATUS
+    } else {
+        ANSWERED_STATUS
+    };
     Ending {
-        status: u32::from(batch.faulty),
+        status: u32::from(status),
         length: batch.length,
         message_length: 0,
     }
@@ -76,28 +81,17 @@ fn answer(prepared: &mut Prepared, input: &[u8], output: &mut [u8], message: &mu
 fn stopped(stop: &Stop, output: &mut [u8], message: &mut [u8]) -> Ending
     ensures { EndsStopped stop.now output.new message.new result }
 {
-    match stop {
-        Stop::Refused(refusal) => match refusal {
-            Refusal::NoMemory => say(4, NO_MEMORY_LINE, message),
-            Refusal::Usage => say(2, USAGE_LINE, message),
-            Refusal::Help(text) => Ending {
-                status: 0,
-                length: show(text.as_str(), output),
-                message_length: 0,
-            },
+    match stop.notice() {
+        Notice::Help(text) => Ending {
+            status: u32::from(ANSWERED_STATUS),
+            length: show(text, output),
+            message_length: 0,
         },
-        Stop::Value(fault) => say(2, fault.line(), message),
-    }
-}
-
-// The ending of a run that is not begun.
-fn say(status: u32, text: &str, message: &mut [u8]) -> Ending
-    ensures { EndsWith status text.now message.new result }
-{
-    Ending {
-        status,
-        length: 0,
-        message_length: show(text, message),
+        Notice::Fault(status, line) => Ending {
+            status: u32::from(status),
+            length: 0,
+            message_length: show(line, message),
+        },
     }
 }
 

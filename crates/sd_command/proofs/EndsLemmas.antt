@@ -1,5 +1,6 @@
 -- What a run makes of words that settle a job.
-use Rattle.std.proofs.Common.{◌≡◌, ℕ, inl, inr, List, Option, None, Some, Result, Ok, Err, sym, subst, true}
+use Rattle.std.proofs.Common.{◌≡◌, ℕ, inl, inr, List, Result, Ok, Err, sym, subst, true}
+use Rattle.std.specs.String.{string_bytes}
 use Rattle.clap.specs.Words.{Text, takes}
 use Rattle.sd_command_line.specs.CommandLine.{line}
 use Rattle.sd_command.specs.Endings.{Told, EndsBy, EndsTaken, EndsSettled, EndsRun, settled}
@@ -44,6 +45,6 @@ pub by-prepared : (words : List Text) (prepared : Result Prepared Stop) (told to
 by-prepared words (Ok prepared) told told' status p e = by-run words prepared told told' status p e
 by-prepared words (Err (stop.Refused NoMemory)) told told' status p e = EndsBy.without_memory e
 by-prepared words (Err (stop.Refused Usage)) told told' status p e = EndsBy.refused p e
-by-prepared words (Err (stop.Refused (Help text))) told told' status p e = EndsBy.helped p (text, e)
+by-prepared words (Err (stop.Refused (Help text))) told told' status p e = EndsBy.helped p (string_bytes text, e)
 by-prepared words (Err (stop.Value fault)) told told' status p e =
     settled p.0 (subst (λ (s : Result Settings UsageFault). EndsSettled s told told' status) (sym p.1) e)

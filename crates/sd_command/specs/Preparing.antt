@@ -1,13 +1,16 @@
 -- What stands before the first read: what is prepared for a run, or why nothing is read.
-use Rattle.std.specs.Prelude.{◌≡◌, ℕ, List, [], Result, Ok, Err}
+use Rattle.std.specs.Prelude.{◌≡◌, ℕ, List, [], Result, Ok, Err, codes}
 use Rattle.std.specs.String.{string_bytes}
 use Rattle.clap.specs.Words.{Text, fault_of}
 use Rattle.sd_command_line.specs.CommandLine.{line}
 use Rattle.sd_command_line.specs.Refusing.{RefusedBy}
 use Rattle.sd_command.specs.Settings.{Settings, settings_of}
 use Rattle.sd_command.specs.Usage.{usage_line}
-use Rattle.sd_command.specs.Endings.{Told, EndsIdle, EndsRefused, EndsRun, EndsWithoutMemory, ShowsHelp}
+use Rattle.sd_command.specs.Endings.{Told, EndsIdle, EndsRun, ShowsHelp}
+use Rattle.sd_command_line.specs.FaultLines.{fault_line}
 use Rattle.sd_command_line.specs.declared.parse.Refusal.TheVariants.{NoMemory, Usage, Help}
+use Rattle.sd_command.specs.declared.program.Notice.TheVariants as said
+use Rattle.sd_command.specs.declared.program.Notice as program
 use Rattle.sd_command.specs.declared.program.Prepared.{Prepared}
 use Rattle.sd_command.specs.declared.program.Stop.{Stop}
 use Rattle.sd_command.specs.declared.program.Stop.TheVariants as stop
@@ -35,11 +38,28 @@ PreparesBy words (Err (stop.Refused refusal)) = RefusedBy (fault_of line words) 
 PreparesBy words (Err (stop.Value fault)) =
     (fault_of line words ≡ []) × Settles (settings_of words) (Err (stop.Value fault))
 
+-- what is said where nothing is read: help on the output, or a line on the fault stream with its status
+pub data Notice : Type 0 where
+  help : List ℕ → Notice
+  fault : ℕ → Text → Notice
+
+abbrev pub notice_of : Stop → Notice
+notice_of (stop.Refused NoMemory) = fault 4 (fault_line (codes "no memory"))
+notice_of (stop.Refused Usage) = fault 2 (fault_line (codes "usage"))
+notice_of (stop.Refused (Help text)) = help (string_bytes text)
+notice_of (stop.Value value) = fault 2 (usage_line value)
+
+-- the notice that the code gives
+abbrev pub noticed : program.Notice → Notice
+noticed (said.Help text) = help text.now
+noticed (said.Fault status line) = fault status line.now
+
+abbrev pub EndsNoticed : Notice → Told → Told → ℕ → Type 0
+EndsNoticed (help text) = ShowsHelp text
+EndsNoticed (fault status line) = EndsIdle status line
+
 abbrev pub StopsBy : Stop → Told → Told → ℕ → Type 0
-StopsBy (stop.Refused NoMemory) = EndsWithoutMemory
-StopsBy (stop.Refused Usage) = EndsRefused
-StopsBy (stop.Refused (Help text)) = ShowsHelp (string_bytes text)
-StopsBy (stop.Value fault) = EndsIdle 2 (usage_line fault)
+StopsBy stop = EndsNoticed (notice_of stop)
 
 -- a run of what is prepared, or an ending without one
 abbrev pub EndsPrepared : Result Prepared Stop → Told → Told → ℕ → Type 0

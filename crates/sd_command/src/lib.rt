@@ -7,5 +7,5 @@ mod program;
 mod settings;
 mod token_text;
 
-pub use program::{Prepared, Stop, command, prepare, run_line};
+pub use program::{Notice, Prepared, Stop, command, prepare, run_line};
 pub use settings::{Choice, UsageFault, choose};

@@ -14,7 +14,10 @@ use crate::derive_settings::give_creator;
 use crate::settings::{UsageFault, choose};
 use clap::ArgMatches;
 use sd_buffer::{SdBuf, TextBuf};
-use sd_command_line::{NO_MEMORY_LINE, Refusal, USAGE_LINE, parse_words};
+use sd_command_line::{
+    ANSWERED_STATUS, FAILED_STATUS, FAULTY_STATUS, NO_MEMORY_LINE, NO_MEMORY_STATUS, Refusal,
+    USAGE_LINE, USAGE_STATUS, parse_words,
+};
 use sd_memory::NoMemory;
 use sd_run::{Drain, Engine, RunFault, Source, run, write_whole};
 use sd_token::Token;
@@ -107,6 +110,31 @@ impl From<Refusal> for Stop {
 
     fn from(refusal: Refusal) -> Stop {
         Stop::Refused(refusal)
+    }
+}
+
+/// What the program says where nothing is read.
+#[derive(Clone, Copy)]
+pub enum Notice<'a> {
+    /// Help on the output, with status 0.
+    Help(&'a str),
+    /// The exit status, and a line on the fault stream.
+    Fault(u8, &'static str),
+}
+
+impl Stop {
+    /// What the program says, and its exit status.
+    pub fn notice(&self) -> Notice<'_>
+        ensures { steps.noticed result ≡ steps.notice_of self.now }
+    {
+        match self {
+            Stop::Refused(refusal) => match refusal {
+                Refusal::NoMemory => Notice::Fault(NO_MEMORY_STATUS, NO_MEMORY_LINE),
+                Refusal::Usage => Notice::Fault(USAGE_STATUS, USAGE_LINE),
+                Refusal::Help(text) => Notice::Help(text.as_str()),
+            },
+            Stop::Value(fault) => Notice::Fault(USAGE_STATUS, fault.line()),
+        }
     }
 }
 
@@ -209,24 +237,14 @@ fn stopped<R: Source, W: Drain, E: Drain>(
         (record { source = R.told input.old; output = W.told output.old; faults = E.told faults.old })
         (record { source = R.told input.new; output = W.told output.new; faults = E.told faults.new }) result }
 {
-    match stop {
-        Stop::Refused(refusal) => match refusal {
-            Refusal::NoMemory => {
-                say(faults, NO_MEMORY_LINE);
-                4
-            }
-            Refusal::Usage => {
-                say(faults, USAGE_LINE);
-                2
-            }
-            Refusal::Help(text) => {
-                hand_on(output, text.as_str());
-                0
-            }
-        },
-        Stop::Value(fault) => {
-            say(faults, fault.line());
-            2
+    match stop.notice() {
+        Notice::Help(text) => {
+            hand_on(output, text);
+            ANSWERED_STATUS
+        }
+        Notice::Fault(status, line) => {
+            say(faults, line);
+            status
         }
     }
 }
@@ -243,11 +261,11 @@ fn answered<R: Source, W: Drain, E: Drain>(
         (record { source = R.told input.new; output = W.told output.new; faults = E.told faults.new }) result }
 {
     match run(&mut prepared.engine, &mut prepared.token, input, output) {
-        Ok(report) if report.faults == 0 => 0,
-        Ok(_) => 1,
+        Ok(report) if report.faults == 0 => ANSWERED_STATUS,
+        Ok(_) => FAULTY_STATUS,
         Err(fault) => {
             say(faults, run_line(fault));
-            3
+            FAILED_STATUS
         }
     }
 }

@@ -13,6 +13,8 @@ use Rattle.sd_command_line.specs.declared.options.OptionName.TheVariants as name
 use Rattle.sd_command_line.specs.declared.options.OptionRow.{OptionRow}
 use Rattle.sd_command_line.specs.declared.parse.Refusal.{Refusal}
 use Rattle.sd_command_line.specs.declared.parse.Refusal.TheVariants.{Help, NoMemory, Usage}
+use Rattle.sd_command_line.specs.declared.statuses.TheConstants.{ANSWERED_STATUS, FAILED_STATUS, FAULTY_STATUS}
+use Rattle.sd_command_line.specs.declared.statuses.TheConstants.{NO_MEMORY_STATUS, USAGE_STATUS}
 
 abbrev taken : List Text → Bool
 taken words = takes line (codes "sdtool" ∷ words)
@@ -186,3 +188,8 @@ help text = inl refl
 mistake_asks_for_no_help : (text : String Global) → RefusedBy (kind.UnknownArgument ∷ []) (Help text) → ⊥
 mistake_asks_for_no_help text (inl h) = let bad : kind.DisplayHelp ≡ kind.UnknownArgument = h in cc
 mistake_asks_for_no_help text (inr h) = h
+
+-- EXIT STATUS of docs/sdtool.1
+exit_statuses :
+    ANSWERED_STATUS ∷ FAULTY_STATUS ∷ USAGE_STATUS ∷ FAILED_STATUS ∷ NO_MEMORY_STATUS ∷ [] ≡ 0 ∷ 1 ∷ 2 ∷ 3 ∷ 4 ∷ []
+exit_statuses = refl

@@ -5,7 +5,9 @@ mod command_line;
 mod fault_lines;
 mod options;
 mod parse;
+mod statuses;
 
 pub use fault_lines::{NO_MEMORY_LINE, USAGE_LINE};
 pub use options::{OptionName, OptionRow};
 pub use parse::{Refusal, parse_words};
+pub use statuses::{ANSWERED_STATUS, FAILED_STATUS, FAULTY_STATUS, NO_MEMORY_STATUS, USAGE_STATUS};

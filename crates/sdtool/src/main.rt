@@ -6,15 +6,11 @@ ghost use Rattle.std.specs.Prelude.{◌≡◌, ◌⊎◌, ◌==◌, codes, if◌
 ghost use Rattle.std.specs.Process.{exit_status};
 ghost use Rattle.sd_command_line.specs.FaultLines.{fault_line};
 
-use sd_command_line::{NO_MEMORY_LINE, USAGE_LINE};
+use sd_command_line::{NO_MEMORY_LINE, NO_MEMORY_STATUS, USAGE_LINE, USAGE_STATUS};
 use sd_filter::{FromRead, ToWrite, command};
 use std::env::{self, Env};
 use std::io::{BufWriter, ErrorKind};
 use std::process::ExitCode;
-
-const USAGE: u8 = 2;
-
-const NO_MEMORY: u8 = 4;
 
 /// The bytes of answers that are gathered before they are written: a run flushes them before it reads again.
 const GATHERED: usize = 1 << 16;
@@ -42,7 +38,7 @@ fn run(rt: &HostRuntime) -> Result<u8, u8>
 {
     let words = words(rt)?;
     let output = BufWriter::with_capacity(rt.alloc(), GATHERED, rt.stdout());
-    let mut output = output.map_err(|_| NO_MEMORY)?;
+    let mut output = output.map_err(|_| NO_MEMORY_STATUS)?;
     let status = command(
         rt.alloc(),
         words,
@@ -60,11 +56,11 @@ fn words(rt: &(impl Env + AllocGlobal)) -> Result<Vec<String>, u8>
     ensures { MatchResult result (λ _. Unit {0}) (λ status. (status ≡ 2) ⊎ (status ≡ 4)) }
 {
     match env::args(rt) {
-        Ok(arguments) => arguments.collect(rt.alloc()).map_err(|_| NO_MEMORY),
+        Ok(arguments) => arguments.collect(rt.alloc()).map_err(|_| NO_MEMORY_STATUS),
         Err(error) => match error.kind() {
-            ErrorKind::OutOfMemory => Err(NO_MEMORY),
+            ErrorKind::OutOfMemory => Err(NO_MEMORY_STATUS),
             // An argument is no text.
-            _ => Err(USAGE),
+            _ => Err(USAGE_STATUS),
         },
     }
 }
@@ -72,7 +68,7 @@ fn words(rt: &(impl Env + AllocGlobal)) -> Result<Vec<String>, u8>
 fn reason(status: u8) -> &'static str
     ensures { result.now ≡ fault_line (if status == 4 then codes "no memory" else codes "usage") }
 {
-    if status == NO_MEMORY {
+    if status == NO_MEMORY_STATUS {
         NO_MEMORY_LINE
     } else {
         USAGE_LINE

@@ -1,19 +1,15 @@
 -- A batch in the middle, and what is prepared for one.
 use Rattle.std.specs.Prelude.{◌≡◌, ◌<◌, ◌++◌, ℕ, List, [], ◌∷◌, Bool, true, false, length, take, Result, Ok, Err}
 use Rattle.std.specs.List.{list_any}
-use Rattle.std.specs.String.{string_bytes}
 use Rattle.sd_answer.specs.Answer.{is_error}
-use Rattle.sd_command.specs.Preparing.{settled}
+use Rattle.sd_command.specs.Preparing.{Notice, fault, help, notice_of, settled}
 use Rattle.sd_command.specs.Settings.{Settings}
-use Rattle.sd_command.specs.Usage.{usage_line}
-use Rattle.sd_command_line.specs.declared.parse.Refusal.TheVariants.{Help, NoMemory, Usage}
 use Rattle.sd_command.specs.declared.program.Prepared.{Prepared}
 use Rattle.sd_command.specs.declared.program.Stop.{Stop}
-use Rattle.sd_command.specs.declared.program.Stop.TheVariants as stop
 use Rattle.sd_run.specs.Answers.{answers}
 use Rattle.sd_run.specs.Lines.{lines}
 use Rattle.sd_sink.specs.Sink.{PutAll, SinkTold}
-use Rattle.sd_call_run.specs.Runs.{EndsRefused, EndsRun, EndsWith, EndsWithoutMemory, ShowsHelp}
+use Rattle.sd_call_run.specs.Runs.{EndsRun, EndsWith, ShowsHelp}
 use Rattle.sd_call_run.specs.declared.batch.Batch.{Batch}
 use Rattle.sd_call_run.specs.declared.run.Ending.{Ending}
 
@@ -43,11 +39,12 @@ pub record Batched (settings : Settings) (input output : List ℕ) (batch : Batc
   pub stops : StopsBehind settings front others (length output) batch.all
 
 -- Where help is asked for, the output shows the text of the refusal, and no other.
+abbrev pub EndsNoticed : Notice → List ℕ → List ℕ → Ending → Type 0
+EndsNoticed (help text) output message ending = ShowsHelp text output ending
+EndsNoticed (fault status line) output message ending = EndsWith status line message ending
+
 abbrev pub EndsStopped : Stop → List ℕ → List ℕ → Ending → Type 0
-EndsStopped (stop.Refused NoMemory) output message ending = EndsWithoutMemory message ending
-EndsStopped (stop.Refused Usage) output message ending = EndsRefused message ending
-EndsStopped (stop.Refused (Help text)) output message ending = ShowsHelp (string_bytes text) output ending
-EndsStopped (stop.Value fault) output message ending = EndsWith 2 (usage_line fault) message ending
+EndsStopped stop = EndsNoticed (notice_of stop)
 
 -- a run of what is prepared, or an ending without one
 abbrev pub EndsPrepared : Result Prepared Stop → List ℕ → List ℕ → List ℕ → Ending → Type 0
