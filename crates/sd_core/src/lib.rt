@@ -44,5 +44,5 @@ pub use sd_rights::{
 };
 pub use sd_sid::{Naming, Sid, SidFault};
 pub use sd_sink::{Gather, Print, Printer, Sink, SinkFault};
-pub use sd_text::{print_decimal, print_hex};
+pub use sd_text::{print_decimal, print_hex, print_hex_number};
 pub use sd_token::{EntryKind, Token, TokenFull};
