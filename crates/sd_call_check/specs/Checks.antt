@@ -19,6 +19,7 @@ use Rattle.sd_call.specs.declared.argument.Argument.TheVariants as which
 use Rattle.sd_call.specs.declared.outcome.CallFault.{CallFault}
 use Rattle.sd_call.specs.declared.outcome.CallFault.TheVariants.{Ask}
 use Rattle.sd_call.specs.declared.outcome.CallFault.TheVariants as call
+use Rattle.sd_call_check.specs.declared.asker.AskerInput.{AskerInput}
 use Rattle.sd_call_check.specs.declared.request.Request.{Request}
 use Rattle.sd_call_check.specs.declared.verdict.VerdictOutcome.{VerdictOutcome}
 
@@ -98,6 +99,11 @@ asker_in sids kinds object principal_self request = do
   ask ← ask_in request object principal_self
   Ok (holder, ask)
 
+-- the same, of the arguments as one value
+abbrev pub asker_of : AskerInput → Result (Holder × Asked) CallFault
+asker_of input =
+    asker_in input.sids.now input.kinds.now input.ask.object.now input.ask.principal_self.now input.ask.request.now
+
 -- 3. The answer.
 
 -- the verdict on the descriptor that some bytes show
@@ -110,6 +116,11 @@ abbrev pub checked : List ℕ → List ℕ → List ℕ → List ℕ → List �
 checked bytes sids kinds object principal_self request = do
   asker ← asker_in sids kinds object principal_self request
   verdict_on bytes asker.0 asker.1
+
+-- the same, of the arguments as one value
+abbrev pub checked_for : List ℕ → AskerInput → Result Verdict CallFault
+checked_for bytes input =
+    checked bytes input.sids.now input.kinds.now input.ask.object.now input.ask.principal_self.now input.ask.request.now
 
 abbrev pub told : Result Verdict CallFault → VerdictOutcome
 told (Ok (Granted mask)) =

@@ -1,10 +1,9 @@
 //! The call that checks access.
 
 ghost use Rattle.std.specs.Prelude.{◌≡◌, [], IfOk, MatchResult};
-ghost use Rattle.sd_call_check.specs.Checks.{Tells, checked, fault_of, told, told_without_memory, verdict_on};
+ghost use Rattle.sd_call_check.specs.Checks.{Tells, checked_for, fault_of, told, told_without_memory, verdict_on};
 
-use crate::asker::{asker_in, check_asker};
-use crate::request::Request;
+use crate::asker::{AskerInput, asker_in, check_asker};
 use crate::verdict::{VerdictOutcome, told, untold};
 use sd_call::{CallFault, descriptor_in};
 use sd_check::{Ask, Verdict, check};
@@ -13,94 +12,48 @@ use sd_token::Token;
 use std::alloc::Global;
 
 /// Says whether a descriptor grants a token what is asked for.
-pub fn check_access(
-    alloc: Global,
-    bytes: &[u8],
-    sids: &[u8],
-    kinds: &[u8],
-    object: &[u8],
-    principal_self: &[u8],
-    request: &Request,
-) -> VerdictOutcome
-    ensures { Tells (checked bytes.now sids.now kinds.now object.now principal_self.now request.now) result }
+pub fn check_access(alloc: Global, bytes: &[u8], input: &AskerInput<'_>) -> VerdictOutcome
+    ensures { Tells (checked_for bytes.now input.now) result }
 {
-    check_in_new_token(
-        Token::new(alloc),
-        bytes,
-        sids,
-        kinds,
-        object,
-        principal_self,
-        request,
-    )
+    check_in_new_token(Token::new(alloc), bytes, input)
 }
 
 // The same with a new token. Where memory was refused for one, a fault of the arguments is told all the same.
 fn check_in_new_token(
     token: Result<Token, NoMemory>,
     bytes: &[u8],
-    sids: &[u8],
-    kinds: &[u8],
-    object: &[u8],
-    principal_self: &[u8],
-    request: &Request,
+    input: &AskerInput<'_>,
 ) -> VerdictOutcome
     requires { IfOk token (λ t. t.holder.entries ≡ []) }
     ensures { MatchResult token
-        (λ _. result ≡ told (checked bytes.now sids.now kinds.now object.now principal_self.now request.now))
-        (λ _. result
-        ≡ told_without_memory (checked bytes.now sids.now kinds.now object.now principal_self.now request.now)) }
+        (λ _. result ≡ told (checked_for bytes.now input.now))
+        (λ _. result ≡ told_without_memory (checked_for bytes.now input.now)) }
 {
     match token {
-        Ok(mut token) => told(check_by(
-            &mut token,
-            bytes,
-            sids,
-            kinds,
-            object,
-            principal_self,
-            request,
-        )),
-        Err(refused) => {
-            match check_arguments(bytes, sids, kinds, object, principal_self, request) {
-                Ok(()) => untold(refused),
-                Err(fault) => told(Err(fault)),
-            }
-        }
+        Ok(mut token) => told(check_by(&mut token, bytes, input)),
+        Err(refused) => match check_arguments(bytes, input) {
+            Ok(()) => untold(refused),
+            Err(fault) => told(Err(fault)),
+        },
     }
 }
 
 // Why there is no verdict, told without a token.
 #[tactic(auto, unfolding(crate::specs::Checks::verdict_on))]
-fn check_arguments(
-    bytes: &[u8],
-    sids: &[u8],
-    kinds: &[u8],
-    object: &[u8],
-    principal_self: &[u8],
-    request: &Request,
-) -> Result<(), CallFault>
-    ensures { result ≡ fault_of (checked bytes.now sids.now kinds.now object.now principal_self.now request.now) }
+fn check_arguments(bytes: &[u8], input: &AskerInput<'_>) -> Result<(), CallFault>
+    ensures { result ≡ fault_of (checked_for bytes.now input.now) }
 {
-    check_asker(sids, kinds, object, principal_self, request)?;
+    check_asker(input)?;
     descriptor_in(bytes)?;
     Ok(())
 }
 
 // The verdict, for a new token that gets the SIDs.
-fn check_by(
-    token: &mut Token,
-    bytes: &[u8],
-    sids: &[u8],
-    kinds: &[u8],
-    object: &[u8],
-    principal_self: &[u8],
-    request: &Request,
-) -> Result<Verdict, CallFault>
+fn check_by(token: &mut Token, bytes: &[u8], input: &AskerInput<'_>) -> Result<Verdict, CallFault>
     requires { token.old.holder.entries ≡ [] }
-    ensures { result ≡ checked bytes.now sids.now kinds.now object.now principal_self.now request.now }
+    ensures { result ≡ checked_for bytes.now input.now }
 {
-    let ask = asker_in(token, sids, kinds, object, principal_self, request)?;
+    let ask = asker_in(token, input)?;
     verdict_on(bytes, token, &ask)
 }
 

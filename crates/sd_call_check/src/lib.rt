@@ -10,7 +10,7 @@ mod verdict;
 mod with_token;
 
 pub use access::{check_access, verdict_on};
-pub use asker::{asker_in, check_asker};
+pub use asker::{AskInput, AskerInput, asker_in, check_asker};
 pub use request::Request;
 pub use token_memory::read_token;
 pub use verdict::{VerdictOutcome, told, untold};

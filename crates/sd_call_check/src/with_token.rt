@@ -4,42 +4,32 @@ ghost use Rattle.std.specs.Prelude.{◌≡◌};
 ghost use Rattle.sd_call_check.specs.Checks.{told};
 ghost use Rattle.sd_call_check.specs.TokenMemory.{checked_held};
 
-use crate::asker::ask_in;
-use crate::request::Request;
+use crate::asker::{AskInput, ask_in};
 use crate::token_memory::{holds_token, token_in};
 use crate::verdict::{VerdictOutcome, told};
 use sd_call::{Argument, CallFault, descriptor_in};
 use sd_check::{Verdict, check_lent};
 
 /// Says whether a descriptor grants what is asked for to the token that memory holds.
-pub fn check_with_token(
-    bytes: &[u8],
-    memory: &[u32],
-    object: &[u8],
-    principal_self: &[u8],
-    request: &Request,
-) -> VerdictOutcome
-    ensures { result ≡ told (checked_held bytes.now memory.now object.now principal_self.now request.now) }
+pub fn check_with_token(bytes: &[u8], memory: &[u32], input: &AskInput<'_>) -> VerdictOutcome
+    ensures { result ≡ told (checked_held bytes.now memory.now input.now.object.now input.now.principal_self.now
+        input.now.request.now) }
 {
-    told(verdict_of(bytes, memory, object, principal_self, request))
+    told(verdict_of(bytes, memory, input))
 }
 
 #[tactic(auto, unfolding(crate::specs::TokenMemory::entries_held, crate::specs::Checks::verdict_on))]
-fn verdict_of(
-    bytes: &[u8],
-    memory: &[u32],
-    object: &[u8],
-    principal_self: &[u8],
-    request: &Request,
-) -> Result<Verdict, CallFault>
-    ensures { result ≡ checked_held bytes.now memory.now object.now principal_self.now request.now }
+fn verdict_of(bytes: &[u8], memory: &[u32], input: &AskInput<'_>) -> Result<Verdict, CallFault>
+    ensures { result ≡ checked_held bytes.now memory.now input.now.object.now input.now.principal_self.now
+        input.now.request.now }
 {
     if !holds_token(memory) {
         return Err(CallFault::Argument(Argument::Token, 0));
     }
-    let ask = ask_in(request, object, principal_self)?;
+    let ask = ask_in(input)?;
     let view = descriptor_in(bytes)?;
-    let mut token = token_in(memory, request.has_level.then_some(request.level));
+    let level = input.request.has_level.then_some(input.request.level);
+    let mut token = token_in(memory, level);
     let verdict = check_lent(&view, &mut token, &ask);
     let _ = token.end().count();
     Ok(verdict)

@@ -1,12 +1,12 @@
 //! One token and one request, and many descriptors.
 
 ghost use Rattle.std.specs.Prelude.{◌≡◌, ◌≤◌, ◌++◌, [], length, drop, map, IfOk, MatchResult};
-ghost use Rattle.sd_call_check.specs.Checks.{asker_in};
+ghost use Rattle.sd_call_check.specs.Checks.{asker_of};
 ghost use Rattle.sd_call_many.specs.Many.{AnswersMany, Judges, JudgesNone, judged, judged_by};
 
 use crate::bytes::Bytes;
 use sd_call::{Outcome, done, failed, no_memory, too_small};
-use sd_call_check::{Request, VerdictOutcome, asker_in, check_asker, told, verdict_on};
+use sd_call_check::{AskerInput, VerdictOutcome, asker_in, check_asker, told, verdict_on};
 use sd_check::Ask;
 use sd_memory::NoMemory;
 use sd_token::Token;
@@ -16,59 +16,42 @@ use std::alloc::Global;
 pub fn check_many(
     alloc: Global,
     descriptors: &[Bytes<'_>],
-    sids: &[u8],
-    kinds: &[u8],
-    object: &[u8],
-    principal_self: &[u8],
-    request: &Request,
+    input: &AskerInput<'_>,
     verdicts: &mut [VerdictOutcome],
 ) -> Outcome
-    ensures { AnswersMany descriptors.now sids.now kinds.now object.now principal_self.now request.now
-        verdicts.old verdicts.new result }
+    ensures { AnswersMany descriptors.now input.now.sids.now input.now.kinds.now input.now.ask.object.now
+        input.now.ask.principal_self.now input.now.ask.request.now verdicts.old verdicts.new result }
 {
     if descriptors.len() > verdicts.len() {
         return too_small(descriptors.len());
     }
-    judge_with(
-        Token::new(alloc),
-        descriptors,
-        sids,
-        kinds,
-        object,
-        principal_self,
-        request,
-        verdicts,
-    )
+    judge_with(Token::new(alloc), descriptors, input, verdicts)
 }
 
 // The same with a new token. Where memory was refused for one, a fault of the arguments is told all the same.
 fn judge_with(
     token: Result<Token, NoMemory>,
     descriptors: &[Bytes<'_>],
-    sids: &[u8],
-    kinds: &[u8],
-    object: &[u8],
-    principal_self: &[u8],
-    request: &Request,
+    input: &AskerInput<'_>,
     verdicts: &mut [VerdictOutcome],
 ) -> Outcome
     requires new { IfOk token (λ t. t.holder.entries ≡ []) }
     requires room { length descriptors.now ≤ length verdicts.old }
     ensures { MatchResult token
-        (λ _. Judges descriptors.now (judged sids.now kinds.now object.now principal_self.now request.now)
-        (asker_in sids.now kinds.now object.now principal_self.now request.now) verdicts.old verdicts.new result)
-        (λ _. JudgesNone (asker_in sids.now kinds.now object.now principal_self.now request.now)
-        verdicts.old verdicts.new result) }
+        (λ _. Judges descriptors.now (judged input.now.sids.now input.now.kinds.now input.now.ask.object.now
+        input.now.ask.principal_self.now input.now.ask.request.now) (asker_of input.now)
+        verdicts.old verdicts.new result)
+        (λ _. JudgesNone (asker_of input.now) verdicts.old verdicts.new result) }
 {
     match token {
-        Ok(mut token) => match asker_in(&mut token, sids, kinds, object, principal_self, request) {
+        Ok(mut token) => match asker_in(&mut token, input) {
             Ok(ask) => {
                 judge(descriptors, &mut token, &ask, verdicts);
                 done(descriptors.len())
             }
             Err(fault) => failed(fault),
         },
-        Err(refused) => match check_asker(sids, kinds, object, principal_self, request) {
+        Err(refused) => match check_asker(input) {
             Ok(()) => no_memory(refused),
             Err(fault) => failed(fault),
         },

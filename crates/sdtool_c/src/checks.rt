@@ -2,7 +2,7 @@
 
 ghost use Rattle.sd_call_check.specs.Checks.{Tells, checked};
 
-use sd_call_check::{Request, VerdictOutcome, check_access};
+use sd_call_check::{AskInput, AskerInput, Request, VerdictOutcome, check_access};
 use std::alloc::Global;
 
 /// Says whether a descriptor grants a token what is asked for.
@@ -18,5 +18,10 @@ pub extern "C" fn sdtool_check(
 ) -> VerdictOutcome
     ensures { Tells (checked bytes.now sids.now kinds.now object.now principal_self.now request.now) result }
 {
-    check_access(alloc, bytes, sids, kinds, object, principal_self, request)
+    let ask = AskInput {
+        object,
+        principal_self,
+        request,
+    };
+    check_access(alloc, bytes, &AskerInput { sids, kinds, ask })
 }

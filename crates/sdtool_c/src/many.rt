@@ -3,7 +3,7 @@
 ghost use Rattle.sd_call_many.specs.Many.{AnswersMany};
 
 use sd_call::Outcome;
-use sd_call_check::{Request, VerdictOutcome};
+use sd_call_check::{AskInput, AskerInput, Request, VerdictOutcome};
 use sd_call_many::{Bytes, check_many};
 use std::alloc::Global;
 
@@ -22,14 +22,15 @@ pub extern "C" fn sdtool_check_many(
     ensures { AnswersMany descriptors.now sids.now kinds.now object.now principal_self.now request.now
         verdicts.old verdicts.new result }
 {
-    check_many(
-        alloc,
-        descriptors,
-        sids,
-        kinds,
+    let ask = AskInput {
         object,
         principal_self,
         request,
+    };
+    check_many(
+        alloc,
+        descriptors,
+        &AskerInput { sids, kinds, ask },
         verdicts,
     )
 }

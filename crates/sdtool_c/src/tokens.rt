@@ -5,7 +5,7 @@ ghost use Rattle.sd_call_check.specs.Checks.{told};
 ghost use Rattle.sd_call_check.specs.TokenMemory.{ReadsToken, checked_held, token_size};
 
 use sd_call::Outcome;
-use sd_call_check::{Request, VerdictOutcome, check_with_token, read_token};
+use sd_call_check::{AskInput, Request, VerdictOutcome, check_with_token, read_token};
 
 /// Reads a token into memory.
 #[unsafe(no_mangle)]
@@ -27,5 +27,10 @@ pub extern "C" fn sdtool_check_with(
 ) -> VerdictOutcome
     ensures { result ≡ told (checked_held bytes.now memory.now object.now principal_self.now request.now) }
 {
-    check_with_token(bytes, memory, object, principal_self, request)
+    let ask = AskInput {
+        object,
+        principal_self,
+        request,
+    };
+    check_with_token(bytes, memory, &ask)
 }
