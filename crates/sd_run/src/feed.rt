@@ -1,6 +1,6 @@
 //! Splits the input at LFs and answers each line.
 
-ghost use Rattle.std.specs.Prelude.{◌≡◌, ◌+◌, ◌<◌, ℕ, List, ◌++◌, [], ◌∷◌, length, ◌≢◌, slice_index, MatchResult, IfOk};
+ghost use Rattle.std.specs.Prelude.{◌≡◌, ◌+◌, ◌<◌, ◌≤◌, ℕ, List, ◌++◌, [], ◌∷◌, length, ◌≢◌, slice_index, MatchResult, IfOk};
 ghost use Rattle.std.specs.Prelude.{IsOk, Ok, false, unwrap_or, IfSome};
 ghost use Rattle.sd_sink.specs.Sink.{SinkTold};
 ghost use Rattle.sd_token.specs.Token.{Compares, TokenShown};
