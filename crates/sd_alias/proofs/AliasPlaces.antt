@@ -2,9 +2,12 @@
 use Rattle.std.proofs.Common.{◌≡◌, ◌<◌, ◌≤◌, ◌-◌, get_or, ℕ, zero, suc, ◌+◌, ◌*◌, Bool, true, false, cond, ◌&&◌, List}
 use Rattle.std.proofs.Common.{[], ◌∷◌, length, Option, Some, None, refl, sym, ap, ◌∙◌, arith}
 use Rattle.std.specs.Prelude.{◌==◌, slice_get}
-use Rattle.std.specs.List.{find}
+use Rattle.std.specs.Char.{is_ascii_uppercase}
+use Rattle.std.specs.List.{find, list_all}
 use Rattle.std.proofs.lemmas.Bool.{and_parts}
 use Rattle.std.proofs.lemmas.Bool.Decides.{nat_tests}
+use Rattle.sd_text.specs.Names.{IsSameCapital}
+use Rattle.sd_text.proofs.laws.Capitals.{find-same}
 use Rattle.sd_alias.specs.Inner.Places.{place_of}
 use Rattle.sd_alias.specs.declared.table.DomainRelative.{DomainRelative}
 use Rattle.sd_alias.specs.declared.table.TheConstants.{DOMAIN_RELATIVE, WELL_KNOWN}
@@ -90,27 +93,39 @@ relative-at a b k is =
     find-placed (is_relative a b) (λ e. place_of e.first e.second) (place_of a b)
     (λ e. only_place a b e.first e.second) (length WELL_KNOWN) k DOMAIN_RELATIVE relative_placed is
 
--- what is looked up at the place of letters, and its test
-pub known-looked-up : (a b x y i : ℕ) (found : Option WellKnown) → a ≡ x → b ≡ y → i ≡ place_of a b
-    → found ≡ slice_get WELL_KNOWN i → passing (is_known x y) found ≡ find (is_known x y) WELL_KNOWN
+known-capitals : list_all (λ e. is_ascii_uppercase e.first && is_ascii_uppercase e.second) WELL_KNOWN ≡ true
+known-capitals = refl
+
+relative-capitals : list_all (λ e. is_ascii_uppercase e.first && is_ascii_uppercase e.second) DOMAIN_RELATIVE ≡ true
+relative-capitals = refl
+
+-- what is looked up at the place of the capitals of two letters, and its test
+pub known-looked-up : (a b x y i : ℕ) (found : Option WellKnown) → IsSameCapital a x → IsSameCapital b y → i ≡ place_of a b
+    → found ≡ slice_get WELL_KNOWN i → passing (is_known a b) found ≡ find (is_known x y) WELL_KNOWN
 known-looked-up a b x y i found first second at e =
-    ap (passing (is_known x y)) (e ∙ ap (slice_get WELL_KNOWN) (at ∙ ap (λ n. place_of n b) first
-    ∙ ap (place_of x) second))
-    ∙ sym (known-at x y)
+    ap (passing (is_known a b)) (e ∙ ap (slice_get WELL_KNOWN) at)
+    ∙ sym (known-at a b)
+    ∙ find-same (λ e. e.first) (λ e. e.second) a b x y WELL_KNOWN first second known-capitals
 
-pub relative-looked-up : (a b x y i : ℕ) (found : Option DomainRelative) → a ≡ x → b ≡ y → i ≡ place_of a b
-    → length WELL_KNOWN ≤ i → found ≡ slice_get DOMAIN_RELATIVE (i - length WELL_KNOWN)
-    → passing (is_relative x y) found ≡ find (is_relative x y) DOMAIN_RELATIVE
+same-relative : (a b x y : ℕ) → IsSameCapital a x → IsSameCapital b y
+    → find (is_relative a b) DOMAIN_RELATIVE ≡ find (is_relative x y) DOMAIN_RELATIVE
+same-relative a b x y first second =
+    find-same (λ e. e.first) (λ e. e.second) a b x y DOMAIN_RELATIVE first second relative-capitals
+
+pub relative-looked-up : (a b x y i : ℕ) (found : Option DomainRelative) → IsSameCapital a x → IsSameCapital b y
+    → i ≡ place_of a b → length WELL_KNOWN ≤ i → found ≡ slice_get DOMAIN_RELATIVE (i - length WELL_KNOWN)
+    → passing (is_relative a b) found ≡ find (is_relative x y) DOMAIN_RELATIVE
 relative-looked-up a b x y i found first second at late e =
-    let same : i ≡ place_of x y = at ∙ ap (λ n. place_of n b) first ∙ ap (place_of x) second in
-    ap (passing (is_relative x y)) e ∙ sym (relative-at x y (i - length WELL_KNOWN) (omega arith))
+    ap (passing (is_relative a b)) e
+    ∙ sym (relative-at a b (i - length WELL_KNOWN) (omega (arith, at)))
+    ∙ same-relative a b x y first second
 
-pub relative-before : (a b x y i : ℕ) → a ≡ x → b ≡ y → i ≡ place_of a b → i < length WELL_KNOWN
+pub relative-before : (a b x y i : ℕ) → IsSameCapital a x → IsSameCapital b y → i ≡ place_of a b → i < length WELL_KNOWN
     → None ≡ find (is_relative x y) DOMAIN_RELATIVE
 relative-before a b x y i first second at low =
-    let same : i ≡ place_of x y = at ∙ ap (λ n. place_of n b) first ∙ ap (place_of x) second in
-    sym (none-behind (is_relative x y) (λ e. place_of e.first e.second) (place_of x y)
-    (λ e. only_place x y e.first e.second) (length WELL_KNOWN) DOMAIN_RELATIVE relative_placed (omega arith))
+    sym (none-behind (is_relative a b) (λ e. place_of e.first e.second) (place_of a b)
+    (λ e. only_place a b e.first e.second) (length WELL_KNOWN) DOMAIN_RELATIVE relative_placed (omega (arith, at)))
+    ∙ same-relative a b x y first second
 
 -- an entry with both letters passes, and one with another letter does not
 pub passes : {X : Type 0} (m n x y : ℕ) (e : X) → m ≡ x → n ≡ y → Some e ≡ cond (m == x && n == y) (Some e) None

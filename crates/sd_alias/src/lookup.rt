@@ -8,6 +8,7 @@ ghost use Rattle.sd_alias.specs.Inner.Places.{place_of};
 
 use crate::places::{LETTERS, NO, PLACES};
 use crate::table::{DOMAIN_RELATIVE, DomainRelative, WELL_KNOWN, WellKnown};
+use sd_text::capital;
 
 /// What two letters name everywhere, if they do.
 pub fn named_known(first: u8, second: u8) -> Option<&'static WellKnown>
@@ -15,7 +16,7 @@ pub fn named_known(first: u8, second: u8) -> Option<&'static WellKnown>
     // The table has the values that AliasValues writes out.
     ensures values { KnownAliases }
 {
-    let (first, second) = (first.to_ascii_uppercase(), second.to_ascii_uppercase());
+    let (first, second) = (capital(first), capital(second));
     match entry_at(&WELL_KNOWN, place_of(first, second)) {
         Some(entry) if entry.first == first && entry.second == second => Some(entry),
         _ => None,
@@ -27,7 +28,7 @@ pub fn named_relative(first: u8, second: u8) -> Option<&'static DomainRelative>
     ensures named { option_copied result ≡ relative_named first second }
     ensures values { RelativeAliases }
 {
-    let (first, second) = (first.to_ascii_uppercase(), second.to_ascii_uppercase());
+    let (first, second) = (capital(first), capital(second));
     let place = place_of(first, second);
     if place < WELL_KNOWN.len() {
         return None;

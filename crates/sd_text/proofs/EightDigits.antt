@@ -54,20 +54,25 @@ combined p q r s x y z w pairs P Q R S X Y Z W e =
     let d : pairs / 65536 % 256 ≡ q = omega (arith, down) in
     rw (a, b, c, d, first p r P R, second q s Q S) (last p q r s P Q R S)
 
--- the word of a block's digits and what its steps give: nothing overflows before the pairs
-pub record Reads (text : List ℕ) (digits : ℕ) : Type 0 where
-  pub tens : digits * 10 < 2 ^ 64
-  pub sums : pairs_of digits < 2 ^ 64
-  pub number : number_after 10 0 text ≡ Some (of_pairs (pairs_of digits))
-  pub small : of_pairs (pairs_of digits) < 10 ^ 8
+-- the word of a block and what its steps give: nothing overflows before the pairs
+pub record Reads (block : List ℕ) (word : ℕ) : Type 0 where
+  pub zeros : 0x3030303030303030 ≤ word
+  pub tens : (word - 0x3030303030303030) * 10 < 2 ^ 64
+  pub sums : pairs_of (word - 0x3030303030303030) < 2 ^ 64
+  pub number : number_after 10 0 block ≡ Some (of_pairs (pairs_of (word - 0x3030303030303030)))
+  pub small : of_pairs (pairs_of (word - 0x3030303030303030)) < 10 ^ 8
 
 -- the same of the values of the digits
 values : (a b c f g i j k word : ℕ) → a < 10 → b < 10 → c < 10 → f < 10 → g < 10 → i < 10 → j < 10 → k < 10
-    → word ≡ a + 2 ^ 8 * b + 2 ^ 16 * c + 2 ^ 24 * f + 2 ^ 32 * g + 2 ^ 40 * i + 2 ^ 48 * j + 2 ^ 56 * k
-    → (word * 10 < 2 ^ 64) × (pairs_of word < 2 ^ 64)
-    × (of_pairs (pairs_of word) ≡ a * 10000000 + b * 1000000 + c * 100000 + f * 10000 + g * 1000 + i * 100 + j * 10 + k)
+    → word ≡ 0x3030303030303030
+    + (a + 2 ^ 8 * b + 2 ^ 16 * c + 2 ^ 24 * f + 2 ^ 32 * g + 2 ^ 40 * i + 2 ^ 48 * j + 2 ^ 56 * k)
+    → (0x3030303030303030 ≤ word) × ((word - 0x3030303030303030) * 10 < 2 ^ 64)
+    × (pairs_of (word - 0x3030303030303030) < 2 ^ 64)
+    × (of_pairs (pairs_of (word - 0x3030303030303030))
+    ≡ a * 10000000 + b * 1000000 + c * 100000 + f * 10000 + g * 1000 + i * 100 + j * 10 + k)
 values a b c f g i j k word A B C F G I J K is =
     let digits = a + 2 ^ 8 * b + 2 ^ 16 * c + 2 ^ 24 * f + 2 ^ 32 * g + 2 ^ 40 * i + 2 ^ 48 * j + 2 ^ 56 * k in
+    let lanes : word - 0x3030303030303030 ≡ digits = omega arith in
     let shifted : digits / 256
     ≡ b + 2 ^ 8 * c + 2 ^ 16 * f + 2 ^ 24 * g + 2 ^ 32 * i + 2 ^ 40 * j + 2 ^ 48 * k = omega arith in
     let pairs : digits * 10 + digits / 256
@@ -78,7 +83,7 @@ values a b c f g i j k word A B C F G I J K is =
     (omega arith) (omega arith) (omega arith) pairs in
     let tens : digits * 10 < 2 ^ 64 = omega arith in
     let sums : digits * 10 + digits / 256 < 2 ^ 64 = omega arith in
-    rw is (tens, sums, number ∙ omega arith)
+    rw lanes (omega arith, tens, sums, number ∙ omega arith)
 
 digit : (b : ℕ) (bs : List ℕ) → list_all (λ c. is_digit c 10) (b ∷ bs) ≡ true
     → (is_digit b 10 ≡ true) × (48 ≤ b) × (b ≤ 57) × (digit_value b ≡ b - 48) × (list_all (λ c. is_digit c 10) bs ≡ true)
@@ -89,7 +94,7 @@ digit b bs e =
     (parts.0, range.0, range.1, sym plain.1, parts.1)
 
 pub reads : (block : List ℕ) (word : ℕ) → length block ≡ 8 → list_all (λ c. is_digit c 10) block ≡ true
-    → word + 0x3030303030303030 ≡ from_le_bytes w64 block → Reads block word
+    → word ≡ from_le_bytes w64 block → Reads block word
 reads [] word h d e = absurd (omega arith)
 reads (a ∷ []) word h d e = absurd (omega arith)
 reads (a ∷ b ∷ []) word h d e = absurd (omega arith)
@@ -108,18 +113,19 @@ reads (a ∷ b ∷ c ∷ f ∷ g ∷ i ∷ j ∷ k ∷ []) word h d e =
     let I = digit i (j ∷ k ∷ []) G.4 in
     let J = digit j (k ∷ []) I.4 in
     let K = digit k [] J.4 in
-    let sum : word + 0x3030303030303030 ≡ a + 2 ^ 8 * b + 2 ^ 16 * c + 2 ^ 24 * f + 2 ^ 32 * g + 2 ^ 40 * i + 2 ^ 48 * j + 2 ^ 56 * k = e ∙ omega arith in
-    let is : word
-    ≡ a - 48 + 2 ^ 8 * (b - 48) + 2 ^ 16 * (c - 48) + 2 ^ 24 * (f - 48) + 2 ^ 32 * (g - 48) + 2 ^ 40 * (i - 48)
-    + 2 ^ 48 * (j - 48) + 2 ^ 56 * (k - 48) = omega (arith, sum, A.1, B.1, C.1, F.1, G.1, I.1, J.1, K.1) in
+    let sum : word ≡ a + 2 ^ 8 * b + 2 ^ 16 * c + 2 ^ 24 * f + 2 ^ 32 * g + 2 ^ 40 * i + 2 ^ 48 * j + 2 ^ 56 * k = e ∙ omega arith in
+    let is : word ≡ 0x3030303030303030
+    + (a - 48 + 2 ^ 8 * (b - 48) + 2 ^ 16 * (c - 48) + 2 ^ 24 * (f - 48) + 2 ^ 32 * (g - 48) + 2 ^ 40 * (i - 48)
+    + 2 ^ 48 * (j - 48) + 2 ^ 56 * (k - 48)) = omega (arith, sum, A.1, B.1, C.1, F.1, G.1, I.1, J.1, K.1) in
     let v = values (a - 48) (b - 48) (c - 48) (f - 48) (g - 48) (i - 48) (j - 48) (k - 48) word
     (omega (arith, A.2)) (omega (arith, B.2)) (omega (arith, C.2)) (omega (arith, F.2)) (omega (arith, G.2))
     (omega (arith, I.2)) (omega (arith, J.2)) (omega (arith, K.2)) is in
     record {
-      tens = v.0;
-      sums = v.1;
+      zeros = v.0;
+      tens = v.1;
+      sums = v.2;
       number =
           rw (A.0, B.0, C.0, F.0, G.0, I.0, J.0, K.0, A.3, B.3, C.3, F.3, G.3, I.3, J.3, K.3)
-          (ap Some (omega arith ∙ sym v.2));
-      small = omega (arith, v.2, A.2, B.2, C.2, F.2, G.2, I.2, J.2, K.2);
+          (ap Some (omega arith ∙ sym v.3));
+      small = omega (arith, v.3, A.2, B.2, C.2, F.2, G.2, I.2, J.2, K.2);
     }

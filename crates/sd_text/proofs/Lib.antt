@@ -1,6 +1,4 @@
-pub mod BehindZeros
 pub mod DigitLemmas
-pub mod DigitsInFront
 pub mod EightDigits
 pub mod FrontDigits
 pub mod HexNumber

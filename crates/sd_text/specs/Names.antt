@@ -1,6 +1,7 @@
 -- Texts of names of two letters that stand for bits.
-use Rattle.std.specs.Prelude.{ℕ, ◌&&◌, ◌==◌, if◌then◌else◌, List, [], ◌∷◌, Option, Some, None, bit_and, bit_or}
-use Rattle.std.specs.Char.{to_ascii_uppercase}
+use Rattle.std.specs.Prelude.{◌≡◌, ℕ, Bool, true, ◌&&◌, ◌==◌, if◌then◌else◌, List, [], ◌∷◌, Option, Some, None}
+use Rattle.std.specs.Prelude.{bit_and, bit_or}
+use Rattle.std.specs.Char.{is_ascii_uppercase, to_ascii_uppercase}
 use Rattle.sd_text.specs.declared.names.NamedBits.{NamedBits}
 
 -- 1. Reading.
@@ -36,6 +37,14 @@ named_bits [] mask = 0
 named_bits (e ∷ es) mask = if bit_and mask e.bits == 0 then named_bits es mask else bit_or e.bits (named_bits es mask)
 
 -- 3. Tables.
+
+-- both letters of a name are capitals
+abbrev pub has_capitals : NamedBits → Bool
+has_capitals e = is_ascii_uppercase e.first && is_ascii_uppercase e.second
+
+-- two bytes are the same capital, or neither is a capital
+abbrev pub IsSameCapital : ℕ → ℕ → Type 0
+IsSameCapital x y = (c : ℕ) → is_ascii_uppercase c ≡ true → (c == x) ≡ (c == y)
 
 -- a name, and the bits that it stands for
 abbrev pub named_row : NamedBits → List ℕ × ℕ

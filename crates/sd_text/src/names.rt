@@ -1,8 +1,9 @@
 //! Names of two letters for bits.
 
-ghost use Rattle.std.specs.Prelude.{◌≡◌, ◌≤◌, length, take};
-ghost use Rattle.std.specs.List.{flat_map};
-ghost use Rattle.sd_text.specs.Names.{bits_named, names_of, run_of};
+ghost use Rattle.std.specs.Prelude.{◌≡◌, ◌≤◌, length, take, true};
+ghost use Rattle.std.specs.Char.{to_ascii_uppercase};
+ghost use Rattle.std.specs.List.{flat_map, list_all};
+ghost use Rattle.sd_text.specs.Names.{IsSameCapital, bits_named, has_capitals, names_of, run_of};
 ghost use Rattle.sd_sink.specs.Print.{Prints};
 
 use sd_sink::{FRONT, Print};
@@ -32,6 +33,9 @@ const MOST_NAMES: usize = 17;
 
 /// The cells for all of them.
 const CELLS: usize = 2 * MOST_NAMES;
+
+/// The bit that a small letter has and its capital has not.
+const SMALL: u8 = b'a' - b'A';
 
 /// Prints the names of the bits of a mask, in the table's order.
 pub fn print_names<P: Print>(table: &[NamedBits], mask: u32, out: &mut P)
@@ -63,10 +67,21 @@ fn write_names(table: &[NamedBits], mask: u32, buffer: &mut [u8; CELLS]) -> usiz
     end
 }
 
+/// The capital of a letter, in one step. Of any other byte it makes one that is no capital either.
+///
+/// Names are compared with it, since std's way asks first whether the byte is a small letter.
+#[inline(always)]
+pub fn capital(byte: u8) -> u8
+    ensures { IsSameCapital result (to_ascii_uppercase byte) }
+{
+    byte - byte / SMALL % 2 * SMALL
+}
+
 /// The bits of a run of names of the tables, each in either case and as often as it likes. None where
 /// two letters are no name, or one is left.
 #[tactic(auto, unfolding(crate::specs::Names::run_of))]
 pub fn read_names(tables: &[&[NamedBits]], text: &[u8]) -> Option<u32>
+    requires { list_all (λ table. list_all has_capitals table.now) tables.now ≡ true }
     ensures { result ≡ run_of (flat_map (λ table. table.now) tables.now) text.now }
 {
     let mut bits = 0;
@@ -80,6 +95,7 @@ pub fn read_names(tables: &[&[NamedBits]], text: &[u8]) -> Option<u32>
 }
 
 fn find_bits(tables: &[&[NamedBits]], first: u8, second: u8) -> Option<u32>
+    requires { list_all (λ table. list_all has_capitals table.now) tables.now ≡ true }
     ensures { result ≡ bits_named (flat_map (λ table. table.now) tables.now) first second }
 {
     for table in tables {
@@ -91,9 +107,10 @@ fn find_bits(tables: &[&[NamedBits]], first: u8, second: u8) -> Option<u32>
 }
 
 fn bits_named(table: &[NamedBits], first: u8, second: u8) -> Option<u32>
+    requires { list_all has_capitals table.now ≡ true }
     ensures { result ≡ bits_named table.now first second }
 {
-    let (first, second) = (first.to_ascii_uppercase(), second.to_ascii_uppercase());
+    let (first, second) = (capital(first), capital(second));
     for name in table {
         if name.first == first && name.second == second {
             return Some(name.bits);

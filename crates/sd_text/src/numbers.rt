@@ -20,12 +20,6 @@ const BLOCK: usize = 8;
 /// The digit zero in each byte of a block.
 const ZEROS: u64 = 0x3030_3030_3030_3030;
 
-/// In each byte of a block what sets the highest bit of a byte above the digit nine.
-const TO_HIGHEST: u64 = 0x4646_4646_4646_4646;
-
-/// The highest bit of each byte of a block.
-const HIGHEST_BITS: u64 = 0x8080_8080_8080_8080;
-
 /// The number that the text writes, if each byte is a digit and the number is below the limit. No digits write 0.
 #[tactic(auto, unfolding(crate::specs::LimitValues::LimitValues))]
 pub fn read_number(base: u32, limit: u64, text: &[u8]) -> Option<u64>
@@ -59,46 +53,37 @@ pub fn front_decimal(text: &[u8]) -> (u64, usize)
     if text.len() < MOST_DIGITS {
         return few_digits(0, text);
     }
+    // Most sub-authorities of a domain have eight digits or more.
     let block = &text[..BLOCK];
-    let count = digits_in_front(block);
-    // A word cannot be shifted by all of its bits.
-    if count == 0 {
-        return (0, 0);
+    if !are_digits(block) {
+        return few_digits(0, block);
     }
-    let number = block_number(block, count);
-    if count < BLOCK {
-        return (number, count);
-    }
-    let (number, more) = few_digits(number, &text[BLOCK..MOST_DIGITS]);
-    (number, BLOCK + more)
+    let (number, count) = few_digits(block_number(block), &text[BLOCK..MOST_DIGITS]);
+    (number, BLOCK + count)
 }
 
-// How many digits are at the front of a block, found for all of its bytes at once: a sum sets the highest bit of a byte
-// above '9', and a difference that of a byte below '0', or so far above '9' that the sum is too large. Each of them only
-// carries into bytes behind the first one that is no digit.
+// Whether all bytes are digits. It looks at all of them and at each in the same way, and so at several at a time.
 #[inline(always)]
-fn digits_in_front(block: &[u8]) -> usize
-    requires size { length block.now ≡ 8 }
-    ensures few { result ≤ 8 }
-    ensures digits { list_all (λ b. is_digit b 10) (take result block.now) ≡ true }
+fn are_digits(text: &[u8]) -> bool
+    ensures { result ≡ list_all (λ b. is_digit b 10) text.now }
 {
-    let word = block_word(block);
-    let others = (word.wrapping_add(TO_HIGHEST) | word.wrapping_sub(ZEROS)) & HIGHEST_BITS;
-    others.trailing_zeros() as usize / 8
+    let mut other = false;
+    for byte in text {
+        other |= (*byte < b'0') | (b'9' < *byte);
+    }
+    !other
 }
 
-// The number that the digits at the front of a block write. They are moved to its end, behind zeros. Then comes the
-// number of each two digits, and then of four and of all, each step for the whole block at once.
+// The number that a block of digits writes: that of each two digits, and then of four and of all, each step for the
+// whole block at once.
 #[inline(always)]
-fn block_number(block: &[u8], count: usize) -> u64
+fn block_number(block: &[u8]) -> u64
     requires size { length block.now ≡ 8 }
-    requires some { 0 < count }
-    requires few { count ≤ 8 }
-    requires digits { list_all (λ b. is_digit b 10) (take count block.now) ≡ true }
-    ensures number { number_after 10 0 (take count block.now) ≡ Some result }
+    requires digits { list_all (λ b. is_digit b 10) block.now ≡ true }
+    ensures number { number_after 10 0 block.now ≡ Some result }
     ensures small { result < 10 ^ 8 }
 {
-    let digits = block_word(block).wrapping_sub(ZEROS) << (8 * (BLOCK - count));
+    let digits = block_word(block) - ZEROS;
     let pairs = digits * 10 + digits / 256;
     let first = outer_bytes(pairs).wrapping_mul(100 + (1_000_000 << 32));
     let second = outer_bytes(pairs / 65_536).wrapping_mul(1 + (10_000 << 32));

@@ -8,26 +8,26 @@ use Rattle.sd_alias.proofs.lookup.named_relative.Goals.{in_default-via-in-Some+e
 
 pub returns-then-place-lt49-clause-named : goal.returns-then-place-lt49-clause-named
 returns-then-place-lt49-clause-named c =
-    relative-before _ _ _ _ _ c.to_ascii_uppercase-first.ensures.value c.to_ascii_uppercase-second.ensures.value
+    relative-before _ _ _ _ _ c.capital-first.ensures c.capital-second.ensures
     c.place_of-place.ensures c.if-place-lt49.true
 
 pub returns-in-Some-clause-named : goal.returns-in-Some-clause-named
 returns-in-Some-clause-named c =
-    let first = c.to_ascii_uppercase-first.ensures.value in
-    let second = c.to_ascii_uppercase-second.ensures.value in
-    passes _ _ _ _ _ (c.if-entry-first.true ∙ first) (c.if-entry-second.true ∙ second)
+    let first = c.capital-first.ensures in
+    let second = c.capital-second.ensures in
+    passes _ _ _ _ _ c.if-entry-first.true c.if-entry-second.true
     ∙ relative-looked-up _ _ _ _ _ _ first second c.place_of-place.ensures (omega arith) (sym (ap option_copied c.in-Some.is) ∙ c.entry_at.ensures)
 
 pub returns-in_default-clause-named : goal.returns-in_default-clause-named
 returns-in_default-clause-named c =
-    let first = c.to_ascii_uppercase-first.ensures.value in
-    let second = c.to_ascii_uppercase-second.ensures.value in
+    let first = c.capital-first.ensures in
+    let second = c.capital-second.ensures in
     elim c.in_default.branch [
       | in_default-via-in-Some+then-entry-first+else-entry-second w ↦
-          fails-second _ _ _ _ _ (λ e. w.if-entry-second.false (e ∙ sym second))
+          fails-second _ _ _ _ _ w.if-entry-second.false
           ∙ relative-looked-up _ _ _ _ _ _ first second c.place_of-place.ensures (omega arith) (sym (ap option_copied w.in-Some.is) ∙ c.entry_at.ensures)
       | in_default-via-in-Some+else-entry-first w ↦
-          fails-first _ _ _ _ _ (λ e. w.if-entry-first.false (e ∙ sym first))
+          fails-first _ _ _ _ _ w.if-entry-first.false
           ∙ relative-looked-up _ _ _ _ _ _ first second c.place_of-place.ensures (omega arith) (sym (ap option_copied w.in-Some.is) ∙ c.entry_at.ensures)
       | in_default-via-in_default w ↦
           relative-looked-up _ _ _ _ _ _ first second c.place_of-place.ensures (omega arith) (sym (ap option_copied w.in_default.is) ∙ c.entry_at.ensures)
