@@ -1,3 +1,4 @@
+pub mod BlockDigits
 pub mod DigitLemmas
 pub mod EightDigits
 pub mod FrontDigits

@@ -20,6 +20,12 @@ const BLOCK: usize = 8;
 /// The digit zero in each byte of a block.
 const ZEROS: u64 = 0x3030_3030_3030_3030;
 
+/// In each byte of a block what sets the highest bit of a byte above the digit nine.
+const TO_HIGHEST: u64 = 0x4646_4646_4646_4646;
+
+/// The highest bit of each byte of a block.
+const HIGHEST_BITS: u64 = 0x8080_8080_8080_8080;
+
 /// The number that the text writes, if each byte is a digit and the number is below the limit. No digits write 0.
 #[tactic(auto, unfolding(crate::specs::LimitValues::LimitValues))]
 pub fn read_number(base: u32, limit: u64, text: &[u8]) -> Option<u64>
@@ -62,16 +68,17 @@ pub fn front_decimal(text: &[u8]) -> (u64, usize)
     (number, BLOCK + count)
 }
 
-// Whether all bytes are digits. It looks at all of them and at each in the same way, and so at several at a time.
+// Whether all bytes of a block are digits, found for all of them at once. A sum sets the highest bit of a byte above
+// '9', and a difference that of a byte below '0', or so far above '9' that the sum is too large. Each of them only carries
+// out of a byte that is no digit.
 #[inline(always)]
-fn are_digits(text: &[u8]) -> bool
-    ensures { result ≡ list_all (λ b. is_digit b 10) text.now }
+fn are_digits(block: &[u8]) -> bool
+    requires { length block.now ≡ 8 }
+    ensures { result ≡ true → list_all (λ b. is_digit b 10) block.now ≡ true }
 {
-    let mut other = false;
-    for byte in text {
-        other |= (*byte < b'0') | (b'9' < *byte);
-    }
-    !other
+    let word = block_word(block);
+    let others = word.wrapping_add(TO_HIGHEST) | word.wrapping_sub(ZEROS);
+    others & HIGHEST_BITS == 0
 }
 
 // The number that a block of digits writes: that of each two digits, and then of four and of all, each step for the
@@ -90,8 +97,7 @@ fn block_number(block: &[u8]) -> u64
     first.wrapping_add(second) / (1 << 32)
 }
 
-// The bytes of a block, the first of them lowest.
-#[inline(always)]
+// The bytes of a block, the first of them lowest. Not inlined at once: by itself it becomes a single load.
 fn block_word(block: &[u8]) -> u64
     requires { length block.now ≡ 8 }
     ensures { result ≡ from_le_bytes w64 block.now }
