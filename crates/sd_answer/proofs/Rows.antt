@@ -73,7 +73,7 @@ abbrev alone : Job → Task
 alone job = record { job = job; creator = None }
 
 abbrev hex_to_hex : Job
-hex_to_hex = record { source = Hex; act = Convert output.Hex; domain = None; numeric = false }
+hex_to_hex = record { line_form = Hex; act = Convert output.Hex; domain = None; numeric = false }
 
 pub empty_answer : answer (alone hex_to_hex) nobody [] ≡ 10 ∷ []
 unfolding answer
@@ -96,7 +96,7 @@ unfolding answer line_means form_text hex_spells hex_on_literals reading fault h
 header_answer = refl
 
 abbrev base64_to_hex : Job
-base64_to_hex = record { source = Base64; act = Convert output.Hex; domain = None; numeric = false }
+base64_to_hex = record { line_form = Base64; act = Convert output.Hex; domain = None; numeric = false }
 
 pub base64_answer : answer (alone base64_to_hex) nobody (codes "Af8AgAAAAAAAAAAAAAAAAAAAAAA=") ≡ codes
     "01ff008000000000000000000000000000000000" ++ 10 ∷ []
@@ -105,7 +105,7 @@ unfolding answer line_means form_text base64_spells base64_on_literals hex_on_li
 base64_answer = refl
 
 abbrev hex_to_base64 : Job
-hex_to_base64 = record { source = Hex; act = Convert output.Base64; domain = None; numeric = false }
+hex_to_base64 = record { line_form = Hex; act = Convert output.Base64; domain = None; numeric = false }
 
 pub answer_in_base64 : answer (alone hex_to_base64) nobody (codes "01FF008000000000000000000000000000000000") ≡ codes
     "Af8AgAAAAAAAAAAAAAAAAAAAAAA=" ++ 10 ∷ []
@@ -164,7 +164,7 @@ header_alone : List ℕ
 header_alone = codes "0100008000000000000000000000000000000000"
 
 hex_to : Act → Job
-hex_to act = record { source = Hex; act = act; domain = None; numeric = false }
+hex_to act = record { line_form = Hex; act = act; domain = None; numeric = false }
 
 -- everyone twice
 two_entries : Holder
@@ -274,7 +274,7 @@ loose : List ℕ
 loose = codes "0100048018000000000000000000000000000000eeeeeeee010100000000000100000000"
 
 in_form : OutputForm → Job
-in_form form = record { source = Hex; act = Convert form; domain = None; numeric = false }
+in_form form = record { line_form = Hex; act = Convert form; domain = None; numeric = false }
 
 forms_of_loose : map (λ form. answer (alone (in_form form)) nobody loose)
     (output.Hex ∷ output.Base64 ∷ output.Sddl ∷ [])
@@ -290,7 +290,7 @@ base64_of_loose : answer (alone base64_to_hex) nobody (codes "AQAEgBgAAAAAAAAAAA
 unfolding answered
 base64_of_loose = refl
 
-two_sids : answer (alone (record base64_to_hex { source = SddlForm })) nobody (codes "G:SYO:WD")
+two_sids : answer (alone (record base64_to_hex { line_form = SddlForm })) nobody (codes "G:SYO:WD")
     ≡ codes "0100008014000000200000000000000000000000" ++ codes "010100000000000100000000"
     ++ codes "010100000000000512000000\n"
 unfolding answered
@@ -306,7 +306,7 @@ owned_by_admins =
     codes "0100008014000000000000000000000000000000" ++ codes "01050000000000051500000001000000020000000300000000020000"
 
 under_domain : Act → Job
-under_domain act = record { source = Hex; act = act; domain = Some a_domain; numeric = false }
+under_domain act = record { line_form = Hex; act = act; domain = Some a_domain; numeric = false }
 
 -- an alias of the domain is printed under it alone, and not where numbers are asked for
 printed_in_a_domain : answer (alone (under_domain (Convert output.Sddl))) nobody owned_by_admins
@@ -335,8 +335,8 @@ unfolding answered a_domain admins
 read_in_a_domain = refl
 
 answers_in_a_domain :
-    answer (alone (record (under_domain (Convert output.Hex)) { source = SddlForm })) nobody (codes "O:DA")
-    ∷ answer (alone (record (hex_to (Convert output.Hex)) { source = SddlForm })) nobody (codes "O:DA") ∷ []
+    answer (alone (record (under_domain (Convert output.Hex)) { line_form = SddlForm })) nobody (codes "O:DA")
+    ∷ answer (alone (record (hex_to (Convert output.Hex)) { line_form = SddlForm })) nobody (codes "O:DA") ∷ []
     ≡ (owned_by_admins ++ 10 ∷ []) ∷ codes "error 23 needs-domain\n" ∷ []
 unfolding answered a_domain owned_by_admins under_domain
 answers_in_a_domain = refl

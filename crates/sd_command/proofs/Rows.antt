@@ -43,7 +43,7 @@ use Rattle.sd_command.specs.Settings.{needed_sid, task_with, with_creator}
 use Rattle.sd_rights.specs.Mapping.{directory_mapping, file_mapping, key_mapping, mapped}
 
 abbrev hex_to_hex : Job
-hex_to_hex = record { source = Hex; act = Convert output.Hex; domain = None; numeric = false }
+hex_to_hex = record { line_form = Hex; act = Convert output.Hex; domain = None; numeric = false }
 
 abbrev to_hex : List Text
 to_hex = codes "sdtool" ∷ codes "convert" ∷ codes "--to" ∷ codes "hex" ∷ []
@@ -75,7 +75,7 @@ abbrev pub explain_sddl : List Text
 explain_sddl = codes "sdtool" ∷ codes "explain" ∷ codes "--numeric" ∷ codes "--from" ∷ codes "sddl" ∷ []
 
 pub explained : settings_of explain_sddl ≡ Ok (record {
-  task = record { job = record { source = Sddl; act = Explain; domain = None; numeric = true }; creator = None };
+  task = record { job = record { line_form = Sddl; act = Explain; domain = None; numeric = true }; creator = None };
   holder = nobody;
 })
 unfolding settings_of command_chosen convert_own with_creator task_with given_creator given_domain given_form
@@ -97,7 +97,7 @@ derive_file =
 pub derived : settings_of derive_file ≡ Ok (record {
   task = record {
     job = record {
-      source = Hex;
+      line_form = Hex;
       act = Derive (record {
         target = File;
         owner = record { authority = 5; subs = 18 ∷ [] };
@@ -235,7 +235,7 @@ all_options : settings_of (check_with (codes "--domain" ∷ codes "S-1-5-21-1-2-
     ≡ Ok (record {
       task = record {
         job = record {
-          source = Base64;
+          line_form = Base64;
           act = Check (record {
             wanted = 0x20019;
             maximum = false;
@@ -263,7 +263,7 @@ asks : ℕ → Bool → Settings
 asks wanted maximum = record {
   task = record {
     job = record {
-      source = Hex;
+      line_form = Hex;
       act = Check (record {
         wanted = wanted;
         maximum = maximum;
@@ -300,7 +300,7 @@ with_privileges : Bool → Bool → Settings
 with_privileges security take_ownership = record {
   task = record {
     job = record {
-      source = Hex;
+      line_form = Hex;
       act = Check (record {
         wanted = 1;
         maximum = false;
@@ -388,7 +388,7 @@ derived_in_a_domain : settings_of (derive_with (codes "container") (codes "DA") 
     ≡ Ok (record {
       task = record {
         job = record {
-          source = Hex;
+          line_form = Hex;
           act = Derive (record {
             target = Container;
             owner = domain_admins;
@@ -418,7 +418,7 @@ group_in_a_domain : settings_of (derive_with (codes "file") (codes "SY") (codes 
     ≡ Ok (record {
       task = record {
         job = record {
-          source = Hex;
+          line_form = Hex;
           act = Derive (record {
             target = File;
             owner = record { authority = 5; subs = 18 ∷ [] };

@@ -246,10 +246,10 @@ pub record Chosen : Type 0 where
 unfoldable pub command_chosen : CommandName → List Row → Result Chosen UsageFault
 command_chosen command rows = do
   domain ← given_domain rows
-  source ← given_form rows
+  line_form ← given_form rows
   own ← command_own command domain rows
   Ok (record {
-    job = record { source = source; act = own.act; domain = domain; numeric = is_set name.Numeric rows };
+    job = record { line_form = line_form; act = own.act; domain = domain; numeric = is_set name.Numeric rows };
     holder = own.holder;
     creator = own.creator;
   })

@@ -117,7 +117,7 @@ fn command_choice<'a>(
     ensures compared { token.new.compared ≡ token.old.compared }
 {
     let domain = given_domain(matches)?;
-    let source = given_form(matches)?;
+    let line_form = given_form(matches)?;
     let own = match command_own(command, matches, domain.as_ref(), token) {
         Ok(own) => own,
         Err(fault) => return Err(fault),
@@ -125,7 +125,7 @@ fn command_choice<'a>(
     let numeric = is_set(matches, OptionName::Numeric);
     Ok(Choice {
         job: Job {
-            source,
+            line_form,
             act: own.act,
             domain,
             numeric,
