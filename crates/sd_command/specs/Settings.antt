@@ -199,8 +199,8 @@ nobody = record { entries = []; level = None }
 
 unfoldable pub convert_own : List Row → Result Own UsageFault
 convert_own rows = do
-  target ← given_output_form rows
-  Ok (record { act = Convert target; holder = nobody; creator = None })
+  form ← given_output_form rows
+  Ok (record { act = Convert form; holder = nobody; creator = None })
 
 abbrev pub explain_own : Result Own UsageFault
 explain_own = Ok (record { act = Explain; holder = nobody; creator = None })
@@ -218,13 +218,13 @@ check_own domain rows = do
 
 unfoldable pub derive_own : Option SecurityId → List Row → Result Own UsageFault
 derive_own domain rows = do
-  target ← given_output_form rows
+  form ← given_output_form rows
   mapping ← given_mapping rows
-  kind ← given_kind rows
+  target ← given_kind rows
   owner ← needed_sid name.Owner domain rows
   group ← needed_sid name.Group domain rows
   Ok (record {
-    act = Derive (record { target = kind; owner = owner; group = group; mapping = mapping }) target;
+    act = Derive (record { target = target; owner = owner; group = group; mapping = mapping }) form;
     holder = nobody;
     creator = text_given name.Creator rows;
   })

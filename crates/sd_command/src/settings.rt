@@ -173,8 +173,8 @@ fn convert_own<'a>(matches: &ArgMatches<'a>) -> Result<Own<'a>, UsageFault>
     ensures chosen { own_with nobody result ≡ specs.convert_own (rows_of (found_of matches.now)) }
     ensures none { IfOk result (λ own. own.creator ≡ None) }
 {
-    let target = given_output_form(matches)?;
-    Ok(without_creator(Act::Convert(target)))
+    let form = given_output_form(matches)?;
+    Ok(without_creator(Act::Convert(form)))
 }
 
 // What the text of an option reads as. None where the option is left out.

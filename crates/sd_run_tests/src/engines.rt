@@ -39,10 +39,10 @@ fn used(rt: &(impl Abort + AllocGlobal)) -> SdBuf {
 }
 
 // Over such buffers, and a text that is no base64.
-fn used_engine(rt: &(impl Abort + AllocGlobal), line_form: Form, target: OutputForm) -> Engine {
+fn used_engine(rt: &(impl Abort + AllocGlobal), line_form: Form, form: OutputForm) -> Engine {
     let mut text = TextBuf::new(rt.alloc()).expect(rt, "memory for a text");
     assert!(rt; text.extend(b"AQAE!").is_ok());
-    let job = job(line_form, Act::Convert(target));
+    let job = job(line_form, Act::Convert(form));
     Engine::over(job, used(rt), used(rt), used(rt), text)
 }
 
@@ -72,8 +72,8 @@ fn expect_answers(
 fn runs_over_used_buffers(rt: HostRuntime) {
     let mut token = Token::new(rt.alloc()).expect(&rt, "memory for a token");
     for (line_form, line) in FORMS.into_iter().zip(LINES) {
-        for (target, answer) in FORMS.into_iter().zip(LINES) {
-            let mut engine = used_engine(&rt, line_form, OutputForm::from(target));
+        for (form, answer) in FORMS.into_iter().zip(LINES) {
+            let mut engine = used_engine(&rt, line_form, OutputForm::from(form));
             for most in [usize::MAX, 1] {
                 expect_answers(&rt, &mut engine, &mut token, most, line, answer, 0);
             }
