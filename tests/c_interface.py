@@ -71,7 +71,7 @@ CONSTANTS = [
     ("SDTOOL_MOST_TEXT", "crates/sd_text/src/limits.rt", "MOST_SDDL_TEXT"),
     ("SDTOOL_MOST_SIDS", "crates/sd_token/src/limits.rt", "MOST_ENTRIES"),
     ("SDTOOL_MOST_SID", "crates/sd_parts/src/limits.rt", "MOST_SID_SIZE"),
-    ("SDTOOL_MOST_SID_TEXT", "crates/sd_call_sids/src/name.rt", "MOST_TEXT_SIZE"),
+    ("SDTOOL_MOST_SID_TEXT", "crates/sd_text/src/limits.rt", "MOST_FIELD_SIZE"),
     ("SDTOOL_TOO_SMALL", "crates/sd_call/src/outcome.rt", "TOO_SMALL"),
     ("SDTOOL_NO_MEMORY", "crates/sd_call/src/outcome.rt", "NO_MEMORY"),
     ("SDTOOL_ACL_LIST", "crates/sd_call_build/src/new.rt", "LIST"),

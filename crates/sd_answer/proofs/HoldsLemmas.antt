@@ -25,7 +25,7 @@ without_cr-push (x ∷ []) b e = ap (λ l. x ∷ l) (cond_false (b == 13) [] (b 
 without_cr-push (x ∷ y ∷ raw) b e = ap (λ l. x ∷ l) (without_cr-push (y ∷ raw) b e)
 
 -- nothing came yet
-pub Holds-nil : (job : Job) (line : Line) → form_of line.reader ≡ job.source → line.count ≡ 0 → line.cr ≡ false
+pub Holds-nil : (job : Job) (line : Line) → form_of line.reader ≡ job.line_form → line.count ≡ 0 → line.cr ≡ false
     → HasRead line.reader line.read line.held job.domain [] → Holds job line []
 unfolding without_cr
 Holds-nil job line form none no_cr read = record {

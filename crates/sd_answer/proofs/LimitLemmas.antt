@@ -79,4 +79,4 @@ line_limits form domain line k = chosen_limits (nat_lt (line_limit form) (length
 
 pub meaning-limits : (job : Job) (line : List ℕ) → IfSome job.domain IsSid → MeansLimits (meaning job line)
 meaning-limits job [] k = tt
-meaning-limits job (b ∷ line) k = line_limits job.source job.domain (b ∷ line) k
+meaning-limits job (b ∷ line) k = line_limits job.line_form job.domain (b ∷ line) k

@@ -63,22 +63,22 @@ unfolding line_means
 line_means-within form domain line h = grind (arith, nat_tests)
 
 meaning-some : (job : Job) (line : List ℕ) → 0 < length line
-    → meaning job line ≡ Some (line_means job.source job.domain line)
+    → meaning job line ≡ Some (line_means job.line_form job.domain line)
 meaning-some job [] h = absurd (omega arith)
 meaning-some job (b ∷ line) h = refl
 
 -- a line over its limit
-pub meaning-over : (job : Job) (line : List ℕ) → line_limit job.source < length line
+pub meaning-over : (job : Job) (line : List ℕ) → line_limit job.line_form < length line
     → meaning job line ≡ Some (Err TooLong)
 meaning-over job line beyond =
     meaning-some job line (omega arith)
-    ∙ ap (λ (m : Result Descriptor LineFault). Some m) (line_means-over job.source job.domain line beyond)
+    ∙ ap (λ (m : Result Descriptor LineFault). Some m) (line_means-over job.line_form job.domain line beyond)
 
 -- any other line that is not empty
 pub meaning-text : (job : Job) (line : List ℕ) (m : Result Descriptor LineFault) → line ≢ []
-    → length line ≤ line_limit job.source
-    → m ≡ text_means job.source job.domain line → meaning job line ≡ Some m
+    → length line ≤ line_limit job.line_form
+    → m ≡ text_means job.line_form job.domain line → meaning job line ≡ Some m
 meaning-text job [] m some within e = absurd (some refl)
 meaning-text job (b ∷ line) m some within e =
     ap (λ (m : Result Descriptor LineFault). Some m)
-    (line_means-within job.source job.domain (b ∷ line) within ∙ sym e)
+    (line_means-within job.line_form job.domain (b ∷ line) within ∙ sym e)

@@ -39,12 +39,12 @@ sddl_leaves (Err e) (Err f) (Ok y) bytes h is = absurd is
 sddl_leaves (Err e) (Err f) (Err g) bytes h is = let same = h.0 in cc
 
 pub sddl-leaves : (job : Job) (line : Line) (s : SddlReader) (text : List ℕ) (r : Result (Unit {0}) SddlFault)
-    (x : Result (Unit {0}) LineFault) (bytes : List ℕ) → HoldsText job line text → length text ≤ line_limit job.source
+    (x : Result (Unit {0}) LineFault) (bytes : List ℕ) → HoldsText job line text → length text ≤ line_limit job.line_form
     → line.reader ≡ reader.Sddl s
     → ((domain : Option SecurityId) (text : List ℕ) → ReadsSddl s line.read domain text
     → MatchResult (means text domain) (λ d. (r ≡ Ok tt) × Shows bytes d) (λ e. (r ≡ Err e) × (bytes ≡ [])))
     → MatchResult r (λ y. x ≡ Ok y) (λ e. IsErrAnd x (λ f. f ≡ Sddl e))
-    → Leaves (text_means job.source job.domain text) x bytes
+    → Leaves (text_means job.line_form job.domain text) x bytes
 sddl-leaves job line s text r x bytes h within is finishes mapped =
     let reads : ReadsSddl s line.read job.domain text =
     subst (λ (q : LineReader). HasRead q line.read line.held job.domain text) is (h.whole within) in

@@ -48,9 +48,9 @@ use Rattle.sd_answer.specs.declared.line.Line.{Line}
 use Rattle.sd_answer.specs.declared.fault.LineFault.TheVariants.{Derive, Sd, Sddl, Text, TooLong}
 use Rattle.sd_answer.specs.declared.job.Act.{Act}
 use Rattle.sd_answer.specs.declared.job.Act.TheVariants.{Check, Convert, Derive as DeriveAct, Explain}
+use Rattle.sd_answer.specs.declared.job.Form.{Form}
 use Rattle.sd_answer.specs.declared.job.Form.TheVariants.{Base64, Hex, Sddl as SddlForm}
 use Rattle.sd_answer.specs.declared.job.Job.{Job}
-use Rattle.sd_answer.specs.declared.job.OutputForm.{OutputForm}
 use Rattle.sd_answer.specs.declared.job.OutputForm.TheVariants as output
 use Rattle.sd_answer.specs.declared.job.Task.{Task}
 
@@ -72,8 +72,12 @@ nobody = record { entries = []; level = None }
 abbrev alone : Job → Task
 alone job = record { job = job; creator = None }
 
+-- a job over lines of hex
+abbrev hex_to : Act → Job
+hex_to act = record { line_form = Hex; act = act; domain = None; numeric = false }
+
 abbrev hex_to_hex : Job
-hex_to_hex = record { source = Hex; act = Convert output.Hex; domain = None; numeric = false }
+hex_to_hex = hex_to (Convert output.Hex)
 
 pub empty_answer : answer (alone hex_to_hex) nobody [] ≡ 10 ∷ []
 unfolding answer
@@ -96,7 +100,7 @@ unfolding answer line_means form_text hex_spells hex_on_literals reading fault h
 header_answer = refl
 
 abbrev base64_to_hex : Job
-base64_to_hex = record { source = Base64; act = Convert output.Hex; domain = None; numeric = false }
+base64_to_hex = record hex_to_hex { line_form = Base64 }
 
 pub base64_answer : answer (alone base64_to_hex) nobody (codes "Af8AgAAAAAAAAAAAAAAAAAAAAAA=") ≡ codes
     "01ff008000000000000000000000000000000000" ++ 10 ∷ []
@@ -105,7 +109,7 @@ unfolding answer line_means form_text base64_spells base64_on_literals hex_on_li
 base64_answer = refl
 
 abbrev hex_to_base64 : Job
-hex_to_base64 = record { source = Hex; act = Convert output.Base64; domain = None; numeric = false }
+hex_to_base64 = hex_to (Convert output.Base64)
 
 pub answer_in_base64 : answer (alone hex_to_base64) nobody (codes "01FF008000000000000000000000000000000000") ≡ codes
     "Af8AgAAAAAAAAAAAAAAAAAAAAAA=" ++ 10 ∷ []
@@ -163,9 +167,6 @@ ends = refl
 header_alone : List ℕ
 header_alone = codes "0100008000000000000000000000000000000000"
 
-hex_to : Act → Job
-hex_to act = record { source = Hex; act = act; domain = None; numeric = false }
-
 -- everyone twice
 two_entries : Holder
 two_entries = record {
@@ -186,20 +187,20 @@ first_right = record {
 
 counted : Unit {0}
 unfolding answer is_error bound line_means hex_spells hex_on_literals reading fault header_fault parts_fault sid_fault
-    sid_shown acl_part_fault acl_shown overlaps_fault overlap_fault u16_at u32_at header_bytes header_alone hex_to
+    sid_shown acl_part_fault acl_shown overlaps_fault overlap_fault u16_at u32_at header_bytes header_alone
     two_entries
 counted = tt
 
-errors : is_error (alone (hex_to (Convert output.Hex))) two_entries (codes "zz")
-    ∷ is_error (alone (hex_to (Convert output.Hex))) two_entries header_alone
+errors : is_error (alone hex_to_hex) two_entries (codes "zz")
+    ∷ is_error (alone hex_to_hex) two_entries header_alone
     ∷ is_error (alone (hex_to Explain)) two_entries header_alone
     ∷ is_error (alone (hex_to (Check first_right))) two_entries header_alone
     ∷ is_error (alone (hex_to Explain)) two_entries [] ∷ [] ≡ true ∷ false ∷ false ∷ false ∷ false ∷ []
 unfolding counted
 errors = refl
 
-comparisons : bound (alone (hex_to (Convert output.Hex))) two_entries (codes "zz")
-    ∷ bound (alone (hex_to (Convert output.Hex))) two_entries header_alone
+comparisons : bound (alone hex_to_hex) two_entries (codes "zz")
+    ∷ bound (alone hex_to_hex) two_entries header_alone
     ∷ bound (alone (hex_to Explain)) two_entries header_alone
     ∷ bound (alone (hex_to (Check first_right))) two_entries header_alone
     ∷ bound (alone (hex_to (Check first_right))) two_entries [] ∷ [] ≡ 0 ∷ 0 ∷ 0 ∷ 2 ∷ 0 ∷ []
@@ -236,29 +237,19 @@ no_names = refl
 
 -- the edge of each form's limit: a line of so many bytes is read, and one of a byte more is too long, whatever it has
 
-longest_hex : (line : List ℕ) → length line ≡ 262452 → line_means Hex None line ≡ text_means Hex None line
-unfolding line_means
-longest_hex line n = rw n refl
+abbrev AreRead : Form → ℕ → Type 0
+AreRead form size = (line : List ℕ) → length line ≡ size → line_means form None line ≡ text_means form None line
 
-too_long_hex : (line : List ℕ) → length line ≡ 262453 → line_means Hex None line ≡ Err TooLong
-unfolding line_means
-too_long_hex line n = rw n refl
+abbrev AreTooLong : Form → ℕ → Type 0
+AreTooLong form size = (line : List ℕ) → length line ≡ size → line_means form None line ≡ Err TooLong
 
-longest_base64 : (line : List ℕ) → length line ≡ 174968 → line_means Base64 None line ≡ text_means Base64 None line
+longest_lines_are_read : AreRead Hex 262452 × AreRead Base64 174968 × AreRead SddlForm 1049872
 unfolding line_means
-longest_base64 line n = rw n refl
+longest_lines_are_read = (λ line n. rw n refl, λ line n. rw n refl, λ line n. rw n refl)
 
-too_long_base64 : (line : List ℕ) → length line ≡ 174969 → line_means Base64 None line ≡ Err TooLong
+longer_lines_are_too_long : AreTooLong Hex 262453 × AreTooLong Base64 174969 × AreTooLong SddlForm 1049873
 unfolding line_means
-too_long_base64 line n = rw n refl
-
-longest_sddl : (line : List ℕ) → length line ≡ 1049872 → line_means SddlForm None line ≡ text_means SddlForm None line
-unfolding line_means
-longest_sddl line n = rw n refl
-
-too_long_sddl : (line : List ℕ) → length line ≡ 1049873 → line_means SddlForm None line ≡ Err TooLong
-unfolding line_means
-too_long_sddl line n = rw n refl
+longer_lines_are_too_long = (λ line n. rw n refl, λ line n. rw n refl, λ line n. rw n refl)
 
 -- ---- more than a header
 
@@ -273,14 +264,11 @@ answered = tt
 loose : List ℕ
 loose = codes "0100048018000000000000000000000000000000eeeeeeee010100000000000100000000"
 
-in_form : OutputForm → Job
-in_form form = record { source = Hex; act = Convert form; domain = None; numeric = false }
-
-forms_of_loose : map (λ form. answer (alone (in_form form)) nobody loose)
+forms_of_loose : map (λ form. answer (alone (hex_to (Convert form))) nobody loose)
     (output.Hex ∷ output.Base64 ∷ output.Sddl ∷ [])
     ≡ codes "0100048014000000000000000000000000000000010100000000000100000000\n"
     ∷ codes "AQAEgBQAAAAAAAAAAAAAAAAAAAABAQAAAAAAAQAAAAA=\n" ∷ codes "O:WDD:NO_ACCESS_CONTROL\n" ∷ []
-unfolding answered loose in_form
+unfolding answered loose
 forms_of_loose = refl
 
 -- the same from base64, and an owner and a group from SDDL
@@ -290,7 +278,7 @@ base64_of_loose : answer (alone base64_to_hex) nobody (codes "AQAEgBgAAAAAAAAAAA
 unfolding answered
 base64_of_loose = refl
 
-two_sids : answer (alone (record base64_to_hex { source = SddlForm })) nobody (codes "G:SYO:WD")
+two_sids : answer (alone (record base64_to_hex { line_form = SddlForm })) nobody (codes "G:SYO:WD")
     ≡ codes "0100008014000000200000000000000000000000" ++ codes "010100000000000100000000"
     ++ codes "010100000000000512000000\n"
 unfolding answered
@@ -306,7 +294,7 @@ owned_by_admins =
     codes "0100008014000000000000000000000000000000" ++ codes "01050000000000051500000001000000020000000300000000020000"
 
 under_domain : Act → Job
-under_domain act = record { source = Hex; act = act; domain = Some a_domain; numeric = false }
+under_domain act = record (hex_to act) { domain = Some a_domain }
 
 -- an alias of the domain is printed under it alone, and not where numbers are asked for
 printed_in_a_domain : answer (alone (under_domain (Convert output.Sddl))) nobody owned_by_admins
@@ -335,8 +323,8 @@ unfolding answered a_domain admins
 read_in_a_domain = refl
 
 answers_in_a_domain :
-    answer (alone (record (under_domain (Convert output.Hex)) { source = SddlForm })) nobody (codes "O:DA")
-    ∷ answer (alone (record (hex_to (Convert output.Hex)) { source = SddlForm })) nobody (codes "O:DA") ∷ []
+    answer (alone (record (under_domain (Convert output.Hex)) { line_form = SddlForm })) nobody (codes "O:DA")
+    ∷ answer (alone (record hex_to_hex { line_form = SddlForm })) nobody (codes "O:DA") ∷ []
     ≡ (owned_by_admins ++ 10 ∷ []) ∷ codes "error 23 needs-domain\n" ∷ []
 unfolding answered a_domain owned_by_admins under_domain
 answers_in_a_domain = refl

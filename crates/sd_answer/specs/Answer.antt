@@ -78,7 +78,7 @@ Meaning = Option (Result Descriptor LineFault)
 
 abbrev pub meaning : Job → List ℕ → Meaning
 meaning job [] = None
-meaning job (b ∷ line) = Some (line_means job.source job.domain (b ∷ line))
+meaning job (b ∷ line) = Some (line_means job.line_form job.domain (b ∷ line))
 
 -- ---- what is answered to it
 

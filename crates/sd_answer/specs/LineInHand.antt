@@ -15,9 +15,9 @@ IsReady line = CanRead line.reader line.read
 
 -- the line in hand has this text: it was read whole, or it passes the limit
 pub record HoldsText (job : Job) (line : Line) (text : List ℕ) : Type 0 where
-  pub form : form_of line.reader ≡ job.source
+  pub form : form_of line.reader ≡ job.line_form
   pub counted : line.count ≡ min (length text) (2 ^ 64 - 1)
-  pub whole : length text ≤ line_limit job.source → HasRead line.reader line.read line.held job.domain text
+  pub whole : length text ≤ line_limit job.line_form → HasRead line.reader line.read line.held job.domain text
 
 -- a CR that waits for the next byte
 abbrev pub pending : Bool → List ℕ

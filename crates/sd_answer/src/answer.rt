@@ -15,9 +15,9 @@ ghost use Rattle.sd_answer.specs.Inner.Printing.{PrintsAnswer};
 ghost use Rattle.sd_answer.specs.LineEnd.{line_feed};
 ghost use Rattle.sd_answer.specs.LineInHand.{HoldsText, IsReady, PutsAnswer};
 
-use crate::base64_text::print_base64;
+use crate::base64_text::print_as_base64;
 use crate::fault::{LineFault, print_fault};
-use crate::hex_text::{SPELLED, print_hex};
+use crate::hex_text::{SPELLED, print_as_hex};
 use crate::job::{Act, Job, OutputForm, Task};
 use crate::line::Line;
 use sd_buffer::SdBuf;
@@ -27,7 +27,7 @@ use sd_explain::print_explain;
 use sd_inherit::{Plan, derive};
 use sd_sddl_printer::print_sddl;
 use sd_sink::{Gather, Print, Sink, SinkFault};
-use sd_text::print_hex as print_hex_digits;
+use sd_text::print_hex;
 use sd_token::Token;
 use sd_view::{SdView, view_written};
 
@@ -153,11 +153,11 @@ fn print_form<P: Print>(
     match form {
         OutputForm::Hex => {
             write_layout(view, &mut stores.written);
-            print_hex(stores.written.bytes(), &mut stores.spelled, out);
+            print_as_hex(stores.written.bytes(), &mut stores.spelled, out);
         }
         OutputForm::Base64 => {
             write_layout(view, &mut stores.written);
-            print_base64(stores.written.bytes(), &mut stores.spelled, out);
+            print_as_base64(stores.written.bytes(), &mut stores.spelled, out);
         }
         OutputForm::Sddl => print_as_sddl(job, view, out),
     }
@@ -171,8 +171,8 @@ fn print_written<P: Print>(job: &Job, form: OutputForm, stores: &mut Stores, out
         → Prints (P.told out.old) (P.told out.new) (form_text job.now form d) }
 {
     match form {
-        OutputForm::Hex => print_hex(stores.written.bytes(), &mut stores.spelled, out),
-        OutputForm::Base64 => print_base64(stores.written.bytes(), &mut stores.spelled, out),
+        OutputForm::Hex => print_as_hex(stores.written.bytes(), &mut stores.spelled, out),
+        OutputForm::Base64 => print_as_base64(stores.written.bytes(), &mut stores.spelled, out),
         OutputForm::Sddl => print_as_sddl(job, &view_written(stores.written.bytes()), out),
     }
 }
@@ -222,11 +222,11 @@ fn print_verdict<P: Print>(verdict: Verdict, out: &mut P)
     match verdict {
         Verdict::Granted(mask) => {
             out.put(b"granted 0x");
-            print_hex_digits(8, u64::from(mask), out);
+            print_hex(8, u64::from(mask), out);
         }
         Verdict::Denied(mask) => {
             out.put(b"denied 0x");
-            print_hex_digits(8, u64::from(mask), out);
+            print_hex(8, u64::from(mask), out);
         }
     }
 }

@@ -10,7 +10,7 @@ use base64::engine::general_purpose::STANDARD;
 use sd_sink::Print;
 
 /// Prints the bytes as base64 (RFC 4648, section 4), by way of the cells.
-pub fn print_base64<P: Print>(bytes: &[u8], cells: &mut [u8; SPELLED], out: &mut P)
+pub fn print_as_base64<P: Print>(bytes: &[u8], cells: &mut [u8; SPELLED], out: &mut P)
     ensures { Prints (P.told out.old) (P.told out.new) (encode_of standard bytes.now) }
 {
     let mut at = 0;

@@ -10,7 +10,7 @@ use sd_sink::Print;
 pub const SPELLED: usize = 1024;
 
 /// Prints the bytes as lower-case hex, by way of the cells.
-pub fn print_hex<P: Print>(bytes: &[u8], cells: &mut [u8; SPELLED], out: &mut P)
+pub fn print_as_hex<P: Print>(bytes: &[u8], cells: &mut [u8; SPELLED], out: &mut P)
     ensures { Prints (P.told out.old) (P.told out.new) (encode_lower bytes.now) }
 {
     let mut at = 0;

@@ -65,7 +65,7 @@ pub enum Act {
 /// What a run does: how its lines spell descriptors, and what is done with each.
 #[derive(Clone, Copy, Debug, PartialEq, Eq)]
 pub struct Job {
-    pub source: Form,
+    pub line_form: Form,
     pub act: Act,
     /// The domain whose aliases are read and printed, if there is one.
     pub domain: Option<Sid>,

@@ -22,11 +22,11 @@ pub enum LineReader {
 impl LineReader {
     // A reader of a line for the job, that has read nothing.
     fn new(job: &Job, read: &mut SdBuf) -> LineReader
-        ensures form { form_of result ≡ job.now.source }
+        ensures form { form_of result ≡ job.now.line_form }
         ensures ready { CanRead result read.new }
         ensures read { HasRead result read.new [] job.now.domain [] }
     {
-        match job.source {
+        match job.line_form {
             Form::Hex => LineReader::Hex(HexReader::new(read)),
             Form::Base64 => LineReader::Base64,
             Form::Sddl => LineReader::Sddl(SddlReader::new(job.domain, read)),
@@ -35,11 +35,11 @@ impl LineReader {
 
     // Begins another line for the job, as a reader that has read nothing.
     fn restart(&mut self, job: &Job, read: &mut SdBuf)
-        ensures form { form_of self.new ≡ job.now.source }
+        ensures form { form_of self.new ≡ job.now.line_form }
         ensures ready { CanRead self.new read.new }
         ensures read { HasRead self.new read.new [] job.now.domain [] }
     {
-        match (&mut *self, job.source) {
+        match (&mut *self, job.line_form) {
             (LineReader::Hex(reader), Form::Hex) => *reader = HexReader::new(read),
             (LineReader::Sddl(reader), Form::Sddl) => reader.restart(job.domain, read),
             _ => *self = LineReader::new(job, read),
@@ -176,8 +176,8 @@ impl Line {
     pub(crate) fn is_too_long(&self) -> bool
         ensures value { result ≡ nat_lt (line_limit (form_of self.now.reader)) self.now.count }
         ensures meaning { (job : Job) (text : List ℕ) → HoldsText job self.now text
-            → (result ≡ true → line_limit job.source < length text)
-            × (result ≡ false → length text ≤ line_limit job.source) }
+            → (result ≡ true → line_limit job.line_form < length text)
+            × (result ≡ false → length text ≤ line_limit job.line_form) }
     {
         self.count > self.reader.limit()
     }
@@ -185,8 +185,8 @@ impl Line {
     // The end of a line that is not too long: the descriptor that it means.
     pub(crate) fn end(&mut self) -> Result<SdView<'_>, LineFault>
         requires { IsReady self.old }
-        ensures { (job : Job) (text : List ℕ) → HoldsText job self.old text → length text ≤ line_limit job.source
-            → result ≡ text_means job.source job.domain text }
+        ensures { (job : Job) (text : List ℕ) → HoldsText job self.old text → length text ≤ line_limit job.line_form
+            → result ≡ text_means job.line_form job.domain text }
     {
         self.finish()?;
         // A reader of SDDL leaves bytes in their written form, which need no check.
@@ -200,8 +200,8 @@ impl Line {
     fn finish(&mut self) -> Result<(), LineFault>
         requires { IsReady self.old }
         ensures leaves { (job : Job) (text : List ℕ) → HoldsText job self.old text
-            → length text ≤ line_limit job.source
-            → Leaves (text_means job.source job.domain text) result self.new.read }
+            → length text ≤ line_limit job.line_form
+            → Leaves (text_means job.line_form job.domain text) result self.new.read }
         ensures written { OnOk result (IsWrittenBy self.new.reader self.new.read) }
     {
         match &mut self.reader {

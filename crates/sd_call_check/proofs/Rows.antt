@@ -3,7 +3,9 @@ use Rattle.std.proofs.Common.{◌≡◌, inl, inr, [], ◌∷◌, ◌++◌, true
 use Rattle.std.specs.Prelude.{List, ℕ}
 use Rattle.sd_rights.specs.Mapping.{file_mapping, key_mapping, mapped}
 use Rattle.sd_sid.specs.Sid.{sid_at}
+use Rattle.sd_token.specs.Token.{Entry}
 use Rattle.sd_token.specs.declared.token.EntryKind.TheVariants.{DenyOnly, Enabled}
+use Rattle.sd_check.specs.Ask.{Asked}
 use Rattle.sd_check.specs.declared.ask.AskFault.TheVariants.{EmptyRequest, ReservedBits}
 use Rattle.sd_check.specs.declared.verdict.Verdict.TheVariants.{Denied, Granted}
 use Rattle.sd_call.specs.Arguments.{optional_sid_in}
@@ -55,9 +57,14 @@ one_sid_more : (sids kinds : List ℕ) → length kinds ≡ 1025 → entries_in 
 unfolding entries_in
 one_sid_more sids kinds h = rw h refl
 
--- bytes 00 01 02 .. 0f spell the GUID 03020100-0504-0706-0809-0a0b0c0d0e0f
-object : object_in (0 ∷ 1 ∷ 2 ∷ 3 ∷ 4 ∷ 5 ∷ 6 ∷ 7 ∷ 8 ∷ 9 ∷ 10 ∷ 11 ∷ 12 ∷ 13 ∷ 14 ∷ 15 ∷ [])
-    ≡ Ok (Some (3 ∷ 2 ∷ 1 ∷ 0 ∷ 5 ∷ 4 ∷ 7 ∷ 6 ∷ 8 ∷ 9 ∷ 10 ∷ 11 ∷ 12 ∷ 13 ∷ 14 ∷ 15 ∷ []))
+-- bytes 00 01 02 .. 0f, and the GUID that they spell: 03020100-0504-0706-0809-0a0b0c0d0e0f
+abbrev type_bytes : List ℕ
+type_bytes = 0 ∷ 1 ∷ 2 ∷ 3 ∷ 4 ∷ 5 ∷ 6 ∷ 7 ∷ 8 ∷ 9 ∷ 10 ∷ 11 ∷ 12 ∷ 13 ∷ 14 ∷ 15 ∷ []
+
+abbrev type : List ℕ
+type = 3 ∷ 2 ∷ 1 ∷ 0 ∷ 5 ∷ 4 ∷ 7 ∷ 6 ∷ 8 ∷ 9 ∷ 10 ∷ 11 ∷ 12 ∷ 13 ∷ 14 ∷ 15 ∷ []
+
+object : object_in type_bytes ≡ Ok (Some type)
 unfolding object_in
 object = refl
 
@@ -82,18 +89,23 @@ levels : level_of (record request { has_level = false }) ∷ level_of (record re
     ∷ [] ≡ None ∷ Some 0 ∷ Some 8192 ∷ []
 levels = refl
 
-asker : asker_in everyone (1 ∷ []) [] system request ≡ Ok (
-  record { entries = (record { authority = 1; subs = 0 ∷ [] }, DenyOnly) ∷ []; level = Some 8192 },
-  record {
-    wanted = 0x20019;
-    maximum = false;
-    mapping = key_mapping;
-    object = None;
-    principal_self = Some (record { authority = 5; subs = 18 ∷ [] });
-    security = true;
-    take_ownership = false;
-  },
-)
+-- Everyone, deny-only, and what it asks by the request, with SYSTEM as PRINCIPAL SELF
+abbrev everyone_denied : List Entry
+everyone_denied = (record { authority = 1; subs = 0 ∷ [] }, DenyOnly) ∷ []
+
+abbrev requested : Asked
+requested = record {
+  wanted = 0x20019;
+  maximum = false;
+  mapping = key_mapping;
+  object = None;
+  principal_self = Some (record { authority = 5; subs = 18 ∷ [] });
+  security = true;
+  take_ownership = false;
+}
+
+asker : asker_in everyone (1 ∷ []) [] system request
+    ≡ Ok (record { entries = everyone_denied; level = Some 8192 }, requested)
 unfolding asker_in entries_in ask_in object_in optional_sid_in sid_at mapped
 asker = refl
 
@@ -104,11 +116,9 @@ maximum : (asked (record request { wanted = 1; maximum = true }) file_mapping No
 maximum = refl
 
 take_ownership : asked (record request { wanted = 2; security = false; take_ownership = true }) file_mapping None None
-    ≡ record {
+    ≡ record requested {
       wanted = 2;
-      maximum = false;
       mapping = file_mapping;
-      object = None;
       principal_self = None;
       security = false;
       take_ownership = true;
@@ -116,22 +126,11 @@ take_ownership : asked (record request { wanted = 2; security = false; take_owne
 unfolding mapped
 take_ownership = refl
 
--- bytes 00 01 02 .. 0f, and the GUID that they spell
-abbrev type_bytes : List ℕ
-type_bytes = 0 ∷ 1 ∷ 2 ∷ 3 ∷ 4 ∷ 5 ∷ 6 ∷ 7 ∷ 8 ∷ 9 ∷ 10 ∷ 11 ∷ 12 ∷ 13 ∷ 14 ∷ 15 ∷ []
+-- the first right of a key, of an object type
+abbrev asked_of_a_type : Asked
+asked_of_a_type = record requested { wanted = 1; object = Some type; principal_self = None; security = false }
 
-abbrev type : List ℕ
-type = 3 ∷ 2 ∷ 1 ∷ 0 ∷ 5 ∷ 4 ∷ 7 ∷ 6 ∷ 8 ∷ 9 ∷ 10 ∷ 11 ∷ 12 ∷ 13 ∷ 14 ∷ 15 ∷ []
-
-object_is_asked : ask_in (record request { wanted = 1; security = false }) type_bytes [] ≡ Ok (record {
-  wanted = 1;
-  maximum = false;
-  mapping = key_mapping;
-  object = Some type;
-  principal_self = None;
-  security = false;
-  take_ownership = false;
-})
+object_is_asked : ask_in (record request { wanted = 1; security = false }) type_bytes [] ≡ Ok asked_of_a_type
 unfolding ask_in object_in optional_sid_in mapped
 object_is_asked = refl
 
@@ -150,16 +149,7 @@ descriptor_last : (bytes : List ℕ)
     → (checked bytes [] (2 ∷ []) [] [] (record request { wanted = 0 }) ≡ Err (call.Argument which.Entries 0))
     × (checked bytes [] [] [] [] (record request { wanted = 0 }) ≡ Err (call.Ask EmptyRequest))
     × (checked bytes everyone (1 ∷ []) type_bytes system (record request { has_level = false }) ≡ verdict_on bytes
-    (record { entries = (record { authority = 1; subs = 0 ∷ [] }, DenyOnly) ∷ []; level = None })
-    (record {
-      wanted = 0x20019;
-      maximum = false;
-      mapping = key_mapping;
-      object = Some type;
-      principal_self = Some (record { authority = 5; subs = 18 ∷ [] });
-      security = true;
-      take_ownership = false;
-    }))
+    (record { entries = everyone_denied; level = None }) (record requested { object = Some type }))
 unfolding asker_in entries_in ask_in object_in optional_sid_in sid_at mapped
 descriptor_last bytes = (refl, refl, refl)
 
@@ -223,12 +213,12 @@ sizes : (token_size 0 ≡ 2) × (token_size 1 ≡ 22) × (token_size 20 ≡ 402)
 unfolding everyone_memory
 sizes = (refl, refl, refl, refl)
 
-held : entries_held everyone_memory ≡ Ok ((record { authority = 1; subs = 0 ∷ [] }, DenyOnly) ∷ [])
+held : entries_held everyone_memory ≡ Ok everyone_denied
 unfolding entries_held everyone_memory
 held = refl
 
 -- memory with room behind the token
-held_in_more : entries_held (everyone_memory ++ 7 ∷ []) ≡ Ok ((record { authority = 1; subs = 0 ∷ [] }, DenyOnly) ∷ [])
+held_in_more : entries_held (everyone_memory ++ 7 ∷ []) ≡ Ok everyone_denied
 unfolding entries_held everyone_memory
 held_in_more = refl
 
@@ -268,7 +258,7 @@ short_of_room : reading everyone (1 ∷ []) 21 ≡ Err (too_small 22)
 unfolding reading
 short_of_room = refl
 
-read_everyone : reading everyone (1 ∷ []) 22 ≡ Ok ((record { authority = 1; subs = 0 ∷ [] }, DenyOnly) ∷ [])
+read_everyone : reading everyone (1 ∷ []) 22 ≡ Ok everyone_denied
 unfolding reading sid_at
 read_everyone = refl
 
@@ -337,27 +327,9 @@ order_with_a_token bytes = (refl, refl, refl, refl)
 with_a_token : (bytes : List ℕ)
     → (checked_held bytes everyone_memory type_bytes [] (record request { wanted = 1; security = false })
     ≡ verdict_on bytes
-    (record { entries = (record { authority = 1; subs = 0 ∷ [] }, DenyOnly) ∷ []; level = Some 8192 })
-    (record {
-      wanted = 1;
-      maximum = false;
-      mapping = key_mapping;
-      object = Some type;
-      principal_self = None;
-      security = false;
-      take_ownership = false;
-    }))
+    (record { entries = everyone_denied; level = Some 8192 }) asked_of_a_type)
     × (checked_held bytes everyone_memory [] system (record request { has_level = false; take_ownership = true })
     ≡ verdict_on bytes
-    (record { entries = (record { authority = 1; subs = 0 ∷ [] }, DenyOnly) ∷ []; level = None })
-    (record {
-      wanted = 0x20019;
-      maximum = false;
-      mapping = key_mapping;
-      object = None;
-      principal_self = Some (record { authority = 5; subs = 18 ∷ [] });
-      security = true;
-      take_ownership = true;
-    }))
+    (record { entries = everyone_denied; level = None }) (record requested { take_ownership = true }))
 unfolding ask_in object_in optional_sid_in sid_at mapped entries_held everyone_memory
 with_a_token bytes = (refl, refl)

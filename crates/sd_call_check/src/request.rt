@@ -1,5 +1,8 @@
 //! What an access check asks for.
 
+ghost use Rattle.std.specs.Prelude.{◌≡◌};
+ghost use Rattle.sd_call_check.specs.Checks.{level_of};
+
 /// `struct sdtool_request` of the header.
 #[repr(C)]
 #[derive(Clone, Copy)]
@@ -17,4 +20,11 @@ pub struct Request {
     pub security: bool,
     /// Whether the token has SeTakeOwnershipPrivilege.
     pub take_ownership: bool,
+}
+
+/// The integrity level of the token.
+pub(crate) fn level_of(request: &Request) -> Option<u32>
+    ensures { result ≡ level_of request.now }
+{
+    request.has_level.then_some(request.level)
 }

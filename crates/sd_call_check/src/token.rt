@@ -4,7 +4,7 @@ ghost use Rattle.std.specs.Prelude.{◌≡◌, ◌≤◌, ◌+◌, [], length, M
 ghost use Rattle.sd_token.specs.Limits.{most_entries};
 ghost use Rattle.sd_call_check.specs.Checks.{entries_from, entries_in, entry_at, fault_of, holder_in, kind_in};
 
-use crate::request::Request;
+use crate::request::{Request, level_of};
 use sd_call::{Argument, CallFault};
 use sd_sid::Sid;
 use sd_token::{EntryKind, MOST_ENTRIES, Token};
@@ -26,7 +26,7 @@ pub fn give_holder(
         return Err(CallFault::Argument(Argument::Entries, MOST_ENTRIES));
     }
     add_entries(token, sids, kinds)?;
-    token.set_level(request.has_level.then_some(request.level));
+    token.set_level(level_of(request));
     Ok(())
 }
 

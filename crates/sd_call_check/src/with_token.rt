@@ -5,6 +5,7 @@ ghost use Rattle.sd_call_check.specs.Checks.{told};
 ghost use Rattle.sd_call_check.specs.TokenMemory.{checked_held};
 
 use crate::asker::{AskInput, ask_in};
+use crate::request::level_of;
 use crate::token_memory::{holds_token, token_in};
 use crate::verdict::{VerdictOutcome, told};
 use sd_call::{Argument, CallFault, descriptor_in};
@@ -28,8 +29,7 @@ fn verdict_of(bytes: &[u8], memory: &[u32], input: &AskInput<'_>) -> Result<Verd
     }
     let ask = ask_in(input)?;
     let view = descriptor_in(bytes)?;
-    let level = input.request.has_level.then_some(input.request.level);
-    let mut token = token_in(memory, level);
+    let mut token = token_in(memory, level_of(input.request));
     let verdict = check_lent(&view, &mut token, &ask);
     let _ = token.end().count();
     Ok(verdict)

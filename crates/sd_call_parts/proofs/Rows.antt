@@ -47,28 +47,20 @@ start = record {
 }
 
 abbrev first : AceFound
-first = record {
-  fault = 0;
+first = record start {
   mask = 0x1f01ff;
   number = 1;
-  kind = 0;
   flags = 2;
   place = record { offset = 8; size = 20 };
-  object_type = nowhere;
-  inherited_object_type = nowhere;
   sid = record { offset = 16; size = 12 };
 }
 
 abbrev second : AceFound
-second = record {
-  fault = 0;
+second = record start {
   mask = 2;
   number = 2;
   kind = 1;
-  flags = 0;
   place = record { offset = 28; size = 20 };
-  object_type = nowhere;
-  inherited_object_type = nowhere;
   sid = record { offset = 36; size = 12 };
 }
 
@@ -141,12 +133,10 @@ object_ace = record {
 }
 
 -- both GUIDs, and then one of them alone: the SID follows what is there
-two_guids : found 3 (record { offset = 100; size = 56 }) object_ace ≡ record {
-  fault = 0;
+two_guids : found 3 (record { offset = 100; size = 56 }) object_ace ≡ record start {
   mask = 0x100;
   number = 3;
   kind = 5;
-  flags = 0;
   place = record { offset = 100; size = 56 };
   object_type = record { offset = 112; size = 16 };
   inherited_object_type = record { offset = 128; size = 16 };
@@ -155,14 +145,11 @@ two_guids : found 3 (record { offset = 100; size = 56 }) object_ace ≡ record {
 unfolding kind_code kind_entry
 two_guids = refl
 
-inherited_alone : found 1 (record { offset = 8; size = 40 }) (record object_ace { object = None }) ≡ record {
-  fault = 0;
+inherited_alone : found 1 (record { offset = 8; size = 40 }) (record object_ace { object = None }) ≡ record start {
   mask = 0x100;
   number = 1;
   kind = 5;
-  flags = 0;
   place = record { offset = 8; size = 40 };
-  object_type = nowhere;
   inherited_object_type = record { offset = 20; size = 16 };
   sid = record { offset = 36; size = 12 };
 }
@@ -180,6 +167,22 @@ place offset size = record { offset = offset; size = size }
 abbrev list : ℕ → ℕ → ℕ → ℕ → AclPlace
 list state count offset size = record { state = state; ace_count = count; place = place offset size }
 
+abbrev nothing_but : ℕ → ℕ → ℕ → Contents
+nothing_but fault_number first_part second_part = record {
+  fault = fault_number;
+  part = first_part;
+  other_part = second_part;
+  control = 0;
+  resource_manager = 0;
+  owner = place 0 0;
+  group = place 0 0;
+  sacl = list 0 0 0 0;
+  dacl = list 0 0 0 0;
+}
+
+abbrev no_parts : Contents
+no_parts = nothing_but 0 0 0
+
 -- `unfolding computed` lets `refl` compute what is in a descriptor
 computed : Unit {0}
 unfolding descriptor_in reading fault header_fault parts_fault sid_fault sid_shown sid_at acl_part_fault acl_shown acl_fault
@@ -195,10 +198,7 @@ whole : List ℕ
 whole = (1 ∷ 7 ∷ 0x14 ∷ 0x80 ∷ 32 ∷ 0 ∷ 0 ∷ 0 ∷ 20 ∷ 0 ∷ 0 ∷ 0 ∷ 92 ∷ 0 ∷ 0 ∷ 0 ∷ 44 ∷ 0 ∷ 0 ∷ 0 ∷ [])
     ++ system ++ everyone ++ acl ++ (2 ∷ 0 ∷ 8 ∷ 0 ∷ 0 ∷ 0 ∷ 0 ∷ 0 ∷ [])
 
-all_parts : contents_in whole ≡ record {
-  fault = 0;
-  part = 0;
-  other_part = 0;
+all_parts : contents_in whole ≡ record no_parts {
   control = 0x8014;
   resource_manager = 7;
   owner = place 32 12;
@@ -224,47 +224,15 @@ spare_behind_a_sid = (refl, refl, refl)
 
 -- So does an ACL: that one stands at 20, and the owner behind its spare bytes.
 spare_in_an_acl : contents_in ((1 ∷ 0 ∷ 4 ∷ 0x80 ∷ 76 ∷ 0 ∷ 0 ∷ 0 ∷ 0 ∷ 0 ∷ 0 ∷ 0 ∷ 0 ∷ 0 ∷ 0 ∷ 0 ∷ 20 ∷ 0 ∷ 0 ∷ 0 ∷ [])
-    ++ spare ++ system) ≡ record {
-      fault = 0;
-      part = 0;
-      other_part = 0;
-      control = 0x8004;
-      resource_manager = 0;
-      owner = place 76 12;
-      group = place 0 0;
-      sacl = list 0 0 0 0;
-      dacl = list 2 2 20 56;
-    }
+    ++ spare ++ system) ≡ record no_parts { control = 0x8004; owner = place 76 12; dacl = list 2 2 20 56 }
 unfolding computed spare system
 spare_in_an_acl = refl
 
 -- a null DACL, and nothing else: its present bit is set, and its offset is 0
-null_dacl : contents_in (1 ∷ 0 ∷ 4 ∷ 0x80 ∷ 0 ∷ 0 ∷ 0 ∷ 0 ∷ 0 ∷ 0 ∷ 0 ∷ 0 ∷ 0 ∷ 0 ∷ 0 ∷ 0 ∷ 0 ∷ 0 ∷ 0 ∷ 0 ∷ []) ≡ record {
-  fault = 0;
-  part = 0;
-  other_part = 0;
-  control = 0x8004;
-  resource_manager = 0;
-  owner = place 0 0;
-  group = place 0 0;
-  sacl = list 0 0 0 0;
-  dacl = list 1 0 0 0;
-}
+null_dacl : contents_in (1 ∷ 0 ∷ 4 ∷ 0x80 ∷ 0 ∷ 0 ∷ 0 ∷ 0 ∷ 0 ∷ 0 ∷ 0 ∷ 0 ∷ 0 ∷ 0 ∷ 0 ∷ 0 ∷ 0 ∷ 0 ∷ 0 ∷ 0 ∷ [])
+    ≡ record no_parts { control = 0x8004; dacl = list 1 0 0 0 }
 unfolding computed
 null_dacl = refl
-
-abbrev nothing_but : ℕ → ℕ → ℕ → Contents
-nothing_but fault_number first_part second_part = record {
-  fault = fault_number;
-  part = first_part;
-  other_part = second_part;
-  control = 0;
-  resource_manager = 0;
-  owner = place 0 0;
-  group = place 0 0;
-  sacl = list 0 0 0 0;
-  dacl = list 0 0 0 0;
-}
 
 -- After a fault all else is 0.
 no_descriptor : contents_in [] ≡ nothing_but 5 0 0

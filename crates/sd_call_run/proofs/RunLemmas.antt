@@ -9,7 +9,7 @@ use Rattle.sd_command_line.specs.CommandLine.{line}
 use Rattle.sd_command.specs.Endings.{run_line}
 use Rattle.sd_command.specs.Preparing.{PreparesBy, StopsTaken}
 use Rattle.sd_command.specs.Settings.{Settings}
-use Rattle.sd_command_line.specs.declared.parse.Refusal.TheVariants.{Help, NoMemory, Usage}
+use Rattle.sd_command_line.specs.declared.parse.EarlyEnd.TheVariants.{Help, NoMemory, Usage}
 use Rattle.sd_command.specs.declared.program.Prepared.{Prepared}
 use Rattle.sd_command.specs.declared.program.Stop.{Stop}
 use Rattle.sd_command.specs.declared.program.Stop.TheVariants as stop
@@ -72,9 +72,9 @@ taken : (words : List Text) (prepared : Result Prepared Stop) (input output mess
     → PreparesBy words prepared → StopsTaken prepared → EndsPrepared prepared input output message ending
     → EndsTaken words input output message ending
 taken words (Ok prepared) input output message ending p stops e = inr (settled-by _ _ input output message ending p.1.0 e)
-taken words (Err (stop.Refused NoMemory)) input output message ending p stops e = inl e
-taken words (Err (stop.Refused Usage)) input output message ending p stops e = let is : Usage ≡ NoMemory = stops in cc
-taken words (Err (stop.Refused (Help text))) input output message ending p stops e =
+taken words (Err (stop.Early NoMemory)) input output message ending p stops e = inl e
+taken words (Err (stop.Early Usage)) input output message ending p stops e = let is : Usage ≡ NoMemory = stops in cc
+taken words (Err (stop.Early (Help text))) input output message ending p stops e =
     let is : Help text ≡ NoMemory = stops in cc
 taken words (Err (stop.Value fault)) input output message ending p stops e =
     inr (settled-by _ (Err fault) input output message ending p.1 e)
@@ -84,9 +84,9 @@ by-kinds : (words : List Text) (prepared : Result Prepared Stop) (input output m
     → EndsBy words input output message ending
 by-kinds words (Ok prepared) input output message ending p e =
     EndsBy.settled p.0 (settled-by _ _ input output message ending p.1.0 e)
-by-kinds words (Err (stop.Refused NoMemory)) input output message ending p e = EndsBy.without_memory e
-by-kinds words (Err (stop.Refused Usage)) input output message ending p e = EndsBy.refused p e
-by-kinds words (Err (stop.Refused (Help text))) input output message ending p e = EndsBy.helped p (string_bytes text, e)
+by-kinds words (Err (stop.Early NoMemory)) input output message ending p e = EndsBy.without_memory e
+by-kinds words (Err (stop.Early Usage)) input output message ending p e = EndsBy.refused p e
+by-kinds words (Err (stop.Early (Help text))) input output message ending p e = EndsBy.helped p (string_bytes text, e)
 by-kinds words (Err (stop.Value fault)) input output message ending p e =
     EndsBy.settled p.0 (settled-by _ (Err fault) input output message ending p.1 e)
 

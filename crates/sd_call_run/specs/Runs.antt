@@ -9,7 +9,7 @@ use Rattle.clap.specs.declared.error.ErrorKind.TheVariants as kind
 use Rattle.sd_answer.specs.Answer.{is_error}
 use Rattle.sd_command_line.specs.CommandLine.{line}
 use Rattle.sd_command.specs.Endings.{run_line}
-use Rattle.sd_command_line.specs.Refusing.{is_mistake}
+use Rattle.sd_command_line.specs.EarlyEnds.{is_mistake}
 use Rattle.sd_command.specs.Settings.{Settings, settings_of}
 use Rattle.sd_command.specs.Usage.{usage_line}
 use Rattle.sd_command_line.specs.FaultLines.{fault_line}

@@ -7,7 +7,7 @@ ghost use Rattle.sd_call_run.specs.Runs.{EndsRun, Runs, Shows};
 use crate::batch::answer_batch;
 use crate::words::{WordsFault, words_in};
 use sd_command::{Notice, Prepared, Stop, prepare, run_line};
-use sd_command_line::{ANSWERED_STATUS, FAILED_STATUS, FAULTY_STATUS, Refusal};
+use sd_command_line::{ANSWERED_STATUS, EarlyEnd, FAILED_STATUS, FAULTY_STATUS};
 use sd_run::RunFault;
 use std::alloc::Global;
 
@@ -35,8 +35,8 @@ pub fn run_batch(
 {
     match words_in(alloc, words) {
         Ok(words) => end(prepare(alloc, words.as_slice()), input, output, message),
-        Err(WordsFault::NoText) => stopped(&Stop::Refused(Refusal::Usage), output, message),
-        Err(WordsFault::NoMemory) => stopped(&Stop::Refused(Refusal::NoMemory), output, message),
+        Err(WordsFault::NoText) => stopped(&Stop::Early(EarlyEnd::Usage), output, message),
+        Err(WordsFault::NoMemory) => stopped(&Stop::Early(EarlyEnd::NoMemory), output, message),
     }
 }
 

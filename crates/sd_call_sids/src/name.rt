@@ -8,22 +8,21 @@ ghost use Rattle.sd_sink.specs.Sink.{Puts};
 use sd_call::{Front, Outcome, give};
 use sd_sid::{Naming, Sid};
 use sd_sink::{Print, Printer, Sink, SinkFault};
-
-/// The characters of the longest text of a SID: an authority in hex, and 15 sub-authorities of ten digits.
-const MOST_TEXT_SIZE: usize = 183;
+use sd_text::MOST_FIELD_SIZE;
 
 /// Gives the name of a SID.
 pub fn give_name(naming: &Naming, sid: &Sid, output: &mut [u8]) -> Outcome
     ensures { Gives (trustee_text naming.now sid.now) output.old output.new result }
 {
-    let mut cells = [0; MOST_TEXT_SIZE];
+    // No field of SDDL is longer than the longest text of a SID.
+    let mut cells = [0; MOST_FIELD_SIZE];
     let count = print_name(naming, sid, &mut cells);
     give(&cells[..count], output)
 }
 
 // Prints the name to the front of the cells, and says how many bytes there are.
 fn print_name(naming: &Naming, sid: &Sid, cells: &mut [u8]) -> usize
-    requires { length cells.old ≡ MOST_TEXT_SIZE }
+    requires { length cells.old ≡ MOST_FIELD_SIZE }
     ensures { Fills result (trustee_text naming.now sid.now) cells.old cells.new }
 {
     let mut sink = Front {
@@ -41,7 +40,7 @@ fn print_name(naming: &Naming, sid: &Sid, cells: &mut [u8]) -> usize
 #[tactic(auto, unfolding(sd_sddl_printer::specs::Printed::trustee_text), using(crate::proofs::NameLemmas::text_short))]
 fn put_name<S: Sink>(naming: &Naming, sid: &Sid, sink: &mut S) -> Result<(), SinkFault>
     ensures put { Puts (S.told sink.old) (S.told sink.new) (trustee_text naming.now sid.now) result }
-    ensures short { length (trustee_text naming.now sid.now) ≤ MOST_TEXT_SIZE }
+    ensures short { length (trustee_text naming.now sid.now) ≤ MOST_FIELD_SIZE }
 {
     let mut out = Printer::new(sink);
     match naming.alias(sid) {

@@ -11,7 +11,7 @@ use Rattle.sd_check.specs.Acl.{listed_aces}
 use Rattle.sd_check.specs.Ask.{AreRights, Asked}
 use Rattle.sd_check.specs.Granted.{decides, granted, is_allowed, is_open, is_owned, needs_no_ace}
 use Rattle.sd_check.specs.Need.{check_bound, in_question, least, need, owner_matters}
-use Rattle.sd_check.specs.Inner.Scan.{HasGranted, asks_owner, given_mask, left_mask, permitted_mask, question_of}
+use Rattle.sd_check.specs.Inner.Scan.{HasGranted, asks_owner, without_ace_mask, left_mask, permitted_mask, question_of}
 use Rattle.sd_check.specs.Inner.Scan.{scan_need, undecided_of}
 use Rattle.sd_check.specs.Label.{is_left, is_lower, label, label_allows}
 use Rattle.sd_check.specs.declared.label.Label.{Label}
@@ -79,11 +79,11 @@ owner_asked ask right asked one =
     (or_cases (eqb right 17) (eqb right 18) one)
 
 -- the mask has those rights in question that need no ACE
-carries-given : (d : Descriptor) (t : List Entry) (ask : Asked) (right : ℕ) → right < 25 → in_question right ask ≡ true
-    → carries (given_mask (question_of ask) d t ask) right
+carries-without_ace : (d : Descriptor) (t : List Entry) (ask : Asked) (right : ℕ) → right < 25 → in_question right ask ≡ true
+    → carries (without_ace_mask (question_of ask) d t ask) right
     ≡ cond (eqb right 24) ask.security (needs_no_ace right d t ask)
-unfolding given_mask parts first
-carries-given d t ask right below asked =
+unfolding without_ace_mask parts first
+carries-without_ace d t ask right below asked =
     let owned = asks_owner (question_of ask) d.dacl && is_owned d t in
     agree_below_at (carries (parts ask.security ask.take_ownership owned (is_open d.dacl)))
     (first ask.security ask.take_ownership owned (is_open d.dacl)) 25 right
@@ -97,9 +97,9 @@ mask_if-lt : (b : Bool) (m k : ℕ) → m < 2 ^ k → mask_if b m < 2 ^ k
 mask_if-lt true m k h = h
 mask_if-lt false m k h = pow_pos k
 
-given_mask-lt : (q : ℕ) (d : Descriptor) (t : List Entry) (ask : Asked) → given_mask q d t ask < 2 ^ 25
-unfolding given_mask
-given_mask-lt q d t ask =
+without_ace_mask-lt : (q : ℕ) (d : Descriptor) (t : List Entry) (ask : Asked) → without_ace_mask q d t ask < 2 ^ 25
+unfolding without_ace_mask
+without_ace_mask-lt q d t ask =
     or_lt 25 _ _
     (or_lt 25 _ _
     (or_lt 25 _ _ (mask_if-lt ask.security 0x100_0000 25 (lit< tt))
@@ -130,7 +130,7 @@ limited-lt d h ask narrow =
 pub undecided-lt : (d : Descriptor) (h : Holder) (ask : Asked) → AreRights ask → undecided_of d h ask < 2 ^ 25
 undecided-lt d h ask narrow =
     let q = bit_and (question_of ask) (permitted_mask d h ask) in
-    let most = and_le_l q (2 ^ 32 - 1 - bit_or (given_mask (question_of ask) d h.entries ask) 0x100_0000) in
+    let most = and_le_l q (2 ^ 32 - 1 - bit_or (without_ace_mask (question_of ask) d h.entries ask) 0x100_0000) in
     let limit = limited-lt d h ask narrow in
     omega arith
 
@@ -186,31 +186,31 @@ carries-undecided : (d : Descriptor) (h : Holder) (ask : Asked) → AreRights as
 carries-undecided d h ask narrow right below =
     let q = question_of ask in
     let p = permitted_mask d h ask in
-    let given = given_mask q d h.entries ask in
+    let without_ace = without_ace_mask q d h.entries ask in
     let wide : bit_and q p < 2 ^ 32 = let k = limited-lt d h ask narrow in omega arith in
-    let given_wide : bit_or given 0x100_0000 < 2 ^ 32 =
-    let k : bit_or given 0x100_0000 < 2 ^ 25 = or_lt 25 _ _ (given_mask-lt q d h.entries ask) (lit< tt) in
+    let without_ace_wide : bit_or without_ace 0x100_0000 < 2 ^ 32 =
+    let k : bit_or without_ace 0x100_0000 < 2 ^ 25 = or_lt 25 _ _ (without_ace_mask-lt q d h.entries ask) (lit< tt) in
     omega arith in
-    carries-and_not (bit_and q p) (bit_or given 0x100_0000) right wide given_wide
+    carries-and_not (bit_and q p) (bit_or without_ace 0x100_0000) right wide without_ace_wide
     ∙ rw (
       carries-and q p right,
       carries-question ask right,
       carries-permitted d h ask right below,
-      carries-or given 0x100_0000 right,
+      carries-or without_ace 0x100_0000 right,
       security_bit right below,
     )
     (and_both (in_question right ask) _ _ _
-    (λ asked. ap (λ (b : Bool). not (b || eqb right 24)) (carries-given d h.entries ask right below asked)))
+    (λ asked. ap (λ (b : Bool). not (b || eqb right 24)) (carries-without_ace d h.entries ask right below asked)))
 
 -- 3. The rights in question that are granted.
 
-final : (q last security label given allowed : Bool) → q ≡ true
-    → ((cond last security given
-    || (((q && (last || label)) && not (cond last security given || last)) && allowed)) && (last || label))
-    ≡ cond last security (label && (given || allowed))
-final false last security label given allowed h = absurd (cc)
-final true true true label given allowed h = refl
-final true true false label given allowed h = refl
+final : (q last security label without_ace allowed : Bool) → q ≡ true
+    → ((cond last security without_ace
+    || (((q && (last || label)) && not (cond last security without_ace || last)) && allowed)) && (last || label))
+    ≡ cond last security (label && (without_ace || allowed))
+final false last security label without_ace allowed h = absurd (cc)
+final true true true label without_ace allowed h = refl
+final true true false label without_ace allowed h = refl
 final true false security true true allowed h = refl
 final true false security true false true h = refl
 final true false security true false false h = refl
@@ -223,15 +223,15 @@ IsScanned d h ask m =
     (right : ℕ) → carries m right ≡ (carries (undecided_of d h ask) right && is_allowed right d h.entries ask)
 
 pub granted_bit : (d : Descriptor) (h : Holder) (ask : Asked) (m : ℕ) → AreRights ask → IsScanned d h ask m
-    → HasGranted d h ask (bit_and (bit_or (given_mask (question_of ask) d h.entries ask) m) (permitted_mask d h ask))
+    → HasGranted d h ask (bit_and (bit_or (without_ace_mask (question_of ask) d h.entries ask) m) (permitted_mask d h ask))
 unfolding granted
 granted_bit d h ask m narrow scanned right below asked =
-    let given = given_mask (question_of ask) d h.entries ask in
-    carries-and (bit_or given m) (permitted_mask d h ask) right
+    let without_ace = without_ace_mask (question_of ask) d h.entries ask in
+    carries-and (bit_or without_ace m) (permitted_mask d h ask) right
     ∙ rw (
-      carries-or given m right,
+      carries-or without_ace m right,
       scanned right,
-      carries-given d h.entries ask right below asked,
+      carries-without_ace d h.entries ask right below asked,
       carries-undecided d h ask narrow right below,
       carries-permitted d h ask right below,
     )
@@ -289,12 +289,12 @@ granted_won d holder ask m w h none k some =
 -- 5. The comparisons.
 
 -- what is settled is decided, or not looked for
-settle : (q last security label given decided : Bool) → (not q || (last || given || decided)) ≡ true
-    → (not ((q && (last || label)) && not (cond last security given || last)) || decided) ≡ true
-settle false last security label given decided h = refl
-settle true true true label given decided h = refl
-settle true true false label given decided h = refl
-settle true false security false given decided h = refl
+settle : (q last security label without_ace decided : Bool) → (not q || (last || without_ace || decided)) ≡ true
+    → (not ((q && (last || label)) && not (cond last security without_ace || last)) || decided) ≡ true
+settle false last security label without_ace decided h = refl
+settle true true true label without_ace decided h = refl
+settle true true false label without_ace decided h = refl
+settle true false security false without_ace decided h = refl
 settle true false security true true decided h = refl
 settle true false security true false decided h = h
 

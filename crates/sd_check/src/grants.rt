@@ -3,7 +3,7 @@
 ghost use Rattle.std.specs.Prelude.{◌≡◌, false};
 ghost use Rattle.sd_token.specs.Token.{Asks};
 ghost use Rattle.sd_check.specs.Granted.{is_for_owner_rights, is_open, is_owned, names_owner_rights};
-ghost use Rattle.sd_check.specs.Inner.Scan.{asks_owner, given_mask};
+ghost use Rattle.sd_check.specs.Inner.Scan.{asks_owner, without_ace_mask};
 
 use crate::applies::is_effective;
 use crate::ask::Ask;
@@ -16,9 +16,9 @@ use sd_token::LentToken;
 use sd_view::{AclPart, SdView};
 
 /// The rights that are granted whatever the ACEs say, as far as they are in question.
-#[tactic(auto, unfolding(crate::specs::Inner::Scan::given_mask))]
-pub fn given(view: &SdView, token: &mut LentToken, ask: &Ask, question: u32) -> u32
-    ensures value { result ≡ given_mask question view.now token.old.holder.entries ask.now }
+#[tactic(auto, unfolding(crate::specs::Inner::Scan::without_ace_mask))]
+pub fn granted_without_ace(view: &SdView, token: &mut LentToken, ask: &Ask, question: u32) -> u32
+    ensures value { result ≡ without_ace_mask question view.now token.old.holder.entries ask.now }
     ensures asks { Asks token.old token.new 1 }
     ensures spared { asks_owner question view.now.dacl ≡ false → token.new.compared ≡ token.old.compared }
 {

@@ -10,7 +10,7 @@ ghost use Rattle.sd_check.specs.Inner.Scan.{HasGranted, question_of};
 ghost use Rattle.sd_check.specs.Verdict.{verdict};
 
 use crate::ask::Ask;
-use crate::grants::given;
+use crate::grants::granted_without_ace;
 use crate::label::permitted;
 use crate::scan::scan;
 use sd_rights::{ACCESS_SYSTEM_SECURITY, mask_if};
@@ -91,10 +91,10 @@ fn granted(view: &SdView, token: &mut LentToken, ask: &Ask) -> u32
 {
     let question = question(ask);
     let permitted = permitted(view, token, ask);
-    let given = given(view, token, ask, question);
-    // Given rights are never looked for in the ACEs, also where the label does not allow them.
-    let undecided = undecided(question & permitted, given);
-    (given | scan(view, token, ask, undecided)) & permitted
+    let without_ace = granted_without_ace(view, token, ask, question);
+    // A right that needs no ACE is never looked for in the ACEs, not even where the label does not allow it.
+    let undecided = undecided(question & permitted, without_ace);
+    (without_ace | scan(view, token, ask, undecided)) & permitted
 }
 
 // The rights in question: those that are wanted and, with maximum, those of the mapping.
@@ -106,10 +106,10 @@ fn question(ask: &Ask) -> u32
 }
 
 // Those of the rights in question that the ACEs alone can decide.
-fn undecided(question: u32, given: u32) -> u32
-    ensures { result ≡ bit_and question (2 ^ 32 - 1 - bit_or given system_security_mask) }
+fn undecided(question: u32, without_ace: u32) -> u32
+    ensures { result ≡ bit_and question (2 ^ 32 - 1 - bit_or without_ace system_security_mask) }
 {
-    question & !(given | ACCESS_SYSTEM_SECURITY)
+    question & !(without_ace | ACCESS_SYSTEM_SECURITY)
 }
 
 // The rights that the maximum is made from.

@@ -14,9 +14,13 @@ use Rattle.sd_ace.specs.GuidText.{guid_reads}
 use Rattle.sd_rights.specs.Rights.{rights_reads}
 use Rattle.sd_view.specs.declared.acl_part.AclPart.TheVariants as acl
 use Rattle.sd_sddl_builder.specs.Meaning.{body_reads, means}
+use Rattle.sd_check.specs.Ask.{Asked}
 use Rattle.sd_check.specs.declared.ask.AskFault.TheVariants.{EmptyRequest, ReservedBits}
+use Rattle.sd_token.specs.Token.{Holder}
 use Rattle.sd_token.specs.declared.token.EntryKind.TheVariants.{DenyOnly, Enabled}
+use Rattle.sd_inherit.specs.declared.plan.Plan.{Plan}
 use Rattle.sd_inherit.specs.declared.plan.Target.TheVariants.{Container, File}
+use Rattle.sd_answer.specs.declared.job.Act.{Act}
 use Rattle.sd_answer.specs.declared.job.Act.TheVariants.{Check, Convert, Derive, Explain}
 use Rattle.sd_answer.specs.declared.job.Form.TheVariants.{Base64, Hex, Sddl}
 use Rattle.sd_answer.specs.declared.job.Job.{Job}
@@ -42,8 +46,32 @@ use Rattle.sd_command.specs.Settings.{given_domain, given_kind, given_mapping, g
 use Rattle.sd_command.specs.Settings.{needed_sid, task_with, with_creator}
 use Rattle.sd_rights.specs.Mapping.{directory_mapping, file_mapping, key_mapping, mapped}
 
-abbrev hex_to_hex : Job
-hex_to_hex = record { source = Hex; act = Convert output.Hex; domain = None; numeric = false }
+-- `unfolding parsed_words` lets `refl` compute what the command line makes of words, and `unfolding settled_words` also
+-- what they settle
+parsed_words : Unit {0}
+unfolding line bare_line convert_line explain_line check_line derive_line clap_on_literals
+parsed_words = tt
+
+settled_words : Unit {0}
+unfolding settings_of command_chosen convert_own check_own derive_own with_creator task_with given_creator given_domain
+    given_form given_output_form given_mapping given_kind given_sid needed_sid given_token given_want given_object
+    given_level asked is_set domain_reads sid_reads has_form letters_read numbers_read entries_read rights_reads run_of
+    guid_reads by_index mapped means body_reads parsed_words
+settled_words = tt
+
+-- a job over lines of hex
+abbrev on_hex : Act → Job
+on_hex act = record { line_form = Hex; act = act; domain = None; numeric = false }
+
+-- what words settle that name no creator
+abbrev without_creator : Job → Holder → Settings
+without_creator job holder = record { task = record { job = job; creator = None }; holder = holder }
+
+abbrev everyone : SecurityId
+everyone = record { authority = 1; subs = 0 ∷ [] }
+
+abbrev system : SecurityId
+system = record { authority = 5; subs = 18 ∷ [] }
 
 abbrev to_hex : List Text
 to_hex = codes "sdtool" ∷ codes "convert" ∷ codes "--to" ∷ codes "hex" ∷ []
@@ -51,41 +79,33 @@ to_hex = codes "sdtool" ∷ codes "convert" ∷ codes "--to" ∷ codes "hex" ∷
 abbrev to_xml : List Text
 to_xml = codes "sdtool" ∷ codes "convert" ∷ codes "--to" ∷ codes "xml" ∷ []
 
-pub taken : takes line to_hex ≡ true
-unfolding line bare_line convert_line explain_line check_line derive_line clap_on_literals
+taken : takes line to_hex ≡ true
+unfolding parsed_words
 taken = refl
 
-pub no_fault : fault_of line to_hex ≡ []
-unfolding line bare_line convert_line explain_line check_line derive_line clap_on_literals
+no_fault : fault_of line to_hex ≡ []
+unfolding parsed_words
 no_fault = refl
 
-pub settled : settings_of to_hex ≡ Ok (record { task = record { job = hex_to_hex; creator = None }; holder = nobody })
-unfolding settings_of command_chosen convert_own with_creator task_with given_creator given_domain given_form
-    given_output_form is_set
-    line bare_line convert_line explain_line check_line derive_line clap_on_literals
+settled : settings_of to_hex ≡ Ok (without_creator (on_hex (Convert output.Hex)) nobody)
+unfolding settled_words
 settled = refl
 
-pub not_settled : settings_of to_xml ≡ Err (Value name.To)
-unfolding settings_of command_chosen convert_own with_creator task_with given_creator given_domain given_form
-    given_output_form is_set
-    line bare_line convert_line explain_line check_line derive_line clap_on_literals
+not_settled : settings_of to_xml ≡ Err (Value name.To)
+unfolding settled_words
 not_settled = refl
 
 abbrev pub explain_sddl : List Text
 explain_sddl = codes "sdtool" ∷ codes "explain" ∷ codes "--numeric" ∷ codes "--from" ∷ codes "sddl" ∷ []
 
-pub explained : settings_of explain_sddl ≡ Ok (record {
-  task = record { job = record { source = Sddl; act = Explain; domain = None; numeric = true }; creator = None };
-  holder = nobody;
-})
-unfolding settings_of command_chosen convert_own with_creator task_with given_creator given_domain given_form
-    given_output_form is_set
-    line bare_line convert_line explain_line check_line derive_line clap_on_literals
+explained : settings_of explain_sddl
+    ≡ Ok (without_creator (record (on_hex Explain) { line_form = Sddl; numeric = true }) nobody)
+unfolding settled_words
 explained = refl
 
 -- an explanation has one form
-pub no_form : takes line (codes "sdtool" ∷ codes "explain" ∷ codes "--to" ∷ codes "hex" ∷ []) ≡ false
-unfolding line bare_line convert_line explain_line check_line derive_line clap_on_literals
+no_form : takes line (codes "sdtool" ∷ codes "explain" ∷ codes "--to" ∷ codes "hex" ∷ []) ≡ false
+unfolding parsed_words
 no_form = refl
 
 abbrev pub derive_file : List Text
@@ -94,32 +114,17 @@ derive_file =
     ∷ codes "--kind" ∷ codes "file" ∷ []
 
 -- SYSTEM is the owner and Everyone the group of a new file
-pub derived : settings_of derive_file ≡ Ok (record {
-  task = record {
-    job = record {
-      source = Hex;
-      act = Derive (record {
-        target = File;
-        owner = record { authority = 5; subs = 18 ∷ [] };
-        group = record { authority = 1; subs = 0 ∷ [] };
-        mapping = file_mapping;
-      }) output.Sddl;
-      domain = None;
-      numeric = false;
-    };
-    creator = None;
-  };
-  holder = nobody;
-})
-unfolding settings_of command_chosen derive_own with_creator task_with given_creator given_domain given_form
-    given_output_form given_mapping given_kind needed_sid is_set sid_reads has_form numbers_read line bare_line convert_line
-    explain_line check_line derive_line clap_on_literals
+abbrev new_file : Plan
+new_file = record { target = File; owner = system; group = everyone; mapping = file_mapping }
+
+derived : settings_of derive_file ≡ Ok (without_creator (on_hex (Derive new_file output.Sddl)) nobody)
+unfolding settled_words
 derived = refl
 
 -- a kind has to be given
-pub no_kind : takes line (codes "sdtool" ∷ codes "derive" ∷ codes "--owner" ∷ codes "S-1-5-18" ∷ codes "--group"
+no_kind : takes line (codes "sdtool" ∷ codes "derive" ∷ codes "--owner" ∷ codes "S-1-5-18" ∷ codes "--group"
     ∷ codes "S-1-1-0" ∷ []) ≡ false
-unfolding line bare_line convert_line explain_line check_line derive_line clap_on_literals
+unfolding parsed_words
 no_kind = refl
 
 -- levels: one to ten decimal digits below 2 ^ 32
@@ -196,18 +201,9 @@ unfolding entries_read sid_reads letters_read
 too_many_sids = refl
 
 pub deny_only : entries_read None (codes "WD,!SY") ≡ Some
-    ((record { authority = 1; subs = 0 ∷ [] }, Enabled) ∷ (record { authority = 5; subs = 18 ∷ [] }, DenyOnly) ∷ [])
+    ((everyone, Enabled) ∷ (system, DenyOnly) ∷ [])
 unfolding entries_read sid_reads letters_read
 deny_only = refl
-
--- `unfolding settled_words` lets `refl` compute what words settle
-settled_words : Unit {0}
-unfolding settings_of command_chosen convert_own check_own derive_own with_creator task_with given_creator given_domain
-    given_form given_output_form given_mapping given_kind given_sid needed_sid given_token given_want given_object
-    given_level asked is_set domain_reads sid_reads has_form letters_read numbers_read entries_read rights_reads run_of
-    guid_reads by_index mapped means body_reads line bare_line convert_line explain_line check_line derive_line
-    clap_on_literals
-settled_words = tt
 
 -- ---- a check, with all its options
 
@@ -232,100 +228,63 @@ all_options : settings_of (check_with (codes "--domain" ∷ codes "S-1-5-21-1-2-
     ∷ codes "--token" ∷ codes "WD,!DA" ∷ codes "--want" ∷ codes "GR" ∷ codes "--type" ∷ codes "key"
     ∷ codes "--object" ∷ codes "bf967aba-0de6-11d0-a285-00aa003049e2" ∷ codes "--self" ∷ codes "DA"
     ∷ codes "--security" ∷ codes "--take-ownership" ∷ codes "--level" ∷ codes "8192" ∷ []))
-    ≡ Ok (record {
-      task = record {
-        job = record {
-          source = Base64;
-          act = Check (record {
-            wanted = 0x20019;
-            maximum = false;
-            mapping = key_mapping;
-            object = Some user_class;
-            principal_self = Some domain_admins;
-            security = true;
-            take_ownership = true;
-          });
-          domain = Some a_domain;
-          numeric = false;
-        };
-        creator = None;
-      };
-      holder = record {
-        entries = (record { authority = 1; subs = 0 ∷ [] }, Enabled) ∷ (domain_admins, DenyOnly) ∷ [];
-        level = Some 8192;
-      };
+    ≡ Ok (without_creator
+    (record {
+      line_form = Base64;
+      act = Check (record {
+        wanted = 0x20019;
+        maximum = false;
+        mapping = key_mapping;
+        object = Some user_class;
+        principal_self = Some domain_admins;
+        security = true;
+        take_ownership = true;
+      });
+      domain = Some a_domain;
+      numeric = false;
     })
+    (record { entries = (everyone, Enabled) ∷ (domain_admins, DenyOnly) ∷ []; level = Some 8192 }))
 unfolding settled_words check_with a_domain domain_admins user_class
 all_options = refl
 
--- what Everyone asks of a file, with these rights and this maximum
-asks : ℕ → Bool → Settings
-asks wanted maximum = record {
-  task = record {
-    job = record {
-      source = Hex;
-      act = Check (record {
-        wanted = wanted;
-        maximum = maximum;
-        mapping = file_mapping;
-        object = None;
-        principal_self = None;
-        security = false;
-        take_ownership = false;
-      });
-      domain = None;
-      numeric = false;
-    };
-    creator = None;
-  };
-  holder = record { entries = (record { authority = 1; subs = 0 ∷ [] }, Enabled) ∷ []; level = None };
+-- what Everyone asks of a file, with these rights
+abbrev file_asked : ℕ → Asked
+file_asked wanted = record {
+  wanted = wanted;
+  maximum = false;
+  mapping = file_mapping;
+  object = None;
+  principal_self = None;
+  security = false;
+  take_ownership = false;
 }
 
+abbrev asks : Asked → Settings
+asks asked = without_creator (on_hex (Check asked)) (record { entries = (everyone, Enabled) ∷ []; level = None })
+
 -- the maximum is asked for by its option, or by bit 25 of the rights, which is no right itself
-maximum : settings_of (of_everyone (codes "--maximum" ∷ [])) ≡ Ok (asks 0 true)
-unfolding settled_words check_with of_everyone asks
+maximum : settings_of (of_everyone (codes "--maximum" ∷ [])) ≡ Ok (asks (record (file_asked 0) { maximum = true }))
+unfolding settled_words check_with of_everyone
 maximum = refl
 
-maximum_by_its_bit : settings_of (of_everyone (codes "--want" ∷ codes "0x2000001" ∷ [])) ≡ Ok (asks 1 true)
-unfolding settled_words check_with of_everyone asks
+maximum_by_its_bit : settings_of (of_everyone (codes "--want" ∷ codes "0x2000001" ∷ [])) ≡ Ok (asks (record (file_asked 1) { maximum = true }))
+unfolding settled_words check_with of_everyone
 maximum_by_its_bit = refl
 
-rights_alone : settings_of (of_everyone (codes "--want" ∷ codes "SD" ∷ [])) ≡ Ok (asks 0x10000 false)
-unfolding settled_words check_with of_everyone asks
+rights_alone : settings_of (of_everyone (codes "--want" ∷ codes "SD" ∷ [])) ≡ Ok (asks (file_asked 0x10000))
+unfolding settled_words check_with of_everyone
 rights_alone = refl
 
 -- each privilege by its own option
 
-with_privileges : Bool → Bool → Settings
-with_privileges security take_ownership = record {
-  task = record {
-    job = record {
-      source = Hex;
-      act = Check (record {
-        wanted = 1;
-        maximum = false;
-        mapping = file_mapping;
-        object = None;
-        principal_self = None;
-        security = security;
-        take_ownership = take_ownership;
-      });
-      domain = None;
-      numeric = false;
-    };
-    creator = None;
-  };
-  holder = record { entries = (record { authority = 1; subs = 0 ∷ [] }, Enabled) ∷ []; level = None };
-}
-
 security_alone : settings_of (of_everyone (codes "--want" ∷ codes "1" ∷ codes "--security" ∷ []))
-    ≡ Ok (with_privileges true false)
-unfolding settled_words check_with of_everyone with_privileges
+    ≡ Ok (asks (record (file_asked 1) { security = true }))
+unfolding settled_words check_with of_everyone
 security_alone = refl
 
 take_ownership_alone : settings_of (of_everyone (codes "--want" ∷ codes "1" ∷ codes "--take-ownership" ∷ []))
-    ≡ Ok (with_privileges false true)
-unfolding settled_words check_with of_everyone with_privileges
+    ≡ Ok (asks (record (file_asked 1) { take_ownership = true }))
+unfolding settled_words check_with of_everyone
 take_ownership_alone = refl
 
 unasked : map settings_of
@@ -388,11 +347,11 @@ derived_in_a_domain : settings_of (derive_with (codes "container") (codes "DA") 
     ≡ Ok (record {
       task = record {
         job = record {
-          source = Hex;
+          line_form = Hex;
           act = Derive (record {
             target = Container;
             owner = domain_admins;
-            group = record { authority = 5; subs = 18 ∷ [] };
+            group = system;
             mapping = directory_mapping;
           }) output.Base64;
           domain = Some a_domain;
@@ -415,23 +374,8 @@ derived_in_a_domain = refl
 -- and in the group, which needs the domain as the owner does
 group_in_a_domain : settings_of (derive_with (codes "file") (codes "SY") (codes "DA")
     (codes "--domain" ∷ codes "S-1-5-21-1-2-3" ∷ []))
-    ≡ Ok (record {
-      task = record {
-        job = record {
-          source = Hex;
-          act = Derive (record {
-            target = File;
-            owner = record { authority = 5; subs = 18 ∷ [] };
-            group = domain_admins;
-            mapping = file_mapping;
-          }) output.Sddl;
-          domain = Some a_domain;
-          numeric = false;
-        };
-        creator = None;
-      };
-      holder = nobody;
-    })
+    ≡ Ok (without_creator (record
+    (on_hex (Derive (record new_file { group = domain_admins }) output.Sddl)) { domain = Some a_domain }) nobody)
 unfolding settled_words derive_with a_domain domain_admins
 group_in_a_domain = refl
 

@@ -10,7 +10,7 @@ use Rattle.sd_run.specs.Told.{SourceTold, DrainTold, failed_flushes_after, is_fl
 use Rattle.sd_run.specs.declared.device.DeviceFault.{DeviceFault}
 use Rattle.sd_run.specs.Outcome.{Outcome}
 use Rattle.sd_command_line.specs.CommandLine.{line}
-use Rattle.sd_command_line.specs.Refusing.{is_mistake}
+use Rattle.sd_command_line.specs.EarlyEnds.{is_mistake}
 use Rattle.sd_command.specs.Settings.{Settings, settings_of}
 use Rattle.sd_command.specs.Usage.{usage_line}
 use Rattle.sd_command_line.specs.FaultLines.{fault_line}

@@ -3,12 +3,12 @@ use Rattle.std.specs.Prelude.{◌≡◌, ℕ, List, [], Result, Ok, Err, codes}
 use Rattle.std.specs.String.{string_bytes}
 use Rattle.clap.specs.Words.{Text, fault_of}
 use Rattle.sd_command_line.specs.CommandLine.{line}
-use Rattle.sd_command_line.specs.Refusing.{RefusedBy}
+use Rattle.sd_command_line.specs.EarlyEnds.{AllowsEnd}
 use Rattle.sd_command.specs.Settings.{Settings, settings_of}
 use Rattle.sd_command.specs.Usage.{usage_line}
 use Rattle.sd_command.specs.Endings.{Told, EndsIdle, EndsRun, ShowsHelp}
 use Rattle.sd_command_line.specs.FaultLines.{fault_line}
-use Rattle.sd_command_line.specs.declared.parse.Refusal.TheVariants.{NoMemory, Usage, Help}
+use Rattle.sd_command_line.specs.declared.parse.EarlyEnd.TheVariants.{NoMemory, Usage, Help}
 use Rattle.sd_command.specs.declared.program.Notice.TheVariants as said
 use Rattle.sd_command.specs.declared.program.Notice as program
 use Rattle.sd_command.specs.declared.program.Prepared.{Prepared}
@@ -16,25 +16,25 @@ use Rattle.sd_command.specs.declared.program.Stop.{Stop}
 use Rattle.sd_command.specs.declared.program.Stop.TheVariants as stop
 use Rattle.sd_command.specs.declared.settings.UsageFault.{UsageFault}
 
--- words that the command line takes are refused for want of memory alone
+-- words that the command line takes are stopped by want of memory alone
 abbrev pub StopsTaken : Result Prepared Stop → Type 0
-StopsTaken (Err (stop.Refused refusal)) = refusal ≡ NoMemory
+StopsTaken (Err (stop.Early early)) = early ≡ NoMemory
 StopsTaken _ = Unit {0}
 
 -- the task of the engine, and the holder of the token
 abbrev pub settled : Prepared → Settings
 settled prepared = record { task = prepared.engine; holder = prepared.token.holder }
 
--- what the words settle is prepared, or is told as their fault; memory is not refused
+-- what the words settle is prepared, or is told as their fault; there is memory
 abbrev pub Settles : Result Settings UsageFault → Result Prepared Stop → Type 0
 Settles settings (Ok prepared) = (settings ≡ Ok (settled prepared)) × (prepared.token.compared ≡ 0)
-Settles settings (Err (stop.Refused refusal)) = ⊥
+Settles settings (Err (stop.Early early)) = ⊥
 Settles settings (Err (stop.Value fault)) = settings ≡ Err fault
 
 -- what the words allow
 abbrev pub PreparesBy : List Text → Result Prepared Stop → Type 0
 PreparesBy words (Ok prepared) = (fault_of line words ≡ []) × Settles (settings_of words) (Ok prepared)
-PreparesBy words (Err (stop.Refused refusal)) = RefusedBy (fault_of line words) refusal
+PreparesBy words (Err (stop.Early early)) = AllowsEnd (fault_of line words) early
 PreparesBy words (Err (stop.Value fault)) =
     (fault_of line words ≡ []) × Settles (settings_of words) (Err (stop.Value fault))
 
@@ -44,9 +44,9 @@ pub data Notice : Type 0 where
   fault : ℕ → Text → Notice
 
 abbrev pub notice_of : Stop → Notice
-notice_of (stop.Refused NoMemory) = fault 4 (fault_line (codes "no memory"))
-notice_of (stop.Refused Usage) = fault 2 (fault_line (codes "usage"))
-notice_of (stop.Refused (Help text)) = help (string_bytes text)
+notice_of (stop.Early NoMemory) = fault 4 (fault_line (codes "no memory"))
+notice_of (stop.Early Usage) = fault 2 (fault_line (codes "usage"))
+notice_of (stop.Early (Help text)) = help (string_bytes text)
 notice_of (stop.Value value) = fault 2 (usage_line value)
 
 -- the notice that the code gives

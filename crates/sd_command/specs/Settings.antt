@@ -199,8 +199,8 @@ nobody = record { entries = []; level = None }
 
 unfoldable pub convert_own : List Row → Result Own UsageFault
 convert_own rows = do
-  target ← given_output_form rows
-  Ok (record { act = Convert target; holder = nobody; creator = None })
+  form ← given_output_form rows
+  Ok (record { act = Convert form; holder = nobody; creator = None })
 
 abbrev pub explain_own : Result Own UsageFault
 explain_own = Ok (record { act = Explain; holder = nobody; creator = None })
@@ -218,13 +218,13 @@ check_own domain rows = do
 
 unfoldable pub derive_own : Option SecurityId → List Row → Result Own UsageFault
 derive_own domain rows = do
-  target ← given_output_form rows
+  form ← given_output_form rows
   mapping ← given_mapping rows
-  kind ← given_kind rows
+  target ← given_kind rows
   owner ← needed_sid name.Owner domain rows
   group ← needed_sid name.Group domain rows
   Ok (record {
-    act = Derive (record { target = kind; owner = owner; group = group; mapping = mapping }) target;
+    act = Derive (record { target = target; owner = owner; group = group; mapping = mapping }) form;
     holder = nobody;
     creator = text_given name.Creator rows;
   })
@@ -246,10 +246,10 @@ pub record Chosen : Type 0 where
 unfoldable pub command_chosen : CommandName → List Row → Result Chosen UsageFault
 command_chosen command rows = do
   domain ← given_domain rows
-  source ← given_form rows
+  line_form ← given_form rows
   own ← command_own command domain rows
   Ok (record {
-    job = record { source = source; act = own.act; domain = domain; numeric = is_set name.Numeric rows };
+    job = record { line_form = line_form; act = own.act; domain = domain; numeric = is_set name.Numeric rows };
     holder = own.holder;
     creator = own.creator;
   })

@@ -7,15 +7,15 @@ ghost use Rattle.sd_command.specs.Endings as ends;
 ghost use Rattle.sd_command.specs.Preparing as steps;
 ghost use Rattle.sd_command.specs.Settings.{nobody, settings};
 ghost use Rattle.sd_command_line.specs.FaultLines.{fault_line};
-ghost use Rattle.sd_command_line.specs.declared.parse.Refusal.TheVariants as refusal;
-ghost use Rattle.sd_command.specs.declared.program.Stop.TheVariants.{Refused};
+ghost use Rattle.sd_command_line.specs.declared.parse.EarlyEnd.TheVariants as early;
+ghost use Rattle.sd_command.specs.declared.program.Stop.TheVariants.{Early};
 
 use crate::derive_settings::give_creator;
 use crate::settings::{UsageFault, choose};
 use clap::ArgMatches;
 use sd_buffer::{SdBuf, TextBuf};
 use sd_command_line::{
-    ANSWERED_STATUS, FAILED_STATUS, FAULTY_STATUS, NO_MEMORY_LINE, NO_MEMORY_STATUS, Refusal,
+    ANSWERED_STATUS, EarlyEnd, FAILED_STATUS, FAULTY_STATUS, NO_MEMORY_LINE, NO_MEMORY_STATUS,
     USAGE_LINE, USAGE_STATUS, parse_words,
 };
 use sd_memory::NoMemory;
@@ -101,15 +101,17 @@ impl Memory {
 /// Why nothing is read.
 #[derive(Drop)]
 pub enum Stop {
-    Refused(Refusal),
+    /// The words end the program by themselves, or there is no memory.
+    Early(EarlyEnd),
+    /// The parser accepts the words, and they make no job.
     Value(UsageFault),
 }
 
-impl From<Refusal> for Stop {
-    ghost from_gives = { λ refusal stop. stop ≡ Refused refusal };
+impl From<EarlyEnd> for Stop {
+    ghost from_gives = { λ early stop. stop ≡ Early early };
 
-    fn from(refusal: Refusal) -> Stop {
-        Stop::Refused(refusal)
+    fn from(early: EarlyEnd) -> Stop {
+        Stop::Early(early)
     }
 }
 
@@ -128,10 +130,10 @@ impl Stop {
         ensures { steps.noticed result ≡ steps.notice_of self.now }
     {
         match self {
-            Stop::Refused(refusal) => match refusal {
-                Refusal::NoMemory => Notice::Fault(NO_MEMORY_STATUS, NO_MEMORY_LINE),
-                Refusal::Usage => Notice::Fault(USAGE_STATUS, USAGE_LINE),
-                Refusal::Help(text) => Notice::Help(text.as_str()),
+            Stop::Early(early) => match early {
+                EarlyEnd::NoMemory => Notice::Fault(NO_MEMORY_STATUS, NO_MEMORY_LINE),
+                EarlyEnd::Usage => Notice::Fault(USAGE_STATUS, USAGE_LINE),
+                EarlyEnd::Help(text) => Notice::Help(text.as_str()),
             },
             Stop::Value(fault) => Notice::Fault(USAGE_STATUS, fault.line()),
         }
@@ -153,14 +155,14 @@ fn settle_with(matches: &ArgMatches<'_>, memory: Result<Memory, NoMemory>) -> Re
     requires { IfOk memory (λ memory. (memory.token.holder ≡ nobody) × (memory.token.compared ≡ 0)) }
     ensures { MatchResult memory
         (λ _. steps.Settles (settings (subcommand_rows_of matches.now)) result)
-        (λ _. result ≡ Err (Refused refusal.NoMemory)) }
+        (λ _. result ≡ Err (Early early.NoMemory)) }
 {
     match memory {
         Ok(memory) => match settle(matches, memory) {
             Ok(prepared) => Ok(prepared),
             Err(fault) => Err(Stop::Value(fault)),
         },
-        Err(_) => Err(Stop::Refused(Refusal::NoMemory)),
+        Err(_) => Err(Stop::Early(EarlyEnd::NoMemory)),
     }
 }
 

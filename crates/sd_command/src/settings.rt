@@ -117,7 +117,7 @@ fn command_choice<'a>(
     ensures compared { token.new.compared ≡ token.old.compared }
 {
     let domain = given_domain(matches)?;
-    let source = given_form(matches)?;
+    let line_form = given_form(matches)?;
     let own = match command_own(command, matches, domain.as_ref(), token) {
         Ok(own) => own,
         Err(fault) => return Err(fault),
@@ -125,7 +125,7 @@ fn command_choice<'a>(
     let numeric = is_set(matches, OptionName::Numeric);
     Ok(Choice {
         job: Job {
-            source,
+            line_form,
             act: own.act,
             domain,
             numeric,
@@ -173,8 +173,8 @@ fn convert_own<'a>(matches: &ArgMatches<'a>) -> Result<Own<'a>, UsageFault>
     ensures chosen { own_with nobody result ≡ specs.convert_own (rows_of (found_of matches.now)) }
     ensures none { IfOk result (λ own. own.creator ≡ None) }
 {
-    let target = given_output_form(matches)?;
-    Ok(without_creator(Act::Convert(target)))
+    let form = given_output_form(matches)?;
+    Ok(without_creator(Act::Convert(form)))
 }
 
 // What the text of an option reads as. None where the option is left out.

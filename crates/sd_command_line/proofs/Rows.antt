@@ -8,11 +8,11 @@ use Rattle.clap.proofs.OnLiterals.{clap_on_literals}
 use Rattle.sd_command_line.specs.CommandLine.{bare_line, check_line, convert_line, derive_line, explain_line, line}
 use Rattle.sd_command_line.specs.CommandLine.{option_rule, option_text, row_rule, rule_with}
 use Rattle.sd_command_line.specs.FaultLines.{fault_line, value_line}
-use Rattle.sd_command_line.specs.Refusing.{RefusedBy, is_mistake}
+use Rattle.sd_command_line.specs.EarlyEnds.{AllowsEnd, is_mistake}
 use Rattle.sd_command_line.specs.declared.options.OptionName.TheVariants as name
 use Rattle.sd_command_line.specs.declared.options.OptionRow.{OptionRow}
-use Rattle.sd_command_line.specs.declared.parse.Refusal.{Refusal}
-use Rattle.sd_command_line.specs.declared.parse.Refusal.TheVariants.{Help, NoMemory, Usage}
+use Rattle.sd_command_line.specs.declared.parse.EarlyEnd.{EarlyEnd}
+use Rattle.sd_command_line.specs.declared.parse.EarlyEnd.TheVariants.{Help, NoMemory, Usage}
 use Rattle.sd_command_line.specs.declared.statuses.TheConstants.{ANSWERED_STATUS, FAILED_STATUS, FAULTY_STATUS}
 use Rattle.sd_command_line.specs.declared.statuses.TheConstants.{NO_MEMORY_STATUS, USAGE_STATUS}
 
@@ -116,17 +116,17 @@ names = (refl, refl)
 
 -- mistakes, and words that ask for help
 
-abbrev refused_by : List Text → Refusal → Type 0
-refused_by words = RefusedBy (fault_of line (codes "sdtool" ∷ words))
+abbrev allows_end : List Text → EarlyEnd → Type 0
+allows_end words = AllowsEnd (fault_of line (codes "sdtool" ∷ words))
 
-mistaken : refused_by [] Usage × refused_by (codes "frobnicate" ∷ []) Usage × refused_by (codes "check" ∷ []) Usage
-    × refused_by (codes "convert" ∷ codes "--verbose" ∷ []) Usage
+mistaken : allows_end [] Usage × allows_end (codes "frobnicate" ∷ []) Usage × allows_end (codes "check" ∷ []) Usage
+    × allows_end (codes "convert" ∷ codes "--verbose" ∷ []) Usage
 unfolding line bare_line convert_line explain_line check_line derive_line clap_on_literals
 mistaken = (refl, refl, refl, refl)
 
-helped : (text : String Global) → refused_by (codes "--help" ∷ []) (Help text)
-    × refused_by (codes "help" ∷ []) (Help text) × refused_by (codes "help" ∷ codes "check" ∷ []) (Help text)
-    × refused_by (codes "check" ∷ codes "--help" ∷ []) (Help text)
+helped : (text : String Global) → allows_end (codes "--help" ∷ []) (Help text)
+    × allows_end (codes "help" ∷ []) (Help text) × allows_end (codes "help" ∷ codes "check" ∷ []) (Help text)
+    × allows_end (codes "check" ∷ codes "--help" ∷ []) (Help text)
 unfolding line bare_line convert_line explain_line check_line derive_line clap_on_literals
 helped text = (inl refl, inl refl, inl refl, inl refl)
 
@@ -162,7 +162,7 @@ flag_words : map option_text (name.Numeric ∷ name.Maximum ∷ name.Security �
     ≡ codes "numeric" ∷ codes "maximum" ∷ codes "security" ∷ codes "take-ownership" ∷ []
 flag_words = refl
 
--- refusals: help is no mistake, nor is a want of memory, and all else is
+-- early ends: help is no mistake, nor is a want of memory, and all else is
 
 mistakes : map is_mistake
     (kind.InvalidValue ∷ kind.UnknownArgument ∷ kind.InvalidSubcommand ∷ kind.NoEquals ∷ kind.ValueValidation
@@ -173,19 +173,19 @@ mistakes : map is_mistake
 mistakes = refl
 
 -- Memory may run out whatever the words are.
-no_memory : RefusedBy [] NoMemory
+no_memory : AllowsEnd [] NoMemory
 no_memory = tt
 
-usage : RefusedBy (kind.UnknownArgument ∷ []) Usage
+usage : AllowsEnd (kind.UnknownArgument ∷ []) Usage
 usage = refl
 
-help_is_no_mistake : RefusedBy (kind.DisplayHelp ∷ []) Usage → ⊥
+help_is_no_mistake : AllowsEnd (kind.DisplayHelp ∷ []) Usage → ⊥
 help_is_no_mistake h = let bad : false ≡ true = h in cc
 
-help : (text : String Global) → RefusedBy (kind.DisplayHelp ∷ []) (Help text)
+help : (text : String Global) → AllowsEnd (kind.DisplayHelp ∷ []) (Help text)
 help text = inl refl
 
-mistake_asks_for_no_help : (text : String Global) → RefusedBy (kind.UnknownArgument ∷ []) (Help text) → ⊥
+mistake_asks_for_no_help : (text : String Global) → AllowsEnd (kind.UnknownArgument ∷ []) (Help text) → ⊥
 mistake_asks_for_no_help text (inl h) = let bad : kind.DisplayHelp ≡ kind.UnknownArgument = h in cc
 mistake_asks_for_no_help text (inr h) = h
 

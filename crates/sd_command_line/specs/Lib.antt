@@ -1,4 +1,4 @@
 pub mod CommandLine
+pub mod EarlyEnds
 pub mod FaultLines
 pub mod Inner
-pub mod Refusing

@@ -9,5 +9,5 @@ mod statuses;
 
 pub use fault_lines::{NO_MEMORY_LINE, USAGE_LINE};
 pub use options::{OptionName, OptionRow};
-pub use parse::{Refusal, parse_words};
+pub use parse::{EarlyEnd, parse_words};
 pub use statuses::{ANSWERED_STATUS, FAILED_STATUS, FAULTY_STATUS, NO_MEMORY_STATUS, USAGE_STATUS};

@@ -3,55 +3,56 @@ ghost use Rattle.std.specs.Prelude.{◌≡◌, IfOk, IfErr, MatchResult, Ok, tru
 ghost use Rattle.std.specs.String.{string_bytes};
 ghost use Rattle.clap.specs.Words.{subcommand_of, subcommand_rows_of, takes, fault_of};
 ghost use Rattle.sd_command_line.specs.CommandLine.{line};
-ghost use Rattle.sd_command_line.specs.Refusing.{RefusedBy};
-ghost use Rattle.sd_command_line.specs.declared.parse.Refusal.TheVariants.{NoMemory};
-ghost use Rattle.sd_command_line.specs.Inner.Refused.{RefusedFor, RefusesFor};
+ghost use Rattle.sd_command_line.specs.EarlyEnds.{AllowsEnd};
+ghost use Rattle.sd_command_line.specs.declared.parse.EarlyEnd.TheVariants.{NoMemory};
+ghost use Rattle.sd_command_line.specs.Inner.ErrorEnds.{IsEndFor, EndsFor};
 
 use crate::command_line::command_line;
 use clap::error::ErrorKind;
 use clap::{ArgMatches, Error};
 use std::alloc::{AllocError, Global};
 
-/// Why there are no matches. That is no fault where help is asked for.
+/// What ends the program before it reads its input: a fault, or a request for help.
 #[derive(Debug, Drop)]
-pub enum Refusal {
+pub enum EarlyEnd {
     NoMemory,
+    /// The words are wrong.
     Usage,
     /// Help is asked for, and this is its text.
     Help(String),
 }
 
-impl From<AllocError> for Refusal {
+impl From<AllocError> for EarlyEnd {
     ghost from_gives = { λ _ r. r ≡ NoMemory };
 
-    fn from(_error: AllocError) -> Refusal {
-        Refusal::NoMemory
+    fn from(_error: AllocError) -> EarlyEnd {
+        EarlyEnd::NoMemory
     }
 }
 
 // Why there are no matches, by the kind of the error that `clap` gives.
-fn reason(alloc: Global, error: &Error) -> Refusal
-    ensures { RefusedFor error.now result }
+fn reason(alloc: Global, error: &Error) -> EarlyEnd
+    ensures { IsEndFor error.now result }
 {
     match error.kind() {
-        ErrorKind::OutOfMemory => Refusal::NoMemory,
+        ErrorKind::OutOfMemory => EarlyEnd::NoMemory,
         ErrorKind::DisplayHelp => match format!(in alloc; "{error}") {
-            Ok(text) => Refusal::Help(text),
-            Err(_) => Refusal::NoMemory,
+            Ok(text) => EarlyEnd::Help(text),
+            Err(_) => EarlyEnd::NoMemory,
         },
-        _ => Refusal::Usage,
+        _ => EarlyEnd::Usage,
     }
 }
 
 /// The matches of the words, which live as long as the command's own texts.
-pub fn parse_words<'a>(alloc: Global, words: &'a [String]) -> Result<ArgMatches<'a>, Refusal>
+pub fn parse_words<'a>(alloc: Global, words: &'a [String]) -> Result<ArgMatches<'a>, EarlyEnd>
     ensures ok { IfOk result (λ m.
         subcommand_rows_of m ≡ subcommand_of line (map string_bytes words.entry.now)) }
     ensures takes { IfErr result (λ r.
-        takes line (map string_bytes words.entry.now) ≡ true → r ≡ Refusal.NoMemory) }
+        takes line (map string_bytes words.entry.now) ≡ true → r ≡ EarlyEnd.NoMemory) }
     ensures kinds { MatchResult result
         (λ _. fault_of line (map string_bytes words.entry.now) ≡ [])
-        (RefusedBy (fault_of line (map string_bytes words.entry.now))) }
+        (AllowsEnd (fault_of line (map string_bytes words.entry.now))) }
 {
     let command = command_line(alloc)?;
     with_reason(alloc, command.try_get_matches_from(words))
@@ -61,8 +62,8 @@ pub fn parse_words<'a>(alloc: Global, words: &'a [String]) -> Result<ArgMatches<
 fn with_reason<'a>(
     alloc: Global,
     parsed: Result<ArgMatches<'a>, Error>,
-) -> Result<ArgMatches<'a>, Refusal>
-    ensures { MatchResult parsed.entry (λ matches. result ≡ Ok matches) (λ error. RefusesFor error result) }
+) -> Result<ArgMatches<'a>, EarlyEnd>
+    ensures { MatchResult parsed.entry (λ matches. result ≡ Ok matches) (λ error. EndsFor error result) }
 {
     match parsed {
         Ok(matches) => Ok(matches),

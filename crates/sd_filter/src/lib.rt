@@ -10,7 +10,7 @@
 //!
 //! fn main(rt: HostRuntime) -> io::Result<()> {
 //!     let job = Job {
-//!         source: Form::Sddl,
+//!         line_form: Form::Sddl,
 //!         act: Act::Convert(OutputForm::Hex),
 //!         domain: None,
 //!         numeric: false,

@@ -202,18 +202,23 @@ module _ (task : Task) (most turn : ℕ) (old : RunTold) (state : RunState) (now
     compared = answered.compared;
   }
 
-  -- a write or the flush failed after the end was read
-  pub broken-close : (state' : RunState) (new : RunTold) → ReadNone now.source new.source
-      → Failed task old.token (sink_of old.drain) (ended r.got) (lines r.got) (standing state' new)
+  -- a write or a flush failed, after the last of these bytes were read, and before all of these lines were answered
+  broken : (got last_read : List ℕ) (all : List (List ℕ)) (state' : RunState) (new : RunTold)
+      → Consumes old.source.left new.source.left got → AreBytes got → new.source.reads ≤ old.source.reads + most
+      → new.source.failures ≡ old.source.failures
+      → ((new.source.ends ≡ counted old.source.ends) × (all ≡ lines got))
+      ⊎ ((new.source.ends ≡ old.source.ends) × (all ≡ ended got))
+      → got ≡ r.got ++ last_read → length last_read ≤ most_of_a_read
+      → Failed task old.token (sink_of old.drain) (ended r.got) all (standing state' new)
       → FaultSays most task old new Write
-  broken-close state' new none failed = record {
-    got = r.got;
-    read = Consumes-none _ _ _ _ r.read none.read;
-    bytes = r.bytes;
-    reads = let before = r.reads.at_most in let reads = none.reads in omega arith;
-    no_failed_read = none.failures ∙ r.failures;
-    all = lines r.got;
-    these = inl (none.ends ∙ ap counted r.ends, refl);
+  broken got last_read all state' new read bytes reads no_failed_read these cut one_read failed = record {
+    got = got;
+    read = read;
+    bytes = bytes;
+    reads = reads;
+    no_failed_read = no_failed_read;
+    all = all;
+    these = these;
     written = answers task old.token.holder failed.whole ++ failed.part;
     wrote = failed.appended;
     is_prefix = written-prefix _ _ _ _ _ _ failed;
@@ -228,44 +233,33 @@ module _ (task : Task) (most turn : ℕ) (old : RunTold) (state : RunState) (now
     joined = refl;
     compared = failed.compared;
     front = r.got;
-    last_read = [];
-    cut = sym (append-nil r.got);
-    one_read = omega arith;
+    last_read = last_read;
+    cut = cut;
+    one_read = one_read;
     went_out = failed.begins;
   }
 
-  -- a write failed before
+  -- after the end was read
+  pub broken-close : (state' : RunState) (new : RunTold) → ReadNone now.source new.source
+      → Failed task old.token (sink_of old.drain) (ended r.got) (lines r.got) (standing state' new)
+      → FaultSays most task old new Write
+  broken-close state' new none failed =
+      broken r.got [] (lines r.got) state' new
+      (Consumes-none _ _ _ _ r.read none.read) r.bytes
+      (let before = r.reads.at_most in let reads = none.reads in omega arith)
+      (none.failures ∙ r.failures) (inl (none.ends ∙ ap counted r.ends, refl))
+      (sym (append-nil r.got)) (omega arith) failed
+
+  -- before it
   pub broken-write : (piece : List ℕ) (state' : RunState) (new : RunTold)
       → AreBytes piece → length piece ≤ most_of_a_read → ReadSome now.source new.source piece
       → Failed task old.token (sink_of old.drain) (ended r.got) (ended (r.got ++ piece)) (standing state' new)
       → FaultSays most task old new Write
-  broken-write piece state' new bytes size some failed = record {
-    got = r.got ++ piece;
-    read = Consumes-trans _ _ _ _ _ r.read some.read;
-    bytes = AreBytes-append r.got piece r.bytes bytes;
-    reads = let before = r.reads.at_most in let reads = some.reads in omega arith;
-    no_failed_read = some.failures ∙ r.failures;
-    all = ended (r.got ++ piece);
-    these = inr (some.ends ∙ r.ends, refl);
-    written = answers task old.token.holder failed.whole ++ failed.part;
-    wrote = failed.appended;
-    is_prefix = written-prefix _ _ _ _ _ _ failed;
-    failed = failed.failed;
-    whole = failed.whole;
-    broken = failed.broken;
-    more = failed.more;
-    split = failed.split;
-    one = failed.one;
-    part = failed.part;
-    is_part = failed.is_prefix;
-    joined = refl;
-    compared = failed.compared;
-    front = r.got;
-    last_read = piece;
-    cut = refl;
-    one_read = size;
-    went_out = failed.begins;
-  }
+  broken-write piece state' new bytes size some failed =
+      broken (r.got ++ piece) piece (ended (r.got ++ piece)) state' new
+      (Consumes-trans _ _ _ _ _ r.read some.read) (AreBytes-append r.got piece r.bytes bytes)
+      (let before = r.reads.at_most in let reads = some.reads in omega arith)
+      (some.failures ∙ r.failures) (inr (some.ends ∙ r.ends, refl)) refl size failed
 
 -- the reads are used up
 pub broken-most : (task : Task) (most : ℕ) (old : RunTold) (state : RunState) (now : RunTold)

@@ -119,7 +119,7 @@ impl Engine {
     ///
     /// ```
     /// let act = Act::Convert(OutputForm::Sddl);
-    /// let job = Job { source: Form::Hex, act, domain: None, numeric: false };
+    /// let job = Job { line_form: Form::Hex, act, domain: None, numeric: false };
     /// let mut engine = Engine::new(rt.alloc(), job).expect(&rt, "memory");
     /// let mut token = Token::new(rt.alloc()).expect(&rt, "memory");
     /// let mut sink = TextSink::new(&rt);

@@ -42,7 +42,7 @@ const PIECE: usize = 8192;
 ///
 /// ```
 /// let act = Act::Convert(OutputForm::Sddl);
-/// let job = Job { source: Form::Hex, act, domain: None, numeric: false };
+/// let job = Job { line_form: Form::Hex, act, domain: None, numeric: false };
 /// let mut engine = Engine::new(rt.alloc(), job).expect(&rt, "memory");
 /// let mut token = Token::new(rt.alloc()).expect(&rt, "memory");
 /// let mut lines = FromRead::new(b"0100049500000000000000000000000000000000\nzz\n".as_slice());

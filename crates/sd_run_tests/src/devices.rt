@@ -189,7 +189,7 @@ fn expect_runs(
     results: &[Result<Report, RunFault>],
 ) {
     let job = Job {
-        source: Form::Hex,
+        line_form: Form::Hex,
         act: Act::Convert(OutputForm::Hex),
         domain: None,
         numeric: false,

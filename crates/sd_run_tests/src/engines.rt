@@ -21,9 +21,9 @@ pub const LINES: [&str; 3] = [
     "O:BAG:SYD:(A;;FA;;;WD)\n",
 ];
 
-fn job(source: Form, act: Act) -> Job {
+fn job(line_form: Form, act: Act) -> Job {
     Job {
-        source,
+        line_form,
         act,
         domain: None,
         numeric: false,
@@ -39,10 +39,10 @@ fn used(rt: &(impl Abort + AllocGlobal)) -> SdBuf {
 }
 
 // Over such buffers, and a text that is no base64.
-fn used_engine(rt: &(impl Abort + AllocGlobal), source: Form, target: OutputForm) -> Engine {
+fn used_engine(rt: &(impl Abort + AllocGlobal), line_form: Form, form: OutputForm) -> Engine {
     let mut text = TextBuf::new(rt.alloc()).expect(rt, "memory for a text");
     assert!(rt; text.extend(b"AQAE!").is_ok());
-    let job = job(source, Act::Convert(target));
+    let job = job(line_form, Act::Convert(form));
     Engine::over(job, used(rt), used(rt), used(rt), text)
 }
 
@@ -71,9 +71,9 @@ fn expect_answers(
 #[test]
 fn runs_over_used_buffers(rt: HostRuntime) {
     let mut token = Token::new(rt.alloc()).expect(&rt, "memory for a token");
-    for (source, line) in FORMS.into_iter().zip(LINES) {
-        for (target, answer) in FORMS.into_iter().zip(LINES) {
-            let mut engine = used_engine(&rt, source, OutputForm::from(target));
+    for (line_form, line) in FORMS.into_iter().zip(LINES) {
+        for (form, answer) in FORMS.into_iter().zip(LINES) {
+            let mut engine = used_engine(&rt, line_form, OutputForm::from(form));
             for most in [usize::MAX, 1] {
                 expect_answers(&rt, &mut engine, &mut token, most, line, answer, 0);
             }
@@ -121,7 +121,7 @@ fn expect_created(
         mapping: Mapping::FILE,
     };
     let job = Job {
-        source: Form::Sddl,
+        line_form: Form::Sddl,
         act: Act::Derive(plan, OutputForm::Sddl),
         domain: None,
         numeric: false,

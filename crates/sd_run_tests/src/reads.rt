@@ -15,7 +15,7 @@ fn expect_of_five(
     answers: &[u8],
 ) {
     let job = Job {
-        source: Form::Hex,
+        line_form: Form::Hex,
         act: Act::Convert(OutputForm::Hex),
         domain: None,
         numeric: false,

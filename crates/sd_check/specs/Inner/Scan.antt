@@ -20,8 +20,8 @@ abbrev pub asks_owner : ℕ → AclPart → Bool
 asks_owner question dacl = not (is_open dacl) && not (bit_and question owner_mask == 0)
 
 -- the rights that are granted without an ACE, right 24 among them; those of an owner only where they are asked for
-unfoldable pub given_mask : ℕ → Descriptor → List Entry → Asked → ℕ
-given_mask question d token ask =
+unfoldable pub without_ace_mask : ℕ → Descriptor → List Entry → Asked → ℕ
+without_ace_mask question d token ask =
     bit_or (bit_or (bit_or (mask_if ask.security system_security_mask) (mask_if ask.take_ownership write_owner_mask))
     (mask_if (asks_owner question d.dacl && is_owned d token) owner_mask))
     (mask_if (is_open d.dacl) below_system_security)
@@ -44,12 +44,12 @@ unfoldable pub permitted_mask : Descriptor → Holder → Asked → ℕ
 permitted_mask d holder ask =
     if is_lower holder.level (label d) then left_mask (label d) ask.mapping else every_right
 
--- those of the rights in question that the ACEs alone can decide, and that the label allows; what is given is taken
--- away whether the label allows it or not
+-- those of the rights in question that the ACEs alone can decide, and that the label allows; what is granted without an
+-- ACE is taken away whether the label allows it or not
 abbrev pub undecided_of : Descriptor → Holder → Asked → ℕ
 undecided_of d holder ask =
     bit_and (bit_and (question_of ask) (permitted_mask d holder ask))
-    (2 ^ 32 - 1 - bit_or (given_mask (question_of ask) d holder.entries ask) system_security_mask)
+    (2 ^ 32 - 1 - bit_or (without_ace_mask (question_of ask) d holder.entries ask) system_security_mask)
 
 -- these ACEs decide each right of a mask
 abbrev pub are_decided : ℕ → Descriptor → List Entry → Asked → List AccessControlEntry → Bool

@@ -8,7 +8,7 @@ use Rattle.sd_check.proofs.verdict.granted.Goals.{After-scan, After-undecided-un
 undecided : (c : After-undecided-undecided)
     → c.undecided-undecided.result ≡ undecided_of c.args.view.now c.args.token.now.holder c.args.ask.now
 undecided c = c.undecided-undecided.ensures
-    ∙ rw (c.given-given.ensures.value, c.question-question.ensures.value, c.permitted-permitted.ensures) refl
+    ∙ rw (c.granted_without_ace-without_ace.ensures.value, c.question-question.ensures.value, c.permitted-permitted.ensures) refl
 
 pub scan-requires : goal.scan-requires
 scan-requires c =
@@ -18,29 +18,29 @@ scan-requires c =
 pub returns-clause-rights : goal.returns-clause-rights
 returns-clause-rights c =
     let e = undecided (goal.at.returns-clause-rights c).After-undecided-undecided in
-    rw (c.given-given.ensures.value, c.question-question.ensures.value, c.permitted-permitted.ensures)
+    rw (c.granted_without_ace-without_ace.ensures.value, c.question-question.ensures.value, c.permitted-permitted.ensures)
     (granted_bit c.args.view.now c.args.token.now.holder c.args.ask.now c.scan.result
     c.question-question.ensures.limits
-    (λ n. c.scan.ensures.rights n ∙ rw (e, c.given-given.ensures.asks.holder) refl))
+    (λ n. c.scan.ensures.rights n ∙ rw (e, c.granted_without_ace-without_ace.ensures.asks.holder) refl))
 
 -- what the scan adds to the count
 scanned : (c : After-scan)
     → c.undecided-undecided.result ≡ undecided_of c.args.view.now c.args.token.now.holder c.args.ask.now
     → c.scan.new.token.compared
-    ≤ c.given-given.new.token.compared
+    ≤ c.granted_without_ace-without_ace.new.token.compared
     + need c.args.view.now c.args.token.now.holder.entries c.args.ask.now * length c.args.token.now.holder.entries
 scanned c e =
-    count_scan c.args.view.now c.args.token.now.holder c.args.ask.now _ c.given-given.new.token.compared
+    count_scan c.args.view.now c.args.token.now.holder c.args.ask.now _ c.granted_without_ace-without_ace.new.token.compared
     c.scan.new.token.compared c.question-question.ensures.limits e
-    (rw c.given-given.ensures.asks.holder at c.scan.ensures.asks.compared.at_most)
+    (rw c.granted_without_ace-without_ace.ensures.asks.holder at c.scan.ensures.asks.compared.at_most)
 
 pub returns-clause-asks : goal.returns-clause-asks
 returns-clause-asks c =
     let at = goal.at.returns-clause-asks c in
-    let owner = c.given-given.ensures.asks.compared in
+    let owner = c.granted_without_ace-without_ace.ensures.asks.compared in
     let aces = c.scan.ensures.asks.compared in
     record {
-      holder = c.scan.ensures.asks.holder ∙ c.given-given.ensures.asks.holder;
+      holder = c.scan.ensures.asks.holder ∙ c.granted_without_ace-without_ace.ensures.asks.holder;
       compared = record {
         goes_on = omega (arith, owner.goes_on, aces.goes_on);
         at_most = omega (arith, scanned at.After-scan (undecided at.After-undecided-undecided), owner.at_most);
@@ -50,7 +50,7 @@ returns-clause-asks c =
 pub returns-clause-spared : goal.returns-clause-spared
 returns-clause-spared c = λ idle.
     let at = goal.at.returns-clause-spared c in
-    let same = c.given-given.ensures.spared
+    let same = c.granted_without_ace-without_ace.ensures.spared
     (ap (λ (q : ℕ). asks_owner q c.args.view.now.dacl) c.question-question.ensures.value
     ∙ asks_owner-is c.args.view.now c.args.ask.now ∙ idle) in
     omega (arith, scanned at.After-scan (undecided at.After-undecided-undecided), same)

@@ -1,11 +1,11 @@
--- What a refusal says of the words, by the kinds of fault that `clap` finds in them.
+-- What an early end says of the words, by the kinds of fault that `clap` finds in them.
 use Rattle.std.specs.Prelude.{◌≡◌, Bool, true, false}
 use Rattle.std.specs.List.{list_any}
 use Rattle.clap.specs.Words.{Kinds, IsAmong}
 use Rattle.clap.specs.declared.error.ErrorKind.{ErrorKind}
 use Rattle.clap.specs.declared.error.ErrorKind.TheVariants as kind
-use Rattle.sd_command_line.specs.declared.parse.Refusal.{Refusal}
-use Rattle.sd_command_line.specs.declared.parse.Refusal.TheVariants.{NoMemory, Usage, Help}
+use Rattle.sd_command_line.specs.declared.parse.EarlyEnd.{EarlyEnd}
+use Rattle.sd_command_line.specs.declared.parse.EarlyEnd.TheVariants.{NoMemory, Usage, Help}
 
 -- a kind of fault that stands for a mistake in the words: not want of memory, and not a request for help
 abbrev pub is_mistake : ErrorKind → Bool
@@ -14,7 +14,7 @@ is_mistake kind.DisplayHelp = false
 is_mistake _ = true
 
 -- what the kinds that `clap` may give allow
-abbrev pub RefusedBy : Kinds → Refusal → Type 0
-RefusedBy kinds NoMemory = Unit {0}
-RefusedBy kinds Usage = list_any is_mistake kinds ≡ true
-RefusedBy kinds (Help text) = IsAmong kind.DisplayHelp kinds
+abbrev pub AllowsEnd : Kinds → EarlyEnd → Type 0
+AllowsEnd kinds NoMemory = Unit {0}
+AllowsEnd kinds Usage = list_any is_mistake kinds ≡ true
+AllowsEnd kinds (Help text) = IsAmong kind.DisplayHelp kinds

@@ -2,7 +2,7 @@ use Rattle.std.proofs.Common.{◌≡◌, ◌<◌, ◌≤◌, ◌-◌, ◌%◌, l
 use Rattle.base64.specs.Engines.{standard}
 use Rattle.base64.specs.GeneralPurpose.{encode_of}
 use Rattle.sd_sink.specs.Print.{Prints}
-use Rattle.sd_answer.proofs.base64_text.print_base64.Given as goal
+use Rattle.sd_answer.proofs.base64_text.print_as_base64.Given as goal
 
 abbrev pub invariant-loop-at : goal.invariant-loop-at
 invariant-loop-at g l = record {

@@ -2,7 +2,7 @@ use Rattle.std.proofs.Common.{arith, ◌∙◌}
 use Rattle.base64.specs.Rfc4648.{encode_symbols}
 use Rattle.sd_sink.proofs.laws.PrintLemmas.{prints_nothing}
 use Rattle.sd_answer.proofs.Base64Lemmas.{Prints-base64}
-use Rattle.sd_answer.proofs.base64_text.print_base64.Goals as goal
+use Rattle.sd_answer.proofs.base64_text.print_as_base64.Goals as goal
 
 pub loop-at-init : goal.loop-at-init
 unfolding encode_symbols

@@ -2,7 +2,7 @@ use Rattle.std.proofs.Common.{arith, ◌∙◌}
 use Rattle.hex.specs.Hex.{encode_with}
 use Rattle.sd_sink.proofs.laws.PrintLemmas.{prints_nothing}
 use Rattle.sd_answer.proofs.HexTextLemmas.{Prints-piece}
-use Rattle.sd_answer.proofs.hex_text.print_hex.Goals as goal
+use Rattle.sd_answer.proofs.hex_text.print_as_hex.Goals as goal
 
 pub loop-at-init : goal.loop-at-init
 unfolding encode_with

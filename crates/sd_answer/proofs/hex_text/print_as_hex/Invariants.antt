@@ -1,7 +1,7 @@
 use Rattle.std.proofs.Common.{◌≡◌, ◌≤◌, ◌-◌, length, take}
 use Rattle.hex.specs.Hex.{encode_lower}
 use Rattle.sd_sink.specs.Print.{Prints}
-use Rattle.sd_answer.proofs.hex_text.print_hex.Given as goal
+use Rattle.sd_answer.proofs.hex_text.print_as_hex.Given as goal
 
 abbrev pub invariant-loop-at : goal.invariant-loop-at
 invariant-loop-at g l = record {
