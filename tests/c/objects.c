@@ -39,25 +39,28 @@ struct bytes {
 static const char *job;
 static int wrong;
 static long allocations, allocations_left = -1;
+/* The bytes that were asked for. */
+static size_t allocated;
 
 /* The linker puts these in the place of malloc and realloc of the library: see tests/c_library.py. */
 void *__wrap_malloc(size_t size);
 void *__wrap_realloc(void *block, size_t size);
 
-static bool refused(void)
+static bool refused(size_t size)
 {
     allocations++;
+    allocated += size;
     return allocations_left >= 0 && allocations_left-- == 0;
 }
 
 void *__wrap_malloc(size_t size)
 {
-    return refused() ? NULL : __real_malloc(size);
+    return refused(size) ? NULL : __real_malloc(size);
 }
 
 void *__wrap_realloc(void *block, size_t size)
 {
-    return refused() ? NULL : __real_realloc(block, size);
+    return refused(size) ? NULL : __real_realloc(block, size);
 }
 
 static void complain(const char *what)
@@ -545,9 +548,11 @@ static void refuse_allocations(const struct question *q, const struct sdtool_byt
     long most;
 
     allocations = 0;
+    allocated = 0;
     check_many(q, descriptors, count, verdicts, count);
     most = allocations;
     expect(most > 0 || !CAN_REFUSE, "many checks allocate nothing");
+    expect(allocated < 128 << 10, "many checks allocate 128 KiB");
     for (long n = 0; n < most; n++) {
         allocations_left = n;
         try_many(q, descriptors, 0, count, SDTOOL_NO_MEMORY, 0, 0, 0);
