@@ -267,6 +267,8 @@ static struct bytes answer_to(const struct question *in)
     struct bytes answer = {block(most), 0, most};
     struct sdtool_outcome o = call(in, answer.cells, most);
 
+    if (o.fault == SDTOOL_NO_MEMORY)
+        complain("no memory, although there is");
     if (o.fault == SDTOOL_OK) {
         answer.size = o.length;
         print(&answer);

@@ -1209,6 +1209,31 @@ static void large(void)
     release(longest.cells, longest.size);
 }
 
+/* As many descriptors as a large folder has objects: one without a DACL, and one with an empty DACL, by turns. */
+static void many_descriptors(void)
+{
+    enum { DESCRIPTORS = 100000 };
+    uint8_t open[20] = {1, 0, 0, 0x80}, closed[28] = {1, 0, 4, 0x80, [16] = 20, [20] = 2, [22] = 8};
+    struct bytes sid = a_sid(1), zero = copied("", 1), nothing = {NULL, 0};
+    struct question q = {sid, zero, nothing, nothing, {.wanted = 1}};
+    struct sdtool_bytes *descriptors = room_for(DESCRIPTORS, sizeof *descriptors);
+    struct sdtool_verdict *verdicts = room_for(DESCRIPTORS, sizeof *verdicts);
+    bool are_right = true;
+
+    for (size_t i = 0; i < DESCRIPTORS; i++)
+        descriptors[i] = i % 2 == 0 ? (struct sdtool_bytes){open, sizeof open} : (struct sdtool_bytes){closed, sizeof closed};
+    struct sdtool_outcome o = check_many(&q, descriptors, DESCRIPTORS, verdicts, DESCRIPTORS);
+    expect(is_outcome(&o, SDTOOL_OK, 0, 0, 0, DESCRIPTORS), "the outcome of 100,000 checks");
+    for (size_t i = 0; i < DESCRIPTORS; i++)
+        are_right = are_right && verdicts[i].fault == SDTOOL_OK && verdicts[i].mask == 1
+                    && verdicts[i].granted == (i % 2 == 0);
+    expect(are_right, "one of 100,000 verdicts");
+    free(descriptors);
+    free(verdicts);
+    release(sid.cells, sid.size);
+    release(zero.cells, zero.size);
+}
+
 static void answer_line(char **words, int count, const char *line, size_t length)
 {
     bool is_text = strcmp(job, "from_text") == 0;
@@ -1303,6 +1328,7 @@ int main(int count, char **words)
         tokens_of_most_sids();
     } else if (strcmp(job, "large") == 0) {
         large();
+        many_descriptors();
     } else if ((strcmp(job, "many") == 0 || strcmp(job, "with") == 0) && count == 10) {
         answer_all(words);
     } else {
