@@ -205,15 +205,21 @@ static bool hides(const struct sdtool_outcome *o)
     return strcmp(job, "check") != 0 || o->fault == SDTOOL_OK || o->fault == SDTOOL_TOO_SMALL;
 }
 
-/* As the header says: one buffer behind the arguments, a token of less than 128 KiB, or nothing. */
+/* Whether a call whose outcome this is takes a buffer: it does so behind the faults of its arguments. */
+static bool takes_buffer(const struct sdtool_outcome *o)
+{
+    if (strcmp(job, "from_sddl") == 0)
+        return o->fault != SDTOOL_ARGUMENT && o->fault != SDTOOL_FAULT_TOO_LONG;
+    return strcmp(job, "derive") == 0
+           && (o->fault == SDTOOL_OK || o->fault == SDTOOL_TOO_SMALL || o->fault == SDTOOL_FAULT_DERIVED_TOO_LARGE);
+}
+
+/* What a call allocates is what the header says: a token of less than 128 KiB, one buffer, or nothing. */
 static bool is_as_said(const struct sdtool_outcome *o)
 {
     if (strcmp(job, "check") == 0)
         return allocated < 128 << 10;
-    if (strcmp(job, "from_sddl") == 0 || strcmp(job, "derive") == 0)
-        return allocated == (allocations == 0 ? 0 : SDTOOL_MOST_BYTES)
-               && (!CAN_REFUSE || o->fault != SDTOOL_OK || allocations != 0);
-    return allocations == 0;
+    return !CAN_REFUSE || allocated == (takes_buffer(o) ? SDTOOL_MOST_BYTES : 0);
 }
 
 static void try_refusals(const struct question *in, size_t size)
