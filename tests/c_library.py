@@ -4,12 +4,12 @@
 Tests the built library, out/lib, from C and from Python. Each answer of a call has to be what PROGRAM answers to the same
 line: for each line of the worked rows, and N random changes of them. Checks and derivations have to answer what the
 worked rows say, and N random ones what PROGRAM answers; also tried are arguments that no words spell. tests/c/calls.c also
-tries each size of the output, refused allocations and threads; it runs under the address sanitizer if the compiler has
-it, and under valgrind if that is there. tests/c/runs.c does the same for runs: each row without devices of its own,
-and in each size of the output whole answers, and the front of help. Both also run with a page that cannot be touched behind each block and in
-front of it, and with inputs that cannot be written. Descriptors of the densest ACEs have outputs of each size. Also
-tested: the symbols of the libraries, the header in C and C++, the names of faults, a program that was compiled with an
-older header, and the Python module's examples.
+tries each size of the output, refused allocations and threads, and looks at what is allocated; it runs under the address
+sanitizer if the compiler has it, and under valgrind if that is there. tests/c/runs.c does the same for runs: each row
+without devices of its own, and in each size of the output whole answers, and the front of help. Both also run with a page
+that cannot be touched behind each block and in front of it, and with inputs that cannot be written. Descriptors of the
+densest ACEs have outputs of each size. Also tested: the symbols of the libraries, the header in C and C++, the names of
+faults, a program that was compiled with an older header, and the Python module's examples.
 The last line is 'N passed, M failed'.
 """
 import argparse
