@@ -39,25 +39,28 @@ struct bytes {
 static const char *job;
 static int wrong;
 static long allocations, allocations_left = -1;
+/* The bytes that were asked for. */
+static size_t allocated;
 
 /* The linker puts these in the place of malloc and realloc of the library: see tests/c_library.py. */
 void *__wrap_malloc(size_t size);
 void *__wrap_realloc(void *block, size_t size);
 
-static bool refused(void)
+static bool refused(size_t size)
 {
     allocations++;
+    allocated += size;
     return allocations_left >= 0 && allocations_left-- == 0;
 }
 
 void *__wrap_malloc(size_t size)
 {
-    return refused() ? NULL : __real_malloc(size);
+    return refused(size) ? NULL : __real_malloc(size);
 }
 
 void *__wrap_realloc(void *block, size_t size)
 {
-    return refused() ? NULL : __real_realloc(block, size);
+    return refused(size) ? NULL : __real_realloc(block, size);
 }
 
 static void complain(const char *what)
@@ -545,9 +548,11 @@ static void refuse_allocations(const struct question *q, const struct sdtool_byt
     long most;
 
     allocations = 0;
+    allocated = 0;
     check_many(q, descriptors, count, verdicts, count);
     most = allocations;
     expect(most > 0 || !CAN_REFUSE, "many checks allocate nothing");
+    expect(allocated < 128 << 10, "many checks allocate 128 KiB");
     for (long n = 0; n < most; n++) {
         allocations_left = n;
         try_many(q, descriptors, 0, count, SDTOOL_NO_MEMORY, 0, 0, 0);
@@ -1204,6 +1209,31 @@ static void large(void)
     release(longest.cells, longest.size);
 }
 
+/* As many descriptors as a large folder has objects: one without a DACL, and one with an empty DACL, by turns. */
+static void many_descriptors(void)
+{
+    enum { DESCRIPTORS = 100000 };
+    uint8_t open[20] = {1, 0, 0, 0x80}, closed[28] = {1, 0, 4, 0x80, [16] = 20, [20] = 2, [22] = 8};
+    struct bytes sid = a_sid(1), zero = copied("", 1), nothing = {NULL, 0};
+    struct question q = {sid, zero, nothing, nothing, {.wanted = 1}};
+    struct sdtool_bytes *descriptors = room_for(DESCRIPTORS, sizeof *descriptors);
+    struct sdtool_verdict *verdicts = room_for(DESCRIPTORS, sizeof *verdicts);
+    bool are_right = true;
+
+    for (size_t i = 0; i < DESCRIPTORS; i++)
+        descriptors[i] = i % 2 == 0 ? (struct sdtool_bytes){open, sizeof open} : (struct sdtool_bytes){closed, sizeof closed};
+    struct sdtool_outcome o = check_many(&q, descriptors, DESCRIPTORS, verdicts, DESCRIPTORS);
+    expect(is_outcome(&o, SDTOOL_OK, 0, 0, 0, DESCRIPTORS), "the outcome of 100,000 checks");
+    for (size_t i = 0; i < DESCRIPTORS; i++)
+        are_right = are_right && verdicts[i].fault == SDTOOL_OK && verdicts[i].mask == 1
+                    && verdicts[i].granted == (i % 2 == 0);
+    expect(are_right, "one of 100,000 verdicts");
+    free(descriptors);
+    free(verdicts);
+    release(sid.cells, sid.size);
+    release(zero.cells, zero.size);
+}
+
 static void answer_line(char **words, int count, const char *line, size_t length)
 {
     bool is_text = strcmp(job, "from_text") == 0;
@@ -1298,6 +1328,7 @@ int main(int count, char **words)
         tokens_of_most_sids();
     } else if (strcmp(job, "large") == 0) {
         large();
+        many_descriptors();
     } else if ((strcmp(job, "many") == 0 || strcmp(job, "with") == 0) && count == 10) {
         answer_all(words);
     } else {
