@@ -15,9 +15,7 @@ HERE = pathlib.Path(__file__).resolve().parent
 FOLDER = HERE / "completions"
 # The table from which the program takes its options and their help.
 TABLE = (HERE.parent / "crates/sd_command_line/src/options.rt").read_text(encoding="utf-8")
-ENUM = re.compile(r"enum OptionName \{(.*?)\}", re.DOTALL)
-VARIANT = re.compile(r"^    (\w+),$", re.MULTILINE)
-ROW = re.compile(r'(optional|required|flag)!\(((?:\s*"[^"]*",?)+)\s*\)')
+ROW = re.compile(r'OptionName::(\w+) => (optional|required|flag)!\(((?:\s*"[^"]*",?)+)\s*\)')
 LIST = re.compile(r"const (\w+)_OPTIONS: .*?= \[(.*?)\];", re.DOTALL)
 # The values of an option, by what they are called, where they are few.
 VALUES = {
@@ -43,11 +41,7 @@ def option_of(kind, texts):
     return Option(name, what, *value, *(VALUES.get(called, ()) for called in value))
 
 
-# Each variant has the row at its place.
-VARIANTS, FOUND = VARIANT.findall(ENUM.search(TABLE)[1]), ROW.findall(TABLE)
-if len(VARIANTS) != len(FOUND):
-    sys.exit(f"completions: {len(VARIANTS)} options, and {len(FOUND)} rows that read")
-ROWS = {variant: option_of(kind, texts) for variant, (kind, texts) in zip(VARIANTS, FOUND)}
+ROWS = {variant: option_of(kind, texts) for variant, kind, texts in ROW.findall(TABLE)}
 # The options of each command.
 OWN = {command.lower(): [ROWS[variant] for variant in re.findall(r"OptionName::(\w+)", listed)]
        for command, listed in LIST.findall(TABLE)}

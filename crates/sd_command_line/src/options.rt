@@ -3,7 +3,7 @@ ghost use Rattle.std.specs.Prelude.{◌≡◌};
 ghost use Rattle.sd_command_line.specs.CommandLine.{option_rule, option_text, row_rule};
 ghost use Rattle.sd_command_line.specs.FaultLines.{value_line};
 
-/// The options of all commands. Each has its row in `ROWS`, in the same order.
+/// The options of all commands. Each has its row in `OptionName::row`.
 #[derive(Clone, Copy, Debug, PartialEq, Eq)]
 pub enum OptionName {
     Domain,
@@ -69,50 +69,62 @@ macro_rules! flag {
     };
 }
 
-// A row for each option, in the order of `OptionName`.
-static ROWS: [OptionRow; 17] = [
-    optional!("domain", "SID", "SID of the domain, for aliases such as DA"),
-    optional!(
-        "from",
-        "FORM",
-        "Input format: hex (default), base64 or sddl"
-    ),
-    optional!("to", "FORM", "Output format: sddl (default), hex or base64"),
-    flag!("numeric", "Print SIDs as numbers, without aliases"),
-    optional!("type", "TYPE", "Object type: file (default), key or ds"),
-    required!("kind", "KIND", "What is created: file or container"),
-    required!("owner", "SID", "SID of the new object's owner"),
-    required!("group", "SID", "SID of the new object's group"),
-    optional!(
-        "creator",
-        "SDDL",
-        "Descriptor that the creator provides, in SDDL"
-    ),
-    required!(
-        "token",
-        "SID,..",
-        "SIDs of the token, separated by commas; a ! before a SID makes it deny-only"
-    ),
-    optional!("want", "RIGHTS", "Rights to ask for, as in SDDL"),
-    flag!("maximum", "Ask for all rights that are granted"),
-    optional!("object", "GUID", "GUID of the object type to ask for"),
-    optional!("self", "SID", "SID that PRINCIPAL SELF stands for"),
-    flag!("security", "The token holds SeSecurityPrivilege"),
-    flag!("take-ownership", "The token holds SeTakeOwnershipPrivilege"),
-    optional!(
-        "level",
-        "NUMBER",
-        "Integrity level of the token, such as 8192 for Medium"
-    ),
-];
-
 impl OptionName {
     /// Its row of the table.
     pub fn row(self) -> OptionRow
         ensures rule { row_rule result ≡ option_rule self }
         ensures says { result.fault_line.now ≡ value_line self }
     {
-        ROWS[self as usize]
+        match self {
+            OptionName::Domain => optional!(
+                "domain",
+                "SID",
+                "SID of the domain, for aliases such as DA"
+            ),
+            OptionName::From => optional!(
+                "from",
+                "FORM",
+                "Input format: hex (default), base64 or sddl"
+            ),
+            OptionName::To => optional!(
+                "to",
+                "FORM",
+                "Output format: sddl (default), hex or base64"
+            ),
+            OptionName::Numeric => flag!("numeric", "Print SIDs as numbers, without aliases"),
+            OptionName::Type => optional!("type", "TYPE", "Object type: file (default), key or ds"),
+            OptionName::Kind => required!("kind", "KIND", "What is created: file or container"),
+            OptionName::Owner => required!("owner", "SID", "SID of the new object's owner"),
+            OptionName::Group => required!("group", "SID", "SID of the new object's group"),
+            OptionName::Creator => optional!(
+                "creator",
+                "SDDL",
+                "Descriptor that the creator provides, in SDDL"
+            ),
+            OptionName::Token => required!(
+                "token",
+                "SID,..",
+                "SIDs of the token, separated by commas; a ! before a SID makes it deny-only"
+            ),
+            OptionName::Want => optional!("want", "RIGHTS", "Rights to ask for, as in SDDL"),
+            OptionName::Maximum => flag!("maximum", "Ask for all rights that are granted"),
+            OptionName::Object => optional!("object", "GUID", "GUID of the object type to ask for"),
+            OptionName::PrincipalSelf => optional!(
+                "self",
+                "SID",
+                "SID that PRINCIPAL SELF stands for"
+            ),
+            OptionName::Security => flag!("security", "The token holds SeSecurityPrivilege"),
+            OptionName::TakeOwnership => flag!(
+                "take-ownership",
+                "The token holds SeTakeOwnershipPrivilege"
+            ),
+            OptionName::Level => optional!(
+                "level",
+                "NUMBER",
+                "Integrity level of the token, such as 8192 for Medium"
+            ),
+        }
     }
 
     /// The word that names it, behind two dashes.
