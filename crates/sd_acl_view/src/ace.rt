@@ -238,7 +238,7 @@ impl<'a> AceView<'a> {
     pub fn sid(&self) -> Sid
         ensures { result ≡ self.now.sid }
     {
-        Sid::at_front(&self.extent[sid_offset(self.extent)..])
+        self.sid_in_place().sid()
     }
 
     /// The SID of the trustee, read in place.
