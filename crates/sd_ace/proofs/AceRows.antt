@@ -1,37 +1,19 @@
 -- Worked ACEs (MS-DTYP 2.4.4): their sizes, their bytes and their limits.
-use Rattle.std.proofs.Common.{◌≡◌, ℕ, true, false, List, [], ◌∷◌, ◌++◌, map, Option, Some, None, refl, replicate, arith}
+use Rattle.std.proofs.Common.{◌≡◌, ◌<◌, ◌/◌, ◌%◌, ◌^◌, ℕ, true, false, List, [], ◌∷◌, ◌++◌}
+use Rattle.std.proofs.Common.{map, Option, Some, None, refl, replicate, arith}
 use Rattle.sd_kinds.specs.Kinds.{kind_code, kind_entry}
 use Rattle.sd_kinds.specs.declared.kinds.AceKind.{AceKind}
 use Rattle.sd_kinds.specs.declared.kinds.AceKind.TheVariants as kinds
-use Rattle.sd_sid.specs.Sid.{IsSid, SecurityId}
+use Rattle.sd_sid.specs.Sid.{IsSid}
+use Rattle.sd_sid.proofs.laws.Everyone.{everyone, everyones_bytes}
 use Rattle.sd_ace.specs.Ace.{AccessControlEntry, GuidsFit, IsAce, IsGuid, ace_size}
 use Rattle.sd_ace.specs.AceLayout.{ace_bytes, front_size}
+use Rattle.sd_ace.proofs.laws.WorkedGuids.{other_class, other_class_bytes, user_class, user_class_bytes}
 
 -- `unfolding computed` lets `refl` compute a row
 computed : Unit {0}
 unfolding kind_code kind_entry
 computed = tt
-
-everyone : SecurityId
-everyone = record { authority = 1; subs = 0 ∷ [] }
-
-everyones_bytes : List ℕ
-everyones_bytes = 1 ∷ 1 ∷ 0 ∷ 0 ∷ 0 ∷ 0 ∷ 0 ∷ 1 ∷ 0 ∷ 0 ∷ 0 ∷ 0 ∷ []
-
--- bf967aba-0de6-11d0-a285-00aa003049e2, and its bytes: three fields with their low bytes first (2.3.4.2)
-user_class : List ℕ
-user_class =
-    0xbf ∷ 0x96 ∷ 0x7a ∷ 0xba ∷ 0x0d ∷ 0xe6 ∷ 0x11 ∷ 0xd0 ∷ 0xa2 ∷ 0x85 ∷ 0x00 ∷ 0xaa ∷ 0x00 ∷ 0x30 ∷ 0x49 ∷ 0xe2 ∷ []
-
-user_class_bytes : List ℕ
-user_class_bytes =
-    0xba ∷ 0x7a ∷ 0x96 ∷ 0xbf ∷ 0xe6 ∷ 0x0d ∷ 0xd0 ∷ 0x11 ∷ 0xa2 ∷ 0x85 ∷ 0x00 ∷ 0xaa ∷ 0x00 ∷ 0x30 ∷ 0x49 ∷ 0xe2 ∷ []
-
-other_class : List ℕ
-other_class = 0x10 ∷ 0x11 ∷ 0x12 ∷ 0x13 ∷ 0x20 ∷ 0x21 ∷ 0x30 ∷ 0x31 ∷ 1 ∷ 2 ∷ 3 ∷ 4 ∷ 5 ∷ 6 ∷ 7 ∷ 8 ∷ []
-
-other_class_bytes : List ℕ
-other_class_bytes = 0x13 ∷ 0x12 ∷ 0x11 ∷ 0x10 ∷ 0x21 ∷ 0x20 ∷ 0x31 ∷ 0x30 ∷ 1 ∷ 2 ∷ 3 ∷ 4 ∷ 5 ∷ 6 ∷ 7 ∷ 8 ∷ []
 
 ace : AceKind → Option (List ℕ) → Option (List ℕ) → AccessControlEntry
 ace kind object inherited =
@@ -88,29 +70,23 @@ limited flags mask = record {
 shortest_sid : IsSid (record { authority = 5; subs = [] })
 shortest_sid = record { authority = omega arith; count = omega arith; subs = λ i. omega arith }
 
-largest_ace : IsAce (limited 0xdf 0xffff_ffff)
+limited_is_an_ace : (flags mask : ℕ) → flags < 256 → flags / 0x20 % 2 ≡ 0 → mask < 2 ^ 32 → IsAce (limited flags mask)
 unfolding limited
-largest_ace = record {
-  flags = omega arith;
-  clear = refl;
-  mask = omega arith;
+limited_is_an_ace flags mask few clear small = record {
+  flags = few;
+  clear = clear;
+  mask = small;
   fit = tt;
   object = tt;
   inherited = tt;
   sid = shortest_sid;
 }
 
+largest_ace : IsAce (limited 0xdf 0xffff_ffff)
+largest_ace = limited_is_an_ace 0xdf 0xffff_ffff (omega arith) refl (omega arith)
+
 flag_0x40_alone : IsAce (limited 0x40 0)
-unfolding limited
-flag_0x40_alone = record {
-  flags = omega arith;
-  clear = refl;
-  mask = omega arith;
-  fit = tt;
-  object = tt;
-  inherited = tt;
-  sid = shortest_sid;
-}
+flag_0x40_alone = limited_is_an_ace 0x40 0 (omega arith) refl (omega arith)
 
 unused_flag : IsAce (limited 0x20 0) → ⊥
 unfolding limited

@@ -1,16 +1,13 @@
 -- Worked texts of GUIDs, computed.
-use Rattle.std.proofs.Common.{◌≡◌, ℕ, List, [], ◌∷◌, Some, None, codes, refl}
+use Rattle.std.proofs.Common.{◌≡◌, Some, None, codes, refl}
 use Rattle.uuid.specs.Text.{by_index}
 use Rattle.sd_ace.specs.GuidText.{guid_reads, guid_text}
+use Rattle.sd_ace.proofs.laws.WorkedGuids.{user_class}
 
 -- `unfolding computed` lets `refl` compute a row
 computed : Unit {0}
 unfolding by_index guid_reads guid_text
 computed = tt
-
-user_class : List ℕ
-user_class =
-    0xbf ∷ 0x96 ∷ 0x7a ∷ 0xba ∷ 0x0d ∷ 0xe6 ∷ 0x11 ∷ 0xd0 ∷ 0xa2 ∷ 0x85 ∷ 0x00 ∷ 0xaa ∷ 0x00 ∷ 0x30 ∷ 0x49 ∷ 0xe2 ∷ []
 
 guid_put : guid_text user_class ≡ codes "bf967aba-0de6-11d0-a285-00aa003049e2"
 unfolding computed user_class

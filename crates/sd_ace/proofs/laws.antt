@@ -2,3 +2,4 @@
 pub mod AceSizes
 pub mod GuidLimits
 pub mod GuidTexts
+pub mod WorkedGuids

@@ -9,6 +9,9 @@ ghost use Rattle.sd_sink.specs.Sink.{Puts};
 use sd_sink::{Print, Printer, Sink, SinkFault};
 use uuid::Uuid;
 
+/// The bytes of a GUID.
+pub const GUID_SIZE: usize = 16;
+
 /// The characters of a GUID's text: 32 digits and four hyphens.
 pub const GUID_TEXT_SIZE: usize = 36;
 

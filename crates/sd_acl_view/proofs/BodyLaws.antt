@@ -1,10 +1,11 @@
 -- The GUIDs and the SID of an ACE in its extent.
-use Rattle.std.proofs.Common.{◌≡◌, ◌≤◌, ◌/◌, ◌%◌, ◌+◌, ◌&&◌, ◌++◌, Bool, true, false, cond, eqb, ℕ, List, length, take}
-use Rattle.std.proofs.Common.{drop, slice_index, refl, sym, ap, ◌∙◌, arith, append_assoc, length-append, length-drop}
+use Rattle.std.proofs.Common.{◌≡◌, ◌≤◌, ◌/◌, ◌%◌, ◌+◌, ◌-◌, ◌*◌, ◌&&◌, ◌++◌, Bool, true, false, cond, eqb}
+use Rattle.std.proofs.Common.{ℕ, List, length, take, drop, slice_index, refl, sym, ap, ◌∙◌, arith, subst}
+use Rattle.std.proofs.Common.{append_assoc, length-append, length-drop}
 use Rattle.std.proofs.lemmas.List.{drop-drop, get_or-drop, length-take-le, take-append-drop, take_at}
 use Rattle.uuid.specs.Parts.{swap_fields}
 use Rattle.uuid.proofs.RoundTrips.{swap_twice}
-use Rattle.sd_ace.specs.Ace.{ace_size, guid_size}
+use Rattle.sd_ace.specs.Ace.{AccessControlEntry, ace_size, guid_size}
 use Rattle.sd_kinds.specs.Kinds.{is_object}
 use Rattle.sd_sid.specs.Sid.{SecurityId, BeginsWithSid, sid_bytes, sid_of}
 use Rattle.sd_acl_view.specs.Ace.{announces_inherited, announces_object}
@@ -13,6 +14,7 @@ use Rattle.sd_acl_view.specs.AclReading.{ace_of, guid_if, inherited_in, kind_in,
 use Rattle.sd_acl_view.specs.Inner.ReadableAce.{IsReadableAce}
 use Rattle.sd_acl_view.specs.Bytes.{u32_at}
 use Rattle.sd_sid.proofs.laws.SidLaws.{length-sid_bytes}
+use Rattle.sd_acl_view.proofs.laws.AclLaws.{sid-room}
 
 -- a GUID that is announced is the next piece of the extent
 piece : (b : Bool) (n : ℕ) (extent : List ℕ) → n + guid_size (guid_if b (drop n extent)) ≤ length extent
@@ -63,7 +65,7 @@ unfolding guid_if
 part_size true xs = refl
 part_size false xs = refl
 
-pub record Front (extent : List ℕ) : Type 0 where
+record Front (extent : List ℕ) : Type 0 where
   pub sum : sid_offset_in extent ≡ front_size (kind_in extent) + guid_size (object_in extent)
       + guid_size (inherited_in extent)
   pub object : guid_size (object_in extent) ≤ 16
@@ -71,7 +73,7 @@ pub record Front (extent : List ℕ) : Type 0 where
   pub object_bytes : length (guid_part (object_in extent)) ≡ guid_size (object_in extent)
   pub inherited_bytes : length (guid_part (inherited_in extent)) ≡ guid_size (inherited_in extent)
 
-pub front : (extent : List ℕ) → Front extent
+front : (extent : List ℕ) → Front extent
 unfolding sid_offset_in object_in inherited_in announces_object announces_inherited
 front extent =
     let b = is_object (kind_in extent) in
@@ -92,7 +94,7 @@ unfolding sid_offset_in object_in inherited_in announces_object announces_inheri
 guids_at extent room =
     pieces (is_object (kind_in extent)) (eqb (u32_at 8 extent % 2) 1) (eqb (u32_at 8 extent / 2 % 2) 1) extent room
 
-pub sid_count : (n : ℕ) (extent : List ℕ) (s : SecurityId) → BeginsWithSid (drop n extent) s
+sid_count : (n : ℕ) (extent : List ℕ) (s : SecurityId) → BeginsWithSid (drop n extent) s
     → slice_index extent (n + 1) ≡ length s.subs
 sid_count n extent s h = sym (get_or-drop n extent 1 0) ∙ ap (λ (xs : List ℕ). slice_index xs 1) h.shape
 
@@ -140,3 +142,47 @@ body_at extent n h e =
     ∙ sym (append_assoc o (i ++ sid_bytes s) rest)
     ∙ ap (λ (xs : List ℕ). xs ++ rest) (sym (body_is extent)) in
     ap (take n) cut ∙ take_at (ace_body (ace_of extent)) rest n (sym e)
+
+-- from `head` on, up to the end of a SID that begins at `start`
+abbrev cut_out : List ℕ → ℕ → ℕ → ℕ → List ℕ
+cut_out extent head start count = take (start + 8 + 4 * count - head) (drop head extent)
+
+-- where the body of the ACE stands in the extent
+pub record Span (extent : List ℕ) (a : AccessControlEntry) (head start count : ℕ) : Type 0 where
+  pub order : head ≤ start
+  pub whole : start + 8 + 4 * count ≤ length extent
+  pub value : cut_out extent head start count ≡ ace_body a
+  pub size : front_size a.kind + length (cut_out extent head start count) ≡ ace_size a
+  pub short : length (cut_out extent head start count) ≤ 100
+
+span_in : (extent : List ℕ) (head start count : ℕ) → IsReadableAce extent → head ≡ front_size (kind_in extent)
+    → start ≡ sid_offset_in extent → count ≡ slice_index extent (start + 1)
+    → Span extent (ace_of extent) head start count
+unfolding sid_offset_in
+span_in extent head start count h begin at same =
+    let f = front extent in
+    let s = sid_of (drop (sid_offset_in extent) extent) in
+    let subs : count ≡ length s.subs = same ∙ ap (λ (k : ℕ). slice_index extent (k + 1)) at
+    ∙ sid_count (sid_offset_in extent) extent s h.sid in
+    let room = sid-room (sid_offset_in extent) extent s h.sid in
+    let body = length_body extent in
+    let written : start + 8 + 4 * count ≡ ace_size (ace_of extent) = omega (arith, at, subs) in
+    let value : cut_out extent head start count ≡ ace_body (ace_of extent) =
+    ap (λ (k : ℕ). take (start + 8 + 4 * count - head) (drop k extent)) begin
+    ∙ body_at extent (start + 8 + 4 * count - head) h (omega (arith, written, body, begin)) in
+    let long = ap (length {A = ℕ}) value in
+    record {
+      order = omega (arith, at, begin, f.sum);
+      whole = omega (arith, at, subs, room);
+      value = value;
+      size = omega (arith, long, body);
+      short = omega (arith, long, body, written, at, begin, subs, f.sum, f.object, f.inherited, h.sid.limits.count);
+    }
+
+pub span : (extent : List ℕ) (a : AccessControlEntry) (head start count : ℕ) → IsReadableAce extent → ace_of extent ≡ a
+    → head ≡ front_size a.kind → start ≡ sid_offset_in extent → count ≡ slice_index extent (start + 1)
+    → Span extent a head start count
+span extent a head start count h view begin at same =
+    let head_in = begin ∙ ap (λ (b : AccessControlEntry). front_size b.kind) (sym view) in
+    subst (λ (b : AccessControlEntry). Span extent b head start count) view
+    (span_in extent head start count h head_in at same)

@@ -1,11 +1,13 @@
 -- Worked bytes, and the ACEs and ACLs that they show (MS-DTYP 2.4.4, 2.4.5); the limits of lists; the first fault of an
 -- ACL (docs/FORMAT.md, "Errors"), and its written form.
-use Rattle.std.proofs.Common.{◌≡◌, inl, inr, ℕ, zero, suc, true, false, List, [], ◌∷◌, ◌++◌, Option, Some, None}
-use Rattle.std.proofs.Common.{length, map, refl, replicate, take, arith}
+use Rattle.std.proofs.Common.{◌≡◌, ◌+◌, ◌%◌, inl, inr, ℕ, true, false, List, [], ◌∷◌, ◌++◌, Option, Some, None}
+use Rattle.std.proofs.Common.{drop, length, map, refl, replicate, take, arith}
 use Rattle.sd_kinds.specs.Kinds.{kind_code, kind_entry, kind_of}
 use Rattle.sd_kinds.specs.declared.kinds.AceKind.TheVariants as kinds
-use Rattle.sd_sid.specs.Sid.{AreWords, BeginsWithSid, IsSid, SecurityId, sid_at}
-use Rattle.sd_ace.specs.Ace.{AccessControlEntry, IsAce}
+use Rattle.sd_sid.specs.Sid.{BeginsWithSid, sid_at}
+use Rattle.sd_sid.proofs.laws.Everyone.{everyone, everyone_is_a_sid, everyone_stands, everyones_bytes}
+use Rattle.sd_ace.specs.Ace.{AccessControlEntry, IsAce, guid_size, sid_offset}
+use Rattle.sd_ace.proofs.laws.WorkedGuids.{other_class, other_class_bytes, user_class, user_class_bytes}
 use Rattle.sd_acl_view.specs.Ace.{ShowsAce, ShowsGuid, announces_inherited, announces_object}
 use Rattle.sd_acl_view.specs.Acl.{IsAcl, ShowsAcl}
 use Rattle.sd_acl_view.specs.AclChecks.{IsReadableAcl}
@@ -19,24 +21,6 @@ use Rattle.sd_acl_view.specs.declared.fault.AclFault.TheVariants as faults
 computed : Unit {0}
 unfolding kind_code kind_entry announces_object announces_inherited u16_at u32_at
 computed = tt
-
-everyone : SecurityId
-everyone = record { authority = 1; subs = 0 ∷ [] }
-
-everyones_bytes : List ℕ
-everyones_bytes = 1 ∷ 1 ∷ 0 ∷ 0 ∷ 0 ∷ 0 ∷ 0 ∷ 1 ∷ 0 ∷ 0 ∷ 0 ∷ 0 ∷ []
-
-zero_is_a_word : AreWords (0 ∷ [])
-zero_is_a_word zero = omega arith
-zero_is_a_word (suc i) = omega arith
-
-everyone_is_a_sid : IsSid everyone
-unfolding everyone
-everyone_is_a_sid = record { authority = omega arith; count = omega arith; subs = zero_is_a_word }
-
-everyone_stands : (rest : List ℕ) → BeginsWithSid (everyones_bytes ++ rest) everyone
-unfolding everyone everyones_bytes
-everyone_stands rest = record { limits = everyone_is_a_sid; rest = rest; shape = refl }
 
 -- 1. ACEs.
 
@@ -61,22 +45,6 @@ plain_is_shown = record {
   sid = everyone_stands (0xaa ∷ 0xbb ∷ 0xcc ∷ 0xdd ∷ []);
 }
 
--- bf967aba-0de6-11d0-a285-00aa003049e2: three fields with their low bytes first (2.3.4.2)
-
-user_class : List ℕ
-user_class =
-    0xbf ∷ 0x96 ∷ 0x7a ∷ 0xba ∷ 0x0d ∷ 0xe6 ∷ 0x11 ∷ 0xd0 ∷ 0xa2 ∷ 0x85 ∷ 0x00 ∷ 0xaa ∷ 0x00 ∷ 0x30 ∷ 0x49 ∷ 0xe2 ∷ []
-
-user_class_bytes : List ℕ
-user_class_bytes =
-    0xba ∷ 0x7a ∷ 0x96 ∷ 0xbf ∷ 0xe6 ∷ 0x0d ∷ 0xd0 ∷ 0x11 ∷ 0xa2 ∷ 0x85 ∷ 0x00 ∷ 0xaa ∷ 0x00 ∷ 0x30 ∷ 0x49 ∷ 0xe2 ∷ []
-
-other_class : List ℕ
-other_class = 0x10 ∷ 0x11 ∷ 0x12 ∷ 0x13 ∷ 0x20 ∷ 0x21 ∷ 0x30 ∷ 0x31 ∷ 1 ∷ 2 ∷ 3 ∷ 4 ∷ 5 ∷ 6 ∷ 7 ∷ 8 ∷ []
-
-other_class_bytes : List ℕ
-other_class_bytes = 0x13 ∷ 0x12 ∷ 0x11 ∷ 0x10 ∷ 0x21 ∷ 0x20 ∷ 0x31 ∷ 0x30 ∷ 1 ∷ 2 ∷ 3 ∷ 4 ∷ 5 ∷ 6 ∷ 7 ∷ 8 ∷ []
-
 typed : Option (List ℕ) → Option (List ℕ) → AccessControlEntry
 typed object inherited = record {
   kind = kinds.ObjectAudit;
@@ -91,35 +59,41 @@ typed object inherited = record {
 typed_front : ℕ → ℕ → List ℕ
 typed_front size flags = 7 ∷ 0x40 ∷ size ∷ 0 ∷ 0x10 ∷ 0 ∷ 0 ∷ 0 ∷ flags ∷ 0 ∷ 0 ∷ 0 ∷ []
 
+abbrev typed_bytes : ℕ → ℕ → List ℕ → List ℕ
+typed_bytes size flags rest = typed_front size flags ++ rest
+
+-- what is left to show of such bytes
+typed_is_shown : (size flags : ℕ) (rest : List ℕ) (object inherited : Option (List ℕ))
+    → u16_at 2 (typed_bytes size flags rest) ≡ length (typed_bytes size flags rest)
+    → length (typed_bytes size flags rest) % 4 ≡ 0
+    → ShowsGuid (announces_object kinds.ObjectAudit (typed_bytes size flags rest))
+    (drop 12 (typed_bytes size flags rest)) object
+    → ShowsGuid (announces_inherited kinds.ObjectAudit (typed_bytes size flags rest))
+    (drop (12 + guid_size object) (typed_bytes size flags rest)) inherited
+    → BeginsWithSid (drop (sid_offset kinds.ObjectAudit object inherited) (typed_bytes size flags rest)) everyone
+    → ShowsAce (typed_bytes size flags rest) (typed object inherited)
+unfolding computed typed_front typed
+typed_is_shown size flags rest object inherited long aligned first second sid = record {
+  kind = refl;
+  flags = refl;
+  clear = refl;
+  size = long;
+  aligned = aligned;
+  mask = refl;
+  object = first;
+  inherited = second;
+  sid = sid;
+}
+
 -- bit 8 of the object flags means nothing
 both_are_shown : ShowsAce (typed_front 56 0xb ++ user_class_bytes ++ other_class_bytes ++ everyones_bytes)
     (typed (Some user_class) (Some other_class))
-unfolding computed typed_front typed user_class_bytes user_class other_class_bytes other_class everyones_bytes
-both_are_shown = record {
-  kind = refl;
-  flags = refl;
-  clear = refl;
-  size = refl;
-  aligned = refl;
-  mask = refl;
-  object = refl;
-  inherited = refl;
-  sid = everyone_stands [];
-}
+unfolding computed typed_front user_class_bytes user_class other_class_bytes other_class everyones_bytes
+both_are_shown = typed_is_shown 56 0xb _ _ _ refl refl refl refl (everyone_stands [])
 
 inherited_is_shown : ShowsAce (typed_front 40 2 ++ user_class_bytes ++ everyones_bytes) (typed None (Some user_class))
-unfolding computed typed_front typed user_class_bytes user_class everyones_bytes
-inherited_is_shown = record {
-  kind = refl;
-  flags = refl;
-  clear = refl;
-  size = refl;
-  aligned = refl;
-  mask = refl;
-  object = tt;
-  inherited = refl;
-  sid = everyone_stands [];
-}
+unfolding computed typed_front user_class_bytes user_class everyones_bytes
+inherited_is_shown = typed_is_shown 40 2 _ _ _ refl refl tt refl (everyone_stands [])
 
 -- flag 0x20, a size that is no multiple of 4, and a GUID that stands or is missing against its flag
 

@@ -15,7 +15,7 @@ ghost use Rattle.sd_acl_view.specs.Inner.Written.{named_flags};
 
 use crate::bytes::{u16_at, u32_at};
 use crate::fault::AclFault;
-use sd_ace::{Ace, FRONT_SIZE, OBJECT_FRONT_SIZE, UNUSED_FLAG, guid_read};
+use sd_ace::{Ace, FRONT_SIZE, GUID_SIZE, OBJECT_FRONT_SIZE, UNUSED_FLAG, guid_read};
 use sd_kinds::AceKind;
 use sd_sid::Sid;
 use sd_sid_view::SidView;
@@ -24,8 +24,6 @@ use uuid::Uuid;
 
 /// The bytes of the smallest ACE: 8, and a SID without sub-authorities.
 const LEAST_SIZE: usize = 16;
-
-const GUID_SIZE: usize = 16;
 
 /// The object flags that MS-DTYP 2.4.4.3 names.
 const NAMED_OBJECT_FLAGS: u32 = 3;
@@ -238,7 +236,7 @@ impl<'a> AceView<'a> {
     pub fn sid(&self) -> Sid
         ensures { result ≡ self.now.sid }
     {
-        Sid::at_front(&self.extent[sid_offset(self.extent)..])
+        self.sid_in_place().sid()
     }
 
     /// The SID of the trustee, read in place.

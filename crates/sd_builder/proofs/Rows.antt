@@ -8,6 +8,7 @@ use Rattle.base64.specs.GeneralPurpose.{engine_symbols}
 use Rattle.hex.specs.Hex.{decode_pairs}
 use Rattle.sd_kinds.specs.Kinds.{kind_code, kind_entry, kind_of}
 use Rattle.sd_sid.specs.Sid.{SecurityId, sid_at, sid_bytes}
+use Rattle.sd_sid.proofs.laws.Everyone.{everyone}
 use Rattle.sd_buffer.specs.declared.buffer.TextFault.{TextFault}
 use Rattle.sd_buffer.specs.declared.buffer.TextFault.TheVariants.{Base64, HexDigit, HexOdd}
 use Rattle.sd_parts.specs.declared.part.Part.TheVariants.{Owner, Group, Sacl, Dacl}
@@ -29,6 +30,7 @@ use Rattle.sd_acl_view.specs.AclReading.{ace_fault, aces_fault, aces_of, acl_fau
 use Rattle.sd_acl_view.specs.AclReading.{object_in, extent_fault, sid_offset_in}
 use Rattle.sd_view.specs.declared.acl_part.AclPart.TheVariants as acl
 use Rattle.sd_ace.specs.Ace.{AccessControlEntry}
+use Rattle.sd_ace.proofs.laws.WorkedGuids.{user_class}
 use Rattle.sd_kinds.specs.declared.kinds.AceKind.TheVariants as kinds
 use Rattle.sd_view.specs.Reading.{acl_part_fault, acl_shown, fault, header_fault, overlap_fault, overlaps_fault}
 use Rattle.sd_view.specs.Reading.{parts_fault, reading, sid_fault, sid_shown}
@@ -52,9 +54,6 @@ computed = tt
 
 system : SecurityId
 system = record { authority = 5; subs = 18 ∷ [] }
-
-everyone : SecurityId
-everyone = record { authority = 1; subs = 0 ∷ [] }
 
 system_bytes : sid_bytes system ≡ hex "010100000000000512000000"
 unfolding computed system
@@ -287,9 +286,6 @@ with_dacl_is_laid_out = refl
 
 authenticated : SecurityId
 authenticated = record { authority = 5; subs = 11 ∷ [] }
-
-user_class : List ℕ
-user_class = 0xbf ∷ 0x96 ∷ 0x7a ∷ 0xba ∷ 0x0d ∷ 0xe6 ∷ 0x11 ∷ 0xd0 ∷ 0xa2 ∷ 0x85 ∷ 0x00 ∷ 0xaa ∷ 0x00 ∷ 0x30 ∷ 0x49 ∷ 0xe2 ∷ []
 
 read_property : AccessControlEntry
 read_property = record {

@@ -5,13 +5,10 @@ ghost use Rattle.sd_ace.specs.Ace.{guid_size as size_of_guid, sid_offset as offs
 ghost use Rattle.sd_call_parts.specs.Walk.{found, guid_place};
 
 use crate::place::{Place, nowhere};
-use sd_ace::{FRONT_SIZE, OBJECT_FRONT_SIZE};
+use sd_ace::{FRONT_SIZE, GUID_SIZE, OBJECT_FRONT_SIZE};
 use sd_acl_view::AceView;
 use sd_kinds::AceKind;
 use uuid::Uuid;
-
-/// The bytes of a GUID.
-const GUID_SIZE: usize = 16;
 
 /// An ACE of an ACL, and how far the walk has come: `struct sdtool_ace` of the header.
 #[repr(C)]

@@ -3,6 +3,7 @@ use Rattle.std.proofs.Common.{◌≡◌, ℕ, Bool, true, false, List, [], ◌�
 use Rattle.sd_ace.specs.Ace.{AccessControlEntry}
 use Rattle.sd_rights.specs.Mapping.{GenericMapping, mapped}
 use Rattle.sd_sid.specs.Sid.{SecurityId}
+use Rattle.sd_sid.proofs.laws.Everyone.{everyone}
 use Rattle.sd_token.specs.Token.{Entry, Holder}
 use Rattle.sd_kinds.specs.declared.kinds.AceKind.{AceKind}
 use Rattle.sd_kinds.specs.declared.kinds.AceKind.TheVariants as kinds
@@ -23,9 +24,6 @@ use Rattle.sd_check.specs.declared.verdict.Verdict.TheVariants.{Denied, Granted}
 computed : Unit {0}
 unfolding mapped applies granted missing won verdict rights_below all_below least need
 computed = tt
-
-everyone : SecurityId
-everyone = record { authority = 1; subs = 0 ∷ [] }
 
 -- S-1-3-4 and S-1-5-10 (MS-DTYP 2.4.2.4)
 owner_rights : SecurityId

@@ -8,7 +8,7 @@ use Rattle.std.proofs.lemmas.List.Folds.{list_any-append}
 use Rattle.std.proofs.lemmas.Nat.{mul-le}
 use Rattle.sd_ace.specs.Ace.{AccessControlEntry}
 use Rattle.sd_rights.specs.Mapping.{carries, mapped}
-use Rattle.sd_token.specs.Token.{Entry}
+use Rattle.sd_token.specs.Token.{Asks, Entry, TokenShown}
 use Rattle.sd_view.specs.Descriptor.{Descriptor}
 use Rattle.sd_check.specs.Applies.{applies, is_allow}
 use Rattle.sd_check.specs.Ask.{Asked}
@@ -201,11 +201,16 @@ passed_step d t ask a ys rest all q parts here old k below =
     (ap (take k) parts ∙ ap (λ (n : ℕ). take n (ys ++ a ∷ rest)) at ∙ take_front ys (a ∷ rest)) ∙ here)
     (cases_lt k (length ys))
 
-pub scan_bound : (d : Descriptor) (t : List Entry) (ask : Asked) (ys rest all : List AccessControlEntry)
-    (q n old new : ℕ) → all ≡ ys ++ rest → ((k : ℕ) → k < length ys → are_decided q d t ask (take k all) ≡ false)
-    → new ≤ old + length ys * n → new ≤ old + scan_need q d t ask all * n
+pub scan_asks : (d : Descriptor) (ask : Asked) (ys rest all : List AccessControlEntry) (q : ℕ) (old new : TokenShown)
+    → all ≡ ys ++ rest
+    → ((k : ℕ) → k < length ys → are_decided q d old.holder.entries ask (take k all) ≡ false)
+    → new.holder ≡ old.holder → old.compared ≤ new.compared
+    → new.compared ≤ old.compared + length ys * length old.holder.entries
+    → Asks old new (scan_need q d old.holder.entries ask all)
 unfolding scan_need
-scan_bound d t ask ys rest all q n old new parts passed h =
+scan_asks d ask ys rest all q old new parts passed same goes_on count =
+    let n = length old.holder.entries in
     let long : length ys ≤ length all = rw parts (omega (arith, length-append {A = AccessControlEntry})) in
     let most = least_ge (length ys) (length all) _ long passed in
-    omega (arith, mul-le (length ys) n (scan_need q d t ask all) n most (omega arith))
+    let times = mul-le (length ys) n (scan_need q d old.holder.entries ask all) n most (omega arith) in
+    record { holder = same; compared = record { goes_on = goes_on; at_most = omega (arith, times, count) } }

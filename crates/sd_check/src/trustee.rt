@@ -33,12 +33,12 @@ pub fn some_meets(token: &mut LentToken, sid: Option<Sid>, deny: bool) -> bool
 pub fn is_principal_self(sid: &Sid) -> bool
     ensures { result ≡ same_sid sid.now principal_self }
 {
-    sid.authority() == 5 && sid.subs() == [10].as_slice()
+    sid.is(5, &[10])
 }
 
 /// Whether it is OWNER RIGHTS, S-1-3-4 (MS-DTYP 2.4.2.4).
 pub fn is_owner_rights(sid: &Sid) -> bool
     ensures { result ≡ same_sid sid.now owner_rights }
 {
-    sid.authority() == 3 && sid.subs() == [4].as_slice()
+    sid.is(3, &[4])
 }

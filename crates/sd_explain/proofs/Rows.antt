@@ -1,16 +1,18 @@
 -- Worked descriptors, explained.
-use Rattle.std.proofs.Common.{◌≡◌, ℕ, List, [], ◌∷◌, ◌++◌, Some, None, true, false, codes, refl}
+use Rattle.std.proofs.Common.{◌≡◌, [], ◌∷◌, ◌++◌, Some, None, true, false, codes, refl}
 use Rattle.uuid.specs.Text.{by_index}
 use Rattle.std.specs.Fmt.{digits}
 use Rattle.sd_kinds.specs.Kinds.{kind_entry, kind_letters}
 use Rattle.sd_ace.specs.Ace.{AccessControlEntry}
 use Rattle.sd_kinds.specs.Flags.{flags_text}
 use Rattle.sd_ace.specs.GuidText.{guid_text}
+use Rattle.sd_ace.proofs.laws.WorkedGuids.{other_class, user_class}
 use Rattle.sd_rights.specs.Rights.{rights_text}
 use Rattle.sd_sid.specs.Sid.{SecurityId}
 use Rattle.sd_sid.specs.SidText.{alias_of}
 use Rattle.sd_kinds.specs.declared.kinds.AceKind.TheVariants as kinds
 use Rattle.sd_sid.specs.declared.naming.Naming.{Naming}
+use Rattle.sd_sid.proofs.laws.Everyone.{everyone}
 use Rattle.sd_view.specs.Descriptor.{Descriptor}
 use Rattle.sd_view.specs.declared.acl_part.AclPart.TheVariants as acl
 use Rattle.sd_explain.specs.Explain.{ace_head, ace_line, ace_rights, ace_trustee, control_line, count_line, explain}
@@ -24,9 +26,6 @@ explained = tt
 
 named : Naming
 named = record { domain = None; numeric = false }
-
-everyone : SecurityId
-everyone = record { authority = 1; subs = 0 ∷ [] }
 
 full_access : AccessControlEntry
 full_access = record { kind = kinds.Allow; flags = 0; mask = 0x1f01ff; object = None; inherited = None; sid = everyone }
@@ -85,13 +84,6 @@ unfolding explained named no_access high
 label = refl
 
 -- both types of an object ACE
-user_class : List ℕ
-user_class =
-    0xbf ∷ 0x96 ∷ 0x7a ∷ 0xba ∷ 0x0d ∷ 0xe6 ∷ 0x11 ∷ 0xd0 ∷ 0xa2 ∷ 0x85 ∷ 0x00 ∷ 0xaa ∷ 0x00 ∷ 0x30 ∷ 0x49 ∷ 0xe2 ∷ []
-
-other_class : List ℕ
-other_class = 0x10 ∷ 0x11 ∷ 0x12 ∷ 0x13 ∷ 0x20 ∷ 0x21 ∷ 0x30 ∷ 0x31 ∷ 1 ∷ 2 ∷ 3 ∷ 4 ∷ 5 ∷ 6 ∷ 7 ∷ 8 ∷ []
-
 typed : AccessControlEntry
 typed = record {
   kind = kinds.ObjectDeny;

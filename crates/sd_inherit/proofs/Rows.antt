@@ -4,6 +4,7 @@ use Rattle.std.proofs.Common.{◌≡◌, ℕ, List, [], ◌∷◌, ◌++◌, Som
 use Rattle.sd_ace.specs.Ace.{AccessControlEntry}
 use Rattle.sd_rights.specs.Mapping.{mapped}
 use Rattle.sd_sid.specs.Sid.{SecurityId}
+use Rattle.sd_sid.proofs.laws.Everyone.{everyone}
 use Rattle.sd_kinds.specs.declared.kinds.AceKind.{AceKind}
 use Rattle.sd_kinds.specs.declared.kinds.AceKind.TheVariants as kinds
 use Rattle.sd_view.specs.Descriptor.{Descriptor}
@@ -31,9 +32,6 @@ user = record { authority = 5; subs = 21 ∷ 1 ∷ 2 ∷ 3 ∷ 1001 ∷ [] }
 
 users : SecurityId
 users = record { authority = 5; subs = 32 ∷ 545 ∷ [] }
-
-everyone : SecurityId
-everyone = record { authority = 1; subs = 0 ∷ [] }
 
 high : SecurityId
 high = record { authority = 16; subs = 12288 ∷ [] }

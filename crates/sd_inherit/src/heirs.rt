@@ -61,14 +61,14 @@ fn has_heir(ace: &AceView<'_>) -> bool
 fn is_creator_owner(sid: &Sid) -> bool
     ensures { result ≡ same_sid sid.now creator_owner }
 {
-    sid.authority() == 3 && sid.subs() == [0].as_slice()
+    sid.is(3, &[0])
 }
 
 // S-1-3-1 (MS-DTYP 2.4.2.4).
 fn is_creator_group(sid: &Sid) -> bool
     ensures { result ≡ same_sid sid.now creator_group }
 {
-    sid.authority() == 3 && sid.subs() == [1].as_slice()
+    sid.is(3, &[1])
 }
 
 fn has_generic(mask: u32) -> bool

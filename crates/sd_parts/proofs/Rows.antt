@@ -30,38 +30,7 @@ each_bit : OWNER_DEFAULTED ∷ GROUP_DEFAULTED ∷ DACL_PRESENT ∷ DACL_DEFAULT
     ≡ 0x1 ∷ 0x2 ∷ 0x4 ∷ 0x8 ∷ 0x10 ∷ 0x20 ∷ 0x100 ∷ 0x200 ∷ 0x400 ∷ 0x800 ∷ 0x1000 ∷ 0x2000 ∷ 0x4000 ∷ 0x8000 ∷ []
 each_bit = refl
 
-dacl_protected : acl_flags which.Dacl 0x1000
-    ≡ record { protected = true; auto_inherit_required = false; auto_inherited = false }
-dacl_protected = refl
-
-dacl_required : acl_flags which.Dacl 0x100
-    ≡ record { protected = false; auto_inherit_required = true; auto_inherited = false }
-dacl_required = refl
-
-dacl_inherited : acl_flags which.Dacl 0x400
-    ≡ record { protected = false; auto_inherit_required = false; auto_inherited = true }
-dacl_inherited = refl
-
-sacl_protected : acl_flags which.Sacl 0x2000
-    ≡ record { protected = true; auto_inherit_required = false; auto_inherited = false }
-sacl_protected = refl
-
-sacl_required : acl_flags which.Sacl 0x200
-    ≡ record { protected = false; auto_inherit_required = true; auto_inherited = false }
-sacl_required = refl
-
-sacl_inherited : acl_flags which.Sacl 0x800
-    ≡ record { protected = false; auto_inherit_required = false; auto_inherited = true }
-sacl_inherited = refl
-
--- the flags of one ACL are not those of the other
-flags_of_the_other : (acl_flags which.Sacl 0x1500 ≡ no_flags) × (acl_flags which.Dacl 0x2a00 ≡ no_flags)
-flags_of_the_other = (refl, refl)
-
-bits_of_flags : (flag_bits which.Dacl all_flags ≡ 0x1500) × (flag_bits which.Sacl all_flags ≡ 0x2a00)
-bits_of_flags = (refl, refl)
-
--- P, AR and AI, each alone
+-- P, AR and AI, each alone, and its bit
 
 each_flag : List AclFlags
 each_flag = record no_flags { protected = true } ∷ record no_flags { auto_inherit_required = true }
@@ -71,6 +40,18 @@ bits_of_each_flag : (map (flag_bits which.Dacl) each_flag ≡ 0x1000 ∷ 0x100 �
     × (map (flag_bits which.Sacl) each_flag ≡ 0x2000 ∷ 0x200 ∷ 0x800 ∷ [])
 unfolding each_flag
 bits_of_each_flag = (refl, refl)
+
+flags_of_each_bit : (map (acl_flags which.Dacl) (0x1000 ∷ 0x100 ∷ 0x400 ∷ []) ≡ each_flag)
+    × (map (acl_flags which.Sacl) (0x2000 ∷ 0x200 ∷ 0x800 ∷ []) ≡ each_flag)
+unfolding each_flag
+flags_of_each_bit = (refl, refl)
+
+-- the flags of one ACL are not those of the other
+flags_of_the_other : (acl_flags which.Sacl 0x1500 ≡ no_flags) × (acl_flags which.Dacl 0x2a00 ≡ no_flags)
+flags_of_the_other = (refl, refl)
+
+bits_of_flags : (flag_bits which.Dacl all_flags ≡ 0x1500) × (flag_bits which.Sacl all_flags ≡ 0x2a00)
+bits_of_flags = (refl, refl)
 
 present_bits : (present_bit which.Dacl ≡ 0x4) × (present_bit which.Sacl ≡ 0x10)
 present_bits = (refl, refl)

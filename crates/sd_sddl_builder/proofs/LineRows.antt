@@ -11,6 +11,7 @@ use Rattle.sd_sid.specs.Sid.{SecurityId}
 use Rattle.sd_sid.specs.SidText.{has_form, letters_read, numbers_read, sid_reads}
 use Rattle.sd_kinds.specs.declared.kinds.AceKind.TheVariants as kinds
 use Rattle.sd_sid.specs.declared.sid_text.SidFault.TheVariants as sid_fault
+use Rattle.sd_sid.proofs.laws.Everyone.{everyone}
 use Rattle.sd_view.specs.Descriptor.{Descriptor}
 use Rattle.sd_view.specs.declared.acl_part.AclPart.{AclPart}
 use Rattle.sd_view.specs.declared.acl_part.AclPart.TheVariants as acl
@@ -37,9 +38,6 @@ read_sids = tt
 read : Unit {0}
 unfolding read_but_guids read_sids guid_reads
 read = tt
-
-everyone : SecurityId
-everyone = record { authority = 1; subs = 0 ∷ [] }
 
 full_access : AccessControlEntry
 full_access = record { kind = kinds.Allow; flags = 0; mask = 0x1f01ff; object = None; inherited = None; sid = everyone }

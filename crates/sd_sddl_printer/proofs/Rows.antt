@@ -6,6 +6,7 @@ use Rattle.sd_kinds.specs.Kinds.{kind_entry, kind_letters}
 use Rattle.sd_ace.specs.Ace.{AccessControlEntry}
 use Rattle.sd_kinds.specs.Flags.{flags_text}
 use Rattle.sd_ace.specs.GuidText.{guid_text}
+use Rattle.sd_ace.proofs.laws.WorkedGuids.{user_class}
 use Rattle.sd_rights.specs.Rights.{rights_text}
 use Rattle.sd_sid.specs.Sid.{SecurityId}
 use Rattle.sd_sid.specs.SidText.{alias_of}
@@ -13,6 +14,7 @@ use Rattle.sd_kinds.specs.declared.kinds.AceKind.TheVariants as kinds
 use Rattle.sd_view.specs.Descriptor.{Descriptor}
 use Rattle.sd_view.specs.declared.acl_part.AclPart.TheVariants as acl
 use Rattle.sd_sid.specs.declared.naming.Naming.{Naming}
+use Rattle.sd_sid.proofs.laws.Everyone.{everyone}
 use Rattle.sd_sddl_printer.specs.Printed.{ace_text, acl_flags_text, dacl_text, flags_field, group_text, kind_field}
 use Rattle.sd_sddl_printer.specs.Printed.{object_field, owner_text, plain, rights_field, sacl_text, sddl, trustee_field}
 use Rattle.sd_sddl_printer.specs.Printed.{trustee_text}
@@ -25,9 +27,6 @@ printed = tt
 
 named : Naming
 named = record { domain = None; numeric = false }
-
-everyone : SecurityId
-everyone = record { authority = 1; subs = 0 ∷ [] }
 
 full_access : AccessControlEntry
 full_access = record { kind = kinds.Allow; flags = 0; mask = 0x1f01ff; object = None; inherited = None; sid = everyone }
@@ -111,10 +110,6 @@ unfolding null_sacl
 bare_is_kept = refl
 
 -- an object ACE with either type, in a SACL that is auto-inherited, behind an empty DACL that is protected
-
-user_class : List ℕ
-user_class =
-    0xbf ∷ 0x96 ∷ 0x7a ∷ 0xba ∷ 0x0d ∷ 0xe6 ∷ 0x11 ∷ 0xd0 ∷ 0xa2 ∷ 0x85 ∷ 0x00 ∷ 0xaa ∷ 0x00 ∷ 0x30 ∷ 0x49 ∷ 0xe2 ∷ []
 
 typed : Option (List ℕ) → Option (List ℕ) → AccessControlEntry
 typed object inherited = record {

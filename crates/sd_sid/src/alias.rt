@@ -4,7 +4,6 @@ ghost use Rattle.std.specs.Prelude.{◌≡◌, ℕ, [], ◌∷◌, ◌==◌, ◌
 ghost use Rattle.std.specs.Char.{is_ascii_uppercase, to_ascii_uppercase};
 ghost use Rattle.std.specs.List.{find, list_all};
 ghost use Rattle.std.specs.Option.{option_copied};
-ghost use Rattle.std.specs.Str.{bytes_eq};
 ghost use Rattle.sd_alias.specs.AliasValues.{KnownAliases, RelativeAliases};
 ghost use Rattle.sd_sid.specs.SidText.{alias_of, known_alias, known_sid, letters_read, relative_alias, same_sid};
 ghost use Rattle.sd_sid.specs.SidText.{sid_reads, usable};
@@ -130,18 +129,11 @@ pub fn relative_alias(sid: &Sid, domain: &Sid) -> Option<[u8; 2]>
     ensures { result ≡ relative_alias sid.now domain.now }
 {
     let (last, front) = sid.subs().split_last()?;
-    if !is_domain(domain, sid.authority(), front) {
+    if !domain.is(sid.authority(), front) {
         return None;
     }
     let entry = find_relative(&DOMAIN_RELATIVE, *last)?;
     Some([entry.first, entry.second])
-}
-
-// Whether the domain has this authority and these sub-authorities.
-fn is_domain(domain: &Sid, authority: u64, subs: &[u32]) -> bool
-    ensures { result ≡ (domain.now.authority == authority && bytes_eq domain.now.subs subs.now) }
-{
-    domain.authority() == authority && domain.subs() == subs
 }
 
 fn find_relative(table: &[DomainRelative], last: u32) -> Option<DomainRelative>

@@ -6,6 +6,7 @@ ghost use Rattle.std.specs.Option.{option_map};
 ghost use Rattle.byteorder.specs.Endian.{big_bytes};
 ghost use Rattle.sd_text.specs.Limits.{most_subs};
 ghost use Rattle.sd_sid.specs.Sid.{SecurityId, IsSid, BeginsWithSid, sid_at, sid_of, sid_size};
+ghost use Rattle.sd_sid.specs.SidText.{same_sid};
 
 use byteorder::{BigEndian, ByteOrder, LittleEndian};
 use sd_text::MOST_SUBS;
@@ -199,5 +200,14 @@ impl Sid {
         ensures limits { IsSid self.now }
     {
         &self.subs[..self.count]
+    }
+
+    /// Whether it is the SID of these parts.
+    // Inlined, so that the number of known sub-authorities is a constant. Most SIDs have another one.
+    #[inline(always)]
+    pub fn is(&self, authority: u64, subs: &[u32]) -> bool
+        ensures { result ≡ same_sid self.now (record { authority = authority; subs = subs.now }) }
+    {
+        self.subs() == subs && self.authority() == authority
     }
 }

@@ -59,6 +59,7 @@ impl<'a> SidView<'a> {
     }
 
     /// The SID by value.
+    #[inline(always)]
     pub fn sid(&self) -> Sid
         ensures { result ≡ self.now }
     {

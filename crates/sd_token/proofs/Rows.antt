@@ -3,12 +3,10 @@ use Rattle.std.proofs.Common.{◌≡◌, ℕ, List, [], ◌∷◌, None, true, f
 use Rattle.sd_token.specs.Limits.{most_entries}
 use Rattle.sd_token.specs.declared.limits.TheConstants.{MOST_ENTRIES}
 use Rattle.sd_sid.specs.Sid.{SecurityId}
+use Rattle.sd_sid.proofs.laws.Everyone.{everyone}
 use Rattle.sd_token.specs.Token.{Asks, Compares, TokenShown, counted_by, looks, meets}
 use Rattle.sd_token.specs.TokenWords.{entries_of, entry_of, nobody, sid_key}
 use Rattle.sd_token.specs.declared.token.EntryKind.TheVariants.{Enabled, DenyOnly}
-
-everyone : SecurityId
-everyone = record { authority = 1; subs = 0 ∷ [] }
 
 administrators : SecurityId
 administrators = record { authority = 5; subs = 32 ∷ 544 ∷ [] }

@@ -1,9 +1,11 @@
 -- Worked bytes, and the descriptors that they show (MS-DTYP 2.4.6); the limits of descriptors; the first fault of some
 -- bytes (docs/FORMAT.md, "Errors"), and the written form.
-use Rattle.std.proofs.Common.{◌≡◌, inl, inr, ℕ, zero, suc, true, false, List, [], ◌∷◌, ◌++◌, Some, None, map}
+use Rattle.std.proofs.Common.{◌≡◌, ◌<◌, ◌^◌, inl, inr, ℕ, true, false, List, [], ◌∷◌, ◌++◌, Some, None, map}
 use Rattle.std.proofs.Common.{Ok, Err, drop, refl, replicate, take, arith}
-use Rattle.sd_sid.specs.Sid.{AreWords, BeginsWithSid, IsSid, SecurityId, sid_at}
+use Rattle.sd_sid.specs.Sid.{SecurityId, sid_at}
+use Rattle.sd_sid.proofs.laws.Everyone.{everyone, everyone_stands, everyones_bytes}
 use Rattle.sd_ace.specs.Ace.{AccessControlEntry}
+use Rattle.sd_parts.specs.Control.{dacl_present, sacl_present, self_relative}
 use Rattle.sd_parts.specs.Header.{header_bytes}
 use Rattle.sd_parts.specs.Parts.{each_part}
 use Rattle.sd_parts.specs.declared.part.Part.TheVariants.{Dacl, Group, Owner, Sacl}
@@ -12,8 +14,9 @@ use Rattle.sd_acl_view.specs.Acl.{ShowsAcl}
 use Rattle.sd_acl_view.specs.AclLayout.{acl_bytes}
 use Rattle.sd_acl_view.specs.AclReading.{aces_fault, aces_of, acl_fault}
 use Rattle.sd_acl_view.specs.Bytes.{u16_at, u32_at}
-use Rattle.sd_view.specs.Descriptor.{Apart, AreApart, Descriptor, Extent, IsDescriptor, Shows, ShowsAclPart, ShowsSid}
-use Rattle.sd_view.specs.Descriptor.{acl_extent, control_at, dacl_at, extents_of, group_at, owner_at, sacl_at}
+use Rattle.sd_view.specs.Descriptor.{Apart, AreApart, Descriptor, Extent, IsAclPart, IsDescriptor, Shows}
+use Rattle.sd_view.specs.Descriptor.{ShowsAclPart, ShowsSid, acl_extent, control_at, dacl_at, extents_of, group_at}
+use Rattle.sd_view.specs.Descriptor.{owner_at, sacl_at}
 use Rattle.sd_view.specs.Layout.{acl_part, layout, offsets, parts_bytes, size}
 use Rattle.sd_view.specs.Reading.{acl_part_fault, acl_shown, fault, fault_in, header_fault, overlap_fault, overlaps_fault}
 use Rattle.sd_view.specs.Reading.{parts_fault, reading, sid_fault, sid_shown}
@@ -28,24 +31,6 @@ use Rattle.sd_view.specs.declared.fault.SdFault.TheVariants as faults
 computed : Unit {0}
 unfolding u16_at u32_at
 computed = tt
-
-everyone : SecurityId
-everyone = record { authority = 1; subs = 0 ∷ [] }
-
-everyones_bytes : List ℕ
-everyones_bytes = 1 ∷ 1 ∷ 0 ∷ 0 ∷ 0 ∷ 0 ∷ 0 ∷ 1 ∷ 0 ∷ 0 ∷ 0 ∷ 0 ∷ []
-
-zero_is_a_word : AreWords (0 ∷ [])
-zero_is_a_word zero = omega arith
-zero_is_a_word (suc i) = omega arith
-
-everyone_is_a_sid : IsSid everyone
-unfolding everyone
-everyone_is_a_sid = record { authority = omega arith; count = omega arith; subs = zero_is_a_word }
-
-everyone_stands : (rest : List ℕ) → BeginsWithSid (everyones_bytes ++ rest) everyone
-unfolding everyone everyones_bytes
-everyone_stands rest = record { limits = everyone_is_a_sid; rest = rest; shape = refl }
 
 -- an ACL of revision 4 without an ACE
 no_ace_bytes : List ℕ
@@ -164,29 +149,28 @@ meeting_are_not_apart h = elim (h Owner Sacl refl) [ inl before ↦ omega arith 
 full : Descriptor
 full = record { control = 0xffff; rm = 0xff; owner = None; group = None; sacl = acl.Null; dacl = acl.List [] }
 
-full_is_a_descriptor : IsDescriptor full
-unfolding full
-full_is_a_descriptor = record {
-  control = omega arith;
-  relative = refl;
-  rm = omega arith;
+without_sids : (control rm : ℕ) (sacl dacl : AclPart) → control < 2 ^ 16 → self_relative control ≡ true → rm < 256
+    → IsAclPart (sacl_present control) sacl → IsAclPart (dacl_present control) dacl
+    → IsDescriptor (record { control = control; rm = rm; owner = None; group = None; sacl = sacl; dacl = dacl })
+without_sids control rm sacl dacl small relative byte s d = record {
+  control = small;
+  relative = relative;
+  rm = byte;
   owner = tt;
   group = tt;
-  sacl = refl;
-  dacl = (refl, record { each = tt; fits = omega arith });
+  sacl = s;
+  dacl = d;
 }
+
+full_is_a_descriptor : IsDescriptor full
+unfolding full
+full_is_a_descriptor =
+    without_sids 0xffff 0xff _ _ (omega arith) refl (omega arith) refl
+    (refl, record { each = tt; fits = omega arith })
 
 bare_is_a_descriptor : IsDescriptor bare
 unfolding bare
-bare_is_a_descriptor = record {
-  control = omega arith;
-  relative = refl;
-  rm = omega arith;
-  owner = tt;
-  group = tt;
-  sacl = refl;
-  dacl = refl;
-}
+bare_is_a_descriptor = without_sids 0x8000 0 _ _ (omega arith) refl (omega arith) refl refl
 
 larger_control : IsDescriptor (record full { control = 0x1_0000 }) → ⊥
 unfolding full
@@ -200,27 +184,11 @@ larger_rm h = let more = h.rm in omega arith
 
 dacl_is_null : IsDescriptor (record bare { control = 0x8004; dacl = acl.Null })
 unfolding bare
-dacl_is_null = record {
-  control = omega arith;
-  relative = refl;
-  rm = omega arith;
-  owner = tt;
-  group = tt;
-  sacl = refl;
-  dacl = refl;
-}
+dacl_is_null = without_sids 0x8004 0 _ _ (omega arith) refl (omega arith) refl refl
 
 sacl_is_null : IsDescriptor (record bare { control = 0x8010; sacl = acl.Null })
 unfolding bare
-sacl_is_null = record {
-  control = omega arith;
-  relative = refl;
-  rm = omega arith;
-  owner = tt;
-  group = tt;
-  sacl = refl;
-  dacl = refl;
-}
+sacl_is_null = without_sids 0x8010 0 _ _ (omega arith) refl (omega arith) refl refl
 
 -- a SID with one number too many
 

@@ -327,28 +327,28 @@ impl<'a> SdView<'a> {
     pub fn owner(&self) -> Option<Sid>
         ensures { result ≡ self.now.owner }
     {
-        sid_in(self.bytes, u32_at(self.bytes, 4))
+        Some(self.owner_in_place()?.sid())
     }
 
     /// The SID of the primary group, if there is one.
     pub fn group(&self) -> Option<Sid>
         ensures { result ≡ self.now.group }
     {
-        sid_in(self.bytes, u32_at(self.bytes, 8))
+        Some(self.group_in_place()?.sid())
     }
 
     /// The SID of the owner, read in place.
     pub fn owner_in_place(&self) -> Option<SidView<'a>>
         ensures { result ≡ self.now.owner }
     {
-        sid_view_in(self.bytes, u32_at(self.bytes, 4))
+        sid_in(self.bytes, u32_at(self.bytes, 4))
     }
 
     /// The SID of the primary group, read in place.
     pub fn group_in_place(&self) -> Option<SidView<'a>>
         ensures { result ≡ self.now.group }
     {
-        sid_view_in(self.bytes, u32_at(self.bytes, 8))
+        sid_in(self.bytes, u32_at(self.bytes, 8))
     }
 
     /// The system ACL: what is audited, and the mandatory label.
@@ -407,19 +407,7 @@ impl<'a> SdView<'a> {
 
 // The SID at an offset that was checked.
 #[tactic(auto, unfolding(crate::specs::Reading::sid_shown))]
-fn sid_in(bytes: &[u8], offset: u32) -> Option<Sid>
-    requires { IsSidAt bytes.now offset }
-    ensures { result ≡ sid_shown bytes.now offset }
-{
-    if offset == 0 {
-        return None;
-    }
-    Some(Sid::at_front(&bytes[offset as usize..]))
-}
-
-// The same, read in place.
-#[tactic(auto, unfolding(crate::specs::Reading::sid_shown))]
-fn sid_view_in(bytes: &[u8], offset: u32) -> Option<SidView<'_>>
+fn sid_in(bytes: &[u8], offset: u32) -> Option<SidView<'_>>
     requires { IsSidAt bytes.now offset }
     ensures { result ≡ sid_shown bytes.now offset }
 {

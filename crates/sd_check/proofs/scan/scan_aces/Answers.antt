@@ -3,29 +3,19 @@ use Rattle.sd_rights.specs.Mapping.{carries}
 use Rattle.sd_token.specs.Token.{Entry, Holder}
 use Rattle.sd_check.specs.Granted.{decides}
 use Rattle.sd_check.proofs.ScanLaws.{IsDecided, count_step, not_decided, parts_step, passed_step, rights_allow}
-use Rattle.sd_check.proofs.ScanLaws.{rights_deny, scan_bound, undecided_step}
+use Rattle.sd_check.proofs.ScanLaws.{rights_deny, scan_asks, undecided_step}
 use Rattle.sd_check.proofs.scan.scan_aces.Goals as goal
 use Rattle.sd_check.proofs.scan.scan_aces.Goals.{then-is_allow, else-is_allow}
 
 pub returns-then-undecided-eq0-clause-asks : goal.returns-then-undecided-eq0-clause-asks
-returns-then-undecided-eq0-clause-asks c = record {
-  holder = c.loop-ace.invariant.holder;
-  compared = record {
-    goes_on = c.loop-ace.invariant.goes_on;
-    at_most = scan_bound _ _ _ _ _ _ _ _ _ _ c.loop-ace.invariant.parts c.loop-ace.invariant.passed
-        c.loop-ace.invariant.count;
-  };
-}
+returns-then-undecided-eq0-clause-asks c =
+    let kept = c.loop-ace.invariant in
+    scan_asks _ _ _ _ _ _ _ _ kept.parts kept.passed kept.holder kept.goes_on kept.count
 
 pub returns-clause-asks : goal.returns-clause-asks
-returns-clause-asks c = record {
-  holder = c.loop-ace.invariant.holder;
-  compared = record {
-    goes_on = c.loop-ace.invariant.goes_on;
-    at_most = scan_bound _ _ _ _ _ _ _ _ _ _ c.loop-ace.invariant.parts c.loop-ace.invariant.passed
-        c.loop-ace.invariant.count;
-  };
-}
+returns-clause-asks c =
+    let kept = c.loop-ace.invariant in
+    scan_asks _ _ _ _ _ _ _ _ kept.parts kept.passed kept.holder kept.goes_on kept.count
 
 pub loop-ace-preserved : goal.loop-ace-preserved
 loop-ace-preserved c =
