@@ -239,6 +239,21 @@ def random_questions(job, number, program, choices):
                 yield Question([word.encode() for word in words], bytes.fromhex(line)), without_name(answer)
 
 
+def questions_of_any_creator(number, choices):
+    """Derivations whose creators no SDDL spells: with any resource manager byte, and any bits of the control word beside ACLs
+    that are absent. The answers are those of the reference."""
+    maker = compare.Lines(choices)
+    for _ in range(number):
+        parent, creator = (maker.parent(reference.read(maker.descriptor().data)) for _ in range(2))
+        words = ["derive", "--kind", choices.choice(KINDS), "--owner", "BA", "--group", "SY", "--to", "hex",
+                 "--type", choices.choice(MAPPINGS)]
+        words = [word.encode() for word in words]
+        question = Question(words, reference.layout(parent))
+        question.creator = reference.layout(creator)
+        settings = reference.settings_of(words)._replace(creator=creator)
+        yield question, without_name(reference.answers([parent], settings)[0][0].decode())
+
+
 def test_questions(count, runners, job, asked):
     """Each question in one call of calls.c for all of them, by each runner."""
     text = "".join(question.line() + "\n" for question, _ in asked)
@@ -574,6 +589,7 @@ def main():
             compare_calls(count, valgrind, arguments.program, few, "valgrind")
         asked = {job: [*questions_of_rows(job), *random_questions(job, arguments.lines, arguments.program, choices)]
                  for job in ("check", "derive")}
+        asked["derive"] += questions_of_any_creator(arguments.lines, choices)
         runners = [("plain", [plain], None)] * (plain is not None)
         runners += [("sanitized", [*NO_FORKS, checked], None)] * (checked is not None)
         runners += [(f"guard {where}", ["env", f"GUARD={where}", plain], 60) for where in GUARDS if plain is not None]
