@@ -203,11 +203,11 @@ impl Sid {
     }
 
     /// Whether it is the SID of these parts.
-    // Inlined, so that the number of known sub-authorities is a constant. Most SIDs have another one.
+    // Inlined, so that the number of known sub-authorities is a constant.
     #[inline(always)]
     pub fn is(&self, authority: u64, subs: &[u32]) -> bool
         ensures { result ≡ same_sid self.now (record { authority = authority; subs = subs.now }) }
     {
-        self.subs() == subs && self.authority() == authority
+        authority == self.authority() && subs == self.subs()
     }
 }
