@@ -4,12 +4,12 @@
 Tests the built library, out/lib, from C and from Python. Each answer of a call has to be what PROGRAM answers to the same
 line: for each line of the worked rows, and N random changes of them. Checks and derivations have to answer what the
 worked rows say, and N random ones what PROGRAM answers; also tried are arguments that no words spell. tests/c/calls.c also
-tries each size of the output, refused allocations and threads; it runs under the address sanitizer if the compiler has
-it, and under valgrind if that is there. tests/c/runs.c does the same for runs: each row without devices of its own,
-and whole answers in each size of the output. Both also run with a page that cannot be touched behind each block and in
-front of it, and with inputs that cannot be written. Descriptors of the densest ACEs have outputs of each size. Also
-tested: the symbols of the libraries, the header in C and C++, the names of faults, a program that was compiled with an
-older header, and the Python module's examples.
+tries each size of the output, refused allocations and threads, and looks at what is allocated; it runs under the address
+sanitizer if the compiler has it, and under valgrind if that is there. tests/c/runs.c does the same for runs: each row
+without devices of its own, and in each size of the output whole answers, and the front of help. Both also run with a page
+that cannot be touched behind each block and in front of it, and with inputs that cannot be written. Descriptors of the
+densest ACEs have outputs of each size. Also tested: the symbols of the libraries, the header in C and C++, the names of
+faults, a program that was compiled with an older header, and the Python module's examples.
 The last line is 'N passed, M failed'.
 """
 import argparse
@@ -41,6 +41,9 @@ VALGRIND = [*NO_FORKS, "valgrind", "-q", "--leak-check=full", "--error-exitcode=
 GUARDS = ("after", "before")
 SECONDS = 300
 DOMAIN = bytes.fromhex("010400000000000515000000010000000200000003000000")  # S-1-5-21-1-2-3
+# S-1-5-21 and fourteen numbers more: a SID, but as a domain it has no room for one more, and so counts as none.
+FULL_DOMAIN = bytes.fromhex("010f000000000005" + "15000000" + "01000000" * 14)
+TOO_MANY_BYTES = "0100008000000000000000000000000000000000" + "00" * (131_226 - 19)  # one more than a descriptor has
 MAPPINGS, KINDS = ["file", "key", "ds"], ["file", "container"]
 QUESTIONS_OF_A_RUN = 20
 HEX = re.compile(r"(?:[0-9a-f]{2})+")
@@ -134,6 +137,7 @@ def options():
     """Each choice of a domain and of numbers alone: the words of calls.c, and those of the program."""
     yield [], []
     yield [DOMAIN.hex()], ["--domain", "S-1-5-21-1-2-3"]
+    yield [FULL_DOMAIN.hex()], []
     yield ["-", "numeric"], ["--numeric"]
 
 
@@ -235,6 +239,21 @@ def random_questions(job, number, program, choices):
                 yield Question([word.encode() for word in words], bytes.fromhex(line)), without_name(answer)
 
 
+def questions_of_any_creator(number, choices):
+    """Derivations whose creators no SDDL spells: with any resource manager byte, and any bits of the control word beside ACLs
+    that are absent. The answers are those of the reference."""
+    maker = compare.Lines(choices)
+    for _ in range(number):
+        parent, creator = (maker.parent(reference.read(maker.descriptor().data)) for _ in range(2))
+        words = ["derive", "--kind", choices.choice(KINDS), "--owner", "BA", "--group", "SY", "--to", "hex",
+                 "--type", choices.choice(MAPPINGS)]
+        words = [word.encode() for word in words]
+        question = Question(words, reference.layout(parent))
+        question.creator = reference.layout(creator)
+        settings = reference.settings_of(words)._replace(creator=creator)
+        yield question, without_name(reference.answers([parent], settings)[0][0].decode())
+
+
 def test_questions(count, runners, job, asked):
     """Each question in one call of calls.c for all of them, by each runner."""
     text = "".join(question.line() + "\n" for question, _ in asked)
@@ -285,10 +304,22 @@ def test_arguments(count, runner):
              ([empty, sid * (most + 1), "00" * (most + 1), *check[3:]], "error 70 3 1024"),
              ([empty, none, none, *check[3:]], granted), ([*check[:5], "0", *check[6:]], "error 50"),
              ([*check[:5], str(1 << 26), *check[6:]], "error 51"), ([none, *check[1:]], "error 5"),
-             ([none, *check[1:5], "0", *check[6:]], "error 50")]
+             ([none, *check[1:5], "0", *check[6:]], "error 50"), ([TOO_MANY_BYTES, *check[1:]], "error 1")]
     ended = ran([*runner, "check"], "".join(" ".join(line) + "\n" for line, _ in cases))
     found = ended.stdout.decode().splitlines()
     count.add(found == [answer for _, answer in cases], f"cases of check: {found} {ended.stderr.decode()}")
+    # Bytes that begin with a descriptor, but are too many for one.
+    derive = whole["derive"]
+    lines = [[TOO_MANY_BYTES, *derive[1:]], [empty, TOO_MANY_BYTES, *derive[2:]]]
+    ended = ran([*runner, "derive"], "".join(" ".join(line) + "\n" for line in lines))
+    count.add(ended.stdout == b"error 1\nerror 70 7 0\n", f"too many bytes: {ended.stdout} {ended.stderr}")
+    for job in ("convert", "explain", "normalize"):
+        ended = ran([*runner, job], TOO_MANY_BYTES + "\n")
+        count.add(ended.stdout == b"error 1\n" and not ended.stderr, f"{job} of too many bytes: {ended.stdout} {ended.stderr}")
+    # A wrong domain comes before a text that is too long.
+    for domain, answer in ((sid[:-2], b"error 70 1 0\n"), (none, b"error 1\n")):
+        ended = ran([*runner, "from_sddl", domain], " " * 1_049_873 + "\n")
+        count.add(ended.stdout == answer and not ended.stderr, f"a long text under {domain}: {ended.stdout} {ended.stderr}")
 
 
 def rows_in_memory():
@@ -346,6 +377,15 @@ def test_sizes(count, runner, program, name):
         count.add(found == (expected, b"", status), f"{name} sizes of {words}: {found[1:]} {wrong}")
 
 
+def test_help(count, runner, program, name):
+    """In each size of the output is the front of help that fits, with status 0 and no message."""
+    for words in ([b"--help"], [b"help", b"check"], [b"derive", b"--help"]):
+        most = len(of_program(["sdtool", *words], b"", executable=program)[0])
+        expected = b"".join(b"%d 0 %d \n" % (size, min(size, most)) for size in range(most + 2))
+        found = of_program([*runner, "sizes", *words], b"")
+        count.add(found == (expected, b"", 0), f"{name} help of {words}: {found[0][:60]} {found[1:]}")
+
+
 def test_words(count, runner, program):
     """Words that no process gets, or that are no text."""
     usage = (b"", b"sdtool: usage\n", 2)
@@ -364,6 +404,7 @@ def test_runs_in_c(count, folder, program):
         return
     test_runs(count, [plain], program, "plain", rows)
     test_sizes(count, [plain], program, "plain")
+    test_help(count, [plain], program, "plain")
     for words in SIZED_WORDS:
         words = [words[0], b"--from", b"sddl", *words[1:]]
         found, expected = of_program([plain, "threads", *words], SIZED), of_program([program, *words], SIZED)
@@ -372,6 +413,7 @@ def test_runs_in_c(count, folder, program):
         guarded = ["env", f"GUARD={where}", plain]
         test_runs(count, guarded, program, f"guard {where}", [row for row in rows if len(row[2]) < 100_000][::4])
         test_sizes(count, guarded, program, f"guard {where}")
+        test_help(count, guarded, program, f"guard {where}")
     checked, _ = built(folder, "runs", "checked", SANITIZERS)
     if checked is not None:
         test_runs(count, [checked], program, "sanitized", [row for row in rows if len(row[2]) < 100_000])
@@ -547,6 +589,7 @@ def main():
             compare_calls(count, valgrind, arguments.program, few, "valgrind")
         asked = {job: [*questions_of_rows(job), *random_questions(job, arguments.lines, arguments.program, choices)]
                  for job in ("check", "derive")}
+        asked["derive"] += questions_of_any_creator(arguments.lines, choices)
         runners = [("plain", [plain], None)] * (plain is not None)
         runners += [("sanitized", [*NO_FORKS, checked], None)] * (checked is not None)
         runners += [(f"guard {where}", ["env", f"GUARD={where}", plain], 60) for where in GUARDS if plain is not None]

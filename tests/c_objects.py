@@ -130,7 +130,7 @@ def test_parts(runners, program, lines):
 
 
 def test_large_parts(runners, program):
-    lines = [data.hex() for data in compare.large_descriptors()]
+    lines = [*(data.hex() for data in compare.large_descriptors()), c_library.TOO_MANY_BYTES]
     layouts = answers(program, ["convert", "--to", "hex"], lines)
     expected = ["\n".join(block if block[-1] != "end" else [*block, layout])
                 for block, layout in zip(blocks(program, lines), layouts)]
@@ -191,7 +191,8 @@ def sid_texts(maker, number, choices):
 
 def options():
     """The domain in hex, and the program's words."""
-    return (("-", []), (c_library.DOMAIN.hex(), ["--domain", DOMAIN_TEXT]))
+    # A domain without room for one more number counts as none; the program takes no such word.
+    return (("-", []), (c_library.DOMAIN.hex(), ["--domain", DOMAIN_TEXT]), (c_library.FULL_DOMAIN.hex(), []))
 
 
 def test_sids_from_texts(runners, program, texts):

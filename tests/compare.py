@@ -7,8 +7,9 @@ lines in every cut at two places; from hex, base64 and SDDL; as hex and base64, 
 domain, under several domains, and with numbers alone. What is printed as SDDL, and what is spelled otherwise than it would be printed, is compared with the descriptor
 that it was made from.
 Checks ask for what has to do with the descriptors: by tokens of SIDs that stand in them, about rights and object types of
-their ACEs, at levels near those of their labels. What is derived comes from descriptors whose ACEs are handed on, for
-owners and groups that stand in them, and from creators' descriptors of the same kind.
+their ACEs, at levels near those of their labels. Many of these ACEs are for OWNER RIGHTS or PRINCIPAL SELF. What is derived
+comes from descriptors whose ACEs are handed on, for owners and groups that stand in them, and from creators' descriptors of
+the same kind.
 With --only it runs some of its parts. There are as many checks, and as many derivations, as --lines says:
 --only checks derivations --lines 100000 takes about four minutes on an idle processor.
 The same seed gives the same lines. The last line is 'N passed, M failed'.
@@ -56,6 +57,8 @@ EVERY_WORDS_FROM_SDDL = [[*words, *FROM_SDDL] for words in (HEX, SDDL, BASE64, U
 EVERY_WORDS_FROM_BASE64 = [[*words, "--from", "base64"] for words in (HEX, SDDL, BASE64, EXPLAINED[0], CHECKED[0], DERIVED[0])]
 DOMAIN_SIDS = [reference.sid_of_text(domain.encode()) for domain in DOMAINS]
 CREATORS = [reference.sid_of_text(name) for name in (b"CO", b"CG")]
+# PRINCIPAL SELF and OWNER RIGHTS, which stand for others (MS-DTYP 2.4.2.4).
+STAND_INS = [reference.sid_of_text(name) for name in (b"PS", b"S-1-3-4")]
 LABEL_TYPE, INHERIT_ONLY, LABEL_AUTHORITY = 0x11, 0x08, 16
 LEVELS = [0, 0x1000, 0x2000, 0x2000, 0x2100, 0x3000, 0x4000]
 MOST_LEVEL = 0xffff_ffff
@@ -581,6 +584,19 @@ class Lines:
             return descriptor
         return descriptor._replace(control=descriptor.control | SACL_PRESENT, sacl=reference.Acl(tuple(aces)))
 
+    def spoken_of(self, descriptor):
+        """The descriptor, in whose DACL many ACEs are for the owner or a SID that stands for another, and of object types that
+        differ in a bit."""
+        if not descriptor.dacl:
+            return descriptor
+        guid = self.chance.randbytes(16)
+        bit = self.chance.randrange(128)
+        near = (int.from_bytes(guid, "little") ^ 1 << bit).to_bytes(16, "little")
+        return descriptor._replace(dacl=reference.Acl(tuple(ace._replace(
+            sid=self.chance.choice([ace.sid, ace.sid, *STAND_INS, descriptor.owner or ace.sid]),
+            object_type=ace.object_type and self.chance.choice([ace.object_type, guid, guid, near]))
+            for ace in descriptor.dacl.aces)))
+
     def in_any_case(self, text):
         upper = self.chance.choice([0, -1, self.chance.getrandbits(len(text) + 1)])
         return "".join(letter.upper() if upper >> at & 1 else letter.lower() for at, letter in enumerate(text))
@@ -942,7 +958,7 @@ def check_words(maker, descriptors):
 def compare_checks(count, program, maker, number):
     """Checks by tokens that have something to do with the descriptors, each on a few of them."""
     for _ in range(number // LINES_OF_A_RUN):
-        descriptors = [maker.labelled(reference.read(maker.descriptor().data)) for _ in range(LINES_OF_A_RUN)]
+        descriptors = [maker.labelled(maker.spoken_of(reference.read(maker.descriptor().data))) for _ in range(LINES_OF_A_RUN)]
         given = Input(b"".join(reference.layout(one).hex().encode() + b"\n" for one in descriptors), descriptors)
         count.run(program, "checked", check_words(maker, descriptors), given)
 

@@ -10,8 +10,8 @@
  *   derive   PARENT CREATOR OWNER GROUP in hex, KIND MAPPING in decimal
  *
  * Each call is made again with outputs that are too small, with each allocation refused, and at the end from eight
- * threads, one of which also forks processes that make it. What goes wrong there is printed to standard error, and the
- * status is then 1. memory.h says what the environment asks for.
+ * threads, one of which also forks processes that make it. What it allocates has to be what the header says. What goes
+ * wrong there is printed to standard error, and the status is then 1. memory.h says what the environment asks for.
  */
 #include <pthread.h>
 #include <stdio.h>
@@ -52,21 +52,24 @@ void *__wrap_realloc(void *block, size_t size);
 
 static _Thread_local long allocations_left = -1;
 static _Thread_local long allocations;
+/* The bytes that were asked for. */
+static _Thread_local size_t allocated;
 
-static bool refused(void)
+static bool refused(size_t size)
 {
     allocations++;
+    allocated += size;
     return allocations_left >= 0 && allocations_left-- == 0;
 }
 
 void *__wrap_malloc(size_t size)
 {
-    return refused() ? NULL : __real_malloc(size);
+    return refused(size) ? NULL : __real_malloc(size);
 }
 
 void *__wrap_realloc(void *block, size_t size)
 {
-    return refused() ? NULL : __real_realloc(block, size);
+    return refused(size) ? NULL : __real_realloc(block, size);
 }
 
 static void complain(const char *what)
@@ -108,6 +111,7 @@ struct made {
     uint8_t *out;
     size_t size;
     long allocations_left, allocations;
+    size_t allocated;
     struct sdtool_outcome outcome;
 };
 
@@ -119,19 +123,22 @@ static void *make(void *argument)
 
     allocations_left = made->allocations_left;
     allocations = made->allocations;
+    allocated = made->allocated;
     made->outcome = call_here(made->question, made->out, made->size);
     made->allocations_left = allocations_left;
     made->allocations = allocations;
+    made->allocated = allocated;
     return NULL;
 }
 
 static struct sdtool_outcome call(const struct question *q, uint8_t *out, size_t size)
 {
-    struct made made = {q, out, size, allocations_left, allocations, {0}};
+    struct made made = {q, out, size, allocations_left, allocations, allocated, {0}};
 
     make_call(make, &made);
     allocations_left = made.allocations_left;
     allocations = made.allocations;
+    allocated = made.allocated;
     return made.outcome;
 }
 
@@ -198,14 +205,34 @@ static bool hides(const struct sdtool_outcome *o)
     return strcmp(job, "check") != 0 || o->fault == SDTOOL_OK || o->fault == SDTOOL_TOO_SMALL;
 }
 
+/* Whether a call whose outcome this is takes a buffer: it does so behind the faults of its arguments. */
+static bool takes_buffer(const struct sdtool_outcome *o)
+{
+    if (strcmp(job, "from_sddl") == 0)
+        return o->fault != SDTOOL_ARGUMENT && o->fault != SDTOOL_FAULT_TOO_LONG;
+    return strcmp(job, "derive") == 0
+           && (o->fault == SDTOOL_OK || o->fault == SDTOOL_TOO_SMALL || o->fault == SDTOOL_FAULT_DERIVED_TOO_LARGE);
+}
+
+/* What a call allocates is what the header says: a token of less than 128 KiB, one buffer, or nothing. */
+static bool is_as_said(const struct sdtool_outcome *o)
+{
+    if (strcmp(job, "check") == 0)
+        return allocated < 128 << 10;
+    return !CAN_REFUSE || allocated == (takes_buffer(o) ? SDTOOL_MOST_BYTES : 0);
+}
+
 static void try_refusals(const struct question *in, size_t size)
 {
     long most;
 
     allocations = 0;
+    allocated = 0;
     uint8_t *cells = block(size);
     struct sdtool_outcome whole = call(in, cells, size);
     most = allocations;
+    if (!is_as_said(&whole))
+        complain("allocations that the header does not name");
     for (long n = 0; n < most; n++) {
         allocations_left = n;
         struct sdtool_outcome o = call(in, cells, size);
@@ -246,6 +273,8 @@ static struct bytes answer_to(const struct question *in)
     struct bytes answer = {block(most), 0, most};
     struct sdtool_outcome o = call(in, answer.cells, most);
 
+    if (o.fault == SDTOOL_NO_MEMORY)
+        complain("no memory, although there is");
     if (o.fault == SDTOOL_OK) {
         answer.size = o.length;
         print(&answer);

@@ -25,6 +25,7 @@
 #include <stdio.h>
 #include <stdlib.h>
 #include <string.h>
+#include <time.h>
 
 #include "memory.h"
 #include "sdtool.h"
@@ -39,25 +40,28 @@ struct bytes {
 static const char *job;
 static int wrong;
 static long allocations, allocations_left = -1;
+/* The bytes that were asked for. */
+static size_t allocated;
 
 /* The linker puts these in the place of malloc and realloc of the library: see tests/c_library.py. */
 void *__wrap_malloc(size_t size);
 void *__wrap_realloc(void *block, size_t size);
 
-static bool refused(void)
+static bool refused(size_t size)
 {
     allocations++;
+    allocated += size;
     return allocations_left >= 0 && allocations_left-- == 0;
 }
 
 void *__wrap_malloc(size_t size)
 {
-    return refused() ? NULL : __real_malloc(size);
+    return refused(size) ? NULL : __real_malloc(size);
 }
 
 void *__wrap_realloc(void *block, size_t size)
 {
-    return refused() ? NULL : __real_realloc(block, size);
+    return refused(size) ? NULL : __real_realloc(block, size);
 }
 
 static void complain(const char *what)
@@ -545,9 +549,11 @@ static void refuse_allocations(const struct question *q, const struct sdtool_byt
     long most;
 
     allocations = 0;
+    allocated = 0;
     check_many(q, descriptors, count, verdicts, count);
     most = allocations;
     expect(most > 0 || !CAN_REFUSE, "many checks allocate nothing");
+    expect(allocated < 128 << 10, "many checks allocate 128 KiB");
     for (long n = 0; n < most; n++) {
         allocations_left = n;
         try_many(q, descriptors, 0, count, SDTOOL_NO_MEMORY, 0, 0, 0);
@@ -1204,6 +1210,74 @@ static void large(void)
     release(longest.cells, longest.size);
 }
 
+/* The processor time of some walks through an ACL of so many ACEs of 16 bytes. */
+static double seconds_of_walks(uint16_t count, int rounds)
+{
+    static const uint8_t one[16] = {0, 0, 16, 0, 1, 0, 0, 0, 1, 0, 0, 0, 0, 0, 0, 5};
+    size_t size = 8 + 16 * (size_t)count;
+    uint8_t *acl = room_for(size, 1);
+    clock_t start;
+    uint32_t steps = 0;
+
+    acl[0] = 2;
+    acl[2] = (uint8_t)size;
+    acl[3] = (uint8_t)(size >> 8);
+    acl[4] = (uint8_t)count;
+    acl[5] = (uint8_t)(count >> 8);
+    for (size_t i = 0; i < count; i++)
+        memcpy(acl + 8 + 16 * i, one, sizeof one);
+    start = clock();
+    for (int round = 0; round < rounds; round++) {
+        struct sdtool_ace ace = {0};
+
+        while (sdtool_next_ace(acl, size, &ace))
+            steps++;
+    }
+    start = clock() - start;
+    expect(steps == (uint32_t)rounds * count, "the ACEs of a long walk");
+    free(acl);
+    return (double)start / CLOCKS_PER_SEC;
+}
+
+/* A walk takes time in proportion to the bytes of its ACL: ten times the ACEs take as long as ten walks. */
+static void long_walks(void)
+{
+    double few = seconds_of_walks(400, 100), many = seconds_of_walks(4000, 10);
+
+    for (int round = 0; round < 4; round++) {
+        double again = seconds_of_walks(400, 100), longer = seconds_of_walks(4000, 10);
+
+        few = again < few ? again : few;
+        many = longer < many ? longer : many;
+    }
+    expect(many < 4 * few + 0.005, "a walk takes more time than in proportion to its ACL");
+}
+
+/* As many descriptors as a large folder has objects: one without a DACL, and one with an empty DACL, by turns. */
+static void many_descriptors(void)
+{
+    enum { DESCRIPTORS = 100000 };
+    uint8_t open[20] = {1, 0, 0, 0x80}, closed[28] = {1, 0, 4, 0x80, [16] = 20, [20] = 2, [22] = 8};
+    struct bytes sid = a_sid(1), zero = copied("", 1), nothing = {NULL, 0};
+    struct question q = {sid, zero, nothing, nothing, {.wanted = 1}};
+    struct sdtool_bytes *descriptors = room_for(DESCRIPTORS, sizeof *descriptors);
+    struct sdtool_verdict *verdicts = room_for(DESCRIPTORS, sizeof *verdicts);
+    bool are_right = true;
+
+    for (size_t i = 0; i < DESCRIPTORS; i++)
+        descriptors[i] = i % 2 == 0 ? (struct sdtool_bytes){open, sizeof open} : (struct sdtool_bytes){closed, sizeof closed};
+    struct sdtool_outcome o = check_many(&q, descriptors, DESCRIPTORS, verdicts, DESCRIPTORS);
+    expect(is_outcome(&o, SDTOOL_OK, 0, 0, 0, DESCRIPTORS), "the outcome of 100,000 checks");
+    for (size_t i = 0; i < DESCRIPTORS; i++)
+        are_right = are_right && verdicts[i].fault == SDTOOL_OK && verdicts[i].mask == 1
+                    && verdicts[i].granted == (i % 2 == 0);
+    expect(are_right, "one of 100,000 verdicts");
+    free(descriptors);
+    free(verdicts);
+    release(sid.cells, sid.size);
+    release(zero.cells, zero.size);
+}
+
 static void answer_line(char **words, int count, const char *line, size_t length)
 {
     bool is_text = strcmp(job, "from_text") == 0;
@@ -1298,6 +1372,8 @@ int main(int count, char **words)
         tokens_of_most_sids();
     } else if (strcmp(job, "large") == 0) {
         large();
+        many_descriptors();
+        long_walks();
     } else if ((strcmp(job, "many") == 0 || strcmp(job, "with") == 0) && count == 10) {
         answer_all(words);
     } else {

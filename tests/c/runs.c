@@ -6,7 +6,7 @@
  *
  *   plain     it also tries each size of the message, and null pointers of size 0
  *   sizes     it prints only a line for each size of the output: the size, the status, and the length of the output
- *   refusals  it also refuses each allocation in turn
+ *   refusals  it also refuses each allocation in turn, of which all together are less than 2 MiB
  *   threads   it also makes the call from eight threads at once
  *   cut       the last word lacks its NUL
  *
@@ -41,21 +41,24 @@ void *__wrap_realloc(void *block, size_t size);
 
 static _Thread_local long allocations_left = -1;
 static _Thread_local long allocations;
+/* The bytes that were asked for. */
+static _Thread_local size_t allocated;
 
-static bool refused(void)
+static bool refused(size_t size)
 {
     allocations++;
+    allocated += size;
     return allocations_left >= 0 && allocations_left-- == 0;
 }
 
 void *__wrap_malloc(size_t size)
 {
-    return refused() ? NULL : __real_malloc(size);
+    return refused(size) ? NULL : __real_malloc(size);
 }
 
 void *__wrap_realloc(void *block, size_t size)
 {
-    return refused() ? NULL : __real_realloc(block, size);
+    return refused(size) ? NULL : __real_realloc(block, size);
 }
 
 static void complain(const char *what, size_t at)
@@ -76,6 +79,7 @@ struct made {
     uint8_t *says;
     size_t says_size;
     long allocations_left, allocations;
+    size_t allocated;
     struct sdtool_ending ending;
 };
 
@@ -85,21 +89,24 @@ static void *make(void *argument)
 
     allocations_left = made->allocations_left;
     allocations = made->allocations;
+    allocated = made->allocated;
     made->ending = sdtool_run(words.cells, words.size, input.cells, input.size, made->out, made->size, made->says,
                               made->says_size);
     made->allocations_left = allocations_left;
     made->allocations = allocations;
+    made->allocated = allocated;
     return NULL;
 }
 
 static struct sdtool_ending call(uint8_t *out, size_t size, uint8_t *says, size_t says_size)
 {
-    struct made made = {out, size, says, says_size, allocations_left, allocations, {0}};
+    struct made made = {out, size, says, says_size, allocations_left, allocations, allocated, {0}};
     struct sdtool_ending e;
 
     make_call(make, &made);
     allocations_left = made.allocations_left;
     allocations = made.allocations;
+    allocated = made.allocated;
     e = made.ending;
     if (e.length > size || e.message_length > says_size)
         complain("a length beyond the size", size);
@@ -149,8 +156,11 @@ static void try_refusals(void)
     long most;
 
     allocations = 0;
+    allocated = 0;
     e = call(out, answers.size + 1, says, sizeof says);
     most = allocations;
+    if (allocated >= 2 << 20)
+        complain("allocations of bytes", allocated);
     if (!is_whole(&e, out))
         complain("a second call", 0);
     for (long n = 0; n < most; n++) {

@@ -1,6 +1,7 @@
 -- The numbers that a caller sees, as include/sdtool.h writes them out, and what a number means.
-use Rattle.std.proofs.Common.{◌≡◌, ℕ, List, [], ◌∷◌, length, map, take, Some, None, Ok, Err, codes}
+use Rattle.std.proofs.Common.{◌≡◌, inl, inr, ℕ, List, [], ◌∷◌, length, map, take, Some, None, Ok, Err, codes}
 use Rattle.std.proofs.Common.{refl, replicate, arith}
+use Rattle.std.specs.List.{flat_map}
 use Rattle.sd_text.specs.Chains.{fault_as}
 use Rattle.sd_answer.specs.declared.fault.LineFault.TheVariants as line
 use Rattle.sd_check.specs.declared.ask.AskFault.TheVariants as ask
@@ -10,7 +11,8 @@ use Rattle.sd_view.specs.Reading.{reading}
 use Rattle.sd_view.specs.declared.fault.SdFault.TheVariants as sd
 use Rattle.sd_call.specs.Arguments.{descriptor_in, domain_in, mapping_in, optional_sid_in, sid_in}
 use Rattle.sd_call.specs.FaultNames.{name_of}
-use Rattle.sd_call.specs.Outcomes.{Fills, Gives, argument_number, done, failed, no_memory, number, part_number, too_small}
+use Rattle.sd_call.specs.Outcomes.{Answers, AnswersWithin, Fills, Gives, Refused, argument_number, done, failed, no_memory}
+use Rattle.sd_call.specs.Outcomes.{number, part_number, too_small}
 use Rattle.sd_call.specs.declared.outcome.Outcome.{Outcome}
 use Rattle.sd_call.specs.declared.argument.Argument.TheVariants as which
 use Rattle.sd_call.specs.declared.outcome.CallFault.TheVariants as call
@@ -102,6 +104,23 @@ domains : (domain_in [] ≡ Ok None) × (domain_in (1 ∷ []) ≡ Err (call.Argu
 unfolding optional_sid_in sid_at
 domains = (refl, refl)
 
+-- The longest SID, of 15 sub-authorities, is a domain too: that it has no room for one more is no fault of the argument.
+abbrev longest_domain : List ℕ
+longest_domain = 1 ∷ 15 ∷ 0 ∷ 0 ∷ 0 ∷ 0 ∷ 0 ∷ 5 ∷ flat_map (λ n. n ∷ 0 ∷ 0 ∷ 0 ∷ [])
+    (21 ∷ 2 ∷ 3 ∷ 4 ∷ 5 ∷ 6 ∷ 7 ∷ 8 ∷ 9 ∷ 10 ∷ 11 ∷ 12 ∷ 13 ∷ 14 ∷ 15 ∷ [])
+
+domain_without_room : domain_in longest_domain ≡ Ok (Some (record {
+  authority = 5;
+  subs = 21 ∷ 2 ∷ 3 ∷ 4 ∷ 5 ∷ 6 ∷ 7 ∷ 8 ∷ 9 ∷ 10 ∷ 11 ∷ 12 ∷ 13 ∷ 14 ∷ 15 ∷ [];
+}))
+unfolding optional_sid_in sid_at
+domain_without_room = refl
+
+-- and so is the shortest, S-1-5
+shortest_domain : domain_in (1 ∷ 0 ∷ 0 ∷ 0 ∷ 0 ∷ 0 ∷ 0 ∷ 5 ∷ []) ≡ Ok (Some (record { authority = 5; subs = [] }))
+unfolding optional_sid_in sid_at
+shortest_domain = refl
+
 -- SDTOOL_MOST_BYTES: so many bytes are read, and one byte more is too long, whatever the bytes are
 longest : (bytes : List ℕ) → length bytes ≡ 131226
     → descriptor_in bytes ≡ fault_as (λ fault. call.Line (line.Sd fault)) (reading bytes)
@@ -140,6 +159,26 @@ room_for_one new outcome h = h.short (omega arith)
 
 given : Gives two (0 ∷ 0 ∷ []) two (done 2)
 given = record { fits = λ _. (refl, refl); short = λ less. absurd (omega arith) }
+
+-- A fault of the arguments is told whether there is memory or not, and the output stays.
+told_without_memory : (new : List ℕ) (outcome : Outcome)
+    → AnswersWithin {A = List ℕ} (Err (call.Line line.TooLong)) (Ok two) (0 ∷ 0 ∷ []) new outcome
+    → (outcome ≡ failed (call.Line line.TooLong)) × (new ≡ 0 ∷ 0 ∷ [])
+told_without_memory new outcome h = h
+
+-- Behind the arguments there is an answer, or memory was refused and the output stays.
+answered_within : AnswersWithin (Ok two) (Ok two) (0 ∷ 0 ∷ []) two (done 2)
+    × AnswersWithin (Ok two) (Ok two) (0 ∷ 0 ∷ []) (0 ∷ 0 ∷ []) no_memory
+answered_within = (inl given, inr (refl, refl))
+
+stays_without_memory : (new : List ℕ) (outcome : Outcome) → Refused (0 ∷ 0 ∷ []) new outcome
+    → (outcome ≡ no_memory) × (new ≡ 0 ∷ 0 ∷ [])
+stays_without_memory new outcome h = h
+
+-- After a fault the output stays.
+stays_after_a_fault : (new : List ℕ) (outcome : Outcome) → Answers (Err (call.Argument which.Sid 0)) (0 ∷ 0 ∷ []) new outcome
+    → (outcome ≡ failed (call.Argument which.Sid 0)) × (new ≡ 0 ∷ 0 ∷ [])
+stays_after_a_fault new outcome h = h
 
 filled : Fills 2 two (0 ∷ 0 ∷ []) two
 filled = record { count = refl; within = omega arith; front = refl }

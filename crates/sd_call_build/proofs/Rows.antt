@@ -214,6 +214,24 @@ descriptor : new_descriptor (of_parts everyone system (record { aces = lent []; 
 unfolding ace_in sid_at kind_of kind_code kind_entry
 descriptor = refl
 
+-- SR, SP and DP follow from the form and from the ACLs, a null one too, whatever the caller's bits are; each other bit stays.
+abbrev null : NewAcl
+null = record { aces = lent []; state = 1 }
+
+abbrev control_with : ℕ → NewAcl → NewAcl → ℕ
+control_with bits sacl dacl = (new_descriptor (record (of_parts [] [] sacl dacl) { control = bits })).control
+
+control_bits : control_with 0xffff absent absent ∷ control_with 0x10 absent (list []) ∷ control_with 4 (list []) absent
+    ∷ control_with 0 null null ∷ control_with 0x7fff (list []) null ∷ []
+    ≡ 0xffeb ∷ 0x8004 ∷ 0x8010 ∷ 0x8014 ∷ 0xffff ∷ []
+control_bits = refl
+
+-- a null DACL has no bytes, and its offset is 0
+null_dacl : built (of_parts [] [] absent null)
+    ≡ Ok (1 ∷ 0 ∷ 4 ∷ 0x90 ∷ 0 ∷ 0 ∷ 0 ∷ 0 ∷ 0 ∷ 0 ∷ 0 ∷ 0 ∷ 0 ∷ 0 ∷ 0 ∷ 0 ∷ 0 ∷ 0 ∷ 0 ∷ 0 ∷ [])
+unfolding built new_fault sid_at header_bytes
+null_dacl = refl
+
 -- an owner, a group, no SACL and a DACL of one ACE, one behind the other without gaps
 layout : built (of_parts everyone system (record { aces = lent []; state = 0 }) (list (deny ∷ []))) ≡ Ok (
     (1 ∷ 0 ∷ 0x04 ∷ 0x90 ∷ 20 ∷ 0 ∷ 0 ∷ 0 ∷ 32 ∷ 0 ∷ 0 ∷ 0 ∷ 0 ∷ 0 ∷ 0 ∷ 0 ∷ 44 ∷ 0 ∷ 0 ∷ 0 ∷ []) ++ everyone ++ system

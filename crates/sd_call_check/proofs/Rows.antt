@@ -8,7 +8,7 @@ use Rattle.sd_token.specs.declared.token.EntryKind.TheVariants.{DenyOnly, Enable
 use Rattle.sd_check.specs.Ask.{Asked}
 use Rattle.sd_check.specs.declared.ask.AskFault.TheVariants.{EmptyRequest, ReservedBits}
 use Rattle.sd_check.specs.declared.verdict.Verdict.TheVariants.{Denied, Granted}
-use Rattle.sd_call.specs.Arguments.{optional_sid_in}
+use Rattle.sd_call.specs.Arguments.{descriptor_in, optional_sid_in}
 use Rattle.sd_call.specs.declared.argument.Argument.TheVariants as which
 use Rattle.sd_call.specs.declared.outcome.CallFault.{CallFault}
 use Rattle.sd_call.specs.declared.outcome.CallFault.TheVariants as call
@@ -152,6 +152,15 @@ descriptor_last : (bytes : List ℕ)
     (record { entries = everyone_denied; level = None }) (record requested { object = Some type }))
 unfolding asker_in entries_in ask_in object_in optional_sid_in sid_at mapped
 descriptor_last bytes = (refl, refl, refl)
+
+-- SDTOOL_MOST_BYTES: one byte more is too long, whatever the bytes are
+abbrev too_long : VerdictOutcome
+too_long = record { fault = 1; part = 0; other_part = 0; argument = 0; entry = 0; mask = 0; granted = false }
+
+too_many_bytes : (bytes : List ℕ) → length bytes ≡ 131227
+    → told (checked bytes everyone (1 ∷ []) [] [] request) ≡ too_long
+unfolding asker_in entries_in ask_in object_in optional_sid_in sid_at mapped verdict_on descriptor_in
+too_many_bytes bytes h = rw h refl
 
 -- struct sdtool_verdict
 granted : told (Ok (Granted 0x120089))
@@ -322,6 +331,11 @@ order_with_a_token : (bytes : List ℕ)
     × (checked_held bytes everyone_memory [] [] (record request { wanted = 0 }) ≡ Err (call.Ask EmptyRequest))
 unfolding ask_in object_in optional_sid_in entries_held everyone_memory
 order_with_a_token bytes = (refl, refl, refl, refl)
+
+too_many_bytes_with_a_token : (bytes : List ℕ) → length bytes ≡ 131227
+    → told (checked_held bytes everyone_memory [] [] request) ≡ too_long
+unfolding ask_in object_in optional_sid_in mapped entries_held everyone_memory verdict_on descriptor_in
+too_many_bytes_with_a_token bytes h = rw h refl
 
 -- what is asked by an entry of the token, with the level of the request and without it
 with_a_token : (bytes : List ℕ)

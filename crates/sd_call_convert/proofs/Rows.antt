@@ -65,6 +65,30 @@ too_long : (text : List ℕ) → length text ≡ 1049873 → domain_for text [] 
 unfolding optional_sid_in read_under
 too_long text h = rw h refl
 
+-- A text that is too long under a wrong domain: the domain is told.
+too_long_under_a_wrong_domain : (text : List ℕ) → length text ≡ 1049873
+    → (domain_for text (1 ∷ []) ≡ Err (call.Argument which.Domain 0))
+    × (from_sddl text (1 ∷ []) ≡ Err (call.Argument which.Domain 0))
+    × (from_sddl text [] ≡ Err (call.Line line.TooLong))
+unfolding optional_sid_in read_under sid_at
+too_long_under_a_wrong_domain text h = (refl, refl, rw h refl)
+
+-- SDTOOL_MOST_BYTES: one byte more is too long in each call, whatever the bytes are
+too_many_bytes : (bytes : List ℕ) → length bytes ≡ 131227
+    → (to_sddl bytes [] false ≡ Err (call.Line line.TooLong)) × (explained bytes [] true ≡ Err (call.Line line.TooLong))
+    × (normalized bytes ≡ Err (call.Line line.TooLong))
+unfolding named_in optional_sid_in descriptor_in
+too_many_bytes bytes h = (rw h refl, rw h refl, rw h refl)
+
+-- The empty text is a descriptor without parts, and the end of a line is no part of a text.
+empty_text : from_sddl [] [] ≡ Ok (1 ∷ 0 ∷ 0 ∷ 0x80 ∷ 0 ∷ 0 ∷ 0 ∷ 0 ∷ 0 ∷ 0 ∷ 0 ∷ 0 ∷ 0 ∷ 0 ∷ 0 ∷ 0 ∷ 0 ∷ 0 ∷ 0 ∷ 0 ∷ [])
+unfolding optional_sid_in read_under means body_reads header_bytes
+empty_text = refl
+
+line_end_behind : from_sddl (codes "O:BA\n") [] ≡ Err (call.Line (line.Sddl (sddl_fault.Sid sid.SidForm)))
+unfolding optional_sid_in read_under means body_reads sid_reads has_form
+line_end_behind = refl
+
 -- Administrators as the owner, behind the header
 abbrev owned : List ℕ
 owned = (1 ∷ 0 ∷ 0 ∷ 0x80 ∷ 20 ∷ 0 ∷ 0 ∷ 0 ∷ 0 ∷ 0 ∷ 0 ∷ 0 ∷ 0 ∷ 0 ∷ 0 ∷ 0 ∷ 0 ∷ 0 ∷ 0 ∷ 0 ∷ [])

@@ -1,5 +1,5 @@
 -- The arguments of a derivation and what it gives, by hand from include/sdtool.h (MS-DTYP 2.4.6 and 2.5.3.4).
-use Rattle.std.proofs.Common.{◌≡◌, ℕ, List, [], ◌∷◌, map, Some, None, Ok, Err, refl, replicate}
+use Rattle.std.proofs.Common.{◌≡◌, ℕ, List, [], ◌∷◌, length, map, Some, None, Ok, Err, refl, replicate}
 use Rattle.sd_sid.specs.Sid.{sid_at}
 use Rattle.sd_rights.specs.Mapping.{file_mapping, key_mapping}
 use Rattle.sd_inherit.specs.Derived.{derive_fault, derived}
@@ -36,6 +36,11 @@ no_creator = refl
 wrong_creator : creator_in (1 ∷ []) ≡ Err (call.Argument which.Creator 0)
 unfolding creator_in descriptor_in reading fault header_fault
 wrong_creator = refl
+
+-- More bytes than a descriptor ever has are none, whatever they are.
+creator_of_too_many_bytes : (bytes : List ℕ) → length bytes ≡ 131227 → creator_in bytes ≡ Err (call.Argument which.Creator 0)
+unfolding creator_in descriptor_in
+creator_of_too_many_bytes bytes h = rw h refl
 
 -- The arguments are looked at in this order: kind, mapping, owner, group.
 kind_first : plan_in 2 3 [] [] ≡ Err (call.Argument which.Kind 0)
@@ -77,6 +82,11 @@ creator_before_parent = refl
 parent_last : origin_in [] [] everyone system 1 1 ≡ Err (call.Line (line.Sd sd.Short))
 unfolding origin_in plan_in sid_at creator_in descriptor_in reading fault header_fault
 parent_last = refl
+
+parent_of_too_many_bytes : (bytes : List ℕ) → length bytes ≡ 131227
+    → origin_in bytes [] everyone system 1 1 ≡ Err (call.Line line.TooLong)
+unfolding origin_in plan_in sid_at creator_in descriptor_in
+parent_of_too_many_bytes bytes h = rw h refl
 
 -- a header alone, with a resource manager byte
 abbrev header : ℕ → List ℕ

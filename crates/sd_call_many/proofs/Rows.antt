@@ -1,8 +1,9 @@
 -- Verdicts on many descriptors as a caller sees them, by hand from include/sdtool.h.
-use Rattle.std.proofs.Common.{◌≡◌, ◌⊎◌, inl, ℕ, List, [], ◌∷◌, true, false, Ok, Err, refl, arith}
+use Rattle.std.proofs.Common.{◌≡◌, ◌⊎◌, inl, ℕ, List, [], ◌∷◌, length, true, false, Ok, Err, refl, arith}
 use Rattle.sd_token.specs.Token.{Holder}
 use Rattle.sd_check.specs.Ask.{Asked}
 use Rattle.sd_check.specs.declared.verdict.Verdict.TheVariants.{Denied, Granted}
+use Rattle.sd_call.specs.Arguments.{descriptor_in}
 use Rattle.sd_call.specs.Outcomes.{done, too_small}
 use Rattle.sd_call.specs.declared.argument.Argument.TheVariants as which
 use Rattle.sd_call.specs.declared.outcome.CallFault.TheVariants as call
@@ -27,6 +28,27 @@ grants holder ask d h = rw h refl
 denies : (holder : Holder) (ask : Asked) (d : Bytes) → verdict_on d.bytes.now holder ask ≡ Ok (Denied 3)
     → judged_by holder ask d ≡ denied
 denies holder ask d h = rw h refl
+
+-- A descriptor that is none has its fault in its own verdict.
+tells_a_fault : (holder : Holder) (ask : Asked) (d : Bytes)
+    → verdict_on d.bytes.now holder ask ≡ Err (call.Argument which.Sid 7)
+    → judged_by holder ask d ≡ record {
+      fault = 70;
+      part = 0;
+      other_part = 0;
+      argument = 12;
+      entry = 7;
+      mask = 0;
+      granted = false;
+    }
+tells_a_fault holder ask d h = rw h refl
+
+-- SDTOOL_MOST_BYTES: one byte more is too long
+too_many_bytes : (holder : Holder) (ask : Asked) (d : Bytes) → length d.bytes.now ≡ 131227
+    → judged_by holder ask d
+    ≡ record { fault = 1; part = 0; other_part = 0; argument = 0; entry = 0; mask = 0; granted = false }
+unfolding verdict_on descriptor_in
+too_many_bytes holder ask d h = rw h refl
 
 grants_by_itself : (sids kinds object self : List ℕ) (request : Request) (holder : Holder) (ask : Asked) (d : Bytes)
     → asker_in sids kinds object self request ≡ Ok (holder, ask) → verdict_on d.bytes.now holder ask ≡ Ok (Granted 3)

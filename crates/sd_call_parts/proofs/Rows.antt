@@ -1,5 +1,5 @@
 -- Parts and ACEs whose places were counted by hand (MS-DTYP 2.4.6, 2.4.5 and 2.4.4).
-use Rattle.std.proofs.Common.{◌≡◌, [], ◌∷◌, ◌++◌, true, false, Some, None, Ok, Err, refl}
+use Rattle.std.proofs.Common.{◌≡◌, [], ◌∷◌, ◌++◌, length, true, false, Some, None, Ok, Err, refl}
 use Rattle.std.specs.Prelude.{List, ℕ}
 use Rattle.sd_ace.specs.Ace.{AccessControlEntry}
 use Rattle.sd_parts.specs.declared.part.Part.TheVariants as part
@@ -238,6 +238,11 @@ null_dacl = refl
 no_descriptor : contents_in [] ≡ nothing_but 5 0 0
 unfolding computed
 no_descriptor = refl
+
+-- SDTOOL_MOST_BYTES: one byte more is too long, whatever the bytes are
+too_many_bytes : (bytes : List ℕ) → length bytes ≡ 131227 → contents_in bytes ≡ nothing_but 1 0 0
+unfolding descriptor_in
+too_many_bytes bytes h = rw h refl
 
 shared_byte : refused (call.Line (line.Sd (sd.Overlap part.Sacl part.Dacl))) ≡ nothing_but 14 3 4
 shared_byte = refl

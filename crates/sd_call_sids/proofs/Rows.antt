@@ -1,6 +1,7 @@
 -- SIDs and their texts, by hand (MS-DTYP 2.4.2, and 2.5.1.1 for the aliases).
 use Rattle.std.proofs.Common.{◌≡◌, [], ◌∷◌, ◌++◌, true, false, codes, Ok, Err, refl}
 use Rattle.std.specs.Fmt.{digits}
+use Rattle.std.specs.List.{flat_map}
 use Rattle.std.specs.Prelude.{List, ℕ}
 use Rattle.sd_sid.specs.Sid.{sid_at}
 use Rattle.sd_sid.specs.SidText.{alias_of, has_form, letters_read, numbers_read, sid_reads}
@@ -61,6 +62,36 @@ to_relative_alias : (sid_to_text domain_admins domain false ≡ Ok (codes "DA"))
     × (sid_to_text administrators domain true ≡ Ok (codes "S-1-5-32-544"))
 unfolding named_in optional_sid_in sid_at alias_of digits trustee_text
 to_relative_alias = (refl, refl, refl, refl)
+
+-- S-1-5 and 14 or 15 further numbers, each of which is its place
+abbrev numbers : List ℕ → List ℕ
+numbers = flat_map (λ n. n ∷ 0 ∷ 0 ∷ 0 ∷ [])
+
+abbrev of_14 : List ℕ
+of_14 = 1 ∷ 14 ∷ 0 ∷ 0 ∷ 0 ∷ 0 ∷ 0 ∷ 5 ∷ numbers (1 ∷ 2 ∷ 3 ∷ 4 ∷ 5 ∷ 6 ∷ 7 ∷ 8 ∷ 9 ∷ 10 ∷ 11 ∷ 12 ∷ 13 ∷ 14 ∷ [])
+
+abbrev of_15 : List ℕ
+of_15 = 1 ∷ 15 ∷ 0 ∷ 0 ∷ 0 ∷ 0 ∷ 0 ∷ 5 ∷ numbers (1 ∷ 2 ∷ 3 ∷ 4 ∷ 5 ∷ 6 ∷ 7 ∷ 8 ∷ 9 ∷ 10 ∷ 11 ∷ 12 ∷ 13 ∷ 14 ∷ 15 ∷ [])
+
+abbrev admins_of_14 : List ℕ
+admins_of_14 = 1 ∷ 15 ∷ 0 ∷ 0 ∷ 0 ∷ 0 ∷ 0 ∷ 5
+    ∷ numbers (1 ∷ 2 ∷ 3 ∷ 4 ∷ 5 ∷ 6 ∷ 7 ∷ 8 ∷ 9 ∷ 10 ∷ 11 ∷ 12 ∷ 13 ∷ 14 ∷ []) ++ (0 ∷ 2 ∷ 0 ∷ 0 ∷ [])
+
+-- A domain of 14 sub-authorities has room for one more. One of 15 has none, and counts as no domain.
+longest_domains : (sid_from_text (codes "DA") of_14 ≡ Ok admins_of_14)
+    × (sid_to_text admins_of_14 of_14 false ≡ Ok (codes "DA"))
+    × (sid_from_text (codes "DA") of_15 ≡ Err (call.Line (line.Sddl (sddl.Sid sid.NeedsDomain))))
+    × (sid_from_text (codes "BA") of_15 ≡ Ok administrators)
+    × (sid_to_text administrators of_15 false ≡ Ok (codes "BA"))
+unfolding named_sid named_in sid_reads letters_read optional_sid_in sid_at alias_of trustee_text
+longest_domains = (refl, refl, refl, refl, refl)
+
+-- The end of a line is no part of a text.
+line_end_behind : (sid_from_text (codes "BA\n") [] ≡ Err (call.Line (line.Sddl (sddl.Sid sid.SidForm))))
+    × (sid_from_text (codes "S-1-5-18\n") [] ≡ Err (call.Line (line.Sddl (sddl.Sid sid.SidForm))))
+    × (sid_from_text [] [] ≡ Err (call.Line (line.Sddl (sddl.Sid sid.SidForm))))
+unfolding named_sid sid_reads has_form optional_sid_in
+line_end_behind = (refl, refl, refl)
 
 -- The SID is looked at before the domain, and it takes all of its bytes.
 wrong_sid : sid_to_text [] (1 ∷ []) false ≡ Err (call.Argument which.Sid 0)
