@@ -5,7 +5,8 @@ Compares include/sdtool.h with the sources of the library for C. Contracts name 
 their order, the width of a number or the name of an export. The test refuses:
 
   structs    a struct of the header, or one with #[repr(C)] in sd_call* or sdtool_c, without a counterpart, or with
-             members of other names, types or order. The doc comment of the one in Rust names the one in C.
+             members of other names, types or order. The doc comment of the one in Rust names the one in C. A struct
+             around one private number is that number.
   functions  an `extern "C"` function that the header does not declare, or declares with another result or with
              arguments of other names, types or order; one without #[unsafe(no_mangle)]; one whose contract does not
              cite the definition that belongs to its name; a function that only the header has
@@ -165,6 +166,12 @@ def structs_in(text):
             yield name, re.findall(r"`struct (\w+)` of the header", above), list(fields_of(fields))
 
 
+def wrapped_numbers_in(text):
+    """Each struct with #[repr(C)] around one private number, and what C calls that number."""
+    pattern = r"^#\[repr\(C\)\]\n(?:#\[.*\n)*pub struct (\w+) \{\n +\w+: (\w+),\n\}"
+    return {name: NUMBERS[kind] for name, kind in re.findall(pattern, text, re.M) if kind in NUMBERS}
+
+
 def exports_in(text):
     """Each function for C."""
     above, visible, result = r"((?:^#\[.*\n)*)^[ ]*", r"(?:pub(?:\([^)]*\))? )?(?:unsafe )?", r"(?:->\s*([^\s{]+))?"
@@ -180,7 +187,11 @@ class Sources:
     def __init__(self, top):
         self.texts = {path.relative_to(top): path.read_text(encoding="utf-8")
                       for crate in CRATES for path in sorted(top.glob(crate + "/**/*.rt"))}
-        self.structs = [(path, *struct) for path, text in self.texts.items() for struct in structs_in(text)]
+        self.numbers = dict(NUMBERS)
+        for text in self.texts.values():
+            self.numbers.update(wrapped_numbers_in(text))
+        self.structs = [(path, *struct) for path, text in self.texts.items() for struct in structs_in(text)
+                        if struct[0] not in self.numbers]
         self.exports = [(path, export) for path, text in self.texts.items() for export in exports_in(text)]
         self.counterparts = {name: named[0] for _, name, named, _ in self.structs if len(named) == 1}
 
@@ -189,7 +200,7 @@ class Sources:
         pointer = re.fullmatch(r"&(mut )?(\w+)", kind)
         if pointer:
             return f"{'' if pointer[1] else 'const '}{self.c_type(pointer[2])} *"
-        return NUMBERS.get(kind) or (f"struct {self.counterparts[kind]}" if kind in self.counterparts else kind)
+        return self.numbers.get(kind) or (f"struct {self.counterparts[kind]}" if kind in self.counterparts else kind)
 
     def slice_of(self, name, kind):
         """The pointer and the length that are a slice in C, or nothing if the type is no slice."""

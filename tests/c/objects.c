@@ -25,6 +25,7 @@
 #include <stdio.h>
 #include <stdlib.h>
 #include <string.h>
+#include <time.h>
 
 #include "memory.h"
 #include "sdtool.h"
@@ -1209,6 +1210,49 @@ static void large(void)
     release(longest.cells, longest.size);
 }
 
+/* The processor time of some walks through an ACL of so many ACEs of 16 bytes. */
+static double seconds_of_walks(uint16_t count, int rounds)
+{
+    static const uint8_t one[16] = {0, 0, 16, 0, 1, 0, 0, 0, 1, 0, 0, 0, 0, 0, 0, 5};
+    size_t size = 8 + 16 * (size_t)count;
+    uint8_t *acl = room_for(size, 1);
+    clock_t start;
+    uint32_t steps = 0;
+
+    acl[0] = 2;
+    acl[2] = (uint8_t)size;
+    acl[3] = (uint8_t)(size >> 8);
+    acl[4] = (uint8_t)count;
+    acl[5] = (uint8_t)(count >> 8);
+    for (size_t i = 0; i < count; i++)
+        memcpy(acl + 8 + 16 * i, one, sizeof one);
+    start = clock();
+    for (int round = 0; round < rounds; round++) {
+        struct sdtool_ace ace = {0};
+
+        while (sdtool_next_ace(acl, size, &ace))
+            steps++;
+    }
+    start = clock() - start;
+    expect(steps == (uint32_t)rounds * count, "the ACEs of a long walk");
+    free(acl);
+    return (double)start / CLOCKS_PER_SEC;
+}
+
+/* A walk takes time in proportion to the bytes of its ACL: ten times the ACEs take as long as ten walks. */
+static void long_walks(void)
+{
+    double few = seconds_of_walks(400, 100), many = seconds_of_walks(4000, 10);
+
+    for (int round = 0; round < 4; round++) {
+        double again = seconds_of_walks(400, 100), longer = seconds_of_walks(4000, 10);
+
+        few = again < few ? again : few;
+        many = longer < many ? longer : many;
+    }
+    expect(many < 4 * few + 0.005, "a walk takes more time than in proportion to its ACL");
+}
+
 /* As many descriptors as a large folder has objects: one without a DACL, and one with an empty DACL, by turns. */
 static void many_descriptors(void)
 {
@@ -1329,6 +1373,7 @@ int main(int count, char **words)
     } else if (strcmp(job, "large") == 0) {
         large();
         many_descriptors();
+        long_walks();
     } else if ((strcmp(job, "many") == 0 || strcmp(job, "with") == 0) && count == 10) {
         answer_all(words);
     } else {

@@ -9,18 +9,45 @@ use sd_answer::LineFault;
 use sd_check::AskFault;
 use sd_memory::NoMemory;
 use sd_view::Part;
+use std::marker::Model;
 
 /// The output has too little room.
 const TOO_SMALL: u32 = 71;
 
 const NO_MEMORY: u32 = 72;
 
+/// 0, or the number of a fault. Only this file makes one, and 72 only of refused memory.
+#[repr(C)]
+#[derive(Clone, Copy)]
+pub struct FaultNumber {
+    number: u32,
+}
+
+impl Model for FaultNumber {
+    ghost use Rattle.std.specs.Prelude.{ℕ};
+
+    ghost Value = { ℕ };
+
+    ghost view = { λ fault. fault.number };
+
+    ghost inverse = { λ number. record { number = number } };
+}
+
+impl FaultNumber {
+    /// The number itself.
+    pub fn value(&self) -> u32
+        ensures { result ≡ self.now }
+    {
+        self.number
+    }
+}
+
 /// What a call hands back: `struct sdtool_outcome` of the header.
 #[repr(C)]
 #[derive(Clone, Copy)]
 pub struct Outcome {
     /// 0, or the number of the fault.
-    pub fault: u32,
+    pub fault: FaultNumber,
     /// The part that the fault names, or 0.
     pub part: u32,
     /// The second part that the fault names, or 0.
@@ -49,7 +76,7 @@ pub fn done(length: usize) -> Outcome
     ensures { result ≡ done length }
 {
     Outcome {
-        fault: 0,
+        fault: FaultNumber { number: 0 },
         part: 0,
         other_part: 0,
         argument: 0,
@@ -63,7 +90,7 @@ pub fn too_small(length: usize) -> Outcome
     ensures { result ≡ too_small length }
 {
     Outcome {
-        fault: TOO_SMALL,
+        fault: FaultNumber { number: TOO_SMALL },
         part: 0,
         other_part: 0,
         argument: 0,
@@ -77,7 +104,7 @@ pub fn no_memory(_refused: NoMemory) -> Outcome
     ensures { result ≡ no_memory }
 {
     Outcome {
-        fault: NO_MEMORY,
+        fault: FaultNumber { number: NO_MEMORY },
         part: 0,
         other_part: 0,
         argument: 0,
@@ -92,7 +119,9 @@ pub fn failed(fault: CallFault) -> Outcome
 {
     let parts = named_parts(fault);
     Outcome {
-        fault: number(fault),
+        fault: FaultNumber {
+            number: number(fault),
+        },
         part: part_number(parts.0),
         other_part: part_number(parts.1),
         argument: argument_of(fault),

@@ -3,7 +3,7 @@
 ghost use Rattle.std.specs.Prelude.{◌≡◌};
 ghost use Rattle.sd_call_check.specs.Checks.{told, untold};
 
-use sd_call::{CallFault, Outcome, done, failed, no_memory};
+use sd_call::{CallFault, FaultNumber, Outcome, done, failed, no_memory};
 use sd_check::Verdict;
 use sd_memory::NoMemory;
 
@@ -12,7 +12,7 @@ use sd_memory::NoMemory;
 #[derive(Clone, Copy)]
 pub struct VerdictOutcome {
     /// 0, or the number of the fault.
-    pub fault: u32,
+    pub fault: FaultNumber,
     /// The part that the fault names, or 0.
     pub part: u32,
     /// The second part that the fault names, or 0.

@@ -59,7 +59,7 @@ fn refused(fault: CallFault) -> Contents
 {
     let outcome = failed(fault);
     Contents {
-        fault: outcome.fault,
+        fault: outcome.fault.value(),
         part: outcome.part,
         other_part: outcome.other_part,
         control: 0,

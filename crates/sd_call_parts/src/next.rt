@@ -33,5 +33,5 @@ pub fn next_ace(acl: &[u8], ace: &mut AceFound) -> bool
 fn fault_number(fault: SdFault) -> u32
     ensures { result ≡ fault_number fault }
 {
-    failed(CallFault::Line(LineFault::Sd(fault))).fault
+    failed(CallFault::Line(LineFault::Sd(fault))).fault.value()
 }
