@@ -13,10 +13,11 @@ lists. Tables are changed too, where a definition cites them. Left out are files
 FieldReading and WholeAce), tables written out again (*Values.antt), and FoldedReading.antt, which a law proves equal to
 another definition.
 
-Many changes are judged at once: each changed file, what rests on it and the rows are modules of one crate beside copies
-of the others, and `rt check --only` runs there. First `make check` has to pass in all crates. The constants of a crate
-are printed by `rt check --generated` once and kept in out/literals, which takes a minute or two a crate, and longer for
-sd_sid.
+Many changes are judged at once: each changed file, what depends on it and the rows become modules in a copy of the
+crate that has the rows, and `rt check --only` runs there. So they may name the private types of that crate. Only rows
+that may depend on the change are tried, first the quick ones and then a few at a time until one refuses it. First
+`make check` has to pass in all crates. The constants that a measured crate needs are printed by `rt check --generated`
+once and kept in out/literals, which takes a minute or two a crate, and longer for sd_sid.
 
 A line tells of each change that no row refuses, and of each that does not read, as a case that stands twice. The last
 line counts them: 'N refused, M left, K unread'. The status is 1 where one is left.
@@ -38,7 +39,9 @@ import layers  # noqa: E402
 TOP = pathlib.Path(__file__).resolve().parent.parent
 KEPT = TOP / "out/literals"
 AT_ONCE = 40  # changes
-PROBE = "literals"
+SLOW_ROWS = 4  # of one change, tried at once
+PROBE = "literals"  # the module of the function that is checked
+SPECS, SOURCES = "specs/Lib.antt", "src/lib.rt"
 # Records that types of the code hold: a copy of a definition goes on using the record itself.
 SHARED = {"SecurityId", "AccessControlEntry", "Descriptor", "Holder", "Asked", "GenericMapping"}
 WRITTEN_OUT = {"AreControlBits", "AreListedBits", "AreLimits"}
@@ -58,6 +61,8 @@ LIKE_FIELDS = (("owner", "group"), ("sacl", "dacl"), ("object", "inherited"), ("
 NEXT_FIELD = {name: like[(i + 1) % len(like)] for like in LIKE_FIELDS for i, name in enumerate(like)}
 OTHER = {"&&": "||", "||": "&&", "≤": "<", "<": "≤", "nat_lt": "nat_le", "nat_le": "nat_lt", "true": "false",
          "false": "true"}
+DECLARED = re.compile(r"^(?:abbrev |unfoldable )?(?:pub )?(?:record |data |module )?([^\s(){}]+)(?= [:(])")
+WORD = re.compile(r"[^\s(){}\[\].,;◌]+")
 ERROR = re.compile(r"^(?:\./)?specs/([MR])(\d+)_(\w+)\.antt:(\d+):\d+: error: (?:`([^`]*)`: )?(.*)", re.M)
 
 
@@ -70,6 +75,10 @@ class Change(NamedTuple):
     new: str
     use: str  # a line that the new text needs, or nothing
     declared: str
+
+    @property
+    def crate(self):
+        return self.module.split(".")[1]
 
     def __str__(self):
         name = self.module.replace("Rattle.", "").replace(".specs", "")
@@ -94,6 +103,16 @@ class Module:
             if found := SIGNATURE.match(line):
                 more = [x.strip() for x in lines[i + 1:i + 4] if x.startswith("    →")]
                 self.types[found[1]] = " ".join([found[2].strip(), *more])
+
+    def declarations(self):
+        """The text of each declaration by its name. The imports are kept under an empty name."""
+        name, found = "", collections.defaultdict(str)
+        for line in self.text.splitlines():
+            if declared := DECLARED.match(line):
+                name = declared[1]
+            if line and not line.lstrip().startswith("--"):
+                found["" if line.startswith("use ") else name] += line + "\n"
+        return found
 
     def clauses(self):
         """Each line in which something may change: its number, where that begins, the text, whether it stands to the
@@ -169,7 +188,8 @@ def next_text(text):
 class Definitions:
     """The definitions of all crates that are tried, and their rows."""
 
-    def __init__(self):
+    def __init__(self, measured):
+        """Reads only constants that a measured crate or one above it cites. By default all crates are measured."""
         self.listed = layers.dependencies(TOP)
         self.crates = [name for name in self.listed if (TOP / "crates" / name / "specs").is_dir()]
         self.enums, self.modules, self.rows = enums(self.crates), {}, {}
@@ -184,7 +204,7 @@ class Definitions:
                 self.rows[module.name] = module
         cited = collections.defaultdict(set)
         for module in [*self.modules.values(), *self.rows.values()]:
-            for use in module.uses:
+            for use in module.uses if self.rests_on(measured or self.crates, module) else ():
                 if use[1].endswith(".TheConstants"):
                     cited[use[1]].update(use[2].split(", ") if is_changed(module.name) else [])
         self.cited = cited
@@ -204,13 +224,49 @@ class Definitions:
                 self.all_below(use[1], seen)
         return seen
 
+    def rests_on(self, crates, module):
+        """Whether a module depends on one of these crates, or belongs to it."""
+        below = set().union(*(self.all_below(use[1], set()) for use in module.uses))
+        named = {use[1] for file in [module, *map(self.modules.get, below)] for use in file.uses}
+        return module.crate in crates or any(name.split(".")[1] in crates for name in named)
+
     def under_rows(self, rows):
         return set().union(*(self.below.get(use[1], set()) for use in self.rows[rows].uses))
+
+    def resting(self, change, rows, modules):
+        """The names of the rows that may depend on the changed declaration, as lists to try one after the other: first
+        all rows without an `unfolding`, which are quick, and then a few at a time."""
+        texts = self.rows[rows].declarations()
+        cited = {name: words_of(text) for name, text in texts.items()}
+        above = [(words_of(name), words) for name, words in cited.items()]
+        for module in modules:
+            above += [(words_of(name), words_of(text)) for name, text in self.modules[module].declarations().items()]
+        changed, more = set(), {change.declared}
+        while more:
+            changed |= more
+            more = set().union(*(names for names, words in above if not words.isdisjoint(changed))) - changed
+        found = [name for name, words in cited.items() if name and not words.isdisjoint(changed)]
+        slow = [name for name in found if "\nunfolding " in texts[name]]
+        parts = [slow[i:i + SLOW_ROWS] for i in range(0, len(slow), SLOW_ROWS)]
+        return [[name for name in found if name not in slow], *parts]
+
+    def text_of(self, rows, names):
+        """The text of these rows, and of what they cite in their file."""
+        texts = self.rows[rows].declarations()
+        kept, more = {""}, set(names)
+        while more:
+            kept |= more
+            more = {name for name in texts if any(name in words_of(texts[other]) for other in kept)} - kept
+        return "".join(text for name, text in texts.items() if name in kept)
 
     def changes(self, crates, with_rules):
         for name, module in self.modules.items():
             if module.crate in crates and is_changed(name):
                 yield from Changes(self, module, with_rules).all()
+
+
+def words_of(text):
+    return set(WORD.findall(text))
 
 
 def is_changed(name):
@@ -316,34 +372,42 @@ def first_condition(text):
 
 
 class Probe:
-    """A repository with a crate beside copies of those that it looks at."""
+    """A repository with copies of a crate that has rows, and of the crates below it."""
 
-    def __init__(self, definitions, crates, folder):
-        self.definitions, listed = definitions, definitions.listed
-        needed = set(crates)
-        for crate in reversed(listed):  # crates.txt has the lowest first, so this finds libraries of libraries too
-            needed |= listed[crate] if crate in needed else set()
-        rows = {crate: sorted(listed[crate]) for crate in listed if crate in needed}
-        (folder / "crates").mkdir()
-        for crate in rows:
-            subprocess.run(["cp", "-a", str(TOP / "crates" / crate), str(folder / "crates" / crate)], check=True)
-        rows[PROBE] = sorted({*rows, *(name for names in rows.values() for name in names)})
-        lines = "".join(f"{crate}: {' '.join(names)}\n" for crate, names in rows.items())
-        (folder / "crates.txt").write_text(lines, encoding="utf-8")
+    def __init__(self, definitions, crate, folder):
+        self.definitions, self.name, listed = definitions, crate, definitions.listed
+        self.needed = {crate}
+        for name in reversed(listed):  # crates.txt has the lowest first, so this finds libraries of libraries too
+            self.needed |= listed[name] if name in self.needed else set()
+        (folder / "crates").mkdir(parents=True)
+        lines = [line for line in (TOP / "crates.txt").read_text(encoding="utf-8").splitlines()
+                 if re.split("[: ]", line)[0] in self.needed]  # as they are, since kept work depends on their order
+        for name in self.needed & set(listed):
+            subprocess.run(["cp", "-a", str(TOP / "crates" / name), str(folder / "crates" / name)], check=True)
+        more = " ".join(sorted(self.needed - listed[crate] - {crate}))
+        lines = [f"{line} {more}" if line.startswith(f"{crate}:") else line for line in lines]
+        (folder / "crates.txt").write_text("\n".join(lines) + "\n", encoding="utf-8")
         shutil.copy(TOP / "HANDLES", folder)
-        self.crate = folder / "crates" / PROBE
+        self.crate, self.names = folder / "crates" / crate, []
+        self.of_crate = {file: (self.crate / file).read_text(encoding="utf-8") for file in (SPECS, SOURCES)}
+
+    def path(self, name):
+        return self.crate / "specs" / f"{name}.antt"
 
     def write(self, name, text):
         self.names.append(name)
-        (self.crate / "specs" / f"{name}.antt").write_text(text, encoding="utf-8")
+        self.path(name).write_text(text, encoding="utf-8")
+
+    def add(self, file, text):
+        (self.crate / file).write_text(self.of_crate[file] + text, encoding="utf-8")
 
     def renamed(self, text, number, changed):
         """The text with its imports from the copies of a change; constants always have a copy."""
         def by_copy(found):
             module = self.definitions.modules.get(found[1])
             if found[1] in changed:
-                return f"use Rattle.{PROBE}.specs.M{number}_{module.short}"
-            return f"use Rattle.{PROBE}.specs.B_{module.short}" if module and module.is_constants else found[0]
+                return f"use Rattle.{self.name}.specs.M{number}_{module.short}"
+            return f"use Rattle.{self.name}.specs.B_{module.short}" if module and module.is_constants else found[0]
         return MODULE_OF_USE.sub(by_copy, text)
 
     def copied(self, module, change):
@@ -366,36 +430,38 @@ class Probe:
                 kept.append(line)
         return "\n".join(kept) + "\n"
 
-    def judge(self, changes, rows_of):
-        """By number, how each change fares: refused, left, or why it does not read."""
-        shutil.rmtree(self.crate, ignore_errors=True)
-        (self.crate / "specs").mkdir(parents=True)
-        (self.crate / "src").mkdir()
-        self.names, uses = [], []
+    def judge(self, changes, turn):
+        """Tries the rows whose turn it is. Returns by number how each change fares: refused, left, or why it does not
+        read; and whether a change has another turn."""
+        for name in self.names:
+            self.path(name).unlink()
+        self.names, uses, last = [], [], 0
         for module in self.definitions.modules.values():
-            if module.is_constants:
+            if module.is_constants and module.crate in self.needed:
                 self.write(f"B_{module.short}", module.text)
         for change in changes:
             written = set()
-            for rows in rows_of(change):
+            for rows, module in self.definitions.rows.items():
+                if module.crate != self.name:
+                    continue
                 under = self.definitions.under_rows(rows)
                 changed = {name for name in under if change.module in self.definitions.below[name]}
-                if not changed:
+                turns = self.definitions.resting(change, rows, changed) if changed else []
+                last = max(last, len(turns))
+                if turn >= len(turns):
                     continue
                 for name in changed - written:
-                    module = self.definitions.modules[name]
-                    text = self.renamed(self.copied(module, change), change.number, changed)
-                    self.write(f"M{change.number}_{module.short}", text)
+                    below = self.definitions.modules[name]
+                    text = self.renamed(self.copied(below, change), change.number, changed)
+                    self.write(f"M{change.number}_{below.short}", text)
                 written |= changed
-                module = self.definitions.rows[rows]
                 name = f"R{change.number}_{module.short}"
-                text = self.renamed(module.text, change.number, changed)
+                text = self.renamed(self.definitions.text_of(rows, turns[turn]), change.number, changed)
                 self.write(name, f"{text}\npub end_of_{name} : Unit {{0}}\nend_of_{name} = tt\n")
-                uses.append(f"ghost use Rattle.{PROBE}.specs.{name}.{{end_of_{name}}};\n")
-        lib = "".join(f"pub mod {name}\n" for name in sorted(self.names))
-        (self.crate / "specs/Lib.antt").write_text(lib, encoding="utf-8")
-        (self.crate / "src/lib.rt").write_text("#![tactic(auto)]\n\nmod rows;\n\npub use rows::all_rows;\n")
-        (self.crate / "src/rows.rt").write_text("".join(uses) + "\npub fn all_rows() {}\n", encoding="utf-8")
+                uses.append(f"ghost use Rattle.{self.name}.specs.{name}.{{end_of_{name}}};\n")
+        self.add(SPECS, "".join(f"pub mod {name}\n" for name in sorted(self.names)))
+        self.add(SOURCES, f"\nmod {PROBE};\n\npub use {PROBE}::all_rows;\n")
+        (self.crate / f"src/{PROBE}.rt").write_text("".join(uses) + "\npub fn all_rows() {}\n", encoding="utf-8")
         command = ["rt", "check", "--only", "all_rows"]
         ended = subprocess.run(command, cwd=self.crate, stdin=subprocess.DEVNULL, stdout=subprocess.PIPE,
                                stderr=subprocess.STDOUT, encoding="utf-8", errors="replace")
@@ -407,7 +473,7 @@ class Probe:
                 fates[int(number)] = f"unread: {name}:{line}: {declared}: {why}"
             elif fates[int(number)] == "left":
                 fates[int(number)] = "refused"
-        return fates
+        return fates, turn + 1 < last
 
 
 def main():
@@ -418,7 +484,7 @@ def main():
     parser.add_argument("--only", metavar="WORD", default="", help="only changes with this word in their lines")
     parser.add_argument("--rows", metavar="CRATE,..", default="", help="the crates whose rows are tried")
     given = parser.parse_args()
-    definitions = Definitions()
+    definitions = Definitions(given.crates)
     unknown = {*given.crates, *filter(None, given.rows.split(","))} - set(definitions.crates)
     if unknown:
         parser.error(f"there is no crate {min(unknown)} with definitions")
@@ -428,22 +494,25 @@ def main():
         print("\n".join(map(str, changes)))
         return 0
 
-    def rows_of(change):
-        crates = given.rows.split(",") if given.rows else [definitions.modules[change.module].crate]
-        return [name for name, module in definitions.rows.items() if module.crate in crates]
-
-    crates = {definitions.rows[name].crate for change in changes for name in rows_of(change)}
-    count = collections.Counter()
+    fates = {change.number: "left" for change in changes}
     with tempfile.TemporaryDirectory(prefix="literals-") as room:
-        probe = Probe(definitions, crates, pathlib.Path(room))
-        for start in range(0, len(changes), AT_ONCE):
-            part = changes[start:start + AT_ONCE]
-            fates = probe.judge(part, rows_of)
-            for change in part:
-                fate, _, why = fates[change.number].partition(": ")
-                count[fate] += 1
-                if fate != "refused":
-                    print(f"{fate} {change}{': ' + why[:100] if why else ''}", flush=True)
+        for crate in given.rows.split(",") if given.rows else sorted({change.crate for change in changes}):
+            if not any(rows.crate == crate for rows in definitions.rows.values()):
+                continue
+            probe, turn, goes_on = Probe(definitions, crate, pathlib.Path(room) / crate), 0, True
+            while goes_on:
+                tried = [c for c in changes if fates[c.number] == "left" and (given.rows or c.crate == crate)]
+                goes_on = False
+                for start in range(0, len(tried), AT_ONCE):
+                    found, has_more = probe.judge(tried[start:start + AT_ONCE], turn)
+                    fates.update(found)
+                    goes_on |= has_more
+                turn += 1
+    for change in changes:
+        fate, _, why = fates[change.number].partition(": ")
+        if fate != "refused":
+            print(f"{fate} {change}{': ' + why[:100] if why else ''}", flush=True)
+    count = collections.Counter(fate.partition(":")[0] for fate in fates.values())
     print(f"{count['refused']} refused, {count['left']} left, {count['unread']} unread")
     return 1 if count["left"] else 0
 

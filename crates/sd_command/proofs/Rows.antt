@@ -1,9 +1,10 @@
 -- Worked rows of command lines, computed.
 use Rattle.std.proofs.Common.{◌≡◌, ◌≤◌, ◌+◌, ℕ, List, [], ◌∷◌, ◌++◌, None, Some, Result, Ok, Err, true, false, codes}
-use Rattle.std.proofs.Common.{inl, inr, refl}
+use Rattle.std.proofs.Common.{Global, String, inl, inr, refl}
 use Rattle.std.specs.List.{flat_map}
 use Rattle.std.specs.Option.{option_map}
 use Rattle.std.specs.Prelude.{Bool, length, map, replicate}
+use Rattle.std.specs.String.{string_bytes}
 use Rattle.clap.specs.Words.{Text, fault_of, takes}
 use Rattle.clap.proofs.OnLiterals.{clap_on_literals}
 use Rattle.uuid.specs.Text.{by_index}
@@ -26,16 +27,20 @@ use Rattle.sd_answer.specs.declared.job.Form.TheVariants.{Base64, Hex, Sddl}
 use Rattle.sd_answer.specs.declared.job.Job.{Job}
 use Rattle.sd_answer.specs.declared.job.OutputForm.TheVariants as output
 use Rattle.sd_command_line.specs.declared.options.OptionName.TheVariants as name
+use Rattle.sd_command_line.specs.declared.parse.EarlyEnd.TheVariants.{Help, NoMemory, Usage}
 use Rattle.sd_command.specs.declared.settings.UsageFault.TheVariants.{NoCommand, Unasked, Value}
 use Rattle.sd_command.specs.declared.settings.CommandName.TheVariants as command
+use Rattle.sd_command.specs.declared.program.Prepared.{Prepared}
+use Rattle.sd_command.specs.declared.program.Stop.TheVariants as stop
 use Rattle.sd_run.specs.declared.engine.RunFault.{RunFault}
 use Rattle.sd_run.specs.declared.engine.RunFault.TheVariants.{Read, TooManyReads, Write}
 use Rattle.sd_command_line.specs.CommandLine.{bare_line, check_line, convert_line, derive_line, explain_line, line}
 use Rattle.sd_command_line.specs.CommandLine.{option_text}
 use Rattle.sd_run.specs.declared.engine.Report.{Report}
 use Rattle.sd_run.specs.Told.{DrainTold, SourceTold}
-use Rattle.sd_command.specs.Endings.{EndsRefused, EndsWithHelp, EndsWithoutMemory, IsIdle, IsIdleAt, RunOf}
-use Rattle.sd_command.specs.Endings.{Says, Told, run_line, status_of}
+use Rattle.sd_command.specs.Endings.{EndsBy, EndsRefused, EndsWithHelp, EndsWithoutMemory, IsIdle, IsIdleAt, RunOf}
+use Rattle.sd_command.specs.Endings.{Says, SaysOf, Told, run_line, status_of}
+use Rattle.sd_command.specs.Preparing.{EndsNoticed, Notice, PreparesBy, StopsTaken, notice_of, settled as settles}
 use Rattle.sd_command.specs.Settings.{Settings, asked, check_own, domain_reads, given_level, given_object, given_sid}
 use Rattle.sd_command.specs.Settings.{command_reads, form_reads, given_token, given_want, level_reads, mapping_reads}
 use Rattle.sd_command.specs.Settings.{target_reads}
@@ -204,6 +209,14 @@ pub deny_only : entries_read None (codes "WD,!SY") ≡ Some
     ((everyone, Enabled) ∷ (system, DenyOnly) ∷ [])
 unfolding entries_read sid_reads letters_read
 deny_only = refl
+
+-- an empty entry, a blank, an alias of a domain without one, and a name
+no_tokens : map (entries_read None)
+    ([] ∷ codes "WD," ∷ codes ",WD" ∷ codes "WD,,SY" ∷ codes "WD,!" ∷ codes "WD, SY" ∷ codes "DA" ∷ codes "Everyone"
+    ∷ [])
+    ≡ None ∷ None ∷ None ∷ None ∷ None ∷ None ∷ None ∷ None ∷ []
+unfolding entries_read sid_reads has_form letters_read numbers_read
+no_tokens = refl
 
 -- ---- a check, with all its options
 
@@ -420,3 +433,68 @@ new_token : (settings : Settings) (source source' : SourceTold) (output output' 
     (result : Result Report RunFault) (run : RunOf settings source source' output output' result)
     → run.token.compared ≡ 0
 new_token settings source source' output output' result run = run.none_compared
+
+-- a run that ends says nothing, and one that fails says why
+run_says : (report : Report) (drain drain' : DrainTold)
+    → (SaysOf (Ok report) drain drain' → drain' ≡ drain)
+    × (SaysOf (Err Write) drain drain' → Says (codes "sdtool: error 61 write\n") drain drain')
+run_says report drain drain' = (λ h. h, λ h. h)
+
+-- ---- what words come to, by EXIT STATUS and USAGE MESSAGES of docs/sdtool.1
+
+abbrev bare : List Text
+bare = codes "sdtool" ∷ []
+
+abbrev for_help : List Text
+for_help = codes "sdtool" ∷ codes "help" ∷ []
+
+-- no command is named
+bare_is_refused : (told told' : Told) (status : ℕ) → EndsRefused told told' status → EndsBy bare told told' status
+unfolding parsed_words
+bare_is_refused told told' status h = EndsBy.refused refl h
+
+help_is_shown : (told told' : Told) (status : ℕ) → EndsWithHelp told told' status → EndsBy for_help told told' status
+unfolding parsed_words
+help_is_shown told told' status h = EndsBy.helped (inl refl) h
+
+-- XML is no form
+form_is_refused : (told told' : Told) → IsIdle told.source told'.source told.output told'.output
+    → Says (codes "sdtool: usage: --to\n") told.faults told'.faults → EndsBy to_xml told told' 2
+unfolding settled_words
+form_is_refused told told' idle said = EndsBy.settled refl (refl, idle, said)
+
+notices : map notice_of
+    (stop.Early NoMemory ∷ stop.Early Usage ∷ stop.Value NoCommand ∷ stop.Value (Value name.To) ∷ [])
+    ≡ Notice.fault 4 (codes "sdtool: no memory\n") ∷ Notice.fault 2 (codes "sdtool: usage\n")
+    ∷ Notice.fault 2 (codes "sdtool: usage\n") ∷ Notice.fault 2 (codes "sdtool: usage: --to\n") ∷ []
+notices = refl
+
+notice_of_help : (text : String Global) → notice_of (stop.Early (Help text)) ≡ Notice.help (string_bytes text)
+notice_of_help text = refl
+
+noticed_help : (text : List ℕ) (told told' : Told) (status : ℕ) → EndsNoticed (Notice.help text) told told' status
+    → (status ≡ 0) × (told'.source ≡ told.source) × (told'.faults ≡ told.faults)
+noticed_help text told told' status shows = (shows.0, shows.1, shows.2)
+
+noticed_fault : (text : List ℕ) (told told' : Told) (status : ℕ) → EndsNoticed (Notice.fault 4 text) told told' status
+    → (status ≡ 4) × IsIdle told.source told'.source told.output told'.output × Says text told.faults told'.faults
+noticed_fault text told told' status h = h
+
+-- Words that are taken stop for want of memory alone.
+
+stops_without_memory : StopsTaken (Err (stop.Early NoMemory))
+stops_without_memory = refl
+
+stops_for_no_usage : StopsTaken (Err (stop.Early Usage)) → ⊥
+stops_for_no_usage h = let bad : Usage ≡ NoMemory = h in cc
+
+-- what words prepare, and why they prepare nothing
+
+prepared_words : (prepared : Prepared) → settles prepared ≡ without_creator (on_hex (Convert output.Hex)) nobody
+    → prepared.token.compared ≡ 0 → PreparesBy to_hex (Ok prepared)
+unfolding settled_words
+prepared_words prepared is none = (refl, (rw is refl, none))
+
+stopped_words : PreparesBy bare (Err (stop.Early Usage)) × PreparesBy to_xml (Err (stop.Value (Value name.To)))
+unfolding settled_words
+stopped_words = (refl, (refl, refl))
