@@ -88,7 +88,7 @@ enum sdtool_fault {
     SDTOOL_FAULT_PART_TWICE = 21,
     /* Two letters are no alias of a SID. */
     SDTOOL_FAULT_ALIAS = 22,
-    /* A relative alias, such as DA, stands in a text that is read without a domain. */
+    /* A relative alias, such as DA, stands in a text that is read without a domain, or under a full one. */
     SDTOOL_FAULT_NEEDS_DOMAIN = 23,
     /* A decimal number of a SID has more than ten digits, or is 2^32 or more. */
     SDTOOL_FAULT_NUMBER = 24,
@@ -220,7 +220,8 @@ uint32_t sdtool_version_number(void);
 
 /*
  * Gives a descriptor as SDDL: 'sdtool convert'. DOMAIN is empty or a SID in binary; then aliases of that domain, such
- * as DA, are printed. With NUMERIC no aliases are printed. It allocates no memory.
+ * as DA, are printed. In each call a domain of 15 sub-authorities is full: it has no room for one more, and counts as
+ * none. With NUMERIC no aliases are printed. It allocates no memory.
  */
 struct sdtool_outcome sdtool_to_sddl(const uint8_t *descriptor, size_t descriptor_size, const uint8_t *domain,
                                      size_t domain_size, bool numeric, uint8_t *text, size_t text_size);

@@ -6,7 +6,7 @@ their order, the width of a number or the name of an export. The test refuses:
 
   structs    a struct of the header, or one with #[repr(C)] in sd_call* or sdtool_c, without a counterpart, or with
              members of other names, types or order. The doc comment of the one in Rust names the one in C. A struct
-             around one private number is that number.
+             with one private number and nothing else counts as that number.
   functions  an `extern "C"` function that the header does not declare, or declares with another result or with
              arguments of other names, types or order; one without #[unsafe(no_mangle)]; one whose contract does not
              cite the definition that belongs to its name; a function that only the header has

@@ -6,7 +6,7 @@ line: for each line of the worked rows, and N random changes of them. Checks and
 worked rows say, and N random ones what PROGRAM answers; also tried are arguments that no words spell. tests/c/calls.c also
 tries each size of the output, refused allocations and threads, and looks at what is allocated; it runs under the address
 sanitizer if the compiler has it, and under valgrind if that is there. tests/c/runs.c does the same for runs: each row
-without devices of its own, and in each size of the output whole answers, and the front of help. Both also run with a page
+without devices of its own, and in each size of the output: whole answers, and as much of help as fits. Both also run with a page
 that cannot be touched behind each block and in front of it, and with inputs that cannot be written. Descriptors of the
 densest ACEs have outputs of each size. Also tested: the symbols of the libraries, the header in C and C++, the names of
 faults, a program that was compiled with an older header, and the Python module's examples.
@@ -41,9 +41,9 @@ VALGRIND = [*NO_FORKS, "valgrind", "-q", "--leak-check=full", "--error-exitcode=
 GUARDS = ("after", "before")
 SECONDS = 300
 DOMAIN = bytes.fromhex("010400000000000515000000010000000200000003000000")  # S-1-5-21-1-2-3
-# S-1-5-21 and fourteen numbers more: a SID, but as a domain it has no room for one more, and so counts as none.
+# S-1-5-21 and 14 more numbers. It is a SID, but has no room for the number of an alias, so as a domain it counts as none.
 FULL_DOMAIN = bytes.fromhex("010f000000000005" + "15000000" + "01000000" * 14)
-TOO_MANY_BYTES = "0100008000000000000000000000000000000000" + "00" * (131_226 - 19)  # one more than a descriptor has
+TOO_MANY_BYTES = "0100008000000000000000000000000000000000" + "00" * (131_226 - 19)  # one byte more than the largest descriptor
 MAPPINGS, KINDS = ["file", "key", "ds"], ["file", "container"]
 QUESTIONS_OF_A_RUN = 20
 HEX = re.compile(r"(?:[0-9a-f]{2})+")
@@ -240,8 +240,8 @@ def random_questions(job, number, program, choices):
 
 
 def questions_of_any_creator(number, choices):
-    """Derivations whose creators no SDDL spells: with any resource manager byte, and any bits of the control word beside ACLs
-    that are absent. The answers are those of the reference."""
+    """Derivations whose creators' descriptors no SDDL spells: with a resource manager byte, or with bits of an ACL that is
+    absent. The answers are those of the reference."""
     maker = compare.Lines(choices)
     for _ in range(number):
         parent, creator = (maker.parent(reference.read(maker.descriptor().data)) for _ in range(2))
@@ -318,7 +318,7 @@ def test_arguments(count, runner):
         count.add(ended.stdout == b"error 1\n" and not ended.stderr, f"{job} of too many bytes: {ended.stdout} {ended.stderr}")
     # A wrong domain comes before a text that is too long.
     for domain, answer in ((sid[:-2], b"error 70 1 0\n"), (none, b"error 1\n")):
-        ended = ran([*runner, "from_sddl", domain], " " * 1_049_873 + "\n")
+        ended = ran([*runner, "from_sddl", domain], " " * 1_049_873 + "\n")  # one more than SDTOOL_MOST_TEXT
         count.add(ended.stdout == answer and not ended.stderr, f"a long text under {domain}: {ended.stdout} {ended.stderr}")
 
 
@@ -378,7 +378,7 @@ def test_sizes(count, runner, program, name):
 
 
 def test_help(count, runner, program, name):
-    """In each size of the output is the front of help that fits, with status 0 and no message."""
+    """For each size of the output, as much of help as fits, status 0 and no message."""
     for words in ([b"--help"], [b"help", b"check"], [b"derive", b"--help"]):
         most = len(of_program(["sdtool", *words], b"", executable=program)[0])
         expected = b"".join(b"%d 0 %d \n" % (size, min(size, most)) for size in range(most + 2))

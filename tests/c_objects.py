@@ -1,13 +1,13 @@
 #!/usr/bin/env python3
 """c_objects.py PROGRAM [--lines N]
 
-Tests the library's calls for SIDs, parts, ACEs, many checks, tokens and building, from tests/c/objects.c. What they answer has to
-be what PROGRAM answers: of descriptors the lines of `explain` or the `error` line, and what is built of the parts the
-layout that `convert` writes; of ACLs the same lines, up to the ACE that can't be read; of SIDs and their texts what
-`convert` does with an owner or a trustee; of many checks, and of checks with a token that is read once, the lines of `check`. The lines are those of the worked rows,
-the hostile ones of compare.py, and N random ones. The cases of arguments and of ACLs round their limit are in objects.c,
-which also tries each size of the outputs, and walks through ACLs while they change. The program in C of docs/LIBRARY.md has
-to print what stands there.
+Tests the library's calls for SIDs, parts, ACEs, many checks, tokens and building, from tests/c/objects.c. What they answer
+has to be what PROGRAM answers: of descriptors the lines of `explain` or the `error` line, and what is built of the parts
+the layout that `convert` writes; of ACLs the same lines, up to the ACE that can't be read; of SIDs and their texts what
+`convert` does with an owner or a trustee; of many checks, and of checks with a token that is read once, the lines of
+`check`. The lines are those of the worked rows, the hostile ones of compare.py, and N random ones. The cases of arguments,
+of ACLs round their limit, of 100,000 descriptors and of the time of long walks are in objects.c, which also tries each size
+of the outputs, and walks through ACLs while they change. The program in C of docs/LIBRARY.md has to print what stands there.
 
 It runs plain, under the sanitizers for addresses and undefined behaviour if the compiler has them, under valgrind if that
 is there, and with a page that cannot be touched behind each block and in front of it.

@@ -584,9 +584,9 @@ class Lines:
             return descriptor
         return descriptor._replace(control=descriptor.control | SACL_PRESENT, sacl=reference.Acl(tuple(aces)))
 
-    def spoken_of(self, descriptor):
-        """The descriptor, in whose DACL many ACEs are for the owner or a SID that stands for another, and of object types that
-        differ in a bit."""
+    def with_stand_ins(self, descriptor):
+        """The descriptor with a DACL in which many ACEs are for its owner, PRINCIPAL SELF or OWNER RIGHTS, and in which
+        object types differ in one bit."""
         if not descriptor.dacl:
             return descriptor
         guid = self.chance.randbytes(16)
@@ -958,7 +958,7 @@ def check_words(maker, descriptors):
 def compare_checks(count, program, maker, number):
     """Checks by tokens that have something to do with the descriptors, each on a few of them."""
     for _ in range(number // LINES_OF_A_RUN):
-        descriptors = [maker.labelled(maker.spoken_of(reference.read(maker.descriptor().data))) for _ in range(LINES_OF_A_RUN)]
+        descriptors = [maker.labelled(maker.with_stand_ins(reference.read(maker.descriptor().data))) for _ in range(LINES_OF_A_RUN)]
         given = Input(b"".join(reference.layout(one).hex().encode() + b"\n" for one in descriptors), descriptors)
         count.run(program, "checked", check_words(maker, descriptors), given)
 

@@ -204,7 +204,7 @@ class Definitions:
                 self.rows[module.name] = module
         cited = collections.defaultdict(set)
         for module in [*self.modules.values(), *self.rows.values()]:
-            for use in module.uses if self.rests_on(measured or self.crates, module) else ():
+            for use in module.uses if self.depends_on(measured or self.crates, module) else ():
                 if use[1].endswith(".TheConstants"):
                     cited[use[1]].update(use[2].split(", ") if is_changed(module.name) else [])
         self.cited = cited
@@ -224,7 +224,7 @@ class Definitions:
                 self.all_below(use[1], seen)
         return seen
 
-    def rests_on(self, crates, module):
+    def depends_on(self, crates, module):
         """Whether a module depends on one of these crates, or belongs to it."""
         below = set().union(*(self.all_below(use[1], set()) for use in module.uses))
         named = {use[1] for file in [module, *map(self.modules.get, below)] for use in file.uses}
@@ -233,7 +233,7 @@ class Definitions:
     def under_rows(self, rows):
         return set().union(*(self.below.get(use[1], set()) for use in self.rows[rows].uses))
 
-    def resting(self, change, rows, modules):
+    def turns_of(self, change, rows, modules):
         """The names of the rows that may depend on the changed declaration, as lists to try one after the other: first
         all rows without an `unfolding`, which are quick, and then a few at a time."""
         texts = self.rows[rows].declarations()
@@ -446,7 +446,7 @@ class Probe:
                     continue
                 under = self.definitions.under_rows(rows)
                 changed = {name for name in under if change.module in self.definitions.below[name]}
-                turns = self.definitions.resting(change, rows, changed) if changed else []
+                turns = self.definitions.turns_of(change, rows, changed) if changed else []
                 last = max(last, len(turns))
                 if turn >= len(turns):
                     continue

@@ -205,7 +205,7 @@ static bool hides(const struct sdtool_outcome *o)
     return strcmp(job, "check") != 0 || o->fault == SDTOOL_OK || o->fault == SDTOOL_TOO_SMALL;
 }
 
-/* Whether a call whose outcome this is takes a buffer: it does so behind the faults of its arguments. */
+/* Whether a call with this outcome takes a buffer. It does so only after it has found no fault in its arguments. */
 static bool takes_buffer(const struct sdtool_outcome *o)
 {
     if (strcmp(job, "from_sddl") == 0)
@@ -232,7 +232,7 @@ static void try_refusals(const struct question *in, size_t size)
     struct sdtool_outcome whole = call(in, cells, size);
     most = allocations;
     if (!is_as_said(&whole))
-        complain("allocations that the header does not name");
+        complain("other allocations than the header says");
     for (long n = 0; n < most; n++) {
         allocations_left = n;
         struct sdtool_outcome o = call(in, cells, size);
@@ -274,7 +274,7 @@ static struct bytes answer_to(const struct question *in)
     struct sdtool_outcome o = call(in, answer.cells, most);
 
     if (o.fault == SDTOOL_NO_MEMORY)
-        complain("no memory, although there is");
+        complain("out of memory, although there is memory");
     if (o.fault == SDTOOL_OK) {
         answer.size = o.length;
         print(&answer);

@@ -6,7 +6,7 @@
  *
  *   plain     it also tries each size of the message, and null pointers of size 0
  *   sizes     it prints only a line for each size of the output: the size, the status, and the length of the output
- *   refusals  it also refuses each allocation in turn, of which all together are less than 2 MiB
+ *   refusals  it also refuses each allocation in turn; all of them are less than 2 MiB
  *   threads   it also makes the call from eight threads at once
  *   cut       the last word lacks its NUL
  *
@@ -160,7 +160,7 @@ static void try_refusals(void)
     e = call(out, answers.size + 1, says, sizeof says);
     most = allocations;
     if (allocated >= 2 << 20)
-        complain("allocations of bytes", allocated);
+        complain("allocated bytes:", allocated);
     if (!is_whole(&e, out))
         complain("a second call", 0);
     for (long n = 0; n < most; n++) {

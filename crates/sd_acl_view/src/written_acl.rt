@@ -35,7 +35,7 @@ fn are_flags_named(extent: &[u8], object: bool) -> bool
     !object || have_named_flags(u16_at(extent, 4), &extent[ACL_HEADER_SIZE..])
 }
 
-// The same of as many ACEs as are counted.
+// Whether the first ACEs of the bytes, as many as the count says, have no object flags but those that are named.
 fn have_named_flags(count: u16, bytes: &[u8]) -> bool
     requires { aces_fault count bytes.now ≡ None }
     ensures { result ≡ all_named_flags count bytes.now }

@@ -16,7 +16,10 @@ const TOO_SMALL: u32 = 71;
 
 const NO_MEMORY: u32 = 72;
 
-/// 0, or the number of a fault. Only this file makes one, and 72 only of refused memory.
+/// 0, or the number of a fault.
+///
+/// Its field is private, so only the functions below make one. Of them `no_memory` alone makes 72, and it takes a
+/// `NoMemory`, which only a refused allocation makes.
 #[repr(C)]
 #[derive(Clone, Copy)]
 pub struct FaultNumber {
@@ -34,7 +37,7 @@ impl Model for FaultNumber {
 }
 
 impl FaultNumber {
-    /// The number itself.
+    /// The number, for a struct whose fault is never 72.
     pub fn value(&self) -> u32
         ensures { result ≡ self.now }
     {

@@ -214,7 +214,7 @@ descriptor : new_descriptor (of_parts everyone system (record { aces = lent []; 
 unfolding ace_in sid_at kind_of kind_code kind_entry
 descriptor = refl
 
--- SR, SP and DP follow from the form and from the ACLs, a null one too, whatever the caller's bits are; each other bit stays.
+-- SR is always set. SP and DP say whether there is an ACL, and a null one counts. The caller's other bits stay.
 abbrev null : NewAcl
 null = record { aces = lent []; state = 1 }
 

@@ -22,7 +22,7 @@ pub struct Request {
     pub take_ownership: bool,
 }
 
-/// The integrity level of the token.
+/// The integrity level of the token, if the request has one.
 pub(crate) fn level_of(request: &Request) -> Option<u32>
     ensures { result ≡ level_of request.now }
 {

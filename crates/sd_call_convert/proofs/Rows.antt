@@ -65,7 +65,7 @@ too_long : (text : List ℕ) → length text ≡ 1049873 → domain_for text [] 
 unfolding optional_sid_in read_under
 too_long text h = rw h refl
 
--- A text that is too long under a wrong domain: the domain is told.
+-- Of a text that is too long and a wrong domain, the domain is the fault.
 too_long_under_a_wrong_domain : (text : List ℕ) → length text ≡ 1049873
     → (domain_for text (1 ∷ []) ≡ Err (call.Argument which.Domain 0))
     × (from_sddl text (1 ∷ []) ≡ Err (call.Argument which.Domain 0))
@@ -80,14 +80,15 @@ too_many_bytes : (bytes : List ℕ) → length bytes ≡ 131227
 unfolding named_in optional_sid_in descriptor_in
 too_many_bytes bytes h = (rw h refl, rw h refl, rw h refl)
 
--- The empty text is a descriptor without parts, and the end of a line is no part of a text.
+-- The empty text is a descriptor without parts.
 empty_text : from_sddl [] [] ≡ Ok (1 ∷ 0 ∷ 0 ∷ 0x80 ∷ 0 ∷ 0 ∷ 0 ∷ 0 ∷ 0 ∷ 0 ∷ 0 ∷ 0 ∷ 0 ∷ 0 ∷ 0 ∷ 0 ∷ 0 ∷ 0 ∷ 0 ∷ 0 ∷ [])
 unfolding optional_sid_in read_under means body_reads header_bytes
 empty_text = refl
 
-line_end_behind : from_sddl (codes "O:BA\n") [] ≡ Err (call.Line (line.Sddl (sddl_fault.Sid sid.SidForm)))
+-- A text with the end of its line is refused.
+text_with_its_line_end : from_sddl (codes "O:BA\n") [] ≡ Err (call.Line (line.Sddl (sddl_fault.Sid sid.SidForm)))
 unfolding optional_sid_in read_under means body_reads sid_reads has_form
-line_end_behind = refl
+text_with_its_line_end = refl
 
 -- Administrators as the owner, behind the header
 abbrev owned : List ℕ

@@ -37,7 +37,7 @@ wrong_creator : creator_in (1 ∷ []) ≡ Err (call.Argument which.Creator 0)
 unfolding creator_in descriptor_in reading fault header_fault
 wrong_creator = refl
 
--- More bytes than a descriptor ever has are none, whatever they are.
+-- SDTOOL_MOST_BYTES: one byte more is no descriptor, whatever the bytes are
 creator_of_too_many_bytes : (bytes : List ℕ) → length bytes ≡ 131227 → creator_in bytes ≡ Err (call.Argument which.Creator 0)
 unfolding creator_in descriptor_in
 creator_of_too_many_bytes bytes h = rw h refl

@@ -29,8 +29,8 @@ denies : (holder : Holder) (ask : Asked) (d : Bytes) → verdict_on d.bytes.now 
     → judged_by holder ask d ≡ denied
 denies holder ask d h = rw h refl
 
--- A descriptor that is none has its fault in its own verdict.
-tells_a_fault : (holder : Holder) (ask : Asked) (d : Bytes)
+-- A fault of one check is told in its own verdict, with each of its fields. This one has an argument and an entry.
+keeps_each_field_of_a_fault : (holder : Holder) (ask : Asked) (d : Bytes)
     → verdict_on d.bytes.now holder ask ≡ Err (call.Argument which.Sid 7)
     → judged_by holder ask d ≡ record {
       fault = 70;
@@ -41,7 +41,7 @@ tells_a_fault : (holder : Holder) (ask : Asked) (d : Bytes)
       mask = 0;
       granted = false;
     }
-tells_a_fault holder ask d h = rw h refl
+keeps_each_field_of_a_fault holder ask d h = rw h refl
 
 -- SDTOOL_MOST_BYTES: one byte more is too long
 too_many_bytes : (holder : Holder) (ask : Asked) (d : Bytes) → length d.bytes.now ≡ 131227

@@ -99,7 +99,7 @@ abbrev pub EndsSettled : Result Settings UsageFault → List ℕ → List ℕ �
 EndsSettled (Ok settings) input output message ending = EndsRun settings input output message ending
 EndsSettled (Err fault) input output message ending = EndsWith 2 (usage_line fault) message ending
 
--- words that the command line takes: want of memory alone keeps them from what they settle
+-- words that the command line takes: only out of memory keeps them from what they settle
 abbrev pub EndsTaken : List Text → List ℕ → List ℕ → List ℕ → Ending → Type 0
 EndsTaken words input output message ending =
     EndsWithoutMemory message ending ⊎ EndsSettled (settings_of words) input output message ending

@@ -86,12 +86,12 @@ longest_domains : (sid_from_text (codes "DA") of_14 ≡ Ok admins_of_14)
 unfolding named_sid named_in sid_reads letters_read optional_sid_in sid_at alias_of trustee_text
 longest_domains = (refl, refl, refl, refl, refl)
 
--- The end of a line is no part of a text.
-line_end_behind : (sid_from_text (codes "BA\n") [] ≡ Err (call.Line (line.Sddl (sddl.Sid sid.SidForm))))
+-- A text with the end of its line is refused.
+text_with_its_line_end : (sid_from_text (codes "BA\n") [] ≡ Err (call.Line (line.Sddl (sddl.Sid sid.SidForm))))
     × (sid_from_text (codes "S-1-5-18\n") [] ≡ Err (call.Line (line.Sddl (sddl.Sid sid.SidForm))))
     × (sid_from_text [] [] ≡ Err (call.Line (line.Sddl (sddl.Sid sid.SidForm))))
 unfolding named_sid sid_reads has_form optional_sid_in
-line_end_behind = (refl, refl, refl)
+text_with_its_line_end = (refl, refl, refl)
 
 -- The SID is looked at before the domain, and it takes all of its bytes.
 wrong_sid : sid_to_text [] (1 ∷ []) false ≡ Err (call.Argument which.Sid 0)

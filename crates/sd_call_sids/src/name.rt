@@ -14,7 +14,7 @@ use sd_text::MOST_FIELD_SIZE;
 pub fn give_name(naming: &Naming, sid: &Sid, output: &mut [u8]) -> Outcome
     ensures { Gives (trustee_text naming.now sid.now) output.old output.new result }
 {
-    // No field of SDDL is longer than the longest text of a SID.
+    // The longest text of a SID is as long as the longest field of SDDL.
     let mut cells = [0; MOST_FIELD_SIZE];
     let count = print_name(naming, sid, &mut cells);
     give(&cells[..count], output)

@@ -11,8 +11,8 @@ use Rattle.sd_check.specs.Acl.{listed_aces}
 use Rattle.sd_check.specs.Ask.{AreRights, Asked}
 use Rattle.sd_check.specs.Granted.{decides, granted, is_allowed, is_open, is_owned, needs_no_ace}
 use Rattle.sd_check.specs.Need.{check_bound, in_question, least, need, owner_matters}
-use Rattle.sd_check.specs.Inner.Scan.{HasGranted, asks_owner, without_ace_mask, left_mask, permitted_mask, question_of}
-use Rattle.sd_check.specs.Inner.Scan.{scan_need, undecided_of}
+use Rattle.sd_check.specs.Inner.Scan.{HasGranted, asks_owner, left_mask, permitted_mask, question_of}
+use Rattle.sd_check.specs.Inner.Scan.{scan_need, undecided_of, without_ace_mask}
 use Rattle.sd_check.specs.Label.{is_left, is_lower, label, label_allows}
 use Rattle.sd_check.specs.declared.label.Label.{Label}
 use Rattle.sd_check.specs.Verdict.{missing, verdict, won}

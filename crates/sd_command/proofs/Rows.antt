@@ -1,9 +1,9 @@
 -- Worked rows of command lines, computed.
 use Rattle.std.proofs.Common.{◌≡◌, ◌≤◌, ◌+◌, ℕ, List, [], ◌∷◌, ◌++◌, None, Some, Result, Ok, Err, true, false, codes}
-use Rattle.std.proofs.Common.{Global, String, inl, inr, refl}
+use Rattle.std.proofs.Common.{Global, String, arith, inl, inr, refl}
 use Rattle.std.specs.List.{flat_map}
 use Rattle.std.specs.Option.{option_map}
-use Rattle.std.specs.Prelude.{Bool, length, map, replicate}
+use Rattle.std.specs.Prelude.{length, map, replicate}
 use Rattle.std.specs.String.{string_bytes}
 use Rattle.clap.specs.Words.{Text, fault_of, takes}
 use Rattle.clap.proofs.OnLiterals.{clap_on_literals}
@@ -68,7 +68,7 @@ settled_words = tt
 abbrev on_hex : Act → Job
 on_hex act = record { line_form = Hex; act = act; domain = None; numeric = false }
 
--- what words settle that name no creator
+-- the settings of words that name no creator
 abbrev without_creator : Job → Holder → Settings
 without_creator job holder = record { task = record { job = job; creator = None }; holder = holder }
 
@@ -440,7 +440,7 @@ run_says : (report : Report) (drain drain' : DrainTold)
     × (SaysOf (Err Write) drain drain' → Says (codes "sdtool: error 61 write\n") drain drain')
 run_says report drain drain' = (λ h. h, λ h. h)
 
--- ---- what words come to, by EXIT STATUS and USAGE MESSAGES of docs/sdtool.1
+-- ---- how the program ends on some words (EXIT STATUS and USAGE MESSAGES of docs/sdtool.1)
 
 abbrev bare : List Text
 bare = codes "sdtool" ∷ []
@@ -449,19 +449,27 @@ abbrev for_help : List Text
 for_help = codes "sdtool" ∷ codes "help" ∷ []
 
 -- no command is named
-bare_is_refused : (told told' : Told) (status : ℕ) → EndsRefused told told' status → EndsBy bare told told' status
+bare_may_be_refused : (told told' : Told) (status : ℕ) → EndsRefused told told' status → EndsBy bare told told' status
 unfolding parsed_words
-bare_is_refused told told' status h = EndsBy.refused refl h
+bare_may_be_refused told told' status h = EndsBy.refused refl h
 
-help_is_shown : (told told' : Told) (status : ℕ) → EndsWithHelp told told' status → EndsBy for_help told told' status
+bare_does_not_succeed : (told told' : Told) → EndsBy bare told told' 0 → ⊥
 unfolding parsed_words
-help_is_shown told told' status h = EndsBy.helped (inl refl) h
+bare_does_not_succeed told told' (EndsBy.without_memory h) = omega (arith, h.0)
+bare_does_not_succeed told told' (EndsBy.refused is h) = omega (arith, h.0)
+bare_does_not_succeed told told' (EndsBy.helped (inl is) h) = cc
+bare_does_not_succeed told told' (EndsBy.helped (inr none) h) = none
+bare_does_not_succeed told told' (EndsBy.settled is h) = cc
+
+help_may_be_shown : (told told' : Told) (status : ℕ) → EndsWithHelp told told' status → EndsBy for_help told told' status
+unfolding parsed_words
+help_may_be_shown told told' status h = EndsBy.helped (inl refl) h
 
 -- XML is no form
-form_is_refused : (told told' : Told) → IsIdle told.source told'.source told.output told'.output
+form_may_be_refused : (told told' : Told) → IsIdle told.source told'.source told.output told'.output
     → Says (codes "sdtool: usage: --to\n") told.faults told'.faults → EndsBy to_xml told told' 2
 unfolding settled_words
-form_is_refused told told' idle said = EndsBy.settled refl (refl, idle, said)
+form_may_be_refused told told' idle said = EndsBy.settled refl (refl, idle, said)
 
 notices : map notice_of
     (stop.Early NoMemory ∷ stop.Early Usage ∷ stop.Value NoCommand ∷ stop.Value (Value name.To) ∷ [])
@@ -480,7 +488,7 @@ noticed_fault : (text : List ℕ) (told told' : Told) (status : ℕ) → EndsNot
     → (status ≡ 4) × IsIdle told.source told'.source told.output told'.output × Says text told.faults told'.faults
 noticed_fault text told told' status h = h
 
--- Words that are taken stop for want of memory alone.
+-- Only out of memory stops words that are taken.
 
 stops_without_memory : StopsTaken (Err (stop.Early NoMemory))
 stops_without_memory = refl

@@ -107,7 +107,7 @@ abbrev pub EndsSettled : Result Settings UsageFault → Told → Told → ℕ �
 EndsSettled (Ok settings) = EndsRun settings
 EndsSettled (Err fault) = EndsIdle 2 (usage_line fault)
 
--- words that the command line takes: want of memory alone keeps them from what they settle
+-- words that the command line takes: only out of memory keeps them from what they settle
 abbrev pub EndsTaken : List Text → Told → Told → ℕ → Type 0
 EndsTaken words told told' status =
     EndsWithoutMemory told told' status ⊎ EndsSettled (settings_of words) told told' status

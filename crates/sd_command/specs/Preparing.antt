@@ -16,7 +16,7 @@ use Rattle.sd_command.specs.declared.program.Stop.{Stop}
 use Rattle.sd_command.specs.declared.program.Stop.TheVariants as stop
 use Rattle.sd_command.specs.declared.settings.UsageFault.{UsageFault}
 
--- words that the command line takes are stopped by want of memory alone
+-- of words that the command line takes, only out of memory stops the run
 abbrev pub StopsTaken : Result Prepared Stop → Type 0
 StopsTaken (Err (stop.Early early)) = early ≡ NoMemory
 StopsTaken _ = Unit {0}
@@ -25,7 +25,7 @@ StopsTaken _ = Unit {0}
 abbrev pub settled : Prepared → Settings
 settled prepared = record { task = prepared.engine; holder = prepared.token.holder }
 
--- what the words settle is prepared, or is told as their fault; there is memory
+-- if there is memory: what the words settle is prepared, or is told as their fault
 abbrev pub Settles : Result Settings UsageFault → Result Prepared Stop → Type 0
 Settles settings (Ok prepared) = (settings ≡ Ok (settled prepared)) × (prepared.token.compared ≡ 0)
 Settles settings (Err (stop.Early early)) = ⊥

@@ -101,9 +101,9 @@ impl Memory {
 /// Why nothing is read.
 #[derive(Drop)]
 pub enum Stop {
-    /// The words end the program by themselves, or there is no memory.
+    /// The words are wrong or ask for help, or there is no memory.
     Early(EarlyEnd),
-    /// The parser accepts the words, and they make no job.
+    /// The parser accepts the words, but no job can be made of them.
     Value(UsageFault),
 }
 

@@ -50,7 +50,7 @@ kept P Q then (Ok m) told is h = rw is (then m h)
 kept P Q then (Err e) (Ok m) is h = absurd is
 kept P Q then (Err e) (Err early) is h = tt
 
--- where the only fault can be want of memory, that is told
+-- where the only fault can be out of memory, that is told
 pub only-memory : {M : Type 0} (S T : Type 0) → (T → S) → (parsed : Result M Error) (told : Result M EarlyEnd)
     → Tells parsed told
     → IfErr parsed (λ e. S → kind_of e ≡ kind.OutOfMemory) → IfErr told (λ early. T → early ≡ NoMemory)

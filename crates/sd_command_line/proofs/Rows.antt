@@ -162,7 +162,7 @@ flag_words : map option_text (name.Numeric ∷ name.Maximum ∷ name.Security �
     ≡ codes "numeric" ∷ codes "maximum" ∷ codes "security" ∷ codes "take-ownership" ∷ []
 flag_words = refl
 
--- early ends: help is no mistake, nor is a want of memory, and all else is
+-- early ends: help and out of memory are no mistakes, and all else is
 
 mistakes : map is_mistake
     (kind.InvalidValue ∷ kind.UnknownArgument ∷ kind.InvalidSubcommand ∷ kind.NoEquals ∷ kind.ValueValidation

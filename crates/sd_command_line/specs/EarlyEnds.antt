@@ -7,13 +7,13 @@ use Rattle.clap.specs.declared.error.ErrorKind.TheVariants as kind
 use Rattle.sd_command_line.specs.declared.parse.EarlyEnd.{EarlyEnd}
 use Rattle.sd_command_line.specs.declared.parse.EarlyEnd.TheVariants.{NoMemory, Usage, Help}
 
--- a kind of fault that stands for a mistake in the words: not want of memory, and not a request for help
+-- a kind of fault that is a mistake in the words: neither out of memory nor a request for help
 abbrev pub is_mistake : ErrorKind → Bool
 is_mistake kind.OutOfMemory = false
 is_mistake kind.DisplayHelp = false
 is_mistake _ = true
 
--- what the kinds that `clap` may give allow
+-- the early ends that are allowed by the kinds of fault that `clap` may give
 abbrev pub AllowsEnd : Kinds → EarlyEnd → Type 0
 AllowsEnd kinds NoMemory = Unit {0}
 AllowsEnd kinds Usage = list_any is_mistake kinds ≡ true

@@ -202,8 +202,8 @@ impl Sid {
         &self.subs[..self.count]
     }
 
-    /// Whether it is the SID of these parts.
-    // Inlined, so that the number of known sub-authorities is a constant.
+    /// Whether it has this authority and exactly these sub-authorities.
+    // Inlined, so that a caller with constant sub-authorities compares a known number of them.
     #[inline(always)]
     pub fn is(&self, authority: u64, subs: &[u32]) -> bool
         ensures { result ≡ same_sid self.now (record { authority = authority; subs = subs.now }) }

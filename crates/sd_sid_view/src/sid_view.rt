@@ -59,6 +59,7 @@ impl<'a> SidView<'a> {
     }
 
     /// The SID by value.
+    // Inlined, since `AceView::sid` and `SdView::owner` are little else.
     #[inline(always)]
     pub fn sid(&self) -> Sid
         ensures { result ≡ self.now }

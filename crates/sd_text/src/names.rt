@@ -34,8 +34,8 @@ const MOST_NAMES: usize = 17;
 /// The cells for all of them.
 const CELLS: usize = 2 * MOST_NAMES;
 
-/// The bit that a small letter has and its capital has not.
-const SMALL: u8 = b'a' - b'A';
+/// The bit that tells a small letter from its capital.
+const CASE_BIT: u8 = b'a' - b'A';
 
 /// Prints the names of the bits of a mask, in the table's order.
 pub fn print_names<P: Print>(table: &[NamedBits], mask: u32, out: &mut P)
@@ -67,18 +67,20 @@ fn write_names(table: &[NamedBits], mask: u32, buffer: &mut [u8; CELLS]) -> usiz
     end
 }
 
-/// The capital of a letter, in one step. Of any other byte it makes one that is no capital either.
+/// The capital of a letter. Any other byte becomes one that is no capital.
 ///
-/// Names are compared with it, since std's way asks first whether the byte is a small letter.
+/// It clears a bit without a branch, which is enough to compare with names in capitals. `to_ascii_uppercase` first asks
+/// whether the byte is a small letter.
 #[inline(always)]
 pub fn capital(byte: u8) -> u8
     ensures { IsSameCapital result (to_ascii_uppercase byte) }
 {
-    byte - byte / SMALL % 2 * SMALL
+    // By division, which the prover computes with.
+    byte - byte / CASE_BIT % 2 * CASE_BIT
 }
 
-/// The bits of a run of names of the tables, each in either case and as often as it likes. None where
-/// two letters are no name, or one is left.
+/// The bits of a run of names, each in either case and as often as it likes. The names of the tables are
+/// capitals. None where two letters are no name, or one is left.
 #[tactic(auto, unfolding(crate::specs::Names::run_of))]
 pub fn read_names(tables: &[&[NamedBits]], text: &[u8]) -> Option<u32>
     requires { list_all (λ table. list_all has_capitals table.now) tables.now ≡ true }

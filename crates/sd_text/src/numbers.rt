@@ -68,9 +68,9 @@ pub fn front_decimal(text: &[u8]) -> (u64, usize)
     (number, BLOCK + count)
 }
 
-// Whether all bytes of a block are digits, found for all of them at once. A sum sets the highest bit of a byte above
-// '9', and a difference that of a byte below '0', or so far above '9' that the sum is too large. Each of them only carries
-// out of a byte that is no digit.
+// Whether all bytes of a block are digits, found for all of them at once. The sum sets the highest bit of a byte above
+// '9', and the difference that of a byte below '0', or of one so large that its sum overflows. A carry or a borrow only
+// comes out of a byte that is no digit, so the first such byte is always found.
 #[inline(always)]
 fn are_digits(block: &[u8]) -> bool
     requires { length block.now ≡ 8 }
@@ -81,8 +81,8 @@ fn are_digits(block: &[u8]) -> bool
     others & HIGHEST_BITS == 0
 }
 
-// The number that a block of digits writes: that of each two digits, and then of four and of all, each step for the
-// whole block at once.
+// The number that the digits of a block write. Each two digits become a number, then each four, then all eight, and
+// each step does the whole block at once.
 #[inline(always)]
 fn block_number(block: &[u8]) -> u64
     requires size { length block.now ≡ 8 }
@@ -97,7 +97,8 @@ fn block_number(block: &[u8]) -> u64
     first.wrapping_add(second) / (1 << 32)
 }
 
-// The bytes of a block, the first of them lowest. Not inlined at once: by itself it becomes a single load.
+// The bytes of a block as a word, the first byte lowest. It has no `inline(always)`: compiled by itself it becomes one
+// load, and merged with its caller eight (bench/README.md).
 fn block_word(block: &[u8]) -> u64
     requires { length block.now ≡ 8 }
     ensures { result ≡ from_le_bytes w64 block.now }

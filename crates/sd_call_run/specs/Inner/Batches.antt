@@ -38,7 +38,7 @@ pub record Batched (settings : Settings) (input output : List ℕ) (batch : Batc
   pub faulty : batch.faulty ≡ list_any (is_error settings.task settings.holder) front
   pub stops : StopsBehind settings front others (length output) batch.all
 
--- Where help is asked for, the output shows the text of the stop, and no other.
+-- Where help is asked for, the output shows the help text that the stop holds, and no other.
 abbrev pub EndsNoticed : Notice → List ℕ → List ℕ → Ending → Type 0
 EndsNoticed (help text) output message ending = ShowsHelp text output ending
 EndsNoticed (fault status line) output message ending = EndsWith status line message ending

@@ -1,4 +1,5 @@
--- Which early end an error of `clap` gives. A private contract alone cites this word; it promises nothing to a caller.
+-- Which early end an error of `clap` gives. Only private contracts cite these; they promise nothing to
+-- a caller.
 use Rattle.std.specs.Prelude.{◌≡◌, ◌⊎◌, true, Result, Ok, Err}
 use Rattle.clap.specs.Words.{kind_of}
 use Rattle.clap.specs.declared.error.Error.{Error}

@@ -1,4 +1,4 @@
--- S-1-1-0 (MS-DTYP 2.4.2.4) and its bytes (2.4.2.2), for the worked rows of this crate and those above.
+-- S-1-1-0 (MS-DTYP 2.4.2.4) and its bytes (2.4.2.2), for the worked rows of the crates above.
 use Rattle.std.proofs.Common.{ℕ, zero, suc, List, [], ◌∷◌, ◌++◌, refl, arith}
 use Rattle.sd_sid.specs.Sid.{AreWords, BeginsWithSid, IsSid, SecurityId}
 

@@ -9,7 +9,7 @@ use Rattle.std.proofs.lemmas.Bool.Decides.{nat_tests}
 use Rattle.std.proofs.lemmas.Str.Ascii.{uppercase_is}
 use Rattle.sd_text.specs.Names.{IsSameCapital}
 
--- a letter without the bit of small letters is its capital, and of no other byte a capital is made
+-- without the bit of small letters a letter is its capital, and any other byte is no capital
 pub without-small : (byte : ℕ) → byte < 256 → IsSameCapital (byte - byte / 32 % 2 * 32) (to_ascii_uppercase byte)
 without-small byte small c capital = grind (arith, nat_tests, uppercase_is byte)
 
