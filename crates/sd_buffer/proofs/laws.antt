@@ -1,3 +1,4 @@
 -- Laws of the definitions alone, which crates above may cite.
+pub mod Base64Bytes
 pub mod HexPairs
 pub mod SpelledBase64

@@ -8,6 +8,7 @@ ghost use Rattle.sd_buffer.specs.Text.{IsOneEncoding, base64_spells, hex_spells}
 ghost use Rattle.sd_parts.specs.declared.limits.TheConstants.{CAPACITY};
 
 use crate::hex_reader::HexReader;
+use crate::{base64_digits, hex_digits};
 use base64::decoded_len_estimate;
 use base64::engine::general_purpose::STANDARD;
 use sd_memory::NoMemory;
@@ -254,8 +255,22 @@ fn write_at(cells: &mut [u8], at: usize, bytes: &[u8])
     cells[at..at + bytes.len()].copy_from_slice(bytes);
 }
 
-// Decodes pairs of hex digits into the cells from an offset on.
+// Decodes pairs of hex digits into the cells from an offset on. Whole blocks are decoded at once. What follows them, or
+// the first block that has another character, is decoded by the crate `hex`.
 fn decode_hex(pairs: &[u8], cells: &mut [u8], at: usize) -> Result<(), TextFault>
+    requires even { length pairs.now % 2 ≡ 0 }
+    requires room { at + length pairs.now / 2 ≤ length cells.old }
+    ensures value { MatchResult (hex_spells pairs.now)
+        (λ bytes. (result ≡ Ok tt) × (take (at + length pairs.now / 2) cells.new ≡ take at cells.old ++ bytes))
+        (λ fault. result ≡ Err fault) }
+    ensures before { take at cells.new ≡ take at cells.old }
+{
+    let done = hex_digits::decode_blocks(pairs, &mut cells[at..at + pairs.len() / 2]);
+    decode_singly(&pairs[2 * done..], cells, at + done)
+}
+
+// The same, digit by digit.
+fn decode_singly(pairs: &[u8], cells: &mut [u8], at: usize) -> Result<(), TextFault>
     requires even { length pairs.now % 2 ≡ 0 }
     requires room { at + length pairs.now / 2 ≤ length cells.old }
     ensures value { MatchResult (hex_spells pairs.now)
@@ -269,8 +284,22 @@ fn decode_hex(pairs: &[u8], cells: &mut [u8], at: usize) -> Result<(), TextFault
     }
 }
 
-// Decodes to the front of the cells, and says how many bytes there are.
+// Decodes to the front of the cells, and says how many bytes there are. Whole blocks are decoded at once. What follows
+// them, or the first block that has another character, is decoded by the crate `base64`.
 fn decode_base64(text: &[u8], cells: &mut [u8]) -> Result<usize, TextFault>
+    requires { decoded_estimate (length text.now) ≤ length cells.old }
+    ensures value { MatchResult (base64_spells text.now)
+        (λ bytes. (result ≡ Ok (length bytes)) × (take (length bytes) cells.new ≡ bytes))
+        (λ fault. result ≡ Err fault) }
+    ensures within { IfOk result (λ n. n ≤ length cells.old) }
+{
+    let groups = base64_digits::decode_blocks(text, cells);
+    let rest = decode_rest(&text[4 * groups..], &mut cells[3 * groups..])?;
+    Ok(3 * groups + rest)
+}
+
+// The same, group by group.
+fn decode_rest(text: &[u8], cells: &mut [u8]) -> Result<usize, TextFault>
     requires { decoded_estimate (length text.now) ≤ length cells.old }
     ensures value { MatchResult (base64_spells text.now)
         (λ bytes. (result ≡ Ok (length bytes)) × (take (length bytes) cells.new ≡ bytes))

@@ -10,14 +10,14 @@ use Rattle.sd_buffer.specs.Text.{hex_spells, or_digit_fault}
 use Rattle.sd_buffer.proofs.Decoded.{spells-even}
 
 -- a pair in front of what the rest spells
-abbrev with_pair : Option ℕ → Option ℕ → Result (List ℕ) TextFault → Result (List ℕ) TextFault
+abbrev pub with_pair : Option ℕ → Option ℕ → Result (List ℕ) TextFault → Result (List ℕ) TextFault
 with_pair None low rest = Err HexDigit
 with_pair (Some h) None rest = Err HexDigit
 with_pair (Some h) (Some l) (Err f) = Err f
 with_pair (Some h) (Some l) (Ok bytes) = Ok ((h * 16 + l) ∷ bytes)
 
 -- what a text spells, a pair at a time
-abbrev spelled : List ℕ → Result (List ℕ) TextFault
+abbrev pub spelled : List ℕ → Result (List ℕ) TextFault
 spelled [] = Ok []
 spelled (c ∷ []) = Err HexDigit
 spelled (a ∷ b ∷ rest) = with_pair (hex_digit_value a) (hex_digit_value b) (spelled rest)
@@ -65,7 +65,7 @@ spelled-append (a ∷ b ∷ rest) t even =
     ap (with_pair (hex_digit_value a) (hex_digit_value b)) (spelled-append rest t (omega arith))
     ∙ joined-pair (hex_digit_value a) (hex_digit_value b) (spelled rest) (spelled t)
 
-spells-pairs : (text : List ℕ) → length text % 2 ≡ 0 → hex_spells text ≡ spelled text
+pub spells-pairs : (text : List ℕ) → length text % 2 ≡ 0 → hex_spells text ≡ spelled text
 spells-pairs text even = spells-even text even ∙ ap or_digit_fault (decode_of-even text even) ∙ decoded-pairs 0 text
 
 -- whole pairs, and then whole pairs

@@ -1,0 +1,71 @@
+-- Blocks of hex digits: what their values make, and what is spelled with a block more.
+use Rattle.std.proofs.Common.{◌≡◌, ◌≤◌, ◌<◌, ℕ, ◌+◌, ◌*◌, ◌%◌, ◌^◌, List, [], ◌∷◌, ◌++◌, length, take, drop, Some, Ok}
+use Rattle.std.proofs.Common.{Result, Err, refl, sym, ap, ◌∙◌, append_assoc, arith, length-drop}
+use Rattle.std.specs.Prelude.{MatchResult}
+use Rattle.std.proofs.Math.Seq.{take-add}
+use Rattle.std.proofs.lemmas.List.{length-take-le, take-append-drop}
+use Rattle.hex.specs.Hex.{hex_digit_value}
+use Rattle.sd_buffer.specs.Text.{hex_spells}
+use Rattle.sd_buffer.specs.declared.buffer.TextFault.{TextFault}
+use Rattle.sd_buffer.specs.Inner.HexBlocks.{AreValues, joined_pairs}
+use Rattle.sd_buffer.proofs.laws.HexPairs.{both_spelled, spelled, spells-append, spells-pairs}
+
+value-small : (c v : ℕ) → hex_digit_value c ≡ Some v → v < 16
+value-small c v e = grind (arith)
+
+byte-joined : (high low : ℕ) → high < 16 → low < 16 → (high * 16 % 2 ^ 8 + low) % 2 ^ 8 ≡ high * 16 + low
+byte-joined high low h l = omega (arith)
+
+spelled-joined : (digits values : List ℕ) → length digits % 2 ≡ 0 → AreValues digits values
+    → spelled digits ≡ Ok (joined_pairs values)
+spelled-joined [] [] even are = refl
+spelled-joined [] (v ∷ values) even are = absurd (cc)
+spelled-joined (a ∷ digits) [] even are = absurd (cc)
+spelled-joined (a ∷ []) (v ∷ values) even are = absurd (omega arith)
+spelled-joined (a ∷ b ∷ digits) (v ∷ []) even are = absurd (cc)
+spelled-joined (a ∷ b ∷ digits) (v ∷ w ∷ values) even are =
+    let high : hex_digit_value a ≡ Some v = cc in
+    let low : hex_digit_value b ≡ Some w = cc in
+    let rest : AreValues digits values = cc in
+    let byte = byte-joined v w (value-small a v high) (value-small b w low) in
+    rw (high, low, spelled-joined digits values (omega arith) rest, byte) refl
+
+-- a block of digits spells the bytes that their values make
+pub spells-joined : (digits values : List ℕ) → length digits % 2 ≡ 0 → AreValues digits values
+    → hex_spells digits ≡ Ok (joined_pairs values)
+spells-joined digits values even are = spells-pairs digits even ∙ spelled-joined digits values even are
+
+-- n digits more
+pub spells-block : (pairs bytes more : List ℕ) (m n : ℕ) → m % 2 ≡ 0 → n % 2 ≡ 0 → m + n ≤ length pairs
+    → hex_spells (take m pairs) ≡ Ok bytes → hex_spells (take n (drop m pairs)) ≡ Ok more
+    → hex_spells (take (m + n) pairs) ≡ Ok (bytes ++ more)
+spells-block pairs bytes more m n even also room first second =
+    let front = length-take-le m pairs (omega arith) in
+    let left = length-take-le n (drop m pairs) (omega (arith, length-drop m pairs)) in
+    ap hex_spells (take-add m n pairs)
+    ∙ spells-append (take m pairs) (take n (drop m pairs)) (rw front even) (rw left also)
+    ∙ rw (first, second) refl
+
+both : (front before middle new : List ℕ) (rest : Result (List ℕ) TextFault) (result : Result (Unit {0}) TextFault)
+    → middle ≡ before ++ front
+    → MatchResult rest (λ bytes. (result ≡ Ok tt) × (new ≡ middle ++ bytes)) (λ fault. result ≡ Err fault)
+    → MatchResult (both_spelled (Ok front) rest) (λ bytes. (result ≡ Ok tt) × (new ≡ before ++ bytes))
+    (λ fault. result ≡ Err fault)
+both front before middle new (Ok bytes) result is h = (h.0, h.1 ∙ rw (is, append_assoc) refl)
+both front before middle new (Err fault) result is h = h
+
+-- blocks of pairs are decoded behind some bytes, and the rest behind them
+pub decoded-both : (pairs front before middle new : List ℕ) (done : ℕ) (result : Result (Unit {0}) TextFault)
+    → length pairs % 2 ≡ 0 → 2 * done ≤ length pairs → hex_spells (take (2 * done) pairs) ≡ Ok front
+    → middle ≡ before ++ front
+    → MatchResult (hex_spells (drop (2 * done) pairs)) (λ bytes. (result ≡ Ok tt) × (new ≡ middle ++ bytes))
+    (λ fault. result ≡ Err fault)
+    → MatchResult (hex_spells pairs) (λ bytes. (result ≡ Ok tt) × (new ≡ before ++ bytes)) (λ fault. result ≡ Err fault)
+decoded-both pairs front before middle new done result even within spelled is h =
+    let left = length-drop (2 * done) pairs in
+    let size = length-take-le (2 * done) pairs within in
+    let whole : hex_spells pairs ≡ both_spelled (Ok front) (hex_spells (drop (2 * done) pairs)) =
+    ap hex_spells (sym (take-append-drop (2 * done) pairs))
+    ∙ spells-append (take (2 * done) pairs) (drop (2 * done) pairs) (omega (arith, size)) (omega (arith, left, even))
+    ∙ rw spelled refl in
+    rw whole (both front before middle new (hex_spells (drop (2 * done) pairs)) result is h)

@@ -1,0 +1,93 @@
+//! Hex digits read in blocks, beside the crate `hex`, whose definition is their contract.
+
+ghost use Rattle.std.specs.Prelude.{◌≡◌, ◌≤◌, ◌<◌, ◌*◌, false, true, length, take, IfSome, Ok, Some, None, if◌then◌else◌, nat_lt};
+ghost use Rattle.std.specs.Prelude.{slice_index, ℕ};
+ghost use Rattle.hex.specs.Hex.{hex_digit_value};
+ghost use Rattle.sd_buffer.specs.Text.{hex_spells};
+ghost use Rattle.sd_buffer.specs.Inner.HexBlocks.{AreValues, joined_pairs};
+
+/// The digits that are read at once: they fill two vectors of 16 bytes.
+const BLOCK: usize = 32;
+
+/// The bytes that a block of digits spells.
+const PAIRS: usize = BLOCK / 2;
+
+/// What stands for a character that is no digit. It is above the value of each digit.
+const NO_DIGIT: u8 = 16;
+
+// Decodes whole blocks of digits, up to one that has another character, to the front of the cells. Says how many bytes
+// these are.
+pub(crate) fn decode_blocks(pairs: &[u8], cells: &mut [u8]) -> usize
+    requires { length pairs.now ≤ 2 * length cells.old }
+    ensures within { 2 * result ≤ length pairs.now }
+    ensures spelled { hex_spells (take (2 * result) pairs.now) ≡ Ok (take result cells.new) }
+{
+    let mut done = 0;
+    while 2 * done + BLOCK <= pairs.len() {
+        let Some(bytes) = decode_block(&pairs[2 * done..2 * done + BLOCK]) else {
+            return done;
+        };
+        cells[done..done + PAIRS].copy_from_slice(&bytes);
+        done += PAIRS;
+    }
+    done
+}
+
+// The bytes that a block of digits spells. It is read in two steps without a branch, which the compiler vectorizes.
+#[inline(always)]
+fn decode_block(digits: &[u8]) -> Option<[u8; PAIRS]>
+    requires { length digits.now ≡ 32 }
+    ensures { IfSome result (λ bytes. hex_spells digits.now ≡ Ok bytes) }
+{
+    let (values, are_digits) = values_of(digits);
+    if are_digits {
+        Some(join(&values))
+    } else {
+        None
+    }
+}
+
+// The values of a block of digits, and whether all of the characters are digits.
+#[inline(always)]
+fn values_of(digits: &[u8]) -> ([u8; BLOCK], bool)
+    requires { length digits.now ≡ 32 }
+    ensures { result.1 ≡ true → AreValues digits.now result.0 }
+{
+    let mut values = [0; BLOCK];
+    let mut most = 0;
+    for i in 0..BLOCK {
+        values[i] = digit_value(digits[i]);
+        most = most.max(values[i]);
+    }
+    (values, most < NO_DIGIT)
+}
+
+#[inline(always)]
+fn digit_value(digit: u8) -> u8
+    ensures value { hex_digit_value digit ≡ (if nat_lt result 16 then Some result else None) }
+    ensures most { result ≤ 16 }
+{
+    if b'0' <= digit && digit <= b'9' {
+        digit - b'0'
+    } else if b'A' <= digit && digit <= b'F' {
+        digit - b'A' + 10
+    } else if b'a' <= digit && digit <= b'f' {
+        digit - b'a' + 10
+    } else {
+        NO_DIGIT
+    }
+}
+
+// The bytes of pairs of values. A value that is too large counts by its lower bits.
+#[inline(always)]
+fn join(values: &[u8; BLOCK]) -> [u8; PAIRS]
+    ensures { result ≡ joined_pairs values.now }
+{
+    let mut bytes = [0; PAIRS];
+    for i in 0..PAIRS {
+        bytes[i] = values[2 * i]
+            .wrapping_mul(16)
+            .wrapping_add(values[2 * i + 1]);
+    }
+    bytes
+}
