@@ -1,3 +1,4 @@
+pub mod Base64Blocks
 pub mod Base64Lemmas
 pub mod FaultLemmas
 pub mod HexTextLemmas
