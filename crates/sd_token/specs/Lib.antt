@@ -1,3 +1,4 @@
+pub mod Inner
 pub mod Limits
 pub mod Token
 pub mod TokenWords

@@ -1,10 +1,12 @@
 //! A token in memory that is lent, and the looks at its entries.
 
-ghost use Rattle.std.specs.Prelude.{◌≡◌, ◌≤◌, ◌<◌, ◌*◌, length, slice_index_or};
+ghost use Rattle.std.specs.Prelude.{◌≡◌, ◌≤◌, ◌<◌, ◌+◌, ◌*◌, false, length, take, slice_index_or, MatchOption};
+ghost use Rattle.sd_sid.specs.Sid.{IsSid};
 ghost use Rattle.sd_sink.specs.Counts.{counted};
 ghost use Rattle.sd_token.specs.Limits.{most_entries};
 ghost use Rattle.sd_token.specs.Token.{Asks, counted_by, entry_meets, looks, meets};
-ghost use Rattle.sd_token.specs.TokenWords.{entries_of, entry_words};
+ghost use Rattle.sd_token.specs.TokenWords.{entries_of, entry_words, sid_key};
+ghost use Rattle.sd_token.specs.Inner.Search.{IsFirst};
 
 use crate::token::EntryKind;
 use crate::words::{is_met, key_of};
@@ -20,6 +22,9 @@ pub struct LentToken<'a> {
     level: Option<u32>,
     compared: u64,
 }
+
+/// The entries of a row, which are looked at without a test for the end between them.
+const ROW: usize = 8;
 
 /// How often entries of a token were looked at.
 pub struct Looks {
@@ -149,13 +154,58 @@ fn search(keys: &[u32], words: &[u32], sid: &Sid, deny: bool) -> (bool, usize)
     ensures met { result.0 ≡ meets sid.now deny (entries_of keys.now words.now) }
     ensures looked { result.1 ≡ looks sid.now deny (entries_of keys.now words.now) }
 {
+    match first_met(keys, words, sid, deny) {
+        Some(i) => (true, i + 1),
+        None => (false, keys.len()),
+    }
+}
+
+// The first entry that meets the SID. Entries are looked at in rows, so that the end of the keys is not tested at each.
+#[inline(always)]
+fn first_met(keys: &[u32], words: &[u32], sid: &Sid, deny: bool) -> Option<usize>
+    requires few { length keys.now ≤ most_entries }
+    requires whole { entry_words * length keys.now ≤ length words.now }
+    ensures { MatchOption result (meets sid.now deny (entries_of keys.now words.now) ≡ false)
+        (λ i. IsFirst sid.now deny (entries_of keys.now words.now) i) }
+{
     let key = key_of(sid);
-    for i in 0..keys.len() {
+    let mut at = 0;
+    while keys.len() - at >= ROW {
+        if let Some(i) = first_of_row(keys, words, at, ROW, key, sid, deny) {
+            return Some(i);
+        }
+        at += ROW;
+    }
+    first_of_row(keys, words, at, keys.len() - at, key, sid, deny)
+}
+
+// The same among the entries of a row, where none before it meets the SID. A row of known size becomes a sequence of
+// looks without a loop.
+#[inline(always)]
+fn first_of_row(
+    keys: &[u32],
+    words: &[u32],
+    from: usize,
+    size: usize,
+    key: u32,
+    sid: &Sid,
+    deny: bool,
+) -> Option<usize>
+    requires within { from + size ≤ length keys.now }
+    requires whole { entry_words * length keys.now ≤ length words.now }
+    requires key { key ≡ sid_key sid.now }
+    requires limit { IsSid sid.now }
+    requires none { meets sid.now deny (take from (entries_of keys.now words.now)) ≡ false }
+    ensures { MatchOption result (meets sid.now deny (take (from + size) (entries_of keys.now words.now)) ≡ false)
+        (λ i. IsFirst sid.now deny (entries_of keys.now words.now) i) }
+{
+    for place in 0..size {
+        let i = from + place;
         if keys[i] == key && is_met(words, i, sid, deny) {
-            return (true, i + 1);
+            return Some(i);
         }
     }
-    (false, keys.len())
+    None
 }
 
 // A predictable branch beats `saturating_add` here.
