@@ -5,4 +5,5 @@ pub mod Capitals
 pub mod HexDigits
 pub mod NameLaws
 pub mod Options
+pub mod Slices
 pub mod Tables
