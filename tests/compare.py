@@ -921,9 +921,28 @@ def sid_texts(descriptors):
             if sid is not None]
 
 
+def like(sid):
+    """Another SID with as many sub-authorities and the same last one. The program tells such SIDs apart last."""
+    parts = sid.split("-")
+    at = 3 if len(parts) > 4 else 2
+    if at < len(parts):
+        parts[at] = "8" if parts[at] == "7" else "7"
+    return "-".join(parts)
+
+
+def among_others(maker, some):
+    """These SIDs among many others. The program compares sixteen entries of a token in one step."""
+    others = [like(sid) for sid in some] + [f"S-1-5-21-1-2-3-{number}" for number in range(9)]
+    many = some + maker.chance.choices(others, k=maker.chance.randint(7, 55))
+    maker.chance.shuffle(many)
+    return many
+
+
 def token_text(maker, descriptors):
     """The text of a token with SIDs of these descriptors among others, some of them deny-only."""
     some = maker.chance.choices(sid_texts(descriptors) + ["WD", "S-1-3-4", "PS"], k=maker.chance.randint(1, 9))
+    if maker.chance.random() < 0.4:
+        some = among_others(maker, some)
     return ",".join(maker.chance.choice(["", "", "!"]) + sid for sid in some)
 
 

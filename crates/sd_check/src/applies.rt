@@ -6,7 +6,9 @@ ghost use Rattle.sd_check.specs.Applies.{applies, is_access, is_allow, is_deny, 
 ghost use Rattle.sd_check.specs.Applies.{subject};
 
 use crate::ask::Ask;
-use crate::trustee::{is_owner_rights, is_principal_self, meets_any, some_meets};
+use crate::trustee::{
+    is_owner_rights, is_principal_self, meets_any, meets_any_in_place, some_meets,
+};
 use sd_acl_view::AceView;
 use sd_kinds::{AceKind, INHERIT_ONLY, has_flag};
 use sd_token::LentToken;
@@ -28,15 +30,16 @@ fn meets_subject(ace: &AceView, view: &SdView, token: &mut LentToken, ask: &Ask)
         (is_deny ace.now.kind) token.old.holder.entries }
     ensures asks { Asks token.old token.new 1 }
 {
-    let sid = ace.sid();
+    // Most SIDs are compared in place. A copy would take longer than a short search.
+    let sid = ace.sid_in_place();
     let deny = is_deny(ace.kind());
     if is_principal_self(&sid) {
-        return meets_any(token, &ask.principal_self().unwrap_or(sid), deny);
+        return meets_any(token, &ask.principal_self().unwrap_or(sid.sid()), deny);
     }
     if is_owner_rights(&sid) {
-        return some_meets(token, view.owner(), deny);
+        return some_meets(token, view.owner_in_place(), deny);
     }
-    meets_any(token, &sid, deny)
+    meets_any_in_place(token, &sid, deny)
 }
 
 /// Whether it grants or denies on the object itself.

@@ -48,7 +48,7 @@ fn is_owned(view: &SdView, token: &mut LentToken) -> bool
     ensures value { result ≡ is_owned view.now token.old.holder.entries }
     ensures asks { Asks token.old token.new 1 }
 {
-    some_meets(token, view.owner(), false)
+    some_meets(token, view.owner_in_place(), false)
         && match view.dacl() {
             AclPart::List(acl) => !names_owner_rights(&acl),
             AclPart::Absent | AclPart::Null => true,
@@ -70,5 +70,5 @@ fn names_owner_rights(acl: &AclView) -> bool
 fn is_for_owner_rights(ace: &AceView) -> bool
     ensures { result ≡ is_for_owner_rights ace.now }
 {
-    is_effective(ace) && is_owner_rights(&ace.sid())
+    is_effective(ace) && is_owner_rights(&ace.sid_in_place())
 }

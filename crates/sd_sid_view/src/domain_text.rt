@@ -1,6 +1,6 @@
 //! The text of a domain, kept while SIDs of the domain are printed.
 
-ghost use Rattle.std.specs.Prelude.{◌≡◌, ◌≤◌, ◌++◌, length, take};
+ghost use Rattle.std.specs.Prelude.{◌≡◌, ◌≤◌, ◌++◌, take};
 ghost use Rattle.sd_sid.specs.SidText.{sub_text};
 ghost use Rattle.sd_sink.specs.Print.{Prints};
 

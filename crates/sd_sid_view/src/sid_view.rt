@@ -1,11 +1,12 @@
 //! SIDs read in place.
 
-ghost use Rattle.std.specs.Prelude.{◌≡◌, ◌≤◌, ◌<◌, ◌+◌, ◌*◌, ◌==◌, ◌&&◌, ◌||◌, drop, length, nat_le, slice_index};
+ghost use Rattle.std.specs.Prelude.{◌≡◌, ◌≤◌, ◌<◌, ◌+◌, ◌-◌, ◌*◌, ◌^◌, ◌==◌, ◌&&◌, ◌||◌, drop, length, nat_le, slice_index};
+ghost use Rattle.std.specs.Str.{bytes_eq};
 ghost use Rattle.byteorder.specs.Endian.{little_number};
 ghost use Rattle.std.specs.List.{flat_map};
 ghost use Rattle.sd_sink.specs.Print.{Prints};
 ghost use Rattle.sd_sid.specs.Sid.{sid_of, words};
-ghost use Rattle.sd_sid.specs.SidText.{alias_of, known_alias, relative_alias, sid_text, sub_text};
+ghost use Rattle.sd_sid.specs.SidText.{alias_of, known_alias, relative_alias, same_sid, sid_text, sub_text};
 ghost use Rattle.sd_sid.specs.Naming.{alias_by};
 ghost use Rattle.sd_text.specs.Limits.{most_subs};
 
@@ -71,19 +72,55 @@ impl<'a> SidView<'a> {
         Sid::at_front(self.bytes)
     }
 
+    /// The identifier authority, below 2^48.
     #[inline(always)]
-    fn authority(&self) -> u64
-        ensures { result ≡ self.now.authority }
+    pub fn authority(&self) -> u64
+        ensures value { result ≡ self.now.authority }
+        ensures limit { self.now.authority < 2 ^ 48 }
     {
-        BigEndian::read_u48(&self.bytes[2..])
+        authority_at_front(self.bytes)
     }
 
-    // How many sub-authorities it has.
+    /// How many sub-authorities it has, at most 15.
     #[inline(always)]
-    fn count(&self) -> usize
-        ensures { result ≡ length self.now.subs }
+    pub fn count(&self) -> usize
+        ensures value { result ≡ length self.now.subs }
+        ensures limit { length self.now.subs ≤ most_subs }
     {
         usize::from(self.bytes[1])
+    }
+
+    /// The last sub-authority, or 0 where there is none.
+    #[inline(always)]
+    pub fn last(&self) -> u32
+        ensures { result ≡ slice_index self.now.subs (length self.now.subs - 1) }
+    {
+        match self.count() {
+            0 => 0,
+            count => self.sub(count - 1),
+        }
+    }
+
+    /// Whether it has this authority and exactly these sub-authorities, as `Sid::is` finds it.
+    #[inline(always)]
+    pub fn is(&self, authority: u64, subs: &[u32]) -> bool
+        ensures { result ≡ same_sid self.now (record { authority = authority; subs = subs.now }) }
+    {
+        self.count() == subs.len() && self.authority() == authority && self.has_subs(subs)
+    }
+
+    // Whether these are the sub-authorities, where there are as many.
+    #[inline(always)]
+    fn has_subs(&self, subs: &[u32]) -> bool
+        requires { length subs.now ≡ length self.now.subs }
+        ensures { result ≡ bytes_eq self.now.subs subs.now }
+    {
+        for i in 0..subs.len() {
+            if self.sub(i) != subs[i] {
+                return false;
+            }
+        }
+        true
     }
 
     #[inline(always)]
@@ -227,6 +264,16 @@ impl<'a> SidView<'a> {
     {
         relative_alias(&self.sid(), domain)
     }
+}
+
+// The authority of the SID at the front of the bytes.
+#[inline(always)]
+fn authority_at_front(bytes: &[u8]) -> u64
+    requires { 8 ≤ length bytes.now }
+    ensures value { result ≡ (sid_of bytes.now).authority }
+    ensures limit { result < 2 ^ 48 }
+{
+    BigEndian::read_u48(&bytes[2..])
 }
 
 #[inline(always)]

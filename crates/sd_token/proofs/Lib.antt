@@ -1,3 +1,4 @@
+pub mod BlockLemmas
 mod Rows
 pub mod LookLemmas
 pub mod TokenLemmas

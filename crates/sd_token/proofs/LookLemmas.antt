@@ -2,10 +2,9 @@
 use Rattle.std.proofs.Common.{◌≡◌, ◌<◌, ◌≤◌, ◌+◌, ◌||◌, ℕ, suc, zero, Bool, true, false, if◌then◌else◌, List, [], ◌∷◌}
 use Rattle.std.proofs.Common.{length, take, get_or, ap, refl, arith}
 use Rattle.sd_sid.specs.Sid.{SecurityId}
-use Rattle.sd_token.specs.Inner.Search.{IsFirst}
 use Rattle.sd_token.specs.Token.{Entry, entry_meets, looks, meets}
 
-abbrev Found : Bool → ℕ → ℕ → Type 0
+abbrev pub Found : Bool → ℕ → ℕ → Type 0
 Found met looked i = (met ≡ true) × (looked ≡ i + 1)
 
 found_later : (b met none : Bool) (looked i : ℕ) → (b || none) ≡ false → (none ≡ false → Found met looked i)
@@ -15,7 +14,7 @@ found_later false met none looked i e later = let h = later e in (h.0, omega (ar
 
 pub found : (s : SecurityId) (deny : Bool) (entries : List Entry) (i : ℕ) (d : Entry) → i < length entries
     → meets s deny (take i entries) ≡ false → entry_meets s deny (get_or entries i d) ≡ true
-    → IsFirst s deny entries i
+    → Found (meets s deny entries) (looks s deny entries) i
 found s deny [] i d within none here = absurd (omega (arith, within))
 found s deny (e ∷ entries) zero d within none here = (rw here refl, rw here refl)
 found s deny (e ∷ entries) (suc i) d within none here =

@@ -1,16 +1,16 @@
 //! A token in memory that is lent, and the looks at its entries.
 
-ghost use Rattle.std.specs.Prelude.{◌≡◌, ◌≤◌, ◌<◌, ◌+◌, ◌*◌, false, length, take, slice_index_or, MatchOption};
-ghost use Rattle.sd_sid.specs.Sid.{IsSid};
+ghost use Rattle.std.specs.Prelude.{◌≡◌, ◌≤◌, ◌<◌, ◌*◌, length, slice_index_or};
 ghost use Rattle.sd_sink.specs.Counts.{counted};
 ghost use Rattle.sd_token.specs.Limits.{most_entries};
 ghost use Rattle.sd_token.specs.Token.{Asks, counted_by, entry_meets, looks, meets};
-ghost use Rattle.sd_token.specs.TokenWords.{entries_of, entry_words, sid_key};
-ghost use Rattle.sd_token.specs.Inner.Search.{IsFirst};
+ghost use Rattle.sd_token.specs.TokenWords.{entries_of, entry_words};
 
+use crate::blocks::search_in_blocks;
 use crate::token::EntryKind;
 use crate::words::{is_met, key_of};
 use sd_sid::Sid;
+use sd_sid_view::SidView;
 use std::marker::Model;
 
 /// A token whose entries are in memory that is lent. It counts every look at one of its entries, and the count is not
@@ -22,9 +22,6 @@ pub struct LentToken<'a> {
     level: Option<u32>,
     compared: u64,
 }
-
-/// The entries of a row, which are looked at without a test for the end between them.
-const ROW: usize = 8;
 
 /// How often entries of a token were looked at.
 pub struct Looks {
@@ -118,7 +115,22 @@ impl<'a> LentToken<'a> {
         ensures room { self.new.room ≡ self.old.room }
     {
         let (met, looked) = search(self.keys, self.words, sid, deny);
-        self.compared = self.compared.saturating_add(looked as u64);
+        count_all(&mut self.compared, looked);
+        met
+    }
+
+    /// Whether an entry meets a SID that is read in place. It counts what `meets_any` counts: the looks up to the first
+    /// entry that meets the SID. Keys are compared 16 at a time, so up to 15 behind that entry are compared in the same
+    /// step. They decide nothing, and do not count.
+    pub fn meets_any_in_place(&mut self, sid: &SidView<'_>, deny: bool) -> bool
+        ensures value { result ≡ meets sid.now deny self.old.holder.entries }
+        ensures holder { self.new.holder ≡ self.old.holder }
+        ensures compared { self.new.compared ≡ counted_by (looks sid.now deny self.old.holder.entries) self.old.compared }
+        ensures asks { Asks self.old self.new 1 }
+        ensures room { self.new.room ≡ self.old.room }
+    {
+        let (met, looked) = search_in_blocks(self.keys, self.words, sid, deny);
+        count_all(&mut self.compared, looked);
         met
     }
 
@@ -154,58 +166,20 @@ fn search(keys: &[u32], words: &[u32], sid: &Sid, deny: bool) -> (bool, usize)
     ensures met { result.0 ≡ meets sid.now deny (entries_of keys.now words.now) }
     ensures looked { result.1 ≡ looks sid.now deny (entries_of keys.now words.now) }
 {
-    match first_met(keys, words, sid, deny) {
-        Some(i) => (true, i + 1),
-        None => (false, keys.len()),
-    }
-}
-
-// The first entry that meets the SID. Entries are looked at in rows, so that the end of the keys is not tested at each.
-#[inline(always)]
-fn first_met(keys: &[u32], words: &[u32], sid: &Sid, deny: bool) -> Option<usize>
-    requires few { length keys.now ≤ most_entries }
-    requires whole { entry_words * length keys.now ≤ length words.now }
-    ensures { MatchOption result (meets sid.now deny (entries_of keys.now words.now) ≡ false)
-        (λ i. IsFirst sid.now deny (entries_of keys.now words.now) i) }
-{
     let key = key_of(sid);
-    let mut at = 0;
-    while keys.len() - at >= ROW {
-        if let Some(i) = first_of_row(keys, words, at, ROW, key, sid, deny) {
-            return Some(i);
+    for i in 0..keys.len() {
+        if keys[i] == key && is_met(words, i, sid, deny) {
+            return (true, i + 1);
         }
-        at += ROW;
     }
-    first_of_row(keys, words, at, keys.len() - at, key, sid, deny)
+    (false, keys.len())
 }
 
-// The same among the entries of a row, where none before it meets the SID. A row of known size becomes a sequence of
-// looks without a loop.
-#[inline(always)]
-fn first_of_row(
-    keys: &[u32],
-    words: &[u32],
-    from: usize,
-    size: usize,
-    key: u32,
-    sid: &Sid,
-    deny: bool,
-) -> Option<usize>
-    requires within { from + size ≤ length keys.now }
-    requires whole { entry_words * length keys.now ≤ length words.now }
-    requires key { key ≡ sid_key sid.now }
-    requires limit { IsSid sid.now }
-    requires none { meets sid.now deny (take from (entries_of keys.now words.now)) ≡ false }
-    ensures { MatchOption result (meets sid.now deny (take (from + size) (entries_of keys.now words.now)) ≡ false)
-        (λ i. IsFirst sid.now deny (entries_of keys.now words.now) i) }
+// Counts so many looks. At `u64::MAX` the count stays.
+fn count_all(looks: &mut u64, looked: usize)
+    ensures { looks.new ≡ counted_by looked looks.old }
 {
-    for place in 0..size {
-        let i = from + place;
-        if keys[i] == key && is_met(words, i, sid, deny) {
-            return Some(i);
-        }
-    }
-    None
+    *looks = looks.saturating_add(looked as u64);
 }
 
 // A predictable branch beats `saturating_add` here.

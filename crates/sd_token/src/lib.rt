@@ -1,6 +1,7 @@
 //! Tokens (MS-DTYP 2.5.2): the SIDs of whoever asks for access.
 #![tactic(auto)]
 
+mod blocks;
 mod lent;
 mod limits;
 mod token;

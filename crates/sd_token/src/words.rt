@@ -1,13 +1,15 @@
 //! The numbers of 32 bits that stand for an entry of a token.
 
-ghost use Rattle.std.specs.Prelude.{◌≡◌, ◌≤◌, ◌+◌, ◌*◌, length, take, drop};
+ghost use Rattle.std.specs.Prelude.{◌≡◌, ◌≤◌, ◌<◌, ◌+◌, ◌*◌, ◌%◌, ◌^◌, length, take, drop};
 ghost use Rattle.sd_sid.specs.Sid.{IsSid};
 ghost use Rattle.sd_sid.specs.SidText.{same_sid};
+ghost use Rattle.sd_text.specs.Limits.{most_subs};
 ghost use Rattle.sd_token.specs.Token.{entry_meets, is_enabled};
 ghost use Rattle.sd_token.specs.TokenWords.{entry_of, entry_words, kind_of, sid_key};
 
 use crate::token::EntryKind;
 use sd_sid::Sid;
+use sd_sid_view::SidView;
 
 /// How many numbers an entry has, beside its key.
 pub const ENTRY_WORDS: usize = 19;
@@ -22,8 +24,27 @@ pub fn key_of(sid: &Sid) -> u32
     ensures limits { IsSid sid.now }
 {
     let subs = sid.subs();
-    let last = subs.last().copied().unwrap_or(0);
-    ((subs.len() as u32) << 28).wrapping_add(last)
+    key(subs.len(), subs.last().copied().unwrap_or(0))
+}
+
+/// The key of a SID that is read in place.
+#[inline(always)]
+pub(crate) fn key_in_place(sid: &SidView<'_>) -> u32
+    ensures value { result ≡ sid_key sid.now }
+    ensures limit { sid.now.authority < 2 ^ 48 }
+{
+    // The call gives the prover the limit of the authority.
+    let _ = sid.authority();
+    key(sid.count(), sid.last())
+}
+
+// The key of a SID that has so many sub-authorities, and this one last.
+#[inline(always)]
+fn key(count: usize, last: u32) -> u32
+    requires { count ≤ most_subs }
+    ensures { result ≡ (count * 2 ^ 28 + last) % 2 ^ 32 }
+{
+    ((count as u32) << 28).wrapping_add(last)
 }
 
 /// The numbers of an entry.
@@ -52,11 +73,30 @@ pub(crate) fn is_met(words: &[u32], index: usize, sid: &Sid, deny: bool) -> bool
     is_same(entry, sid) && (is_enabled(entry[3]) || deny)
 }
 
+/// The same for a SID that is read in place.
+// Not inlined, for the same reason.
+#[inline(never)]
+pub(crate) fn is_met_in_place(words: &[u32], index: usize, sid: &SidView<'_>, deny: bool) -> bool
+    requires { entry_words * (index + 1) ≤ length words.now }
+    ensures { result ≡ entry_meets sid.now deny (entry_of (take entry_words (drop (entry_words * index) words.now))) }
+{
+    let entry = &words[ENTRY_WORDS * index..ENTRY_WORDS * (index + 1)];
+    is_same_in_place(entry, sid) && (is_enabled(entry[3]) || deny)
+}
+
 fn is_same(entry: &[u32], sid: &Sid) -> bool
     requires { length entry.now ≡ entry_words }
     ensures { result ≡ same_sid (entry_of entry.now).0 sid.now }
 {
     authority_of(entry) == sid.authority() && subs_of(entry) == sid.subs()
+}
+
+#[tactic(auto, using(crate::proofs::TokenLemmas::same_sid_comm))]
+fn is_same_in_place(entry: &[u32], sid: &SidView<'_>) -> bool
+    requires { length entry.now ≡ entry_words }
+    ensures { result ≡ same_sid (entry_of entry.now).0 sid.now }
+{
+    sid.is(authority_of(entry), subs_of(entry))
 }
 
 fn authority_of(entry: &[u32]) -> u64

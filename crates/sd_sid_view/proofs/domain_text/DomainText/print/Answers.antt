@@ -1,4 +1,3 @@
-use Rattle.std.proofs.Common.{◌≡◌, ap, sym, ◌∙◌}
 use Rattle.sd_sink.proofs.laws.PrintLemmas.{prints_then}
 use Rattle.sd_sid_view.proofs.domain_text.DomainText.print.Goals as goal
 

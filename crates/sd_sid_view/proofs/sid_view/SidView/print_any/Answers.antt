@@ -12,5 +12,5 @@ returns g c =
     let subs = ap (λ (n : ℕ). words n (take (length bytes - 8) (drop 8 bytes))) c.from.ensures
     ∙ ap (words (slice_index bytes 1)) (take_rest bytes 8) ∙ ap (λ (s : SecurityId). s.subs) c.self.view_is in
     prints_then c.put.ensures
-    (prints_then (rw c.authority.ensures at c.print_authority.ensures)
+    (prints_then (rw c.authority.ensures.value at c.print_authority.ensures)
     (prints_as (ap (flat_map sub_text) subs) c.print_subs.ensures))
