@@ -1,7 +1,6 @@
 //! Hex digits read in blocks, beside the crate `hex`, whose definition is their contract.
 
-ghost use Rattle.std.specs.Prelude.{◌≡◌, ◌≤◌, ◌<◌, ◌*◌, false, true, length, take, IfSome, Ok, Some, None, if◌then◌else◌, nat_lt};
-ghost use Rattle.std.specs.Prelude.{slice_index, ℕ};
+ghost use Rattle.std.specs.Prelude.{◌≡◌, ◌≤◌, ◌<◌, ◌*◌, true, length, take, IfSome, Ok, Some, None, if◌then◌else◌, nat_lt};
 ghost use Rattle.hex.specs.Hex.{hex_digit_value};
 ghost use Rattle.sd_buffer.specs.Text.{hex_spells};
 ghost use Rattle.sd_buffer.specs.Inner.HexBlocks.{AreValues, joined_pairs};
@@ -67,12 +66,14 @@ fn digit_value(digit: u8) -> u8
     ensures value { hex_digit_value digit ≡ (if nat_lt result 16 then Some result else None) }
     ensures most { result ≤ 16 }
 {
-    if b'0' <= digit && digit <= b'9' {
-        digit - b'0'
-    } else if b'A' <= digit && digit <= b'F' {
-        digit - b'A' + 10
-    } else if b'a' <= digit && digit <= b'f' {
-        digit - b'a' + 10
+    let number = digit.wrapping_sub(b'0');
+    let place = digit.wrapping_sub(b'A');
+    // The place without the bit for 32, by which a small letter differs from its capital.
+    let letter = place % 32 + place / 64 * 64;
+    if number < 10 {
+        number
+    } else if letter < 6 {
+        letter + 10
     } else {
         NO_DIGIT
     }
