@@ -17,7 +17,7 @@ use Rattle.base64.specs.Tables.{all_below}
 use Rattle.sd_buffer.specs.Text.{base64_spells}
 use Rattle.sd_buffer.specs.declared.buffer.TextFault.{TextFault}
 use Rattle.sd_buffer.specs.Inner.Base64Blocks.{AreSixBits, joined_groups, symbol_value}
-use Rattle.sd_text.proofs.laws.Slices.{front-of-part}
+use Rattle.sd_buffer.proofs.laws.Slices.{front-of-part}
 use Rattle.sd_buffer.proofs.laws.Base64Bytes.{IsBytes-drop, IsBytes-take, spelled-base64}
 use Rattle.sd_buffer.proofs.laws.SpelledBase64.{encode-whole, one_encoding, wrong-base64}
 

@@ -12,7 +12,7 @@ use sd_acl_view::AceView;
 use sd_kinds::{AceKind, print_flags};
 use sd_rights::print_rights;
 use sd_sid::Naming;
-use sd_sid_view::{DomainText, SidView};
+use sd_sid_view::SidView;
 use sd_sink::Print;
 use sd_text::{print_decimal, print_hex};
 use uuid::Uuid;
@@ -23,7 +23,6 @@ pub fn print_ace<P: Print>(
     part: &[u8; PART_SIZE],
     number: u32,
     ace: &AceView<'_>,
-    last: &mut DomainText,
     out: &mut P,
 )
     ensures { Prints (P.told out.old) (P.told out.new) (ace_line naming.now part.now number ace.now) }
@@ -33,7 +32,7 @@ pub fn print_ace<P: Print>(
     print_access(kind, ace.flags(), ace.mask(), out);
     print_object(b" object ", ace.object(), out);
     print_object(b" inherited ", ace.inherited(), out);
-    print_trustee(naming, &ace.sid_in_place(), last, out);
+    print_trustee(naming, &ace.sid_in_place(), out);
 }
 
 // The part, the number and the kind.
@@ -91,10 +90,10 @@ fn print_object<P: Print>(name: &[u8], guid: Option<Uuid>, out: &mut P)
     }
 }
 
-fn print_trustee<P: Print>(naming: &Naming, sid: &SidView<'_>, last: &mut DomainText, out: &mut P)
+fn print_trustee<P: Print>(naming: &Naming, sid: &SidView<'_>, out: &mut P)
     ensures { Prints (P.told out.old) (P.told out.new) (ace_trustee naming.now sid.now) }
 {
     out.put(b" sid ");
-    print_sid(naming, sid, last, out);
+    print_sid(naming, sid, out);
     out.put(b"\n");
 }

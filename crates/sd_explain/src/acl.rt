@@ -6,7 +6,6 @@ ghost use Rattle.sd_explain.specs.Explain.{ace_lines, acl_lines, count_line};
 use crate::ace::print_ace;
 use sd_acl_view::AclView;
 use sd_sid::Naming;
-use sd_sid_view::DomainText;
 use sd_sink::Print;
 use sd_text::print_decimal;
 use sd_view::AclPart;
@@ -15,13 +14,7 @@ use sd_view::AclPart;
 pub const PART_SIZE: usize = 5;
 
 /// Prints the lines of an ACL: that it is absent or null, or how many ACEs it has, and then a line for each.
-pub fn print_acl<P: Print>(
-    naming: &Naming,
-    part: &[u8; PART_SIZE],
-    acl: &AclPart<'_>,
-    last: &mut DomainText,
-    out: &mut P,
-)
+pub fn print_acl<P: Print>(naming: &Naming, part: &[u8; PART_SIZE], acl: &AclPart<'_>, out: &mut P)
     ensures { Prints (P.told out.old) (P.told out.new) (acl_lines naming.now part.now acl.now) }
 {
     match acl {
@@ -35,7 +28,7 @@ pub fn print_acl<P: Print>(
         }
         AclPart::List(acl) => {
             print_count(part, acl.count(), out);
-            print_aces(naming, part, acl, last, out);
+            print_aces(naming, part, acl, out);
         }
     }
 }
@@ -49,18 +42,12 @@ fn print_count<P: Print>(part: &[u8; PART_SIZE], count: u16, out: &mut P)
     out.put(b"\n");
 }
 
-fn print_aces<P: Print>(
-    naming: &Naming,
-    part: &[u8; PART_SIZE],
-    acl: &AclView<'_>,
-    last: &mut DomainText,
-    out: &mut P,
-)
+fn print_aces<P: Print>(naming: &Naming, part: &[u8; PART_SIZE], acl: &AclView<'_>, out: &mut P)
     ensures { Prints (P.told out.old) (P.told out.new) (ace_lines naming.now part.now acl.now) }
 {
     let mut number = 0;
     for ace in acl.aces() {
         number += 1;
-        print_ace(naming, part, number, &ace, last, out);
+        print_ace(naming, part, number, &ace, out);
     }
 }

@@ -13,7 +13,6 @@ use crate::acl::print_acl;
 use crate::control::{print_control, print_rm};
 use crate::sid::print_sid_line;
 use sd_sid::{Naming, Sid};
-use sd_sid_view::DomainText;
 use sd_sink::{Gather, Print, Sink, SinkFault};
 use sd_view::SdView;
 
@@ -66,12 +65,11 @@ fn print_lines<P: Print>(naming: &Naming, view: &SdView<'_>, out: &mut P)
     ensures printed { Prints (P.told out.old) (P.told out.new) (explain naming.now view.now) }
     ensures limits { IsDescriptor view.now }
 {
-    let mut last = DomainText::new();
     print_control(view.control(), out);
     print_rm(view.rm(), out);
-    print_sid_line(naming, b"owner ", view.owner_in_place(), &mut last, out);
-    print_sid_line(naming, b"group ", view.group_in_place(), &mut last, out);
-    print_acl(naming, b"dacl ", &view.dacl(), &mut last, out);
-    print_acl(naming, b"sacl ", &view.sacl(), &mut last, out);
+    print_sid_line(naming, b"owner ", view.owner_in_place(), out);
+    print_sid_line(naming, b"group ", view.group_in_place(), out);
+    print_acl(naming, b"dacl ", &view.dacl(), out);
+    print_acl(naming, b"sacl ", &view.sacl(), out);
     out.put(b"end\n");
 }

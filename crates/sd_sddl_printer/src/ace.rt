@@ -10,12 +10,11 @@ use sd_acl_view::AceView;
 use sd_kinds::{AceKind, print_flags};
 use sd_rights::print_rights;
 use sd_sid::Naming;
-use sd_sid_view::DomainText;
 use sd_sink::Print;
 use uuid::Uuid;
 
 /// Prints an ACE.
-pub fn print_ace<P: Print>(naming: &Naming, ace: &AceView<'_>, last: &mut DomainText, out: &mut P)
+pub fn print_ace<P: Print>(naming: &Naming, ace: &AceView<'_>, out: &mut P)
     ensures { Prints (P.told out.old) (P.told out.new) (ace_text naming.now ace.now) }
 {
     let kind = ace.kind();
@@ -24,7 +23,7 @@ pub fn print_ace<P: Print>(naming: &Naming, ace: &AceView<'_>, last: &mut Domain
     out.put(b";");
     print_rights(kind, ace.mask(), out);
     print_objects(ace, out);
-    print_trustee(naming, &ace.sid_in_place(), last, out);
+    print_trustee(naming, &ace.sid_in_place(), out);
     out.put(b")");
 }
 

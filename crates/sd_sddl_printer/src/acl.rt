@@ -8,7 +8,6 @@ use crate::ace::print_ace;
 use sd_acl_view::AclView;
 use sd_parts::AclFlags;
 use sd_sid::Naming;
-use sd_sid_view::DomainText;
 use sd_sink::Print;
 use sd_view::AclPart;
 
@@ -21,7 +20,6 @@ pub fn print_acl<P: Print>(
     head: &[u8; HEAD_SIZE],
     flags: AclFlags,
     part: &AclPart<'_>,
-    last: &mut DomainText,
     out: &mut P,
 )
     ensures { Prints (P.told out.old) (P.told out.new)
@@ -37,16 +35,16 @@ pub fn print_acl<P: Print>(
         AclPart::List(acl) => {
             out.put(head);
             print_acl_flags(flags, out);
-            print_aces(naming, acl, last, out);
+            print_aces(naming, acl, out);
         }
     }
 }
 
-fn print_aces<P: Print>(naming: &Naming, acl: &AclView<'_>, last: &mut DomainText, out: &mut P)
+fn print_aces<P: Print>(naming: &Naming, acl: &AclView<'_>, out: &mut P)
     ensures { Prints (P.told out.old) (P.told out.new) (flat_map (ace_text naming.now) acl.now) }
 {
     for ace in acl.aces() {
-        print_ace(naming, &ace, last, out);
+        print_ace(naming, &ace, out);
     }
 }
 

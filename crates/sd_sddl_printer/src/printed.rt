@@ -15,7 +15,7 @@ use crate::acl::{HEAD_SIZE, print_acl};
 use crate::trustee::print_trustee;
 use sd_parts::{AclFlags, Which};
 use sd_sid::{Naming, Sid};
-use sd_sid_view::{DomainText, SidView};
+use sd_sid_view::SidView;
 use sd_sink::{Gather, Print, Sink, SinkFault};
 use sd_view::SdView;
 
@@ -72,13 +72,12 @@ fn print_parts<P: Print>(naming: &Naming, view: &SdView<'_>, out: &mut P)
     ensures limits { IsDescriptor view.now }
 {
     let control = view.control();
-    let mut last = DomainText::new();
-    print_sid(naming, b"O:", view.owner_in_place(), &mut last, out);
-    print_sid(naming, b"G:", view.group_in_place(), &mut last, out);
+    print_sid(naming, b"O:", view.owner_in_place(), out);
+    print_sid(naming, b"G:", view.group_in_place(), out);
     let dacl_flags = AclFlags::of(Which::Dacl, control);
     let sacl_flags = AclFlags::of(Which::Sacl, control);
-    print_acl(naming, b"D:", dacl_flags, &view.dacl(), &mut last, out);
-    print_acl(naming, b"S:", sacl_flags, &view.sacl(), &mut last, out);
+    print_acl(naming, b"D:", dacl_flags, &view.dacl(), out);
+    print_acl(naming, b"S:", sacl_flags, &view.sacl(), out);
 }
 
 // Prints a SID behind its head; nothing where there is none.
@@ -86,13 +85,12 @@ fn print_sid<P: Print>(
     naming: &Naming,
     head: &[u8; HEAD_SIZE],
     sid: Option<SidView<'_>>,
-    last: &mut DomainText,
     out: &mut P,
 )
     ensures { Prints (P.told out.old) (P.told out.new) (sid_text_of naming.now head.now sid.entry) }
 {
     if let Some(sid) = sid {
         out.put(head);
-        print_trustee(naming, &sid, last, out);
+        print_trustee(naming, &sid, out);
     }
 }

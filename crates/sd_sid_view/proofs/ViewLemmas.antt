@@ -1,9 +1,9 @@
 -- The parts of a SID in its bytes.
 use Rattle.std.proofs.Common.{◌≡◌, ◌≤◌, ◌<◌, ℕ, zero, suc, ◌+◌, ◌-◌, ◌*◌, true, ◌&&◌, refl, sym, ap, ◌∙◌}
-use Rattle.std.proofs.Common.{List, [], ◌∷◌, ◌++◌, slice_index, codes, drop, length, arith, append_assoc}
+use Rattle.std.proofs.Common.{List, ◌++◌, slice_index, codes, drop, length, arith}
 use Rattle.std.specs.Prelude.{◌==◌, nat_le}
 use Rattle.std.proofs.lemmas.Bool.Decides.{nat_tests}
-use Rattle.std.proofs.lemmas.List.{append-nil, drop-drop}
+use Rattle.std.proofs.lemmas.List.{drop-drop}
 use Rattle.std.specs.List.{flat_map}
 use Rattle.std.specs.Fmt.{digits}
 use Rattle.byteorder.specs.Endian.{little_number}
@@ -51,37 +51,3 @@ domain_view-text bytes s e test =
     (sym (drop-drop 4 8 bytes))
     ∙ domain_words-text s (slice_index bytes 1) (drop 8 bytes) five (ap (λ (t : SecurityId). t.subs) (sym e))
     (omega (arith, count, some)) first
-
-account_subs-text : (s : SecurityId) (a b c d e : ℕ) (rest : List ℕ) → s.authority ≡ 5 → a ≡ 21
-    → s.subs ≡ a ∷ b ∷ c ∷ d ∷ e ∷ rest → length s.subs ≡ 5
-    → codes "S-1-5-21" ++ ((sub_text b ++ (sub_text c ++ sub_text d)) ++ sub_text e) ≡ sid_text s
-unfolding digits
-account_subs-text s a b c d e [] five domain are long =
-    rw (are, five, domain) (
-    ap (λ (xs : List ℕ). codes "S-1-5-21" ++ xs)
-    (append_assoc (sub_text b) (sub_text c ++ sub_text d) (sub_text e)
-    ∙ ap (λ (xs : List ℕ). sub_text b ++ xs) (append_assoc (sub_text c) (sub_text d) (sub_text e)
-    ∙ ap (λ (xs : List ℕ). sub_text c ++ (sub_text d ++ xs)) (sym (append-nil (sub_text e))))))
-account_subs-text s a b c d e (f ∷ rest) five domain are long = absurd (omega (arith, ap length are, long))
-
-subs_of-five : (xs : List ℕ) → length xs ≡ 5 → (rest : List ℕ)
-    × (xs ≡ slice_index xs 0 ∷ slice_index xs 1 ∷ slice_index xs 2 ∷ slice_index xs 3 ∷ slice_index xs 4 ∷ rest)
-subs_of-five [] long = absurd (omega arith)
-subs_of-five (a ∷ []) long = absurd (omega arith)
-subs_of-five (a ∷ b ∷ []) long = absurd (omega arith)
-subs_of-five (a ∷ b ∷ c ∷ []) long = absurd (omega arith)
-subs_of-five (a ∷ b ∷ c ∷ d ∷ []) long = absurd (omega arith)
-subs_of-five (a ∷ b ∷ c ∷ d ∷ e ∷ rest) long = (rest, refl)
-
--- the text of the SID of an account
-pub account-text : (s : SecurityId) → (length s.subs == 5 && s.authority == 5 && slice_index s.subs 0 == 21) ≡ true
-    → codes "S-1-5-21"
-    ++ ((sub_text (slice_index s.subs 1) ++ (sub_text (slice_index s.subs 2) ++ sub_text (slice_index s.subs 3)))
-    ++ sub_text (slice_index s.subs 4))
-    ≡ sid_text s
-account-text s test =
-    let long : length s.subs ≡ 5 = grind (arith, nat_tests) in
-    let five : s.authority ≡ 5 = grind (arith, nat_tests) in
-    let domain : slice_index s.subs 0 ≡ 21 = grind (arith, nat_tests) in
-    let are = subs_of-five s.subs long in
-    account_subs-text s _ _ _ _ _ are.0 five domain are.1 long

@@ -10,7 +10,6 @@ ghost use Rattle.sd_sid.specs.SidText.{alias_of, known_alias, relative_alias, sa
 ghost use Rattle.sd_sid.specs.Naming.{alias_by};
 ghost use Rattle.sd_text.specs.Limits.{most_subs};
 
-use crate::domain_text::{DomainNumbers, DomainText};
 use byteorder::{BigEndian, ByteOrder, LittleEndian};
 use sd_alias::MOST_KNOWN;
 use sd_sid::{Naming, Sid, find_named, print_authority, relative_alias, usable};
@@ -25,9 +24,6 @@ const HEADER_SIZE: usize = 8;
 const NT: u64 = 5;
 
 const DOMAIN: u32 = 21;
-
-/// The sub-authorities of an account of a domain: 21, three numbers of the domain, and one of the account.
-const ACCOUNT_SUBS: usize = 5;
 
 /// The first sub-authority of the SID of user-mode drivers, `S-1-5-84-0-0-0-0-0`. No other name has six.
 const USER_MODE_DRIVERS: u32 = 84;
@@ -146,45 +142,6 @@ impl<'a> SidView<'a> {
             );
         } else {
             self.print_any(out);
-        }
-    }
-
-    /// Prints the text, as `print_text` does and in the same pieces. The numbers of its domain are taken from the SID that
-    /// was printed last, if that was of the same domain.
-    #[inline(always)]
-    pub fn print_text_after<P: Print>(&self, last: &mut DomainText, out: &mut P)
-        ensures put { Prints (P.told out.old) (P.told out.new) (sid_text self.now) }
-    {
-        if self.is_account() {
-            out.put(b"S-1-5-21");
-            last.print(self.domain_numbers(), out);
-            print_decimal_behind(b'-', self.sub(4), out);
-        } else {
-            self.print_text(out);
-        }
-    }
-
-    // Whether it is of a domain, and has as many sub-authorities as the SID of an account.
-    #[inline(always)]
-    fn is_account(&self) -> bool
-        ensures { result ≡ (length self.now.subs == 5 && self.now.authority == 5 && slice_index self.now.subs 0 == 21) }
-    {
-        self.count() == ACCOUNT_SUBS && self.authority() == NT && self.sub(0) == DOMAIN
-    }
-
-    #[inline(always)]
-    fn domain_numbers(&self) -> DomainNumbers
-        requires { 4 ≤ length self.now.subs }
-        ensures { result ≡ record {
-          first = slice_index self.now.subs 1;
-          second = slice_index self.now.subs 2;
-          third = slice_index self.now.subs 3;
-        } }
-    {
-        DomainNumbers {
-            first: self.sub(1),
-            second: self.sub(2),
-            third: self.sub(3),
         }
     }
 

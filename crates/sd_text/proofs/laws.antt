@@ -5,5 +5,4 @@ pub mod Capitals
 pub mod HexDigits
 pub mod NameLaws
 pub mod Options
-pub mod Slices
 pub mod Tables

@@ -54,20 +54,10 @@ pub fn print_decimal<P: Print>(number: u32, out: &mut P)
 pub fn print_decimal_behind<P: Print>(character: u8, number: u32, out: &mut P)
     ensures { Prints (P.told out.old) (P.told out.new) (character ∷ decimal number) }
 {
-    let (cells, end) = decimal_behind(character, number);
-    out.put_front(&cells, end);
-}
-
-/// A character and a number in decimal at the front of the cells, and how many cells they take.
-#[inline(always)]
-pub fn decimal_behind(character: u8, number: u32) -> ([u8; FRONT], usize)
-    ensures written { take result.1 result.0 ≡ character ∷ decimal number }
-    ensures within { result.1 ≤ 11 }
-{
     let mut cells = [0; FRONT];
     cells[0] = character;
     let end = write_decimal(number, &mut cells, 1);
-    (cells, end)
+    out.put_front(&cells, end);
 }
 
 /// Prints the last hex digits of a number, as many as are asked for, with leading zeros.

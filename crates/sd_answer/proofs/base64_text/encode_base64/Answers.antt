@@ -2,7 +2,7 @@ use Rattle.std.proofs.Common.{rules, ◌≡◌, ◌≤◌, ◌+◌, ◌-◌, ◌
 use Rattle.std.proofs.lemmas.List.{length-take-le, take_rest}
 use Rattle.std.proofs.lemmas.Slice.{take-put_mid}
 use Rattle.base64.specs.Rfc4648.{encode_symbols}
-use Rattle.sd_text.proofs.laws.Slices.{front-of-part}
+use Rattle.sd_buffer.proofs.laws.Slices.{front-of-part}
 use Rattle.sd_answer.proofs.Base64Blocks.{encode-block, encode-left}
 use Rattle.sd_answer.proofs.base64_text.encode_base64.Goals as goal
 

@@ -6,4 +6,4 @@ pub returns : goal.returns
 unfolding sid_words
 returns g c =
     let alias = rw c.alias_by.ensures at c.print_alias.ensures in
-    prints_then c.print_text_after.ensures.put alias
+    prints_then c.print_text.ensures.put alias
