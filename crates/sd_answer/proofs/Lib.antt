@@ -1,4 +1,3 @@
-pub mod Base64Blocks
 pub mod Base64Lemmas
 pub mod FaultLemmas
 pub mod HexTextLemmas

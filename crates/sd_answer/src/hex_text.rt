@@ -12,6 +12,7 @@ pub const SPELLED: usize = 1024;
 /// The bytes that are encoded at once: their digits fill two vectors of 16 bytes.
 const BLOCK: usize = 16;
 
+/// The digits of a block.
 const DIGITS: usize = 2 * BLOCK;
 
 /// Prints the bytes as lower-case hex, by way of the cells.

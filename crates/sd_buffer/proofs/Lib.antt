@@ -1,5 +1,5 @@
-pub mod Base64Blocks
 pub mod Decoded
 pub mod HexBlocks
 pub mod HexReadingLaws
 pub mod laws
+pub mod Slices

@@ -1,5 +1,3 @@
 -- Laws of the definitions alone, which crates above may cite.
-pub mod Base64Bytes
 pub mod HexPairs
-pub mod Slices
 pub mod SpelledBase64

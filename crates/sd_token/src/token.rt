@@ -30,7 +30,8 @@ pub enum EntryKind {
 /// Who asks for access: the SIDs of a user and its groups (MS-DTYP 2.5.2), at most 1,024, and perhaps an integrity
 /// level.
 ///
-/// A token counts every look at one of its entries. It is not cloned, so no look goes uncounted.
+/// A token counts every look at one of its entries. It is not cloned, so no look goes uncounted. What is no look, though its
+/// key is compared, `LentToken::meets_any_in_place` says.
 #[derive(Drop)]
 pub struct Token {
     // A key for each entry, and 19 numbers for each.
