@@ -14,20 +14,26 @@ const PAIRS: usize = BLOCK / 2;
 /// What stands for a character that is no digit. It is above the value of each digit.
 const NO_DIGIT: u8 = 16;
 
-// Decodes whole blocks of digits, up to one that has another character, to the front of the cells. Says how many bytes
-// these are.
+// Decodes blocks of digits, up to one that has another character, to the front of the cells. Says how many bytes these
+// are: none where the digits are fewer than a block. The last block ends with the digits, so it may begin with some that
+// were read before.
 pub(crate) fn decode_blocks(pairs: &[u8], cells: &mut [u8]) -> usize
     requires { length pairs.now ≤ 2 * length cells.old }
     ensures within { 2 * result ≤ length pairs.now }
     ensures spelled { hex_spells (take (2 * result) pairs.now) ≡ Ok (take result cells.new) }
 {
+    let count = pairs.len() / 2;
+    if count < PAIRS {
+        return 0;
+    }
     let mut done = 0;
-    while 2 * done + BLOCK <= pairs.len() {
-        let Some(bytes) = decode_block(&pairs[2 * done..2 * done + BLOCK]) else {
+    while done < count {
+        let at = done.min(count - PAIRS);
+        let Some(bytes) = decode_block(&pairs[2 * at..2 * at + BLOCK]) else {
             return done;
         };
-        cells[done..done + PAIRS].copy_from_slice(&bytes);
-        done += PAIRS;
+        cells[at..at + PAIRS].copy_from_slice(&bytes);
+        done = at + PAIRS;
     }
     done
 }
