@@ -67,6 +67,7 @@ fn values_of(digits: &[u8]) -> ([u8; BLOCK], bool)
     (values, most < NO_DIGIT)
 }
 
+// The value of a digit in either case, or `NO_DIGIT`.
 #[inline(always)]
 fn digit_value(digit: u8) -> u8
     ensures value { hex_digit_value digit ≡ (if nat_lt result 16 then Some result else None) }

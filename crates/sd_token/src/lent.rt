@@ -13,8 +13,8 @@ use sd_sid::Sid;
 use sd_sid_view::SidView;
 use std::marker::Model;
 
-/// A token whose entries are in memory that is lent. It counts every look at one of its entries, and the count is not
-/// lost: a lent token has to be ended, and what it counted has to go somewhere.
+/// A token whose entries are in memory that is lent. It counts the looks at its entries as a `Token` does, and the count is
+/// not lost: a lent token has to be ended, and what it counted has to go somewhere.
 pub struct LentToken<'a> {
     // A key for each entry, so that most looks at an entry read these four bytes and no more.
     keys: &'a [u32],
@@ -119,9 +119,9 @@ impl<'a> LentToken<'a> {
         met
     }
 
-    /// Whether an entry meets a SID that is read in place. It counts what `meets_any` counts: the looks up to the first
-    /// entry that meets the SID. Keys are compared 16 at a time, so up to 15 behind that entry are compared in the same
-    /// step. They decide nothing, and do not count.
+    /// Whether an entry has a SID that is read in place, and is enabled or may be deny-only. It counts what `meets_any`
+    /// counts: the looks up to the first such entry. Keys are compared 16 at a time, so those of up to 15 entries behind it
+    /// are compared in the same step. They decide nothing, and do not count.
     pub fn meets_any_in_place(&mut self, sid: &SidView<'_>, deny: bool) -> bool
         ensures value { result ≡ meets sid.now deny self.old.holder.entries }
         ensures holder { self.new.holder ≡ self.old.holder }

@@ -30,8 +30,9 @@ pub enum EntryKind {
 /// Who asks for access: the SIDs of a user and its groups (MS-DTYP 2.5.2), at most 1,024, and perhaps an integrity
 /// level.
 ///
-/// A token counts every look at one of its entries. It is not cloned, so no look goes uncounted. What is no look, though its
-/// key is compared, `LentToken::meets_any_in_place` says.
+/// A token counts the looks at its entries. A search looks at one after the other, up to the entry that meets the SID. A
+/// token is not cloned, so no look goes uncounted. `LentToken::meets_any_in_place` compares keys in steps of 16, and those
+/// behind that entry do not count.
 #[derive(Drop)]
 pub struct Token {
     // A key for each entry, and 19 numbers for each.
