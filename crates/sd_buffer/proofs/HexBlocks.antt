@@ -1,5 +1,5 @@
 -- Blocks of hex digits: what their values make, and what is spelled with a block more.
-use Rattle.std.proofs.Common.{◌≡◌, ◌≤◌, ◌<◌, ℕ, suc, ◌+◌, ◌*◌, ◌%◌, ◌^◌, List, [], ◌∷◌, ◌++◌, length, take, drop, Option, Some, None, Ok}
+use Rattle.std.proofs.Common.{◌≡◌, ◌≤◌, ◌<◌, ℕ, ◌+◌, ◌*◌, ◌%◌, ◌^◌, List, [], ◌∷◌, ◌++◌, length, take, drop, Some, Ok}
 use Rattle.std.proofs.Common.{Result, Err, refl, sym, ap, ◌∙◌, append_assoc, arith, length-drop}
 use Rattle.std.specs.Prelude.{MatchResult}
 use Rattle.std.proofs.Math.Seq.{take-add}
@@ -8,7 +8,7 @@ use Rattle.hex.specs.Hex.{hex_digit_value}
 use Rattle.sd_buffer.specs.Text.{hex_spells}
 use Rattle.sd_buffer.specs.declared.buffer.TextFault.{TextFault}
 use Rattle.sd_buffer.specs.Inner.HexBlocks.{AreValues, joined_pairs}
-use Rattle.sd_buffer.proofs.laws.HexPairs.{both_spelled, spelled, spells-append, spells-pairs, with_pair}
+use Rattle.sd_buffer.proofs.laws.HexPairs.{both_spelled, spelled, spells-append, spells-length, spells-pairs}
 
 value-small : (c v : ℕ) → hex_digit_value c ≡ Some v → v < 16
 value-small c v e = grind (arith)
@@ -35,23 +35,7 @@ pub spells-joined : (digits values : List ℕ) → length digits % 2 ≡ 0 → A
     → hex_spells digits ≡ Ok (joined_pairs values)
 spells-joined digits values even are = spells-pairs digits even ∙ spelled-joined digits values even are
 
--- two digits spell a byte
-pair-spelled : (high low : Option ℕ) (rest : Result (List ℕ) TextFault) (digits bytes : List ℕ)
-    → ((more : List ℕ) → rest ≡ Ok more → length digits ≡ 2 * length more)
-    → with_pair high low rest ≡ Ok bytes → suc (suc (length digits)) ≡ 2 * length bytes
-pair-spelled None low rest digits bytes of-rest is = absurd (cc)
-pair-spelled (Some h) None rest digits bytes of-rest is = absurd (cc)
-pair-spelled (Some h) (Some l) (Err f) digits bytes of-rest is = absurd (cc)
-pair-spelled (Some h) (Some l) (Ok more) digits bytes of-rest is =
-    let same : (h * 16 + l) ∷ more ≡ bytes = cc in
-    omega (arith, of-rest more refl, ap length same)
-
-length-spelled : (digits bytes : List ℕ) → spelled digits ≡ Ok bytes → length digits ≡ 2 * length bytes
-length-spelled [] bytes is = let same : [] ≡ bytes = cc in omega (arith, ap length same)
-length-spelled (a ∷ []) bytes is = absurd (cc)
-length-spelled (a ∷ b ∷ digits) bytes is =
-    pair-spelled (hex_digit_value a) (hex_digit_value b) (spelled digits) digits bytes (length-spelled digits) is
-
+-- what is spelled first is a front of what is spelled
 front-both : (first second : Result (List ℕ) TextFault) (bytes : List ℕ) (k : ℕ)
     → ((front : List ℕ) → first ≡ Ok front → length front ≡ k) → both_spelled first second ≡ Ok bytes
     → first ≡ Ok (take k bytes)
@@ -75,8 +59,7 @@ spells-front pairs bytes k m few room is =
     let parts = spells-append (take (2 * k) all) (drop (2 * k) all) even left in
     let whole = sym parts ∙ ap hex_spells (take-append-drop (2 * k) all) ∙ is in
     let first = front-both (hex_spells (take (2 * k) all)) (hex_spells (drop (2 * k) all)) bytes k
-    (λ bytes spells. let l = length-spelled (take (2 * k) all) bytes (sym (spells-pairs (take (2 * k) all) even) ∙ spells) in
-    omega (arith, l, ap length front, long)) whole in
+    (λ bytes spells. omega (arith, spells-length (take (2 * k) all) bytes even spells, ap length front, long)) whole in
     ap hex_spells (sym front) ∙ first
 
 -- n digits more
