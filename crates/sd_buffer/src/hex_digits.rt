@@ -86,7 +86,7 @@ fn digit_value(digit: u8) -> u8
     }
 }
 
-// The bytes of pairs of values. A value that is too large counts by its lower bits.
+// The bytes of pairs of values. Values from 16 on wrap. No caller uses their bytes.
 #[inline(always)]
 fn join(values: &[u8; BLOCK]) -> [u8; PAIRS]
     ensures { result ≡ joined_pairs values.now }

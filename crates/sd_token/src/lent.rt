@@ -84,8 +84,7 @@ impl<'a> LentToken<'a> {
         self.level
     }
 
-    /// Whether the entry at an index has the SID, and is enabled or may be deny-only. There is no other way
-    /// to look at an entry, and each look counts as one.
+    /// Whether the entry at an index has the SID, and is enabled or may be deny-only. It counts as one look.
     #[tactic(auto, using(crate::proofs::TokenLemmas::as_many))]
     pub fn meets(&mut self, index: usize, sid: &Sid, deny: bool) -> bool
         requires { index < length self.old.holder.entries }

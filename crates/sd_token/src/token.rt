@@ -31,8 +31,7 @@ pub enum EntryKind {
 /// level.
 ///
 /// A token counts the looks at its entries. A search looks at one after the other, up to the entry that meets the SID. A
-/// token is not cloned, so no look goes uncounted. `LentToken::meets_any_in_place` compares keys in steps of 16, and those
-/// behind that entry do not count.
+/// token is not cloned, so no look goes uncounted.
 #[derive(Drop)]
 pub struct Token {
     // A key for each entry, and 19 numbers for each.
@@ -144,8 +143,7 @@ impl Token {
         self.compared
     }
 
-    /// Whether the entry at an index has the SID, and is enabled or may be deny-only. There is no other way
-    /// to look at an entry, and each look counts as one.
+    /// Whether the entry at an index has the SID, and is enabled or may be deny-only. It counts as one look.
     ///
     /// ```
     /// let users = Sid::new(5, &[32, 545]).expect(&rt, "a SID");
