@@ -922,7 +922,7 @@ def sid_texts(descriptors):
 
 
 def like(sid):
-    """Another SID with as many sub-authorities and the same last one. The program tells such SIDs apart last."""
+    """Another SID with as many sub-authorities and the same last one: its key is the same, so the rest has to be compared."""
     parts = sid.split("-")
     at = 3 if len(parts) > 4 else 2
     if at < len(parts):

@@ -75,10 +75,10 @@ COMMANDS = [["convert"], ["convert", "--to", "hex"], ["explain", "--domain", DOM
             ["check", "--token", "WD,!BA,SY,S-1-5-32-545", "--maximum", "--level", "8192"],
             ["derive", "--kind", "container", "--owner", "BA", "--group", "SY"]]
 # The program compares sixteen entries of a token in one step: here are three times as many. Some are like another SID in what
-# is compared first, some are deny-only, and others are met at the places 1, 16, 17 and 40.
+# is compared first, some are deny-only, and others are met at the places 1, 16, 17, 40 and 49.
 OTHERS = [f"S-1-5-21-1-2-3-{number}" for number in range(39)]
 LONG_TOKEN = ["S-1-5-32-546", "S-1-2-0", "!S-1-5-32-545", "S-1-6-18", "S-1-5-33-544", *OTHERS[:10], "S-1-5-32-545", "WD", "!BA",
-              *OTHERS[10:31], "SY", *OTHERS[31:36], "BA", *OTHERS[36:]]
+              *OTHERS[10:31], "SY", *OTHERS[31:], "BA"]
 COMMANDS += [["check", "--token", ",".join(LONG_TOKEN), "--maximum"]]
 KINDS = {"hex": "line", "base64": "base64_line", "sddl": "sddl_line"}
 SHARES = {"hex": 4, "base64": 2, "sddl": 4}  # tenths of the lines
