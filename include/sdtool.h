@@ -202,6 +202,8 @@ enum {
     SDTOOL_MOST_SID_TEXT = 183,
     /* No text of sdtool_fault_text has more bytes. */
     SDTOOL_MOST_FAULT_TEXT = 32,
+    /* No text of sdtool_describe has more bytes. */
+    SDTOOL_MOST_DESCRIPTION = 512,
     /* No message of sdtool_run has more bytes. */
     SDTOOL_MOST_MESSAGE = 64
 };
@@ -318,6 +320,52 @@ struct sdtool_outcome sdtool_derive(const uint8_t *parent, size_t parent_size, c
                                     const uint8_t *group, size_t group_size, uint32_t kind, uint32_t mapping,
                                     uint8_t *output, size_t output_size);
 
+enum {
+    /* No ACL of a descriptor that sdtool_derive gives has more ACEs. */
+    SDTOOL_MOST_DERIVED_ACES = 4095
+};
+
+/* Where an ACE of a derived descriptor comes from. */
+struct sdtool_origin {
+    /* The place of the ACE that it was made of, from 0 on among all ACEs of its ACL. */
+    uint16_t place;
+    /* That ACL is CREATOR's. Else it is PARENT's. */
+    bool from_creator;
+    /* This is the copy for what is made in the new object. It has the flag inherit-only, and no other copy has it. */
+    bool inherit_only;
+};
+
+/* How many origins a derivation has. */
+struct sdtool_origins {
+    /* SDTOOL_OK, or why there are none; the next four members are as in struct sdtool_outcome. */
+    uint32_t fault;
+    uint32_t part;
+    uint32_t other_part;
+    uint32_t argument;
+    size_t entry;
+    /*
+     * With SDTOOL_OK how many ACEs the SACL and the DACL have, and with SDTOOL_TOO_SMALL how many origins they need room
+     * for; else 0. An ACL that is null or absent has no ACEs.
+     */
+    size_t sacl_count;
+    size_t dacl_count;
+};
+
+/*
+ * Says of each ACE of the descriptor that sdtool_derive gives for the same arguments which ACE it was made of. SACL has
+ * room for SACL_ROOM origins and DACL for DACL_ROOM; SDTOOL_MOST_DERIVED_ACES suffice for each. Origins are in the order
+ * of the ACEs: first what is made of CREATOR's ACL and then what is made of PARENT's, by their places there. Where one
+ * ACE gives two, the one for the object itself comes first.
+ *
+ * The faults are those of sdtool_derive, in the same order. SDTOOL_TOO_SMALL comes last, if there is less room. After
+ * any of these no origin is written. It allocates no memory.
+ */
+struct sdtool_origins sdtool_derive_origins(const uint8_t *parent, size_t parent_size, const uint8_t *creator,
+                                            size_t creator_size, const uint8_t *owner, size_t owner_size,
+                                            const uint8_t *group, size_t group_size, uint32_t kind, uint32_t mapping,
+                                            struct sdtool_origin *sacl, size_t sacl_room, struct sdtool_origin *dacl,
+                                            size_t dacl_room);
+
 /*
  * Gives the SID that a text names, in binary: an alias such as BA, or S-1- and numbers. DOMAIN is empty or a SID in
  * binary; then aliases of that domain, such as DA, are read. SDTOOL_MOST_SID bytes always suffice. The faults are
@@ -384,6 +432,76 @@ struct sdtool_contents {
  * with the part or the two parts that they are about. It allocates no memory.
  */
 struct sdtool_contents sdtool_parts(const uint8_t *descriptor, size_t descriptor_size);
+
+/* A field of an ACE or of a part. */
+enum sdtool_field {
+    SDTOOL_NO_FIELD = 0,
+    /* The type of an ACE. */
+    SDTOOL_FIELD_KIND = 1,
+    /* The flags of an ACE, or of an ACL before its ACEs. */
+    SDTOOL_FIELD_FLAGS = 2,
+    /* The access mask. */
+    SDTOOL_FIELD_RIGHTS = 3,
+    SDTOOL_FIELD_OBJECT_TYPE = 4,
+    SDTOOL_FIELD_INHERITED_OBJECT_TYPE = 5,
+    /* The SID of an ACE, an owner or a group. */
+    SDTOOL_FIELD_SID = 6,
+    /* The size of an ACE. */
+    SDTOOL_FIELD_SIZE = 7
+};
+
+/* The number of an ACE where there is none. */
+#define SDTOOL_NO_ACE 0xFFFFFFFFu
+
+/* Where a fault is. */
+struct sdtool_fault_place {
+    /* The fault, or SDTOOL_OK if there is none that has a place. */
+    uint32_t fault;
+    /* The part that it is in, as in enum sdtool_part; of SDTOOL_FAULT_OVERLAP the second one. */
+    uint32_t part;
+    /* The ACE of that part that it is in, from 0 on, or SDTOOL_NO_ACE. */
+    uint32_t ace;
+    /* One of enum sdtool_field. */
+    uint32_t field;
+    /* The bytes that it is in. Where something is missing, as after SDTOOL_FAULT_SHORT, there are none: SIZE is 0. */
+    struct sdtool_place place;
+};
+
+/*
+ * Says where the first fault of a descriptor is, after a call has refused it. All places are in DESCRIPTOR, and cut by
+ * what holds them: of SDTOOL_FAULT_OFFSET the four bytes of the offset in the header; of SDTOOL_FAULT_SID the SID, as
+ * long as its count says; of SDTOOL_FAULT_ACL the eight bytes of the ACL's header; of a fault of an ACE its first four
+ * bytes; of SDTOOL_FAULT_OVERLAP the whole second part. SDTOOL_FAULT_TOO_LONG has no place. It allocates no memory.
+ */
+struct sdtool_fault_place sdtool_place(const uint8_t *descriptor, size_t descriptor_size);
+
+/*
+ * Says where the first fault of a text of SDDL is, after sdtool_from_sddl has refused it under the same DOMAIN. All
+ * places are bytes of TEXT. Of SDTOOL_FAULT_ALIAS to SDTOOL_FAULT_KIND it is the field that does not read, outside
+ * parentheses without the blanks around it; of SDTOOL_FAULT_SHAPE the first character that fits no text of SDDL, or at
+ * the end of TEXT nothing, with SIZE 0; of SDTOOL_FAULT_PART_TWICE the second head, letter and colon; of
+ * SDTOOL_FAULT_ACL_TOO_LARGE the ACE with which the ACL is too large, with its parentheses. SDTOOL_FAULT_TOO_LONG and
+ * SDTOOL_ARGUMENT have no place.
+ *
+ * It reads TEXT again, which may take ten times as long as sdtool_from_sddl. It allocates no memory.
+ */
+struct sdtool_fault_place sdtool_sddl_place(const uint8_t *text, size_t text_size, const uint8_t *domain,
+                                            size_t domain_size);
+
+/*
+ * Gives a sentence that says what went wrong and where, such as
+ *
+ *     error 27 rights: rights that are not in the tables, at byte 17, ACE 3 of the DACL, rights
+ *
+ * OUTCOME is what a call has answered. PLACE is what sdtool_place or sdtool_sddl_place has found, or all zeros; the place
+ * of another fault counts as none. Bytes count from 0, and ACEs from 1. With SDTOOL_ARGUMENT the argument stands in
+ * front: 'domain: '.
+ *
+ * SDTOOL_MOST_DESCRIPTION bytes always suffice. SDTOOL_ARGUMENT means that the fault of OUTCOME is none of enum
+ * sdtool_fault, or SDTOOL_OK. It allocates no memory.
+ */
+struct sdtool_outcome sdtool_describe(const struct sdtool_outcome *outcome, const struct sdtool_fault_place *place,
+                                      uint8_t *text, size_t text_size);
 
 /*
  * An ACE that a walk through an ACL has found, and how far the walk is. A walk begins with a struct of zeros. The
@@ -477,6 +595,67 @@ struct sdtool_verdict sdtool_check_with(const uint8_t *descriptor, size_t descri
                                         size_t token_words, const uint8_t *object, size_t object_size,
                                         const uint8_t *principal_self, size_t principal_self_size,
                                         const struct sdtool_request *request);
+
+/*
+ * Why a right is granted or denied. No other numbers than these are told; a caller takes one that it does not know as a
+ * denial.
+ */
+enum sdtool_reason_kind {
+    /* Denied: nothing grants it. */
+    SDTOOL_REASON_NOTHING = 0,
+    /* Denied by the mandatory label, also if nothing else would grant it. Without a place it is the default label. */
+    SDTOOL_REASON_LABEL = 1,
+    /* Granted: the DACL is null or absent. */
+    SDTOOL_REASON_NO_DACL = 2,
+    /* Granted to the owner. */
+    SDTOOL_REASON_OWNER = 3,
+    /* Granted by SeSecurityPrivilege or SeTakeOwnershipPrivilege. */
+    SDTOOL_REASON_PRIVILEGE = 4,
+    /* Granted or denied by the first ACE of the DACL that applies and has the right. */
+    SDTOOL_REASON_GRANTED = 5,
+    SDTOOL_REASON_DENIED = 6
+};
+
+enum {
+    /* How many rights a mask has, at the places 0 to 24. The others are generic rights, or ask for something. */
+    SDTOOL_RIGHTS = 25,
+    /* No ACE has this place, 0xFFFF. */
+    SDTOOL_NO_PLACE = 65535
+};
+
+/* Why a right is granted or denied. Zeros are a denial. */
+struct sdtool_reason {
+    /* One of enum sdtool_reason_kind. */
+    uint16_t kind;
+    /* The place of the ACE, from 0 among all ACEs of the SACL for a label and else of the DACL, or SDTOOL_NO_PLACE. */
+    uint16_t place;
+};
+
+/* Who asks, beside the SIDs: the members of struct sdtool_request that say nothing of what is wanted. */
+struct sdtool_asker {
+    uint32_t mapping;
+    uint32_t level;
+    bool has_level;
+    bool security;
+    bool take_ownership;
+};
+
+/*
+ * Says for each right at the places 0 to 24 why a check would grant or deny it. All else is as for sdtool_check.
+ * REASONS has a reason for each place, and LENGTH is SDTOOL_RIGHTS. After any fault all 25 are SDTOOL_REASON_NOTHING,
+ * without a place. It allocates less than 128 KiB.
+ */
+struct sdtool_outcome sdtool_reasons(const uint8_t *descriptor, size_t descriptor_size, const uint8_t *sids,
+                                     size_t sids_size, const uint8_t *entries, size_t sid_count, const uint8_t *object,
+                                     size_t object_size, const uint8_t *principal_self, size_t principal_self_size,
+                                     const struct sdtool_asker *asker, struct sdtool_reason reasons[SDTOOL_RIGHTS]);
+
+/* Says the same for a token that sdtool_token_read has read, as sdtool_check_with. It allocates no memory. */
+struct sdtool_outcome sdtool_reasons_with(const uint8_t *descriptor, size_t descriptor_size, const uint32_t *token,
+                                          size_t token_words, const uint8_t *object, size_t object_size,
+                                          const uint8_t *principal_self, size_t principal_self_size,
+                                          const struct sdtool_asker *asker,
+                                          struct sdtool_reason reasons[SDTOOL_RIGHTS]);
 
 /* An ACE to build. */
 struct sdtool_new_ace {

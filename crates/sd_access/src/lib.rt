@@ -45,5 +45,7 @@
 //! This crate re-exports the crates below it: `sd_check` and `sd_inherit`.
 #![tactic(auto)]
 
-pub use sd_check::{Ask, AskFault, Privileges, Verdict, check};
-pub use sd_inherit::{DeriveFault, Plan, Target, derive};
+pub use sd_check::{Ask, AskFault, Privileges, Reason, Verdict, check, reasons};
+pub use sd_inherit::{
+    AceCounts, AceOrigin, DeriveFault, OriginFault, Plan, Target, derive, origins,
+};

@@ -1,7 +1,7 @@
 -- The hex text of some bytes, piece by piece.
-use Rattle.std.proofs.Common.{◌≡◌, ◌<◌, ◌≤◌, ℕ, ◌+◌, ◌-◌, ◌*◌, ◌/◌, ◌%◌, ◌∷◌, length, slice_index, slice_set, append_assoc}
+use Rattle.std.proofs.Common.{◌≡◌, ◌≤◌, ℕ, ◌+◌, ◌-◌, ◌*◌, ◌/◌, ◌%◌, ◌∷◌, length, slice_index}
 use Rattle.std.proofs.Common.{List, [], ◌++◌, take, drop, Result, Ok, Err, refl, sym, ◌∙◌, ap, arith}
-use Rattle.std.proofs.lemmas.List.{drop_more, length-set, take-append-drop, take_more_set}
+use Rattle.std.proofs.lemmas.List.{length-take-le, take-take, take_at}
 use Rattle.std.specs.Prelude.{IsOk, OnOk}
 use Rattle.std.proofs.Math.Seq.{take-add}
 use Rattle.hex.specs.Hex.{encode_with, encode_lower, lower_digits}
@@ -28,42 +28,27 @@ Prints-piece a b c bytes digits at n is p q =
     (omega arith) in
     rw (encode-piece bytes at n, ← same) (prints_then p q)
 
--- a byte more, of those that are left
-encode-left : (bytes : List ℕ) (i : ℕ) → i < length bytes
-    → encode_lower (drop i bytes)
-    ≡ slice_index lower_digits (slice_index bytes i / 16) ∷ slice_index lower_digits (slice_index bytes i % 16)
-    ∷ encode_lower (drop (i + 1) bytes)
-unfolding encode_with
-encode-left bytes i within = ap encode_lower (drop_more bytes i 0 within)
-
--- both digits of a byte more are written
-pub encode-digits : (digits bytes : List ℕ) (i high low : ℕ) → i < length bytes → 2 * i + 2 ≤ length digits
-    → high ≡ slice_index lower_digits (slice_index bytes i / 16)
-    → low ≡ slice_index lower_digits (slice_index bytes i % 16)
-    → take (2 * i) digits ++ encode_lower (drop i bytes) ≡ encode_lower bytes
-    → take (2 * (i + 1)) (slice_set (slice_set digits (2 * i) high) (2 * i + 1) low) ++ encode_lower (drop (i + 1) bytes)
-    ≡ encode_lower bytes
-encode-digits digits bytes i high low within room is-high is-low so-far =
-    let end : 2 * (i + 1) ≡ 2 * i + 1 + 1 = omega arith in
-    let set = slice_set digits (2 * i) high in
-    let size : length set ≡ length digits = length-set digits (2 * i) high in
-    let front : take (2 * i + 1 + 1) (slice_set set (2 * i + 1) low) ≡ (take (2 * i) digits ++ high ∷ []) ++ low ∷ [] =
-    take_more_set set (2 * i + 1) low (omega (arith, size, room))
-    ∙ ap (λ (xs : List ℕ). xs ++ low ∷ []) (take_more_set digits (2 * i) high (omega (arith, room))) in
-    rw (end, front, append_assoc, append_assoc, is-high, is-low, ← encode-left bytes i within) so-far
-
 -- a block of bytes more is written
 pub encode-block : (bytes old new : List ℕ) (done n : ℕ) → old ≡ encode_lower (take done bytes)
     → new ≡ encode_lower (take n (drop done bytes)) → old ++ new ≡ encode_lower (take (done + n) bytes)
 encode-block bytes old new done n is-old is-new = rw (is-old, is-new) (sym (encode-piece bytes done n))
 
--- what is left of the bytes is written
-pub encode-rest : (bytes old new : List ℕ) (done : ℕ) → old ≡ encode_lower (take done bytes)
-    → new ≡ encode_lower (drop done bytes) → old ++ new ≡ encode_lower bytes
-encode-rest bytes old new done is-old is-new =
-    rw (is-old, is-new) (
-    sym (encode_with-append lower_digits (take done bytes) (drop done bytes))
-    ∙ ap encode_lower (take-append-drop done bytes))
+length-encode : (t bytes : List ℕ) → length (encode_with t bytes) ≡ 2 * length bytes
+unfolding encode_with
+length-encode t [] = refl
+length-encode t (x ∷ bytes) = let rest = length-encode t bytes in omega (arith, rest)
+
+-- the digits of fewer bytes, from the front on
+pub encode-front : (bytes digits : List ℕ) (k m : ℕ) → k ≤ m → m ≤ length bytes
+    → take (2 * m) digits ≡ encode_lower (take m bytes) → take (2 * k) digits ≡ encode_lower (take k bytes)
+encode-front bytes digits k m few within is =
+    let rest = encode_lower (take (m - k) (drop k bytes)) in
+    let all : k + (m - k) ≡ m = omega (arith, few) in
+    let long : length (encode_lower (take k bytes)) ≡ 2 * k =
+    length-encode lower_digits (take k bytes) ∙ omega (arith, length-take-le k bytes (omega (arith, few, within))) in
+    sym (take-take (2 * k) (2 * m) digits (omega (arith, few)))
+    ∙ ap (λ (xs : List ℕ). take (2 * k) xs) (is ∙ rw all at (encode-piece bytes k (m - k)))
+    ∙ take_at (encode_lower (take k bytes)) rest (2 * k) long
 
 -- what holds of a value that is there
 pub on-value : {T E : Type 0} (r : Result T E) (P : Type 0) → IsOk r → OnOk r P → P

@@ -17,7 +17,7 @@ use Rattle.sd_view.specs.declared.fault.SdFault.{SdFault}
 use Rattle.sd_sddl_builder.proofs.laws.MeaningLimits.{means-limits}
 use Rattle.sd_sddl_builder.specs.Meaning.{means}
 use Rattle.sd_sddl_builder.specs.declared.fault.SddlFault.{SddlFault}
-use Rattle.sd_answer.proofs.Base64Lemmas.{spelled-base64}
+use Rattle.sd_buffer.proofs.laws.Base64Bytes.{spelled-base64}
 use Rattle.sd_answer.specs.Answer.{Meaning, bytes_mean, line_limit, line_means}
 use Rattle.sd_answer.specs.Answer.{meaning, or_byte_fault, or_sddl_fault, text_means}
 use Rattle.sd_answer.specs.declared.fault.LineFault.{LineFault}

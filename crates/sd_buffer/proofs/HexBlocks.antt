@@ -1,20 +1,36 @@
 -- Blocks of hex digits: what their values make, and what is spelled with a block more.
-use Rattle.std.proofs.Common.{◌≡◌, ◌≤◌, ◌<◌, ℕ, ◌+◌, ◌*◌, ◌%◌, ◌^◌, List, [], ◌∷◌, ◌++◌, length, take, drop, Some, Ok}
-use Rattle.std.proofs.Common.{Result, Err, refl, sym, ap, ◌∙◌, append_assoc, arith, length-drop}
-use Rattle.std.specs.Prelude.{MatchResult}
+use Rattle.std.proofs.Common.{◌≡◌, ◌≤◌, ◌<◌, ℕ, zero, suc, ◌+◌, ◌*◌, ◌%◌, ◌^◌, List, [], ◌∷◌, ◌++◌, length, take, drop, slice_index}
+use Rattle.std.proofs.Common.{Option, Some, None, Ok, Result, Err, refl, sym, ap, ◌∙◌, append_assoc, arith, length-drop}
+use Rattle.std.specs.Prelude.{MatchResult, if◌then◌else◌, nat_lt, slice_set}
+use Rattle.std.proofs.lemmas.Bool.Decides.{nat_tests}
 use Rattle.std.proofs.Math.Seq.{take-add}
-use Rattle.std.proofs.lemmas.List.{length-take-le, take-append-drop, take-take, take_at}
+use Rattle.std.proofs.lemmas.List.{length-take-le, map-append, take-append-drop, take-take, take_at, take_more, take_more_set}
 use Rattle.hex.specs.Hex.{hex_digit_value}
 use Rattle.sd_buffer.specs.Text.{hex_spells}
 use Rattle.sd_buffer.specs.declared.buffer.TextFault.{TextFault}
-use Rattle.sd_buffer.specs.Inner.HexBlocks.{AreValues, joined_pairs}
-use Rattle.sd_buffer.proofs.laws.HexPairs.{both_spelled, spelled, spells-append, spells-length, spells-pairs}
+use Rattle.sd_buffer.specs.declared.buffer.TextFault.TheVariants.{HexDigit}
+use Rattle.sd_buffer.specs.Inner.HexBlocks.{AreValues, HasOther, joined_pairs}
+use Rattle.sd_buffer.proofs.laws.HexPairs.{both_spelled, spelled, spells-append, spells-length, spells-pairs, with_pair}
 
 value-small : (c v : ℕ) → hex_digit_value c ≡ Some v → v < 16
 value-small c v e = grind (arith)
 
 byte-joined : (high low : ℕ) → high < 16 → low < 16 → (high * 16 % 2 ^ 8 + low) % 2 ^ 8 ≡ high * 16 + low
 byte-joined high low h l = omega (arith)
+
+-- a digit more has its value
+pub read-more : (digits values : List ℕ) (i v : ℕ) → i < length digits → i < length values
+    → hex_digit_value (slice_index digits i) ≡ (if nat_lt v 16 then Some v else None) → v < 16
+    → AreValues (take i digits) (take i values)
+    → AreValues (take (i + 1) digits) (take (i + 1) (slice_set values i v))
+read-more digits values i v within room is small so-far =
+    let digit : hex_digit_value (slice_index digits i) ≡ Some v = grind (arith, nat_tests) in
+    rw (take_more digits i 0 within, take_more_set values i v room, map-append, map-append, so-far, digit) refl
+
+-- a character without a value is another one
+pub no-digit : (c v : ℕ) → hex_digit_value c ≡ (if nat_lt v 16 then Some v else None) → 16 ≤ v
+    → hex_digit_value c ≡ None
+no-digit c v is most = grind (arith, nat_tests)
 
 spelled-joined : (digits values : List ℕ) → length digits % 2 ≡ 0 → AreValues digits values
     → spelled digits ≡ Ok (joined_pairs values)
@@ -34,6 +50,29 @@ spelled-joined (a ∷ b ∷ digits) (v ∷ w ∷ values) even are =
 pub spells-joined : (digits values : List ℕ) → length digits % 2 ≡ 0 → AreValues digits values
     → hex_spells digits ≡ Ok (joined_pairs values)
 spells-joined digits values even are = spells-pairs digits even ∙ spelled-joined digits values even are
+
+-- a pair with another character in it spells nothing, whatever follows
+wrong_low : (high : Option ℕ) (rest : Result (List ℕ) TextFault) → with_pair high None rest ≡ Err HexDigit
+wrong_low None rest = refl
+wrong_low (Some h) rest = refl
+
+wrong_rest : (high low : Option ℕ) → with_pair high low (Err HexDigit) ≡ Err HexDigit
+wrong_rest None low = refl
+wrong_rest (Some h) None = refl
+wrong_rest (Some h) (Some l) = refl
+
+spelled-other : (digits : List ℕ) (k : ℕ) → length digits % 2 ≡ 0 → k < length digits
+    → hex_digit_value (slice_index digits k) ≡ None → spelled digits ≡ Err HexDigit
+spelled-other [] k even within none = absurd (omega arith)
+spelled-other (a ∷ []) k even within none = absurd (omega arith)
+spelled-other (a ∷ b ∷ digits) zero even within none = rw none refl
+spelled-other (a ∷ b ∷ digits) (suc zero) even within none = rw none (wrong_low (hex_digit_value a) (spelled digits))
+spelled-other (a ∷ b ∷ digits) (suc (suc k)) even within none =
+    rw (spelled-other digits k (omega arith) (omega arith) none) (wrong_rest (hex_digit_value a) (hex_digit_value b))
+
+-- digits with another character among them spell nothing
+pub spells-other : (digits : List ℕ) → length digits % 2 ≡ 0 → HasOther digits → hex_spells digits ≡ Err HexDigit
+spells-other digits even other = spells-pairs digits even ∙ spelled-other digits other.0 even other.1 other.2
 
 -- what is spelled first is a front of what is spelled
 front-both : (first second : Result (List ℕ) TextFault) (bytes : List ℕ) (k : ℕ)

@@ -7,8 +7,8 @@ ghost use Rattle.sd_text.specs.Limits.{most_base64_text, most_hex_text};
 ghost use Rattle.sd_buffer.specs.Text.{IsOneEncoding, base64_spells, hex_spells};
 ghost use Rattle.sd_parts.specs.declared.limits.TheConstants.{CAPACITY};
 
-use crate::hex_digits;
 use crate::hex_reader::HexReader;
+use crate::{base64_digits, hex_digits};
 use base64::decoded_len_estimate;
 use base64::engine::general_purpose::STANDARD;
 use sd_memory::NoMemory;
@@ -255,8 +255,8 @@ fn write_at(cells: &mut [u8], at: usize, bytes: &[u8])
     cells[at..at + bytes.len()].copy_from_slice(bytes);
 }
 
-// Decodes pairs of hex digits into the cells from an offset on. Blocks are decoded at once. Where there are too few digits
-// for one, and from the first block on that has another character, the crate `hex` decodes.
+// Decodes pairs of hex digits into the cells from an offset on. Blocks are decoded at once, and the last one ends with the
+// digits. The crate `hex` decodes fewer digits than a block, and all from the first block that has another character.
 fn decode_hex(pairs: &[u8], cells: &mut [u8], at: usize) -> Result<(), TextFault>
     requires even { length pairs.now % 2 ≡ 0 }
     requires room { at + length pairs.now / 2 ≤ length cells.old }
@@ -284,8 +284,22 @@ fn decode_singly(pairs: &[u8], cells: &mut [u8], at: usize) -> Result<(), TextFa
     }
 }
 
-// Decodes to the front of the cells, and says how many bytes there are.
+// Decodes to the front of the cells, and says how many bytes there are. Whole blocks are decoded at once. What follows
+// them, or the first block that has another character, is decoded by the crate `base64`.
 fn decode_base64(text: &[u8], cells: &mut [u8]) -> Result<usize, TextFault>
+    requires { decoded_estimate (length text.now) ≤ length cells.old }
+    ensures value { MatchResult (base64_spells text.now)
+        (λ bytes. (result ≡ Ok (length bytes)) × (take (length bytes) cells.new ≡ bytes))
+        (λ fault. result ≡ Err fault) }
+    ensures within { IfOk result (λ n. n ≤ length cells.old) }
+{
+    let groups = base64_digits::decode_blocks(text, cells);
+    let rest = decode_rest(&text[4 * groups..], &mut cells[3 * groups..])?;
+    Ok(3 * groups + rest)
+}
+
+// The same, group by group.
+fn decode_rest(text: &[u8], cells: &mut [u8]) -> Result<usize, TextFault>
     requires { decoded_estimate (length text.now) ≤ length cells.old }
     ensures value { MatchResult (base64_spells text.now)
         (λ bytes. (result ≡ Ok (length bytes)) × (take (length bytes) cells.new ≡ bytes))

@@ -1,9 +1,11 @@
 //! Hex digits read in blocks, beside the crate `hex`, whose definition is their contract.
 
-ghost use Rattle.std.specs.Prelude.{◌≡◌, ◌≤◌, ◌<◌, ◌*◌, true, length, take, IfSome, Ok, Some, None, if◌then◌else◌, nat_lt};
+ghost use Rattle.std.specs.Prelude.{◌≡◌, ◌≤◌, ◌<◌, ◌*◌, ◌/◌, ◌%◌, true, false, length, take, MatchOption, Ok, Err, Some, None};
+ghost use Rattle.std.specs.Prelude.{if◌then◌else◌, nat_lt};
 ghost use Rattle.hex.specs.Hex.{hex_digit_value};
+ghost use Rattle.sd_buffer.specs.declared.buffer.TextFault.TheVariants.{HexDigit};
 ghost use Rattle.sd_buffer.specs.Text.{hex_spells};
-ghost use Rattle.sd_buffer.specs.Inner.HexBlocks.{AreValues, joined_pairs};
+ghost use Rattle.sd_buffer.specs.Inner.HexBlocks.{AreValues, HasOther, block_behind, joined_pairs};
 
 /// The digits that are read at once: they fill two vectors of 16 bytes.
 const BLOCK: usize = 32;
@@ -21,6 +23,8 @@ pub(crate) fn decode_blocks(pairs: &[u8], cells: &mut [u8]) -> usize
     requires { length pairs.now ≤ 2 * length cells.old }
     ensures within { 2 * result ≤ length pairs.now }
     ensures spelled { hex_spells (take (2 * result) pairs.now) ≡ Ok (take result cells.new) }
+    ensures ended { 32 ≤ length pairs.now → result < length pairs.now / 2
+        → hex_spells (block_behind pairs.now result) ≡ Err HexDigit }
 {
     let count = pairs.len() / 2;
     if count < PAIRS {
@@ -38,11 +42,12 @@ pub(crate) fn decode_blocks(pairs: &[u8], cells: &mut [u8]) -> usize
     done
 }
 
-// The bytes that a block of digits spells. It is read in two steps without a branch, which the compiler vectorizes.
+// The bytes that a block of digits spells, if no other character is in it. It is read in two steps without a branch, which
+// the compiler vectorizes.
 #[inline(always)]
 fn decode_block(digits: &[u8]) -> Option<[u8; PAIRS]>
     requires { length digits.now ≡ 32 }
-    ensures { IfSome result (λ bytes. hex_spells digits.now ≡ Ok bytes) }
+    ensures { MatchOption result (hex_spells digits.now ≡ Err HexDigit) (λ bytes. hex_spells digits.now ≡ Ok bytes) }
 {
     let (values, are_digits) = values_of(digits);
     if are_digits {
@@ -56,13 +61,15 @@ fn decode_block(digits: &[u8]) -> Option<[u8; PAIRS]>
 #[inline(always)]
 fn values_of(digits: &[u8]) -> ([u8; BLOCK], bool)
     requires { length digits.now ≡ 32 }
-    ensures { result.1 ≡ true → AreValues digits.now result.0 }
+    ensures digits { result.1 ≡ true → AreValues digits.now result.0 }
+    ensures other { result.1 ≡ false → HasOther digits.now }
 {
     let mut values = [0; BLOCK];
-    let mut most = 0;
+    let mut most: u8 = 0;
     for i in 0..BLOCK {
-        values[i] = digit_value(digits[i]);
-        most = most.max(values[i]);
+        let value = digit_value(digits[i]);
+        values[i] = value;
+        most = most.max(value);
     }
     (values, most < NO_DIGIT)
 }

@@ -1,3 +1,5 @@
+pub mod AccountAce
 pub mod Builds
 pub mod Draft
 pub mod Inner
+pub mod NamedAce

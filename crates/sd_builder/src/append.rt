@@ -1,22 +1,35 @@
 //! SIDs and ACEs appended to a buffer.
 
-ghost use Rattle.std.specs.Prelude.{◌≡◌, ◌≤◌, ◌+◌, ◌*◌, ◌++◌, length};
+ghost use Rattle.std.specs.Prelude.{◌≡◌, ◌≤◌, ◌+◌, ◌*◌, ◌/◌, ◌%◌, ◌∷◌, ◌++◌, length, false};
 ghost use Rattle.std.specs.List.{flat_map};
-ghost use Rattle.byteorder.specs.Endian.{little_bytes};
-ghost use Rattle.sd_ace.specs.Ace.{ace_size};
+ghost use Rattle.byteorder.specs.Endian.{big_bytes, little_bytes};
+ghost use Rattle.sd_ace.specs.Ace.{IsAce, ace_size};
 ghost use Rattle.sd_sid.specs.Sid.{IsSid, sid_bytes, sid_size};
 ghost use Rattle.sd_kinds.specs.Kinds.{is_object};
-ghost use Rattle.sd_ace.specs.AceLayout.{ace_bytes, guid_part, guids};
+ghost use Rattle.sd_ace.specs.AceLayout.{ace_bytes, ace_front, guid_part, guids};
+ghost use Rattle.sd_builder.specs.AccountAce.{account_entry};
+ghost use Rattle.sd_builder.specs.NamedAce.{named_entry};
 ghost use Rattle.sd_parts.specs.declared.limits.TheConstants.{CAPACITY, MOST_SID_SIZE};
 
 use byteorder::{ByteOrder, LittleEndian};
-use sd_ace::{AceFront, AceParts, guid_bytes};
+use sd_ace::{AceFront, AceParts, FRONT_SIZE, guid_bytes};
+use sd_alias::{MOST_KNOWN, WellKnown};
 use sd_buffer::SdBuf;
-use sd_sid::Sid;
+use sd_kinds::AceKind;
+use sd_sid::{Account, Sid};
 use uuid::Uuid;
 
 // The sub-authorities of an account of a domain: most SIDs have as many.
 const ACCOUNT_SUBS: usize = 5;
+
+// Where the sub-authorities of an ACE without object types begin.
+const ACCOUNT_SUBS_OFFSET: usize = FRONT_SIZE + 8;
+
+// The size of such an ACE for an account of a domain.
+const ACCOUNT_ACE_SIZE: usize = ACCOUNT_SUBS_OFFSET + 4 * ACCOUNT_SUBS;
+
+// The first of them.
+const DOMAIN: u32 = 21;
 
 // Appends a SID (MS-DTYP 2.4.2.2). Inlined, since most of a descriptor's bytes are SIDs.
 #[inline(always)]
@@ -74,9 +87,174 @@ pub(crate) fn append_ace(buf: &mut SdBuf, ace: &AceParts<'_>)
     ensures { buf.new ≡ buf.old ++ ace_bytes ace.now }
 {
     let front = AceFront::of_parts(ace);
+    if !ace.kind().is_object() && ace.trustee().subs().len() == ACCOUNT_SUBS {
+        buf.append(&account_ace(ace, &front));
+        return;
+    }
     buf.append_front(front.cells(), front.len());
     append_guids(buf, ace);
     append_sid(buf, ace.trustee());
+}
+
+// The bytes of an ACE without object types for an account of a domain. Most ACEs are of this kind, and the number of their
+// bytes is known when the program is built, so they are copied at once.
+#[inline(always)]
+fn account_ace(ace: &AceParts<'_>, front: &AceFront) -> [u8; ACCOUNT_ACE_SIZE]
+    requires front { front.now ≡ ace_front ace.now }
+    requires plain { is_object ace.now.kind ≡ false }
+    requires account { length ace.now.sid.subs ≡ ACCOUNT_SUBS }
+    ensures { result ≡ ace_bytes ace.now }
+{
+    let sid = ace.trustee();
+    let mut bytes = [0; ACCOUNT_ACE_SIZE];
+    bytes[..FRONT_SIZE].copy_from_slice(&front.cells()[..FRONT_SIZE]);
+    bytes[FRONT_SIZE..ACCOUNT_SUBS_OFFSET].copy_from_slice(&sid.header());
+    bytes[ACCOUNT_SUBS_OFFSET..].copy_from_slice(&account_subs(sid.subs()));
+    bytes
+}
+
+// Appends an ACE without object types for an account. The numbers of the account go into the buffer from where they were
+// read.
+#[inline(always)]
+pub(crate) fn append_account_ace(
+    buf: &mut SdBuf,
+    kind: AceKind,
+    flags: u8,
+    mask: u32,
+    account: Account,
+)
+    requires room { length buf.old + ACCOUNT_ACE_SIZE ≤ CAPACITY }
+    requires plain { is_object kind ≡ false }
+    ensures { buf.new ≡ buf.old ++ ace_bytes (account_entry kind flags mask account) }
+{
+    let front = AceFront::of_fields(kind, flags, ACCOUNT_ACE_SIZE as u16, mask, 0);
+    buf.append(&account_ace_bytes(kind, flags, mask, account, &front));
+}
+
+// Its bytes.
+#[inline(always)]
+fn account_ace_bytes(
+    kind: AceKind,
+    flags: u8,
+    mask: u32,
+    account: Account,
+    front: &AceFront,
+) -> [u8; ACCOUNT_ACE_SIZE]
+    requires front { front.now ≡ ace_front (account_entry kind flags mask account) }
+    requires plain { is_object kind ≡ false }
+    ensures { result ≡ ace_bytes (account_entry kind flags mask account) }
+{
+    let _ = (kind, flags, mask);
+    let subs = [
+        DOMAIN,
+        account.first,
+        account.second,
+        account.third,
+        account.last,
+    ];
+    let mut bytes = [0; ACCOUNT_ACE_SIZE];
+    bytes[..FRONT_SIZE].copy_from_slice(&front.cells()[..FRONT_SIZE]);
+    bytes[FRONT_SIZE..ACCOUNT_SUBS_OFFSET].copy_from_slice(&account_header());
+    bytes[ACCOUNT_SUBS_OFFSET..].copy_from_slice(&account_subs(&subs));
+    bytes
+}
+
+// What the SID of each account begins with: revision, count and identifier authority (MS-DTYP 2.4.2.2).
+#[inline(always)]
+fn account_header() -> [u8; 8]
+    ensures { result ≡ 1 ∷ ACCOUNT_SUBS ∷ big_bytes 6 5 }
+{
+    [1, 5, 0, 0, 0, 0, 0, 5]
+}
+
+// The size of such an ACE, which shows that it keeps the limits.
+#[inline(always)]
+pub(crate) fn account_ace_size(kind: AceKind, flags: u8, mask: u32, account: Account) -> u16
+    requires clear { flags / 0x20 % 2 ≡ 0 }
+    requires plain { is_object kind ≡ false }
+    ensures value { result ≡ ace_size (account_entry kind flags mask account) }
+    ensures constant { result ≡ 36 }
+    ensures limits { IsAce (account_entry kind flags mask account) }
+{
+    let _ = (kind, flags, mask);
+    account.note_limits();
+    ACCOUNT_ACE_SIZE as u16
+}
+
+// Appends an ACE without object types for a SID that has a name everywhere. The SID's numbers go into the buffer from the
+// table of names.
+#[inline(always)]
+pub(crate) fn append_named_ace(
+    buf: &mut SdBuf,
+    kind: AceKind,
+    flags: u8,
+    mask: u32,
+    name: &WellKnown,
+)
+    requires room { length buf.old + ace_size (named_entry kind flags mask name.now) ≤ CAPACITY }
+    requires plain { is_object kind ≡ false }
+    requires count { name.now.count ≤ MOST_KNOWN }
+    ensures { buf.new ≡ buf.old ++ ace_bytes (named_entry kind flags mask name.now) }
+{
+    let numbers = &name.subs[..name.count];
+    let size = (ACCOUNT_SUBS_OFFSET + 4 * numbers.len()) as u16;
+    let front = AceFront::of_fields(kind, flags, size, mask, 0);
+    buf.append(&named_front(kind, flags, mask, name, &front));
+    append_subs(buf, numbers);
+}
+
+// What stands before the numbers of such an ACE.
+#[inline(always)]
+fn named_front(
+    kind: AceKind,
+    flags: u8,
+    mask: u32,
+    name: &WellKnown,
+    front: &AceFront,
+) -> [u8; ACCOUNT_SUBS_OFFSET]
+    requires front { front.now ≡ ace_front (named_entry kind flags mask name.now) }
+    requires plain { is_object kind ≡ false }
+    requires count { name.now.count ≤ MOST_KNOWN }
+    ensures { result ≡ front.now ++ 1 ∷ name.now.count ∷ big_bytes 6 name.now.authority }
+{
+    let _ = (kind, flags, mask);
+    let mut bytes = [0; ACCOUNT_SUBS_OFFSET];
+    bytes[..FRONT_SIZE].copy_from_slice(&front.cells()[..FRONT_SIZE]);
+    bytes[FRONT_SIZE..].copy_from_slice(&named_header(name.authority, name.count as u8));
+    bytes
+}
+
+// What the SID of a name begins with: revision, count and identifier authority (MS-DTYP 2.4.2.2).
+#[inline(always)]
+fn named_header(authority: u8, count: u8) -> [u8; 8]
+    ensures { result ≡ 1 ∷ count ∷ big_bytes 6 authority }
+{
+    [1, count, 0, 0, 0, 0, 0, authority]
+}
+
+// The size of such an ACE, which shows that it keeps the limits.
+#[inline(always)]
+pub(crate) fn named_ace_size(kind: AceKind, flags: u8, mask: u32, name: &WellKnown) -> u16
+    requires clear { flags / 0x20 % 2 ≡ 0 }
+    requires plain { is_object kind ≡ false }
+    requires count { name.now.count ≤ MOST_KNOWN }
+    ensures value { result ≡ ace_size (named_entry kind flags mask name.now) }
+    ensures limits { IsAce (named_entry kind flags mask name.now) }
+{
+    let _ = (kind, flags, mask);
+    let subs = &name.subs[..name.count];
+    note_limits(name.authority, subs);
+    (ACCOUNT_SUBS_OFFSET + 4 * subs.len()) as u16
+}
+
+// Shows that a SID of these parts keeps the limits of SIDs, and does nothing. A slice shows that each number is below 2^32;
+// an array does not.
+#[inline(always)]
+fn note_limits(authority: u8, subs: &[u32])
+    requires { length subs.now ≤ MOST_KNOWN }
+    ensures { IsSid (record { authority = authority; subs = subs.now }) }
+{
+    let _ = (authority, subs.len());
 }
 
 // Appends the GUIDs, which only object kinds have.

@@ -1,10 +1,12 @@
 //! Descriptors built part by part in a buffer.
 
-ghost use Rattle.std.specs.Prelude.{◌≡◌, ◌≤◌, ◌+◌, ◌^◌, ◌++◌, ◌↔◌, length, None, IsErr, OnOk, OnErr};
+ghost use Rattle.std.specs.Prelude.{◌≡◌, ◌≤◌, ◌+◌, ◌/◌, ◌%◌, ◌^◌, ◌++◌, ◌↔◌, length, false, None, IsErr, OnOk, OnErr};
 ghost use Rattle.sd_ace.specs.Ace.{AccessControlEntry, IsAce, ace_size};
 ghost use Rattle.sd_ace.specs.AceLayout.{ace_bytes};
 ghost use Rattle.sd_kinds.specs.Kinds.{is_object};
 ghost use Rattle.sd_parts.specs.declared.limits.TheConstants.{CAPACITY};
+ghost use Rattle.sd_builder.specs.AccountAce.{account_entry};
+ghost use Rattle.sd_builder.specs.NamedAce.{named_entry};
 ghost use Rattle.sd_builder.specs.Builds.{Builds};
 ghost use Rattle.sd_builder.specs.Inner.Building.{placed};
 ghost use Rattle.sd_view.specs.Descriptor.{Shows};
@@ -13,15 +15,20 @@ ghost use Rattle.sd_builder.specs.Draft.{CanBegin, Draft, IsOpen, begun, built, 
 ghost use Rattle.sd_builder.specs.Draft.{open_size, with_ace, with_acl, with_group, with_owner};
 ghost use Rattle.sd_view.specs.declared.acl_part.AclPart.TheVariants as acl;
 
-use crate::append::{append_ace, append_sid_at};
+use crate::append::{
+    account_ace_size, append_account_ace, append_ace, append_named_ace, append_sid_at,
+    named_ace_size,
+};
 use crate::changed::{ChangedAce, append_changed};
 use sd_ace::{Ace, AceParts};
+use sd_alias::WellKnown;
 use sd_buffer::SdBuf;
+use sd_kinds::AceKind;
 use sd_layout::acl_header;
 use sd_parts::{
     ACL_HEADER_SIZE, HEADER_SIZE, MOST_ACL_SIZE, Part, Parts, Which, control_of, header,
 };
-use sd_sid::Sid;
+use sd_sid::{Account, Sid};
 
 /// The ACL would pass 65,535 bytes.
 #[derive(Clone, Copy, Debug, PartialEq, Eq)]
@@ -135,6 +142,59 @@ impl Builder {
     {
         self.count_ace(buf, ace.size(), ace.kind().is_object())?;
         append_ace(buf, ace);
+        Ok(())
+    }
+
+    /// Appends an ACE without object types for an account, as `ace` appends one.
+    #[inline(always)]
+    pub fn account_ace(
+        &mut self,
+        buf: &mut SdBuf,
+        kind: AceKind,
+        flags: u8,
+        mask: u32,
+        account: Account,
+    ) -> Result<(), AclTooLarge>
+        requires clear { flags / 0x20 % 2 ≡ 0 }
+        requires plain { is_object kind ≡ false }
+        requires held { (t : Draft) × Builds self.old buf.old t × IsOpen t.parts }
+        ensures full { (t : Draft) → Builds self.old buf.old t
+            → (IsErr result ↔ (2 ^ 16 ≤ open_size t.parts + ace_size (account_entry kind flags mask account))) }
+        ensures ok { (t : Draft) → Builds self.old buf.old t
+            → OnOk result (Builds self.new buf.new
+            (record t { parts = with_ace (account_entry kind flags mask account) t.parts })) }
+        ensures same { OnErr result ((self.new ≡ self.old) × (buf.new ≡ buf.old)) }
+    {
+        let size = account_ace_size(kind, flags, mask, account);
+        self.count_ace(buf, size, false)?;
+        append_account_ace(buf, kind, flags, mask, account);
+        Ok(())
+    }
+
+    /// Appends an ACE without object types for a SID that two letters name everywhere, as `ace` appends one.
+    #[inline(always)]
+    pub fn named_ace(
+        &mut self,
+        buf: &mut SdBuf,
+        kind: AceKind,
+        flags: u8,
+        mask: u32,
+        name: &WellKnown,
+    ) -> Result<(), AclTooLarge>
+        requires clear { flags / 0x20 % 2 ≡ 0 }
+        requires plain { is_object kind ≡ false }
+        requires count { name.now.count ≤ 6 }
+        requires held { (t : Draft) × Builds self.old buf.old t × IsOpen t.parts }
+        ensures full { (t : Draft) → Builds self.old buf.old t
+            → (IsErr result ↔ (2 ^ 16 ≤ open_size t.parts + ace_size (named_entry kind flags mask name.now))) }
+        ensures ok { (t : Draft) → Builds self.old buf.old t
+            → OnOk result (Builds self.new buf.new
+            (record t { parts = with_ace (named_entry kind flags mask name.now) t.parts })) }
+        ensures same { OnErr result ((self.new ≡ self.old) × (buf.new ≡ buf.old)) }
+    {
+        let whole = named_ace_size(kind, flags, mask, name);
+        self.count_ace(buf, whole, false)?;
+        append_named_ace(buf, kind, flags, mask, name);
         Ok(())
     }
 

@@ -61,8 +61,15 @@ impl<'a> ChangedAce<'a> {
         self.ace.kind()
     }
 
+    /// Its flags (MS-DTYP 2.4.4.1).
+    pub fn flags(&self) -> u8
+        ensures { result ≡ self.now.flags }
+    {
+        self.flags
+    }
+
     /// The written size in bytes.
-    pub(crate) fn size(&self) -> u16
+    pub fn size(&self) -> u16
         ensures value { result ≡ ace_size self.now }
         ensures limits { IsAce self.now }
     {

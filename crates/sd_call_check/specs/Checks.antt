@@ -10,6 +10,7 @@ use Rattle.sd_token.specs.Token.{Entry, Holder}
 use Rattle.sd_token.specs.declared.token.EntryKind.{EntryKind}
 use Rattle.sd_token.specs.declared.token.EntryKind.TheVariants.{DenyOnly, Enabled}
 use Rattle.sd_check.specs.Ask.{Asked, ask_fault, asks_maximum, wanted_of}
+use Rattle.sd_check.specs.Need.{check_bound}
 use Rattle.sd_check.specs.Verdict.{verdict}
 use Rattle.sd_check.specs.declared.verdict.Verdict.{Verdict}
 use Rattle.sd_check.specs.declared.verdict.Verdict.TheVariants.{Denied, Granted}
@@ -111,6 +112,17 @@ unfoldable pub verdict_on : List ℕ → Holder → Asked → Result Verdict Cal
 verdict_on bytes holder ask = do
   d ← descriptor_in bytes
   Ok (verdict d holder ask)
+
+abbrev pub or_none : Result ℕ CallFault → ℕ
+or_none (Ok most) = most
+or_none (Err fault) = 0
+
+-- how many comparisons a check of some bytes makes at most, with a token of so many entries: as many as the program's
+-- check, and none where they show no descriptor
+unfoldable pub call_bound : List ℕ → ℕ → ℕ
+call_bound bytes entries = or_none (do
+  d ← descriptor_in bytes
+  Ok (check_bound d entries))
 
 abbrev pub checked : List ℕ → List ℕ → List ℕ → List ℕ → List ℕ → Request → Result Verdict CallFault
 checked bytes sids kinds object principal_self request = do

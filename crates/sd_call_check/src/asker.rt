@@ -35,9 +35,10 @@ pub struct AskerInput<'a> {
 #[tactic(auto, unfolding(crate::specs::Checks::asker_in))]
 pub fn asker_in(token: &mut Token, input: &AskerInput<'_>) -> Result<Ask, CallFault>
     requires { token.old.holder.entries ≡ [] }
-    ensures { MatchResult result
+    ensures asker { MatchResult result
         (λ ask. asker_of input.now ≡ Ok (token.new.holder, ask))
         (λ fault. asker_of input.now ≡ Err fault) }
+    ensures compared { token.new.compared ≡ token.old.compared }
 {
     give_holder(token, input.sids, input.kinds, input.ask.request)?;
     ask_in(&input.ask)

@@ -3,6 +3,7 @@
 
 mod access;
 mod asker;
+mod reason;
 mod request;
 mod token;
 mod token_memory;
@@ -11,6 +12,7 @@ mod with_token;
 
 pub use access::{check_access, verdict_on};
 pub use asker::{AskInput, AskerInput, asker_in, check_asker};
+pub use reason::{Asker, ReasonTold, explain_access, explain_with_token, request_of};
 pub use request::Request;
 pub use token_memory::read_token;
 pub use verdict::{VerdictOutcome, told, untold};

@@ -18,9 +18,10 @@ pub fn give_holder(
     request: &Request,
 ) -> Result<(), CallFault>
     requires { token.old.holder.entries ≡ [] }
-    ensures { MatchResult (holder_in sids.now kinds.now request.now)
+    ensures holder { MatchResult (holder_in sids.now kinds.now request.now)
         (λ holder. (result ≡ Ok tt) × (token.new.holder ≡ holder))
         (λ fault. result ≡ Err fault) }
+    ensures compared { token.new.compared ≡ token.old.compared }
 {
     if kinds.len() > MOST_ENTRIES {
         return Err(CallFault::Argument(Argument::Entries, MOST_ENTRIES));
@@ -35,9 +36,10 @@ pub fn give_holder(
 fn add_entries(token: &mut Token, sids: &[u8], kinds: &[u8]) -> Result<(), CallFault>
     requires none { token.old.holder.entries ≡ [] }
     requires few { length kinds.now ≤ most_entries }
-    ensures { MatchResult (entries_from 0 sids.now kinds.now)
+    ensures holder { MatchResult (entries_from 0 sids.now kinds.now)
         (λ entries. (result ≡ Ok tt) × (token.new.holder ≡ record token.old.holder { entries = entries }))
         (λ fault. result ≡ Err fault) }
+    ensures compared { token.new.compared ≡ token.old.compared }
 {
     let mut n = 0;
     let mut rest = sids;

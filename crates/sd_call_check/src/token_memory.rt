@@ -160,5 +160,5 @@ pub(crate) fn token_in(memory: &[u32], level: Option<u32>) -> LentToken<'_>
 {
     let count = memory[1] as usize;
     let (keys, words) = memory[KEYS..token_size(count)].split_at(count);
-    LentToken::new(keys, words, level)
+    LentToken::over(keys, words, level)
 }

@@ -4,12 +4,13 @@ ghost use Rattle.std.specs.Prelude.{◌≡◌};
 ghost use Rattle.sd_call_check.specs.Checks.{told};
 ghost use Rattle.sd_call_check.specs.TokenMemory.{checked_held};
 
+use crate::access::verdict_on;
 use crate::asker::{AskInput, ask_in};
 use crate::request::level_of;
 use crate::token_memory::{holds_token, token_in};
 use crate::verdict::{VerdictOutcome, told};
-use sd_call::{Argument, CallFault, descriptor_in};
-use sd_check::{Verdict, check_lent};
+use sd_call::{Argument, CallFault};
+use sd_check::Verdict;
 
 /// Says whether a descriptor grants what is asked for to the token that memory holds.
 pub fn check_with_token(bytes: &[u8], memory: &[u32], input: &AskInput<'_>) -> VerdictOutcome
@@ -19,7 +20,7 @@ pub fn check_with_token(bytes: &[u8], memory: &[u32], input: &AskInput<'_>) -> V
     told(verdict_of(bytes, memory, input))
 }
 
-#[tactic(auto, unfolding(crate::specs::TokenMemory::entries_held, crate::specs::Checks::verdict_on))]
+#[tactic(auto, unfolding(crate::specs::TokenMemory::entries_held))]
 fn verdict_of(bytes: &[u8], memory: &[u32], input: &AskInput<'_>) -> Result<Verdict, CallFault>
     ensures { result ≡ checked_held bytes.now memory.now input.now.object.now input.now.principal_self.now
         input.now.request.now }
@@ -28,9 +29,6 @@ fn verdict_of(bytes: &[u8], memory: &[u32], input: &AskInput<'_>) -> Result<Verd
         return Err(CallFault::Argument(Argument::Token, 0));
     }
     let ask = ask_in(input)?;
-    let view = descriptor_in(bytes)?;
     let mut token = token_in(memory, level_of(input.request));
-    let verdict = check_lent(&view, &mut token, &ask);
-    let _ = token.end().count();
-    Ok(verdict)
+    verdict_on(bytes, &mut token, &ask)
 }

@@ -1,11 +1,15 @@
--- The arguments of a derivation and what it gives, by hand from include/sdtool.h (MS-DTYP 2.4.6 and 2.5.3.4).
+-- The arguments of a derivation, what it gives and what is told of its origins, by hand from include/sdtool.h (MS-DTYP
+-- 2.4.6 and 2.5.3.4).
 use Rattle.std.proofs.Common.{◌≡◌, ℕ, List, [], ◌∷◌, length, map, Some, None, Ok, Err, refl, replicate}
 use Rattle.sd_sid.specs.Sid.{sid_at}
 use Rattle.sd_rights.specs.Mapping.{file_mapping, key_mapping}
 use Rattle.sd_inherit.specs.Derived.{derive_fault, derived}
 use Rattle.sd_inherit.specs.declared.derivation.DeriveFault.{DeriveFault}
+use Rattle.sd_inherit.specs.declared.derivation.DeriveFault.TheVariants.{DerivedTooLarge}
+use Rattle.sd_inherit.specs.declared.origin.OriginFault.TheVariants.{Derive, TooSmall}
 use Rattle.sd_inherit.specs.declared.plan.Target.TheVariants as target
 use Rattle.sd_acl_view.specs.Bytes.{u16_at, u32_at}
+use Rattle.sd_parts.specs.declared.part.Which.TheVariants.{Dacl, Sacl}
 use Rattle.sd_view.specs.Descriptor.{Descriptor}
 use Rattle.sd_view.specs.Layout.{layout}
 use Rattle.sd_view.specs.Reading.{acl_part_fault, acl_shown, fault, header_fault, overlap_fault, overlaps_fault}
@@ -16,7 +20,8 @@ use Rattle.sd_answer.specs.declared.fault.LineFault.TheVariants as line
 use Rattle.sd_call.specs.Arguments.{descriptor_in}
 use Rattle.sd_call.specs.declared.argument.Argument.TheVariants as which
 use Rattle.sd_call.specs.declared.outcome.CallFault.TheVariants as call
-use Rattle.sd_call_derive.specs.Derivations.{creator_in, derivation, new_layout, origin_in, plan_in, target_in}
+use Rattle.sd_call_derive.specs.Derivations.{creator_in, derivation, input_in, new_layout, plan_in, target_in}
+use Rattle.sd_call_derive.specs.OriginsTold.{counts_of, nothing_derived, refused}
 use Rattle.sd_call_derive.specs.declared.derivations.DerivationInput.{DerivationInput}
 
 -- enum sdtool_kind
@@ -75,17 +80,17 @@ unfolding plan_in sid_at
 plan = refl
 
 -- Then the creator's descriptor is looked at, and the container's last.
-creator_before_parent : origin_in [] (1 ∷ []) everyone system 1 1 ≡ Err (call.Argument which.Creator 0)
-unfolding origin_in plan_in sid_at creator_in descriptor_in reading fault header_fault
+creator_before_parent : input_in [] (1 ∷ []) everyone system 1 1 ≡ Err (call.Argument which.Creator 0)
+unfolding input_in plan_in sid_at creator_in descriptor_in reading fault header_fault
 creator_before_parent = refl
 
-parent_last : origin_in [] [] everyone system 1 1 ≡ Err (call.Line (line.Sd sd.Short))
-unfolding origin_in plan_in sid_at creator_in descriptor_in reading fault header_fault
+parent_last : input_in [] [] everyone system 1 1 ≡ Err (call.Line (line.Sd sd.Short))
+unfolding input_in plan_in sid_at creator_in descriptor_in reading fault header_fault
 parent_last = refl
 
 parent_of_too_many_bytes : (bytes : List ℕ) → length bytes ≡ 131227
-    → origin_in bytes [] everyone system 1 1 ≡ Err (call.Line line.TooLong)
-unfolding origin_in plan_in sid_at creator_in descriptor_in
+    → input_in bytes [] everyone system 1 1 ≡ Err (call.Line line.TooLong)
+unfolding input_in plan_in sid_at creator_in descriptor_in
 parent_of_too_many_bytes bytes h = rw h refl
 
 -- a header alone, with a resource manager byte
@@ -96,7 +101,7 @@ abbrev empty : ℕ → Descriptor
 empty rm = record { control = 0x8000; rm = rm; owner = None; group = None; sacl = acl.Absent; dacl = acl.Absent }
 
 -- the descriptor that the creator brings is not that of the container
-origin : origin_in (header 3) (header 4) everyone system 0 0 ≡ Ok (record {
+input : input_in (header 3) (header 4) everyone system 0 0 ≡ Ok (record {
   parent = empty 3;
   creator = Some (empty 4);
   plan = record {
@@ -106,9 +111,9 @@ origin : origin_in (header 3) (header 4) everyone system 0 0 ≡ Ok (record {
     mapping = file_mapping;
   };
 })
-unfolding origin_in plan_in sid_at creator_in descriptor_in reading fault header_fault parts_fault sid_fault sid_shown
+unfolding input_in plan_in sid_at creator_in descriptor_in reading fault header_fault parts_fault sid_fault sid_shown
     acl_part_fault acl_shown overlaps_fault overlap_fault u16_at u32_at
-origin = refl
+input = refl
 
 -- a container that hands nothing on: the new DACL is empty, and was made by automatic inheritance
 nothing_inherited : derivation (header 3) [] everyone system 0 0 ≡ Ok (layout (record {
@@ -119,7 +124,7 @@ nothing_inherited : derivation (header 3) [] everyone system 0 0 ≡ Ok (layout 
   sacl = acl.Absent;
   dacl = acl.List [];
 }))
-unfolding origin_in plan_in sid_at creator_in descriptor_in reading fault header_fault parts_fault sid_fault sid_shown
+unfolding input_in plan_in sid_at creator_in descriptor_in reading fault header_fault parts_fault sid_fault sid_shown
     acl_part_fault acl_shown overlaps_fault overlap_fault u16_at u32_at derived derive_fault
 nothing_inherited = refl
 
@@ -127,3 +132,51 @@ nothing_inherited = refl
 too_large : (from : DerivationInput) (why : DeriveFault) → derive_fault from.parent from.creator from.plan ≡ Some why
     → new_layout from ≡ Err (call.Line (line.Derive why))
 too_large from why h = rw h refl
+
+-- Too few cells: the counts say how many are needed. After any other fault there are none.
+counts_are_told : refused (TooSmall (record { sacl = 3; dacl = 4095 })) ≡ record {
+  fault = 71;
+  part = 0;
+  other_part = 0;
+  argument = 0;
+  entry = 0;
+  sacl_count = 3;
+  dacl_count = 4095;
+}
+counts_are_told = refl
+
+no_counts : map (λ w. refused (Derive (DerivedTooLarge w))) (Sacl ∷ Dacl ∷ []) ≡ map (λ part. record {
+  fault = 40;
+  part = part;
+  other_part = 0;
+  argument = 0;
+  entry = 0;
+  sacl_count = 0;
+  dacl_count = 0;
+}) (3 ∷ 4 ∷ [])
+no_counts = refl
+
+no_counts_of_a_wrong_creator : nothing_derived (call.Argument which.Creator 0) ≡ record {
+  fault = 70;
+  part = 0;
+  other_part = 0;
+  argument = 7;
+  entry = 0;
+  sacl_count = 0;
+  dacl_count = 0;
+}
+no_counts_of_a_wrong_creator = refl
+
+-- a new DACL without ACEs needs no cell
+no_cells : counts_of (record {
+  parent = empty 3;
+  creator = None;
+  plan = record {
+    target = target.File;
+    owner = record { authority = 1; subs = 0 ∷ [] };
+    group = record { authority = 5; subs = 18 ∷ [] };
+    mapping = file_mapping;
+  };
+}) 0 0 ≡ Ok (record { sacl = 0; dacl = 0 })
+unfolding derived derive_fault
+no_cells = refl

@@ -39,8 +39,8 @@ unfoldable pub creator_in : List ℕ → Result (Option Descriptor) CallFault
 creator_in bytes = if nat_eq (length bytes) 0 then Ok None else some_creator (descriptor_in bytes)
 
 -- what the arguments derive from
-unfoldable pub origin_in : List ℕ → List ℕ → List ℕ → List ℕ → ℕ → ℕ → Result DerivationInput CallFault
-origin_in parent creator owner group kind mapping = do
+unfoldable pub input_in : List ℕ → List ℕ → List ℕ → List ℕ → ℕ → ℕ → Result DerivationInput CallFault
+input_in parent creator owner group kind mapping = do
   plan ← plan_in kind mapping owner group
   brought ← creator_in creator
   d ← descriptor_in parent
@@ -48,12 +48,12 @@ origin_in parent creator owner group kind mapping = do
 
 -- the new descriptor in its one layout, or the ACL that is too large
 abbrev pub new_layout : DerivationInput → Result (List ℕ) CallFault
-new_layout origin =
+new_layout input =
     fault_as (λ fault. Line (line.Derive fault))
-    (unless (derive_fault origin.parent origin.creator origin.plan)
-    (layout (derived origin.parent origin.creator origin.plan)))
+    (unless (derive_fault input.parent input.creator input.plan)
+    (layout (derived input.parent input.creator input.plan)))
 
 abbrev pub derivation : List ℕ → List ℕ → List ℕ → List ℕ → ℕ → ℕ → Result (List ℕ) CallFault
 derivation parent creator owner group kind mapping = do
-  origin ← origin_in parent creator owner group kind mapping
-  new_layout origin
+  input ← input_in parent creator owner group kind mapping
+  new_layout input

@@ -1,1 +1,2 @@
 pub mod Derivations
+pub mod OriginsTold

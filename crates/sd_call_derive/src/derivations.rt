@@ -2,7 +2,7 @@
 
 ghost use Rattle.std.specs.Prelude.{◌≡◌, MatchResult};
 ghost use Rattle.sd_call.specs.Outcomes.{Answers, AnswersWithin, Refused};
-ghost use Rattle.sd_call_derive.specs.Derivations.{creator_in, derivation, new_layout, origin_in, plan_in, target_in};
+ghost use Rattle.sd_call_derive.specs.Derivations.{creator_in, derivation, input_in, new_layout, plan_in, target_in};
 
 use sd_answer::LineFault;
 use sd_buffer::SdBuf;
@@ -26,16 +26,16 @@ pub fn derive_new(
     output: &mut [u8],
 ) -> Outcome
     // What cannot be derived from is told before memory is asked for.
-    ensures { AnswersWithin (origin_in parent.now creator.now owner.now group.now kind mapping)
+    ensures { AnswersWithin (input_in parent.now creator.now owner.now group.now kind mapping)
         (derivation parent.now creator.now owner.now group.now kind mapping) output.old output.new result }
 {
-    match origin_in(parent, creator, owner, group, kind, mapping) {
-        Ok(origin) => give_derived(&origin, SdBuf::new(alloc), output),
+    match input_in(parent, creator, owner, group, kind, mapping) {
+        Ok(input) => give_derived(&input, SdBuf::new(alloc), output),
         Err(fault) => failed(fault),
     }
 }
 
-/// What a descriptor is derived from.
+/// What the descriptor of a new object is derived from.
 #[derive(Drop)]
 pub struct DerivationInput<'a> {
     pub parent: SdView<'a>,
@@ -43,9 +43,9 @@ pub struct DerivationInput<'a> {
     pub plan: Plan,
 }
 
-// What the arguments derive from.
-#[tactic(auto, unfolding(crate::specs::Derivations::origin_in))]
-fn origin_in<'a>(
+/// What the arguments derive from.
+#[tactic(auto, unfolding(crate::specs::Derivations::input_in))]
+pub fn input_in<'a>(
     parent: &'a [u8],
     creator: &'a [u8],
     owner: &[u8],
@@ -53,7 +53,7 @@ fn origin_in<'a>(
     kind: u32,
     mapping: u32,
 ) -> Result<DerivationInput<'a>, CallFault>
-    ensures { result ≡ origin_in parent.now creator.now owner.now group.now kind mapping }
+    ensures { result ≡ input_in parent.now creator.now owner.now group.now kind mapping }
 {
     let plan = plan_in(kind, mapping, owner, group)?;
     let creator = creator_in(creator)?;
@@ -67,25 +67,25 @@ fn origin_in<'a>(
 
 // Gives the new descriptor, unless memory was refused for a buffer.
 fn give_derived(
-    origin: &DerivationInput<'_>,
+    input: &DerivationInput<'_>,
     buf: Result<SdBuf, NoMemory>,
     output: &mut [u8],
 ) -> Outcome
     ensures { MatchResult buf
-        (λ _. Answers (new_layout origin.now) output.old output.new result)
+        (λ _. Answers (new_layout input.now) output.old output.new result)
         (λ _. Refused output.old output.new result) }
 {
     match buf {
-        Ok(mut buf) => give_derived_in(origin, &mut buf, output),
+        Ok(mut buf) => give_derived_in(input, &mut buf, output),
         Err(refused) => no_memory(refused),
     }
 }
 
 // Gives the new descriptor. It is built in the buffer, whatever that holds.
-fn give_derived_in(origin: &DerivationInput<'_>, buf: &mut SdBuf, output: &mut [u8]) -> Outcome
-    ensures { Answers (new_layout origin.now) output.old output.new result }
+fn give_derived_in(input: &DerivationInput<'_>, buf: &mut SdBuf, output: &mut [u8]) -> Outcome
+    ensures { Answers (new_layout input.now) output.old output.new result }
 {
-    match derive(&origin.parent, origin.creator.as_ref(), &origin.plan, buf) {
+    match derive(&input.parent, input.creator.as_ref(), &input.plan, buf) {
         Ok(()) => give(buf.bytes(), output),
         Err(fault) => failed(CallFault::Line(LineFault::Derive(fault))),
     }

@@ -1,5 +1,5 @@
 -- Verdicts that are written one after the other.
-use Rattle.std.proofs.Common.{◌≡◌, ◌<◌, ◌+◌, ℕ, List, [], ◌∷◌, ◌++◌, length, take, drop, get_or, map, Result, Ok, Err, refl, sym, inl, ◌≤◌, ap, ◌∙◌}
+use Rattle.std.proofs.Common.{◌≡◌, ◌<◌, ◌+◌, ℕ, suc, zero, List, [], ◌∷◌, ◌++◌, length, take, drop, get_or, map, Result, Ok, Err, refl, sym, inl, ◌≤◌, ap, ◌∙◌}
 use Rattle.std.proofs.Common.{append_assoc, arith}
 use Rattle.std.proofs.Math.ListN.{set}
 use Rattle.std.proofs.lemmas.List.{drop_more, length-map, length-take, map_more, set_at}
@@ -7,22 +7,32 @@ use Rattle.sd_token.specs.Token.{Holder}
 use Rattle.sd_check.specs.Ask.{Asked}
 use Rattle.sd_call.specs.Outcomes.{done}
 use Rattle.sd_call.specs.declared.outcome.Outcome.{Outcome}
-use Rattle.sd_call_check.specs.Checks.{asker_in}
+use Rattle.sd_call_check.specs.Checks.{asker_in, call_bound}
 use Rattle.sd_call_check.specs.declared.request.Request.{Request}
 use Rattle.sd_call_check.specs.declared.verdict.VerdictOutcome.{VerdictOutcome}
-use Rattle.sd_call_many.specs.Many.{Judges, judged, judged_by}
+use Rattle.sd_call_many.specs.Many.{Judges, judged, judged_by, many_bound}
 use Rattle.sd_call_many.specs.declared.bytes.Bytes.{Bytes}
 
--- one more is written
-pub written_more : {X Y : Type 0} (f : X → Y) (xs : List X) (old ys : List Y) (i : ℕ) (d : X) (v : Y) → i < length xs
-    → i < length old → ys ≡ map f (take i xs) ++ drop i old → v ≡ f (get_or xs i d)
-    → set ys i v ≡ map f (take (i + 1) xs) ++ drop (i + 1) old
-written_more {X} {Y} f xs old ys i d v within room h is =
-    let front : List Y = map f (take i xs) in
-    let long : length front ≡ i = length-map (take i xs) f ∙ omega (arith, length-take i xs) in
-    let parts : ys ≡ front ++ get_or old i v ∷ drop (i + 1) old = h ∙ ap (λ (l : List Y). front ++ l) (drop_more old i v room) in
-    ap (λ (l : List Y). set l i v) parts ∙ set_at front _ _ v i long ∙ sym (append_assoc front (v ∷ []) _)
-    ∙ ap (λ (l : List Y). l ++ drop (i + 1) old) (ap (λ (y : Y). front ++ y ∷ []) is ∙ sym (map_more f xs i d within))
+-- one more is checked
+bound_more : (entries : ℕ) (ds : List Bytes) (i : ℕ) (d : Bytes) → i < length ds
+    → many_bound entries (take (i + 1) ds)
+    ≡ many_bound entries (take i ds) + call_bound (get_or ds i d).bytes.now entries
+bound_more entries ds i d within =
+    let next : i + 1 ≡ suc i = omega arith in
+    rw next (by_place ds i within)
+  where
+    by_place : (es : List Bytes) (k : ℕ) → k < length es → many_bound entries (take (suc k) es)
+        ≡ many_bound entries (take k es) + call_bound (get_or es k d).bytes.now entries
+    by_place [] k less = absurd (omega (arith, less))
+    by_place (e ∷ es) zero less = omega arith
+    by_place (e ∷ es) (suc k) less = let rest = by_place es k (omega (arith, less)) in omega (arith, rest)
+
+pub most_more : (entries : ℕ) (ds : List Bytes) (i : ℕ) (d : Bytes) (old mid new : ℕ) → i < length ds
+    → mid ≤ old + many_bound entries (take i ds) → new ≤ mid + call_bound (get_or ds i d).bytes.now entries
+    → new ≤ old + many_bound entries (take (i + 1) ds)
+most_more entries ds i d old mid new within before one =
+    let more = bound_more entries ds i d within in
+    omega (arith, before, one, more)
 
 -- the verdict on each is that of a check by itself
 as_by_itself : (sids kinds object principal_self : List ℕ) (request : Request) (holder : Holder) (ask : Asked)

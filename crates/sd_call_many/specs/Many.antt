@@ -1,11 +1,11 @@
 -- One token and one request, and many descriptors.
-use Rattle.std.specs.Prelude.{◌≡◌, ◌≤◌, ◌<◌, ◌⊎◌, ℕ, List, ◌++◌, length, drop, map, Result, Ok, Err}
+use Rattle.std.specs.Prelude.{◌≡◌, ◌≤◌, ◌<◌, ◌⊎◌, ◌+◌, ℕ, List, [], ◌∷◌, ◌++◌, length, drop, map, Result, Ok, Err}
 use Rattle.sd_token.specs.Token.{Holder}
 use Rattle.sd_check.specs.Ask.{Asked}
 use Rattle.sd_call.specs.Outcomes.{done, failed, no_memory, too_small}
 use Rattle.sd_call.specs.declared.outcome.CallFault.{CallFault}
 use Rattle.sd_call.specs.declared.outcome.Outcome.{Outcome}
-use Rattle.sd_call_check.specs.Checks.{asker_in, checked, told, verdict_on}
+use Rattle.sd_call_check.specs.Checks.{asker_in, call_bound, checked, told, verdict_on}
 use Rattle.sd_call_check.specs.declared.request.Request.{Request}
 use Rattle.sd_call_check.specs.declared.verdict.VerdictOutcome.{VerdictOutcome}
 use Rattle.sd_call_many.specs.declared.bytes.Bytes.{Bytes}
@@ -18,6 +18,11 @@ judged_by holder ask descriptor = told (verdict_on descriptor.bytes.now holder a
 abbrev pub judged : List ℕ → List ℕ → List ℕ → List ℕ → Request → Bytes → VerdictOutcome
 judged sids kinds object principal_self request descriptor =
     told (checked descriptor.bytes.now sids kinds object principal_self request)
+
+-- how many comparisons the checks of all of them make at most, with a token of so many entries
+abbrev pub many_bound : ℕ → List Bytes → ℕ
+many_bound entries [] = 0
+many_bound entries (descriptor ∷ others) = call_bound descriptor.bytes.now entries + many_bound entries others
 
 -- The first verdicts are those of the descriptors, each as if it was checked by itself. After a fault of the token or of
 -- what is asked nothing is written.

@@ -1,8 +1,9 @@
 //! One token and one request, and many descriptors.
 
 ghost use Rattle.std.specs.Prelude.{◌≡◌, ◌≤◌, ◌++◌, [], length, drop, map, IfOk, MatchResult};
-ghost use Rattle.sd_call_check.specs.Checks.{asker_of};
-ghost use Rattle.sd_call_many.specs.Many.{AnswersMany, Judges, JudgesNone, judged, judged_by};
+ghost use Rattle.sd_token.specs.Token.{Compares};
+ghost use Rattle.sd_call_check.specs.Checks.{asker_of, call_bound};
+ghost use Rattle.sd_call_many.specs.Many.{AnswersMany, Judges, JudgesNone, judged, judged_by, many_bound};
 
 use crate::bytes::Bytes;
 use sd_call::{Outcome, done, failed, no_memory, too_small};
@@ -61,8 +62,9 @@ fn judge_with(
 // Writes the verdict on each descriptor.
 fn judge(descriptors: &[Bytes<'_>], token: &mut Token, ask: &Ask, verdicts: &mut [VerdictOutcome])
     requires { length descriptors.now ≤ length verdicts.old }
-    ensures { verdicts.new ≡ map (judged_by token.old.holder ask.now) descriptors.now
+    ensures verdicts { verdicts.new ≡ map (judged_by token.old.holder ask.now) descriptors.now
         ++ drop (length descriptors.now) verdicts.old }
+    ensures bound { Compares token.old token.new (many_bound (length token.old.holder.entries) descriptors.now) }
 {
     for i in 0..descriptors.len() {
         verdicts[i] = judge_one(&descriptors[i], token, ask);
@@ -72,6 +74,8 @@ fn judge(descriptors: &[Bytes<'_>], token: &mut Token, ask: &Ask, verdicts: &mut
 fn judge_one(descriptor: &Bytes<'_>, token: &mut Token, ask: &Ask) -> VerdictOutcome
     ensures verdict { result ≡ judged_by token.old.holder ask.now descriptor.now }
     ensures holder { token.new.holder ≡ token.old.holder }
+    ensures bound { Compares token.old token.new
+        (call_bound descriptor.now.bytes.now (length token.old.holder.entries)) }
 {
     told(verdict_on(descriptor.bytes, token, ask))
 }

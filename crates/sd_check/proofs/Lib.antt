@@ -1,4 +1,5 @@
 pub mod Masks
+pub mod ReasonLaws
 mod Rows
 pub mod ScanLaws
 pub mod VerdictLaws

@@ -15,14 +15,17 @@ use Rattle.sd_check.specs.Applies.{applies}
 use Rattle.sd_check.specs.Ask.{AreRights, Asked, ask_fault, asks_maximum, wanted_of}
 use Rattle.sd_check.specs.Granted.{granted}
 use Rattle.sd_check.specs.Need.{all_below, check_bound, least, need, owner_matters}
+use Rattle.sd_check.specs.Reasons.{grants, reason_of, reasons, reasons_need}
 use Rattle.sd_check.specs.Verdict.{missing, rights_below, verdict, won}
 use Rattle.sd_check.specs.declared.ask.AskFault.TheVariants.{EmptyRequest, ReservedBits}
+use Rattle.sd_check.specs.declared.reason.Reason.{Reason}
+use Rattle.sd_check.specs.declared.reason.Reason.TheVariants as reason
 use Rattle.sd_check.specs.declared.verdict.Verdict.{Verdict}
 use Rattle.sd_check.specs.declared.verdict.Verdict.TheVariants.{Denied, Granted}
 
 -- `unfolding computed` lets `refl` compute a row
 computed : Unit {0}
-unfolding mapped applies granted missing won verdict rights_below all_below least need
+unfolding mapped applies granted missing won verdict rights_below all_below least need reason_of reasons reasons_need
 computed = tt
 
 -- S-1-3-4 and S-1-5-10 (MS-DTYP 2.4.2.4)
@@ -518,3 +521,120 @@ maximum_in_question : map (λ all. owner_matters (descriptor None (acl.List []))
     (0x20000 ∷ 0x40000 ∷ 0x9ffff ∷ []) ≡ true ∷ true ∷ false ∷ []
 unfolding computed descriptor files asked with_all
 maximum_in_question = refl
+
+-- why the user, who is the owner, has some rights or not
+
+of_user : List AccessControlEntry → AclPart → Descriptor
+of_user labels dacl = record (descriptor (Some user) dacl) { sacl = acl.List labels }
+
+user_at : Option ℕ → Holder
+user_at level = record { entries = (user, Enabled) ∷ (everyone, Enabled) ∷ []; level = level }
+
+why : AclPart → List ℕ → List Reason
+why dacl rights = map (λ right. reason_of right (of_user [] dacl) (user_at None) (asked 0x4 false)) rights
+
+-- places count all ACEs: one that audits, one for heirs alone, one for somebody else
+five_aces : List AccessControlEntry
+five_aces = ace kinds.Audit 0 0x1 everyone ∷ ace kinds.Allow 8 0x1 everyone ∷ ace kinds.Allow 0 0x1 administrators
+    ∷ ace kinds.Deny 0 0x1 everyone ∷ ace kinds.Allow 0 0x3 everyone ∷ []
+
+first_that_applies : why (acl.List five_aces) (0 ∷ 1 ∷ 2 ∷ [])
+    ≡ reason.Denied 3 ∷ reason.Granted 4 ∷ reason.Nothing ∷ []
+unfolding computed everyone administrators user ace descriptor files asked of_user user_at why five_aces
+first_that_applies = refl
+
+-- generic read has the rights 0, 3 and 7, and not 1
+generic_right_decides : why (acl.List (ace kinds.Deny 0 0x80000000 everyone ∷ ace kinds.Allow 0 0x3 everyone ∷ []))
+    (0 ∷ 1 ∷ 3 ∷ 7 ∷ []) ≡ reason.Denied 0 ∷ reason.Granted 1 ∷ reason.Denied 0 ∷ reason.Denied 0 ∷ []
+unfolding computed everyone user ace descriptor files asked of_user user_at why
+generic_right_decides = refl
+
+-- an owner has two rights, also if an ACE denies them
+owner_comes_first : why (acl.List (ace kinds.Deny 0 0xe0000 everyone ∷ [])) (17 ∷ 18 ∷ 19 ∷ [])
+    ≡ reason.Owner ∷ reason.Owner ∷ reason.Denied 0 ∷ []
+unfolding computed everyone user ace descriptor files asked of_user user_at why
+owner_comes_first = refl
+
+owner_is_bound : why (acl.List (ace kinds.Allow 0 0x20000 owner_rights ∷ [])) (17 ∷ 18 ∷ [])
+    ≡ reason.Granted 0 ∷ reason.Nothing ∷ []
+unfolding computed everyone owner_rights user ace descriptor files asked of_user user_at why
+owner_is_bound = refl
+
+without_a_dacl : (why acl.Null (0 ∷ 17 ∷ 23 ∷ 24 ∷ [])
+    ≡ reason.NoDacl ∷ reason.NoDacl ∷ reason.NoDacl ∷ reason.Nothing ∷ [])
+    × (why acl.Absent (0 ∷ 19 ∷ 24 ∷ []) ≡ reason.NoDacl ∷ reason.NoDacl ∷ reason.Nothing ∷ [])
+unfolding computed everyone user descriptor files asked of_user user_at why
+without_a_dacl = (refl, refl)
+
+no_ace_grants_right_24 : why (acl.List (ace kinds.Allow 0 0x1080000 everyone ∷ [])) (16 ∷ 19 ∷ 24 ∷ [])
+    ≡ reason.Nothing ∷ reason.Granted 0 ∷ reason.Nothing ∷ []
+unfolding computed everyone user ace descriptor files asked of_user user_at why
+no_ace_grants_right_24 = refl
+
+with_privileges : AclPart → List ℕ → List Reason
+with_privileges dacl rights =
+    map (λ right. reason_of right (of_user [] dacl) (user_at None) (privileged (asked 0x4 false))) rights
+
+by_privilege : (with_privileges (acl.List (ace kinds.Deny 0 0x10f0000 everyone ∷ [])) (16 ∷ 18 ∷ 19 ∷ 24 ∷ [])
+    ≡ reason.Denied 0 ∷ reason.Owner ∷ reason.Privilege ∷ reason.Privilege ∷ [])
+    × (with_privileges acl.Null (19 ∷ 24 ∷ []) ≡ reason.NoDacl ∷ reason.Privilege ∷ [])
+unfolding computed everyone user ace descriptor files asked of_user user_at privileged with_privileges
+by_privilege = (refl, refl)
+
+-- below the label: what it takes, it takes also from an owner, a privilege and a null DACL, and if nothing would grant it
+
+below : List AccessControlEntry → AclPart → List ℕ → List Reason
+below labels dacl rights =
+    map (λ right. reason_of right (of_user labels dacl) (user_at (Some 8191)) (privileged (asked 0x4 false))) rights
+
+high_label : List AccessControlEntry
+high_label = ace kinds.Audit 0 1 everyone ∷ ace kinds.Label 8 1 (level_sid 16384) ∷ ace kinds.Label 0 1 (level_sid 12288)
+    ∷ ace kinds.Label 0 7 (level_sid 16384) ∷ []
+
+label_comes_first : (below high_label acl.Null (0 ∷ 1 ∷ 17 ∷ 18 ∷ 19 ∷ 24 ∷ [])
+    ≡ reason.NoDacl ∷ reason.Label (Some 2) ∷ reason.NoDacl ∷ reason.Label (Some 2) ∷ reason.Label (Some 2)
+    ∷ reason.Privilege ∷ [])
+    × (below high_label (acl.List []) (0 ∷ 1 ∷ 17 ∷ 18 ∷ [])
+    ≡ reason.Nothing ∷ reason.Label (Some 2) ∷ reason.Owner ∷ reason.Label (Some 2) ∷ [])
+unfolding computed everyone user ace descriptor files asked level_sid of_user user_at privileged below high_label
+label_comes_first = (refl, refl)
+
+-- the default label has no place, also beside labels that do not count
+default_label : (below [] (acl.List (ace kinds.Allow 0 0x3 everyone ∷ [])) (0 ∷ 1 ∷ [])
+    ≡ reason.Granted 0 ∷ reason.Label None ∷ [])
+    × (below (ace kinds.Label 8 1 (level_sid 16384) ∷ ace kinds.Audit 0 1 (level_sid 16384) ∷ []) acl.Null (0 ∷ 1 ∷ [])
+    ≡ reason.NoDacl ∷ reason.Label None ∷ [])
+unfolding computed everyone user ace descriptor files asked level_sid of_user user_at privileged below
+default_label = (refl, refl)
+
+all_25 : reasons (of_user [] (acl.List (ace kinds.Deny 0 0x2 everyone ∷ ace kinds.Allow 0 0x1f01ff everyone ∷ [])))
+    (user_at None) (asked 0 true)
+    ≡ reason.Granted 1 ∷ reason.Denied 0 ∷ reason.Granted 1 ∷ reason.Granted 1 ∷ reason.Granted 1 ∷ reason.Granted 1
+    ∷ reason.Granted 1 ∷ reason.Granted 1 ∷ reason.Granted 1 ∷ reason.Nothing ∷ reason.Nothing ∷ reason.Nothing
+    ∷ reason.Nothing ∷ reason.Nothing ∷ reason.Nothing ∷ reason.Nothing ∷ reason.Granted 1 ∷ reason.Owner ∷ reason.Owner
+    ∷ reason.Granted 1 ∷ reason.Granted 1 ∷ reason.Nothing ∷ reason.Nothing ∷ reason.Nothing ∷ reason.Nothing ∷ []
+unfolding computed everyone user ace descriptor files asked of_user user_at
+all_25 = refl
+
+granting : map grants (reason.NoDacl ∷ reason.Owner ∷ reason.Privilege ∷ reason.Granted 0 ∷ [])
+    ≡ true ∷ true ∷ true ∷ true ∷ []
+granting = refl
+
+denying : map grants (reason.Nothing ∷ reason.Label None ∷ reason.Label (Some 0) ∷ reason.Denied 0 ∷ [])
+    ≡ false ∷ false ∷ false ∷ false ∷ []
+denying = refl
+
+-- the ACEs that the reasons need: each right below 24 that is left by the label, the owner and the privilege
+
+needed : List AccessControlEntry → AclPart → Option ℕ → ℕ
+needed labels dacl level = reasons_need (of_user labels dacl) (user_at level) (privileged (asked 0x4 false))
+
+two_aces : ℕ → AclPart
+two_aces mask = acl.List (ace kinds.Deny 0 mask everyone ∷ ace kinds.Allow 0 0x1 everyone ∷ [])
+
+reasons_needed : needed [] (two_aces 0xf1ffff) None ∷ needed [] (two_aces 0xf1fffe) None ∷ needed [] acl.Null None
+    ∷ needed (ace kinds.Label 0 7 (level_sid 12288) ∷ []) (two_aces 0) (Some 8192)
+    ∷ needed (ace kinds.Label 0 1 (level_sid 12288) ∷ []) (two_aces 0x1001a9) (Some 8192) ∷ []
+    ≡ 1 ∷ 2 ∷ 0 ∷ 0 ∷ 1 ∷ []
+unfolding computed everyone user ace descriptor files asked level_sid of_user user_at privileged needed two_aces
+reasons_needed = refl

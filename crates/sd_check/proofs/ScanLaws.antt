@@ -8,7 +8,7 @@ use Rattle.std.proofs.lemmas.List.Folds.{list_any-append}
 use Rattle.std.proofs.lemmas.Nat.{mul-le}
 use Rattle.sd_ace.specs.Ace.{AccessControlEntry}
 use Rattle.sd_rights.specs.Mapping.{carries, mapped}
-use Rattle.sd_token.specs.Token.{Asks, Entry, TokenShown}
+use Rattle.sd_token.specs.Token.{Asks, Entry, Holder, TokenShown}
 use Rattle.sd_view.specs.Descriptor.{Descriptor}
 use Rattle.sd_check.specs.Applies.{applies, is_allow}
 use Rattle.sd_check.specs.Ask.{Asked}
@@ -66,7 +66,7 @@ rights_deny d t ask a rest g u m right p q h k =
     rw (carries-and_not u m right p q, h right)
     (deny_step (carries g right) (carries u right) (decides right d t ask a) a (find (decides right d t ask) rest) k)
 
-pub undecided_step : (d : Descriptor) (t : List Entry) (ask : Asked) (a : AccessControlEntry)
+undecided_step : (d : Descriptor) (t : List Entry) (ask : Asked) (a : AccessControlEntry)
     (ys : List AccessControlEntry) (q u m right : ℕ)
     → u < 2 ^ 32 → m < 2 ^ 32 → IsDecided d t ask a u m
     → carries u right ≡ (carries q right && not (list_any (decides right d t ask) ys))
@@ -120,7 +120,7 @@ blocked true true h = refl
 blocked true false h = absurd (cc)
 
 -- rights are still undecided
-pub not_decided : (d : Descriptor) (t : List Entry) (ask : Asked) (ys : List AccessControlEntry) (q u : ℕ)
+not_decided : (d : Descriptor) (t : List Entry) (ask : Asked) (ys : List AccessControlEntry) (q u : ℕ)
     → q < 2 ^ 25 → (u ≡ 0 → ⊥)
     → ((right : ℕ) → carries u right ≡ (carries q right && not (list_any (decides right d t ask) ys)))
     → are_decided q d t ask ys ≡ false
@@ -177,18 +177,18 @@ take_front : (ys rest : List AccessControlEntry) → take (length ys) (ys ++ res
 take_front [] rest = refl
 take_front (y ∷ ys) rest = ap (λ (zs : List AccessControlEntry). y ∷ zs) (take_front ys rest)
 
-pub parts_step : (a : AccessControlEntry) (ys front rest all : List AccessControlEntry)
+parts_step : (a : AccessControlEntry) (ys front rest all : List AccessControlEntry)
     → all ≡ ys ++ front → front ≡ a ∷ rest → all ≡ (ys ++ a ∷ []) ++ rest
 parts_step a ys front rest all h e =
     h ∙ ap (λ (zs : List AccessControlEntry). ys ++ zs) e ∙ sym (append_assoc ys (a ∷ []) rest)
 
-pub count_step : (a : AccessControlEntry) (ys : List AccessControlEntry) (old mid new n : ℕ)
+count_step : (a : AccessControlEntry) (ys : List AccessControlEntry) (old mid new n : ℕ)
     → mid ≤ old + length ys * n → new ≤ mid + n → new ≤ old + length (ys ++ a ∷ []) * n
 count_step a ys old mid new n h e =
     let more : length (ys ++ a ∷ []) * n ≡ length ys * n + n = simp length-append (omega arith) in
     omega arith
 
-pub passed_step : (d : Descriptor) (t : List Entry) (ask : Asked) (a : AccessControlEntry)
+passed_step : (d : Descriptor) (t : List Entry) (ask : Asked) (a : AccessControlEntry)
     (ys rest all : List AccessControlEntry) (q : ℕ)
     → all ≡ ys ++ a ∷ rest → are_decided q d t ask ys ≡ false
     → ((k : ℕ) → k < length ys → are_decided q d t ask (take k all) ≡ false)
@@ -201,16 +201,66 @@ passed_step d t ask a ys rest all q parts here old k below =
     (ap (take k) parts ∙ ap (λ (n : ℕ). take n (ys ++ a ∷ rest)) at ∙ take_front ys (a ∷ rest)) ∙ here)
     (cases_lt k (length ys))
 
-pub scan_asks : (d : Descriptor) (ask : Asked) (ys rest all : List AccessControlEntry) (q : ℕ) (old new : TokenShown)
-    → all ≡ ys ++ rest
-    → ((k : ℕ) → k < length ys → are_decided q d old.holder.entries ask (take k all) ≡ false)
-    → new.holder ≡ old.holder → old.compared ≤ new.compared
-    → new.compared ≤ old.compared + length ys * length old.holder.entries
-    → Asks old new (scan_need q d old.holder.entries ask all)
+-- A walk so far: the ACEs that were passed (ys) and those that are left (rest), the rights in question (q) and those of
+-- them that are undecided (u).
+pub record Scans (d : Descriptor) (ask : Asked) (all ys rest : List AccessControlEntry) (q u : ℕ) (old new : TokenShown)
+    : Type 0 where
+  pub parts : all ≡ ys ++ rest
+  pub holder : new.holder ≡ old.holder
+  pub goes_on : old.compared ≤ new.compared
+  pub count : new.compared ≤ old.compared + length ys * length old.holder.entries
+  pub undecided : (right : ℕ)
+      → carries u right ≡ (carries q right && not (list_any (decides right d old.holder.entries ask) ys))
+  pub passed : (k : ℕ) → k < length ys → are_decided q d old.holder.entries ask (take k all) ≡ false
+
+pub scans_start : (d : Descriptor) (ask : Asked) (all : List AccessControlEntry) (q : ℕ) (old : TokenShown)
+    → Scans d ask all [] all q q old old
+scans_start d ask all q old = record {
+  parts = refl;
+  holder = refl;
+  goes_on = omega arith;
+  count = omega arith;
+  undecided = λ right. none (carries q right);
+  passed = λ k below. absurd (omega arith);
+}
+  where
+    none : (b : Bool) → b ≡ (b && not false)
+    none true = refl
+    none false = refl
+
+-- The next ACE decides these rights (m) of those that are undecided.
+pub scans_step : (d : Descriptor) (ask : Asked) (a : AccessControlEntry) (all ys front rest : List AccessControlEntry)
+    (q u m : ℕ) (old mid new : TokenShown)
+    → q < 2 ^ 25 → u < 2 ^ 32 → m < 2 ^ 32 → (u ≡ 0 → ⊥) → front ≡ a ∷ rest
+    → IsDecided d mid.holder.entries ask a u m → Asks mid new 1
+    → Scans d ask all ys front q u old mid
+    → Scans d ask all (ys ++ a ∷ []) rest q (bit_and u (2 ^ 32 - 1 - m)) old new
+scans_step d ask a all ys front rest q u m old mid new limit p s some steps decided asks so_far =
+    let t = old.holder.entries in
+    let same = ap (λ (h : Holder). h.entries) so_far.holder in
+    record {
+      parts = parts_step a ys front rest all so_far.parts steps;
+      holder = asks.holder ∙ so_far.holder;
+      goes_on = omega (arith, so_far.goes_on, asks.compared.goes_on);
+      count = count_step a ys old.compared mid.compared new.compared (length t) so_far.count
+          (rw (← same) (omega (arith, asks.compared.at_most)));
+      undecided = λ right. undecided_step d t ask a ys q u m right p s (rw same at decided)
+          (so_far.undecided right);
+      passed = passed_step d t ask a ys rest all q
+          (so_far.parts ∙ ap (λ (zs : List AccessControlEntry). ys ++ zs) steps)
+          (not_decided d t ask ys q u limit some so_far.undecided) so_far.passed;
+    }
+
+pub scan_asks : (d : Descriptor) (ask : Asked) (ys rest all : List AccessControlEntry) (q u : ℕ) (old new : TokenShown)
+    → Scans d ask all ys rest q u old new → Asks old new (scan_need q d old.holder.entries ask all)
 unfolding scan_need
-scan_asks d ask ys rest all q old new parts passed same goes_on count =
+scan_asks d ask ys rest all q u old new so_far =
     let n = length old.holder.entries in
+    let parts = so_far.parts in
     let long : length ys ≤ length all = rw parts (omega (arith, length-append {A = AccessControlEntry})) in
-    let most = least_ge (length ys) (length all) _ long passed in
+    let most = least_ge (length ys) (length all) _ long so_far.passed in
     let times = mul-le (length ys) n (scan_need q d old.holder.entries ask all) n most (omega arith) in
-    record { holder = same; compared = record { goes_on = goes_on; at_most = omega (arith, times, count) } }
+    record {
+      holder = so_far.holder;
+      compared = record { goes_on = so_far.goes_on; at_most = omega (arith, times, so_far.count) };
+    }

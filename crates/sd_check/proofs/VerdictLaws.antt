@@ -79,7 +79,8 @@ owner_asked ask right asked one =
     (or_cases (eqb right 17) (eqb right 18) one)
 
 -- the mask has those rights in question that need no ACE
-carries-without_ace : (d : Descriptor) (t : List Entry) (ask : Asked) (right : ℕ) → right < 25 → in_question right ask ≡ true
+pub carries-without_ace : (d : Descriptor) (t : List Entry) (ask : Asked) (right : ℕ) → right < 25
+    → ((eqb right 17 || eqb right 18) ≡ true → (in_question 17 ask || in_question 18 ask) ≡ true)
     → carries (without_ace_mask (question_of ask) d t ask) right
     ≡ cond (eqb right 24) ask.security (needs_no_ace right d t ask)
 unfolding without_ace_mask parts first
@@ -91,7 +92,7 @@ carries-without_ace d t ask right below asked =
     ∙ ap (λ (b : Bool). cond (eqb right 24) ask.security (b || (eqb right 19 && ask.take_ownership)))
     (ap (λ (b : Bool). is_open d.dacl || ((eqb right 17 || eqb right 18) && (b && is_owned d t))) (asks_owner-is d ask)
     ∙ owner_part (is_open d.dacl) (eqb right 17 || eqb right 18) (in_question 17 ask || in_question 18 ask)
-    (is_owned d t) (owner_asked ask right asked))
+    (is_owned d t) asked)
 
 mask_if-lt : (b : Bool) (m k : ℕ) → m < 2 ^ k → mask_if b m < 2 ^ k
 mask_if-lt true m k h = h
@@ -120,18 +121,17 @@ and_both false l g h e = refl
 question-lt : (ask : Asked) → AreRights ask → question_of ask < 2 ^ 25
 question-lt ask h = or_lt 25 _ _ h.wanted (mask_if-lt ask.maximum ask.mapping.all 25 h.all)
 
-limited-lt : (d : Descriptor) (h : Holder) (ask : Asked) → AreRights ask
+limited-lt : (d : Descriptor) (h : Holder) (ask : Asked) → question_of ask < 2 ^ 25
     → bit_and (question_of ask) (permitted_mask d h ask) < 2 ^ 25
-limited-lt d h ask narrow =
+limited-lt d h ask limit =
     let most = and_le_l (question_of ask) (permitted_mask d h ask) in
-    let limit = question-lt ask narrow in
     omega arith
 
 pub undecided-lt : (d : Descriptor) (h : Holder) (ask : Asked) → AreRights ask → undecided_of d h ask < 2 ^ 25
 undecided-lt d h ask narrow =
     let q = bit_and (question_of ask) (permitted_mask d h ask) in
     let most = and_le_l q (2 ^ 32 - 1 - bit_or (without_ace_mask (question_of ask) d h.entries ask) 0x100_0000) in
-    let limit = limited-lt d h ask narrow in
+    let limit = limited-lt d h ask (question-lt ask narrow) in
     omega arith
 
 security_bit : (right : ℕ) → right < 25 → carries 0x100_0000 right ≡ eqb right 24
@@ -161,7 +161,7 @@ carries-left l m right below =
     regroup false false w x = refl
 
 -- the mask has the rights that the label allows, and right 24
-carries-permitted : (d : Descriptor) (h : Holder) (ask : Asked) (right : ℕ) → right < 25
+pub carries-permitted : (d : Descriptor) (h : Holder) (ask : Asked) (right : ℕ) → right < 25
     → carries (permitted_mask d h ask) right ≡ (eqb right 24 || label_allows right d h ask)
 unfolding permitted_mask
 carries-permitted d h ask right below = by (is_lower h.level (label d))
@@ -179,15 +179,15 @@ carries-permitted d h ask right below = by (is_lower h.level (label d))
     by true = carries-left (label d) ask.mapping right below
     by false = all ∙ any (eqb right 24)
 
-carries-undecided : (d : Descriptor) (h : Holder) (ask : Asked) → AreRights ask → (right : ℕ) → right < 25
+pub carries-undecided : (d : Descriptor) (h : Holder) (ask : Asked) → question_of ask < 2 ^ 25 → (right : ℕ) → right < 25
     → carries (undecided_of d h ask) right
     ≡ ((in_question right ask && (eqb right 24 || label_allows right d h ask))
     && not (cond (eqb right 24) ask.security (needs_no_ace right d h.entries ask) || eqb right 24))
-carries-undecided d h ask narrow right below =
+carries-undecided d h ask limit right below =
     let q = question_of ask in
     let p = permitted_mask d h ask in
     let without_ace = without_ace_mask q d h.entries ask in
-    let wide : bit_and q p < 2 ^ 32 = let k = limited-lt d h ask narrow in omega arith in
+    let wide : bit_and q p < 2 ^ 32 = let k = limited-lt d h ask limit in omega arith in
     let without_ace_wide : bit_or without_ace 0x100_0000 < 2 ^ 32 =
     let k : bit_or without_ace 0x100_0000 < 2 ^ 25 = or_lt 25 _ _ (without_ace_mask-lt q d h.entries ask) (lit< tt) in
     omega arith in
@@ -200,7 +200,7 @@ carries-undecided d h ask narrow right below =
       security_bit right below,
     )
     (and_both (in_question right ask) _ _ _
-    (λ asked. ap (λ (b : Bool). not (b || eqb right 24)) (carries-without_ace d h.entries ask right below asked)))
+    (λ asked. ap (λ (b : Bool). not (b || eqb right 24)) (carries-without_ace d h.entries ask right below (owner_asked ask right asked))))
 
 -- 3. The rights in question that are granted.
 
@@ -231,8 +231,8 @@ granted_bit d h ask m narrow scanned right below asked =
     ∙ rw (
       carries-or without_ace m right,
       scanned right,
-      carries-without_ace d h.entries ask right below asked,
-      carries-undecided d h ask narrow right below,
+      carries-without_ace d h.entries ask right below (owner_asked ask right asked),
+      carries-undecided d h ask (question-lt ask narrow) right below,
       carries-permitted d h ask right below,
     )
     (final (in_question right ask) (eqb right 24) ask.security (label_allows right d h ask)
@@ -304,7 +304,7 @@ scan_need-le : (d : Descriptor) (h : Holder) (ask : Asked) → AreRights ask
 unfolding scan_need need
 scan_need-le d h ask narrow =
     least_mono (length (listed_aces d.dacl)) _ _ (λ k. all_below_mono 25 _ _ (λ i below settled.
-    rw (carries-undecided d h ask narrow i below)
+    rw (carries-undecided d h ask (question-lt ask narrow) i below)
     (settle (in_question i ask) (eqb i 24) ask.security (label_allows i d h ask) (needs_no_ace i d h.entries ask)
     (list_any (decides i d h.entries ask) (take k (listed_aces d.dacl))) settled)))
 
@@ -323,7 +323,7 @@ count_scan d h ask q mid new narrow is scan_pass =
       scan_pass,
     )
 
-least_le : (n : ℕ) (test : ℕ → Bool) → least test n ≤ n
+pub least_le : (n : ℕ) (test : ℕ → Bool) → least test n ≤ n
 unfolding least
 least_le zero test = omega arith
 least_le (suc n) test =
@@ -333,14 +333,16 @@ least_le (suc n) test =
       | false ↦ omega arith
     ]
 
--- no more ACEs are needed than there are
-pub bound_from_need : (d : Descriptor) (t : List Entry) (ask : Asked) (old new : ℕ)
-    → new ≤ old + (need d t ask + 1) * length t → new ≤ old + check_bound d (length t)
+pub need-le : (d : Descriptor) (t : List Entry) (ask : Asked) → need d t ask ≤ length (listed_aces d.dacl)
 unfolding need
-bound_from_need d t ask old new h =
-    let most : need d t ask ≤ length (listed_aces d.dacl) = least_le (length (listed_aces d.dacl)) _ in
+need-le d t ask = least_le (length (listed_aces d.dacl)) _
+
+-- no more ACEs are needed than there are
+pub bound_from_need : (d : Descriptor) (t : List Entry) (needed old new : ℕ) → needed ≤ length (listed_aces d.dacl)
+    → new ≤ old + (needed + 1) * length t → new ≤ old + check_bound d (length t)
+bound_from_need d t needed old new most h =
     omega (
       arith,
-      mul-le (need d t ask + 1) (length t) (length (listed_aces d.dacl) + 1) (length t) (omega arith)
+      mul-le (needed + 1) (length t) (length (listed_aces d.dacl) + 1) (length t) (omega arith)
           (omega arith),
     )

@@ -5,4 +5,5 @@ pub mod Granted
 pub mod Inner
 pub mod Label
 pub mod Need
+pub mod Reasons
 pub mod Verdict

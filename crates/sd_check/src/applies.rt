@@ -11,13 +11,13 @@ use crate::trustee::{
 };
 use sd_acl_view::AceView;
 use sd_kinds::{AceKind, INHERIT_ONLY, has_flag};
-use sd_token::LentToken;
+use sd_token::{Memory, TokenIn};
 use sd_view::SdView;
 use uuid::Uuid;
 
 /// Whether the ACE speaks of the token, and of the object that is asked for.
 #[tactic(auto, unfolding(crate::specs::Applies::applies))]
-pub fn applies(ace: &AceView, view: &SdView, token: &mut LentToken, ask: &Ask) -> bool
+pub fn applies<M: Memory>(ace: &AceView, view: &SdView, token: &mut TokenIn<M>, ask: &Ask) -> bool
     ensures value { result ≡ applies ace.now view.now token.old.holder.entries ask.now }
     ensures asks { Asks token.old token.new 1 }
 {
@@ -25,7 +25,7 @@ pub fn applies(ace: &AceView, view: &SdView, token: &mut LentToken, ask: &Ask) -
 }
 
 // Whether an entry of the token meets whom the ACE's SID means. One replacement is made.
-fn meets_subject(ace: &AceView, view: &SdView, token: &mut LentToken, ask: &Ask) -> bool
+fn meets_subject<M: Memory>(ace: &AceView, view: &SdView, token: &mut TokenIn<M>, ask: &Ask) -> bool
     ensures value { result ≡ some_meets (subject view.now.owner ask.now.principal_self ace.now.sid)
         (is_deny ace.now.kind) token.old.holder.entries }
     ensures asks { Asks token.old token.new 1 }

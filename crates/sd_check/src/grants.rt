@@ -12,12 +12,17 @@ use sd_acl_view::{AceView, AclView};
 use sd_rights::{
     ACCESS_SYSTEM_SECURITY, BELOW_SYSTEM_SECURITY, READ_CONTROL, WRITE_DAC, WRITE_OWNER, mask_if,
 };
-use sd_token::LentToken;
+use sd_token::{Memory, TokenIn};
 use sd_view::{AclPart, SdView};
 
 /// The rights that are granted whatever the ACEs say, as far as they are in question.
 #[tactic(auto, unfolding(crate::specs::Inner::Scan::without_ace_mask))]
-pub fn granted_without_ace(view: &SdView, token: &mut LentToken, ask: &Ask, question: u32) -> u32
+pub fn granted_without_ace<M: Memory>(
+    view: &SdView,
+    token: &mut TokenIn<M>,
+    ask: &Ask,
+    question: u32,
+) -> u32
     ensures value { result ≡ without_ace_mask question view.now token.old.holder.entries ask.now }
     ensures asks { Asks token.old token.new 1 }
     ensures spared { asks_owner question view.now.dacl ≡ false → token.new.compared ≡ token.old.compared }
@@ -30,7 +35,7 @@ pub fn granted_without_ace(view: &SdView, token: &mut LentToken, ask: &Ask, ques
 }
 
 // Whether the DACL is null or absent.
-fn is_open(view: &SdView) -> bool
+pub fn is_open(view: &SdView) -> bool
     ensures { result ≡ is_open view.now.dacl }
 {
     matches!(view.dacl(), AclPart::Absent | AclPart::Null)
@@ -44,7 +49,7 @@ fn asks_owner(view: &SdView, question: u32) -> bool
 }
 
 // Whether the owner is one of the token's, and no ACE says what an owner may do.
-fn is_owned(view: &SdView, token: &mut LentToken) -> bool
+fn is_owned<M: Memory>(view: &SdView, token: &mut TokenIn<M>) -> bool
     ensures value { result ≡ is_owned view.now token.old.holder.entries }
     ensures asks { Asks token.old token.new 1 }
 {

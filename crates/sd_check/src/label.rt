@@ -10,7 +10,7 @@ use sd_acl_view::{AceView, AclView};
 use sd_kinds::{INHERIT_ONLY, has_flag};
 use sd_rights::{ACCESS_SYSTEM_SECURITY, ALL_RIGHTS, Mapping, has_right, is_label, mask_if};
 use sd_sid::Sid;
-use sd_token::LentToken;
+use sd_token::{Memory, TokenIn};
 use sd_view::{AclPart, SdView};
 
 /// What a mandatory label says: the integrity level of the object, and what a token of a lower level may not do.
@@ -42,7 +42,7 @@ const DEFAULT: Label = Label {
 /// The rights that the label leaves to the token, ACCESS_SYSTEM_SECURITY among them: no label limits that one. The
 /// SACL is searched only for a token with a level.
 #[tactic(auto, unfolding(crate::specs::Inner::Scan::permitted_mask))]
-pub fn permitted(view: &SdView, token: &LentToken, ask: &Ask) -> u32
+pub fn permitted<M: Memory>(view: &SdView, token: &TokenIn<M>, ask: &Ask) -> u32
     ensures { result ≡ permitted_mask view.now token.now.holder ask.now }
 {
     match token.level() {
@@ -92,7 +92,7 @@ fn first_label(acl: &AclView) -> Label
     DEFAULT
 }
 
-fn is_mandatory_label(ace: &AceView) -> bool
+pub fn is_mandatory_label(ace: &AceView) -> bool
     ensures { result ≡ is_mandatory_label ace.now }
 {
     is_label(ace.kind()) && !has_flag(ace.flags(), INHERIT_ONLY) && names_level(&ace.sid())

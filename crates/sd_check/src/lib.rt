@@ -5,9 +5,11 @@ mod applies;
 mod ask;
 mod grants;
 mod label;
+mod reason;
 mod scan;
 mod trustee;
 mod verdict;
 
 pub use ask::{Ask, AskFault, Privileges};
-pub use verdict::{Verdict, check, check_lent};
+pub use reason::{Reason, reasons};
+pub use verdict::{Verdict, check};

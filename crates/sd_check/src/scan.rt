@@ -1,6 +1,6 @@
 //! The one walk through the DACL.
 
-ghost use Rattle.std.specs.Prelude.{◌≡◌, ◌<◌, ◌^◌, ◌&&◌, ℕ, bit_and};
+ghost use Rattle.std.specs.Prelude.{◌≡◌, ◌<◌, ◌≤◌, ◌^◌, ◌&&◌, ℕ, bit_and};
 ghost use Rattle.std.specs.List.{find};
 ghost use Rattle.sd_rights.specs.Mapping.{carries, mapped};
 ghost use Rattle.sd_token.specs.Token.{Asks};
@@ -11,11 +11,11 @@ ghost use Rattle.sd_check.specs.Inner.Scan.{scan_need};
 use crate::applies::{applies, is_allow};
 use crate::ask::Ask;
 use sd_acl_view::{AceView, AclView};
-use sd_token::LentToken;
+use sd_token::{Memory, TokenIn};
 use sd_view::{AclPart, SdView};
 
 /// The rights of a mask that the ACEs grant.
-pub fn scan(view: &SdView, token: &mut LentToken, ask: &Ask, question: u32) -> u32
+pub fn scan<M: Memory>(view: &SdView, token: &mut TokenIn<M>, ask: &Ask, question: u32) -> u32
     requires { question < 2 ^ 25 }
     ensures rights { (right : ℕ) → carries result right
         ≡ (carries question right && is_allowed right view.now token.old.holder.entries ask.now) }
@@ -29,7 +29,13 @@ pub fn scan(view: &SdView, token: &mut LentToken, ask: &Ask, question: u32) -> u
 }
 
 // An ACE decides the rights that none before it did; where no right is left, no further ACE is looked at.
-fn scan_aces(acl: &AclView, view: &SdView, token: &mut LentToken, ask: &Ask, question: u32) -> u32
+fn scan_aces<M: Memory>(
+    acl: &AclView,
+    view: &SdView,
+    token: &mut TokenIn<M>,
+    ask: &Ask,
+    question: u32,
+) -> u32
     requires { question < 2 ^ 25 }
     ensures rights { (right : ℕ) → carries result right ≡ (carries question right
         && allows (find (decides right view.now token.old.holder.entries ask.now) acl.now)) }
@@ -51,9 +57,16 @@ fn scan_aces(acl: &AclView, view: &SdView, token: &mut LentToken, ask: &Ask, que
 }
 
 // The rights of a mask that the ACE decides. One that has none of them is not compared.
-fn decided(ace: &AceView, view: &SdView, token: &mut LentToken, ask: &Ask, undecided: u32) -> u32
+pub fn decided<M: Memory>(
+    ace: &AceView,
+    view: &SdView,
+    token: &mut TokenIn<M>,
+    ask: &Ask,
+    undecided: u32,
+) -> u32
     ensures rights { (right : ℕ) → carries result right
         ≡ (carries undecided right && decides right view.now token.old.holder.entries ask.now ace.now) }
+    ensures fewer { result ≤ undecided }
     ensures asks { Asks token.old token.new 1 }
     ensures spared { bit_and undecided (mapped ask.now.mapping ace.now.mask) ≡ 0
         → token.new.compared ≡ token.old.compared }

@@ -7,12 +7,12 @@ ghost use Rattle.sd_check.specs.Applies.{owner_rights, principal_self, some_meet
 
 use sd_sid::Sid;
 use sd_sid_view::SidView;
-use sd_token::LentToken;
+use sd_token::{Memory, TokenIn};
 
-/// Whether an entry of the token meets the SID. Entries are looked at up to the first that does.
+/// Whether an entry of the token meets the SID. Entries are compared up to the first that does, or to the end of its block.
 // Not inlined, so the loop gets enough registers.
 #[inline(never)]
-pub fn meets_any(token: &mut LentToken, sid: &Sid, deny: bool) -> bool
+pub fn meets_any<M: Memory>(token: &mut TokenIn<M>, sid: &Sid, deny: bool) -> bool
     ensures value { result ≡ meets sid.now deny token.old.holder.entries }
     ensures asks { Asks token.old token.new 1 }
 {
@@ -22,7 +22,7 @@ pub fn meets_any(token: &mut LentToken, sid: &Sid, deny: bool) -> bool
 /// The same for a SID that is read in place.
 // Not inlined, for the same reason.
 #[inline(never)]
-pub fn meets_any_in_place(token: &mut LentToken, sid: &SidView<'_>, deny: bool) -> bool
+pub fn meets_any_in_place<M: Memory>(token: &mut TokenIn<M>, sid: &SidView<'_>, deny: bool) -> bool
     ensures value { result ≡ meets sid.now deny token.old.holder.entries }
     ensures asks { Asks token.old token.new 1 }
 {
@@ -30,7 +30,7 @@ pub fn meets_any_in_place(token: &mut LentToken, sid: &SidView<'_>, deny: bool) 
 }
 
 /// The same for one that may be missing; without one, nothing is compared.
-pub fn some_meets(token: &mut LentToken, sid: Option<SidView<'_>>, deny: bool) -> bool
+pub fn some_meets<M: Memory>(token: &mut TokenIn<M>, sid: Option<SidView<'_>>, deny: bool) -> bool
     ensures value { result ≡ some_meets sid.entry deny token.old.holder.entries }
     ensures asks { Asks token.old token.new 1 }
 {

@@ -14,7 +14,7 @@ use crate::grants::granted_without_ace;
 use crate::label::permitted;
 use crate::scan::scan;
 use sd_rights::{ACCESS_SYSTEM_SECURITY, mask_if};
-use sd_token::{LentToken, Token};
+use sd_token::{Memory, TokenIn};
 use sd_view::SdView;
 
 /// What a check answers.
@@ -44,24 +44,7 @@ pub enum Verdict {
 /// let view = read(buf.bytes()).expect(&rt, "a descriptor");
 /// assert!(rt; check(&view, &mut token, &ask) == Verdict::Granted(WRITE_OWNER));
 /// ```
-pub fn check(view: &SdView, token: &mut Token, ask: &Ask) -> Verdict
-    ensures verdict { result ≡ verdict view.now token.old.holder ask.now }
-    // Each entry is compared at most once with the owner, and at most once for each ACE that is needed.
-    ensures asks { Asks token.old token.new (need view.now token.old.holder.entries ask.now + 1) }
-    // Where it does not matter who the owner is, no entry is compared with it.
-    ensures spared { owner_matters view.now ask.now ≡ false → token.new.compared
-        ≤ token.old.compared + need view.now token.old.holder.entries ask.now * length token.old.holder.entries }
-    ensures bound { Compares token.old token.new (check_bound view.now (length token.old.holder.entries)) }
-{
-    let mut lent = token.lend();
-    let verdict = check_lent(view, &mut lent, ask);
-    let looks = lent.end();
-    token.take_back(looks);
-    verdict
-}
-
-/// The same for a token that is lent, such as one in memory that several checks share.
-pub fn check_lent(view: &SdView, token: &mut LentToken, ask: &Ask) -> Verdict
+pub fn check<M: Memory>(view: &SdView, token: &mut TokenIn<M>, ask: &Ask) -> Verdict
     ensures verdict { result ≡ verdict view.now token.old.holder ask.now }
     // Each entry is compared at most once with the owner, and at most once for each ACE that is needed.
     ensures asks { Asks token.old token.new (need view.now token.old.holder.entries ask.now + 1) }
@@ -83,7 +66,7 @@ pub fn check_lent(view: &SdView, token: &mut LentToken, ask: &Ask) -> Verdict
 }
 
 // A mask that has those rights in question that are granted.
-fn granted(view: &SdView, token: &mut LentToken, ask: &Ask) -> u32
+fn granted<M: Memory>(view: &SdView, token: &mut TokenIn<M>, ask: &Ask) -> u32
     ensures rights { HasGranted view.now token.old.holder ask.now result }
     ensures asks { Asks token.old token.new (need view.now token.old.holder.entries ask.now + 1) }
     ensures spared { owner_matters view.now ask.now ≡ false → token.new.compared
@@ -106,7 +89,7 @@ fn question(ask: &Ask) -> u32
 }
 
 // Those of the rights in question that the ACEs alone can decide.
-fn undecided(question: u32, without_ace: u32) -> u32
+pub(crate) fn undecided(question: u32, without_ace: u32) -> u32
     ensures { result ≡ bit_and question (2 ^ 32 - 1 - bit_or without_ace system_security_mask) }
 {
     question & !(without_ace | ACCESS_SYSTEM_SECURITY)

@@ -76,7 +76,7 @@ with_both t xs ys =
 
 -- The ACEs of an ACL are taken one after the other, and their copies appended.
 module _ (f : AccessControlEntry → Aces) (ys : Aces) (a : AccessControlEntry) where
-  flat_map-one : flat_map f (ys ++ a ∷ []) ≡ flat_map f ys ++ f a
+  pub flat_map-one : flat_map f (ys ++ a ∷ []) ≡ flat_map f ys ++ f a
   flat_map-one = flat_map-append f ys (a ∷ []) ∙ ap (λ (zs : Aces). flat_map f ys ++ zs) (append-nil (f a))
 
   pub with_one : (t : Draft) → with_aces (f a) (with_aces (flat_map f ys) t) ≡ with_aces (flat_map f (ys ++ a ∷ [])) t
@@ -86,19 +86,24 @@ module _ (f : AccessControlEntry → Aces) (ys : Aces) (a : AccessControlEntry) 
     pub parts_one : aces ≡ (ys ++ a ∷ []) ++ rest
     parts_one = parts ∙ ap (λ (zs : Aces). ys ++ zs) step ∙ sym (append_assoc ys (a ∷ []) rest)
 
+    pub all_one : flat_map f aces ≡ (flat_map f ys ++ f a) ++ flat_map f rest
+    all_one =
+        ap (flat_map f) parts_one ∙ flat_map-append f (ys ++ a ∷ []) rest
+        ∙ ap (λ (zs : Aces). zs ++ flat_map f rest) flat_map-one
+
     -- where the copies of one don't fit, all don't
     pub full_one : (t : Draft) → HasOpen t → FailsFor true (with_aces (flat_map f ys) t) (f a)
         → FailsFor true t (flat_map f aces)
     full_one t h full =
-        let all : flat_map f aces ≡ (flat_map f ys ++ f a) ++ flat_map f rest =
-        ap (flat_map f) parts_one ∙ flat_map-append f (ys ++ a ∷ []) rest
-        ∙ ap (λ (zs : Aces). zs ++ flat_map f rest) flat_map-one in
-        rw all (full_before t (flat_map f ys ++ f a) (flat_map f rest) (full_after t (flat_map f ys) (f a) true h full))
+        rw all_one (full_before t (flat_map f ys ++ f a) (flat_map f rest) (full_after t (flat_map f ys) (f a) true h full))
+
+pub all_yielded : (ys left aces : Aces) → aces ≡ ys ++ left → left ≡ [] → aces ≡ ys
+all_yielded ys left aces parts none = parts ∙ ap (λ (zs : Aces). ys ++ zs) none ∙ append-nil ys
 
 -- at the end all fit
 pub full_all : (f : AccessControlEntry → Aces) (ys left aces : Aces) (t : Draft) → HasOpen t
     → HasOpen (with_aces (flat_map f ys) t) → aces ≡ ys ++ left → left ≡ [] → FailsFor false t (flat_map f aces)
 full_all f ys left aces t h room parts none =
-    let all : aces ≡ ys = parts ∙ ap (λ (zs : Aces). ys ++ zs) none ∙ append-nil ys in
+    let all = all_yielded ys left aces parts none in
     let whole : flat_map f aces ≡ flat_map f ys ++ [] = ap (flat_map f) all ∙ sym (append-nil (flat_map f ys)) in
     rw whole (full_after t (flat_map f ys) [] false h (full_never (with_aces (flat_map f ys) t) room))

@@ -12,14 +12,15 @@ use Rattle.sd_builder.specs.Draft.{with_owner}
 use Rattle.sd_view.specs.declared.acl_part.AclPart.{AclPart}
 use Rattle.sd_view.specs.declared.acl_part.AclPart.TheVariants as acl
 use Rattle.sd_parts.specs.declared.part.Which.TheVariants.{Sacl, Dacl}
-use Rattle.sd_inherit.specs.Inner.Building.{aces_in, bits_beside, given, gives, is_null, source_acl, with_part}
+use Rattle.sd_inherit.specs.Inner.Building.{bits_beside, given, is_null, source_acl, with_part}
+use Rattle.sd_inherit.specs.Origins.{aces_in, gives}
 use Rattle.sd_inherit.specs.Copies.{copies}
 use Rattle.sd_inherit.specs.Derived.{dacl_beside, derive_fault, derived, inherited, is_list, is_too_large, new_aces}
 use Rattle.sd_inherit.specs.Derived.{new_dacl, new_flag_bits, new_sacl, sacl_beside, sacl_of}
 use Rattle.sd_inherit.specs.declared.derivation.DeriveFault.TheVariants.{DerivedTooLarge}
 use Rattle.sd_inherit.specs.declared.inherited.AclSources.{AclSources}
-use Rattle.sd_inherit.specs.declared.inherited.Origin.{Origin}
-use Rattle.sd_inherit.specs.declared.inherited.Origin.TheVariants as origin
+use Rattle.sd_inherit.specs.declared.origin.Giver.{Giver}
+use Rattle.sd_inherit.specs.declared.origin.Giver.TheVariants as giver
 use Rattle.sd_inherit.specs.declared.plan.Plan.{Plan}
 
 -- an ACL was refused exactly where it is too large
@@ -137,12 +138,12 @@ pub sacl-stands : (first others : List AccessControlEntry) → not (is_present (
 sacl-stands [] others e = absurd cc
 sacl-stands (a ∷ first) others e = refl
 
-inherited_flat : (plan : Plan) (part : AclPart) → inherited plan part ≡ flat_map (copies plan) (aces_in part)
+pub inherited_flat : (plan : Plan) (part : AclPart) → inherited plan part ≡ flat_map (copies plan) (aces_in part)
 inherited_flat plan acl.Absent = refl
 inherited_flat plan acl.Null = refl
 inherited_flat plan (acl.List aces) = refl
 
 -- what an ACL gives, ACE by ACE
-pub given_flat : (o : Origin) (s : AclSources) → given o s ≡ flat_map (gives o s.plan.now) (aces_in (source_acl o s))
-given_flat origin.Creator s = refl
-given_flat origin.Parent s = inherited_flat s.plan.now s.parents
+pub given_flat : (g : Giver) (s : AclSources) → given g s ≡ flat_map (gives g s.plan.now) (aces_in (source_acl g s))
+given_flat giver.Creator s = refl
+given_flat giver.Parent s = inherited_flat s.plan.now s.parents

@@ -1,6 +1,6 @@
 -- Worked rows, computed: the copies of single ACEs on files and containers, what is taken of a creator's ACEs, and what
 -- is derived around them.
-use Rattle.std.proofs.Common.{◌≡◌, ℕ, List, [], ◌∷◌, ◌++◌, Some, None, refl, arith}
+use Rattle.std.proofs.Common.{◌≡◌, ℕ, Bool, true, false, List, [], ◌∷◌, ◌++◌, Some, None, Ok, Err, refl, arith}
 use Rattle.sd_ace.specs.Ace.{AccessControlEntry}
 use Rattle.sd_rights.specs.Mapping.{mapped}
 use Rattle.sd_sid.specs.Sid.{SecurityId}
@@ -13,10 +13,13 @@ use Rattle.sd_view.specs.declared.acl_part.AclPart.TheVariants as acl
 use Rattle.std.specs.Prelude.{replicate}
 use Rattle.sd_inherit.specs.Copies.{copies}
 use Rattle.sd_inherit.specs.Derived.{derive_fault, derived}
+use Rattle.sd_inherit.specs.Origins.{new_origins, origins_answer}
 use Rattle.sd_inherit.specs.PlanLimits.{IsPlan}
 use Rattle.sd_inherit.specs.Taken.{taken}
 use Rattle.sd_parts.specs.declared.part.Which.TheVariants.{Dacl, Sacl}
 use Rattle.sd_inherit.specs.declared.derivation.DeriveFault.TheVariants.{DerivedTooLarge}
+use Rattle.sd_inherit.specs.declared.origin.AceOrigin.{AceOrigin}
+use Rattle.sd_inherit.specs.declared.origin.OriginFault.TheVariants.{Derive, TooSmall}
 use Rattle.sd_inherit.specs.declared.plan.Plan.{Plan}
 use Rattle.sd_inherit.specs.declared.plan.Target.{Target}
 use Rattle.sd_inherit.specs.declared.plan.Target.TheVariants.{File, Container}
@@ -411,3 +414,73 @@ no_owner h = let more = h.owner.count in omega arith
 no_group : IsPlan (record (plan File) { group = sixteen }) → ⊥
 unfolding plan sixteen
 no_group h = let more = h.group.count in omega arith
+
+-- origins
+
+from_creator : ℕ → Bool → AceOrigin
+from_creator place inherit_only = record { place = place; from_creator = true; inherit_only = inherit_only }
+
+from_parent : ℕ → Bool → AceOrigin
+from_parent place inherit_only = record { place = place; from_creator = false; inherit_only = inherit_only }
+
+-- Two equal ACEs have origins of their own, and an ACE that gives nothing has a place. The last one is to hand on alone.
+origins_in_a_container : new_origins Dacl
+    (parent acl.Absent (acl.List (ace kinds.Allow 0x0 0x1 users ∷ ace kinds.Allow 0x2 0x8000_0000 users
+    ∷ ace kinds.Allow 0x2 0x8000_0000 users ∷ ace kinds.Allow 0x4 0x1 users ∷ ace kinds.Allow 0x1 0x1 users ∷ [])))
+    None (plan Container)
+    ≡ from_parent 1 false ∷ from_parent 1 true ∷ from_parent 2 false ∷ from_parent 2 true ∷ from_parent 4 true ∷ []
+unfolding computed parent from_parent
+origins_in_a_container = refl
+
+origins_in_a_file : new_origins Dacl
+    (parent acl.Absent (acl.List (ace kinds.Allow 0x2 0x1 users ∷ ace kinds.Allow 0x3 0x8000_0000 users ∷ [])))
+    None (plan File) ≡ from_parent 1 false ∷ []
+unfolding computed parent from_parent
+origins_in_a_file = refl
+
+-- the creator's come first, and what its object had inherited has a place there
+origins_of_both : new_origins Dacl handing_on
+    (Some (creator 0x8004 acl.Absent
+    (acl.List (ace kinds.Allow 0x10 0x1 users ∷ ace kinds.Allow 0x3 0x1000_0000 creator_owner
+    ∷ ace kinds.Allow 0xb 0x1 users ∷ []))))
+    (plan Container)
+    ≡ from_creator 1 false ∷ from_creator 1 true ∷ from_creator 2 true ∷ from_parent 0 false ∷ []
+unfolding computed parent system handing_on creator from_creator from_parent
+origins_of_both = refl
+
+-- nothing is inherited beside a protected ACL or a null one, and an ACL that is not there has no origins
+
+origins_beside_protected : new_origins Dacl handing_on
+    (Some (creator 0x9004 acl.Absent (acl.List (ace kinds.Allow 0x0 0x1 users ∷ [])))) (plan File)
+    ≡ from_creator 0 false ∷ []
+unfolding computed parent system handing_on creator from_creator
+origins_beside_protected = refl
+
+origins_beside_null : new_origins Dacl handing_on (Some (creator 0x8004 acl.Absent acl.Null)) (plan File) ≡ []
+unfolding computed parent system handing_on creator
+origins_beside_null = refl
+
+origins_of_an_absent_sacl : new_origins Sacl handing_on None (plan File) ≡ []
+unfolding computed parent system handing_on
+origins_of_an_absent_sacl = refl
+
+origins_of_a_sacl : new_origins Sacl (parent (acl.List (ace kinds.Label 0x1 0x1 high ∷ [])) acl.Null) None (plan File)
+    ≡ from_parent 0 false ∷ []
+unfolding computed parent from_parent
+origins_of_a_sacl = refl
+
+-- the counts are told where there is room for both ACLs, and also where there is not
+
+enough_room : origins_answer handing_on None (plan File) 0 1 ≡ Ok (record { sacl = 0; dacl = 1 })
+unfolding computed parent system handing_on
+enough_room = refl
+
+no_room : origins_answer handing_on None (plan File) 4095 0 ≡ Err (TooSmall (record { sacl = 0; dacl = 1 }))
+unfolding computed parent system handing_on
+no_room = refl
+
+too_large_before_room : origins_answer
+    (parent acl.Absent (acl.List (replicate 862 (for_files longest) ++ for_files shortest ∷ []))) None (plan File) 0 0
+    ≡ Err (Derive (DerivedTooLarge Dacl))
+unfolding computed parent longest shortest for_files
+too_large_before_room = refl

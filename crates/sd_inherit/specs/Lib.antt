@@ -2,5 +2,7 @@
 pub mod Copies
 pub mod Derived
 pub mod Inner
+pub mod OriginLaws
+pub mod Origins
 pub mod PlanLimits
 pub mod Taken

@@ -9,6 +9,8 @@ ghost use Rattle.sd_builder.specs.Draft.{is_present};
 ghost use Rattle.sd_inherit.specs.Inner.Building.{bits_beside, flags_beside, gathered_from, is_null};
 ghost use Rattle.sd_inherit.specs.Derived.{acl_of, creators_acl, derive_fault, derived, is_protected, new_aces};
 ghost use Rattle.sd_inherit.specs.Derived.{parents_acl};
+ghost use Rattle.sd_inherit.specs.Inner.Counting.{gathered_origins};
+ghost use Rattle.sd_inherit.specs.Origins.{new_origins};
 
 use crate::inherited::AclSources;
 use crate::plan::Plan;
@@ -98,8 +100,8 @@ fn build(
     Ok(())
 }
 
-// What the new ACL is gathered from.
-fn sources<'a>(
+/// What the new ACL is gathered from.
+pub(crate) fn sources<'a>(
     which: Which,
     parent: &SdView<'a>,
     creator: Option<&SdView<'a>>,
@@ -107,6 +109,7 @@ fn sources<'a>(
 ) -> AclSources<'a>
     ensures creators { result.creators ≡ creators_acl which (option_copied creator.entry) }
     ensures gathered { gathered_from result ≡ new_aces which parent.now (option_copied creator.entry) plan.now }
+    ensures origins { gathered_origins result ≡ new_origins which parent.now (option_copied creator.entry) plan.now }
 {
     AclSources {
         plan,

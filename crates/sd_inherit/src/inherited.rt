@@ -1,18 +1,20 @@
 //! ACLs of what is taken and what is inherited, built.
 
-ghost use Rattle.std.specs.Prelude.{◌≡◌, ◌≤◌, ◌+◌, ◌^◌, ◌↔◌, ◌++◌, IsErr, IfOk, OnOk};
+ghost use Rattle.std.specs.Prelude.{◌≡◌, ◌≤◌, ◌<◌, ◌+◌, ◌^◌, ◌↔◌, [], ◌++◌, length, IsErr, IfOk, OnOk, MatchOption};
 ghost use Rattle.sd_acl_view.specs.Acl.{aces_size, acl_size};
 ghost use Rattle.sd_builder.specs.Builds.{Builds};
 ghost use Rattle.sd_builder.specs.Draft.{CanBegin, Draft, is_present, open_size};
 ghost use Rattle.sd_view.specs.declared.acl_part.AclPart.TheVariants as acl;
 ghost use Rattle.sd_parts.specs.declared.part.Which.TheVariants as which;
-ghost use Rattle.sd_inherit.specs.Inner.Building.{HasOpen, all_given, gathered_from, given, gives, listed};
+ghost use Rattle.sd_inherit.specs.Inner.Building.{HasOpen, all_given, gathered_from, given, listed};
 ghost use Rattle.sd_inherit.specs.Inner.Building.{one_or_none, source_acl, with_aces, with_part};
 ghost use Rattle.sd_inherit.specs.Copies.{copies};
 ghost use Rattle.sd_inherit.specs.Derived.{dacl_beside, sacl_beside, sacl_of};
-ghost use Rattle.sd_inherit.specs.declared.inherited.Origin.TheVariants as origin;
+ghost use Rattle.sd_inherit.specs.Origins.{gives, giving};
+ghost use Rattle.sd_inherit.specs.declared.origin.Giver.TheVariants as giver;
 
 use crate::copies::{Copies, copies_of, no_copy};
+use crate::origin::Giver;
 use crate::plan::Plan;
 use crate::taken::taken_of;
 use sd_acl_view::{AceView, Aces};
@@ -21,15 +23,6 @@ use sd_builder::{AclTooLarge, Builder, ChangedAce};
 use sd_kinds::{CONTAINER_INHERIT, OBJECT_INHERIT, has_flag};
 use sd_parts::Which;
 use sd_view::AclPart;
-
-/// Whose ACEs are gathered.
-#[derive(Clone, Copy, Debug, PartialEq, Eq)]
-pub enum Origin {
-    /// The creator's descriptor.
-    Creator,
-    /// The container's.
-    Parent,
-}
 
 /// The ACLs that a new ACL is gathered from, and the plan that says what their ACEs give.
 #[derive(Drop)]
@@ -67,19 +60,19 @@ impl<'a> AclSources<'a> {
     fn put_copied_sacl(&self, builder: &mut Builder, buf: &mut SdBuf) -> Result<bool, AclTooLarge>
         requires { (t : Draft) × Builds builder.old buf.old t × CanBegin which.Sacl t.parts }
         ensures ok { (t : Draft) → Builds builder.old buf.old t → CanBegin which.Sacl t.parts
-            → OnOk result (Builds builder.new buf.new (with_part which.Sacl (sacl_of (given origin.Parent self.now)) t)) }
-        ensures stands { IfOk result (λ stands. stands ≡ is_present (sacl_of (given origin.Parent self.now))) }
-        ensures full { IsErr result ↔ (2 ^ 16 ≤ acl_size (given origin.Parent self.now)) }
+            → OnOk result (Builds builder.new buf.new (with_part which.Sacl (sacl_of (given giver.Parent self.now)) t)) }
+        ensures stands { IfOk result (λ stands. stands ≡ is_present (sacl_of (given giver.Parent self.now))) }
+        ensures full { IsErr result ↔ (2 ^ 16 ≤ acl_size (given giver.Parent self.now)) }
     {
         let AclPart::List(acl) = &self.parents else {
             return Ok(false);
         };
-        let (origin, plan) = (Origin::Parent, self.plan);
+        let (giver, plan) = (Giver::Parent, self.plan);
         let mut aces = acl.aces();
         while let Some(ace) = aces.next() {
             let first = inherited_from(plan, &ace);
             if !first.is_empty() {
-                AceSource { origin, plan, aces }.put_sacl_after(builder, buf, &first)?;
+                AceSource { giver, plan, aces }.put_sacl_after(builder, buf, &first)?;
                 return Ok(true);
             }
         }
@@ -104,7 +97,7 @@ impl<'a> AclSources<'a> {
     }
 
     // Appends an ACL of what is taken, and then what is inherited. Inlined with what it calls, so that each loop knows
-    // the origin of its ACEs.
+    // the giver of its ACEs.
     #[inline(always)]
     fn put_both(
         &self,
@@ -115,13 +108,13 @@ impl<'a> AclSources<'a> {
         requires { (t : Draft) × Builds builder.old buf.old t × CanBegin which t.parts }
         ensures ok { (t : Draft) → Builds builder.old buf.old t → CanBegin which t.parts
             → OnOk result (Builds builder.new buf.new
-            (with_part which (acl.List (given origin.Creator self.now ++ given origin.Parent self.now)) t)) }
+            (with_part which (acl.List (given giver.Creator self.now ++ given giver.Parent self.now)) t)) }
         ensures full { IsErr result
-            ↔ (2 ^ 16 ≤ acl_size (given origin.Creator self.now ++ given origin.Parent self.now)) }
+            ↔ (2 ^ 16 ≤ acl_size (given giver.Creator self.now ++ given giver.Parent self.now)) }
     {
         builder.begin_acl(buf, which);
-        self.put_given(builder, buf, Origin::Creator)?;
-        self.put_given(builder, buf, Origin::Parent)?;
+        self.put_given(builder, buf, Giver::Creator)?;
+        self.put_given(builder, buf, Giver::Parent)?;
         builder.end_acl(buf);
         Ok(())
     }
@@ -133,41 +126,55 @@ impl<'a> AclSources<'a> {
         &self,
         builder: &mut Builder,
         buf: &mut SdBuf,
-        origin: Origin,
+        giver: Giver,
     ) -> Result<(), AclTooLarge>
         requires { (t : Draft) × Builds builder.old buf.old t × HasOpen t }
         ensures ok { (t : Draft) → Builds builder.old buf.old t
-            → OnOk result (Builds builder.new buf.new (with_aces (given origin self.now) t)) }
+            → OnOk result (Builds builder.new buf.new (with_aces (given giver self.now) t)) }
         ensures full { (t : Draft) → Builds builder.old buf.old t → HasOpen t
-            → (IsErr result ↔ (2 ^ 16 ≤ open_size t.parts + aces_size (given origin self.now))) }
+            → (IsErr result ↔ (2 ^ 16 ≤ open_size t.parts + aces_size (given giver self.now))) }
     {
         let plan = self.plan;
-        match self.acl(origin) {
+        match self.acl(giver) {
             AclPart::List(acl) => {
                 let aces = acl.aces();
-                AceSource { origin, plan, aces }.put_each(builder, buf)
+                AceSource { giver, plan, aces }.put_each(builder, buf)
             }
             AclPart::Absent | AclPart::Null => Ok(()),
         }
     }
 
-    // The ACL of one descriptor.
-    fn acl(&self, origin: Origin) -> &AclPart<'a>
-        ensures { result.now ≡ source_acl origin self.now }
+    /// The ACEs of one descriptor that the new ACL is made of, if it has a list.
+    pub fn aces(&self, giver: Giver) -> Option<Aces<'a>>
+        ensures { MatchOption result (giving giver self.now.creators self.now.parents ≡ [])
+            (λ aces. (aces ≡ giving giver self.now.creators self.now.parents) × (length aces < 2 ^ 16)) }
     {
-        match origin {
-            Origin::Creator => &self.creators,
-            Origin::Parent => &self.parents,
+        if matches!(self.creators, AclPart::Null) {
+            return None;
+        }
+        match self.acl(giver) {
+            AclPart::List(acl) => Some(acl.aces()),
+            AclPart::Absent | AclPart::Null => None,
+        }
+    }
+
+    // The ACL of one descriptor.
+    fn acl(&self, giver: Giver) -> &AclPart<'a>
+        ensures { result.now ≡ source_acl giver self.now }
+    {
+        match giver {
+            Giver::Creator => &self.creators,
+            Giver::Parent => &self.parents,
         }
     }
 }
 
-// ACEs of one of the two ACLs, with the plan.
+/// ACEs of one of the two ACLs, with the plan.
 #[derive(Drop)]
-struct AceSource<'a> {
-    origin: Origin,
-    plan: &'a Plan,
-    aces: Aces<'a>,
+pub struct AceSource<'a> {
+    pub giver: Giver,
+    pub plan: &'a Plan,
+    pub aces: Aces<'a>,
 }
 
 impl AceSource<'_> {
@@ -200,22 +207,22 @@ impl AceSource<'_> {
         ensures full { (t : Draft) → Builds builder.old buf.old t → HasOpen t
             → (IsErr result ↔ (2 ^ 16 ≤ open_size t.parts + aces_size (all_given self.entry))) }
     {
-        let AceSource { origin, plan, aces } = self;
+        let AceSource { giver, plan, aces } = self;
         for ace in aces {
-            put_copies(builder, buf, &given_by(origin, plan, &ace))?;
+            put_copies(builder, buf, &given_by(giver, plan, &ace))?;
         }
         Ok(())
     }
 }
 
-// What one ACE gives.
+/// What one ACE gives.
 #[inline(always)]
-fn given_by<'a>(origin: Origin, plan: &'a Plan, ace: &'a AceView<'a>) -> Copies<'a>
-    ensures { listed result ≡ gives origin plan.now ace.now }
+pub fn given_by<'a>(giver: Giver, plan: &'a Plan, ace: &'a AceView<'a>) -> Copies<'a>
+    ensures { listed result ≡ gives giver plan.now ace.now }
 {
-    match origin {
-        Origin::Creator => taken_of(plan, ace),
-        Origin::Parent => inherited_from(plan, ace),
+    match giver {
+        Giver::Creator => taken_of(plan, ace),
+        Giver::Parent => inherited_from(plan, ace),
     }
 }
 

@@ -7,8 +7,13 @@ mod derivation;
 mod flags;
 mod heirs;
 mod inherited;
+mod origin;
+mod origin_cells;
 mod plan;
 mod taken;
+mod tally;
 
 pub use derivation::{DeriveFault, derive};
+pub use origin::{AceCounts, AceOrigin, OriginFault};
+pub use origin_cells::origins;
 pub use plan::{Plan, Target};

@@ -8,6 +8,7 @@ ghost use Rattle.sd_text.specs.LimitValues.{LimitValues};
 ghost use Rattle.sd_sink.specs.Print.{Prints};
 ghost use Rattle.sd_sink.specs.Sink.{Puts};
 
+use crate::flag_cells::FLAG_CELLS;
 use sd_sink::{Print, Printer, Sink, SinkFault};
 use sd_text::{MOST_FIELD_SIZE, NamedBits, named, print_names, read_names};
 
@@ -110,6 +111,6 @@ pub fn flags_from_text(text: &[u8]) -> Option<u8>
     if text.len() > MOST_FIELD_SIZE {
         return None;
     }
-    let flags = read_names(&[&FLAGS], text)?;
+    let flags = read_names(&FLAG_CELLS, text)?;
     Some(flags as u8)
 }

@@ -1,6 +1,7 @@
 //! The kinds of ACEs and their flags (MS-DTYP 2.4.4.1), with their bytes and their names in SDDL.
 #![tactic(auto)]
 
+mod flag_cells;
 mod flags;
 mod kinds;
 

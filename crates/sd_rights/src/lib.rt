@@ -3,6 +3,7 @@
 
 mod access_rights;
 mod mapping;
+mod right_cells;
 mod rights;
 mod rights_reading;
 mod rights_table;

@@ -3,7 +3,7 @@
 ghost use Rattle.std.specs.Prelude.{◌≡◌, ◌≤◌};
 ghost use Rattle.sd_rights.specs.Rights.{after_zero, mask_reads, rights_reads, short_rights_reads};
 
-use crate::rights_table::{COMPOUNDS, LABELS, SINGLES};
+use crate::right_cells::RIGHT_CELLS;
 use sd_text::{MOST_FIELD_SIZE, read_names, read_number};
 
 /// The access mask of a text of at most 183 bytes (MS-DTYP 2.5.1.1). No text at all is 0. A text that begins
@@ -34,7 +34,7 @@ fn read_rights(text: &[u8]) -> Option<u32>
         return Some(0);
     };
     if !char::from(*first).is_digit(10) {
-        return read_names(&[&COMPOUNDS, &SINGLES, &LABELS], text);
+        return read_names(&RIGHT_CELLS, text);
     }
     if *first == b'0' {
         read_after_zero(rest)

@@ -1,7 +1,7 @@
 //! Splits the input at LFs and answers each line.
 
 ghost use Rattle.std.specs.Prelude.{◌≡◌, ◌+◌, ◌<◌, ◌≤◌, ℕ, List, ◌++◌, [], ◌∷◌, length, ◌≢◌, slice_index, MatchResult, IfOk};
-ghost use Rattle.std.specs.Prelude.{IsOk, Ok, false, unwrap_or, IfSome};
+ghost use Rattle.std.specs.Prelude.{IsOk, Ok, false, true, drop, take, unwrap_or, IfSome, SomeIndex};
 ghost use Rattle.sd_sink.specs.Sink.{SinkTold};
 ghost use Rattle.sd_token.specs.Token.{Compares, TokenShown};
 ghost use Rattle.sd_answer.specs.Answer.{answer, bound, is_error};
@@ -116,7 +116,7 @@ pub fn line_end(bytes: &[u8]) -> Option<usize>
     }
 }
 
-// Passes over whole blocks of a size that have no LF, from a place on before which there is none.
+// Passes over whole blocks of a size that have no LF, from a place on before which there is none, up to one that has one.
 #[inline(always)]
 fn pass_blocks(bytes: &[u8], from: usize, size: usize) -> usize
     requires size { 0 < size }
@@ -124,6 +124,8 @@ fn pass_blocks(bytes: &[u8], from: usize, size: usize) -> usize
     requires none { (k : ℕ) → k < from → slice_index bytes.now k ≢ line_feed }
     ensures within { result ≤ length bytes.now }
     ensures before { (k : ℕ) → k < result → slice_index bytes.now k ≢ line_feed }
+    ensures ended { result + size ≤ length bytes.now
+        → SomeIndex (take size (drop result bytes.now)) (λ k. slice_index (take size (drop result bytes.now)) k ≡ line_feed) }
 {
     let mut start = from;
     while bytes.len() - start >= size && !has_lf(&bytes[start..start + size]) {
@@ -142,7 +144,8 @@ fn first_lf(bytes: &[u8]) -> Option<usize>
 // Whether an LF is among the bytes. It looks at all of them, and so at several at a time.
 #[inline(always)]
 fn has_lf(bytes: &[u8]) -> bool
-    ensures { result ≡ false → (k : ℕ) → k < length bytes.now → slice_index bytes.now k ≢ line_feed }
+    ensures none { result ≡ false → (k : ℕ) → k < length bytes.now → slice_index bytes.now k ≢ line_feed }
+    ensures some { result ≡ true → SomeIndex bytes.now (λ k. slice_index bytes.now k ≡ line_feed) }
 {
     let mut found = false;
     for b in bytes {

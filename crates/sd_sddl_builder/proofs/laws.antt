@@ -3,5 +3,6 @@ pub mod ControlFlags
 pub mod FieldParts
 pub mod FoldedMeaning
 pub mod FoldedSections
+pub mod Heads
 pub mod MeaningLimits
 pub mod WholeTexts

@@ -2,6 +2,7 @@
 #![tactic(auto)]
 
 mod fault;
+mod name;
 mod reading;
 mod slot;
 

@@ -1,7 +1,9 @@
 //! The fields of a line, read one after the other.
 
-ghost use Rattle.std.specs.Prelude.{◌≡◌, Option, Ok, false, MatchOption};
-ghost use Rattle.sd_sid.specs.SidText.{sid_reads};
+ghost use Rattle.std.specs.Prelude.{◌≡◌, ◌≤◌, ◌/◌, ◌%◌, Option, Ok, None, false, MatchOption};
+ghost use Rattle.sd_kinds.specs.Kinds.{is_object};
+ghost use Rattle.sd_sid.specs.Account.{account_sid};
+ghost use Rattle.sd_sid.specs.SidText.{known_sid, sid_reads};
 ghost use Rattle.sd_sddl_builder.specs.FoldedReading.{FieldsRead, fault_of, no_fields, take_ace_field, take_field};
 ghost use Rattle.sd_sddl_builder.specs.FoldedReading.{take_front, with_sid, with_trustee};
 ghost use Rattle.sd_sddl_builder.specs.Meaning.{control_flags, is_unreadable};
@@ -10,8 +12,10 @@ ghost use Rattle.sd_sddl_builder.specs.Inner.AceEnds.{EndsAce, EndsWithObjects};
 ghost use Rattle.sd_sddl_builder.specs.WholeAce.{TakesAce};
 
 use crate::fault::SddlFault;
+use crate::name::front_name;
 use crate::slot::{AceField, Slot};
 use sd_ace::AceParts;
+use sd_alias::WellKnown;
 use sd_buffer::SdBuf;
 use sd_builder::Builder;
 use sd_kinds::{AceKind, flags_from_text};
@@ -21,7 +25,7 @@ use sd_sddl_fields::{
     NO_FLAGS, after, behind, front_flags, front_from_text, front_kind, front_objects, front_rights,
     object_from_text,
 };
-use sd_sid::{Sid, SidFault};
+use sd_sid::{Account, Sid, SidFault, front_account};
 use uuid::Uuid;
 
 /// The fields of an ACE before its SID.
@@ -110,7 +114,8 @@ impl FieldReader {
         }
     }
 
-    fn put_sid(&mut self, buf: &mut SdBuf, part: SidPart, sid: &Sid)
+    /// Takes the SID of an owner or a group.
+    pub fn put_sid(&mut self, buf: &mut SdBuf, part: SidPart, sid: &Sid)
         requires { (t : FieldsRead) × HasReadFields self.old buf.old t × Lacks (head.Sid part) t }
         ensures held { (t : FieldsRead) → HasReadFields self.old buf.old t
             → HasReadFields self.new buf.new (with_owner_or_group part t sid.now) }
@@ -251,6 +256,9 @@ impl FieldReader {
         };
         // Most ACEs have no object types.
         if let Some(rest) = after(rest, b";;") {
+            if let Some(behind) = self.end_usual(buf, kind, flags, mask, rest) {
+                return Some(behind);
+            }
             let after = self.end_ace(buf, start, rest)?;
             return Some(after);
         }
@@ -300,6 +308,94 @@ impl FieldReader {
         }
     }
 
+    // Reads the SID of an ACE of this kind without object types, with these flags and this mask, and appends the ACE, where the
+    // SID is an account or has a name everywhere. Most ACEs are such.
+    #[inline(always)]
+    fn end_usual<'a>(
+        &mut self,
+        buf: &mut SdBuf,
+        kind: AceKind,
+        flags: u8,
+        mask: u32,
+        text: &'a [u8],
+    ) -> Option<&'a [u8]>
+        requires clear { flags / 0x20 % 2 ≡ 0 }
+        requires held { (t : FieldsRead) × HasReadFields self.old buf.old t × IsOpen t.parts }
+        ensures read { MatchOption result ((self.new ≡ self.old) × (buf.new ≡ buf.old))
+            (λ rest. EndsAce self.old buf.old (record no_fields { kind = kind; flags = flags; mask = mask }) text.now
+            self.new buf.new rest.now) }
+        ensures domain { self.new.domain ≡ self.old.domain }
+    {
+        if kind.is_object() || text.len() < 2 {
+            return None;
+        }
+        // A name such as BA has a letter where the text of an account has its first dash.
+        if text[1] == b'-' {
+            let rest = self.append_account(buf, kind, flags, mask, text)?;
+            return Some(rest);
+        }
+        let rest = self.append_named(buf, kind, flags, mask, text)?;
+        Some(rest)
+    }
+
+    // The same for a kind that has no object types. The numbers of the account are not kept in a SID on their way. Apart, so
+    // that ACEs with other SIDs keep their registers.
+    #[inline(never)]
+    fn append_account<'a>(
+        &mut self,
+        buf: &mut SdBuf,
+        kind: AceKind,
+        flags: u8,
+        mask: u32,
+        text: &'a [u8],
+    ) -> Option<&'a [u8]>
+        requires plain { is_object kind ≡ false }
+        requires clear { flags / 0x20 % 2 ≡ 0 }
+        requires held { (t : FieldsRead) × HasReadFields self.old buf.old t × IsOpen t.parts }
+        ensures read { MatchOption result ((self.new ≡ self.old) × (buf.new ≡ buf.old))
+            (λ rest. EndsAce self.old buf.old (record no_fields { kind = kind; flags = flags; mask = mask }) text.now
+            self.new buf.new rest.now) }
+        ensures domain { self.new.domain ≡ self.old.domain }
+    {
+        let (account, behind) = front_account(text)?;
+        let rest = after(behind, b")")?;
+        self.ace = AceFields {
+            flags,
+            mask,
+            ..no_fields(kind)
+        };
+        self.put_account(buf, account);
+        Some(rest)
+    }
+
+    // The same for a SID that two letters name everywhere. Its numbers come from the table of names.
+    #[inline(never)]
+    fn append_named<'a>(
+        &mut self,
+        buf: &mut SdBuf,
+        kind: AceKind,
+        flags: u8,
+        mask: u32,
+        text: &'a [u8],
+    ) -> Option<&'a [u8]>
+        requires plain { is_object kind ≡ false }
+        requires clear { flags / 0x20 % 2 ≡ 0 }
+        requires held { (t : FieldsRead) × HasReadFields self.old buf.old t × IsOpen t.parts }
+        ensures read { MatchOption result ((self.new ≡ self.old) × (buf.new ≡ buf.old))
+            (λ rest. EndsAce self.old buf.old (record no_fields { kind = kind; flags = flags; mask = mask }) text.now
+            self.new buf.new rest.now) }
+        ensures domain { self.new.domain ≡ self.old.domain }
+    {
+        let (name, rest) = front_name(text)?;
+        self.ace = AceFields {
+            flags,
+            mask,
+            ..no_fields(kind)
+        };
+        self.put_named(buf, name);
+        Some(rest)
+    }
+
     // The SID of the ACE at hand, which ends it.
     fn take_trustee(&mut self, buf: &mut SdBuf, text: &[u8]) -> Result<(), SddlFault>
         requires { (t : FieldsRead) × HasReadFields self.old buf.old t × IsOpen t.parts }
@@ -332,6 +428,50 @@ impl FieldReader {
         let ace = AceParts::new(f.kind, f.flags, f.mask, &f.object, &f.inherited, sid);
         if let Err(_) = self.builder.ace_of(buf, &ace) {
             self.large = self.open_acl;
+        }
+    }
+
+    // The same for an account, where the ACE has no object types.
+    #[inline(always)]
+    fn put_account(&mut self, buf: &mut SdBuf, account: Account)
+        requires plain { is_object self.old.ace.kind ≡ false }
+        requires none { (self.old.ace.object ≡ None) × (self.old.ace.inherited ≡ None) }
+        requires held { (t : FieldsRead) × HasReadFields self.old buf.old t × IsOpen t.parts }
+        ensures held { (t : FieldsRead) → HasReadFields self.old buf.old t
+            → HasReadFields self.new buf.new (with_trustee t (account_sid account)) }
+        ensures domain { self.new.domain ≡ self.old.domain }
+    {
+        if self.large.is_some() {
+            return;
+        }
+        let f = &self.ace;
+        if let Err(_) = self
+            .builder
+            .account_ace(buf, f.kind, f.flags, f.mask, account)
+        {
+            let too_large = self.open_acl;
+            self.large = too_large;
+        }
+    }
+
+    // The same for a name, where the ACE has no object types.
+    #[inline(always)]
+    fn put_named(&mut self, buf: &mut SdBuf, name: &WellKnown)
+        requires plain { is_object self.old.ace.kind ≡ false }
+        requires none { (self.old.ace.object ≡ None) × (self.old.ace.inherited ≡ None) }
+        requires count { name.now.count ≤ 6 }
+        requires held { (t : FieldsRead) × HasReadFields self.old buf.old t × IsOpen t.parts }
+        ensures held { (t : FieldsRead) → HasReadFields self.old buf.old t
+            → HasReadFields self.new buf.new (with_trustee t (known_sid name.now)) }
+        ensures domain { self.new.domain ≡ self.old.domain }
+    {
+        if self.large.is_some() {
+            return;
+        }
+        let f = &self.ace;
+        if let Err(_) = self.builder.named_ace(buf, f.kind, f.flags, f.mask, name) {
+            let full = self.open_acl;
+            self.large = full;
         }
     }
 

@@ -1,3 +1,4 @@
 pub mod FieldFronts
 pub mod FieldTexts
 pub mod Held
+pub mod Inner

@@ -1,9 +1,10 @@
 //! The bytes of a field's text: blanks, and those that end no field.
 
-ghost use Rattle.std.specs.Prelude.{◌≡◌, ◌≤◌, length, take, true};
+ghost use Rattle.std.specs.Prelude.{◌≡◌, ◌≤◌, ◌<◌, ◌+◌, length, take, drop, slice_index, true, false};
 ghost use Rattle.std.specs.List.{list_all};
 ghost use Rattle.sd_sddl_fields.specs.FieldTexts.{is_blank};
 ghost use Rattle.sd_sddl_fields.specs.Held.{is_plain_inside, is_plain_text};
+ghost use Rattle.sd_sddl_fields.specs.Inner.Blocks.{is_plain_late};
 
 /// The bytes of a text that are looked at together.
 const BLOCK: usize = 8;
@@ -26,11 +27,12 @@ pub fn is_plain_inside(byte: u8) -> bool
     !(byte == b'(' || byte == b')' || is_blank(byte))
 }
 
-/// How many bytes at the front only go onto the text of a field inside parentheses.
+/// How many bytes at the front only go onto the text of a field inside parentheses: all up to the first other one.
 #[inline(never)]
 pub fn plain_inside(text: &[u8]) -> usize
     ensures within { result ≤ length text.now }
     ensures plain { list_all is_plain_inside (take result text.now) ≡ true }
+    ensures ends { result < length text.now → is_plain_inside (slice_index text.now result) ≡ false }
 {
     for (i, byte) in text.iter().enumerate() {
         if !is_plain_inside(*byte) {
@@ -47,10 +49,11 @@ pub fn is_plain_text(byte: u8) -> bool
     is_plain_inside(byte) && byte != b':'
 }
 
-/// How many bytes at the front are no parentheses, colons, semicolons or blanks.
+/// How many bytes at the front are no parentheses, colons, semicolons or blanks: all up to the first of these.
 pub fn plain_text(text: &[u8]) -> usize
     ensures within { result ≤ length text.now }
     ensures plain { list_all is_plain_text (take result text.now) ≡ true }
+    ensures ends { result < length text.now → is_plain_text (slice_index text.now result) ≡ false }
 {
     let blocks = plain_blocks(text);
     for place in blocks..text.len() {
@@ -61,11 +64,12 @@ pub fn plain_text(text: &[u8]) -> usize
     text.len()
 }
 
-// How many bytes at the front stand in whole blocks of such bytes.
+// How many bytes at the front stand in whole blocks of such bytes, up to the first block with another byte.
 #[inline(always)]
 fn plain_blocks(text: &[u8]) -> usize
     ensures within { result ≤ length text.now }
     ensures plain { list_all is_plain_text (take result text.now) ≡ true }
+    ensures ends { result + 8 ≤ length text.now → list_all is_plain_late (take 8 (drop result text.now)) ≡ false }
 {
     let mut count = 0;
     while text.len() - count >= BLOCK && are_plain(&text[count..count + BLOCK]) {
@@ -78,7 +82,7 @@ fn plain_blocks(text: &[u8]) -> usize
 // and at each in the same way, and so at several at a time.
 #[inline(always)]
 fn are_plain(text: &[u8]) -> bool
-    ensures { result ≡ true → list_all is_plain_text text.now ≡ true }
+    ensures { result ≡ list_all is_plain_late text.now }
 {
     let mut other = false;
     for byte in text {

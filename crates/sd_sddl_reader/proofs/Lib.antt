@@ -1,3 +1,4 @@
+pub mod Ends
 pub mod FieldTexts
 pub mod FitLaws
 pub mod Runs

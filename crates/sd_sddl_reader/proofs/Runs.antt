@@ -21,7 +21,8 @@ use Rattle.sd_sddl_reader.specs.Inner.Progress.{Seen, rest_answer}
 use Rattle.sd_sddl_reader.specs.Inner.Reads.{IsReader, Reads, answer_at}
 use Rattle.sd_sddl_reader.specs.declared.reader.SddlReader.{SddlReader}
 use Rattle.sd_sddl_reader.proofs.FieldTexts.{append_nothing, same_inner, same_text, with_held}
-use Rattle.sd_sddl_reader.proofs.Steps.{entry_text, no_head, sid_text}
+use Rattle.sd_sddl_builder.proofs.laws.Heads.{no_head}
+use Rattle.sd_sddl_reader.proofs.Steps.{entry_text, sid_text}
 
 -- 1. What is held stays clean.
 

@@ -4,7 +4,7 @@ use Rattle.std.proofs.Common.{◌∙◌, arith, ◌⊎◌, inl, inr}
 use Rattle.std.specs.Prelude.{◌==◌, if◌then◌else◌, Result, Ok, Err, Option, Some, None}
 use Rattle.std.specs.List.{flat_map}
 use Rattle.std.proofs.Math.Dec.{eqb-suc-zero}
-use Rattle.std.proofs.lemmas.Bool.Decides.{nat_tests, eqb_tells}
+use Rattle.std.proofs.lemmas.Bool.Decides.{nat_tests}
 use Rattle.std.proofs.lemmas.Bool.{and_right}
 use Rattle.std.proofs.Math.Bool.{or-true, or-false}
 use Rattle.sd_sid.specs.Sid.{SecurityId}
@@ -35,6 +35,7 @@ use Rattle.sd_text.specs.Chains.{and_then, unless}
 use Rattle.sd_sddl_reader.specs.Inner.Progress.{Seen, is_inside, fields_left, is_shaped_here, text_with, inner_with}
 use Rattle.sd_sddl_reader.specs.Inner.Progress.{fields_here, is_seen, with_head, has_seen, judged, rest_answer}
 use Rattle.sd_sddl_reader.specs.Inner.Progress.{state_of, ended_with}
+use Rattle.sd_sddl_builder.proofs.laws.Heads.{head-paired, headed, no-colon, no_head, not_letter}
 use Rattle.sd_sddl_reader.proofs.FieldTexts.{Same, same_reads, text_ended, inner_ended}
 
 -- 1. Small facts.
@@ -62,19 +63,6 @@ ended : (dm : Option SecurityId) (r : Result FieldsRead SddlFault) (s : Slot) (t
     (and_then r (λ b. take_field dm b s t)) (read_fields dm fs)
 ended dm (Ok b) s t fs = refl
 ended dm (Err e) s t fs = refl
-
-pub no_head : (c : Bool) (x : Option Head) → x ≡ None → (if c then x else None) ≡ None
-no_head true x e = e
-no_head false x e = refl
-
-pub no-colon : (b : ℕ) (bs : List ℕ) (x : Option Head) → (b == 58) ≡ false
-    → (if begins_with_colon (pieces_from false (b ∷ bs)).after then x else None) ≡ None
-no-colon b bs x e = by_open (b == 40) refl
-  where
-    by_open : (o : Bool) → (b == 40) ≡ o
-        → (if begins_with_colon (pieces_from false (b ∷ bs)).after then x else None) ≡ None
-    by_open true f = rw f refl
-    by_open false f = rw (f, e) refl
 
 -- 2. A byte outside parentheses that begins no head goes onto the part at hand.
 
@@ -345,10 +333,6 @@ has_seen_with se p [] = refl
 has_seen_with se p (s ∷ ss) = rw (seen_with se p s.head, has_seen_with se p ss)
     (four (is_seen se s.head) (same_head p s.head) (has_seen se ss) (has_head p ss))
 
-pub not_letter : (b c : ℕ) (p : Head) → head_of b ≡ Some p → head_of c ≡ None → (b == c) ≡ false
-not_letter b c p e n = elim (eqb_tells b c)
-    [ inl h ↦ absurd (let f : head_of b ≡ None = rw (h.1) n in cc) | inr h ↦ h.0 ]
-
 same_body : (p : Head) (ps : List Piece) → is_body p ps ≡ is_shaped_here (state_of p) [] ps
 same_body (head.Sid p) ps = refl
 same_body (head.Acl w) ps = refl
@@ -372,17 +356,6 @@ from_outside dm so tw se r (state.AclFlags w) h bs out = refl
 from_outside dm so tw se r state.AfterAce h bs out = refl
 from_outside dm so tw se r (state.Ace c) h bs out = absurd cc
 
-headed : (b : ℕ) (p : Head) (bs : List ℕ) → head_of b ≡ Some p → (b == 40) ≡ false
-    → sections_of (b ∷ 58 ∷ bs) ≡ record {
-      before = [];
-      parts = record { head = p; body = (sections_of bs).before } ∷ (sections_of bs).parts;
-    }
-headed b p bs e e40 = rw (e40, e, no_head (begins_with_colon (pieces_from false bs).after) (head_of 58) refl) refl
-
-paired : (b : ℕ) (bs : List ℕ) → (b == 40) ≡ false → (b == 41) ≡ false
-    → is_paired false (b ∷ 58 ∷ bs) ≡ is_paired false bs
-paired b bs e40 e41 = rw (e40, e41) refl
-
 pub begin : (dm : Option SecurityId) (so tw : Bool) (se : Seen) (r : Result FieldsRead SddlFault) (pl : State)
     (h : Held) (b : ℕ) (p : Head) (bs : List ℕ) → is_inside pl ≡ false → IsHeld h → head_of b ≡ Some p
     → rest_answer dm so (tw || is_seen se p) (with_head se p) (ended_with dm pl h r) (state_of p) no_text
@@ -395,7 +368,7 @@ begin dm so tw se r pl h b p bs out k e =
     ∙ sym (from_outside dm so tw se r pl h (b ∷ 58 ∷ bs) out
     ∙ rw (
       headed b p bs e e40,
-      paired b bs e40 e41,
+      head-paired b bs e40 e41,
       shaped_end pl out,
       same_body p (sections_of bs).before,
       mixed tw (is_seen se p) (has_seen se (sections_of bs).parts) (has_head p (sections_of bs).parts)

@@ -4,7 +4,10 @@ use Rattle.std.proofs.Common.{Some, None, Ok, refl, ap, sym, ◌∙◌, arith, a
 use Rattle.std.specs.Prelude.{◌==◌, if◌then◌else◌, Option, Result}
 use Rattle.std.specs.List.{list_all}
 use Rattle.std.proofs.lemmas.Bool.{and_parts}
+use Rattle.std.proofs.lemmas.Bool.Decides.{nat_tests}
 use Rattle.sd_sid.specs.Sid.{SecurityId}
+use Rattle.sd_sid.specs.SidText.{is_sid_byte}
+use Rattle.sd_sid.proofs.laws.TextLaws.{list_all-more}
 use Rattle.sd_parts.specs.declared.part.SidPart.{SidPart}
 use Rattle.sd_parts.specs.declared.part.Which.{Which}
 use Rattle.sd_sddl_fields.specs.Held.{IsHeld, Held, held_run, held_with, is_plain_inside, is_plain_text, no_text}
@@ -29,7 +32,8 @@ use Rattle.sd_sddl_reader.specs.declared.reader.SddlReader.{SddlReader}
 use Rattle.sd_sddl_reader.proofs.FieldTexts.{same_text, with_held}
 use Rattle.sd_sddl_reader.proofs.FitLaws.{fits-first, fits-head, lacks-ended, none-ended, unseen-head}
 use Rattle.sd_sddl_reader.proofs.Runs.{not_true, plain-is}
-use Rattle.sd_sddl_reader.proofs.Steps.{begin-noted, no-colon, not_letter, open_first, outside_text}
+use Rattle.sd_sddl_builder.proofs.laws.Heads.{no-colon, not_letter}
+use Rattle.sd_sddl_reader.proofs.Steps.{begin-noted, open_first, outside_text}
 use Rattle.sd_sddl_reader.proofs.WholeFields.{nothing-held, whole-held}
 
 -- 1. The answer to a text outside parentheses.
@@ -50,6 +54,13 @@ text-inside [] e = refl
 text-inside (b ∷ bs) e =
     let p = text-parts b bs e in
     both (is_plain_inside b) (list_all is_plain_inside bs) p.0 (text-inside bs p.2)
+
+sid-byte-text : (b : ℕ) → is_sid_byte b ≡ true → is_plain_text b ≡ true
+sid-byte-text b is = grind (arith, nat_tests)
+
+-- the text of a SID
+pub sid-bytes-text : (bs : List ℕ) → list_all is_sid_byte bs ≡ true → list_all is_plain_text bs ≡ true
+sid-bytes-text bs all = list_all-more is_sid_byte is_plain_text sid-byte-text bs all
 
 -- a letter before such a text begins no head, where no colon follows the text
 no-head : (b c : ℕ) (bs rest : List ℕ) → list_all is_plain_text bs ≡ true → (c == 58) ≡ false

@@ -1,7 +1,8 @@
 //! A line, read as it comes: byte by byte, or at once what is whole in a piece.
 
 ghost use Rattle.std.specs.Prelude.{◌≡◌, ◌≤◌, ◌-◌, ℕ, List, [], ◌∷◌, ◌++◌, codes, length, take, ◌||◌, if◌then◌else◌};
-ghost use Rattle.std.specs.Prelude.{true, false, Option, Some, None, Ok, Err, IfOk, IfSome, OnErr, OnOk, MatchResult};
+ghost use Rattle.std.specs.Prelude.{true, false, Option, Some, None, Ok, Err, IfOk, IfSome, OnErr, OnOk, MatchOption};
+ghost use Rattle.std.specs.Prelude.{MatchResult};
 ghost use Rattle.std.specs.Option.{option_copied};
 ghost use Rattle.sd_sid.specs.Sid.{IsSid, SecurityId};
 ghost use Rattle.sd_view.specs.Descriptor.{IsDescriptor, Shows};
@@ -16,7 +17,8 @@ ghost use Rattle.sd_sddl_reader.specs.Inner.WholePart.{IsPlainText};
 ghost use Rattle.sd_sddl_reader.specs.Inner.Progress.{ended_with, is_inside, is_seen, state_of, with_head};
 
 use crate::line::{
-    State, first_parenthesis, front_head, head_of, next_field, next_head, plain_outside, state_of,
+    State, first_parenthesis, front_head, head_of, next_account, next_field, next_head,
+    plain_outside, state_of,
 };
 use sd_buffer::SdBuf;
 use sd_parts::{Parts, SidPart, Which};
@@ -416,6 +418,61 @@ impl SddlReader {
 
     // Takes an owner or a group that is whole in the text, and the head that ends it.
     fn feed_sid<'a>(&mut self, buf: &mut SdBuf, part: SidPart, text: &'a [u8]) -> &'a [u8]
+        requires here { self.old.state ≡ State.Sid part }
+        requires fresh { IsFresh self.old }
+        requires reader { IsReader self.old buf.old }
+        ensures { Feeds self.old buf.old text.now self.new buf.new result.now }
+    {
+        if let Some(rest) = self.feed_account(buf, part, text) {
+            return rest;
+        }
+        self.feed_other_sid(buf, part, text)
+    }
+
+    // The same for an account of a domain. If no such SID is whole in the text, nothing changes.
+    #[inline(always)]
+    fn feed_account<'a>(
+        &mut self,
+        buf: &mut SdBuf,
+        part: SidPart,
+        text: &'a [u8],
+    ) -> Option<&'a [u8]>
+        requires here { self.old.state ≡ State.Sid part }
+        requires fresh { IsFresh self.old }
+        requires reader { IsReader self.old buf.old }
+        ensures { MatchOption result ((self.new ≡ self.old) × (buf.new ≡ buf.old))
+            (λ rest. Feeds self.old buf.old text.now self.new buf.new rest.now) }
+    {
+        // A name such as BA has a letter where the text of an account has its first dash.
+        if text.len() < 2 || text[1] != b'-' {
+            return None;
+        }
+        let rest = self.put_account(buf, part, text)?;
+        Some(rest)
+    }
+
+    // The same. Apart, so that other SIDs keep their registers.
+    #[inline(never)]
+    fn put_account<'a>(
+        &mut self,
+        buf: &mut SdBuf,
+        part: SidPart,
+        text: &'a [u8],
+    ) -> Option<&'a [u8]>
+        requires here { self.old.state ≡ State.Sid part }
+        requires fresh { IsFresh self.old }
+        requires reader { IsReader self.old buf.old }
+        ensures { MatchOption result ((self.new ≡ self.old) × (buf.new ≡ buf.old))
+            (λ rest. Feeds self.old buf.old text.now self.new buf.new rest.now) }
+    {
+        let (account, head, rest) = next_account(text)?;
+        self.fields.put_sid(buf, part, &account.sid());
+        self.note_head(head);
+        Some(rest)
+    }
+
+    // The same for any SID.
+    fn feed_other_sid<'a>(&mut self, buf: &mut SdBuf, part: SidPart, text: &'a [u8]) -> &'a [u8]
         requires here { self.old.state ≡ State.Sid part }
         requires fresh { IsFresh self.old }
         requires reader { IsReader self.old buf.old }

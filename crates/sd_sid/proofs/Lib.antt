@@ -1,3 +1,4 @@
+pub mod AccountTexts
 pub mod AliasLemmas
 pub mod Cutting
 pub mod FormLemmas

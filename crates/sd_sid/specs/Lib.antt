@@ -1,3 +1,4 @@
+pub mod Account
 pub mod Inner
 pub mod Naming
 pub mod Sid

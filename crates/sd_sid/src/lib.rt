@@ -1,12 +1,14 @@
 //! Security identifiers (MS-DTYP 2.4.2): their bytes, their texts and their aliases.
 #![tactic(auto)]
 
+mod account;
 mod alias;
 mod naming;
 mod sid;
 mod sid_text;
 mod usual_sid;
 
+pub use account::{Account, front_account};
 pub use naming::Naming;
 pub use sid::Sid;
 pub use sid_text::SidFault;

@@ -1,6 +1,6 @@
 //! The usual text of a SID, with decimal numbers alone, read in one pass from the front of a longer text.
 
-ghost use Rattle.std.specs.Prelude.{◌≡◌, ◌≤◌, ◌<◌, ◌+◌, ◌++◌, [], List, ℕ, codes, length, drop, true};
+ghost use Rattle.std.specs.Prelude.{◌≡◌, ◌≤◌, ◌<◌, ◌+◌, ◌++◌, [], List, ℕ, codes, length, drop, true, false};
 ghost use Rattle.std.specs.Prelude.{IfSome, MatchOption, Some};
 ghost use Rattle.std.specs.Option.{option_map};
 ghost use Rattle.sd_text.specs.Cuts.{all_cuts};
@@ -13,9 +13,9 @@ use crate::sid_text::{begins_with_s1, is_sid_byte};
 use sd_text::{MOST_FIELD_SIZE, MOST_SUBS, front_decimal};
 
 /// The authority of Windows itself, and the first sub-authority of a domain's SIDs: `S-1-5-21`.
-const NT: u32 = 5;
+pub(crate) const NT: u32 = 5;
 
-const DOMAIN: u32 = 21;
+pub(crate) const DOMAIN: u32 = 21;
 
 /// Reads a SID in its usual form, with all numbers decimal and below 2^32, and returns its length. `None` means only
 /// that the general reader must decide.
@@ -137,7 +137,8 @@ fn front_number(text: &[u8]) -> Option<(u32, &[u8])>
 // Whether a dash is at the front, or what is of no SID.
 #[inline(always)]
 fn ends_number(text: &[u8]) -> bool
-    ensures { result ≡ true → (cut_at_dashes (sid_front text.now)).first ≡ [] }
+    ensures ends { result ≡ true → (cut_at_dashes (sid_front text.now)).first ≡ [] }
+    ensures goes { result ≡ false → (cut_at_dashes (sid_front text.now)).first ≡ [] → ⊥ }
 {
     match text.split_first() {
         Some((byte, _)) => *byte == b'-' || !is_sid_byte(*byte),

@@ -1,11 +1,12 @@
 -- The parts of a SID in its bytes.
-use Rattle.std.proofs.Common.{◌≡◌, ◌≤◌, ◌<◌, ℕ, zero, suc, ◌+◌, ◌-◌, ◌*◌, true, ◌&&◌, refl, sym, ap, ◌∙◌}
-use Rattle.std.proofs.Common.{List, ◌++◌, slice_index, codes, drop, length, arith}
+use Rattle.std.proofs.Common.{◌≡◌, ◌≤◌, ◌<◌, ℕ, zero, suc, ◌+◌, ◌-◌, ◌*◌, Bool, true, false, ◌&&◌, refl, sym, ap, ◌∙◌}
+use Rattle.std.proofs.Common.{List, [], ◌∷◌, ◌++◌, slice_index, codes, drop, take, length, arith}
 use Rattle.std.specs.Prelude.{◌==◌, nat_le}
 use Rattle.std.proofs.lemmas.Bool.Decides.{nat_tests}
 use Rattle.std.proofs.lemmas.List.{drop-drop}
 use Rattle.std.specs.List.{flat_map}
 use Rattle.std.specs.Fmt.{digits}
+use Rattle.std.specs.Str.{bytes_eq}
 use Rattle.byteorder.specs.Endian.{little_number}
 use Rattle.sd_sid.specs.Sid.{SecurityId, sid_of, words}
 use Rattle.sd_sid.specs.SidText.{sid_text, sub_text}
@@ -51,3 +52,19 @@ domain_view-text bytes s e test =
     (sym (drop-drop 4 8 bytes))
     ∙ domain_words-text s (slice_index bytes 1) (drop 8 bytes) five (ap (λ (t : SecurityId). t.subs) (sym e))
     (omega (arith, count, some)) first
+
+-- Where the first numbers are equal, the rest decides.
+
+then_rest : (one first all rest : Bool) → (one && first) ≡ true → (first ≡ true → all ≡ rest) → (one && all) ≡ rest
+then_rest true first all rest equal later = later equal
+then_rest false first all rest equal later = absurd cc
+
+pub rest_decides : (n : ℕ) (xs ys : List ℕ) → length xs ≡ length ys → bytes_eq (take n xs) (take n ys) ≡ true
+    → bytes_eq xs ys ≡ bytes_eq (drop n xs) (drop n ys)
+rest_decides zero xs ys long equal = refl
+rest_decides (suc n) [] [] long equal = refl
+rest_decides (suc n) [] (y ∷ ys) long equal = absurd (omega (arith, long))
+rest_decides (suc n) (x ∷ xs) [] long equal = absurd (omega (arith, long))
+rest_decides (suc n) (x ∷ xs) (y ∷ ys) long equal =
+    then_rest (x == y) (bytes_eq (take n xs) (take n ys)) (bytes_eq xs ys) (bytes_eq (drop n xs) (drop n ys)) equal
+    (rest_decides n xs ys (omega (arith, long)))

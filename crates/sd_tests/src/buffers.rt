@@ -33,6 +33,49 @@ fn decodes_base64(rt: HostRuntime) {
     assert!(rt; buf.bytes().is_empty());
 }
 
+// The symbols of base64 in the order of their values, and the bytes of these values.
+const SYMBOLS: &[u8; 64] = b"ABCDEFGHIJKLMNOPQRSTUVWXYZabcdefghijklmnopqrstuvwxyz0123456789+/";
+
+const SIX_BITS: &[u8; 48] =
+    b"\x00\x10\x83\x10\x51\x87\x20\x92\x8b\x30\xd3\x8f\x41\x14\x93\x51\x55\x97\x61\x96\x9b\x71\xd7\x9f\
+      \x82\x18\xa3\x92\x59\xa7\xa2\x9a\xab\xb2\xdb\xaf\xc3\x1c\xb3\xd3\x5d\xb7\xe3\x9e\xbb\xf3\xdf\xbf";
+
+// Groups of four symbols, up to 64 symbols: fewer than a block, a block, and some behind it.
+#[test]
+fn decodes_base64_of_any_length(rt: HostRuntime) {
+    let mut buf = SdBuf::new(rt.alloc()).expect(&rt, "memory for a buffer");
+    for groups in 0..=16 {
+        assert!(rt; buf.from_base64(&SYMBOLS[..4 * groups]) == Ok(()));
+        assert!(rt; buf.bytes() == &SIX_BITS[..3 * groups]);
+    }
+    for length in 0..64 {
+        let is_read = buf.from_base64(&SYMBOLS[..length]).is_ok();
+        assert!(rt; is_read == (length % 4 == 0), "{length}");
+    }
+}
+
+// Each character at the ends of blocks, where it is a symbol and where it is none.
+#[test]
+fn decodes_base64_of_symbols_alone(rt: HostRuntime) {
+    let mut buf = SdBuf::new(rt.alloc()).expect(&rt, "memory for a buffer");
+    for place in [0, 15, 16, 31, 32, 47, 48, 63] {
+        for character in 0..=u8::MAX {
+            let mut text = *SYMBOLS;
+            if let Some(cell) = text.get_mut(place) {
+                *cell = character;
+            }
+            // `=` is an error at the last place too, since `+` before it has bits behind the last byte.
+            let is_symbol = SYMBOLS.contains(&character);
+            let want = if is_symbol {
+                Ok(())
+            } else {
+                Err(TextFault::Base64)
+            };
+            assert!(rt; buf.from_base64(&text) == want, "{place} {character}");
+        }
+    }
+}
+
 // In pieces of this size, or digit by digit.
 fn read_in_pieces(buf: &mut SdBuf, text: &[u8], size: usize) -> Result<(), TextFault> {
     let mut reader = HexReader::new(buf);
@@ -48,21 +91,77 @@ fn read_in_pieces(buf: &mut SdBuf, text: &[u8], size: usize) -> Result<(), TextF
     reader.finish(buf)
 }
 
-// At once, digit by digit, and in pieces of each size.
+// In two pieces.
+fn read_in_two(buf: &mut SdBuf, text: &[u8], cut: usize) -> Result<(), TextFault>
+    requires { cut ≤ length text.now }
+{
+    let mut reader = HexReader::new(buf);
+    reader.feed_all(buf, &text[..cut]);
+    reader.feed_all(buf, &text[cut..]);
+    reader.finish(buf)
+}
+
+// At once, digit by digit, in pieces of each size, and in two.
 fn expect_read(
     rt: &impl Abort,
     buf: &mut SdBuf,
-    text: &str,
+    text: &[u8],
     want: Result<(), TextFault>,
     bytes: &[u8],
 )
     requires { length text.now ≤ most_hex_text }
 {
-    let text = text.as_bytes();
     assert!(rt; buf.from_hex(text) == want && buf.bytes() == bytes);
     for size in 0..=text.len() {
         let is_read = read_in_pieces(buf, text, size) == want;
         assert!(rt; is_read && buf.bytes() == bytes);
+        let is_read = read_in_two(buf, text, size) == want;
+        assert!(rt; is_read && buf.bytes() == bytes);
+    }
+}
+
+// Digits in either case, and the bytes that they spell.
+const DIGITS: &[u8; 66] = b"0123456789abcdeffedcba98765432100f1e2d3c4b5a69788796a5b4c3d2e1f03d";
+
+const CAPITALS: &[u8; 66] = b"0123456789ABCDEFFEDCBA98765432100F1E2D3C4B5A69788796A5B4C3D2E1F03D";
+
+const SPELLED: &[u8; 33] = b"\x01\x23\x45\x67\x89\xab\xcd\xef\xfe\xdc\xba\x98\x76\x54\x32\x10\
+      \x0f\x1e\x2d\x3c\x4b\x5a\x69\x78\x87\x96\xa5\xb4\xc3\xd2\xe1\xf0\x3d";
+
+// The first of the digits, and the same with a wrong character at the ends of blocks of 32 and of vectors of 16.
+fn expect_first_digits(rt: &impl Abort, buf: &mut SdBuf, count: usize)
+    requires least { 1 ≤ count }
+    requires most { count ≤ 66 }
+{
+    let is_odd = count % 2 == 1;
+    let (want, bytes) = if is_odd {
+        (Err(TextFault::HexOdd), 0)
+    } else {
+        (Ok(()), count / 2)
+    };
+    expect_read(rt, buf, &DIGITS[..count], want, &SPELLED[..bytes]);
+    expect_read(rt, buf, &CAPITALS[..count], want, &SPELLED[..bytes]);
+    let fault = if is_odd {
+        TextFault::HexOdd
+    } else {
+        TextFault::HexDigit
+    };
+    for place in [0, 15, 16, 31, 32, count - 1] {
+        let mut text = *DIGITS;
+        if place < count {
+            text[place] = b'g';
+            expect_read(rt, buf, &text[..count], Err(fault), b"");
+        }
+    }
+}
+
+// Fewer digits than a block, a block, and a block and more, once and twice.
+#[test]
+fn reads_hex_in_blocks(rt: HostRuntime) {
+    let mut buf = SdBuf::new(rt.alloc()).expect(&rt, "memory for a buffer");
+    for count in 31..=34 {
+        expect_first_digits(&rt, &mut buf, count);
+        expect_first_digits(&rt, &mut buf, count + 32);
     }
 }
 
@@ -70,17 +169,17 @@ fn expect_read(
 #[test]
 fn reads_hex_that_is_cut_anywhere(rt: HostRuntime) {
     let mut buf = SdBuf::new(rt.alloc()).expect(&rt, "memory for a buffer");
-    expect_read(&rt, &mut buf, "", Ok(()), b"");
+    expect_read(&rt, &mut buf, b"", Ok(()), b"");
     let bytes = b"\x01\x23\x45\x67\x89\xab\xcd\xef";
-    expect_read(&rt, &mut buf, "0123456789abcdef", Ok(()), bytes);
-    expect_read(&rt, &mut buf, "FEdcBA98", Ok(()), b"\xfe\xdc\xba\x98");
-    expect_read(&rt, &mut buf, "0", Err(TextFault::HexOdd), b"");
-    expect_read(&rt, &mut buf, "01234", Err(TextFault::HexOdd), b"");
-    expect_read(&rt, &mut buf, "g1234", Err(TextFault::HexOdd), b"");
-    expect_read(&rt, &mut buf, "0123g", Err(TextFault::HexOdd), b"");
-    expect_read(&rt, &mut buf, "g12345", Err(TextFault::HexDigit), b"");
-    expect_read(&rt, &mut buf, "01 345", Err(TextFault::HexDigit), b"");
-    expect_read(&rt, &mut buf, "01234:", Err(TextFault::HexDigit), b"");
+    expect_read(&rt, &mut buf, b"0123456789abcdef", Ok(()), bytes);
+    expect_read(&rt, &mut buf, b"FEdcBA98", Ok(()), b"\xfe\xdc\xba\x98");
+    expect_read(&rt, &mut buf, b"0", Err(TextFault::HexOdd), b"");
+    expect_read(&rt, &mut buf, b"01234", Err(TextFault::HexOdd), b"");
+    expect_read(&rt, &mut buf, b"g1234", Err(TextFault::HexOdd), b"");
+    expect_read(&rt, &mut buf, b"0123g", Err(TextFault::HexOdd), b"");
+    expect_read(&rt, &mut buf, b"g12345", Err(TextFault::HexDigit), b"");
+    expect_read(&rt, &mut buf, b"01 345", Err(TextFault::HexDigit), b"");
+    expect_read(&rt, &mut buf, b"01234:", Err(TextFault::HexDigit), b"");
 }
 
 // Which fault each of these is stands in `tests/rows/`.

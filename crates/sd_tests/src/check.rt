@@ -1,6 +1,8 @@
 //! The access check: how often it compares an entry of the token, and beside a plain program that tells the definition.
 //! Many verdicts stand in `tests/rows/access_check.json`.
 
+ghost use Rattle.std.specs.Prelude.{◌<◌};
+
 use crate::numbers::{Numbers, TYPES, Words, push_acl};
 use crate::plain_check::Question;
 use sd_access::{Ask, Privileges, check};
@@ -161,36 +163,85 @@ fn some_line(rt: &(impl Abort + AllocGlobal), numbers: &mut Numbers) -> String {
     line
 }
 
+// SIDs that no ACE names. Each of the first seven has as many numbers as one of `TRUSTEES`, and the same last one, so their
+// keys in a token are equal.
+const STRANGERS: &str =
+    "S-1-2-0 S-1-5-33-544 S-1-1-18 S-1-1-11 S-1-1-10 S-1-5-4 S-1-5-21-1-2-4-1001 LS NS NU SU BU BG CO CG";
+
+// The entries of a token; one in so many has a SID that ACEs name.
+fn some_entries(
+    rt: &(impl Abort + AllocGlobal),
+    numbers: &mut Numbers,
+    count: usize,
+    one_in: usize,
+) -> Vec<(Sid, EntryKind)>
+    requires { 0 < one_in }
+{
+    let mut entries = Vec::new(rt.alloc());
+    for _ in 0..count {
+        let words = match numbers.below(one_in) {
+            0 => TRUSTEES,
+            _ => STRANGERS,
+        };
+        let (sid, enabled) = entry_of(rt, numbers.word_of(words));
+        let kind = numbers.one_of(&[EntryKind::DenyOnly, enabled, enabled, enabled]);
+        assert!(rt; entries.push((sid, kind)).is_ok());
+    }
+    entries
+}
+
+// Whoever has these entries asks for some rights on a descriptor.
+fn check_some(
+    rt: &(impl Abort + AllocGlobal),
+    buf: &mut SdBuf,
+    numbers: &mut Numbers,
+    entries: &[(Sid, EntryKind)],
+) {
+    let line = some_line(rt, numbers);
+    let desired = numbers.one_of(&DESIRED) | numbers.one_of(&[0, 0, 0, 0, 0, 0x2000000]);
+    let (principal, _) = entry_of(rt, numbers.word_of(TRUSTEES));
+    let question = Question {
+        entries,
+        desired,
+        maximum: desired == 0 || numbers.below(4) == 0,
+        mapping: numbers.one_of(&[Mapping::FILE, Mapping::KEY, Mapping::DS]),
+        object: Uuid::parse_str(numbers.word_of(TYPES)).ok(),
+        principal_self: numbers.one_of(&[None, Some(principal)]),
+        privileges: Privileges {
+            security: numbers.below(4) == 0,
+            take_ownership: numbers.below(4) == 0,
+        },
+        level: match numbers.below(4) {
+            0 => None,
+            _ => Some(numbers.one_of(&LEVELS)),
+        },
+    };
+    compared(rt, buf, &line, &question);
+}
+
 #[test]
 fn agrees_with_the_definition(rt: HostRuntime) {
     let mut buf = SdBuf::new(rt.alloc()).expect(&rt, "memory for a buffer");
     let mut numbers = Numbers { state: 1 };
     for _ in 0..10_000 {
-        let line = some_line(&rt, &mut numbers);
-        let mut entries = Vec::new(rt.alloc());
-        for _ in 0..numbers.below(5) {
-            let (sid, enabled) = entry_of(&rt, numbers.word_of(TRUSTEES));
-            let kind = numbers.one_of(&[EntryKind::DenyOnly, enabled, enabled, enabled]);
-            assert!(rt; entries.push((sid, kind)).is_ok());
-        }
-        let desired = numbers.one_of(&DESIRED) | numbers.one_of(&[0, 0, 0, 0, 0, 0x2000000]);
-        let (principal, _) = entry_of(&rt, numbers.word_of(TRUSTEES));
-        let question = Question {
-            entries: &entries,
-            desired,
-            maximum: desired == 0 || numbers.below(4) == 0,
-            mapping: numbers.one_of(&[Mapping::FILE, Mapping::KEY, Mapping::DS]),
-            object: Uuid::parse_str(numbers.word_of(TYPES)).ok(),
-            principal_self: numbers.one_of(&[None, Some(principal)]),
-            privileges: Privileges {
-                security: numbers.below(4) == 0,
-                take_ownership: numbers.below(4) == 0,
-            },
-            level: match numbers.below(4) {
-                0 => None,
-                _ => Some(numbers.one_of(&LEVELS)),
-            },
-        };
-        compared(&rt, &mut buf, &line, &question);
+        let count = numbers.below(5);
+        let entries = some_entries(&rt, &mut numbers, count, 1);
+        check_some(&rt, &mut buf, &mut numbers, &entries);
+    }
+}
+
+// With blocks of 16 entries and some behind them, and with many blocks.
+#[test]
+fn agrees_with_the_definition_for_long_tokens(rt: HostRuntime) {
+    let mut buf = SdBuf::new(rt.alloc()).expect(&rt, "memory for a buffer");
+    let mut numbers = Numbers { state: 2 };
+    for _ in 0..500 {
+        let count = numbers.below(41);
+        let entries = some_entries(&rt, &mut numbers, count, 8);
+        check_some(&rt, &mut buf, &mut numbers, &entries);
+    }
+    for _ in 0..10 {
+        let entries = some_entries(&rt, &mut numbers, 300, 60);
+        check_some(&rt, &mut buf, &mut numbers, &entries);
     }
 }

@@ -1,12 +1,15 @@
 -- All bytes of a block are digits, by the highest bits of two words.
 use Rattle.std.proofs.Common.{◌≡◌, ℕ, zero, suc, ◌+◌, ◌-◌, ◌*◌, ◌/◌, ◌%◌, ◌^◌, ◌<◌, ◌≤◌, true, List, [], ◌∷◌, length}
-use Rattle.std.proofs.Common.{get_or, ap, refl, sym, ◌∙◌, arith, bit_and, bit_or, w64}
+use Rattle.std.proofs.Common.{get_or, ap, refl, sym, ◌∙◌, arith, bit_and, bit_or, w64, Bool, false, eqb-true, eq-eqb}
 use Rattle.std.specs.Char.{is_digit}
 use Rattle.std.specs.Int.{bit_at, from_le_bytes}
 use Rattle.std.specs.List.{list_all}
-use Rattle.std.specs.Prelude.{max, min}
-use Rattle.std.proofs.lemmas.Nat.Bits.{bit_at-suc, bit_at-zero, bit_at_and, bit_at_or}
-use Rattle.sd_text.proofs.FrontDigits.{plain_digit}
+use Rattle.std.specs.Prelude.{max, min, ◌==◌, ◌||◌, ◌&&◌}
+use Rattle.std.proofs.lemmas.Bool.{and_parts}
+use Rattle.std.proofs.lemmas.Bool.Decides.{nat_tests}
+use Rattle.std.proofs.lemmas.Nat.{and_le_r}
+use Rattle.std.proofs.lemmas.Nat.Bits.{bit_at-suc, bit_at-zero, bit_at_and, bit_at_or, same_from_bits_below}
+use Rattle.sd_text.proofs.FrontDigits.{digit_range, plain_digit}
 
 -- the word of bytes, the first of them lowest
 abbrev word_of : List ℕ → ℕ
@@ -105,7 +108,7 @@ word_of_eight (a ∷ b ∷ c ∷ f ∷ g ∷ i ∷ j ∷ k ∷ l ∷ ls) h = abs
 word_of_eight (a ∷ b ∷ c ∷ f ∷ g ∷ i ∷ j ∷ k ∷ []) h = omega arith
 
 -- a block without any of these bits
-pub all-digits : (bs : List ℕ) (word : ℕ) → length bs ≡ 8 → ((i : ℕ) → get_or bs i 0 < 256)
+all-digits : (bs : List ℕ) (word : ℕ) → length bs ≡ 8 → ((i : ℕ) → get_or bs i 0 < 256)
     → word ≡ from_le_bytes w64 bs
     → bit_and (bit_or ((word + 0x4646464646464646) % 2 ^ 64) ((word + (2 ^ 64 - 0x3030303030303030)) % 2 ^ 64))
     0x8080808080808080 ≡ 0
@@ -116,3 +119,128 @@ all-digits bs word size bytes is none =
     let w : word ≡ word_of bs = is ∙ word_of_eight bs size in
     each 8 bs a b ((word + 0x4646464646464646) / 2 ^ 64) (1 - (word + (2 ^ 64 - 0x3030303030303030)) / 2 ^ 64) size bytes
     (omega (arith, w)) (omega (arith, w)) (λ i h. (both a b i h none).0) (λ i h. (both a b i h none).1)
+
+-- what digits leave in the sum and in the difference, the first of them lowest
+sums : List ℕ → ℕ
+sums [] = 0
+sums (c ∷ cs) = c + 70 + 256 * sums cs
+
+rests : List ℕ → ℕ
+rests [] = 0
+rests (c ∷ cs) = c - 48 + 256 * rests cs
+
+-- neither carries out of a byte
+fits : (n : ℕ) (bs : List ℕ) → length bs ≡ n → list_all (λ c. is_digit c 10) bs ≡ true
+    → (word_of bs + in_each 70 n ≡ sums bs) × (rests bs + in_each 48 n ≡ word_of bs) × (sums bs < above n 1)
+    × (rests bs < above n 1)
+unfolding sums rests
+fits zero [] size all = (refl, refl, omega arith, omega arith)
+fits (suc n) [] size all = absurd (omega arith)
+fits zero (c ∷ cs) size all = absurd (omega arith)
+fits (suc n) (c ∷ cs) size all =
+    let parts = and_parts (is_digit c 10) _ all in
+    let range = digit_range c parts.0 in
+    let others = fits n cs (omega arith) parts.1 in (
+      omega (arith, others.0),
+      omega (arith, others.1, range.0),
+      omega (arith, others.2, range.1),
+      omega (arith, others.3, range.1),
+    )
+
+byte_behind : (n i k : ℕ) → k ≡ i + 1 → bit_at n (8 * k + 7) ≡ bit_at (n / 256) (8 * i + 7)
+byte_behind n i k e = rw e (byte_up n i)
+
+-- nor sets the highest bit of one
+clear : (bs : List ℕ) (i : ℕ) → list_all (λ c. is_digit c 10) bs ≡ true
+    → (bit_at (sums bs) (8 * i + 7) ≡ 0) × (bit_at (rests bs) (8 * i + 7) ≡ 0)
+unfolding sums rests
+clear [] i all = (bit_at-zero (8 * i + 7), bit_at-zero (8 * i + 7))
+clear (c ∷ cs) zero all =
+    let range = digit_range c (and_parts (is_digit c 10) _ all).0 in
+    (omega (arith, range.0, range.1), omega (arith, range.0, range.1))
+clear (c ∷ cs) (suc i) all =
+    let parts = and_parts (is_digit c 10) _ all in
+    let range = digit_range c parts.0 in
+    let others = clear cs i parts.1 in
+    let sum : (c + 70 + 256 * sums cs) / 256 ≡ sums cs = omega (arith, range.1) in
+    let rest : (c - 48 + 256 * rests cs) / 256 ≡ rests cs = omega (arith, range.1) in (
+      byte_behind (c + 70 + 256 * sums cs) i (suc i) (omega arith) ∙ ap (λ n. bit_at n (8 * i + 7)) sum ∙ others.0,
+      byte_behind (c - 48 + 256 * rests cs) i (suc i) (omega arith) ∙ ap (λ n. bit_at n (8 * i + 7)) rest ∙ others.1,
+    )
+
+-- the constant has no other bit below a place
+no_other : ℕ → Bool
+no_other zero = true
+no_other (suc j) = (j % 8 == 7 || bit_at 0x8080808080808080 j == 0) && no_other j
+
+either : (x y : Bool) → (x || y) ≡ true → x ≡ false → y ≡ true
+either true y e f = absurd cc
+either false y e f = e
+
+other : (n j : ℕ) → no_other n ≡ true → j < n → (j % 8 ≡ 7 → ⊥) → bit_at 0x8080808080808080 j ≡ 0
+unfolding no_other
+other zero j all h inside = absurd (omega arith)
+other (suc n) j all h inside = by_last (j == n) refl (other n j (and_parts _ (no_other n) all).1)
+  where
+    by_last : (b : Bool) → (j == n) ≡ b → (j < n → (j % 8 ≡ 7 → ⊥) → bit_at 0x8080808080808080 j ≡ 0)
+        → bit_at 0x8080808080808080 j ≡ 0
+    by_last true e more =
+        let same : j ≡ n = eqb-true j n e in
+        let here = (and_parts _ (no_other n) all).0 in
+        let last : (n % 8 == 7) ≡ false = grind (arith, nat_tests) in
+        rw same (eqb-true _ 0 (either (n % 8 == 7) _ here last))
+    by_last false e more = more (grind (arith, nat_tests)) inside
+
+every_other : no_other 64 ≡ true
+unfolding no_other
+every_other = refl
+
+-- where neither word has one of these bits, no bit of them is left
+masked : (a b j : ℕ) → ((i : ℕ) → bit_at a (8 * i + 7) ≡ 0) → ((i : ℕ) → bit_at b (8 * i + 7) ≡ 0) → j < 64
+    → bit_at (bit_and (bit_or a b) 0x8080808080808080) j ≡ bit_at 0 j
+masked a b j high low h = by_place (j % 8 == 7) refl
+  where
+    bits : bit_at (bit_and (bit_or a b) 0x8080808080808080) j
+        ≡ min (max (bit_at a j) (bit_at b j)) (bit_at 0x8080808080808080 j)
+    bits =
+        bit_at_and (bit_or a b) 0x8080808080808080 j
+        ∙ ap (λ n. min n (bit_at 0x8080808080808080 j)) (bit_at_or a b j)
+
+    by_place : (p : Bool) → (j % 8 == 7) ≡ p → bit_at (bit_and (bit_or a b) 0x8080808080808080) j ≡ bit_at 0 j
+    by_place true e =
+        let place : 8 * (j / 8) + 7 ≡ j = let seven = eqb-true (j % 8) 7 e in omega (arith, seven) in
+        let first : bit_at a j ≡ 0 = ap (bit_at a) (sym place) ∙ high (j / 8) in
+        let second : bit_at b j ≡ 0 = ap (bit_at b) (sym place) ∙ low (j / 8) in
+        omega (arith, bits, first, second, bit_at-zero j)
+    by_place false e =
+        let none = other 64 j every_other h (λ seven. grind (arith, nat_tests)) in
+        omega (arith, bits, none, bit_at-zero j)
+
+-- a block of digits sets none of these bits
+digits-clear : (bs : List ℕ) (word : ℕ) → length bs ≡ 8 → word ≡ from_le_bytes w64 bs
+    → list_all (λ c. is_digit c 10) bs ≡ true
+    → bit_and (bit_or ((word + 0x4646464646464646) % 2 ^ 64) ((word + (2 ^ 64 - 0x3030303030303030)) % 2 ^ 64))
+    0x8080808080808080 ≡ 0
+digits-clear bs word size is all =
+    let w : word ≡ word_of bs = is ∙ word_of_eight bs size in
+    let parts = fits 8 bs size all in
+    let a : (word + 0x4646464646464646) % 2 ^ 64 ≡ sums bs = omega (arith, w, parts.0, parts.2) in
+    let b : (word + (2 ^ 64 - 0x3030303030303030)) % 2 ^ 64 ≡ rests bs = omega (arith, w, parts.1, parts.3) in
+    rw (a, b)
+    (same_from_bits_below 64 (bit_and (bit_or (sums bs) (rests bs)) 0x8080808080808080) 0
+    (omega (arith, and_le_r (bit_or (sums bs) (rests bs)) 0x8080808080808080)) (omega arith)
+    (λ j h. masked (sums bs) (rests bs) j (λ i. (clear bs i all).0) (λ i. (clear bs i all).1) h))
+
+same_test : (p q : Bool) → (p ≡ true → q ≡ true) → (q ≡ true → p ≡ true) → p ≡ q
+same_test true q f g = sym (f refl)
+same_test false true f g = g refl
+same_test false false f g = refl
+
+-- a block has none of these bits if all are digits, and else one
+pub are-digits : (bs : List ℕ) (word : ℕ) → length bs ≡ 8 → ((i : ℕ) → get_or bs i 0 < 256)
+    → word ≡ from_le_bytes w64 bs
+    → (bit_and (bit_or ((word + 0x4646464646464646) % 2 ^ 64) ((word + (2 ^ 64 - 0x3030303030303030)) % 2 ^ 64))
+    0x8080808080808080 == 0)
+    ≡ list_all (λ c. is_digit c 10) bs
+are-digits bs word size bytes is =
+    same_test _ _ (λ e. all-digits bs word size bytes is (eqb-true _ 0 e)) (λ e. eq-eqb _ 0 (digits-clear bs word size is e))

@@ -1,16 +1,16 @@
 -- The decimal number at the front of a text, digit by digit from the left.
-use Rattle.std.proofs.lemmas.Bool.{and_parts}
+use Rattle.std.proofs.lemmas.Bool.{and_parts, true≢false}
 use Rattle.std.proofs.Common.{zero, suc, ap, ◌-◌, add-one, lt-ltb, ◌≡◌, ℕ, ◌+◌, ◌*◌, ◌^◌, ◌<◌, ◌≤◌, length, take}
 use Rattle.std.proofs.Common.{take-add, get_or, Bool, true, false, List, [], ◌∷◌, ◌++◌, drop, Option, Some, None}
 use Rattle.std.proofs.Common.{refl, sym, ◌∙◌, arith}
-use Rattle.std.specs.Prelude.{if◌then◌else◌}
+use Rattle.std.specs.Prelude.{if◌then◌else◌, nat_lt, ◌&&◌}
 use Rattle.std.proofs.Math.Nat.{pow-le-pow_right, pow-suc}
 use Rattle.std.specs.Option.{option_and_then}
 use Rattle.std.specs.Char.{digit_value, is_digit}
 use Rattle.std.specs.List.{list_all}
 use Rattle.std.proofs.lemmas.Bool.Decides.{nat_tests}
 use Rattle.std.proofs.lemmas.Grind.{common_steps}
-use Rattle.std.proofs.lemmas.List.{take_more}
+use Rattle.std.proofs.lemmas.List.{get_or-drop, get_or-take, length-take-le, take_all, take_more}
 use Rattle.std.proofs.lemmas.Str.{digit_value_digit}
 use Rattle.sd_text.specs.Numbers.{number_after}
 
@@ -98,3 +98,52 @@ fits-behind i n d small few one =
     let within : 8 + (i + 1) ≤ 18 = omega arith in
     let most : 10 ^ (8 + (i + 1)) ≤ 10 ^ 18 = pow-le-pow_right ten within in
     omega (arith, next, most)
+
+-- a byte that is none of the ten digits
+pub no_digit : (b : ℕ) → (48 ≤ b → b ≤ 57 → ⊥) → is_digit b 10 ≡ false
+no_digit b outside = by_test (is_digit b 10) refl
+  where
+    by_test : (d : Bool) → is_digit b 10 ≡ d → d ≡ false
+    by_test true e = let range = digit_range b e in absurd (outside range.0 range.1)
+    by_test false e = refl
+
+-- what writes a number is digits
+pub number-digits : (n m : ℕ) (text : List ℕ) → number_after 10 n text ≡ Some m
+    → list_all (λ b. is_digit b 10) text ≡ true
+number-digits n m [] e = refl
+number-digits n m (c ∷ cs) e = by_digit (is_digit c 10) e (number-digits (n * 10 + digit_value c) m cs)
+  where
+    by_digit : (d : Bool) → (if d then number_after 10 (n * 10 + digit_value c) cs else None) ≡ Some m
+        → (number_after 10 (n * 10 + digit_value c) cs ≡ Some m → list_all (λ b. is_digit b 10) cs ≡ true)
+        → (d && list_all (λ b. is_digit b 10) cs) ≡ true
+    by_digit true f more = more f
+    by_digit false f more = absurd cc
+
+-- a block with another byte ends the number within it
+pub ends-in-block : (text : List ℕ) (i n : ℕ) → 8 ≤ length text → i ≤ length (take 8 text)
+    → list_all (λ b. is_digit b 10) (take 8 text) ≡ false → number_after 10 0 (take i (take 8 text)) ≡ Some n
+    → (i < length (take 8 text) → is_digit (get_or (take 8 text) i 0) 10 ≡ false)
+    → is_digit (get_or text i 0) 10 ≡ false
+ends-in-block text i n long within other e ends = by_end (nat_lt i 8) refl
+  where
+    size : length (take 8 text) ≡ 8
+    size = length-take-le 8 text long
+
+    by_end : (b : Bool) → nat_lt i 8 ≡ b → is_digit (get_or text i 0) 10 ≡ false
+    by_end true f =
+        let early : i < 8 = grind (arith, nat_tests) in
+        let inside : i < length (take 8 text) = omega (arith, size, early) in
+        ap (λ b. is_digit b 10) (sym (get_or-take 8 text i 0 early)) ∙ ends inside
+    by_end false f =
+        let late : 8 ≤ i = grind (arith, nat_tests) in
+        let whole : take i (take 8 text) ≡ take 8 text = take_all i (take 8 text) (omega (arith, size, late)) in
+        let all = number-digits 0 n (take 8 text) (ap (number_after 10 0) (sym whole) ∙ e) in
+        absurd (true≢false (sym all ∙ other))
+
+-- the byte behind a block and its digits
+pub ends-behind : (text : List ℕ) (i : ℕ) → i < 2 → 8 + i < length text
+    → (i < length (take 2 (drop 8 text)) → is_digit (get_or (take 2 (drop 8 text)) i 0) 10 ≡ false)
+    → is_digit (get_or text (8 + i) 0) 10 ≡ false
+ends-behind text i few within ends =
+    let inside : i < length (take 2 (drop 8 text)) = grind (arith, common_steps) in
+    ap (λ b. is_digit b 10) (sym (get_or-take 2 (drop 8 text) i 0 few ∙ get_or-drop 8 text i 0)) ∙ ends inside

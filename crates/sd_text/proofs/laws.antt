@@ -3,6 +3,7 @@ pub mod Bits
 pub mod Bools
 pub mod Capitals
 pub mod HexDigits
+pub mod NameCells
 pub mod NameLaws
 pub mod Options
 pub mod Tables

@@ -1,6 +1,7 @@
 -- Texts of names of two letters that stand for bits.
 use Rattle.std.specs.Prelude.{◌≡◌, ℕ, Bool, true, ◌&&◌, ◌==◌, if◌then◌else◌, List, [], ◌∷◌, Option, Some, None}
-use Rattle.std.specs.Prelude.{bit_and, bit_or}
+use Rattle.std.specs.Prelude.{suc, ◌+◌, ◌*◌, ◌/◌, ◌%◌, bit_and, bit_or, not, unwrap_or}
+use Rattle.std.specs.List.{list_all}
 use Rattle.std.specs.Char.{is_ascii_uppercase, to_ascii_uppercase}
 use Rattle.sd_text.specs.declared.names.NamedBits.{NamedBits}
 
@@ -41,6 +42,20 @@ named_bits (e ∷ es) mask = if bit_and mask e.bits == 0 then named_bits es mask
 -- both letters of a name are capitals
 abbrev pub has_capitals : NamedBits → Bool
 has_capitals e = is_ascii_uppercase e.first && is_ascii_uppercase e.second
+
+-- where the bits of two letters are: there are 32 cells for each first letter
+abbrev pub name_cell : ℕ → ℕ → ℕ
+name_cell a b = a % 32 * 32 + b % 32
+
+-- the cells from a place on have the bits of the capitals that belong there, and 0 where these are no name
+abbrev pub cells_from : ℕ → List NamedBits → List ℕ → Bool
+cells_from place table [] = true
+cells_from place table (bits ∷ more) =
+    bits == unwrap_or (bits_named table (64 + place / 32) (64 + place % 32)) 0 && cells_from (suc place) table more
+
+-- the cells of a table whose names are capitals and stand for bits
+unfoldable pub has_cells : List NamedBits → List ℕ → Bool
+has_cells table cells = list_all (λ e. has_capitals e && not (e.bits == 0)) table && cells_from 0 table cells
 
 -- two bytes are the same capital, or neither is a capital
 abbrev pub IsSameCapital : ℕ → ℕ → Type 0

@@ -1,9 +1,9 @@
 //! Names of two letters for bits.
 
-ghost use Rattle.std.specs.Prelude.{◌≡◌, ◌≤◌, length, take, true};
+ghost use Rattle.std.specs.Prelude.{◌≡◌, ◌≤◌, ◌<◌, List, length, take, true};
 ghost use Rattle.std.specs.Char.{to_ascii_uppercase};
-ghost use Rattle.std.specs.List.{flat_map, list_all};
-ghost use Rattle.sd_text.specs.Names.{IsSameCapital, bits_named, has_capitals, names_of, run_of};
+ghost use Rattle.sd_text.specs.Names.{IsSameCapital, bits_named, has_cells, name_cell, names_of, run_of};
+ghost use Rattle.sd_text.specs.declared.names.NamedBits.{NamedBits};
 ghost use Rattle.sd_sink.specs.Print.{Prints};
 
 use sd_sink::{FRONT, Print};
@@ -27,6 +27,10 @@ macro_rules! named {
         }
     };
 }
+
+/// The bits of each two letters, and 0 where they are no name: 32 cells for each first letter, and in them one for each
+/// second letter. A letter is told by its lowest five bits, in either case.
+pub type NameCells = [u32; 1024];
 
 /// The names of the largest table.
 const MOST_NAMES: usize = 17;
@@ -79,44 +83,43 @@ pub fn capital(byte: u8) -> u8
     byte - byte / CASE_BIT % 2 * CASE_BIT
 }
 
-/// The bits of a run of names, each in either case and as often as it likes. The names of the tables are
-/// capitals. None where two letters are no name, or one is left.
+/// The bits of a run of names, each in either case and as often as it likes. The table of names has capitals, and its
+/// cells have the bits of its names. None where two letters are no name, or one is left.
 #[tactic(auto, unfolding(crate::specs::Names::run_of))]
-pub fn read_names(tables: &[&[NamedBits]], text: &[u8]) -> Option<u32>
-    requires { list_all (λ table. list_all has_capitals table.now) tables.now ≡ true }
-    ensures { result ≡ run_of (flat_map (λ table. table.now) tables.now) text.now }
+pub fn read_names(cells: &NameCells, text: &[u8]) -> Option<u32>
+    ghost table: { List NamedBits }
+    requires { has_cells table cells.now ≡ true }
+    ensures { result ≡ run_of table text.now }
 {
     let mut bits = 0;
     let mut rest = text;
     while let Some((first, tail)) = rest.split_first() {
         let (second, tail) = tail.split_first()?;
-        bits |= find_bits(tables, *first, *second)?;
+        bits |= bits_named(cells, *first, *second)?;
         rest = tail;
     }
     Some(bits)
 }
 
-fn find_bits(tables: &[&[NamedBits]], first: u8, second: u8) -> Option<u32>
-    requires { list_all (λ table. list_all has_capitals table.now) tables.now ≡ true }
-    ensures { result ≡ bits_named (flat_map (λ table. table.now) tables.now) first second }
+// The bits of two letters. Any other byte may have the cell of a letter, so it is told apart first.
+#[inline(always)]
+fn bits_named(cells: &NameCells, first: u8, second: u8) -> Option<u32>
+    ghost table: { List NamedBits }
+    requires { has_cells table cells.now ≡ true }
+    ensures { result ≡ bits_named table first second }
 {
-    for table in tables {
-        if let Some(bits) = bits_named(table, first, second) {
-            return Some(bits);
-        }
+    if !first.is_ascii_alphabetic() || !second.is_ascii_alphabetic() {
+        return None;
     }
-    None
+    let bits = cells[name_cell(first, second)];
+    if bits == 0 { None } else { Some(bits) }
 }
 
-fn bits_named(table: &[NamedBits], first: u8, second: u8) -> Option<u32>
-    requires { list_all has_capitals table.now ≡ true }
-    ensures { result ≡ bits_named table.now first second }
+// The cell of two letters, in either case.
+#[inline(always)]
+fn name_cell(first: u8, second: u8) -> usize
+    ensures cell { result ≡ name_cell first second }
+    ensures within { result < 1024 }
 {
-    let (first, second) = (capital(first), capital(second));
-    for name in table {
-        if name.first == first && name.second == second {
-            return Some(name.bits);
-        }
-    }
-    None
+    usize::from(first % 32) * 32 + usize::from(second % 32)
 }

@@ -1,6 +1,6 @@
 //! The numbers that digits write, in rights and in SIDs.
 
-ghost use Rattle.std.specs.Prelude.{◌≡◌, ◌<◌, ◌≤◌, ◌+◌, ◌*◌, ◌/◌, ◌%◌, ◌^◌, length, take, true, IfSome, Some};
+ghost use Rattle.std.specs.Prelude.{◌≡◌, ◌<◌, ◌≤◌, ◌+◌, ◌*◌, ◌/◌, ◌%◌, ◌^◌, length, take, get_or, true, false, IfSome, Some};
 ghost use Rattle.std.specs.Char.{is_digit};
 ghost use Rattle.std.specs.Int.{from_le_bytes, w64};
 ghost use Rattle.std.specs.List.{list_all};
@@ -49,12 +49,14 @@ pub fn read_number(base: u32, limit: u64, text: &[u8]) -> Option<u64>
     Some(number)
 }
 
-/// The decimal number that the digits at the front write, ten of them at most, and how many these are.
+/// The decimal number that the digits at the front write, ten of them at most, and how many these are. Where there are
+/// fewer, the next byte is no digit.
 #[inline(always)]
 pub fn front_decimal(text: &[u8]) -> (u64, usize)
     ensures few { result.1 ≤ 10 }
     ensures within { result.1 ≤ length text.now }
     ensures number { number_after 10 0 (take result.1 text.now) ≡ Some result.0 }
+    ensures ends { result.1 < 10 → result.1 < length text.now → is_digit (get_or text.now result.1 0) 10 ≡ false }
 {
     if text.len() < MOST_DIGITS {
         return few_digits(0, text);
@@ -70,11 +72,11 @@ pub fn front_decimal(text: &[u8]) -> (u64, usize)
 
 // Whether all bytes of a block are digits, found for all of them at once. The sum sets the highest bit of a byte above
 // '9', and the difference that of a byte below '0', or of one so large that its sum overflows. A carry or a borrow only
-// comes out of a byte that is no digit, so the first such byte is always found.
+// comes out of a byte that is no digit, so the first such byte is always found, and digits set none of these bits.
 #[inline(always)]
 fn are_digits(block: &[u8]) -> bool
     requires { length block.now ≡ 8 }
-    ensures { result ≡ true → list_all (λ b. is_digit b 10) block.now ≡ true }
+    ensures { result ≡ list_all (λ b. is_digit b 10) block.now }
 {
     let word = block_word(block);
     let others = word.wrapping_add(TO_HIGHEST) | word.wrapping_sub(ZEROS);
@@ -123,6 +125,7 @@ fn few_digits(before: u64, text: &[u8]) -> (u64, usize)
     requires few { length text.now ≤ 10 }
     ensures within { result.1 ≤ length text.now }
     ensures number { number_after 10 before (take result.1 text.now) ≡ Some result.0 }
+    ensures ends { result.1 < length text.now → is_digit (get_or text.now result.1 0) 10 ≡ false }
 {
     let mut number = before;
     for (i, byte) in text.iter().enumerate() {

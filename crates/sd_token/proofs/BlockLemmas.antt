@@ -1,117 +1,153 @@
--- A block of keys, and the number that has a bit for each: it is set where the key is the one that is looked for.
-use Rattle.std.proofs.Common.{◌≡◌, ◌<◌, ◌≤◌, ◌+◌, ◌-◌, ◌*◌, ◌/◌, ◌^◌, ℕ, suc, zero, Bool, true, false, not, if◌then◌else◌}
-use Rattle.std.proofs.Common.{List, [], ◌∷◌, length, take, drop, map, get_or, ap, refl, sym, ◌∙◌, arith}
+-- A block of entries, and the number that has a bit for each of its keys: it is set where the key is the one that is
+-- looked for.
+use Rattle.std.proofs.Common.{◌≡◌, ◌<◌, ◌≤◌, ◌+◌, ◌-◌, ◌*◌, ◌/◌, ◌%◌, ◌^◌, ℕ, suc, zero, Bool, true, false, ◌||◌}
+use Rattle.std.proofs.Common.{if◌then◌else◌, List, [], ◌∷◌, length, take, drop, map, ap, refl, sym, ◌∙◌, arith}
 use Rattle.std.specs.Prelude.{◌==◌}
-use Rattle.std.proofs.Math.Dec.{leb}
-use Rattle.std.proofs.Math.Nat.{div-div-eq-div-mul, pow-succ', zero-div}
-use Rattle.std.proofs.lemmas.Bool.{eqb-false, eqb-true, leb-false, leb-true}
-use Rattle.std.proofs.lemmas.List.{drop-drop, drop-map, drop-take}
-use Rattle.std.proofs.lemmas.Simd.{length-chunk, none_from_empty_mask, run_in_chunk_fails, run_in_chunk_stops}
-use Rattle.std.proofs.lemmas.Simd.{trailing_mask_l}
-use Rattle.std.specs.Int.Count.{count_trailing_zeros}
-use Rattle.std.specs.List.{prefix_len}
+use Rattle.std.proofs.Math.Nat.{div-div-eq-div-mul, pow-succ'}
+use Rattle.std.proofs.lemmas.List.{drop-drop, length-map}
+use Rattle.std.proofs.lemmas.Simd.{length-chunk, mask_l-lt}
+use Rattle.std.specs.Int.Count.{count_trailing_zeros, under}
 use Rattle.std.specs.Simd.Lanes.{chunk, mask_l}
 use Rattle.sd_sid.specs.Sid.{SecurityId}
 use Rattle.sd_token.specs.Token.{Entry, entry_meets, meets}
-use Rattle.sd_token.specs.Inner.Search.{LacksKey, same_bits}
-use Rattle.sd_token.specs.TokenWords.{entries_of, nobody, sid_key}
-use Rattle.sd_token.proofs.LookLemmas.{none_more}
-use Rattle.sd_token.proofs.TokenLemmas.{as_many, passed_over}
+use Rattle.sd_token.specs.Inner.Search.{LacksKey, marked_meets, same_bits}
+use Rattle.sd_token.specs.TokenWords.{entries_of, entry_of, keyed, sid_key}
+use Rattle.sd_token.proofs.LookLemmas.{none_run}
+use Rattle.sd_token.proofs.TokenLemmas.{keyed_met}
 
--- 1. The lowest bit that is set.
+-- 1. The entries whose bit is set are those that have the key.
 
-no_bit_less : (b : Bool) (n m l : ℕ) → 0 < (if b then 1 else 0) + 2 * n → (0 < n → m < l)
-    → (if not b then 1 + m else 0) < suc l
-no_bit_less true n m l some later = omega arith
-no_bit_less false n m l some later = let less = later (omega (arith, some)) in omega (arith, less)
-
-passed_few : (p : ℕ → Bool) (xs : List ℕ) → 0 < mask_l (map p xs) → prefix_len (λ x. not (p x)) xs < length xs
-passed_few p [] some = absurd (omega (arith, some))
-passed_few p (x ∷ xs) some =
-    no_bit_less (p x) (mask_l (map p xs)) (prefix_len (λ y. not (p y)) xs) (length xs) some (passed_few p xs)
-
--- the first of the keys from a place on that is the one that is looked for
-pub record FirstKey (keys : List ℕ) (key from n passed : ℕ) : Type 0 where
-  pub within : passed < n
-  pub here : get_or keys (from + passed) 0 ≡ key
-  pub others : LacksKey keys key from (from + passed)
-
-pub first_key : (keys : List ℕ) (key from n : ℕ) → from + n ≤ length keys → n ≤ 64 → 0 < same_bits keys key from n
-    → FirstKey keys key from n (count_trailing_zeros 64 (same_bits keys key from n))
-first_key keys key from n room few some =
-    let p : ℕ → Bool = λ k. k == key in
-    let long = length-chunk from n keys room in
-    let counted = trailing_mask_l p 64 (chunk from n keys) (omega (arith, long, few)) some in
-    let less = passed_few p (chunk from n keys) some in
-    let within : count_trailing_zeros 64 (same_bits keys key from n) < n = omega (arith, counted, long, less) in
-    record {
-      within = within;
-      here = eqb-true _ key (run_in_chunk_stops p keys from n _ 0 room counted within);
-      others = λ k low high. eqb-false (get_or keys k 0) key (run_in_chunk_fails p keys from n _ 0 room counted k low high);
-    }
-
--- where no bit is set, no key is
-pub no_key : (keys : List ℕ) (key from n : ℕ) → from + n ≤ length keys → same_bits keys key from n ≡ 0
-    → LacksKey keys key from (from + n)
-no_key keys key from n room none k low high =
-    eqb-false (get_or keys k 0) key (none_from_empty_mask (λ (x : ℕ). x == key) keys from n 0 room none k low high)
-
--- two runs without the key, one behind the other
-pub none_further : (keys : List ℕ) (key from at to : ℕ) → LacksKey keys key from at → LacksKey keys key at to
-    → LacksKey keys key from to
-none_further keys key from at to before behind k low high is = by_place (leb at k) refl
-  where
-    by_place : (b : Bool) → leb at k ≡ b → ⊥
-    by_place true later = behind k (leb-true at k later) high is
-    by_place false sooner = before k low (leb-false at k sooner) is
-
--- 2. The bits behind it.
+low_bit : (b : Bool) (n : ℕ) → (((if b then 1 else 0) + 2 * n) % 2 == 1) ≡ b
+low_bit true n =
+    let bit : (1 + 2 * n) % 2 ≡ 1 = omega arith in
+    rw bit refl
+low_bit false n =
+    let bit : (0 + 2 * n) % 2 ≡ 0 = omega arith in
+    rw bit refl
 
 half_without_bit : (b : Bool) (n : ℕ) → ((if b then 1 else 0) + 2 * n) / 2 ≡ n
 half_without_bit true n = omega arith
 half_without_bit false n = omega arith
 
-mask_dropped : (k : ℕ) (bits : List Bool) → mask_l bits / 2 ^ k ≡ mask_l (drop k bits)
-mask_dropped zero bits = omega arith
-mask_dropped (suc k) [] = zero-div (2 ^ suc k)
-mask_dropped (suc k) (b ∷ bits) =
-    ap (λ (p : ℕ). mask_l (b ∷ bits) / p) (pow-succ' 2 k) ∙ sym (div-div-eq-div-mul (mask_l (b ∷ bits)) 2 (2 ^ k))
-    ∙ ap (λ (q : ℕ). q / 2 ^ k) (half_without_bit b (mask_l bits)) ∙ mask_dropped k bits
+marked_keys : (s : SecurityId) (deny : Bool) (key : ℕ) (keys words : List ℕ) → s.authority < 2 ^ 48 → key ≡ sid_key s
+    → marked_meets s deny (length keys) (mask_l (map (λ k. k == key) keys)) words ≡ meets s deny (entries_of keys words)
+unfolding marked_meets
+marked_keys s deny key [] words small is = refl
+marked_keys s deny key (k ∷ keys) words small is =
+    let rest = mask_l (map (λ j. j == key) keys) in
+    rw (
+      low_bit (k == key) rest,
+      half_without_bit (k == key) rest,
+      keyed_met s deny k key (entry_of (take 19 words)) small is,
+      marked_keys s deny key keys (drop 19 words) small is,
+    ) refl
 
-pub bits_behind : (keys : List ℕ) (key from n r : ℕ) → r < n
-    → same_bits keys key from n / 2 ^ (r + 1) ≡ same_bits keys key (from + r + 1) (n - (r + 1))
-bits_behind keys key from n r within =
-    let p : ℕ → Bool = λ k. k == key in
-    let all : n ≡ (r + 1) + (n - (r + 1)) = omega (arith, within) in
-    let place : from + (r + 1) ≡ from + r + 1 = omega arith in
-    mask_dropped (r + 1) (map p (chunk from n keys))
-    ∙ ap mask_l (drop-map p (r + 1) (chunk from n keys)
-    ∙ ap (map p) (ap (λ (m : ℕ). drop (r + 1) (take m (drop from keys))) all
-    ∙ drop-take (r + 1) (n - (r + 1)) (drop from keys)
-    ∙ ap (take (n - (r + 1))) (drop-drop (r + 1) from keys ∙ ap (λ (m : ℕ). drop m keys) place)))
+drop_entries : (n : ℕ) (keys words : List ℕ) → drop n (entries_of keys words) ≡ entries_of (drop n keys) (drop (19 * n) words)
+drop_entries zero keys words = refl
+drop_entries (suc n) [] words = refl
+drop_entries (suc n) (key ∷ keys) words =
+    let next : 19 + 19 * n ≡ 19 * suc n = omega arith in
+    drop_entries n keys (drop 19 words)
+    ∙ ap (entries_of (drop n keys)) (drop-drop (19 * n) 19 words ∙ ap (λ (k : ℕ). drop k words) next)
 
--- 3. None of the entries before a place meets the SID, if none of those from an earlier one on has its key.
+take_entries : (n : ℕ) (keys words : List ℕ) → take n (entries_of keys words) ≡ entries_of (take n keys) words
+take_entries zero keys words = refl
+take_entries (suc n) [] words = refl
+take_entries (suc n) (key ∷ keys) words = ap (λ (es : List Entry). keyed key (entry_of (take 19 words)) ∷ es) (take_entries n keys (drop 19 words))
 
-none_run : (s : SecurityId) (deny : Bool) (entries : List Entry) (from n : ℕ) (d : Entry)
-    → meets s deny (take from entries) ≡ false → from + n ≤ length entries
-    → ((k : ℕ) → from ≤ k → k < from + n → entry_meets s deny (get_or entries k d) ≡ false)
-    → meets s deny (take (from + n) entries) ≡ false
-none_run s deny entries from zero d none within each =
-    let same : from + 0 ≡ from = omega arith in
-    rw same none
-none_run s deny entries from (suc n) d none within each =
-    let before = none_run s deny entries from n d none (omega (arith, within))
-    (λ k low high. each k low (omega (arith, high))) in
-    let next : from + suc n ≡ from + n + 1 = omega arith in
-    rw next
-    (none_more s deny entries (from + n) d before (each (from + n) (omega arith) (omega arith)) (omega (arith, within)))
+pub block_met : (s : SecurityId) (deny : Bool) (key at : ℕ) (keys words : List ℕ) → s.authority < 2 ^ 48 → key ≡ sid_key s
+    → at + 16 ≤ length keys
+    → marked_meets s deny 16 (same_bits keys key at 16) (drop (19 * at) words)
+    ≡ meets s deny (take 16 (drop at (entries_of keys words)))
+block_met s deny key at keys words small is room =
+    (rw (length-chunk at 16 keys room) at (marked_keys s deny key (chunk at 16 keys) (drop (19 * at) words) small is))
+    ∙ ap (meets s deny) (sym (ap (take 16) (drop_entries at keys words) ∙ take_entries 16 (drop at keys) (drop (19 * at) words)))
 
-pub none_without_key : (s : SecurityId) (deny : Bool) (keys words : List ℕ) (key from to : ℕ) → s.authority < 2 ^ 48
-    → key ≡ sid_key s → from ≤ to → to ≤ length keys → LacksKey keys key from to
-    → meets s deny (take from (entries_of keys words)) ≡ false → meets s deny (take to (entries_of keys words)) ≡ false
-none_without_key s deny keys words key from to small is low high lacks none =
-    let end : from + (to - from) ≡ to = omega (arith, low) in
-    rw (← end) (none_run s deny (entries_of keys words) from (to - from) nobody none
-    (omega (arith, end, high, as_many keys words))
-    (λ k over below. sym (passed_over s deny keys words k nobody (omega (arith, below, end, high)) small
-    (λ same. lacks k over (omega (arith, below, end)) (same ∙ sym is)))))
+pub same_bits-lt : (keys : List ℕ) (key at : ℕ) → at + 16 ≤ length keys → same_bits keys key at 16 < 2 ^ 16
+same_bits-lt keys key at room =
+    let bits = map (λ (k : ℕ). k == key) (chunk at 16 keys) in
+    rw (length-map (chunk at 16 keys) (λ (k : ℕ). k == key) ∙ length-chunk at 16 keys room) at (mask_l-lt bits)
+
+-- 2. Where no bit is set, none of them meets the SID.
+
+pub none_marked : (s : SecurityId) (deny : Bool) (n : ℕ) (words : List ℕ) → marked_meets s deny n 0 words ≡ false
+unfolding marked_meets
+none_marked s deny zero words = refl
+none_marked s deny (suc n) words = none_marked s deny n (drop 19 words)
+
+-- So none of a block meets it either, and none of the blocks before.
+
+pub lacks_none : (keys : List ℕ) (key from : ℕ) → LacksKey keys key from from
+lacks_none keys key from s deny words small is =
+    let none : from - from ≡ 0 = omega arith in
+    rw none refl
+
+pub lacks_more : (keys : List ℕ) (key from at : ℕ) → from ≤ at → at + 16 ≤ length keys → same_bits keys key at 16 ≡ 0
+    → LacksKey keys key from at → LacksKey keys key from (at + 16)
+lacks_more keys key from at low room none before s deny words small is =
+    let more : at + 16 - from ≡ (at - from) + 16 = omega (arith, low) in
+    let here : drop (at - from) (drop from (entries_of keys words)) ≡ drop at (entries_of keys words) =
+    drop-drop (at - from) from (entries_of keys words) ∙ ap (λ (n : ℕ). drop n (entries_of keys words)) (omega (arith, low)) in
+    rw more
+    (none_run s deny (drop from (entries_of keys words)) (at - from) 16 (before s deny words small is)
+    (rw here (sym (block_met s deny key at keys words small is room)
+    ∙ ap (λ (bits : ℕ). marked_meets s deny 16 bits (drop (19 * at) words)) none
+    ∙ none_marked s deny 16 (drop (19 * at) words))))
+
+-- 3. Else the first whose bit is set meets it, or one behind that.
+
+pub record Passes (s : SecurityId) (deny : Bool) (n bits : ℕ) (words : List ℕ) (k : ℕ) : Type 0 where
+  pub within : k < n
+  pub less : bits / 2 ^ (k + 1) < 2 ^ (n - (k + 1))
+  pub either : marked_meets s deny n bits words
+      ≡ (entry_meets s deny (entry_of (take 19 (drop (19 * k) words)))
+      || marked_meets s deny (n - (k + 1)) (bits / 2 ^ (k + 1)) (drop (19 * (k + 1)) words))
+
+-- the lowest bit is set
+here : (s : SecurityId) (deny : Bool) (n bits : ℕ) (words : List ℕ) → bits % 2 ≡ 1 → bits < 2 ^ suc n
+    → Passes s deny (suc n) bits words 0
+unfolding marked_meets
+here s deny n bits words set less =
+    let room : 2 ^ suc n ≡ 2 * 2 ^ n = pow-succ' 2 n in
+    let more : suc n - (0 + 1) ≡ n = omega arith in
+    let half : bits / 2 < 2 ^ n = omega (arith, less, room) in
+    record {
+      within = omega arith;
+      less = rw more half;
+      either = rw (set, more) refl;
+    }
+
+-- or the first that is set is behind it
+behind : (s : SecurityId) (deny : Bool) (n bits : ℕ) (words : List ℕ) (k : ℕ) → bits % 2 ≡ 0
+    → Passes s deny n (bits / 2) (drop 19 words) k → Passes s deny (suc n) bits words (suc k)
+unfolding marked_meets
+behind s deny n bits words k clear later =
+    let half : bits / 2 / 2 ^ (k + 1) ≡ bits / 2 ^ (suc k + 1) = div-div-eq-div-mul bits 2 (2 ^ (k + 1))
+    ∙ ap (λ (p : ℕ). bits / p) (sym (pow-succ' 2 (k + 1))) ∙ ap (λ (m : ℕ). bits / 2 ^ m) (omega arith) in
+    let fewer : n - (k + 1) ≡ suc n - (suc k + 1) = omega arith in
+    let here : drop (19 * k) (drop 19 words) ≡ drop (19 * suc k) words = drop-drop (19 * k) 19 words
+    ∙ ap (λ (m : ℕ). drop m words) (omega arith) in
+    let rest : drop (19 * (k + 1)) (drop 19 words) ≡ drop (19 * (suc k + 1)) words = drop-drop (19 * (k + 1)) 19 words
+    ∙ ap (λ (m : ℕ). drop m words) (omega arith) in
+    record {
+      within = omega (arith, later.within);
+      less = rw (← half, ← fewer) later.less;
+      either = rw (clear, ← half, ← here, ← rest, ← fewer) later.either;
+    }
+
+by_bit : (s : SecurityId) (deny : Bool) (n bits : ℕ) (words : List ℕ) (k r : ℕ) → bits % 2 ≡ r → bits < 2 ^ suc n
+    → (r ≡ 0 → Passes s deny n (bits / 2) (drop 19 words) k) → Passes s deny (suc n) bits words (under r k)
+by_bit s deny n bits words k zero is less later = behind s deny n bits words k is (later refl)
+by_bit s deny n bits words k (suc zero) is less later = here s deny n bits words is less
+by_bit s deny n bits words k (suc (suc r)) is less later = absurd (omega (arith, is))
+
+pub passes : (s : SecurityId) (deny : Bool) (n width bits : ℕ) (words : List ℕ) → n ≤ width → 0 < bits → bits < 2 ^ n
+    → Passes s deny n bits words (count_trailing_zeros width bits)
+unfolding count_trailing_zeros
+passes s deny zero width bits words few some less = absurd (omega (arith, some, less))
+passes s deny (suc n) zero bits words few some less = absurd (omega (arith, few))
+passes s deny (suc n) (suc width) bits words few some less =
+    let room : 2 ^ suc n ≡ 2 * 2 ^ n = pow-succ' 2 n in
+    by_bit s deny n bits words (count_trailing_zeros width (bits / 2)) (bits % 2) refl less
+    (λ clear. passes s deny n width (bits / 2) (drop 19 words) (omega (arith, few)) (omega (arith, some, clear))
+    (omega (arith, less, room)))

@@ -1,15 +1,18 @@
 -- Whom a token meets, and how many entries it has at most.
-use Rattle.std.proofs.Common.{◌≡◌, ℕ, List, [], ◌∷◌, None, true, false, refl, arith}
+use Rattle.std.proofs.Common.{◌≡◌, ℕ, List, [], ◌∷◌, ◌++◌, None, true, false, refl, arith, replicate}
 use Rattle.sd_token.specs.Limits.{most_entries}
 use Rattle.sd_token.specs.declared.limits.TheConstants.{MOST_ENTRIES}
 use Rattle.sd_sid.specs.Sid.{SecurityId}
 use Rattle.sd_sid.proofs.laws.Everyone.{everyone}
-use Rattle.sd_token.specs.Token.{Asks, Compares, TokenShown, counted_by, looks, meets}
+use Rattle.sd_token.specs.Token.{Asks, Compares, Entry, TokenShown, counted_by, looks, meets, searched}
 use Rattle.sd_token.specs.TokenWords.{entries_of, entry_of, nobody, sid_key}
 use Rattle.sd_token.specs.declared.token.EntryKind.TheVariants.{Enabled, DenyOnly}
 
 administrators : SecurityId
 administrators = record { authority = 5; subs = 32 ∷ 544 ∷ [] }
+
+many : ℕ → List Entry
+many n = replicate n (administrators, Enabled)
 
 most : (most_entries ≡ 1024) × (MOST_ENTRIES ≡ 1024)
 most = (refl, refl)
@@ -111,6 +114,20 @@ looked_at_all = refl
 looked_at_none : looks everyone true [] ≡ 0
 unfolding everyone
 looked_at_none = refl
+
+-- A search among 20 entries compares the first block whole, and the last four one by one.
+searched_among_20 : (searched everyone false (many 3 ++ (everyone, Enabled) ∷ many 16) ≡ 16)
+    × (searched everyone false (many 17 ++ (everyone, Enabled) ∷ many 2) ≡ 18)
+    × (searched everyone false (many 20) ≡ 20)
+unfolding everyone administrators many
+searched_among_20 = (refl, refl, refl)
+
+-- Among 32 the second block is whole too, and among 3 there is none.
+searched_among_others : (searched everyone false (many 17 ++ (everyone, Enabled) ∷ many 14) ≡ 32)
+    × (searched everyone false (many 1 ++ (everyone, Enabled) ∷ many 1) ≡ 2)
+    × (searched everyone true [] ≡ 0)
+unfolding everyone administrators many
+searched_among_others = (refl, refl, refl)
 
 count_goes_on : (counted_by 3 5 ≡ 8) × (counted_by 3 18446744073709551613 ≡ 18446744073709551615)
 count_goes_on = (refl, refl)

@@ -1,7 +1,7 @@
 -- Entries as numbers.
-use Rattle.std.proofs.Common.{◌≡◌, ◌<◌, ◌≤◌, ℕ, suc, zero, ◌*◌, ◌^◌, Bool, false, true, ◌&&◌, List, [], ◌∷◌, ◌++◌}
+use Rattle.std.proofs.Common.{◌≡◌, ◌<◌, ◌≤◌, ℕ, suc, zero, ◌*◌, ◌^◌, Bool, false, true, ◌&&◌, ◌||◌, List, [], ◌∷◌, ◌++◌}
 use Rattle.std.proofs.Common.{if◌then◌else◌, length, take, drop, get_or, ap, sym, refl, ◌∙◌, arith}
-use Rattle.std.proofs.lemmas.Bool.{and_left, and_parts, eqb-false, eqb-true, false_from_ne_true, ne_eqb}
+use Rattle.std.proofs.lemmas.Bool.{and_left, and_parts, eq-eqb, ne_eqb}
 use Rattle.std.proofs.lemmas.List.{drop-append-le, drop-drop, length-drop, nil_from_length, take-append-le, take_all}
 use Rattle.std.specs.Cmp.Lexicographic.{same_text}
 use Rattle.std.specs.Prelude.{◌==◌}
@@ -18,34 +18,23 @@ use Rattle.sd_token.specs.TokenWords.{entries_of, entry_of, keyed, nobody, sid_k
 same_keys : (s t : SecurityId) → same_sid s t ≡ true → sid_key s ≡ sid_key t
 same_keys s t same = ap subs_key (same_text s.subs t.subs (sym (and_parts (s.authority == t.authority) _ same).1))
 
-not_met : (s : SecurityId) (deny : Bool) (e : Entry) → (sid_key e.0 ≡ sid_key s → ⊥) → entry_meets s deny e ≡ false
-not_met s deny e differ = and_left _ _ (false_from_ne_true _ (λ same. differ (same_keys e.0 s same)))
-
 met_if : (b : Bool) (s : SecurityId) (deny : Bool) (e : Entry) → s.authority < 2 ^ 48
     → entry_meets s deny (if b then e else nobody) ≡ (b && entry_meets s deny e)
 met_if true s deny e small = refl
 met_if false s deny e small = and_left _ _ (and_left _ _ (ne_eqb (2 ^ 48) s.authority (λ same. omega (arith, same, small))))
 
-none_if : (b m : Bool) → (b ≡ true → m ≡ false) → (b && m) ≡ false
-none_if true m h = h refl
-none_if false m h = refl
+same_test : (a b met : Bool) → (met ≡ true → a ≡ b) → (a && met) ≡ (b && met)
+same_test a b true h = rw (h refl) refl
+same_test true true false h = refl
+same_test true false false h = refl
+same_test false true false h = refl
+same_test false false false h = refl
 
-spare_test : (b m : Bool) → (b ≡ false → m ≡ false) → m ≡ (b && m)
-spare_test true m h = refl
-spare_test false m h = h refl
-
-other_key : (s : SecurityId) (deny : Bool) (k : ℕ) (e : Entry) → s.authority < 2 ^ 48 → (k ≡ sid_key s → ⊥)
-    → false ≡ entry_meets s deny (keyed k e)
-other_key s deny k e small differ =
-    sym (met_if (k == sid_key e.0) s deny e small
-    ∙ none_if (k == sid_key e.0) (entry_meets s deny e)
-    (λ is. not_met s deny e (λ same. differ (eqb-true k (sid_key e.0) is ∙ same))))
-
-same_key : (s : SecurityId) (deny : Bool) (k : ℕ) (e : Entry) → s.authority < 2 ^ 48 → k ≡ sid_key s
-    → entry_meets s deny e ≡ entry_meets s deny (keyed k e)
-same_key s deny k e small is =
-    spare_test (k == sid_key e.0) (entry_meets s deny e)
-    (λ differ. not_met s deny e (λ same. eqb-false k (sid_key e.0) differ (is ∙ sym same)))
+pub keyed_met : (s : SecurityId) (deny : Bool) (k key : ℕ) (e : Entry) → s.authority < 2 ^ 48 → key ≡ sid_key s
+    → (k == key && entry_meets s deny e) ≡ entry_meets s deny (keyed k e)
+keyed_met s deny k key e small is =
+    same_test (k == key) (k == sid_key e.0) (entry_meets s deny e)
+    (λ met. ap (λ (j : ℕ). k == j) (is ∙ sym (same_keys e.0 s (and_parts (same_sid e.0 s) _ met).0)))
     ∙ sym (met_if (k == sid_key e.0) s deny e small)
 
 -- 2. One entry for each key.
@@ -75,21 +64,14 @@ entries_push (first ∷ keys) words key more whole long =
     (ap (λ (es : List Entry). keyed first (entry_of (take 19 words)) ∷ es)
     (entries_push keys (drop 19 words) key more (omega (arith, whole, length-drop 19 words)) long))
 
--- 3. What a look at an entry finds.
+-- 3. What a comparison with an entry finds.
 
-pub passed_over : (s : SecurityId) (deny : Bool) (keys words : List ℕ) (i : ℕ) (e : Entry) → i < length keys
-    → s.authority < 2 ^ 48 → (get_or keys i 0 ≡ sid_key s → ⊥)
-    → false ≡ entry_meets s deny (get_or (entries_of keys words) i e)
-passed_over s deny keys words i e within small differ =
-    other_key s deny (get_or keys i 0) _ small differ
-    ∙ ap (λ (found : Entry). entry_meets s deny found) (sym (entry_at keys words i 0 e within))
-
-pub looked_at : (s : SecurityId) (deny : Bool) (keys words : List ℕ) (i : ℕ) (e : Entry) → i < length keys
-    → s.authority < 2 ^ 48 → get_or keys i 0 ≡ sid_key s
-    → entry_meets s deny (entry_of (take 19 (drop (19 * i) words)))
+pub one_met : (s : SecurityId) (deny : Bool) (keys words : List ℕ) (i key : ℕ) (e : Entry) → i < length keys
+    → s.authority < 2 ^ 48 → key ≡ sid_key s
+    → (get_or keys i 0 == key && entry_meets s deny (entry_of (take 19 (drop (19 * i) words))))
     ≡ entry_meets s deny (get_or (entries_of keys words) i e)
-looked_at s deny keys words i e within small is =
-    same_key s deny (get_or keys i 0) _ small is
+one_met s deny keys words i key e within small is =
+    keyed_met s deny (get_or keys i 0) key _ small is
     ∙ ap (λ (found : Entry). entry_meets s deny found) (sym (entry_at keys words i 0 e within))
 
 -- 4. Which of two SIDs comes first makes no difference.
@@ -108,3 +90,30 @@ bytes_eq_comm (x ∷ xs) (y ∷ ys) = both_equal (eq_comm x y) (bytes_eq_comm xs
 
 pub same_sid_comm : (s t : SecurityId) → same_sid s t ≡ same_sid t s
 same_sid_comm s t = both_equal (eq_comm s.authority t.authority) (bytes_eq_comm s.subs t.subs)
+
+-- 5. Two questions, one after the other.
+
+-- Nor does which of two that both have to be answered by "yes" is asked first.
+pub then_second : (first second : Bool) → first ≡ true → second ≡ (second && first)
+then_second true true is = refl
+then_second true false is = refl
+then_second false second is = absurd cc
+
+pub not_first : (first second : Bool) → first ≡ false → false ≡ (second && first)
+not_first true second is = absurd cc
+not_first false true is = refl
+not_first false false is = refl
+
+pub with_key : (k key : ℕ) (met : Bool) → k ≡ key → met ≡ (k == key && met)
+with_key k key met same = rw (eq-eqb k key same) refl
+
+pub without_key : (k key : ℕ) (met : Bool) → (k ≡ key → ⊥) → (k == key) ≡ (k == key && met)
+without_key k key met differ = rw (ne_eqb k key differ) refl
+
+pub either_first : (first second : Bool) → first ≡ true → true ≡ (first || second)
+either_first true second is = refl
+either_first false second is = absurd cc
+
+pub either_second : (first second : Bool) → first ≡ false → (first || second) ≡ second
+either_second true second is = absurd cc
+either_second false second is = refl

@@ -1,5 +1,5 @@
 -- Tokens (MS-DTYP 2.5.2): what contracts see of one, and which SIDs it meets.
-use Rattle.std.specs.Prelude.{◌≡◌, ◌≤◌, ℕ, suc, ◌+◌, ◌-◌, ◌*◌, ◌^◌, min, Bool, true, false, ◌&&◌, ◌||◌, if◌then◌else◌}
+use Rattle.std.specs.Prelude.{◌≡◌, ◌≤◌, ℕ, suc, ◌+◌, ◌-◌, ◌*◌, ◌/◌, ◌^◌, min, nat_le, Bool, true, false, ◌&&◌, ◌||◌, if◌then◌else◌}
 use Rattle.std.specs.Prelude.{List, [], ◌∷◌, Option, length}
 use Rattle.std.specs.List.{list_any}
 use Rattle.sd_sid.specs.Sid.{SecurityId}
@@ -39,6 +39,21 @@ meets s deny entries = list_any (entry_meets s deny) entries
 abbrev pub looks : SecurityId → Bool → List Entry → ℕ
 looks s deny [] = 0
 looks s deny (e ∷ entries) = if entry_meets s deny e then 1 else suc (looks s deny entries)
+
+-- the keys of so many entries are compared in one step
+abbrev pub block : ℕ
+block = 16
+
+-- n looks in whole blocks
+abbrev pub in_blocks : ℕ → ℕ
+in_blocks n = (n + (block - 1)) / block * block
+
+-- how many entries a search compares: whole blocks, up to the one with the first entry that meets the SID, or one by one
+-- where the entries end before such a block does
+abbrev pub searched : SecurityId → Bool → List Entry → ℕ
+searched s deny entries =
+    if nat_le (in_blocks (looks s deny entries)) (length entries) then in_blocks (looks s deny entries)
+    else looks s deny entries
 
 -- a count of 64 bits that goes on by n, and stays at its end
 abbrev pub counted_by : ℕ → ℕ → ℕ

@@ -41,3 +41,12 @@ keyed key e = if key == sid_key e.0 then e else nobody
 abbrev pub entries_of : List ℕ → List ℕ → List Entry
 entries_of [] words = []
 entries_of (key ∷ keys) words = keyed key (entry_of (take entry_words words)) ∷ entries_of keys (drop entry_words words)
+
+-- a token's numbers, and for how many entries there is memory
+pub record Numbers : Type 0 where
+  pub keys : List ℕ
+  pub words : List ℕ
+  pub room : ℕ
+
+abbrev pub entries_in : Numbers → List Entry
+entries_in n = entries_of n.keys n.words

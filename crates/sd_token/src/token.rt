@@ -1,16 +1,18 @@
 //! Tokens (MS-DTYP 2.5.2).
 
-ghost use Rattle.std.specs.Prelude.{◌≡◌, ◌≤◌, ◌<◌, ◌↔◌, ◌++◌, [], ◌∷◌, None, length, slice_index_or, IfOk, OnOk, OnErr};
-ghost use Rattle.std.specs.Prelude.{IsErr};
+ghost use Rattle.std.specs.Prelude.{◌≡◌, ◌≤◌, ◌<◌, ◌*◌, ◌^◌, ◌↔◌, ◌++◌, [], ◌∷◌, None, length, slice_index_or, IfOk, OnOk};
+ghost use Rattle.std.specs.Prelude.{OnErr, IsErr};
 ghost use Rattle.sd_sink.specs.Counts.{counted};
 ghost use Rattle.sd_token.specs.Limits.{LimitValues, most_entries};
-ghost use Rattle.sd_token.specs.Token.{entry_meets};
+ghost use Rattle.sd_token.specs.Token.{Asks, counted_by, entry_meets, meets, searched};
+ghost use Rattle.sd_token.specs.TokenWords.{entries_of, entry_words};
 
-use crate::lent::{LentToken, Looks};
-use crate::limits::MOST_ENTRIES;
-use crate::words::{ENTRY_WORDS, key_of, words_of};
+use crate::entries::{BLOCK, Entries};
+use crate::memory::{Lent, Memory, Owned};
+use crate::sought::Sought;
 use sd_memory::NoMemory;
 use sd_sid::Sid;
+use sd_sid_view::SidView;
 use std::alloc::Global;
 use std::marker::Model;
 
@@ -30,49 +32,43 @@ pub enum EntryKind {
 /// Who asks for access: the SIDs of a user and its groups (MS-DTYP 2.5.2), at most 1,024, and perhaps an integrity
 /// level.
 ///
-/// A token counts the looks at its entries. A search looks at one after the other, up to the entry that meets the SID. A
-/// token is not cloned, so no look goes uncounted.
+/// A token counts how often an entry is compared. The call that compares one counts it, or counts 16 where it compares
+/// 16 keys in one step. A token is not cloned or lent, and nothing else compares an entry, so no comparison goes
+/// uncounted.
 #[derive(Drop)]
-pub struct Token {
-    // A key for each entry, and 19 numbers for each.
-    keys: Vec<u32>,
-    words: Vec<u32>,
-    compared: u64,
+pub struct TokenIn<M: Memory> {
+    entries: Entries<M>,
     level: Option<u32>,
 }
 
-impl Model for Token {
-    ghost use Rattle.std.specs.Prelude.{◌≡◌, ◌≤◌, ◌*◌, vec_capacity, vec_len};
-    ghost use Rattle.sd_token.specs.Limits.{most_entries};
+/// A token that has memory for 1,024 entries.
+pub type Token = TokenIn<Owned>;
+
+/// A token whose entries are in memory of a caller. It has a count of its own.
+pub type LentToken<'a> = TokenIn<Lent<'a>>;
+
+impl<M: Memory> Model for TokenIn<M> {
     ghost use Rattle.sd_token.specs.Token.{TokenShown};
-    ghost use Rattle.sd_token.specs.TokenWords.{entries_of, entry_words};
 
     ghost Value = { TokenShown };
 
     ghost view = { λ t. record {
-      holder = record { entries = entries_of t.keys.items t.words.items; level = t.level };
-      compared = t.compared;
-      room = vec_capacity t.keys;
+      holder = record { entries = t.entries.entries; level = t.level };
+      compared = t.entries.compared;
+      room = t.entries.room;
     } };
-
-    ghost invariant = { λ t. (most_entries ≤ vec_capacity t.keys)
-        × (entry_words * most_entries ≤ vec_capacity t.words) × (vec_len t.keys ≤ most_entries)
-        × (vec_len t.words ≡ entry_words * vec_len t.keys) };
 }
 
-impl Token {
+impl TokenIn<Owned> {
     /// A token without an entry and without a level, with the memory for 1,024 entries.
-    pub fn new(alloc: Global) -> Result<Token, NoMemory>
+    pub fn new(alloc: Global) -> Result<Self, NoMemory>
         ensures holder { IfOk result (λ t. t.holder ≡ record { entries = []; level = None }) }
         ensures compared { IfOk result (λ t. t.compared ≡ 0) }
         ensures reserved { IfOk result (λ t. t.room ≡ most_entries) }
     {
-        let keys = Vec::with_capacity(alloc, MOST_ENTRIES)?;
-        let words = Vec::with_capacity(alloc, ENTRY_WORDS * MOST_ENTRIES)?;
-        Ok(Token {
-            keys,
-            words,
-            compared: 0,
+        let entries = Entries::new(alloc)?;
+        Ok(TokenIn {
+            entries,
             level: None,
         })
     }
@@ -86,7 +82,7 @@ impl Token {
     /// assert!(rt; token.add(administrators, EntryKind::DenyOnly) == Ok(()));
     /// assert!(rt; token.len() == 1);
     /// ```
-    #[tactic(auto, using(crate::proofs::TokenLemmas::as_many, crate::proofs::TokenLemmas::entries_push), unfolding(crate::specs::Limits::LimitValues))]
+    #[tactic(auto, unfolding(crate::specs::Limits::LimitValues))]
     pub fn add(&mut self, sid: Sid, kind: EntryKind) -> Result<(), TokenFull>
         ensures full { IsErr result ↔ (most_entries ≤ length self.old.holder.entries) }
         ensures added { OnOk result
@@ -97,26 +93,32 @@ impl Token {
         // The limit has the value that LimitValues writes out.
         ensures limit { LimitValues }
     {
-        if self.keys.len() >= MOST_ENTRIES {
-            return Err(TokenFull);
-        }
-        let words = words_of(&sid, kind);
-        match (
-            self.keys.push(key_of(&sid)),
-            self.words.extend_from_slice(&words),
-        ) {
-            (Ok(()), Ok(())) => Ok(()),
-            _ => Err(TokenFull),
+        self.entries.push(&sid, kind)
+    }
+}
+
+impl<'a> TokenIn<Lent<'a>> {
+    /// The token whose entries have these keys and numbers. No entry is compared yet.
+    pub fn over(keys: &'a [u32], words: &'a [u32], level: Option<u32>) -> Self
+        requires few { length keys.now ≤ most_entries }
+        requires whole { entry_words * length keys.now ≤ length words.now }
+        ensures holder { result.holder ≡ record { entries = entries_of keys.now words.now; level = level } }
+        ensures compared { result.compared ≡ 0 }
+    {
+        TokenIn {
+            entries: Entries::over(keys, words),
+            level,
         }
     }
+}
 
+impl<M: Memory> TokenIn<M> {
     /// The number of entries.
-    #[tactic(auto, using(crate::proofs::TokenLemmas::as_many))]
     pub fn len(&self) -> usize
         ensures entries { result ≡ length self.now.holder.entries }
         ensures most { result ≤ most_entries }
     {
-        self.keys.len()
+        self.entries.len()
     }
 
     /// Sets or clears the integrity level of the token (MS-DTYP 2.5.2). Mandatory labels limit a token with a
@@ -136,14 +138,14 @@ impl Token {
         self.level
     }
 
-    /// How often an entry was looked at. At `u64::MAX` the count stays.
+    /// How often an entry was compared. At `u64::MAX` the count stays.
     pub fn compared(&self) -> u64
         ensures { result ≡ self.now.compared }
     {
-        self.compared
+        self.entries.compared()
     }
 
-    /// Whether the entry at an index has the SID, and is enabled or may be deny-only. It counts as one look.
+    /// Whether the entry at an index has the SID, and is enabled or may be deny-only. It counts as one comparison.
     ///
     /// ```
     /// let users = Sid::new(5, &[32, 545]).expect(&rt, "a SID");
@@ -162,26 +164,57 @@ impl Token {
         ensures goes_on { self.old.compared ≤ self.new.compared }
         ensures room { self.new.room ≡ self.old.room }
     {
-        let mut lent = self.lend();
-        let met = lent.meets(index, sid, deny);
-        let looks = lent.end();
-        self.take_back(looks);
-        met
+        self.entries.begin(index);
+        self.entries.next_meets(sid, sid.key(), deny)
     }
 
-    /// Lends its entries. What the lent token counts goes on from the token's count, and comes back by `take_back`.
-    pub fn lend(&self) -> LentToken<'_>
-        ensures holder { result.holder ≡ self.now.holder }
-        ensures compared { result.compared ≡ self.now.compared }
+    /// Whether an entry has the SID, and is enabled or may be deny-only. Entries are compared in blocks of 16, up to the
+    /// block with the first that does, and behind the last whole block one by one. Each that is compared counts.
+    pub fn meets_any(&mut self, sid: &Sid, deny: bool) -> bool
+        ensures value { result ≡ meets sid.now deny self.old.holder.entries }
+        ensures holder { self.new.holder ≡ self.old.holder }
+        ensures compared { self.new.compared
+            ≡ counted_by (searched sid.now deny self.old.holder.entries) self.old.compared }
+        ensures asks { Asks self.old self.new 1 }
+        ensures room { self.new.room ≡ self.old.room }
     {
-        LentToken::counting(&self.keys, &self.words, self.level, self.compared)
+        search(&mut self.entries, sid, deny)
     }
 
-    /// Takes the count of a token that it lent.
-    pub fn take_back(&mut self, looks: Looks)
-        ensures { self.new ≡ record self.old { compared = looks.count } }
+    /// The same for a SID that is read in place.
+    pub fn meets_any_in_place(&mut self, sid: &SidView<'_>, deny: bool) -> bool
+        ensures value { result ≡ meets sid.now deny self.old.holder.entries }
+        ensures holder { self.new.holder ≡ self.old.holder }
+        ensures compared { self.new.compared
+            ≡ counted_by (searched sid.now deny self.old.holder.entries) self.old.compared }
+        ensures asks { Asks self.old self.new 1 }
+        ensures room { self.new.room ≡ self.old.room }
     {
-        let compared = &mut self.compared;
-        *compared = looks.count();
+        search(&mut self.entries, sid, deny)
     }
+}
+
+// Whether an entry meets the SID.
+#[inline(always)]
+fn search<M: Memory, S: Sought>(entries: &mut Entries<M>, sid: &S, deny: bool) -> bool
+    ensures value { result ≡ meets (S.sid sid.now) deny entries.old.entries }
+    ensures entries { entries.new.entries ≡ entries.old.entries }
+    ensures room { entries.new.room ≡ entries.old.room }
+    ensures compared { entries.new.compared
+        ≡ counted_by (searched (S.sid sid.now) deny entries.old.entries) entries.old.compared }
+    ensures limit { entries.old.compared < 2 ^ 64 }
+{
+    let key = sid.key();
+    entries.begin(0);
+    while entries.left() >= BLOCK {
+        if entries.blocks_meet(sid, key, deny) {
+            return true;
+        }
+    }
+    while entries.left() > 0 {
+        if entries.next_meets(sid, key, deny) {
+            return true;
+        }
+    }
+    false
 }

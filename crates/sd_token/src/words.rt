@@ -1,12 +1,13 @@
 //! The numbers of 32 bits that stand for an entry of a token.
 
-ghost use Rattle.std.specs.Prelude.{◌≡◌, ◌≤◌, ◌<◌, ◌+◌, ◌*◌, ◌%◌, ◌^◌, length, take, drop};
+ghost use Rattle.std.specs.Prelude.{◌≡◌, ◌≤◌, ◌<◌, ◌+◌, ◌*◌, ◌%◌, ◌^◌, ◌||◌, length, take, drop};
 ghost use Rattle.sd_sid.specs.Sid.{IsSid};
 ghost use Rattle.sd_sid.specs.SidText.{same_sid};
 ghost use Rattle.sd_text.specs.Limits.{most_subs};
 ghost use Rattle.sd_token.specs.Token.{entry_meets, is_enabled};
 ghost use Rattle.sd_token.specs.TokenWords.{entry_of, entry_words, kind_of, sid_key};
 
+use crate::sought::Sought;
 use crate::token::EntryKind;
 use sd_sid::Sid;
 use sd_sid_view::SidView;
@@ -62,39 +63,31 @@ pub fn words_of(sid: &Sid, kind: EntryKind) -> [u32; ENTRY_WORDS]
     words
 }
 
-/// Whether the entry at an index meets a SID.
+/// Whether the numbers of the entry at an index are those of one that meets a SID. Whether it may count is a cheaper
+/// question than whether it has the SID.
 // Not inlined: it is rare, and the loops over keys stay small.
 #[inline(never)]
-pub(crate) fn is_met(words: &[u32], index: usize, sid: &Sid, deny: bool) -> bool
+#[tactic(auto, using(crate::proofs::TokenLemmas::not_first, crate::proofs::TokenLemmas::then_second))]
+pub(crate) fn is_met<S: Sought>(words: &[u32], index: usize, sid: &S, deny: bool) -> bool
     requires { entry_words * (index + 1) ≤ length words.now }
-    ensures { result ≡ entry_meets sid.now deny (entry_of (take entry_words (drop (entry_words * index) words.now))) }
+    ensures { result
+        ≡ entry_meets (S.sid sid.now) deny (entry_of (take entry_words (drop (entry_words * index) words.now))) }
 {
     let entry = &words[ENTRY_WORDS * index..ENTRY_WORDS * (index + 1)];
-    is_same(entry, sid) && (is_enabled(entry[3]) || deny)
+    may_count(entry, deny) && is_same(entry, sid)
 }
 
-/// The same for a SID that is read in place.
-// Not inlined, for the same reason.
-#[inline(never)]
-pub(crate) fn is_met_in_place(words: &[u32], index: usize, sid: &SidView<'_>, deny: bool) -> bool
-    requires { entry_words * (index + 1) ≤ length words.now }
-    ensures { result ≡ entry_meets sid.now deny (entry_of (take entry_words (drop (entry_words * index) words.now))) }
-{
-    let entry = &words[ENTRY_WORDS * index..ENTRY_WORDS * (index + 1)];
-    is_same_in_place(entry, sid) && (is_enabled(entry[3]) || deny)
-}
-
-fn is_same(entry: &[u32], sid: &Sid) -> bool
+fn may_count(entry: &[u32], deny: bool) -> bool
     requires { length entry.now ≡ entry_words }
-    ensures { result ≡ same_sid (entry_of entry.now).0 sid.now }
+    ensures { result ≡ (is_enabled (entry_of entry.now).1 || deny) }
 {
-    authority_of(entry) == sid.authority() && subs_of(entry) == sid.subs()
+    is_enabled(entry[3]) || deny
 }
 
 #[tactic(auto, using(crate::proofs::TokenLemmas::same_sid_comm))]
-fn is_same_in_place(entry: &[u32], sid: &SidView<'_>) -> bool
+fn is_same<S: Sought>(entry: &[u32], sid: &S) -> bool
     requires { length entry.now ≡ entry_words }
-    ensures { result ≡ same_sid (entry_of entry.now).0 sid.now }
+    ensures { result ≡ same_sid (entry_of entry.now).0 (S.sid sid.now) }
 {
     sid.is(authority_of(entry), subs_of(entry))
 }

@@ -1,10 +1,13 @@
-//! The call that derives descriptors.
+//! The calls that derive descriptors.
 
+ghost use Rattle.std.specs.Prelude.{◌≤◌};
 ghost use Rattle.sd_call.specs.Outcomes.{AnswersWithin};
-ghost use Rattle.sd_call_derive.specs.Derivations.{derivation, origin_in};
+ghost use Rattle.sd_call_derive.specs.Derivations.{derivation, input_in};
+ghost use Rattle.sd_call_derive.specs.OriginsTold.{TellsOrigins};
+ghost use Rattle.sd_call_derive.specs.declared.origins.TheConstants.{MOST_DERIVED_ACES};
 
 use sd_call::Outcome;
-use sd_call_derive::derive_new;
+use sd_call_derive::{AceOrigin, MOST_DERIVED_ACES, OriginsOutcome, derive_new, derive_origins};
 use std::alloc::Global;
 
 /// Gives the descriptor of a new object.
@@ -20,8 +23,28 @@ pub extern "C" fn sdtool_derive(
     output: &mut [u8],
 ) -> Outcome
     // What cannot be derived from is told before memory is asked for.
-    ensures { AnswersWithin (origin_in parent.now creator.now owner.now group.now kind mapping)
+    ensures { AnswersWithin (input_in parent.now creator.now owner.now group.now kind mapping)
         (derivation parent.now creator.now owner.now group.now kind mapping) output.old output.new result }
 {
     derive_new(alloc, parent, creator, owner, group, kind, mapping, output)
+}
+
+/// Says of each ACE of the descriptor of a new object which ACE it was made of.
+#[unsafe(no_mangle)]
+pub extern "C" fn sdtool_derive_origins(
+    parent: &[u8],
+    creator: &[u8],
+    owner: &[u8],
+    group: &[u8],
+    kind: u32,
+    mapping: u32,
+    sacl: &mut [AceOrigin],
+    dacl: &mut [AceOrigin],
+) -> OriginsOutcome
+    ensures origins { TellsOrigins (input_in parent.now creator.now owner.now group.now kind mapping)
+        sacl.old sacl.new dacl.old dacl.new result }
+    // So much room suffices for any arguments.
+    ensures most { (result.sacl_count ≤ MOST_DERIVED_ACES) × (result.dacl_count ≤ MOST_DERIVED_ACES) }
+{
+    derive_origins(parent, creator, owner, group, kind, mapping, sacl, dacl)
 }

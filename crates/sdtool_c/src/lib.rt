@@ -8,6 +8,8 @@ mod derivations;
 mod faults;
 mod many;
 mod parts;
+mod places;
+mod reasons;
 mod runs;
 mod sids;
 mod tokens;

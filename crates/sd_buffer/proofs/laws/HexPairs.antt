@@ -10,7 +10,7 @@ use Rattle.sd_buffer.specs.Text.{hex_spells, or_digit_fault}
 use Rattle.sd_buffer.proofs.Decoded.{spells-even}
 
 -- a pair in front of what the rest spells
-abbrev with_pair : Option ℕ → Option ℕ → Result (List ℕ) TextFault → Result (List ℕ) TextFault
+abbrev pub with_pair : Option ℕ → Option ℕ → Result (List ℕ) TextFault → Result (List ℕ) TextFault
 with_pair None low rest = Err HexDigit
 with_pair (Some h) None rest = Err HexDigit
 with_pair (Some h) (Some l) (Err f) = Err f

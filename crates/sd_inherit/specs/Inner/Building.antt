@@ -12,14 +12,13 @@ use Rattle.sd_parts.specs.declared.part.Which.{Which}
 use Rattle.sd_parts.specs.declared.part.Which.TheVariants.{Dacl, Sacl}
 use Rattle.sd_view.specs.Descriptor.{Descriptor}
 use Rattle.sd_inherit.specs.Derived.{gathered, inherited, is_protected}
-use Rattle.sd_inherit.specs.Copies.{copies}
+use Rattle.sd_inherit.specs.Origins.{aces_in, gives}
 use Rattle.sd_inherit.specs.Taken.{taken}
 use Rattle.sd_inherit.specs.declared.copies.Copies.{Copies}
 use Rattle.sd_inherit.specs.declared.inherited.AceSource.{AceSource}
 use Rattle.sd_inherit.specs.declared.inherited.AclSources.{AclSources}
-use Rattle.sd_inherit.specs.declared.inherited.Origin.{Origin}
-use Rattle.sd_inherit.specs.declared.inherited.Origin.TheVariants as origin
-use Rattle.sd_inherit.specs.declared.plan.Plan.{Plan}
+use Rattle.sd_inherit.specs.declared.origin.Giver.{Giver}
+use Rattle.sd_inherit.specs.declared.origin.Giver.TheVariants as giver
 
 -- at most one, as a list
 abbrev pub one_or_none : Option AccessControlEntry → List AccessControlEntry
@@ -30,29 +29,18 @@ one_or_none (Some a) = a ∷ []
 abbrev pub listed : Copies → List AccessControlEntry
 listed c = one_or_none c.first ++ one_or_none c.second
 
--- what one ACE of either descriptor gives
-abbrev pub gives : Origin → Plan → AccessControlEntry → List AccessControlEntry
-gives origin.Creator plan a = taken plan a
-gives origin.Parent plan a = copies plan a
-
 -- what all of these ACEs give
 abbrev pub all_given : AceSource → List AccessControlEntry
-all_given s = flat_map (gives s.origin s.plan.now) s.aces
+all_given s = flat_map (gives s.giver s.plan.now) s.aces
 
--- a null or an absent ACL has no ACEs
-abbrev pub aces_in : AclPart → List AccessControlEntry
-aces_in acl.Absent = []
-aces_in acl.Null = []
-aces_in (acl.List aces) = aces
-
-abbrev pub source_acl : Origin → AclSources → AclPart
-source_acl origin.Creator s = s.creators
-source_acl origin.Parent s = s.parents
+abbrev pub source_acl : Giver → AclSources → AclPart
+source_acl giver.Creator s = s.creators
+source_acl giver.Parent s = s.parents
 
 -- what the ACL of one descriptor gives
-abbrev pub given : Origin → AclSources → List AccessControlEntry
-given origin.Creator s = flat_map (taken s.plan.now) (aces_in s.creators)
-given origin.Parent s = inherited s.plan.now s.parents
+abbrev pub given : Giver → AclSources → List AccessControlEntry
+given giver.Creator s = flat_map (taken s.plan.now) (aces_in s.creators)
+given giver.Parent s = inherited s.plan.now s.parents
 
 -- what the definition of the new ACL gathers from both
 abbrev pub gathered_from : AclSources → List AccessControlEntry

@@ -21,6 +21,7 @@ use Rattle.std.proofs.lemmas.Bool.{and_parts}
 use Rattle.sd_kinds.proofs.laws.KindLaws.{kind_named-some, letters-few, letters-pass}
 use Rattle.sd_ace.specs.GuidText.{guid_reads}
 use Rattle.sd_sid.specs.SidText.{is_sid_byte, sid_front}
+use Rattle.sd_sid.proofs.laws.TextLaws.{list_all-more}
 use Rattle.uuid.specs.Text.{by_index, byte_of_digits, digit_place, digits_of, has_hyphens, hyphen_place, is_hex_digit}
 use Rattle.uuid.specs.Text.{is_hyphen_place, parsed_hyphenated}
 use Rattle.uuid.proofs.TextLemmas.{by_index_at, by_index_length}
@@ -309,6 +310,10 @@ object-whole kind (b ∷ bs) object is = by_test (is_object kind) (parsed_hyphen
 
 sid-byte-plain : (b : ℕ) → is_sid_byte b ≡ true → is_plain_inside b ≡ true
 sid-byte-plain b is = grind (arith, nat_tests)
+
+-- the text of a SID
+pub sid-bytes-plain : (text : List ℕ) → list_all is_sid_byte text ≡ true → list_all is_plain_inside text ≡ true
+sid-bytes-plain text all = list_all-more is_sid_byte is_plain_inside sid-byte-plain text all
 
 sid-front-plain : (text : List ℕ) → list_all is_plain_inside (sid_front text) ≡ true
 sid-front-plain [] = refl

@@ -1,7 +1,11 @@
 -- An owner, a group or the flags of an ACL that stand whole in what comes of a line.
-use Rattle.std.specs.Prelude.{◌≡◌, ℕ, ◌≤◌, true, List, ◌∷◌, ◌++◌, length, Some}
+use Rattle.std.specs.Prelude.{◌≡◌, ℕ, ◌≤◌, true, List, ◌∷◌, ◌++◌, length, Option, Some, Ok}
 use Rattle.std.specs.List.{list_all}
 use Rattle.std.specs.Str.{byte as char}
+use Rattle.sd_sid.specs.Account.{account_sid}
+use Rattle.sd_sid.specs.Sid.{SecurityId}
+use Rattle.sd_sid.specs.SidText.{sid_reads}
+use Rattle.sd_sid.specs.declared.account.Account.{Account}
 use Rattle.sd_text.specs.Limits.{most_field}
 use Rattle.sd_sddl_builder.specs.Line.{head_of}
 use Rattle.sd_sddl_fields.specs.Held.{is_plain_text}
@@ -18,3 +22,9 @@ pub record HeadAfter (field : List ℕ) (head : Head) (rest text : List ℕ) : T
   pub letter : ℕ
   pub stands : text ≡ field ++ letter ∷ char ":" ∷ rest
   pub names : head_of letter ≡ Some head
+
+-- a text that reads as an account's SID, a head that ends it, and a rest
+pub record AccountBefore (account : Account) (head : Head) (rest text : List ℕ) : Type 0 where
+  pub field : List ℕ
+  pub before : HeadAfter field head rest text
+  pub reads : (domain : Option SecurityId) → sid_reads field domain ≡ Ok (account_sid account)

@@ -281,15 +281,15 @@ sid_text-reads s i domain =
 
 -- 8. Its bytes.
 
-list_all-more : (p q : ℕ → Bool) → ((x : ℕ) → p x ≡ true → q x ≡ true) → (xs : List ℕ) → list_all p xs ≡ true
+pub list_all-more : (p q : ℕ → Bool) → ((x : ℕ) → p x ≡ true → q x ≡ true) → (xs : List ℕ) → list_all p xs ≡ true
     → list_all q xs ≡ true
 list_all-more p q h [] e = refl
 list_all-more p q h (x ∷ xs) e = let parts = and_parts (p x) _ e in rw (h x parts.0) (list_all-more p q h xs parts.1)
 
-digit_byte : (c : ℕ) → is_digit c 16 ≡ true → is_sid_byte c ≡ true
+pub digit_byte : (c : ℕ) → is_digit c 16 ≡ true → is_sid_byte c ≡ true
 digit_byte c e = grind (arith, nat_tests)
 
-digits_16 : (c : ℕ) → is_digit c 10 ≡ true → is_digit c 16 ≡ true
+pub digits_16 : (c : ℕ) → is_digit c 10 ≡ true → is_digit c 16 ≡ true
 digits_16 c e = grind (arith, nat_tests)
 
 decimal_bytes : (n : ℕ) → n < 2 ^ 32 → list_all is_sid_byte (decimal n) ≡ true
@@ -297,7 +297,7 @@ decimal_bytes n small =
     list_all-more (λ b. is_digit b 10) is_sid_byte (λ c e. digit_byte c (digits_16 c e)) (decimal n)
     (decimal_digits n small)
 
-joined_bytes : (xs ys : List ℕ) → list_all is_sid_byte xs ≡ true → list_all is_sid_byte ys ≡ true
+pub joined_bytes : (xs ys : List ℕ) → list_all is_sid_byte xs ≡ true → list_all is_sid_byte ys ≡ true
     → list_all is_sid_byte (xs ++ ys) ≡ true
 joined_bytes xs ys e f = list_all-append is_sid_byte xs ys ∙ rw (e, f) refl
 

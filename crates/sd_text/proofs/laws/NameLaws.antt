@@ -1,13 +1,11 @@
 -- The bits of a table's names, one entry after another.
-use Rattle.std.proofs.Common.{◌≡◌, ◌≤◌, ℕ, zero, suc, ◌+◌, ◌*◌, ◌^◌, ◌<◌, Bool, true, false, List, [], ◌∷◌, ◌++◌}
-use Rattle.std.proofs.Common.{length, drop, get_or, bit_and, bit_or, Some, None, Bor, arith, sym, ap, ◌∙◌, refl, eq-eqb}
+use Rattle.std.proofs.Common.{◌≡◌, ◌≤◌, ℕ, zero, suc, ◌*◌, ◌^◌, ◌<◌, Bool, true, false, List, [], ◌∷◌}
+use Rattle.std.proofs.Common.{length, bit_and, bit_or, Some, None, arith, sym, ap, ◌∙◌, refl, eq-eqb}
 use Rattle.std.proofs.Common.{eqb-true, ne_eqb}
 use Rattle.std.specs.Prelude.{Option, IfSome, ◌==◌, ◌&&◌, ◌||◌, if◌then◌else◌}
 use Rattle.std.specs.Char.{to_ascii_uppercase}
 use Rattle.std.specs.Int.{IsPowerOfTwo, bit_at}
-use Rattle.std.specs.List.{flat_map, list_all}
-use Rattle.std.specs.Option.{option_or}
-use Rattle.std.proofs.lemmas.List.{at_drop_more}
+use Rattle.std.specs.List.{list_all}
 use Rattle.std.proofs.lemmas.Nat.{or_comm, pow_pos}
 use Rattle.std.proofs.lemmas.Nat.Bits.{and_pow, bit_at-lt}
 use Rattle.sd_text.specs.declared.names.NamedBits.{NamedBits}
@@ -87,26 +85,6 @@ named_bits-single (e ∷ es) mask h =
     by_bit (suc (suc b)) at small = absurd (omega arith)
 
 -- What names read as.
-
-in_both : (es fs : List NamedBits) (a b : ℕ)
-    → bits_named (es ++ fs) a b ≡ option_or (bits_named es a b) (bits_named fs a b)
-in_both [] fs a b = refl
-in_both (e ∷ es) fs a b = by_name (e.first == to_ascii_uppercase a && e.second == to_ascii_uppercase b)
-    (in_both es fs a b)
-  where
-    by_name : (x : Bool) → bits_named (es ++ fs) a b ≡ option_or (bits_named es a b) (bits_named fs a b)
-        → (if x then Some e.bits else bits_named (es ++ fs) a b) ≡ option_or
-        (if x then Some e.bits else bits_named es a b) (bits_named fs a b)
-    by_name true h = refl
-    by_name false h = h
-
--- the first table that has a name has the say
-pub in_tables : (tables : List (Bor (List NamedBits))) (i : ℕ) (d : Bor (List NamedBits)) (a b : ℕ) → i < length tables
-    → bits_named (flat_map (λ t. t.now) (drop i tables)) a b ≡ option_or (bits_named (get_or tables i d).now a b)
-    (bits_named (flat_map (λ t. t.now) (drop (i + 1) tables)) a b)
-in_tables tables i d a b within =
-    at_drop_more (λ (ts : List (Bor (List NamedBits))). bits_named (flat_map (λ t. t.now) ts) a b) tables i d within
-    ∙ in_both (get_or tables i d).now (flat_map (λ t. t.now) (drop (i + 1) tables)) a b
 
 joined-assoc : (bits more : ℕ) (o : Option ℕ)
     → joined (Some bits) (joined (Some more) o) ≡ joined (Some (bit_or bits more)) o

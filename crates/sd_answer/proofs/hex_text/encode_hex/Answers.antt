@@ -1,9 +1,18 @@
-use Rattle.std.proofs.Common.{rules, ◌≡◌, ◌+◌, ◌-◌, ◌*◌, arith, ◌∙◌, ap, refl, length, length-drop, take, drop}
-use Rattle.std.proofs.lemmas.List.{length-take-le, take_rest}
+use Rattle.std.proofs.Common.{rules, ◌≡◌, ◌≤◌, ◌+◌, ◌-◌, ◌*◌, arith, ◌∙◌, refl, length, length-drop, drop}
+use Rattle.std.proofs.Math.Seq.{take-length}
+use Rattle.std.proofs.lemmas.List.{length-take-le, take_at}
 use Rattle.std.proofs.lemmas.Slice.{take-put_mid}
 use Rattle.hex.specs.Hex.{encode_with}
-use Rattle.sd_answer.proofs.HexTextLemmas.{encode-block, encode-rest, on-value}
+use Rattle.sd_answer.proofs.HexTextLemmas.{encode-block, encode-front, on-value}
 use Rattle.sd_answer.proofs.hex_text.encode_hex.Goals as goal
+
+pub returns-then-count-lt-BLOCK-clause-digits : goal.returns-then-count-lt-BLOCK-clause-digits
+returns-then-count-lt-BLOCK-clause-digits c =
+    let n = 2 * length c.args.bytes.now in
+    let fits = length-take-le n c.args.cells.now c.requires in
+    let size = c.encode_to_slice.auto.output ∙ fits in
+    let written = on-value _ _ (c.encode_to_slice.ensures.fits.1 fits) c.encode_to_slice.ensures.written in
+    take_at c.encode_to_slice.new.output (drop n c.args.cells.now) n size ∙ written
 
 pub loop-done-init : goal.loop-done-init
 unfolding encode_with
@@ -11,40 +20,31 @@ loop-done-init c = record { within = omega arith; cells = refl; encoded = refl }
 
 pub loop-done-preserved : goal.loop-done-preserved
 loop-done-preserved c =
-    let done = c.loop-done.done in
+    let at = c.min-at.result in
     let before = c.loop-done.invariant in
     let bytes = c.args.bytes.now in
     let cells = c.loop-done.cells in
     let new = c.copy_from_slice.new.self in
+    let most : at ≤ c.loop-done.done = omega (arith, c.min-at.ensures) in
+    let whole : at + 16 ≤ length bytes = omega (arith, c.min-at.ensures, c.if-count-lt-BLOCK.false) in
+    let room : 2 * at + 32 ≤ length cells = omega (arith, whole, c.requires, before.cells) in
     let size : length new ≡ 32 =
     c.copy_from_slice.auto.self
-    ∙ length-take-le (2 * done + 32 - 2 * done) (drop (2 * done) cells)
-    (omega (arith, c.requires, before.cells, c.loop-done-test.true, length-drop (2 * done) cells))
+    ∙ length-take-le (2 * at + 32 - 2 * at) (drop (2 * at) cells) (omega (arith, room, length-drop (2 * at) cells))
     ∙ omega arith in
-    let n : done + 16 - done ≡ 16 = omega arith in
-    let end : 2 * (done + 16) ≡ 2 * done + length new = omega (arith, size) in
-    let taken = take-put_mid (2 * done) (2 * done + 32 - 2 * done) cells new (2 * (done + 16)) end (omega (arith, c.requires, before.cells, c.loop-done-test.true)) in
+    let n : at + 16 - at ≡ 16 = omega arith in
+    let end : 2 * (at + 16) ≡ 2 * at + length new = omega (arith, size) in
+    let taken = take-put_mid (2 * at) (2 * at + 32 - 2 * at) cells new (2 * (at + 16)) end (omega (arith, room)) in
     let block = rw n at c.block_digits-digits.ensures in
+    let front = encode-front bytes cells at c.loop-done.done most before.within before.encoded in
     record {
-      within = omega (arith, c.loop-done-test.true);
+      within = omega (arith, whole);
       cells = search rules;
-      encoded = taken ∙ encode-block bytes _ new done 16 before.encoded (c.copy_from_slice.ensures.after ∙ block);
+      encoded = taken ∙ encode-block bytes _ new at 16 front (c.copy_from_slice.ensures.after ∙ block);
     }
 
 pub returns-clause-digits : goal.returns-clause-digits
 returns-clause-digits c =
-    let done = c.loop-done.done in
-    let before = c.loop-done.invariant in
-    let bytes = c.args.bytes.now in
-    let cells = c.loop-done.cells in
-    let new = c.encode_to_slice.new.output in
-    let left = length-drop done bytes in
-    let room = length-take-le (2 * length bytes - 2 * done) (drop (2 * done) cells)
-    (omega (arith, c.requires, before.cells, before.within, length-drop (2 * done) cells)) in
-    let rest = take_rest bytes done in
-    let size : length new ≡ 2 * length bytes - 2 * done = c.encode_to_slice.auto.output ∙ room in
-    let end : 2 * length bytes ≡ 2 * done + length new = omega (arith, size, before.within) in
-    let taken = take-put_mid (2 * done) (2 * length bytes - 2 * done) cells new (2 * length bytes) end (omega (arith, c.requires, before.cells, before.within)) in
-    let fits : length (take (2 * length bytes - 2 * done) (drop (2 * done) cells)) ≡ 2 * length (take (length bytes - done) (drop done bytes)) = omega (arith, room, ap length rest, left, before.within) in
-    let written = on-value _ _ (c.encode_to_slice.ensures.fits.1 fits) c.encode_to_slice.ensures.written in
-    taken ∙ encode-rest bytes _ new done before.encoded (rw rest at written)
+    let last : c.loop-done.done ≡ length c.args.bytes.now =
+    omega (arith, c.loop-done.invariant.within, c.loop-done-test.false) in
+    rw (last, take-length) at c.loop-done.invariant.encoded

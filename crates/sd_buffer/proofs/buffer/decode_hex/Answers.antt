@@ -1,7 +1,7 @@
 use Rattle.std.proofs.Common.{◌≡◌, ◌≤◌, ◌+◌, ◌-◌, ◌*◌, ◌/◌, arith, ◌∙◌, ap, sym, ℕ, List, take, drop, length, length-drop}
 use Rattle.std.proofs.lemmas.List.{length-take-le, take-take, take_rest}
 use Rattle.std.proofs.lemmas.Slice.{take-put_mid_below}
-use Rattle.sd_buffer.proofs.Slices.{front-of-part}
+use Rattle.sd_buffer.proofs.laws.Slices.{front-of-part}
 use Rattle.sd_buffer.proofs.HexBlocks.{decoded-both}
 use Rattle.sd_buffer.proofs.buffer.decode_hex.Goals as goal
 

@@ -41,3 +41,9 @@ loop-done-preserved c =
       cells = search rules;
       spelled = rw (twice, taken, copied) more;
     }
+
+pub returns-in_default-clause-ended : goal.returns-in_default-clause-ended
+returns-in_default-clause-ended c =
+    λ long more.
+    let n : 2 * c.min-at.result + 32 - 2 * c.min-at.result ≡ 32 = omega arith in
+    rw c.min-at.ensures at (rw n at c.in_default.ensures)

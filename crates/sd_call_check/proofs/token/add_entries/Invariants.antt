@@ -8,6 +8,7 @@ invariant-loop-byte l = record {
   read : behind l.token.holder.entries (entries_from l.n l.rest l.kinds_left) ≡ entries_from 0 l.sids l.kinds;
   level : l.token.holder.level ≡ l.fn.token.holder.level;
   count : l.n + length l.kinds_left ≡ length l.kinds;
+  compared : l.token.compared ≡ l.fn.token.compared;
   held : length l.token.holder.entries ≡ l.n;
 }
 

@@ -1,6 +1,7 @@
 use Rattle.std.proofs.Common.{◌∙◌, arith}
 use Rattle.sd_call_many.specs.Many.{judged_by}
-use Rattle.sd_call_many.proofs.ManyLemmas.{written_more}
+use Rattle.sd_call_check.proofs.laws.Written.{written_more}
+use Rattle.sd_call_many.proofs.ManyLemmas.{most_more}
 use Rattle.sd_call_many.proofs.many.judge.Goals as goal
 
 pub loop-i-preserved : goal.loop-i-preserved
@@ -11,4 +12,7 @@ loop-i-preserved c =
           l.verdicts l.i _ c.judge_one.result c.loop-i-test.true (omega (arith, c.loop-i-test.true, c.requires))
           l.invariant.written
           (rw l.invariant.holder at c.judge_one.ensures.verdict);
+      goes_on = omega (arith, c.judge_one.ensures.bound.goes_on, l.invariant.goes_on);
+      at_most = most_more _ _ _ _ _ _ _ c.loop-i-test.true l.invariant.at_most
+          (rw l.invariant.holder at c.judge_one.ensures.bound.at_most);
     }

@@ -1,4 +1,4 @@
-use Rattle.std.proofs.Common.{◌-◌, ◌+◌, length, take, drop, arith}
+use Rattle.std.proofs.Common.{◌-◌, ◌+◌, take, drop, arith}
 use Rattle.sd_run.proofs.LineCutLemmas.{NoLfBelow, NoLfBelow-more, length-part}
 use Rattle.sd_run.proofs.feed.pass_blocks.Goals as goal
 
@@ -9,7 +9,7 @@ loop-start-preserved c =
     let start = c.loop-start.start in
     let m = start + size - start in
     let part = length-part bytes start m (omega arith) in
-    let block : NoLfBelow (take m (drop start bytes)) size = λ k low. c.has_lf.ensures c.if-not-has_lf.true k
+    let block : NoLfBelow (take m (drop start bytes)) size = λ k low. c.has_lf.ensures.none c.if-not-has_lf.true k
     (omega (arith, part)) in
     record {
       within = omega arith;

@@ -1,7 +1,8 @@
-use Rattle.std.proofs.Common.{◌≡◌, false, take, true}
+use Rattle.std.proofs.Common.{◌≡◌, take}
 use Rattle.std.specs.List.{list_all}
-use Rattle.sd_sddl_fields.specs.Held.{is_plain_text}
+use Rattle.std.specs.Prelude.{not}
+use Rattle.sd_sddl_fields.specs.Inner.Blocks.{is_plain_late}
 use Rattle.sd_sddl_fields.proofs.plain.are_plain.Given as goal
 
 abbrev pub invariant-loop-byte : goal.invariant-loop-byte
-invariant-loop-byte l = l.other ≡ false → list_all is_plain_text (take l.byte-index l.text) ≡ true
+invariant-loop-byte l = not l.other ≡ list_all is_plain_late (take l.byte-index l.text)

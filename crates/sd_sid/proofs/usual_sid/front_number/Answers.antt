@@ -13,7 +13,7 @@ returns-clause-number c =
     let digits = c.front_decimal-number.ensures.number in
     let size : length (take count text) ≡ count = length-take-le count text c.front_decimal-number.ensures.within in
     let ends : (cut_at_dashes (sid_front (drop count text))).first ≡ [] =
-    rw (take_rest text count) at (c.ends_number.ensures c.if-not-ends_number.false) in (
+    rw (take_rest text count) at (c.ends_number.ensures.ends c.if-not-ends_number.false) in (
       take count text,
       decimal_is n (take count text) (omega arith) digits,
       reads_is n (take count text) (omega (arith, c.front_decimal-number.ensures.few)) (omega (arith, c.if-number.false))

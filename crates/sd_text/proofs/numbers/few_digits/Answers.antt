@@ -1,5 +1,5 @@
-use Rattle.std.proofs.Common.{◌≤◌, ◌-◌, get_or, subst, arith, ap, ◌∙◌}
-use Rattle.sd_text.proofs.FrontDigits.{below_more_behind, digit_more, fits-behind, plain_digit}
+use Rattle.std.proofs.Common.{◌≤◌, ◌-◌, get_or, subst, arith, ap, ◌∙◌, inl, inr}
+use Rattle.sd_text.proofs.FrontDigits.{below_more_behind, digit_more, fits-behind, no_digit, plain_digit}
 use Rattle.sd_text.proofs.numbers.few_digits.Goals as goal
 
 pub loop-i-preserved : goal.loop-i-preserved
@@ -30,3 +30,13 @@ overflow_add-number c =
     let fits = fits-behind c.loop-i.i c.loop-i.number (byte - 48) c.loop-i.invariant.small (omega arith)
     (omega (arith, c.if-byte-gt-NINE.false)) in
     omega (arith, fits)
+
+pub returns-then-byte-lt-ZERO-clause-ends : goal.returns-then-byte-lt-ZERO-clause-ends
+returns-then-byte-lt-ZERO-clause-ends c =
+    λ within.
+    no_digit (get_or c.args.text.now c.loop-i.i 0)
+    (λ low high.
+    elim c.then-byte-lt-ZERO.either [
+      | inl small ↦ omega (arith, c.from-byte.ensures, small)
+      | inr large ↦ omega (arith, c.from-byte.ensures, large.1)
+    ])

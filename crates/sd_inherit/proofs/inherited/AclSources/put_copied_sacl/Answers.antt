@@ -2,13 +2,13 @@ use Rattle.std.proofs.Common.{◌≡◌, ◌++◌, ap, sym, ◌∙◌}
 use Rattle.std.specs.List.{flat_map}
 use Rattle.sd_inherit.specs.Inner.Building.{given, listed}
 use Rattle.sd_inherit.specs.Copies.{copies}
-use Rattle.sd_inherit.specs.declared.inherited.Origin.TheVariants as origin
+use Rattle.sd_inherit.specs.declared.origin.Giver.TheVariants as giver
 use Rattle.sd_inherit.proofs.DerivedLaws.{sacl-stands}
 use Rattle.sd_inherit.proofs.inherited.AclSources.put_copied_sacl.Goals as goal
 use Rattle.sd_inherit.proofs.inherited.AclSources.put_copied_sacl.Goals.{After-is_empty}
 
 -- the copies from the first on are all
-from_the_first : (c : After-is_empty) → given origin.Parent c.args.self.now
+from_the_first : (c : After-is_empty) → given giver.Parent c.args.self.now
     ≡ listed c.inherited_from-first.result ++ flat_map (copies c.args.self.now.plan.now) c.next.new.self
 from_the_first c = sym c.loop-ace.invariant.aces
     ∙ ap (flat_map (copies c.args.self.now.plan.now)) c.in-Some.ensures.steps

@@ -1,6 +1,6 @@
 use Rattle.std.proofs.Common.{◌≡◌, ◌∷◌, sym, ◌∙◌, arith, Some, None}
 use Rattle.std.proofs.lemmas.Bool.Decides.{nat_tests}
-use Rattle.sd_sddl_reader.proofs.Steps.{no_head, no-colon}
+use Rattle.sd_sddl_builder.proofs.laws.Heads.{no_head, no-colon}
 use Rattle.sd_sddl_reader.proofs.FitLaws.{keeps-same}
 use Rattle.sd_sddl_reader.proofs.reader.SddlReader.feed_after.Goals.{in_default-via-in-Some+else-byte-eq58}
 use Rattle.sd_sddl_reader.proofs.reader.SddlReader.feed_after.Goals.{in_default-via-in_default}

@@ -1,5 +1,5 @@
 use Rattle.std.proofs.Common.{sym, ◌∙◌, true, refl}
-use Rattle.sd_sddl_reader.proofs.Steps.{no_head}
+use Rattle.sd_sddl_builder.proofs.laws.Heads.{no_head}
 use Rattle.sd_sddl_reader.proofs.Runs.{none-if}
 use Rattle.sd_sddl_reader.proofs.reader.SddlReader.feed_alone.Goals as goal
 

@@ -17,8 +17,8 @@ pub returns-in-Some : goal.returns-in-Some
 returns-in-Some c =
     let taken = c.take_whole.ensures in
     let over = steps-flags c.args.self.now c.take_whole.new.self c.args.buf.now c.take_whole.new.buf c.in-Some.field.now
-    c.in-Some.rest.now c.args.text.now c.args.which c.requires.here c.requires.fresh c.in-Some.ensures.0
-    c.in-Some.ensures.1 (record { read = taken.read; domain = taken.domain; same = taken.same }) in
+    c.in-Some.rest.now c.args.text.now c.args.which c.requires.here c.requires.fresh c.in-Some.ensures.found.0
+    c.in-Some.ensures.found.1 (record { read = taken.read; domain = taken.domain; same = taken.same }) in
     let n = record c.take_whole.new.self { state = state.Ace field.Kind } in
     let e = over.steps c.requires.reader.read c.requires.reader.held in
     record {

@@ -8,7 +8,7 @@ returns-in-Some c =
     let none = begun.pending ∙ c.requires.fresh.none in
     let e = begun.answers c.requires.reader.read c.requires.reader.held in
     record {
-      shorter = omega (arith, ap length c.in-Some.ensures.1);
+      shorter = omega (arith, ap length c.in-Some.ensures.found.1);
       reader = record {
         calm = begun.calm;
         still = λ _. none;
@@ -19,5 +19,5 @@ returns-in-Some c =
       read = λ domain before h.
           fed-on c.args.self.now c.begin_part.new.self c.args.buf.now c.begin_part.new.buf domain
           (c.in-Some.letter ∷ 58 ∷ []) c.in-Some.rest.now c.args.text.now (before ++ c.args.text.now)
-          c.requires.fresh.none none begun.answers c.in-Some.ensures.1 (before, h, refl);
+          c.requires.fresh.none none begun.answers c.in-Some.ensures.found.1 (before, h, refl);
     }

@@ -1,0 +1,3 @@
+pub mod Described
+pub mod Meanings
+pub mod PlaceTold

@@ -1,0 +1,41 @@
+-- What each fault means, by its number.
+use Rattle.std.specs.Prelude.{ℕ, List, [], if◌then◌else◌, nat_eq, codes}
+
+-- empty where no fault has the number
+abbrev pub meaning : ℕ → List ℕ
+meaning number =
+    if nat_eq number 1 then codes "the line exceeds its limit"
+    else if nat_eq number 2 then codes "a character is not a hex digit"
+    else if nat_eq number 3 then codes "the number of characters is odd"
+    else if nat_eq number 4 then codes "the line is not base64"
+    else if nat_eq number 5 then codes "fewer than 20 bytes"
+    else if nat_eq number 6 then codes "the revision of the header is not 1"
+    else if nat_eq number 7 then codes "control bit 0x8000 is clear"
+    else if nat_eq number 8 then codes "the offset is below 20, or fewer than 8 bytes follow it"
+    else if nat_eq number 9 then codes "the revision of a SID is not 1, its count exceeds 15, or it passes the end of the bytes or of its ACE"
+    else if nat_eq number 10 then codes "the revision of the ACL is not 2 or 4, its size is below 8, or it passes the end of the bytes"
+    else if nat_eq number 11 then codes "fewer than 16 bytes of the ACL are left for an ACE; or its size is below 16, not a multiple of 4 or beyond the ACL; or its object fields and 8 bytes of a SID do not fit in it"
+    else if nat_eq number 12 then codes "the type of an ACE is not supported"
+    else if nat_eq number 13 then codes "an ACE has flag 0x20"
+    else if nat_eq number 14 then codes "two parts share a byte"
+    else if nat_eq number 20 then codes "parentheses, colons or the number of fields are wrong"
+    else if nat_eq number 21 then codes "two parts have the same letter"
+    else if nat_eq number 22 then codes "two letters that are not an alias"
+    else if nat_eq number 23 then codes "a relative alias without a domain"
+    else if nat_eq number 24 then codes "a decimal number of a SID has more than ten digits, or is 2^32 or more"
+    else if nat_eq number 25 then codes "any other text that is not a SID"
+    else if nat_eq number 26 then codes "flags of an ACL or an ACE that are not in the tables"
+    else if nat_eq number 27 then codes "rights that are not in the tables"
+    else if nat_eq number 28 then codes "an object type is not a GUID, or its ACE is of a kind without object types"
+    else if nat_eq number 29 then codes "no such kind of ACE, such as XA"
+    else if nat_eq number 30 then codes "the ACL would exceed 65,535 bytes; the first from the left"
+    else if nat_eq number 40 then codes "a derived ACL exceeds 65,535 bytes; the SACL is checked first"
+    else if nat_eq number 50 then codes "no right is asked for"
+    else if nat_eq number 51 then codes "bit 26 or 27 is set in the rights that are asked for"
+    else if nat_eq number 60 then codes "a read failed; every line that had ended is answered"
+    else if nat_eq number 61 then codes "the output is a closed pipe or a full disk; nothing is written after it"
+    else if nat_eq number 62 then codes "2^40 reads without an end"
+    else if nat_eq number 70 then codes "an argument beside the descriptor or the text is invalid"
+    else if nat_eq number 71 then codes "the output is too small; the call says how many bytes it needs"
+    else if nat_eq number 72 then codes "malloc failed"
+    else []

@@ -1,0 +1,4 @@
+pub mod FaultyAces
+pub mod FirstFaults
+pub mod Ranges
+mod Rows

@@ -1,0 +1,4 @@
+pub mod Fields
+pub mod Inner
+pub mod Places
+pub mod Shape

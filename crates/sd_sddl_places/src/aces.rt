@@ -1,0 +1,189 @@
+//! The ACEs of a part, and their fields.
+
+ghost use Rattle.std.specs.Prelude.{◌≡◌, ◌≤◌, ◌<◌, ◌+◌, ◌^◌, length, slice_index_or, IfSome, None, Some, MatchOption};
+ghost use Rattle.std.specs.Prelude.{false, true};
+ghost use Rattle.std.specs.Option.{is_some, option_map};
+ghost use Rattle.std.specs.Option.{option_copied};
+ghost use Rattle.sd_ace.specs.Ace.{guid_size, sid_offset};
+ghost use Rattle.sd_sid.specs.SidText.{sid_reads};
+ghost use Rattle.sd_sddl_builder.specs.Line.{is_paired, pieces_from};
+ghost use Rattle.sd_sddl_places.specs.Fields.{aces_from, fields_in_ace, fields_in_aces, kind_in};
+ghost use Rattle.sd_sddl_places.specs.Places.{cut_number, first_faulty, object_in, passing, read_size, size_in};
+ghost use Rattle.sd_sddl_places.specs.Inner.Cutting.{first_ace};
+
+use crate::cutting::{before_byte, behind, until};
+use crate::fields::{name_of, place, slot_fault};
+use crate::shape::next_field;
+use sd_ace::{FRONT_SIZE, GUID_SIZE, OBJECT_FRONT_SIZE};
+use sd_fault_places::FaultPlace;
+use sd_kinds::AceKind;
+use sd_parts::{ACL_HEADER_SIZE, MOST_ACL_SIZE, Part};
+use sd_sddl_builder::{AceField, SddlFault, Slot};
+use sd_sddl_fields::object_from_text;
+use sd_sid::Sid;
+
+/// An ACE: its number in its part, from 0, where its first parenthesis is, and the text between its parentheses.
+#[derive(Clone, Copy)]
+pub(crate) struct PlacedAce<'a> {
+    pub number: u32,
+    pub at: usize,
+    pub text: &'a [u8],
+}
+
+/// The bytes before the first ACE, and its text.
+pub(crate) fn first_ace(body: &[u8]) -> Option<(usize, &[u8])>
+    ensures value { MatchOption result (first_ace body.now ≡ None)
+        (λ r. first_ace body.now ≡ Some (r.0, r.1.now)) }
+    ensures some { is_some result ≡ is_some (first_ace body.now) }
+    ensures within { IfSome result (λ r. r.0 + (length r.1.now + 1) ≤ length body.now) }
+{
+    let before = before_byte(b'(', body);
+    let (_, rest) = behind(body, before).split_first()?;
+    let text = until(rest, before_byte(b')', rest));
+    Some((before, text))
+}
+
+/// The first field with a fault among those of the ACEs of a part.
+pub(crate) fn aces_fault(
+    part: Part,
+    at: usize,
+    body: &[u8],
+    domain: Option<&Sid>,
+) -> Option<(SddlFault, FaultPlace)>
+    requires small { at + length body.now < 2 ^ 32 }
+    ensures { result ≡ first_faulty (option_copied domain.entry)
+        (fields_in_aces part (aces_from 0 at (pieces_from false body.now).after)) }
+{
+    let mut number = 0;
+    let mut at = at;
+    let mut rest = body;
+    while let Some((before, text)) = first_ace(rest) {
+        if let Some(found) = ace_fault(part, number, at + before, text, domain) {
+            return Some(found);
+        }
+        let size = before + (text.len() + 2);
+        at += size;
+        let next = behind(rest, size);
+        rest = next;
+        number += 1;
+    }
+    None
+}
+
+// The first field with a fault of an ACE.
+fn ace_fault(
+    part: Part,
+    number: u32,
+    at: usize,
+    text: &[u8],
+    domain: Option<&Sid>,
+) -> Option<(SddlFault, FaultPlace)>
+    requires small { at + length text.now < 2 ^ 33 }
+    ensures { result ≡ first_faulty (option_copied domain.entry)
+        (fields_in_ace part (record { number = number; at = at; text = text.now })) }
+{
+    let kind = kind_in(until(text, before_byte(b';', text)));
+    let mut field = AceField::Kind;
+    let mut at = at + 1;
+    let mut rest = text;
+    'fields: loop {
+        let size = before_byte(b';', rest);
+        if let Some(fault) = slot_fault(Slot::Ace(field), kind, until(rest, size), domain) {
+            return Some((
+                fault,
+                place(Some(part), Some(number), Some(name_of(field)), at, size),
+            ));
+        }
+        let (_, tail) = behind(rest, size).split_first()?;
+        at += size + 1;
+        rest = tail;
+        field = next_field(field);
+    }
+}
+
+#[tactic(auto, unfolding(sd_sddl_fields::specs::FieldTexts::kind_reads))]
+fn kind_in(text: &[u8]) -> AceKind
+    ensures { result ≡ kind_in text.now }
+{
+    AceKind::from_text(text).unwrap_or(AceKind::Allow)
+}
+
+/// The ACE with which an ACL passes the largest size.
+pub(crate) fn passing<'a>(at: usize, body: &'a [u8], domain: Option<&Sid>) -> Option<PlacedAce<'a>>
+    requires small { at + length body.now < 2 ^ 32 }
+    ensures value { option_map (λ a. record { number = a.number; at = a.at; text = a.text.now }) result
+        ≡ passing (option_copied domain.entry) 8 (aces_from 0 at (pieces_from false body.now).after) }
+    ensures short { IfSome result (λ a. length a.text.now < 2 ^ 32) }
+{
+    let mut total = ACL_HEADER_SIZE;
+    let mut number = 0;
+    let mut at = at;
+    let mut rest = body;
+    while let Some((before, text)) = first_ace(rest) {
+        total += size_in(text, domain);
+        if total > MOST_ACL_SIZE {
+            return Some(PlacedAce {
+                number,
+                at: at + before,
+                text,
+            });
+        }
+        let size = before + (text.len() + 2);
+        at += size;
+        let next = behind(rest, size);
+        rest = next;
+        number += 1;
+    }
+    None
+}
+
+// The size of an ACE whose fields read.
+fn size_in(text: &[u8], domain: Option<&Sid>) -> usize
+    ensures value { result ≡ size_in (option_copied domain.entry) text.now }
+    ensures small { result ≤ 200 }
+{
+    let kind = kind_in(cut_number(0, text));
+    sid_offset(kind, cut_number(3, text), cut_number(4, text))
+        + sid_size(cut_number(5, text), domain)
+}
+
+fn sid_offset(kind: AceKind, object: &[u8], inherited: &[u8]) -> usize
+    ensures value { result ≡ sid_offset kind (object_in kind object.now) (object_in kind inherited.now) }
+    ensures small { result ≤ 44 }
+{
+    if !kind.is_object() {
+        return FRONT_SIZE;
+    }
+    OBJECT_FRONT_SIZE + guid_size(kind, object) + guid_size(kind, inherited)
+}
+
+fn guid_size(kind: AceKind, text: &[u8]) -> usize
+    ensures value { result ≡ guid_size (object_in kind text.now) }
+    ensures small { result ≤ 16 }
+{
+    match object_from_text(kind, text) {
+        Some(Some(_)) => GUID_SIZE,
+        _ => 0,
+    }
+}
+
+fn sid_size(text: &[u8], domain: Option<&Sid>) -> usize
+    ensures value { result ≡ read_size (sid_reads text.now (option_copied domain.entry)) }
+    ensures small { result ≤ 68 }
+{
+    match Sid::from_text(text, domain) {
+        Ok(sid) => sid.size(),
+        Err(_) => 0,
+    }
+}
+
+// A field of an ACE, from 0.
+fn cut_number(number: usize, text: &[u8]) -> &[u8]
+    ensures { result.now ≡ cut_number number text.now }
+{
+    let mut rest = text;
+    for _ in 0..number {
+        rest = behind(behind(rest, before_byte(b';', rest)), 1);
+    }
+    until(rest, before_byte(b';', rest))
+}
