@@ -44,7 +44,8 @@ help:
 	@echo 'make edits             tries every edit that the check must refuse, also those that the gate leaves out (an hour or two);'
 	@echo '                       CRATE=NAME tries those of a crate, EDIT=WORD those with WORD in their names (10 to 30 seconds each)'
 	@echo 'make figures           rewrites what is written by scripts: the figures in docs/GATE.md and docs/DEFINITIONS.md, the places'
-	@echo '                       of aliases in sd_alias, and the completions of three shells (seconds)'
+	@echo '                       of aliases in sd_alias, the cells of names in sd_kinds and sd_rights, the completions of three'
+	@echo '                       shells, and what is written from windows/ (seconds)'
 	@echo 'make bench             measures the program against a plain one in Rust, and cat (8 minutes)'
 	@echo 'make bench-library     measures calls of the library beside those of Samba, from C and Python (a minute)'
 	@echo 'make install           installs the program, its man page, documents and completions below PREFIX ($(PREFIX)),'
@@ -82,6 +83,7 @@ run: program
 quick:
 	$(need_toolchain)
 	tests/quick.py
+	tests/audit_package.py --static
 
 check:
 	$(need_toolchain)
@@ -100,7 +102,9 @@ edits:
 	tests/edits.py $(if $(EDIT),--edit '$(EDIT)') $(CRATE)
 
 figures:
+	windows/write.py
 	tests/alias_places.py
+	tests/name_cells.py
 	packaging/completions.py
 	tests/figures.py
 
@@ -155,7 +159,7 @@ $(SYSTEMS): %: out/systems/%/.built
 out/systems/linux-x86_64/.built: $(COMPILED)/linux-x86_64/sdtool.o $(LIBRARY)
 out/systems/linux-aarch64/.built: $(COMPILED)/linux-aarch64/sdtool.o $(COMPILED)/linux-aarch64/libsdtool_c.a
 out/systems/windows-x86_64/.built out/systems/wasm/.built: $(COMPILED)/sdtool.bc $(COMPILED)/libsdtool_c.bc
-out/systems/wasm/.built: systems/drop_table.py $(wildcard javascript/*)
+out/systems/wasm/.built: systems/drop_table.py systems/lower_memory.py $(wildcard javascript/*)
 $(SYSTEMS:%=out/systems/%/.built): systems/build.sh systems/heap.ll $(wildcard systems/c/*) include/sdtool.h packaging/library.sh packaging/library.map
 	systems/build.sh $(notdir $(@D))
 	@touch $@

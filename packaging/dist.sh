@@ -33,9 +33,9 @@ fill_linux() {
     install -m 644 "out/systems/$2/libsdtool.a" "$1/lib/libsdtool.a"
     install -m 644 "out/systems/$2/$soname" "$1/lib/libsdtool.so.$version"
     install -d "$1/python"
-    cp -R python/. "$1/python"
+    # Programs that run from the tree may write what is left out here, at any time.
+    tar -C python -c --exclude=__pycache__ --exclude='*.so' . | tar -C "$1/python" -x
     [[ ! -f out/sdtool.html ]] || install -m 644 out/sdtool.html "$1/python/sdtool/audit" # reports of audits go into it
-    find "$1/python" \( -name __pycache__ -o -name '*.so' \) -prune -exec rm -rf {} +
 }
 
 fill() {

@@ -16,6 +16,10 @@ import sysconfig
 import tempfile
 
 TOP = pathlib.Path(__file__).resolve().parents[1]
+sys.dont_write_bytecode = True
+sys.path.insert(0, str(TOP / "python"))
+import build_wheel  # noqa: E402
+
 SOURCE = TOP / "python/sdtool/_native.c"
 FLAGS = ["-std=gnu11", "-O2", "-Wall", "-Wextra", "-Werror", "-shared", "-s"]
 # An older C library than that of the compiler is enough: the oldest of which the system has one.
@@ -69,11 +73,12 @@ def compile_extension(system, target):
     """Compiles the extension for a system."""
     with tempfile.TemporaryDirectory() as name:
         folder = pathlib.Path(name)
-        compiled = folder / "native.o"
+        compiled, made = folder / "native.o", folder / FILES[system]
         compile_object(system, folder, compiled)
         libraries = [import_library(folder, compiled)] if system.startswith("windows") else []
         compiler, *flags = COMPILERS[system]
-        subprocess.run([compiler, *FLAGS, *flags, compiled, *libraries, "-o", target], check=True)
+        subprocess.run([compiler, *FLAGS, *flags, compiled, *libraries, "-o", made], check=True)
+        build_wheel.place(made, target)
 
 
 def main():

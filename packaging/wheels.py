@@ -6,8 +6,8 @@ linux-x86_64, linux-aarch64 or windows-x86_64, of which 'make systems' built the
 the C library that it needs.
 
 A wheel has the module's extension too, where a compiler for the system and Python.h are there. Its tag names no ABI of
-Python: an interpreter that cannot load the extension, such as PyPy or a CPython without a global lock, makes the same calls
-through ctypes.
+Python: an interpreter that cannot load the extension, such as PyPy, a CPython without a global lock, or one of several that have
+locks of their own, makes the same calls through ctypes.
 """
 import pathlib
 import re

@@ -90,19 +90,19 @@ calls() {
     grep -oE '\bsdtool_[a-z0-9_]+\(' include/sdtool.h | tr -d '(' | sort -u
 }
 
-# Links a module of a 64-bit memory, and lowers it to a 32-bit one. The stack is in front of the data, so a stack that is
+# Links a module of a 64-bit memory, and lowers it to a 32-bit one, vectors too. The stack is in front of the data, so a stack that is
 # too deep leaves the memory and ends the call, and overwrites nothing.
 link_wasm() {
     local objects=("${@:2}")
     (exec -a wasm-ld "$clang" -mwasm64 --no-entry --gc-sections --strip-all --stack-first -z stack-size=1048576 \
         "${objects[@]/#/$work/}" -o "$work/linked.wasm")
     systems/drop_table.py "$work/linked.wasm" "$work/plain.wasm"
-    wasm-opt --enable-memory64 --enable-sign-ext --enable-mutable-globals --memory64-lowering "$work/plain.wasm" -o "$out/$1"
+    systems/lower_memory.py "$work/plain.wasm" "$out/$1"
 }
 
 wasm() {
-    local flags=(--target=wasm64-unknown-unknown -mno-bulk-memory -mno-bulk-memory-opt -mno-multivalue -mno-reference-types
-        -mno-nontrapping-fptoint)
+    local flags=(--target=wasm64-unknown-unknown -msimd128 -mno-bulk-memory -mno-bulk-memory-opt -mno-multivalue
+        -mno-reference-types -mno-nontrapping-fptoint)
     local of_x86='probe-stack\|stack-probe-size\|target-cpu'
     compile_ir "$compiled/libsdtool_c.bc" "$work/library.o" "$of_x86" "${flags[@]}"
     compile_ir "$compiled/sdtool.bc" "$work/program.o" "$of_x86" "${flags[@]}"

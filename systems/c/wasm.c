@@ -23,6 +23,10 @@ struct ending {
     uint32_t status, length, message_length;
 };
 
+struct origins {
+    uint32_t fault, part, other_part, argument, entry, sacl_count, dacl_count;
+};
+
 struct place {
     uint32_t offset, size;
 };
@@ -44,6 +48,11 @@ struct ace {
     uint32_t fault, mask, number;
     uint8_t kind, flags;
     struct place place, object_type, inherited_object_type, sid;
+};
+
+struct fault_place {
+    uint32_t fault, part, ace, field;
+    struct place place;
 };
 
 struct bytes {
@@ -69,11 +78,15 @@ struct new_descriptor {
 
 // sdtool.mjs has these numbers.
 _Static_assert(sizeof(struct verdict) == 28, "the verdict of a check");
+_Static_assert(sizeof(struct origins) == 28, "what sdtool_derive_origins answers");
 _Static_assert(sizeof(struct contents) == 64 && offsetof(struct contents, owner) == 16, "what sdtool_parts finds");
 _Static_assert(sizeof(struct ace) == 48 && offsetof(struct ace, place) == 16, "what sdtool_next_ace finds");
+_Static_assert(sizeof(struct fault_place) == 24, "what sdtool_place and sdtool_sddl_place find");
 _Static_assert(sizeof(struct new_ace) == 32 && sizeof(struct new_descriptor) == 44, "what sdtool_build reads");
 
 _Static_assert(sizeof(struct sdtool_request) == 16, "as on a 32-bit machine");
+_Static_assert(sizeof(struct sdtool_asker) == 12 && sizeof(struct sdtool_reason) == 4, "as on a 32-bit machine");
+_Static_assert(sizeof(struct sdtool_origin) == 4, "as on a 32-bit machine");
 
 #define CALL(call, type, ...) type *proved_##call(type *told, __VA_ARGS__) __asm__("sdtool_" #call)
 #define INPUT(name) const uint8_t *name, size_t name##_size
@@ -89,11 +102,17 @@ CALL(check, struct sdtool_verdict, INPUT(descriptor), INPUT(sids), const uint8_t
      INPUT(principal_self), const struct sdtool_request *request);
 CALL(derive, struct sdtool_outcome, INPUT(parent), INPUT(creator), INPUT(owner), INPUT(group), uint32_t kind,
      uint32_t mapping, OUTPUT(output));
+CALL(derive_origins, struct sdtool_origins, INPUT(parent), INPUT(creator), INPUT(owner), INPUT(group), uint32_t kind,
+     uint32_t mapping, struct sdtool_origin *sacl, size_t sacl_room, struct sdtool_origin *dacl, size_t dacl_room);
 CALL(sid_from_text, struct sdtool_outcome, INPUT(text), INPUT(domain), OUTPUT(sid));
 CALL(sid_to_text, struct sdtool_outcome, INPUT(sid), INPUT(domain), bool numeric, OUTPUT(text));
 size_t proved_sid_size(INPUT(bytes)) __asm__("sdtool_sid_size");
 CALL(parts, struct sdtool_contents, INPUT(descriptor));
 bool proved_next_ace(INPUT(acl), struct sdtool_ace *ace) __asm__("sdtool_next_ace");
+CALL(place, struct sdtool_fault_place, INPUT(descriptor));
+CALL(sddl_place, struct sdtool_fault_place, INPUT(text), INPUT(domain));
+CALL(describe, struct sdtool_outcome, const struct sdtool_outcome *outcome, const struct sdtool_fault_place *place,
+     OUTPUT(text));
 CALL(check_many, struct sdtool_outcome, const struct sdtool_bytes *descriptors, size_t descriptor_count, INPUT(sids),
      const uint8_t *entries, size_t sid_count, INPUT(object), INPUT(principal_self), const struct sdtool_request *request,
      struct sdtool_verdict *verdicts, size_t verdict_count);
@@ -101,6 +120,10 @@ CALL(token_read, struct sdtool_outcome, INPUT(sids), const uint8_t *entries, siz
      size_t token_words);
 CALL(check_with, struct sdtool_verdict, INPUT(descriptor), const uint32_t *token, size_t token_words, INPUT(object),
      INPUT(principal_self), const struct sdtool_request *request);
+CALL(reasons, struct sdtool_outcome, INPUT(descriptor), INPUT(sids), const uint8_t *entries, size_t sid_count, INPUT(object),
+     INPUT(principal_self), const struct sdtool_asker *asker, struct sdtool_reason *reasons);
+CALL(reasons_with, struct sdtool_outcome, INPUT(descriptor), const uint32_t *token, size_t token_words, INPUT(object),
+     INPUT(principal_self), const struct sdtool_asker *asker, struct sdtool_reason *reasons);
 CALL(build, struct sdtool_outcome, const struct sdtool_new_descriptor *descriptor, OUTPUT(output));
 CALL(run, struct sdtool_ending, INPUT(words), INPUT(input), OUTPUT(output), OUTPUT(message));
 CALL(fault_text, struct sdtool_outcome, uint32_t fault, OUTPUT(text));
@@ -130,6 +153,11 @@ static struct place place_of(const struct sdtool_place *told) {
 
 static struct sdtool_place place_from(const struct place *place) {
     return (struct sdtool_place){place->offset, place->size};
+}
+
+static void tell_place(uint32_t place, const struct sdtool_fault_place *told) {
+    *(struct fault_place *)at(place) =
+        (struct fault_place){told->fault, told->part, told->ace, told->field, place_of(&told->place)};
 }
 
 static struct acl_place acl_of(const struct sdtool_acl_place *told) {
@@ -217,6 +245,18 @@ void derive(uint32_t outcome, uint32_t parent, uint32_t parent_size, uint32_t cr
                                 group_size, kind, mapping, at(output), output_size));
 }
 
+EXPORT(sdtool_derive_origins)
+void derive_origins(uint32_t origins, uint32_t parent, uint32_t parent_size, uint32_t creator, uint32_t creator_size,
+                    uint32_t owner, uint32_t owner_size, uint32_t group, uint32_t group_size, uint32_t kind, uint32_t mapping,
+                    uint32_t sacl, uint32_t sacl_room, uint32_t dacl, uint32_t dacl_room) {
+    struct sdtool_origins told;
+    proved_derive_origins(&told, at(parent), parent_size, at(creator), creator_size, at(owner), owner_size, at(group),
+                          group_size, kind, mapping, at(sacl), sacl_room, at(dacl), dacl_room);
+    *(struct origins *)at(origins) =
+        (struct origins){told.fault, told.part, told.other_part, told.argument, (uint32_t)told.entry,
+                         (uint32_t)told.sacl_count, (uint32_t)told.dacl_count};
+}
+
 EXPORT(sdtool_sid_from_text)
 void sid_from_text(uint32_t outcome, uint32_t text, uint32_t text_size, uint32_t domain, uint32_t domain_size, uint32_t sid,
                    uint32_t sid_size) {
@@ -252,6 +292,28 @@ EXPORT(sdtool_next_ace) uint32_t next_ace(uint32_t acl, uint32_t acl_size, uint3
     *last = (struct ace){walk.fault, walk.mask, walk.number, walk.kind, walk.flags, place_of(&walk.place),
                          place_of(&walk.object_type), place_of(&walk.inherited_object_type), place_of(&walk.sid)};
     return is_there;
+}
+
+EXPORT(sdtool_place) void fault_place(uint32_t place, uint32_t descriptor, uint32_t descriptor_size) {
+    struct sdtool_fault_place told;
+    tell_place(place, proved_place(&told, at(descriptor), descriptor_size));
+}
+
+EXPORT(sdtool_sddl_place)
+void sddl_place(uint32_t place, uint32_t text, uint32_t text_size, uint32_t domain, uint32_t domain_size) {
+    struct sdtool_fault_place told;
+    tell_place(place, proved_sddl_place(&told, at(text), text_size, at(domain), domain_size));
+}
+
+EXPORT(sdtool_describe)
+void describe(uint32_t outcome, uint32_t given, uint32_t place, uint32_t text, uint32_t text_size) {
+    const struct outcome *asked = at(given);
+    const struct fault_place *found = at(place);
+    struct sdtool_outcome fault = {asked->fault, asked->part, asked->other_part, asked->argument, asked->entry,
+                                   asked->length};
+    struct sdtool_fault_place where = {found->fault, found->part, found->ace, found->field, place_from(&found->place)};
+    struct sdtool_outcome told;
+    tell(outcome, proved_describe(&told, &fault, &where, at(text), text_size));
 }
 
 // It has arrays of its own, with the structs of a 64-bit machine. Without memory for them it is SDTOOL_NO_MEMORY before all
@@ -296,6 +358,24 @@ void check_with(uint32_t verdict, uint32_t descriptor, uint32_t descriptor_size,
     proved_check_with(&told, at(descriptor), descriptor_size, at(token), token_words, at(object), object_size,
                       at(principal_self), principal_self_size, at(request));
     *(struct verdict *)at(verdict) = verdict_of(&told);
+}
+
+EXPORT(sdtool_reasons)
+void reasons(uint32_t outcome, uint32_t descriptor, uint32_t descriptor_size, uint32_t sids, uint32_t sids_size,
+             uint32_t entries, uint32_t sid_count, uint32_t object, uint32_t object_size, uint32_t principal_self,
+             uint32_t principal_self_size, uint32_t asker, uint32_t reasons) {
+    struct sdtool_outcome told;
+    tell(outcome, proved_reasons(&told, at(descriptor), descriptor_size, at(sids), sids_size, at(entries), sid_count, at(object),
+                                 object_size, at(principal_self), principal_self_size, at(asker), at(reasons)));
+}
+
+EXPORT(sdtool_reasons_with)
+void reasons_with(uint32_t outcome, uint32_t descriptor, uint32_t descriptor_size, uint32_t token, uint32_t token_words,
+                  uint32_t object, uint32_t object_size, uint32_t principal_self, uint32_t principal_self_size,
+                  uint32_t asker, uint32_t reasons) {
+    struct sdtool_outcome told;
+    tell(outcome, proved_reasons_with(&told, at(descriptor), descriptor_size, at(token), token_words, at(object), object_size,
+                                      at(principal_self), principal_self_size, at(asker), at(reasons)));
 }
 
 // As for sdtool_check_many, SDTOOL_NO_MEMORY comes before all else.
