@@ -39,7 +39,6 @@ Requires-Dist: fsspec >= 2022.11; extra == 'distributed'
 Provides-Extra: audit
 Requires-Dist: click >= 8; extra == 'audit'
 Requires-Dist: rich >= 13; extra == 'audit'
-Requires-Dist: python-ldap >= 3.4; extra == 'audit'
 """
 # The command of the extra.
 ENTRY_POINTS = (f"{NAME}.dist-info/entry_points.txt", b"[console_scripts]\nsdtool-audit = sdtool.audit.__main__:main\n")
@@ -66,6 +65,35 @@ def compile_extension(target):
     ended = subprocess.run([*compiler, *FLAGS, *(f"-I{folder}" for folder in folders), str(SOURCE), "-o", str(target), "-ldl"],
                            stdout=subprocess.PIPE, stderr=subprocess.STDOUT, check=False)
     return None if ended.returncode == 0 else ended.stdout.decode("utf-8", "replace")
+
+
+def place(made, target):
+    """Puts a file at a place where other programs may look at any time: it is there as a whole or not at all, and a file
+    with the same bytes stays."""
+    made, target = pathlib.Path(made), pathlib.Path(target)
+    if target.exists() and target.read_bytes() == made.read_bytes():
+        return
+    unfinished = target.with_name(f".{target.name}.{os.getpid()}")
+    try:
+        shutil.copy(made, unfinished)
+        os.replace(unfinished, target)
+    finally:
+        unfinished.unlink(missing_ok=True)
+
+
+def place_extension():
+    """Builds the extension beside the module's files, unless it is newer than what it is built from. Gives why it cannot,
+    or None."""
+    target, folder = MODULE / EXTENSION, header_folder()
+    sources = [SOURCE, pathlib.Path(__file__), *([folder / "sdtool.h"] if folder else [])]
+    if target.exists() and all(target.stat().st_mtime > source.stat().st_mtime for source in sources):
+        return None
+    with tempfile.TemporaryDirectory() as name:
+        made = pathlib.Path(name, EXTENSION)
+        problem = compile_extension(made)
+        if problem is None:
+            place(made, target)
+        return problem
 
 
 def extension_files():
@@ -108,7 +136,7 @@ def build_wheel(wheel_directory, config_settings=None, metadata_directory=None):
 
 
 def build_editable(wheel_directory, config_settings=None, metadata_directory=None):
-    compile_extension(MODULE / EXTENSION)
+    place_extension()
     return write_wheel(wheel_directory, [("sdtool.pth", f"{HERE}\n".encode())])
 
 
@@ -125,4 +153,4 @@ def build_sdist(sdist_directory, config_settings=None):
 if __name__ == "__main__":
     if sys.argv[1:] != ["--extension"]:
         sys.exit("usage: build_wheel.py --extension")
-    sys.exit(compile_extension(MODULE / EXTENSION))
+    sys.exit(place_extension())

@@ -3,11 +3,8 @@ from typing import Iterable, Optional
 
 from . import _arguments, _library
 from ._arguments import GuidLike
-from ._errors import ArgumentFault, Fault
-from ._values import DescriptorLike, SidLike, Verdict, derived, layout_of, sid, sid_or_none, sids as sids_of
-from ._words import KINDS, MAPPINGS, Kind, Mapping
-
-_MOST_SIDS = 1024
+from ._values import DescriptorLike, SidLike, Verdict, derived, read_token
+from ._words import MAPPINGS, Kind, Mapping
 
 
 def version() -> str:
@@ -31,7 +28,7 @@ def to_sddl(descriptor: DescriptorLike, *, domain: Optional[SidLike] = None, num
     >>> to_sddl(b"")
     Traceback (most recent call last):
         ...
-    sdtool.Fault: error 5 short: fewer than 20 bytes
+    sdtool.Fault: error 5 short: fewer than 20 bytes, at byte 0
     """
     return _library.to_sddl(descriptor, domain, _arguments.flag("numeric", numeric))
 
@@ -60,11 +57,10 @@ def from_sddl(text: str, *, domain: Optional[SidLike] = None) -> bytes:
 
     >>> from_sddl("D:P").hex()
     '01000490000000000000000000000000140000000200080000000000'
-    >>> try:
-    ...     from_sddl("D:(A;;FA;;;WD)\n")
-    ... except Fault as fault:
-    ...     print(fault.line)
-    error 20 shape
+    >>> from_sddl("D:(A;;FA;;;WD)\n")
+    Traceback (most recent call last):
+        ...
+    sdtool.Fault: error 20 shape: parentheses, colons or the number of fields are wrong, at byte 14, the DACL
     """
     return _library.from_sddl(text, domain)
 
@@ -121,13 +117,10 @@ def check(descriptor: DescriptorLike, sids: Iterable[SidLike], *, deny_only: Ite
     >>> bool(check(from_sddl(""), [users], wanted=0x1f01ff))
     True
     """
-    data = layout_of("descriptor", descriptor)
-    enabled, denying = sids_of("sids", sids), sids_of("deny_only", deny_only)
-    if len(enabled) + len(denying) > _MOST_SIDS:
-        raise ArgumentFault(f"{len(enabled) + len(denying)} SIDs; a token has at most {_MOST_SIDS}", "sids")
+    data = _arguments.layout("descriptor", descriptor)
+    token = read_token(_arguments.sids("sids", sids), _arguments.sids("deny_only", deny_only))
     question = _library.question(
-        _library.token(b"".join([*enabled, *denying]), bytes(len(enabled)) + b"\1" * len(denying)),
-        _arguments.guid("object_type", object_type), sid_or_none("principal_self", principal_self),
+        token, _arguments.guid("object_type", object_type), _arguments.sid_or_none("principal_self", principal_self),
         _arguments.number("wanted", wanted), _arguments.word("mapping", mapping, MAPPINGS),
         0 if level is None else _arguments.number("level", level), level is not None, _arguments.flag("maximum", maximum),
         _arguments.flag("security", security), _arguments.flag("take_ownership", take_ownership))
@@ -145,7 +138,7 @@ def derive(parent: DescriptorLike, owner: SidLike, group: SidLike, *, kind: Kind
     >>> to_sddl(derive(from_sddl("D:(A;OICI;FA;;;SY)"), system, system))
     'O:SYG:SYD:AI(A;ID;FA;;;SY)'
     """
-    return derived(layout_of("parent", parent), owner, group, kind, creator, mapping)
+    return derived(_arguments.layout("parent", parent), owner, group, kind, creator, mapping)
 
 
 def fault_text(number: int) -> str:

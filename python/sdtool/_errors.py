@@ -1,5 +1,7 @@
 """The exceptions of the module."""
-from typing import Dict, Optional
+from typing import Any, Dict, Optional
+
+from ._places import NOWHERE, Located, Place, Where
 
 # What each number means, in the words of docs/FORMAT.md.
 MEANINGS: Dict[int, str] = {
@@ -40,6 +42,14 @@ class Error(Exception):
     """The base of the module's exceptions."""
 
 
+class WrongType(Error, TypeError):
+    """An argument of a type that the call does not take, or an object whose __init__ did not end. The library was not called."""
+
+
+class Unchangeable(Error, AttributeError):
+    """An object that cannot be changed, and not be made again."""
+
+
 class _Numbered(Error, ValueError):
     """What both kinds of exceptions have."""
 
@@ -56,7 +66,8 @@ class Fault(_Numbered):
 
     number and name are those of docs/FORMAT.md. part is "owner", "group", "sacl", "dacl" or None, and so is other_part,
     the second part of fault 14. argument is the name of the argument that is refused, where that is not the only one that
-    could be, and index its place in a list of such. meaning says in words what the number means.
+    could be, and index its place in a list of such. meaning says in words what the number means. place says where the fault
+    is in the descriptor or the text that was given, and where says it in words.
 
     >>> import sdtool
     >>> try:
@@ -64,9 +75,22 @@ class Fault(_Numbered):
     ... except sdtool.Fault as fault:
     ...     print(fault.number, fault.name, fault.part)
     ...     print(fault)
+    ...     print(fault.excerpt())
     25 sid-form None
-    error 25 sid-form: any other text that is not a SID
+    error 25 sid-form: any other text that is not a SID, at byte 11, ACE 1 of the DACL, SID
+    D:(A;;FA;;;Everyone)
+               ^^^^^^^^
+    >>> try:
+    ...     sdtool.to_sddl(bytes.fromhex("01000080" "13000000" + "00" * 24))
+    ... except sdtool.Fault as fault:
+    ...     print(fault)
+    ...     print(fault.excerpt())
+    error 8 offset owner: the offset is below 20, or fewer than 8 bytes follow it, at byte 4, the owner
+    0100008013000000000000000000000000000000000000000000000000000000
+            ^^^^^^^^
     """
+
+    _where: Where = NOWHERE
 
     def __init__(self, number: int, name: str, part: Optional[str] = None, other_part: Optional[str] = None,
                  argument: Optional[str] = None, index: Optional[int] = None) -> None:
@@ -78,9 +102,37 @@ class Fault(_Numbered):
         self.argument = argument
         self.index = index
 
-    def of(self, argument: str, index: Optional[int] = None) -> "Fault":
-        """The same fault, of an argument."""
-        return Fault(self.number, self.name, self.part, self.other_part, argument, index)
+    def of(self, argument: str, index: Optional[int] = None, where: Optional[Where] = None) -> "Fault":
+        """The same fault, of an argument, and where it is in that, if not where it was."""
+        fault = Fault(self.number, self.name, self.part, self.other_part, argument, index)
+        fault._where = where or self._where
+        return fault
+
+    @property
+    def place(self) -> Optional[Place]:
+        """Where the fault is, or None. It is looked up when it is first asked for, in what was given as that was."""
+        return self._located().place
+
+    @property
+    def where(self) -> str:
+        """The place in words, with which the message ends; an empty text without a place.
+
+        ACEs count from 1, as in an explanation, and bytes from 0. Those of a text are in UTF-8, while place counts characters.
+        """
+        return self._located().words
+
+    def excerpt(self) -> str:
+        """At most 72 characters of the text around the place, or digits of the bytes, and carets below it, in two lines; an
+        empty text without a place."""
+        return self._located().excerpt
+
+    def _located(self) -> Located:
+        self._where = found = self._where.located()
+        return found
+
+    def __reduce__(self) -> Any:
+        self._located()  # which is less than what was given
+        return super().__reduce__()
 
     @property
     def line(self) -> str:
@@ -93,7 +145,8 @@ class Fault(_Numbered):
         return MEANINGS.get(self.number, self.name)
 
     def __str__(self) -> str:
-        return f"{_place(self.argument, self.index)}{self.line}: {self.meaning}"
+        where = self.where
+        return f"{_argument(self.argument, self.index)}{self.line}: {self.meaning}{where and ', '}{where}"
 
 
 class ArgumentFault(_Numbered):
@@ -115,10 +168,10 @@ class ArgumentFault(_Numbered):
         self.index = index
 
     def __str__(self) -> str:
-        return f"{_place(self.argument, self.index)}{self.problem}"
+        return f"{_argument(self.argument, self.index)}{self.problem}"
 
 
-def _place(argument: Optional[str], index: Optional[int]) -> str:
+def _argument(argument: Optional[str], index: Optional[int]) -> str:
     """Which argument it is about, in front of a text."""
     if argument is None:
         return ""

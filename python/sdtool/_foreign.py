@@ -1,14 +1,16 @@
 """The calls of include/sdtool.h by ctypes, where _native is not there. Both have the same functions, of which _native.pyi
 has the signatures; here each call takes about ten times as long beside the library's own time."""
 import ctypes
-from typing import Any, Callable, Iterator, List, NoReturn, Optional, Sequence, Tuple
+from typing import Any, Callable, Dict, Iterable, Iterator, List, NoReturn, Optional, Sequence, Tuple
+
+from ._slots import Slot, not_made
 
 _FIRST_SIZE = 4096  # larger answers take a second call
 _OK, _TOO_SMALL = 0, 71
 _NULL, _LIST = 1, 2
 _STATUS_STOPPED, _STATUS_NO_MEMORY = 3, 4
 _NO_MEMORY = 72
-_MOST_MESSAGE, _MOST_SIDS = 64, 1024
+_MOST_MESSAGE, _MOST_SIDS, _RIGHTS, _MOST_DERIVED_ACES = 64, 1024, 25, 4095
 _U8, _U16, _U32, _SIZE, _BOOL = ctypes.c_uint8, ctypes.c_uint16, ctypes.c_uint32, ctypes.c_size_t, ctypes.c_bool
 _FAULT: List[Tuple[str, Any]] = [("fault", _U32), ("part", _U32), ("other_part", _U32)]
 
@@ -26,12 +28,32 @@ class _Request(ctypes.Structure):
                 ("security", _BOOL), ("take_ownership", _BOOL)]
 
 
+class _Asker(ctypes.Structure):
+    _fields_ = [("mapping", _U32), ("level", _U32), ("has_level", _BOOL), ("security", _BOOL), ("take_ownership", _BOOL)]
+
+
+class _Reason(ctypes.Structure):
+    _fields_ = [("kind", _U16), ("place", _U16)]
+
+
+class _Origin(ctypes.Structure):
+    _fields_ = [("place", _U16), ("from_creator", _BOOL), ("inherit_only", _BOOL)]
+
+
+class _Origins(ctypes.Structure):
+    _fields_ = [*_FAULT, ("argument", _U32), ("entry", _SIZE), ("sacl_count", _SIZE), ("dacl_count", _SIZE)]
+
+
 class _Ending(ctypes.Structure):
     _fields_ = [("status", _U32), ("length", _SIZE), ("message_length", _SIZE)]
 
 
 class _Place(ctypes.Structure):
     _fields_ = [("offset", _SIZE), ("size", _SIZE)]
+
+
+class _FaultPlace(ctypes.Structure):
+    _fields_ = [("fault", _U32), ("part", _U32), ("ace", _U32), ("field", _U32), ("place", _Place)]
 
 
 class _AclPlace(ctypes.Structure):
@@ -78,6 +100,7 @@ _CALLS: Tuple[Tuple[str, Sequence[Any], Any], ...] = (
     ("to_sddl", (*_IN * 2, _BOOL, *_OUT), _Outcome),
     ("explain", (*_IN * 2, _BOOL, *_OUT), _Outcome),
     ("derive", (*_IN * 4, _U32, _U32, *_OUT), _Outcome),
+    ("derive_origins", (*_IN * 4, _U32, _U32, *(ctypes.POINTER(_Origin), _SIZE) * 2), _Origins),
     ("sid_from_text", (*_IN * 2, *_OUT), _Outcome),
     ("sid_to_text", (*_IN * 2, _BOOL, *_OUT), _Outcome),
     ("sid_size", _IN, _SIZE),
@@ -85,14 +108,17 @@ _CALLS: Tuple[Tuple[str, Sequence[Any], Any], ...] = (
     ("check_with", (*_IN, ctypes.POINTER(_U32), _SIZE, *_IN * 2, ctypes.POINTER(_Request)), _Verdict),
     ("check_many", (ctypes.POINTER(_Bytes), _SIZE, *_IN * 4, ctypes.POINTER(_Request), ctypes.POINTER(_Verdict), _SIZE),
      _Outcome),
+    ("reasons_with", (*_IN, ctypes.POINTER(_U32), _SIZE, *_IN * 2, ctypes.POINTER(_Asker), ctypes.POINTER(_Reason)), _Outcome),
     ("run", (*_IN * 2, *_OUT * 2), _Ending),
     ("parts", _IN, _Contents),
+    ("place", _IN, _FaultPlace),
+    ("sddl_place", _IN * 2, _FaultPlace),
     ("next_ace", (*_IN, ctypes.POINTER(_Ace)), _BOOL),
     ("build", (ctypes.POINTER(_NewDescriptor), *_OUT), _Outcome),
 )
 
 _library: Any = None
-_raises: Callable[[int, int, int, int, int], NoReturn]
+_raises: Callable[..., NoReturn]
 # What adopt() is given.
 _descriptor_type: Any
 _acl_type: Any
@@ -106,53 +132,47 @@ _flags: Tuple[Any, ...]
 _fault_of: Callable[..., Any]
 _no_list: Callable[..., NoReturn]
 _read_text: Callable[..., bytes]
-_read_sid: Callable[..., bytes]
+_read_sid: Callable[..., Optional[bytes]]
 _read_layout: Callable[..., bytes]
+_read_only: Callable[..., Any]
 _read_guid: Callable[[bytes], Any]
 
 
 class Layout:
     __slots__ = ("_data", "_found")
-    _data: bytes
-    _found: Optional[Tuple[Any, ...]]
 
 
-_set_data, _set_found = (Layout.__dict__[name].__set__ for name in Layout.__slots__)
+_data, _found = Slot(Layout, "_data"), Slot(Layout, "_found")
 
 
 class Entries:
-    __slots__ = ("_state", "_data", "_count", "_aces")
-    _state: int
-    _data: Optional[bytes]  # of a list in a descriptor, whose ACEs are made when they are asked for
-    _count: int
-    _aces: Optional[Tuple[Any, ...]]
-
-    def _list(self) -> Tuple[Any, ...]:
-        if self._state != _LIST:
-            _no_list(self)
-        if self._aces is None:
-            _set_aces(self, _aces_of(self._data or b"", self._count))
-        return self._aces or ()
+    __slots__ = ("_acl",)
 
     def __iter__(self) -> Iterator[Any]:
-        return iter(self._list())
+        return iter(aces(self))
 
     def __len__(self) -> int:
-        return len(self._list())
+        return len(aces(self))
 
 
-_set_state, _set_bytes, _set_count, _set_aces = (Entries.__dict__[name].__set__ for name in Entries.__slots__)
+# The state of an ACL and its list of ACEs, or in place of that the bytes and the number of those that nobody has asked for.
+_acl = Slot(Entries, "_acl")
 
 
 class Asking:
     __slots__ = ("_question",)
-    _question: Any
 
-    def __call__(self, descriptor: Any) -> Any:
-        return check(self._question, descriptor)
+    def __call__(self, /, *given: Any, **named: Any) -> Any:
+        question = _question.of(self)
+        if question is None:
+            raise not_made(self)
+        return check(question, _read_only("descriptor", given, named))
 
 
-def load(path: str, raises: Callable[[int, int, int, int, int], NoReturn]) -> None:
+_question = Slot(Asking, "_question")
+
+
+def load(path: str, raises: Callable[..., NoReturn]) -> None:
     """Opens the library. An OSError says why that fails. raises is called with the numbers of a fault."""
     global _library, _raises
     library = ctypes.CDLL(path)
@@ -168,21 +188,22 @@ def load(path: str, raises: Callable[[int, int, int, int, int], NoReturn]) -> No
 
 def adopt(descriptor: Any, acl: Any, absent: Any, null: Any, verdict: Any, ace: Any, sid: Any, kinds: Tuple[Any, ...],
           flags: Tuple[Any, ...], fault_of: Callable[..., Any], no_list: Callable[..., NoReturn],
-          read_text: Callable[..., bytes], read_sid: Callable[..., bytes], read_layout: Callable[..., bytes],
-          read_guid: Callable[[bytes], Any]) -> None:
+          read_text: Callable[..., bytes], read_sid: Callable[..., Optional[bytes]], read_layout: Callable[..., bytes],
+          read_only: Callable[..., Any], read_guid: Callable[[bytes], Any]) -> None:
     global _descriptor_type, _acl_type, _acl_absent, _acl_null, _verdict_type, _ace_type, _sid_type, _kinds, _flags
-    global _fault_of, _no_list, _read_text, _read_sid, _read_layout, _read_guid
+    global _fault_of, _no_list, _read_text, _read_sid, _read_layout, _read_only, _read_guid
     _descriptor_type, _acl_type, _acl_absent, _acl_null, _verdict_type = descriptor, acl, absent, null, verdict
     _ace_type, _sid_type, _kinds, _flags, _fault_of, _no_list = ace, sid, kinds, flags, fault_of, no_list
-    _read_text, _read_sid, _read_layout, _read_guid = read_text, read_sid, read_layout, read_guid
+    _read_text, _read_sid, _read_layout, _read_only, _read_guid = read_text, read_sid, read_layout, read_only, read_guid
 
 
-def _refuse(outcome: Any) -> NoReturn:
-    _raises(outcome.fault, outcome.part, outcome.other_part, outcome.argument, outcome.entry)
+def _refuse(outcome: Any, given: Optional[bytes] = None, domain: Optional[bytes] = None) -> NoReturn:
+    """Raises a fault, of a descriptor or of a text under a domain, if one was given."""
+    _raises(outcome.fault, outcome.part, outcome.other_part, outcome.argument, outcome.entry, given, domain)
 
 
-def _answer(call: Callable[..., Any], *arguments: Any) -> bytes:
-    """What a call gives."""
+def _answer(call: Callable[..., Any], *arguments: Any, given: Optional[bytes] = None, domain: Optional[bytes] = None) -> bytes:
+    """What a call gives. The fault may be one of the descriptor, or of the text under a domain, that was given."""
     size = _FIRST_SIZE
     while True:
         output = ctypes.create_string_buffer(size)
@@ -192,11 +213,11 @@ def _answer(call: Callable[..., Any], *arguments: Any) -> bytes:
         if outcome.fault != _TOO_SMALL:
             break
         size = outcome.length
-    _refuse(outcome)
+    _refuse(outcome, given, domain)
 
 
-def _text(call: Callable[..., Any], *arguments: Any) -> str:
-    return _answer(call, *arguments).decode("latin-1")
+def _text(call: Callable[..., Any], *arguments: Any, given: Optional[bytes] = None) -> str:
+    return _answer(call, *arguments, given=given).decode("latin-1")
 
 
 def version() -> str:
@@ -207,61 +228,96 @@ def fault_text(number: int) -> str:
     return _text(_library.sdtool_fault_text, number)
 
 
-def _layout_of(name: str, descriptor: Any) -> bytes:
-    data = _read_layout(name, descriptor)
-    return _answer(_library.sdtool_normalize, data, len(data))
+def _in(data: Optional[bytes]) -> Tuple[Optional[bytes], int]:
+    """Two arguments of a call: bytes of the door, or none."""
+    return data, 0 if data is None else len(data)
+
+
+def lay(descriptor: Any, data: bytes) -> bool:
+    return _data.fill(descriptor, data)
+
+
+def layout(descriptor: Any) -> Any:
+    return _data.of(descriptor)
 
 
 def _descriptor_of(data: bytes) -> Any:
     descriptor = object.__new__(_descriptor_type)
-    _set_data(descriptor, data)
-    _set_found(descriptor, None)
+    _data.put(descriptor, data)
     return descriptor
 
 
+def _normal(data: bytes) -> bytes:
+    return _answer(_library.sdtool_normalize, *_in(data), given=data)
+
+
 def normalize(descriptor: Any) -> bytes:
-    return _layout_of("descriptor", descriptor)
+    return _normal(_read_layout("descriptor", descriptor))
 
 
-def from_sddl(text: str, domain: Any) -> bytes:
-    spelled, of = _read_text("text", text), _read_sid("domain", domain)
-    return _answer(_library.sdtool_from_sddl, spelled, len(spelled), of, len(of))
+def from_sddl(text: Any, domain: Any) -> bytes:
+    given, of = _read_text("text", text), _read_sid("domain", domain)
+    return _answer(_library.sdtool_from_sddl, *_in(given), *_in(of), given=given, domain=of)
 
 
-def descriptor_of_sddl(text: str, domain: Any) -> Any:
+def descriptor_of_sddl(text: Any, domain: Any) -> Any:
     return _descriptor_of(from_sddl(text, domain))
 
 
 def descriptor_of_bytes(data: Any) -> Any:
-    return _descriptor_of(_layout_of("data", data))
+    return _descriptor_of(_normal(_read_layout("data", data)))
+
+
+def _print(call: Callable[..., Any], descriptor: Any, domain: Any, numeric: bool) -> str:
+    data = _read_layout("descriptor", descriptor)
+    return _text(call, *_in(data), *_in(_read_sid("domain", domain)), numeric, given=data)
 
 
 def to_sddl(descriptor: Any, domain: Any, numeric: bool) -> str:
-    data, of = _read_layout("descriptor", descriptor), _read_sid("domain", domain)
-    return _text(_library.sdtool_to_sddl, data, len(data), of, len(of), numeric)
+    return _print(_library.sdtool_to_sddl, descriptor, domain, numeric)
 
 
 def explain(descriptor: Any, domain: Any, numeric: bool) -> str:
-    data, of = _read_layout("descriptor", descriptor), _read_sid("domain", domain)
-    return _text(_library.sdtool_explain, data, len(data), of, len(of), numeric)
+    return _print(_library.sdtool_explain, descriptor, domain, numeric)
 
 
-def derive(parent: bytes, creator: bytes, owner: bytes, group: bytes, kind: int, mapping: int) -> bytes:
-    return _answer(_library.sdtool_derive, parent, len(parent), creator, len(creator), owner, len(owner), group, len(group),
-                   kind, mapping)
+def derive(parent: bytes, creator: Optional[bytes], owner: bytes, group: bytes, kind: int, mapping: int) -> bytes:
+    return _answer(_library.sdtool_derive, *_in(parent), *_in(creator), *_in(owner), *_in(group), kind, mapping, given=parent)
 
 
-def sid_from_text(text: str, domain: bytes) -> bytes:
-    spelled = _read_text("text", text)
-    return _answer(_library.sdtool_sid_from_text, spelled, len(spelled), domain, len(domain))
+def origins(parent: bytes, creator: Optional[bytes], owner: bytes, group: bytes, kind: int, mapping: int) -> Tuple[bytes, bytes]:
+    """The origins of the SACL's and of the DACL's ACEs, as struct sdtool_origin has them."""
+    sacl, dacl = (_Origin * _MOST_DERIVED_ACES)(), (_Origin * _MOST_DERIVED_ACES)()
+    told = _library.sdtool_derive_origins(*_in(parent), *_in(creator), *_in(owner), *_in(group), kind, mapping,
+                                          sacl, len(sacl), dacl, len(dacl))
+    if told.fault != _OK:
+        _refuse(told)
+    size = ctypes.sizeof(_Origin)
+    return ctypes.string_at(sacl, size * told.sacl_count), ctypes.string_at(dacl, size * told.dacl_count)
 
 
-def sid_to_text(sid: bytes, domain: bytes, numeric: bool) -> str:
-    return _text(_library.sdtool_sid_to_text, sid, len(sid), domain, len(domain), numeric)
+def sid_from_text(text: str, domain: Optional[bytes]) -> bytes:
+    return _answer(_library.sdtool_sid_from_text, *_in(_read_text("text", text)), *_in(domain))
+
+
+def sid_to_text(sid: bytes, domain: Optional[bytes], numeric: bool) -> str:
+    return _text(_library.sdtool_sid_to_text, *_in(sid), *_in(domain), numeric)
 
 
 def is_one_sid(value: bytes) -> bool:
     return bool(value) and _library.sdtool_sid_size(value, len(value)) == len(value)
+
+
+def place(data: bytes) -> Optional[Tuple[int, ...]]:
+    return _place(_library.sdtool_place(*_in(data)))
+
+
+def sddl_place(text: bytes, domain: Optional[bytes]) -> Optional[Tuple[int, ...]]:
+    return _place(_library.sdtool_sddl_place(*_in(text), *_in(domain)))
+
+
+def _place(found: Any) -> Optional[Tuple[int, ...]]:
+    return None if found.fault == _OK else (found.part, found.ace, found.field, found.place.offset, found.place.size)
 
 
 def run(words: bytes, data: bytes) -> Tuple[int, bytes, bytes]:
@@ -289,10 +345,18 @@ def token(sids: bytes, entries: bytes) -> Any:
     return (numbers, size), given
 
 
-def question(token: Any, object_type: bytes, principal_self: bytes, wanted: int, mapping: int, level: int, has_level: bool,
-             maximum: bool, security: bool, take_ownership: bool) -> Any:
-    return token, (object_type, len(object_type), principal_self, len(principal_self),
+def question(token: Any, object_type: Optional[bytes], principal_self: Optional[bytes], wanted: int, mapping: int, level: int,
+             has_level: bool, maximum: bool, security: bool, take_ownership: bool) -> Any:
+    return token, (*_in(object_type), *_in(principal_self),
                    _Request(wanted, mapping, level, has_level, maximum, security, take_ownership))
+
+
+def ask(checker: Any, question: Any) -> bool:
+    return _question.fill(checker, question)
+
+
+def asked(checker: Any) -> Any:
+    return _question.of(checker)
 
 
 def check(question: Any, descriptor: Any) -> Any:
@@ -300,7 +364,7 @@ def check(question: Any, descriptor: Any) -> Any:
     (numbers, _), asked = question
     verdict = _library.sdtool_check_with(data, len(data), *numbers, *asked)
     if verdict.fault != _OK:
-        _refuse(verdict)
+        _refuse(verdict, data)
     return _verdict_of(verdict)
 
 
@@ -308,16 +372,30 @@ def _verdict_of(verdict: Any) -> Any:
     return tuple.__new__(_verdict_type, (verdict.granted, verdict.mask))
 
 
-def check_many(question: Any, descriptors: Tuple[Any, ...]) -> List[Any]:
-    count = len(descriptors)
-    given = (_Bytes * count)(*(_given(_read_layout("descriptors", descriptor)) for descriptor in descriptors))
+def check_many(question: Any, descriptors: Iterable[Any]) -> List[Any]:
+    layouts = [_read_layout("descriptors", descriptor) for descriptor in descriptors]  # each when it is taken
+    count = len(layouts)
+    given = (_Bytes * count)(*[_given(data) for data in layouts])
     verdicts = (_Verdict * count)()
     (_, sids), asked = question
     outcome = _library.sdtool_check_many(given, count, *sids, *asked, verdicts, count)
     if outcome.fault != _OK:
         _refuse(outcome)
     return [_verdict_of(verdict) if verdict.fault == _OK else
-            _fault_of(verdict.fault, verdict.part, verdict.other_part, verdict.argument, verdict.entry) for verdict in verdicts]
+            _fault_of(verdict.fault, verdict.part, verdict.other_part, verdict.argument, verdict.entry, data, None)
+            for verdict, data in zip(verdicts, layouts)]
+
+
+def reasons(question: Any, descriptor: Any) -> bytes:
+    """The reasons for all rights, as struct sdtool_reason has them."""
+    data = _read_layout("descriptor", descriptor)
+    (numbers, _), (*asked, request) = question
+    asker = _Asker(request.mapping, request.level, request.has_level, request.security, request.take_ownership)
+    told = (_Reason * _RIGHTS)()
+    outcome = _library.sdtool_reasons_with(data, len(data), *numbers, *asked, asker, told)
+    if outcome.fault != _OK:
+        _refuse(outcome, data)
+    return bytes(told)
 
 
 def _part_at(data: bytes, place: Any) -> Optional[bytes]:
@@ -334,16 +412,17 @@ def _guid_at(data: bytes, place: Any) -> Any:
     return found and _read_guid(found)
 
 
-def parts(descriptor: Layout) -> Tuple[Any, ...]:
-    if descriptor._found is not None:
-        return descriptor._found
-    data = descriptor._data
+def parts(descriptor: Any) -> Tuple[Any, ...]:
+    answer: Optional[Tuple[Any, ...]] = _found.of(descriptor)
+    if answer is not None:
+        return answer
+    data = _read_layout("descriptor", descriptor)
     found = _library.sdtool_parts(data, len(data))
     if found.fault != _OK:
-        _raises(found.fault, found.part, found.other_part, 0, 0)
+        _raises(found.fault, found.part, found.other_part, 0, 0, data, None)
     answer = (found.control, found.resource_manager, _sid_at(data, found.owner), _sid_at(data, found.group),
               _acl_at(data, found.sacl), _acl_at(data, found.dacl))
-    _set_found(descriptor, answer)
+    _found.put(descriptor, answer)
     return answer
 
 
@@ -351,17 +430,30 @@ def _acl_at(data: bytes, place: Any) -> Any:
     if place.state != _LIST:
         return _acl_null if place.state == _NULL else _acl_absent
     acl = object.__new__(_acl_type)
-    fill(acl, _LIST, None)
-    _set_bytes(acl, _part_at(data, place.place))
-    _set_count(acl, place.ace_count)
+    _acl.put(acl, (_LIST, None, _part_at(data, place.place), place.ace_count))
     return acl
 
 
-def fill(acl: Entries, state: int, aces: Optional[Tuple[Any, ...]]) -> None:
-    if hasattr(acl, "_state"):
-        raise AttributeError("an ACL that is there cannot be made again")
-    _set_state(acl, state)
-    _set_aces(acl, aces)
+def fill(acl: Any, state: int, aces: Optional[Tuple[Any, ...]]) -> bool:
+    return _acl.fill(acl, (state, aces, None, 0))
+
+
+def state(acl: Any) -> Optional[int]:
+    held = _acl.of(acl)
+    return None if held is None else held[0]
+
+
+def aces(acl: Any) -> Tuple[Any, ...]:
+    held = _acl.of(acl)
+    if held is None:
+        raise not_made(acl)
+    state, found, data, count = held
+    if state != _LIST:
+        _no_list(acl)
+    if found is None:
+        found = _aces_of(data, count)
+        _acl.put(acl, (state, found, None, 0))
+    return tuple(found)
 
 
 def _aces_of(acl: bytes, count: int) -> Tuple[Any, ...]:
@@ -372,7 +464,7 @@ def _aces_of(acl: bytes, count: int) -> Tuple[Any, ...]:
             _kinds[ace.kind], _flags[ace.flags], ace.mask, _sid_at(acl, ace.sid), _guid_at(acl, ace.object_type),
             _guid_at(acl, ace.inherited_object_type))))
     if ace.fault != _OK:
-        _raises(ace.fault, 0, 0, 0, 0)
+        _raises(ace.fault, 0, 0, 0, 0, None, None)
     if len(found) != count:
         raise SystemError("an ACL has another number of ACEs than its descriptor says")
     return tuple(found)
@@ -383,9 +475,9 @@ def _given(data: Optional[bytes]) -> _Bytes:
 
 
 def _new_acl(state: int, aces: Tuple[Any, ...]) -> _NewAcl:
-    found = (_NewAce * len(aces))(*(
+    found = (_NewAce * len(aces))(*[
         _NewAce(_given(sid), _given(object_type), _given(inherited), mask, kind, flags)
-        for kind, flags, mask, sid, object_type, inherited in aces))
+        for kind, flags, mask, sid, object_type, inherited in aces])
     return _NewAcl(found, len(aces), state)
 
 
@@ -394,3 +486,105 @@ def build(control: int, resource_manager: int, owner: Optional[bytes], group: Op
     descriptor = _NewDescriptor(_given(owner), _given(group), _new_acl(sacl_state, sacl), _new_acl(dacl_state, dacl), control,
                                 resource_manager)
     return _answer(_library.sdtool_build, descriptor)
+
+
+# As MOST_KEPT and LARGEST_KEPT of _native.c.
+_MOST_KEPT, _LARGEST_KEPT, _MOST_BYTES = 8192, 1024, 131226
+_FAULTS_OF_CALLS = (70, _TOO_SMALL, _NO_MEMORY)  # and not of a descriptor
+# What adopt_plain() is given.
+_plain_type: Any
+_plain_ace_type: Any
+_plain_kinds: Tuple[Optional[str], ...]
+_plain_absent: str
+_plain_null: str
+_Values = Dict[bytes, Any]
+_Kept = Tuple[_Values, _Values, _Values, _Values]  # of ACLs, ACEs, SIDs and GUIDs
+
+
+def adopt_plain(descriptor: Any, ace: Any, kinds: Tuple[Optional[str], ...], absent: str, null: str) -> None:
+    global _plain_type, _plain_ace_type, _plain_kinds, _plain_absent, _plain_null
+    _plain_type, _plain_ace_type, _plain_kinds, _plain_absent, _plain_null = descriptor, ace, kinds, absent, null
+
+
+def plain(descriptors: Iterable[Any], domain: Optional[bytes], kept: _Kept) -> List[Any]:
+    room = ctypes.create_string_buffer(_MOST_BYTES)
+    return [_plain_answer(descriptor, domain, kept, room) for descriptor in descriptors]  # each when it is taken
+
+
+def _plain_answer(descriptor: Any, domain: Optional[bytes], kept: _Kept, room: Any) -> Any:
+    if issubclass(type(descriptor), str):
+        text = _read_text("descriptors", descriptor)
+        outcome = _library.sdtool_from_sddl(*_in(text), *_in(domain), room, _MOST_BYTES)
+        if outcome.fault != _OK:
+            return _plain_fault(outcome, text, domain)
+        data = ctypes.string_at(room, outcome.length)
+    else:
+        data = _read_layout("descriptors", descriptor)
+    found = _library.sdtool_parts(data, len(data))
+    if found.fault != _OK:
+        return _fault_of(found.fault, found.part, found.other_part, 0, 0, data, None)
+    return tuple.__new__(_plain_type, (
+        _plain_sid(data, found.owner, kept), _plain_sid(data, found.group, kept), _plain_acl(data, found.dacl, kept),
+        _plain_acl(data, found.sacl, kept), found.control, found.resource_manager))
+
+
+def _plain_fault(outcome: Any, text: bytes, domain: Optional[bytes]) -> Any:
+    """The Fault of a text. What is no fault of its is raised."""
+    if outcome.fault in _FAULTS_OF_CALLS:
+        _refuse(outcome)
+    return _fault_of(outcome.fault, outcome.part, outcome.other_part, outcome.argument, outcome.entry, text, domain)
+
+
+def _keep(values: _Values, key: bytes, made: Any) -> Any:
+    """Keeps what bytes say, since the same few are in most descriptors."""
+    if len(key) <= _LARGEST_KEPT:
+        if len(values) >= _MOST_KEPT:
+            values.clear()
+        values[key] = made
+    return made
+
+
+def _plain_acl(data: bytes, acl: Any, kept: _Kept) -> Any:
+    if acl.state != _LIST:
+        return _plain_null if acl.state == _NULL else _plain_absent
+    offset, size = acl.place.offset, acl.place.size
+    key = data[offset:offset + size]
+    made = kept[0].get(key)
+    return _keep(kept[0], key, _plain_aces(key, acl.ace_count, kept)) if made is None else made
+
+
+def _plain_aces(acl: bytes, count: int, kept: _Kept) -> Tuple[Any, ...]:
+    ace = _Ace()
+    found: List[Any] = []
+    while len(found) < count and _library.sdtool_next_ace(acl, len(acl), ace):
+        offset, size = ace.place.offset, ace.place.size
+        key = acl[offset:offset + size]
+        made = kept[1].get(key)
+        found.append(_keep(kept[1], key, _plain_ace(acl, ace, kept)) if made is None else made)
+    if ace.fault != _OK:
+        _raises(ace.fault, 0, 0, 0, 0, None, None)
+    if len(found) < count:
+        raise SystemError("an ACL has fewer ACEs than its descriptor says")
+    return tuple(found)
+
+
+def _plain_ace(acl: bytes, ace: Any, kept: _Kept) -> Any:
+    return tuple.__new__(_plain_ace_type, (
+        _plain_kinds[ace.kind], ace.flags, ace.mask, _plain_sid(acl, ace.sid, kept),
+        _plain_guid(acl, ace.object_type, kept), _plain_guid(acl, ace.inherited_object_type, kept)))
+
+
+def _plain_sid(data: bytes, place: Any, kept: _Kept) -> Any:
+    key = _part_at(data, place)
+    if key is None:
+        return None
+    made = kept[2].get(key)
+    return _keep(kept[2], key, sid_to_text(key, None, True)) if made is None else made
+
+
+def _plain_guid(data: bytes, place: Any, kept: _Kept) -> Any:
+    key = _part_at(data, place)
+    if key is None:
+        return None
+    made = kept[3].get(key)
+    return _keep(kept[3], key, str(_read_guid(key))) if made is None else made

@@ -1,12 +1,12 @@
 """The library, opened once: by _native where that is built, else by ctypes."""
 import functools
-import hashlib
 import os
 import re
 import sys
-from typing import TYPE_CHECKING, NoReturn, Sequence
+from typing import TYPE_CHECKING, NoReturn, Optional, Sequence
 
 from ._errors import ARGUMENT, ArgumentFault, Fault
+from ._places import PARTS, InBytes, InText
 
 try:
     from . import _native as _transport
@@ -16,7 +16,7 @@ except ImportError:
 _VARIABLE = "SDTOOL_LIBRARY"
 _NAMES = {"win32": "sdtool.dll", "cygwin": "sdtool.dll"}
 _NO_MEMORY = 72
-_PARTS = (None, "owner", "group", "sacl", "dacl")
+_OF_BYTES, _OF_TEXTS = range(5, 15), range(20, 31)  # the faults that have a place
 # The arguments of enum sdtool_argument, by the names that they have in Python.
 _ARGUMENTS = (None, "domain", "sids", "deny_only", "object_type", "principal_self", "mapping", "creator", "owner", "group",
               "kind", "number", "sid", "sacl", "dacl", "token")
@@ -28,19 +28,27 @@ def _name_of(number: int) -> str:
     return _transport.fault_text(number)
 
 
-def fault_of(fault: int, part: int, other_part: int, argument: int, entry: int) -> Fault:
-    """The fault of a call, by its numbers."""
-    return Fault(fault, _name_of(fault), _PARTS[part], _PARTS[other_part])
+def fault_of(fault: int, part: int, other_part: int, argument: int, entry: int, given: Optional[bytes],
+             domain: Optional[bytes]) -> Fault:
+    """The fault of a call, by its numbers and what was given, if it has its place there: a descriptor in binary, or a text of
+    SDDL in UTF-8 and the SID of its domain."""
+    found = Fault(fault, _name_of(fault), PARTS[part], PARTS[other_part])
+    if given is not None and fault in _OF_BYTES:
+        found._where = InBytes(given, _transport.place)
+    elif given is not None and fault in _OF_TEXTS:
+        found._where = InText(given, domain, _transport.sddl_place)
+    return found
 
 
-def _raises(fault: int, part: int, other_part: int, argument: int, entry: int) -> NoReturn:
+def _raises(fault: int, part: int, other_part: int, argument: int, entry: int, given: Optional[bytes],
+            domain: Optional[bytes]) -> NoReturn:
     """Raises the fault of a call."""
     if fault == _NO_MEMORY:
         raise MemoryError
     if fault == ARGUMENT:
         name = _ARGUMENTS[argument] if argument < len(_ARGUMENTS) else None
         raise ArgumentFault("this is none that the call takes", name, entry if name in _LISTS else None)
-    raise fault_of(fault, part, other_part, argument, entry)
+    raise fault_of(fault, part, other_part, argument, entry, given, domain)
 
 
 def _places() -> Sequence[str]:
@@ -67,6 +75,7 @@ def _load() -> None:
 
 def digest() -> str:
     """The digest, BLAKE2b of 256 bits, of the file from which this process has the library, as Linux tells it."""
+    import hashlib  # which ends a process of Python 3.12 where interpreters with locks of their own import it
     named = os.path.realpath(os.environ.get(_VARIABLE, ""))
     with open("/proc/self/maps", errors="surrogateescape") as maps:
         path, = {path for path in re.findall("/.*", maps.read()) if path == named or "/libsdtool." in path}
@@ -89,14 +98,26 @@ else:
     to_sddl = _transport.to_sddl
     explain = _transport.explain
     derive = _transport.derive
+    origins = _transport.origins
     run = _transport.run
     token = _transport.token
     question = _transport.question
     check = _transport.check
     check_many = _transport.check_many
+    reasons = _transport.reasons
     sid_from_text = _transport.sid_from_text
     sid_to_text = _transport.sid_to_text
     is_one_sid = _transport.is_one_sid
+    lay = _transport.lay
+    layout = _transport.layout
     parts = _transport.parts
+    place = _transport.place
+    sddl_place = _transport.sddl_place
     fill = _transport.fill
+    state = _transport.state
+    aces = _transport.aces
+    ask = _transport.ask
+    asked = _transport.asked
     build = _transport.build
+    adopt_plain = _transport.adopt_plain
+    plain = _transport.plain

@@ -1,7 +1,6 @@
 /*
  * The calls of sdtool.h for Python, over the limited interface of Python 3.8: built once, it is imported by that and each
- * later version. A function here makes one call of the library. Values of the types that are usual go straight to it. All
- * others, and each that is wrong, go to the functions of the module that adopt() is given.
+ * later version. A function here makes one call of the library, and gets what a caller hands over through the door below.
  *
  * The library is opened when the module asks for it, so that a variable of the environment can name it.
  */
@@ -10,7 +9,6 @@
 #define Py_LIMITED_API 0x03080000
 #endif
 #include <Python.h>
-#include <structmember.h>
 
 #ifdef _WIN32
 #include <windows.h>
@@ -37,6 +35,13 @@ __asm__(".symver dlsym, dlsym@" OLDEST_C_LIBRARY);
 __asm__(".symver dlerror, dlerror@" OLDEST_C_LIBRARY);
 #endif
 
+/*
+ * Python 3.8 and 3.9 have a number of each type's version for types with this flag, and need it for each that another type is
+ * below. Headers of later ones, to which it says nothing, leave it out of the default.
+ */
+#define HAS_VERSION (1UL << 18)
+#define BASE_FLAGS (Py_TPFLAGS_DEFAULT | Py_TPFLAGS_BASETYPE | HAS_VERSION)
+
 enum {
     FIRST_SIZE = 4096,  /* larger answers take a second call */
     LARGE = 2048,       /* other threads of Python run during calls with more input, which take longer than to let them */
@@ -46,15 +51,16 @@ enum {
 
 #define CALLS(EACH)                                                                                                          \
     EACH(version) EACH(normalize) EACH(from_sddl) EACH(to_sddl) EACH(explain) EACH(token_read) EACH(check_with)              \
-    EACH(check_many) EACH(derive)                                                                                            \
-    EACH(run) EACH(fault_text) EACH(sid_from_text) EACH(sid_to_text) EACH(sid_size) EACH(parts) EACH(next_ace) EACH(build)   \
-    EACH(version_number)
+    EACH(check_many) EACH(reasons_with) EACH(derive) EACH(derive_origins)                                                    \
+    EACH(run) EACH(fault_text) EACH(sid_from_text) EACH(sid_to_text) EACH(sid_size) EACH(parts) EACH(place) EACH(next_ace)   \
+    EACH(sddl_place) EACH(build) EACH(version_number)
 
 /* The objects of the module: its own types, and what load() and adopt() are given. */
 #define OBJECTS(EACH)                                                                                                        \
     EACH(layout_type) EACH(entries_type) EACH(asking_type) EACH(plain_sid_type) EACH(refuse) EACH(fault_of) EACH(no_list)    \
-    EACH(read_text) EACH(read_sid) EACH(read_layout) EACH(read_guid) EACH(descriptor_type) EACH(acl_type) EACH(acl_absent)   \
-    EACH(acl_null) EACH(verdict_type) EACH(ace_type) EACH(sid_type) EACH(kinds) EACH(flags)
+    EACH(read_text) EACH(read_sid) EACH(read_layout) EACH(read_only) EACH(read_guid) EACH(descriptor_type) EACH(acl_type)     \
+    EACH(acl_absent) EACH(acl_null) EACH(verdict_type) EACH(ace_type) EACH(sid_type) EACH(kinds) EACH(flags)                 \
+    EACH(plain_type) EACH(plain_ace_type) EACH(plain_kinds) EACH(plain_absent) EACH(plain_null)
 
 #define POINTER(name) __typeof__(sdtool_##name) *name;
 #define OBJECT(name) PyObject *name;
@@ -91,10 +97,45 @@ static struct state *state_for(PyObject *module, Py_ssize_t given, Py_ssize_t wa
     return state;
 }
 
-static PyObject *refused(struct state *state, uint32_t fault, uint32_t part, uint32_t other_part, uint32_t argument,
-                         size_t entry)
+/* Bytes, and the object that holds them, which is the view's own. */
+struct view {
+    PyObject *held;
+    const char *bytes;
+    Py_ssize_t size;
+};
+
+/* What has a fault: a descriptor in binary, or a text of SDDL in UTF-8 and the SID of its domain. */
+struct given {
+    const struct view *input, *domain;
+};
+
+#define NOTHING ((struct given){0})
+#define DESCRIPTOR(view) ((struct given){&(view), NULL})
+#define SDDL(view, domain) ((struct given){&(view), &(domain)})
+
+/* What a function of the module makes of a fault. */
+static PyObject *told(PyObject *function, uint32_t fault, uint32_t part, uint32_t other_part, uint32_t argument, size_t entry,
+                      struct given given)
 {
-    PyObject *nothing = PyObject_CallFunction(state->refuse, "IIIIn", fault, part, other_part, argument, (Py_ssize_t)entry);
+    const struct view none = {0}, *input = given.input == NULL ? &none : given.input;
+    const struct view *domain = given.domain == NULL ? &none : given.domain;
+    PyObject *bytes;
+    if (input->held != NULL && PyBytes_CheckExact(input->held)) {
+        bytes = input->held;
+        Py_INCREF(bytes);
+    } else {
+        bytes = Py_BuildValue("y#", input->bytes, input->size); /* None for no bytes */
+        if (bytes == NULL)
+            return NULL;
+    }
+    return PyObject_CallFunction(function, "IIIInNy#", fault, part, other_part, argument, (Py_ssize_t)entry, bytes,
+                                 domain->bytes, domain->size);
+}
+
+static PyObject *refused(struct state *state, uint32_t fault, uint32_t part, uint32_t other_part, uint32_t argument,
+                         size_t entry, struct given given)
+{
+    PyObject *nothing = told(state->refuse, fault, part, other_part, argument, entry, given);
     if (nothing != NULL) {
         Py_DECREF(nothing);
         PyErr_SetString(PyExc_SystemError, "a fault was not raised");
@@ -102,16 +143,46 @@ static PyObject *refused(struct state *state, uint32_t fault, uint32_t part, uin
     return NULL;
 }
 
-static PyObject *refused_outcome(struct state *state, struct sdtool_outcome outcome)
+static PyObject *refused_outcome(struct state *state, struct sdtool_outcome outcome, struct given given)
 {
-    return refused(state, outcome.fault, outcome.part, outcome.other_part, outcome.argument, outcome.entry);
+    return refused(state, outcome.fault, outcome.part, outcome.other_part, outcome.argument, outcome.entry, given);
 }
 
-/* Bytes, and the object that holds them, which is the view's own. */
-struct view {
-    PyObject *held;
-    const char *bytes;
-    Py_ssize_t size;
+/* Raises what a function of _slots.py says of an object. One that is not made has no module to ask, so that is looked up. */
+static PyObject *refuse_by(const char *function, PyObject *object)
+{
+    PyObject *module = PyImport_ImportModule("sdtool._slots");
+    PyObject *problem = module == NULL ? NULL : PyObject_CallMethod(module, function, "(O)", object);
+    if (problem != NULL)
+        PyErr_SetObject((PyObject *)Py_TYPE(problem), problem);
+    Py_XDECREF(problem);
+    Py_XDECREF(module);
+    return NULL;
+}
+
+/*
+ * One more reference to an object. Py_RETURN_NONE, Py_RETURN_TRUE and Py_RETURN_FALSE of headers from 3.12 on count none, since
+ * these objects never end there; those of older versions do.
+ */
+static PyObject *counted(PyObject *object)
+{
+    Py_INCREF(object);
+    return object;
+}
+
+static void keep(PyObject **place, PyObject *object)
+{
+    PyObject *other = *place;
+    Py_XINCREF(object);
+    *place = object;
+    Py_XDECREF(other);
+}
+
+/* An object that holds the bytes of a descriptor, and what was found in them. Only lay() and parts() set these. */
+struct layout {
+    PyObject_HEAD
+    PyObject *data; /* NULL in an object that is not made */
+    PyObject *found;
 };
 
 #define BYTES(view) (const uint8_t *)(view).bytes, (size_t)(view).size
@@ -122,34 +193,60 @@ static void view_ends(struct view *view)
     view->held = NULL;
 }
 
-/* Shows the bytes of an object that has them, and takes it over. */
+static struct sdtool_bytes bytes_of(struct view view)
+{
+    struct sdtool_bytes bytes = {BYTES(view)};
+    return bytes;
+}
+
+/*
+ * The door. The functions from here to the end of the door are the only ones that look at an object of a caller. They take one of
+ * the exact type as it is, which nobody can have changed: bytes, a str, a Sid that is a SID, a SecurityDescriptor that is made.
+ * All others, and each that is wrong, go to the functions of _arguments.py that adopt() is given, which give bytes or
+ * refuse. So both ways to the library have the same rules.
+ */
+
+/* Shows the bytes of an object that has them by its very type, and takes the object over. */
 static bool view_held(struct view *view, PyObject *held)
 {
     char *bytes = NULL;
-    if (held == NULL || PyBytes_AsStringAndSize(held, &bytes, &view->size) < 0) {
-        Py_XDECREF(held);
-        return false;
+    if (held != NULL && PyBytes_AsStringAndSize(held, &bytes, &view->size) == 0) {
+        view->held = held;
+        view->bytes = bytes;
+        return true;
     }
-    view->held = held;
-    view->bytes = bytes;
-    return true;
+    Py_XDECREF(held);
+    return false;
 }
 
-/* Bytes, or None for no bytes. */
+/* Bytes that the door has given, or None for no bytes. */
 static bool view_bytes(struct view *view, PyObject *object)
 {
     *view = (struct view){0};
     if (object == Py_None)
         return true;
+    if (!PyBytes_CheckExact(object)) {
+        PyErr_SetString(PyExc_SystemError, "no bytes of the door");
+        return false;
+    }
     Py_INCREF(object);
     return view_held(view, object);
 }
 
-/* A text. One that is not in UTF-8, as half of a surrogate pair, is for read_text, as is what is no text. */
+/* What a function of the door makes of an argument. */
+static bool view_read(struct view *view, PyObject *reader, const char *name, PyObject *object)
+{
+    PyObject *found = PyObject_CallFunction(reader, "sO", name, object);
+    bool is_seen = found != NULL && view_bytes(view, found);
+    Py_XDECREF(found);
+    return is_seen;
+}
+
+/* A text. One that is not in UTF-8, as half of a surrogate pair, is for the module. */
 static bool view_text(struct state *state, struct view *view, PyObject *text)
 {
     *view = (struct view){0};
-    if (PyUnicode_Check(text)) {
+    if (PyUnicode_CheckExact(text)) {
         view->bytes = PyUnicode_AsUTF8AndSize(text, &view->size);
         if (view->bytes != NULL) {
             Py_INCREF(text);
@@ -158,36 +255,65 @@ static bool view_text(struct state *state, struct view *view, PyObject *text)
         }
         PyErr_Clear();
     }
-    return view_held(view, PyObject_CallFunction(state->read_text, "sO", "text", text));
+    return view_read(view, state->read_text, "text", text);
 }
 
 /* A SID or None. */
 static bool view_sid(struct state *state, struct view *view, PyObject *sid, const char *name)
 {
-    if (sid == Py_None || (PyObject *)Py_TYPE(sid) == state->sid_type)
-        return view_bytes(view, sid);
     *view = (struct view){0};
-    return view_held(view, PyObject_CallFunction(state->read_sid, "sO", name, sid));
+    if (sid == Py_None)
+        return true;
+    if ((PyObject *)Py_TYPE(sid) == state->sid_type) {
+        Py_INCREF(sid);
+        if (!view_held(view, sid))
+            return false;
+        if (view->size > 0 && state->library.sid_size(BYTES(*view)) == (size_t)view->size)
+            return true;
+        view_ends(view);
+    }
+    return view_read(view, state->read_sid, name, sid);
 }
 
-static struct sdtool_bytes bytes_of(struct view view)
+/* The bytes of a descriptor. */
+static bool view_layout(struct state *state, struct view *view, PyObject *descriptor, const char *name)
 {
-    struct sdtool_bytes bytes = {BYTES(view)};
-    return bytes;
+    if (PyBytes_CheckExact(descriptor))
+        return view_bytes(view, descriptor);
+    if ((PyObject *)Py_TYPE(descriptor) == state->descriptor_type && ((struct layout *)descriptor)->data != NULL)
+        return view_bytes(view, ((struct layout *)descriptor)->data);
+    return view_read(view, state->read_layout, name, descriptor);
 }
 
-static bool number(PyObject *object, uint32_t *found)
+/* The one argument of a call, which the caller owns. */
+static PyObject *only_argument(struct state *state, PyObject *given, PyObject *named, const char *name)
 {
-    unsigned long value = PyLong_AsUnsignedLong(object);
-    if (value == (unsigned long)-1 && PyErr_Occurred())
-        return false;
-    if (value > UINT32_MAX) {
-        PyErr_SetString(PyExc_OverflowError, "more than 32 bits");
+    PyObject *none, *found;
+    if (named == NULL && PyTuple_Size(given) == 1) {
+        return counted(PyTuple_GetItem(given, 0));
+    }
+    none = named == NULL ? PyDict_New() : NULL;
+    if (named == NULL && none == NULL)
+        return NULL;
+    found = PyObject_CallFunction(state->read_only, "sOO", name, given, named == NULL ? none : named);
+    Py_XDECREF(none);
+    return found;
+}
+
+/* A number that the door has given, of so many at most. */
+static bool number(PyObject *object, uint32_t most, uint32_t *found)
+{
+    bool is_exact = PyLong_CheckExact(object);
+    unsigned long value = is_exact ? PyLong_AsUnsignedLong(object) : 0;
+    if (!is_exact || PyErr_Occurred() || value > most) {
+        PyErr_SetString(PyExc_SystemError, "no number of the door");
         return false;
     }
     *found = (uint32_t)value;
     return true;
 }
+
+/* The end of the door. */
 
 static PyObject *as_bytes(const uint8_t *bytes, size_t size)
 {
@@ -201,9 +327,9 @@ static PyObject *as_text(const uint8_t *bytes, size_t size)
 
 /*
  * Sets ANSWER to what CALL, an expression in which OUTPUT and SIZE are the room for its output, gives as an object made by
- * AS, or to NULL. INPUT is the size of what it reads.
+ * AS, or to NULL. INPUT is the size of what it reads, and GIVEN what its fault is about, a struct given.
  */
-#define ASK(ANSWER, CALL, INPUT, AS)                                                                                         \
+#define ASK(ANSWER, CALL, INPUT, AS, GIVEN)                                                                                      \
     do {                                                                                                                     \
         uint8_t first[FIRST_SIZE], *output = first;                                                                          \
         size_t size = sizeof first;                                                                                          \
@@ -222,17 +348,10 @@ static PyObject *as_text(const uint8_t *bytes, size_t size)
         }                                                                                                                    \
         ANSWER = output == NULL             ? PyErr_NoMemory()                                                               \
                  : outcome.fault == SDTOOL_OK ? AS(output, outcome.length)                                                   \
-                                              : refused_outcome(state, outcome);                                             \
+                                              : refused_outcome(state, outcome, GIVEN);                                      \
         if (output != first)                                                                                                 \
             free(output);                                                                                                    \
     } while (0)
-
-/* An object of one attribute that Python's code does not set again, the bytes of a descriptor, and of what was found in it. */
-struct layout {
-    PyObject_HEAD
-    PyObject *data;
-    PyObject *found;
-};
 
 static void free_object(PyObject *self)
 {
@@ -247,6 +366,33 @@ static PyObject *new_object(PyObject *type, Py_ssize_t items)
     return ((allocfunc)PyType_GetSlot((PyTypeObject *)type, Py_tp_alloc))((PyTypeObject *)type, items);
 }
 
+/*
+ * A tuple of a class, of items that it takes over. If one of them is NULL, there is no tuple. From the moment on at which Python
+ * knows a new tuple, others find it, as by gc.get_objects(): so its items are made before, and nothing runs until it has them.
+ */
+static PyObject *tuple_of(PyObject *type, PyObject **items, Py_ssize_t count)
+{
+    PyObject *tuple = NULL;
+    Py_ssize_t index, whole = 0;
+    while (whole < count && items[whole] != NULL)
+        whole++;
+    if (whole == count)
+        tuple = type == NULL ? PyTuple_New(count) : new_object(type, count);
+    for (index = 0; index < count; index++)
+        if (tuple == NULL)
+            Py_XDECREF(items[index]);
+        else
+            PyTuple_SetItem(tuple, index, items[index]);
+    return tuple;
+}
+
+/* Keeps an item of a tuple to make; says whether it is there. */
+static bool put(PyObject **place, PyObject *item)
+{
+    *place = item;
+    return item != NULL;
+}
+
 static void layout_ends(PyObject *self)
 {
     Py_XDECREF(((struct layout *)self)->data);
@@ -254,18 +400,11 @@ static void layout_ends(PyObject *self)
     free_object(self);
 }
 
-static PyMemberDef LAYOUT_MEMBERS[] = {
-    {"_data", T_OBJECT_EX, offsetof(struct layout, data), 0, NULL},
-    {"_found", T_OBJECT, offsetof(struct layout, found), 0, NULL},
-    {NULL, 0, 0, 0, NULL},
-};
 static PyType_Slot LAYOUT_SLOTS[] = {
     {Py_tp_dealloc, layout_ends},
-    {Py_tp_members, LAYOUT_MEMBERS},
     {0, NULL},
 };
-static PyType_Spec LAYOUT = {"sdtool._native.Layout", sizeof(struct layout), 0, Py_TPFLAGS_DEFAULT | Py_TPFLAGS_BASETYPE,
-                             LAYOUT_SLOTS};
+static PyType_Spec LAYOUT = {"sdtool._native.Layout", sizeof(struct layout), 0, BASE_FLAGS, LAYOUT_SLOTS};
 
 /* A descriptor of the bytes of its layout, which it takes over. */
 static PyObject *descriptor_of(struct state *state, PyObject *data)
@@ -278,21 +417,43 @@ static PyObject *descriptor_of(struct state *state, PyObject *data)
     return descriptor;
 }
 
-/* The bytes of a descriptor: those of an object, bytes, or what read_layout makes of it. */
-static bool view_layout(struct state *state, struct view *view, PyObject *descriptor, const char *name)
+/* Whether an object is of a type of this module, which its __init__ or one below it is for. */
+static bool is_of(PyObject *object, PyObject *type)
 {
-    *view = (struct view){0};
-    if (PyBytes_Check(descriptor))
-        return view_bytes(view, descriptor);
-    if (PyObject_TypeCheck(descriptor, (PyTypeObject *)state->layout_type)) {
-        PyObject *data = ((struct layout *)descriptor)->data;
-        if (data == NULL) {
-            PyErr_Format(PyExc_TypeError, "%s has no layout: its __init__ was not called", name);
-            return false;
-        }
-        return view_bytes(view, data);
+    if (PyObject_TypeCheck(object, (PyTypeObject *)type))
+        return true;
+    refuse_by("another_type", object);
+    return false;
+}
+
+/* Lets a descriptor have its bytes, once. */
+static PyObject *lay(PyObject *module, PyObject *const *given, Py_ssize_t count)
+{
+    struct state *state = state_for(module, count, 2);
+    struct layout *layout;
+    if (state == NULL || !is_of(given[0], state->layout_type))
+        return NULL;
+    if (!PyBytes_CheckExact(given[1])) {
+        PyErr_SetString(PyExc_SystemError, "no bytes of the door");
+        return NULL;
     }
-    return view_held(view, PyObject_CallFunction(state->read_layout, "sO", name, descriptor));
+    layout = (struct layout *)given[0];
+    if (layout->data != NULL)
+        return counted(Py_False);
+    keep(&layout->data, given[1]);
+    return counted(Py_True);
+}
+
+static PyObject *layout(PyObject *module, PyObject *descriptor)
+{
+    struct state *state = state_of(module);
+    PyObject *data;
+    if (state == NULL || !is_of(descriptor, state->layout_type))
+        return NULL;
+    data = ((struct layout *)descriptor)->data;
+    if (data == NULL)
+        return counted(Py_None);
+    return counted(data);
 }
 
 static PyObject *version(PyObject *module, PyObject *nothing)
@@ -302,7 +463,7 @@ static PyObject *version(PyObject *module, PyObject *nothing)
     (void)nothing;
     if (state == NULL)
         return NULL;
-    ASK(answer, state->library.version(output, size), 0, as_text);
+    ASK(answer, state->library.version(output, size), 0, as_text, NOTHING);
     return answer;
 }
 
@@ -311,9 +472,9 @@ static PyObject *fault_text(PyObject *module, PyObject *argument)
     struct state *state = state_of(module);
     uint32_t fault;
     PyObject *answer;
-    if (state == NULL || !number(argument, &fault))
+    if (state == NULL || !number(argument, UINT32_MAX, &fault))
         return NULL;
-    ASK(answer, state->library.fault_text(fault, output, size), 0, as_text);
+    ASK(answer, state->library.fault_text(fault, output, size), 0, as_text, NOTHING);
     return answer;
 }
 
@@ -324,7 +485,7 @@ static PyObject *normalize(PyObject *module, PyObject *argument)
     PyObject *answer;
     if (state == NULL || !view_layout(state, &data, argument, "descriptor"))
         return NULL;
-    ASK(answer, state->library.normalize(BYTES(data), output, size), data.size, as_bytes);
+    ASK(answer, state->library.normalize(BYTES(data), output, size), data.size, as_bytes, DESCRIPTOR(data));
     view_ends(&data);
     return answer;
 }
@@ -337,7 +498,8 @@ static PyObject *layout_of_text(struct state *state, PyObject *const *given)
     if (!view_text(state, &text, given[0]))
         return NULL;
     if (view_sid(state, &domain, given[1], "domain")) {
-        ASK(answer, state->library.from_sddl(BYTES(text), BYTES(domain), output, size), text.size, as_bytes);
+        ASK(answer, state->library.from_sddl(BYTES(text), BYTES(domain), output, size), text.size, as_bytes,
+            SDDL(text, domain));
         view_ends(&domain);
     }
     view_ends(&text);
@@ -363,7 +525,7 @@ static PyObject *descriptor_of_bytes(PyObject *module, PyObject *const *given, P
     PyObject *answer;
     if (state == NULL || !view_layout(state, &data, given[0], "data"))
         return NULL;
-    ASK(answer, state->library.normalize(BYTES(data), output, size), data.size, as_bytes);
+    ASK(answer, state->library.normalize(BYTES(data), output, size), data.size, as_bytes, DESCRIPTOR(data));
     view_ends(&data);
     return descriptor_of(state, answer);
 }
@@ -380,7 +542,8 @@ static PyObject *descriptor_of_bytes(PyObject *module, PyObject *const *given, P
             return NULL;                                                                                                     \
         numeric = given[2] == Py_True;                                                                                       \
         if (view_sid(state, &domain, given[1], "domain")) {                                                                  \
-            ASK(answer, state->library.NAME(BYTES(data), BYTES(domain), numeric, output, size), data.size, as_text);               \
+            ASK(answer, state->library.NAME(BYTES(data), BYTES(domain), numeric, output, size), data.size, as_text,            \
+                DESCRIPTOR(data));                                                                                            \
             view_ends(&domain);                                                                                              \
         }                                                                                                                    \
         view_ends(&data);                                                                                                    \
@@ -389,22 +552,78 @@ static PyObject *descriptor_of_bytes(PyObject *module, PyObject *const *given, P
 SHOW(to_sddl)
 SHOW(explain)
 
+/* What a new object's descriptor is made of: the folder's, the creator's, the owner, the group and two numbers. */
+struct derivation {
+    struct view views[4];
+    int seen;
+    uint32_t kind, mapping;
+};
+
+static bool view_derivation(struct derivation *asked, PyObject *const *given)
+{
+    asked->seen = 0;
+    while (asked->seen < 4 && view_bytes(&asked->views[asked->seen], given[asked->seen]))
+        asked->seen++;
+    return asked->seen == 4 && number(given[4], UINT32_MAX, &asked->kind) && number(given[5], UINT32_MAX, &asked->mapping);
+}
+
+static void derivation_ends(struct derivation *asked)
+{
+    while (asked->seen > 0)
+        view_ends(&asked->views[--asked->seen]);
+}
+
+#define DERIVATION(asked) BYTES(asked.views[0]), BYTES(asked.views[1]), BYTES(asked.views[2]), BYTES(asked.views[3]), \
+                          asked.kind, asked.mapping
+
 static PyObject *derive(PyObject *module, PyObject *const *given, Py_ssize_t count)
 {
     struct state *state = state_for(module, count, 6);
-    struct view views[4];
-    uint32_t kind, mapping;
-    int seen = 0;
+    struct derivation asked;
     PyObject *answer = NULL;
     if (state == NULL)
         return NULL;
-    while (seen < 4 && view_bytes(&views[seen], given[seen]))
-        seen++;
-    if (seen == 4 && number(given[4], &kind) && number(given[5], &mapping))
-        ASK(answer, state->library.derive(BYTES(views[0]), BYTES(views[1]), BYTES(views[2]), BYTES(views[3]), kind, mapping, output, size),
-            views[0].size + views[1].size, as_bytes);
-    while (seen > 0)
-        view_ends(&views[--seen]);
+    if (view_derivation(&asked, given))
+        ASK(answer, state->library.derive(DERIVATION(asked), output, size), asked.views[0].size + asked.views[1].size, as_bytes,
+            DESCRIPTOR(asked.views[0]));
+    derivation_ends(&asked);
+    return answer;
+}
+
+static PyObject *origins_of(struct state *state, const struct derivation *asked)
+{
+    struct sdtool_origin *cells = malloc(2 * SDTOOL_MOST_DERIVED_ACES * sizeof *cells), *dacl;
+    struct sdtool_origins found;
+    PyObject *answer = NULL;
+    PyThreadState *others;
+    if (cells == NULL)
+        return PyErr_NoMemory();
+    dacl = cells + SDTOOL_MOST_DERIVED_ACES;
+    others = asked->views[0].size + asked->views[1].size > LARGE ? PyEval_SaveThread() : NULL;
+    found = state->library.derive_origins(DERIVATION((*asked)), cells, SDTOOL_MOST_DERIVED_ACES, dacl,
+                                         SDTOOL_MOST_DERIVED_ACES);
+    if (others != NULL)
+        PyEval_RestoreThread(others);
+    if (found.fault == SDTOOL_OK)
+        answer = Py_BuildValue("(NN)", PyBytes_FromStringAndSize((char *)cells, (Py_ssize_t)(found.sacl_count * sizeof *cells)),
+                               PyBytes_FromStringAndSize((char *)dacl, (Py_ssize_t)(found.dacl_count * sizeof *cells)));
+    free(cells);
+    return found.fault == SDTOOL_OK ? answer
+                                   : refused(state, found.fault, found.part, found.other_part, found.argument, found.entry,
+                                             DESCRIPTOR(asked->views[0]));
+}
+
+/* The origins of the SACL's and of the DACL's ACEs, as struct sdtool_origin has them. */
+static PyObject *origins(PyObject *module, PyObject *const *given, Py_ssize_t count)
+{
+    struct state *state = state_for(module, count, 6);
+    struct derivation asked;
+    PyObject *answer = NULL;
+    if (state == NULL)
+        return NULL;
+    if (view_derivation(&asked, given))
+        answer = origins_of(state, &asked);
+    derivation_ends(&asked);
     return answer;
 }
 
@@ -416,7 +635,7 @@ static PyObject *sid_from_text(PyObject *module, PyObject *const *given, Py_ssiz
     if (state == NULL || !view_text(state, &text, given[0]))
         return NULL;
     if (view_bytes(&domain, given[1])) {
-        ASK(answer, state->library.sid_from_text(BYTES(text), BYTES(domain), output, size), 0, as_bytes);
+        ASK(answer, state->library.sid_from_text(BYTES(text), BYTES(domain), output, size), 0, as_bytes, NOTHING);
         view_ends(&domain);
     }
     view_ends(&text);
@@ -433,7 +652,7 @@ static PyObject *sid_to_text(PyObject *module, PyObject *const *given, Py_ssize_
         return NULL;
     numeric = given[2] == Py_True;
     if (view_bytes(&domain, given[1])) {
-        ASK(answer, state->library.sid_to_text(BYTES(sid), BYTES(domain), numeric, output, size), 0, as_text);
+        ASK(answer, state->library.sid_to_text(BYTES(sid), BYTES(domain), numeric, output, size), 0, as_text, NOTHING);
         view_ends(&domain);
     }
     view_ends(&sid);
@@ -450,6 +669,50 @@ static PyObject *is_one_sid(PyObject *module, PyObject *argument)
     is_one = bytes.size > 0 && state->library.sid_size(BYTES(bytes)) == (size_t)bytes.size;
     view_ends(&bytes);
     return PyBool_FromLong(is_one);
+}
+
+/* A place by its numbers: part, ACE, field, offset and size; or None. */
+static PyObject *place_told(struct sdtool_fault_place found)
+{
+    if (found.fault == SDTOOL_OK)
+        return counted(Py_None);
+    return Py_BuildValue("IIInn", found.part, found.ace, found.field, (Py_ssize_t)found.place.offset,
+                         (Py_ssize_t)found.place.size);
+}
+
+/* Where the first fault of a descriptor is. */
+static PyObject *place_of(PyObject *module, PyObject *argument)
+{
+    struct state *state = state_of(module);
+    struct view data;
+    struct sdtool_fault_place found;
+    if (state == NULL || !view_bytes(&data, argument))
+        return NULL;
+    found = state->library.place(BYTES(data));
+    view_ends(&data);
+    return place_told(found);
+}
+
+/* Where the first fault of a text of SDDL is, under the SID of a domain or None. */
+static PyObject *sddl_place(PyObject *module, PyObject *const *given, Py_ssize_t count)
+{
+    struct state *state = state_for(module, count, 2);
+    struct view text, domain;
+    struct sdtool_fault_place found = {0};
+    PyThreadState *others;
+    if (state == NULL || !view_bytes(&text, given[0]))
+        return NULL;
+    if (!view_bytes(&domain, given[1])) {
+        view_ends(&text);
+        return NULL;
+    }
+    others = text.size > LARGE ? PyEval_SaveThread() : NULL;
+    found = state->library.sddl_place(BYTES(text), BYTES(domain));
+    if (others != NULL)
+        PyEval_RestoreThread(others);
+    view_ends(&domain);
+    view_ends(&text);
+    return place_told(found);
 }
 
 static PyObject *run(PyObject *module, PyObject *const *given, Py_ssize_t count)
@@ -526,7 +789,7 @@ static int read_token(struct state *state, struct token *token)
     }
     outcome = state->library.token_read(BYTES(token->sids), BYTES(token->entries), token->words, token->count);
     if (outcome.fault != SDTOOL_OK)
-        refused_outcome(state, outcome);
+        refused_outcome(state, outcome, NOTHING);
     return outcome.fault == SDTOOL_OK;
 }
 
@@ -579,7 +842,8 @@ static PyObject *question(PyObject *module, PyObject *const *given, Py_ssize_t c
     request = &question->request;
     question->token = PyCapsule_GetPointer(given[0], TOKEN);
     if (question->token != NULL && view_bytes(&question->object, given[1]) && view_bytes(&question->principal_self, given[2]) &&
-        number(given[3], &request->wanted) && number(given[4], &request->mapping) && number(given[5], &request->level)) {
+        number(given[3], UINT32_MAX, &request->wanted) && number(given[4], UINT32_MAX, &request->mapping) &&
+        number(given[5], UINT32_MAX, &request->level)) {
         request->has_level = given[6] == Py_True;
         request->maximum = given[7] == Py_True;
         request->security = given[8] == Py_True;
@@ -599,17 +863,9 @@ static PyObject *question(PyObject *module, PyObject *const *given, Py_ssize_t c
 
 static PyObject *verdict_of(struct state *state, struct sdtool_verdict found)
 {
-    PyObject *verdict = new_object(state->verdict_type, 2), *mask, *granted = found.granted ? Py_True : Py_False;
-    if (verdict == NULL)
-        return NULL;
-    mask = PyLong_FromUnsignedLong(found.mask);
+    PyObject *granted = found.granted ? Py_True : Py_False;
     Py_INCREF(granted);
-    /* This takes over the items, also where it fails. */
-    if (PyTuple_SetItem(verdict, 0, granted) < 0 || mask == NULL || PyTuple_SetItem(verdict, 1, mask) < 0) {
-        Py_DECREF(verdict);
-        return NULL;
-    }
-    return verdict;
+    return tuple_of(state->verdict_type, (PyObject *[]){granted, PyLong_FromUnsignedLong(found.mask)}, 2);
 }
 
 static PyObject *verdict_on(struct state *state, const struct question *asked, PyObject *descriptor)
@@ -617,6 +873,7 @@ static PyObject *verdict_on(struct state *state, const struct question *asked, P
     struct view data;
     struct sdtool_verdict verdict;
     PyThreadState *others;
+    PyObject *answer;
     if (!view_layout(state, &data, descriptor, "descriptor"))
         return NULL;
     others = data.size + asked->token->sids.size > LARGE ? PyEval_SaveThread() : NULL;
@@ -624,10 +881,11 @@ static PyObject *verdict_on(struct state *state, const struct question *asked, P
                                         BYTES(asked->principal_self), &asked->request);
     if (others != NULL)
         PyEval_RestoreThread(others);
+    answer = verdict.fault == SDTOOL_OK ? verdict_of(state, verdict)
+                                        : refused(state, verdict.fault, verdict.part, verdict.other_part, verdict.argument,
+                                                  verdict.entry, DESCRIPTOR(data));
     view_ends(&data);
-    return verdict.fault == SDTOOL_OK
-               ? verdict_of(state, verdict)
-               : refused(state, verdict.fault, verdict.part, verdict.other_part, verdict.argument, verdict.entry);
+    return answer;
 }
 
 static PyObject *check(PyObject *module, PyObject *const *given, Py_ssize_t count)
@@ -635,6 +893,32 @@ static PyObject *check(PyObject *module, PyObject *const *given, Py_ssize_t coun
     struct state *state = state_for(module, count, 2);
     const struct question *asked = state == NULL ? NULL : PyCapsule_GetPointer(given[0], QUESTION);
     return asked == NULL ? NULL : verdict_on(state, asked, given[1]);
+}
+
+/* The reasons for all rights, as struct sdtool_reason has them. */
+static PyObject *reasons(PyObject *module, PyObject *const *given, Py_ssize_t count)
+{
+    struct state *state = state_for(module, count, 2);
+    const struct question *asked = state == NULL ? NULL : PyCapsule_GetPointer(given[0], QUESTION);
+    struct sdtool_reason why[SDTOOL_RIGHTS];
+    struct sdtool_asker asker;
+    struct sdtool_outcome outcome;
+    struct view data;
+    PyThreadState *others;
+    PyObject *answer;
+    if (asked == NULL || !view_layout(state, &data, given[1], "descriptor"))
+        return NULL;
+    asker = (struct sdtool_asker){asked->request.mapping, asked->request.level, asked->request.has_level,
+                                  asked->request.security, asked->request.take_ownership};
+    others = data.size + asked->token->sids.size > LARGE ? PyEval_SaveThread() : NULL;
+    outcome = state->library.reasons_with(BYTES(data), asked->token->words, asked->token->count, BYTES(asked->object),
+                                          BYTES(asked->principal_self), &asker, why);
+    if (others != NULL)
+        PyEval_RestoreThread(others);
+    answer = outcome.fault == SDTOOL_OK ? PyBytes_FromStringAndSize((const char *)why, sizeof why)
+                                        : refused_outcome(state, outcome, DESCRIPTOR(data));
+    view_ends(&data);
+    return answer;
 }
 
 /* An object that is called with a descriptor. */
@@ -649,58 +933,139 @@ static void asking_ends(PyObject *self)
     free_object(self);
 }
 
-static PyObject *asking_call(PyObject *self, PyObject *arguments, PyObject *named)
+static PyObject *asking_call(PyObject *self, PyObject *given, PyObject *named)
 {
-    static char *names[] = {"descriptor", NULL};
     PyObject *capsule = ((struct asking *)self)->question, *descriptor, *answer = NULL;
     const struct question *asked;
     struct state *state;
-    if (named == NULL && PyTuple_Size(arguments) == 1)
-        descriptor = PyTuple_GetItem(arguments, 0);
-    else if (!PyArg_ParseTupleAndKeywords(arguments, named, "O:Checker", names, &descriptor))
-        return NULL;
-    if (capsule == NULL) {
-        PyErr_SetString(PyExc_TypeError, "the Checker has no token: its __init__ was not called");
-        return NULL;
-    }
+    if (capsule == NULL)
+        return refuse_by("not_made", self);
     Py_INCREF(capsule);
     asked = PyCapsule_GetPointer(capsule, QUESTION);
     state = asked == NULL ? NULL : state_for(asked->module, 1, 1);
-    if (state != NULL)
+    descriptor = state == NULL ? NULL : only_argument(state, given, named, "descriptor");
+    if (descriptor != NULL)
         answer = verdict_on(state, asked, descriptor);
+    Py_XDECREF(descriptor);
     Py_DECREF(capsule);
     return answer;
 }
 
-static PyMemberDef ASKING_MEMBERS[] = {
-    {"_question", T_OBJECT_EX, offsetof(struct asking, question), 0, NULL},
-    {NULL, 0, 0, 0, NULL},
-};
 static PyType_Slot ASKING_SLOTS[] = {
     {Py_tp_dealloc, asking_ends},
     {Py_tp_call, asking_call},
-    {Py_tp_members, ASKING_MEMBERS},
     {0, NULL},
 };
-static PyType_Spec ASKING = {"sdtool._native.Asking", sizeof(struct asking), 0, Py_TPFLAGS_DEFAULT | Py_TPFLAGS_BASETYPE,
-                             ASKING_SLOTS};
+static PyType_Spec ASKING = {"sdtool._native.Asking", sizeof(struct asking), 0, BASE_FLAGS, ASKING_SLOTS};
+
+/* Lets a checker have its question, once. */
+static PyObject *ask(PyObject *module, PyObject *const *given, Py_ssize_t count)
+{
+    struct state *state = state_for(module, count, 2);
+    struct asking *asking;
+    if (state == NULL || !is_of(given[0], state->asking_type) || PyCapsule_GetPointer(given[1], QUESTION) == NULL)
+        return NULL;
+    asking = (struct asking *)given[0];
+    if (asking->question != NULL)
+        return counted(Py_False);
+    keep(&asking->question, given[1]);
+    return counted(Py_True);
+}
+
+static PyObject *asked(PyObject *module, PyObject *checker)
+{
+    struct state *state = state_of(module);
+    PyObject *question;
+    if (state == NULL || !is_of(checker, state->asking_type))
+        return NULL;
+    question = ((struct asking *)checker)->question;
+    if (question == NULL)
+        return counted(Py_None);
+    return counted(question);
+}
+
+/* Descriptors, each read when it is taken. */
+struct batch {
+    struct view *views;
+    size_t count, room;
+};
+
+static void batch_ends(struct batch *batch)
+{
+    while (batch->count > 0)
+        view_ends(&batch->views[--batch->count]);
+    free(batch->views);
+}
+
+static bool batch_grows(struct batch *batch)
+{
+    size_t room = batch->room == 0 ? 64 : 2 * batch->room;
+    struct view *views;
+    if (batch->count < batch->room)
+        return true;
+    views = room > SIZE_MAX / sizeof *views ? NULL : realloc(batch->views, room * sizeof *views);
+    if (views == NULL) {
+        PyErr_NoMemory();
+        return false;
+    }
+    batch->views = views;
+    batch->room = room;
+    return true;
+}
+
+static bool take_all(struct state *state, struct batch *batch, PyObject *iterable)
+{
+    PyObject *iterator = PyObject_GetIter(iterable), *descriptor;
+    bool is_taken = iterator != NULL;
+    while (is_taken && (descriptor = PyIter_Next(iterator)) != NULL) {
+        is_taken = batch_grows(batch) && view_layout(state, &batch->views[batch->count], descriptor, "descriptors");
+        Py_DECREF(descriptor);
+        batch->count += is_taken;
+    }
+    Py_XDECREF(iterator);
+    return is_taken && !PyErr_Occurred();
+}
 
 /* The verdict, or the Fault, of each of some descriptors. */
-static PyObject *answers_of(struct state *state, const struct sdtool_verdict *verdicts, Py_ssize_t count)
+static PyObject *answers_of(struct state *state, const struct sdtool_verdict *verdicts, const struct batch *batch)
 {
-    PyObject *answers = PyList_New(count);
-    Py_ssize_t index;
-    for (index = 0; answers != NULL && index < count; index++) {
+    PyObject *answers = PyList_New(0);
+    size_t index;
+    for (index = 0; answers != NULL && index < batch->count; index++) {
         struct sdtool_verdict found = verdicts[index];
         PyObject *answer = found.fault == SDTOOL_OK
                                ? verdict_of(state, found)
-                               : PyObject_CallFunction(state->fault_of, "IIIIn", found.fault, found.part, found.other_part,
-                                                       found.argument, (Py_ssize_t)found.entry);
-        if (answer == NULL || PyList_SetItem(answers, index, answer) < 0) {
-            Py_DECREF(answers);
-            answers = NULL;
-        }
+                               : told(state->fault_of, found.fault, found.part, found.other_part, found.argument, found.entry,
+                                      DESCRIPTOR(batch->views[index]));
+        if (answer == NULL || PyList_Append(answers, answer) < 0)
+            Py_CLEAR(answers);
+        Py_XDECREF(answer);
     }
+    return answers;
+}
+
+/* The answers on a batch. */
+static PyObject *answers_on(struct state *state, const struct question *asked, const struct batch *batch)
+{
+    struct sdtool_bytes *descriptors = calloc(batch->count + 1, sizeof *descriptors);
+    struct sdtool_verdict *verdicts = calloc(batch->count + 1, sizeof *verdicts);
+    struct sdtool_outcome outcome;
+    PyObject *answers;
+    size_t index;
+    if (descriptors == NULL || verdicts == NULL) {
+        answers = PyErr_NoMemory();
+    } else {
+        for (index = 0; index < batch->count; index++)
+            descriptors[index] = bytes_of(batch->views[index]);
+        Py_BEGIN_ALLOW_THREADS
+        outcome = state->library.check_many(descriptors, batch->count, BYTES(asked->token->sids), BYTES(asked->token->entries),
+                                            BYTES(asked->object), BYTES(asked->principal_self), &asked->request, verdicts,
+                                            batch->count);
+        Py_END_ALLOW_THREADS
+        answers = outcome.fault == SDTOOL_OK ? answers_of(state, verdicts, batch) : refused_outcome(state, outcome, NOTHING);
+    }
+    free(descriptors);
+    free(verdicts);
     return answers;
 }
 
@@ -708,38 +1073,11 @@ static PyObject *check_many(PyObject *module, PyObject *const *given, Py_ssize_t
 {
     struct state *state = state_for(module, count, 2);
     const struct question *asked = state == NULL ? NULL : PyCapsule_GetPointer(given[0], QUESTION);
-    struct sdtool_bytes *descriptors = NULL;
-    struct sdtool_verdict *verdicts = NULL;
-    struct view *views = NULL;
-    struct sdtool_outcome outcome;
+    struct batch batch = {0};
     PyObject *answers = NULL;
-    Py_ssize_t asked_for = asked == NULL ? -1 : PyTuple_Size(given[1]), seen = 0;
-    if (asked_for < 0)
-        return NULL;
-    descriptors = calloc((size_t)asked_for + 1, sizeof *descriptors);
-    verdicts = calloc((size_t)asked_for + 1, sizeof *verdicts);
-    views = calloc((size_t)asked_for + 1, sizeof *views);
-    if (descriptors == NULL || verdicts == NULL || views == NULL) {
-        PyErr_NoMemory();
-        goto end;
-    }
-    for (; seen < asked_for; seen++) {
-        if (!view_layout(state, &views[seen], PyTuple_GetItem(given[1], seen), "descriptors"))
-            goto end;
-        descriptors[seen] = bytes_of(views[seen]);
-    }
-    Py_BEGIN_ALLOW_THREADS
-    outcome = state->library.check_many(descriptors, (size_t)seen, BYTES(asked->token->sids), BYTES(asked->token->entries),
-                                        BYTES(asked->object), BYTES(asked->principal_self), &asked->request, verdicts,
-                                        (size_t)seen);
-    Py_END_ALLOW_THREADS
-    answers = outcome.fault == SDTOOL_OK ? answers_of(state, verdicts, seen) : refused_outcome(state, outcome);
-end:
-    while (seen > 0)
-        view_ends(&views[--seen]);
-    free(views);
-    free(descriptors);
-    free(verdicts);
+    if (asked != NULL && take_all(state, &batch, given[1]))
+        answers = answers_on(state, asked, &batch);
+    batch_ends(&batch);
     return answers;
 }
 
@@ -756,9 +1094,9 @@ static PyObject *sid_of(struct state *state, const uint8_t *bytes, size_t size)
         hash ^= hash >> 15;
     }
     known = &state->known_sids[hash % KNOWN_SIDS];
-    if (*known != NULL && (size_t)PyBytes_Size(*known) == size && memcmp(PyBytes_AsString(*known), bytes, size) == 0) {
-        Py_INCREF(*known);
-        return *known;
+    if (*known != NULL && (PyObject *)Py_TYPE(*known) == state->sid_type && (size_t)PyBytes_Size(*known) == size &&
+        memcmp(PyBytes_AsString(*known), bytes, size) == 0) {
+        return counted(*known);
     }
     plain = as_bytes(bytes, size);
     arguments = plain == NULL ? NULL : PyTuple_New(1);
@@ -783,7 +1121,7 @@ static PyObject *sid_of(struct state *state, const uint8_t *bytes, size_t size)
 static PyObject *sid_at(struct state *state, const struct view *bytes, struct sdtool_place place)
 {
     if (place.size == 0)
-        Py_RETURN_NONE;
+        return counted(Py_None);
     return sid_of(state, (const uint8_t *)bytes->bytes + place.offset, place.size);
 }
 
@@ -791,14 +1129,8 @@ static PyObject *sid_at(struct state *state, const struct view *bytes, struct sd
 static PyObject *guid_at(struct state *state, const struct view *bytes, struct sdtool_place place)
 {
     if (place.size == 0)
-        Py_RETURN_NONE;
+        return counted(Py_None);
     return PyObject_CallFunction(state->read_guid, "y#", bytes->bytes + place.offset, (Py_ssize_t)place.size);
-}
-
-/* Sets an item of a new tuple, which it takes over. */
-static bool put(PyObject *tuple, Py_ssize_t index, PyObject *item)
-{
-    return item != NULL && PyTuple_SetItem(tuple, index, item) == 0;
 }
 
 static PyObject *entry(PyObject *values, uint8_t number)
@@ -814,62 +1146,65 @@ static PyObject *entry(PyObject *values, uint8_t number)
 
 static PyObject *ace_of(struct state *state, const struct view *acl, const struct sdtool_ace *found)
 {
-    PyObject *ace = new_object(state->ace_type, 6);
-    if (ace != NULL &&
-        !(put(ace, 0, entry(state->kinds, found->kind)) && put(ace, 1, entry(state->flags, found->flags)) &&
-          put(ace, 2, PyLong_FromUnsignedLong(found->mask)) && put(ace, 3, sid_at(state, acl, found->sid)) &&
-          put(ace, 4, guid_at(state, acl, found->object_type)) &&
-          put(ace, 5, guid_at(state, acl, found->inherited_object_type)))) {
-        Py_DECREF(ace);
-        return NULL;
-    }
-    return ace;
+    PyObject *fields[6] = {NULL};
+    bool is_whole = put(&fields[0], entry(state->kinds, found->kind)) && put(&fields[1], entry(state->flags, found->flags)) &&
+                    put(&fields[2], PyLong_FromUnsignedLong(found->mask)) &&
+                    put(&fields[3], sid_at(state, acl, found->sid)) &&
+                    put(&fields[4], guid_at(state, acl, found->object_type)) &&
+                    put(&fields[5], guid_at(state, acl, found->inherited_object_type));
+    (void)is_whole;
+    return tuple_of(state->ace_type, fields, 6);
 }
 
-/* The ACEs of an ACL that has so many. */
-static PyObject *aces_of(struct state *state, const struct view *acl, Py_ssize_t count)
+/* Reads the ACEs of an ACL that has so many; says how many there are. After an error that is less. */
+static Py_ssize_t read_aces(struct state *state, const struct view *acl, PyObject **aces, Py_ssize_t count)
 {
     struct sdtool_ace ace = {0};
-    Py_ssize_t index = 0;
-    PyObject *tuple = PyTuple_New(count);
-    if (tuple == NULL)
-        return NULL;
+    Py_ssize_t seen = 0;
     while (state->library.next_ace(BYTES(*acl), &ace)) {
-        if (index == count || !put(tuple, index, ace_of(state, acl, &ace))) {
-            Py_DECREF(tuple);
-            if (index == count)
-                PyErr_SetString(PyExc_SystemError, "an ACL has more ACEs than its descriptor says");
-            return NULL;
+        if (seen == count) {
+            PyErr_SetString(PyExc_SystemError, "an ACL has more ACEs than its descriptor says");
+            return seen;
         }
-        index++;
+        aces[seen] = ace_of(state, acl, &ace);
+        if (aces[seen] == NULL)
+            return seen;
+        seen++;
     }
-    if (ace.fault == SDTOOL_OK && index == count)
-        return tuple;
-    Py_DECREF(tuple);
     if (ace.fault != SDTOOL_OK)
-        return refused(state, ace.fault, SDTOOL_NO_PART, SDTOOL_NO_PART, 0, 0);
-    PyErr_SetString(PyExc_SystemError, "an ACL has fewer ACEs than its descriptor says");
-    return NULL;
+        refused(state, ace.fault, SDTOOL_NO_PART, SDTOOL_NO_PART, 0, 0, NOTHING);
+    else if (seen < count)
+        PyErr_SetString(PyExc_SystemError, "an ACL has fewer ACEs than its descriptor says");
+    return seen;
+}
+
+/* The ACEs of an ACL that has so many, as a tuple. */
+static PyObject *aces_of(struct state *state, const struct view *acl, Py_ssize_t count)
+{
+    PyObject **aces = calloc((size_t)count + 1, sizeof *aces), *tuple = NULL;
+    Py_ssize_t seen;
+    if (aces == NULL)
+        return PyErr_NoMemory();
+    seen = read_aces(state, acl, aces, count);
+    if (!PyErr_Occurred())
+        tuple = tuple_of(NULL, aces, seen);
+    else
+        while (seen > 0)
+            Py_DECREF(aces[--seen]);
+    free(aces);
+    return tuple;
 }
 
 /* An ACL. Of a list in a descriptor it keeps where it lies, and makes its ACEs when they are asked for. */
 struct entries {
     PyObject_HEAD
-    PyObject *module; /* NULL in an object that is not made yet */
+    PyObject *module; /* NULL in an object that is not made: it has none of the states below */
     PyObject *data;
     PyObject *aces;
     struct sdtool_place place;
     Py_ssize_t count;
     int state; /* one of enum sdtool_acl_state */
 };
-
-static void keep(PyObject **place, PyObject *object)
-{
-    PyObject *other = *place;
-    Py_XINCREF(object);
-    *place = object;
-    Py_XDECREF(other);
-}
 
 /* From Python 3.9 on, an object of a class that was made at run time counts as a reference to the class. */
 static bool counts_classes;
@@ -899,19 +1234,17 @@ static void entries_end(PyObject *self)
 }
 
 /* The ACEs as a tuple. What is no list goes to no_list, which says that. */
-static PyObject *entries_list(PyObject *self, PyObject *nothing)
+static PyObject *entries_list(PyObject *self)
 {
     struct entries *acl = (struct entries *)self;
     struct state *state = acl->module == NULL ? NULL : state_for(acl->module, 1, 1);
     PyObject *aces;
-    (void)nothing;
-    if (state == NULL) {
-        if (acl->module == NULL)
-            PyErr_SetString(PyExc_TypeError, "the ACL was not made: its __init__ was not called");
+    if (acl->module == NULL)
+        return refuse_by("not_made", self);
+    if (state == NULL)
         return NULL;
-    }
     if (acl->state != SDTOOL_ACL_LIST) {
-        aces = PyObject_CallFunction(state->no_list, "O", self);
+        aces = PyObject_CallFunction(state->no_list, "(O)", self);
         Py_XDECREF(aces);
         if (aces != NULL)
             PyErr_SetString(PyExc_SystemError, "an ACL without a list was taken as one");
@@ -927,72 +1260,77 @@ static PyObject *entries_list(PyObject *self, PyObject *nothing)
         view_ends(&whole);
         if (aces == NULL)
             return NULL;
-        keep(&acl->aces, aces);
-        return aces;
+        if (acl->aces == NULL) /* what that ran may have asked for them too */
+            acl->aces = aces;
+        else
+            Py_DECREF(aces);
     }
-    Py_INCREF(acl->aces);
-    return acl->aces;
+    return counted(acl->aces);
 }
 
 static PyObject *entries_iter(PyObject *self)
 {
-    PyObject *aces = entries_list(self, NULL), *iterator = aces == NULL ? NULL : PyObject_GetIter(aces);
+    PyObject *aces = entries_list(self), *iterator = aces == NULL ? NULL : PyObject_GetIter(aces);
     Py_XDECREF(aces);
     return iterator;
 }
 
 static Py_ssize_t entries_length(PyObject *self)
 {
-    PyObject *aces = entries_list(self, NULL);
+    PyObject *aces = entries_list(self);
     Py_ssize_t length = aces == NULL ? -1 : PyTuple_Size(aces);
     Py_XDECREF(aces);
     return length;
 }
 
-static PyMemberDef ENTRIES_MEMBERS[] = {
-    {"_state", T_INT, offsetof(struct entries, state), READONLY, NULL},
-    {NULL, 0, 0, 0, NULL},
-};
-static PyMethodDef ENTRIES_METHODS[] = {
-    {"_list", entries_list, METH_NOARGS, NULL},
-    {NULL, NULL, 0, NULL},
-};
 static PyType_Slot ENTRIES_SLOTS[] = {
     {Py_tp_dealloc, entries_end},
     {Py_tp_traverse, entries_traverse},
     {Py_tp_clear, entries_clear},
     {Py_tp_iter, entries_iter},
     {Py_sq_length, entries_length},
-    {Py_tp_members, ENTRIES_MEMBERS},
-    {Py_tp_methods, ENTRIES_METHODS},
     {0, NULL},
 };
-static PyType_Spec ENTRIES = {"sdtool._native.Entries", sizeof(struct entries), 0,
-                              Py_TPFLAGS_DEFAULT | Py_TPFLAGS_BASETYPE | Py_TPFLAGS_HAVE_GC, ENTRIES_SLOTS};
+static PyType_Spec ENTRIES = {"sdtool._native.Entries", sizeof(struct entries), 0, BASE_FLAGS | Py_TPFLAGS_HAVE_GC, ENTRIES_SLOTS};
 
-/* Makes an ACL of its state and its ACEs, which are None where there is no list. */
+static PyObject *aces(PyObject *module, PyObject *acl)
+{
+    struct state *state = state_of(module);
+    return state == NULL || !is_of(acl, state->entries_type) ? NULL : entries_list(acl);
+}
+
+/* The state of an ACL, or None of one that is not made. */
+static PyObject *state_of_acl(PyObject *module, PyObject *acl)
+{
+    struct state *state = state_of(module);
+    if (state == NULL || !is_of(acl, state->entries_type))
+        return NULL;
+    if (((struct entries *)acl)->module == NULL)
+        return counted(Py_None);
+    return PyLong_FromLong(((struct entries *)acl)->state);
+}
+
+/* Lets an ACL have its state, and its ACEs, which are None where there is no list, once. */
 static PyObject *fill(PyObject *module, PyObject *arguments)
 {
     struct state *state = state_of(module);
-    PyObject *acl, *aces;
+    PyObject *acl, *which, *aces;
     struct entries *entries;
-    int which;
-    if (state == NULL || !PyArg_ParseTuple(arguments, "OiO", &acl, &which, &aces))
+    uint32_t number_of_state;
+    if (state == NULL || !PyArg_ParseTuple(arguments, "OOO", &acl, &which, &aces) || !is_of(acl, state->entries_type) ||
+        !number(which, SDTOOL_ACL_LIST, &number_of_state))
         return NULL;
-    if (!PyObject_TypeCheck(acl, (PyTypeObject *)state->entries_type) || (aces != Py_None && !PyTuple_Check(aces)) ||
-        (which == SDTOOL_ACL_LIST) != (aces != Py_None)) {
-        PyErr_SetString(PyExc_TypeError, "an ACL, its state and a tuple of ACEs or None");
+    if (number_of_state == SDTOOL_ACL_LIST ? !PyTuple_CheckExact(aces) : aces != Py_None) {
+        PyErr_SetString(PyExc_SystemError, "no ACEs of the door");
         return NULL;
     }
     entries = (struct entries *)acl;
-    if (entries->module != NULL) {
-        PyErr_SetString(PyExc_AttributeError, "an ACL that is there cannot be made again");
-        return NULL;
-    }
-    keep(&entries->module, module);
+    if (entries->module != NULL)
+        return counted(Py_False);
+    entries->state = (int)number_of_state;
     keep(&entries->aces, aces == Py_None ? NULL : aces);
-    entries->state = which;
-    Py_RETURN_NONE;
+    keep(&entries->module, module);
+    return counted(Py_True);
 }
 
 /* The ACL that lies at a place of the bytes of a descriptor. */
@@ -1014,6 +1352,18 @@ static PyObject *acl_at(PyObject *module, struct state *state, PyObject *data, s
     return acl;
 }
 
+/* What the library has found in the bytes of a descriptor. */
+static PyObject *contents_of(PyObject *module, struct state *state, const struct view *data, struct sdtool_contents found)
+{
+    PyObject *fields[6] = {NULL};
+    bool is_whole = put(&fields[0], PyLong_FromLong(found.control)) && put(&fields[1], PyLong_FromLong(found.resource_manager)) &&
+                    put(&fields[2], sid_at(state, data, found.owner)) && put(&fields[3], sid_at(state, data, found.group)) &&
+                    put(&fields[4], acl_at(module, state, data->held, found.sacl)) &&
+                    put(&fields[5], acl_at(module, state, data->held, found.dacl));
+    (void)is_whole;
+    return tuple_of(NULL, fields, 6);
+}
+
 /* What is in a descriptor: control, resource manager, owner, group, SACL and DACL. The descriptor keeps it. */
 static PyObject *parts(PyObject *module, PyObject *descriptor)
 {
@@ -1022,98 +1372,352 @@ static PyObject *parts(PyObject *module, PyObject *descriptor)
     struct view data;
     struct sdtool_contents found;
     PyObject *answer;
-    if (state == NULL)
+    if (state == NULL || !is_of(descriptor, state->layout_type))
         return NULL;
-    if (!PyObject_TypeCheck(descriptor, (PyTypeObject *)state->layout_type)) {
-        PyErr_SetString(PyExc_TypeError, "no descriptor");
-        return NULL;
-    }
-    if (layout->found != NULL && layout->found != Py_None) {
-        Py_INCREF(layout->found);
-        return layout->found;
+    if (layout->found != NULL) {
+        return counted(layout->found);
     }
     if (!view_layout(state, &data, descriptor, "descriptor"))
         return NULL;
     found = state->library.parts(BYTES(data));
-    answer = found.fault != SDTOOL_OK
-                 ? refused(state, found.fault, found.part, found.other_part, 0, 0)
-                 : Py_BuildValue("HBNNNN", found.control, found.resource_manager, sid_at(state, &data, found.owner),
-                                 sid_at(state, &data, found.group), acl_at(module, state, data.held, found.sacl),
-                                 acl_at(module, state, data.held, found.dacl));
+    answer = found.fault == SDTOOL_OK ? contents_of(module, state, &data, found)
+                                      : refused(state, found.fault, found.part, found.other_part, 0, 0, DESCRIPTOR(data));
     view_ends(&data);
     if (answer != NULL)
         keep(&layout->found, answer);
     return answer;
 }
 
-/* The fields of an ACE to build. The bytes are those of the objects in a tuple. */
-static bool new_ace(PyObject *fields, struct sdtool_new_ace *ace)
+/* Bytes in a tuple, which holds them. */
+static bool bytes_in(PyObject *tuple, Py_ssize_t index, struct sdtool_bytes *bytes)
 {
-    unsigned char kind, flags;
-    unsigned int mask;
-    PyObject *objects[3];
-    struct view views[3];
-    int each;
-    if (fields == NULL || !PyArg_ParseTuple(fields, "bbIOOO", &kind, &flags, &mask, &objects[0], &objects[1], &objects[2]))
+    struct view view;
+    if (!view_bytes(&view, PyTuple_GetItem(tuple, index)))
         return false;
-    for (each = 0; each < 3; each++) {
-        if (!view_bytes(&views[each], objects[each]))
-            return false;
-        view_ends(&views[each]); /* the tuple holds the object */
-    }
-    ace->kind = kind;
-    ace->flags = flags;
-    ace->mask = mask;
-    ace->sid = bytes_of(views[0]);
-    ace->object_type = bytes_of(views[1]);
-    ace->inherited_object_type = bytes_of(views[2]);
+    *bytes = bytes_of(view);
+    view_ends(&view);
     return true;
 }
 
-/* Reads a tuple of tuples, the fields of ACEs. What it allocates is the caller's to free. */
-static bool new_aces(PyObject *tuple, struct sdtool_new_acl *acl)
+static bool number_in(PyObject *tuple, Py_ssize_t index, uint32_t most, uint32_t *found)
 {
-    Py_ssize_t count = PyTuple_Size(tuple), index;
-    struct sdtool_new_ace *aces;
-    if (count < 0)
+    return number(PyTuple_GetItem(tuple, index), most, found);
+}
+
+static bool is_tuple(PyObject *object, Py_ssize_t count)
+{
+    if (object != NULL && PyTuple_CheckExact(object) && (count < 0 || PyTuple_Size(object) == count))
+        return true;
+    PyErr_SetString(PyExc_SystemError, "no tuple of the door");
+    return false;
+}
+
+/* The fields of an ACE to build. The bytes are those of the objects in a tuple. */
+static bool new_ace(PyObject *fields, struct sdtool_new_ace *ace)
+{
+    uint32_t kind, flags;
+    if (!is_tuple(fields, 6) || !number_in(fields, 0, UINT8_MAX, &kind) || !number_in(fields, 1, UINT8_MAX, &flags) ||
+        !number_in(fields, 2, UINT32_MAX, &ace->mask) || !bytes_in(fields, 3, &ace->sid) ||
+        !bytes_in(fields, 4, &ace->object_type) || !bytes_in(fields, 5, &ace->inherited_object_type))
         return false;
-    aces = calloc((size_t)count + 1, sizeof *aces);
+    ace->kind = (uint8_t)kind;
+    ace->flags = (uint8_t)flags;
+    return true;
+}
+
+/* Reads a state, and a tuple of tuples, the fields of ACEs. What it allocates is the caller's to free. */
+static bool new_acl(PyObject *which, PyObject *tuple, struct sdtool_new_acl *acl)
+{
+    Py_ssize_t index;
+    struct sdtool_new_ace *aces;
+    if (!number(which, SDTOOL_ACL_LIST, &acl->state) || !is_tuple(tuple, -1))
+        return false;
+    acl->ace_count = (size_t)PyTuple_Size(tuple);
+    aces = calloc(acl->ace_count + 1, sizeof *aces);
+    acl->aces = aces;
     if (aces == NULL) {
         PyErr_NoMemory();
         return false;
     }
-    acl->aces = aces;
-    acl->ace_count = (size_t)count;
-    for (index = 0; index < count; index++)
+    for (index = 0; index < (Py_ssize_t)acl->ace_count; index++)
         if (!new_ace(PyTuple_GetItem(tuple, index), &aces[index]))
             return false;
     return true;
 }
 
+/* Control, resource manager, owner, group, the state of the SACL and its ACEs, and those of the DACL, all from the door. */
 static PyObject *build(PyObject *module, PyObject *arguments)
 {
-    struct state *state = state_for(module, 1, 1);
-    PyObject *sacl, *dacl, *owner, *group, *answer = NULL;
+    struct state *state = state_for(module, PyTuple_Size(arguments), 8);
     struct sdtool_new_descriptor descriptor = {0};
-    struct view of_owner = {0}, of_group = {0};
-    unsigned short control;
-    unsigned char resource_manager;
-    if (state == NULL || !PyArg_ParseTuple(arguments, "HbOOIOIO", &control, &resource_manager, &owner, &group,
-                                           &descriptor.sacl.state, &sacl, &descriptor.dacl.state, &dacl))
-        return NULL;
-    if (view_bytes(&of_owner, owner) && view_bytes(&of_group, group) && new_aces(sacl, &descriptor.sacl) &&
-        new_aces(dacl, &descriptor.dacl)) {
-        descriptor.control = control;
-        descriptor.resource_manager = resource_manager;
-        descriptor.owner = bytes_of(of_owner);
-        descriptor.group = bytes_of(of_group);
-        ASK(answer, state->library.build(&descriptor, output, size), 0, as_bytes);
+    uint32_t control, resource_manager;
+    PyObject *answer = NULL;
+    if (state != NULL && number_in(arguments, 0, UINT16_MAX, &control) &&
+        number_in(arguments, 1, UINT8_MAX, &resource_manager) && bytes_in(arguments, 2, &descriptor.owner) &&
+        bytes_in(arguments, 3, &descriptor.group) &&
+        new_acl(PyTuple_GetItem(arguments, 4), PyTuple_GetItem(arguments, 5), &descriptor.sacl) &&
+        new_acl(PyTuple_GetItem(arguments, 6), PyTuple_GetItem(arguments, 7), &descriptor.dacl)) {
+        descriptor.control = (uint16_t)control;
+        descriptor.resource_manager = (uint8_t)resource_manager;
+        ASK(answer, state->library.build(&descriptor, output, size), 0, as_bytes, NOTHING);
     }
-    view_ends(&of_owner);
-    view_ends(&of_group);
     free((void *)descriptor.sacl.aces);
     free((void *)descriptor.dacl.aces);
     return answer;
+}
+
+/*
+ * Many descriptors in plain values: tuples, numbers and texts. What the bytes of an ACL, an ACE, a SID or a GUID say is
+ * made once and kept, since the same few are in most descriptors. The caller holds what is kept, in dicts by the bytes.
+ */
+enum {
+    MOST_KEPT = 8192,    /* a dict of more is emptied */
+    LARGEST_KEPT = 1024, /* bytes */
+    KEPT = 4             /* dicts: of ACLs, ACEs, SIDs and GUIDs */
+};
+
+struct plain {
+    struct state *state;
+    struct view domain;
+    PyObject *acls, *aces, *sids, *guids;
+    uint8_t *room; /* SDTOOL_MOST_BYTES, for the layout of a text */
+};
+
+/* Bytes, a place in them, and what the library has found there: an ACE, the number of ACEs of an ACL, or nothing. */
+struct source {
+    const uint8_t *bytes;
+    struct sdtool_place place;
+    const void *found;
+};
+
+#define AT(source) (source)->bytes + (source)->place.offset, (source)->place.size
+
+/* Makes what bytes say. */
+typedef PyObject *make(const struct plain *plain, const struct source *source);
+
+/* What bytes say, as it was made before, or is made. Where there are none it is None. */
+static PyObject *once(const struct plain *plain, PyObject *kept, make *make, struct source source)
+{
+    PyObject *key, *value;
+    if (source.place.size == 0)
+        return counted(Py_None);
+    if (source.place.size > LARGEST_KEPT)
+        return make(plain, &source);
+    key = as_bytes(AT(&source));
+    value = key == NULL ? NULL : PyDict_GetItemWithError(kept, key);
+    Py_XINCREF(value);
+    if (value == NULL && key != NULL && !PyErr_Occurred()) {
+        value = make(plain, &source);
+        if (value != NULL && PyDict_Size(kept) >= MOST_KEPT)
+            PyDict_Clear(kept);
+        if (value != NULL && PyDict_SetItem(kept, key, value) < 0)
+            Py_CLEAR(value);
+    }
+    Py_XDECREF(key);
+    return value;
+}
+
+static PyObject *make_sid(const struct plain *plain, const struct source *source)
+{
+    uint8_t text[SDTOOL_MOST_SID_TEXT];
+    struct sdtool_outcome outcome = plain->state->library.sid_to_text(AT(source), NULL, 0, true, text, sizeof text);
+    return outcome.fault == SDTOOL_OK ? as_text(text, outcome.length) : refused_outcome(plain->state, outcome, NOTHING);
+}
+
+static PyObject *plain_sid(const struct plain *plain, const uint8_t *bytes, struct sdtool_place place)
+{
+    return once(plain, plain->sids, make_sid, (struct source){bytes, place, NULL});
+}
+
+static PyObject *make_guid(const struct plain *plain, const struct source *source)
+{
+    struct view bytes = {NULL, (const char *)source->bytes, 0};
+    PyObject *guid = guid_at(plain->state, &bytes, source->place), *text = guid == NULL ? NULL : PyObject_Str(guid);
+    Py_XDECREF(guid);
+    return text;
+}
+
+static PyObject *plain_guid(const struct plain *plain, const uint8_t *bytes, struct sdtool_place place)
+{
+    return once(plain, plain->guids, make_guid, (struct source){bytes, place, NULL});
+}
+
+/* An ACE that a walk has found. The bytes are those of its ACL. */
+static PyObject *make_ace(const struct plain *plain, const struct source *source)
+{
+    const struct sdtool_ace *ace = source->found;
+    const uint8_t *acl = source->bytes;
+    PyObject *fields[6] = {NULL};
+    bool is_whole = put(&fields[0], entry(plain->state->plain_kinds, ace->kind)) &&
+                    put(&fields[1], PyLong_FromLong(ace->flags)) &&
+                    put(&fields[2], PyLong_FromUnsignedLong(ace->mask)) &&
+                    put(&fields[3], plain_sid(plain, acl, ace->sid)) &&
+                    put(&fields[4], plain_guid(plain, acl, ace->object_type)) &&
+                    put(&fields[5], plain_guid(plain, acl, ace->inherited_object_type));
+    (void)is_whole;
+    return tuple_of(plain->state->plain_ace_type, fields, 6);
+}
+
+/* Walks through an ACL that has so many ACEs; says how many were made. After an error that is less. */
+static Py_ssize_t plain_walk(const struct plain *plain, const struct source *acl, PyObject **aces, Py_ssize_t count)
+{
+    struct sdtool_ace ace = {0};
+    Py_ssize_t seen = 0;
+    while (seen < count && plain->state->library.next_ace(AT(acl), &ace)) {
+        struct source source = {acl->bytes + acl->place.offset, ace.place, &ace};
+        if (!put(&aces[seen], once(plain, plain->aces, make_ace, source)))
+            return seen;
+        seen++;
+    }
+    if (ace.fault != SDTOOL_OK)
+        refused(plain->state, ace.fault, SDTOOL_NO_PART, SDTOOL_NO_PART, 0, 0, NOTHING);
+    else if (seen < count)
+        PyErr_SetString(PyExc_SystemError, "an ACL has fewer ACEs than its descriptor says");
+    return seen;
+}
+
+/* The ACEs of a list. */
+static PyObject *make_aces(const struct plain *plain, const struct source *source)
+{
+    const uint32_t *number_of_aces = source->found;
+    Py_ssize_t count = (Py_ssize_t)*number_of_aces, seen;
+    PyObject **aces = calloc((size_t)count + 1, sizeof *aces), *tuple = NULL;
+    if (aces == NULL)
+        return PyErr_NoMemory();
+    seen = plain_walk(plain, source, aces, count);
+    if (!PyErr_Occurred())
+        tuple = tuple_of(NULL, aces, seen);
+    else
+        while (seen > 0)
+            Py_DECREF(aces[--seen]);
+    free(aces);
+    return tuple;
+}
+
+static PyObject *plain_acl(const struct plain *plain, const uint8_t *bytes, const struct sdtool_acl_place *acl)
+{
+    if (acl->state == SDTOOL_ACL_LIST)
+        return once(plain, plain->acls, make_aces, (struct source){bytes, acl->place, &acl->ace_count});
+    return counted(acl->state == SDTOOL_ACL_NULL ? plain->state->plain_null : plain->state->plain_absent);
+}
+
+static PyObject *plain_descriptor(const struct plain *plain, const uint8_t *bytes, const struct sdtool_contents *found)
+{
+    PyObject *fields[6] = {NULL};
+    bool is_whole = put(&fields[0], plain_sid(plain, bytes, found->owner)) &&
+                    put(&fields[1], plain_sid(plain, bytes, found->group)) &&
+                    put(&fields[2], plain_acl(plain, bytes, &found->dacl)) &&
+                    put(&fields[3], plain_acl(plain, bytes, &found->sacl)) &&
+                    put(&fields[4], PyLong_FromLong(found->control)) &&
+                    put(&fields[5], PyLong_FromLong(found->resource_manager));
+    (void)is_whole;
+    return tuple_of(plain->state->plain_type, fields, 6);
+}
+
+/* The Fault of a text or of bytes, which are given. What is no fault of theirs is raised. */
+static PyObject *plain_fault(struct state *state, struct sdtool_outcome outcome, struct given given)
+{
+    if (outcome.fault == SDTOOL_ARGUMENT || outcome.fault == SDTOOL_TOO_SMALL || outcome.fault == SDTOOL_NO_MEMORY)
+        return refused_outcome(state, outcome, NOTHING);
+    return told(state->fault_of, outcome.fault, outcome.part, outcome.other_part, outcome.argument, outcome.entry, given);
+}
+
+/* What a text of SDDL, or a descriptor, says. */
+static PyObject *plain_answer(const struct plain *plain, PyObject *given)
+{
+    struct sdtool_outcome outcome = {0};
+    struct sdtool_contents found = {0};
+    struct sdtool_bytes data;
+    struct view view;
+    PyThreadState *others;
+    PyObject *answer;
+    bool is_text = PyUnicode_Check(given);
+    if (!(is_text ? view_text(plain->state, &view, given) : view_layout(plain->state, &view, given, "descriptors")))
+        return NULL;
+    data = bytes_of(view);
+    others = view.size > LARGE ? PyEval_SaveThread() : NULL;
+    if (is_text) {
+        outcome = plain->state->library.from_sddl(BYTES(view), BYTES(plain->domain), plain->room, SDTOOL_MOST_BYTES);
+        data = (struct sdtool_bytes){plain->room, outcome.length};
+    }
+    if (outcome.fault == SDTOOL_OK) {
+        found = plain->state->library.parts(data.bytes, data.size);
+        outcome = (struct sdtool_outcome){.fault = found.fault, .part = found.part, .other_part = found.other_part};
+    }
+    if (others != NULL)
+        PyEval_RestoreThread(others);
+    answer = outcome.fault == SDTOOL_OK ? plain_descriptor(plain, data.bytes, &found)
+                                        : plain_fault(plain->state, outcome,
+                                                      is_text ? SDDL(view, plain->domain) : DESCRIPTOR(view));
+    view_ends(&view);
+    return answer;
+}
+
+/* The answers to what an iterator has. */
+static PyObject *plain_answers(const struct plain *plain, PyObject *descriptors)
+{
+    PyObject *iterator = PyObject_GetIter(descriptors), *answers = iterator == NULL ? NULL : PyList_New(0), *given;
+    while (answers != NULL && (given = PyIter_Next(iterator)) != NULL) {
+        PyObject *answer = plain_answer(plain, given);
+        Py_DECREF(given);
+        if (answer == NULL || PyList_Append(answers, answer) < 0)
+            Py_CLEAR(answers);
+        Py_XDECREF(answer);
+    }
+    if (answers != NULL && PyErr_Occurred())
+        Py_CLEAR(answers);
+    Py_XDECREF(iterator);
+    return answers;
+}
+
+/* Descriptors and texts of SDDL, the SID of a domain or None, and the dicts of what is kept. */
+static PyObject *plain(PyObject *module, PyObject *const *given, Py_ssize_t count)
+{
+    struct plain plain = {.state = state_for(module, count, 3)};
+    PyObject **dicts[KEPT] = {&plain.acls, &plain.aces, &plain.sids, &plain.guids}, *answers = NULL;
+    int each;
+    if (plain.state == NULL || !is_tuple(given[2], KEPT))
+        return NULL;
+    if (plain.state->plain_type == NULL) {
+        PyErr_SetString(PyExc_RuntimeError, "adopt_plain() has to be called first");
+        return NULL;
+    }
+    for (each = 0; each < KEPT; each++) {
+        *dicts[each] = PyTuple_GetItem(given[2], each);
+        if (!PyDict_CheckExact(*dicts[each])) {
+            PyErr_SetString(PyExc_SystemError, "no dict of the module");
+            return NULL;
+        }
+    }
+    if (!view_bytes(&plain.domain, given[1]))
+        return NULL;
+    plain.room = malloc(SDTOOL_MOST_BYTES);
+    answers = plain.room == NULL ? PyErr_NoMemory() : plain_answers(&plain, given[0]);
+    free(plain.room);
+    view_ends(&plain.domain);
+    return answers;
+}
+
+/* Takes the classes of plain values, the names of kinds, and what stands for an ACL that is absent or null. */
+static PyObject *adopt_plain(PyObject *module, PyObject *arguments)
+{
+    struct state *state = state_of(module);
+    PyObject *descriptor, *ace, *kinds, *absent, *null;
+    if (state == NULL || !PyArg_ParseTuple(arguments, "OOOOO", &descriptor, &ace, &kinds, &absent, &null))
+        return NULL;
+    if (!PyType_Check(descriptor) || !PyType_Check(ace) ||
+        !PyType_IsSubtype((PyTypeObject *)descriptor, &PyTuple_Type) ||
+        !PyType_IsSubtype((PyTypeObject *)ace, &PyTuple_Type) || !is_tuple(kinds, BYTE_VALUES)) {
+        if (!PyErr_Occurred())
+            PyErr_SetString(PyExc_TypeError, "these are not the classes of the module");
+        return NULL;
+    }
+    keep(&state->plain_ace_type, ace);
+    keep(&state->plain_kinds, kinds);
+    keep(&state->plain_absent, absent);
+    keep(&state->plain_null, null);
+    keep(&state->plain_type, descriptor);
+    return counted(Py_None);
 }
 
 #ifdef _WIN32
@@ -1181,7 +1785,7 @@ static PyObject *load(PyObject *module, PyObject *arguments)
         return NULL;
     }
     keep(&state->refuse, raises);
-    Py_RETURN_NONE;
+    return counted(Py_None);
 }
 
 static bool is_class(PyObject *object)
@@ -1194,10 +1798,10 @@ static PyObject *adopt(PyObject *module, PyObject *arguments)
 {
     struct state *state = state_of(module);
     PyObject *descriptor, *acl, *absent, *null, *verdict, *ace, *sid, *kinds, *flags;
-    PyObject *fault_of, *no_list, *read_text, *read_sid, *read_layout, *read_guid;
+    PyObject *fault_of, *no_list, *read_text, *read_sid, *read_layout, *read_only, *read_guid;
     if (state == NULL ||
-        !PyArg_ParseTuple(arguments, "OOOOOOOOOOOOOOO", &descriptor, &acl, &absent, &null, &verdict, &ace, &sid, &kinds,
-                          &flags, &fault_of, &no_list, &read_text, &read_sid, &read_layout, &read_guid))
+        !PyArg_ParseTuple(arguments, "OOOOOOOOOOOOOOOO", &descriptor, &acl, &absent, &null, &verdict, &ace, &sid, &kinds, &flags,
+                          &fault_of, &no_list, &read_text, &read_sid, &read_layout, &read_only, &read_guid))
         return NULL;
     if (!is_class(descriptor) || !is_class(acl) || !is_class(verdict) || !is_class(ace) || !is_class(sid) ||
         !PyType_IsSubtype((PyTypeObject *)descriptor, (PyTypeObject *)state->layout_type) ||
@@ -1222,9 +1826,10 @@ static PyObject *adopt(PyObject *module, PyObject *arguments)
     keep(&state->read_text, read_text);
     keep(&state->read_sid, read_sid);
     keep(&state->read_layout, read_layout);
+    keep(&state->read_only, read_only);
     keep(&state->read_guid, read_guid);
     keep(&state->descriptor_type, descriptor);
-    Py_RETURN_NONE;
+    return counted(Py_None);
 }
 
 #define FAST(name) {#name, (PyCFunction)(void (*)(void))name, METH_FASTCALL, NULL}
@@ -1240,24 +1845,36 @@ static PyMethodDef FUNCTIONS[] = {
     FAST(to_sddl),
     FAST(explain),
     FAST(derive),
+    FAST(origins),
     FAST(sid_from_text),
     FAST(sid_to_text),
     {"is_one_sid", is_one_sid, METH_O, NULL},
     FAST(run),
     FAST(token),
     FAST(question),
+    FAST(ask),
+    {"asked", asked, METH_O, NULL},
     FAST(check),
     FAST(check_many),
+    FAST(reasons),
+    FAST(lay),
+    {"layout", layout, METH_O, NULL},
     {"parts", parts, METH_O, NULL},
+    {"place", place_of, METH_O, NULL},
+    FAST(sddl_place),
     {"fill", fill, METH_VARARGS, NULL},
+    {"state", state_of_acl, METH_O, NULL},
+    {"aces", aces, METH_O, NULL},
     {"build", build, METH_VARARGS, NULL},
+    {"adopt_plain", adopt_plain, METH_VARARGS, NULL},
+    FAST(plain),
     {NULL, NULL, 0, NULL},
 };
 
 static int begin(PyObject *module)
 {
     static PyType_Slot nothing[] = {{0, NULL}};
-    static PyType_Spec plain_sid = {"sdtool._native.PlainSid", 0, 0, Py_TPFLAGS_DEFAULT | Py_TPFLAGS_BASETYPE, nothing};
+    static PyType_Spec plain_sid = {"sdtool._native.PlainSid", 0, 0, BASE_FLAGS, nothing};
     struct state *state = PyModule_GetState(module);
     PyObject *bases = PyTuple_Pack(1, (PyObject *)&PyBytes_Type);
     if (state == NULL || bases == NULL)
@@ -1308,9 +1925,12 @@ static void end(void *module)
     clear(module);
 }
 
-/* From Python 3.12 on, a module says whether interpreters with locks of their own may share its code. */
-enum { SLOT_OF_INTERPRETERS = 3 };
-static PyModuleDef_Slot SLOTS[] = {{Py_mod_exec, begin}, {0, NULL}, {0, NULL}};
+/*
+ * It does not say that interpreters with locks of their own may share its code. Compiled for the limited interface of 3.8, it
+ * counts the references to objects that never end, such as None, which all interpreters share: that needs the one lock. Those with
+ * their own import no extension that does not say so, and make the same calls through ctypes.
+ */
+static PyModuleDef_Slot SLOTS[] = {{Py_mod_exec, begin}, {0, NULL}};
 
 static struct PyModuleDef MODULE = {
     PyModuleDef_HEAD_INIT, "sdtool._native", NULL, sizeof(struct state), FUNCTIONS, SLOTS, traverse, clear, end};
@@ -1320,7 +1940,5 @@ PyMODINIT_FUNC PyInit__native(void)
     char *behind;
     long major = strtol(Py_GetVersion(), &behind, 10), minor = strtol(behind + 1, NULL, 10);
     counts_classes = major > 3 || minor >= 9;
-    if (major > 3 || minor >= 12)
-        SLOTS[1] = (PyModuleDef_Slot){SLOT_OF_INTERPRETERS, (void *)2};
     return PyModuleDef_Init(&MODULE);
 }

@@ -31,7 +31,7 @@ class Answers(NamedTuple):
 
 def _spelled(words: Sequence[str]) -> bytes:
     """The words as the library takes them."""
-    spelled = [_arguments.text(f"words[{index}]", word) for index, word in enumerate(_arguments.items("words", words, "str"))]
+    spelled = [_arguments.text("words", word, index) for index, word in enumerate(_arguments.items("words", words, "str"))]
     for index, word in enumerate(spelled):
         if b"\0" in word:
             raise ArgumentFault("a word has a NUL", "words", index)
@@ -102,12 +102,14 @@ class Run:
 def checked(words: Sequence[str], pieces: Iterable[bytes], total: Counter[str]) -> Iterator[bytes]:
     """The answers to the lines that end in each piece. Counts lines, error lines and bytes; a line without an answer is a
     RuntimeError."""
-    run = Run(_spelled(words))
+    spelled = _spelled(words)
+    run = Run(spelled)
+    explains = spelled.startswith(b"explain\0")
     for piece in itertools.chain(pieces, [b""]):  # nothing ends a last line without a newline
         lines, answers = (piece.count(b"\n"), run.answer(piece)) if piece else (int(run.has_begun), run.end())
         errors = answers.count(b"\nerror ") + answers.startswith(b"error ")
         answered = answers.count(b"\n")
-        if words[0] == "explain":
+        if explains:
             answered = answers.count(b"\nend\n") + errors
             if answers.startswith(b"\n") or b"\n\n" in answers:  # the answers to empty lines
                 answered += answers.split(b"\n").count(b"") - 1
@@ -144,9 +146,9 @@ def lines(source: Source, words: Sequence[str], *, ahead: int = _AHEAD) -> Itera
     started = Run(_spelled(words))
     if started.is_over:
         raise ArgumentFault(started.message.decode("ascii").rstrip("\n") or "the words ask for help", "words")
-    if isinstance(source, (io.BufferedIOBase, io.RawIOBase)):
+    if issubclass(type(source), (io.BufferedIOBase, io.RawIOBase)):
         return _answers_of_pieces(_pieces_of(source), started)
-    given: Iterator[Any] = _arguments.items("source", source, "lines, or a file")
+    given: Iterator[Any] = _arguments.iterator("source", source, "lines, or a file")
     return _answers_of_pieces(_batches_of(given, most), started)
 
 
@@ -157,9 +159,10 @@ def _pieces_of(file: Any) -> Iterator[bytes]:
         piece = read(_PIECE)
         if piece is None:
             raise BlockingIOError("the file is in non-blocking mode, and has no bytes at the moment")
-        if not piece:
+        data = _arguments.data("source", piece)
+        if not data:
             return
-        yield piece
+        yield data
 
 
 def _batches_of(given: Iterator[Any], most: int) -> Iterator[bytes]:
@@ -178,12 +181,7 @@ def _batches_of(given: Iterator[Any], most: int) -> Iterator[bytes]:
 
 def _line_of(item: Any, index: int) -> bytes:
     """A line with its newline."""
-    if isinstance(item, str):
-        line = _arguments.text("source", item)
-    elif isinstance(item, (bytes, bytearray, memoryview)):
-        line = bytes(item)
-    else:
-        raise _arguments.wrong_type("source", item, "str, bytes, bytearray or memoryview", index)
+    line = _arguments.bytes_of_line("source", item, index)
     line = line[:-1] if line.endswith(b"\n") else line
     if b"\n" in line:
         raise ArgumentFault("a line has a newline in it", "source", index)

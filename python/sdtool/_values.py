@@ -1,23 +1,30 @@
 """SIDs, ACEs, ACLs, descriptors and tokens as objects. None of them can be changed, and two are equal exactly if their
 content is the same. Each answer is one of the library."""
-import enum
 import functools
 import itertools
+import struct
 import uuid
 from typing import (Any, Callable, ClassVar, Dict, FrozenSet, Iterable, Iterator, List, NamedTuple, NoReturn, Optional, Sequence,
                     Tuple, Type, TypeVar, Union, overload)
 
 from . import _arguments, _library
-from ._arguments import BytesLike, GuidLike
-from ._errors import ArgumentFault, Error, Fault
+from ._arguments import BytesLike, GuidLike, sid_or_none
+from ._errors import ArgumentFault, Error, Fault, Unchangeable, WrongType
 from ._flags import AceFlags, AceKind, Control
-from ._words import KINDS, MAPPINGS, PRIVILEGES, Kind, Mapping, Privilege
+from ._places import HEAD_OF_ACE, InText
+from ._slots import Slot, not_made, type_name
+from ._words import KINDS, MAPPINGS, PRIVILEGES, REASONS, Kind, Mapping, Privilege, ReasonKind
 
 _MOST_SIDS = 1024
 _Bytes = bytes  # within SecurityDescriptor, bytes is its layout
 _KIND_OF = {kind.value: kind for kind in AceKind}
 _FLAGS_OF = [AceFlags(value) for value in range(256)]
 _ABSENT, _NULL, _LIST = 0, 1, 2
+_REASONS = struct.Struct("50H")  # 25 times struct sdtool_reason
+_ORIGIN = struct.Struct("H??")  # struct sdtool_origin
+_NO_PLACE = 0xFFFF
+_GRANTING = ("no-dacl", "owner", "privilege", "granted")
+_Answer = TypeVar("_Answer")
 _SAME: Any = type("Same", (), {"__repr__": lambda self: "<the same>"})()  # of replace: what an object has already
 
 
@@ -27,15 +34,16 @@ class _Fixed:
     __slots__ = ()
 
     def __setattr__(self, name: str, value: object) -> NoReturn:
-        raise AttributeError(f"{name} of a {type(self).__name__} cannot be changed")
+        raise Unchangeable(f"{name} of a {type_name(self)} cannot be changed")
 
     def __delattr__(self, name: str) -> NoReturn:
-        raise AttributeError(f"{name} of a {type(self).__name__} cannot be deleted")
+        raise Unchangeable(f"{name} of a {type_name(self)} cannot be deleted")
 
-    def _begin(self, name: str) -> None:
-        """Refuses an __init__ that is called again: name is what it sets."""
-        if getattr(self, name, None) is not None:
-            raise AttributeError(f"a {type(self).__name__} that is there cannot be made again")
+
+def _make(value: object, is_new: bool) -> None:
+    """Refuses an __init__ of an object that is made already: is_new says whether it is not."""
+    if not is_new:
+        raise Unchangeable(f"the {type_name(value)} is there, and cannot be made again")
 
 
 class Sid(bytes):
@@ -54,15 +62,15 @@ class Sid(bytes):
     __slots__ = ()
 
     def __new__(cls, value: "SidLike", *, domain: Optional["SidLike"] = None) -> "Sid":
-        return bytes.__new__(cls, sid("value", value, domain=sid_or_none("domain", domain)))
+        return bytes.__new__(cls, _arguments.sid("value", value, domain=sid_or_none("domain", domain)))
 
     def alias(self, *, domain: Optional["SidLike"] = None) -> Optional[str]:
         """The two letters that SDDL has for it, or None."""
-        shown = _library.sid_to_text(self, sid_or_none("domain", domain), False)
+        shown = _library.sid_to_text(_arguments.sid("sid", self), sid_or_none("domain", domain), False)
         return None if shown.startswith("S-") else shown
 
     def __str__(self) -> str:
-        return _library.sid_to_text(self, b"", True)
+        return _library.sid_to_text(_arguments.sid("sid", self), None, True)
 
     def __repr__(self) -> str:
         return f"Sid({str(self)!r})"
@@ -73,35 +81,6 @@ class Sid(bytes):
 
 SidLike = Union[Sid, str, BytesLike]
 _new_sid: Callable[[Type[Sid], bytes], Sid] = bytes.__new__
-
-
-def sid(name: str, value: SidLike, index: Optional[int] = None, *, domain: bytes = b"") -> bytes:
-    """Exactly one SID in binary, from its text or its bytes."""
-    if type(value) is Sid:
-        return value
-    if isinstance(value, str):
-        try:
-            return _library.sid_from_text(value, domain)
-        except Fault as fault:
-            raise fault.of(name, index) from None
-    found = _arguments.data(name, value, index)
-    if not _library.is_one_sid(found):
-        raise ArgumentFault(f"{found.hex() or 'no bytes'}: not exactly one SID in binary", name, index)
-    return found
-
-
-def sid_or_none(name: str, value: Optional[SidLike], *, domain: bytes = b"") -> bytes:
-    """A SID in binary, or no bytes where there is none."""
-    if value is None:
-        return b""
-    if type(value) is Sid:
-        return value
-    return b"" if isinstance(value, bytes) and not value else sid(name, value, domain=domain)
-
-
-def sids(name: str, values: Iterable[SidLike], *, domain: bytes = b"") -> List[bytes]:
-    return [sid(name, value, index, domain=domain)
-            for index, value in enumerate(_arguments.items(name, values, "SIDs"))]
 
 
 class _AceFields(NamedTuple):
@@ -130,54 +109,56 @@ class Ace(_AceFields):
 
     def __new__(cls, kind: Union[AceKind, int], flags: Union[AceFlags, int], mask: int, sid: SidLike,
                 object_type: Optional[GuidLike] = None, inherited_object_type: Optional[GuidLike] = None) -> "Ace":
-        raw = (_arguments.number("kind", kind, 0xff), _arguments.number("flags", flags, 0xff), _arguments.number("mask", mask),
-               _sid_of_ace(sid), _arguments.guid("object_type", object_type) or None,
-               _arguments.guid("inherited_object_type", inherited_object_type) or None)
-        # The library says whether there is such an ACE.
-        try:
-            _library.build(0, 0, None, None, _ABSENT, (), _LIST, (raw,))
-        except ArgumentFault:
-            raise ArgumentFault("no ACE has this kind, these flags and these object types together") from None
-        return _ace_of(raw)
+        return _ace_of(_raw(kind, flags, mask, sid, object_type, inherited_object_type))
 
     @classmethod
     def from_sddl(cls, text: str, *, domain: Optional[SidLike] = None) -> "Ace":
         """The ACE of a text in parentheses, such as (A;;FR;;;BU)."""
-        spelled = _arguments.text("text", text)
-        if not spelled.startswith(b"("):
+        spelled = _arguments.characters("text", text)
+        if not spelled.startswith("("):
             raise ArgumentFault("an ACE is a text in parentheses", "text")
-        found = SecurityDescriptor.from_sddl(f"D:{text}", domain=domain)
+        of = sid_or_none("domain", domain)
+        try:
+            found = SecurityDescriptor.from_sddl(HEAD_OF_ACE + spelled, domain=of)
+        except Fault as fault:
+            if isinstance(fault._where, InText):
+                fault._where = fault._where.of_ace()
+            raise
         if len(found.dacl) != 1 or found != SecurityDescriptor(dacl=found.dacl):
             raise ArgumentFault("the text has more than one ACE", "text")
         return found.dacl[0]
 
     def sddl(self, *, domain: Optional[SidLike] = None, numeric: bool = False) -> str:
         """Its text in SDDL, in parentheses."""
-        data = _library.build(0, 0, None, None, _ABSENT, (), _LIST, (_raw_ace(self),))
+        data = _library.build(0, 0, None, None, _ABSENT, (), _LIST, (_raw_of(self),))
         return _library.to_sddl(data, domain, _arguments.flag("numeric", numeric))[len("D:"):]
 
     def replace(self, *, kind: Union[AceKind, int] = _SAME, flags: Union[AceFlags, int] = _SAME, mask: int = _SAME,
                 sid: SidLike = _SAME, object_type: Optional[GuidLike] = _SAME,
                 inherited_object_type: Optional[GuidLike] = _SAME) -> "Ace":
         """The same ACE with other values of some fields."""
-        return Ace(self.kind if kind is _SAME else kind, self.flags if flags is _SAME else flags,
-                   self.mask if mask is _SAME else mask, self.sid if sid is _SAME else sid,
-                   self.object_type if object_type is _SAME else object_type,
-                   self.inherited_object_type if inherited_object_type is _SAME else inherited_object_type)
+        given = (kind, flags, mask, sid, object_type, inherited_object_type)
+        return Ace(*(old if new is _SAME else new for old, new in zip(_fields_of(self), given)))
+
+    __replace__ = replace  # what copy.replace calls
 
     def _replace(self, **fields: Any) -> "Ace":
         return self.replace(**fields)
 
     @classmethod
     def _make(cls, iterable: Iterable[Any], **_: Any) -> "Ace":
-        return Ace(*iterable)
+        fields = list(_arguments.items("iterable", iterable, "fields"))
+        if not len(Ace._fields) - len(Ace._field_defaults) <= len(fields) <= len(Ace._fields):
+            raise WrongType(f"iterable: an Ace of {len(fields)} fields")
+        return Ace(*fields)
 
     def __repr__(self) -> str:
-        fields = [repr(self.kind), repr(self.flags), f"{self.mask:#x}", repr(self.sid)]
-        if self.object_type is not None:
-            fields.append(repr(self.object_type))
-        if self.inherited_object_type is not None:
-            fields.append(f"inherited_object_type={self.inherited_object_type!r}")
+        kind, flags, mask, trustee, object_type, inherited = _ace_of(_raw_of(self))
+        fields = [repr(kind), repr(flags), f"{mask:#x}", repr(trustee)]
+        if object_type is not None:
+            fields.append(repr(object_type))
+        if inherited is not None:
+            fields.append(f"inherited_object_type={inherited!r}")
         return f"Ace({', '.join(fields)})"
 
     def __str__(self) -> str:
@@ -188,26 +169,64 @@ _new_ace: Callable[[Type[Ace], Tuple[Any, ...]], Ace] = tuple.__new__
 _RawAce = Tuple[int, int, int, bytes, Optional[bytes], Optional[bytes]]
 
 
-def _sid_of_ace(value: SidLike) -> bytes:
-    return sid("sid", value)
+def _raw_fields(kind: Any, flags: Any, mask: Any, sid: Any, object_type: Any, inherited_object_type: Any) -> _RawAce:
+    """The fields of an ACE, each read at the door."""
+    return (_arguments.number("kind", kind, 0xff), _arguments.number("flags", flags, 0xff), _arguments.number("mask", mask),
+            _arguments.sid("sid", sid), _arguments.guid("object_type", object_type),
+            _arguments.guid("inherited_object_type", inherited_object_type))
+
+
+def _raw(*fields: Any) -> _RawAce:
+    """The fields of an ACE that can be."""
+    raw = _raw_fields(*fields)
+    try:
+        _library.build(0, 0, None, None, _ABSENT, (), _LIST, (raw,))
+    except ArgumentFault:
+        raise ArgumentFault("no ACE has this kind, these flags and these object types together") from None
+    return raw
+
+
+def _fields_of(ace: Any, name: str = "ace", index: Optional[int] = None) -> Tuple[Any, ...]:
+    """What the tuple of an ACE holds: whoever has made it, and whatever its attributes say."""
+    if not _arguments.is_a(ace, Ace):
+        raise _arguments.wrong_type(name, ace, "Ace", index)
+    fields = tuple.__getitem__(ace, slice(None))
+    if len(fields) != len(Ace._fields):
+        raise WrongType(f"{name}: an Ace of {len(fields)} fields, which Ace() has not made")
+    return fields
+
+
+def _raw_of(ace: Any, name: str = "ace", index: Optional[int] = None) -> _RawAce:
+    return _raw_fields(*_fields_of(ace, name, index))
+
+
+def _raw_aces(name: str, aces: Iterable[Ace]) -> Tuple[_RawAce, ...]:
+    return tuple([_raw_of(ace, name, index) for index, ace in enumerate(_arguments.items(name, aces, "Ace"))])
 
 
 def _ace_of(raw: _RawAce) -> Ace:
     """An ACE of fields that the library has seen."""
     kind, flags, mask, trustee, object_type, inherited = raw
+    if kind not in _KIND_OF:
+        raise ArgumentFault(f"{kind} is the type of no ACE", "kind")
     return _new_ace(Ace, (_KIND_OF[kind], _FLAGS_OF[flags], mask, _new_sid(Sid, trustee),
                           object_type and _guid_of(object_type), inherited and _guid_of(inherited)))
 
 
 @functools.lru_cache(maxsize=1024)
-def _guid_of(data: bytes) -> uuid.UUID:
+def _known_guid(data: bytes) -> Tuple[uuid.UUID, int]:
     """A GUID that the library found. A directory has the same few in most descriptors."""
-    return uuid.UUID(bytes_le=data)
+    found = uuid.UUID(bytes_le=data)
+    return found, found.int
 
 
-def _raw_ace(ace: Ace) -> _RawAce:
-    return (int(ace.kind), int(ace.flags), ace.mask, ace.sid, _arguments.guid("object_type", ace.object_type) or None,
-            _arguments.guid("inherited_object_type", ace.inherited_object_type) or None)
+def _guid_of(data: bytes) -> uuid.UUID:
+    """The same object for the same GUID, unless somebody has changed its number."""
+    found, number = _known_guid(data)
+    return found if _number_of_uuid(found) is number else uuid.UUID(bytes_le=data)
+
+
+_number_of_uuid = uuid.UUID.__dict__["int"].__get__
 
 
 class NoAces(Error, TypeError):
@@ -233,7 +252,7 @@ class Acl(_Fixed, _library.Entries, Sequence[Ace]):
     ...     pass
     Traceback (most recent call last):
         ...
-    TypeError: an ACL is neither true nor false; ask is_list, is_null, is_absent, or its length
+    sdtool.WrongType: an ACL is neither true nor false; ask is_list, is_null, is_absent, or its length
     """
 
     __slots__ = ()
@@ -241,26 +260,25 @@ class Acl(_Fixed, _library.Entries, Sequence[Ace]):
     ABSENT: ClassVar["Acl"]
 
     def __init__(self, aces: Iterable[Ace] = ()) -> None:
-        found = tuple(_arguments.items("aces", aces, "Ace"))
-        for index, ace in enumerate(found):
-            if not isinstance(ace, Ace):
-                raise _arguments.wrong_type("aces", ace, "Ace", index)
-        _library.fill(self, _LIST, found)
+        _make(self, _library.state(self) is None)
+        found = _raw_aces("aces", aces)
+        _check_aces(found)
+        _make(self, _library.fill(self, _LIST, tuple(map(_ace_of, found))))
 
     @property
     def is_list(self) -> bool:
-        return self._state == _LIST
+        return (_state(self) or _state_of(self)) == _LIST
 
     @property
     def is_null(self) -> bool:
-        return self._state == _NULL
+        return (_state(self) or _state_of(self)) == _NULL
 
     @property
     def is_absent(self) -> bool:
-        return self._state == _ABSENT
+        return _state_of(self) == _ABSENT
 
     def __reversed__(self) -> Iterator[Ace]:
-        return reversed(self._list())
+        return reversed(_library.aces(self))
 
     @overload
     def __getitem__(self, index: int) -> Ace: ...
@@ -268,44 +286,76 @@ class Acl(_Fixed, _library.Entries, Sequence[Ace]):
     def __getitem__(self, index: slice) -> "Acl": ...
 
     def __getitem__(self, index: Union[int, slice]) -> Union[Ace, "Acl"]:
-        found = self._list()[index]
-        return found if isinstance(found, Ace) else Acl(found)
+        found: Any = _library.aces(self)[index]
+        return found if type(found) is Ace else _acl_of(_LIST, found)
 
     def __bool__(self) -> NoReturn:
-        raise TypeError("an ACL is neither true nor false; ask is_list, is_null, is_absent, or its length")
+        raise WrongType("an ACL is neither true nor false; ask is_list, is_null, is_absent, or its length")
 
     def __eq__(self, other: object) -> bool:
-        if not isinstance(other, Acl):
+        if not _arguments.is_a(other, Acl):
             return NotImplemented
-        return self._state == other._state and (self._state != _LIST or self._list() == other._list())
+        return _content_of(self) == _content_of(other)
 
     def __hash__(self) -> int:
-        return hash((self._state, self._list() if self._state == _LIST else ()))
+        return hash(_content_of(self))
 
     def __reduce__(self) -> Any:
-        return _unpickled_acl, (self._state, self._list() if self._state == _LIST else ())
+        return _unpickled_acl, _content_of(self)
 
     def __repr__(self) -> str:
-        return {_NULL: "Acl.NULL", _ABSENT: "Acl.ABSENT"}.get(self._state) or f"Acl({list(self._list())!r})"
+        state, aces = _content_of(self)
+        return {_NULL: "Acl.NULL", _ABSENT: "Acl.ABSENT"}.get(state) or f"Acl({list(aces)!r})"
 
 
-def _acl_without(state: int) -> Acl:
-    """The ACL of a state that has no list."""
+_state = _library.state
+
+
+def _acl_of(state: int, aces: Optional[Tuple[Ace, ...]]) -> Acl:
+    """The ACL of a state, and of ACEs of our own if that is a list."""
     acl = object.__new__(Acl)
-    _library.fill(acl, state, None)
+    _library.fill(acl, state, aces)
     return acl
 
 
+def _state_of(acl: Any) -> int:
+    found = _state(acl)
+    if found is None:
+        raise not_made(acl)
+    return found
+
+
+def _content_of(acl: Any) -> Tuple[int, Tuple[Ace, ...]]:
+    state = _state_of(acl)
+    return state, _library.aces(acl) if state == _LIST else ()
+
+
 def _no_list(acl: Acl) -> NoReturn:
-    raise NoAces(f"the ACL is {'null' if acl.is_null else 'absent'}, which is no list of ACEs; ask is_list first")
+    state = "null" if _state_of(acl) == _NULL else "absent"
+    raise NoAces(f"the ACL is {state}, which is no list of ACEs; ask is_list first")
 
 
-def _unpickled_acl(state: int, aces: Tuple[Ace, ...]) -> Acl:
-    return Acl(aces) if state == _LIST else Acl.NULL if state == _NULL else Acl.ABSENT
+def _check_aces(aces: Tuple[_RawAce, ...]) -> None:
+    """Refuses an ACE that cannot be. A list that no ACL has room for is a fault of the descriptor that it is for."""
+    try:
+        _library.build(0, 0, None, None, _ABSENT, (), _LIST, aces)
+    except ArgumentFault as fault:
+        raise ArgumentFault("no ACE has this kind, these flags and these object types together", "aces", fault.index) from None
+    except Fault:
+        pass
 
 
-Acl.NULL = _acl_without(_NULL)
-Acl.ABSENT = _acl_without(_ABSENT)
+def _unpickled_acl(state: int, aces: Iterable[Ace]) -> Acl:
+    which = _arguments.number("state", state, _LIST)
+    if which == _LIST:
+        return Acl(aces)
+    if list(_arguments.items("aces", aces, "Ace")):
+        raise ArgumentFault("an ACL without a list has no ACEs", "aces")
+    return Acl.NULL if which == _NULL else Acl.ABSENT
+
+
+Acl.NULL = _acl_of(_NULL, None)
+Acl.ABSENT = _acl_of(_ABSENT, None)
 
 
 class Verdict(NamedTuple):
@@ -322,8 +372,57 @@ class Verdict(NamedTuple):
     mask: int
 
     def __bool__(self) -> bool:
-        return self.granted
+        return tuple.__getitem__(self, 0) is True
 
+
+class Reason(NamedTuple):
+    """Why a right is granted or denied, true exactly if it is granted.
+
+    kind is "nothing" where nothing grants it, "label" where the mandatory label takes it, "no-dacl", "owner", "privilege", or
+    "granted" or "denied" by an ACE. ace is the ACE of the DACL or, with "label", that of the SACL, and place its index there;
+    they are None where there is none, as for the default label.
+    """
+
+    kind: ReasonKind
+    place: Optional[int]
+    ace: Optional[Ace]
+
+    def __bool__(self) -> bool:
+        return tuple.__getitem__(self, 0) in _GRANTING
+
+
+class Origin(NamedTuple):
+    """Where an ACE of a derived descriptor comes from.
+
+    ace is the ACE that it was made of, and place the index of that in its ACL: the creator's with from_creator, and else the
+    folder's. With inherit_only it is the copy for what is made in the new object.
+    """
+
+    from_creator: bool
+    place: int
+    inherit_only: bool
+    ace: Ace
+
+
+class Origins(NamedTuple):
+    """The origins of the ACEs of a derived descriptor, in their order. An ACL that is null or absent has none."""
+
+    sacl: Tuple[Origin, ...]
+    dacl: Tuple[Origin, ...]
+
+
+class _Holder(NamedTuple):
+    """What a token holds."""
+
+    sids: Tuple[Sid, ...]
+    deny_only: Tuple[Sid, ...]
+    level: Optional[int]
+    privileges: FrozenSet[str]
+    read: Any  # the SIDs as the library has read them
+    questions: Dict[Any, Any]  # the requests that were made last, as the library has read them
+
+    def content(self) -> Tuple[Any, ...]:
+        return self[:4]
 
 
 class Token(_Fixed):
@@ -337,55 +436,79 @@ class Token(_Fixed):
     Token([Sid('S-1-1-0'), Sid('S-1-5-11'), Sid('S-1-5-32-545')], level=8192)
     """
 
-    __slots__ = ("sids", "deny_only", "level", "privileges", "_read", "_questions")
-    _read: Any  # the SIDs as the library has read them
-    _questions: Dict[Any, Any]  # the requests that were made last, as the library has read them
-    sids: Tuple[Sid, ...]
-    deny_only: Tuple[Sid, ...]
-    level: Optional[int]
-    privileges: FrozenSet[str]
+    __slots__ = ("_holder",)
 
     def __init__(self, sids: Iterable[SidLike], *, deny_only: Iterable[SidLike] = (), level: Optional[int] = None,
                  privileges: Iterable[Privilege] = (), domain: Optional[SidLike] = None) -> None:
-        self._begin("_questions")
+        _make(self, _holder.of(self) is None)
         of = sid_or_none("domain", domain)
         enabled, denying = _sids("sids", sids, of), _sids("deny_only", deny_only, of)
-        if len(enabled) + len(denying) > _MOST_SIDS:
-            raise ArgumentFault(f"{len(enabled) + len(denying)} SIDs; a token has at most {_MOST_SIDS}", "sids")
-        held = list(_arguments.items("privileges", privileges, "str"))
+        read = read_token(enabled, denying)
+        most_trusted = None if level is None else _arguments.number("level", level)
+        held = [_arguments.characters("privileges", one, index)
+                for index, one in enumerate(_arguments.items("privileges", privileges, "str"))]
         for privilege in held:
             _arguments.word("privileges", privilege, PRIVILEGES)
-        object.__setattr__(self, "sids", enabled)
-        object.__setattr__(self, "deny_only", denying)
-        object.__setattr__(self, "level", None if level is None else _arguments.number("level", level))
-        object.__setattr__(self, "privileges", frozenset(held))
-        object.__setattr__(self, "_read", _library.token(
-            b"".join([*enabled, *denying]), bytes(len(enabled)) + b"\1" * len(denying)))
-        object.__setattr__(self, "_questions", {})
+        _make(self, _holder.fill(self, _Holder(enabled, denying, most_trusted, frozenset(held), read, {})))
 
-    def _content(self) -> Tuple[Any, ...]:
-        return self.sids, self.deny_only, self.level, self.privileges
+    @property
+    def sids(self) -> Tuple[Sid, ...]:
+        return _holder_of(self).sids
+
+    @property
+    def deny_only(self) -> Tuple[Sid, ...]:
+        return _holder_of(self).deny_only
+
+    @property
+    def level(self) -> Optional[int]:
+        return _holder_of(self).level
+
+    @property
+    def privileges(self) -> FrozenSet[str]:
+        return _holder_of(self).privileges
 
     def __eq__(self, other: object) -> bool:
-        if not isinstance(other, Token):
+        if not _arguments.is_a(other, Token):
             return NotImplemented
-        return self._content() == other._content()
+        return _holder_of(self).content() == _holder_of(other).content()
 
     def __hash__(self) -> int:
-        return hash(self._content())
+        return hash(_holder_of(self).content())
 
     def __reduce__(self) -> Any:
-        return _token_of, self._content()
+        return _token_of, _holder_of(self).content()
 
     def __repr__(self) -> str:
-        others = [f"deny_only={list(self.deny_only)!r}"] * bool(self.deny_only)
-        others += [f"level={self.level}"] * (self.level is not None)
-        others += [f"privileges={sorted(self.privileges)!r}"] * bool(self.privileges)
-        return f"Token({', '.join([repr(list(self.sids)), *others])})"
+        holder = _holder_of(self)
+        others = [f"deny_only={list(holder.deny_only)!r}"] * bool(holder.deny_only)
+        others += [f"level={holder.level}"] * (holder.level is not None)
+        others += [f"privileges={sorted(holder.privileges)!r}"] * bool(holder.privileges)
+        return f"Token({', '.join([repr(list(holder.sids)), *others])})"
 
 
-def _sids(name: str, values: Iterable[SidLike], domain: bytes) -> Tuple[Sid, ...]:
-    return tuple(_new_sid(Sid, found) for found in sids(name, values, domain=domain))
+_holder = Slot(Token, "_holder")
+_get_holder = _holder.get
+
+
+def _holder_of(token: Any) -> _Holder:
+    try:
+        found: _Holder = _get_holder(token)
+    except AttributeError:
+        raise not_made(token) from None
+    except TypeError:
+        raise _arguments.wrong_type("token", token, "Token") from None
+    return found
+
+
+def _sids(name: str, values: Iterable[SidLike], domain: Optional[bytes]) -> Tuple[Sid, ...]:
+    return tuple([_new_sid(Sid, found) for found in _arguments.sids(name, values, domain=domain)])
+
+
+def read_token(enabled: Sequence[bytes], denying: Sequence[bytes]) -> Any:
+    """SIDs as the library reads them, once for all checks."""
+    if len(enabled) + len(denying) > _MOST_SIDS:
+        raise ArgumentFault(f"{len(enabled) + len(denying)} SIDs; a token has at most {_MOST_SIDS}", "sids")
+    return _library.token(b"".join([*enabled, *denying]), bytes(len(enabled)) + b"\1" * len(denying))
 
 
 def _token_of(sids: Any, deny_only: Any, level: Any, privileges: Any) -> Token:
@@ -393,33 +516,30 @@ def _token_of(sids: Any, deny_only: Any, level: Any, privileges: Any) -> Token:
 
 
 _MOST_QUESTIONS = 16
-_PLAIN = {type(None), str, bytes, Sid, uuid.UUID}
+# What a check asks for, each as the door has read it: wanted, maximum, mapping, object_type, principal_self.
+_Request = Tuple[int, bool, str, Optional[bytes], Optional[bytes]]
 
 
-def question_of(token: Token, wanted: int, maximum: bool, mapping: Mapping, object_type: Optional[GuidLike],
-                principal_self: Optional[SidLike]) -> Any:
-    """A token and a request, as the library has read them. The token keeps the last ones."""
-    # Only what has these types is looked up: 1.0 and True are equal to 1, but are no access mask.
-    key = None
-    if isinstance(wanted, enum.IntFlag):
-        wanted = int(wanted)
-    if (type(wanted) is int and type(maximum) is bool and type(object_type) in _PLAIN
-            and type(principal_self) in _PLAIN and type(mapping) is str and type(token) is Token):
-        key = (wanted, maximum, mapping, object_type, principal_self)
-        found = token._questions.get(key)
-        if found is not None:
-            return found
-    if not isinstance(token, Token):
-        raise _arguments.wrong_type("token", token, "Token")
-    found = _library.question(
-        token._read, _arguments.guid("object_type", object_type), sid_or_none("principal_self", principal_self),
-        _arguments.number("wanted", wanted), _arguments.word("mapping", mapping, MAPPINGS), token.level or 0,
-        token.level is not None, _arguments.flag("maximum", maximum), "security" in token.privileges,
-        "take-ownership" in token.privileges)
-    if key is not None:
-        if len(token._questions) >= _MOST_QUESTIONS:
-            token._questions.clear()
-        token._questions[key] = found
+def _request(wanted: int, maximum: bool, mapping: Mapping, object_type: Optional[GuidLike],
+             principal_self: Optional[SidLike]) -> _Request:
+    return (_arguments.number("wanted", wanted), _arguments.flag("maximum", maximum),
+            mapping if type(mapping) is str else _arguments.characters("mapping", mapping),
+            None if object_type is None else _arguments.guid("object_type", object_type),
+            None if principal_self is None else _arguments.sid("principal_self", principal_self))
+
+
+def _question_of(holder: _Holder, request: _Request) -> Any:
+    """A token and a request, as the library has read them. The token keeps the last ones, by values of the door alone."""
+    found = holder.questions.get(request)
+    if found is None:
+        wanted, maximum, mapping, object_type, principal_self = request
+        found = _library.question(
+            holder.read, object_type, principal_self, wanted, _arguments.word("mapping", mapping, MAPPINGS),
+            holder.level or 0, holder.level is not None, maximum, "security" in holder.privileges,
+            "take-ownership" in holder.privileges)
+        if len(holder.questions) >= _MOST_QUESTIONS:
+            holder.questions.clear()
+        holder.questions[request] = found
     return found
 
 
@@ -433,33 +553,53 @@ class Checker(_Fixed, _library.Asking):
     Verdict(granted=True, mask=1179785)
     """
 
-    __slots__ = ("_arguments",)
-    _arguments: Tuple[Token, int, bool, Mapping, Optional[GuidLike], Optional[SidLike]]
+    __slots__ = ("_asked",)
 
     def __init__(self, token: Token, wanted: int = 0, *, maximum: bool = False, mapping: Mapping = "file",
                  object_type: Optional[GuidLike] = None, principal_self: Optional[SidLike] = None) -> None:
-        self._begin("_question")
-        object.__setattr__(self, "_arguments", (token, wanted, maximum, mapping, object_type, principal_self))
-        object.__setattr__(self, "_question",
-                           question_of(token, wanted, maximum, mapping, object_type, principal_self))
+        _make(self, _library.asked(self) is None)
+        holder = _holder_of(token)
+        request = _request(wanted, maximum, mapping, object_type, principal_self)
+        _make(self, _library.ask(self, _question_of(holder, request)))
+        _asked.fill(self, (holder, request))
 
     def many(self, descriptors: Iterable["DescriptorLike"], *, ahead: int = 1024) -> Iterator[Union[Verdict, Fault]]:
         """The verdict on each descriptor, in order, and for one that has none its Fault. At most ahead descriptors are
         taken before their verdicts come."""
+        question = _library.asked(self)
+        if question is None:
+            raise not_made(self)
         most = _arguments.number("ahead", ahead)
         if most < 1:
             raise ArgumentFault("at least one descriptor has to be taken", "ahead")
-        return self._verdicts(_arguments.items("descriptors", descriptors, "descriptors"), most)
+        return _verdicts(question, _arguments.iterator("descriptors", descriptors, "descriptors"), most)
 
-    def _verdicts(self, given: Iterator["DescriptorLike"], most: int) -> Iterator[Union[Verdict, Fault]]:
-        while True:
-            batch = tuple(itertools.islice(given, most))
-            yield from _library.check_many(self._question, batch)
-            if len(batch) < most:
-                return
+    def reasons(self, descriptor: "DescriptorLike") -> Tuple[Reason, ...]:
+        """Why the token has each right or not, as SecurityDescriptor.reasons. It does not matter what is wanted."""
+        question = _library.asked(self)
+        if question is None:
+            raise not_made(self)
+        if _arguments.is_a(descriptor, SecurityDescriptor):
+            return _reasons(question, descriptor)
+        return _reasons(question, _of_bytes(_arguments.layout("descriptor", descriptor)))
 
     def __reduce__(self) -> Any:
-        return _checker_of, self._arguments
+        asked = _asked.of(self)
+        if asked is None:
+            raise not_made(self)
+        holder, request = asked
+        return _checker_of, (_token_of(*holder.content()), *request)
+
+
+_asked = Slot(Checker, "_asked")
+
+
+def _verdicts(question: Any, given: Iterator["DescriptorLike"], most: int) -> Iterator[Union[Verdict, Fault]]:
+    while True:
+        found = _library.check_many(question, itertools.islice(given, most))
+        yield from found
+        if len(found) < most:
+            return
 
 
 def _checker_of(token: Token, wanted: int, maximum: bool, mapping: Mapping, object_type: Optional[GuidLike],
@@ -493,12 +633,10 @@ class SecurityDescriptor(_Fixed, _library.Layout):
                  dacl: Union[Acl, Iterable[Ace]] = Acl.ABSENT, sacl: Union[Acl, Iterable[Ace]] = Acl.ABSENT,
                  control: int = 0, resource_manager: int = 0) -> None:
         """Bits of control that say which parts there are follow from the parts."""
-        self._begin("_data")
-        _set_data(self, _library.build(
+        _make(self, _library.layout(self) is None)
+        _make(self, _library.lay(self, _library.build(
             _arguments.number("control", control, 0xffff), _arguments.number("resource_manager", resource_manager, 0xff),
-            sid_or_none("owner", owner) or None, sid_or_none("group", group) or None, *_raw_acl("sacl", sacl),
-            *_raw_acl("dacl", dacl)))
-        _set_found(self, None)
+            sid_or_none("owner", owner), sid_or_none("group", group), *_raw_acl("sacl", sacl), *_raw_acl("dacl", dacl))))
 
     @classmethod
     def from_bytes(cls, data: BytesLike) -> "SecurityDescriptor":
@@ -513,10 +651,10 @@ class SecurityDescriptor(_Fixed, _library.Layout):
     @property
     def bytes(self) -> _Bytes:
         """Its canonical layout."""
-        return self._data
+        return _data_of(self)
 
     def __bytes__(self) -> _Bytes:
-        return self._data
+        return _data_of(self)
 
     @property
     def control(self) -> Control:
@@ -558,59 +696,132 @@ class SecurityDescriptor(_Fixed, _library.Layout):
         mapping is "file", "key" or "ds": what the generic rights stand for. object_type is the object type of a check in a
         directory. principal_self is the SID that PRINCIPAL SELF stands for. Many checks of one token take a Checker.
         """
-        return _library.check(question_of(token, wanted, maximum, mapping, object_type, principal_self), self)
+        request = _request(wanted, maximum, mapping, object_type, principal_self)
+        return _library.check(_question_of(_holder_of(token), request), self)
+
+    def reasons(self, token: Token, *, mapping: Mapping = "file", object_type: Optional[GuidLike] = None,
+                principal_self: Optional[SidLike] = None) -> Tuple[Reason, ...]:
+        """Why a token has each of the rights 0 to 24 or not, by its place in a mask. The arguments are those of check.
+
+        >>> why = SecurityDescriptor.from_sddl("D:(D;;WD;;;BU)(A;;FR;;;WD)").reasons(Token(["WD", "BU"]))
+        >>> [reason.kind for reason in why[:2]], why[18].place, str(why[18].ace)
+        (['granted', 'nothing'], 0, '(D;;WD;;;BU)')
+        """
+        request = _request(0, True, mapping, object_type, principal_self)
+        return _reasons(_question_of(_holder_of(token), request), self)
 
     def derive(self, owner: SidLike, group: SidLike, *, kind: Kind = "file", creator: Optional["DescriptorLike"] = None,
                mapping: Mapping = "file") -> "SecurityDescriptor":
         """The descriptor of a new file or container in a folder that has this one. creator is the descriptor that the
         creator brings, if any."""
-        return _descriptor_of(derived(self._data, owner, group, kind, creator, mapping))
+        return _descriptor_of(derived(_data_of(self), owner, group, kind, creator, mapping))
+
+    def origins(self, owner: SidLike, group: SidLike, *, kind: Kind = "file", creator: Optional["DescriptorLike"] = None,
+                mapping: Mapping = "file") -> Origins:
+        """Where each ACE comes from of the descriptor that derive gives for the same arguments.
+
+        >>> folder = SecurityDescriptor.from_sddl("D:(A;;FA;;;BA)(A;CI;GR;;;BU)")
+        >>> folder.derive("BA", "SY", kind="container").sddl()
+        'O:BAG:SYD:AI(A;ID;FR;;;BU)(A;CIIOID;GR;;;BU)'
+        >>> [(origin.place, origin.inherit_only) for origin in folder.origins("BA", "SY", kind="container").dacl]
+        [(1, False), (1, True)]
+        """
+        data, brought = _data_of(self), _creator(creator)
+        sacl, dacl = _of_derivation(_library.origins, data, owner, group, kind, brought, mapping)
+        own, lent = _parts(self), None if brought is None else _parts(_of_bytes(brought))
+        return Origins(_origins(sacl, own[4], lent[4] if lent else None), _origins(dacl, own[5], lent[5] if lent else None))
 
     def replace(self, *, owner: Optional[SidLike] = _SAME, group: Optional[SidLike] = _SAME,
                 dacl: Union[Acl, Iterable[Ace]] = _SAME, sacl: Union[Acl, Iterable[Ace]] = _SAME, control: int = _SAME,
                 resource_manager: int = _SAME) -> "SecurityDescriptor":
         """The same descriptor with other parts. Without an owner or a group it has None there."""
+        own = _parts(self)
         return SecurityDescriptor(
-            owner=self.owner if owner is _SAME else owner, group=self.group if group is _SAME else group,
-            dacl=self.dacl if dacl is _SAME else dacl, sacl=self.sacl if sacl is _SAME else sacl,
-            control=self.control if control is _SAME else control,
-            resource_manager=self.resource_manager if resource_manager is _SAME else resource_manager)
+            control=own[0] if control is _SAME else control,
+            resource_manager=own[1] if resource_manager is _SAME else resource_manager,
+            owner=own[2] if owner is _SAME else owner, group=own[3] if group is _SAME else group,
+            sacl=own[4] if sacl is _SAME else sacl, dacl=own[5] if dacl is _SAME else dacl)
 
     __replace__ = replace  # what copy.replace calls
 
     def __eq__(self, other: object) -> bool:
-        if not isinstance(other, SecurityDescriptor):
+        if not _arguments.is_a(other, SecurityDescriptor):
             return NotImplemented
-        return self._data == other._data
+        return _data_of(self) == _data_of(other)
 
     def __hash__(self) -> int:
-        return hash(self._data)
+        return hash(_data_of(self))
 
     def __reduce__(self) -> Any:
-        return SecurityDescriptor.from_bytes, (self._data,)
+        return SecurityDescriptor.from_bytes, (_data_of(self),)
 
     def __str__(self) -> str:
         return self.sddl()
 
     def __repr__(self) -> str:
         """The text, or the bytes where SDDL has no text for all of it."""
-        text = self.sddl(numeric=True)
-        if _library.from_sddl(text, None) == self._data:
+        data = _data_of(self)
+        text = _library.to_sddl(data, None, True)
+        if _library.from_sddl(text, None) == data:
             return f"SecurityDescriptor.from_sddl({text!r})"
-        return f"SecurityDescriptor.from_bytes(bytes.fromhex({self._data.hex()!r}))"
+        return f"SecurityDescriptor.from_bytes(bytes.fromhex({data.hex()!r}))"
 
 
 DescriptorLike = Union[SecurityDescriptor, BytesLike]
 _of_bytes, _of_sddl, _parts = _library.descriptor_of_bytes, _library.descriptor_of_sddl, _library.parts
-_new_object: Callable[[Type[SecurityDescriptor]], SecurityDescriptor] = object.__new__
-_set_data, _set_found = (_library.Layout.__dict__[name].__set__ for name in ("_data", "_found"))
+
+
+_layout = _library.layout
+
+
+def _reasons(question: Any, descriptor: Any) -> Tuple[Reason, ...]:
+    told = _REASONS.unpack(_library.reasons(question, descriptor))
+    pairs = list(zip(told[::2], told[1::2]))  # most rights share a few reasons
+    made = {pair: _reason(descriptor, REASONS[pair[0]], pair[1]) for pair in dict.fromkeys(pairs)}
+    return tuple([made[pair] for pair in pairs])
+
+
+def decisions(checker: Checker, descriptor: DescriptorLike) -> Tuple[Tuple[ReasonKind, Optional[int], int], ...]:
+    """The reasons of a checker in texts and numbers alone, for programs that ask about many descriptors: each kind and place once,
+    with the mask of the rights that it decides about."""
+    question = _library.asked(checker)
+    if question is None:
+        raise not_made(checker)
+    return _grouped(_library.reasons(question, descriptor))
+
+
+@functools.lru_cache(maxsize=10_000)
+def _grouped(told: bytes) -> Tuple[Tuple[ReasonKind, Optional[int], int], ...]:
+    found: Dict[Tuple[int, int], int] = {}
+    for right, pair in enumerate(zip(*[iter(_REASONS.unpack(told))] * 2)):
+        found[pair] = found.get(pair, 0) | 1 << right
+    return tuple([(REASONS[kind], None if place == _NO_PLACE else place, mask) for (kind, place), mask in found.items()])
+
+
+def _reason(descriptor: Any, kind: ReasonKind, place: int) -> Reason:
+    if place == _NO_PLACE:
+        return Reason(kind, None, None)
+    parts = _parts(descriptor)
+    return Reason(kind, place, _library.aces(parts[4] if kind == "label" else parts[5])[place])
+
+
+def _origins(cells: bytes, parents: Acl, creators: Optional[Acl]) -> Tuple[Origin, ...]:
+    aces = [_library.aces(acl) if acl is not None and acl.is_list else () for acl in (parents, creators)]
+    return tuple([Origin(from_creator, place, inherit_only, aces[from_creator][place])
+                  for place, from_creator, inherit_only in _ORIGIN.iter_unpack(cells)])
+
+
+def _data_of(descriptor: Any) -> bytes:
+    found = _layout(descriptor)
+    if found is None:
+        raise not_made(descriptor)
+    return found
 
 
 def _descriptor_of(data: bytes) -> SecurityDescriptor:
     """The descriptor of a canonical layout."""
-    descriptor = _new_object(SecurityDescriptor)
-    _set_data(descriptor, data)
-    _set_found(descriptor, None)
+    descriptor = object.__new__(SecurityDescriptor)
+    _library.lay(descriptor, data)
     return descriptor
 
 
@@ -620,38 +831,42 @@ def _control_of(word: int) -> Control:
 
 
 def _raw_acl(name: str, value: Union[Acl, Iterable[Ace]]) -> Tuple[int, Tuple[_RawAce, ...]]:
-    if isinstance(value, Acl):
-        if value._state != _LIST:
-            return value._state, ()
-        return _LIST, tuple(map(_raw_ace, value))
+    if _arguments.is_a(value, Acl):
+        state, aces = _content_of(value)
+        return state, tuple([_raw_of(ace, name, index) for index, ace in enumerate(aces)])
     if value is None:
-        raise TypeError(f"{name}: Acl.NULL, Acl.ABSENT or ACEs, not None, which does not say which of them")
-    return _LIST, tuple(map(_raw_ace, Acl(_arguments.items(name, value, "Ace"))))
-
-
-def layout_of(name: str, value: DescriptorLike) -> bytes:
-    """The bytes of a descriptor: those of an object, or bytes that are given."""
-    if type(value) is bytes:
-        return value
-    return value._data if isinstance(value, SecurityDescriptor) else _arguments.data(name, value)
+        raise WrongType(f"{name}: Acl.NULL, Acl.ABSENT or ACEs, not None, which does not say which of them")
+    return _LIST, _raw_aces(name, value)
 
 
 def derived(parent: bytes, owner: SidLike, group: SidLike, kind: Kind, creator: Optional[DescriptorLike],
             mapping: Mapping) -> bytes:
     """The layout of a new object's descriptor, in a folder that has the descriptor of parent."""
-    brought = b"" if creator is None else layout_of("creator", creator)
-    arguments = (parent, brought, sid("owner", owner), sid("group", group), _arguments.word("kind", kind, KINDS),
-                 _arguments.word("mapping", mapping, MAPPINGS))
+    return _of_derivation(_library.derive, parent, owner, group, kind, _creator(creator), mapping)
+
+
+def _creator(creator: Optional[DescriptorLike]) -> Optional[bytes]:
+    return None if creator is None else _arguments.layout("creator", creator)
+
+
+def _of_derivation(call: Callable[..., _Answer], parent: bytes, owner: SidLike, group: SidLike, kind: Kind,
+                   brought: Optional[bytes], mapping: Mapping) -> _Answer:
+    """What a call of the library gives that derives, of a creator's descriptor as the door has read it."""
+    arguments = (parent, brought, _arguments.sid("owner", owner), _arguments.sid("group", group),
+                 _arguments.word("kind", kind, KINDS), _arguments.word("mapping", mapping, MAPPINGS))
     try:
-        return _library.derive(*arguments)
+        if brought == b"":
+            raise ArgumentFault("no bytes", "creator")  # The library would take them for no creator.
+        return call(*arguments)
     except ArgumentFault:
         # All other arguments are checked above. A creator that is no descriptor has a fault of its own.
         try:
-            _library.normalize(brought)
+            _library.normalize(brought or b"")
         except Fault as fault:
             raise fault.of("creator") from None
         raise
 
 
 _library.adopt(SecurityDescriptor, Acl, Acl.ABSENT, Acl.NULL, Verdict, Ace, Sid, tuple(map(_KIND_OF.get, range(256))),
-               tuple(_FLAGS_OF), _library.fault_of, _no_list, _arguments.text, sid_or_none, layout_of, _guid_of)
+               tuple(_FLAGS_OF), _library.fault_of, _no_list, _arguments.text, sid_or_none, _arguments.layout,
+               _arguments.only, _guid_of)

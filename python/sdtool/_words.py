@@ -1,10 +1,12 @@
 """The words that calls take, and the numbers that include/sdtool.h gives them."""
-from typing import Dict, Literal
+from typing import Dict, Literal, Tuple
 
 Mapping = Literal["file", "key", "ds"]
 Kind = Literal["file", "container"]
 Privilege = Literal["security", "take-ownership"]
+ReasonKind = Literal["nothing", "label", "no-dacl", "owner", "privilege", "granted", "denied"]
 
 MAPPINGS: Dict[str, int] = {"file": 0, "key": 1, "ds": 2}
 KINDS: Dict[str, int] = {"file": 0, "container": 1}
 PRIVILEGES: Dict[str, int] = {"security": 0, "take-ownership": 1}
+REASONS: Tuple[ReasonKind, ...] = ("nothing", "label", "no-dacl", "owner", "privilege", "granted", "denied")

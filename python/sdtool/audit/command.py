@@ -1,126 +1,48 @@
 """The command line: sdtool-audit."""
-import codecs
-import contextlib
 import functools
 import gc
-import os
-import sys
-from typing import Any, Callable, Iterable, Iterator, List, NamedTuple, Optional, Sequence, TextIO, Tuple
+from typing import Any, Dict, List, Optional, Sequence, Tuple
 
 import click
 
 import sdtool
-from sdtool.audit import answers, cache, describing, outputs, rights, risks, sources
-from sdtool.audit.accepting import Accepted, read_accepted
-from sdtool.audit.answers import WordsFault
-from sdtool.audit.differences import Differences
-from sdtool.audit.engine import Answered, Engine
-from sdtool.audit.groups import read_groups, read_names
-from sdtool.audit.inheritance import Inheritance
-from sdtool.audit.items import Item
-from sdtool.audit.names import Names
-from sdtool.audit.opening import AS_THEY_CAME, STANDARD_INPUT, OpeningFault
-from sdtool.audit.options import DEFAULT_ATTRIBUTES, SourceOptions
-from sdtool.audit.questions import Can, Question, Rule, Who
-from sdtool.audit.reporting import Report, Tables, split
-from sdtool.audit.sources import Table
-from sdtool.audit.tokens import read_token
+from sdtool.audit import asked, files, stopping
+from sdtool.audit.asked import Asking, say
+from sdtool.audit.engine import engine_of
+from sdtool.audit.pool import processors
+from sdtool.audit.progress import Bar
+from sdtool.audit.questions import answers, cache, forest, names, rights, risks, windows_defaults
+from sdtool.audit.questions.answers import WordsFault
+from sdtool.audit.questions.asking import SEVERITIES, Asked, Can, Who
+from sdtool.audit.questions.differences import Differences
+from sdtool.audit.questions.groups import read_groups
+from sdtool.audit.questions.having import Having
+from sdtool.audit.questions.inheritance import Inheritance
+from sdtool.audit.questions.names import Names
+from sdtool.audit.questions.tokens import in_words, is_spelled, read_token
+from sdtool.audit.reports import describing
+from sdtool.audit.reports.accepting import read_accepted
+from sdtool.audit.reports.baseline import Baseline, read_report
+from sdtool.audit.reports.shown import shown
+from sdtool.audit.sources.items import WITHOUT_OWNER
+from sdtool.audit.sources.opening import STANDARD_INPUT, OpeningFault
+from sdtool.audit.words import OF_REPORTS, Common, check_files, is_database, paths_of, with_common
 
-FOUND_NOTHING, FOUND_SOME, WRONG_WORDS, SOME_UNKNOWN = range(4)
+FOUND_NOTHING, WRONG_WORDS = 0, 2
 _FAULTS = (OpeningFault, WordsFault, rights.RightsFault)
 
 
-class Common(NamedTuple):
-    """What the words say that all questions have in common."""
+class _Group(click.Group):
+    """The commands. Click would end with Python's own status, 1, where a pipe is closed."""
 
-    options: SourceOptions
-    question: Question
-    jobs: Optional[int]
-    to: str
-    out: Optional[str]
-    lists_all: Optional[bool]
-    most: int
-    into: Optional[str]
-    bar: bool
-
-
-_SOURCE_OPTIONS = (
-    click.option("--format", "source_format", type=click.Choice(sources.NAMES), help="The format of the sources, if their "
-                 "content doesn't show it."),
-    click.option("--encoding", help="The encoding of text without a byte order mark, such as cp1252. Default: UTF-8 or UTF-16, "
-                 "by its bytes."),
-    click.option("--delimiter", help="Of a table: a character, or 'tab'."),
-    click.option("--no-quotes", is_flag=True, help="Quotation marks in a table mean nothing."),
-    click.option("--header/--no-header", default=None, help="Whether the first row of a table has titles."),
-    click.option("--name-column", metavar="COLUMN", help="The column or member with names: its title, or its number from 1."),
-    click.option("--descriptor-column", metavar="COLUMN", help="The same of the descriptors."),
-    click.option("--object-names", metavar="FILE", help="A file with the names of plain lines, as many as the list has lines."),
-    click.option("--type", "kind", type=click.Choice(rights.KINDS), help="What the rights mean: those of files (default), "
-                 "registry keys, directory objects, services or event logs."),
-    click.option("--attribute", "attributes", metavar="NAME", multiple=True, help="The extended attribute with the descriptor. Default: "
-                 f"{' or '.join(DEFAULT_ATTRIBUTES)}."),
-    click.option("--domain", metavar="SID", default="", help="The SID whose aliases, such as DA, are read."),
-    click.option("--sid-names", metavar="FILE", help="A file with the names of SIDs: CSV, lines of SID and name, or LDIF."),
-)
-_REPORT_OPTIONS = {
-    "to": click.option("--to", type=click.Choice(tuple(outputs.OUTPUTS)), default="table", show_default=True,
-                       help="The form of the report."),
-    "out": click.option("--out", metavar="FILE", help="The file of the report. Default: standard output."),
-    "lists": click.option("--list", "lists", type=click.Choice(["found", "all"]), help="Whether the report lists objects with "
-                          "nothing found. Default: all in csv and jsonl. Each report counts all."),
-    "most": click.option("--most", default=outputs.TABLE_ROWS, show_default=True, help="Rows of the table; 0 for all."),
-    "into": click.option("--into", metavar="FILE", help="A new file that keeps the objects, for the next question: name it as "
-                         "a source."),
-    "jobs": click.option("--jobs", type=click.IntRange(1, 512), help="Processes that answer. Default: one for each processor."),
-    "no_bar": click.option("--no-bar", is_flag=True, help="No progress bar."),
-}
-# What an option says that a command doesn't have.
-_UNSAID = {"to": "table", "lists": None, "most": outputs.TABLE_ROWS, "into": None, "jobs": None, "no_bar": True}
-
-
-def _with_common(*without: str) -> Callable[[Callable], Callable]:
-    """The options of sources and of reports, but for some, gathered into one argument."""
-    def decorated(command: Callable) -> Callable:
-        @functools.wraps(command)
-        def run(**words: Any) -> Any:
-            words = {**_UNSAID, **words}
-            return command(_common(words), **words)
-
-        for option in reversed([*_SOURCE_OPTIONS, *(one for name, one in _REPORT_OPTIONS.items() if name not in without)]):
-            run = option(run)
-        return run
-    return decorated
-
-
-def _common(given: dict) -> Common:
-    """Takes the common words out of all words."""
-    domain = given.pop("domain")
-    if domain:
-        domain = answers.sid_of_text(domain)
-    delimiter = given.pop("delimiter")
-    delimiter = "\t" if delimiter in ("tab", "\\t") else delimiter
-    if delimiter is not None and (len(delimiter) != 1 or delimiter in '"\r\n'):
-        raise OpeningFault("--delimiter is one character, or 'tab'")
-    encoding = given.pop("encoding")
-    if encoding:
+    def main(self, *given: Any, **more: Any) -> Any:
         try:
-            codecs.getincrementaldecoder(encoding)("strict").decode(b"")
-        except (LookupError, TypeError) as error:
-            raise OpeningFault(f"--encoding: {encoding!r} is no encoding of text") from error
-    sid_names = given.pop("sid_names")
-    options = SourceOptions(
-        given.pop("source_format"), encoding, delimiter, not given.pop("no_quotes"), given.pop("header"),
-        given.pop("name_column"), given.pop("descriptor_column"), given.pop("object_names"), given.pop("kind"),
-        given.pop("attributes") or DEFAULT_ATTRIBUTES)
-    lists = given.pop("lists")
-    # Rows that come on a terminal leave no place for a bar.
-    to, out = given.pop("to"), given.pop("out")
-    return Common(options, Question(domain, Names(read_names(sid_names, domain) if sid_names else None)), given.pop("jobs"),
-                  to, out, None if lists is None else lists == "all", given.pop("most"),
-                  given.pop("into"), not given.pop("no_bar") and (to == "table" or out is not None or not sys.stdout.isatty()))
+            return super().main(*given, **more)
+        except SystemExit as error:
+            raise BrokenPipeError(0, "whoever reads the report has closed it") from error
 
 
-@click.group(context_settings={"help_option_names": ["-h", "--help"], "max_content_width": 120})
+@click.group(cls=_Group, context_settings={"help_option_names": ["-h", "--help"], "max_content_width": 120})
 @click.version_option(sdtool.version(), prog_name="sdtool-audit")
 def cli() -> None:
     """Asks questions about the permissions of named objects.
@@ -150,110 +72,9 @@ def cli() -> None:
     """
 
 
-class _Output(NamedTuple):
-    file: TextIO
-    name: str
-
-
-@contextlib.contextmanager
-def _opened(out: Optional[str], inputs: Sequence[str]) -> Iterator[TextIO]:
-    """Where a report goes."""
-    if out is None:
-        sys.stdout.reconfigure(encoding="utf-8", errors=AS_THEY_CAME, newline="\n")  # type: ignore[union-attr]
-        yield sys.stdout
-        sys.stdout.flush()
-        return
-    for path in inputs:
-        if path != STANDARD_INPUT and os.path.exists(out) and os.path.exists(path) and os.path.samefile(out, path):
-            raise OpeningFault(f"--out {out} is a source")
-    try:
-        file = open(out, "w", encoding="utf-8", errors=AS_THEY_CAME, newline="")
-    except OSError as error:
-        raise OpeningFault(f"--out {out}: {error.strerror}") from error
-    with file:
-        yield file
-
-
-class _Bar:
-    """Progress on standard error, if that is a terminal: objects, objects a second, and the time that is left."""
-
-    def __init__(self, paths: Sequence[str], wanted: bool) -> None:
-        self._progress: Any = None
-        self._count = 0
-        self._bytes = 0
-        if not wanted or not sys.stderr.isatty():
-            return
-        from rich.console import Console
-        from rich.progress import BarColumn, Progress, TextColumn, TimeElapsedColumn, TimeRemainingColumn
-        self._progress = Progress(TextColumn("{task.fields[objects]:,} objects"), BarColumn(), TextColumn("{task.fields[rate]:,.0f}/s"),
-                                  TimeElapsedColumn(), TimeRemainingColumn(), console=Console(stderr=True), transient=True,
-                                  # It would send what is written to standard output to the terminal.
-                                  redirect_stdout=False, redirect_stderr=False)
-        sizes = [os.path.getsize(path) if os.path.isfile(path) else None for path in paths]
-        total = None if None in sizes else sum(size for size in sizes if size is not None)
-        self._task = self._progress.add_task("", total=total, objects=0, rate=0.0)
-        self._progress.start()
-
-    def read(self, count: int) -> None:
-        self._bytes += count
-
-    def count(self, items: Iterable[Item]) -> Iterable[Item]:
-        """The objects, which are counted as they pass."""
-        return items if self._progress is None else self._counted(items)
-
-    def _counted(self, items: Iterable[Item]) -> Iterator[Item]:
-        for number, item in enumerate(items, 1):
-            if number % 5000 == 0:
-                self.advance(5000)
-            yield item
-
-    def advance(self, count: int) -> None:
-        """Tells that so many objects have passed."""
-        self._count += count
-        if self._progress is not None:
-            elapsed = self._progress.tasks[0].elapsed or 0
-            self._progress.update(self._task, completed=self._bytes, objects=self._count,
-                                  rate=self._count / elapsed if elapsed else 0)
-
-    def stop(self) -> None:
-        """Clears the bar, before anything else is written to the terminal."""
-        if self._progress is not None:
-            self._progress.stop()
-            self._progress = None
-
-
-def _paths(given: Sequence[str]) -> List[str]:
-    """The sources; without any, standard input if it is no terminal."""
-    if not given:
-        if sys.stdin is None or sys.stdin.isatty():
-            raise OpeningFault("name a source, such as export.csv")
-        return [STANDARD_INPUT]
-    if list(given).count(STANDARD_INPUT) > 1:
-        raise OpeningFault("standard input can be named once")
-    for path in given:
-        if path != STANDARD_INPUT and not os.path.exists(path):
-            raise OpeningFault(f"{path}: no such file or folder")
-    return list(given)
-
-
-def _begin_all(paths: Sequence[str], options: SourceOptions) -> None:
-    """Reads the first object of each file: a table without a column for descriptors is told before the report begins."""
-    for path in paths:
-        if os.path.isfile(path) and not sources.is_database(path):
-            next(sources.read(path, options), None)
-
-
-def _items(paths: Sequence[str], options: SourceOptions, bar: _Bar) -> Iterator[Item]:
-    for path in paths:
-        if sources.is_database(path):
-            yield from cache.items(path)
-        else:
-            yield from sources.read(path, options, bar.read)
-
-
-def _rights_first(given: Sequence[str]) -> Tuple[rights.Wanted, List[str]]:
+def _rights_first(given: Sequence[str], common: Common) -> Tuple[rights.Wanted, List[str]]:
     """Words for rights, up to the first that is none; the rest are sources."""
-    taken = []
+    taken: List[str] = []
     for word in given:
         try:
             rights.wanted([word])
@@ -263,107 +84,49 @@ def _rights_first(given: Sequence[str]) -> Tuple[rights.Wanted, List[str]]:
     if not taken:
         first = f"{given[0]!r} is no right" if given else "no right is named"
         raise OpeningFault(f"{first}: name at least one, such as change, before the sources; "
-                           f"the words are {', '.join(rights.WORDS)}")
-    return rights.wanted(taken), _paths(given[len(taken):])
+                           f"the words are {', '.join((*rights.WORDS, rights.FULL_WORD))}")
+    return rights.wanted(taken), paths_of(given[len(taken):], common)
 
 
-@contextlib.contextmanager
-def _reported(common: Common, rules: Sequence[Rule], title: str, paths: Sequence[str],
-              accepted: Optional[Accepted] = None) -> Iterator[Report]:
-    """A report that is written and ended."""
-    with _opened(common.out, paths) as file:
-        output = _output(common, rules, title, file)
-        output.begin()
-        report = Report(output, accepted)
-        yield report
-        output.end(report.summary)
-    if common.to != "table" or common.out is not None:
-        click.echo(report.summary.text(), err=True)
-    if accepted is not None:
-        _tell_accepted(accepted)
-
-
-def _output(common: Common, rules: Sequence[Rule], title: str, file: TextIO) -> outputs.Output:
-    # What the page needs to show a descriptor as the answers do.
-    about = {"domain": common.question.domain, "names": list(common.question.names.given.items())}
-    return outputs.output_of(common.to, file, rules, common.lists_all, title, common.most, about)
-
-
-def _report(common: Common, rules: Sequence[Rule], title: str, paths: Sequence[str], found: Iterable[Answered],
-            bar: _Bar) -> int:
-    """Writes a report of answers, and gives the exit status."""
-    with _reported(common, rules, title, paths) as report:
-        report.add(found)
-        bar.stop()
-    return report.summary.status()
-
-
-def _tell_accepted(accepted: Accepted) -> None:
-    for entry in accepted.expired:
-        click.echo(f"accepted until {entry.until}, which is over: {entry.rule}, {outputs.shown(entry.name)}", err=True)
-    for entry in accepted.unused():
-        click.echo(f"accepted and not found: {entry.rule}, {outputs.shown(entry.name)}", err=True)
-
-
-def _ask(common: Common, question: Any, title: str, paths: Sequence[str], accepted: Optional[Accepted] = None) -> int:
-    """Asks a question of every object of the sources."""
-    engine = Engine(question, common.jobs)
-    _begin_all(paths, common.options)
-    bar = _Bar(paths, common.bar)
-    try:
-        with _reported(common, question.rules, title, paths, accepted) as report:
-            asked = None
-            if len(paths) == 1 and sources.is_database(paths[0]) and not report.output.lists_all and not common.into:
-                asked = cache.Asked(paths[0], engine)
-            if asked is not None and asked.is_small():
-                asked.report(report)
-            elif common.into or engine.jobs < 2:
-                with cache.kept(common.into) as keep:
-                    report.add(engine.answer(keep(bar.count(_items(paths, common.options, bar)))))
-            else:
-                make_output = functools.partial(_output, common, question.rules, title)
-                _ask_tables(common, question, make_output, report, engine, paths, bar)
-            bar.stop()
-        return report.summary.status()
-    finally:
-        bar.stop()
-
-
-def _ask_tables(common: Common, question: Any, make_output: Callable, report: Report, engine: Engine, paths: Sequence[str],
-                bar: _Bar) -> None:
-    """Reports every object, those of tables by several processes."""
-    tables = Tables(question, make_output, report, engine, engine.jobs, bar.advance)
-    try:
-        for path in paths:
-            if sources.is_database(path):
-                report.add(engine.answer(bar.count(cache.items(path))))
-                continue
-            for unit in split(sources.read_tables(path, common.options, bar.read)):
-                if isinstance(unit, Table):
-                    tables.add(unit)
-                else:
-                    report.add(engine.answer(bar.count(unit)))
-    finally:
-        tables.close()
+def _abilities_first(given: Sequence[str], common: Common) -> Tuple[Tuple[str, ...], List[str]]:
+    """Words for what somebody can do with a directory object, up to the first that is none; the rest are sources."""
+    known = Having.names()
+    count = next((at for at, word in enumerate(given) if word.lower() not in known), len(given))
+    return tuple(word.lower() for word in given[:count]), paths_of(given[count:], common) if count else []
 
 
 @cli.command(short_help="Who gets any of the rights: RIGHT.. SOURCE..")
 @click.argument("words", nargs=-1, metavar="RIGHT.. SOURCE..")
 @click.option("--groups", metavar="FILE", help="Who is in which group: an LDIF, or lines of GROUP,MEMBER,..; groups are then expanded.")
-@click.option("--most-members", default=1000, show_default=True, help="A group with more members isn't expanded.")
-@_with_common()
-def who(common: Common, words: Sequence[str], groups: Optional[str], most_members: int) -> int:
+@click.option("--most-members", default=1000, type=click.IntRange(0), show_default=True, metavar="N", help="A group with more "
+              "members isn't expanded.")
+@click.option("--trusted", metavar="SID", multiple=True, help="SIDs that are left to a count, beside System, Administrators, "
+              "TrustedInstaller and the administrators of a domain.")
+@click.option("--all-trustees", is_flag=True, help="Trusted trustees are listed too.")
+@with_common()
+def who(common: Common, words: Sequence[str], groups: Optional[str], most_members: int, trusted: Sequence[str],
+        all_trustees: bool) -> int:
     """Who gets any of the rights: RIGHT.. SOURCE..
 
     Each trustee that an ACE names, and the owner, is checked with its own SID, Everyone and Authenticated Users. Trustees
-    that an ACE names and a deny stops are listed too.
+    that an ACE names and a deny stops are listed too. Of a directory, RIGHT can be what somebody can do, such as dcsync.
     """
-    wanted, paths = _rights_first(words)
+    abilities, paths = _abilities_first(words, common)
+    wanted, paths = (None, paths) if abilities else _rights_first(words, common)
+    check_files(common, paths, files.named("--groups", groups))
+    trust = names.Trust(_sids(trusted, common.question.domain), common.domains)
     known = read_groups(groups, common.question.domain) if groups else None
+    for group in known.cut if known else ():
+        say(f"--groups: {shown(group)} is not whole: the file has a range of its members")
     if known:
-        names = Names({**known.names, **common.question.names.given})
-        common = common._replace(question=common.question._replace(names=names))
-    return _ask(common, Who(common.question, wanted, known, most_members), f"Who gets: {wanted.words}", paths)
+        named = Names({**known.names, **common.question.names.given})
+        common = common._replace(question=common.question._replace(names=named))
+    listed = Asked(known, most_members, trust, all_trustees)
+    if wanted is None:
+        if known:
+            raise OpeningFault("--groups expands who gets rights, and not what somebody can do with a directory object")
+        return asked.ask(common, Asking(Having(common.question, abilities, listed), f"Who can: {', '.join(abilities)}", paths))
+    return asked.ask(common, Asking(Who(common.question, wanted, listed), f"Who gets: {wanted.words}", paths))
 
 
 @cli.command(short_help="What a user gets of the rights: TOKEN RIGHT.. SOURCE..")
@@ -371,21 +134,27 @@ def who(common: Common, words: Sequence[str], groups: Optional[str], most_member
 @click.argument("words", nargs=-1, metavar="RIGHT.. SOURCE..")
 @click.option("--level", type=click.IntRange(0, 2**32 - 1), help="The integrity level of the token, such as 8192.")
 @click.option("--self", "principal_self", metavar="SID", default="", help="The SID that Principal Self stands for.")
-@_with_common()
-def can(common: Common, token: str, words: Sequence[str], level: Optional[int], principal_self: str) -> int:
+@click.option("--exact", is_flag=True, help="The token has the SIDs that are listed and no others.")
+@with_common()
+def can(common: Common, token: str, words: Sequence[str], level: Optional[int], principal_self: str, exact: bool) -> int:
     """What a user gets of the rights: TOKEN RIGHT.. SOURCE..
 
     TOKEN is a file that 'whoami /all', 'id' or a directory's tokenGroups made, a file with a SID in each line, or SIDs with
-    commas between them; '!' before one makes it deny-only.
+    commas between them; '!' before one makes it deny-only. A user's SID brings Everyone and Authenticated Users.
     """
-    wanted, paths = _rights_first(words)
-    holder = read_token(token, common.question.domain)
+    wanted, paths = _rights_first(words, common)
+    check_files(common, paths, [files.Named("the token", token)])
+    holder = read_token(token, common.question.domain, exact)
     if level is not None:
         holder = holder._replace(level=level)
     if principal_self:
         holder = holder._replace(principal_self=answers.sid_of_text(principal_self, common.question.domain))
     answers.granted("sddl", ["D:"], holder, "file", 1)  # wrong words are told before the first object
-    return _ask(common, Can(common.question, holder, wanted), f"What {token} gets of: {wanted.words}", paths)
+    in_full = in_words(holder, common.question.names)
+    for line in (f"the token: {in_full}", *holder.notes):
+        say(line)
+    named = token if is_spelled(token, holder, common.question.domain) else f"{token} ({in_full})"
+    return asked.ask(common, Asking(Can(common.question, holder, wanted), f"What {named} gets of: {wanted.words}", paths))
 
 
 def _sids(given: Sequence[str], domain: str) -> Tuple[str, ...]:
@@ -404,24 +173,93 @@ def _rule_names(given: str) -> Tuple[str, ...]:
 
 @cli.command("risks", short_help="What is risky: SOURCE..")
 @click.argument("given", nargs=-1, metavar="SOURCE..")
-@click.option("--trusted", metavar="SID", multiple=True, help="SIDs that may change permissions and owners, beside System, Administrators, "
+@click.option("--trusted", metavar="SID", multiple=True, help="SIDs that may have any right, beside System, Administrators, "
               "TrustedInstaller and the administrators of a domain.")
-@click.option("--owner", "owners", metavar="SID", multiple=True, help="SIDs that may own an object, beside the same. Without it no owner is "
-              "foreign.")
+@click.option("--owner", "owners", metavar="SID", multiple=True, help="SIDs that may own an object, beside the same.")
+@click.option("--forest-root", metavar="SID", help="The domain of the forest's own groups, such as Enterprise Admins, if it isn't "
+              "one of --domain.")
+@click.option("--schema", metavar="FILE", help="An LDIF of the directory's schema: its classes then say which ACEs are Windows' own.")
 @click.option("--rules", metavar="NAME,..", help="The rules to use, with commas; with '-' before the first, all but these.")
 @click.option("--accept", metavar="FILE", help="A TOML file with findings that are accepted.")
-@_with_common()
-def ask_risks(common: Common, given: Sequence[str], trusted: Sequence[str], owners: Sequence[str], rules: Optional[str],
-              accept: Optional[str]) -> int:
+@click.option("--min-severity", type=click.Choice(SEVERITIES), default=SEVERITIES[-1], help="The slightest findings that are "
+              "reported. Default: all.")
+@click.option("--fail-on", type=click.Choice(SEVERITIES[:-1]), help="The slightest findings that make the exit status 1. "
+              "Default: all that are reported, but notes.")
+@click.option("--baseline", metavar="FILE", help="A database of --into, or a report in JSON lines: only what is new, changed or "
+              "mended since then is reported.")
+@with_common()
+def ask_risks(common: Common, given: Sequence[str], trusted: Sequence[str], owners: Sequence[str], forest_root: Optional[str],
+              schema: Optional[str], rules: Optional[str], accept: Optional[str], min_severity: str, fail_on: Optional[str],
+              baseline: Optional[str]) -> int:
     """What is risky about objects.
 
-    'sdtool-audit rules' lists the rules. unknown-sid needs --sid-names, foreign-owner needs --owner.
+    'sdtool-audit rules' lists the rules. unknown-sid needs --sid-names. readable is used if --rules names it.
     """
     domain = common.question.domain
-    lists = risks.Lists(risks.TRUSTED + _sids(trusted, domain), risks.OWNERS + _sids(owners, domain) if owners else None,
-                        _rule_names(rules) if rules else risks.RULE_NAMES)
+    root = answers.sid_of_text(forest_root) if forest_root else ""
+    trust = names.Trust(_sids(trusted, domain), common.domains, root)
+    lists = risks.Lists(trust, _sids(owners, domain), _rule_names(rules) if rules else risks.DEFAULT_RULES, severity=min_severity)
+    paths = paths_of(given, common)
+    read = [named for option, path in (("--accept", accept), ("--schema", schema), ("--baseline", baseline))
+            for named in files.named(option, path)]
+    check_files(common, paths, read)
+    for one in read:
+        files.require(one)
     accepted = read_accepted(accept, risks.RULE_NAMES) if accept else None
-    return _ask(common, risks.Risks(common.question, lists), "Risks", _paths(given), accepted)
+    known = forest.Schema(schema, domain) if schema else None
+    if not common.domains:
+        say("the administrators of every domain are trusted: --domain SID trusts those of one domain alone")
+    before = _baseline(common, baseline, lists, known) if baseline else None
+    question, found = _risks(common, paths, lists, known)
+    return asked.ask(common, Asking(question, "Risks", paths, accepted, found, before, fail_on))
+
+
+def _risks(common: Common, paths: Sequence[str], lists: risks.Lists,
+           schema: Optional[forest.Schema]) -> Tuple[risks.Risks, Optional[forest.Forest]]:
+    """The question what is risky about sources. The objects of directories among them are read a first time."""
+    found = _forest(common, paths, lists.trust)
+    accounts = {sid: name for sid, name in common.question.names.given.items() if name in windows_defaults.ACCOUNTS}
+    if schema:
+        lists = lists._replace(of_classes=tuple(schema.of_classes), named_types=schema.named_types)
+    lists = lists._replace(accounts={**accounts, **_accounts(paths, found)}, heirs=found.heirs if found else {})
+    return risks.Risks(common.question, lists), found
+
+
+def _baseline(common: Common, path: str, lists: risks.Lists, schema: Optional[forest.Schema]) -> Baseline:
+    """What a kept report or database has found."""
+    baseline = Baseline()
+    if not is_database(path):
+        baseline.fill(read_report(path))
+        return baseline
+    cache.require_whole(path)
+    question, found = _risks(common, [path], lists, schema)
+    items = cache.items(path)
+    with engine_of(question, common.jobs or processors()) as engine:
+        baseline.fill(engine.answer(found.placed(items) if found else items))
+    return baseline
+
+
+def _forest(common: Common, paths: Sequence[str], trust: names.Trust) -> Optional[forest.Forest]:
+    """The objects of directories among the sources, read a first time. Standard input and pipes can be read only once."""
+    found = None
+    for path in paths:
+        if path == STANDARD_INPUT or not files.can_be_read_again(path):
+            continue
+        items = asked.items_of(common, [path], Bar([path], False))
+        first = next((item for item in items if item.form), None)
+        if first is not None and first.place not in ("", WITHOUT_OWNER):
+            found = found or forest.Forest(common.question.domain, trust)
+            found.read(asked.items_of(common, [path], Bar([path], False)))
+    return found
+
+
+def _accounts(paths: Sequence[str], found: Optional[forest.Forest]) -> Dict[str, str]:
+    """The accounts without a fixed number that sources name."""
+    accounts: Dict[str, str] = {}
+    for path in paths if found else ():
+        if path != STANDARD_INPUT and files.can_be_read_again(path) and not is_database(path) and forest.is_ldif(path):
+            accounts.update(forest.accounts_of(path))
+    return accounts
 
 
 @cli.command(short_help="What changed between two lists of the same objects: OLD NEW")
@@ -430,50 +268,55 @@ def ask_risks(common: Common, given: Sequence[str], trusted: Sequence[str], owne
 @click.option("--old-root", metavar="TEXT", help="The beginning of the old names that is left out when names are compared, such "
               "as a snapshot's folder. Of a folder it is the folder.")
 @click.option("--new-root", metavar="TEXT", help="The same of the new names.")
-@_with_common("into")
+@with_common("into")
 def diff(common: Common, old: str, new: str, old_root: Optional[str], new_root: Optional[str]) -> int:
     """What changed between two lists of the same objects: OLD NEW."""
-    paths = _paths([old, new])
-    question = Differences(common.question, common.jobs)
-    _begin_all(paths, common.options)
-    bar = _Bar(paths, common.bar)
-    try:
+    paths = paths_of([old, new], common)
+    check_files(common, paths)
+    question = Differences(common.question)
+    asked.begin_all(common, paths)
+    bar = Bar(paths, common.bar)
+    with engine_of(question, common.jobs or processors()) as engine:
         for table, path, root in (("old", old, old_root), ("new", new, new_root)):
-            is_folder = os.path.isdir(path) and root is None
-            question.read(table, _items([path], common.options, bar), path if is_folder else root or "")
-        return _report(common, question.rules, f"Changes from {old} to {new}", paths, question.answered(), bar)
-    finally:
-        bar.stop()
+            question.read(table, asked.items_of(common, [path], bar), files.root_of(path) if root is None else root)
+        try:
+            return asked.report_of(common, Asking(question, f"Changes from {old} to {new}", paths), question, bar,
+                                   functools.partial(question.answered, engine))
+        finally:
+            bar.stop()
 
 
 @cli.command(short_help="What isn't as its folder hands it on: SOURCE..")
 @click.argument("given", nargs=-1, metavar="SOURCE..")
 @click.option("--fix", metavar="FILE", help="A file for what would have to be written: CSV with name and SDDL. Nothing else is changed.")
-@_with_common()
+@with_common()
 def inherit(common: Common, given: Sequence[str], fix: Optional[str]) -> int:
     """Objects whose inherited ACEs are not those that their folder hands on."""
-    paths = _paths(given)
-    question = Inheritance(common.question, common.jobs)
-    _begin_all(paths, common.options)
-    bar = _Bar(paths, common.bar)
-    try:
-        with cache.kept(common.into) as keep, question.fixing(fix, paths):
-            found = question.answered(keep(bar.count(_items(paths, common.options, bar))))
-            return _report(common, question.rules, "Inheritance", paths, found, bar)
-    finally:
-        bar.stop()
+    paths = paths_of(given, common)
+    check_files(common, paths, (), files.named("--fix", fix))
+    question = Inheritance(common.question)
+    asked.begin_all(common, paths)
+    bar = Bar(paths, common.bar)
+    with cache.kept(common.into) as keep, question.fixing(fix), engine_of(question, common.jobs or processors()) as engine:
+        items = keep(bar.count(asked.items_of(common, paths, bar)))
+        try:
+            return asked.report_of(common, Asking(question, "Inheritance", paths), question, bar,
+                                   functools.partial(question.answered, items, engine))
+        finally:
+            bar.stop()
 
 
 @cli.command(short_help="Objects in words: SOURCE..")
 @click.argument("given", nargs=-1, metavar="SOURCE..")
 @click.option("--name", help="The name of the object; * stands for any text. Default: all objects.")
-@_with_common(*_UNSAID)
+@with_common(*(option for option in OF_REPORTS if option != "out"))
 def show(common: Common, given: Sequence[str], name: Optional[str]) -> int:
     """Objects in words."""
-    paths = _paths(given)
-    _begin_all(paths, common.options)
-    with _opened(common.out, paths) as file:
-        return describing.show(_items(paths, common.options, _Bar(paths, False)), name, common.question, file)
+    paths = paths_of(given, common)
+    check_files(common, paths)
+    asked.begin_all(common, paths)
+    with asked.opened(common.out) as file:
+        return describing.show(asked.items_of(common, paths, Bar(paths, False)), name, common.question, file)
 
 
 @cli.command("rights")
@@ -498,26 +341,43 @@ def _status() -> int:
         # Without a status of its own a command has shown help or a version.
         return cli.main(prog_name="sdtool-audit", standalone_mode=False) or FOUND_NOTHING
     except click.ClickException as error:
-        error.show()
+        say(_usage(error))
         return WRONG_WORDS
     except _FAULTS as error:
-        click.echo(f"sdtool-audit: {outputs.shown(str(error))}", err=True)
+        say(f"sdtool-audit: {shown(str(error))}")
         return WRONG_WORDS
-    except click.Abort:
-        click.echo("sdtool-audit: interrupted, so the report isn't whole", err=True)
+    except (click.Abort, stopping.Stopped):
+        say(stopping.INTERRUPTED)
+    except MemoryError:
+        say("sdtool-audit: out of memory, so the report isn't whole")
     except Exception as error:  # whatever it is, the status must not be the one for something found
-        told = f"{type(error).__name__}: {error}" if not isinstance(error, OSError) else str(error)
-        click.echo(f"sdtool-audit: the report isn't whole: {outputs.shown(told)}", err=True)
-    return SOME_UNKNOWN
+        say(f"sdtool-audit: the report isn't whole: {shown(_reason(error))}")
+    return stopping.NOT_WHOLE
+
+
+def _usage(error: click.ClickException) -> str:
+    """What click says about wrong words."""
+    context = error.ctx if isinstance(error, click.UsageError) else None
+    hint = f"{context.get_usage()}\nTry '{context.command_path} --help' for help.\n\n" if context is not None else ""
+    return f"{hint}Error: {shown(error.format_message())}"
+
+
+def _reason(error: Exception) -> str:
+    if isinstance(error, OSError):
+        return error.strerror if error.strerror and error.filename is None else str(error)
+    if type(error).__name__ == "BrokenProcessPool":
+        return "a process that answers was ended from outside"
+    return f"{type(error).__name__}: {error}"
 
 
 def main() -> None:
-    # Objects and answers have no cycles, and looking for some takes a fifth of the time.
-    gc.set_threshold(200_000)
-    status = _status()
     try:
-        sys.stdout.flush()
-    except OSError:
-        status = SOME_UNKNOWN
-        os.dup2(os.open(os.devnull, os.O_WRONLY), sys.stdout.fileno())
-    sys.exit(status)
+        stopping.open_streams()
+        stopping.listen()
+        # Objects and answers have no cycles, and looking for some takes a fifth of the time.
+        gc.set_threshold(200_000)
+        status = _status()
+    except stopping.Stopped:  # before the command began, or after it ended
+        say(stopping.INTERRUPTED)
+        status = stopping.NOT_WHOLE
+    stopping.end(status)

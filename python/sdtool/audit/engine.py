@@ -1,20 +1,21 @@
 """Answers for a stream of objects: each descriptor is answered once, by all processors, and the order is kept."""
 import collections
 import concurrent.futures
+import contextlib
 import itertools
-import multiprocessing
-import os
 from typing import Any, Deque, Dict, Iterable, Iterator, List, NamedTuple, Optional, Set, Tuple
 
-from sdtool.audit.items import UNREADABLE, Item
-from sdtool.audit.questions import Answer, unknown
+from sdtool.audit import pool
+from sdtool.audit.protocols import Question
+from sdtool.audit.questions.answers import AnswersFault
+from sdtool.audit.questions.asking import Answer, unknown
+from sdtool.audit.sources.items import UNREADABLE, WITHOUT_OWNER, Item
 
 CHUNK = 4_000          # objects that are answered together
 _AHEAD = 3             # chunks under way for each worker
 _MOST_CHARACTERS = 16 << 20  # of descriptors whose answers are kept, in either generation
 Key = Tuple[str, str, str]  # form, kind, text
-
-_question: Any = None
+_PLACE = "\0"  # between a kind and a place
 
 
 class Answered(NamedTuple):
@@ -22,22 +23,39 @@ class Answered(NamedTuple):
     answer: Answer
 
 
-def _start(question: Any) -> None:
-    global _question
-    _question = question
+class Held(NamedTuple):
+    """What the processes of a pool hold: the question, and what makes a report of a block."""
+
+    question: Question
+    make_report: Any = None
 
 
 def _answer_groups(groups: Dict[Tuple[str, str], List[str]]) -> List[Tuple[Key, Answer]]:
-    return answer_groups(_question, groups)
+    return answer_groups(pool.held().question, groups)
 
 
-def answer_groups(question: Any, groups: Dict[Tuple[str, str], List[str]]) -> List[Tuple[Key, Answer]]:
+def answer_groups(question: Question, groups: Dict[Tuple[str, str], List[str]]) -> List[Tuple[Key, Answer]]:
     """The answers to descriptors, which are grouped by form and kind."""
     found: List[Tuple[Key, Answer]] = []
-    for (form, kind), texts in groups.items():
-        answers = question.answer(form, kind, texts)
-        found += [((form, kind, text), answer) for text, answer in zip(texts, answers)]
+    for (form, placed), texts in groups.items():
+        kind, _, place = placed.partition(_PLACE)
+        answers = question.answer(form, kind, texts, place)
+        if len(answers) != len(texts):
+            raise AnswersFault(f"{len(texts)} descriptors have {len(answers)} answers")
+        found += [((form, placed, text), answer) for text, answer in zip(texts, answers)]
     return found
+
+
+# What a question asks of the places of objects: nothing, whether their sources have owners, or all.
+NO_PLACES, OWNERS, ALL_PLACES = "", "owners", "all"
+
+
+def _keys(items: List[Item], asks: str) -> List[Key]:
+    """What the answer for an object depends on: form, kind and text, and its place if the question asks for it."""
+    if not asks or not any(item.place for item in items):
+        return [(item[3], item[5], item[4]) for item in items]
+    return [(item[3], item[5] + _PLACE + item.place if item.place and (asks == ALL_PLACES or item.place == WITHOUT_OWNER)
+             else item[5], item[4]) for item in items]
 
 
 class _Memory:
@@ -85,29 +103,27 @@ def _unread(item: Item) -> Answer:
 
 
 class Engine:
-    """Answers a question for objects."""
+    """Answers a question for objects: by this process, and by those of a pool if it has one."""
 
-    def __init__(self, question: Any, jobs: Optional[int] = None) -> None:
+    def __init__(self, question: Question, workers: Optional[pool.Pool] = None) -> None:
         self._question = question
-        self.jobs = jobs or len(os.sched_getaffinity(0))
+        self._asks_places = question.asks_places
+        self._pool = workers if workers is not None and workers.jobs > 1 else None
         self._memory = _Memory()
-        self._pool: Optional[concurrent.futures.ProcessPoolExecutor] = None
         self._under_way: Set[Key] = set()
+        self.seen = 0  # objects that the sources have given
 
     def answer(self, items: Iterable[Item]) -> Iterator[Answered]:
         """Each object with its answer, in order."""
         waiting: Deque[_Chunk] = collections.deque()
-        try:
-            for number, chunk in enumerate(_chunks(items)):
-                keys = [(item[3], item[5], item[4]) for item in chunk]  # form, kind and text
-                waiting.append(_Chunk(chunk, keys, self._begin(keys, number)))
-                while len(waiting) > (self.jobs * _AHEAD if self._pool else 0):
-                    yield from self._end(waiting.popleft())
-            while waiting:
+        for number, chunk in enumerate(_chunks(items)):
+            self.seen += len(chunk)
+            keys = _keys(chunk, self._asks_places)
+            waiting.append(_Chunk(chunk, keys, self._begin(keys, number)))
+            while len(waiting) > (self._pool.jobs * _AHEAD if self._pool and self._pool.has_begun else 0):
                 yield from self._end(waiting.popleft())
-        finally:
-            if self._pool:
-                self._pool.shutdown(wait=True, cancel_futures=True)
+        while waiting:
+            yield from self._end(waiting.popleft())
 
     def _begin(self, keys: List[Key], number: int) -> Any:
         """Has the descriptors of a chunk answered that are new."""
@@ -120,11 +136,8 @@ class Engine:
         if not groups:
             return None
         # A short source is answered before workers would have started.
-        if self.jobs < 2 or number < 2:
+        if self._pool is None or number < 2:
             return answer_groups(self._question, groups)
-        if not self._pool:
-            context = multiprocessing.get_context("fork")
-            self._pool = concurrent.futures.ProcessPoolExecutor(self.jobs, context, _start, (self._question,))
         return self._pool.submit(_answer_groups, groups)
 
     def _end(self, chunk: _Chunk) -> Iterator[Answered]:
@@ -143,3 +156,13 @@ class Engine:
             return unknown(item.text, item.help)
         # It may have been forgotten in the meantime.
         return self._memory.get(key) or answer_groups(self._question, {key[:2]: [key[2]]})[0][1]
+
+
+@contextlib.contextmanager
+def engine_of(question: Question, jobs: int) -> Iterator[Engine]:
+    """An engine with a pool of its own."""
+    workers = pool.Pool(jobs, Held(question))
+    try:
+        yield Engine(question, workers)
+    finally:
+        workers.close()

@@ -1,0 +1,1 @@
+"""What is asked about each object, and the knowledge that questions need."""

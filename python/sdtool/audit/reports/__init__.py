@@ -1,0 +1,1 @@
+"""Reports of the answers: tables, text, CSV, JSON, HTML, SARIF and databases."""

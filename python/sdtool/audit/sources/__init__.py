@@ -1,0 +1,1 @@
+"""Readers: a source of each format becomes objects with their descriptors."""

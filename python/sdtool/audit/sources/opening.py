@@ -1,0 +1,408 @@
+"""Files, pipes, archives and compressed files, as bytes or as lines of text. Each is opened once and read from its beginning
+to its end."""
+import codecs
+import contextlib
+import io
+import itertools
+import lzma
+import re
+import sys
+import zipfile
+import zlib
+from typing import Any, Callable, Iterator, List, NamedTuple, Optional, Tuple, Union
+
+STANDARD_INPUT = "-"
+HEAD = 1 << 16    # bytes that show what a source is
+CHUNK = 1 << 20   # bytes that are read at once
+LONGEST_LINE = 1 << 23  # characters; what follows in the line is dropped, and no descriptor is so long
+_TOO_LONG = " .. (the line is too long)"  # stands for what was dropped, so that no descriptor is read as whole
+# What the standard library raises when a compressed or encoded source is cut or damaged.
+READ_FAULTS = (OSError, EOFError, zlib.error, lzma.LZMAError, zipfile.BadZipFile, UnicodeError, NotImplementedError,
+               RuntimeError)
+_BOMS = ((codecs.BOM_UTF8, "utf-8"), (codecs.BOM_UTF32_LE, "utf-32-le"), (codecs.BOM_UTF32_BE, "utf-32-be"),
+         (codecs.BOM_UTF16_LE, "utf-16-le"), (codecs.BOM_UTF16_BE, "utf-16-be"))
+_MOST_LAYERS = 4  # of compression and archives
+AS_THEY_CAME = "as-they-came"  # how texts are written: what the source had of other bytes and lone surrogates
+
+
+def _write_surrogates(error: UnicodeError) -> Tuple[bytes, int]:
+    """Bytes that were no UTF-8 go out as they came in; lone surrogates of UTF-16 as three bytes."""
+    if not isinstance(error, UnicodeEncodeError):
+        raise error
+    spelled = b"".join(bytes([ord(one) & 0xff]) if "\udc80" <= one <= "\udcff" else one.encode("utf-8", "surrogatepass")
+                       for one in error.object[error.start:error.end])
+    return spelled, error.end
+
+
+codecs.register_error(AS_THEY_CAME, _write_surrogates)
+
+
+class OpeningFault(Exception):
+    """A source can't be opened, or isn't what the words say."""
+
+
+class EncodingChange(UnicodeError):
+    """The text goes on in another encoding."""
+
+
+class Counted(io.RawIOBase):
+    """A stream that tells how many bytes were read, and gives what one read of the source gives."""
+
+    def __init__(self, raw: Any, tell: Callable[[int], None] = lambda count: None) -> None:
+        super().__init__()
+        self._raw = raw
+        self._tell = tell
+
+    def readable(self) -> bool:
+        return True
+
+    def readinto(self, buffer: Any) -> int:
+        # A pipe gives what it has.
+        data = getattr(self._raw, "read1", self._raw.read)(len(buffer))
+        buffer[:len(data)] = data
+        self._tell(len(data))
+        return len(data)
+
+
+class _Begun(io.RawIOBase):
+    """A stream whose first bytes were read to look at them. A fault that was met there comes behind them."""
+
+    def __init__(self, head: bytes, fault: Optional[Exception], stream: io.BufferedReader) -> None:
+        super().__init__()
+        self._head, self._fault, self._stream = head, fault, stream
+
+    def readable(self) -> bool:
+        return True
+
+    def readinto(self, buffer: Any) -> int:
+        if self._head:
+            data, self._head = self._head[:len(buffer)], self._head[len(buffer):]
+        elif self._fault is not None:
+            raise self._fault
+        else:
+            data = self._stream.read1(len(buffer))
+        buffer[:len(data)] = data
+        return len(data)
+
+
+class Stream(NamedTuple):
+    """One source of bytes: a file, or a member of an archive."""
+
+    label: str
+    raw: io.BufferedReader
+    head: bytes
+
+
+class Trouble(NamedTuple):
+    """A part of an archive that can't be read, and the reason."""
+
+    label: str
+    reason: str
+    help: str
+
+
+Content = Union[Stream, Trouble]
+
+
+class _Unpacked(io.RawIOBase):
+    """What compressed streams hold, one after the other. What is behind the last is a fault, and so is a stream without its
+    end."""
+
+    def __init__(self, stream: io.BufferedReader, make: Callable[[], "_Unpacker"], starts: Tuple[bytes, ...], padding: bool) -> None:
+        super().__init__()
+        self._stream, self._make, self._starts, self._padding = stream, make, starts, padding
+        self._unpacker: Optional[_Unpacker] = make()
+        self._data = b""
+
+    def readable(self) -> bool:
+        return True
+
+    def readinto(self, buffer: Any) -> int:
+        while self._unpacker is not None:
+            if self._unpacker.is_ended:
+                self._data = self._unpacker.rest
+                self._begin_next()
+                continue
+            data = self._unpacker.unpack(self._data, len(buffer))
+            self._data = b""
+            if not data and not self._unpacker.is_ended and self._unpacker.needs_more:
+                self._data = self._stream.read1(8192)
+                if not self._data:
+                    raise EOFError("the compressed data is cut")
+            if data:
+                buffer[:len(data)] = data
+                return len(data)
+        return 0
+
+    def _begin_next(self) -> None:
+        """Begins the next stream, which has to begin as the first did. Between streams may be zeros."""
+        longest = max(map(len, self._starts))
+        while len(self._data) < longest:
+            more = self._stream.read1(8192)
+            if not more:
+                break
+            self._data += more
+            if self._padding:
+                self._data = self._data.lstrip(b"\0")
+        if self._padding:
+            self._data = self._data.lstrip(b"\0")
+        if not self._data:
+            self._unpacker = None
+        elif self._data.startswith(self._starts):
+            self._unpacker = self._make()
+        else:
+            raise OSError("what is behind the compressed data is damaged, or no part of it")
+
+
+class _Unpacker:
+    """One stream of a decompressor of bz2 or lzma."""
+
+    def __init__(self, decompressor: Any) -> None:
+        self._decompressor = decompressor
+
+    def unpack(self, data: bytes, most: int) -> bytes:
+        return bytes(self._decompressor.decompress(data, most))
+
+    @property
+    def is_ended(self) -> bool:
+        return bool(self._decompressor.eof)
+
+    @property
+    def needs_more(self) -> bool:
+        return bool(self._decompressor.needs_input)
+
+    @property
+    def rest(self) -> bytes:
+        return bytes(self._decompressor.unused_data)
+
+
+class _Inflater(_Unpacker):
+    """The same of zlib."""
+
+    def unpack(self, data: bytes, most: int) -> bytes:
+        return bytes(self._decompressor.decompress(self._decompressor.unconsumed_tail + data, most))
+
+    @property
+    def needs_more(self) -> bool:
+        return not self._decompressor.unconsumed_tail
+
+
+def _bzip2() -> _Unpacker:
+    import bz2
+    return _Unpacker(bz2.BZ2Decompressor())
+
+
+def _decompressed(head: bytes, stream: io.BufferedReader) -> Optional[io.RawIOBase]:
+    """The stream below one layer of compression, or None if there is none."""
+    if head.startswith(b"\x1f\x8b"):
+        return _Unpacked(stream, lambda: _Inflater(zlib.decompressobj(31)), (b"\x1f\x8b\x08",), True)
+    if head.startswith(b"BZh") and head[4:10] == b"1AY&SY":
+        return _Unpacked(stream, _bzip2, (b"BZh",), False)
+    if head.startswith((b"\xfd7zXZ\0", b"\x5d\0\0\x80\0")):
+        return _Unpacked(stream, lambda: _Unpacker(lzma.LZMADecompressor()), (b"\xfd7zXZ\0", b"\x5d\0\0"), True)
+    return None
+
+
+def _begun(stream: io.BufferedReader) -> Tuple[bytes, io.BufferedReader]:
+    """The first bytes of a stream, and the stream with them."""
+    head, fault = b"", None
+    try:
+        while len(head) < HEAD:
+            data = stream.read1(CHUNK)
+            if not data:
+                break
+            head += data
+    except READ_FAULTS as error:
+        fault = error
+    return head, io.BufferedReader(_Begun(head, fault, stream), CHUNK)
+
+
+def _contents(label: str, stream: io.BufferedReader, layers: int) -> Iterator[Content]:
+    from sdtool.audit.sources import archives
+    head, begun = _begun(stream)
+    if layers:
+        members = archives.members_of(head, begun, label)
+        if members is not None:
+            for member in members:
+                if isinstance(member, Trouble):
+                    yield member
+                else:
+                    yield from _contents(member.label, io.BufferedReader(Counted(member.raw), CHUNK), layers - 1)
+            return
+        inner = _decompressed(head, begun)
+        if inner is not None:
+            yield from _contents(label, io.BufferedReader(inner, CHUNK), layers - 1)
+            return
+    yield Stream(label, begun, head)
+
+
+def contents(path: str, tell: Callable[[int], None]) -> Iterator[Content]:
+    """What a path holds: one stream, or one for each file of an archive. tell is told how many bytes were read."""
+    with contextlib.ExitStack() as stack:
+        if path == STANDARD_INPUT:
+            raw = sys.stdin.buffer
+        else:
+            try:
+                raw = stack.enter_context(open(path, "rb", buffering=0))
+            except (OSError, ValueError) as error:
+                reason = error.strerror if isinstance(error, OSError) else str(error)
+                raise OpeningFault(f"{path}: {reason}") from error
+        counted = io.BufferedReader(Counted(raw, tell), CHUNK)
+        yield from _contents("stdin" if path == STANDARD_INPUT else path, counted, _MOST_LAYERS)
+
+
+def streams(path: str, tell: Callable[[int], None]) -> Iterator[Stream]:
+    """The streams of a path that has to be read whole."""
+    for content in contents(path, tell):
+        if isinstance(content, Trouble):
+            raise OpeningFault(f"{content.label}: {content.reason}")
+        yield content
+
+
+def encoding_of(head: bytes, named: Optional[str]) -> str:
+    """The encoding of a text by its byte order mark, by its NULs or by name."""
+    if named:
+        return named
+    for mark, encoding in _BOMS:
+        if head.startswith(mark):
+            return encoding
+    at = head.find(b"\0")
+    if at < 0 or _is_utf8(head[:at].rpartition(b"\n")[0]):
+        return "utf-8"
+    sample = head[:len(head) & ~1]
+    low, high = sample[1::2].count(0), sample[0::2].count(0)
+    # ASCII in UTF-16 has a NUL in every second byte, and other scripts have ASCII between them.
+    if low > 4 * high and low > len(sample) // 100:
+        return "utf-16-le"
+    return "utf-16-be" if high > 4 * low and high > len(sample) // 100 else "utf-8"
+
+
+def _is_utf8(data: bytes) -> bool:
+    """Whether bytes that aren't few are UTF-8, most of it ASCII."""
+    try:
+        return 2 * sum(byte < 0x80 for byte in data) > len(data.decode("utf-8").encode()) > 0
+    except UnicodeError:
+        return False
+
+
+def _errors(encoding: str) -> str:
+    """Bytes that aren't UTF-8 are kept, and so are the lone surrogates that a name in NTFS may have."""
+    return "surrogatepass" if codecs.lookup(encoding).name.startswith("utf-16") else "surrogateescape"
+
+
+# UTF-16 or UTF-32 that is read as UTF-8: NULs by turns with other characters.
+_WIDE = re.compile(r"(?:[^\0]\0){3}|(?:\0[^\0]){3}|(?:[^\0]\0{3}){2}")
+# ASCII that is read as UTF-16: characters whose bytes are both ASCII, among them such as are in no name.
+_NARROW = re.compile("[" + "".join(f"{chr(high << 8 | 9)}-{chr(high << 8 | 13)}{chr(high << 8 | 32)}-{chr(high << 8 | 126)}"
+                                   for high in (9, 10, 13, *range(0x20, 0x7f))) + "]{6,}")
+# UTF-16 that is read with its bytes in the other order.
+_SWAPPED = re.compile("[" + "".join(chr(low << 8) for low in (9, 10, 13, *range(0x20, 0x7f))) + "]{6,}")
+_RARE = re.compile("[\u0a0d\u0d0a\u2c00-\u2dff\u3200-\u4dff]")
+
+
+def _changed_at(text: str, is_wide: bool) -> int:
+    """Where a text goes on in another encoding; -1 if it doesn't."""
+    if not is_wide:
+        wide = _WIDE.search(text) if "\0" in text else None
+        return -1 if wide is None else wide.start() + (text[wide.start()] == "\n")
+    swapped = _SWAPPED.search(text)
+    at = min((one for one in (text.find("\ufffe"), swapped.start() if swapped else -1) if one >= 0), default=-1)
+    if at < 0:
+        at = next((found.start() for found in _NARROW.finditer(text) if 3 * len(_RARE.findall(found[0])) >= len(found[0])), -1)
+    return at
+
+
+def chunks(stream: io.BufferedReader, encoding: str) -> Iterator[str]:
+    """The text of a stream, without byte order marks at the beginning and at those of lines."""
+    decoder = codecs.getincrementaldecoder(encoding)(_errors(encoding))
+    is_wide = codecs.lookup(encoding).name.startswith("utf-16")
+    is_first = True
+    while True:
+        data = stream.read1(CHUNK)
+        fault: Optional[UnicodeError] = None
+        try:
+            text = decoder.decode(data, final=not data)
+        except UnicodeDecodeError as error:
+            fault = error
+            # The bytes that the decoder kept from before are the first of the error's.
+            text = codecs.getincrementaldecoder(encoding)(_errors(encoding)).decode(error.object[:error.start])
+        if is_first and text:
+            text = text[1:] if text[0] == "\ufeff" else text
+            is_first = False
+        if "\n\ufeff" in text:
+            text = text.replace("\n\ufeff", "\n")
+        at = _changed_at(text, is_wide)
+        if at >= 0:
+            text, fault = text[:at], EncodingChange("the text goes on in another encoding")
+        if text:
+            yield text
+        if fault is not None:
+            raise fault
+        if not data:
+            return
+
+
+def whole_lines(texts: Iterator[str]) -> Iterator[str]:
+    """A text in parts that end with an LF, but for the last, as many lines together as were read at once. Of a line that is
+    too long, the first part, and words that say so."""
+    rest = ""
+    is_dropping = False
+    for text in texts:
+        if is_dropping:
+            at = text.find("\n")
+            if at < 0:
+                continue
+            text, is_dropping = _TOO_LONG + text[at:], False
+        at = text.rfind("\n") + 1
+        if at:
+            yield rest + text[:at]
+            rest = text[at:]
+        else:
+            rest += text
+        if len(rest) > LONGEST_LINE:
+            rest, is_dropping = rest[:LONGEST_LINE], True
+    if rest:
+        yield rest + _TOO_LONG if is_dropping else rest
+
+
+def blocks(texts: Iterator[str]) -> Iterator[List[str]]:
+    """The lines of a text, without their LF, as many together as were read at once."""
+    for text in whole_lines(texts):
+        parts: List[str] = text.split("\n")
+        if not parts[-1]:
+            parts.pop()
+        yield parts
+
+
+def lines(texts: Iterator[str]) -> Iterator[str]:
+    return itertools.chain.from_iterable(blocks(texts))
+
+
+def without_cr(texts: Iterator[str]) -> Iterator[str]:
+    """Lines, without the CR before their LF."""
+    for line in texts:
+        yield line[:-1] if line.endswith("\r") else line
+
+
+def with_head(texts: Iterator[str]) -> Tuple[str, Iterator[str]]:
+    """The first part of a text, and all of it. A fault that is met there comes behind what was read."""
+    first = ""
+    fault: Optional[Exception] = None
+    while len(first) < HEAD:
+        try:
+            text = next(texts, "")
+        except READ_FAULTS as error:
+            fault = error
+            break
+        if not text:
+            break
+        first += text
+
+    def all_of() -> Iterator[str]:
+        if first:
+            yield first
+        if fault is not None:
+            raise fault
+        yield from texts
+
+    return first, all_of()

@@ -1,0 +1,23 @@
+"""Answers large files on a Dask cluster: python3 -m sdtool.distributed [..] --out URL COMMAND [OPTIONS] -- INPUT..
+
+A task answers a block, which has the lines that begin in a range of bytes, and writes a part and its evidence. Another
+task for each input checks the parts and puts them together. docs/DISTRIBUTED.md describes runs and what they write.
+
+    packed.py     compressed files
+    inputs.py     finds the inputs, and refuses what is none
+    work.py       what a worker does
+    crew.py       which worker does what, and what follows a failure
+    __main__.py   the command line and the report
+"""
+import sys
+from typing import List
+
+import cloudpickle
+
+cloudpickle.register_pickle_by_value(sys.modules[__name__])  # so workers run the code of the driver
+
+
+def main(words: List[str]) -> int:
+    """Runs the command line. Gives the exit status."""
+    from .__main__ import main as run
+    return run(words)

@@ -1,0 +1,229 @@
+"""The command line of runs on a Dask cluster, and what they report."""
+import argparse
+import contextlib
+import dataclasses
+import functools
+import io
+import json
+import logging
+import math
+import os
+import signal
+import sys
+import threading
+import uuid
+from typing import Callable, List, Optional, Tuple
+
+import dask.config
+import sdtool
+from dask.system import CPU_COUNT
+from distributed import CancelledError, Client
+from distributed.comm import CommClosedError
+
+from .crew import PATIENT_SECONDS, Crew
+from .inputs import Refused, Taking, opened
+from .work import OURS, RUN, UNFINISHED, Place, Work, modules_digest
+
+CLOSE_SECONDS = 5
+LEAST_THREADS = 4  # without a cluster: a task that hangs keeps its thread, and others go on
+say = functools.partial(print, "sdtool.distributed:", file=sys.stderr or open(os.devnull, "w"), flush=True)
+
+
+def take_over(work: Work, taking: Taking) -> None:
+    """Makes this run the owner of the output. What an earlier one has not finished is removed."""
+    place = work.place
+    place.fs.makedirs(work.mine, exist_ok=True)
+    unfinished = f"{work.mine}/{uuid.uuid4().hex}"
+    place.fs.pipe_file(unfinished, json.dumps({"run": work.run, "words": work.words}).encode())
+    place.move(unfinished, f"{place.ours}/run.json")
+    for told in place.fs.ls(place.ours, detail=True):
+        folder = told["name"].rstrip("/")
+        if RUN.fullmatch(os.path.basename(folder)) and folder != work.mine:
+            remove_run(place, folder)
+    for given in taking.inputs:
+        place.fs.makedirs(given.folder, exist_ok=True)
+        place.fs.makedirs(os.path.dirname(given.answers), exist_ok=True)
+        if work.is_parts:  # their evidence is beside them, and this is what says that they are whole
+            work.write_record(f"{given.folder}/{OURS}.json", {"lines": None, "url": given.url})
+
+
+def remove_run(place: Place, folder: str) -> None:
+    """Removes the files that a run has not finished, and its folder, unless there is anything else in it."""
+    if place.is_local and os.path.islink(folder):
+        return
+    for path, _ in list(place.files_of(folder, UNFINISHED)):
+        with contextlib.suppress(FileNotFoundError):
+            place.fs.rm_file(path)
+    with contextlib.suppress(Exception):  # object stores have no folders
+        place.fs.rmdir(folder)
+
+
+def client_of(wanted: argparse.Namespace) -> Client:
+    """A client of the scheduler, or of a cluster in this process. That one has no profiler: Python 3.11 may stop for good
+    where two threads look at the frames of all, as Dask's profiler does."""
+    if wanted.scheduler:
+        return Client(wanted.scheduler, timeout=wanted.wait, set_as_default=False)
+    with dask.config.set({"distributed.worker.profile.enabled": False}):
+        return Client(timeout=wanted.wait, set_as_default=False, n_workers=1, threads_per_worker=max(LEAST_THREADS, CPU_COUNT),
+                      processes=False, memory_limit=0, silence_logs="error", dashboard_address="127.0.0.1:0",
+                      worker_dashboard_address="127.0.0.1:0", scheduler_kwargs={"worker_ttl": "1 day"})
+
+
+def drive(wanted: argparse.Namespace, work: Work, taking: Taking) -> Crew:
+    """Answers the inputs. Each has then what came of it, or the reason why nothing did."""
+    crew, client = Crew(work, taking.inputs, wanted, say), None
+    where = wanted.scheduler or "the one in this process"
+    waiting = threading.Timer(PATIENT_SECONDS, say, [f"the scheduler does not answer: {where}"])
+    try:
+        take_over(work, taking)
+        waiting.start()
+        client = client_of(wanted)
+        waiting.cancel()
+        crew.run(client)
+    except (CommClosedError, CancelledError):  # which may name all tasks
+        crew.end(f"OSError: the scheduler is lost: {where}")
+    except Exception as error:
+        crew.end(f"{type(error).__name__}: {error}")
+    finally:
+        waiting.cancel()
+        log = logging.getLogger("tornado.application")  # tells of answers on their way that nobody waits for any more
+        was_disabled, log.disabled = log.disabled, True
+        with contextlib.suppress(Exception):
+            if client is not None:
+                client.close(timeout=CLOSE_SECONDS)
+        log.disabled = was_disabled
+        with contextlib.suppress(Exception):
+            remove_run(work.place, work.mine)
+    return crew
+
+
+def positive(word: str) -> float:
+    value = float(word)
+    if not (0 < value and math.isfinite(value) and value < 1e9):
+        raise ValueError
+    return value
+
+
+def counted(least: int, word: str) -> int:
+    value = int(word)
+    if not least <= value < 2 ** 63:
+        raise ValueError
+    return value
+
+
+def wanted_of(words: List[str]) -> argparse.Namespace:
+    parser = argparse.ArgumentParser(prog="python3 -m sdtool.distributed", allow_abbrev=False,
+                                     usage="%(prog)s [--scheduler ADDRESS] --out URL [..] COMMAND [OPTIONS] -- INPUT..")
+    add = parser.add_argument
+    add("--scheduler", metavar="ADDRESS", help="of Dask, as tcp://host:8786; without it, a cluster in this process")
+    add("--out", metavar="URL", required=True, help="the folder of the answers")
+    add("--parts", action="store_true", help="leave the answers to an input in parts, in a folder of its name")
+    add("--block", default="64000000", metavar="BYTES", help="of an input in one task (%(default)s)")
+    add("--wait", default="60", metavar="SECONDS", help="for a scheduler, a worker and any progress (%(default)s)")
+    add("--retries", default="3", metavar="N", help="of a task that fails (%(default)s)")
+    add("--slowest", default="500000", metavar="BYTES",
+        help="a second: a task that is slower, behind its first 30 seconds, goes to another worker (%(default)s)")
+    add("command", choices=("convert", "explain", "check", "derive"), help="and its options, for sdtool")
+    add("options", nargs=argparse.REMAINDER, help=argparse.SUPPRESS)
+    at = words.index("--") if "--" in words else len(words)
+    wanted = parser.parse_args(words[:at])
+    wanted.urls, wanted.words = words[at + 1:], [wanted.command, *wanted.options]
+    if not wanted.urls:
+        parser.error("inputs stand behind --")
+    limits: List[Tuple[str, Callable[[str], float], str]] = [("block", functools.partial(counted, 1), "a number, and is at least 1"),
+                             ("retries", functools.partial(counted, 0), "a number, and is at least 0"),
+                             ("wait", positive, "a number of seconds"), ("slowest", positive, "a number of bytes")]
+    for name, read, what in limits:
+        try:
+            setattr(wanted, name, read(getattr(wanted, name)))
+        except ValueError:
+            parser.error(f"--{name} is {what}")
+    return wanted
+
+
+@dataclasses.dataclass
+class Report:
+    """What a run says in the end: a line for each thing that was listed."""
+    crew: Optional[Crew]
+    refused: List[Refused]
+
+    def status(self) -> int:
+        came = [job.came for job in self.crew.jobs] if self.crew else []
+        if self.refused or any(not isinstance(each, dict) for each in came):
+            return 3
+        return int(any(each["errors"] for each in came))
+
+    def show(self) -> int:
+        """Says it all. Gives the status."""
+        for job in self.crew.jobs if self.crew else ():
+            if isinstance(job.came, dict):
+                print(f"{job.came['lines']:15,} lines {job.came['errors']:15,} errors  {job.given.url}")
+            else:
+                say(f"{job.given.url} has no answers: {job.came}")
+        for each in self.refused:
+            say(f"{each.url} has no answers: it {each.reason}")
+        return self.status()
+
+
+def answered(wanted: argparse.Namespace) -> Report:
+    """Finds the inputs and answers them. Wrong words are a ValueError."""
+    place = Place(*opened(wanted.out))
+    taking = Taking(place, wanted.parts)
+    words = place.words_of_run()
+    if words not in (None, wanted.words):
+        raise ValueError(f"--out: {wanted.out} has answers of 'sdtool {' '.join(words or ())}'; give another folder")
+    taking.take_all(wanted.urls)
+    if not taking.inputs:
+        return Report(None, taking.refused)
+    work = Work(f"sdtool-{uuid.uuid4().hex}", wanted.words, sdtool._library.digest(), modules_digest(), wanted.out, wanted.parts)
+    with contextlib.redirect_stdout(sys.stderr):  # for what Dask prints
+        return Report(drive(wanted, work, taking), taking.refused)
+
+
+def main(words: List[str]) -> int:
+    wanted = wanted_of(words)
+    status, output, message = sdtool.run(wanted.words, b"")
+    if status or output:  # wrong words, or help
+        print(output.decode() or message, end="", file=sys.stderr if status else sys.stdout)
+        return status
+    try:
+        report = answered(wanted)
+    except (ValueError, ImportError) as error:
+        say(error)
+        return 2
+    except Exception as error:  # which file systems have many of
+        say(f"{type(error).__name__}: {error}")
+        return 3
+    except KeyboardInterrupt:
+        say("interrupted; the same command goes on where this run ended")
+        return 130
+    return shown(report)
+
+
+def shown(report: Report) -> int:
+    """Prints the report. Counts that cannot be printed are not passed over."""
+    if sys.stdout is None:
+        say("standard output is closed, so the counts are not shown")
+        sys.stdout = open(os.devnull, "w")
+        report.show()
+        return 3
+    signal.signal(signal.SIGPIPE, signal.SIG_DFL)  # as programs do whose output is closed
+    if isinstance(sys.stdout, io.TextIOWrapper):
+        sys.stdout.reconfigure(errors="surrogateescape")  # names of files need not be UTF-8
+    try:
+        status = report.show()
+        sys.stdout.flush()
+        return status
+    except OSError as error:
+        say(f"the counts cannot be printed: {error}")
+        with contextlib.suppress(Exception):
+            sys.stdout.close()
+        return 3
+
+
+if __name__ == "__main__":
+    status = main(sys.argv[1:])
+    with contextlib.suppress(Exception):
+        sys.stdout.flush()
+        sys.stderr.flush()
+    os._exit(status)  # a task that hangs in this process would hold it

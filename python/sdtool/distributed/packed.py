@@ -1,0 +1,87 @@
+"""Compressed files: what a file is by its name and its first bytes, and all that is in it."""
+import bz2
+import lzma
+import zlib
+from typing import IO, Any, Callable, Dict, Iterator, NamedTuple, Optional
+
+PIECE = 1 << 12  # bytes, which may become 32,000 times as long
+# How files begin that nothing here reads: zip, 7z, rar, lz4, lzip, lzop, compress.
+OTHER_BEGINNINGS = (b"PK\3\4", b"PK\5\6", b"7z\xbc\xaf\x27\x1c", b"Rar!\x1a\7", b"\4\x22M\x18", b"LZIP", b"\x89LZO", b"\x1f\x9d")
+OTHER_SUFFIXES = (".zip", ".7z", ".rar", ".lz4", ".lz", ".lzo", ".lzma", ".z", ".br", ".sz", ".snappy", ".zz", ".tar", ".tgz",
+                  ".tbz", ".tbz2", ".txz", ".tzst")
+TAR_AT, TAR = 257, b"ustar"  # where the header of a tar archive says what it is
+LONGEST_BEGINNING = TAR_AT + len(TAR)
+
+
+def _zstd() -> Any:
+    try:
+        import zstandard
+    except ImportError as error:
+        raise ImportError(f"a .zst file needs Debian's python3-zstandard, which is not here ({error})") from None
+    return zstandard.ZstdDecompressor().decompressobj()
+
+
+class Kind(NamedTuple):
+    suffix: str
+    beginning: bytes
+    open: Callable[[], Any]  # gives an object that decompresses one stream
+    is_padded: bool  # whether zeros may follow a stream
+
+
+KINDS: Dict[str, Kind] = {
+    "gzip": Kind(".gz", b"\x1f\x8b", lambda: zlib.decompressobj(31), True),  # 31: with gzip's header and checksum
+    "bzip2": Kind(".bz2", b"BZh", bz2.BZ2Decompressor, False),
+    "xz": Kind(".xz", b"\xfd7zXZ\0", lambda: lzma.LZMADecompressor(lzma.FORMAT_XZ), True),
+    "zstd": Kind(".zst", b"\x28\xb5\x2f\xfd", _zstd, False),
+}
+
+
+def kind_of(name: str, beginning: bytes) -> Optional[str]:
+    """The kind of a file by its suffix, or else by its first bytes. None: it is not compressed. A kind that is not read
+    here is a ValueError."""
+    low = name.lower()
+    unpacked = next((low[:-len(kind.suffix)] for kind in KINDS.values() if low.endswith(kind.suffix)), low)
+    if low.endswith(OTHER_SUFFIXES) or unpacked.endswith(OTHER_SUFFIXES):
+        raise ValueError("is compressed in a way that is not read here")
+    for name, kind in KINDS.items():
+        if low.endswith(kind.suffix):
+            return name
+    if beginning.startswith(OTHER_BEGINNINGS) or beginning[TAR_AT:].startswith(TAR):
+        raise ValueError("is compressed in a way that is not read here, by its first bytes")
+    return next((name for name, kind in KINDS.items() if beginning.startswith(kind.beginning)), None)
+
+
+def name_without_suffix(name: str, kind: Optional[str]) -> str:
+    suffix = KINDS[kind].suffix if kind else ""
+    return name[:-len(suffix)] if suffix and name.lower().endswith(suffix) and len(name) > len(suffix) else name
+
+
+def unpacked(raw: IO[bytes], name: str) -> Iterator[bytes]:
+    """The bytes of all streams of a file. It is an error if the file is empty, ends within a stream, or has anything but
+    streams and their padding."""
+    kind, data = KINDS[name], raw.read(PIECE)
+    if not data:
+        raise EOFError(f"the file is empty, and so is no {name}")
+    while data:
+        stream = kind.open()
+        while not stream.eof:
+            if not data:
+                raise EOFError(f"the file ends within a stream of {name}")
+            yield stream.decompress(data)
+            data = stream.unused_data if stream.eof else raw.read(PIECE)
+        data = data or raw.read(PIECE)
+        while kind.is_padded and data and not data.strip(b"\0"):
+            data = raw.read(PIECE)
+        data = data.lstrip(b"\0") if kind.is_padded else data
+
+
+def grouped(pieces: Iterator[bytes], size: int) -> Iterator[bytes]:
+    """The same bytes in pieces of at least so many, but for the last."""
+    held = bytearray()
+    for piece in pieces:
+        held += piece
+        if len(held) >= size:
+            yield bytes(held)
+            held.clear()
+    if held:
+        yield bytes(held)

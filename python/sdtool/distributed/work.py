@@ -1,0 +1,407 @@
+"""What a worker does in a run: it answers blocks, and puts the parts of an input together."""
+import concurrent.futures
+import contextlib
+import dataclasses
+import functools
+import hashlib
+import itertools
+import json
+import os
+import re
+import uuid
+from typing import Any, Callable, Counter, Dict, Iterator, List, Optional, Tuple
+
+from fsspec.core import url_to_fs
+from fsspec.implementations.local import LocalFileSystem
+from fsspec.spec import AbstractFileSystem
+
+from .packed import grouped, unpacked
+
+AT_ONCE = 16  # small inputs
+READ, SEEK = 4 << 20, 1 << 16  # bytes of a request
+OURS = "_sdtool"  # the folder of runs, and how their other files begin
+PART = re.compile(r"part-(\d{6,})")
+EVIDENCE = re.compile(rf"{OURS}-part-(\d{{6,}})\.json")
+RUN = re.compile(r"sdtool-[0-9a-f]{32}")
+UNFINISHED = re.compile(r"[0-9a-f]{32}")
+VERSION_KEYS = {"ino", "ETag", "etag", "VersionId", "generation", "md5Hash"}  # with one, each change of a file shows
+# What may change of a local file though its content does not: `created` is the time of the last change of attributes.
+ATTRIBUTES = {"mode", "uid", "gid", "nlink", "created"}
+LONGEST_RECORD = 1 << 30  # bytes
+new_digest = functools.partial(hashlib.blake2b, digest_size=32)
+
+
+class Touched(Exception):
+    """The attributes of an input have changed, and perhaps nothing else."""
+
+
+class Damaged(Exception):
+    """Parts, by their numbers, are not what their workers wrote."""
+
+
+class Unfit(Exception):
+    """The worker cannot work: it has another library, or another output, or cannot write there."""
+
+
+def chunks_of(fs: Any, path: str, start: int, end: int, size: int = READ) -> Iterator[bytes]:
+    """Bytes of a file, each by a request of its own: threads that open a file of memory:// share its position."""
+    while start < end:
+        chunk = fs.cat_file(path, start=start, end=min(start + size, end))
+        if not 0 < len(chunk) <= min(size, end - start):  # some servers ignore what is asked for, and give the whole file
+            raise OSError(f"{path} has {len(chunk)} bytes in place of those from {start} to {end}")
+        start += len(chunk)
+        yield chunk
+
+
+def shown_url(fs: Any, path: str) -> str:
+    """The URL of a file, without a password and without control characters."""
+    url = fs.unstrip_protocol(path).replace("///", f"//{getattr(fs, 'host', '')}/", 1)
+    return re.sub("[\0-\x1f\x7f-\x9f]", lambda found: f"%{ord(found[0]):02X}", url)
+
+
+def look(fs: Any, path: str) -> Dict[str, Any]:
+    """What the file system tells of a file, but for SFTP's `time`, which is that of the last reading."""
+    fs.invalidate_cache(path)
+    told = fs.info(path).items()
+    return {key: value if isinstance(value, (int, type(None))) else str(value) for key, value in told if key != "time"}
+
+
+def modules_digest() -> str:
+    """The digest of the files of the module and of this package, since they count the answers and compare them with the
+    lines."""
+    from sdtool import _library
+    top, digest = os.path.dirname(os.path.abspath(_library.__file__)), new_digest()
+    names = [os.path.join(folder, name) for folder in ("", "distributed") for name in os.listdir(os.path.join(top, folder))]
+    for name in sorted(names):
+        if name.endswith((".py", ".so")):
+            with open(os.path.join(top, name), "rb") as file:
+                digest.update(f"{name}\0{new_digest(file.read()).hexdigest()}\0".encode(errors="surrogateescape"))
+    return digest.hexdigest()
+
+
+@dataclasses.dataclass
+class Given:
+    """An input, and where its answers go."""
+    fs: Any
+    path: str
+    compression: Optional[str]
+    answers: str  # the path of the file, or with --parts of the folder
+    folder: str  # of the parts, their evidence and the manifest
+    told: Dict[str, Any]  # by this it is the same file with the same content
+
+    @property
+    def fields(self) -> Tuple[Any, ...]:
+        return tuple(getattr(self, field.name) for field in dataclasses.fields(self))
+
+    @property
+    def url(self) -> str:
+        return shown_url(self.fs, self.path)
+
+    @property
+    def size(self) -> Optional[int]:
+        """None: it can be read only from its start."""
+        return None if self.compression else self.told["size"]
+
+    def require_same(self) -> None:
+        told = look(self.fs, self.path)
+        changed = {key for key in {*told, *self.told} if told.get(key) != self.told.get(key)}
+        if changed and changed <= ATTRIBUTES and isinstance(self.fs, LocalFileSystem):
+            raise Touched
+        if changed:
+            raise OSError(f"{self.url} has changed since the run began, or is another file here")
+
+    def stream(self) -> Iterator[bytes]:
+        """The bytes from the start, decompressed."""
+        with self.fs.open(self.path, "rb") as raw:
+            if self.compression:
+                yield from grouped(unpacked(raw, self.compression), READ)
+            else:
+                yield from iter(functools.partial(raw.read, READ), b"")
+
+    def next_line(self, at: int, end: int) -> int:
+        """The first place from `at` on where a line begins, or else the end."""
+        for chunk in chunks_of(self.fs, self.path, at - 1, end, SEEK) if at else [b"\n"]:
+            if b"\n" in chunk:
+                return at + chunk.index(b"\n")
+            at += len(chunk)
+        return end
+
+    def pieces(self, start: int, end: Optional[int]) -> Iterator[bytes]:
+        """The bytes of the lines that begin in a block."""
+        if end is None or self.size is None:
+            return self.stream()
+        first = self.next_line(start, end)
+        return chunks_of(self.fs, self.path, first, self.next_line(end, self.size) if first < end else first)
+
+
+class Place:
+    """An output: the folder of answers, and what runs write there."""
+
+    def __init__(self, fs: Any, root: str) -> None:
+        self.fs, self.root, self.ours = fs, root, f"{root}/{OURS}"
+        self.is_local = isinstance(fs, LocalFileSystem)
+        self.real: Dict[str, str] = {}
+
+    @property
+    def shown(self) -> str:
+        return shown_url(self.fs, self.root)
+
+    def is_there(self, path: str) -> bool:
+        """Whether anything has this name, a link that leads nowhere too."""
+        return os.path.lexists(path) if self.is_local else bool(self.fs.exists(path))
+
+    def content(self, path: str) -> Any:
+        """What a file of JSON says; None where there is no such regular file, or a torn one."""
+        try:
+            told = self.fs.info(path)
+            if told["type"] != "file" or told.get("islink") or (told["size"] or 0) > LONGEST_RECORD:
+                return None
+            return json.loads(self.fs.cat_file(path))
+        except (FileNotFoundError, NotADirectoryError, ValueError, RecursionError):
+            return None
+
+    def read_record(self, path: str) -> Dict[str, Any]:
+        """A record that a run wrote, by its seal; an empty one where there is none."""
+        content = self.content(path)
+        if not isinstance(content, dict):
+            return {}
+        seal = content.pop("seal", None)
+        return content if seal == seal_of(content) else {}
+
+    def words_of_run(self) -> Optional[List[str]]:
+        """The words of the run that owns the output; None where none does."""
+        record = self.content(f"{self.ours}/run.json")
+        words = record.get("words") if isinstance(record, dict) and isinstance(record.get("run"), str) else None
+        return words if isinstance(words, list) and all(isinstance(word, str) for word in words) else None
+
+    def problem_of(self, given: Given, is_parts: bool) -> str:
+        """Why the answers to an input cannot have their place, if so."""
+        if self.is_local:
+            for folder in os.path.dirname(given.folder), os.path.dirname(given.answers):
+                if self.real_of(folder) != self.real_of(self.root) + folder[len(self.root):]:
+                    return f"would have its answers behind a link, at {folder}"
+            if os.path.islink(given.folder):
+                return f"would have its answers behind a link, at {given.folder}"
+        if (given.fs, given.path) == (self.fs, given.answers) or not self.is_there(given.answers):
+            return f"has answers at {given.answers}, which no run wrote" if self.is_there(given.answers) else ""
+        manifest = self.manifest_of(given.folder)
+        other = f"{self.ours}/inputs/{given.answers[len(self.root) + 1:]}" if is_parts else given.answers
+        if manifest is None:
+            form = "without" if is_parts else "with"
+            wrote = f"a run wrote {form} --parts" if self.manifest_of(other) is not None else "no run wrote"
+            return f"has answers at {given.answers}, which {wrote}"
+        if manifest.get("url", given.url) != given.url:
+            return f"has answers at {given.answers}, which are those of {manifest['url']}"
+        is_folder = self.fs.info(given.answers)["type"] == "directory"
+        return "" if is_folder == is_parts else f"has answers at {given.answers}, which is no {('file', 'folder')[is_parts]}"
+
+    def manifest_of(self, folder: str) -> Optional[Dict[str, Any]]:
+        """What a run wrote of an input's answers, whole or not."""
+        content = self.content(f"{folder}/{OURS}.json")
+        return content if isinstance(content, dict) and {"lines", "blocks"} & content.keys() else None
+
+    def real_of(self, folder: str) -> str:
+        """Where a folder is, behind all links. It is looked at once, since many inputs are in one folder."""
+        if folder not in self.real:
+            self.real[folder] = os.path.realpath(folder)
+        return self.real[folder]
+
+    def files_of(self, folder: str, *names: "re.Pattern[str]") -> Iterator[Tuple[str, "re.Match[str]"]]:
+        """The files in a folder that have such a name as a whole."""
+        self.fs.invalidate_cache(folder)
+        for told in self.fs.ls(folder, detail=True) if self.fs.exists(folder) else ():
+            match = next(filter(None, (name.fullmatch(os.path.basename(told["name"])) for name in names)), None)
+            if match and told["type"] != "directory":
+                yield told["name"], match
+
+    def move(self, old: str, new: str) -> None:
+        if self.is_local:
+            os.replace(old, new)
+        elif type(self.fs).mv is not AbstractFileSystem.mv:
+            self.fs.mv(old, new)
+        else:  # AbstractFileSystem.mv takes a name for a pattern
+            self.fs.cp_file(old, new)
+            self.fs.rm_file(old)
+
+
+def seal_of(record: Dict[str, Any]) -> str:
+    """The digest of a record, so that one which was changed or torn is none."""
+    return new_digest(json.dumps(record, sort_keys=True).encode()).hexdigest()
+
+
+@dataclasses.dataclass
+class Work:
+    """A run as a worker has it. Files that are not whole are in a folder of the run, which the next run removes: a worker
+    that was stopped and goes on later has nothing to rename."""
+    run: str
+    words: List[str]
+    library: str  # its digest
+    modules: str  # the digest of the module's files
+    out: str
+    is_parts: bool
+
+    def __post_init__(self) -> None:
+        self.place = Place(*url_to_fs(self.out))
+        self.mine = f"{self.place.ours}/{self.run}"
+        self.manifests: Dict[str, List[dict]] = {}
+
+    def check(self) -> None:
+        """Raises Unfit if this worker has another library, or another output, or cannot write to it."""
+        from sdtool import _library  # here, as a worker may have none
+        if _library.digest() != self.library:
+            raise Unfit(f"its library is not the driver's, but has the digest {_library.digest()}")
+        if modules_digest() != self.modules:
+            raise Unfit(f"its module is not the driver's, but has the digest {modules_digest()}")
+        self.check_output()
+
+    def check_output(self) -> None:
+        try:
+            self.require_ownership()
+            probe = f"{self.mine}/{uuid.uuid4().hex}"
+            self.place.fs.pipe_file(probe, b"{}")
+            self.place.fs.rm_file(probe)
+        except Unfit:
+            raise
+        except Exception as error:  # file systems have many
+            raise Unfit(f"it cannot write to {self.out}: {type(error).__name__}: {error}") from None
+
+    def require_ownership(self) -> None:
+        record = self.place.content(f"{self.place.ours}/run.json")
+        if record is None:
+            raise Unfit(f"{self.out} is gone, or is another output here")
+        if not isinstance(record, dict) or record.get("run") != self.run:
+            raise Unfit(f"{self.out} is another output here, or another run has taken it over")
+
+    @contextlib.contextmanager
+    def written(self, path: str) -> Iterator[Any]:
+        """A file that appears when it is whole. Copies of a task write files of their own, and one stays."""
+        unfinished = f"{self.mine}/{uuid.uuid4().hex}"
+        try:
+            with self.place.fs.open(unfinished, "wb") as file:
+                yield file
+            self.require_ownership()
+            self.place.move(unfinished, path)
+        finally:
+            with contextlib.suppress(Exception):
+                self.place.fs.rm_file(unfinished)
+
+    def write_record(self, path: str, record: Dict[str, Any]) -> Dict[str, Any]:
+        with self.written(path) as file:
+            file.write(json.dumps({**record, "seal": seal_of(record)}).encode())
+        return record
+
+    def copy(self, record: Dict[str, Any], write: Callable[[bytes], Any] = len) -> str:
+        """Writes the answers to a block, and gives their digest."""
+        digest = new_digest()
+        for chunk in chunks_of(self.place.fs, record["path"], record["at"], record["at"] + record["bytes"]):
+            digest.update(chunk)
+            write(chunk)
+        return digest.hexdigest()
+
+    def is_whole(self, record: Dict[str, Any]) -> bool:
+        with contextlib.suppress(OSError):
+            return self.copy(record) == record["digest"]
+        return False
+
+    def do(self, tasks: List[Tuple[str, Tuple[Any, ...], Tuple[Any, ...]]]) -> List[Tuple[str, Any]]:
+        """What came of each task, which has a method, the fields of an input and arguments: `done` and a value, `touched`,
+        `again` and numbers of parts, `failed` and why, or `unfit` and why, if it is the worker that cannot go on. Small
+        inputs come together. They are answered side by side, as each waits for a disk or a server."""
+        with concurrent.futures.ThreadPoolExecutor(min(len(tasks), AT_ONCE)) as threads:
+            return list(threads.map(self.outcome, *zip(*tasks)))
+
+    def outcome(self, method: str, fields: Tuple[Any, ...], arguments: Tuple[Any, ...]) -> Tuple[str, Any]:
+        try:
+            return "done", getattr(self, method)(Given(*fields), *arguments)
+        except Touched:
+            return "touched", None
+        except Damaged as error:
+            return "again", list(error.args)
+        except Exception as error:  # the file systems' and the decompressors', which are many
+            try:
+                self.check()
+            except Exception as problem:
+                return "unfit", reason_of(problem)
+            return "failed", reason_of(error)
+
+    def answer(self, given: Given, index: int, start: int, end: Optional[int]) -> Dict[str, Any]:
+        """Answers a block, unless a run did so and nothing has changed. Gives its record."""
+        path, evidence = f"{given.folder}/part-{index:06}", f"{given.folder}/{OURS}-part-{index:06}.json"
+        basis = {"library": self.library, "modules": self.modules, "words": self.words, "url": given.url, "start": start,
+                 "end": end, "input": given.told if VERSION_KEYS & given.told.keys() else self.run}
+        for record in [self.place.read_record(evidence), *self.manifest(given)[index:index + 1]]:
+            is_ours = {**record, **basis} == record and record.get("path") in (path, given.answers)
+            if is_ours and self.is_whole(record):
+                return record
+        given.require_same()
+        from sdtool import _runs
+        total: Counter[str] = Counter()
+        digest = new_digest()
+        with self.written(path) as file:
+            for answers in _runs.checked(self.words, given.pieces(start, end), total):
+                digest.update(answers)
+                file.write(answers)
+            given.require_same()
+        record = {**basis, "path": path, "at": 0, **total, "digest": digest.hexdigest()}
+        return self.write_record(evidence, record)
+
+    def manifest(self, given: Given) -> List[Dict[str, Any]]:
+        """The records of all blocks, read once."""
+        if given.folder not in self.manifests:
+            self.manifests[given.folder] = self.place.read_record(f"{given.folder}/{OURS}.json").get("blocks", [])
+        return self.manifests[given.folder]
+
+    def compare(self, given: Given, index: int, record: Dict[str, Any]) -> None:
+        """Compares a part with its digest."""
+        if not self.is_whole(record):
+            raise Damaged(index)
+
+    def answer_whole(self, given: Given, end: Optional[int]) -> Dict[str, int]:
+        """Answers an input of one block."""
+        record = self.answer(given, 0, 0, end)
+        self.manifests.pop(given.folder, None)
+        if self.is_parts:
+            self.compare(given, 0, record)
+        return self.finish(given, [record])
+
+    def finish(self, given: Given, blocks: List[Dict[str, Any]]) -> Dict[str, int]:
+        """Puts the answers to an input together. The manifest is there before they appear."""
+        ends = itertools.accumulate(block["bytes"] for block in blocks)
+        total = {key: sum(block[key] for block in blocks) for key in ("lines", "errors", "bytes")}
+        manifest, record = f"{given.folder}/{OURS}.json", {**total, "url": given.url, "blocks": blocks}
+        placed = [{**block, "path": given.answers, "at": end - block["bytes"]} for block, end in zip(blocks, ends)]
+        if self.is_parts:
+            self.write_record(manifest, record)
+        elif blocks != placed or self.place.fs.info(given.answers)["size"] != total["bytes"]:
+            with self.written(given.answers) as file:
+                for block in blocks:
+                    if self.copy_or_none(block, file.write) != block["digest"]:
+                        raise Damaged(*(index for index, each in enumerate(blocks) if not self.is_whole(each)))
+                file.flush()
+                if self.place.is_local:
+                    os.fsync(file.fileno())
+                self.write_record(manifest, {**record, "blocks": placed})
+        self.tidy(given, len(blocks))
+        return total
+
+    def copy_or_none(self, record: Dict[str, Any], write: Callable[[bytes], Any]) -> Optional[str]:
+        """The digest of a part that is copied; None if it cannot be read to its end."""
+        try:
+            return self.copy(record, write)
+        except FileNotFoundError:
+            return None
+        except OSError:
+            if self.is_whole(record):  # so the other file could not be written
+                raise
+            return None
+
+    def tidy(self, given: Given, count: int) -> None:
+        """Removes parts and evidence that the answers do not need."""
+        self.require_ownership()
+        for path, match in list(self.place.files_of(given.folder, PART, EVIDENCE)):
+            if not (self.is_parts and int(match[1]) < count):
+                self.place.fs.rm_file(path)
+
+
+def reason_of(error: BaseException) -> str:
+    return str(error) if isinstance(error, Unfit) else f"{type(error).__name__}: {error}"
