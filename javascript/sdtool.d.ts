@@ -1,4 +1,10 @@
-/** Windows security descriptors and SDDL. Descriptors and SIDs are bytes, as in the binary form of MS-DTYP. */
+/**
+ * Windows security descriptors and SDDL. Descriptors and SIDs are bytes, as in the binary form of MS-DTYP.
+ *
+ * A call reads its arguments once, from left to right, and copies bytes when it reads them. Options, parts and ACEs are objects
+ * whose names are read along their prototypes, but for Object.prototype; names with getters are read last. An unknown name,
+ * inherited and hidden ones too, is refused, and so is an array that has other names than numbers.
+ */
 
 /** The part of a descriptor that a fault is about. */
 export type Part = "owner" | "group" | "sacl" | "dacl";
@@ -9,10 +15,24 @@ export type Mapping = "file" | "key" | "ds";
 /** A SID in binary, or its text: S-1- and numbers, or an alias such as BA. */
 export type SidLike = Uint8Array | string;
 
-/** An input that has no answer. */
+/** Where a fault is. */
+export interface Place {
+  readonly part: Part | null;
+  /** The place of the ACE in its part, from 0. */
+  readonly ace: number | null;
+  readonly field: "kind" | "flags" | "rights" | "object type" | "inherited object type" | "sid" | "size" | null;
+  /**
+   * In what was given, the fault is in the `size` bytes, or code units of a text, from here on: none where something is
+   * missing.
+   */
+  readonly offset: number;
+  readonly size: number;
+}
+
+/** An input that has no answer. The message ends with the place, where ACEs count from 1 and bytes of UTF-8 from 0. */
 export class Fault extends Error {
   constructor(number: number, name: string, part?: Part | null, otherPart?: Part | null, argument?: string | null,
-              entry?: number | null);
+              entry?: number | null, place?: Place | null, given?: Uint8Array | string | null, meaning?: string);
   /** The error number of docs/FORMAT.md, such as 25. */
   readonly number: number;
   /** Its name, such as "sid-form". */
@@ -24,13 +44,24 @@ export class Fault extends Error {
   readonly argument: string | null;
   /** Which entry of that argument, if it is a list. */
   readonly entry: number | null;
+  /** Where the fault is in the descriptor or the text that was given. */
+  readonly place: Place | null;
   /** What the program prints in place of an answer, such as "error 9 sid owner". */
   readonly line: string;
+  /** The same in words, such as "any other text that is not a SID". */
+  readonly meaning: string;
+  /**
+   * Two lines: at most 72 characters of the text around the place, or digits of the bytes, and carets below it. It is empty
+   * without a place.
+   */
+  excerpt(): string;
 }
 
 /** An argument that the call does not take, such as a domain that is no SID. It says nothing about the descriptor. */
 export class ArgumentFault extends Error {
-  constructor(problem: string, argument?: string | null, entry?: number | null);
+  constructor(problem: string, argument?: string | null, entry?: number | null, cause?: unknown);
+  /** What a getter or a proxy of the caller's threw while it was read, if that is why. */
+  readonly cause?: unknown;
   readonly number: 70;
   readonly name: "ArgumentFault";
   /** Its name, such as "sids", or the name of an option. */
@@ -57,12 +88,8 @@ export interface TokenOptions {
 /** A token that was read. It may be copied, and is for the same version of this library alone. */
 export type Token = Uint8Array;
 
-/** What a check asks for. */
-export interface RequestOptions {
-  /** The rights that are wanted, an access mask from 0 to 0xffffffff. It may be 0 with `maximum`. */
-  wanted?: number;
-  /** Asks also for each right that is granted. */
-  maximum?: boolean;
+/** Who asks, beside the SIDs. */
+export interface AskerOptions {
   mapping?: Mapping;
   /** The integrity level of the token, such as 8192 for medium. */
   level?: number | null;
@@ -76,7 +103,17 @@ export interface RequestOptions {
   takeOwnership?: boolean;
 }
 
+/** What a check asks for. */
+export interface RequestOptions extends AskerOptions {
+  /** The rights that are wanted, an access mask from 0 to 0xffffffff. It may be 0 with `maximum`. */
+  wanted?: number;
+  /** Asks also for each right that is granted. */
+  maximum?: boolean;
+}
+
 export interface CheckOptions extends TokenOptions, RequestOptions {}
+
+export interface ReasonsOptions extends TokenOptions, AskerOptions {}
 
 export interface DeriveOptions {
   kind?: "file" | "container";
@@ -91,6 +128,27 @@ export interface Verdict {
   granted: boolean;
   /** The granted rights; without `granted`, the wanted rights that are missing. */
   mask: number;
+}
+
+/** Why a right is granted or denied. */
+export interface Reason {
+  /** "no-dacl", "owner", "privilege" and "granted" grant the right; of the others nothing does, or the label or an ACE denies it. */
+  kind: "nothing" | "label" | "no-dacl" | "owner" | "privilege" | "granted" | "denied";
+  /** The place of the ACE in the DACL, or with "label" in the SACL, from 0; or null. */
+  place: number | null;
+  ace: Ace | null;
+}
+
+/** Where an ACE of a derived descriptor comes from. */
+export interface Origin {
+  /** The ACE that it was made of is the creator's; else it is the folder's. */
+  fromCreator: boolean;
+  /** The place of that ACE in its ACL, from 0. */
+  place: number;
+  /** It is the copy for what is made in the new object. */
+  inheritOnly: boolean;
+  /** The ACE that it was made of. */
+  ace: Ace;
 }
 
 /** An ACE to build. */
@@ -138,7 +196,7 @@ export interface NewParts {
   resourceManager?: number;
   owner?: SidLike | null;
   group?: SidLike | null;
-  /** Absent unless it is named; an array is a list. */
+  /** Absent unless it is named; an array is a list. One that is named and undefined is refused. */
   sacl?: AclOf<NewAce> | readonly NewAce[];
   dacl?: AclOf<NewAce> | readonly NewAce[];
 }
@@ -171,10 +229,16 @@ export interface Sdtool {
   readToken(sids: readonly SidLike[], options?: TokenOptions): Token;
   /** The verdict of check, for a token that was read. */
   checkWith(descriptor: Uint8Array, token: Token, options?: RequestOptions): Verdict;
+  /** Why the token has each of the rights 0 to 24 or not, by its place in a mask. The options are those of check. */
+  reasons(descriptor: Uint8Array, sids: readonly SidLike[], options?: ReasonsOptions): Reason[];
+  /** The reasons, for a token that was read. */
+  reasonsWith(descriptor: Uint8Array, token: Token, options?: AskerOptions): Reason[];
   /** The verdict on each descriptor, in order, and for one that has none its Fault. The token is read once for many of them. */
   checkMany(descriptors: readonly Uint8Array[], sids: readonly SidLike[], options?: CheckOptions): (Verdict | Fault)[];
   /** The descriptor of a new object in a folder that has the descriptor `parent`, in its canonical layout. */
   derive(parent: Uint8Array, owner: SidLike, group: SidLike, options?: DeriveOptions): Uint8Array;
+  /** Where each ACE of that descriptor comes from, in their order. An ACL that is null or absent has no ACEs. */
+  origins(parent: Uint8Array, owner: SidLike, group: SidLike, options?: DeriveOptions): { sacl: Origin[]; dacl: Origin[] };
   /** The SID that a text names: an alias such as BA, or S-1- and numbers. */
   sidFromText(text: string, options?: DomainOptions): Uint8Array;
   /** The text of a SID: its alias if it has one and `numeric` is not set, and else its numbers. */
@@ -192,6 +256,9 @@ export interface Sdtool {
   /** The name of a fault, such as "sid-form" for 25. */
   faultText(number: number): string;
 }
+
+/** Whether this engine has WebAssembly's vectors (SIMD), without which load rejects. */
+export function hasVectors(): boolean;
 
 /** Loads the library: from sdtool.wasm beside the module, or from its bytes, a URL or a compiled module. */
 export function load(source?: BufferSource | URL | string | WebAssembly.Module): Promise<Sdtool>;

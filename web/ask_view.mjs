@@ -5,12 +5,16 @@ import {maskText} from "./library.mjs";
 import {reasonKey} from "./look_view.mjs";
 import {faultInWords, rightName, rightsInWords, rightsOf, visible} from "./naming.mjs";
 import {commaed, plainName} from "./parts_view.mjs";
+import {valueIn} from "./tables.mjs";
+import {PRIVILEGES} from "./windows.mjs";
 import {say, WORDS} from "./words.mjs";
 
 function tokenButtons(asked, refresh) {
     const add = (text) => () => {
         const token = byId("ask-token");
-        token.value = token.value.trim() ? `${token.value.trim().replace(/,$/, "")},${text}` : text;
+        const given = token.value.trim();
+        // A listing has lines of its own.
+        token.value = given ? `${given.replace(/,$/, "")}${given.includes("\n") ? "\n" : ","}${text}` : text;
         asked.token = token.value;
         refresh();
     };
@@ -45,7 +49,7 @@ export function makeAsk(asked, refresh) {
                 labelled(WORDS.ask.token,
                     area("ask-token", asked.token, set("token"), {"aria-describedby": "ask-token-hint"}),
                     WORDS.ask.tokenHint),
-                tokenButtons(asked, refresh), make("p", {class: "hint"}, WORDS.ask.note),
+                tokenButtons(asked, refresh), box("ask-exact", WORDS.ask.exact, asked.exact, set("exact")),
                 box("ask-maximum", WORDS.ask.maximum, asked.maximum, set("maximum")),
                 make("fieldset", {}, make("legend", {}, WORDS.ask.rights),
                     make("div", {id: "ask-rights", class: "boxes"}),
@@ -53,7 +57,7 @@ export function makeAsk(asked, refresh) {
                         input("ask-want", asked.want, set("want"), {"aria-describedby": "ask-want-hint"}),
                         WORDS.ask.wantHint)),
                 make("div", {class: "row"},
-                    labelled(WORDS.ask.level, select("ask-level", orderedLevels(), asked.level, set("level"))),
+                    labelled(WORDS.ask.level, select("ask-level", levelsFor(asked.level), asked.level, set("level"))),
                     labelled(WORDS.ask.self, input("ask-self", asked.self, set("self")))),
                 make("fieldset", {}, make("legend", {}, WORDS.ask.privileges),
                     make("div", {class: "boxes"},
@@ -63,18 +67,20 @@ export function makeAsk(asked, refresh) {
     ];
 }
 
-// Numbers would come first in an object, so the two words are put before them.
-const orderedLevels = () => {
+// The two words come before the numbers, and a level that has no name behind them: what applies is shown.
+function levelsFor(chosen) {
     const {"": none, listed, ...levels} = WORDS.ask.levels;
-    return Object.assign(Object.create(null), {"": none, listed},
-        Object.fromEntries(Object.entries(levels).map(([level, text]) => [` ${level}`, text])));
-};
+    const all = [["", none], ["listed", listed], ...Object.entries(levels).map(([level, text]) => [` ${level}`, text])];
+    return all.some(([level]) => level === chosen) ? all :
+                                                     [...all, [chosen, say(WORDS.ask.levelOther, {level: chosen.trim()})]];
+}
 
 const faultsOf = (result) => [result.tokenFaults?.length ? say(WORDS.ask.tokenFault, {
     what: commaed(result.tokenFaults.slice(0, 8).map(
         ({text, number, faultName}) => `${visible(text.slice(0, 60))} (error ${number} ${faultName})`))
 }) :
                                                            null,
+    result.listing ? say(valueIn(WORDS.ask.listing, result.listing.why), {what: visible(result.listing.text.slice(0, 200))}) : null,
     result.wantedFault ? WORDS.ask.wantFault : null,
     result.selfFault ? WORDS.ask.selfFault : null,
     result.objectFault ? WORDS.objectFault : null,
@@ -94,7 +100,7 @@ function verdictText({verdict}, kind) {
 function reasonRow(reason, kind, texts) {
     const {columns} = WORDS.ask;
     const state = reason.isGranted ? "granted" : "denied";
-    const short = say(WORDS.reasons.short[reasonKey(reason.by)], {number: reason.number});
+    const short = say(valueIn(WORDS.reasons.short, reasonKey(reason.by)), {number: reason.number});
     return make("tr", {
         class: `reason ${reason.isGranted ? "allow" : "deny"}`,
         "data-bit": reason.bit,
@@ -104,7 +110,7 @@ function reasonRow(reason, kind, texts) {
         make("th", {scope: "row", "data-label": columns.right}, rightName(kind, reason.bit), " ",
             make("code", {class: "mask"}, maskText(reason.bit)),
             reason.isWanted ? make("span", {class: "tag"}, WORDS.ask.wanted) : null),
-        make("td", {"data-label": columns.state}, make("span", {class: "badge"}, WORDS.ask[state])),
+        make("td", {"data-label": columns.state}, make("span", {class: "badge"}, valueIn(WORDS.ask, state))),
         make("td", {"data-label": columns.reason}, short),
         make(
             "td", {"data-label": columns.text}, reason.number ? make("code", {}, texts[reason.number - 1] ?? "") : ""));
@@ -115,8 +121,20 @@ function tokenLine(result, names) {
         const name = entry.name ? visible(entry.name) : plainName(entry.sid, names);
         return entry.denyOnly ? say(WORDS.ask.denyOnly, {who: name}) : name;
     });
-    return make("p", {}, say(WORDS.ask.tokenIs, {who: commaed(entries)}), result.entries.length > 40 ? " .." : "");
+    const more = [
+        ...(result.level === null ? [] : [say(WORDS.ask.levelOther, {level: result.level})]),
+        ...(result.takeOwnership ? [WORDS.ask.takeOwnership] : []),
+        ...(result.security ? [WORDS.ask.security] : []),
+    ];
+    return make("p", {}, say(WORDS.ask.tokenIs, {who: commaed(entries)}), result.entries.length > 40 ? " .." : "",
+        more.length ? `; ${commaed(more)}` : "");
 }
+
+// What the answer doesn't say of the real token.
+const beside = ({lacksUser, notes}) => [
+    ...(lacksUser ? [make("p", {class: "fault-name"}, WORDS.ask.lacksUser)] : []),
+    ...notes.map((name) => make("p", {class: "hint"}, say(WORDS.ask.beside, {name, lets: valueIn(PRIVILEGES, name)[1]}))),
+];
 
 // Shows it. Returns what a screen reader says of it.
 export function showAsk(result, {kind, names, texts}) {
@@ -132,7 +150,7 @@ export function showAsk(result, {kind, names, texts}) {
         make("p", {class: `verdict ${isGranted ? "allow" : "deny"}`},
             make("strong", {}, isGranted ? WORDS.ask.granted : WORDS.ask.denied), " ",
             make("code", {}, `${isGranted ? "granted" : "denied"} ${maskText(result.verdict.mask)}`)),
-        make("p", {}, verdictText(result, kind)), tokenLine(result, names),
+        make("p", {}, verdictText(result, kind)), tokenLine(result, names), beside(result),
         result.isForWhole ? make("p", {class: "hint"}, WORDS.ask.whole) : null,
         make("div", {class: "scroll", tabindex: "0", role: "region", "aria-label": columns.reason},
             make("table", {class: "reasons"},

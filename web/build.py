@@ -23,15 +23,21 @@ FOLDER = pathlib.Path(__file__).resolve().parent
 FIRST = "main.mjs"
 MOST = 1_000_000  # bytes of the page
 MOST_PACKED = 300_000
-# What the page calls of the module, by way of the library's version, toSddl, explain, normalize, fromSddl, check, derive,
-# run and faultText.
+# What the page calls of the module, by way of the library's version, toSddl, explain, normalize, fromSddl, check, reasons,
+# derive, origins, run and faultText.
 CALLED = ["memory", "allocate", "release"] + [
     f"sdtool_{name}"
-    for name in "version to_sddl explain normalize from_sddl sid_size check derive run fault_text".split()
+    for name in ("version to_sddl explain normalize from_sddl sid_size check reasons derive derive_origins parts next_ace place "
+                 "sddl_place run fault_text").split()
 ]
 # Methods of the library that the page never calls.
-NOT_CALLED = "checkMany #checkSome sidToText sidSize parts #acl aces #walk build #newAce #putParts".split()
-FEATURES = ["--enable-sign-ext", "--enable-mutable-globals", "--enable-bulk-memory"]
+NOT_CALLED = (
+    "excerpt readToken checkWith checkMany reasonsWith #checkSome sidFromText sidToText sidSize parts aces build "
+    "#addAces #putParts #putPlace #putAcl #meaning"
+).split()
+# The page says in its own words what a fault means.
+MEANING, NO_MEANING = "this.#meaning(fault, part, other)", '""'
+FEATURES = ["--enable-sign-ext", "--enable-mutable-globals", "--enable-bulk-memory", "--enable-simd"]
 IMPORT = re.compile(r'^import \{([^}]*)\} from "([^"]+)";\n', re.M)
 EXPORTED = re.compile(r"^export ((?:async )?(?:function|class|const|let)) ([A-Za-z_$][\w$]*)", re.M)
 EXPORTS = re.compile(r"^export \{([^}]*)\};\n", re.M)
@@ -46,7 +52,9 @@ def without_methods(text):
         text, count = re.subn(rf"^  {name}\(.*?^  \}}\n", "", text, flags=re.M | re.S)
         if count != 1:
             raise SystemExit(f"the library has {count} methods called {name}")
-    return text
+    if text.count(MEANING) != 1:
+        raise SystemExit("the library does not ask for the meaning of a fault in the form that this script knows")
+    return text.replace(MEANING, NO_MEANING)
 
 
 def names_in(text):
@@ -116,6 +124,7 @@ def policy(script, style):
             "worker-src blob:",
             "base-uri 'none'",
             "form-action 'none'",
+            "webrtc 'block'",
             "require-trusted-types-for 'script'",
             "trusted-types worker",
         ]

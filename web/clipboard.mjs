@@ -2,33 +2,33 @@
 // changed but line ends, folds and separators; if in doubt, everything stays, and the library refuses it.
 
 import {listingIn} from "./icacls.mjs";
+import {hexOf} from "./library.mjs";
+import {between, decimalBytes, endOfHex, endOfPairs, endOfQuoted, without} from "./scanning.mjs";
 
-// hex(3):01,00,.. of a .reg file, and what reg query prints. A name is looked for in front of what was found: a search
-// that began at each quotation mark would take minutes for a hostile text of 1 MB.
-const REG_VALUE = /hex(?<=(?:(@|"[^"]*")\s*=\s*)?hex)(?:\(([0-9a-f]+)\))?:((?:[0-9a-f]{2}|[,\s]|\\\s*\n)*)/gi;
-const REG_BINARY = /REG_BINARY(?<=(\S*)[ \t]+REG_BINARY)[ \t]+([0-9a-f]+)/gi;
-const ATTRIBUTE = /^([A-Za-z][\w;-]*)::[ \t]*(.*)$/;
+// What is in front of a value: hex(3):01,00,.. of a .reg file, and what reg query prints. A name is looked for in front of
+// what was found: a search that began at each quotation mark would take minutes for a hostile text of 1 MB.
+const REG_VALUE = /hex(?<=(?:(@|"[^"]*")\s*=\s*)?hex)(?:\([0-9a-f]+\))?:/gi;
+const REG_BINARY = /REG_BINARY(?<=(\S*)[ \t]+REG_BINARY)[ \t]+(?=[0-9a-f])/gi;
+const ATTRIBUTE = /^([A-Za-z][\w;-]*)::/;
 const SDDL_START = new RegExp(
     "(^|[\\s\"',;=:>\\t|`\u201c\u201e\u2018\u00ab])" + // what may come before
         "(?=[OG]:\\s*(?:S-1-|[A-Za-z]{2})|[DS]:\\s*(?:P|AR|AI|NO_ACCESS|\\(|[OGDS]:|$|\"))",
     "im",
 );
-const HEX_SEPARATORS = /[\s,:\-\\]/g;
+const HEX_SEPARATORS = ",:-\\"; // and blanks
 // What ends a text that begins with a mark: quotation marks, or the next element of XML.
-const ENDS = {
-    "\"": "\"",
-    "'": "'",
-    "`": "`",
-    "\u201c": "\u201d",
-    "\u201e": "\u201c",
-    "\u2018": "\u2019",
-    "\u00ab": "\u00bb",
-    ">": "<"
-};
+const ENDS = new Map([
+    ["\"", "\""], ["'", "'"], ["`", "`"], ["\u201c", "\u201d"], ["\u201e", "\u201c"], ["\u2018", "\u2019"], ["\u00ab", "\u00bb"],
+    [">", "<"]
+]);
+const MOST_LEFT = 1000; // characters of what was left out, of which the page shows fewer
 const ORDER = "OGDS"; // of the parts
 
 // Whatever is left of a text is said, so that nobody takes it for read.
-const leftOut = (what, text) => (text.trim() ? [{what, text: text.trim().replace(/[ \t\r\n]+/g, " ")}] : []);
+function leftOut(what, text) {
+    const left = text.trim();
+    return left ? [{what, text: left.slice(0, MOST_LEFT).replace(/[ \t\r\n]+/g, " ")}] : [];
+}
 
 const linesOf = (text) => text.split(/\r\n|\r|\n/).filter((line) => line.trim() !== "");
 
@@ -36,7 +36,11 @@ const unfolded = (text) => text.replace(/\r?\n[ \t]/g, "");
 
 // The name of an entry, which is in base64 after two colons; of any other line nothing.
 function nameOfEntry(line) {
-    const [, colons, value] = /^dn(::?) *(.*)$/i.exec(line) ?? [];
+    const [front, colons] = /^dn(::?)/i.exec(line) ?? [];
+    if (!front) {
+        return undefined;
+    }
+    const value = line.slice(front.length).trim();
     if (colons !== "::") {
         return value;
     }
@@ -47,16 +51,20 @@ function nameOfEntry(line) {
     }
 }
 
+// Whether an attribute with this name has a descriptor in base64.
+const hasDescriptor = (name) => name === "ntsecuritydescriptor" ||
+    (name.startsWith("ms") && name.endsWith("securitydescriptor")) || name.includes("sddl") || name.endsWith("sd");
+
 function ofLdif(text) {
     const found = [];
     const folds = /\n[ \t]/.test(text) ? [{what: "folds"}] : [];
     let [name, others] = ["", []];
     for (const line of unfolded(text).split(/\r?\n/)) {
-        const [, attribute, value] = ATTRIBUTE.exec(line) ?? [];
+        const [front, attribute] = ATTRIBUTE.exec(line) ?? [];
         name = nameOfEntry(line) ?? name;
-        if (attribute && /^(ntsecuritydescriptor|ms.*securitydescriptor|.*sddl.*|.*sd)$/i.test(attribute)) {
+        if (attribute && hasDescriptor(attribute.toLowerCase())) {
             const dropped = [...leftOut("before", [...others, attribute + "::"].join(" ")), ...folds];
-            found.push({name, form: "base64", line: value.trim(), dropped});
+            found.push({name, form: "base64", line: line.slice(front.length).trim(), dropped});
             others = [];
         } else {
             others.push(line);
@@ -66,17 +74,21 @@ function ofLdif(text) {
     return found;
 }
 
-// The values that a pattern finds, of which the first group is the name and the last the digits.
-function ofRegistry(text, pattern) {
+// The values behind the fronts that a pattern finds, of which the first group is the name.
+function ofRegistry(text, front, endOfValue) {
     let end = 0;
-    const found = [...text.matchAll(pattern)].map((one) => {
-        const value = one.at(-1);
-        const before = text.slice(end, one.index) + one[0].slice(0, one[0].length - value.length);
-        const line = value.replace(HEX_SEPARATORS, "");
-        end = one.index + one[0].length;
+    const found = [];
+    front.lastIndex = 0;
+    for (let one = front.exec(text); one; one = front.exec(text)) {
+        const start = front.lastIndex;
+        const before = text.slice(end, start);
+        end = endOfValue(text, start);
+        front.lastIndex = end;
+        const value = text.slice(start, end);
+        const line = without(value, HEX_SEPARATORS);
         const dropped = [...leftOut("before", before), ...(line === value ? [] : [{what: "separators"}])];
-        return {name: (one[1] ?? "").replace(/^"|"$/g, ""), form: "hex", line, dropped};
-    });
+        found.push({name: (one[1] ?? "").replace(/^"|"$/g, ""), form: "hex", line, dropped});
+    }
     found.at(-1)?.dropped.push(...leftOut("after", text.slice(end)));
     return found;
 }
@@ -84,12 +96,12 @@ function ofRegistry(text, pattern) {
 // How many parentheses a text opens beyond those that it closes.
 const depthOf = (text) => text.split("(").length - text.split(")").length;
 
-// The letter of a part that begins a line, or nothing.
-const partAt = (line) => /^\s*([OGDS]):/i.exec(line)?.[1].toUpperCase() ?? "";
+// The number of a part that begins a line, by the order of the parts, or -1.
+const partAt = (line) => ORDER.indexOf(/^\s*([OGDS]):/i.exec(line)?.[1].toUpperCase() ?? " ");
 
-// The letters of the parts of a text.
-const partsOf = (text) =>
-    [...text.replace(/\([^()]*\)/g, "").matchAll(/([OGDS]):/gi)].map((found) => found[1].toUpperCase());
+// The number of the last part, by the order of the parts, that a text has; -1 if it has none.
+const lastPart = (text) => [...text.replace(/\([^()]*\)/g, "").matchAll(/([OGDS]):/gi)].reduce(
+    (last, found) => Math.max(last, ORDER.indexOf(found[1].toUpperCase())), -1);
 
 // The lines from a place on that continue a descriptor, which Format-List, LDIF or a mail program has folded. Such a
 // line has no start of a descriptor of its own, and begins with an ACE, continues one that is open, or is set in under
@@ -99,19 +111,19 @@ function continuationOf(first, lines, from) {
         return [];
     }
     let depth = depthOf(first);
-    let parts = partsOf(first);
+    let last = lastPart(first);
     let at = from;
     for (; at < lines.length; at += 1) {
         const line = lines[at];
         const part = partAt(line);
         const goesOn = SDDL_START.test(line) ?
-            part !== "" && parts.every((one) => ORDER.indexOf(one) < ORDER.indexOf(part)) :
+            part > last :
             depth > 0 || /^\s*\([^();]*;/.test(line) || /^\s{2,}\S+$/.test(line);
         if (!goesOn) {
             break;
         }
         depth += depthOf(line);
-        parts = part ? [...parts, ...partsOf(line)] : parts;
+        last = part < 0 ? last : Math.max(last, lastPart(line));
     }
     return lines.slice(from, at).map((line) => line.trim());
 }
@@ -126,12 +138,10 @@ function ofSddlLine(line) {
     const dropped = /[^\s"']/.test(before) ? [{what: "before", text: before.trim()}] : [];
     let rest = line.slice(at);
     const mark = before.at(-1);
-    const end = ENDS[mark];
+    const end = ENDS.get(mark);
     const isClosed = end && rest.includes(end);
     if (end) {
-        // In a quoted field a quote is doubled, and the first single one ends the field.
-        const quoted = /^(?:[^"]|"")*/.exec(rest)[0];
-        const value = end === "\"" ? quoted : rest.split(end, 1)[0];
+        const value = mark === "\"" ? rest.slice(0, endOfQuoted(rest, 0)) : rest.split(end, 1)[0];
         const after = rest.slice(value.length);
         dropped.push(...leftOut("after", mark === ">" ? after : after.slice(1)));
         if (mark !== ">") {
@@ -144,15 +154,21 @@ function ofSddlLine(line) {
 
 // What comes before a descriptor, without the marks around it: the name of a file or of a property. In a line of CSV
 // the name is the first field.
-const MARKS = "\\s\"'`<>{\u201c\u201e\u2018\u00ab";
-const AROUND = new RegExp(`^[${MARKS}]+|[${MARKS},;=:|]+$`, "g");
-const nameIn = (before) => (/^\s*"[^"]*"(?=,)/.exec(before)?.[0] ?? before).replace(AROUND, "");
+const MARKS = "\"'`<>{\u201c\u201e\u2018\u00ab";
+const isBlank = (character) => character.trim() === "";
+const isMark = (character) => isBlank(character) || MARKS.includes(character);
+const isBetween = (character) => isMark(character) || ",;=:|".includes(character);
+const nameIn = (before) => between(/^\s*"[^"]*"(?=,)/.exec(before)?.[0] ?? before, isMark, isBetween);
 
 // What Get-Acl lists before the descriptor has the path of the object, also in JSON, and an entry of LDIF its name.
 function pathIn(lines) {
     const paths = lines.map((line) => {
-        const [, quote, path] = /^("?)Path\1\s*:\s*"?(\S.*?)"?,?$/.exec(line) ?? [];
-        return quote ? path.replace(/\\\\/g, "\\") : path ?? nameOfEntry(line);
+        const [front, quote] = /^("?)Path\1\s*:\s*/.exec(line) ?? [];
+        if (front === undefined) {
+            return nameOfEntry(line);
+        }
+        const path = line.slice(front.length).replace(/^"/, "").replace(/,$/, "").replace(/"$/, "");
+        return quote ? path.replace(/\\\\/g, "\\") : path;
     });
     return paths.filter(Boolean).at(-1);
 }
@@ -183,21 +199,19 @@ function ofSddl(text) {
     return found;
 }
 
-const BYTES_OF_POWERSHELL = /^\s*1[\s,]+\d{1,3}(?:[\s,]+\d{1,3}){18,}\s*$/;
+const LEAST_BYTES = 20; // of a list of numbers that is taken for a descriptor
 
 function ofNumbers(text) {
-    const numbers = text.trim().split(/[\s,]+/).map(Number);
-    if (numbers.some((number) => number > 255)) {
-        return [];
-    }
-    const line = numbers.map((number) => number.toString(16).padStart(2, "0")).join("");
-    return [{name: "", form: "hex", line, dropped: [{what: "decimal"}]}];
+    const bytes = /^1[\s,]/.test(text) ? decimalBytes(text) : null;
+    return bytes !== null && bytes.length >= LEAST_BYTES ?
+        [{name: "", form: "hex", line: hexOf(bytes), dropped: [{what: "decimal"}]}] :
+        [];
 }
 
 function ofHex(text) {
     const bare = text.trim().replace(/^(?:0x|\\x|x')/i, "");
     const dropped = bare === text.trim() ? [] : [{what: "before", text: text.trim().slice(0, -bare.length)}];
-    const line = bare.replace(/0x/gi, "").replace(HEX_SEPARATORS, "").replace(/'$/, "");
+    const line = without(bare.replace(/0x/gi, ""), HEX_SEPARATORS).replace(/'$/, "");
     if (!/^[0-9a-f]+$/i.test(line)) {
         return [];
     }
@@ -205,18 +219,18 @@ function ofHex(text) {
 }
 
 function ofBase64(text) {
-    const line = text.replace(/\s/g, "");
+    const line = without(text, "");
     return [{name: "", form: "base64", line, dropped: line === text.trim() ? [] : [{what: "folds"}]}];
 }
 
-const looksLikeBase64 = (text) => /^A\s*Q/.test(text) && /^AQ[A-Za-z0-9+/]{2,}={0,2}$/.test(text.replace(/\s/g, ""));
+const looksLikeBase64 = (text) => /^A\s*Q/.test(text) && /^AQ[A-Za-z0-9+/]{2,}={0,2}$/.test(without(text, ""));
 
 // What icacls lists without /save: names and letters, no SIDs.
-const ICACLS = /[^\n:()]:\((?:DENY|[A-Z]{1,3}(?:,[A-Z]{1,3})*)\)/;
+const ICACLS = /[^\n:()]:\((?:DENY|[A-Z]{1,3}(?:,[A-Z]{1,3}){0,40})\)/;
 
 // Text as it is, when a form was chosen: only the ends of the line are dropped.
 function asChosen(text, form) {
-    const line = form === "sddl" ? text.replace(/\r?\n$/, "").replace(/\r?\n/g, " ") : text.replace(/\s/g, "");
+    const line = form === "sddl" ? text.replace(/\r?\n$/, "").replace(/\r?\n/g, " ") : without(text, "");
     return [{name: "", form, line, dropped: line === text ? [] : [{what: "folds"}]}];
 }
 
@@ -226,17 +240,19 @@ function guessed(text) {
     if (entries.length) {
         return entries;
     }
-    for (const pattern of [REG_VALUE, REG_BINARY]) {
-        const values = ofRegistry(plain, pattern);
+    for (const [front, endOfValue] of [[REG_VALUE, endOfPairs], [REG_BINARY, endOfHex]]) {
+        const values = ofRegistry(plain, front, endOfValue);
         if (values.length) {
             return values;
         }
     }
-    if (BYTES_OF_POWERSHELL.test(plain) && ofNumbers(plain).length) {
-        return ofNumbers(plain);
+    const bytes = ofNumbers(plain);
+    if (bytes.length) {
+        return bytes;
     }
-    if (/^(?:0x|\\x|x')?0x?1[\s,:-]?/i.test(plain) && ofHex(plain).length) {
-        return ofHex(plain);
+    const digits = /^(?:0x|\\x|x')?0x?1[\s,:-]?/i.test(plain) ? ofHex(plain) : [];
+    if (digits.length) {
+        return digits;
     }
     if (looksLikeBase64(plain)) {
         return ofBase64(plain);
@@ -249,8 +265,12 @@ function guessed(text) {
 // The descriptors in a text, at least one: {name, form, line, dropped}. Of a text in which none is found the whole is
 // taken as SDDL, so that the library says what is wrong with it.
 export function descriptorsIn(text, form) {
-    const given = text.replace(/^\uFEFF/, "").replace(/\0/g, "");
-    const lost =
+    const bare = text.replace(/^\uFEFF/, "").replace(/\0/g, "");
+    // A text of null characters is no empty descriptor: it stays, and the library refuses it.
+    const isNothing = bare.trim() === "";
+    const given = isNothing ? text : bare;
+    const lost = isNothing ?
+        [] :
         [...(text.startsWith("\uFEFF") ? [{what: "mark"}] : []), ...(text.includes("\0") ? [{what: "nulls"}] : [])];
     const found = form === "auto" ? guessed(given) : asChosen(given, form);
     const all =

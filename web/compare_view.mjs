@@ -3,7 +3,8 @@ import {linesOf} from "./desk.mjs";
 import {byId, labelled, make, show, showParts, someRows} from "./dom.mjs";
 import {foundText} from "./look_view.mjs";
 import {faultInWords, guidInWords, rightsInWords, whereOf} from "./naming.mjs";
-import {aceRights, commaed, descriptorField, faultBox, kindClass, who} from "./parts_view.mjs";
+import {aceRights, commaed, descriptorField, faultBox, formatted, kindClass, who} from "./parts_view.mjs";
+import {valueIn} from "./tables.mjs";
 import {say, WORDS} from "./words.mjs";
 
 export function makeCompare(other, refresh) {
@@ -21,7 +22,7 @@ export function makeCompare(other, refresh) {
 
 const side = (ace, kind, names) => (ace ?
         [
-            make("span", {class: "badge"}, WORDS.aceKinds[ace.kind]), " ", who(ace.sid, ace.alias, names), " ",
+            make("span", {class: "badge"}, valueIn(WORDS.aceKinds, ace.kind)), " ", who(ace.sid, ace.alias, names), " ",
             aceRights(ace, kind), make("span", {class: "where"}, ` ${whereOf(kind, ace)}`), ` #${ace.number}`
         ] :
         "");
@@ -29,14 +30,14 @@ const side = (ace, kind, names) => (ace ?
 function aceRow(row, kind, names) {
     const ace = row.one ?? row.other;
     return make("tr", {class: `compared ${row.state} ${kindClass(ace.kind)}`, "data-state": row.state},
-        make("th", {scope: "row"}, make("span", {class: "sign", "aria-hidden": "true"}, WORDS.compare.signs[row.state]),
-            " ", WORDS.compare.states[row.state]),
+        make("th", {scope: "row"}, make("span", {class: "sign", "aria-hidden": "true"}, valueIn(WORDS.compare.signs, row.state)),
+            " ", valueIn(WORDS.compare.states, row.state)),
         make("td", {"data-label": WORDS.compare.columns.one}, side(row.one, kind, names)),
         make("td", {"data-label": WORDS.compare.columns.other}, side(row.other, kind, names)));
 }
 
 function aceTable(list, rows, kind, names, later) {
-    const title = say(WORDS.compare.aces, {list: WORDS.parts[list]});
+    const title = say(WORDS.compare.aces, {list: valueIn(WORDS.parts, list)});
     if (!rows) {
         return null;
     }
@@ -55,11 +56,11 @@ function partLines(result, names) {
     const text = (found) => (found ? who(found.sid, found.alias, names) : WORDS.parts.none);
     const parts = result.parts.filter((part) => !part.isSame).map(({part,
         one,
-        other}) => make("li", {class: "changed"}, WORDS.parts[part], ": ", text(one), " \u2192 ", text(other)));
+        other}) => make("li", {class: "changed"}, valueIn(WORDS.parts, part), ": ", text(one), " \u2192 ", text(other)));
     const flags = result.flags.filter((part) => !part.isSame).map(({part,
         one,
         other}) => make("li", {class: "changed"}, say(WORDS.compare.part, {
-        part: WORDS.parts[part],
+        part: valueIn(WORDS.parts, part),
         one: one || WORDS.compare.noFlags,
         other: other || WORDS.compare.noFlags
     })));
@@ -79,7 +80,7 @@ function partLines(result, names) {
 function difference({gained, lost}, kind) {
     const words = (name, mask) => (mask === 0 ?
             null :
-            make("span", {class: name}, say(WORDS.compare[name], {rights: commaed(rightsInWords(kind, mask))}), " "));
+            make("span", {class: name}, say(valueIn(WORDS.compare, name), {rights: commaed(rightsInWords(kind, mask))}), " "));
     return [words("gained", gained), words("lost", lost)];
 }
 
@@ -92,15 +93,24 @@ const rightsItem = (row, kind, names) =>
         who(row.sid, row.alias, names), " ", difference(row, kind),
         row.typed.length ? make("ul", {}, row.typed.map((typed) => typedLine(typed, kind))) : null);
 
+// Whether rights of some trustees were not compared, which is no sign that they are the same.
+const areLeft = ({compared, trustees}) => compared < trustees;
+
+const rightsLeft = ({compared, trustees}) =>
+    say(WORDS.compare.rightsLeft, {count: formatted(compared), all: formatted(trustees)});
+
 function rightsSection(result, kind, names, later) {
     const list = make("ul", {class: "differences"});
     const more = someRows(list, linesOf(result.rights), (line) => rightsItem(JSON.parse(line), kind, names),
         (count) => say(WORDS.grid.more, {count}), {later});
     return make("section", {"aria-labelledby": "compare-rights"},
         make("h3", {id: "compare-rights"}, WORDS.compare.rights),
-        result.changed === 0 ? make("p", {}, WORDS.compare.rightsNone) : [list, more],
+        result.changed > 0     ? [list, more] :
+            areLeft(result) ? null :
+                              make("p", {}, WORDS.compare.rightsNone),
         result.areBelowSame ? null : make("p", {class: "hint"}, WORDS.compare.below),
-        result.areTypesLeft ? make("p", {class: "fault-name"}, WORDS.warnings.manyTypes) : null);
+        result.areTypesLeft ? make("p", {class: "fault-name"}, WORDS.warnings.manyTypes) : null,
+        areLeft(result) ? make("p", {class: "fault-name"}, rightsLeft(result)) : null);
 }
 
 // Shows it. Returns what a screen reader says of it, and a promise that ends when all is shown.
@@ -127,6 +137,7 @@ export function showCompare(result, {kind, names}, isOver) {
         (later) => make("div", {}, aceTable("sacl", result.sacl, kind, names, later))
     ];
     const shown = showParts(place, result.count + changed, parts, isOver);
-    const rights = changed ? say(WORDS.compare.rightsCount, {count: changed}) : WORDS.compare.rightsNone;
+    const known = changed ? say(WORDS.compare.rightsCount, {count: changed}) : WORDS.compare.rightsNone;
+    const rights = areLeft(result) ? rightsLeft(result) : known;
     return [`${verdict} ${rights}`, shown];
 }

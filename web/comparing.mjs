@@ -1,8 +1,9 @@
 // What differs between two descriptors. Same content means the same canonical layout; rights are answers of check.
-import {DECIDING, grantedByType, tokenOf, tokenSids, typesOf} from "./access.mjs";
+import {DECIDING, grantedByType, isBroad, tokenOf, tokenSids, typesFor, typesOf} from "./access.mjs";
 import {hexOf, piecesOf} from "./library.mjs";
 
 const MOST_CELLS = 4_000_000; // of the table that finds what two lists have in common
+const MOST_WORK = 4_000_000; // ACEs that all questions together go through
 const OWNER_RIGHTS = "S-1-3-4";
 
 // The pairs of places of a longest common subsequence of two lists.
@@ -40,11 +41,19 @@ function commonOf(one, other) {
     return pairs;
 }
 
-// Takes pairs of places out of two sets of places, wherever SAME holds.
-function takePairs(ones, others, same) {
+// Takes pairs of places out of two sets of places, each with the first that has the same key.
+function takePairs(ones, others, keyOfOne, keyOfOther) {
+    const waiting = new Map();
+    for (const other of [...others].reverse()) {
+        const key = keyOfOther(other);
+        if (!waiting.has(key)) {
+            waiting.set(key, []);
+        }
+        waiting.get(key).push(other);
+    }
     const pairs = [];
     for (const one of [...ones]) {
-        const other = [...others].find((place) => same(one, place));
+        const other = waiting.get(keyOfOne(one))?.pop();
         if (other !== undefined) {
             pairs.push([one, other]);
             ones.delete(one);
@@ -64,8 +73,8 @@ function compareAces(ones, others) {
         left.delete(one);
         right.delete(other);
     }
-    const moved = takePairs(left, right, (one, other) => ones.texts[one] === others.texts[other]);
-    const changed = takePairs(left, right, (one, other) => trusteeOf(ones.aces[one]) === trusteeOf(others.aces[other]));
+    const moved = takePairs(left, right, (one) => ones.texts[one], (other) => others.texts[other]);
+    const changed = takePairs(left, right, (one) => trusteeOf(ones.aces[one]), (other) => trusteeOf(others.aces[other]));
     const row = (state) => ([one, other]) => ({state, one: ones.aces[one] ?? null, other: others.aces[other] ?? null});
     return [
         ...same.map(row("same")),
@@ -93,25 +102,44 @@ function trusteesOf(sides) {
     return [...trustees.values()];
 }
 
-// For each trustee of either the rights that check grants to the token of its row in the grid: of the object as a whole
-// or the type that is asked for, and if none is, what differs beyond that for each type that an ACE of either is for.
-function compareRights(library, sides, {mapping, object, common}) {
-    const types = object ? [] : [...new Set(sides.flatMap(({model}) => typesOf(model, mapping).all))];
-    return trusteesOf(sides).map((who) => {
-        const [ones, others] = sides.map(({descriptor, model}) => grantedByType(library, descriptor, [object, ...types],
-                                             tokenOf(library, tokenSids(who.sid, model, common)), mapping));
-        const [whole, ...rest] =
-            ones.map((one, at) => ({gained: (others[at] & ~one) >>> 0, lost: (one & ~others[at]) >>> 0}));
-        const typed = rest.map(({gained, lost}, at) => ({
-            object: types[at],
-            gained: (gained & ~whole.gained) >>> 0,
-            lost: (lost & ~whole.lost) >>> 0,
-        }));
-        return {...who, ...whole, typed: typed.filter(({gained, lost}) => gained || lost)};
-    });
+// For a trustee the rights that check grants to the token of its row in the grid: of the object as a whole or the type
+// that is asked for, and if none is, what differs beyond that for each type that an ACE of either is for.
+function compareTrustee(library, sides, who, types, {mapping, object}) {
+    const [ones, others] = sides.map(({asked, model}, at) => grantedByType(library, asked, [object, ...types],
+                                         tokenOf(library, who.tokens[at]), mapping, model));
+    const [whole, ...rest] =
+        ones.map((one, at) => ({gained: (others[at] & ~one) >>> 0, lost: (one & ~others[at]) >>> 0}));
+    const typed = rest.map(({gained, lost}, at) => ({
+        object: types[at],
+        gained: (gained & ~whole.gained) >>> 0,
+        lost: (lost & ~whole.lost) >>> 0,
+    }));
+    const {sid, alias} = who;
+    return {sid, alias, ...whole, typed: typed.filter(({gained, lost}) => gained || lost)};
 }
 
-// SIDES are two of {descriptor, model}.
+// Groups that nearly everybody is in come first. The others are asked about in their order, as long as the questions are not
+// too many for two descriptors of this length.
+function compareRights(library, sides, {mapping, object, common}) {
+    const types = sides.map(({model}) => typesOf(model, mapping));
+    const trustees = trusteesOf(sides).map(
+        (who) => ({...who, tokens: sides.map(({model}) => tokenSids(who.sid, model, common))}));
+    const inOrder = [...trustees.filter(({sid}) => isBroad(sid)), ...trustees.filter(({sid}) => !isBroad(sid))];
+    const cost = sides.reduce((sum, {model}) => sum + model.dacl.aces.length + 1, 0);
+    const rows = new Map();
+    let work = 0;
+    for (const who of inOrder) {
+        const asked = object ? [] : [...new Set(types.flatMap((one) => typesFor(one, who.tokens.flat())))];
+        work += cost * (1 + asked.length);
+        if (work > MOST_WORK) {
+            break;
+        }
+        rows.set(who.sid, compareTrustee(library, sides, who, asked, {mapping, object}));
+    }
+    return {rights: trustees.map(({sid}) => rows.get(sid)).filter(Boolean), compared: rows.size, trustees: trustees.length};
+}
+
+// SIDES are two of {descriptor, asked, model}: what is compared, and what the library is asked about.
 export function compare(library, sides, options) {
     const both = sides.map((side) => ({...side, pieces: piecesOf(library, side.descriptor)}));
     const [one, other] = both;
@@ -140,7 +168,7 @@ export function compare(library, sides, options) {
         flags,
         dacl: compareAces(listOf(one, "dacl"), listOf(other, "dacl")),
         sacl: compareAces(listOf(one, "sacl"), listOf(other, "sacl")),
-        rights: compareRights(library, both, options),
+        ...compareRights(library, both, options),
         areTypesLeft: !options.object && both.some(({model}) => typesOf(model, options.mapping).isCut),
     };
 }

@@ -1,25 +1,23 @@
 // The questions of the page, each answered as plain data, so that a worker can send it. Nothing here knows the
 // document.
-import {ask, gridOf, isRefusedRequest, maskOfText, meaningOf, readToken, typesOf, whyCell} from "./access.mjs";
+import {ask, gridOf, isRefusedRequest, maskOfText, meaningOf, typesOf} from "./access.mjs";
 import {descriptorsIn} from "./clipboard.mjs";
 import {compare} from "./comparing.mjs";
-import {placeOf, writtenAces} from "./faults.mjs";
+import {placeOf} from "./faults.mjs";
 import {inherit} from "./inheriting.mjs";
-import {answerTo, descriptorOf, guidBytes, hexOf, readExplanation, Refusal, sidBytes, sidText} from "./library.mjs";
+import {answerTo, descriptorOf, descriptorOfPieces, guidBytes, hexOf, piecesOf, readExplanation, Refusal, sidBytes,
+    sidText} from "./library.mjs";
+import {fitsNoFile, kindIn} from "./kinds.mjs";
+import {hasOwnMapping, isDirectory, mappingOf, rightsOfKind, withoutGeneric} from "./meanings.mjs";
+import {writtenAces} from "./scanning.mjs";
+import {valueIn} from "./tables.mjs";
+import {MOST_SIDS, readToken} from "./tokens.mjs";
 import {warningsOf} from "./warnings.mjs";
 
 const MOST_SHOWN = 20_000; // characters of a descriptor as a whole
-const MAPPINGS = {
-    file: "file",
-    folder: "file",
-    key: "key",
-    ds: "ds"
-};
+const MOST_OF_KIND = 10_000; // characters of a text that tell of the kind of object
 
-export const mappingOf = (kind) => MAPPINGS[kind];
-
-const plainFault = (fault) =>
-    ({number: fault.number, faultName: fault.faultName, part: fault.part, otherPart: fault.otherPart});
+const plainFault = ({number, faultName, part, otherPart, place}) => ({number, faultName, part, otherPart, place});
 
 // Runs what may be refused: {value} or {fault}. Any other error is one of the page itself and goes on.
 function tried(question) {
@@ -45,15 +43,33 @@ function domainOf(library, text) {
 
 const printingUnder = (domain) => (domain.bytes.length ? {domain: domain.bytes} : {});
 
-const withMeanings = (library, model, mapping) => {
+// What the mask of an ACE means for a kind of object: by the library, or by the table where the library has no mapping.
+const meaningFor = (library, mask, kind) =>
+    hasOwnMapping(kind) ? withoutGeneric(mask, kind) : meaningOf(library, mask, mappingOf(kind));
+
+const withMeanings = (library, model, kind) => {
     for (const ace of [...model.dacl.aces, ...model.sacl.aces]) {
-        ace.meaning = ace.kind === "ML" ? ace.mask : meaningOf(library, ace.mask, mapping);
+        ace.meaning = ace.kind === "ML" ? ace.mask : meaningFor(library, ace.mask, kind);
     }
     return model;
 };
 
-function explained(library, descriptor, domain, mapping) {
-    return withMeanings(library, readExplanation(library.explain(descriptor, printingUnder(domain))), mapping);
+function explained(library, descriptor, domain, kind) {
+    return withMeanings(library, readExplanation(library.explain(descriptor, printingUnder(domain))), kind);
+}
+
+const GENERIC_FIELD = /^\((\w+);(\w*);(\w+);/;
+
+// The descriptor that the library is asked about. Where it has no mapping for a kind, generic rights are replaced.
+function asked(library, descriptor, model, kind) {
+    const {aces} = model.dacl;
+    if (!hasOwnMapping(kind) || aces.every((ace) => ace.meaning === ace.mask)) {
+        return descriptor;
+    }
+    const pieces = piecesOf(library, descriptor);
+    const replaced = pieces.dacl.aces.map((text, at) => text.replace(GENERIC_FIELD,
+        (_, type, flags) => `(${type};${flags};0x${aces[at].meaning.toString(16)};`));
+    return descriptorOfPieces(library, {...pieces, dacl: {...pieces.dacl, aces: replaced}});
 }
 
 // A descriptor of a text: what was found in it, and either the descriptor or its fault with the place.
@@ -73,7 +89,7 @@ function read(library, {text, form, chosen}, domain) {
     if (!fault) {
         return {...about, descriptor: value};
     }
-    const place = placeOf(library, one.form, one.line, fault, domain.text);
+    const place = placeOf(library, one.form, one.line, fault);
     return {...about, fault, place, written: packed(one.form === "sddl" ? writtenAces(one.line) : [])};
 }
 
@@ -90,10 +106,12 @@ const packedList = ({state, aces}, texts) =>
 const isEmpty = (text) => text.trim() === "";
 
 function optionsOf(library, state, domain) {
-    const object = state.kind === "ds" ? state.object.trim().toLowerCase() : "";
+    const object = isDirectory(state.kind) ? state.object.trim().toLowerCase() : "";
     const {fault} = tried(() => guidBytes(library, object));
     return {
+        kind: state.kind,
         mapping: mappingOf(state.kind),
+        rights: rightsOfKind(state.kind),
         object: fault ? "" : object,
         objectFault: fault ?? null,
         common: state.common,
@@ -102,8 +120,12 @@ function optionsOf(library, state, domain) {
     };
 }
 
+// The kind that the user has chosen, or that the text tells of, or else a folder.
+const kindOf = ({kind, isKindChosen, text}) => (isKindChosen ? kind : kindIn(text.slice(0, MOST_OF_KIND)) ?? "folder");
+
 // Everything that the first view shows of a text.
-function look(library, state) {
+function look(library, given) {
+    const state = {...given, kind: kindOf(given)};
     const domain = domainOf(library, state.domain);
     if (domain.fault) {
         return {domainFault: domain.fault};
@@ -116,14 +138,19 @@ function look(library, state) {
         return found;
     }
     const options = optionsOf(library, state, domain);
-    const model = explained(library, found.descriptor, domain, options.mapping);
-    const grid = gridOf(library, found.descriptor, model, options);
+    const model = explained(library, found.descriptor, domain, state.kind);
+    if (!given.isKindChosen && state.kind === "folder" && fitsNoFile(model.dacl.aces)) {
+        return {...found, descriptor: undefined, kind: state.kind, asksKind: true};
+    }
+    const question = asked(library, found.descriptor, model, state.kind);
+    const grid = gridOf(library, question, model, options);
     const sddl = library.toSddl(found.descriptor, printingUnder(domain));
     const {descriptor, ...about} = found;
-    const warnings = warningsOf(library, descriptor, model, grid, options);
+    const warnings = warningsOf(library, question, model, grid, options);
     const {dacl, sacl} = acesOf(sddl);
     return {
         ...about,
+        kind: state.kind,
         model: {...model, dacl: packedList(model.dacl, dacl), sacl: packedList(model.sacl, sacl)},
         grid,
         sddl: sddl.slice(0, MOST_SHOWN),
@@ -158,11 +185,6 @@ function about(library, state, question) {
     return found.fault ? {descriptorFault: found.fault} : question(found.descriptor, domain);
 }
 
-const why = (library, {state, row, bit}) => about(library, state, (descriptor, domain) => {
-    const options = optionsOf(library, state, domain);
-    return whyCell(library, descriptor, explained(library, descriptor, domain, options.mapping), row, bit, options);
-});
-
 // What is asked for, read by the library: names of rights, or a number.
 function wantedOf(library, asked) {
     const named = asked.rights.reduce((mask, bit) => (mask | bit) >>> 0, 0);
@@ -176,40 +198,45 @@ function levelOf(text, listed) {
     return text === "" ? null : Number(text);
 }
 
-function askAbout(library, {state, asked}) {
+function askAbout(library, {state, asked: question}) {
     return about(library, state, (descriptor, domain) => {
         const options = optionsOf(library, state, domain);
-        const token = readToken(library, asked.token, domain.text);
-        const wanted = tried(() => wantedOf(library, asked));
-        const self = tried(() => (isEmpty(asked.self) ? "" : sidText(library, asked.self.trim(), domain.text)));
+        const token = readToken(library, question.token, domain.text, question.exact);
+        const wanted = tried(() => wantedOf(library, question));
+        const self = tried(() => (isEmpty(question.self) ? "" : sidText(library, question.self.trim(), domain.text)));
         const told = {
             entries: token.entries.map(({bytes, ...entry}) => entry),
             tokenFaults: token.faults,
-            listedLevel: token.level
+            listing: token.refused,
+            lacksUser: token.lacksUser,
+            notes: token.notes,
+            takeOwnership: question.takeOwnership || token.privileges.includes("take-ownership"),
+            security: question.security || token.privileges.includes("security")
         };
-        if (wanted.fault || self.fault || token.faults.length || options.objectFault) {
+        if (wanted.fault || self.fault || token.faults.length || token.refused || options.objectFault) {
             return {...told, wantedFault: wanted.fault, selfFault: self.fault, objectFault: options.objectFault};
         }
-        const refused = isRefusedRequest(wanted.value, asked.maximum);
-        const limit = token.entries.length > 1024;
+        const refused = isRefusedRequest(wanted.value, question.maximum);
+        const limit = token.entries.length > MOST_SIDS;
         if (refused || limit || token.entries.length === 0) {
             return {...told, refused, isTooMany: limit, isNobody: token.entries.length === 0};
         }
-        const model = explained(library, descriptor, domain, options.mapping);
-        const level = levelOf(asked.level, token.level);
+        const model = explained(library, descriptor, domain, state.kind);
+        const level = levelOf(question.level, token.level);
         return {
             ...told,
+            wanted: wanted.value,
             level,
             isForWhole: !options.object && typesOf(model, options.mapping).all.length > 0,
-            ...ask(library, descriptor, model, token.entries, {
+            ...ask(library, asked(library, descriptor, model, state.kind), token.entries, {
                 wanted: wanted.value,
-                maximum: asked.maximum,
+                maximum: question.maximum,
                 mapping: options.mapping,
                 level,
                 object: options.object,
                 self: self.value,
-                security: asked.security,
-                takeOwnership: asked.takeOwnership
+                security: told.security,
+                takeOwnership: told.takeOwnership
             })
         };
     });
@@ -222,8 +249,7 @@ function inheritFrom(library, {state, made}) {
         const creator =
             isEmpty(made.creator) ? {} : tried(() => descriptorOf(library, "sddl", made.creator.trim(), domain.text));
         if (owner.fault || group.fault || creator.fault) {
-            const creatorPlace =
-                creator.fault && placeOf(library, "sddl", made.creator.trim(), creator.fault, domain.text);
+            const creatorPlace = creator.fault && placeOf(library, "sddl", made.creator.trim(), creator.fault);
             return {ownerFault: owner.fault, groupFault: group.fault, creatorFault: creator.fault, creatorPlace};
         }
         const printing = printingUnder(domain);
@@ -241,13 +267,13 @@ function inheritFrom(library, {state, made}) {
             return object;
         }
         const above = (descriptor) => descriptor && {
-            model: explained(library, descriptor, domain, mapping),
+            model: explained(library, descriptor, domain, state.kind),
             written: acesOf(library.toSddl(descriptor, printing))
         };
         const from = {parent: above(parent), creator: above(creator.value)};
         const passed = (who) => from[who] && passedOn(from[who], object.value.sources, who);
         return {
-            object: madeNode(library, object.value, from, mapping),
+            object: madeNode(library, object.value, from, state.kind),
             parent: passed("parent"),
             creator: passed("creator")
         };
@@ -261,16 +287,16 @@ function inLists(itemsOf) {
 }
 
 // What the page shows of a new object: its ACEs, each with the one that it came from, and the objects below.
-function madeNode(library, node, from, mapping) {
-    const model = withMeanings(library, node.model, mapping);
+function madeNode(library, node, from, kind) {
+    const model = withMeanings(library, node.model, kind);
     const written = acesOf(node.sddl);
     const sourceOf = (list, at) => {
-        const source = node.sources[list]?.[at];
-        return source && {...source, text: from[source.who].written[list][source.number - 1]};
+        const source = node.sources[list][at];
+        return {...source, text: from[source.who].written[list][source.number - 1]};
     };
     const lists = inLists((list) => model[list].aces.map(
                               (ace, at) => ({ace, text: written[list][at], source: sourceOf(list, at)})));
-    const children = node.children.map((child) => madeNode(library, child, {parent: {written}}, mapping));
+    const children = node.children.map((child) => madeNode(library, child, {parent: {written}}, kind));
     return {
         ...lists,
         kind: node.kind,
@@ -281,20 +307,19 @@ function madeNode(library, node, from, mapping) {
     };
 }
 
-// The ACEs of the folder or of the creator, each with whether it goes on. Without arrows nobody knows.
+// The ACEs of the folder or of the creator, each with whether it goes on.
 const passedOn = ({model, written}, sources, who) => inLists((list) => {
-    const numbers = new Set(sources[list]?.filter((source) => source.who === who).map(({number}) => number));
-    return model[list].aces.map(
-        (ace, at) => ({ace, text: written[list][at], isPassed: !sources[list] || numbers.has(ace.number)}));
+    const numbers = new Set(sources[list].filter((source) => source.who === who).map(({number}) => number));
+    return model[list].aces.map((ace, at) => ({ace, text: written[list][at], isPassed: numbers.has(ace.number)}));
 });
 
-// derive refuses lists that would be too large by the library's own fault.
+// A list that would be too large is refused by the library's own fault.
 function derived(question) {
     try {
         return {value: question()};
     } catch (fault) {
-        if (fault.number === 40 || fault.number === 30) {
-            return {fault: {number: fault.number, faultName: fault.faultName ?? fault.name, part: fault.part ?? null}};
+        if (fault.number === 40) {
+            return {fault: {number: fault.number, faultName: fault.name, part: fault.part}};
         }
         throw fault;
     }
@@ -310,7 +335,10 @@ function compareWith(library, {state, other}) {
             return {otherFault: second};
         }
         const options = optionsOf(library, state, domain);
-        const side = (bytes) => ({descriptor: bytes, model: explained(library, bytes, domain, options.mapping)});
+        const side = (bytes) => {
+            const model = explained(library, bytes, domain, state.kind);
+            return {descriptor: bytes, asked: asked(library, bytes, model, state.kind), model};
+        };
         const found = compare(library, [side(descriptor), side(second.descriptor)], options);
         const changed = found.rights.filter((row) => row.gained || row.lost || row.typed.length);
         return {
@@ -330,7 +358,6 @@ const isBelow = ({state, one, other}) =>
 
 const QUESTIONS = {
     look,
-    why,
     ask: askAbout,
     inherit: inheritFrom,
     compare: compareWith,
@@ -339,4 +366,4 @@ const QUESTIONS = {
     answer: (library, {words, line}) => answerTo(library, words, line),
 };
 
-export const questionOf = (library, name, about) => QUESTIONS[name](library, about);
+export const questionOf = (library, name, about) => valueIn(QUESTIONS, name)(library, about);

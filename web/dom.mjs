@@ -1,5 +1,7 @@
 // Elements. Whatever a text holds, it becomes a text node: there is no way here to make markup of it.
 
+import {valueIn} from "./tables.mjs";
+
 const SVG_FREE = /^(?:on|style$|src|href$|srcdoc$)/i; // attributes that could run or load something
 
 function setAttribute(element, name, value) {
@@ -42,9 +44,10 @@ export function labelled(text, control, hint) {
     }, text), control, hint ? make("small", {class: "hint", id: `${id}-hint`}, hint) : null);
 }
 
+// OPTIONS is an object of texts by their values, or a list of both.
 export function select(id, options, value, onchange) {
     const list = make("select", {id, onchange: (event) => onchange(event.target.value)},
-        Object.entries(options).map(([key, text]) => make("option", {value: key}, text)));
+        (Array.isArray(options) ? options : Object.entries(options)).map(([key, text]) => make("option", {value: key}, text)));
     list.value = value;
     return list;
 }
@@ -155,14 +158,14 @@ export function moveByArrows(table) {
         const row = rows.findIndex((all) => all.includes(document.activeElement));
         const column = row < 0 ? -1 : rows[row].indexOf(document.activeElement);
         const last = row < 0 ? 0 : rows[row].length - 1;
-        const target = row < 0 ? null : {
+        const target = row < 0 ? null : valueIn({
             ArrowRight: rows[row][Math.min(last, column + 1)],
             ArrowLeft: rows[row][Math.max(0, column - 1)],
             ArrowDown: rows[Math.min(rows.length - 1, row + 1)][column],
             ArrowUp: rows[Math.max(0, row - 1)][column],
             Home: rows[row][0],
             End: rows[row][last],
-        }[event.key];
+        }, event.key);
         if (target) {
             event.preventDefault();
             focus(target);

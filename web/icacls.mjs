@@ -2,7 +2,7 @@
 // so the page says that it was translated; a line with a name or a letter that is not in the tables here stays as it
 // is, and then nothing of the listing is taken.
 
-const ACCOUNTS = {
+const ACCOUNTS = new Map(Object.entries({
     "everyone": "WD",
     "creator owner": "CO",
     "creator group": "CG",
@@ -41,9 +41,9 @@ const ACCOUNTS = {
     "nt service\\trustedinstaller": "S-1-5-80-956008885-3418522649-1831038044-1853292631-2271478464",
     "application package authority\\all application packages": "AC",
     "application package authority\\all restricted application packages": "S-1-15-2-2",
-};
+}));
 // Masks of the simple rights and of the special ones.
-const RIGHTS = {
+const RIGHTS = new Map(Object.entries({
     F: 0x1f01ff,
     M: 0x1301bf,
     RX: 0x1200a9,
@@ -69,35 +69,29 @@ const RIGHTS = {
     DC: 0x40,
     RA: 0x80,
     WA: 0x100,
-};
-const FLAGS = {
-    OI: "OI",
-    CI: "CI",
-    NP: "NP",
-    IO: "IO",
-    I: "ID"
-};
-const ORDER = ["OI", "CI", "NP", "IO", "I"];
-const LINE = /^(.*?):((?:\([A-Z,]+\))+)$/;
+}));
+// Flags, in the order of SDDL.
+const FLAGS = new Map([["OI", "OI"], ["CI", "CI"], ["NP", "NP"], ["IO", "IO"], ["I", "ID"]]);
+const GROUPS = /:((?:\([A-Z,]+\)){1,20})$/;
 const LAST = /^(?:Successfully processed \d+ files?.*)?$/;
 
 // The account at the end of a text: what is before it is the path, which only the first line has.
 function accountIn(text) {
     const lower = text.toLowerCase();
-    const names = Object.keys(ACCOUNTS).filter((name) => lower === name || lower.endsWith(` ${name}`));
+    const names = [...ACCOUNTS.keys()].filter((name) => lower === name || lower.endsWith(` ${name}`));
     const [longest] = names.sort((one, other) => other.length - one.length);
-    return longest ? {sid: ACCOUNTS[longest], path: text.slice(0, text.length - longest.length).trim()} : null;
+    return longest ? {sid: ACCOUNTS.get(longest), path: text.slice(0, text.length - longest.length).trim()} : null;
 }
 
 function aceOf(account, groups) {
     const isDeny = groups.includes("DENY") || groups.includes("N");
-    const flags = ORDER.filter((flag) => groups.includes(flag)).map((flag) => FLAGS[flag]).join("");
-    const rest = groups.filter((group) => !FLAGS[group] && group !== "DENY");
+    const flags = [...FLAGS].filter(([letters]) => groups.includes(letters)).map(([, flag]) => flag).join("");
+    const rest = groups.filter((group) => !FLAGS.has(group) && group !== "DENY");
     const names = rest.length === 1 ? rest[0].split(",") : [];
-    if (names.length === 0 || names.some((name) => !Object.hasOwn(RIGHTS, name))) {
+    if (names.length === 0 || names.some((name) => !RIGHTS.has(name))) {
         return null;
     }
-    const mask = names.reduce((all, name) => (all | RIGHTS[name]) >>> 0, 0);
+    const mask = names.reduce((all, name) => (all | RIGHTS.get(name)) >>> 0, 0);
     return `(${isDeny ? "D" : "A"};${flags};0x${mask.toString(16)};;;${account})`;
 }
 
@@ -107,9 +101,9 @@ export function listingIn(text) {
     let name = "";
     const aces = [];
     for (const [index, line] of lines.entries()) {
-        const found = LINE.exec(line);
-        const account = found && accountIn(found[1]);
-        const ace = account && aceOf(account.sid, found[2].slice(1, -1).split(")("));
+        const found = GROUPS.exec(line);
+        const account = found && accountIn(line.slice(0, found.index));
+        const ace = account && aceOf(account.sid, found[1].slice(1, -1).split(")("));
         // A path in a later line is another object.
         if (!ace || (index > 0 && account.path)) {
             return null;

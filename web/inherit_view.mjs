@@ -3,6 +3,7 @@ import {linesOf} from "./desk.mjs";
 import {afterwards, byId, input, labelled, make, select, show, showParts, someRows} from "./dom.mjs";
 import {faultInWords, whereOf} from "./naming.mjs";
 import {aceRights, descriptorField, faultBox, kindClass, shortened, who} from "./parts_view.mjs";
+import {valueIn} from "./tables.mjs";
 import {say, WORDS} from "./words.mjs";
 
 const LISTS = ["dacl", "sacl"];
@@ -29,7 +30,7 @@ export function makeInherit(made, refresh) {
 
 function aceText(ace, text, kind, names) {
     return [
-        make("span", {class: "badge"}, WORDS.aceKinds[ace.kind]), " ", who(ace.sid, ace.alias, names), " ",
+        make("span", {class: "badge"}, valueIn(WORDS.aceKinds, ace.kind)), " ", who(ace.sid, ace.alias, names), " ",
         aceRights(ace, kind), make("span", {class: "where"}, ` ${whereOf(kind, ace)} `), make("code", {}, text)
     ];
 }
@@ -39,18 +40,16 @@ const aceLists = (side, item, later) => LISTS.filter((list) => side[list].length
     const body = make("ol", {class: "made"});
     const more = someRows(body, linesOf(side[list]), (line) => item(JSON.parse(line)),
         (count) => say(WORDS.parts.more, {count}), {step: 50, later});
-    return [make("h4", {}, WORDS.parts[list]), body, more];
+    return [make("h4", {}, valueIn(WORDS.parts, list)), body, more];
 });
 
 // An ACE with its arrow, and a number to follow it by.
 function madeItem({ace, text, source}, kind, names) {
-    const words = source ? say(source.who === "parent" ? WORDS.inherit.fromParent : WORDS.inherit.fromCreator,
-                               {number: source.number}) :
-                           WORDS.inherit.noSource;
-    return make("li", {class: kindClass(ace.kind), "data-from": source ? `${source.who} ${source.number}` : ""},
+    const words = say(source.who === "parent" ? WORDS.inherit.fromParent : WORDS.inherit.fromCreator,
+        {number: source.number});
+    return make("li", {class: kindClass(ace.kind), "data-from": `${source.who} ${source.number}`},
         aceText(ace, text, kind, names),
-        make("div", {class: "arrow"}, `${WORDS.inherit.arrow} ${words} `,
-            source ? make("code", {}, source.text) : null));
+        make("div", {class: "arrow"}, `${WORDS.inherit.arrow} ${words} `, make("code", {}, source.text)));
 }
 
 function nodeView(node, title, kind, names, level, later) {
@@ -62,7 +61,7 @@ function nodeView(node, title, kind, names, level, later) {
         node.isEmpty ? make("p", {class: "warning caution"}, WORDS.inherit.nothing) : null,
         aceLists(node, (item) => madeItem(item, childKind, names), later));
     for (const child of node.children) {
-        const title = WORDS.inherit.below[child.kind];
+        const title = valueIn(WORDS.inherit.below, child.kind);
         afterwards(later, () => section.append(make("details", {open: level < 1}, make("summary", {}, title),
             nodeView(child, title, kind, names, level + 1, later))));
     }
@@ -95,7 +94,7 @@ export function showInherit(result, {kind, names, made}, isOver) {
         return [place.textContent];
     }
     const {object, parent, creator} = result;
-    const title = say(inherit.object, {kind: inherit.kinds[made.kind]});
+    const title = say(inherit.object, {kind: valueIn(inherit.kinds, made.kind)});
     const flow = make("div", {class: "flow"});
     show(place, flow);
     const count = object.count + parent.count + (creator?.count ?? 0);

@@ -7,13 +7,13 @@ const ENCODER = new TextEncoder();
 const DECODER = new TextDecoder();
 const OWNER_AT = 20; // where the owner is in the canonical layout of a descriptor with nothing else
 
-// A refusal in the words of an error line: 'error 12 ace-type dacl'.
+// A refusal in the words of an error line: 'error 12 ace-type dacl'; of SDDL with the library's place.
 export class Refusal extends Error {
-    constructor(line) {
+    constructor(line, place = null) {
         super(line);
         const [, number, name, part, otherPart] = line.split(" ");
         Object.assign(
-            this, {number: Number(number), faultName: name, part: part ?? null, otherPart: otherPart ?? null});
+            this, {number: Number(number), faultName: name, part: part ?? null, otherPart: otherPart ?? null, place});
     }
 }
 
@@ -53,14 +53,8 @@ export function answerTo(library, words, line) {
     return DECODER.decode(output).replace(/\n$/, "");
 }
 
-const domainWords = (domain) => (domain ? ["--domain", domain] : []);
-
-// The fault that the program names for a line, or null.
-export function faultOf(library, form, line, domain) {
-    return refusalIn(answerTo(library, ["convert", "--from", form, "--to", "hex", ...domainWords(domain)], line));
-}
-
-// The descriptor of a line, in its canonical layout. An empty line of SDDL is the descriptor without parts.
+// The descriptor of a line, in its canonical layout. An empty line of SDDL is the descriptor without parts, and one of another
+// form is too short: the program passes over it.
 export function descriptorOf(library, form, line, domain) {
     if (form === "sddl") {
         return descriptorOfSddl(library, line, domain ? sidBytes(library, domain) : new Uint8Array(0));
@@ -69,11 +63,24 @@ export function descriptorOf(library, form, line, domain) {
         throw new RangeError("no such form");
     }
     const answer = answerTo(library, ["convert", "--from", form, "--to", "hex"], line);
-    const refusal = refusalIn(answer);
+    const refusal = refusalIn(answer || "error 5 short");
     if (refusal) {
         throw refusal;
     }
     return bytesOfHex(answer);
+}
+
+// Where the fault of a descriptor in binary is, or null.
+export function placeOfBytes(library, bytes) {
+    try {
+        library.normalize(bytes);
+    } catch (fault) {
+        if (typeof fault.number !== "number") {
+            throw fault;
+        }
+        return fault.place;
+    }
+    return null;
 }
 
 function descriptorOfSddl(library, text, domain) {
@@ -83,12 +90,20 @@ function descriptorOfSddl(library, text, domain) {
         if (typeof fault.number !== "number") {
             throw fault;
         }
-        const parts = [fault.part, fault.otherPart].filter(Boolean);
-        throw new Refusal(["error", fault.number, library.faultText(fault.number), ...parts].join(" "));
+        throw new Refusal(fault.line, fault.place);
     }
 }
 
 const descriptorsOfText = new WeakMap();
+
+// The descriptor that has a SID as its owner and nothing else, or a refusal. A letter and a colon after the SID would begin
+// another part.
+function descriptorOfSid(library, text, domain) {
+    if (!/^[A-Za-z0-9-]+$/.test(text)) {
+        throw new Refusal("error 25 sid-form");
+    }
+    return descriptorOf(library, "sddl", "O:" + text, domain);
+}
 
 // The SID of a text in binary, or a refusal. The same few SIDs are asked for again and again.
 export function sidBytes(library, text, domain = "") {
@@ -98,17 +113,13 @@ export function sidBytes(library, text, domain = "") {
     const known = descriptorsOfText.get(library);
     const key = domain + " " + text;
     if (!known.has(key)) {
-        // A letter and a colon after the SID would begin another part.
-        if (!/^[A-Za-z0-9-]+$/.test(text)) {
-            throw new Refusal("error 25 sid-form");
-        }
-        known.set(key, descriptorOf(library, "sddl", "O:" + text, domain).slice(OWNER_AT));
+        known.set(key, descriptorOfSid(library, text, domain).slice(OWNER_AT));
     }
     return known.get(key);
 }
 
 export const sidText = (library, text, domain = "") =>
-    library.toSddl(descriptorOf(library, "sddl", "O:" + text, domain), {numeric: true}).slice(2);
+    library.toSddl(descriptorOfSid(library, text, domain), {numeric: true}).slice(2);
 
 // The mask of names of rights, or of a number, as an ACE has them.
 export function maskOfText(library, text) {

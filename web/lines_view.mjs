@@ -3,6 +3,7 @@ import {box, button, byId, input, labelled, make, select, show} from "./dom.mjs"
 import {FLAGS} from "./lines.mjs";
 import {visible} from "./naming.mjs";
 import {formatted, pagesBar} from "./parts_view.mjs";
+import {valueIn} from "./tables.mjs";
 import {say, WORDS} from "./words.mjs";
 
 const FORMS = ["hex", "base64", "sddl"];
@@ -42,7 +43,7 @@ const OPTIONS = {
 // The words of the command line.
 export function wordsOf({command, options}) {
     return [
-        command, ...Object.entries(OPTIONS[command]).flatMap(([name, type]) => {
+        command, ...Object.entries(valueIn(OPTIONS, command)).flatMap(([name, type]) => {
             const value = options[name];
             if (type === "flag") {
                 return value ? [`--${name}`] : [];
@@ -61,14 +62,14 @@ function optionField(name, type, options, refresh) {
         refresh();
     };
     if (type === "flag") {
-        return box(id, WORDS.lines.options[name], Boolean(options[name]), set);
+        return box(id, valueIn(WORDS.lines.options, name), Boolean(options[name]), set);
     }
     if (Array.isArray(type)) {
         options[name] ??= type[0];
-        return labelled(WORDS.lines.options[name],
+        return labelled(valueIn(WORDS.lines.options, name),
             select(id, Object.fromEntries(type.map((value) => [value, value])), options[name], set));
     }
-    return labelled(WORDS.lines.options[name], input(id, options[name] ?? "", set));
+    return labelled(valueIn(WORDS.lines.options, name), input(id, options[name] ?? "", set));
 }
 
 function filtersOf({options, filterToken}, changeMask) {
@@ -107,7 +108,7 @@ class Run {
             return null;
         }
         if (this.known?.filter !== filter || this.known.kept !== this.kept) {
-            this.known = {filter, kept: this.kept, found: this.numbersWith(FLAGS[filter])};
+            this.known = {filter, kept: this.kept, found: this.numbersWith(valueIn(FLAGS, filter))};
         }
         return this.known.found;
     }
@@ -198,7 +199,7 @@ export class LinesView {
     }
 
     showOptions() {
-        const options = Object.entries(OPTIONS[this.lines.command]).map(([name,
+        const options = Object.entries(valueIn(OPTIONS, this.lines.command)).map(([name,
             type]) => optionField(name, type, this.lines.options, this.onCommand));
         show(byId("lines-options"), options);
     }

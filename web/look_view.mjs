@@ -1,9 +1,10 @@
 // The first view: who can do what, warnings, a grid of rights, and the descriptor in words beside the exact text.
-import {bitsOf, cellOf, has} from "./access.mjs";
+import {bitsOf, cellOf, has, reasonIn} from "./access.mjs";
 import {linesOf} from "./desk.mjs";
 import {afterwards, button, byId, make, moveByArrows, show, showParts, someRows} from "./dom.mjs";
 import {groupMask, guidInWords, rightName, rightsInWords, rightsOf, visible} from "./naming.mjs";
 import {aceTable, commaed, faultBox, plainName, shortened, who} from "./parts_view.mjs";
+import {valueIn} from "./tables.mjs";
 import {say, WORDS} from "./words.mjs";
 
 const STAND_IN_DOMAIN = "S-1-5-21-0-0-0";
@@ -64,8 +65,8 @@ function summary(result, kind, names) {
         make("div", {class: "buckets"},
             Object.entries(bucketsOf(grid.rows, kind))
                 .filter(([bucket, rows]) => rows.length > 0 || ["control", "change"].includes(bucket))
-                .map(([bucket, rows]) => make("div", {class: `bucket ${bucket}`}, make("h3", {}, words[bucket]),
-                         make("p", {class: "hint"}, words[`${bucket}Hint`]),
+                .map(([bucket, rows]) => make("div", {class: `bucket ${bucket}`}, make("h3", {}, valueIn(words, bucket)),
+                         make("p", {class: "hint"}, valueIn(words, `${bucket}Hint`)),
                          rows.length === 0 ? make("p", {class: "nobody"}, words.nobody) :
                                              bucketList(rows, kind, bucket, grid.rights, names)))));
 }
@@ -92,7 +93,7 @@ export function spokenSummary(result, kind, names) {
     const whoCan = ["control", "change", "parts"].map((bucket) => {
         const rows = buckets[bucket];
         const whom = firstOf(rows, MOST_SPOKEN, (row) => plainName(row.sid, names)) || words.nobody;
-        return rows.length || bucket !== "parts" ? `${words[bucket]}: ${whom}.` : "";
+        return rows.length || bucket !== "parts" ? `${valueIn(words, bucket)}: ${whom}.` : "";
     });
     const count = result.dangers;
     return [...whoCan, count ? say(words.warnings, {count}) : ""].filter(Boolean).join(" ");
@@ -103,25 +104,25 @@ const acesInWords = (numbers) =>
 
 function warningText(warning, kind, names) {
     const {key, numbers = []} = warning;
-    return say(WORDS.warnings[key], {
+    return say(valueIn(WORDS.warnings, key), {
         who: warning.who ? plainName(warning.who, names) : "",
-        rights: warning.mask ? commaed(rightsInWords(kind, warning.mask)) : "",
+        rights: warning.mask ? commaed(rightsInWords(warning.kind ?? kind, warning.mask)) : "",
         number: numbers[0],
         first: numbers[0],
         second: numbers[1],
         aces: acesInWords(numbers),
-        why: warning.why ? WORDS.useless[warning.why] : "",
+        why: warning.why ? valueIn(WORDS.useless, warning.why) : "",
         count: warning.count ?? warning.domains?.length,
         domains: warning.domains ? commaed(warning.domains) : "",
         object: warning.object ? guidInWords(warning.object, warning.mask) : "",
         policy: warning.policy ?
-            commaed(warning.policy.match(/N[WRX]/g)?.map((name) => WORDS.label[name]) ?? [WORDS.label.none]) :
+            commaed(warning.policy.match(/N[WRX]/g)?.map((name) => valueIn(WORDS.label, name)) ?? [WORDS.label.none]) :
             "",
     });
 }
 
 const warningItem = (warning, kind, names) => make("li", {class: `warning ${warning.level}`},
-    make("span", {class: "badge"}, WORDS.warningLevels[warning.level]), " ", warningText(warning, kind, names),
+    make("span", {class: "badge"}, valueIn(WORDS.warningLevels, warning.level)), " ", warningText(warning, kind, names),
     (warning.numbers ?? []).slice(0, 8).map((number) => [" ", jumpTo(warning.list ?? "dacl", number)]));
 
 function warnings(result, kind, names) {
@@ -134,7 +135,7 @@ function warnings(result, kind, names) {
 
 function jumpTo(list, number) {
     return button(`${list === "sacl" ? "SACL " : ""}${number}`, () => markAce(list, number),
-        {class: "jump", "aria-label": say(WORDS.error.ace, {number, part: WORDS.parts[list]})});
+        {class: "jump", "aria-label": say(WORDS.error.ace, {number, part: valueIn(WORDS.parts, list)})});
 }
 
 function markAce(list, number) {
@@ -152,14 +153,14 @@ function markAce(list, number) {
 }
 
 const stateWord = (state, grid) =>
-    (state === "rule" ? (grid.isList ? WORDS.grid.ruleOwner : WORDS.grid.ruleNoDacl) : WORDS.grid.states[state]);
+    (state === "rule" ? (grid.isList ? WORDS.grid.ruleOwner : WORDS.grid.ruleNoDacl) : valueIn(WORDS.grid.states, state));
 
 function gridCell(row, right, name, context, isFirst) {
     const {grid} = context;
     const state = cellOf(row, right.bit);
     const text = say(WORDS.grid.cell, {who: name, right: right.name, state: stateWord(state, grid)});
     return make("td", {class: `state ${state} group-${right.group}`},
-        button(WORDS.grid.signs[state], (event) => context.onCell(row, right, event.currentTarget), {
+        button(valueIn(WORDS.grid.signs, state), (event) => context.onCell(row, right, event.currentTarget), {
             class: "cell",
             "aria-label": text,
             title: text,
@@ -186,7 +187,7 @@ function groupHeadings(rights) {
             class: `group-${group}`,
             colspan: rights.filter((right) => right.group === group).length
         },
-                       WORDS.grid.groups[group])));
+                       valueIn(WORDS.grid.groups, group))));
 }
 
 function gridSection(result, context, later) {
@@ -207,7 +208,6 @@ function gridSection(result, context, later) {
     moveByArrows(table);
     return make("section", {"aria-labelledby": "grid-heading"}, heading(WORDS.grid.heading, "grid-heading"),
         legend(grid), make("p", {class: "hint", id: "grid-hint"}, caption),
-        grid.isTooLong ? make("p", {}, WORDS.grid.tooLong) : null,
         make("div", {class: "scroll", tabindex: "0", role: "region", "aria-labelledby": "grid-heading"}, table), more,
         grid.left ? make("p", {}, button(WORDS.grid.all, context.onAll, {id: "grid-all"})) : null,
         make("div", {id: "why", class: "why", role: "status", "aria-live": "polite"}));
@@ -216,18 +216,18 @@ function gridSection(result, context, later) {
 const legend = (grid) => make("p", {class: "legend", "aria-hidden": "true"},
     ["granted", "rule", "denied", "none"].map(
         (state) => make(
-            "span", {class: `key ${state}`}, make("b", {}, WORDS.grid.signs[state]), ` ${stateWord(state, grid)}`)));
+            "span", {class: `key ${state}`}, make("b", {}, valueIn(WORDS.grid.signs, state)), ` ${stateWord(state, grid)}`)));
 
 const REASON_KEYS = {
     "no-dacl": "noDacl",
     "no-privilege": "noPrivilege"
 };
-export const reasonKey = (by) => REASON_KEYS[by] ?? by;
+export const reasonKey = (by) => valueIn(REASON_KEYS, by) ?? by;
 
 // In a sentence what decided about a right.
 export function reasonInWords(reason, name, kind, texts) {
     const {reasons} = WORDS;
-    return say(reasons[reasonKey(reason.by)], {
+    return say(valueIn(reasons, reasonKey(reason.by)), {
         who: name,
         verb: reason.isGranted ? reasons.may : reasons.mayNot,
         right: rightName(kind, reason.bit),
@@ -236,10 +236,12 @@ export function reasonInWords(reason, name, kind, texts) {
     });
 }
 
-export function showReason(reason, row, context, result) {
+// What decided about a cell of the grid.
+export function showReason(row, bit, context) {
+    const reason = reasonIn(row, bit);
     const place = byId("why");
     place.replaceChildren(
-        make("p", {}, reasonInWords(reason, plainName(row.sid, context.names), context.kind, linesOf(result.texts)),
+        make("p", {}, reasonInWords(reason, plainName(row.sid, context.names), context.kind, context.texts),
             reason.by === "ace" ? [" ", jumpTo("dacl", reason.number)] : null));
     document.querySelectorAll("tr.ace.found").forEach((other) => other.classList.remove("found"));
     if (reason.by === "ace") {
@@ -249,7 +251,7 @@ export function showReason(reason, row, context, result) {
 
 function ownerLine(part, found, names) {
     return [
-        make("dt", {}, WORDS.parts[part]), make("dd", {}, found ? who(found.sid, found.alias, names) : WORDS.parts.none)
+        make("dt", {}, valueIn(WORDS.parts, part)), make("dd", {}, found ? who(found.sid, found.alias, names) : WORDS.parts.none)
     ];
 }
 
@@ -259,7 +261,7 @@ function control(model) {
     return [
         make("dt", {}, WORDS.parts.control),
         make("dd", {}, make("code", {}, controlWord(model.control)), " ",
-            model.codes.map((code) => [make("span", {class: "tag", title: code}, WORDS.codes[code] ?? code), " "])),
+            model.codes.map((code) => [make("span", {class: "tag", title: code}, valueIn(WORDS.codes, code) ?? code), " "])),
         model.manager === "0x00" ?
             null :
             [make("dt", {}, WORDS.parts.manager), make("dd", {}, make("code", {}, model.manager))]
@@ -274,16 +276,16 @@ const COUNTED = {
 
 function listSection(list, result, kind, names, later) {
     const acl = result.model[list];
-    const title = WORDS.parts[list];
+    const title = valueIn(WORDS.parts, list);
     const text = acl.count ? null :
                              make("p", {class: list === "dacl" && acl.state !== "list" ? "everyone" : ""},
-                                 WORDS.parts[list + COUNTED[acl.state]]);
+                                 valueIn(WORDS.parts, list + valueIn(COUNTED, acl.state)));
     return make("section", {"aria-labelledby": `${list}-heading`},
         make("h3", {id: `${list}-heading`}, title, " ",
             make("small", {},
                 acl.state === "list" ?
                     say(acl.count === 1 ? WORDS.parts.one : WORDS.parts.list, {count: acl.count}) :
-                    WORDS.parts[acl.state])),
+                    valueIn(WORDS.parts, acl.state))),
         text ?? aceTable(title, acl.aces, kind, names, later));
 }
 
@@ -307,18 +309,18 @@ function words(result, kind, names, later) {
 
 // What was left out of the text, so that nobody takes it for read.
 export function foundText(result) {
-    const form = WORDS.forms[result.form];
+    const form = valueIn(WORDS.forms, result.form);
     const [one, several] = result.fault ? [WORDS.taken, WORDS.takenSeveral] : [WORDS.found, WORDS.foundSeveral];
     const found =
         result.found > 1 ? say(several, {form, count: result.found, number: result.chosen + 1}) : say(one, {form});
     const dropped = result.dropped.map(
-        ({what, text}) => say(WORDS.droppedWhat[what], {text: visible(shortened(text ?? "", MOST_DROPPED))}));
+        ({what, text}) => say(valueIn(WORDS.droppedWhat, what), {text: visible(shortened(text ?? "", MOST_DROPPED))}));
     return dropped.length ? `${found} ${say(WORDS.dropped, {what: commaed(dropped)})}` : found;
 }
 
 function writtenAce({part, number, kind, text}, place) {
     const isWrong = number === place.ace && part === place.part;
-    const name = WORDS.refusedKinds[kind];
+    const name = valueIn(WORDS.refusedKinds, kind);
     return make("li", {class: isWrong ? "wrong" : ""}, make("code", {}, visible(shortened(text, MOST_ACE))),
         name ? ` ${say(WORDS.error.unsupported, {kind: visible(kind), name})}` : "",
         isWrong ? make("strong", {}, ` ${WORDS.error.reason}`) : null);

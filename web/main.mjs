@@ -1,21 +1,31 @@
 // The page: its state, its controls, and which view is shown. Everything that it knows about a descriptor comes from
 // the desk's answers.
+import {hasVectors} from "../javascript/sdtool.mjs";
+
 import {makeAsk, showAsk, showAskRights} from "./ask_view.mjs";
 import {makeCompare, showCompare} from "./compare_view.mjs";
-import {linesOf, mappingOf} from "./desk.mjs";
+import {linesOf} from "./desk.mjs";
 import {area, box, button, byId, input, labelled, make, select, show} from "./dom.mjs";
+import {rangeIn} from "./faults.mjs";
 import {makeInherit, showInherit} from "./inherit_view.mjs";
 import {LinesView} from "./lines_view.mjs";
 import {foundText, showFault, showLook, showReason, spokenSummary} from "./look_view.mjs";
 import {faultInWords, ownNames, visible} from "./naming.mjs";
-import {descriptorField, isLarge} from "./parts_view.mjs";
+import {commaed, descriptorField, isLarge, shortened} from "./parts_view.mjs";
 import {nameOfObject, objectWords, placeOfObject, ReportView} from "./report_view.mjs";
+import {showKindQuestion} from "./kind_view.mjs";
 import {knownGuids} from "./schema.mjs";
 import {addressOf, commandLine, takeAddress} from "./sharing.mjs";
+import {freshState} from "./state.mjs";
+import {valueIn} from "./tables.mjs";
 import {changing} from "./warnings.mjs";
 import {say, WORDS} from "./words.mjs";
-import {FileDesk, serve, startDesk} from "./worker.mjs";
+import {FileDesk, SECONDS_TO_ANSWER, serve, startDesk, TooSlow} from "./worker.mjs";
 
+const MOST_UNREAD = 8;         // words of an address
+const MOST_UNREAD_TEXT = 100;  // characters of each
+const MILLISECONDS_TO_TELL = 300;
+const ANSWERED = ["ask", "inherit", "compare"]; // views that ask a question of their own
 const EXAMPLES = {
     folder: [
         "folder",
@@ -38,36 +48,23 @@ const EXAMPLES = {
     error: ["folder", "O:BAG:SYD:(A;OICI;FA;;;SY)(A;OICI;FA;;;Everyone)(A;;FR;;;BU)"],
 };
 
-const freshState = () => ({
-    view: "look",
-    text: "",
-    form: "auto",
-    kind: "folder",
-    domain: "",
-    object: "",
-    common: true,
-    all: false,
-    chosen: 0,
-    names: "",
-    ask: {
-        token: "WD,AU,BU",
-        rights: [],
-        want: "",
-        maximum: true,
-        level: "",
-        self: "",
-        security: false,
-        takeOwnership: false
-    },
-    made: {kind: "container", owner: "BA", group: "SY", creator: ""},
-    other: {text: "", form: "auto", chosen: 0},
-    lines: {command: "convert", options: {kind: "file"}, filterToken: "WD,AU,BU"},
-});
+// What is older than the question, and so is not seen.
+const OLDER = "older";
+
+// Where the answer of a view is shown.
+const placeOf = (view) => byId(view === "look" ? "view-look" : `${view}-result`);
+
+// Why there is no answer.
+const errorWords = (error) => (error instanceof TooSlow ? say(WORDS.tooSlow, {seconds: SECONDS_TO_ANSWER}) :
+                                                          say(WORDS.broke, {reason: visible(error.message)}));
+
+// Whether an address says the kind of object.
+const isKindIn = (hash) => /[#&]kind=/.test(hash);
 
 class Page {
     constructor({desk, isWorker}, source, bytes, report) {
         Object.assign(
-            this, {desk, source, bytes, isWorker, state: freshState(), result: null, asked: null, turns: {}});
+            this, {desk, source, bytes, isWorker, state: freshState(), result: null, asked: null, turns: new Map()});
         // A report has a view of its own, before all others.
         this.views = Object.keys(WORDS.tabs).filter((view) => view !== "report" || report);
         this.reportView = report ?
@@ -80,11 +77,12 @@ class Page {
         this.state.view = this.views[0];
         this.linesView = new LinesView(this.state.lines, {
             files: new FileDesk(source, bytes, isWorker),
-            changeMask: () => changing(mappingOf(this.state.kind)),
+            changeMask: () => changing(this.state.kind),
             onOpen: (text, form) => this.open(text, form),
             onCommand: () => this.showCommand(),
         });
-        takeAddress(this.state, location.hash.slice(1));
+        this.unread = takeAddress(this.state, location.hash.slice(1));
+        this.state.isKindChosen = isKindIn(location.hash);
         this.makeControls();
         this.makeViews();
         this.listen();
@@ -93,10 +91,18 @@ class Page {
         this.counted(async () => this.reportView?.begin());
     }
 
+    // Whether an option applies that is among the ones that can be folded away.
+    get hasOptions() {
+        const {domain, object, common, kind} = this.state;
+        return domain !== "" || !common || (kind === "ds" && object !== "");
+    }
+
+    openOptions() { byId("more-options").open ||= this.hasOptions; }
+
     // The part of the state that the desk needs.
     get shared() {
-        const {text, form, kind, domain, object, common, chosen, all} = this.state;
-        return {text, form, kind, domain, object, common, chosen, all};
+        const {text, form, kind, isKindChosen, domain, object, common, chosen, all} = this.state;
+        return {text, form, kind, isKindChosen, domain, object, common, chosen, all};
     }
 
     get context() {
@@ -106,7 +112,7 @@ class Page {
             isCommon: this.state.common,
             texts: linesOf(this.result?.texts),
             made: this.state.made,
-            onCell: (row, right) => this.explainCell(row, right),
+            onCell: (row, right) => showReason(row, right.bit, this.context),
             onAll: () => this.set("all", true),
         };
     }
@@ -124,8 +130,8 @@ class Page {
         this.state[name] = value;
         this.hasFormOfText &&= name !== "form";
         if (name === "kind") {
-            byId("object-field").hidden = value !== "ds";
-            showAskRights(this.state.ask, value, () => this.refreshView());
+            this.state.isKindChosen = true;
+            this.takeKind(value);
         }
         this.refresh();
     }
@@ -144,7 +150,8 @@ class Page {
                 labelled(WORDS.kindLabel, select("kind", WORDS.kinds, state.kind, setter("kind")), WORDS.kindHint),
                 labelled(WORDS.formLabel, select("form", WORDS.forms, state.form, setter("form"))),
                 make("div", {id: "chosen-field", hidden: true})),
-            make("details", {id: "more-options"}, make("summary", {}, WORDS.moreOptions),
+            this.unread.length ? make("p", {id: "unread", class: "warning caution", role: "status"}, this.unreadWords()) : null,
+            make("details", {id: "more-options", open: this.hasOptions}, make("summary", {}, WORDS.moreOptions),
                 make("div", {class: "row"},
                     labelled(WORDS.domainLabel,
                         input("domain", state.domain, setter("domain"), {"aria-describedby": "domain-hint"}),
@@ -164,6 +171,12 @@ class Page {
             make("p", {id: "found", class: "found"}, WORDS.waiting));
     }
 
+    unreadWords() {
+        const shown = this.unread.slice(0, MOST_UNREAD).map((one) => visible(shortened(one, MOST_UNREAD_TEXT)));
+        const left = this.unread.length - shown.length;
+        return say(WORDS.address, {what: commaed(left > 0 ? [...shown, say(WORDS.summary.left, {count: left})] : shown)});
+    }
+
     makeViews() {
         const refresh = () => this.refreshView();
         show(byId("view-ask"), makeAsk(this.state.ask, refresh));
@@ -177,11 +190,11 @@ class Page {
             show(byId("view-report"), this.reportView.make());
         }
         show(byId("tabs"),
-            this.views.map((view) => button(WORDS.tabs[view], () => this.choose(view),
+            this.views.map((view) => button(valueIn(WORDS.tabs, view), () => this.choose(view),
                                {role: "tab", id: `tab-${view}`, "aria-controls": `view-${view}`})));
         show(byId("share"), [
             ["link", () => this.copyLink()], ["command", () => this.copyCommand()], ["print", () => window.print()]
-        ].map(([name, act]) => [button(WORDS.share[name], act, {id: `share-${name}`}), " "]));
+        ].map(([name, act]) => [button(valueIn(WORDS.share, name), act, {id: `share-${name}`}), " "]));
     }
 
     listen() {
@@ -201,7 +214,7 @@ class Page {
         if (location.hash.slice(1) !== this.written) {
             const {names, lines} = this.state;
             Object.assign(this.state, {...freshState(), names, lines, view: this.views[0]});
-            takeAddress(this.state, location.hash.slice(1));
+            this.unread = takeAddress(this.state, location.hash.slice(1));
             this.makeControls();
             this.makeViews();
             this.showView();
@@ -212,7 +225,7 @@ class Page {
     moveTab(event) {
         const {views} = this;
         const at = views.indexOf(this.state.view);
-        const to = {ArrowRight: at + 1, ArrowLeft: at - 1, Home: 0, End: views.length - 1}[event.key];
+        const to = valueIn({ArrowRight: at + 1, ArrowLeft: at - 1, Home: 0, End: views.length - 1}, event.key);
         if (to !== undefined) {
             event.preventDefault();
             this.choose(views[(to + views.length) % views.length]);
@@ -276,15 +289,17 @@ class Page {
     }
 
     example(name) {
-        const [kind, text] = EXAMPLES[name];
+        const [kind, text] = valueIn(EXAMPLES, name);
         this.takeKind(kind);
         this.open(text, "auto");
     }
 
-    takeKind(kind) {
+    takeKind(kind, isChosen = true) {
         this.state.kind = kind;
+        this.state.isKindChosen = isChosen;
         byId("kind").value = kind;
         byId("object-field").hidden = kind !== "ds";
+        this.openOptions();
         showAskRights(this.state.ask, kind, () => this.refreshView());
     }
 
@@ -296,6 +311,7 @@ class Page {
         if (!location.hash) {
             this.state.domain = domain ?? "";
             byId("domain").value = this.state.domain;
+            this.openOptions();
         }
     }
 
@@ -304,6 +320,7 @@ class Page {
         this.takeKind(object.kind);
         this.state.domain = this.reportView.report.head?.domain ?? "";
         byId("domain").value = this.state.domain;
+        this.openOptions();
         this.open(object.descriptor, object.form);
         const back = () => {
             this.choose("report");
@@ -329,35 +346,71 @@ class Page {
         }
     }
 
+    // Asks about the text anew, and then the question of the view that is open. Whatever older answers the page shows are hidden
+    // until there is a new one, and those that are still to come are not shown.
     refresh() {
         this.remember();
+        const turn = this.beginTurn(["look", ...ANSWERED]);
+        Object.assign(this, {result: null, asked: null, otherLine: null});
+        clearTimeout(this.slow);
+        this.slow = setTimeout(() => this.tell(WORDS.busy), MILLISECONDS_TO_TELL);
         return this.counted(async () => {
-            const slow = setTimeout(() => this.tell(WORDS.busy), 300);
-            try {
-                const result = await this.desk.ask("look", this.shared);
-                if (result) {
-                    this.result = result;
-                    await this.showResult(result);
-                    await this.refreshView();
-                }
-            } catch (error) {
-                this.broke(error);
-            } finally {
-                clearTimeout(slow);
+            const result = await this.desk.ask("look", this.shared).catch((error) => ({error}));
+            if (!result || turn.isOver("look")) {
+                return;
             }
+            clearTimeout(this.slow);
+            await this.showLookOr(result).catch((error) => this.broke(error));
         });
     }
 
-    // An error of the page itself must not leave an older answer beside a newer text.
+    async showLookOr(result) {
+        if (result.error) {
+            throw result.error;
+        }
+        this.result = result;
+        await Promise.all([this.showResult(result), this.refreshView()]);
+    }
+
+    // Begins a turn of these views: what they show is older than the question.
+    beginTurn(views) {
+        const turn = {isOver: (view) => this.turns.get(view) !== turn};
+        for (const view of views) {
+            this.turns.set(view, turn);
+            placeOf(view).classList.add(OLDER);
+        }
+        if (views.includes("look")) {
+            [byId("found"), byId("print-head")].forEach((element) => element.classList.add(OLDER));
+            clearTimeout(this.speaking);
+            byId("spoken").textContent = "";
+        }
+        return turn;
+    }
+
+    // A question that got no answer: each place that would have one says so.
     broke(error) {
         this.result = null;
-        this.isOver("look");
-        show(byId("view-look"), make("p", {class: "fault-name"}, say(WORDS.failed, {reason: visible(error.message)})));
-        this.tell("");
+        clearTimeout(this.slow);
+        for (const view of ["look", ...ANSWERED]) {
+            this.show(view, make("p", {class: "fault-name"}, errorWords(error)));
+        }
+        this.tell(errorWords(error));
+    }
+
+    // Shows something in the place of a view, as the newest there is.
+    show(view, ...children) {
+        show(placeOf(view), ...children);
+        this.isNew(view);
+    }
+
+    isNew(view) {
+        placeOf(view).classList.remove(OLDER);
+        byId("view-look").hidden = this.state.view !== "look";
     }
 
     tell(text) {
         byId("found").textContent = text;
+        byId("found").classList.remove(OLDER);
         this.speak(text);
     }
 
@@ -367,37 +420,41 @@ class Page {
         this.speaking = setTimeout(() => { byId("spoken").textContent = text; }, 600);
     }
 
-    // Ends what an older answer of a view still shows; the function that it returns tells whether a newer one came.
-    isOver(view) {
-        const turn = {};
-        this.turns[view] = turn;
-        return () => this.turns[view] !== turn;
-    }
-
     async showResult(result) {
-        const isOver = this.isOver("look");
+        const turn = this.turns.get("look");
         let shown = null;
+        if (result.kind && result.kind !== this.state.kind) {
+            this.takeKind(result.kind, false);
+        }
         this.showChosen(result);
+        this.showPrintHead(result);
         document.body.classList.toggle("has-result", Boolean(result.model));
         if (result.domainFault) {
+            this.show("look");
             this.tell(say(WORDS.domainFault, {fault: faultInWords(result.domainFault)}));
-            show(byId("view-look"));
         } else if (result.isEmpty) {
+            this.show("look");
             this.tell(WORDS.waiting);
-            show(byId("view-look"));
         } else if (result.fault) {
-            this.tell(`${faultInWords(result.fault)} ${foundText(result)}`);
             showFault(byId("view-look"), result, {
                 onSelect: isLarge(this.state.text) ? null : (place) => this.select(place),
                 onDomain: (domain) => this.takeDomain(domain)
             });
+            this.isNew("look");
+            this.tell(`${faultInWords(result.fault)} ${foundText(result)}`);
+        } else if (result.asksKind) {
+            showKindQuestion(byId("view-look"), (kind) => {
+                this.takeKind(kind);
+                this.refresh();
+            });
+            this.isNew("look");
+            this.tell(`${foundText(result)} ${WORDS.kindAsked}`);
         } else {
+            shown = showLook(byId("view-look"), result, this.context, () => turn.isOver("look"));
+            this.isNew("look");
             this.tell(`${foundText(result)}${result.objectFault ? " " + WORDS.objectFault : ""}`);
             this.speak(`${byId("found").textContent} ${spokenSummary(result, this.state.kind, this.names)}`);
-            shown = showLook(byId("view-look"), result, this.context, isOver);
         }
-        byId("view-look").hidden = this.state.view !== "look";
-        this.showPrintHead(result);
         await shown;
     }
 
@@ -428,15 +485,13 @@ class Page {
             WORDS.chosenLabel, select("chosen", options, "0", (value) => this.set("chosen", Number(value))));
     }
 
-    // The place of a fault, in the field. What was left out before the line moves it.
+    // The place of a fault, in the field.
     select(place) {
         const field = byId("text");
-        const wanted = place.text.slice(place.start, place.end);
-        const at = field.value.indexOf(place.text) >= 0 ? field.value.indexOf(place.text) + place.start :
-                                                          field.value.indexOf(wanted);
+        const range = rangeIn(field.value, place);
         field.focus();
-        if (at >= 0) {
-            field.setSelectionRange(at, at + wanted.length);
+        if (range) {
+            field.setSelectionRange(...range);
         }
     }
 
@@ -446,57 +501,48 @@ class Page {
         this.set("domain", domain);
     }
 
-    explainCell(row, right) {
-        const about = {state: this.shared, row: {sid: row.sid, token: row.token}, bit: right.bit};
-        return this.counted(async () => {
-            const reason = await this.desk.ask("why", about);
-            if (reason?.by) {
-                showReason(reason, row, this.context, this.result);
-            }
-        });
-    }
-
     // The question of the view that is open. The first view was answered already.
     refreshView() {
         this.remember();
-        return this.counted(() => this.askView());
-    }
-
-    async askView() {
         const {view} = this.state;
-        const questions = {
-            ask: ["ask", {state: this.shared, asked: this.state.ask}, showAsk],
-            inherit: ["inherit", {state: this.shared, made: this.state.made}, showInherit],
-            compare: ["compare", {state: this.shared, other: this.state.other}, showCompare],
-        };
-        if (!questions[view]) {
-            return;
+        if (!ANSWERED.includes(view)) {
+            return Promise.resolve();
         }
-        const [name, about, showAnswer] = questions[view];
-        const result = await this.desk.ask(name, about).catch((error) => ({error}));
-        if (result) {
-            await this.showAnswer(name, result, showAnswer);
+        return this.counted(() => this.askView(view, this.beginTurn([view])));
+    }
+
+    async askView(view, turn) {
+        const {shared: state} = this;
+        const questions = new Map([
+            ["ask", [{state, asked: this.state.ask}, showAsk]],
+            ["inherit", [{state, made: this.state.made}, showInherit]],
+            ["compare", [{state, other: this.state.other}, showCompare]],
+        ]);
+        const [about, showAnswer] = questions.get(view);
+        const result = await this.desk.ask(view, about).catch((error) => ({error}));
+        if (result && !turn.isOver(view)) {
+            await this.showAnswer(view, result, showAnswer, () => turn.isOver(view));
         }
     }
 
-    async showAnswer(name, result, showAnswer) {
-        const place = byId(`${name}-result`);
-        const isOver = this.isOver(name);
+    async showAnswer(view, result, showAnswer, isOver) {
         let shown = null;
         if (result.error) {
-            show(place, make("p", {class: "fault-name"}, say(WORDS.failed, {reason: visible(result.error.message)})));
+            this.show(view, make("p", {class: "fault-name"}, errorWords(result.error)));
+            this.speak(errorWords(result.error));
         } else if (result.isEmpty || result.domainFault) {
-            show(place, make("p", {class: "hint"}, WORDS.waiting));
+            this.show(view, make("p", {class: "hint"}, WORDS.waiting));
         } else if (result.descriptorFault) {
-            show(place, make("p", {class: "fault-name"}, faultInWords(result.descriptorFault)),
+            this.show(view, make("p", {class: "fault-name"}, faultInWords(result.descriptorFault)),
                 make("p", {}, WORDS.error.intro));
         } else {
             const answer = showAnswer(result, this.context, isOver);
+            this.isNew(view);
             this.speak(answer[0]);
             shown = answer[1];
         }
-        this.asked = name === "ask" ? result : this.asked;
-        this.otherLine = name === "compare" ? result.other?.line : this.otherLine;
+        this.asked = view === "ask" ? result : this.asked;
+        this.otherLine = view === "compare" ? result.other?.line : this.otherLine;
         await shown;
     }
 
@@ -557,6 +603,7 @@ class Page {
             make("p", {}, say(WORDS.print.made, {version: this.version ?? ""})),
             make("p", {}, `${WORDS.print.text}: `, make("code", {}, visible((result.line ?? "").slice(0, 3000)))));
         byId("print-head").hidden = false;
+        byId("print-head").classList.remove(OLDER);
     }
 }
 
@@ -567,15 +614,23 @@ async function unpacked(base64) {
 }
 
 const fillWords = () => document.querySelectorAll("[data-word]").forEach((element) => {
-    element.textContent = element.dataset.word.split(".").reduce((words, name) => words[name], WORDS);
+    element.textContent = element.dataset.word.split(".").reduce(valueIn, WORDS);
 });
 
+// A policy says nothing of connections between browsers, so this page has none of what makes them.
+function forbidConnections() {
+    for (const name of ["RTCPeerConnection", "webkitRTCPeerConnection", "RTCIceTransport", "WebTransport"]) {
+        delete globalThis[name];
+    }
+}
+
 async function begin() {
+    forbidConnections();
     document.documentElement.lang = WORDS.language;
     document.title = WORDS.title;
     fillWords();
     byId("private").title = WORDS.privateWhy;
-    if (typeof DecompressionStream === "undefined" || typeof WebAssembly === "undefined") {
+    if (typeof DecompressionStream === "undefined" || typeof WebAssembly === "undefined" || !hasVectors()) {
         throw new Error(WORDS.failedOld);
     }
     const bytes = await unpacked(byId("module").textContent);

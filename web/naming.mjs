@@ -1,26 +1,37 @@
 // Words for what the library answers: names of SIDs, rights of a mask, where an ACE applies.
 import {bitsOf, has} from "./access.mjs";
-import {mappingOf} from "./desk.mjs";
 import {maskText} from "./library.mjs";
+import {afterBlanks} from "./scanning.mjs";
 import {guidNames} from "./schema.mjs";
+import {valueIn} from "./tables.mjs";
 import {say, WORDS} from "./words.mjs";
 
 const RELATIVE = /^(S-1-5-21-\d+-\d+-\d+)-(\d+)$/;
 const GROUPS = ["read", "change", "control", "other"];
 // Characters that don't show, or that turn the direction of a text round, and halves of characters: they are spelled
 // out, so that no name passes for another.
-const HIDDEN = /[\p{Cc}\p{Cf}\p{Cs}\p{Co}\p{Zl}\p{Zp}\p{Default_Ignorable_Code_Point}\u2800]/gu;
+export const HIDDEN = /[\p{Cc}\p{Cf}\p{Cs}\p{Co}\p{Zl}\p{Zp}\p{Default_Ignorable_Code_Point}\u2800]/gu;
 
 export const visible = (text) =>
     String(text).replace(HIDDEN, (character) => `\\u{${character.codePointAt(0).toString(16)}}`);
+
+// Where a name begins, behind the blanks and signs between a SID and it.
+function afterSeparators(line, from) {
+    let at = afterBlanks(line, from);
+    while (at < line.length && "=,;:".includes(line[at])) {
+        at = afterBlanks(line, at + 1);
+    }
+    return at;
+}
 
 // The user's own names: lines of a SID and a name.
 export function ownNames(text) {
     const names = new Map();
     for (const line of text.split(/\r?\n/)) {
-        const found = /^\s*(S-1-[0-9-]+)[\s=,;:]+(\S.*?)\s*$/i.exec(line);
-        if (found) {
-            names.set(found[1].toUpperCase(), visible(found[2]));
+        const [front, sid] = /^\s*(S-1-[0-9-]+)(?=[\s=,;:])/i.exec(line) ?? [];
+        const name = front === undefined ? "" : line.slice(afterSeparators(line, front.length)).trim();
+        if (name) {
+            names.set(sid.toUpperCase(), visible(name));
         }
     }
     return names;
@@ -39,7 +50,8 @@ function familyName(sid) {
 // The name of a SID: the user's own, a well-known one, or what kind of SID it is.
 export function nameOf(sid, names) {
     const relative = RELATIVE.exec(sid);
-    return names.get(sid) ?? WORDS.names[sid] ?? (relative && WORDS.relativeNames[relative[2]]) ?? familyName(sid);
+    return names.get(sid) ?? valueIn(WORDS.names, sid) ?? (relative && valueIn(WORDS.relativeNames, relative[2])) ??
+        familyName(sid);
 }
 
 function rightsInOrder(rights) {
@@ -50,7 +62,7 @@ function rightsInOrder(rights) {
 const RIGHTS = Object.fromEntries(Object.entries(WORDS.rights).map(([kind, rights]) => [kind, rightsInOrder(rights)]));
 
 // The named rights of a kind of object, in the order of the grid: {bit, name, short, group}.
-export const rightsOf = (kind) => RIGHTS[kind];
+export const rightsOf = (kind) => valueIn(RIGHTS, kind);
 
 export const groupMask = (kind, group) =>
     rightsOf(kind).filter((right) => right.group === group).reduce((mask, right) => (mask | right.bit) >>> 0, 0);
@@ -62,7 +74,8 @@ export function rightName(kind, bit) {
     if (bit === 0x2000000) {
         return WORDS.maximumAllowed;
     }
-    return WORDS.rights[kind][bit]?.[0] ?? WORDS.generic[bit] ?? say(WORDS.unnamed, {mask: maskText(bit)});
+    return valueIn(valueIn(WORDS.rights, kind), bit)?.[0] ?? valueIn(WORDS.generic, bit) ??
+        say(WORDS.unnamed, {mask: maskText(bit)});
 }
 
 // A mask in words: the largest set of rights with a name of its own, then what is left, right by right, and at the
@@ -71,14 +84,14 @@ export function rightsInWords(kind, mask) {
     if (mask === 0) {
         return [WORDS.noRight];
     }
-    const compounds = WORDS.masks[mappingOf(kind)];
+    const compounds = valueIn(WORDS.masks, kind);
     const compound = compounds.find(([bits]) => has(mask, bits));
     const rest = compound ? (mask & ~compound[0]) >>> 0 : mask;
     const named = rightsOf(
         kind).filter((right) => has(rest, right.bit))
                       .sort((one, other) => (one.bit === 0x100000) - (other.bit === 0x100000));
     const special = bitsOf(rest).filter((bit) => !named.some((right) => right.bit === bit));
-    const known = special.filter((bit) => WORDS.generic[bit] || bit === 0x1000000 || bit === 0x2000000);
+    const known = special.filter((bit) => valueIn(WORDS.generic, bit) || bit === 0x1000000 || bit === 0x2000000);
     const unknown = special.filter((bit) => !known.includes(bit)).reduce((all, bit) => (all | bit) >>> 0, 0);
     return [
         ...(compound ? [compound[1]] : []),
@@ -90,7 +103,7 @@ export function rightsInWords(kind, mask) {
 
 export function labelInWords(mask) {
     const policies =
-        [[1, "NW"], [2, "NR"], [4, "NX"]].filter(([bit]) => has(mask, bit)).map(([, name]) => WORDS.label[name]);
+        [[1, "NW"], [2, "NR"], [4, "NX"]].filter(([bit]) => has(mask, bit)).map(([, name]) => valueIn(WORDS.label, name));
     const rest = (mask & ~7) >>> 0;
     return [
         ...policies, ...(rest ? [say(WORDS.unnamed, {mask: maskText(rest)})] : []),
@@ -106,9 +119,9 @@ export function guidInWords(guid, mask) {
 
 // Where an ACE applies, by its flags.
 export function whereOf(kind, ace) {
-    const words = WORDS.where[kind];
+    const words = valueIn(WORDS.where, kind) ?? WORDS.where.other;
     const flags = ["OI", "CI", "IO"].filter((flag) => ace.flags.includes(flag)).join("");
-    const place = flags === "" ? words.here : flags === "IO" ? WORDS.where.nothing : words[flags];
+    const place = flags === "" ? words.here : flags === "IO" ? WORDS.where.nothing : valueIn(words, flags);
     const more = [
         ace.flags.includes("NP") && /OI|CI/.test(flags) ? WORDS.where.oneLevel : null,
         ace.inherited ? say(WORDS.where.ofClass, {name: guidInWords(ace.inherited)}) : null,
@@ -117,6 +130,7 @@ export function whereOf(kind, ace) {
 }
 
 export function faultInWords(fault) {
-    const [meaning] = WORDS.faults[fault.number] ?? [""];
-    return `${meaning} (error ${fault.number} ${fault.faultName ?? ""}${fault.part ? " " + fault.part : ""})`;
+    const [meaning] = valueIn(WORDS.faults, fault.number) ?? [""];
+    const line = ["error", fault.number, fault.faultName ?? "", fault.part, fault.otherPart].filter((word) => word || word === "");
+    return `${meaning} (${line.join(" ")})`;
 }

@@ -3,6 +3,7 @@ import {linesOf} from "./desk.mjs";
 import {area, button, make, show, someRows} from "./dom.mjs";
 import {maskText} from "./library.mjs";
 import {faultInWords, guidInWords, labelInWords, nameOf, rightsInWords, visible, whereOf} from "./naming.mjs";
+import {valueIn} from "./tables.mjs";
 import {say, WORDS} from "./words.mjs";
 
 const LARGE = 20_000; // characters; a longer text is kept beside its field
@@ -81,9 +82,9 @@ export const commaed = (words) => words.join(", ");
 export const shortened = (text, most) => (text.length > most ? `${text.slice(0, most)} ..` : text);
 
 function kindOf(ace) {
-    const audits = ace.flags.filter((flag) => WORDS.audits[flag]).map((flag) => WORDS.audits[flag]);
+    const audits = ace.flags.map((flag) => valueIn(WORDS.audits, flag)).filter(Boolean);
     const isAudit = ace.kind === "AU" || ace.kind === "OU";
-    return WORDS.aceKinds[ace.kind] + (isAudit && audits.length ? ` ${commaed(audits)}` : "");
+    return valueIn(WORDS.aceKinds, ace.kind) + (isAudit && audits.length ? ` ${commaed(audits)}` : "");
 }
 
 export function aceRights(ace, kind) {
@@ -133,16 +134,17 @@ export function markedText({text, start, end}) {
 
 export function placeInWords(place) {
     const {error} = WORDS;
-    const part = place.part ? error.where[place.part] : null;
+    const part = place.part ? valueIn(error.where, place.part) : null;
     const where = place.ace ? say(error.ace, {number: place.ace, part}) : part;
-    const field = place.field ? error.fields[place.field] : null;
+    const field = place.field ? valueIn(error.fields, place.field) : null;
     return field && where ? say(error.field, {field, place: where}) : field ?? where;
 }
 
 // What a refused type of ACE is called, if the place is one.
 export function refusedKind(fault, place) {
     const name =
-        place.type === undefined ? WORDS.refusedKinds[place.kind] : WORDS.refusedTypes[place.type] ?? WORDS.unknownKind;
+        place.type === undefined ? valueIn(WORDS.refusedKinds, place.kind) :
+                                   valueIn(WORDS.refusedTypes, place.type) ?? WORDS.unknownKind;
     const kind = place.type === undefined ? place.kind : `type ${place.type}`;
     return name && [12, 20, 29].includes(fault.number) ? say(WORDS.error.unsupported, {kind: visible(kind), name}) :
                                                          null;
@@ -151,11 +153,10 @@ export function refusedKind(fault, place) {
 const NO_SUCH_KIND = 29;
 
 export function faultBox(fault, place, ...more) {
-    const kind = refusedKind(fault, place);
-    const suggestion = WORDS.faults[kind ? NO_SUCH_KIND : fault.number]?.[1];
+    const [kind, where] = [refusedKind(fault, place), placeInWords(place)];
+    const suggestion = valueIn(WORDS.faults, kind ? NO_SUCH_KIND : fault.number)?.[1];
     return make("div", {class: "fault"}, make("p", {class: "fault-name"}, make("strong", {}, faultInWords(fault))),
         kind && make("p", {}, kind),
-        place.field ? make("p", {}, say(WORDS.error.place, {place: placeInWords(place)})) :
-                      make("p", {}, WORDS.error.unplaced),
+        make("p", {}, where ? say(WORDS.error.place, {place: where}) : WORDS.error.unplaced),
         markedText(place), suggestion ? make("p", {}, say(WORDS.error.suggestion, {text: suggestion})) : null, ...more);
 }

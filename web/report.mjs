@@ -1,10 +1,13 @@
 // A report of sdtool-audit inside the page: lines of JSON, of which the first says what it is, the last counts all
 // objects, and each between them is an object: its name, source, line, answer, form, descriptor, kind, whether it is a
-// folder, reason, help, and findings of rule, trustee, rights, text and why it is accepted. It is read in several
-// turns, so that a long one never stops the page, and only what is shown is kept as more than text.
+// folder, reason, help, and findings of rule, trustee, rights, text, why it is accepted, severity, numbers of ACEs,
+// whether these are inherited, and what grants or denies the rights: the number of an ACE or 0, its text or a word, the rights,
+// and whether it grants them. The last line has the places where permissions are set too. It is read in several turns,
+// so that a long one never stops the page, and only what is shown is kept as more than text.
 
 const TURN = 12; // milliseconds
-const FIRST = "sdtool-audit report 1";
+const FIRST = "sdtool-audit report 3";
+const RANKS = ["high", "medium", "low", "note"];
 
 const nextTurn = () => new Promise((resolve) => setTimeout(resolve));
 
@@ -15,6 +18,36 @@ function valueOf(text) {
         return null;
     }
 }
+
+const isText = (value) => typeof value === "string";
+
+// Whether a list has items of these types, and no others.
+const isListOf = (value, tests) =>
+    Array.isArray(value) && value.length === tests.length && tests.every((test, index) => test(value[index]));
+
+const areListsOf = (value, tests) => Array.isArray(value) && value.every((item) => isListOf(item, tests));
+
+const isCount = (value) => Number.isSafeInteger(value) && value >= 0;
+
+const FINDING = [
+    isText, isText, isText, isText, isText, isText, (value) => Array.isArray(value) && value.every(isCount),
+    (value) => typeof value === "boolean", (value) => areListsOf(value, [isCount, isText, isText, (one) => typeof one === "boolean"])
+];
+// Whether an object is a folder may be unknown.
+const isAnswer = (value) => value === null || typeof value === "boolean";
+const OBJECT = [
+    isText, isText, isCount, isText, isText, isText, isText, isAnswer, isText, isText,
+    (value) => areListsOf(value, FINDING)
+];
+const RULE = [isText, isCount, isText];
+// Severity, rule, what was found, the object, where its permission is set, and how many objects have it.
+const GROUP = [isText, isText, isText, isText, isText, isCount];
+
+// What the first line and the last one have; each may have less.
+const isHead = (value) => value?.report === FIRST && isText(value.title ?? "") && isText(value.domain ?? "") &&
+    areListsOf(value.names ?? [], [isText, isText]);
+const isLast = (value) => isText(value?.summary) && isText(value.severities ?? "") && areListsOf(value.rules, RULE) &&
+    areListsOf(value.groups ?? [], GROUP);
 
 function objectOf(value) {
     const [name, source, line, answer, form, descriptor, kind, isFolder, reason, help, findings] = value;
@@ -29,9 +62,16 @@ function objectOf(value) {
         isFolder,
         reason,
         help,
-        findings: findings.map(([rule, trustee, rights, text, accepted]) => ({rule, trustee, rights, text, accepted}))
+        findings: findings.map(([rule, trustee, rights, text, accepted, severity, numbers, isInherited, because]) =>
+                                   ({rule, trustee, rights, text, accepted, severity, numbers, isInherited, because}))
     };
 }
+
+const rankOf = (severity) => (RANKS.includes(severity) ? RANKS.indexOf(severity) : RANKS.length);
+
+// What comes first in the table: what is unknown, then what is most severe.
+const placeOf = ([, , , answer, , , , , , , findings]) =>
+    (answer === "unknown" ? 0 : 1 + Math.min(RANKS.length, ...findings.map((finding) => rankOf(finding[5]))));
 
 const textOf = ({
     name,
@@ -39,7 +79,10 @@ const textOf = ({
     reason,
     help,
     findings
-}) => [name, source, reason, help, ...findings.flatMap((finding) => Object.values(finding))].join("\n").toLowerCase();
+}) => [name, source, reason, help, ...findings.flatMap(({rule, trustee, rights, text, accepted, severity}) =>
+                                                     [rule, trustee, rights, text, accepted, severity])]
+               .join("\n")
+               .toLowerCase();
 
 export class Report {
     constructor(text) {
@@ -67,12 +110,12 @@ export class Report {
 
     take(start, end) {
         const value = valueOf(this.text.slice(start, end));
-        if (Array.isArray(value) && value.length === 11) {
+        if (isListOf(value, OBJECT)) {
             this.count(objectOf(value));
-            this.objects.push({start, end, isUnknown: value[3] === "unknown"});
-        } else if (value?.report === FIRST && !this.head) {
+            this.objects.push({start, end, place: placeOf(value)});
+        } else if (isHead(value) && !this.head) {
             this.head = value;
-        } else if (value?.summary) {
+        } else if (isLast(value) && !this.last) {
             this.last = value;
         } else {
             this.damaged += 1;
@@ -87,21 +130,22 @@ export class Report {
 
     object({start, end}) { return objectOf(valueOf(this.text.slice(start, end))); }
 
-    // The objects that a filter keeps, unknown ones first; null if 'isOver' says that nobody wants them any more.
+    // The objects that a filter keeps, unknown ones first and then by severity; null if 'isOver' says that nobody wants
+    // them any more.
     async chosen({answer, rule, text}, isOver) {
         const wanted = text.trim().toLowerCase();
-        const kept = {true: [], false: []};
+        const kept = Array.from({length: RANKS.length + 2}, () => []);
         let turn = performance.now();
         for (const one of this.objects) {
             if (!answer && !rule && !wanted) {
-                kept[one.isUnknown].push(one);
+                kept[one.place].push(one);
                 continue;
             }
             const object = this.object(one);
             if ((!answer || object.answer === answer) &&
                 (!rule || object.findings.some((found) => found.rule === rule)) &&
                 (!wanted || textOf(object).includes(wanted))) {
-                kept[one.isUnknown].push(one);
+                kept[one.place].push(one);
             }
             if (performance.now() - turn > TURN) {
                 await nextTurn();
@@ -111,7 +155,7 @@ export class Report {
                 turn = performance.now();
             }
         }
-        return [...kept.true, ...kept.false];
+        return kept.flat();
     }
 
     // Whether the program that made it came to its end, and each line of it can be read.

@@ -7,14 +7,14 @@ import {say, WORDS} from "./words.mjs";
 
 const ROWS = 100;         // of a page of the table
 const MOST_FINDINGS = 20; // of an object in the table
+const MOST_GROUPS = 50;   // places above it
 const MOST_TEXT = 2000;   // characters of a name or a text
-const KINDS = {
-    key: "key",
-    ds: "ds"
-};
+const KINDS = ["key", "ds"];
+const FORMS = ["sddl", "hex", "base64"];
 
 // The kind of object that the page has words for, or null.
-const kindOf = ({kind, isFolder}) => (kind === "file" ? (isFolder ? "folder" : "file") : KINDS[kind] ?? null);
+const kindOf = ({kind, isFolder}) =>
+    (kind === "file" ? (isFolder ? "folder" : "file") : KINDS.includes(kind) ? kind : null);
 
 const cut = (text) => visible(text.length > MOST_TEXT ? `${text.slice(0, MOST_TEXT)} ..` : text);
 
@@ -22,17 +22,37 @@ export const nameOfObject = ({name}) => cut(name) || WORDS.report.noName;
 
 export const placeOfObject = ({source, line}) => cut(line ? say(WORDS.report.place, {source, line}) : source);
 
-function findingWords({rule, trustee, rights, text, accepted}) {
+const GRAVE = ["high", "medium"];
+
+const severityBadge = (severity) =>
+    (severity ? [make("span", {class: GRAVE.includes(severity) ? `badge ${severity}` : "badge"}, cut(severity)), " "] : null);
+
+function acesWords(numbers, isInherited) {
+    const {ace, aces, inherited} = WORDS.report;
+    const said = say(numbers.length === 1 ? ace : aces, {numbers: numbers.join(", ")});
+    return numbers.length ? ` (${said}${isInherited ? `, ${inherited}` : ""})` : "";
+}
+
+// What grants or denies the rights.
+const becauseWords = (because) => because.slice(0, MOST_FINDINGS).map(([number, text, rights, grants]) =>
+    make("div", {class: grants ? "allow" : "deny"}, number ? say(WORDS.report.because, {number}) : "", make("code", {}, cut(text)),
+        " ", cut(grants ? rights : say(WORDS.report.not, {rights}))));
+
+function findingWords({rule, trustee, rights, text, accepted, severity, numbers, isInherited, because}) {
     const about = [trustee, rights].filter(Boolean).join(": ");
     return [
+        severityBadge(severity),
         rule ? [make("span", {class: "badge"}, cut(rule)), " "] : null,
         cut([about, text].filter(Boolean).join(about ? ". " : "")),
-        accepted ? ` ${say(WORDS.report.accepted, {reason: cut(accepted)})}` : null
+        acesWords(numbers, isInherited),
+        accepted ? ` ${say(WORDS.report.accepted, {reason: cut(accepted)})}` : null,
+        becauseWords(because)
     ];
 }
 
-const answerClass = (answer) =>
-    ({unknown: "unknown", nothing: "quiet", same: "quiet", accepted: "quiet"}[answer] ?? "deny");
+const QUIET = ["nothing", "same", "accepted"];
+
+const answerClass = (answer) => (answer === "unknown" ? "unknown" : QUIET.includes(answer) ? "quiet" : "deny");
 
 // What a report says of an object.
 export function objectWords(object) {
@@ -60,17 +80,27 @@ export class ReportView {
     make() {
         return [
             make("h2", {id: "report-heading"}, WORDS.report.heading), make("div", {id: "report-summary"}),
+            make("div", {id: "report-groups"}),
             make("div", {id: "report-filters", class: "row"}),
             make("p", {id: "report-status", role: "status", "aria-live": "polite"}), make("div", {id: "report-table"})
         ];
     }
 
     async begin() {
+        try {
+            await this.read();
+        } catch (error) {
+            this.tell(say(WORDS.broke, {reason: visible(error.message)}));
+        }
+    }
+
+    async read() {
         const {report} = this;
         await report.read((part) => this.tell(say(WORDS.report.reading, {percent: Math.round(100 * part)})));
         byId("report-heading").textContent = cut(report.head?.title ?? WORDS.report.heading);
         this.onHead(report.head ?? {});
         this.showSummary();
+        this.showGroups();
         this.showFilters();
         await this.refresh();
     }
@@ -85,6 +115,7 @@ export class ReportView {
             report.isWhole ? null :
                              make("p", {class: "everyone"},
                                  report.damaged ? say(words.damaged, {count: formatted(report.damaged)}) : words.cut),
+            report.last?.severities ? make("p", {}, cut(report.last.severities) + ".") : null,
             report.last ? make("p", {}, cut(report.last.summary) + "." + listed) : null,
             report.last ? make("ul", {},
                               report.last.rules.map(
@@ -93,12 +124,43 @@ export class ReportView {
                           null);
     }
 
+    // Where permissions are set, with how many objects have them. A button filters the table by the place.
+    showGroups() {
+        const {groups, placeColumns, places, morePlaces} = WORDS.report;
+        const all = (this.report.last?.groups ?? []).filter((group) => group[5] > 1);
+        const shown = all.slice(0, MOST_GROUPS);
+        show(byId("report-groups"), shown.length ? this.groupTable(shown, groups, placeColumns) : null,
+            all.length > shown.length ? make("p", {}, say(morePlaces, {count: formatted(all.length - shown.length)})) : null,
+            shown.length ? make("p", {class: "hint"}, places) : null);
+    }
+
+    groupTable(rows, heading, columns) {
+        const row = ([severity, rule, words, name, place, count]) =>
+            make("tr", {class: severity === "high" ? "deny" : "quiet"},
+                make("th", {scope: "row", "data-label": columns.name},
+                    button(make("bdi", {}, cut(name) || WORDS.report.noName), () => this.only(name), {class: "open"})),
+                make("td", {"data-label": columns.count}, formatted(count)),
+                make("td", {"data-label": columns.what}, severityBadge(severity), make("span", {class: "badge"}, cut(rule)), " ",
+                    cut([words, place].filter(Boolean).join(". "))));
+        return make("div", {class: "scroll", tabindex: "0", role: "region", "aria-label": heading},
+            make("table", {class: "report groups"}, make("caption", {}, heading),
+                make("thead", {}, make("tr", {}, Object.values(columns).map((text) => make("th", {scope: "col"}, text)))),
+                make("tbody", {}, rows.map(row))));
+    }
+
+    only(name) {
+        this.filter.text = name;
+        byId("report-text").value = name;
+        this.page = 0;
+        this.refresh();
+        byId("report-text").focus();
+    }
+
     showFilters() {
         const words = WORDS.report;
-        const options = (all, counts) => ({
-            "": all,
-            ...Object.fromEntries([...counts].map(([name, count]) => [name, `${cut(name)} (${formatted(count)})`]))
-        });
+        // A list keeps the order, and an option may be called anything.
+        const options = (all, counts) =>
+            [["", all], ...[...counts].map(([name, count]) => [name, `${cut(name)} (${formatted(count)})`])];
         const set = (name) => (value) => {
             this.filter[name] = value;
             this.page = 0;
@@ -158,7 +220,7 @@ export class ReportView {
             make("td", {"data-label": columns.what}, objectWords(object), this.noView(object)));
     }
 
-    canShow(object) { return object.form !== "" && kindOf(object) !== null; }
+    canShow(object) { return FORMS.includes(object.form) && kindOf(object) !== null; }
 
     // Why there is no view of a descriptor: without one there is nothing to show, and the names of a service's rights
     // are none that the page knows.

@@ -1,17 +1,18 @@
 // The state of the page in its address, behind '#', which no browser sends; and the command line with the same
 // answer.
+import {bitsOf} from "./access.mjs";
 import {wordsOf} from "./lines_view.mjs";
+import {mappingOf} from "./meanings.mjs";
+import {HIDDEN, rightsOf} from "./naming.mjs";
+import {between} from "./scanning.mjs";
+import {valueIn} from "./tables.mjs";
+import {KINDS as TABLE_OF_KINDS} from "./windows.mjs";
 
 const MOST_ADDRESS = 30_000; // characters; some browsers and most programs take no longer link
 const VIEWS = ["look", "ask", "inherit", "compare", "lines"]; // a report is not in an address, and so its view isn't
-const KINDS = ["folder", "file", "key", "ds"];
+const KINDS = Object.keys(TABLE_OF_KINDS);
 const FORMS = ["auto", "sddl", "hex", "base64"];
-const TYPE_OF = {
-    folder: "file",
-    file: "file",
-    key: "key",
-    ds: "ds"
-};
+const MOST_LEVEL = 0xffffffff;
 
 const FIELDS = [
     ["d", (state) => state, "text"],
@@ -19,7 +20,6 @@ const FIELDS = [
     ["object", (state) => state, "object"],
     ["token", (state) => state.ask, "token"],
     ["want", (state) => state.ask, "want"],
-    ["level", (state) => state.ask, "level"],
     ["self", (state) => state.ask, "self"],
     ["owner", (state) => state.made, "owner"],
     ["group", (state) => state.made, "group"],
@@ -29,6 +29,7 @@ const FIELDS = [
 const FLAGS = [
     ["common", (state) => state, "common"],
     ["maximum", (state) => state.ask, "maximum"],
+    ["exact", (state) => state.ask, "exact"],
     ["security", (state) => state.ask, "security"],
     ["take-ownership", (state) => state.ask, "takeOwnership"],
 ];
@@ -41,7 +42,7 @@ const CHOICES = [
 
 // What differs from a new page, as what follows '#', or null if that is too long.
 export function addressOf(state, fresh) {
-    if (state.text.length + state.other.text.length > MOST_ADDRESS) {
+    if (FIELDS.reduce((length, [, holder, key]) => length + holder(state)[key].length, 0) > MOST_ADDRESS) {
         return null;
     }
     const words = new URLSearchParams();
@@ -60,6 +61,9 @@ export function addressOf(state, fresh) {
             words.set(name, holder(state)[key]);
         }
     }
+    if (state.ask.level !== fresh.ask.level) {
+        words.set("level", state.ask.level.trim());
+    }
     if (state.ask.rights.length) {
         words.set("rights", state.ask.rights.reduce((mask, bit) => (mask | bit) >>> 0, 0).toString(16));
     }
@@ -70,40 +74,94 @@ export function addressOf(state, fresh) {
     return text.length > MOST_ADDRESS ? null : text;
 }
 
-// Takes an address into a state. What it doesn't know stays as it was: an address is written by strangers.
-export function takeAddress(state, text) {
-    const words = new URLSearchParams(text);
-    for (const [name, holder, key] of FIELDS) {
-        if (words.has(name)) {
-            holder(state)[key] = words.get(name);
-        }
+// How each name of an address is taken into a state: whether it could be read. What can't stays as it was.
+const READERS = new Map([
+    ...FIELDS.map(([name, holder, key]) => [name, (state, value) => {
+        holder(state)[key] = value;
+        return true;
+    }]),
+    ...FLAGS.map(([name, holder, key]) => [name, (state, value) => {
+        holder(state)[key] = value === "1";
+        return value === "0" || value === "1";
+    }]),
+    ...CHOICES.map(([name, holder, key, known]) => [name, (state, value) => {
+        holder(state)[key] = known.includes(value) ? value : holder(state)[key];
+        return known.includes(value);
+    }]),
+    ["level", takeLevel],
+    ["rights", takeRights],
+    ["chosen", takeChosen],
+]);
+
+// A level is one of the list of the view, or another number, which gets a line of its own in it.
+function takeLevel(state, value) {
+    const isNumber = /^\d{1,10}$/.test(value) && Number(value) <= MOST_LEVEL;
+    if (isNumber || value === "" || value === "listed") {
+        state.ask.level = isNumber ? ` ${Number(value)}` : value;
+        return true;
     }
-    for (const [name, holder, key] of FLAGS) {
-        if (words.has(name)) {
-            holder(state)[key] = words.get(name) === "1";
-        }
-    }
-    for (const [name, holder, key, known] of CHOICES) {
-        if (known.includes(words.get(name))) {
-            holder(state)[key] = words.get(name);
-        }
-    }
-    if (/^[0-9a-f]{1,8}$/.test(words.get("rights") ?? "")) {
-        const mask = parseInt(words.get("rights"), 16);
-        state.ask.rights =
-            Array.from({length: 32}, (_, place) => (1 << place) >>> 0).filter((bit) => (mask & bit) !== 0);
-    }
-    if (/^\d{1,6}$/.test(words.get("chosen") ?? "")) {
-        state.chosen = Number(words.get("chosen"));
-    }
+    return false;
 }
 
-// A word as a POSIX shell reads it.
-const quoted = (word) => (/^[A-Za-z0-9_,.:=@%+-]+$/.test(word) ? word : `'${word.replace(/'/g, "'\\''")}'`);
+// Rights that the kind of object doesn't have are in no box of the view.
+function takeRights(state, value) {
+    const bits = /^[0-9a-f]{1,8}$/.test(value) ? bitsOf(parseInt(value, 16)) : [];
+    const known = rightsOf(state.kind).map(({bit}) => bit);
+    state.ask.rights = bits.filter((bit) => known.includes(bit));
+    return bits.length > 0 && bits.length === state.ask.rights.length;
+}
+
+function takeChosen(state, value) {
+    if (!/^\d{1,6}$/.test(value)) {
+        return false;
+    }
+    state.chosen = Number(value);
+    return true;
+}
+
+// Takes an address into a state, and gives what of it can't be read, of which a name that comes twice is a part. An address
+// is written by strangers.
+export function takeAddress(state, text) {
+    const words = [...new URLSearchParams(text)];
+    const seen = new Set();
+    // The kind comes first, since rights depend on it.
+    const inOrder = [...words.filter(([name]) => name === "kind"), ...words.filter(([name]) => name !== "kind")];
+    return inOrder.filter(([name, value]) => {
+        const isRead = !seen.has(name) && READERS.get(name)?.(state, value);
+        seen.add(name);
+        return !isRead;
+    }).map(([name, value]) => `${name}=${value}`);
+}
+
+const octal = (text) => [...new TextEncoder().encode(text)].map((byte) => `\\0${byte.toString(8).padStart(3, "0")}`).join("");
+
+const plainQuoted = (text) => `'${text.replace(/'/g, "'\\''")}'`;
+
+// A text with characters that don't show, such as the escape that ends a bracketed paste: printf makes it of numbers.
+function spelledQuoted(text) {
+    const known = new Map();
+    const spell = (character) => {
+        if (!known.has(character)) {
+            known.set(character, octal(character));
+        }
+        return known.get(character);
+    };
+    return `"$(printf '%b' ${plainQuoted(text.replace(/\\/g, "\\\\").replace(HIDDEN, spell))})"`;
+}
+
+// A word as a POSIX shell reads it. Line ends at its end, which printf would lose, stay as they are inside the quotation marks.
+function quoted(word) {
+    if (/^[A-Za-z0-9_,.:=@%+-]+$/.test(word)) {
+        return word;
+    }
+    const text = between(word, () => false, (character) => character === "\n");
+    const ends = word.slice(text.length);
+    return text.search(HIDDEN) < 0 ? plainQuoted(word) : spelledQuoted(text) + (ends && plainQuoted(ends));
+}
 
 const domainWords = (state) => (state.domain.trim() ? ["--domain", state.domain.trim()] : []);
 const formWords = (form) => (form === "hex" ? [] : ["--from", form]);
-const typeWords = (state) => (TYPE_OF[state.kind] === "file" ? [] : ["--type", TYPE_OF[state.kind]]);
+const typeWords = (state) => (mappingOf(state.kind) === "file" ? [] : ["--type", mappingOf(state.kind)]);
 
 function askWords(state, result) {
     const {ask} = state;
@@ -118,10 +176,10 @@ function askWords(state, result) {
         ...(want ? ["--want", want] : []),
         ...(ask.maximum ? ["--maximum"] : []),
         ...typeWords(state),
-        ...(state.kind === "ds" && state.object.trim() ? ["--object", state.object.trim()] : []),
+        ...(mappingOf(state.kind) === "ds" && state.object.trim() ? ["--object", state.object.trim()] : []),
         ...(ask.self.trim() ? ["--self", ask.self.trim()] : []),
-        ...(ask.security ? ["--security"] : []),
-        ...(ask.takeOwnership ? ["--take-ownership"] : []),
+        ...(result?.security ?? ask.security ? ["--security"] : []),
+        ...(result?.takeOwnership ?? ask.takeOwnership ? ["--take-ownership"] : []),
         ...(level === null ? [] : ["--level", String(level)]),
     ];
 }
@@ -137,8 +195,8 @@ export function commandWords(state, look, asked) {
         ask: () => askWords(state, asked),
         inherit: () => inheritWords(state),
         compare: () => ["convert", "--to", "hex"]
-    }[state.view]();
-    return [...words, ...formWords(look.form), ...domainWords(state)];
+    };
+    return [...valueIn(words, state.view)(), ...formWords(look.form), ...domainWords(state)];
 }
 
 export function commandLine(state, look, asked) {

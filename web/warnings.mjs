@@ -1,113 +1,45 @@
 // What a reader should look at, each with its reason: {key, level, numbers, ...}. LEVEL is 'danger', 'caution' or
-// 'note'. The words are in words.mjs. Whether somebody gets a right is always an answer of check.
-import {DECIDING, has, isBroad, meaningOf} from "./access.mjs";
-import {descriptorOfPieces, guidBytes, piecesOf, sidBytes} from "./library.mjs";
+// 'note'. The words are in words.mjs. What is risky is found by the rules of risks.mjs, which sdtool-audit has too.
+// Whether somebody gets a right is always an answer of check.
+import {DECIDING, has, meaningOf, reasonsOf, tokenOf} from "./access.mjs";
+import {descriptorOfPieces, guidBytes, piecesOf} from "./library.mjs";
+import {doing} from "./meanings.mjs";
+import {risksOf} from "./risks.mjs";
+import {valueIn} from "./tables.mjs";
 
-const WRITE_DAC = 0x40000;
-const WRITE_OWNER = 0x80000;
-const DELETE = 0x10000;
 const SYNCHRONIZE = 0x100000;
 const PROTECTED = 0x1000;
-const CHANGING = {
-    file: 0x2 | 0x4 | 0x10 | 0x40 | 0x100,
-    key: 0x2 | 0x4 | 0x20,
-    ds: 0x1 | 0x2 | 0x8 | 0x20 | 0x40 | 0x100
-};
-const ADMINISTRATORS = [
-    "S-1-5-18", "S-1-5-32-544", "S-1-3-0", "S-1-5-9", "S-1-5-80-956008885-3418522649-1831038044-1853292631-2271478464"
-];
-const ADMINISTRATORS_OF_A_DOMAIN = /^S-1-5-21-\d+-\d+-\d+-(?:500|512|516|518|519)$/;
 const EVERYONE = "S-1-1-0";
-const COMMON = [EVERYONE, "S-1-5-11"];
 const OWNER_RIGHTS = "S-1-3-4";
 const CREATORS = ["S-1-3-0", "S-1-3-1"];
+// With this ACE a list has one for OWNER RIGHTS that grants nothing, so all that is granted is granted by ACEs.
 const NO_OWNER_RULE = `(A;;0x0;;;${OWNER_RIGHTS})`;
+const LEVEL_OF = {high: "danger", medium: "caution", low: "caution", note: "note"};
+// Rules that the page has in words of its own.
+const OWN_WORDS = ["order", "inheritance-cut", "unknown-sid"];
 
-export const changing = (mapping) => (CHANGING[mapping] | DELETE | WRITE_DAC | WRITE_OWNER) >>> 0;
-
-const isAdministrator = (sid) => ADMINISTRATORS.includes(sid) || ADMINISTRATORS_OF_A_DOMAIN.test(sid);
+// The rights of a kind that change an object.
+export const changing = (kind) => doing(kind, "change");
 
 const numbersOf = (aces) => aces.map((ace) => ace.number);
 
-function ofDacl(model) {
-    const {state, aces} = model.dacl;
-    if (state === "absent") {
-        return [{key: "noDacl", level: "danger"}];
-    }
-    if (state === "null") {
-        return [{key: "nullDacl", level: "danger"}];
-    }
-    return aces.length ? [] : [{key: "emptyDacl", level: "caution"}];
-}
-
-// The rows of Everyone and Authenticated Users, if another row's token has them: what these get is said once.
-const aboveRow = (grid, row) =>
-    grid.rows.filter(({sid}) => COMMON.includes(sid) && sid !== row.sid && row.token.includes(sid));
-
-const beyondCommon = (grid, row) =>
-    aboveRow(grid, row).reduce((mask, other) => (mask & ~other.granted) >>> 0, row.granted);
-
-function ofBroadGroups(grid, mapping) {
-    const rows = grid.isList ? grid.rows.filter((row) => isBroad(row.sid)) : [];
-    return rows
-        .map((row) => ({
-            key: "broadChange",
-            level: "danger",
-            who: row.sid,
-            alias: row.alias,
-            numbers: row.numbers,
-            mask: (beyondCommon(grid, row) & changing(mapping)) >>> 0,
-        }))
-        .filter(({mask}) => mask !== 0);
-}
-
-// An object type for which a broad group gets a right to change that it doesn't get for the object as a whole.
-function ofBroadTypes(grid, mapping) {
-    const known = (row, object) => aboveRow(grid, row).reduce(
-        (mask, {typed}) => mask | (typed.find((other) => other.object === object)?.mask ?? 0), 0);
-    return grid.rows.filter((row) => isBroad(row.sid))
-        .flatMap((row) => row.typed.map(({object, mask}) => ({
-            key: "broadType",
-            level: "caution",
-            who: row.sid,
-            alias: row.alias,
-            object,
-            numbers: row.numbers,
-            mask: (mask & changing(mapping) & ~known(row, object)) >>> 0,
-        })))
-        .filter(({mask}) => mask !== 0);
-}
-
-// An inherit-only ACE grants nothing here, but it does below.
-function ofBroadChildren(library, model, mapping) {
-    const below = model.dacl.aces.filter((ace) => ace.flags.includes("IO") && isBroad(ace.sid) &&
-            (ace.kind === "A" || ace.kind === "OA") &&
-            (meaningOf(library, ace.mask, mapping) & changing(mapping)) !== 0);
-    return below.map((ace) => ({
-        key: "broadBelow",
-        level: "caution",
-        who: ace.sid,
-        alias: ace.alias,
-        numbers: [ace.number],
-        mask: (meaningOf(library, ace.mask, mapping) & changing(mapping)) >>> 0,
-    }));
-}
-
-function ofControl(grid) {
-    const rows = grid.isList ? grid.rows.filter((row) => !isAdministrator(row.sid) && !isBroad(row.sid)) : [];
-    return rows
-        .map((row) => {
-            const isOwner = (row.byRule & WRITE_DAC) !== 0;
-            return {
-                key: isOwner ? "ownerControl" : "control",
-                level: isOwner ? "note" : "caution",
-                who: row.sid,
-                alias: row.alias,
-                numbers: row.numbers,
-                mask: (beyondCommon(grid, row) & (WRITE_DAC | WRITE_OWNER)) >>> 0
-            };
-        })
-        .filter(({mask}) => mask !== 0);
+// What the rules find. A right that is one of an object type is told with it.
+function ofRisks(library, model, options) {
+    const aliases = new Map(
+        [model.owner, ...model.dacl.aces].filter((one) => one?.alias).map(({sid, alias}) => [sid, alias]));
+    return risksOf(library, model, options)
+        .filter(({rule}) => !OWN_WORDS.includes(rule))
+        .map(({rule, severity, who, numbers, mask, object, says, isBelow, kind}) => ({
+            key: object && !says ? `${rule} type` : rule,
+            rule,
+            level: valueIn(LEVEL_OF, severity),
+            numbers,
+            ...(who ? {who, alias: aliases.get(who) ?? null} : {}),
+            ...(mask === undefined ? {} : {mask}),
+            ...(object ? {object} : {}),
+            ...(isBelow ? {isBelow} : {}),
+            ...(kind ? {kind} : {}),
+        }));
 }
 
 // What comes first in the order that Windows keeps: ACEs of the object itself before inherited ones, and among the
@@ -163,9 +95,18 @@ function ofUseless(model) {
                                 warnings;
 }
 
+// Whether an ACE for Owner Rights takes the owner's own rights away: whatever its rights are, they come in their place.
+const limitsOwner = (ace) =>
+    ace.list === "dacl" && ace.sid === OWNER_RIGHTS && DECIDING.includes(ace.kind) && !ace.flags.includes("IO");
+
+// An ACE without rights does nothing, unless it limits the owner.
 function ofMaskZero(model) {
-    const aces = [...model.dacl.aces, ...model.sacl.aces].filter((ace) => ace.mask === 0);
-    return aces.map((ace) => ({key: "maskZero", level: "caution", list: ace.list, numbers: [ace.number]}));
+    const useless = [...model.dacl.aces, ...model.sacl.aces].filter((ace) => ace.mask === 0 && !limitsOwner(ace));
+    const limits = model.owner ? model.dacl.aces.filter(limitsOwner) : [];
+    return [
+        ...useless.map((ace) => ({key: "maskZero", level: "note", list: ace.list, numbers: [ace.number]})),
+        ...limits.map((ace) => ({key: "ownerLimited", level: "note", list: ace.list, numbers: [ace.number]})),
+    ];
 }
 
 // A deny whose rights the ACEs before it already grant to whomever it is for, with Everyone, whom each token has.
@@ -177,16 +118,16 @@ function ofLateDenies(library, model, descriptor, {mapping, object}) {
         return denies.length ? [{key: "manyDenies", level: "note", numbers: []}] : [];
     }
     const pieces = piecesOf(library, descriptor);
+    const before = [...pieces.dacl.aces.slice(0, denies.at(-1).number - 1), NO_OWNER_RULE];
+    const cut = descriptorOfPieces(library, {...pieces, dacl: {...pieces.dacl, aces: before}});
     return denies
         .filter((ace) => {
-            const before = [...pieces.dacl.aces.slice(0, ace.number - 1), NO_OWNER_RULE];
-            const cut = descriptorOfPieces(library, {...pieces, dacl: {...pieces.dacl, aces: before}});
             const wanted = (meaningOf(library, ace.mask, mapping) & ~0x0f000000) >>> 0;
             const sid = ace.sid === OWNER_RIGHTS && model.owner ? model.owner.sid : ace.sid;
-            const objectType = guidBytes(library, ace.object ?? object);
+            const request = {mapping, objectType: guidBytes(library, ace.object ?? object)};
+            const reasons = reasonsOf(library, cut, tokenOf(library, [sid, EVERYONE]), request);
             return wanted !== 0 &&
-                library.check(cut, [sidBytes(library, sid), sidBytes(library, EVERYONE)], {wanted, mapping, objectType})
-                    .granted;
+                reasons.every(({bit, kind, number}) => !has(wanted, bit) || (kind === "granted" && number < ace.number));
         })
         .map((ace) => ({key: "lateDeny", level: "caution", numbers: [ace.number], who: ace.sid, alias: ace.alias}));
 }
@@ -234,31 +175,27 @@ function ofObjectTypes(model, object, grid) {
     ];
 }
 
-function ofUnnamedRights(library, model, grid, mapping) {
+function ofUnnamedRights(model, grid) {
     const unnamed = model.dacl.aces.filter((ace) => DECIDING.includes(ace.kind) &&
-            (meaningOf(library, ace.mask, mapping) & ~grid.rights & ~SYNCHRONIZE) !== 0);
+            (ace.meaning & ~grid.rights & ~SYNCHRONIZE) !== 0);
     return unnamed.length ? [{key: "unnamedRights", level: "note", numbers: numbersOf(unnamed)}] : [];
 }
 
 const LEVELS = ["danger", "caution", "note"];
 
 export function warningsOf(library, descriptor, model, grid, options) {
-    const {mapping, domain, object} = options;
+    const {kind, domain, object} = options;
     const all = [
-        ...ofDacl(model),
-        ...ofBroadGroups(grid, mapping),
-        ...ofBroadTypes(grid, mapping),
-        ...ofControl(grid),
+        ...ofRisks(library, model, {kind, domain}),
         ...ofOrder(model),
         ...ofUseless(model),
         ...ofMaskZero(model),
         ...ofLateDenies(library, model, descriptor, options),
-        ...ofBroadChildren(library, model, mapping),
         ...ofInheritance(model),
         ...ofLabel(model),
         ...ofDomains(model, domain),
         ...ofObjectTypes(model, object, grid),
-        ...ofUnnamedRights(library, model, grid, mapping),
+        ...ofUnnamedRights(model, grid),
         ...(model.owner ? [] : [{key: "noOwner", level: "note"}]),
         ...(grid.left ? [{key: "manyTrustees", level: "caution", count: grid.left}] : []),
     ];

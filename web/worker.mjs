@@ -1,11 +1,13 @@
-// Both ends of a worker, so that no question, however long, stops the page. Where a browser refuses the worker, the
-// page asks the library itself.
+// Both ends of a worker, so that no question, however long, stops the page. A worker that needs too long for a question, or
+// breaks, is ended, and another one is started. Where a browser refuses workers, the page asks the library itself, and then
+// there is no limit.
 import {load} from "../javascript/sdtool.mjs";
 
 import {questionOf} from "./desk.mjs";
 import {answerFile} from "./lines.mjs";
 
 const SECONDS_TO_START = 20;
+export const SECONDS_TO_ANSWER = 2;
 
 const errorText = (error) => `${error.name}: ${error.message}`;
 
@@ -55,25 +57,28 @@ const startWorker = (source) => {
 
 // Waits until the worker has the library; a worker that is refused or silent is none.
 const ready = (worker, bytes) => new Promise((resolve, reject) => {
-    const timer = setTimeout(() => reject(new Error("the worker is silent")), 1000 * SECONDS_TO_START);
+    const refuse = (message) => {
+        clearTimeout(timer);
+        worker.terminate();
+        reject(new Error(message));
+    };
+    const timer = setTimeout(() => refuse("the worker is silent"), 1000 * SECONDS_TO_START);
     worker.onmessage = () => {
         clearTimeout(timer);
         resolve(worker);
     };
-    worker.onerror = (event) => {
-        clearTimeout(timer);
-        reject(new Error(event.message || "the worker is refused"));
-    };
+    worker.onerror = (event) => refuse(event.message || "the worker is refused");
     worker.postMessage({bytes});
 });
 
-// Asks one question at a time. Of each kind only the newest waits: an answer to what was typed before is of no use.
-class Desk {
-    constructor(post) {
-        this.post = post;
-        this.waiting = new Map();
-        this.current = null;
-        this.last = 0;
+// A question that was stopped.
+export class TooSlow extends Error {}
+
+// Asks one question at a time, of an end that START gives. Of each kind only the newest waits: an answer to what was typed
+// before is of no use.
+export class Desk {
+    constructor(start, seconds = SECONDS_TO_ANSWER) {
+        Object.assign(this, {start, seconds, waiting: new Map(), current: null, last: 0, end: null, timer: null});
     }
 
     ask(name, about) {
@@ -84,45 +89,80 @@ class Desk {
         });
     }
 
-    next() {
+    async next() {
         const [first] = this.waiting.values();
         if (this.current || !first) {
             return;
         }
         this.waiting.delete(first.name);
         this.last += 1;
-        this.current = {...first, id: this.last};
-        this.post({id: this.last, name: first.name, about: first.about});
+        const current = {...first, id: this.last};
+        this.current = current;
+        try {
+            this.end ??= this.take(await this.start());
+        } catch (error) {
+            this.settle(() => current.reject(error));
+            return;
+        }
+        this.timer = setTimeout(() => this.breakOff(new TooSlow(`no answer in ${this.seconds} seconds`)), 1000 * this.seconds);
+        this.end.postMessage({id: current.id, name: current.name, about: current.about});
+    }
+
+    // Listens to an end. What one says that was ended is heard by nobody.
+    take(end) {
+        const ifCurrent = (act) => (event) => end === this.end && act(event);
+        end.onmessage = ifCurrent(({data}) => this.hear(data));
+        end.onerror = ifCurrent((event) => this.breakOff(new Error(event.message || "the worker broke")));
+        end.onmessageerror = ifCurrent(() => this.breakOff(new Error("the worker can't be understood")));
+        return end;
     }
 
     hear({id, value, error}) {
-        if (this.current?.id !== id) {
-            return;
+        const {current} = this;
+        if (current?.id === id) {
+            this.settle(() => (error === undefined ? current.resolve(value) : current.reject(new Error(error))));
         }
-        const {resolve, reject} = this.current;
+    }
+
+    // Ends the worker, which may never come back. The next question starts another one.
+    breakOff(error) {
+        const {current, end} = this;
+        this.end = null;
+        end.terminate();
+        this.settle(() => current?.reject(error));
+    }
+
+    settle(act) {
+        clearTimeout(this.timer);
         this.current = null;
-        if (error === undefined) {
-            resolve(value);
-        } else {
-            reject(new Error(error));
-        }
+        act();
         this.next();
     }
+}
+
+// An end in the page itself.
+function ownEnd(library) {
+    const end = {
+        postMessage: ({id, name, about}) =>
+            queueMicrotask(() => end.onmessage({data: {id, ...tried(() => questionOf(library, name, about))}})),
+        terminate: () => {}
+    };
+    return end;
 }
 
 // The desk, in a worker if there can be one: {desk, isWorker}.
 export async function startDesk(source, bytes) {
     try {
-        const worker = await ready(startWorker(source), bytes);
-        const desk = new Desk((message) => worker.postMessage(message));
-        worker.onmessage = ({data}) => desk.hear(data);
+        let first = await ready(startWorker(source), bytes);
+        const desk = new Desk(async () => {
+            const worker = first ?? await ready(startWorker(source), bytes);
+            first = null;
+            return worker;
+        });
         return {desk, isWorker: true};
     } catch {
         const library = await load(bytes);
-        const desk = new Desk(
-            (message) => queueMicrotask(
-                () => desk.hear({id: message.id, ...tried(() => questionOf(library, message.name, message.about))})));
-        return {desk, isWorker: false};
+        return {desk: new Desk(async () => ownEnd(library)), isWorker: false};
     }
 }
 
@@ -155,9 +195,16 @@ export class FileDesk {
         this.end?.postMessage({stop: true});
     }
 
+    // A worker that breaks is ended. The next file starts another one.
     async startEnd() {
         const worker = await ready(startWorker(this.source), this.bytes);
+        const broke = (event) => {
+            worker.terminate();
+            this.end = null;
+            this.hear({kind: "failed", message: event.message || "the worker broke", id: this.current});
+        };
         worker.onmessage = ({data}) => this.hear(data);
+        Object.assign(worker, {onerror: broke, onmessageerror: broke});
         return worker;
     }
 
