@@ -7,7 +7,8 @@
  * time. Prints 'descriptors COUNT', and then for each round and call 'JOB LIBRARY NANOSECONDS'.
  *
  * Samba's calls use its own structure of a descriptor. 'samba' is the call alone; 'samba-bytes' also reads the
- * structure from bytes, or writes it to bytes.
+ * structure from bytes, or writes it to bytes. Its token is at hand in each check. Ours is read anew in each 'check', and was
+ * read once before each 'check_with'.
  *
  * Both libraries have to give the same answers. The status is 1 where they do not.
  */
@@ -50,6 +51,7 @@ static struct item *items;
 static size_t count;
 static uint8_t domain[MOST_SID], sids[MOST_SIDS * MOST_SID], entries[MOST_SIDS];
 static size_t domain_size, sids_size, sid_count;
+static uint32_t token[SDTOOL_TOKEN_WORDS(MOST_SIDS)];
 static struct dom_sid *domain_of_samba;
 static struct security_token token_of_samba;
 static struct sdtool_request request = {.mapping = SDTOOL_MAPPING_FILE};
@@ -89,6 +91,19 @@ static struct sdtool_verdict verdict_on(const struct item *item)
 static bool our_check(struct item *item)
 {
     struct sdtool_verdict v = verdict_on(item);
+
+    sum += v.granted;
+    return v.fault == SDTOOL_OK;
+}
+
+static struct sdtool_verdict verdict_with_token(const struct item *item)
+{
+    return sdtool_check_with(item->bytes, item->size, token, SDTOOL_TOKEN_WORDS(sid_count), NULL, 0, NULL, 0, &request);
+}
+
+static bool our_check_with(struct item *item)
+{
+    struct sdtool_verdict v = verdict_with_token(item);
 
     sum += v.granted;
     return v.fault == SDTOOL_OK;
@@ -185,6 +200,9 @@ static const struct job {
     {"check", "sdtool", our_check},
     {"check", "samba", samba_check},
     {"check", "samba-bytes", samba_check_of_bytes},
+    {"check_with", "sdtool", our_check_with},
+    {"check_with", "samba", samba_check},
+    {"check_with", "samba-bytes", samba_check_of_bytes},
 };
 
 /* The layout of what SDDL describes, by libsdtool. */
@@ -218,7 +236,7 @@ static void compare(struct item *item, size_t at)
     if (text == NULL || layout_of(text, third) != layout.length || memcmp(other, third, layout.length) != 0)
         stop("Samba prints other SDDL", at);
     is_granted = NT_STATUS_IS_OK(se_access_check(item->of_samba, &token_of_samba, request.wanted, &granted));
-    if (is_granted != verdict_on(item).granted)
+    if (is_granted != verdict_on(item).granted || is_granted != verdict_with_token(item).granted)
         stop("the verdicts differ", at);
     talloc_free(memory);
 }
@@ -250,6 +268,8 @@ static void read_question(char *line)
         sids_size += sid_of(word, sids + sids_size);
     }
     token_of_samba.num_sids = (uint32_t)sid_count;
+    if (sdtool_token_read(sids, sids_size, entries, sid_count, token, SDTOOL_TOKEN_WORDS(MOST_SIDS)).fault != SDTOOL_OK)
+        stop("the token does not read", 0);
 }
 
 static void read_item(char *line)

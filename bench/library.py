@@ -6,6 +6,9 @@ SDDL to a descriptor, a descriptor to SDDL, an access check for a token of 20 SI
 Python, a walk of all ACEs that reads their fields. All have the same descriptors, those of a file server that generate.py
 makes, and have to give the same answers.
 
+Samba's checks have their token at hand. Ours are measured in both ways: with a token that each check reads anew, and with one
+that was read once, by sdtool_token_read or as a Token.
+
 Samba's calls work on a structure of its own. 'At hand' is what a call takes with that structure, or with the object of our
 Python module, at hand. 'With bytes' adds reading it from bytes, or writing it to bytes, as files and protocols have
 descriptors. From C, libsdtool takes and gives nothing but bytes, so both columns have the same figure.
@@ -44,7 +47,8 @@ def token_of(count):
 
 WANTED = 0x120089  # FILE_GENERIC_READ
 GENERIC_RIGHTS = 0xf0000000
-JOBS = {"from_sddl": "from SDDL", "to_sddl": "to SDDL", "check": "access check", "walk": "walk of the ACEs"}
+JOBS = {"from_sddl": "from SDDL", "to_sddl": "to SDDL", "check": "check, token anew", "check_with": "check, token at hand",
+        "walk": "walk of the ACEs"}
 LIBRARIES = ("sdtool", "sdtool-bytes", "samba", "samba-bytes")
 
 
@@ -102,6 +106,7 @@ class Calls:
         token.sids = list(map(security.dom_sid, sids))
         token.num_sids = len(sids)
         domain, domain_of_samba = sdtool.Sid(DOMAIN_TEXT), security.dom_sid(DOMAIN_TEXT)
+        binary = [bytes(sdtool.Sid(sid)) for sid in sids]
         of_samba, ours, check = security.descriptor, sdtool.SecurityDescriptor, sdtool.Checker(sdtool.Token(sids), WANTED)
 
         def is_granted(descriptor):
@@ -120,10 +125,14 @@ class Calls:
             ("to_sddl", "sdtool-bytes"): lambda item: ours.from_bytes(item[0]).sddl(domain=domain),
             ("to_sddl", "samba"): lambda item: item[2].as_sddl(domain_of_samba),
             ("to_sddl", "samba-bytes"): lambda item: ndr_unpack(of_samba, item[0]).as_sddl(domain_of_samba),
-            ("check", "sdtool"): lambda item: check(item[3]).granted,
-            ("check", "sdtool-bytes"): lambda item: check(item[0]).granted,
+            ("check", "sdtool"): lambda item: sdtool.check(item[3], binary, wanted=WANTED).granted,
+            ("check", "sdtool-bytes"): lambda item: sdtool.check(item[0], binary, wanted=WANTED).granted,
             ("check", "samba"): lambda item: is_granted(item[2]),
             ("check", "samba-bytes"): lambda item: is_granted(ndr_unpack(of_samba, item[0])),
+            ("check_with", "sdtool"): lambda item: check(item[3]).granted,
+            ("check_with", "sdtool-bytes"): lambda item: check(item[0]).granted,
+            ("check_with", "samba"): lambda item: is_granted(item[2]),
+            ("check_with", "samba-bytes"): lambda item: is_granted(ndr_unpack(of_samba, item[0])),
             ("walk", "sdtool"): lambda item: fields_of_ours(item[3]),
             ("walk", "sdtool-bytes"): lambda item: fields_of_ours(ours.from_bytes(item[0])),
             ("walk", "samba"): lambda item: fields_of_samba(item[2]),
@@ -134,11 +143,11 @@ class Calls:
     def compare(self, items):
         """Both have to give the same verdicts and fields; library.c compares the rest."""
         for item in items:
-            for job, plain in (("check", bool), ("walk", lambda fields: [(*map(int, one[:3]), str(one[3])) for one in fields])):
+            for job, plain in (("check", bool), ("check_with", bool), ("walk", lambda fields: [(*map(int, one[:3]), str(one[3])) for one in fields])):
                 answers = [plain(self.calls[job, library](item)) for library in LIBRARIES]
                 if any(answer != answers[0] for answer in answers):
                     sys.exit(f"bench: Python's answers differ on {item[1]}: {job} {answers}")
-        if self.many(items) != [self.calls["check", "sdtool"](item) for item in items]:
+        if self.many(items) != [self.calls["check_with", "sdtool"](item) for item in items]:
             sys.exit("bench: many checks differ from one after the other")
 
 
@@ -177,8 +186,8 @@ def show(taken):
             bytes_of_ours = taken.get((language, job, "sdtool-bytes"), ours)
             print(f"{language + ', ' + JOBS[job]:28}{ours:11,.0f} ns{alone:10,.0f} ns{alone / ours:8.1f}"
                   f"{bytes_of_ours:13,.0f} ns{whole:10,.0f} ns{whole / bytes_of_ours:8.1f}")
-    print(f"{'Python, check of many':28}{taken[MANY]:11,.0f} ns{taken['Python', 'check', 'samba']:10,.0f} ns"
-          f"{taken['Python', 'check', 'samba'] / taken[MANY]:8.1f}")
+    print(f"{'Python, check of many':28}{taken[MANY]:11,.0f} ns{taken['Python', 'check_with', 'samba']:10,.0f} ns"
+          f"{taken['Python', 'check_with', 'samba'] / taken[MANY]:8.1f}")
 
 
 def main():

@@ -7,6 +7,7 @@ Each file has sections for sd_bench, whose src/main.rt says what they are. The p
 - folders whose ACEs are inherited by files, by folders or by both, some for CREATOR OWNER
 - objects of a directory with 60 to 375 ACEs of two GUIDs each, ACLs near 64 KB, a line near the limit whose last
   character is wrong, and tokens that meet no SID
+- SIDs of 15 numbers, and tokens whose entries all differ from them late or not at all, as an attacker may choose them
 
 In a pattern `?` is a hex digit, `%` a decimal digit and `~` a character of base64 that sd_bench chooses: the last
 sub-authorities of accounts and some access masks.
@@ -214,8 +215,22 @@ def awkward(shapes):
             + section(500, "convert --to hex", [longest]))
 
 
+def twins(shapes):
+    """SIDs and entries with the same last number and as many numbers. The entries differ in the last number but one, or
+    they are the SID itself, deny-only."""
+    front = (5, *[1] * 13)
+    last = 7
+    aces = [ace(generate.ALLOW, 0, 0x120089, sid(*front, 999, last)) for _ in range(500)]
+    data = shapes.generator.laid_out(sid(5, 18), sid(5, 18), b"", shapes.generator.acl(aces))
+    text = "S-1-" + "-".join(map(str, front))
+    late = ",".join(f"{text}-{1_000 + n}-{last}" for n in range(1_024))
+    same = ",".join([f"!{text}-999-{last}"] * 1_024)
+    return (section(120, f"check --token {late} --want FR", [shapes.hex(data)])
+            + section(120, f"check --token {same} --want FR"))
+
+
 def main():
-    for number, make in enumerate([export, restore, check, inherit, calls, awkward]):
+    for number, make in enumerate([export, restore, check, inherit, calls, awkward, twins]):
         (HERE / f"{make.__name__}.txt").write_text(make(Shapes(number)), encoding="utf-8")
 
 

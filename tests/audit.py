@@ -4,9 +4,8 @@
 Tests sdtool-audit, over the library in out/lib or the one that SDTOOL_LIBRARY names. Its sources are files of tests/audit/
 in documented formats, and what real programs write here: samba-tool, getfattr, mkntfs and ntfscat, slapd and ldapsearch.
 Answers were worked out by hand. Every run is under a hook that ends it where it opens a connection or writes to a file that
-the words don't name. It needs click, rich and python-ldap (Debian: python3-click, python3-rich, python3-ldap), and is
-skipped without them; a source whose program is missing is skipped in a line of its own. The last line is
-'N passed, M failed'.
+the words don't name. It needs click and rich (Debian: python3-click, python3-rich), and is skipped without them; a source
+whose program is missing is skipped in a line of its own. The last line is 'N passed, M failed'.
 """
 import bz2
 import collections
@@ -33,7 +32,7 @@ import tempfile
 import termios
 import time
 import zipfile
-from typing import Any, Dict, List, NamedTuple, Optional
+from typing import Any, Callable, Dict, List, NamedTuple, Optional, Sequence
 
 sys.dont_write_bytecode = True
 import preload  # noqa: E402
@@ -46,17 +45,23 @@ SECONDS = 600  # for one run; a machine with other work may be slow
 DOMAIN = "S-1-5-21-1-2-3"
 ADMINISTRATORS, SYSTEM, EVERYONE = "Administrators (S-1-5-32-544)", "Local System (S-1-5-18)", "Everyone (S-1-1-0)"
 SIGNED_IN, USERS, GUESTS = "Authenticated Users (S-1-5-11)", "Users (S-1-5-32-545)", "Guests (S-1-5-32-546)"
+# What risks says without --domain.
+EVERY_DOMAIN = "the administrators of every domain are trusted: --domain SID trusts those of one domain alone"
 # Ends a run that connects, or that writes to a file which isn't named in SDTOOL_AUDIT_MAY_WRITE.
 HOOK = """
 import os, sys
 may_write = os.environ.get("SDTOOL_AUDIT_MAY_WRITE", "").split(os.pathsep)
+def is_allowed(path):
+    # A file that isn't whole is called .NAME.DIGITS.part.
+    part = os.path.basename(path).rsplit(".", 2) if os.path.basename(path).endswith(".part") else [""]
+    return path in may_write or path == os.devnull or any(part[0] == "." + os.path.basename(one)[:40] for one in may_write if one)
 def hook(event, arguments):
     wrong = event.startswith("socket.") and event != "socket.gethostname"
     if event == "open" and isinstance(arguments[0], str):
         path, mode, flags = arguments
         writes = flags & (os.O_WRONLY | os.O_RDWR | os.O_CREAT)
-        wrong = bool(writes) and path not in may_write and path != os.devnull
-    wrong = wrong or event in ("os.remove", "os.rename", "os.mkdir") and arguments[0] not in may_write
+        wrong = bool(writes) and not is_allowed(path)
+    wrong = wrong or event in ("os.remove", "os.rename", "os.link", "os.mkdir", "os.chmod") and not is_allowed(arguments[0])
     if wrong:
         os.write(2, f"FORBIDDEN {event} {arguments}\\n".encode())
         os._exit(99)
@@ -66,7 +71,7 @@ sys.addaudithook(hook)
 
 def python_with_packages() -> Optional[str]:
     for python in (sys.executable, "/usr/bin/python3"):
-        asked = [python, "-c", "import click, rich, ldif"]
+        asked = [python, "-c", "import click, rich"]
         if shutil.which(python) and subprocess.run(asked, cwd="/", stderr=subprocess.DEVNULL).returncode == 0:
             return python
     return None
@@ -151,7 +156,7 @@ SOURCES = {
                     ("C:\\none", 5, "unknown")],
     "icacls.txt": [("Data", 1, "found"), ("Data\\100% plan.txt", 3, "nothing"), ("Data\\lost.txt", 5, "unknown"),
                    ("Data\\next.txt", 6, "found"), ("SOURCE:8", 8, "unknown"), ("Data\\end.txt", 9, "unknown")],
-    "policy.inf": [("Spooler", 9, "found"), ("Generic", 10, "unknown"), ("%SystemRoot%\\repair", 12, "nothing"),
+    "policy.inf": [("Spooler", 9, "found"), ("Generic", 10, "found"), ("%SystemRoot%\\repair", 12, "nothing"),
                    ('"broken",2', 13, "unknown"), ("MACHINE\\Software\\Example", 15, "found")],
     "export.reg": [(SERVICES + "\\LanmanServer\\Shares\\Security\\Public", 4, "found"),
                    (SERVICES + "\\LanmanServer\\Shares\\Security\\Cut", 8, "unknown"),
@@ -221,8 +226,43 @@ def test_damaged_registry(place: Place) -> None:
                 f'"Open"="never closed\n"TheirSD"=hex:{binary[:60]}\\\n  {binary[60:]}\n')
     place.expect([(one["name"].rpartition("X")[2][:12], one["line"], one["answer"])
                   for one in place.objects(*EVERYONE_READS, "damaged.reg")],
-                 [("\\Security", 5, "nothing"), (': "Security=', 10, "unknown"), ("\\TheirSD", 14, "nothing")],
+                 [("\\Security", 5, "nothing"), (': "Security=', 10, "unknown"), ("\\Open", 13, "unknown"),
+                  ("\\TheirSD", 14, "nothing")],
                  "a damaged registry export")
+
+
+KINDS = r"""
+import sys
+from sdtool.audit.sources.options import SourceOptions
+from sdtool.audit.sources.reading import read
+for item in read(sys.argv[1], SourceOptions()):
+    print(item.kind)
+"""
+
+
+def test_kinds(place: Place) -> None:
+    """What a value of a registry export protects shows in its key and its name; scmanager is known by its rights."""
+    system, software = "HKEY_LOCAL_MACHINE\\SYSTEM\\CurrentControlSet\\", "HKEY_LOCAL_MACHINE\\SOFTWARE\\Microsoft\\"
+    rows = [(system + "Services\\LanmanServer\\Shares\\Security", "Public", "share"),
+            (system + "Control\\ServiceGroupOrder\\Security", "Security", "service-manager"),
+            (system + "Services\\Spooler\\Security", "Security", "service"),
+            (system + "Services\\CertSvc\\Security", "Security", "service"),
+            (system + "Services\\CertSvc\\Configuration\\Our CA", "Security", "authority"),
+            (system + "Services\\EventLog\\Application", "CustomSD", "log"),
+            (system + "Control\\Print", "ServerSecurityDescriptor", "print-server"),
+            (system + "Control\\Print\\Printers\\Office", "Security", "printer"),
+            ("HKEY_CLASSES_ROOT\\AppID\\{0A}", "LaunchPermission", "com"), (software + "Ole", "DefaultAccessPermission", "com"),
+            (software + "Ole", "MachineLaunchRestriction", "com"),
+            (software + "Windows NT\\CurrentVersion\\Schedule\\TaskCache\\Tree\\Backup", "SD", "task"),
+            ("HKEY_LOCAL_MACHINE\\SOFTWARE\\X", "Security", "file")]
+    binary = ",".join(f"{byte:02x}" for byte in bytes.fromhex("01000480000000000000000000000000140000000200080000000000"))
+    place.write("kinds.reg", "Windows Registry Editor Version 5.00\n\n" + "".join(
+        f'[{key}]\n"{name}"=hex:{binary}\n\n' for key, name, _ in rows))
+    ended = subprocess.run([place.python, "-c", KINDS, "kinds.reg"], cwd=place.folder, env=place.environment, capture_output=True, text=True)
+    place.expect(ended.stdout.split(), [kind for _, _, kind in rows], f"kinds of values of a registry export: {ended.stderr}")
+    place.write("manager.txt", "\nD:(A;;CC;;;AU)(A;;CCLCRPRC;;;IU)(A;;CCLCRPRC;;;SU)(A;;CCLCRPWPRC;;;SY)(A;;KA;;;BA)\n\nD:(A;;CCLCSWLOCRRC;;;IU)\n")
+    ended = subprocess.run([place.python, "-c", KINDS, "manager.txt"], cwd=place.folder, env=place.environment, capture_output=True, text=True)
+    place.expect(ended.stdout.split(), ["service-manager", "service"], f"kinds of what sc sdshow prints: {ended.stderr}")
 
 
 def test_tables(place: Place) -> None:
@@ -258,7 +298,8 @@ def test_tables(place: Place) -> None:
         ("a column without a title", f"Path,Owner\na,BA,{full}\nb,SY,{read}\nc,d\n", [],
          [("a", 2, "nothing"), ("b", 3, "found"), ("c", 4, "unknown")]),
         ("drives", f"Path,Sddl\nD:\\a,{full}\nS:\\b,{read}\n", [], [("D:\\a", 2, "nothing"), ("S:\\b", 3, "found")]),
-        ("drives and other titles", f'Ordner;Rechte\nD:\\a;"{full}"\nS:/b;"{read}"\n', [], [("D:\\a", 2, "nothing"), ("S:/b", 3, "found")]),
+        ("drives and other titles", f'Ordner;Rechte\nD:\\a;"{full}"\nS:/b;"{read}"\n', [],
+         [("Ordner", 1, "unknown"), ("D:\\a", 2, "nothing"), ("S:/b", 3, "found")]),
         ("drives and no titles", f"D:\\a\t{full}\nG:\\b\t{read}\n", [], [("D:\\a", 1, "nothing"), ("G:\\b", 2, "found")]),
         ("a line end in a descriptor", f'Path,Sddl\na,"{full}\n(A;;FR;;;WD)"\nb,{read}\n', [],
          [("a", 2, "unknown"), ("b", 4, "found")]),
@@ -354,7 +395,7 @@ def test_hostile(place: Place) -> None:
     read = list(csv.reader(io.StringIO(ended.stdout, newline="")))
     place.expect(collections.Counter((row[0], row[3]) for row in read[1:]), wanted, "hostile, CSV")
     place.expect(ended.status, 3, "hostile, status")
-    ended = place.ask(*words, "--to", "table", "--most", "0")
+    ended = place.ask(*words, "--to", "table", "--most", "0", "--each")
     shown = [line for line in ended.stdout.splitlines() if re.search(r"  (found|unknown)\b", line)]
     place.expect(len(shown), sum(answer != "nothing" for _, _, answer in rows), f"hostile, rows of the table: {ended}")
     place.expect(re.findall("[\0-\x09\x0b-\x1f\x7f\u202e]", ended.stdout), [], "hostile, control characters in the table")
@@ -389,12 +430,14 @@ def test_page_report(place: Place) -> None:
     place.expect("<" in inside, False, "a report that could end its element")
     head, *lines, last = (json.loads(line) for line in inside.split("\n") if line)
     place.expect((head["report"], head["title"], head["domain"], head["names"]),
-                 ("sdtool-audit report 1", "What WD gets of: change", "S-1-5-21-1-2-3",
+                 ("sdtool-audit report 3", "What WD gets of: change", "S-1-5-21-1-2-3",
                   [["S-1-5-21-1-2-3-1001", "</script><b>Ann</b>"]]), "the head of a report in the page")
     told = place.objects(*words)
     place.expect([(one[0], one[1], one[2] or None, one[3], one[10]) for one in lines],
                  [(one["name"], one["source"], one["line"], one["answer"],
-                   [[found["rule"], found["trustee"], found["rights"], found["text"], found.get("accepted", "")]
+                   [[found["rule"], found["trustee"], found["rights"], found["text"], found.get("accepted", ""),
+                     found.get("severity", ""), found.get("aces", []), found.get("inherited", False),
+                     [[why["ace"] or 0, why["text"], why["rights"], why["grants"]] for why in found.get("because", [])]]
                     for found in one["findings"]]) for one in told], "objects of a report in the page")
     texts = {(one[0], one[5]) for one in lines if one[4]}
     place.expect(texts - {(name, text.strip()) for name, text, _ in rows}, set(), "descriptors of a report in the page")
@@ -413,10 +456,10 @@ def test_can(place: Place) -> None:
     source = place.table([
         ("all", "O:BAD:(A;;FA;;;BU)"), ("some", "O:BAD:(A;;0x2;;;BU)"), ("stopped", "O:BAD:(D;;FW;;;BG)(A;;FA;;;BU)"),
         ("high", "O:BAD:(A;;FA;;;BU)S:(ML;;NW;;;HI)"), ("owned", "O:BUD:"), ("not mine", "O:BAD:(A;;FA;;;BA)")])
-    write = "write data, append data"
+    full = "Full control"
     place.expect(place.told("can", "BU,WD,AU", "write", source),
-                 {"all": ("found", ("can", "", write)), "some": ("found", ("can", "", "write data")),
-                  "stopped": ("found", ("can", "", write)), "high": ("found", ("can", "", write)), "owned": ("nothing",),
+                 {"all": ("found", ("can", "", full)), "some": ("found", ("can", "", "write data")),
+                  "stopped": ("found", ("can", "", full)), "high": ("found", ("can", "", full)), "owned": ("nothing",),
                   "not mine": ("nothing",)}, "can, some of the rights")
     place.expect(place.told("can", "BU,!BG", "write", source)["stopped"], ("nothing",), "can, a deny-only SID")
     place.expect(place.told("can", "!BU", "write", source)["all"], ("nothing",), "can, deny-only alone")
@@ -443,7 +486,10 @@ def test_can(place: Place) -> None:
     unix = place.table([("u", "D:(A;;FR;;;S-1-22-1-1000)"), ("g", "D:(A;;FR;;;S-1-22-2-27)"), ("o", "D:(A;;FR;;;S-1-22-2-5)")],
                        "unix.csv")
     place.write("id.txt", "uid=1000(ann) gid=1000(ann) groups=1000(ann),27(sudo)\n")
-    place.expect([one["answer"] for one in place.objects("can", "id.txt", "read", unix)], ["found", "found", "nothing"], "can, id")
+    place.expect([one["answer"] for one in place.objects("can", "id.txt", "read", unix)], ["found", "found", "unknown"], "can, id")
+    place.write("id.txt", "uid=1000(ann) gid=1000(ann) groups=1000(ann),27(sudo)\nS-1-5-21-1-2-3-1001\nS-1-5-21-1-2-3-513\n")
+    place.expect([one["answer"] for one in place.objects("can", "id.txt", "read", unix)], ["found", "found", "nothing"],
+                 "can, id and wbinfo --user-sids")
     # objectSid S-1-5-21-1-2-3-1001 and tokenGroups S-1-5-32-545, in base64.
     place.write("token.ldif", "dn: CN=Ann\nobjectSid:: AQUAAAAAAAUVAAAAAQAAAAIAAAADAAAA6QMAAA==\n"
                 "tokenGroups:: AQIAAAAAAAUgAAAAIQIAAA==\n")
@@ -451,6 +497,79 @@ def test_can(place: Place) -> None:
                  ["found", "found", "found", "found", "nothing", "nothing"], "can, tokenGroups")
     place.write("list.txt", "# a user\nBU # users\n!BA\n")
     place.expect(place.told("can", "list.txt", "write", source)["all"][0], "found", "can, a file of SIDs")
+
+
+def test_tokens(place: Place) -> None:
+    """A token is never less than the real one without a word."""
+    ann = f"{DOMAIN}-1001"
+    source = place.table([
+        ("everyone", "O:BAD:(A;;FW;;;WD)"), ("signed in", "O:BAD:(A;;FW;;;AU)"), ("denied", f"O:BAD:(D;;FW;;;WD)(A;;FW;;;{ann})"),
+        ("anonymous", "O:BAD:(D;;FW;;;WD)(A;;FW;;;AN)"), ("packages", "O:BAD:(A;;FW;;;AC)")])
+
+    def found(*words: str):
+        return [one["name"] for one in place.objects("can", *words[:1], "write", source, *words[1:]) if one["answer"] == "found"]
+
+    place.expect(found(ann), ["everyone", "signed in"], "a user's SID alone")
+    place.expect(found(ann, "--exact"), ["denied"], "a user's SID, exactly")
+    place.expect((found("AN"), found("WD"), found("AC"), found("BG")),
+                 (["anonymous"], ["everyone"], ["packages"], ["everyone"]), "tokens of SIDs that bring less")
+    place.write("user.csv", f'"User Name","SID"\r\n"EXAMPLE\\ann","{ann}"\r\n')
+    place.expect(found("user.csv"), ["everyone", "signed in"], "whoami /user")
+    asked = place.ask("can", "user.csv", "write", source)
+    place.expect(asked.stderr.splitlines()[0],
+                 f"the token: {ann}, {EVERYONE}, {SIGNED_IN}", "a report names its token")
+    place.write("cut.csv", f'"EXAMPLE\\ann","{ann}"\r\n"SeShutdownPrivilege","Shut down the system","Disabled"\r\n')
+    cut = place.ask("can", "cut.csv", "write", source)
+    place.expect((cut.status, "no groups" in cut.stderr), (2, True), "a whoami without its groups")
+    place.write("many.txt", "".join(f"{DOMAIN}-{number}\n" for number in range(2000, 3100)))
+    many = place.ask("can", "many.txt", "write", source)
+    place.expect((many.status, many.stderr), (2, "sdtool-audit: the token has 1,102 SIDs; a token has at most 1,024\n"), "too many SIDs")
+    groups = '"BUILTIN\\Users","Alias","S-1-5-32-545","Mandatory group, Enabled by default, Enabled group"\r\n'
+    place.write("held.csv", f'"EXAMPLE\\ann","{ann}"\r\n{groups}"SeTakeOwnershipPrivilege","Take ownership","Disabled"\r\n'
+                '"SeSecurityPrivilege","Manage auditing","Enabled"\r\n"SeBackupPrivilege","Back up","Disabled"\r\n')
+    closed = place.table([("closed", "O:BAD:(A;;FA;;;BA)")], "closed.csv")
+    held = place.ask("can", "held.csv", "owner", "0x1000000", closed)
+    place.expect((held.status, "take ownership, access the SACL" in held.stdout,
+                  "SeBackupPrivilege: may read any object" in held.stderr), (1, True, True), "privileges of whoami")
+    place.write("held.txt", f"User Name SID\nexample\\ann {ann}\nBUILTIN\\Users Alias S-1-5-32-545 Mandatory group, Enabled group\n"
+                "SeTakeOwnershipPrivilege  Take ownership of files  Disabled\n")
+    place.expect(place.told("can", "held.txt", "owner", closed)["closed"], ("found", ("can", "", "take ownership")),
+                 "privileges of whoami, as a table")
+    place.expect(found("user.csv", "--exact"), ["denied"], "whoami /user, exactly")
+    enabled = "Mandatory group, Enabled by default, Enabled group"
+    place.write("list.txt", f"\r\nUser Name: example\\ann\r\nSID:       {ann}\r\n\r\n"
+                f"Group Name: Everyone\r\nType:       Well-known group\r\nSID:        S-1-1-0\r\nAttributes: Group used for deny only\r\n\r\n"
+                f"Group Name: NT AUTHORITY\\Authenticated Users\r\nType:       Well-known group\r\nSID:        S-1-5-11\r\n"
+                f"Attributes: {enabled}\r\n\r\nPrivilege Name: SeTakeOwnershipPrivilege\r\nState:          Disabled\r\n")
+    place.expect(found("list.txt"), ["signed in"], "whoami /all /fo list")
+    place.expect(place.told("can", "list.txt", "owner", closed)["closed"], ("found", ("can", "", "take ownership")),
+                 "privileges of whoami /fo list")
+    place.write("groups.csv", f'"Everyone","Well-known group","S-1-1-0","{enabled}"\r\n')
+    place.expect([one["answer"] for one in place.objects("can", "groups.csv", "write", source)],
+                 ["found", "unknown", "unknown", "unknown", "unknown"], "a whoami without its user")
+    for name, text in (("priv.csv", '"SeShutdownPrivilege","Shut down","Disabled"\r\n'), ("priv.txt", "SeShutdownPrivilege Shut down Disabled\r\n"),
+                       ("broken.txt", f"example\\ann {ann}\r\nBUILTIN\\Users Alias S-1-5-32-545\r\nGroup used for deny only\r\n")):
+        place.write(name, text)
+        place.expect(place.ask("can", name, "write", source).status, 2, f"whoami, {name}")
+    ownerless = place.table([("a", "D:(A;;FR;;;WD)"), ("b", f"D:(A;;WD;;;{ann})"), ("c", "D:(A;;RC;;;OW)"), ("d", "O:BAD:(A;;FR;;;WD)")],
+                            "ownerless.csv")
+    place.expect([one["answer"] for one in place.objects("can", ann, "permissions", ownerless)],
+                 ["unknown", "found", "nothing", "nothing"], "can, without an owner")
+    place.expect([one["answer"] for one in place.objects("who", "permissions", ownerless)],
+                 ["unknown", "found", "nothing", "trusted"], "who, without an owner")
+    place.expect([one["answer"] for one in place.objects("can", ann, "read", ownerless)],
+                 ["found", "nothing", "nothing", "found"], "can, a right that no owner has")
+    place.write("listed.icacls", b"\xff\xfe" + "Data\r\nD:(A;;FR;;;WD)\r\n".encode("utf-16-le"))
+    place.expect([[one["answer"] for one in place.objects(*words, "listed.icacls")]
+                  for words in (("can", ann, "change"), ("who", "change"), ("can", ann, "write"))],
+                 [["unknown"], ["unknown"], ["nothing"]], "icacls has no owners")
+    low = place.table([("low", "O:BAD:(A;;0x2;;;WD)"), ("same", "O:BAD:(A;;0x2;;;WD)S:(ML;;NW;;;LW)")], "low.csv")
+    place.expect([one["answer"] for one in place.objects("can", "WD", "write", low, "--type", "process", "--level", "4096")],
+                 ["unknown", "found"], "a level below that of a process")
+    place.write("ranged.ldif", "dn: CN=Team\nobjectSid:: AQUAAAAAAAUVAAAAAQAAAAIAAAADAAAA0QcAAA==\nmember;range=0-0: CN=Ann\n\n"
+                "dn: CN=Ann\nobjectSid:: AQUAAAAAAAUVAAAAAQAAAAIAAAADAAAA6QMAAA==\n")
+    ranged = place.ask("who", "write", source, "--groups", "ranged.ldif")
+    place.expect("CN=Team is not whole" in ranged.stderr, True, f"a group in ranges: {ranged.stderr}")
 
 
 def test_who(place: Place) -> None:
@@ -463,20 +582,21 @@ def test_who(place: Place) -> None:
         ("team", f"O:BAD:(D;;FW;;;{bob})(A;;FW;;;{team})"), ("null", "D:NO_ACCESS_CONTROL"), ("nobody", "O:BAD:"),
         ("owner rights", f"O:{ann}D:(A;;FW;;;OW)"), ("children", f"D:(A;OICIIO;FA;;;{ann})"),
         ("generic read", f"D:(A;;GR;;;{ann})")])
-    write = "write data, append data"
-    place.expect(place.told("who", "write", source), {
-        "plain": ("found", ("who", SYSTEM, write), ("who", EVERYONE, "write data")),
+    write, stopped = "Write", "write data, append data"
+    listed = ("--all-trustees",)
+    place.expect(place.told("who", "write", source, *listed), {
+        "plain": ("found", ("who", SYSTEM, "Full control"), ("who", EVERYONE, "write data")),
         # Ann gets it by Everyone's ACE and her own; Bob is stopped.
-        "denied": ("found", ("who", EVERYONE, write), ("who", ann, write), ("stopped", bob, write)),
-        "own deny": ("nothing", ("stopped", ann, write)),
+        "denied": ("found", ("who", EVERYONE, write), ("who", ann, write), ("stopped", bob, stopped)),
+        "own deny": ("nothing", ("stopped", ann, stopped)),
         "team": ("found", ("who", team, write)),
-        "null": ("found", ("who", EVERYONE, write)), "nobody": ("nothing",), "owner rights": ("found", ("who", ann, write)),
+        "null": ("found", ("who", EVERYONE, "Full control")), "nobody": ("nothing",), "owner rights": ("found", ("who", ann, write)),
         "children": ("nothing",), "generic read": ("nothing",)}, "who may write")
-    place.expect(place.told("who", "permissions", source)["nobody"], ("found", ("who", ADMINISTRATORS, "change permissions")),
+    place.expect(place.told("who", "permissions", source, *listed)["nobody"], ("found", ("who", ADMINISTRATORS, "change permissions")),
                  "who, the owner")
     place.write("groups.csv", f"# who is in which group\n{team}=Team,{ann}=Ann,{bob}=Bob,{all_hands}=All hands\n{all_hands},{ann}\n")
     place.expect(place.told("who", "write", source, "--groups", "groups.csv")["team"],
-                 ("found", ("who", f"Team ({team})", write), ("who", f"Ann ({ann})", write), ("stopped", f"Bob ({bob})", write)),
+                 ("found", ("who", f"Team ({team})", write), ("who", f"Ann ({ann})", write), ("stopped", f"Bob ({bob})", stopped)),
                  "who, groups")
     nested = place.table([("nested", f"O:BAD:(A;;FW;;;{all_hands})")], "nested.csv")
     place.write("nested.txt", f"{all_hands},{team}\n{team},{bob}\n")
@@ -512,16 +632,16 @@ def test_directory_objects(place: Place) -> None:
     place.expect(place.told("can", f"{DOMAIN}-7,WD", "write", source, "--type", "ds", "--self", f"{DOMAIN}-7")["self"][0],
                  "found", "can, --self")
     place.expect(place.told("risks", source, "--type", "ds", "--domain", DOMAIN)["member"],
-                 ("found", ("everyone-changes", EVERYONE, "write properties")), "risks, by object type")
+                 ("found", ("add-member", EVERYONE, "write properties")), "risks, by object type")
 
 
 def test_risks(place: Place) -> None:
     """Each rule, where it finds something and where it doesn't."""
     ann, gone = f"{DOMAIN}-1001", f"{DOMAIN}-4711"
     rows = [
-        ("absent", "O:BAG:SY", [("no-dacl", EVERYONE, "full control")]),
-        ("null", "O:BAG:SYD:NO_ACCESS_CONTROL", [("null-dacl", EVERYONE, "full control")]),
-        ("empty", "O:BAG:SYD:", [("empty-dacl", "", "")]),
+        ("absent", "O:BAG:SY", [("no-dacl", EVERYONE, "Full control")]),
+        ("null", "O:BAG:SYD:NO_ACCESS_CONTROL", [("null-dacl", EVERYONE, "Full control")]),
+        ("empty", "O:BAG:SYD:", [("empty-dacl", "", "")]),  # a note
         ("everyone", "O:BAD:(A;;0x2;;;WD)", [("everyone-changes", EVERYONE, "write data")]),
         ("users", "O:BAD:(A;;0x2;;;AU)", [("users-change", SIGNED_IN, "write data")]),
         ("both", "O:BAD:(A;;0x2;;;WD)(A;;0x6;;;AU)", [("everyone-changes", EVERYONE, "write data"),
@@ -530,7 +650,7 @@ def test_risks(place: Place) -> None:
         ("takeover", f"O:BAD:(A;;WDWO;;;{ann})", [("takeover", ann, "change permissions, take ownership")]),
         ("trusted", "O:BAD:(A;;FA;;;SY)(A;;FA;;;BA)", []), ("domain admins", f"O:BAD:(A;;FA;;;{DOMAIN}-512)", []),
         ("denied", f"O:BAD:(D;;WDWO;;;{ann})(A;;WDWO;;;{ann})", []),
-        ("generic", f"O:BAD:(A;;GA;;;{ann})", [("takeover", ann, "change permissions, take ownership")]),
+        ("generic", f"O:BAD:(A;;GA;;;{ann})", [("takeover", ann, "Full control")]),
         ("owner rights", f"O:{ann}D:(A;;WO;;;OW)", [("takeover", ann, "take ownership")]),
         ("order", "O:BAD:(A;;FR;;;BU)(D;;FW;;;BG)", [("order", "", "")]),
         ("order, inherited", "O:BAD:(A;ID;FR;;;BU)(A;;FR;;;BG)", [("order", "", "")]),
@@ -538,27 +658,53 @@ def test_risks(place: Place) -> None:
         ("cut", "O:BAD:P(A;;FR;;;BU)", [("inheritance-cut", "", "")]),
     ]
     source = place.table([row[:2] for row in rows])
-    place.expect(place.told("risks", source), {name: ("found" if found else "nothing", *found) for name, _, found in rows},
-                 "risks")
+    notes = [("empty-dacl", "", "")], [("inheritance-cut", "", "")]
+    place.expect(place.told("risks", source),
+                 {name: ("found" if found and found not in notes else "nothing", *found) for name, _, found in rows}, "risks")
     place.expect(place.ask("risks", place.table([("reads", "O:BAD:(A;;FR;;;WD)")], "good.csv")).status, 0, "risks, nothing found")
     place.expect(place.told("risks", source, "--trusted", ann)["takeover"], ("nothing",), "risks, --trusted")
     place.expect(place.told("risks", source, "--rules", "takeover")["takeover"][0], "found", "risks, --rules")
     place.expect(place.told("risks", source, "--rules", "-takeover")["takeover"][0], "nothing", "risks, --rules without one")
     # Without their own rules, Everyone and Authenticated Users are outside the list like anybody else.
     place.expect(place.told("risks", place.table([("w", "O:BAD:(A;;FA;;;WD)")], "w.csv"), "--rules", "takeover")["w"],
-                 ("found", ("takeover", EVERYONE, "change permissions, take ownership")), "risks, takeover alone")
+                 ("found", ("takeover", EVERYONE, "Full control")), "risks, takeover alone")
     place.expect(place.told("risks", place.table([("a", f"O:{ann}D:(A;;FR;;;WD)"), ("b", "O:BUD:(A;;FR;;;WD)"),
                                                   ("c", "O:BAD:(A;;FR;;;WD)")], "owners.csv"), "--owner", "BU"),
-                 {"a": ("found", ("foreign-owner", ann, "")), "b": ("nothing",), "c": ("nothing",)}, "risks, --owner")
+                 {"a": ("found", ("foreign-owner", ann, "change permissions")), "b": ("nothing",), "c": ("nothing",)}, "risks, --owner")
     place.write("sids.csv", f"SID,Name\n{ann},ann\n")
     place.expect(place.told("risks", place.table([("a", f"O:{ann}G:{gone}D:(A;;FR;;;{gone})(A;;FR;;;BU)")], "gone.csv"),
-                            "--sid-names", "sids.csv"), {"a": ("found", ("unknown-sid", gone, ""))}, "risks, --sid-names")
+                            "--sid-names", "sids.csv"),
+                 {"a": ("found", ("foreign-owner", f"ann ({ann})", "change permissions"), ("unknown-sid", gone, ""))},
+                 "risks, --sid-names")
     for kind, change in (("key", "set values"), ("service", "change configuration"), ("log", "write")):
         place.expect(place.told("risks", place.table([("x", "O:BAD:(A;;0x2;;;WD)")], f"{kind}.csv"), "--type", kind)["x"],
                      ("found", ("everyone-changes", EVERYONE, change)), f"risks, --type {kind}")
-    for kind in ("service", "log"):
-        place.expect(place.told("risks", place.table([("x", "O:BAD:(A;;GW;;;WD)")], f"{kind}.csv"), "--type", kind)["x"],
-                     ("unknown",), f"risks, a generic right of a {kind}")
+    # The library has no mapping for these kinds: GENERIC_WRITE is the table's.
+    for kind, change in (("service", "change configuration"), ("log", "write"), ("process", "create threads, change its address "
+                         "space, write memory, duplicate handles, create child processes, set quotas, set information, "
+                         "suspend and resume")):
+        generic = place.table([("x", "O:BAD:(A;;GW;;;WD)"), ("y", "O:BAD:(D;;GW;;;WD)(A;;GA;;;WD)")], f"{kind}.csv")
+        place.expect(place.told("risks", generic, "--type", kind)["x"], ("found", ("everyone-changes", EVERYONE, change)),
+                     f"risks, a generic right of a {kind}")
+        got = place.told("who", "write", generic, "--type", kind)
+        place.expect((got["x"][0], got["y"][0]), ("found", "nothing"), f"who, a generic right of a {kind}")
+
+
+def test_forest(place: Place) -> None:
+    """Whose administrators are trusted: those of the domains that are named, and of a forest its root's Enterprise Admins."""
+    root, other = "S-1-5-21-7-7-7", "S-1-5-21-9-9-9"
+    source = place.table([(name, f"O:SYD:(A;;FA;;;{sid})") for name, sid in (
+        ("child 512", f"{DOMAIN}-512"), ("child 518", f"{DOMAIN}-518"), ("child 519", f"{DOMAIN}-519"), ("root 512", f"{root}-512"),
+        ("root 518", f"{root}-518"), ("root 519", f"{root}-519"), ("other 519", f"{other}-519"))], "forest.csv")
+    found = {(): [], ("--domain", DOMAIN): ["root 512", "root 518", "root 519", "other 519"],
+             ("--domain", DOMAIN, "--forest-root", root): ["child 518", "child 519", "root 512", "other 519"],
+             ("--domain", DOMAIN, "--domain", root): ["other 519"]}
+    for words, names in found.items():
+        place.expect([one["name"] for one in place.objects("risks", source, *words) if one["answer"] == "found"], names, f"risks {words}")
+    lines = place.ask("risks", source).stderr.splitlines()
+    place.expect(any("--domain" in line for line in lines), True, "risks without a domain says whom it trusts")
+    secret = place.table([("a", "O:BAD:(A;;FR;;;BU)"), ("b", "O:BAD:(A;;FR;;;BO)")], "secret.csv")
+    place.expect([one["answer"] for one in place.objects("risks", secret, "--rules", "readable")], ["found", "nothing"], "risks, readable secrets")
 
 
 def test_accepting(place: Place) -> None:
@@ -612,7 +758,7 @@ def test_diff(place: Place) -> None:
     place.expect(told["grown"], [("ace", "", ""), ("rights", EVERYONE, "gets write data")], "diff, an ACE more")
     place.expect(told["flag"], [("ace", "", "")], "diff, a flag")
     place.expect([found["text"] for one in objects if one["name"] == "flag" for found in one["findings"]],
-                 [f"DACL: flags CI, then OI: {EVERYONE} may: read, here and for files below"], "diff, which flag")
+                 [f"DACL: flags CI, then OI: {EVERYONE} may: Read, here and for files below"], "diff, which flag")
     place.expect(told["owner"], [("owner", "", ""), ("rights", ADMINISTRATORS, "loses change permissions"),
                                  ("rights", ann, "gets change permissions")], "diff, an owner")
     place.expect(told["order"], [("order", "", "")], "diff, an order")
@@ -670,10 +816,10 @@ def test_inherit(place: Place) -> None:
     objects = place.objects("inherit", source)
     place.expect([(one["name"].rpartition("\\")[2] or one["name"], one["answer"], *(found["rule"] for found in one["findings"]))
                   for one in objects],
-                 [("Data", "nothing"), ("good.txt", "nothing"), ("GOOD", "nothing"), ("own.txt", "nothing"),
+                 [("Data", "not compared"), ("good.txt", "nothing"), ("GOOD", "nothing"), ("own.txt", "nothing"),
                   ("less.txt", "found", "missing"), ("more.txt", "found", "surplus"), ("cut.txt", "found", "protected"),
                   ("order.txt", "found", "order"), ("bad.txt", "unknown"), ("none.txt", "found", "missing"),
-                  ("C:\\Data\\Sub\\", "nothing"), ("file", "nothing"), ("x", "unknown"), ("Own", "nothing"), ("mine", "nothing"),
+                  ("C:\\Data\\Sub\\", "nothing"), ("file", "nothing"), ("x", "unknown"), ("Own", "not compared"), ("mine", "nothing"),
                   ("his", "found", "missing", "surplus"), ("whose", "unknown")], "inherit")
     tree = place.table([("T", "O:BAG:SYD:P(A;OI;FA;;;SY)(A;OICI;FR;;;BU)"), ("T/S", "O:BAG:SYD:AI(A;OICIID;FR;;;BU)(A;;FX;;;WD)"),
                         ("T/S/f", "O:BAG:SYD:AI(A;;FX;;;WD)(A;ID;FR;;;BG)"), ("T/S/g", "O:BAG:SYD:AI(A;ID;FR;;;BU)")], "tree.csv")
@@ -685,9 +831,36 @@ def test_inherit(place: Place) -> None:
                            ["T/S", "O:S-1-5-32-544G:S-1-5-18D:AI(A;;FX;;;S-1-1-0)(A;OIIOID;0x1f01ff;;;S-1-5-18)"
                             "(A;OICIID;0x120089;;;S-1-5-32-545)"]], f"inherit --fix: {ended}")
     place.expect([(one["name"], one["answer"]) for one in ended.objects],
-                 [("T", "nothing"), ("T/S", "found"), ("T/S/f", "found"), ("T/S/g", "nothing")], "inherit, a tree")
+                 [("T", "not compared"), ("T/S", "found"), ("T/S/f", "found"), ("T/S/g", "nothing")], "inherit, a tree")
     place.expect([found["rule"] for one in ended.objects if one["name"] == "T/S/f" for found in one["findings"]],
                  ["missing", "surplus", "no-fix"], "inherit, a file or a folder")
+    test_ways(place)
+
+
+def test_ways(place: Place) -> None:
+    """From which ACE of the folder a missing one would come, and where that was set: by hand, by MS-DTYP 2.5.3.4."""
+    everyone, users, fills = "(A;OICI;FR;;;WD)", "(A;OICI;FX;;;BU)", "(A;;FA;;;SY)"
+    of_everyone, of_users = "(A;OICIID;FR;;;WD)", "(A;OICIID;FX;;;BU)"
+    names = [("R", f"O:BAG:SYD:P{fills}{everyone}{users}{everyone}"),
+             ("R/A", f"O:BAG:SYD:AI(A;OICI;FW;;;BG){of_everyone}{of_users}{of_everyone}"),
+             ("R/A/one", "O:BAG:SYD:AI(A;ID;FW;;;BG)(A;ID;FR;;;WD)(A;ID;FX;;;BU)"),  # one of two equal ACEs
+             ("R/A/two", "O:BAG:SYD:AI(A;ID;FR;;;WD)(A;ID;FR;;;WD)"),
+             ("R/B", "O:BAG:SYD:AI" + of_users + "(A;OICIID;0x1;;;S-1-5-7)"), ("R/B/x", "O:BAG:SYD:AI"),
+             ("Q/C", "O:BAG:SYD:AI" + of_users), ("Q/C/y", "O:BAG:SYD:AI"),
+             ("O", "O:BAG:SYD:P(A;OICI;GA;;;CO)"), ("O/D", f"O:{DOMAIN}-7G:SYD:AI(A;ID;FA;;;{DOMAIN}-7)(A;OICIIOID;GA;;;CO)"),
+             ("O/D/z", f"O:{DOMAIN}-8G:SYD:AI")]
+    got = place.objects("inherit", place.table([(name, text) for name, text in names], "ways.csv"))
+    ways = {one["name"]: [found["text"].rpartition("; ")[2] for found in one["findings"] if found["rule"] == "missing"] for one in got}
+    place.expect({name: told for name, told in ways.items() if told},
+                 # The last of the equal ones is what is too few, and it was made of the last of the equal ones above.
+                 {"R/A/one": ["from ACE 4 of R/A, set at R, ACE 4"],
+                  "R/A/two": ["from ACE 1 of R/A, set there", "from ACE 3 of R/A, set at R, ACE 3"],
+                  "R/B": ["from ACE 2 of R, set there", "from ACE 4 of R, set there"],
+                  # R/B has an ACE that R doesn't hand on.
+                  "R/B/x": ["from ACE 1 of R/B, set at R, ACE 3", "from ACE 2 of R/B, inherited from above"],
+                  "Q/C/y": ["from ACE 1 of Q/C, inherited from above"],
+                  # z is no folder, so it gets FA for its owner, by the ACE of D for CREATOR OWNER, which O sets.
+                  "O/D/z": ["from ACE 2 of O/D, set at O, ACE 1"]}, "the ways of missing ACEs")
 
 
 def test_show(place: Place) -> None:
@@ -696,9 +869,9 @@ def test_show(place: Place) -> None:
     ended = place.ask("show", source, "--name", "a")
     place.expect((ended.status, ended.stdout.splitlines()), (0, [
         "a (table.csv, line 2)", f"  owner: {ADMINISTRATORS}", f"  group: {SYSTEM}", "  protected: ACEs of the folder don't arrive",
-        "  DACL:", f"    1. {SYSTEM} may: full control, here and for files and folders below", f"    2. {GUESTS} may not: write",
-        f"    3. {EVERYONE} may: read, only for folders below", "  SACL:",
-        f"    1. audits any access of {EVERYONE}: full control", "    2. integrity level high: a lower level may not write"]), "show")
+        "  DACL:", f"    1. {SYSTEM} may: Full control, here and for files and folders below", f"    2. {GUESTS} may not: Write",
+        f"    3. {EVERYONE} may: Read, only for folders below", "  SACL:",
+        f"    1. audits any access of {EVERYONE}: Full control", "    2. integrity level high: a lower level may not write"]), "show")
     ended = place.ask("show", source, "--name", "*b")
     place.expect((ended.status, "  unknown: " in ended.stdout, "  DACL: null, so everybody gets everything" in ended.stdout),
                  (3, True, True), "show, a pattern")
@@ -725,15 +898,15 @@ def test_cache(place: Place) -> None:
             whole, kept = (place.ask(words[0], *words[1:], one, *report) for one in (source, "cache.db"))
             place.expect(kept, whole, f"{words} {report}, of a cache")
     # Where the answers don't fit into memory, each object is asked about.
-    code = "import sdtool.audit.cache as cache, sdtool.audit.command as command; cache._MOST_ANSWERS = 3; command.main()"
+    code = "import sdtool.audit.questions.cache as cache, sdtool.audit.command as command; cache._MOST_ANSWERS = 3; command.main()"
     ended = subprocess.run([place.python, "-c", code, "risks", "cache.db", "--most", "7"], cwd=place.folder, env=place.environment,
                            stdout=subprocess.PIPE, text=True)
     place.expect((ended.returncode, ended.stdout), place.ask("risks", source, "--most", "7")[:2], "a cache of many descriptors")
     place.expect(place.ask("can", "WD", "change", source, "--into", "cache.db").status, 2, "a cache that is there")
     place.expect(sqlite3.connect(path).execute("SELECT count(*) FROM objects").fetchone()[0], len(rows), "objects of a cache")
     place.write("other.db", b"SQLite format 3\0" + bytes(100))
-    place.expect(place.ask("can", "WD", "change", "other.db").status, 2, "another database")
-    place.expect(os.path.exists(path + ".part"), False, "no half cache is left")
+    place.expect(place.ask("can", "WD", "change", "other.db").status, 3, "another database")
+    place.expect([one.name for one in place.folder.glob(".*.part")], [], "no half cache is left")
 
 
 def test_words(place: Place) -> None:
@@ -752,7 +925,9 @@ def test_words(place: Place) -> None:
     place.expect((place.folder / source).read_text().count("O:BAD"), 1, "a source is as it was")
     place.write("strange.csv", "this,that\n1,2\n")
     ended = place.ask("risks", source, "strange.csv", "--to", "csv", "--format", "csv")
-    place.expect((ended.status, ended.stdout, "--descriptor-column" in ended.stderr), (2, "", True), f"no such column: {ended}")
+    place.expect((ended.status, "--descriptor-column" in ended.stdout), (3, True), f"no such column: {ended}")
+    ended = place.ask("risks", source, "strange.csv", "--to", "csv", "--descriptor-column", "sddl")
+    place.expect((ended.status, ended.stdout, "no column 'sddl'" in ended.stderr), (2, "", True), f"a column that is named: {ended}")
     whole = gzip.compress(b"name,sddl\n" + b"".join(b"n%d,O:BAD:(A;;FR;;;WD)\n" % number for number in range(20_000)))
     place.write("cut.csv.gz", whole[:len(whole) // 2])
     objects = place.objects("risks", "cut.csv.gz")
@@ -782,7 +957,8 @@ def test_scale(place: Place) -> None:
     source = place.table(rows(30_000, 20_000), "many.csv")
     one, four = (place.ask("risks", source, "--to", "csv", "--jobs", jobs) for jobs in ("1", "4"))
     place.expect(four.stdout == one.stdout, True, "four processes answer as one does")
-    place.expect(one.stderr, "30,000 objects: 7,500 found, 7,500 unknown, 15,000 nothing\n", "the sum of many")
+    place.expect(one.stderr, f"{EVERY_DOMAIN}\nhigh: 7,500 places with 7,500 objects\n"
+                 "30,000 objects: 7,500 found, 7,500 unknown, 15,000 nothing\n", "the sum of many")
     read = list(csv.reader(io.StringIO(one.stdout)))
     place.expect([row[0] for row in read[1:]], [name for name, _ in rows(30_000, 1)], "the names of many, in order")
     # Names with line ends, rows that are malformed, and empty lines: also where blocks of lines meet.
@@ -808,6 +984,14 @@ def test_scale(place: Place) -> None:
     objects = place.objects("risks", odd, "--jobs", "4")
     place.expect(sorted(set(range(40_000)) - {int(found) for one in objects for found in re.findall(r"(\d+)\W*(?:$|,)", one["name"])}), [],
                  "names that odd rows lose")
+    # Nine MB in one line: it is unknown, and says so.
+    long = place.write("long.csv", "name,sddl\n" + "".join(
+        f"file {number},{kinds[0]}{'x' * (9 << 20) if number == 10_000 else ''}\n" for number in range(20_000)))
+    one, four = (place.objects("risks", long, "--jobs", jobs) for jobs in ("1", "4"))
+    place.expect((len(four), four == one), (20_000, True), "a line that is too long")
+    place.expect([(got["name"], got["answer"]) for got in one if got["answer"] != "nothing"], [("file 10000", "unknown")],
+                 "the object of a line that is too long")
+    os.remove(place.folder / long)
     place.write("odd.csv.gz", gzip.compress((place.folder / odd).read_bytes())[:-2000])
     objects = place.objects("risks", "odd.csv.gz", "--jobs", "4")
     place.expect((len(objects) > 10_000, objects[-1]["answer"], "the rest" in objects[-1]["name"]), (True, "unknown", True),
@@ -849,7 +1033,8 @@ def test_bar(place: Place) -> None:
     plain = place.ask(*asked[3:])
     place.expect([report == plain.stdout.encode() for report in reports], [True] * 3, "a report beside a bar")
     sum_ = "100,000 objects: 100,000 nothing\r\n"
-    place.expect((plain.stderr, told[1]), (sum_.replace("\r", ""), sum_), "without a bar")
+    whole = f"{EVERY_DOMAIN}\r\n{sum_}"
+    place.expect((plain.stderr, told[1]), (whole.replace("\r", ""), whole), "without a bar")
     for text in told[0], told[2]:
         counts = [int(found.replace(",", "")) for found in re.findall(r"([\d,]+) objects\b(?!:)", text)]
         rates = [int(found.replace(",", "")) for found in re.findall(r"([\d,]+)/s", text)]
@@ -899,7 +1084,7 @@ def test_samba(place: Place) -> None:
         place.expect([one["answer"] for one in got], ["found", "found", "nothing"], f"samba-tool ntacl get {words}: {got}")
     objects = place.objects("inherit", "share")
     place.expect([(one["name"], one["answer"], *(found["rule"] for found in one["findings"])) for one in objects],
-                 [("share", "nothing"), ("share/a folder", "nothing"), ("share/none.txt", "unknown"),
+                 [("share", "not compared"), ("share/a folder", "nothing"), ("share/none.txt", "unknown"),
                   ("share/a folder/b\nc.txt", "found", "missing")], "inherit, a share")
 
 
@@ -907,7 +1092,7 @@ CHECKS = """
 import json, random, sys
 from samba import NTSTATUSError, security as samba_security
 from samba.dcerpc import security
-from sdtool.audit import answers, questions
+from sdtool.audit.questions import answers, asking
 chance = random.Random(3)
 domain, everything = "S-1-5-21-1-2-3", 0x1f01ff
 sids = [f"{domain}-1001", f"{domain}-1002", "S-1-5-32-544", "S-1-5-32-545", "S-1-1-0", "S-1-5-11"]
@@ -932,7 +1117,7 @@ def of_samba(descriptor, token):
 
 texts = [sddl() for _ in range(300)]
 for sid in sids:
-    token, of_token = questions.trustee_token(sid), security.token()
+    token, of_token = asking.trustee_token(sid), security.token()
     held = list(map(security.dom_sid, token.sids))  # the token of Samba keeps no reference
     of_token.num_sids, of_token.sids = len(held), held
     print(json.dumps([answers.granted("sddl", texts, token, "file", everything),
@@ -965,7 +1150,7 @@ def test_ntfs(place: Place) -> None:
     subprocess.run([mkntfs, "-F", "-f", "-q", str(image)], check=True, capture_output=True)
     stream = subprocess.run(["ntfscat", "-a", "0x80", "-n", "$SDS", str(image), "$Secure"], capture_output=True).stdout
     place.write("secure.sds", stream)
-    got = place.objects("who", "write", "secure.sds")
+    got = place.objects("who", "write", "secure.sds", "--all-trustees")
     # mkntfs writes two: System and Administrators may read by the first, and write too by the second.
     place.expect([(one["name"], one["answer"], *(found["trustee"] for found in one["findings"])) for one in got],
                  [("security id 256", "nothing"), ("security id 257", "found", SYSTEM, ADMINISTRATORS)], "a volume")
@@ -1005,13 +1190,12 @@ def test_directory_server(place: Place) -> None:
                               stderr=subprocess.DEVNULL)
     try:
         search = ["ldapsearch", "-x", "-H", url, "-b", "dc=example"]
-        for _ in range(100):
-            if subprocess.run([*search, "-s", "base", "dn"], capture_output=True).returncode == 0:
-                break
+        until = time.monotonic() + SECONDS
+        while subprocess.run([*search, "-s", "base", "dn"], capture_output=True).returncode != 0:
+            if server.poll() is not None or time.monotonic() > until:
+                print(f"skipped: slapd doesn't start here: {added.stderr[-200:]!r}")
+                return
             time.sleep(0.1)
-        else:
-            print(f"skipped: slapd doesn't start here: {added.stderr[-200:]!r}")
-            return
         wanted = {"dc=example": "unknown", "ou=open,dc=example": "found", f"ou={long_name},dc=example": "nothing",
                   "ou=Größe,dc=example": "unknown"}
         for words in ([], ["-o", "ldif-wrap=no"], ["-LLL"]):
@@ -1029,19 +1213,128 @@ def test_directory_server(place: Place) -> None:
         server.wait()
 
 
-def test_names_of_sids(place: Place) -> None:
-    """The names of SIDs are those of the table in docs/FORMAT.md."""
-    text = (TOP / "docs/FORMAT.md").read_text(encoding="utf-8")
-    fixed = {sid: (alias, name) for alias, sid, name in re.findall(r"^\| `(\w\w)` \| (S-1-[0-9-]+) \| (.*?) \|$", text, re.M)}
-    relative = {int(number): (alias, name)
-                for alias, number, name in re.findall(r"^\| `(\w\w)` \| (\d+) \| (.*?) \| .*? \|$", text, re.M)}
-    asked = [place.python, "-c", "import json; from sdtool.audit import names; "
-             "print(json.dumps([names.WELL_KNOWN, names.OF_A_DOMAIN]))"]
-    printed = subprocess.run(asked, cwd=place.folder, env=place.environment, capture_output=True).stdout
-    got = json.loads(printed or "[{}, {}]")
-    place.expect(({sid: tuple(row) for sid, row in got[0].items()}, {int(at): tuple(row) for at, row in got[1].items()}),
-                 (fixed, relative), "names of SIDs")
-    place.count.add(len(fixed) > 40 and len(relative) > 15, "the table of FORMAT wasn't read")
+# What the library says of SDDL, which windows/ says too.
+TABLES = """
+import itertools, json, string, sdtool
+from sdtool import _windows as table
+from sdtool.audit.questions import answers, names, rights
+
+letters = ["".join(pair) for pair in itertools.product(string.ascii_uppercase, repeat=2)]
+aliases = {}
+for alias in letters:
+    answer = answers._ask(["convert", "--from", "sddl", "--numeric", "--domain", "S-1-5-21-1-2-3"], ["O:" + alias])[0]
+    if not answer.startswith("error "):
+        aliases[alias] = answer[2:]
+said = {row[0]: sid for sid, row in table.SIDS.items() if row[0]}
+said.update({row[0]: f"S-1-5-21-1-2-3-{number}" for number, row in table.OF_A_DOMAIN.items() if row[0]})
+generic = {}
+for kind, row in table.KINDS.items():
+    if row["library"]:
+        texts = [f"D:(A;;{name};;;WD)" for name in ("GR", "GW", "GX", "GA")]
+        generic[kind] = answers.granted("sddl", texts, answers.Token(("WD",)), kind, row["mapping"][3])
+single = {}
+for name in letters:
+    answer = answers.explained("sddl", [f"D:(A;;{name};;;WD)"])[0]
+    if isinstance(answer, answers.Descriptor) and bin(answer.aces[0].mask).count("1") == 1:
+        single[name] = answer.aces[0].mask
+flags = {}
+for name in letters:
+    answer = answers.explained("sddl", [f"D:(A;{name};FA;;;WD)"])[0]
+    if isinstance(answer, answers.Descriptor):
+        flags[name] = answer.aces[0].flags
+kinds = set()
+for name in [*letters, *string.ascii_uppercase]:
+    for typed in ("", "bf9679c0-0de6-11d0-a285-00aa003049e2"):
+        answer = answers.explained("sddl", [f"D:({name};;FA;{typed};;WD)"])[0]
+        if isinstance(answer, answers.Descriptor):
+            kinds.add(name)
+print(json.dumps([[aliases, said], [generic, {kind: list(row["mapping"]) for kind, row in table.KINDS.items() if row["library"]}],
+                  [{name: single.get(name) for name in rights.NAMES}, rights.NAMES], [flags, answers.FLAGS],
+                  [sorted(kinds), sorted(answers.ALLOWS | answers.DENIES | answers.OTHERS)]]))
+"""
+
+
+def test_windows_tables(place: Place) -> None:
+    """What windows/ and the proved crates both have: aliases, generic mappings, names of rights, flags and kinds of ACEs."""
+    asked = [place.python, "-c", TABLES]
+    ended = subprocess.run(asked, cwd=place.folder, env=place.environment, capture_output=True, text=True)
+    place.count.add(ended.returncode == 0, f"the tables: {ended.stderr[-1500:]}")
+    for what, (of_library, of_table) in zip(("aliases", "generic mappings", "rights", "flags", "kinds"), json.loads(ended.stdout or "[]")):
+        place.expect(of_table, of_library, f"{what} of windows/ and of the library")
+        place.count.add(len(of_library) > 3, f"{what}: the library told {of_library}")
+
+
+RESET, SPN, KEY, RBCD = ("00299570-246d-11d0-a768-00aa006e0529", "f3a64788-5306-11d1-a9c5-0000f80367c1",
+                         "5b47d60f-6090-40b2-9f37-2a4de88f3063", "3f78c3e5-f79a-46bd-a0b8-9d18116ddc79")
+MEMBERS, LINK, USER = ("bf9679c0-0de6-11d0-a285-00aa003049e2", "f30e3bbe-9ff0-11d1-b603-0000f80367c1",
+                       "bf967aba-0de6-11d0-a285-00aa003049e2")
+CHANGES = ("1131f6aa-9c07-11d1-f79f-00c04fc2dcd2", "1131f6ad-9c07-11d1-f79f-00c04fc2dcd2")
+# Delegations to the account 1105: the object, the ACEs, and the rule that finds them there.
+DELEGATED = (
+    ("CN=Guest,CN=Users,", f"(OA;;CR;{RESET};;@)", "reset-password"),
+    ("OU=Domain Controllers,", f"(OA;CIIO;CR;{RESET};{USER};@)", "reset-password"),
+    ("CN=Domain Admins,CN=Users,", f"(OA;;WP;{MEMBERS};;@)", "add-member"),
+    ("CN=krbtgt,CN=Users,", f"(OA;;WP;{SPN};;@)", "write-spn"),
+    ("CN=Administrator,CN=Users,", f"(OA;;WP;{KEY};;@)", "key-credential"),
+    ("CN=Infrastructure,", f"(A;;WD;;;@)", "takeover"),
+    ("", f"(OA;;CR;{CHANGES[0]};;@)(OA;;CR;{CHANGES[1]};;@)", "dcsync"),
+    ("CN=Computers,", "(OA;;CC;bf967a86-0de6-11d0-a285-00aa003049e2;;@)", "create-children"),
+    ("CN={31B2F340-016D-11D2-945F-00C04FB984F9},CN=Policies,CN=System,", "(A;CI;WP;;;@)", "write-properties"),
+    ("CN=System,", "(A;;CR;;;@)", "all-extended-rights"),
+)
+
+
+def fresh_forest(place: Place):
+    """An LDIF of a forest that samba-tool makes here, its schema, and its domain; nothing where Samba is missing."""
+    samba_tool, ldbsearch = shutil.which("samba-tool"), shutil.which("ldbsearch")
+    if not samba_tool or not ldbsearch or not pathlib.Path("/usr/share/samba/setup/provision.ldif").exists():
+        return None
+    folder = place.folder / "forest"
+    made = subprocess.run([samba_tool, "domain", "provision", "--realm=EXAMPLE.COM", "--domain=EXAMPLE", "--adminpass=Passw0rd!x",
+                           "--server-role=dc", f"--targetdir={folder}", "--host-ip=127.0.0.1"], capture_output=True, text=True,
+                          timeout=SECONDS)
+    found = re.search(r"DOMAIN SID: *(S-1-5-21-[0-9-]+)", made.stdout + made.stderr)
+    if made.returncode or not found:
+        return None
+
+    def search(base: str, query: str, *attributes: str) -> str:
+        words = [ldbsearch, "-H", str(folder / "private/sam.ldb"), "--cross-ncs", "-b", base, query, *attributes]
+        return subprocess.run(words, capture_output=True, text=True, timeout=SECONDS).stdout
+
+    objects = search("", "(objectClass=*)", "nTSecurityDescriptor", "objectClass", "objectSid", "sAMAccountName")
+    schema = search("CN=Schema,CN=Configuration,DC=example,DC=com", "(objectClass=*)", "lDAPDisplayName",
+                    "defaultSecurityDescriptor", "schemaIDGUID")
+    return objects, schema, found[1]
+
+
+def test_fresh_forest(place: Place) -> None:
+    """A fresh forest has no findings, and each of ten delegations is found where it stands."""
+    forest = fresh_forest(place)
+    if forest is None:
+        print("a fresh forest: skipped, without samba-tool, ldbsearch and the files of a domain controller")
+        return
+    objects, schema, domain = forest
+    place.write("fresh.ldif", objects)
+    place.write("schema.ldif", schema)
+    count = len(re.findall(r"^dn: ", objects, re.M))
+    words = ("--domain", domain)
+    fresh = place.ask("risks", "fresh.ldif", *words)
+    place.expect((fresh.status, fresh.stdout.splitlines()[-1:]), (0, [f"{count:,} objects: {count:,} nothing"]), "a fresh forest")
+    with_schema = place.ask("risks", "fresh.ldif", *words, "--schema", "schema.ldif")
+    place.expect((with_schema.status, with_schema.stdout.splitlines()[-1:]), (0, [f"{count:,} objects: {count:,} nothing"]),
+                 "a fresh forest with its schema")
+    planted = re.sub(r"\n ", "", objects)
+    ann = f"{domain}-1105"
+    for name, aces, _ in DELEGATED:
+        planted, times = re.subn(rf"(^dn: {re.escape(name)}DC=example,DC=com\n(?:[^\n]+\n)*?nTSecurityDescriptor: [^\n]*?D:[A-Z]*)",
+                                 lambda found: found[1] + aces.replace("@", ann), planted, flags=re.M)
+        place.expect(times, 1, f"a delegation on {name}")
+    place.write("planted.ldif", planted)
+    for more in ((), ("--schema", "schema.ldif")):
+        found = {(one["name"], finding["rule"], finding["trustee"]) for one in place.objects("risks", "planted.ldif", *words, *more)
+                 for finding in one["findings"] if one["answer"] == "found"
+                 if finding["rule"] not in ("inheritance-cut", "order")}
+        place.expect(found, {(f"{name}DC=example,DC=com", rule, ann) for name, _, rule in DELEGATED}, f"ten delegations {more}")
 
 
 def test_package(place: Place) -> None:
@@ -1064,7 +1357,7 @@ def test_package(place: Place) -> None:
     modules = {f"sdtool/audit/{path.name}" for path in (TOP / "python/sdtool/audit").glob("*.py")}
     place.expect(modules - set(names), set(), "modules that the wheel lacks")
     place.expect(entries, "[console_scripts]\nsdtool-audit = sdtool.audit.__main__:main\n", "the command of the wheel")
-    place.expect(re.findall(r"^Requires-Dist: ([\w-]+) .*extra == 'audit'$", metadata, re.M), ["click", "rich", "python-ldap"],
+    place.expect(re.findall(r"^Requires-Dist: ([\w-]+) .*extra == 'audit'$", metadata, re.M), ["click", "rich"],
                  "what the extra needs")
 
 
@@ -1090,19 +1383,20 @@ def test_examples(place: Place) -> None:
     place.expect(sorted(name for name in commands if name not in manual), [], "commands that the man page lacks")
 
 
-TESTS = (test_sources, test_damaged_registry, test_tables, test_drives, test_plain_lines, test_hostile, test_page_report,
-         test_can, test_who, test_directory_objects, test_risks, test_accepting, test_diff, test_inherit, test_show, test_cache, test_words,
-         test_scale, test_bar, test_samba, test_checks, test_ntfs, test_directory_server, test_names_of_sids, test_package, test_examples)
+TESTS = (test_sources, test_damaged_registry, test_kinds, test_tables, test_drives, test_plain_lines, test_hostile, test_page_report,
+         test_can, test_tokens, test_who, test_directory_objects, test_risks, test_forest, test_accepting, test_diff, test_inherit, test_show, test_cache, test_words,
+         test_scale, test_bar, test_samba, test_checks, test_ntfs, test_directory_server, test_windows_tables, test_fresh_forest, test_package, test_examples)
 
 
-def main() -> int:
+def run_tests(tests: Sequence[Callable[[Place], None]]) -> int:
+    """Runs tests, or those with a word of the command line in their names, each in a folder of its own. Gives the exit status."""
     count = preload.Count()
     python = python_with_packages()
     if not python:
-        print("skipped: no Python here has click, rich and ldif (Debian: python3-click, python3-rich, python3-ldap)")
+        print("skipped: no Python here has click and rich (Debian: python3-click, python3-rich)")
         return count.end()
     chosen = sys.argv[1:]
-    for test in TESTS:
+    for test in tests:
         if chosen and not any(word in test.__name__ for word in chosen):
             continue
         with tempfile.TemporaryDirectory() as folder:
@@ -1114,4 +1408,4 @@ def main() -> int:
 
 
 if __name__ == "__main__":
-    sys.exit(main())
+    sys.exit(run_tests(TESTS))

@@ -16,8 +16,9 @@ import subprocess
 import tempfile
 import time
 
-SECONDS = 120  # for one script
-SECONDS_TO_START = 240  # on a machine that is busy with other things
+SECONDS = 900  # for one script
+SECONDS_TO_START = 600  # on a machine that is busy with other things
+STARTS = 3  # of a browser, until it is told that it does not start
 KEYS = {
     "Tab": "\ue004",
     "Enter": "\ue007",
@@ -54,6 +55,7 @@ def memory_below(process):
 
 class Chromium:
     name = "Chromium"
+    WITHOUT_VECTORS = "--js-flags=--no-enable-sse4-1"  # as on a processor that is too old for WebAssembly's vectors
 
     @staticmethod
     def missing():
@@ -62,7 +64,7 @@ class Chromium:
             return "python3-selenium"
         return None if shutil.which("chromium") and shutil.which("chromedriver") else "chromium, chromium-driver"
 
-    def __init__(self):
+    def __init__(self, *more_words):
         from selenium import webdriver
         from selenium.webdriver.chrome.options import Options
         from selenium.webdriver.chrome.service import Service
@@ -71,13 +73,20 @@ class Chromium:
         options.binary_location = shutil.which("chromium")
         for word in ("--headless=new", "--no-sandbox", "--disable-gpu", "--disable-dev-shm-usage", "--no-first-run"):
             options.add_argument(word)
+        for word in more_words:
+            options.add_argument(word)
         options.set_capability("goog:loggingPrefs", {"performance": "ALL", "browser": "ALL"})
         self.driver = webdriver.Chrome(service=Service(shutil.which("chromedriver")), options=options)
         self.driver.set_script_timeout(SECONDS)
+        self.driver.set_page_load_timeout(SECONDS)
 
     def open(self, url):
         self.driver.get("about:blank")
         self.driver.get(url)
+
+    def run_before(self, script):
+        """From now on, the script runs in each page before those of the page."""
+        self.driver.execute_cdp_cmd("Page.addScriptToEvaluateOnNewDocument", {"source": script})
 
     def run(self, script, *arguments):
         return self.driver.execute_script(script, *arguments)
@@ -122,6 +131,7 @@ class Chromium:
 
 class Firefox:
     name = "Firefox"
+    WITHOUT_VECTORS = None  # it has no such setting
 
     @staticmethod
     def missing():
@@ -133,11 +143,8 @@ class Firefox:
 
     def __init__(self):
         self.folder = tempfile.mkdtemp()
-        with socket.socket() as free:
-            free.bind(("127.0.0.1", 0))
-            port = free.getsockname()[1]
         settings = {
-            "marionette.port": port,
+            "marionette.port": 0,  # a free one, which it tells in a file
             "datareporting.policy.dataSubmissionEnabled": False,
             "app.update.enabled": False,
             "browser.shell.checkDefaultBrowser": False,
@@ -150,19 +157,24 @@ class Firefox:
         words = [self.program(), "--headless", "--marionette", "--no-remote", "--profile", self.folder]
         surroundings = {**os.environ, "HOME": self.folder}
         self.child = subprocess.Popen(words, env=surroundings, stdout=subprocess.DEVNULL, stderr=subprocess.DEVNULL)
-        self.socket = self.connect(port)
-        self.bytes = b""
-        self.number = 0
-        self.receive()  # who answers, and by which protocol
-        self.ask("WebDriver:NewSession", {"capabilities": {"alwaysMatch": {"acceptInsecureCerts": False}}})
-        self.ask("WebDriver:SetTimeouts", {"script": 1000 * SECONDS, "pageLoad": 1000 * SECONDS, "implicit": 0})
+        try:
+            self.socket = self.connect()
+            self.bytes = b""
+            self.number = 0
+            self.receive()  # who answers, and by which protocol
+            self.ask("WebDriver:NewSession", {"capabilities": {"alwaysMatch": {"acceptInsecureCerts": False}}})
+            self.ask("WebDriver:SetTimeouts", {"script": 1000 * SECONDS, "pageLoad": 1000 * SECONDS, "implicit": 0})
+        except Exception:
+            self.child.kill()
+            self.remove()
+            raise
 
-    def connect(self, port):
-        end = time.monotonic() + SECONDS_TO_START
+    def connect(self):
+        end, told = time.monotonic() + SECONDS_TO_START, pathlib.Path(self.folder, "MarionetteActivePort")
         while True:
             try:
-                return socket.create_connection(("127.0.0.1", port), timeout=SECONDS)
-            except OSError:
+                return socket.create_connection(("127.0.0.1", int(told.read_text(encoding="ascii"))), timeout=SECONDS)
+            except (OSError, ValueError):  # it is not there yet, or not whole
                 if time.monotonic() > end or self.child.poll() is not None:
                     raise
                 time.sleep(0.2)
@@ -207,9 +219,16 @@ class Firefox:
         self.ask("WebDriver:PerformActions", {"actions": key_actions(keys)})
 
     def size(self, width, height):
-        self.ask("WebDriver:SetWindowRect", {"width": width, "height": height})
-        inside = self.run("return [innerWidth, innerHeight]")
-        self.ask("WebDriver:SetWindowRect", {"width": 2 * width - inside[0], "height": 2 * height - inside[1]})
+        """The size of what is inside the window, or what is nearest to it: Firefox has no window narrower than 500 pixels. The
+        window may have its size a while after it was asked for."""
+        inside, before = self.run("return [innerWidth, innerHeight]"), None
+        while inside not in ([width, height], before):
+            before, window = inside, self.ask("WebDriver:GetWindowRect")
+            self.ask("WebDriver:SetWindowRect", {"width": window["width"] + width - inside[0],
+                                                 "height": window["height"] + height - inside[1]})
+            inside = self.wait("const [width, height, tell] = arguments; const end = Date.now() + 3000; const look = () => "
+                               "innerWidth === width && innerHeight === height || Date.now() > end ? "
+                               "tell([innerWidth, innerHeight]) : setTimeout(look, 10); look();", width, height)
 
     def picture(self, path):
         shown = self.ask("WebDriver:TakeScreenshot", {"full": False, "hash": False})["value"]
@@ -232,8 +251,19 @@ class Firefox:
             self.child.wait(20)
         except subprocess.TimeoutExpired:
             self.child.kill()
-            self.child.wait()
+        self.remove()
+
+    def remove(self):
+        self.child.wait()
         shutil.rmtree(self.folder, ignore_errors=True)
 
 
 BROWSERS = [Chromium, Firefox]
+
+
+def started(kind, *more_words):
+    """A browser. A busy machine may be too slow for its start, so it is tried again."""
+    for _ in range(STARTS - 1):
+        with contextlib.suppress(Exception):
+            return kind(*more_words)
+    return kind(*more_words)

@@ -4,7 +4,7 @@
 Compares include/sdtool.h with the sources of the library for C. Contracts name members and arguments, so no proof sees
 their order, the width of a number or the name of an export. The test refuses:
 
-  structs    a struct of the header, or one with #[repr(C)] in sd_call* or sdtool_c, without a counterpart, or with
+  structs    a struct of the header, or one with #[repr(C)] in sd_call*, sdtool_c or BELOW, without a counterpart, or with
              members of other names, types or order. The doc comment of the one in Rust names the one in C. A struct
              with one private number and nothing else counts as that number.
   functions  an `extern "C"` function that the header does not declare, or declares with another result or with
@@ -25,6 +25,7 @@ import preload  # noqa: E402
 
 HEADER = "include/sdtool.h"
 CRATES = ["crates/sd_call*/src", "crates/sdtool_c/src"]
+BELOW = ["crates/sd_inherit/src/origin.rt"]  # with a struct that the library hands on as it is
 NUMBERS = {"u8": "uint8_t", "u16": "uint16_t", "u32": "uint32_t", "u64": "uint64_t", "usize": "size_t", "bool": "bool"}
 ALLOCATOR = "Global"  # It has no bytes, so C has no such argument.
 BYTES = "sdtool_bytes"
@@ -32,7 +33,7 @@ BYTES = "sdtool_bytes"
 OTHER_NAMES = {"bytes": "descriptor", "new": "descriptor", "kinds": "entries", "memory": "token"}
 # What the header calls the length of a slice, if it is not 'NAME_size'.
 LENGTHS = {"entries": "sid_count", "descriptors": "descriptor_count", "verdicts": "verdict_count",
-           "token": "token_words", "aces": "ace_count"}
+           "token": "token_words", "aces": "ace_count", "sacl": "sacl_room", "dacl": "dacl_room"}
 # The definition that says what a function answers, which its contract has to cite.
 DEFINITIONS = {
     "sdtool_version": "codes", "sdtool_version_number": "100", "sdtool_to_sddl": "to_sddl",
@@ -41,6 +42,9 @@ DEFINITIONS = {
     "sdtool_sid_to_text": "sid_to_text", "sdtool_sid_size": "sid_size_at", "sdtool_parts": "contents_in",
     "sdtool_next_ace": "next", "sdtool_check_many": "AnswersMany", "sdtool_token_read": "ReadsToken",
     "sdtool_check_with": "checked_held", "sdtool_build": "built", "sdtool_run": "Runs", "sdtool_fault_text": "name_of",
+    "sdtool_place": "place_told", "sdtool_sddl_place": "sddl_place_told",
+    "sdtool_describe": "described",
+    "sdtool_reasons": "explained", "sdtool_reasons_with": "explained_held", "sdtool_derive_origins": "TellsOrigins",
 }
 
 
@@ -53,18 +57,21 @@ class Named(NamedTuple):
     is_whole: bool = True  # whether it has each number of the enum except 0
 
 
-# 0 stands for SDTOOL_OK, SDTOOL_NO_PART and SDTOOL_NO_ARGUMENT, which no arm of a match names so.
-WITHOUT_NAMES = {"OK", "NO_PART", "NO_ARGUMENT"}
+# 0 stands for SDTOOL_OK, SDTOOL_NO_PART, SDTOOL_NO_ARGUMENT and SDTOOL_NO_FIELD, which no arm of a match names so.
+WITHOUT_NAMES = {"OK", "NO_PART", "NO_ARGUMENT", "NO_FIELD"}
 NAMED = [
     Named("sdtool_fault", "FAULT_", "crates/sd_answer/src/fault_names.rt", "fault_name"),
     Named("sdtool_fault", "FAULT_", "crates/sd_answer/src/fault.rt", "number", is_whole=False),
     Named("sdtool_fault", "FAULT_", "crates/sd_call/src/outcome.rt", "number", is_whole=False),
     Named("sdtool_argument", "ARGUMENT_", "crates/sd_call/src/argument.rt", "argument_number"),
     Named("sdtool_part", "", "crates/sd_call/src/outcome.rt", "part_number"),
+    Named("sdtool_part", "", "crates/sd_call_places/src/described.rt", "part_numbered"),
     Named("sdtool_mapping", "MAPPING_", "crates/sd_call/src/input.rt", "mapping_in"),
     Named("sdtool_kind", "KIND_", "crates/sd_call_derive/src/derivations.rt", "target_in"),
     Named("sdtool_entry", "", "crates/sd_call_check/src/token.rt", "kind_in"),
     Named("sdtool_acl_state", "ACL_", "crates/sd_call_parts/src/contents.rt", "acl_state"),
+    Named("sdtool_field", "FIELD_", "crates/sd_call_places/src/told.rt", "field_number"),
+    Named("sdtool_reason_kind", "REASON_", "crates/sd_call_check/src/reason.rt", "kind_of"),
 ]
 # The constants of the sources that have the same number as a name of the header.
 CONSTANTS = [
@@ -76,6 +83,11 @@ CONSTANTS = [
     ("SDTOOL_TOO_SMALL", "crates/sd_call/src/outcome.rt", "TOO_SMALL"),
     ("SDTOOL_NO_MEMORY", "crates/sd_call/src/outcome.rt", "NO_MEMORY"),
     ("SDTOOL_ACL_LIST", "crates/sd_call_build/src/new.rt", "LIST"),
+    ("SDTOOL_NO_ACE", "crates/sd_call_places/src/told.rt", "NO_ACE"),
+    ("SDTOOL_MOST_DESCRIPTION", "crates/sd_call_places/src/described.rt", "MOST_DESCRIPTION"),
+    ("SDTOOL_RIGHTS", "crates/sd_call_check/src/reason.rt", "RIGHTS"),
+    ("SDTOOL_NO_PLACE", "crates/sd_call_check/src/reason.rt", "NO_PLACE"),
+    ("SDTOOL_MOST_DERIVED_ACES", "crates/sd_call_derive/src/origins.rt", "MOST_DERIVED_ACES"),
 ]
 
 
@@ -111,11 +123,11 @@ class Header(NamedTuple):
 
 def item_of(declaration):
     """A declaration of C as its type and its name, or as a type without a name if it is none."""
-    found = re.fullmatch(r"([\w\s]+?)\s*(\**)\s*\b(\w+)", declaration.strip())
+    found = re.fullmatch(r"([\w\s]+?)\s*(\**)\s*\b(\w+)(\[\w+\])?", declaration.strip())
     if not found:
         return Item(declaration.strip(), "")
     base = " ".join(found[1].split())
-    return Item(f"{base} {found[2]}" if found[2] else base, found[3])
+    return Item(" ".join(filter(None, [base, found[2], found[4]])), found[3])
 
 
 def header_in(text):
@@ -130,12 +142,14 @@ def header_in(text):
 
     def take_enum(found):
         members = [re.fullmatch(r"\s*(\w+) = (\d+)\s*", member) for member in found[2].split(",")]
-        header.enums[found[1]] = {member[1]: int(member[2]) for member in members if member}
+        header.enums.setdefault(found[1], {}).update({member[1]: int(member[2]) for member in members if member})
         return " " if all(members) else found[0]
 
     def take_function(found):
         declared = item_of(found[1])
-        arguments = [] if found[2].strip() == "void" else [item_of(one) for one in found[2].split(",")]
+        numbers = {name: str(number) for members in header.enums.values() for name, number in members.items()}
+        given = re.sub(r"\[(\w+)\]", lambda length: f"[{numbers.get(length[1])}]", found[2])
+        arguments = [] if given.strip() == "void" else [item_of(one) for one in given.split(",")]
         header.functions[declared.name] = Function(arguments, declared.type)
         return " "
 
@@ -175,7 +189,7 @@ def wrapped_numbers_in(text):
 def exports_in(text):
     """Each function for C."""
     above, visible, result = r"((?:^#\[.*\n)*)^[ ]*", r"(?:pub(?:\([^)]*\))? )?(?:unsafe )?", r"(?:->\s*([^\s{]+))?"
-    pattern = above + visible + r'extern "C" fn (\w+)\s*\(([^)]*)\)\s*' + result + r"([\s\S]*?)^\{$"
+    pattern = above + visible + r'extern "C" fn (\w+)(?:<[^>]*>)?\s*\(([^)]*)\)\s*' + result + r"([\s\S]*?)^\{$"
     for attributes, name, arguments, result, contract in re.findall(pattern, text, re.M):
         is_named = "#[unsafe(no_mangle)]" in attributes.splitlines()
         yield Export(name, is_named, list(fields_of(arguments)), result, without_comments(contract))
@@ -186,7 +200,8 @@ class Sources:
 
     def __init__(self, top):
         self.texts = {path.relative_to(top): path.read_text(encoding="utf-8")
-                      for crate in CRATES for path in sorted(top.glob(crate + "/**/*.rt"))}
+                      for path in [*(path for crate in CRATES for path in sorted(top.glob(crate + "/**/*.rt"))),
+                                   *(top / path for path in BELOW)]}
         self.numbers = dict(NUMBERS)
         for text in self.texts.values():
             self.numbers.update(wrapped_numbers_in(text))
@@ -197,6 +212,9 @@ class Sources:
 
     def c_type(self, kind):
         """What C calls a type that is no slice. A type that C does not have stays as it is."""
+        array = re.fullmatch(r"&mut \[(\w+); (\w+)\]", kind)
+        if array:
+            return f"{self.c_type(array[1])} [{array[2]}]"
         pointer = re.fullmatch(r"&(mut )?(\w+)", kind)
         if pointer:
             return f"{'' if pointer[1] else 'const '}{self.c_type(pointer[2])} *"
@@ -310,6 +328,8 @@ def constant(text, name):
 
 def compare_constants(count, top, header):
     numbers = {name: number for members in header.enums.values() for name, number in members.items()}
+    defined = re.findall(r"^#define (\w+) (0x[0-9A-F]+)u$", (top / HEADER).read_text(encoding="utf-8"), re.M)
+    numbers.update((name, int(number, 0)) for name, number in defined)
     for declared, path, name in CONSTANTS:
         found = constant((top / path).read_text(encoding="utf-8"), name)
         count.add(found == numbers.get(declared), f"{path}: {name} is {found}, but {declared} {numbers.get(declared)}")

@@ -13,6 +13,7 @@ faults, a program that was compiled with an older header, and the Python module'
 The last line is 'N passed, M failed'.
 """
 import argparse
+import concurrent.futures
 import doctest
 import os
 import pathlib
@@ -39,7 +40,8 @@ SANITIZERS = ["-fsanitize=address,undefined"]
 NO_FORKS = ["env", "FORKS=0"]
 VALGRIND = [*NO_FORKS, "valgrind", "-q", "--leak-check=full", "--error-exitcode=9"]
 GUARDS = ("after", "before")
-SECONDS = 300
+SECONDS = 3000
+AT_ONCE = 4  # runs of rows side by side, of which there are thousands
 DOMAIN = bytes.fromhex("010400000000000515000000010000000200000003000000")  # S-1-5-21-1-2-3
 # S-1-5-21 and 14 more numbers. It is a SID, but has no room for the number of an alias, so as a domain it counts as none.
 FULL_DOMAIN = bytes.fromhex("010f000000000005" + "15000000" + "01000000" * 14)
@@ -161,7 +163,7 @@ class Question:
     def __init__(self, words, descriptor):
         settings, ask = reference.settings_of(words), reference.settings_of(words).ask
         given = dict(zip(words, words[1:]))
-        self.job, self.descriptor = words[0].decode(), descriptor
+        self.job, self.descriptor, self.ask = words[0].decode(), descriptor, ask
         self.mapping = given.get(b"--type", b"file").decode()
         if ask:
             self.token = [(sid.to_bytes(), only_denies) for sid, only_denies in ask.token]
@@ -171,7 +173,7 @@ class Question:
             self.object_type = ask.object_type or b""
             self.principal_self = ask.principal_self.to_bytes() if ask.principal_self else b""
         else:
-            self.kind = given[b"--kind"].decode()
+            self.kind, self.plan = given[b"--kind"].decode(), settings.plan
             self.owner, self.group = settings.plan.owner.to_bytes(), settings.plan.group.to_bytes()
             self.creator = reference.layout(settings.creator) if settings.creator else b""
 
@@ -189,14 +191,34 @@ class Question:
     def asked(self, sdtool):
         """The answer of the Python module, as a line."""
         if self.job == "derive":
-            return sdtool.derive(self.descriptor, self.owner, self.group, kind=self.kind, creator=self.creator,
+            return sdtool.derive(self.descriptor, self.owner, self.group, kind=self.kind, creator=self.creator or None,
                                  mapping=self.mapping).hex()
         sids, deny_only = ([sid for sid, deny in self.token if deny == which] for which in (False, True))
         verdict = sdtool.check(self.descriptor, sids, deny_only=deny_only, wanted=self.wanted, maximum=self.maximum,
-                               mapping=self.mapping, level=self.level, object_type=self.object_type,
-                               principal_self=self.principal_self, security=self.security,
+                               mapping=self.mapping, level=self.level, object_type=self.object_type or None,
+                               principal_self=self.principal_self or None, security=self.security,
                                take_ownership=self.take_ownership)
         return f"{'granted' if verdict.granted else 'denied'} 0x{verdict.mask:08x}"
+
+
+def reasons_for(question, answer):
+    """What the reference says of each right, as calls.c prints it; a fault as it is."""
+    if answer.startswith("error"):
+        return answer
+    told = reference.access.reasons(reference.read(question.descriptor), question.ask)
+    return " ".join(f"{reference.access.REASONS.index(one.word)}" + ("" if one.place is None else f":{one.place}") for one in told)
+
+
+def origins_for(question, answer):
+    """What the reference says of each ACE that is derived, as calls.c prints it; a fault as it is."""
+    if answer.startswith("error"):
+        return answer
+    creator = reference.read(question.creator) if question.creator else None
+    parts = []
+    for name, letter in (("sacl", "S"), ("dacl", "D")):
+        told = reference.inheriting.origins(letter, reference.read(question.descriptor), creator, question.plan)
+        parts += [name, *(f"{'c' if one.from_creator else 'p'}{one.place}{'+' * one.inherit_only}" for one in told)]
+    return " ".join(parts)
 
 
 def questions_of_rows(job):
@@ -283,6 +305,8 @@ def test_arguments(count, runner):
              "derive": {1: (7, {"00": 0, "01" * 20: 0}), 2: (8, dict.fromkeys(not_sids, 0)),
                         3: (9, dict.fromkeys(not_sids, 0)), 4: (10, dict.fromkeys(["2", *too_high], 0)),
                         5: (6, dict.fromkeys(["3", *too_high], 0))}}
+    for job, asks_alike in (("reasons", "check"), ("origins", "derive")):
+        whole[job], wrong[job] = whole[asks_alike], wrong[asks_alike]
     for job, places in wrong.items():
         lines, expected = [], ""
         for place, (argument, values) in places.items():
@@ -311,8 +335,9 @@ def test_arguments(count, runner):
     # Bytes that begin with a descriptor, but are too many for one.
     derive = whole["derive"]
     lines = [[TOO_MANY_BYTES, *derive[1:]], [empty, TOO_MANY_BYTES, *derive[2:]]]
-    ended = ran([*runner, "derive"], "".join(" ".join(line) + "\n" for line in lines))
-    count.add(ended.stdout == b"error 1\nerror 70 7 0\n", f"too many bytes: {ended.stdout} {ended.stderr}")
+    for job in ("derive", "origins"):
+        ended = ran([*runner, job], "".join(" ".join(line) + "\n" for line in lines))
+        count.add(ended.stdout == b"error 1\nerror 70 7 0\n", f"{job} of too many bytes: {ended.stdout} {ended.stderr}")
     for job in ("convert", "explain", "normalize"):
         ended = ran([*runner, job], TOO_MANY_BYTES + "\n")
         count.add(ended.stdout == b"error 1\n" and not ended.stderr, f"{job} of too many bytes: {ended.stdout} {ended.stderr}")
@@ -337,10 +362,14 @@ def of_program(words, data, **others):
 
 def test_runs(count, runner, program, name, rows):
     """Runs of rows: the program's output, message and status."""
-    for task in ("plain", "refusals"):
-        for row, words, data in rows if task == "plain" else rows[::20]:
-            expected = of_program(["sdtool", *words], data, executable=program)
-            found = of_program([*runner, task, *words], data)
+    asked = [("plain", *row) for row in rows] + [("refusals", *row) for row in rows[::20]]
+
+    def both(one):
+        task, _, words, data = one
+        return of_program(["sdtool", *words], data, executable=program), of_program([*runner, task, *words], data)
+
+    with concurrent.futures.ThreadPoolExecutor(AT_ONCE) as threads:
+        for (task, row, *_), (expected, found) in zip(asked, threads.map(both, asked)):
             count.add(found == expected, f"{name} {task} {row}: {found} in place of {expected}"[:900])
 
 
@@ -590,11 +619,13 @@ def main():
         asked = {job: [*questions_of_rows(job), *random_questions(job, arguments.lines, arguments.program, choices)]
                  for job in ("check", "derive")}
         asked["derive"] += questions_of_any_creator(arguments.lines, choices)
+        why = [(question, reasons_for(question, answer)) for question, answer in asked["check"]]
+        where = [(question, origins_for(question, answer)) for question, answer in asked["derive"]]
         runners = [("plain", [plain], None)] * (plain is not None)
         runners += [("sanitized", [*NO_FORKS, checked], None)] * (checked is not None)
         runners += [(f"guard {where}", ["env", f"GUARD={where}", plain], 60) for where in GUARDS if plain is not None]
         runners += [("valgrind", valgrind, 30)] * bool(plain is not None and shutil.which("valgrind"))
-        for job, questions in asked.items():
+        for job, questions in (*asked.items(), ("reasons", why), ("origins", where)):
             test_questions(count, runners, job, questions)
         for _, runner, _ in runners[:2]:
             test_arguments(count, runner)

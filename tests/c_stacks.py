@@ -31,7 +31,7 @@ TOP = pathlib.Path(__file__).resolve().parent.parent
 ARCHIVE = TOP / "out" / "lib" / "libsdtool.a"
 HEADER = TOP / "include" / "sdtool.h"
 STACK = 64 * 1024
-SECONDS = 300
+SECONDS = 3000
 MOST_ACL = 65535
 LEVELS = 3  # one more than the program's levels of commands, and than those of a tree of its options
 BY_LEVELS = re.compile(r"^clap::|clap\+\+|^std_collections::btree::node::Node::destroy::")
@@ -258,9 +258,12 @@ def questions(folder):
     yield "explain", big.hex() + "\n"
     yield "normalize", big.hex() + "\n"
     yield "from_sddl", "".join(one + "\n" for one in texts)
-    yield "check", f"{big.hex()} {sids.hex()} {entries} {'00' * 16} {owner.hex()} 0 0 7 8192\n" \
+    for job in ("check", "reasons"):
+        yield job, f"{big.hex()} {sids.hex()} {entries} {'00' * 16} {owner.hex()} 0 0 7 8192\n" \
                    f"{big.hex()} {sids.hex()}00 {entries} - - 1 0 0 -\n"
-    yield "derive", f"{big.hex()} {big.hex()} {owner.hex()} {owner.hex()} 1 0\n"
+    for job in ("derive", "origins"):
+        yield job, f"{big.hex()} {big.hex()} {owner.hex()} {owner.hex()} 1 0\n" \
+                   f"{big.hex()} - {owner.hex()} {owner.hex()} 0 0\n"
 
 
 def stack_in(count, name, most, words, data, status):

@@ -30,7 +30,7 @@ sys.dont_write_bytecode = True
 import base64_lines  # noqa: E402
 import reference  # noqa: E402
 
-SECONDS = 300      # for one run of the program
+SECONDS = 1200      # for one run of the program
 PACKET = 4096      # the most that a pipe in packet mode hands over in one read
 SHOWN = 10         # failures that are printed
 ENDS_OF_BYTES = [0, 1, 2, 14, 15, 16, 127, 128, 254, 255]

@@ -17,7 +17,7 @@ sys.dont_write_bytecode = True
 import preload  # noqa: E402
 
 FOLDER = pathlib.Path(__file__).resolve().parent.parent / "packaging/completions"
-SECONDS = 60
+SECONDS = 1200
 OPTION = re.compile(r"--([a-z][a-z-]*)")
 
 

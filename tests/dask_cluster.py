@@ -3,6 +3,7 @@ import contextlib
 import json
 import os
 import pathlib
+import shutil
 import signal
 import subprocess
 import sys
@@ -10,8 +11,11 @@ import time
 
 PYTHON = pathlib.Path(__file__).resolve().parent.parent / "python"
 PACKAGES = ("dask", "distributed", "fsspec")
-# Dask drops a worker that says nothing for so long, but waits for ten heartbeats at least, which is 5 seconds.
-WORKER_TTL = "5s"
+# Dask drops a worker that says nothing for so long, as one may on a busy machine. Runs know silent workers themselves.
+WORKER_TTL = "1800s"
+SECONDS = 1200  # that a start may take
+# Python 3.11 may stop for good where two threads look at the frames of all threads, as Dask's profiler does.
+NO_PROFILER = {"DASK_DISTRIBUTED__WORKER__PROFILE__ENABLED": "False"}
 
 
 def python_with_dask(folder):
@@ -24,7 +28,7 @@ def python_with_dask(folder):
     return None
 
 
-def wait_for(is_so, seconds=60, what="something"):
+def wait_for(is_so, seconds=SECONDS, what="something"):
     until = time.monotonic() + seconds
     while not is_so():
         if time.monotonic() > until:
@@ -40,14 +44,21 @@ def end(child):
 
 
 class Processes:
-    """Processes that are started in a folder, with the library for Python, and ended together."""
+    """Processes that are started in a folder, with the library for Python, and ended together.
+
+    They have the module and the library from copies in the folder. Runs compare digests of these files, so a build that
+    changes them would change what a run keeps, and which workers are fit."""
 
     def __init__(self, folder, python, library):
         self.folder, self.python = pathlib.Path(folder), python
-        self.folder.mkdir(parents=True, exist_ok=True)
-        self.children, self.schedulers = [], 0
-        self.environment = {**os.environ, "PYTHONPATH": str(PYTHON), "SDTOOL_LIBRARY": str(library),
-                            "DASK_DISTRIBUTED__SCHEDULER__WORKER_TTL": WORKER_TTL,
+        self.modules, self.library = self.folder / "modules", self.folder / "library/libsdtool.so"
+        shutil.copytree(PYTHON / "sdtool", self.modules / "sdtool", ignore=shutil.ignore_patterns("__pycache__", "audit"))
+        subprocess.run([python, "-m", "compileall", "-q", self.modules], check=True)
+        self.library.parent.mkdir()
+        shutil.copy(library, self.library)
+        self.children, self.started, self.schedulers = [], 0, 0
+        self.environment = {**os.environ, "PYTHONPATH": str(self.modules), "SDTOOL_LIBRARY": str(self.library),
+                            "DASK_DISTRIBUTED__SCHEDULER__WORKER_TTL": WORKER_TTL, **NO_PROFILER,
                             "DASK_TEMPORARY_DIRECTORY": str(self.folder)}
 
     def start(self, words, environment=None, **others):
@@ -56,6 +67,7 @@ class Processes:
         child = subprocess.Popen(list(map(str, words)), cwd=self.folder, env=environment, stdin=subprocess.DEVNULL,
                                  start_new_session=True, **others)
         self.children.append(child)
+        self.started += 1
         return child
 
     def start_of_dask(self, module, *words, environment=None, before=()):
@@ -71,20 +83,22 @@ class Processes:
         wait_for(lambda: file.exists() and file.read_text().strip().endswith("}"), what="a scheduler")
         return scheduler, json.loads(file.read_text())["address"]
 
-    def start_worker(self, address, environment=None, before=()):
-        """A worker with one thread; `before` are the words of a program that starts it."""
-        return self.start_of_dask("dask_worker", address, "--nthreads", "1", "--no-nanny", "--memory-limit", "0",
+    def start_worker(self, address, environment=None, before=(), memory="0"):
+        """A worker with one thread; `before` are the words of a program that starts it, `memory` is its limit, 0 for none."""
+        return self.start_of_dask("dask_worker", address, "--nthreads", "1", "--no-nanny", "--memory-limit", memory,
                                   "--local-directory", str(self.folder / "workers"), environment=environment, before=before)
 
     def asked(self, address, code):
         """What a client of the scheduler prints."""
-        code = f"from distributed import Client\nclient = Client({address!r}, timeout=60)\n{code}"
-        return subprocess.run([self.python, "-c", code], cwd=self.folder, env=self.environment, check=True, timeout=120,
+        code = f"from distributed import Client\nclient = Client({address!r}, timeout={SECONDS})\n{code}"
+        return subprocess.run([self.python, "-c", code], cwd=self.folder, env=self.environment, check=True, timeout=4 * SECONDS,
                               stdin=subprocess.DEVNULL, stdout=subprocess.PIPE, text=True).stdout
 
     def wait_for_workers(self, address, count):
-        self.asked(address, f"client.wait_for_workers({count}, timeout=60)")
+        self.asked(address, f"client.wait_for_workers({count}, timeout={SECONDS})")
 
-    def end_all(self):
-        for child in self.children:
+    def end_all(self, but=0):
+        """Ends the processes, but those that were started first: an idle worker takes time of a processor too."""
+        for child in self.children[but:]:
             end(child)
+        del self.children[but:]

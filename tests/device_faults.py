@@ -31,7 +31,7 @@ sys.dont_write_bytecode = True
 import preload  # noqa: E402
 import reference  # noqa: E402
 
-SECONDS = 60  # for one run
+SECONDS = 1200  # for one run
 MANY = 1_000_000
 FIRST_CALLS, LAST_CALLS = 300, 20  # that fail in turn; a program that is as it should be makes no more
 PIECE = 8192  # bytes that the program asks for in a read

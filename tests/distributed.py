@@ -37,7 +37,12 @@ import preload  # noqa: E402
 from dask_cluster import end, wait_for  # noqa: E402
 
 TOP = pathlib.Path(__file__).resolve().parent.parent
-SECONDS = 120  # for one run
+SECONDS = 1200  # for one run
+WAIT = "600"  # seconds for any progress, where a test does not say otherwise
+# Bytes a second: where a test does not say otherwise, no task is too slow, though a busy machine or disk may hold it for minutes.
+SLOWEST = "1"
+MANY_BLOCKS = 400  # that last longer than it takes to start some workers on a busy machine, one after the other
+TRIES = 5  # to start a server, which may lose its port to another program
 BLOCK = 1000  # bytes
 HEX_BYTES, SDDL_BYTES = 120_000, 80_000
 DOMAIN = ["--domain", "S-1-5-21-1-2-3"]
@@ -57,9 +62,12 @@ LONG_FILES = {
     "long line": b"0" * 3_000_000 + b"\n" + LINE, "long last line": LINE + b"\n" + b"0" * 5_000_000,
     "long line, CR LF": LINE + b"z" * 6_200_000 + b"\r\n" + LINE, "longest line": b"0" * 262_452 + b"\r\n" + LINE,
 }
+# Lines of a run that a machine is too slow for.
+WAITING = re.compile("^sdtool[.]distributed: (the scheduler does not answer|.*and the run waits|worker .* is silent; )")
 # A package that is the real one, but for what its library answers.
 STUB = """
-import os, signal, time
+import itertools, os, signal, time
+numbers = itertools.count()
 __path__ = [{real!r}]
 exec(compile(open({real!r} + "/__init__.py").read(), {real!r} + "/__init__.py", "exec"))
 from sdtool import _library
@@ -71,8 +79,11 @@ def answer(words, data):
     return status, answers, message
 _library.run = answer
 """
+# A test that waits for something while a run goes on has slow workers until it says `go`.
 STUBS = {
-    "slow": "open({log!r}, 'a').write(f'{{os.getpid()}}\\n'); time.sleep(0.2)",
+    "slow": """open({log!r}, 'a').write(f'{{os.getpid()}}\\n')
+        for _ in range(40):
+            if not os.path.exists({go!r}): time.sleep(0.05)""",
     "fails": "if b'MARK' in data: raise ValueError('the library fails')",
     "cuts": "answers = answers[:len(answers) // 3].rpartition(b'end\\n')[0] + b'end\\n'",
     "drops": "if b'MARK' in data: status, answers = 1, answers.partition(b'\\n')[2]",
@@ -97,7 +108,7 @@ class Place(dask_cluster.Processes):
 
     def __init__(self, folder, python, program, library):
         super().__init__(folder, python, library)
-        self.program, self.library, self.outs = program, library, 0
+        self.program, self.outs = program, 0
 
     def write(self, name, data):
         path = self.folder / name
@@ -109,8 +120,9 @@ class Place(dask_cluster.Processes):
         """The environment in which the library answers as the stub says."""
         package = self.folder / f"stub {name}" / "sdtool"
         package.mkdir(parents=True, exist_ok=True)
-        body = STUBS[name].format(log=str(self.folder / f"{name}.log")) if name == "slow" else STUBS[name]
-        text = STUB.format(real=str(dask_cluster.PYTHON / "sdtool"), body=f"        {body}")
+        places = {"folder": self.folder, "log": self.folder / f"{name}.log", "go": self.folder / "go"}
+        body = STUBS[name].format(**{place: str(path) for place, path in places.items()})
+        text = STUB.format(real=str(self.modules / "sdtool"), body=f"        {body}")
         (package / "__init__.py").write_text(text)
         return {"PYTHONPATH": str(package.parent)}
 
@@ -118,17 +130,31 @@ class Place(dask_cluster.Processes):
         """A library with another digest, which answers the same."""
         path = self.folder / "other" / "libsdtool.so"
         path.parent.mkdir(exist_ok=True)
-        path.write_bytes(pathlib.Path(self.library).read_bytes() + b"\n")
+        path.write_bytes(self.library.read_bytes() + b"\n")
         return {"SDTOOL_LIBRARY": str(path)}
+
+    def hold(self):
+        """From now on, slow workers are slow."""
+        (self.folder / "go").unlink(missing_ok=True)
+
+    def go(self):
+        """Slow workers are as quick as others."""
+        (self.folder / "go").touch()
 
     def out(self):
         self.outs += 1
         return self.folder / f"out{self.outs}"
 
     def start_run(self, out, words, files, options=(), environment=None, through=(), **others):
-        given = [*through, self.python, "-m", "sdtool.distributed", "--out", out, "--block", str(BLOCK)]
-        pipes = {"stdout": subprocess.PIPE, "stderr": subprocess.PIPE, **others}
-        return self.start([*given, *options, *words, "--", *files], environment, **pipes)
+        """Starts a run. What it says goes to a file, so that a test can read it while the run goes on."""
+        given = [*through, self.python, "-m", "sdtool.distributed", "--out", out, "--block", str(BLOCK), "--wait", WAIT,
+                 "--slowest", SLOWEST]
+        said = self.folder / f"said{self.started}"
+        with open(said, "wb") as file:
+            child = self.start([*given, *options, *words, "--", *files], environment,
+                               **{"stdout": subprocess.PIPE, "stderr": file, **others})
+        child.said = said
+        return child
 
     def run(self, *arguments, **others):
         return ended(self.start_run(*arguments, **others))
@@ -146,7 +172,22 @@ def ended(child):
     except subprocess.TimeoutExpired:
         end(child)
         return Ended(-1, "", f"it took more than {SECONDS} seconds")
-    return Ended(child.returncode, (stdout or b"").decode(errors="replace"), (stderr or b"").decode(errors="replace"))
+    return Ended(child.returncode, (stdout or b"").decode(errors="replace"),
+                 said_by(child) if hasattr(child, "said") else (stderr or b"").decode(errors="replace"))
+
+
+def said_by(child):
+    """What a run has said so far."""
+    return child.said.read_text(errors="replace")
+
+
+def wait_until(child, is_so, what):
+    """Waits for something while a run goes on, or for the run's end."""
+    wait_for(lambda: child.poll() is not None or is_so(), SECONDS, what)
+
+
+def has_parts(folder):
+    return folder.exists() and any(name.startswith("part-") for name in os.listdir(folder))
 
 
 def is_answer(name):
@@ -245,12 +286,14 @@ def test_places(count, place, address):
             "in/two/_sdtool.json": LINE, "in/_sdtool2": LINE * 2, "in/two/_sdtool-part": LINE * 3}
     for name, data in tree.items():
         place.write(name, data)
-    of_runs = {"in/_sdtool/run.json", "in/two/_sdtool.json"}
-    wanted = {name[3:]: place.wanted(["convert"], name)[0] for name in tree if name not in of_runs}
+    # No run wrote these two: one has answers, and the other one would have them where the run has its own record.
+    wanted = {name[3:]: place.wanted(["convert"], name)[0] for name in tree if name != "in/_sdtool/run.json"}
+    own = wanted.pop("two/_sdtool.json")
     for given in "in", f"file://{place.folder}/in":
         out = place.out()
         got = place.run(out, ["convert"], [given], ["--scheduler", address])
-        count.add(got.status == 1 and answers_in(out) == wanted, f"a folder: {sorted(answers_in(out))} {got}")
+        is_named = "in/_sdtool/run.json has no answers" in got.stderr and (out / "two/_sdtool.json").read_bytes() == own
+        count.add(got.status == 3 and is_named and answers_in(out) == wanted, f"a folder: {sorted(answers_in(out))} {got}")
     out = place.out()
     got = place.run(out, ["convert"], ["in/*/_o*"])
     count.add(got.status == 0 and answers_in(out) == {"_other": wanted["two/_other"]}, f"a pattern: {got}")
@@ -348,18 +391,29 @@ def started_server(place, server):
     is_there = subprocess.run([place.python, "-c", f"import {server.module}"], stderr=subprocess.DEVNULL).returncode == 0
     if not is_there or not shutil.which(server.words[0]):
         return None
-    with socket.socket() as held:
-        held.bind(("127.0.0.1", 0))
-        port = held.getsockname()[1]
-    child = place.start([*server.words, port], stdout=subprocess.DEVNULL, stderr=subprocess.DEVNULL)
+    for _ in range(TRIES):
+        port = free_port()
+        child = place.start([*server.words, port], stdout=subprocess.DEVNULL, stderr=subprocess.DEVNULL)
 
-    def listens():
-        with contextlib.suppress(OSError), socket.create_connection(("127.0.0.1", port), 1):
-            return True
-        return child.poll() is not None
+        def listens():
+            with contextlib.suppress(OSError), socket.create_connection(("127.0.0.1", port), 10):
+                return True
+            return child.poll() is not None
 
-    wait_for(listens, what=str(server.words))
-    return server.url % port if child.poll() is None else None
+        wait_for(listens, what=str(server.words))
+        if child.poll() is None:
+            return server.url % port
+    return None
+
+
+def free_port():
+    """A port of 127.0.0.1 that the system gives to nobody who asks for any port, so it stays free until a server has it."""
+    first = int(pathlib.Path("/proc/sys/net/ipv4/ip_local_port_range").read_text().split()[0])
+    while True:
+        port = random.SystemRandom().randrange(first // 2, first)
+        with socket.socket() as held, contextlib.suppress(OSError):
+            held.bind(("127.0.0.1", port))
+            return port
 
 
 def test_remote(count, place):
@@ -421,7 +475,7 @@ class ObjectStore:
             path = path.parent if path.name == "__init__.py" else path
             (lent / path.name).symlink_to(path)
         url = started_server(place, Server("http://127.0.0.1:%d", [sys.executable, "-m", "moto.server", "-p"], "sys", ""))
-        self.environment = {"S3_ENDPOINT": url, "PYTHONPATH": f"{dask_cluster.PYTHON}:{TOP}/tests/object_store:{lent}"}
+        self.environment = {"S3_ENDPOINT": url, "PYTHONPATH": f"{place.modules}:{TOP}/tests/object_store:{lent}"}
         self.ask("fs.client.create_bucket(Bucket='bucket')")
 
     def ask(self, code):
@@ -482,12 +536,12 @@ def started(place):
 
 
 def start_slow_run(place, address, name, blocks, options=()):
-    """Starts a run whose blocks take a fifth of a second, and waits until parts are there."""
+    """Starts a run whose blocks take two seconds until the test says `go`, and waits until parts are there."""
     place.write(name, LINE * (16 * blocks - 8) + b"zz\n")
+    place.hold()
     out = place.out()
     child = place.start_run(out, ["convert"], [name], ["--scheduler", address, *options])
-    parts = out / "_sdtool/inputs" / name
-    wait_for(lambda: child.poll() is not None or parts.exists() and any("part-" in each for each in os.listdir(parts)), SECONDS)
+    wait_until(child, lambda: has_parts(out / "_sdtool/inputs" / name), "a part")
     count_there = (out / name).exists()
     return child, out, count_there
 
@@ -500,9 +554,9 @@ def test_wrong_workers(count, place):
     place.start_worker(address, {**slow, **place.other_library()})
     place.start_worker(address, {**slow, "SDTOOL_LIBRARY": "/nowhere/libsdtool.so"})
     place.write("broken/fsspec/__init__.py", b"raise ImportError('fsspec is broken')")
-    place.start_worker(address, {"PYTHONPATH": str(place.folder / "broken")})
-    name = place.write("told", LINE * 100 + b"zz\n")
-    place.write("elsewhere/told", LINE[:2] * 2 + LINE[4:] * 100 + b"zz\n")
+    place.start_worker(address, {"PYTHONPATH": f"{place.folder}/broken:{place.modules}"})
+    name = place.write("told", LINE * 1300 + b"zz\n")
+    place.write("elsewhere/told", LINE[:2] * 2 + LINE[4:] * 1300 + b"zz\n")
     apart = ["unshare", "--user", "--map-root-user", "--mount", "sh", "-c"]
     is_apart = ended(place.start([*apart, f"mount --bind elsewhere/told {name}"], stderr=subprocess.PIPE)).status == 0
     if is_apart:
@@ -513,13 +567,20 @@ def test_wrong_workers(count, place):
     else:
         print("skipped: no file can be mounted here, so no worker sees another one")
     place.wait_for_workers(address, 6 if is_apart else 4)
-    out = place.out()
-    got = place.run(out, ["convert"], [name], ["--scheduler", address])
-    judge_run(count, place, got, out, ["convert"], [name], "wrong workers")
     told = {"library is not the driver's": 1, "/nowhere/libsdtool.so": 1, "is another file here": int(is_apart),
-            "another output here": int(is_apart), "is left out": 4 if is_apart else 2, "fsspec is broken": 1}
-    is_told = all(sum(text in line for line in got.stderr.splitlines()) == times for text, times in told.items())
-    count.add(is_told and len(set(started(place))) == 1, f"wrong workers: {told}: {set(started(place))} {got}")
+            "another output here": int(is_apart), "is left out": 5 if is_apart else 3, "fsspec is broken": 1}
+
+    def are_told(said):
+        return all(sum(text in line for line in said.splitlines()) == times for text, times in told.items())
+
+    place.hold()
+    out = place.out()
+    child = place.start_run(out, ["convert"], [name], ["--scheduler", address])
+    wait_until(child, lambda: are_told(said_by(child)), "all wrong workers")
+    place.go()
+    got = ended(child)
+    judge_run(count, place, got, out, ["convert"], [name], "wrong workers")
+    count.add(are_told(got.stderr) and len(set(started(place))) == 1, f"wrong workers: {told}: {set(started(place))} {got}")
 
 
 def test_late_workers(count, place):
@@ -527,12 +588,13 @@ def test_late_workers(count, place):
     _, address = place.start_scheduler()
     slow = place.stub("slow")
     first = place.start_worker(address, slow)
-    child, out, is_early = start_slow_run(place, address, "late", 60)
+    child, out, is_early = start_slow_run(place, address, "late", MANY_BLOCKS)
     count.add(not is_early, "an answer file has its name before it is whole")
     wrong = place.start_worker(address, {**slow, **place.other_library()})
     right = place.start_worker(address, slow)
-    wait_for(lambda: str(right.pid) in started(place) or child.poll() is not None, SECONDS, "a block at the late worker")
+    wait_until(child, lambda: str(right.pid) in started(place) and "is left out" in said_by(child), "the late workers")
     end(first)
+    place.go()
     got = ended(child)
     judge_run(count, place, got, out, ["convert"], ["late"], "late workers")
     is_right = str(right.pid) in started(place) and str(wrong.pid) not in started(place)
@@ -545,12 +607,14 @@ def test_dead_workers(count, place):
     slow = place.stub("slow")
     workers = [place.start_worker(address, slow) for _ in range(2)]
     place.wait_for_workers(address, 2)
-    child, out, _ = start_slow_run(place, address, "dead", 80)
+    child, out, _ = start_slow_run(place, address, "dead", MANY_BLOCKS)
     for _ in range(5):
         before = started(place).count(str(workers[0].pid))
-        wait_for(lambda: started(place).count(str(workers[0].pid)) > before or child.poll() is not None, SECONDS)
+        wait_until(child, lambda: started(place).count(str(workers[0].pid)) > before, "a block")
         end(workers.pop(0))
         workers.append(place.start_worker(address, slow))
+    count.add(child.poll() is None, "the run ended before its workers did")
+    place.go()
     got = ended(child)
     judge_run(count, place, got, out, ["convert"], ["dead"], "dead workers")
 
@@ -562,10 +626,12 @@ def test_stopped_workers(count, place):
     workers = [place.start_worker(address, slow) for _ in range(3)]
     place.wait_for_workers(address, 3)
     os.kill(workers[0].pid, signal.SIGSTOP)
-    child, out, _ = start_slow_run(place, address, "stopped", 40)
+    child, out, _ = start_slow_run(place, address, "stopped", MANY_BLOCKS)
     before = started(place).count(str(workers[1].pid))
-    wait_for(lambda: started(place).count(str(workers[1].pid)) > before or child.poll() is not None, SECONDS)
+    wait_until(child, lambda: started(place).count(str(workers[1].pid)) > before, "a block")
     os.kill(workers[1].pid, signal.SIGSTOP)
+    count.add(child.poll() is None, "the run ended before a worker was stopped")
+    place.go()
     got = ended(child)
     judge_run(count, place, got, out, ["convert"], ["stopped"], "stopped workers")
     os.kill(workers[1].pid, signal.SIGCONT)  # which still has a part to write
@@ -580,17 +646,20 @@ def test_gone(count, place):
     worker = place.start_worker(address, slow)
     child, out, _ = start_slow_run(place, address, "gone", 20)
     end(worker)
-    time.sleep(1)
+    count.add(child.poll() is None, "the run ended before its worker did")
+    place.go()
     worker = place.start_worker(address, slow)
     judge_run(count, place, ended(child), out, ["convert"], ["gone"], "all workers are new")
-    child, out, _ = start_slow_run(place, address, "gone", 40, ["--wait", "3"])
+    child, out, _ = start_slow_run(place, address, "gone", MANY_BLOCKS, ["--wait", "60"])
     end(worker)
-    judge_failed(count, ended(child), out, "no worker has been fit for 3 seconds", [], "no worker")
+    judge_failed(count, ended(child), out, "no worker has been fit for 60 seconds", [], "no worker")
     place.start_worker(address, slow)
-    child, out, _ = start_slow_run(place, address, "gone", 40)
+    # The client tries to connect for so long.
+    child, out, _ = start_slow_run(place, address, "gone", MANY_BLOCKS, ["--wait", "60"])
     end(scheduler)
-    got = ended(child)  # Dask tells of it in its way before
-    judge_failed(count, got._replace(stderr=got.stderr.splitlines()[-1]), out, "the scheduler is lost", [], "no scheduler")
+    got = ended(child)
+    ours = [line for line in got.stderr.splitlines() if line.startswith("sdtool.distributed: ")]  # Dask tells of it too
+    judge_failed(count, got._replace(stderr="\n".join(ours)), out, "the scheduler is lost", [], "no scheduler")
 
 
 def test_wrong_answers(count, place):
@@ -622,7 +691,8 @@ def test_wrong_answers(count, place):
 
 def test_resumed(count, place):
     words, options = ["convert"], ["--retries", "0"]
-    first, second = place.write("first", LINE * 50 + b"zz\n"), place.write("second", LINE * 50 + MARK)
+    # Some blocks of the second one may be under way when the last one fails.
+    first, second = place.write("first", LINE * 50 + b"zz\n"), place.write("second", LINE * 300 + MARK)
     names, out = [first, second], place.out()
     got = place.run(out, words, names, options, environment=place.stub("fails"))
     judge_failed(count, got, out, "second has no answers", [first], "the second file fails")
@@ -674,18 +744,17 @@ def test_interrupted(count, place):
     for sent, status in (signal.SIGTERM, -15), (signal.SIGINT, 130), (signal.SIGKILL, -9):
         out = place.out()
         child = place.start_run(out, words, names, environment=slow)
-        parts = out / "_sdtool/inputs/long first"
-        wait_for(lambda: parts.exists() and os.listdir(parts), SECONDS)
+        wait_until(child, lambda: has_parts(out / "_sdtool/inputs/long first"), "a part")
         child.send_signal(sent)
         got = ended(child)
         is_clean = "long first" not in answers_in(out) and "Traceback" not in got.stderr
         count.add(got.status == status and is_clean, f"signal {sent}: {sorted(answers_in(out))}: {got}")
         judge_run(count, place, place.run(out, words, names), out, words, names, f"after signal {sent}")
-    # A second run takes the output over, and the first one ends. It has work for half a minute, so it is not done before.
+    # A second run takes the output over, and the first one ends. It has work for minutes, so it is not done before.
     names[0] = place.write("long first", LINE * 10_000)
     out = place.out()
     child = place.start_run(out, words, names, environment=slow)
-    wait_for(lambda: (out / "_sdtool/inputs/long first").exists() and os.listdir(out / "_sdtool/inputs/long first"), SECONDS)
+    wait_until(child, lambda: has_parts(out / "_sdtool/inputs/long first"), "a part")
     judge_run(count, place, place.run(out, words, names), out, words, names, "the second of two runs")
     got = ended(child)
     count.add(got.status == 3 and "another run has taken it over" in got.stderr, f"the first of two runs: {got}")
@@ -694,13 +763,15 @@ def test_interrupted(count, place):
 
 def test_changing_input(count, place):
     """An input changes while it is read. The other one is answered."""
+    place.hold()
     names = [place.write("shrinks", LINE * 400), place.write("stays", LINE * 30)]
     out = place.out()
     child = place.start_run(out, ["convert"], names, ["--block", "100"], environment=place.stub("slow"))
-    parts = out / "_sdtool/inputs/shrinks"
-    wait_for(lambda: parts.exists() and os.listdir(parts), SECONDS)
+    wait_until(child, lambda: has_parts(out / "_sdtool/inputs/shrinks"), "a part")
     os.truncate(place.folder / "shrinks", 500)
+    place.go()
     judge_failed(count, ended(child), out, "shrinks has no answers", ["stays"], "an input that shrinks")
+    names = [place.write("cut", LINE * 2 + LINE[:20]), place.write("whole", LINE * 2)]
     out = place.out()
     got = place.run(out, ["convert"], names, ["--block", "1"])
     judge_run(count, place, got, out, ["convert"], names, "blocks of one byte")
@@ -745,7 +816,7 @@ def test_words(count, place, address):
         (["--out", out, "convert", name], "inputs stand behind --"),
         (["--out", out, "convert", "--"], "inputs stand behind --"),
         (["--out", out, "print", "--", name], "invalid choice"),
-        (["--out", out, "--block", "0", "convert", "--", name], "--block is at least 1"),
+        (["--out", out, "--block", "0", "convert", "--", name], "--block is a number, and is at least 1"),
         (["--out", out, "--bloc", "9", "convert", "--", name], "invalid choice: '9'"),
         (["--out", out, "convert", "--", "nowhere"], "nowhere: no regular file"),
         (["--out", out, "convert", "--", "nowhere/*"], "nowhere/*: no regular file"),
@@ -776,7 +847,9 @@ def test_words(count, place, address):
     closed = subprocess.Popen(["true"], stdin=subprocess.PIPE)
     closed.wait()
     got = place.run(place.out(), ["convert"], [name], stdout=closed.stdin)
-    count.add(got.status in (0, -signal.SIGPIPE) and got.stderr == "", f"standard output is closed: {got}")
+    # A busy machine may be slow, and what a run then waits for it says.
+    others = [line for line in got.stderr.splitlines() if not WAITING.search(line)]
+    count.add(got.status in (0, -signal.SIGPIPE) and not others, f"standard output is closed: {got}")
 
 
 def over_answers(count, place):
@@ -813,12 +886,15 @@ def over_files(count, place):
         timed(what, test, count, place)
 
 
-def timed(name, test, count, *arguments):
-    began = time.monotonic()
+def timed(name, test, count, place, *arguments):
+    """Runs a test, and ends what it has started."""
+    began, before = time.monotonic(), len(place.children)
     try:
-        test(count, *arguments)
+        test(count, place, *arguments)
     except (OSError, TimeoutError, ValueError, KeyError, subprocess.SubprocessError) as error:
         count.add(False, f"{name}: {type(error).__name__} {error}")
+    finally:
+        place.end_all(before)
     print(f"{name}: {time.monotonic() - began:.1f} s", flush=True)
 
 

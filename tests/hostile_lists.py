@@ -26,7 +26,7 @@ sys.dont_write_bytecode = True
 import preload  # noqa: E402
 
 EXAMPLES = pathlib.Path(__file__).resolve().parent.parent / "examples"
-SECONDS = 60  # for one script
+SECONDS = 1200  # for one script
 MEMBER = "bf9679c0-0de6-11d0-a285-00aa003049e2"
 YES, NO, UNKNOWN = "yes", "no", "unknown"
 CHANGES = 0xD0156  # each right of a file that changes something

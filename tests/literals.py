@@ -1,10 +1,14 @@
 #!/usr/bin/env python3
-"""literals.py [--rules] [--list] [--only WORD] [--rows CRATE,..] [CRATE ..]
+"""literals.py [--rules | --members] [--list] [--only WORD] [--rows CRATE,..] [CRATE ..]
 
 Changes each literal of the definitions to its neighbour, one at a time, and says whether a worked row refuses it: a
 number by one, a text by one character, a case to the next of its enum, a constant or a definition without arguments to
 the next of its type. With --rules it also changes rules: a comparison or a connective to the other, a condition or a
 `not` left out, a field or a definition to a like one.
+
+With --members it adds instead of changing: to each comparison with a literal or a constant an alternative that is just outside,
+as a second word for a value, to each function by cases a case of a variant that has none, and to each table an entry that
+differs from all others in one field.
 
 A bug in code and definition alike passes every contract, since contracts only compare the two. Rows (proofs/*Rows.antt)
 have their values from elsewhere. So neither code nor contract is looked at here: a change counts as refused only if a
@@ -61,6 +65,14 @@ LIKE_FIELDS = (("owner", "group"), ("sacl", "dacl"), ("object", "inherited"), ("
 NEXT_FIELD = {name: like[(i + 1) % len(like)] for like in LIKE_FIELDS for i, name in enumerate(like)}
 OTHER = {"&&": "||", "||": "&&", "≤": "<", "<": "≤", "nat_lt": "nat_le", "nat_le": "nat_lt", "true": "false",
          "false": "true"}
+# What a comparison may have on its left, and what before that.
+OPERAND = r"(?:[\w.◌]+|\([^()]*\))"
+COMPARED = re.compile(rf'(?P<equals>nat_eq|bytes_eq|str_eq_ignore_ascii_case) (?P<left>{OPERAND}) '
+                      r'(?P<right>\(codes "[^"\\]+"\)|\d+|0x[0-9A-Fa-f]+|[A-Z][A-Z_]+)'
+                      rf'|(?P<first>(?:(?:slice_index|to_ascii_uppercase|to_ascii_lowercase|length) {OPERAND}(?: \d+)?)|[\w.]+) == '
+                      r'(?P<second>char "[^"\\]"|\d+|0x[0-9A-Fa-f]+|[A-Za-z_]+)(?![\w.(])')
+BEFORE_COMPARED = ("if", "(", "&&", "||", "=", ".", "then", "else", "not", "")
+FIELD = re.compile(r"^  (\w+) = (.*);$", re.M)
 DECLARED = re.compile(r"^(?:abbrev |unfoldable )?(?:pub )?(?:record |data |module )?([^\s(){}]+)(?= [:(])")
 WORD = re.compile(r"[^\s(){}\[\].,;◌]+")
 ERROR = re.compile(r"^(?:\./)?specs/([MR])(\d+)_(\w+)\.antt:(\d+):\d+: error: (?:`([^`]*)`: )?(.*)", re.M)
@@ -259,10 +271,11 @@ class Definitions:
             more = {name for name in texts if any(name in words_of(texts[other]) for other in kept)} - kept
         return "".join(text for name, text in texts.items() if name in kept)
 
-    def changes(self, crates, with_rules):
+    def changes(self, crates, with_rules, as_members=False):
         for name, module in self.modules.items():
             if module.crate in crates and is_changed(name):
-                yield from Changes(self, module, with_rules).all()
+                changes = Changes(self, module, with_rules)
+                yield from changes.members() if as_members else changes.all()
 
 
 def words_of(text):
@@ -351,11 +364,126 @@ class Changes:
         variants = dict(self.definitions.enums.get((crate, enum), []))
         return after(variant, [name for name, held in variants.items() if held == variants.get(variant)])
 
+    def members(self):
+        """Each member that may be added: an alternative to a comparison, a case of a function, an entry of a table."""
+        if self.module.is_constants:
+            yield from self.entries()
+            return
+        right = collections.defaultdict(list)
+        cases = collections.defaultdict(list)
+        for line, start, text, is_right, declared in self.module.clauses():
+            if is_right:
+                right[declared].append((line, start, text))
+            else:
+                cases[declared].append((line, text))
+        for declared, texts in right.items():
+            yield from self.alternatives(declared, texts)
+        for declared, heads in cases.items():
+            yield from self.cases(declared, heads)
+
+    def alternatives(self, declared, texts):
+        """To each comparison of a definition the same with what it compares with no more than once."""
+        found = [(line, start, text, one) for line, start, text in texts for one in COMPARED.finditer(text)]
+        listed = {one["right"] or one["second"] for *_, one in found}
+        for line, start, text, one in found:
+            if one["second"] and not text[:one.start()].rstrip().endswith(BEFORE_COMPARED):
+                continue
+            for other, needed in self.outside(one["right"] or one["second"], listed):
+                new = f"{one['equals']} {one['left']} {other}" if one["equals"] else f"{one['first']} == {other}"
+                use = "\n".join(filter(None, map(self.prelude, ("◌||◌", *needed))))
+                yield Change(0, self.module.name, line, start + one.start(), one[0], f"({one[0]} || {new})", use, declared)
+
+    def outside(self, compared, listed):
+        """What is like the literal and is compared with nowhere in the definition, with what it needs of the Prelude."""
+        if compared.startswith("(codes "):
+            word = compared[len('(codes "'):-len('")')]
+            for other in (word + "s", word[:-1], word.upper() if word.islower() else word.lower()):
+                if other and f'(codes "{other}")' not in listed and other != word:
+                    yield f'(codes "{other}")', ()
+        elif compared.startswith("char "):
+            others = (chr(ord(compared[-2]) + step) for step in range(1, 20))
+            yield next(f'char "{other}"' for other in others if f'char "{other}"' not in listed and other not in '"\\'), ()
+        elif compared[0].isdigit():
+            numbers = {int(one, 0) for one in listed if one[0].isdigit()}
+            yield str(next(number for number in range(int(compared, 0) + 1, 1 << 33) if number not in numbers)), ()
+        elif self.type_of(compared) in ("ℕ", "(Field.usize-field).Value", "(Field.u32-field).Value", "(Field.u8-field).Value"):
+            yield f"({compared} + 1)", ("◌+◌",)
+
+    def type_of(self, name):
+        return self.definitions.modules[self.home[name]].types.get(name) if name in self.home else None
+
+    def cases(self, declared, heads):
+        """A further case before the last one, which takes the rest: that of the first variant, for one that has none."""
+        lines = self.module.text.splitlines()
+        last, place = heads[-1][0], None
+        named = set()
+        for line, head in heads:
+            words = head.split()[1:]
+            places = [at for at, word in enumerate(words) if self.enum_of_variant(word)]
+            if len(places) != 1 or "(" in head or re.search(r"[=→]\s*$", lines[line]):
+                continue
+            place = places[0] if place is None else place
+            named |= {words[at] for at in places}
+        rest = heads[-1][1].split()[1:]
+        if place is None or len(heads) < 2 or place >= len(rest) or self.enum_of_variant(rest[place]) or "(" in heads[-1][1]:
+            return
+        first, head = next((line, head) for line, head in heads if self.enum_of_variant(head.split()[1:][place]))
+        old = head.split()[1:][place]
+        crate, enum, before = self.enum_of_variant(old)
+        for variant, held in self.definitions.enums.get((crate, enum), []):
+            other = f"{before}{variant}"
+            if held or other in named or not before and other not in self.enum_of:
+                continue
+            added = re.sub(rf"(?<![\w.]){re.escape(old)}(?![\w.])", other, lines[first], count=1)
+            yield Change(0, self.module.name, last, 0, "", added + "\n", "", declared)
+
+    def enum_of_variant(self, word):
+        """The crate and the enum of a variant, and the prefix by which it is named."""
+        prefix, dot, rest = word.partition(".")
+        if dot and prefix in self.enum_by_prefix and rest[:1].isupper():
+            return *self.enum_by_prefix[prefix], f"{prefix}."
+        return (*self.enum_of[word][:2], "") if word in self.enum_of else None
+
+    def entries(self):
+        """To each table that is cited an entry like the last one, of which one field differs from those of all others."""
+        lines = self.module.text.splitlines()
+        for declared, text in self.module.declarations().items():
+            if declared not in self.definitions.cited[self.module.name]:
+                continue
+            records = [dict(FIELD.findall(one)) for one in re.findall(r"record \{\n(.*?)\n\}", text, re.S)]
+            ends = [i for i, line in enumerate(lines) if re.match(r"\} List\.\[\]\)*$", line)
+                    and i > next(j for j, other in enumerate(lines) if other.startswith(f"{declared} ="))]
+            for field in records[-1] if records and ends else ():
+                value = new_value([record[field] for record in records], [record for record in records], field)
+                if value is not None:
+                    fields = "; ".join(f"{name} = {value if name == field else old}" for name, old in records[-1].items())
+                    entry = f"(List.◌∷◌ record {{ {fields}; }} List.[])"
+                    yield Change(0, self.module.name, ends[0], 2, "List.[]", entry, "", declared)
+
     def prelude(self, name):
         """The line that imports a name of the Prelude, where the module lacks it."""
         imported = {x for use in uncommented(self.module.text) if use.startswith("use Rattle.std")
                     for x in re.findall(r"[^\s{},]+", use.partition("{")[2])}
         return "" if name in imported else f"use Rattle.std.specs.Prelude.{{{name}}}"
+
+
+def new_value(values, records, field):
+    """A value of a field that no entry has: a power of two, a letter or a number; or letters in a list."""
+    if all(re.fullmatch(r"\d+|0x[0-9A-Fa-f]+", value) for value in values):
+        numbers = [int(value, 0) for value in values]
+        if len(numbers) > 2 and all(number and not number & number - 1 for number in numbers):
+            return str(next(1 << place for place in range(64) if 1 << place not in numbers))
+        if all(ord("A") <= number <= ord("Z") for number in numbers):
+            others = {name for name in records[-1] if name != field and records[-1][name] in map(str, range(65, 91))}
+            taken = {int(record[field]) for record in records if all(record[name] == records[-1][name] for name in others)}
+            return next((str(letter) for letter in range(ord("Z"), ord("A"), -1) if letter not in taken), None)
+        return str(max(numbers) + 1)
+    if all(re.match(r"List\.◌∷◌ \d+", value) for value in values):
+        for letter in range(ord("Z"), ord("A"), -1):
+            other = re.sub(r"(\d\d)(?!.*\d\d)", str(letter), values[-1], count=1)
+            if other not in values:
+                return other
+    return None
 
 
 def first_condition(text):
@@ -480,6 +608,7 @@ def main():
     parser = argparse.ArgumentParser(description="Changes the literals of definitions, and says what no row refuses.")
     parser.add_argument("crates", nargs="*", metavar="CRATE", help="by default all")
     parser.add_argument("--rules", action="store_true", help="also changes rules")
+    parser.add_argument("--members", action="store_true", help="adds members instead of changing literals")
     parser.add_argument("--list", action="store_true", help="only prints the changes")
     parser.add_argument("--only", metavar="WORD", default="", help="only changes with this word in their lines")
     parser.add_argument("--rows", metavar="CRATE,..", default="", help="the crates whose rows are tried")
@@ -488,7 +617,7 @@ def main():
     unknown = {*given.crates, *filter(None, given.rows.split(","))} - set(definitions.crates)
     if unknown:
         parser.error(f"there is no crate {min(unknown)} with definitions")
-    found = definitions.changes(given.crates or definitions.crates, given.rules)
+    found = definitions.changes(given.crates or definitions.crates, given.rules, given.members)
     changes = [change._replace(number=i) for i, change in enumerate(found) if given.only in str(change)]
     if given.list:
         print("\n".join(map(str, changes)))

@@ -4,11 +4,14 @@
 Refuses a name in backticks, in the documents that describe the sources, that the sources do not have: a word that
 occurs in no file of crates/, tests/, packaging/ or the Makefile beside comments, and a file that is not there. So a
 document cannot keep the name of what was moved or renamed. It also refuses a file of definitions that
-docs/DEFINITIONS.md does not name, and a link of any document to a file or a heading that is not there. The last line
-is 'N passed, M failed'.
+docs/DEFINITIONS.md does not name, a document that README does not list, a link of any document to a file or a heading
+that is not there, and a toolchain of docs/PROVED.md that is not the one of `rt version`, where there is rt. The last
+line is 'N passed, M failed'.
 """
 import pathlib
 import re
+import shutil
+import subprocess
 import sys
 
 sys.dont_write_bytecode = True
@@ -18,8 +21,9 @@ TOP = pathlib.Path(__file__).resolve().parent.parent
 DOCUMENTS = [*(f"docs/{name}.md" for name in ("ARCHITECTURE", "DECISIONS", "DEFINITIONS", "GATE", "PROVED")),
              "bench/README.md"]
 OF_DEFINITIONS = "docs/DEFINITIONS.md"
+OF_TOOLCHAIN = "docs/PROVED.md"
 FOLDERS = ["crates", "tests", "packaging", "include", "python", "javascript", "web", "systems", "examples", "bench",
-           "docs"]
+           "docs", "windows"]
 # What edits and kept work say is not what the sources say.
 LEFT_OUT = {"out", "must-fail", "edits", "__pycache__"}
 NO_DEFINITIONS = {"Lib.antt", "Inner.antt"}  # these only list modules
@@ -27,7 +31,8 @@ EDITS = ["crates/*/must-fail/*.edit", "tests/edits/*/*.edit"]
 # Names and files of the toolchain's libraries.
 OTHERS = {"Stdin", "Rfc4648.antt", "GeneralPurpose.antt", "Engines.antt", "std/specs/Io/KnownBytes.antt",
           "core/specs"}
-TOOLCHAIN = ("rattle-kit-", "rt ")  # its line of identity, its commands
+IDENTITY = "rattle-kit-"  # how the toolchain's line of identity begins
+TOOLCHAIN = (IDENTITY, "rt ")  # its line of identity, its commands
 FILE = re.compile(r"[\w./*-]*\.(?:rt|antt|py|sh|md|json|txt|c|h|1)")
 WORD = re.compile(r"[A-Za-z_]\w*")
 COMMENT = {".rt": re.compile(r"//.*"), ".antt": re.compile(r"--.*")}
@@ -81,6 +86,26 @@ def judge_links(count, document):
         count.add(is_there, f"{document.relative_to(TOP)}: a link leads to {path}#{anchor}, which is not there")
 
 
+def judge_list(count):
+    """The list of documents at the end of README has each of them."""
+    listed = (TOP / "README.md").read_text(encoding="utf-8").partition("\n## Documents\n")[2]
+    for document in sorted([*TOP.glob("docs/*.md"), TOP / "CONTRIBUTING.md"]):
+        name = document.relative_to(TOP)
+        count.add(f"]({name})" in listed, f"README.md: the list of documents lacks {name}")
+
+
+def judge_toolchain(count):
+    """The toolchain that PROVED names is the one that proves here."""
+    text = (TOP / OF_TOOLCHAIN).read_text(encoding="utf-8")
+    named = [span for _, span in spans_in(text) if span.startswith(IDENTITY)]
+    count.add(len(named) == 1, f"{OF_TOOLCHAIN}: it names {len(named)} toolchains")
+    if not shutil.which("rt"):
+        print(f"the toolchain of {OF_TOOLCHAIN}: skipped, there is no command rt")
+        return
+    told = subprocess.run(["rt", "version"], stdout=subprocess.PIPE, check=True).stdout.decode().strip()
+    count.add(named == [told], f"{OF_TOOLCHAIN}: it names {', '.join(named)}, and rt version prints {told}")
+
+
 def is_known(word, words):
     """A word that ends in _ is the front of names."""
     return word in words or word.endswith("_") and any(name.startswith(word) for name in words)
@@ -106,6 +131,8 @@ def main():
                 count.add(not missing, f"{document}:{number}: nothing is named {', '.join(missing)}")
     for document in [*TOP.glob("*.md"), *TOP.glob("docs/*.md"), *TOP.glob("bench/*.md")]:
         judge_links(count, document)
+    judge_list(count)
+    judge_toolchain(count)
     named = (TOP / OF_DEFINITIONS).read_text(encoding="utf-8")
     for path in filter(is_definitions, paths):
         is_named = re.search(rf"`(?:[\w/]*/)?{path.stem}(?:\.antt)?`", named)

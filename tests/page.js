@@ -11,7 +11,7 @@ const put = (id, value) => {
 };
 const isIdle = () => document.body.dataset.open === "0";
 const pause = (time) => new Promise((resolve) => setTimeout(resolve, time));
-const until = async (condition, seconds = 60) => {
+const until = async (condition, seconds = 300) => {
     const end = Date.now() + 1000 * seconds;
     while (!condition()) {
         if (Date.now() > end) throw new Error("waited too long for " + condition);
@@ -100,6 +100,7 @@ async function reasons(...given) {
 async function ask(...given) {
     byId("tab-ask").click();
     put("ask-token", given[0].token);
+    put("ask-exact", given[0].exact ?? true);
     put("ask-maximum", given[0].maximum);
     put("ask-want", given[0].want);
     put("ask-level", given[0].level);
@@ -260,10 +261,11 @@ async function bigFile(...given) {
     const began = performance.now();
     byId("lines-start").click();
     if (stopAfter) {
+        await until(() => !byId("lines-stop").disabled);
         await pause(stopAfter);
         byId("lines-stop").click();
     }
-    await until(() => !byId("lines-save").disabled, 110);
+    await until(() => !byId("lines-save").disabled, 800);
     clearInterval(timer);
     const seconds = (performance.now() - began) / 1000;
     if (isShort) return {seconds, most: Math.max(...gaps)};
@@ -279,6 +281,21 @@ async function bigFile(...given) {
     };
 }
 
+// What a filter of the table keeps: its last page. Gives the number of lines, and the one of the last.
+async function lastOfFilter(name) {
+    const numbers = () => document.querySelector("#lines-table .pages").firstChild.data.match(/[\d,]+/g);
+    document.activeElement.blur();
+    put("lines-filter", name);
+    await until(() => document.activeElement.id === "lines-filter" && byId("lines-filter").value === name);
+    const [, , count] = numbers();
+    if (!byId("page-last").disabled) {
+        document.activeElement.blur();
+        byId("page-last").click();
+        await until(() => numbers()[1] === count);
+    }
+    return {count, last: numbers()[1]};
+}
+
 // Each filter of the table in turn: how many lines it keeps, what its last page says, and the longest turn.
 async function filters(...given) {
     const found = [];
@@ -288,18 +305,9 @@ async function filters(...given) {
             const now = performance.now();
             [most, last] = [Math.max(most, now - last), now];
         }, 5);
-        const numbers = () => document.querySelector("#lines-table .pages").firstChild.data.match(/[\d,]+/g);
-        document.activeElement.blur();
-        put("lines-filter", name);
-        await until(() => document.activeElement.id === "lines-filter" && byId("lines-filter").value === name);
-        const [, , count] = numbers();
-        if (!byId("page-last").disabled) {
-            document.activeElement.blur();
-            byId("page-last").click();
-            await until(() => numbers()[1] === count);
-        }
+        const kept = await lastOfFilter(name);
         clearInterval(timer);
-        found.push({most, count, last: numbers()[1]});
+        found.push({most, ...kept});
     }
     return found;
 }
@@ -327,7 +335,7 @@ function focused() {
 
 // The rows of a report, in order.
 function reportRows() {
-    return Array.from(document.querySelectorAll("table.report tbody tr"), (row) => ({
+    return Array.from(document.querySelectorAll("#report-table tbody tr"), (row) => ({
         name: row.querySelector("th bdi").textContent,
         line: Number(/line (\d+)$/.exec(row.querySelector("th .where").textContent)?.[1] ?? 0),
         answer: row.querySelector("td .badge").textContent,
@@ -335,10 +343,17 @@ function reportRows() {
     }));
 }
 
+// Waits until the table of a report shows what a filter keeps, which the status then says.
+async function afterFilter(act) {
+    byId("report-status").textContent = "";
+    act();
+    await until(() => byId("report-status").textContent !== "");
+}
+
 // Opens an object of a report by its line, and goes back.
 async function openRow(...given) {
     byId("tab-report").click();
-    const row = Array.from(document.querySelectorAll("table.report tbody tr"))
+    const row = Array.from(document.querySelectorAll("#report-table tbody tr"))
                     .find((one) => one.querySelector("th .where").textContent.endsWith(`line ${given[0]}`));
     row.querySelector("button.open").click();
     await until(isIdle);
@@ -419,4 +434,69 @@ async function namesAndLabels(...given) {
                          (name) => (one.getAttribute(name) ?? "").split(" ").filter(Boolean)))
             .filter((id) => !byId(id));
     return {nameless: nameless.map((one) => one.id), mute: mute.length, twice, lost};
+}
+
+// What a text or a field comes to: how long it took, what is said of it, and whether something older is still seen.
+const isOlderSeen = () => Array.from(document.querySelectorAll(".older"))
+                              .some((one) => one.offsetParent !== null && one.checkVisibility({visibilityProperty: true}) &&
+                                      one.textContent !== "");
+async function ended(began) {
+    await until(isIdle);
+    const seconds = (performance.now() - began) / 1000;
+    const view = document.querySelector("[role=tabpanel]:not([hidden])");
+    const isOlder = isOlderSeen() || view.matches(".older") || view.querySelector(".older") !== null;
+    return {seconds, found: byId("found").textContent.slice(0, 200), isOlder};
+}
+
+async function hostileText(...given) {
+    const began = performance.now();
+    if (byId("text-clear")) byId("text-clear").click();
+    pasteInto("text", given[0]);
+    // A paste that the page leaves to the browser does nothing here.
+    if (isIdle()) put("text", given[0]);
+    return ended(began);
+}
+
+async function hostileField(...given) {
+    const [view, id, text] = given;
+    byId(`tab-${view}`).click();
+    await until(isIdle);
+    const began = performance.now();
+    pasteInto(id, text);
+    if (isIdle()) put(id, text);
+    return ended(began);
+}
+
+// A worker that gets no question: it is silent, as one in an endless loop is.
+async function stopWorker(...given) {
+    const {postMessage, terminate} = window.Worker.prototype;
+    let endedCount = 0;
+    window.Worker.prototype.postMessage = function(message) {
+        if (!message.name) postMessage.call(this, message);
+    };
+    window.Worker.prototype.terminate = function() {
+        endedCount += 1;
+        terminate.call(this);
+    };
+    const began = performance.now();
+    put("text", given[0]);
+    const isHidden = getComputedStyle(byId("view-look")).visibility === "hidden" &&
+        getComputedStyle(byId("found")).visibility === "hidden";
+    const got = await ended(began);
+    Object.assign(window.Worker.prototype, {postMessage, terminate});
+    return {...got, isHidden, ended: endedCount, look: byId("view-look").textContent.slice(0, 300)};
+}
+
+// A worker that breaks when it gets a question.
+async function breakWorker(...given) {
+    const {postMessage} = window.Worker.prototype;
+    window.Worker.prototype.postMessage = function(message) {
+        if (message.name) setTimeout(() => this.onerror({message: "out of memory"}));
+        else postMessage.call(this, message);
+    };
+    const began = performance.now();
+    put("text", given[0]);
+    const got = await ended(began);
+    window.Worker.prototype.postMessage = postMessage;
+    return {...got, look: byId("view-look").textContent.slice(0, 300)};
 }

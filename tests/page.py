@@ -4,7 +4,11 @@
 
 Tries out/sdtool.html, or PAGE, in real browsers, as a person would: it types, pastes, chooses and presses keys, and
 reads what is shown. Answers have to be those of the program: every worked row through the page, the cells of the grid
-for random descriptors, the reasons, a file of 100 MB. No request may leave the page, and no text may become markup.
+for random descriptors, the reasons, a file of 100 MB. No request may leave the page, and no text may become markup. No
+text round a descriptor is dropped without a word, and no answer is seen beside a newer text. A line of a megabyte takes at
+most a second, and a hostile text or field at most the page's limit of two. A worker that is silent or breaks is replaced. A
+link sets only what the view shows, a table of many lines does not stop the page, and a report of sdtool-audit keeps each
+object. Each control has a name, is in reach of keys and is not faint.
 With --descriptors 10000 the grid takes ten minutes. It needs chromium, chromium-driver and python3-selenium for
 Chromium, and firefox-esr for Firefox; a browser that is not there is skipped in a line.
 The last line is 'N passed, M failed'.
@@ -21,6 +25,7 @@ import traceback
 sys.dont_write_bytecode = True
 import browsers  # noqa: E402
 import page_answers  # noqa: E402
+import page_limits  # noqa: E402
 import page_people  # noqa: E402
 import page_report  # noqa: E402
 import page_safety  # noqa: E402
@@ -38,6 +43,27 @@ def test_file(count, page, given):
     count.add("Everyone" in shown and "full control" in shown, f"from a disk: {shown[:200]}")
     ready = local.do("return document.body.dataset.ready;")
     count.add(ready == "worker", f"from a disk the answers come from the {ready}")
+
+
+def test_without_vectors(count, page, given):
+    """A browser without WebAssembly's vectors says what it lacks, and waits for no worker before."""
+    word = page.browser.WITHOUT_VECTORS
+    if word is None:
+        return
+    old, said = browsers.started(type(page.browser), word), None
+    try:
+        old.run_before("window.workers = 0; "
+                       "window.Worker = class extends Worker { constructor(...given) { super(...given); window.workers += 1; } };")
+        one = Page(old, page.site)
+        try:
+            one.open()
+        except RuntimeError as error:
+            said = str(error)
+        count.add(said and "WebAssembly with vectors" in said, f"a browser without vectors says {said}")
+        workers = one.do("return window.workers;")
+        count.add(workers == 0, f"a browser without vectors starts {workers} workers")
+    finally:
+        old.end()
 
 
 def make_pictures(page, given):
@@ -59,6 +85,7 @@ def make_pictures(page, given):
 
 TESTS = [
     test_file,
+    test_without_vectors,
     page_answers.test_rows,
     page_answers.test_grid,
     page_answers.test_reasons,
@@ -71,11 +98,24 @@ TESTS = [
     page_texts.test_several,
     page_texts.test_faults,
     page_texts.test_warnings,
+    page_texts.test_kinds,
     page_texts.test_guids,
     page_texts.test_wrong_texts,
+    page_texts.test_hostile_texts,
+    page_texts.test_selected,
+    page_texts.test_wrong_bytes,
     page_safety.test_network,
     page_safety.test_markup,
     page_safety.test_addresses,
+    page_limits.test_hostile_texts,
+    page_limits.test_hostile_fields,
+    page_limits.test_large_comparison,
+    page_limits.test_stopped,
+    page_limits.test_broken,
+    page_limits.test_working,
+    page_limits.test_links,
+    page_limits.test_command_characters,
+    page_limits.test_going,
     page_size.test_long_line,
     page_size.test_long_fields,
     page_size.test_tangles,
@@ -96,7 +136,7 @@ TESTS = [
 
 def judge(kind, given):
     """The counts of all tests in a browser, which has a server of its own."""
-    count, site, browser = preload.Count(), Site(given.page), kind()
+    count, site, browser = preload.Count(), Site(given.page), browsers.started(kind)
     try:
         browser.size(1280, 900)
         page = Page(browser, site)

@@ -132,6 +132,7 @@ def test_reasons(count, page, given):
     """The ACE that a cell names when it is chosen."""
     maker = page_descriptors.Maker(given.seed + 1)
     page.open()
+    page.do("put('kind', 'folder');")
     asked = []
     while len(asked) < 150:
         descriptor = maker.descriptor()
@@ -172,6 +173,7 @@ def reason_of(descriptor, token, bit, question):
 def test_ask(count, page, given):
     maker = page_descriptors.Maker(given.seed + 2)
     page.open()
+    page.do("put('kind', 'folder');")
     for _ in range(60):
         chance, descriptor = maker.chance, maker.descriptor()
         if not descriptor.text.strip():
@@ -243,6 +245,20 @@ def test_token(count, page, _):
         },
     )
     count.add("Not a SID: Nobody!" in got["verdict"], f"a name in a token: {got['verdict']}")
+    user = "User Name   SID\n=========== =====================\nexample\\ann S-1-5-21-1-2-3-1001\n"
+    groups = "BUILTIN\\Users Alias S-1-5-32-545 Mandatory group, Enabled by default, Enabled group\n"
+    held = "SeTakeOwnershipPrivilege Take ownership of files or other objects Disabled\nSeBackupPrivilege Back up files Disabled\n"
+    # FR is 0x120089, and the privilege gives 0x80000.
+    for token, is_exact, verdict in (
+            (user, False, "granted 0x00120089"), (user, True, "denied 0x00000000"),
+            (user + groups + held, False, "granted 0x001a0089"), (user + held, False, "whoami lists no groups")):
+        question = {"token": token, "exact": is_exact, "maximum": True, "want": "", "level": "listed", "take": False, "security": False,
+                    "text": "O:BAD:(A;;FR;;;AU)"}
+        got = page.call("ask", question)
+        count.add(verdict in got["verdict"], f"{token!r}, exact: {is_exact}: {got['verdict']}, not {verdict}")
+        shown = page.do("return byId('ask-result').textContent;")
+        is_said = "SeBackupPrivilege: may read any object" in shown and "SeTakeOwnershipPrivilege" in shown
+        count.add(is_said == ("0x001a" in verdict), f"what whoami says beside SIDs: {shown[:300]}")
 
 
 def test_inherit(count, page, given):

@@ -10,8 +10,9 @@ from page_driver import SECONDS, each_view
 def test_keyboard(count, page, given):
     """Everything by keys alone, from typing to the answer of each view."""
     page.open()
-    page.browser.press(*"O:BAD:(A;;FR;;;BU)(A;;FA;;;BA)")
-    page.do("await until(() => document.querySelector('.summary'));")
+    text = "O:BAD:(A;;FR;;;BU)(A;;FA;;;BA)"
+    page.browser.press(*text)
+    page.do("await until(() => byId('text').value === given[0] && isIdle() && document.querySelector('.summary'));", text)
     reached = []
     for _ in range(60):
         page.browser.press("Tab")
@@ -86,7 +87,10 @@ def test_buttons(count, page, given):
     page.see("O:BAD:(A;;FA;;;WD)(A;IO;FR;;;BU)")
     page.do("document.querySelector('.warnings .jump').click();")
     count.add(page.do("return document.activeElement.id;").startswith("dacl-"), "a warning leads to its ACE")
-    sids = page.do("put('names', 'S-1-5-32-545 Our people'); await pause(300); return byId('view-look').textContent;")
+    sids = page.do(
+        "put('names', 'S-1-5-32-545 Our people'); await until(() => byId('view-look').textContent.includes('Our people')); "
+        "return byId('view-look').textContent;"
+    )
     count.add("Our people" in sids, "a name of the user")
 
 
@@ -114,7 +118,7 @@ def test_share(count, page, given):
     page.do(
         "put('kind', 'key'); await see('O:BAD:(A;;KR;;;BU)(A;;KA;;;BA)'); byId('tab-ask').click(); "
         "put('ask-token', 'BU, WD'); put('ask-maximum', true); "
-        "await until(() => document.querySelector('#ask-result .verdict')); await pause(300);"
+        "await until(() => document.querySelector('#ask-result .verdict') && isIdle());"
     )
     verdict = page.do("return document.querySelector('#ask-result .verdict code').textContent;")
     page.do("byId('share-command').click(); await until(() => byId('copied-text'));")
@@ -128,11 +132,14 @@ def test_share(count, page, given):
             .strip()
         )
     count.add(told == verdict and verdict.startswith("granted"), f"{command}: {told}, not {verdict}")
-    page.do("byId('share-link').click(); await pause(300);")
+    page.do(
+        "byId('share-link').click(); "
+        "await until(() => byId('copied-text')?.value.startsWith(location.href.split('#')[0]));"
+    )
     link = page.do("return byId('copied-text').value;")
-    address = page.do("await pause(600); return location.href;")
+    address = page.do("await until(() => location.href === given[0]).catch(() => null); return location.href;", link)
     count.add(link == address and "#" in link, f"the link {link} is not the address {address}")
-    page.browser.open(link)
+    page.open_link(link)
     page.do("await until(() => document.querySelector('#ask-result .verdict'));")
     again = page.do(
         "return [document.querySelector('#ask-result .verdict code').textContent, byId('kind').value, "
@@ -156,10 +163,10 @@ def test_accessible(count, page, _):
 # What a screen reader says of an answer, once the keys are still.
 SPOKEN = {
     "look": "Read as SDDL. Can take it over: Account 1001, Everyone, Users, Authenticated Users, Administrators. "
-    "Can change it: Nobody. Warnings: 3.",
+    "Can change it: Nobody. Warnings: 4.",
     "ask": "Granted. Granted: full control",
     "inherit": "The new folder: 2 ACEs",
-    "compare": "The two differ. Trustees whose rights differ: 5.",
+    "compare": "The two differ. Trustees whose rights differ: 4.",
     "error": "error 25",
 }
 CONTROLS = {
@@ -222,7 +229,7 @@ def test_screen_reader(count, page, _):
     for view in each_view(page):
         if view in SPOKEN:
             page.do(
-                "await until(() => byId('spoken').textContent.includes(given[0]), 5).catch(() => null);", SPOKEN[view]
+                "await until(() => byId('spoken').textContent.includes(given[0])).catch(() => null);", SPOKEN[view]
             )
             spoken = page.do("return byId('spoken').textContent;")
             count.add(SPOKEN[view] in spoken, f"{view}: a screen reader says {spoken!r}")

@@ -9,11 +9,13 @@ import importlib.util
 import json
 import os
 import pathlib
+import re
 import shutil
 import subprocess
 import tempfile
 
 import audit
+import audit_reports
 import page_driver
 
 TOP = pathlib.Path(__file__).resolve().parent.parent
@@ -85,6 +87,7 @@ def test_report(count, page, given):
         judge_hostile(count, page, maker)
         judge_kinds(count, page, maker)
         judge_cut(count, page, maker)
+        judge_groups(count, page, maker)
         judge_many(count, page, maker)
 
 
@@ -116,13 +119,13 @@ def judge_hostile(count, page, maker):
     is_right = made[:2] == [0, 3] and made[2].startswith("What WD gets of: change")
     count.add(is_right, f"markup came of a report, or another title: {made}")
     for answer, number in wanted.items():
-        local.do("put('report-answer', given[0]); await pause(50); await until(isIdle);", answer)
+        local.do("await afterFilter(() => put('report-answer', given[0]));", answer)
         got = local.call("reportRows")
         count.add([one["answer"] for one in got] == [answer] * number, f"the filter {answer}: {got}")
-    local.do("put('report-answer', ''); put('report-text', 'GPJ'); await pause(50);")
+    local.do("await afterFilter(() => { put('report-answer', ''); put('report-text', 'GPJ'); });")
     got = local.call("reportRows")
     count.add(len(got) == 1 and "gpj" in got[0]["name"], f"the filter for a text: {got}")
-    local.do("put('report-text', ''); await pause(50);")
+    local.do("await afterFilter(() => put('report-text', ''));")
     judge_views(count, local, maker, dict(rows), {one["line"]: one["name"] for one in objects})
     asked = page.browser.requests()
     others = [url for url in asked or [] if not url.startswith(("file:", "blob:", "about:", "data:"))]
@@ -170,7 +173,7 @@ def judge_people(count, local):
         count.add(width[0] <= width[1], f"a report at 360 pixels is {width[0]} wide in {width[1]}")
     finally:
         local.browser.size(1280, 900)
-    local.do("document.querySelector('table.report button.open').focus();")
+    local.do("document.querySelector('#report-table button.open').focus();")
     local.browser.press("Enter")
     local.do("await until(() => document.activeElement.id === 'opened-back');")
     local.browser.press("Enter")
@@ -197,6 +200,26 @@ def judge_kinds(count, page, maker):
     count.add(is_right and "D:(A;;CCDC;;;WD)" in text, f"a service in a report: {got} {text[:300]}")
 
 
+def judge_groups(count, page, maker):
+    """Unknown objects are first, then the most severe; places are above them, with how many objects have each."""
+    local = opened(page, maker.report("risks", maker.list("tree.csv", audit_reports.TREE)))
+    rows = local.do(
+        "return Array.from(document.querySelectorAll('#report-groups tbody tr'), (row) => Array.from(row.children, (one) => "
+        "one.textContent));"
+    )
+    # D:\\Data and three objects below it; c.txt and d.txt have the ACE from above; Sub and what is in it belong to Ann.
+    wanted = [("D:\\Data", "4"), ("E:\\x\\c.txt", "2"), ("D:\\Data\\Sub", "2")]
+    count.add([tuple(row[:2]) for row in rows] == wanted, f"places of a report: {rows}")
+    count.add("ACE 2, set here; inherited by 3 objects" in rows[0][2] and "high" in rows[0][2], f"a place: {rows[0]}")
+    summary = local.do("return byId('report-summary').textContent;")
+    count.add(audit_reports.PLACES in summary and audit_reports.SUM in summary, f"the sums of a report: {summary}")
+    shown = [one["name"] for one in local.call("reportRows")]
+    count.add(set(shown[:2]) == {"bad", "worse"} and len(shown) == 9, f"objects of a report in order: {shown}")
+    local.do("await afterFilter(() => document.querySelector('#report-groups button.open').click());")
+    shown = [one["name"] for one in local.call("reportRows")]
+    count.add(len(shown) == 5 and all(name.startswith("D:\\Data") for name in shown), f"a place chooses what is below it: {shown}")
+
+
 def judge_cut(count, page, maker):
     """A report that was cut or has a damaged line says so."""
     words = ("risks", maker.list("some.csv", [(f"file {number}", "D:(A;;FA;;;WD)") for number in range(20)]))
@@ -208,11 +231,18 @@ def judge_cut(count, page, maker):
     for name, text, said in (
         ("cut", whole.replace(last[0] + "\n", ""), "did not come to its end"),
         ("damaged", whole.replace('["file 3"', '["file 3', 1), "1 lines of it can't be read"),
+        ("of another shape", re.sub(r'(\["file 3".*?,)\[\[.*\]\]\]', r"\g<1>5]", whole, count=1), "1 lines of it can't be read"),
     ):
         path = maker.folder / f"{name}.html"
         path.write_text(text, encoding="utf-8")
         shown = opened(page, path).do("return byId('report-summary').textContent;")
         count.add(said in shown, f"a report that is {name}: {shown}")
+    path = maker.folder / "kind.html"
+    path.write_text(whole.replace('"D:(A;;FA;;;WD)","file"', '"D:(A;;FA;;;WD)","constructor"', 1), encoding="utf-8")
+    local = opened(page, path)
+    rows, text = local.call("reportRows"), local.do("return byId('report-table').textContent;")
+    is_right = not rows[0]["isOpen"] and rows[1]["isOpen"] and "no words for the rights of this kind of object (constructor)" in text
+    count.add(is_right, f"a kind that every object has a member of: {rows[:2]} {text[:200]}")
 
 
 def judge_many(count, page, maker):
@@ -221,13 +251,17 @@ def judge_many(count, page, maker):
     words = ("risks", maker.list("many.csv", rows))
     path = maker.report(*words, "--list", "all")
     local = page_driver.Page(page.browser, page.site, path.as_uri())
-    local.open()
-    got = local.call("manyRows")
+    limit = page_driver.MOST_TURN * page_driver.busy(maker.given)
+
+    def read():
+        local.open()
+        return local.call("manyRows")
+
+    got = page_driver.in_time(read, lambda got: got["most"] <= limit)
     print(
         f"{page.browser.name}: a report of {MANY:,} objects, {path.stat().st_size:,} bytes, is read and filtered in "
         f"{got['seconds']:.1f} s, at most {got['most']:.0f} ms between two turns of the page"
     )
     count.add(got["all"] == f"{MANY:,} of {MANY:,} objects", f"a large report: {got}")
     count.add(got["found"] == f"{MANY // 2:,} of {MANY:,} objects", f"a filter of a large report: {got}")
-    limit = page_driver.MOST_TURN * (1 if maker.given.idle else page_driver.BUSY)
     count.add(got["most"] <= limit, f"a turn of a large report took {got['most']:.0f} ms")

@@ -1,9 +1,14 @@
 """Tests of the page: what it finds in a pasted text, places of errors, warnings, names of GUIDs."""
+import base64
 import json
 import random
 import re
 
+import compare
+import fault_places
+import sddl_texts
 from page_driver import line_of
+from reference.places import ACE_FIELDS, place_of_bytes
 
 
 def test_forms(count, page, given):
@@ -63,11 +68,16 @@ def test_forms(count, page, given):
         page.see(text)
         shown = page.do("return [document.querySelector('.words code.whole')?.textContent, byId('found').textContent];")
         count.add(shown[0] == sddl and said in shown[1], f"{text[:60]!r}: {shown}, not {sddl} {said}")
+    for text, number in (("\0\0", 20), (" \0\n\0", 20), ("dn: CN=x\nnTSecurityDescriptor:: \ncn: x", 5)):
+        page.see(text)
+        shown = page.do("return document.querySelector('.fault .fault-name')?.textContent ?? byId('view-look').textContent;")
+        count.add(f"error {number}" in shown, f"{text!r} is no descriptor: {shown[:200]}")
 
 
 def test_several(count, page, given):
     """Each of several descriptors can be chosen, by keys too, by the name that the text has for it."""
     page.open()
+    page.do("put('kind', 'folder');")
     one, other = "O:BAG:SYD:(A;;FA;;;BA)", "O:BAG:SYD:(A;;FR;;;WD)"
     data, temp = r"C:\Data", r"\\server\temp"
     texts = [
@@ -122,21 +132,23 @@ FAULTS = [
     (
         "D:(A;;FR;;;BU)(XA;;FR;;;WD;(@User.clearance >= 2))",
         20,
-        "(XA;;FR;;;WD;(@User.clearance >= 2))",
-        "ACE 2 of the DACL",
+        ";",
+        "the SID of ACE 2 of the DACL",
     ),
-    ('D:(A;;FA;;;WD)S:(RA;;;;;WD;("Secrecy",TU,0,3))', 20, '(RA;;;;;WD;("Secrecy",TU,0,3))', "ACE 1 of the SACL"),
-    ("O:BAO:SY", 21, "O:SY", "the whole part"),
-    ("D:(A;;FA;;;WD", 20, "(A;;FA;;;WD", "ACE 1"),
-    ("D:(A;;FA;;;WD)x(A;;FR;;;BU)", 20, "x", "between the ACEs"),
+    ('D:(A;;FA;;;WD)S:(RA;;;;;WD;("Secrecy",TU,0,3))', 20, ";", "the SID of ACE 1 of the SACL"),
+    ("O:BAO:SY", 21, "O:", "the second letter of the owner"),
+    ("D:(A;;FA;;;WD", 20, "\u00a0", "the SID of ACE 1 of the DACL"),
+    ("D:(A;;FA;;;WD)x(A;;FR;;;BU)", 20, "x", "the text behind an ACE of the DACL"),
+    ("x", 20, "x", "the text before the first part"),
     ("G:S-1-5-99999999999", 24, "S-1-5-99999999999", "the SID of the group"),
     (
         "0100048000000000000000000000000014000000020020000100000009001800a900120001010000000000010000000061727478",
         12,
-        "09001800a900120001010000000000010000000061727478",
-        "ACE 1 of the DACL",
+        "09001800",
+        "the type of ACE 1 of the DACL",
     ),
-    ("0100048000000000000000000000000000zz0000", 2, "zz", "the characters"),
+    ("0100048000000000000000000000000000zz0000", 2, "z", "the characters"),
+    ("010", 3, "010", "has no place"),
 ]
 
 
@@ -235,9 +247,106 @@ def test_wrong_texts(count, page, given):
             )
 
 
+WORDS_OF_FIELDS = dict(zip(ACE_FIELDS, WRONG))
+
+
+def words_of(number, place):
+    """What the page calls a place of a text."""
+    where = WHERE.get(place.part, "") if place.ace is None else f"ACE {place.ace + 1} of {WHERE[place.part]}"
+    field = "the flags" if place.ace is None and place.field == "flags" else WORDS_OF_FIELDS.get(place.field)
+    without = {20: "the text behind an ACE" if place.part else "the text before the first part", 21: "the second letter"}
+    return " of ".join(filter(None, (field or without.get(number), where)))
+
+
+def test_hostile_texts(count, page, given):
+    """Texts of any kind: the place is the one that the independent implementation finds."""
+    chance = random.Random(given.seed + 7)
+    page.open()
+    page.do("put('form', 'sddl'); put('domain', given[0]);", sddl_texts.DOMAIN)
+    asked = 0
+    for text in sddl_texts.hostile(chance, 2000):
+        # The field of the page has no line ends and halves of pairs, and the page leaves out what is at its ends.
+        if not text.strip() or re.search("[\0\r\ufeff\ud800-\udfff]", text) or len(text) > MOST_OF_BYTES:
+            continue
+        expected = sddl_texts.expected(text, code_units=True)
+        if expected is None:
+            continue
+        shown = page.see(text)
+        got = page.do("return document.querySelector('pre.place mark')?.textContent;")
+        marked = text[expected.first : expected.first + expected.size]
+        is_marked = not all(map(sddl_texts.shows, marked)) or got == (marked[:MOST_MARKED] or "\u00a0")
+        words = words_of(int(expected.line.split()[1]), expected.place)
+        is_right = f"({expected.line}" in shown and is_marked and f"In {words}:" in shown
+        count.add(is_right, f"{text!r}: {expected}: {got!r} is marked; {shown[:300]}")
+        asked += 1
+        if asked == 200:
+            break
+    count.add(asked == 200, f"only {asked} faults of texts")
+    page.do("put('form', 'auto'); put('domain', '');")
+
+
+# A text, and what of it is selected behind a front.
+SELECTED = [
+    ("D:(A;;FA;;;WD)(A;;FA;;;Everyone)", "", "Everyone"),
+    ("C:\\Data\nO:BAG:SYD:(A;;FA;;;BA)\n   (A;;FR;;;Everyone)\nC:\\Everyone\n", "(A;;FR;;;", "Everyone"),
+    ("Sddl : O:BAG:SYD:(A;;FA;;;BA)(A;;\n       FX;;;W\n       x)\n", "FX;;;", "W\n       x"),
+    ('"Everyone","O:BAG:SYD:(A;;FA;;;Everyone)"', "(A;;FA;;;", "Everyone"),
+    ("O:BA\nG:SY\nD:(A;;FA;;;WD);\n", "WD)", ";"),
+    ("O:BA\nG:SY\nD:(A;;FA;;;WD\n", "(A;;FA;;;WD", ""),
+]
+
+
+def test_selected(count, page, _):
+    """The place in the field, also where the page has taken a text out of it."""
+    page.open()
+    for text, front, selected in SELECTED:
+        page.see(text)
+        got = page.do(
+            "Array.from(document.querySelectorAll('.fault button')).find((one) => /Select/.test(one.textContent)).click();"
+            "const field = byId('text'); return [field.selectionStart, field.selectionEnd];"
+        )
+        start = text.index(front) + len(front) if front else text.rindex(selected)
+        count.add(got == [start, start + len(selected)], f"{text!r}: {got}, not {[start, start + len(selected)]}")
+
+
+FIELDS_OF_BYTES = {"kind": "the type", "flags": "the flags", "size": "the size", "sid": "the SID"}
+WHERE = {"owner": "the owner", "group": "the group", "sacl": "the SACL", "dacl": "the DACL"}
+MOST_MARKED = 400  # characters
+MOST_OF_BYTES = 2000
+
+
+def test_wrong_bytes(count, page, given):
+    """Damaged bytes: the program's number, and the very bytes are named and marked, as the independent implementation says."""
+    chance = random.Random(given.seed + 5)
+    page.open()
+    asked = 0
+    for data in fault_places.hostile(compare.Lines(chance), chance, 10_000):
+        expected = place_of_bytes(data) if 0 < len(data) < MOST_OF_BYTES else None
+        if expected is None:
+            continue
+        line, place = expected
+        form = chance.choice(("hex", "base64"))
+        page.do("put('form', given[0]);", form)
+        shown = page.see(data.hex() if form == "hex" else base64.b64encode(data).decode())
+        got = page.do("return document.querySelector('pre.place mark')?.textContent;")
+        digits = data[place.offset : place.offset + place.size].hex()
+        marked = digits[:MOST_MARKED] + " .." if len(digits) > MOST_MARKED else digits or "\u00a0"
+        where = WHERE.get(place.part, "") if place.ace is None else f"ACE {place.ace + 1} of {WHERE[place.part]}"
+        words = " of ".join(filter(None, (FIELDS_OF_BYTES.get(place.field, "the bytes"), where)))
+        is_right = f"({line}" in shown and got == marked and f"In {words}:" in shown
+        count.add(is_right, f"{form} of {data.hex()}: {line} {place}: {got!r} is marked; {shown[:300]}")
+        asked += 1
+        if asked == 200:
+            break
+    count.add(asked == 200, f"only {asked} faults of bytes")
+    page.do("put('form', 'auto');")
+
+
 WARNINGS = [
     ("O:BA", "There is no DACL: everyone"),
     ("D:NO_ACCESS_CONTROL", "The DACL is null: everyone"),
+    ("O:BAG:SYD:(A;;RC;;;OW)(A;;FA;;;BA)", "ACE 1 is for Owner Rights"),
+    ("O:BAG:SYD:(A;;FA;;;BA)(A;;0x0;;;OW)", "ACE 2 is for Owner Rights"),
     ("O:BAD:", "The DACL is empty"),
     ("O:BAD:(A;;FW;;;WD)", "Everyone can"),
     ("O:BAD:(A;;SD;;;AU)", "Authenticated Users can delete"),
@@ -248,13 +357,14 @@ WARNINGS = [
     ("O:BAD:(A;;FA;;;WD)(D;;FW;;;BU)", "denies Users what earlier ACEs already allow"),
     ("O:BAD:(A;;0x0;;;BA)", "mask 0"),
     ("O:BAD:P(A;;FA;;;BA)", "Inheritance is switched off"),
-    ("O:BAD:(A;;FA;;;BA)S:(ML;;NW;;;HI)", "integrity label: High level"),
+    ("O:BAD:(A;;FA;;;BA)S:(ML;;NW;;;HI)", "integrity label: high integrity"),
     ("O:S-1-5-21-1-2-3-500D:(A;;FA;;;S-1-5-21-4-5-6-512)", "SIDs of 2 domains"),
 ]
 
 
 def test_warnings(count, page, _):
     page.open()
+    page.do("put('kind', 'folder');")
     for text, warning in WARNINGS:
         page.see(text)
         shown = page.texts(".warning")
@@ -267,6 +377,33 @@ def test_warnings(count, page, _):
     page.see("O:BAG:SYD:(A;;FA;;;BA)(A;;FA;;;SY)")
     shown = page.texts(".warning")
     count.add(shown == [], f"a harmless descriptor: {shown}")
+
+
+# Texts of which the page finds the kind of object, and what it then shows.
+KINDS = [
+    ("O:BAG:SYD:(A;CI;KA;;;BA)(A;CI;0x2;;;BU)", "key", "Users can set values"),
+    ("O:BAD:(OA;;CR;00299570-246d-11d0-a768-00aa006e0529;;S-1-5-21-1-2-3-1105)", "ds", "can set a new password"),
+    ("\nD:(A;;CCDCLCSWRPWPDTLOCRRC;;;AU)(A;;CCDCLCSWRPWPDTLOCRSDRCWDWO;;;BA)", "service", "Authenticated Users can change configuration"),
+    ("channelAccess: O:BAG:SYD:(A;;0x7;;;BU)(A;;0xf0007;;;SY)", "log", "Users can clear"),
+    ("\\\\.\\pipe\\spoolss O:SYD:(A;;0x12019f;;;WD)", "pipe", "Everyone can create an instance"),
+    ("O:BAG:SYD:(A;;FA;;;BU)", "folder", "Users can add files"),
+]
+
+
+def test_kinds(count, page, _):
+    """The page finds the kind of object, and asks for it where the rights fit no file."""
+    page.open()
+    for text, kind, warning in KINDS:
+        page.see(text)
+        shown = page.texts(".warning")
+        found = page.do("return byId('kind').value;")
+        count.add(found == kind, f"{text}: the kind is {found}, not {kind}")
+        count.add(any(warning in one for one in shown), f"{text}: {shown}")
+    page.see("D:(A;;CCDCLCSWRPWPDTLOCRRC;;;AU)(A;;CCDCLCSWRPWPDTLOCRSDRCWDWO;;;BA)")
+    count.add(page.texts(".warning") == [], f"words before the kind is known: {page.texts('.warning')}")
+    page.do("document.querySelector('[data-kind=service]').click(); await until(isIdle);")
+    shown = page.texts(".warning")
+    count.add(any("can change configuration" in one for one in shown), f"a kind that was asked for: {shown}")
 
 
 # An ACE of a directory object, and what its GUID is called. Five GUIDs are a property and a validated write.

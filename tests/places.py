@@ -2,7 +2,7 @@
 """places.py [--list SUBJECT]
 
 The tables of docs/ARCHITECTURE.md say which places a change touches: an alias, a kind of ACE, an option, a further
-input of a command. Each table is held to one instance of its subject that the sources have. Every file that names the
+input of a command, a format, a question, a rule or a report of sdtool-audit. Each table is held to one instance of its subject that the sources have. Every file that names the
 instance has to be in the table, and of each row some file has to name it. So whoever adds a table, a binding or a list
 that a change has to follow also adds it there. --list prints the files of a subject and stops.
 The last line is 'N passed, M failed'.
@@ -22,7 +22,8 @@ import preload  # noqa: E402
 TOP = pathlib.Path(__file__).resolve().parent.parent
 DOCUMENT = "docs/ARCHITECTURE.md"
 # What only tells of an instance, or gives it as an example, need not change with another one.
-TOLD = ["CHANGELOG.md", "CONTRIBUTING.md", "README.md", "docs/*", "examples/*", "bench/*", "tests/places.py"]
+TOLD = ["CHANGELOG.md", "CONTRIBUTING.md", "README.md", "docs/*", "examples/*", "bench/*", "tests/places.py", "windows/examples.toml",
+        "windows/kinds.toml", "windows/schema.toml"]
 # What has to change there is named by the check. Edits, which names.py leaves out, are named by tests/edits.py --apply.
 NAMED = ["crates/*/proofs/*"]
 
@@ -38,6 +39,10 @@ SUBJECTS = {
     "kind": Subject("A kind of ACE", "ObjectAudit", r"(?i)object.?audit|[\"'(`]OU[\"'`;]|b'O', b'U'|audit_object"),
     "option": Subject("An option of a command", "--take-ownership", r"(?i)take.?ownership"),
     "input": Subject("A further input of a command", "--creator", r"\b[Cc]reator\b(?!.?(?i:owner|group|rights))"),
+    "format": Subject("A format of `sdtool-audit`", "wevtutil", r"wevtutil"),
+    "question": Subject("A question of `sdtool-audit`", "Having", r"\bHaving\b"),
+    "rule": Subject("A rule of `sdtool-audit`", "children-change", r"children-change"),
+    "report": Subject("A form of its reports", "Markdown", r"(?i)markdown"),
 }
 
 

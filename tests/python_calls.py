@@ -32,7 +32,7 @@ os.environ.update(ENVIRONMENT)
 sys.path.insert(0, str(TOP / "python"))
 import sdtool  # noqa: E402
 
-SECONDS = 120
+SECONDS = 3000
 MORE_MEMORY = 32 << 10  # KiB that a stream of 100 MB may add
 # From MS-DTYP 2.4.2: Users, Administrators, Everyone, System.
 BU, BA = bytes.fromhex("01020000000000052000000021020000"), bytes.fromhex("01020000000000052000000020020000")
@@ -61,6 +61,16 @@ def all_of(path: str) -> List[str]:
     with open(path, "rb") as file:
         answers: Iterator[str] = sdtool.lines(file, ["convert"])
         return [*answers, *sdtool.lines(["D:P", b"D:"], ["convert", "--from", "sddl"], ahead=1)]
+
+def trustees(path: str) -> Iterator[str]:
+    with open(path) as file:
+        for found in sdtool.plain_descriptors((line.rstrip("\\n") for line in file), domain="S-1-5-21-1-2-3"):
+            if isinstance(found, sdtool.Fault):
+                print(found.line)
+            elif isinstance(found.dacl, tuple):
+                yield from (ace.sid for ace in found.dacl if ace.kind == "A" and ace.mask & 0x2)
+            else:
+                yield f"everyone, since the DACL is {found.dacl}"
 '''
 WRONG_CALLER = "import sdtool\nsdtool.check(b'', [], mapping='folder')\nsdtool.to_sddl('D:')\n"
 
@@ -75,7 +85,7 @@ def raised(call, *arguments, **named):
 
 
 def test_types(count):
-    """Of each argument some values of a wrong type, which are a TypeError that names it."""
+    """Of each argument some values of a wrong type, which are a WrongType, and so a TypeError, that names it."""
     whole = {
         sdtool.to_sddl: {"descriptor": EMPTY, "domain": None, "numeric": False},
         sdtool.explain: {"descriptor": EMPTY, "domain": None, "numeric": False},
@@ -88,6 +98,7 @@ def test_types(count):
         sdtool.run: {"words": ["convert"], "input": b""},
         sdtool.lines: {"source": [], "words": ["convert"], "ahead": 1},
         sdtool.fault_text: {"number": 25},
+        sdtool.plain_descriptors: {"descriptors": [], "domain": None, "ahead": 1},
     }
     wrong = {
         "descriptor": ["O:BA", None, 20, [1], object()], "domain": [1, ["S"], 1.0], "numeric": [0, 1, None, "yes"],
@@ -97,6 +108,7 @@ def test_types(count):
         "security": [0, None], "take_ownership": [1, "yes"], "parent": ["D:", None], "owner": [None, 1], "group": [None, 1],
         "kind": [1, None], "creator": ["D:", 1], "words": ["convert", b"convert", [b"convert"], [None]],
         "input": ["D:", None, 5], "source": ["D:", b"D:", 5], "ahead": [True, None, 1.5], "number": [True, None, "25", 25.0],
+        "descriptors": ["D:", b"D:", 5, None],
     }
     for call, arguments in whole.items():
         problem = raised(call, **arguments)
@@ -104,10 +116,12 @@ def test_types(count):
         for name in arguments:
             for value in wrong[name]:
                 problem = raised(call, **{**arguments, name: value})
-                count.add(type(problem) is TypeError and name in str(problem),
+                count.add(type(problem) is sdtool.WrongType and name in str(problem),
                           f"{call.__name__}({name}={value!r}): {problem!r}")
     problem = raised(list, sdtool.lines([1], ["convert"]))
-    count.add(type(problem) is TypeError and "source[0]" in str(problem), f"a line that is a number: {problem!r}")
+    count.add(type(problem) is sdtool.WrongType and "source[0]" in str(problem), f"a line that is a number: {problem!r}")
+    problem = raised(list, sdtool.plain_descriptors([1]))
+    count.add(type(problem) is sdtool.WrongType and "descriptors" in str(problem), f"a number of many: {problem!r}")
 
 
 class Index:
@@ -157,9 +171,15 @@ def test_sids(count):
     for call in (sdtool.to_sddl, sdtool.explain):
         problem = raised(call, EMPTY, domain=BU + BA)
         count.add(type(problem) is sdtool.ArgumentFault and problem.argument == "domain", f"{call.__name__}: {problem!r}")
-    problem = raised(sdtool.check, EMPTY, [], principal_self=BU[:-1], wanted=1)
-    count.add(type(problem) is sdtool.ArgumentFault and problem.argument == "principal_self", f"self: {problem!r}")
-    for size in (1, 15, 17, 32):
+        problem = raised(call, EMPTY, domain=b"")
+        count.add(type(problem) is sdtool.ArgumentFault and problem.argument == "domain", f"{call.__name__}: {problem!r}")
+    # No bytes are no SID, and do not say that there is none.
+    for data in (BU[:-1], b""):
+        problem = raised(sdtool.check, EMPTY, [], principal_self=data, wanted=1)
+        count.add(type(problem) is sdtool.ArgumentFault and problem.argument == "principal_self", f"self: {problem!r}")
+    problem = raised(sdtool.derive, EMPTY, BA, BA, creator=b"")
+    count.add(type(problem) is sdtool.Fault and (problem.number, problem.argument) == (5, "creator"), f"creator: {problem!r}")
+    for size in (0, 1, 15, 17, 32):
         problem = raised(sdtool.check, EMPTY, [], object_type=bytes(size), wanted=1)
         count.add(type(problem) is sdtool.ArgumentFault and problem.argument == "object_type", f"GUID of {size}: {problem!r}")
     count.add(raised(sdtool.check, EMPTY, [BU] * 1024, wanted=1) is None, "1,024 SIDs")
@@ -179,7 +199,7 @@ def test_taken_types(count):
     user = uuid.UUID("bf967aba-0de6-11d0-a285-00aa003049e2")
     object_ace = sdtool.from_sddl(f"D:(OA;;CR;{user};;AU)")
     signed_in = sdtool.from_sddl("O:AU")[20:]
-    for value, granted in ((user, True), (user.bytes_le, True), (bytearray(user.bytes_le), True), (None, False), (b"", False),
+    for value, granted in ((user, True), (user.bytes_le, True), (bytearray(user.bytes_le), True), (None, False),
                            (user.bytes, False)):
         verdict = sdtool.check(object_ace, [signed_in], wanted=0x100, mapping="ds", object_type=value)
         count.add(verdict.granted == granted, f"object_type={value!r}")
@@ -455,8 +475,8 @@ def test_annotations(count):
         wrong.write_text(WRONG_CALLER, encoding="utf-8")
         mypy = ["mypy", "--strict", "--cache-dir", str(pathlib.Path(name, "cache"))]
         environment = {**os.environ, "MYPYPATH": str(TOP / "python")}
-        # Dask and fsspec, as Debian has them, have no annotations.
-        module = sorted(str(path) for path in (TOP / "python/sdtool").glob("*.py") if path.name != "distributed.py")
+        # Not distributed: Dask and fsspec, as Debian has them, have no annotations.
+        module = sorted(str(path) for path in (TOP / "python/sdtool").glob("*.py"))
         for words in (["--python-version", "3.8", *module], [str(caller)]):
             found, status = ran([*mypy, *words], env=environment, cwd=name)
             count.add(status == 0, f"mypy --strict {words}: {found}")

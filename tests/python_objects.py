@@ -19,6 +19,7 @@ import itertools
 import os
 import pathlib
 import pickle
+import random
 import re
 import subprocess
 import sys
@@ -36,8 +37,12 @@ else:
     subprocess.run([sys.executable, TOP / "python/build_wheel.py", "--extension"], check=False)
 
 import c_library  # noqa: E402
+import compare  # noqa: E402
+import fault_places  # noqa: E402
 import preload  # noqa: E402
 import reference  # noqa: E402
+import sddl_texts  # noqa: E402
+from reference.places import place_of_bytes  # noqa: E402
 
 os.environ.setdefault("SDTOOL_LIBRARY", str(c_library.LIBRARIES / "libsdtool.so"))
 sys.path.insert(0, str(TOP / "python"))
@@ -55,7 +60,8 @@ NAMES = {name: getattr(sdtool, name) for name in sdtool.__all__}
 OBJECT_CLASS = uuid.UUID("bf967aba-0de6-11d0-a285-00aa003049e2")
 READ = 0x120089
 DOMAIN = "S-1-5-21-1-2-3"
-MOST_SECONDS = 20  # that a thread waits for others
+REASONS = ["nothing", "label", "no-dacl", "owner", "privilege", "granted", "denied"]
+MOST_SECONDS = 600  # that a thread waits for others
 
 
 def raised(call, *arguments, **named):
@@ -138,7 +144,7 @@ def test_sids(count):
         problem = raised(Sid, bytes(data))
         count.add(type(problem) is sdtool.ArgumentFault and problem.number == 70, f"Sid({data!r}): {problem!r}")
     for value in (None, 1, 1.5, [1], uuid.UUID(int=0)):
-        count.add(type(raised(Sid, value)) is TypeError, f"Sid({value!r})")
+        count.add(type(raised(Sid, value)) is sdtool.WrongType, f"Sid({value!r})")
     same = [Sid("BA"), Sid(b"" + Sid("BA")), Sid(bytearray(Sid("BA"))), Sid(memoryview(Sid("BA"))), Sid(Sid("BA"))]
     count.add(len(set(same)) == 1 and all(type(sid) is Sid for sid in same), "a SID of each type")
     count.add(Sid("BA") != Sid("BU") and bool(Sid("S-1-0")) and len(Sid("S-1-0")) == 8, "SIDs")
@@ -157,7 +163,7 @@ def test_acls(count):
         count.add(repr(acl) == f"Acl.{name.upper()}" and eval(repr(acl), NAMES.copy()) == acl, f"{acl!r}")
         count.add([acl.is_list, acl.is_null, acl.is_absent] == [False, name == "null", name == "absent"], name)
     for acl in (*none, Acl(), Acl([ace])):
-        count.add(type(raised(bool, acl)) is TypeError and type(raised(lambda acl: not acl, acl)) is TypeError, f"bool({acl!r})")
+        count.add(type(raised(bool, acl)) is sdtool.WrongType and type(raised(lambda acl: not acl, acl)) is sdtool.WrongType, f"bool({acl!r})")
     different = [*none, Acl(), Acl([ace]), Acl([ace, ace]), Acl([ace.replace(mask=1)])]
     count.add(all((one == other) == (one is other) for one, other in itertools.product(different, repeat=2)), "ACLs that differ")
     count.add(len(set(different)) == len(different) and Acl([ace]) == Acl((ace,)) and Acl() != [] and Acl() != (), "ACLs")
@@ -170,7 +176,7 @@ def test_acls(count):
         count.add(descriptor.dacl == acl and descriptor.sddl() == text and
                   bool(descriptor.check(Token(["WD"]), READ)) == granted, f"{descriptor!r}")
     for value in (None, 1, "D:", b"D:", [None], ["(A;;FR;;;BU)"], [tuple(ace)]):
-        count.add(type(raised(lambda value: SecurityDescriptor(dacl=value), value)) is TypeError, f"dacl={value!r}")
+        count.add(type(raised(lambda value: SecurityDescriptor(dacl=value), value)) is sdtool.WrongType, f"dacl={value!r}")
 
 
 def test_aces(count):
@@ -190,7 +196,7 @@ def test_aces(count):
         count.add(type(problem) is sdtool.ArgumentFault, f"an ACE with {field}={value!r}: {problem!r}")
     for field, value in (("kind", None), ("kind", True), ("flags", "OI"), ("mask", 1.0), ("mask", False), ("sid", None),
                          ("sid", 1), ("object_type", 1)):
-        count.add(type(raised(ace.replace, **{field: value})) is TypeError, f"an ACE with {field}={value!r}")
+        count.add(type(raised(ace.replace, **{field: value})) is sdtool.WrongType, f"an ACE with {field}={value!r}")
     # GUIDs are in the kinds for objects alone.
     for kind in (AceKind.A, AceKind.D, AceKind.AU, AceKind.ML):
         count.add(type(raised(ace.replace, kind=kind)) is sdtool.ArgumentFault, f"{kind!r} with a GUID")
@@ -238,8 +244,9 @@ def test_building(count):
                   {"resource_manager": 256}, {"resource_manager": -1}):
         problem = raised(whole.replace, **named)
         count.add(type(problem) is sdtool.ArgumentFault and problem.argument in named, f"{named}: {problem!r}")
-    for named in ({"owner": 1}, {"group": [1]}, {"control": "P"}, {"control": True}, {"resource_manager": None}, {"other": 1}):
-        count.add(type(raised(whole.replace, **named)) is TypeError, f"{named}")
+    for named in ({"owner": 1}, {"group": [1]}, {"control": "P"}, {"control": True}, {"resource_manager": None}):
+        count.add(type(raised(whole.replace, **named)) is sdtool.WrongType, f"{named}")
+    count.add(type(raised(whole.replace, other=1)) is TypeError, "an unknown name")
     problem = raised(whole.replace, owner="Everyone")
     count.add(type(problem) is sdtool.Fault and (problem.number, problem.argument) == (25, "owner"), f"{problem!r}")
 
@@ -280,11 +287,61 @@ def test_tokens(count):
         count.add(type(problem) is sdtool.ArgumentFault and problem.argument in named, f"{named}: {problem!r}")
     for named in ({"level": True}, {"level": "high"}, {"privileges": "security"}, {"privileges": [1]}, {"sids": "BU"},
                   {"sids": None}, {"sids": [1]}, {"deny_only": Sid("BA")}):
-        count.add(type(raised(Token, **{"sids": [], **named})) is TypeError, f"{named}")
+        count.add(type(raised(Token, **{"sids": [], **named})) is sdtool.WrongType, f"{named}")
     for given in (["BU"], None, sdtool, Sid("BA")):
-        count.add(type(raised(Checker, given)) is TypeError, f"Checker({given!r})")
+        count.add(type(raised(Checker, given)) is sdtool.WrongType, f"Checker({given!r})")
     problem = raised(Token, ["BU", "Everyone"])
     count.add(type(problem) is sdtool.Fault and (problem.number, problem.argument, problem.index) == (25, "sids", 1), f"{problem!r}")
+
+
+def token_of(question):
+    """The token of a check, and the arguments beside it."""
+    sids, deny_only = ([sid for sid, deny in question.token if deny == which] for which in (False, True))
+    privileges = ["security"] * question.security + ["take-ownership"] * question.take_ownership
+    named = {"mapping": question.mapping, "object_type": question.object_type or None,
+             "principal_self": question.principal_self or None}
+    return Token(sids, deny_only=deny_only, level=question.level, privileges=privileges), named
+
+
+def why(question):
+    """The reasons of the objects for the question of a check, as tests/c/calls.c prints them."""
+    descriptor = SecurityDescriptor.from_bytes(question.descriptor)
+    token, named = token_of(question)
+    told, checker = descriptor.reasons(token, **named), Checker(token, **named)
+    if not told == checker.reasons(descriptor) == checker.reasons(question.descriptor):
+        return "a checker has other reasons"
+    for right, reason in enumerate(told):
+        acl = descriptor.sacl if reason.kind == "label" else descriptor.dacl
+        if reason.ace is not (None if reason.place is None else acl[reason.place]):
+            return f"another ACE: {reason}"
+        if bool(reason) != bool(descriptor.check(token, 1 << right, **named)):
+            return f"another verdict than {reason} on right {right}"
+    return " ".join(f"{REASONS.index(reason.kind)}" + ("" if reason.place is None else f":{reason.place}") for reason in told)
+
+
+def where(question):
+    """The origins that the objects have for the question of a derivation, as tests/c/calls.c prints them."""
+    folder, creator = SecurityDescriptor.from_bytes(question.descriptor), None
+    if question.creator:
+        creator = SecurityDescriptor.from_bytes(question.creator)
+    named = {"kind": question.kind, "mapping": question.mapping}
+    found = folder.origins(question.owner, question.group, creator=creator, **named)
+    if found != folder.origins(question.owner, question.group, creator=question.creator or None, **named):
+        return "other origins of bytes"
+    child, told = folder.derive(question.owner, question.group, creator=creator, **named), []
+    for name in ("sacl", "dacl"):
+        acl, origins = getattr(child, name), getattr(found, name)
+        aces = acl if acl.is_list else ()
+        if len(origins) != len(aces):
+            return f"{len(origins)} origins of {len(aces)} ACEs"
+        for origin, ace in zip(origins, aces):
+            giver = getattr(creator if origin.from_creator else folder, name)
+            if origin.ace != giver[origin.place] or not origin.from_creator and origin.ace is not giver[origin.place]:
+                return f"another ACE: {origin}"
+            if origin.inherit_only != bool(ace.flags & AceFlags.IO):
+                return f"{origin} of {ace}"
+        told += [name, *(f"{'c' if it.from_creator else 'p'}{it.place}{'+' * it.inherit_only}" for it in origins)]
+    return " ".join(told)
 
 
 def asked(question):
@@ -293,11 +350,8 @@ def asked(question):
     if question.job == "derive":
         return descriptor.derive(question.owner, question.group, kind=question.kind, creator=question.creator or None,
                                  mapping=question.mapping).bytes.hex()
-    sids, deny_only = ([sid for sid, deny in question.token if deny == which] for which in (False, True))
-    privileges = ["security"] * question.security + ["take-ownership"] * question.take_ownership
-    token = Token(sids, deny_only=deny_only, level=question.level, privileges=privileges)
-    named = {"maximum": question.maximum, "mapping": question.mapping, "object_type": question.object_type,
-             "principal_self": question.principal_self}
+    token, named = token_of(question)
+    named["maximum"] = question.maximum
     verdict = descriptor.check(token, question.wanted, **named)
     many = list(Checker(token, question.wanted, **named).many([descriptor, question.descriptor, b"", descriptor]))
     if many[0] != verdict or many[1] != verdict or many[3] != verdict or not isinstance(many[2], sdtool.Fault):
@@ -308,12 +362,18 @@ def asked(question):
 def test_questions(count):
     for job in ("check", "derive"):
         for question, expected in c_library.questions_of_rows(job):
-            problem = None
-            try:
-                found = asked(question)
-            except sdtool.Fault as fault:
-                problem, found = fault, c_library.without_name(fault.line)
-            count.add(found == expected, f"{job} {question.line()}: {found} {problem}, not {expected}")
+            answers = [(asked, expected)]
+            if job == "check":
+                answers.append((why, c_library.reasons_for(question, expected)))
+            else:
+                answers.append((where, c_library.origins_for(question, expected)))
+            for ask, right in answers:
+                problem = None
+                try:
+                    found = ask(question)
+                except sdtool.Fault as fault:
+                    problem, found = fault, c_library.without_name(fault.line)
+                count.add(found == right, f"{job} {question.line()}: {found} {problem}, not {right}")
 
 
 def test_many(count):
@@ -339,7 +399,223 @@ def test_many(count):
     problem = raised(list, Checker(Token(["BU"])).many([yes]))
     count.add(isinstance(problem, sdtool.Fault) and problem.number == 50, f"no right: {problem!r}")
     for given in (None, 1, yes.bytes, ["D:"], [None]):
-        count.add(type(raised(lambda given: list(checker.many(given)), given)) is TypeError, f"many({given!r})")
+        count.add(type(raised(lambda given: list(checker.many(given)), given)) is sdtool.WrongType, f"many({given!r})")
+
+
+# Bytes that are no descriptor, and how the message of their fault ends.
+SAID = [
+    (b"", "error 5 short: fewer than 20 bytes, at byte 0"),
+    (bytes(20), "error 6 revision: the revision of the header is not 1, at byte 0"),
+    (fault_places.header(group=8), "error 8 offset group: the offset is below 20, or fewer than 8 bytes follow it, at byte 8, "
+     "the group"),
+    (fault_places.header(0x10, sacl=20) + fault_places.acl(7, 0), "at byte 20, the SACL"),
+    (fault_places.header(owner=20) + b"\1\x10" + bytes(80), "at byte 20, the owner, SID"),
+    (fault_places.header(4, dacl=20) + fault_places.acl(48, 2, fault_places.ace() + fault_places.ace(9)),
+     "error 12 ace-type dacl: the type of an ACE is not supported, at byte 48, ACE 2 of the DACL, kind"),
+    (fault_places.header(0x10, sacl=20) + fault_places.acl(28, 2, fault_places.ace()), "at byte 48, ACE 2 of the SACL, size"),
+    (fault_places.header(4, dacl=20) + fault_places.acl(28, 1, fault_places.ace(flags=0x20)), "at byte 28, ACE 1 of the DACL, flags"),
+]
+
+
+def test_places(count):
+    """Where bytes are no descriptor, beside the independent implementation."""
+    for data, said in SAID:
+        count.add(str(raised(SecurityDescriptor.from_bytes, data)).endswith(said), f"{data.hex()}: {said}")
+    chosen, placed = random.Random(6), 0
+    rows = [row[0] for row in fault_places.OF_BYTES]
+    for data in (*rows, *fault_places.hostile(compare.Lines(chosen), chosen, 4000)):
+        expected, problem = place_of_bytes(data), raised(SecurityDescriptor.from_bytes, data)
+        if expected is None or not isinstance(problem, sdtool.Fault):
+            count.add(expected is problem is None, f"{data.hex()[:300]}: {problem!r}, not {expected}")
+            continue
+        placed += 1
+        line, place = expected
+        right = problem.line == line and isinstance(problem.place, sdtool.Place) and tuple(problem.place) == tuple(place)
+        right = right and problem.where == fault_places.in_words(place) and str(problem).endswith(f", {problem.where}")
+        count.add(right and fault_places.is_excerpt(problem.excerpt(), data, place),
+                  f"{data.hex()[:300]}: {problem.line} {problem.place!r} {problem.excerpt()!r}, not {expected}")
+        if data and placed % 20 == 0:
+            judge_ways(count, data, problem)
+    count.add(placed > 2000, f"only {placed} faults of bytes")
+    for problem in (raised(SecurityDescriptor.from_bytes, bytes(131_227)), sdtool.Fault(5, "short"),
+                    raised(sdtool.from_sddl, " " * 1_049_873), raised(sdtool.check, sdtool.from_sddl(""), ["WD"])):
+        count.add(problem.place is None and problem.excerpt() == problem.where == "" and " at byte " not in str(problem),
+                  f"no place: {problem!r}")
+
+
+def judge_ways(count, data, expected):
+    """Every call with a descriptor says the same place, of the bytes as they were."""
+    token, whole = Token(["WD"]), SecurityDescriptor.from_sddl("D:")
+    checker = Checker(token, 1)
+    for call in (sdtool.to_sddl, sdtool.explain, sdtool.normalize, checker, checker.reasons, lambda given: next(checker.many([given])),
+                 lambda given: sdtool.check(given, ["WD"], wanted=1), lambda given: sdtool.derive(given, "BA", "BA"),
+                 lambda given: whole.derive("BA", "BA", creator=given)):
+        given = bytearray(data)
+        try:
+            problem = call(given)
+        except sdtool.Fault as fault:
+            problem = fault
+        given[:] = bytes(len(given))
+        copies = [pickle.loads(pickle.dumps(problem)), copy.copy(problem), copy.deepcopy(problem), problem]
+        count.add(all((one.place, one.excerpt(), one.line) == (expected.place, expected.excerpt(), expected.line) and
+                      str(one) == str(problem) and str(one).endswith(f", {expected.where}") for one in copies), f"{data.hex()}: {problem}")
+    large = fault_places.header(owner=4) + bytes(100_000)
+    count.add(len(pickle.dumps(raised(sdtool.normalize, large))) < 1000, "the pickle of a fault has all of the bytes")
+    problem, found = raised(sdtool.normalize, data), []
+    threads = [threading.Thread(target=lambda: found.append(problem.place)) for _ in range(4)]
+    for thread in threads:
+        thread.start()
+    for thread in threads:
+        thread.join()
+    count.add(found == [expected.place] * 4, f"a place that threads ask for: {found}")
+
+
+# Texts, and how the message of their fault ends: each fault, and each field.
+SAID_OF_TEXTS = [
+    ("O:BAx:", "error 20 shape: parentheses, colons or the number of fields are wrong, at byte 5, the owner, SID"),
+    ("D:(A;;FA;;;WD", "at byte 13, ACE 1 of the DACL, SID"),
+    ("D:(A;;FA;;;WD)\xe9", "at byte 14, the DACL"),
+    ("x", "at byte 0"),
+    ("O:SYO:SY", "error 21 part-twice: two parts have the same letter, at byte 4, the owner"),
+    ("G: ZZ ", "error 22 alias: two letters that are not an alias, at byte 3, the group, SID"),
+    ("D:(A;;FA;;;LA)", "error 23 needs-domain: a relative alias without a domain, at byte 11, ACE 1 of the DACL, SID"),
+    ("D:(A;;FA;;;S-1-5-4294967296)", "at byte 11, ACE 1 of the DACL, SID"),
+    ("D:(A;;FA;;;Everyone)", "error 25 sid-form: any other text that is not a SID, at byte 11, ACE 1 of the DACL, SID"),
+    ("S:(AU;SA;FA;;;\u6f22)", "at byte 14, ACE 1 of the SACL, SID"),
+    ("D:PX", "error 26 flags: flags of an ACL or an ACE that are not in the tables, at byte 2, the DACL, flags"),
+    ("D:(A;XX;FA;;;WD)", "at byte 5, ACE 1 of the DACL, flags"),
+    ("D:(A;;;;;WD)(A;;0xg;;;WD)", "error 27 rights: rights that are not in the tables, at byte 16, ACE 2 of the DACL, rights"),
+    ("D:(OA;;CC;x;;WD)", "error 28 guid: an object type is not a GUID, or its ACE is of a kind without object types, at byte 10, "
+     "ACE 1 of the DACL, object type"),
+    ("D:(OA;;CC;;x;WD)", "at byte 11, ACE 1 of the DACL, inherited object type"),
+    ("D:(XA;;FA;;;WD)", "error 29 kind: no such kind of ACE, such as XA, at byte 3, ACE 1 of the DACL, kind"),
+    ("D:" + "(A;;;;;WD)" * 3278, "error 30 acl-too-large dacl: the ACL would exceed 65,535 bytes; the first from the left, at byte 32762, "
+     "ACE 3277 of the DACL"),
+]
+
+
+def test_places_of_texts(count):
+    """Where a text is no SDDL, beside the independent implementation."""
+    for text, said in SAID_OF_TEXTS:
+        problem = raised(sdtool.from_sddl, text)
+        place, is_placed = problem.place, str(problem).endswith(said) and str(problem).endswith(f", {problem.where}")
+        count.add(is_placed and 0 <= place.offset <= place.offset + place.size <= len(text), f"{text[:99]}: {problem}")
+    chosen, placed = random.Random(7), 0
+    for text in sddl_texts.hostile(chosen, 4000):
+        with_domain = chosen.random() < 0.7
+        domain = sddl_texts.DOMAIN if with_domain else None
+        expected, problem = sddl_texts.expected(text, with_domain=with_domain), raised(sdtool.from_sddl, text, domain=domain)
+        if expected is None or not isinstance(problem, sdtool.Fault):
+            count.add(expected is problem is None, f"{text!r}: {problem!r}, not {expected}")
+            continue
+        placed += 1
+        count.add(problem.line == expected.line and isinstance(problem.place, sdtool.Place) and
+                  tuple(problem.place) == tuple(expected.place) and problem.where == expected.said and
+                  str(problem).endswith(f", {expected.said}") and
+                  sddl_texts.is_excerpt(problem.excerpt(), text, expected.first, expected.size),
+                  f"{text!r}: {problem.line} {problem.place!r} {problem.excerpt()!r}, not {expected}")
+        if placed % 20 == 0:
+            judge_ways_of_text(count, text, domain, problem)
+    count.add(placed > 3000, f"only {placed} faults of texts")
+    judge_laziness(count)
+
+
+class Text(str):
+    """A text that says something else of itself."""
+
+    def __str__(self):
+        return "D:"
+
+    def __len__(self):
+        return 1
+
+    def encode(self, *_):
+        return b"D:"
+
+    def __getitem__(self, key):
+        return "D"
+
+
+def judge_ways_of_text(count, text, domain, expected):
+    """Every call with a text says the same place, also copied, from another thread, and of a text that lies."""
+    calls = [lambda: sdtool.from_sddl(Text(text), domain=domain), lambda: SecurityDescriptor.from_sddl(text, domain=domain),
+             lambda: SecurityDescriptor.from_sddl(Text(text), domain=domain),
+             lambda: next(sdtool.plain_descriptors([text], domain=domain)),
+             lambda: list(sdtool.plain_descriptors(["D:", Text(text), b""], domain=domain))[1]]
+    for call in calls:
+        try:
+            problem = call()
+        except sdtool.Fault as fault:
+            problem = fault
+        copies = [pickle.loads(pickle.dumps(problem)), copy.copy(problem), copy.deepcopy(problem), problem]
+        count.add(all((one.place, one.where, one.excerpt(), str(one)) ==
+                      (expected.place, expected.where, expected.excerpt(), str(expected)) for one in copies), f"{text!r}: {problem}")
+    problem, found = raised(sdtool.from_sddl, text, domain=domain), []
+    threads = [threading.Thread(target=lambda: found.append((problem.place, problem.where))) for _ in range(4)]
+    for thread in threads:
+        thread.start()
+    for thread in threads:
+        thread.join()
+    count.add(found == [(expected.place, expected.where)] * 4, f"a place that threads ask for: {found}")
+
+
+def judge_laziness(count):
+    """A place is found when it is first asked for, with the domain as it was, and once."""
+    transport, asked = sdtool._library._transport, []
+    find = transport.sddl_place
+    transport.sddl_place = lambda *given: (asked.append(given), find(*given))[1]
+    try:
+        domain = bytearray(Sid(sddl_texts.DOMAIN))
+        problem = raised(sdtool.from_sddl, "O:DAG:ZZ", domain=domain)
+        domain[:] = bytes(len(domain))
+        count.add((problem.number, problem.line, asked) == (22, "error 22 alias", []), f"{problem.line} {asked}")
+        told = [problem.place for _ in range(3)] + [pickle.loads(pickle.dumps(problem)).place]
+        count.add(told == [("group", None, "sid", 6, 2)] * 4 and len(asked) == 1, f"asked {len(asked)} times: {told}")
+    finally:
+        transport.sddl_place = find
+    large = raised(sdtool.from_sddl, "D:" + "(A;;FA;;;WD)" * 1000 + "\u6f22" * 9)
+    count.add(len(pickle.dumps(large)) < 1000 and large.place.offset == 12_002, "the pickle of a fault has all of the text")
+
+
+# Texts of an ACE, and what the fault says of them.
+OF_ACES = [
+    ("(A;;ZZ;;;WD)", 27, (None, None, "rights", 4, 2), "at byte 4, rights"),
+    ("(A;;\u6f22;;;WD)", 27, (None, None, "rights", 4, 1), "at byte 4, rights"),
+    ("(A;;FA;;;\u6f22\u6f22)", 25, (None, None, "sid", 9, 2), "at byte 9, SID"),
+    ("(XA;;FA;;;WD)", 29, (None, None, "kind", 1, 2), "at byte 1, kind"),
+    ("(;;FA;;;WD)", 29, (None, None, "kind", 1, 0), "at byte 1, kind"),
+    ("(A;;FA;;;WD", 20, (None, None, "sid", 11, 0), "at byte 11, SID"),
+    ("(", 20, (None, None, "kind", 1, 0), "at byte 1, kind"),
+    ("(A;;FA;;;WD)\xe9x", 20, (None, None, None, 12, 1), "at byte 12"),
+    ("(A;;FA;;;WD)(A;;FA;;;W)", 25, (None, None, "sid", 21, 1), "at byte 21, SID"),
+    ("(A;;FA;;;WD)S:(AU;;FA;;;W)", 25, ("sacl", 0, "sid", 24, 1), "at byte 24, ACE 1 of the SACL, SID"),
+    ("(A;;FA;;;WD)D:", 21, ("dacl", None, None, 12, 2), "at byte 12, the DACL"),
+]
+# Texts that are no SID.
+OF_SIDS = [("ZZ", 22), ("LA", 23), ("S-1-5-4294967296", 24), ("", 25), (" BA", 25), ("\u6f22\U0001f600", 25), ("\ud800", 25)]
+
+
+def test_places_of_parts(count):
+    """A place is in the text that was given, and in none that was made of it."""
+    for text, number, place, said in OF_ACES:
+        for given in (text, Text(text)):
+            problem = raised(Ace.from_sddl, given)
+            right = isinstance(problem, sdtool.Fault) and (problem.number, problem.place, problem.where) == (number, place, said)
+            count.add(right and sddl_texts.is_excerpt(problem.excerpt(), text, place[3], place[4]) and
+                      pickle.loads(pickle.dumps(problem)).place == place, f"{text!r}: {problem!r} {problem.place}")
+    for text, number in OF_SIDS:
+        place = (None, None, "sid", 0, len(text))
+        for call, argument, index in ((lambda given: Sid(given), "value", None), (lambda given: Token(["WD", given]), "sids", 1),
+                                      (lambda given: Token([], deny_only=[given]), "deny_only", 0),
+                                      (lambda given: Ace(0, 0, 0, given), "sid", None),
+                                      (lambda given: SecurityDescriptor(owner=given), "owner", None),
+                                      (lambda given: sdtool.from_sddl("D:", domain=given), "domain", None),
+                                      (lambda given: Ace.from_sddl("(A;;FA;;;WD)", domain=given), "domain", None)):
+            for given in (text, Text(text)):
+                problem = raised(call, given)
+                right = isinstance(problem, sdtool.Fault) and (problem.number, problem.place, problem.argument, problem.index) == (
+                    number, place, argument, index) and str(problem).endswith(", at byte 0, SID")
+                count.add(right and sddl_texts.is_excerpt(problem.excerpt(), text, 0, len(text)), f"{text!r}: {problem!r}")
 
 
 def verdict_of(pair):
@@ -384,7 +660,7 @@ def test_modes(count):
     code = """
 import sdtool, pickle, uuid
 whole = sdtool.SecurityDescriptor.from_sddl("O:BAG:SYD:PAI(A;OICI;FR;;;BU)(OA;;CR;bf967aba-0de6-11d0-a285-00aa003049e2;;AU)")
-again = whole.replace(owner="BU", group=b"", dacl=[*whole.dacl][:1])
+again = whole.replace(owner="BU", group=None, dacl=[*whole.dacl][:1])
 print(again, again.group, repr(sdtool.Sid("BA")), f"{sdtool.Sid('BA')}", pickle.loads(pickle.dumps(again)) == again)
 print(sdtool.Checker(sdtool.Token(["BU"]), 1, principal_self="BA", object_type=str(uuid.UUID(int=0)))(whole))
 print(list(sdtool.lines(["zz", ""], ["convert"])))
@@ -439,7 +715,7 @@ view = memoryview(bytearray(whole.bytes))
 def refused(call, *arguments):
     try:
         call(*arguments)
-    except (sdtool.Error, TypeError, AttributeError, OverflowError):
+    except (sdtool.Error, TypeError):
         return
     raise SystemExit(f"{call} takes {arguments}")
 def once(number):
@@ -447,6 +723,8 @@ def once(number):
     [(ace.kind, ace.flags, ace.mask, ace.sid, ace.object_type) for acl in (one.dacl, one.sacl) for ace in acl]
     SecurityDescriptor.from_bytes(view).sddl(), checker(view), checker(descriptor=one), list(checker.many([one, view, b""]))
     one.check(Token([Sid(f"S-1-5-{number}")]), 1), one.derive("BA", "BA"), one.replace(dacl=Acl.NULL), one.explain(), repr(one)
+    list(sdtool.plain_descriptors([text, view, b"", one, "O:ZZ", f"O:S-1-5-{number}D:(A;;{number:#x};;;BU)"]))
+    refused(list, sdtool.plain_descriptors([text, 1])), refused(sdtool.plain_descriptors, text)
     Sid(f"S-1-5-21-1-{number}").alias(), sdtool.run(["convert"], b"zz"), list(sdtool.lines(["D:"], ["convert", "--from", "sddl"]))
     refused(SecurityDescriptor.from_sddl, "D:(A;;FA;;;Everyone)"), refused(SecurityDescriptor.from_sddl, "O:\ud800")
     refused(SecurityDescriptor.from_sddl, 1), refused(SecurityDescriptor.from_bytes, None), refused(checker, b""), refused(checker)
@@ -484,6 +762,10 @@ def calls(number):
     yield lambda: Token([Sid(f"S-1-5-21-9-{number}")]).sids[0].alias() is None
     yield lambda: SecurityDescriptor.from_bytes(data).replace(owner="BU").owner.alias() == "BU"
     yield lambda: sdtool.run(["convert"], b"zz").output == b"error 2 hex-digit\n"
+    yield lambda: [one if isinstance(one, sdtool.Fault) else one.sacl[0].sid for one in sdtool.plain_descriptors(
+        [text.replace("NUMBER", str(number)), data])] == [f"S-1-5-21-1-2-3-{number}", "S-1-5-21-1-2-3-1"]
+    yield lambda: [str(one)[:8] for one in sdtool.plain_descriptors(["O:ZZ", b""])] == ["error 22", "error 5 "]
+    yield lambda: [len(one.dacl) for one in sdtool.plain_descriptors([large])] == [300]
 refused = 0
 for at in range(120):
     for call in calls(at):
@@ -516,7 +798,9 @@ def test_long_calls_in_threads(count):
     descriptor = SecurityDescriptor.from_sddl(text)
     calls = [lambda: SecurityDescriptor.from_sddl(text), lambda: SecurityDescriptor.from_bytes(descriptor.bytes), descriptor.sddl,
              descriptor.explain, lambda: sdtool.run(["convert", "--from", "sddl"], text.encode() * 3),
-             lambda: Checker(Token(["WD"]), READ)(descriptor), lambda: list(Checker(Token(["WD"]), READ).many([descriptor] * 9))]
+             lambda: Checker(Token(["WD"]), READ)(descriptor),
+             lambda: list(Checker(Token(["WD"]), READ).many([descriptor] * 9)),
+             lambda: list(sdtool.plain_descriptors([text])), lambda: list(sdtool.plain_descriptors([descriptor]))]
     for call in calls:
         expected, ended, answers = call(), threading.Event(), []
 
@@ -534,7 +818,7 @@ def test_long_calls_in_threads(count):
         try:
             thread = threading.Thread(target=work)
             thread.start()
-            while not answers:
+            while not answers and thread.is_alive():
                 time.sleep(0.001)
             ended.set()
             thread.join()
@@ -549,7 +833,8 @@ def test_once(count):
                          (Checker(Token([]), 1), {"token": Token(["BA"])})):
         before = (hash(value), repr(value))
         problem = raised(value.__init__, **again)
-        count.add(isinstance(problem, AttributeError) and (hash(value), repr(value)) == before, f"{value!r} made again: {problem!r}")
+        count.add(type(problem) is sdtool.Unchangeable and isinstance(problem, AttributeError) and
+                  (hash(value), repr(value)) == before, f"{value!r} made again: {problem!r}")
     ace = Ace(0, 0, READ, "BU")
     for made in (lambda: Ace._make([3, 0, READ, "BU"]), lambda: ace._replace(kind=3), lambda: ace._replace(mask=-1)):
         count.add(isinstance(raised(made), sdtool.ArgumentFault), "an ACE that cannot be")
@@ -559,7 +844,7 @@ def test_once(count):
         count.add(copy.replace(whole, owner="SY") == whole.replace(owner="SY") and copy.replace(ace, mask=1).mask == 1, "copy.replace")
     for make in (lambda: SecurityDescriptor.__new__(SecurityDescriptor).owner, lambda: Checker.__new__(Checker)(whole),
                  lambda: len(Acl.__new__(Acl)), lambda: whole.check(Token.__new__(Token), 1)):
-        count.add(isinstance(raised(make), (AttributeError, TypeError)), "an object whose __init__ was not called")
+        count.add(type(raised(make)) is sdtool.WrongType, "an object whose __init__ was not called")
 
 
 def test_examples(count):
@@ -662,8 +947,8 @@ def main():
     arguments = parser.parse_args()
     count = preload.Count()
     tests = [test_rows, test_sids, test_acls, test_aces, test_names, test_building, test_values, test_tokens, test_questions,
-             test_many, test_threads_and_processes, test_modes, test_interpreters, test_leaks, test_no_memory,
-             test_long_calls_in_threads, test_once, test_examples, test_document]
+             test_many, test_places, test_places_of_texts, test_places_of_parts, test_threads_and_processes, test_modes,
+             test_interpreters, test_leaks, test_no_memory, test_long_calls_in_threads, test_once, test_examples, test_document]
     for test in tests:
         test(count)
     if hypothesis:

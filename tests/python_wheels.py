@@ -27,7 +27,7 @@ import preload  # noqa: E402
 
 TOP = pathlib.Path(__file__).resolve().parent.parent
 SYSTEMS = TOP / "out/systems"
-SECONDS = 300
+SECONDS = 3000
 # What an installed module says: whether it has its extension, and some answers of each kind of call.
 ASKED = """
 import json, sys, sdtool
@@ -206,7 +206,7 @@ EXPECTED = [
     re.search(r'^version = "(.*)"$', (TOP / "python/pyproject.toml").read_text(encoding="utf-8"), re.M)[1], LAYOUT, SDDL, [True, 1],
     ["Ace(AceKind.ACCESS_ALLOWED, AceFlags(0x0), 0x120089, Sid('S-1-5-32-545'))",
      "Ace(AceKind.ACCESS_ALLOWED_OBJECT, AceFlags(0x0), 0x100, Sid('S-1-5-11'), UUID('bf967aba-0de6-11d0-a285-00aa003049e2'))"],
-    ["Verdict(granted=True, mask=1)", "error 5 short: fewer than 20 bytes"], "error 20 shape", "error 2 hex-digit\n"]
+    ["Verdict(granted=True, mask=1)", "error 5 short: fewer than 20 bytes, at byte 0"], "error 20 shape", "error 2 hex-digit\n"]
 
 
 def main():

@@ -22,7 +22,7 @@ from typing import NamedTuple
 sys.dont_write_bytecode = True
 import preload  # noqa: E402
 
-SECONDS = 60       # for one run
+SECONDS = 1200       # for one run
 ALLOCATIONS = 5000  # of one command line, at the very most
 EMPTY = b"0100008000000000000000000000000000000000"
 LIMIT, BASE64_LIMIT, SDDL_LIMIT = 262_452, 174_968, 1_049_872  # bytes of the longest line that is read

@@ -20,7 +20,7 @@ from typing import NamedTuple
 sys.dont_write_bytecode = True
 import preload  # noqa: E402
 
-SECONDS = 60  # for one command
+SECONDS = 1200  # for one command
 TOP = pathlib.Path(__file__).resolve().parent.parent
 # The documents, and the folder in which the commands of each are run: one that has a copy of examples/, or that copy.
 DOCUMENTS = {"README.md": ".", "docs/COOKBOOK.md": "examples", "docs/FORMAT.md": ".", "docs/sdtool.1": "examples"}

@@ -48,9 +48,8 @@ sys.dont_write_bytecode = True
 import preload  # noqa: E402
 import reference  # noqa: E402
 
-SECONDS = 60  # for one run: a program that hangs fails its row
+SECONDS = 1200  # for one run, and to end once its output takes nothing more: a program that hangs fails its row
 ASKED_WRONGLY = ("sdtool: usage: ", "sdtool: error 50 ", "sdtool: error 51 ")  # what the reference says of words
-SECONDS_TO_END = 10  # once its output takes nothing more
 HELP = ("help", "--help", "-h")
 
 
@@ -264,7 +263,7 @@ def outlast(command, data, answers, output):
     child.stdin.write(next(lines))
     child.stdin.flush()
     try:
-        status = child.wait(SECONDS_TO_END)
+        status = child.wait(SECONDS)
     except subprocess.TimeoutExpired:
         child.kill()
         status = "waits for more"

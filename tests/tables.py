@@ -27,7 +27,7 @@ import preload  # noqa: E402
 import reference  # noqa: E402
 from reference import Ace, Acl, Descriptor, Sid  # noqa: E402
 
-SECONDS = 60  # for one run
+SECONDS = 1200  # for one run
 PAIRS = ["".join(pair) for pair in itertools.product(string.ascii_uppercase, repeat=2)]
 SYMBOLS = string.ascii_letters + string.digits + "+/"
 EVERYONE = Sid(1, (0,))

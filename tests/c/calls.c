@@ -1,13 +1,17 @@
 /*
- * calls convert|explain|normalize|from_sddl|check|derive [DOMAIN] [numeric]
+ * calls convert|explain|normalize|from_sddl|check|reasons|derive|origins [DOMAIN] [numeric]
  *
  * Makes one call for each line of standard input and prints its answer as the program does; a fault as
  * 'error NUMBER PART PART', and that of an argument as 'error 70 ARGUMENT ENTRY'. DOMAIN is a SID as hex digits, or -.
- * A line is hex digits, or SDDL for from_sddl. For check and derive it has words, of which - is an empty one:
+ * A line is hex digits, or SDDL for from_sddl. For these it has words, of which - is an empty one:
  *
  *   check    DESCRIPTOR SIDS ENTRIES OBJECT SELF in hex, WANTED MAPPING FLAGS LEVEL in decimal, where - is no level;
  *            FLAGS adds up 1 for the maximum, 2 for SeSecurityPrivilege and 4 for SeTakeOwnershipPrivilege
+ *   reasons  the same; the wanted rights and the maximum are not looked at. The answer is a reason for each right: its
+ *            number, and with a place a colon and the place
  *   derive   PARENT CREATOR OWNER GROUP in hex, KIND MAPPING in decimal
+ *   origins  the same. The answer is 'sacl', the origins of its ACEs, 'dacl' and those of its ACEs: c for the creator's ACE or
+ *            p for the parent's, its place, and + behind it for the copy that is inherit-only
  *
  * Each call is made again with outputs that are too small, with each allocation refused, and at the end from eight
  * threads, one of which also forks processes that make it. What it allocates has to be what the header says. What goes
@@ -25,7 +29,8 @@
 #include "memory.h"
 #include "sdtool.h"
 
-enum { THREADS = 8, ROUNDS = 250, FORKS = 20, MOST_KEPT = 64, MOST_FIELDS = 5, MOST_NUMBERS = 4, VERDICT = 18 };
+enum { THREADS = 8, ROUNDS = 250, FORKS = 20, MOST_KEPT = 64, MOST_FIELDS = 5, MOST_NUMBERS = 4, VERDICT = 18, REASON = 8,
+       ORIGIN = 8 };
 
 struct bytes {
     uint8_t *cells;
@@ -105,6 +110,148 @@ static struct sdtool_outcome check(const struct question *q, uint8_t *out, size_
     return o;
 }
 
+/* Reasons as text, with the room that there is for it. After a fault each of them is nothing. */
+static struct sdtool_outcome reasons(const struct question *q, uint8_t *out, size_t size)
+{
+    const struct bytes *in = q->fields;
+    struct sdtool_asker asker = {
+        .mapping = q->numbers[1], .level = q->numbers[3], .has_level = q->has_level,
+        .security = (q->numbers[2] & 2) != 0, .take_ownership = (q->numbers[2] & 4) != 0,
+    };
+    struct sdtool_reason *told = (struct sdtool_reason *)block(SDTOOL_RIGHTS * sizeof *told);
+    memset(told, 0xaa, SDTOOL_RIGHTS * sizeof *told);
+    struct sdtool_outcome o = sdtool_reasons(in[0].cells, in[0].size, in[1].cells, in[1].size, in[2].cells, in[2].size,
+                                             in[3].cells, in[3].size, in[4].cells, in[4].size, &asker, told);
+    char text[SDTOOL_RIGHTS * REASON + 1] = "", *at = text;
+
+    for (int right = 0; right < SDTOOL_RIGHTS; right++) {
+        if (o.fault != SDTOOL_OK && (told[right].kind != SDTOOL_REASON_NOTHING || told[right].place != SDTOOL_NO_PLACE))
+            complain("a reason beside a fault");
+        at += sprintf(at, told[right].place == SDTOOL_NO_PLACE ? "%s%u" : "%s%u:%u", right ? " " : "",
+                      (unsigned)told[right].kind, (unsigned)told[right].place);
+    }
+    release((uint8_t *)told, SDTOOL_RIGHTS * sizeof *told);
+    if (o.fault != SDTOOL_OK)
+        return o;
+    if (o.length != SDTOOL_RIGHTS)
+        complain("another count of reasons");
+    o.length = (size_t)(at - text);
+    if (size < o.length)
+        o.fault = SDTOOL_TOO_SMALL;
+    else
+        memcpy(out, text, o.length);
+    return o;
+}
+
+/* The origins of the ACEs of an ACL. */
+struct origins {
+    struct sdtool_origin *told;
+    size_t room;
+};
+
+static struct origins origins_block(size_t room)
+{
+    struct origins origins = {(struct sdtool_origin *)block(room * sizeof *origins.told), room};
+
+    if (room != 0)
+        memset(origins.told, 0xaa, room * sizeof *origins.told);
+    return origins;
+}
+
+static bool is_untouched(const struct origins *origins, size_t from)
+{
+    const uint8_t *cells = (const uint8_t *)origins->told;
+
+    for (size_t i = from * sizeof *origins->told; i < origins->room * sizeof *origins->told; i++)
+        if (cells[i] != 0xaa)
+            return false;
+    return true;
+}
+
+static char *print_origins(const struct origins *origins, size_t count, char *at)
+{
+    for (size_t i = 0; i < count; i++)
+        at += sprintf(at, " %c%u%s", origins->told[i].from_creator ? 'c' : 'p', (unsigned)origins->told[i].place,
+                      origins->told[i].inherit_only ? "+" : "");
+    return at;
+}
+
+/* Asks with so much room, and writes the origins to a text that has room for them. */
+static struct sdtool_origins ask_origins(const struct question *q, size_t sacl_room, size_t dacl_room, char *text)
+{
+    const struct bytes *in = q->fields;
+    struct origins sacl = origins_block(sacl_room), dacl = origins_block(dacl_room);
+    struct sdtool_origins o = sdtool_derive_origins(in[0].cells, in[0].size, in[1].cells, in[1].size, in[2].cells, in[2].size,
+                                                    in[3].cells, in[3].size, q->numbers[0], q->numbers[1], sacl.told,
+                                                    sacl_room, dacl.told, dacl_room);
+
+    if (o.fault == SDTOOL_OK) {
+        /* Cells behind the last origin may hold anything, but here they are as they were. */
+        if (!is_untouched(&sacl, o.sacl_count) || !is_untouched(&dacl, o.dacl_count))
+            complain("more origins than were told");
+        if (text != NULL) {
+            text = print_origins(&sacl, o.sacl_count, text + sprintf(text, "sacl"));
+            print_origins(&dacl, o.dacl_count, text + sprintf(text, " dacl"));
+        }
+    } else {
+        if (!is_untouched(&sacl, 0) || !is_untouched(&dacl, 0))
+            complain("an origin beside a fault");
+        if (o.fault != SDTOOL_TOO_SMALL && (o.sacl_count != 0 || o.dacl_count != 0))
+            complain("a count beside a fault");
+    }
+    release((uint8_t *)sacl.told, sacl_room * sizeof *sacl.told);
+    release((uint8_t *)dacl.told, dacl_room * sizeof *dacl.told);
+    return o;
+}
+
+static void try_room(const struct question *q, const struct sdtool_origins *whole, size_t sacl_room, size_t dacl_room)
+{
+    bool fits = whole->sacl_count <= sacl_room && whole->dacl_count <= dacl_room;
+    struct sdtool_origins o = ask_origins(q, sacl_room, dacl_room, NULL);
+
+    if (o.fault != (fits ? SDTOOL_OK : SDTOOL_TOO_SMALL) || o.part != 0 || o.other_part != 0 || o.argument != 0
+        || o.entry != 0 || o.sacl_count != whole->sacl_count || o.dacl_count != whole->dacl_count)
+        complain("other room for origins");
+}
+
+/* Origins as text, with the room that there is for it. */
+static struct sdtool_outcome origins(const struct question *q, uint8_t *out, size_t size)
+{
+    enum { MOST = SDTOOL_MOST_DERIVED_ACES };
+    char *text = (char *)__real_malloc(2 * MOST * ORIGIN + sizeof "sacl dacl");
+    struct sdtool_origins whole = ask_origins(q, MOST, MOST, text);
+    struct sdtool_outcome o = {whole.fault, whole.part, whole.other_part, whole.argument, whole.entry, 0};
+
+    if (whole.fault == SDTOOL_OK) {
+        size_t sacl = whole.sacl_count, dacl = whole.dacl_count;
+
+        try_room(q, &whole, sacl, dacl);
+        try_room(q, &whole, 0, 0);
+        try_room(q, &whole, sacl, dacl == 0 ? 0 : dacl - 1);
+        try_room(q, &whole, sacl == 0 ? 0 : sacl - 1, dacl);
+        try_room(q, &whole, sacl + 1, dacl + 3);
+        o.length = strlen(text);
+        if (size < o.length)
+            o.fault = SDTOOL_TOO_SMALL;
+        else
+            memcpy(out, text, o.length);
+    }
+    free(text);
+    return o;
+}
+
+/* Whether the job is a call for a token. */
+static bool asks(void)
+{
+    return strcmp(job, "check") == 0 || strcmp(job, "reasons") == 0;
+}
+
+/* Whether the job is a call for what is derived. */
+static bool derives(void)
+{
+    return strcmp(job, "derive") == 0 || strcmp(job, "origins") == 0;
+}
+
 /* A call that runs on some stack. Counts of allocations are those of the thread that makes the call. */
 struct made {
     const struct question *question;
@@ -142,6 +289,76 @@ static struct sdtool_outcome call(const struct question *q, uint8_t *out, size_t
     return made.outcome;
 }
 
+/* Describes a fault and its place in so many bytes. */
+static struct sdtool_outcome describe(const struct sdtool_outcome *outcome, const struct sdtool_fault_place *place, size_t size)
+{
+    uint8_t *cells = block(size);
+    long before = allocations;
+    struct sdtool_outcome o = sdtool_describe(outcome, place, cells, size);
+
+    if (allocations != before)
+        complain("sdtool_describe allocates");
+    if (o.fault == SDTOOL_OK && (o.length != size || size < sizeof "error" || memcmp(cells, "error", strlen("error")) != 0))
+        complain("another description");
+    release(cells, size);
+    return o;
+}
+
+/* Describes a fault and its place in a text of exactly its size, and of one byte less. All structs are in blocks. */
+static void try_description(const struct sdtool_outcome *o, const struct sdtool_fault_place *found)
+{
+    struct sdtool_outcome *outcome = (struct sdtool_outcome *)block(sizeof *outcome);
+    struct sdtool_fault_place *place = (struct sdtool_fault_place *)block(sizeof *place);
+
+    *outcome = *o;
+    *place = *found;
+    struct sdtool_outcome none = describe(outcome, place, 0);
+    if (o->fault == SDTOOL_OK) {
+        if (none.fault != SDTOOL_ARGUMENT || none.argument != SDTOOL_ARGUMENT_FAULT || none.length != 0)
+            complain("a description of no fault");
+    } else {
+        struct sdtool_outcome whole = describe(outcome, place, none.length);
+        struct sdtool_outcome small = describe(outcome, place, none.length - 1);
+
+        if (none.fault != SDTOOL_TOO_SMALL || none.length > SDTOOL_MOST_DESCRIPTION || whole.fault != SDTOOL_OK
+            || small.fault != SDTOOL_TOO_SMALL || small.length != none.length)
+            complain("the size of a description");
+    }
+    release((uint8_t *)outcome, sizeof *outcome);
+    release((uint8_t *)place, sizeof *place);
+}
+
+/* Looks for the place of the fault that a text has. */
+static void try_place(const struct bytes *in, const struct sdtool_outcome *o)
+{
+    long before = allocations;
+    struct sdtool_fault_place found = sdtool_sddl_place(in->cells, in->size, domain.cells, domain.size);
+    bool is_told = o->fault >= SDTOOL_FAULT_SHAPE && o->fault <= SDTOOL_FAULT_ACL_TOO_LARGE;
+
+    if (allocations != before)
+        complain("sdtool_sddl_place allocates");
+    if (found.fault != (is_told ? o->fault : SDTOOL_OK))
+        complain("the place of another fault");
+    if (found.place.offset > in->size || found.place.size > in->size - found.place.offset)
+        complain("a place past the text");
+    if (o->part != SDTOOL_NO_PART && found.part != o->part)
+        complain("a place in another part");
+    if (!is_told && (found.part != SDTOOL_NO_PART || found.ace != SDTOOL_NO_ACE || found.field != SDTOOL_NO_FIELD
+                     || found.place.offset != 0 || found.place.size != 0))
+        complain("a place without a fault");
+    if (o->argument == SDTOOL_NO_ARGUMENT)
+        try_description(o, &found);
+}
+
+static struct sdtool_outcome from_sddl(const struct bytes *in, uint8_t *out, size_t size)
+{
+    struct sdtool_outcome o = sdtool_from_sddl(in->cells, in->size, domain.cells, domain.size, out, size);
+
+    if (o.fault != SDTOOL_NO_MEMORY)
+        try_place(in, &o);
+    return o;
+}
+
 static struct sdtool_outcome call_here(const struct question *q, uint8_t *out, size_t size)
 {
     const struct bytes *in = q->fields;
@@ -154,10 +371,14 @@ static struct sdtool_outcome call_here(const struct question *q, uint8_t *out, s
         return sdtool_normalize(in->cells, in->size, out, size);
     if (strcmp(job, "check") == 0)
         return check(q, out, size);
+    if (strcmp(job, "reasons") == 0)
+        return reasons(q, out, size);
     if (strcmp(job, "derive") == 0)
         return sdtool_derive(in[0].cells, in[0].size, in[1].cells, in[1].size, in[2].cells, in[2].size, in[3].cells,
                              in[3].size, q->numbers[0], q->numbers[1], out, size);
-    return sdtool_from_sddl(in->cells, in->size, domain.cells, domain.size, out, size);
+    if (strcmp(job, "origins") == 0)
+        return origins(q, out, size);
+    return from_sddl(in, out, size);
 }
 
 static bool is_fault(const struct sdtool_outcome *o, uint32_t fault, size_t length)
@@ -199,10 +420,10 @@ static bool is_same(const struct sdtool_outcome *a, const struct sdtool_outcome 
            && a->entry == b->entry && a->length == b->length;
 }
 
-/* Memory that is refused for a check hides a verdict, but no fault. The other calls allocate behind their arguments. */
+/* Memory that is refused for a token hides an answer, but no fault. The other calls allocate behind their arguments. */
 static bool hides(const struct sdtool_outcome *o)
 {
-    return strcmp(job, "check") != 0 || o->fault == SDTOOL_OK || o->fault == SDTOOL_TOO_SMALL;
+    return !asks() || o->fault == SDTOOL_OK || o->fault == SDTOOL_TOO_SMALL;
 }
 
 /* Whether a call with this outcome takes a buffer. It does so only after it has found no fault in its arguments. */
@@ -217,7 +438,7 @@ static bool takes_buffer(const struct sdtool_outcome *o)
 /* What a call allocates is what the header says: a token of less than 128 KiB, one buffer, or nothing. */
 static bool is_as_said(const struct sdtool_outcome *o)
 {
-    if (strcmp(job, "check") == 0)
+    if (asks())
         return allocated < 128 << 10;
     return !CAN_REFUSE || allocated == (takes_buffer(o) ? SDTOOL_MOST_BYTES : 0);
 }
@@ -250,7 +471,7 @@ static void try_refusals(const struct question *in, size_t size)
 
 static bool gives_text(void)
 {
-    return strcmp(job, "convert") == 0 || strcmp(job, "explain") == 0 || strcmp(job, "check") == 0;
+    return strcmp(job, "convert") == 0 || strcmp(job, "explain") == 0 || strcmp(job, "origins") == 0 || asks();
 }
 
 static void print(const struct bytes *answer)
@@ -269,7 +490,9 @@ static void print(const struct bytes *answer)
 static struct bytes answer_to(const struct question *in)
 {
     static const char *const parts[] = {"", " owner", " group", " sacl", " dacl"};
-    size_t most = gives_text() ? SDTOOL_TEXT_SIZE(in->fields[0].size) : SDTOOL_MOST_BYTES;
+    /* Origins may be the creator's. */
+    size_t most = !gives_text() ? SDTOOL_MOST_BYTES
+                                : SDTOOL_TEXT_SIZE(in->fields[0].size) + (derives() ? SDTOOL_TEXT_SIZE(in->fields[1].size) : 0);
     struct bytes answer = {block(most), 0, most};
     struct sdtool_outcome o = call(in, answer.cells, most);
 
@@ -325,13 +548,13 @@ static struct bytes copied(const char *text, size_t length)
 static struct question question_in(char *line, size_t length)
 {
     struct question q = {0};
-    size_t fields = strcmp(job, "check") == 0 ? 5 : 4;
+    size_t fields = asks() ? 5 : 4;
     size_t at = 0;
     char *rest = NULL;
 
     if (strcmp(job, "from_sddl") == 0)
         q.fields[0] = copied(line, length);
-    else if (strcmp(job, "check") != 0 && strcmp(job, "derive") != 0)
+    else if (!asks() && !derives())
         q.fields[0] = spelled(line, length);
     else
         for (char *word = strtok_r(line, " \n", &rest); word != NULL; word = strtok_r(NULL, " \n", &rest), at++) {

@@ -384,12 +384,29 @@ static void build(const struct sdtool_new_descriptor *descriptor)
     free(answer.cells);
 }
 
+/* The place of the fault that the parts have. */
+static void fault_place(const struct bytes *in, const struct sdtool_contents *contents)
+{
+    long before = allocations;
+    struct sdtool_fault_place found = sdtool_place(in->cells, in->size);
+    bool is_told = contents->fault != SDTOOL_OK && contents->fault != SDTOOL_FAULT_TOO_LONG;
+
+    expect(allocations == before, "sdtool_place allocates");
+    expect(found.fault == (is_told ? contents->fault : SDTOOL_OK), "the place of another fault");
+    expect(found.place.offset <= in->size && found.place.size <= in->size - found.place.offset, "a place past the bytes");
+    expect(found.part == (contents->other_part != SDTOOL_NO_PART ? contents->other_part : is_told ? contents->part : 0),
+           "a place in another part");
+    expect(is_told || (found.ace == SDTOOL_NO_ACE && found.field == SDTOOL_NO_FIELD && is_none(&found.place)),
+           "a place without a fault");
+}
+
 static void parts(const struct bytes *in)
 {
     long before = allocations;
     struct sdtool_contents contents = sdtool_parts(in->cells, in->size);
 
     expect(allocations == before, "sdtool_parts allocates");
+    fault_place(in, &contents);
     if (contents.fault != SDTOOL_OK) {
         print_fault(contents.fault, contents.part, contents.other_part);
         expect(contents.control == 0 && contents.resource_manager == 0 && is_none(&contents.owner)
@@ -644,13 +661,56 @@ static struct sdtool_verdict check_with(const struct question *q, const struct t
                              q->self.cells, q->self.size, &q->request);
 }
 
+static struct sdtool_asker asker_of(const struct question *q)
+{
+    return (struct sdtool_asker){q->request.mapping, q->request.level, q->request.has_level, q->request.security,
+                                 q->request.take_ownership};
+}
+
+/* The reasons with a token are those of the call that reads it, and grant what a check grants. */
+static void try_reasons(const struct question *q, const struct token *token, const struct sdtool_bytes *in)
+{
+    struct sdtool_reason alone[SDTOOL_RIGHTS], *told = (struct sdtool_reason *)block(sizeof alone);
+    struct sdtool_asker asker = asker_of(q);
+    struct question one = *q;
+    struct sdtool_outcome o = sdtool_reasons(in->bytes, in->size, q->sids.cells, q->sids.size, q->entries.cells,
+                                             q->entries.size, q->object.cells, q->object.size, q->self.cells,
+                                             q->self.size, &asker, alone);
+    long before = allocations;
+    struct sdtool_outcome with = sdtool_reasons_with(in->bytes, in->size, token->words, token->count, q->object.cells,
+                                                     q->object.size, q->self.cells, q->self.size, &asker, told);
+
+    expect(allocations == before, "reasons with a token allocate");
+    expect(with.fault == o.fault && with.part == o.part && with.other_part == o.other_part && with.argument == o.argument
+               && with.entry == o.entry && with.length == o.length, "the outcome of reasons with a token");
+    expect(memcmp(alone, told, sizeof alone) == 0, "other reasons with a token");
+    one.request.maximum = false;
+    for (int right = 0; right < SDTOOL_RIGHTS; right++) {
+        uint16_t kind = alone[right].kind;
+        bool grants = kind == SDTOOL_REASON_NO_DACL || kind == SDTOOL_REASON_OWNER || kind == SDTOOL_REASON_PRIVILEGE
+                      || kind == SDTOOL_REASON_GRANTED;
+
+        one.request.wanted = 1u << right;
+        expect(check_with(&one, token, in).granted == grants, "a reason that does not fit the verdict");
+    }
+    release((uint8_t *)told, sizeof alone);
+}
+
 static void expect_no_token(const struct question *q, const struct token *token, const char *what)
 {
     static const struct sdtool_bytes no_descriptor;
     static const struct sdtool_verdict no_token = {.fault = SDTOOL_ARGUMENT, .argument = SDTOOL_ARGUMENT_TOKEN};
     struct sdtool_verdict verdict = check_with(q, token, &no_descriptor);
 
+    struct sdtool_asker asker = asker_of(q);
+    struct sdtool_reason told[SDTOOL_RIGHTS];
+    struct sdtool_outcome o = sdtool_reasons_with(NULL, 0, token->words, token->count, q->object.cells, q->object.size,
+                                                  q->self.cells, q->self.size, &asker, told);
+
     expect(are_same(&verdict, &no_token), what);
+    expect(is_outcome(&o, SDTOOL_ARGUMENT, 0, SDTOOL_ARGUMENT_TOKEN, 0, 0), what);
+    for (int right = 0; right < SDTOOL_RIGHTS; right++)
+        expect(told[right].kind == SDTOOL_REASON_NOTHING && told[right].place == SDTOOL_NO_PLACE, what);
 }
 
 /* Reads no token into memory that holds one already, if there is room for any. */
@@ -812,6 +872,7 @@ static void with(const struct question *q, const struct sdtool_bytes *descriptor
 
         print_verdict(&verdicts[i]);
         expect(are_same(&verdicts[i], &alone), "a verdict with a token is another than that of a check");
+        try_reasons(q, &token, &descriptors[i]);
     }
     share(&(struct shared){q, &token, descriptors, verdicts, count, false});
     if (count != 0) {

@@ -1,11 +1,13 @@
-// calls.mjs FOLDER convert|explain|normalize|from_sddl|check|derive [DOMAIN] [numeric]
+// calls.mjs FOLDER convert|explain|normalize|from_sddl|check|reasons|derive|origins [DOMAIN] [numeric]
 // calls.mjs FOLDER parts|walk|from_text|to_text|size [DOMAIN] [numeric]
+// calls.mjs FOLDER place|text_place [DOMAIN]
 // calls.mjs FOLDER many|with SIDS ENTRIES OBJECT SELF WANTED MAPPING FLAGS LEVEL
 // calls.mjs FOLDER plain WORD ..
 //
 // Makes a call of the JavaScript module in FOLDER for each line of standard input, and prints its answer, as ../c/calls.c and
 // ../c/objects.c do with the same words and lines; or one run, as ../c/runs.c does. Of a walk that ends with a fault it prints
-// the fault alone.
+// the fault alone. For `place` each answer is what the fault of each call with a descriptor says, in JSON, or null; and for
+// `text_place` the same of a text, which is in JSON too.
 import { readFileSync } from "node:fs";
 import { pathToFileURL } from "node:url";
 
@@ -49,6 +51,22 @@ function question([sids, entries, object, self, wanted, mapping, flags, level]) 
 
 const check = ([descriptor, ...asked]) => told(sdtool.check(bytes(descriptor), ...question(asked)));
 
+// Why, as ../c/calls.c prints it, each with the ACE that parts has at its place.
+const KINDS_OF_REASONS = ["nothing", "label", "no-dacl", "owner", "privilege", "granted", "denied"];
+
+function reasons([descriptor, ...asked]) {
+  const [sids, { wanted, maximum, denyOnly, ...options }] = question(asked);
+  const found = sdtool.reasons(bytes(descriptor), sids, { denyOnly, ...options });
+  const again = sdtool.reasonsWith(bytes(descriptor), sdtool.readToken(sids, { denyOnly }), options);
+  if (JSON.stringify(found) !== JSON.stringify(again)) throw new Error("other reasons with a token");
+  const { sacl, dacl } = sdtool.parts(bytes(descriptor));
+  return `${found.map(({ kind, place, ace }) => {
+    const listed = place === null ? null : (kind === "label" ? sacl : dacl).aces[place];
+    if (JSON.stringify(listed) !== JSON.stringify(ace)) throw new Error("another ACE");
+    return KINDS_OF_REASONS.indexOf(kind) + (place === null ? "" : `:${place}`);
+  }).join(" ")}\n`;
+}
+
 // The first three fields of a GUID have their low byte first.
 const GUID = [3, 2, 1, 0, 5, 4, 7, 6, 8, 9, 10, 11, 12, 13, 14, 15];
 const guid = (label, data) =>
@@ -88,9 +106,48 @@ function withToken(lines) {
   }).join("");
 }
 
-function derive([parent, creator, owner, group, kind, mapping]) {
-  const options = { kind: named(KINDS, kind), creator: bytes(creator), mapping: named(MAPPINGS, mapping) };
-  return `${hex(sdtool.derive(bytes(parent), bytes(owner), bytes(group), options))}\n`;
+// What a derivation is asked with.
+const derivation = ([parent, creator, owner, group, kind, mapping]) =>
+  [bytes(parent), bytes(owner), bytes(group), { kind: named(KINDS, kind), creator: bytes(creator), mapping: named(MAPPINGS, mapping) }];
+
+const derive = (words) => `${hex(sdtool.derive(...derivation(words)))}\n`;
+
+// Where each ACE comes from, as ../c/calls.c prints it, each with the ACE that parts has at its place.
+function origins(words) {
+  const asked = derivation(words), found = sdtool.origins(...asked), creator = asked[3].creator;
+  const parents = sdtool.parts(asked[0]), creators = creator.length > 0 ? sdtool.parts(creator) : null;
+  return `${["sacl", "dacl"].map((name) => name + found[name].map(({ fromCreator, place, inheritOnly, ace }) => {
+    const listed = (fromCreator ? creators : parents)[name].aces[place];
+    if (JSON.stringify(listed) !== JSON.stringify(ace)) throw new Error("another ACE");
+    return ` ${fromCreator ? "c" : "p"}${place}${inheritOnly ? "+" : ""}`;
+  }).join("")).join(" ")}\n`;
+}
+
+// What the fault of a descriptor says, which is the same in each call.
+function place(line) {
+  const given = bytes(line);
+  const calls = [
+    () => sdtool.normalize(given), () => sdtool.toSddl(given), () => sdtool.explain(given), () => sdtool.parts(given),
+    () => sdtool.check(given, ["WD"], { wanted: 1 }), () => sdtool.reasons(given, ["WD"]), () => sdtool.derive(given, "BA", "BA"),
+    () => sdtool.checkWith(given, sdtool.readToken(["WD"]), { wanted: 1 }),
+    () => sdtool.reasonsWith(given, sdtool.readToken(["WD"])),
+    () => { throw sdtool.checkMany([given], ["WD"], { wanted: 1 })[0]; },
+  ];
+  const told = new Set(calls.map(faultIn));
+  return `${told.size === 1 ? [...told][0] : "several"}\n`;
+}
+
+// What the fault of a call says, in ASCII.
+function faultIn(call) {
+  try {
+    call();
+  } catch (fault) {
+    if (fault instanceof Fault)
+      return JSON.stringify([fault.line, fault.place && Object.values(fault.place), fault.message, fault.excerpt()])
+        .replace(/[^ -~]/g, (unit) => `\\u${unit.charCodeAt(0).toString(16).padStart(4, "0")}`);
+    if (fault instanceof Error) throw fault;
+  }
+  return "null";
 }
 
 const OF_ALL = { many, with: withToken };
@@ -102,8 +159,12 @@ const JOBS = {
   normalize: (line) => `${hex(sdtool.normalize(bytes(line)))}\n`,
   from_sddl: (line) => `${hex(sdtool.fromSddl(line, domain))}\n`,
   check: (line) => check(line.split(" ")),
+  reasons: (line) => reasons(line.split(" ")),
   derive: (line) => derive(line.split(" ")),
+  origins: (line) => origins(line.split(" ")),
   parts,
+  place,
+  text_place: (line) => `${faultIn(() => sdtool.fromSddl(JSON.parse(line), domain))}\n`,
   walk: (line) => `${aceLines("dacl", sdtool.aces(bytes(line)))}end\n`,
   from_text: (line) => `${hex(sdtool.sidFromText(line, domain))}\n`,
   to_text: (line) => `${sdtool.sidToText(bytes(line), { ...domain, ...numeric })}\n`,

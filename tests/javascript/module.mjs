@@ -9,7 +9,7 @@ import vm from "node:vm";
 
 const [folder] = process.argv.slice(2);
 const address = pathToFileURL(`${folder}/`);
-const { load, Fault, ArgumentFault } = await import(new URL("sdtool.mjs", address));
+const { load, hasVectors, Fault, ArgumentFault } = await import(new URL("sdtool.mjs", address));
 // The memory of the first module that is loaded.
 const memories = [], { instantiate } = WebAssembly;
 WebAssembly.instantiate = async (...given) => {
@@ -39,8 +39,16 @@ function thrown(call) {
   return undefined;
 }
 
-function addFault(call, number, name, part, otherPart, message) {
-  const fault = thrown(call);
+// What faults mean, by the tables of docs/FORMAT.md.
+const FORMAT = readFileSync(new URL("../../docs/FORMAT.md", import.meta.url), "utf8");
+const MEANINGS = new Map([...FORMAT.matchAll(/^\| `error (\d+) [^`|]*` \| (.*?) \|/gm)].map(
+  ([, number, meaning]) => [Number(number), meaning.replace(/\[([^\]]*)\]\([^)]*\)/g, "$1").replaceAll("`", "")]));
+
+// A message has the meaning between the line and the place.
+const withMeaning = (fault, message) => message.replace(fault.line, () => `${fault.line}: ${MEANINGS.get(fault.number)}`);
+
+function addFault(call, number, name, part, otherPart, saidWithout) {
+  const fault = thrown(call), message = fault instanceof Fault ? withMeaning(fault, saidWithout) : saidWithout;
   add(fault instanceof Fault && fault instanceof Error && fault.number === number && fault.name === name &&
       fault.part === part && fault.otherPart === otherPart && fault.message === message, `${message}: ${fault}`);
 }
@@ -68,11 +76,58 @@ const SHORT_OWNER = bytes("0100008014000000000000000000000000000000" + "01010000
 const SAME_PLACE = bytes("0100008014000000140000000000000000000000" + "010100000000000512000000");
 const OF_USERS = sdtool.fromSddl("O:BAD:(A;;FR;;;BU)");
 
-addFault(() => sdtool.toSddl(new Uint8Array(0)), 5, "short", null, null, "error 5 short");
-addFault(() => sdtool.toSddl(SHORT_OWNER), 9, "sid", "owner", null, "error 9 sid owner");
-addFault(() => sdtool.normalize(SAME_PLACE), 14, "overlap", "owner", "group", "error 14 overlap owner group");
-addFault(() => sdtool.fromSddl("D:(A;;FA;;;Everyone)"), 25, "sid-form", null, null, "error 25 sid-form");
-addFault(() => sdtool.fromSddl("O:B\u2126"), 25, "sid-form", null, null, "error 25 sid-form");
+addFault(() => sdtool.toSddl(new Uint8Array(0)), 5, "short", null, null, "error 5 short, at byte 0");
+addFault(() => sdtool.toSddl(SHORT_OWNER), 9, "sid", "owner", null, "error 9 sid owner, at byte 20, the owner, SID");
+addFault(() => sdtool.normalize(SAME_PLACE), 14, "overlap", "owner", "group",
+    "error 14 overlap owner group, at byte 20, the group");
+add(thrown(() => sdtool.normalize(SHORT_OWNER)).excerpt() ===
+    "01000080140000000000000000000000000000000101000000000005\n" + " ".repeat(40) + "^".repeat(16), "the excerpt of a fault");
+add(new Fault(5, "short").place === null && new Fault(5, "short").excerpt() === "", "a fault without a place");
+// A text and the part, ACE, field, offset and size of its fault, and how the message ends.
+for (const [text, number, name, part, place, said] of [
+  ["O:BAx:", 20, "shape", null, ["owner", null, "sid", 5, 1], "at byte 5, the owner, SID"],
+  ["D:(A;;FA;;;WD", 20, "shape", null, ["dacl", 0, "sid", 13, 0], "at byte 13, ACE 1 of the DACL, SID"],
+  ["D:(A;;FA;;;WD)\u{1f600}", 20, "shape", null, ["dacl", null, null, 14, 2], "at byte 14, the DACL"],
+  ["\ud800", 20, "shape", null, [null, null, null, 0, 1], "at byte 0"],
+  ["O:SYO:SY", 21, "part-twice", null, ["owner", null, null, 4, 2], "at byte 4, the owner"],
+  ["G: ZZ ", 22, "alias", null, ["group", null, "sid", 3, 2], "at byte 3, the group, SID"],
+  ["D:(A;;FA;;;LA)", 23, "needs-domain", null, ["dacl", 0, "sid", 11, 2], "at byte 11, ACE 1 of the DACL, SID"],
+  ["O:S-1-4294967296", 24, "number", null, ["owner", null, "sid", 2, 14], "at byte 2, the owner, SID"],
+  ["D:(A;;FA;;;Everyone)", 25, "sid-form", null, ["dacl", 0, "sid", 11, 8], "at byte 11, ACE 1 of the DACL, SID"],
+  ["O:B\u2126", 25, "sid-form", null, ["owner", null, "sid", 2, 2], "at byte 2, the owner, SID"],
+  ["O:\u2126D:\u00e9(", 20, "shape", null, ["dacl", 0, "kind", 7, 0], "at byte 10, ACE 1 of the DACL, kind"],
+  ["D:PX", 26, "flags", null, ["dacl", null, "flags", 2, 2], "at byte 2, the DACL, flags"],
+  ["S:(AU;XX;FA;;;WD)", 26, "flags", null, ["sacl", 0, "flags", 6, 2], "at byte 6, ACE 1 of the SACL, flags"],
+  ["D:(A;;;;;WD)(A;;\u{1f600};;;WD)", 27, "rights", null, ["dacl", 1, "rights", 16, 2], "at byte 16, ACE 2 of the DACL, rights"],
+  ["D:(OA;;CC;x;;WD)", 28, "guid", null, ["dacl", 0, "object type", 10, 1], "at byte 10, ACE 1 of the DACL, object type"],
+  ["D:(OA;;CC;;x;WD)", 28, "guid", null, ["dacl", 0, "inherited object type", 11, 1],
+   "at byte 11, ACE 1 of the DACL, inherited object type"],
+  ["D:(XA;;FA;;;WD)", 29, "kind", null, ["dacl", 0, "kind", 3, 2], "at byte 3, ACE 1 of the DACL, kind"],
+  [`D:${"(A;;;;;WD)".repeat(3278)}`, 30, "acl-too-large", "dacl", ["dacl", 3276, null, 32762, 10], "at byte 32762, ACE 3277 of the DACL"],
+]) {
+  const line = `error ${number} ${name}${part ? ` ${part}` : ""}`;
+  addFault(() => sdtool.fromSddl(text), number, name, part, null, `${line}, ${said}`);
+  const found = thrown(() => sdtool.fromSddl(text));
+  add(JSON.stringify(Object.values(found.place)) === JSON.stringify(place), `${text.slice(0, 99)}: ${JSON.stringify(found.place)}`);
+  add(found.excerpt().split("\n").length === 2 && found.line === line, `${text.slice(0, 99)}: ${found.excerpt()}`);
+}
+add(thrown(() => sdtool.fromSddl("O:\u202e\u{1f600}\ud800Z")).excerpt() === "O:?\u{1f600}?Z\n  ^^^^", "an excerpt of characters");
+// Of a longer text 72 characters are shown, and as many on either side.
+const LONG = `D:${"(A;;FA;;;WD)".repeat(9)}(A;;\u{1f600};;;WD)${"(A;;FA;;;WD)".repeat(9)}`;
+add(thrown(() => sdtool.fromSddl(LONG)).excerpt() === `${[...LONG].slice(79, 151).join("")}\n${" ".repeat(35)}^`, "the middle of a text");
+// The place of a text that is no SID is all of it, whatever it stands for.
+for (const [text, number] of [["ZZ", 22], ["LA", 23], ["S-1-5-4294967296", 24], ["", 25], ["\u{1f600}", 25]])
+  for (const [call, argument, entry] of [
+    [() => sdtool.sidFromText(text), null, null], [() => sdtool.check(OF_USERS, ["WD", text], { wanted: 1 }), "sids", 1],
+    [() => sdtool.fromSddl("D:", { domain: text }), "domain", null], [() => sdtool.build({ owner: text }), "owner", null],
+    [() => sdtool.derive(OF_USERS, "BA", text), "group", null]]) {
+    const fault = thrown(call);
+    add(fault instanceof Fault && fault.number === number && fault.argument === argument && fault.entry === entry &&
+        JSON.stringify(Object.values(fault.place)) === JSON.stringify([null, null, "sid", 0, text.length]) &&
+        fault.message.endsWith(withMeaning(fault, `${fault.line}, at byte 0, SID`)) && fault.meaning === MEANINGS.get(number) &&
+        fault.excerpt() === `${text}\n${"^".repeat([...text].length || 1)}`,
+        `${text}: ${fault}, ${JSON.stringify(fault?.place)}`);
+  }
 addFault(() => sdtool.fromSddl(" ".repeat(1049873)), 1, "too-long", null, null, "error 1 too-long");
 addFault(() => sdtool.fromSddl("\u2126".repeat(1049873)), 1, "too-long", null, null, "error 1 too-long");
 addFault(() => sdtool.explain(new Uint8Array(131227)), 1, "too-long", null, null, "error 1 too-long");
@@ -103,14 +158,17 @@ for (const flag of ["maximum", "security", "takeOwnership"])
 for (const value of [0, 1, "true", null]) addRefused(`numeric ${value}`, () => sdtool.toSddl(EMPTY, { numeric: value }));
 for (const mapping of ["FILE", "directory", "", 0, null, "toString", ["file"]]) {
   addRefused(`mapping ${mapping}`, () => sdtool.check(EMPTY, [SYSTEM], { wanted: 1, mapping }));
-  addRefused(`mapping ${mapping}`, () => sdtool.derive(EMPTY, SYSTEM, SYSTEM, { mapping }));
-  addRefused(`kind ${mapping}`, () => sdtool.derive(EMPTY, SYSTEM, SYSTEM, { kind: mapping === "FILE" ? "FILE" : mapping }));
+  for (const call of ["derive", "origins"]) {
+    addRefused(`mapping ${mapping}`, () => sdtool[call](EMPTY, SYSTEM, SYSTEM, { mapping }));
+    addRefused(`kind ${mapping}`, () => sdtool[call](EMPTY, SYSTEM, SYSTEM, { kind: mapping === "FILE" ? "FILE" : mapping }));
+  }
 }
 for (const name of ["denyonly", "deny_only", "want", "takeownership", "Level"])
   addRefused(`option ${name}`, () => sdtool.check(EMPTY, [SYSTEM], { wanted: 1, [name]: true }), name);
 addRefused("an option of toSddl", () => sdtool.toSddl(EMPTY, { Domain: SYSTEM }));
 addRefused("an option of fromSddl", () => sdtool.fromSddl("D:", { numeric: true }));
-addRefused("an option of derive", () => sdtool.derive(EMPTY, SYSTEM, SYSTEM, { owner: SYSTEM }));
+for (const call of ["derive", "origins"])
+  addRefused(`an option of ${call}`, () => sdtool[call](EMPTY, SYSTEM, SYSTEM, { owner: SYSTEM }));
 for (const sids of [undefined, null, SYSTEM, "SY", {}, new Set([SYSTEM])]) {
   addRefused(`sids ${sids}`, () => sdtool.check(EMPTY, sids, { wanted: 1 }), "sids");
   addRefused(`sids ${sids}`, () => sdtool.checkMany([EMPTY], sids, { wanted: 1 }), "sids");
@@ -138,7 +196,7 @@ addNoSid("a principal", () => sdtool.check(EMPTY, ["SY"], { wanted: 1, principal
 addNoSid("a domain", () => sdtool.fromSddl("", { domain: "S-1-5-4294967296" }), 24, "domain");
 for (const text of ["", " ", "BA ", "S-1-5-18\0", "\ud800", "S-1-".repeat(5000)]) addNoSid(`${text.slice(0, 20)}`, () =>
     sdtool.derive(EMPTY, text, SYSTEM), 25, "owner");
-addNoSid("a group", () => sdtool.derive(EMPTY, SYSTEM, "Everyone"), 25, "group");
+for (const call of ["derive", "origins"]) addNoSid("a group", () => sdtool[call](EMPTY, SYSTEM, "Everyone"), 25, "group");
 const most = Array(1024).fill(SYSTEM);
 add(sdtool.check(EMPTY, most, { wanted: 1 }).granted, "the most SIDs");
 addRefused("one SID too many", () => sdtool.check(EMPTY, [...most, SYSTEM], { wanted: 1 }), "sids", 1024);
@@ -159,14 +217,14 @@ addRefused("many SIDs too many", () => sdtool.check(EMPTY, Array(200_000).fill(S
 for (const objectType of [new Uint8Array(15), new Uint8Array(17), new Uint8Array(5000), "",
     "bf967aba-0de6-11d0-a285-00aa003049e2", null])
   addRefused(`objectType ${objectType}`, () => sdtool.check(EMPTY, [SYSTEM], { wanted: 1, objectType }), "objectType");
-for (const sid of [new Uint8Array(0), null, undefined, 5, SYSTEM.subarray(0, 11)]) {
-  addRefused(`the owner ${sid}`, () => sdtool.derive(EMPTY, sid, SYSTEM), "owner");
-  addRefused(`the group ${sid}`, () => sdtool.derive(EMPTY, SYSTEM, sid), "group");
+for (const call of ["derive", "origins"]) {
+  for (const sid of [new Uint8Array(0), null, undefined, 5, SYSTEM.subarray(0, 11)]) {
+    addRefused(`the owner ${sid}`, () => sdtool[call](EMPTY, sid, SYSTEM), "owner");
+    addRefused(`the group ${sid}`, () => sdtool[call](EMPTY, SYSTEM, sid), "group");
+  }
+  for (const creator of ["D:", SYSTEM, new Uint8Array(200_000)])
+    addRefused(`a creator of ${creator.length}`, () => sdtool[call](EMPTY, SYSTEM, SYSTEM, { creator }), "creator");
 }
-addRefused("a creator of another type", () => sdtool.derive(EMPTY, SYSTEM, SYSTEM, { creator: "D:" }), "creator");
-addRefused("a creator that is none", () => sdtool.derive(EMPTY, SYSTEM, SYSTEM, { creator: SYSTEM }), "creator");
-addRefused("a creator that is too long", () => sdtool.derive(EMPTY, SYSTEM, SYSTEM, { creator: new Uint8Array(200_000) }),
-    "creator");
 for (const number of [-1, 0, 3.5, 2 ** 32, "25", 200, undefined]) addRefused(`fault ${number}`, () => sdtool.faultText(number));
 addRefused("words", () => sdtool.run("convert", EMPTY));
 addRefused("a word", () => sdtool.run(["convert", 5], EMPTY), "words", 1);
@@ -220,7 +278,11 @@ for (const [name, values] of [["control", [-1, 65536, "P", null, true]], ["resou
                               ["owner", [5, twice, SYSTEM.subarray(1), false]], ["group", [5, twice, [SYSTEM]]]])
   for (const value of values) addRefused(`${name} ${value}`, () => sdtool.build({ [name]: value }), name);
 addNoSid("an owner that is a text", () => sdtool.build({ owner: "Everyone" }), 25, "owner");
-for (const parts of [undefined, null]) add(thrown(() => sdtool.build(parts)) instanceof TypeError, `building ${parts}`);
+for (const parts of [undefined, null, 5, "", "D:", true, Symbol("D:"), () => ({}), [], [ACE], new Map([["dacl", [ACE]]]), new Set(),
+                     Promise.resolve({}), new Date(0), new Error("x"), EMPTY, new Number(1), new String(""), Object.prototype])
+  addRefused(`building ${typeof parts}`, () => sdtool.build(parts));
+for (const dacl of [Object.create({ dacl: undefined }), { get dacl() { return undefined; } }, Object.create({ get dacl() { return undefined; } })])
+  addRefused("a DACL that is there and undefined", () => sdtool.build(dacl), "dacl");
 
 // The same as the header says of the C calls, and MS-DTYP 2.5.3.2: no DACL grants all, an empty one nothing.
 add(sdtool.faultText(25) === "sid-form" && sdtool.faultText(14) === "overlap", "the names of faults");
@@ -263,8 +325,9 @@ add(found.dacl.aces.length === 1 && found.control === 0x9404 && found.resourceMa
         one.mask === 0x100 &&
     one.inheritedObjectType === null && Buffer.from(one.objectType).toString("hex") === "01000000020003000405060708090a0b" &&
     sdtool.sidToText(one.sid) === "AU", `the parts of a descriptor: ${JSON.stringify(found)}`);
-addFault(() => sdtool.parts(SHORT_OWNER), 9, "sid", "owner", null, "error 9 sid owner");
-addFault(() => sdtool.parts(SAME_PLACE), 14, "overlap", "owner", "group", "error 14 overlap owner group");
+addFault(() => sdtool.parts(SHORT_OWNER), 9, "sid", "owner", null, "error 9 sid owner, at byte 20, the owner, SID");
+addFault(() => sdtool.parts(SAME_PLACE), 14, "overlap", "owner", "group",
+    "error 14 overlap owner group, at byte 20, the group");
 addFault(() => sdtool.parts(new Uint8Array(131227)), 1, "too-long", null, null, "error 1 too-long");
 addFault(() => sdtool.aces(new Uint8Array(0)), 10, "acl", null, null, "error 10 acl");
 add(sdtool.sidFromText("BA").length === 16 && sdtool.sidToText(sdtool.sidFromText("DA", { domain: "S-1-5-21-1-2-3" }),
@@ -333,10 +396,21 @@ for (const lost of [gone, cut]) {
 const late = Uint8Array.from(SYSTEM);
 const stealing = { get sid() { structuredClone(late.buffer, { transfer: [late.buffer] }); return SYSTEM; }, kind: 0, flags: 0,
     mask: 1 };
-add(thrown(() => sdtool.build({ owner: late, dacl: [stealing] })) instanceof TypeError, "bytes that are lost in between");
+add(sdtool.toSddl(sdtool.build({ owner: late, dacl: [stealing] })) === "O:SYD:(A;;CC;;;SY)", "bytes that are lost once they are taken");
 // A call in the middle of another one's arguments.
 const nested = { ...ACE, get sid() { return sdtool.parts(OF_USERS).dacl.aces[0].sid; } };
 add(sdtool.toSddl(sdtool.build({ owner: "BA", dacl: [nested] })) === "O:BAD:(A;;FR;;;BU)", "a call within a call");
+
+// Each ACE of the largest lists goes on to a file, and in a folder one is for what is made in it.
+const handed = sdtool.fromSddl(`D:${"(A;OI;FR;;;S-1-5)".repeat(4095)}S:${"(AU;OISA;FR;;;S-1-5)".repeat(4095)}`);
+for (const [kind, inheritOnly] of [["file", false], ["container", true]]) {
+  const found = sdtool.origins(handed, "BA", SYSTEM, { kind });
+  for (const name of ["sacl", "dacl"])
+    add(found[name].length === 4095 && found[name].every((origin, place) => origin.place === place && !origin.fromCreator &&
+        origin.inheritOnly === inheritOnly && origin.ace.flags === (name === "sacl" ? 0x41 : 1)), `the most origins of the ${name}`);
+}
+addFault(() => sdtool.origins(handed, "BA", SYSTEM, { creator: sdtool.fromSddl("D:(A;;FR;;;S-1-5)") }), 40, "derived-too-large",
+    "dacl", null, "error 40 derived-too-large dacl");
 
 // The largest descriptor and the largest texts; then a small one.
 const ace = "(AU;OICINPIOIDSAFA;CCDCLCSWRPWPDTLOCRSDRCWDWOGAGXGWGR;;;S-1-0xffffffffffff)", aces = ace.repeat(4095);
@@ -375,6 +449,7 @@ add(thrown(() => sdtool.run(["convert"], huge)) instanceof RangeError,
     "an input that the memory does not hold with its answers");
 add(sdtool.toSddl(OF_USERS) === "O:BAD:(A;;FR;;;BU)", "a call after that");
 
+add(hasVectors() === true, "hasVectors");
 // Each source that load takes, and some that are none.
 const file = new URL("sdtool.wasm", address), data = readFileSync(file);
 const copy = new ArrayBuffer(data.length);
@@ -385,7 +460,7 @@ for (const source of [file, file.href, data, copy, new Uint8Array(copy), await W
 for (const source of [null, 5, {}, "sdtool.wasm", new URL("none.wasm", address), new Uint8Array(8)]) {
   let error;
   await load(source).catch((reason) => { error = reason; });
-  add(error instanceof Error, `loading from ${source}: ${error}`);
+  add(error instanceof Error && !error.message.includes("vectors"), `loading from ${source}: ${error}`);
 }
 
 console.log(`${passed} passed, ${failed} failed`);

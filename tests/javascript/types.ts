@@ -1,9 +1,10 @@
 // What sdtool.d.ts lets a program of TypeScript write, and what it refuses: each line below a `@ts-expect-error` has to be an
 // error. tests/systems.py compiles it; nothing runs it.
-import { load, Acl, Ace, ArgumentFault, Fault, NewAce, Parts, Token, Verdict } from "sdtool";
+import { load, hasVectors, Acl, Ace, ArgumentFault, Fault, NewAce, Parts, Token, Verdict } from "sdtool";
 
 async function all(): Promise<void> {
-  const sdtool = await load(new URL("sdtool.wasm", "file:///"));
+  const canLoad: boolean = hasVectors();
+  const sdtool = await load(canLoad ? new URL("sdtool.wasm", "file:///") : undefined);
   const users: Uint8Array = sdtool.sidFromText("BU", { domain: "S-1-5-21-1-2-3" });
   const text: string = sdtool.sidToText(users, { domain: users, numeric: true });
   const size: number = sdtool.sidSize(users);
@@ -11,6 +12,7 @@ async function all(): Promise<void> {
   const verdict: Verdict = sdtool.check(descriptor, [users, "WD"], { denyOnly: ["BA"], wanted: 1, level: null, mapping: "ds" });
   const token: Token = sdtool.readToken([users], { denyOnly: ["BA"] });
   console.log(sdtool.checkWith(descriptor, token, { wanted: 1, level: 8192 }).granted);
+  console.log(sdtool.reasons(descriptor, ["BU"], { denyOnly: ["SY"] })[1].ace?.mask, sdtool.reasonsWith(descriptor, token)[0].kind);
   for (const one of sdtool.checkMany([descriptor], ["BU"], { maximum: true })) {
     const granted: boolean = one instanceof Fault ? false : one.granted;
     console.log(granted, verdict.mask, text, size);
@@ -32,10 +34,12 @@ async function all(): Promise<void> {
   const status: 0 | 1 | 2 = answers.status;
   console.log(aces, status, sdtool.faultText(25), sdtool.explain(descriptor, { numeric: true }), sdtool.normalize(descriptor));
   console.log(sdtool.derive(descriptor, "BA", users, { kind: "container", creator: descriptor }), sdtool.toSddl(descriptor));
+  console.log(sdtool.origins(descriptor, "BA", users, { kind: "container" }).dacl[0].ace.mask);
   try {
     sdtool.version();
   } catch (fault) {
-    if (fault instanceof Fault) console.log(fault.number, fault.part, fault.otherPart, fault.argument, fault.entry, fault.line);
+    if (fault instanceof Fault) console.log(fault.number, fault.part, fault.otherPart, fault.argument, fault.entry, fault.line,
+        fault.place?.ace, fault.excerpt());
     if (fault instanceof ArgumentFault) console.log(fault.argument, fault.entry, fault.number);
   }
   // @ts-expect-error an ACL that may be absent has no ACEs

@@ -16,6 +16,7 @@ fast, and nothing is shared with the program. What the tests take stands here; a
   inheriting.py     the descriptor of a new object
   command_line.py   what words ask for
   run.py            the lines of an input, and their answers
+  places.py         where the fault of bytes or of SDDL is
 """
 from .access import RESERVED
 from .binary import DACL_PRESENT, HEADER, SACL_PRESENT, SELF_RELATIVE, layout, read

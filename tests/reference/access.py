@@ -25,6 +25,16 @@ class Ask(NamedTuple):
     level: Optional[int] = None  # a token without one is limited by no label
 
 
+class Reason(NamedTuple):
+    """Why a right is granted or denied: a word of REASONS, and the place of the ACE in its ACL if it is one."""
+    word: str
+    place: Optional[int] = None
+
+
+REASONS = "nothing", "label", "no dacl", "owner", "privilege", "granted", "denied"
+GRANTING = REASONS[2:6]
+
+
 class Label(NamedTuple):
     level: int
     policy: int
@@ -54,14 +64,22 @@ def applies(ace, descriptor, ask):
             and subject is not None and meets(subject, ask.token, ace.type in (1, 6)))
 
 
-def label(descriptor):
-    """The integrity label of the object (2.4.4.13): the first ACE of the SACL that is a label for the object itself, else
-    medium and no write up."""
-    for ace in descriptor.sacl.aces if descriptor.sacl else ():
+def label_place(descriptor):
+    """The place in the SACL of the first ACE that is a label for the object itself (2.4.4.13), or None."""
+    for index, ace in enumerate(descriptor.sacl.aces if descriptor.sacl else ()):
         names_level = ace.sid.authority == MANDATORY_LABEL_AUTHORITY and len(ace.sid.sub_authorities) == 1
         if ace.type == LABEL_TYPE and names_level and not ace.flags & ACE_FLAGS["IO"]:
-            return Label(ace.sid.sub_authorities[0], ace.mask & 7)
-    return Label(MEDIUM, LABEL_RIGHTS["NW"])
+            return index
+    return None
+
+
+def label(descriptor):
+    """The integrity label of the object: that of its ACE, else medium and no write up."""
+    index = label_place(descriptor)
+    if index is None:
+        return Label(MEDIUM, LABEL_RIGHTS["NW"])
+    ace = descriptor.sacl.aces[index]
+    return Label(ace.sid.sub_authorities[0], ace.mask & 7)
 
 
 def label_allows(place, descriptor, ask):
@@ -74,22 +92,34 @@ def label_allows(place, descriptor, ask):
     return any(rights >> place & 1 for name, rights in ways.items() if not policy & LABEL_RIGHTS[name])
 
 
-def granted(place, descriptor, ask):
-    """Whether the one right at the place is granted (2.5.3.2)."""
+def reason(place, descriptor, ask):
+    """Why the one right at the place is granted or denied (2.5.3.2), whatever is wanted."""
     if place == SYSTEM_SECURITY:
-        return ask.security
+        return Reason("privilege" if ask.security else "nothing")
     if not label_allows(place, descriptor, ask):
-        return False
-    if descriptor.dacl is None or place == WRITE_OWNER and ask.take_ownership:
-        return True
-    aces = descriptor.dacl.aces
-    names_owner = any(ace.type in (0, 1, 5, 6) and ace.sid == Sid(3, (4,)) and not ace.flags & ACE_FLAGS["IO"] for ace in aces)
-    if place in (READ_CONTROL, WRITE_DAC) and not names_owner and meets(descriptor.owner, ask.token, False):
-        return True
-    for ace in aces:
-        if applies(ace, descriptor, ask) and mapped(ace.mask, ask.mapping) >> place & 1:
-            return ace.type in (0, 5)
-    return False
+        return Reason("label", label_place(descriptor))
+    if descriptor.dacl is None:
+        return Reason("no dacl")
+    binds_owner = any(ace.sid == Sid(3, (4,)) and ace.type in (0, 1, 5, 6) and not ace.flags & ACE_FLAGS["IO"]
+                      for ace in descriptor.dacl.aces)
+    if place in (READ_CONTROL, WRITE_DAC) and meets(descriptor.owner, ask.token, False) and not binds_owner:
+        return Reason("owner")
+    if place == WRITE_OWNER and ask.take_ownership:
+        return Reason("privilege")
+    for index, ace in enumerate(descriptor.dacl.aces):
+        if mapped(ace.mask, ask.mapping) >> place & 1 and applies(ace, descriptor, ask):
+            return Reason("granted" if ace.type in (0, 5) else "denied", index)
+    return Reason("nothing")
+
+
+def reasons(descriptor, ask):
+    """Why each right is granted or denied, by its place."""
+    return [reason(place, descriptor, ask) for place in PLACES]
+
+
+def granted(place, descriptor, ask):
+    """Whether the one right at the place is granted."""
+    return reason(place, descriptor, ask).word in GRANTING
 
 
 def verdict(descriptor, ask):

@@ -24,6 +24,13 @@ class Plan(NamedTuple):
     mapping: Tuple[int, ...]
 
 
+class Origin(NamedTuple):
+    """Where an ACE of a new object comes from."""
+    place: int  # of the ACE that it was made of, in its ACL
+    from_creator: bool  # else from the parent
+    inherit_only: bool
+
+
 def differs(ace):
     """Whether an ACE means one thing for the object itself and another for those in it."""
     return ace.sid in (CREATOR_OWNER, CREATOR_GROUP) or ace.type != LABEL_TYPE and ace.mask & GENERIC
@@ -84,6 +91,19 @@ def derived_acl(letter, parent, creator, plan):
         return present | protected, None
     own = [one for ace in acl.aces for one in taken(ace, plan)]
     return present | (protected or flags["AI"]), Acl((*own, *(() if protected else aces)))
+
+
+def origins(letter, parent, creator, plan):
+    """Where each ACE of the new object's ACL comes from, in their order."""
+    is_brought, protected, own = part_of(creator, letter) if creator else (False, 0, None)
+    if is_brought and own is None:
+        return []
+    inherited = None if is_brought and protected else part_of(parent, letter)[2]
+    givers = (True, own, taken), (False, inherited, copies)
+    return [Origin(place, from_creator, bool(new.flags & ACE_FLAGS["IO"]))
+            for from_creator, acl, gives in givers
+            for place, ace in enumerate(acl.aces if acl else ())
+            for new in gives(ace, plan)]
 
 
 def derived(parent, creator, plan):

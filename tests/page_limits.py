@@ -1,0 +1,220 @@
+"""Tests of the page: hostile texts, questions that are stopped, answers that are older than the text, and what a link sets."""
+import random
+import urllib.parse
+
+from page_driver import LIMIT, TOO_SLOW, busy, in_time
+
+SLOWER = 0.5  # seconds more, for a new worker and for what is shown
+WORKING = "Working .."
+TYPES = 60  # object types of a large descriptor of a directory object
+
+SIDS = [f"S-1-5-21-1-2-3-{number}" for number in range(1000, 1000 + 700)]
+GUIDS = [f"{number:08x}-0de6-11d0-a285-00aa003049e2" for number in range(TYPES)]
+
+
+def directory_object(seed):
+    """A valid DACL of some 52 KB: each ACE is for another type of object, and for another trustee."""
+    chance = random.Random(seed)
+    aces = "".join(
+        f"({chance.choice(['OA', 'OA', 'OD'])};CI;{chance.choice(['RPWP', 'CR', 'CCDC'])};{chance.choice(GUIDS)};;{sid})"
+        for sid in SIDS
+    )
+    return f"O:BAG:BAD:(A;;RPLCLORC;;;AU){aces}"
+
+
+# Texts for which a reader that looks again and again takes seconds or minutes.
+TEXTS = [
+    "," * 100_000 + "O:BAD:(A;;FA;;;WD)",
+    "D:(\n" + "O:1\n" * 50_000,
+    "1," + "0, " * 3_300_000 + "5",
+    "1, 0, 4, 128, " + "255 " * 2_000_000,
+    '"a"=hex:' + "01," * 3_000_000,
+    "hex:" + "\\" + " " * 400_000,
+    "dn:" + " " * 400_000 + "\u2028",
+    "nTSecurityDescriptor:: " + " " * 400_000 + "\u2028\nx",
+    'x,"D:' + '""' * 200_000 + "x",
+    "\u201e" * 200_000 + "D:P",
+    "<" * 200_000 + "O:BA" + ">" * 200_000,
+    "D:(A;;FA;;;WD)\n" * 25_000,
+    "O:BA\nG:BA\nD:\nS:\n" * 20_000,
+    "D:" + "(A;;FA;;;WD)" * 40_000,
+    "D:" + "(A;;FA;;;Everyone)" * 20_000,
+    "D:" + "()" * 200_000,
+    "D:" + "(A;" * 100_000,
+    "D:(A;;;;;WD" + ";" * 300_000 + ")",
+    "O:S-1-" + "0" * 400_000,
+    "Path : " + " " * 400_000 + "\nSddl : D:",
+    "C:\\x Everyone:" + "(F)" * 100_000,
+    ":(F)" * 100_000,
+    "\\" * 400_000,
+    "AQ" + "A" * 999_998,
+    "01" * 500_000,
+    "\n" * 400_000 + "x",
+    "\u00a0" * 400_000 + "x",
+]
+
+
+def limit_of(given):
+    """The page stops a question after two seconds. All of it may be slow on a machine that does other things."""
+    return (LIMIT + SLOWER) * busy(given)
+
+
+def asked_anew(page, limit, name, *arguments):
+    """What a function of page.js says of a text. If that took too long, the page is opened anew, since it asks about the same
+    text only once."""
+    got = page.call(name, *arguments)
+    if got["seconds"] > limit:
+        page.open(is_limited=True)
+        page.see("O:BAD:(A;;FA;;;WD)")
+    return got
+
+
+def test_hostile_texts(count, page, given):
+    """Each is answered or stopped, and at the end nothing says that it goes on."""
+    page.open(is_limited=True)
+    limit = limit_of(given)
+    for text in TEXTS:
+        got = in_time(lambda: asked_anew(page, limit, "hostileText", text), lambda got: got["seconds"] <= limit)
+        what = f"{text[:20]!r}.. of {len(text)} characters: {got}"
+        count.add(got["seconds"] <= limit, what)
+        count.add(got["found"] not in ("", WORKING) and "can't start" not in got["found"], what)
+        count.add(not got["isOlder"], what)
+    shown = page.see_in_time("O:BAD:(A;;FA;;;WD)")
+    count.add("Everyone" in shown, f"after hostile texts: {shown[:200]}")
+
+
+def test_hostile_fields(count, page, given):
+    """The other fields: names, the token, the second descriptor of a comparison."""
+    page.open(is_limited=True)
+    page.see("O:BAD:(A;;FA;;;WD)")
+    limit = limit_of(given)
+    fields = [
+        ("look", "names", "S-1-1-0 a" + " " * 200_000 + "b"),
+        ("look", "names", "S-1-1-0" + "=" * 400_000),
+        ("look", "domain", "S-1-" + "9-" * 200_000),
+        ("ask", "ask-token", "1," * 200_000),
+        ("ask", "ask-token", "S-1-1-0," * 50_000),
+        ("ask", "ask-token", '"' * 400_000),
+        ("ask", "ask-want", "FA" * 200_000),
+        ("inherit", "made-owner", "x" * 400_000),
+        ("inherit", "made-creator", "D:(\n" + "O:1\n" * 50_000),
+        ("compare", "other-text", "," * 100_000 + "O:BA"),
+    ]
+    for view, field, text in fields:
+        got = in_time(lambda: asked_anew(page, limit, "hostileField", view, field, text), lambda got: got["seconds"] <= limit)
+        what = f"{field} {text[:20]!r}.. of {len(text)} characters: {got}"
+        count.add(got["seconds"] <= limit, what)
+        count.add(got["found"] != WORKING and not got["isOlder"], what)
+        page.do("put(given[0], '');", field)
+
+
+def test_large_comparison(count, page, given):
+    """Two valid DACLs of a directory, of 52 KB: what is compared is said."""
+    one, other, limit = directory_object(1), directory_object(2), limit_of(given)
+
+    def compared():
+        page.open(is_limited=given.idle)
+        page.do("put('kind', 'ds');")
+        page.call("hostileText", one)
+        got = page.call("hostileField", "compare", "other-text", other)
+        return got, page.do("return byId('compare-result').textContent;")
+
+    got, shown = in_time(compared, lambda one: one[0]["seconds"] <= limit and TOO_SLOW not in one[1])
+    count.add(got["seconds"] <= limit and not got["isOlder"], f"a large comparison: {got}")
+    count.add("The two differ." in shown and ("Whose rights differ" in shown), f"a large comparison: {shown[:300]}")
+    print(f"{page.browser.name}: a comparison of two DACLs with {len(SIDS)} ACEs takes {got['seconds']:.2f} s")
+
+
+def test_stopped(count, page, given):
+    """A worker that never answers is ended, the page says so, and the next text is answered."""
+    page.open(is_limited=True)
+    page.see("O:BAD:(A;;FA;;;WD)")
+    got = page.call("stopWorker", "O:SY")
+    count.add(got["isHidden"], f"an answer that is older than the text is shown: {got}")
+    count.add(TOO_SLOW in got["found"] and "Nothing is known" in got["look"], f"a stopped question: {got}")
+    count.add("Everyone" not in got["look"] and got["ended"] == 1, f"a stopped question: {got}")
+    count.add(LIMIT <= got["seconds"] + 0.1 and got["seconds"] <= limit_of(given), f"a stopped question: {got}")
+    shown = page.see_in_time("O:BAD:(A;;FR;;;BU)")
+    count.add("Users" in shown, f"the text after a stopped one: {shown[:200]}")
+    for view in ("ask", "inherit", "compare"):
+        page.do("put('other-text', 'D:');")
+        page.view(view)
+        got = page.call("stopWorker", "O:SYD:(A;;FA;;;BA)")
+        shown = page.do("return byId(`${given[0]}-result`).textContent;", view)
+        count.add(TOO_SLOW in shown, f"a stopped question of {view}: {shown[:200]}")
+
+
+def test_broken(count, page, _):
+    """A worker that breaks is ended, and another one answers."""
+    page.open(is_limited=True)
+    page.see("O:BAD:(A;;FA;;;WD)")
+    got = page.call("breakWorker", "O:SY")
+    count.add("out of memory" in got["found"] and "out of memory" in got["look"], f"a broken worker: {got}")
+    shown = page.see_in_time("O:BAD:(A;;FR;;;BU)")
+    count.add("Users" in shown, f"the text after a broken worker: {shown[:200]}")
+
+
+def test_working(count, page, _):
+    """A text that is answered does not say that the page works on it, however long it is shown."""
+    page.open()
+    text = "D:" + "".join(f"(A;;FR;;;S-1-5-21-1-2-3-{number})" for number in range(450))
+    page.see(text[:16_000].rpartition("(")[0])
+    found = page.do("await pause(700); return byId('found').textContent;")
+    count.add(found.startswith("Read as SDDL."), f"a text of 16,000 characters: {found}")
+    page.do("put('text', given[0]); await pause(20); put('text', 'D:P'); await until(isIdle); await pause(500);", text)
+    found = page.do("return byId('found').textContent;")
+    count.add(found.startswith("Read as SDDL."), f"a short text behind a long one: {found}")
+
+
+def opened_at(page, words):
+    page.open_link(f"{page.url}#{urllib.parse.urlencode(words)}")
+
+
+def test_links(count, page, _):
+    """What a link sets is shown where it applies, and what can't be read is said."""
+    text = "O:BAD:(A;;FA;;;BU)"
+    for level, shown in (("4096", "low (4096)"), ("12345", "level 12345")):
+        opened_at(page, {"view": "ask", "d": text, "token": "BU", "level": level})
+        got = page.do(
+            "const one = byId('ask-level'); return [one.value, one.selectedOptions[0]?.textContent, byId('unread')?.textContent ?? '', "
+            "document.querySelector('#ask-result .verdict')?.textContent ?? ''];"
+        )
+        count.add(got[:3] == [f" {level}", shown, ""] and got[3] != "", f"the level {level} of a link: {got}")
+    opened_at(page, {"d": text, "level": "foo", "kind": "x", "y": "\u202e1"})
+    got = page.do("return [byId('unread').textContent, byId('unread').checkVisibility(), byId('view-look').textContent];")
+    is_said = all(one in got[0] for one in ("level=foo", "kind=x", "y=\\u{202e}1"))
+    count.add(is_said and got[1] and "Users" in got[2], f"what a link has that can't be read: {got}")
+    opened_at(page, {"d": text, "domain": "S-1-5-21-1-2-3G:BA", "view": "look"})
+    got = page.do("return [byId('found').textContent, byId('domain').checkVisibility(), byId('domain').value];")
+    count.add("no SID" in got[0] and got[1:] == [True, "S-1-5-21-1-2-3G:BA"], f"a domain that is none: {got}")
+    shown = page.do("put('domain', ''); await until(isIdle); return byId('view-look').textContent;")
+    count.add("Users" in shown, f"after a domain that was none: {shown[:200]}")
+    opened_at(page, {"d": text, "kind": "ds", "object": "bf9679c0-0de6-11d0-a285-00aa003049e2", "common": "0"})
+    got = page.do("return [byId('object').checkVisibility(), byId('common').checkVisibility(), byId('common').checked];")
+    count.add(got == [True, True, False], f"an object type of a link is not shown: {got}")
+    opened_at(page, {"d": text, "object": "bf9679c0-0de6-11d0-a285-00aa003049e2"})
+    got = page.do(
+        "const before = byId('more-options').open; put('kind', 'ds'); await until(isIdle); return [before, byId('object').checkVisibility()];"
+    )
+    count.add(got == [False, True], f"an object type that begins to apply is not shown: {got}")
+
+
+def test_command_characters(count, page, _):
+    """A copied command has no character that a terminal takes for more than a character."""
+    page.open()
+    page.do("put('form', 'sddl'); await see(given[0]);", "O:BA\u001b[201~; touch x\u0007 \u202e")
+    page.do("byId('share-command').click(); await until(() => byId('copied-text'));")
+    command = page.do("return byId('copied-text').value;")
+    count.add(all(character.isprintable() for character in command) and "\\0033" in command, f"a command: {command!r}")
+    page.do("put('form', 'auto');")
+
+
+def test_going(count, page, _):
+    """What no policy forbids: the page has no code for it, and takes away what it can."""
+    page.open(is_limited=True)
+    got = page.do(
+        "return [typeof RTCPeerConnection, typeof WebTransport, document.querySelectorAll('form, iframe, link, base, area').length, "
+        "Array.from(document.querySelectorAll('a'), (one) => one.getAttribute('href')), "
+        "document.querySelector('meta[http-equiv=x-dns-prefetch-control]')?.content];"
+    )
+    count.add(got == ["undefined", "undefined", 0, ["#text"], "off"], f"ways out of the page: {got}")
