@@ -52,7 +52,8 @@ impl AceFront {
         AceFront::of_fields(ace.kind(), ace.flags(), ace.size(), ace.mask(), present)
     }
 
-    /// That of an ACE of this kind, with these flags, this size and mask, and these object flags where its kind has them.
+    /// That of an ACE of this kind, with these flags, this size and mask, and these object flags where its kind has
+    /// them.
     #[inline(always)]
     pub fn of_fields(kind: AceKind, flags: u8, size: u16, mask: u32, present: u32) -> AceFront
         ensures { result ≡ kind_code kind ∷ flags ∷ little_bytes 2 size

@@ -1,6 +1,7 @@
 //! Why bytes show no ACL.
 
-/// Why bytes begin with no ACL or no ACE: the first condition that holds, ACE by ACE. The numbers are those of `SdFault`.
+/// Why bytes begin with no ACL or no ACE: the first condition that holds, ACE by ACE. The numbers are those of
+/// `SdFault`.
 #[derive(Clone, Copy, Debug, PartialEq, Eq)]
 pub enum AclFault {
     /// 10: the ACL's revision is neither 2 nor 4, its size is below 8, or it passes the bytes.

@@ -28,8 +28,8 @@ pub fn print_as_base64<P: Print>(bytes: &[u8], cells: &mut [u8; SPELLED], out: &
     }
 }
 
-// Encodes to the front of the cells, and says how many characters there are. Blocks are encoded at once, and the rest by
-// the crate `base64`.
+// Encodes to the front of the cells, and says how many characters there are. Blocks are encoded at once, and the rest
+// by the crate `base64`.
 fn encode_base64(bytes: &[u8], cells: &mut [u8]) -> usize
     requires { encoded_size_of standard (length bytes.now) ≤ length cells.old }
     ensures count { result ≤ length cells.new }
@@ -54,8 +54,8 @@ fn encode_rest(bytes: &[u8], cells: &mut [u8]) -> usize
     STANDARD.encode_slice(bytes, cells).unwrap_or(0)
 }
 
-// The symbols of the first twelve of sixteen bytes. Each three of them become the last bytes of a word of 32 bits, and are
-// then moved to its four bytes.
+// The symbols of the first twelve of sixteen bytes. Each three of them become the last bytes of a word of 32 bits, and
+// are then moved to its four bytes.
 #[inline(always)]
 fn block_symbols(bytes: &[u8]) -> [u8; LANES]
     requires { length bytes.now ≡ 16 }
@@ -76,8 +76,8 @@ fn block_symbols(bytes: &[u8]) -> [u8; LANES]
     symbols_of(values.to_le_bytes()).to_array()
 }
 
-// The symbols of values: capital letters, small letters, digits, `+` and `/`. Each run of symbols begins a step away from
-// the end of the run before it.
+// The symbols of values: capital letters, small letters, digits, `+` and `/`. Each run of symbols begins a step away
+// from the end of the run before it.
 #[inline(always)]
 fn symbols_of(values: u8x16) -> u8x16
     requires { Each1 (λ (v : ℕ). v < 64) values }

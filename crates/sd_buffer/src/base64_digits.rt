@@ -16,9 +16,9 @@ const BLOCK: usize = 16;
 /// The groups of four characters in a block.
 const GROUPS: usize = BLOCK / 4;
 
-// Decodes whole blocks of symbols, up to one that has another character, to the front of the cells. Says how many groups
-// of four symbols these are. Padding is no symbol, so the block that has it is left. Each block is stored with four zeros
-// behind its bytes, so a last one without the room for these is left too.
+// Decodes whole blocks of symbols, up to one that has another character, to the front of the cells. Says how many
+// groups of four symbols these are. Padding is no symbol, so the block that has it is left. Each block is stored with
+// four zeros behind its bytes, so a last one without the room for these is left too.
 pub(crate) fn decode_blocks(text: &[u8], cells: &mut [u8]) -> usize
     requires { decoded_estimate (length text.now) ≤ length cells.old }
     ensures within { 4 * result ≤ length text.now }

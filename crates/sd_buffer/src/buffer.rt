@@ -255,8 +255,9 @@ fn write_at(cells: &mut [u8], at: usize, bytes: &[u8])
     cells[at..at + bytes.len()].copy_from_slice(bytes);
 }
 
-// Decodes pairs of hex digits into the cells from an offset on. Blocks are decoded at once, and the last one ends with the
-// digits. The crate `hex` decodes fewer digits than a block, and all from the first block that has another character.
+// Decodes pairs of hex digits into the cells from an offset on. Blocks are decoded at once, and the last one ends with
+// the digits. The crate `hex` decodes fewer digits than a block, and all from the first block that has another
+// character.
 fn decode_hex(pairs: &[u8], cells: &mut [u8], at: usize) -> Result<(), TextFault>
     requires even { length pairs.now % 2 ≡ 0 }
     requires room { at + length pairs.now / 2 ≤ length cells.old }

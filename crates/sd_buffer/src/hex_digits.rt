@@ -17,8 +17,8 @@ const PAIRS: usize = BLOCK / 2;
 const NO_DIGIT: u8 = 16;
 
 // Decodes blocks of digits, up to one that has another character, to the front of the cells. Says how many bytes these
-// are: none where the digits are fewer than a block. The last block ends with the digits, so it may begin with some that
-// were read before.
+// are: none where the digits are fewer than a block. The last block ends with the digits, so it may begin with some
+// that were read before.
 pub(crate) fn decode_blocks(pairs: &[u8], cells: &mut [u8]) -> usize
     requires { length pairs.now ≤ 2 * length cells.old }
     ensures within { 2 * result ≤ length pairs.now }
@@ -42,8 +42,8 @@ pub(crate) fn decode_blocks(pairs: &[u8], cells: &mut [u8]) -> usize
     done
 }
 
-// The bytes that a block of digits spells, if no other character is in it. It is read in two steps without a branch, which
-// the compiler vectorizes.
+// The bytes that a block of digits spells, if no other character is in it. It is read in two steps without a branch,
+// which the compiler vectorizes.
 #[inline(always)]
 fn decode_block(digits: &[u8]) -> Option<[u8; PAIRS]>
     requires { length digits.now ≡ 32 }

@@ -96,8 +96,8 @@ pub(crate) fn append_ace(buf: &mut SdBuf, ace: &AceParts<'_>)
     append_sid(buf, ace.trustee());
 }
 
-// The bytes of an ACE without object types for an account of a domain. Most ACEs are of this kind, and the number of their
-// bytes is known when the program is built, so they are copied at once.
+// The bytes of an ACE without object types for an account of a domain. Most ACEs are of this kind, and the number of
+// their bytes is known when the program is built, so they are copied at once.
 #[inline(always)]
 fn account_ace(ace: &AceParts<'_>, front: &AceFront) -> [u8; ACCOUNT_ACE_SIZE]
     requires front { front.now ≡ ace_front ace.now }
@@ -113,8 +113,8 @@ fn account_ace(ace: &AceParts<'_>, front: &AceFront) -> [u8; ACCOUNT_ACE_SIZE]
     bytes
 }
 
-// Appends an ACE without object types for an account. The numbers of the account go into the buffer from where they were
-// read.
+// Appends an ACE without object types for an account. The numbers of the account go into the buffer from where they
+// were read.
 #[inline(always)]
 pub(crate) fn append_account_ace(
     buf: &mut SdBuf,
@@ -181,8 +181,8 @@ pub(crate) fn account_ace_size(kind: AceKind, flags: u8, mask: u32, account: Acc
     ACCOUNT_ACE_SIZE as u16
 }
 
-// Appends an ACE without object types for a SID that has a name everywhere. The SID's numbers go into the buffer from the
-// table of names.
+// Appends an ACE without object types for a SID that has a name everywhere. The SID's numbers go into the buffer from
+// the table of names.
 #[inline(always)]
 pub(crate) fn append_named_ace(
     buf: &mut SdBuf,
@@ -247,8 +247,8 @@ pub(crate) fn named_ace_size(kind: AceKind, flags: u8, mask: u32, name: &WellKno
     (ACCOUNT_SUBS_OFFSET + 4 * subs.len()) as u16
 }
 
-// Shows that a SID of these parts keeps the limits of SIDs, and does nothing. A slice shows that each number is below 2^32;
-// an array does not.
+// Shows that a SID of these parts keeps the limits of SIDs, and does nothing. A slice shows that each number is below
+// 2^32; an array does not.
 #[inline(always)]
 fn note_limits(authority: u8, subs: &[u32])
     requires { length subs.now ≤ MOST_KNOWN }

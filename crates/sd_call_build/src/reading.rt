@@ -31,8 +31,8 @@ pub fn shown_ace(new: &NewAce<'_>) -> Ace
     ace_in(new).unwrap()
 }
 
-/// The ACE that is meant. None where its kind is unknown, its flags have 0x20, its SID or a GUID is none, or a kind that is
-/// no object kind comes with a GUID.
+/// The ACE that is meant. None where its kind is unknown, its flags have 0x20, its SID or a GUID is none, or a kind
+/// that is no object kind comes with a GUID.
 #[tactic(auto, unfolding(crate::specs::New::ace_in))]
 pub fn ace_in(new: &NewAce<'_>) -> Option<Ace>
     ensures { result ≡ ace_in new.now }

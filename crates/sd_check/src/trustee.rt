@@ -9,7 +9,8 @@ use sd_sid::Sid;
 use sd_sid_view::SidView;
 use sd_token::{Memory, TokenIn};
 
-/// Whether an entry of the token meets the SID. Entries are compared up to the first that does, or to the end of its block.
+/// Whether an entry of the token meets the SID. Entries are compared up to the first that does, or to the end of its
+/// block.
 // Not inlined, so the loop gets enough registers.
 #[inline(never)]
 pub fn meets_any<M: Memory>(token: &mut TokenIn<M>, sid: &Sid, deny: bool) -> bool

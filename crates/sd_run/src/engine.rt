@@ -114,8 +114,8 @@ impl Engine {
         read_sddl(text, domain.as_ref(), &mut self.creator)
     }
 
-    /// Puts the answer to one line, with its LF. Returns whether it is an `error` line. The creator's descriptor is read
-    /// for each line, so `run` is faster for many. It takes no memory.
+    /// Puts the answer to one line, with its LF. Returns whether it is an `error` line. The creator's descriptor is
+    /// read for each line, so `run` is faster for many. It takes no memory.
     ///
     /// ```
     /// let act = Act::Convert(OutputForm::Sddl);

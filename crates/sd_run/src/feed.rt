@@ -116,7 +116,8 @@ pub fn line_end(bytes: &[u8]) -> Option<usize>
     }
 }
 
-// Passes over whole blocks of a size that have no LF, from a place on before which there is none, up to one that has one.
+// Passes over whole blocks of a size that have no LF, from a place on before which there is none, up to one that has
+// one.
 #[inline(always)]
 fn pass_blocks(bytes: &[u8], from: usize, size: usize) -> usize
     requires size { 0 < size }

@@ -8,8 +8,8 @@ ghost use Rattle.sd_sddl_fields.specs.FieldFronts.{FieldAt};
 
 use sd_alias::{MOST_KNOWN, WellKnown, named_known};
 
-/// The name at the front of a text before a parenthesis, and what follows that. `None` means only that the general reader
-/// must decide.
+/// The name at the front of a text before a parenthesis, and what follows that. `None` means only that the general
+/// reader must decide.
 #[inline(always)]
 pub(crate) fn front_name(text: &[u8]) -> Option<(&'static WellKnown, &[u8])>
     ensures found { IfSome result (λ r. (domain : Option SecurityId)

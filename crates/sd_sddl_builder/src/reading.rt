@@ -239,7 +239,8 @@ impl FieldReader {
     }
 
     /// Reads the ACE at the front of the text, which begins after the ACE's first parenthesis, appends it, and returns
-    /// what follows its last one. `None` if no whole ACE is there, or if a field does not read: then nothing has changed.
+    /// what follows its last one. `None` if no whole ACE is there, or if a field does not read: then nothing has
+    /// changed.
     pub fn take_ace<'a>(&mut self, buf: &mut SdBuf, text: &'a [u8]) -> Option<&'a [u8]>
         requires held { (t : FieldsRead) × HasReadFields self.old buf.old t × IsOpen t.parts }
         ensures read { MatchOption result ((self.new ≡ self.old) × (buf.new ≡ buf.old))
@@ -308,8 +309,8 @@ impl FieldReader {
         }
     }
 
-    // Reads the SID of an ACE of this kind without object types, with these flags and this mask, and appends the ACE, where the
-    // SID is an account or has a name everywhere. Most ACEs are such.
+    // Reads the SID of an ACE of this kind without object types, with these flags and this mask, and appends the ACE,
+    // where the SID is an account or has a name everywhere. Most ACEs are such.
     #[inline(always)]
     fn end_usual<'a>(
         &mut self,
@@ -338,8 +339,8 @@ impl FieldReader {
         Some(rest)
     }
 
-    // The same for a kind that has no object types. The numbers of the account are not kept in a SID on their way. Apart, so
-    // that ACEs with other SIDs keep their registers.
+    // The same for a kind that has no object types. The numbers of the account are not kept in a SID on their way.
+    // Apart, so that ACEs with other SIDs keep their registers.
     #[inline(never)]
     fn append_account<'a>(
         &mut self,

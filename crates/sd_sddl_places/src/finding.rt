@@ -20,9 +20,9 @@ use sd_parts::Part;
 use sd_sddl_builder::SddlFault;
 use sd_sid::Sid;
 
-/// The first fault (20 to 30) of a text of SDDL under a domain, as `read_sddl` of `sd_sddl_reader` finds it, and where it
-/// is (MS-DTYP 2.5.1): its part, its ACE from 0, its field, and a range of bytes of the text. None if the text means a
-/// descriptor. The text has less than 2^32 bytes. It is read a second time, and no memory is taken.
+/// The first fault (20 to 30) of a text of SDDL under a domain, as `read_sddl` of `sd_sddl_reader` finds it, and where
+/// it is (MS-DTYP 2.5.1): its part, its ACE from 0, its field, and a range of bytes of the text. None if the text
+/// means a descriptor. The text has less than 2^32 bytes. It is read a second time, and no memory is taken.
 pub fn place_of_sddl_fault(text: &[u8], domain: Option<&Sid>) -> Option<(SddlFault, FaultPlace)>
     requires small { length text.now < 2 ^ 32 }
     ensures exact { result ≡ place_of_sddl_fault text.now (option_copied domain.entry) }

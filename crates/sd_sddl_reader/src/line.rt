@@ -102,8 +102,8 @@ pub fn front_head(text: &[u8]) -> Option<(u8, Head, &[u8])>
     Some((text[0], head, &text[2..]))
 }
 
-// How many bytes at the front are plain, as far as a field may go and one byte more. So a look at what may be a whole field
-// takes no longer for a longer line.
+// How many bytes at the front are plain, as far as a field may go and one byte more. So a look at what may be a whole
+// field takes no longer for a longer line.
 fn plain_front(text: &[u8]) -> usize
     ensures within { result ≤ length text.now }
     ensures plain { list_all is_plain_text (take result text.now) ≡ true }
@@ -131,8 +131,8 @@ pub fn next_head(text: &[u8]) -> Option<(&[u8], Head, &[u8])>
     Some((&text[..end - 1], head, &text[end + 1..]))
 }
 
-/// The account of an owner or a group at the front of a text, the head that ends it, and what follows its colon. Where it
-/// is `None`, `next_head` decides.
+/// The account of an owner or a group at the front of a text, the head that ends it, and what follows its colon. Where
+/// it is `None`, `next_head` decides.
 #[inline(always)]
 pub fn next_account(text: &[u8]) -> Option<(Account, Head, &[u8])>
     ensures { IfSome result (λ r. AccountBefore r.0 r.1 r.2.now text.now) }

@@ -94,8 +94,8 @@ impl Sid {
         }
     }
 
-    /// Reads the SID at the front of a text, as `from_text` does, into one that is blank, and returns the text's length.
-    /// For `S-1-5-32-544)` that is the SID of `BA`, and 12.
+    /// Reads the SID at the front of a text, as `from_text` does, into one that is blank, and returns the text's
+    /// length. For `S-1-5-32-544)` that is the SID of `BA`, and 12.
     #[inline(always)]
     pub fn read_front(
         text: &[u8],

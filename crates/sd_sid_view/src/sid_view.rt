@@ -126,7 +126,8 @@ impl<'a> SidView<'a> {
         true
     }
 
-    // Whether the four numbers from a place on are the sub-authorities there. All are compared, without a branch between.
+    // Whether the four numbers from a place on are the sub-authorities there. All are compared, without a branch
+    // between.
     #[inline(always)]
     fn has_four(&self, subs: &[u32], at: usize) -> bool
         requires many { length subs.now ≡ length self.now.subs }

@@ -163,8 +163,8 @@ fn some_line(rt: &(impl Abort + AllocGlobal), numbers: &mut Numbers) -> String {
     line
 }
 
-// SIDs that no ACE names. Each of the first seven has as many numbers as one of `TRUSTEES`, and the same last one, so their
-// keys in a token are equal.
+// SIDs that no ACE names. Each of the first seven has as many numbers as one of `TRUSTEES`, and the same last one, so
+// their keys in a token are equal.
 const STRANGERS: &str =
     "S-1-2-0 S-1-5-33-544 S-1-1-18 S-1-1-11 S-1-1-10 S-1-5-4 S-1-5-21-1-2-4-1001 LS NS NU SU BU BG CO CG";
 

@@ -284,8 +284,8 @@ fn set_word(word: u64, place: &mut [u8])
     }
 }
 
-// The word that has the eight digits of a number in its bytes, the first of them lowest. The number is cut into halves of
-// four digits, these into pairs and these into digits, each step for the whole word at once.
+// The word that has the eight digits of a number in its bytes, the first of them lowest. The number is cut into halves
+// of four digits, these into pairs and these into digits, each step for the whole word at once.
 #[inline(always)]
 fn digits_word(number: u32) -> u64
     requires { number < 10 ^ 8 }

@@ -171,8 +171,8 @@ impl<M: Memory> Entries<M> {
         self.memory.keys()[index] == key && is_met(self.memory.words(), index, sid, deny)
     }
 
-    /// Compares blocks of 16 entries, up to the first that has the SID's key, or the last: the keys of a block in one step,
-    /// and the numbers of those entries that have the key. It counts 16 for each block.
+    /// Compares blocks of 16 entries, up to the first that has the SID's key, or the last: the keys of a block in one
+    /// step, and the numbers of those entries that have the key. It counts 16 for each block.
     #[inline(always)]
     pub(crate) fn blocks_meet<S: Sought>(&mut self, sid: &S, key: u32, deny: bool) -> bool
         requires within { self.old.place + 16 ≤ length self.old.entries }
@@ -194,8 +194,9 @@ impl<M: Memory> Entries<M> {
     }
 }
 
-// The first block from a place on that has this key, or the last, and which of its keys are this one. That it compares each
-// block once, and none behind the one that it gives, is for the reader to see: `blocks_meet` counts up to that one.
+// The first block from a place on that has this key, or the last, and which of its keys are this one. That it compares
+// each block once, and none behind the one that it gives, is for the reader to see: `blocks_meet` counts up to that
+// one.
 #[inline(always)]
 fn next_block(keys: &[u32], from: usize, key: u32) -> (usize, u64)
     requires within { from + 16 ≤ length keys.now }

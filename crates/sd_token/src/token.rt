@@ -168,8 +168,8 @@ impl<M: Memory> TokenIn<M> {
         self.entries.next_meets(sid, sid.key(), deny)
     }
 
-    /// Whether an entry has the SID, and is enabled or may be deny-only. Entries are compared in blocks of 16, up to the
-    /// block with the first that does, and behind the last whole block one by one. Each that is compared counts.
+    /// Whether an entry has the SID, and is enabled or may be deny-only. Entries are compared in blocks of 16, up to
+    /// the block with the first that does, and behind the last whole block one by one. Each that is compared counts.
     pub fn meets_any(&mut self, sid: &Sid, deny: bool) -> bool
         ensures value { result ≡ meets sid.now deny self.old.holder.entries }
         ensures holder { self.new.holder ≡ self.old.holder }
