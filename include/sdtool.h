@@ -469,9 +469,11 @@ struct sdtool_fault_place {
 
 /*
  * Says where the first fault of a descriptor is, after a call has refused it. All places are in DESCRIPTOR, and cut by
- * what holds them: of SDTOOL_FAULT_OFFSET the four bytes of the offset in the header; of SDTOOL_FAULT_SID the SID, as
- * long as its count says; of SDTOOL_FAULT_ACL the eight bytes of the ACL's header; of a fault of an ACE its first four
- * bytes; of SDTOOL_FAULT_OVERLAP the whole second part. SDTOOL_FAULT_TOO_LONG has no place. It allocates no memory.
+ * what holds them: of SDTOOL_FAULT_SHORT the end; of SDTOOL_FAULT_REVISION the first byte; of
+ * SDTOOL_FAULT_NOT_SELF_RELATIVE the control word; of SDTOOL_FAULT_OFFSET the four bytes of the offset in the header; of
+ * SDTOOL_FAULT_SID the SID, as long as its count says; of SDTOOL_FAULT_ACL the eight bytes of the ACL's header; of
+ * another fault of an ACE its first four bytes; of SDTOOL_FAULT_OVERLAP the whole second part. SDTOOL_FAULT_TOO_LONG has
+ * no place. It allocates no memory.
  */
 struct sdtool_fault_place sdtool_place(const uint8_t *descriptor, size_t descriptor_size);
 
@@ -494,7 +496,7 @@ struct sdtool_fault_place sdtool_sddl_place(const uint8_t *text, size_t text_siz
  *     error 27 rights: rights that are not in the tables, at byte 17, ACE 3 of the DACL, rights
  *
  * OUTCOME is what a call has answered. PLACE is what sdtool_place or sdtool_sddl_place has found, or all zeros; the place
- * of another fault counts as none. Bytes count from 0, and ACEs from 1. With SDTOOL_ARGUMENT the argument stands in
+ * of another fault counts as none. Bytes count from 0, and ACEs from 1. With SDTOOL_ARGUMENT the argument is in
  * front: 'domain: '.
  *
  * SDTOOL_MOST_DESCRIPTION bytes always suffice. SDTOOL_ARGUMENT means that the fault of OUTCOME is none of enum
