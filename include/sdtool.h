@@ -619,7 +619,7 @@ enum sdtool_reason_kind {
 };
 
 enum {
-    /* How many rights a mask has, at the places 0 to 24. The others are generic rights, or ask for something. */
+    /* How many rights a mask has, at the places 0 to 24. The other bits are generic rights, reserved, or the maximum. */
     SDTOOL_RIGHTS = 25,
     /* No ACE has this place, 0xFFFF. */
     SDTOOL_NO_PLACE = 65535
