@@ -8,7 +8,7 @@ ghost use Rattle.sd_call_places.specs.Meanings.{meaning};
 pub(crate) fn meaning(number: u32) -> &'static str
     ensures value { result.now ≡ meaning number }
     ensures short { length result.now ≤ 174 }
-    // Where the number is known, so is the name.
+    // No name is longer.
     ensures name { length (fault_name number) ≤ 17 }
 {
     match number {

@@ -1,6 +1,9 @@
 -- Faults whose places were counted by hand (MS-DTYP 2.5.1).
 use Rattle.std.proofs.Common.{◌≡◌, Some, None, codes, refl}
-use Rattle.std.specs.Prelude.{ℕ, Option}
+use Rattle.std.proofs.Math.Utf8.{encode}
+use Rattle.std.specs.Prelude.{◌++◌, ◌∷◌, ℕ, Option}
+use Rattle.std.specs.Str.{chars, is_utf8}
+use Rattle.std.specs.Str.Lossy.{utf8_valid_len}
 use Rattle.sd_ace.specs.GuidText.{guid_reads}
 use Rattle.sd_kinds.specs.Flags.{flags_reads}
 use Rattle.sd_kinds.specs.Kinds.{kind_entry, kind_letters, kind_named}
@@ -22,7 +25,7 @@ use Rattle.sd_sddl_places.specs.Places.{place_of_sddl_fault}
 computed : Unit {0}
 unfolding kind_entry kind_letters kind_named front_reads kind_reads object_reads flags_reads rights_reads run_of
     sid_reads
-    has_form letters_read numbers_read guid_reads
+    has_form letters_read numbers_read guid_reads utf8_valid_len is_utf8 chars encode
 computed = tt
 
 -- a fault, with its part, ACE and field, and its range
@@ -30,7 +33,7 @@ abbrev at : SddlFault → Option Part → Option ℕ → Option Field → ℕ �
 at f part ace name offset size =
     Some (f, record { part = part; ace = ace; field = name; range = record { offset = offset; size = size } })
 
--- 1. The shape, at the end of the text.
+-- 1. The shape: at the end of the text, a byte more is wanted.
 
 lone_letter : place_of_sddl_fault (codes " O") None ≡ at fault.Shape None None None 2 0
 unfolding computed
@@ -48,6 +51,27 @@ second_open : place_of_sddl_fault (codes "O:BAS:(;;;;;)(;;") None
     ≡ at fault.Shape (Some Sacl) (Some 1) (Some named.Rights) 16 0
 unfolding computed
 second_open = refl
+
+-- before the end: a byte that cannot stand there
+
+open_owner : place_of_sddl_fault (codes "O:(A") None ≡ at fault.Shape (Some Owner) None (Some named.Sid) 2 1
+unfolding computed
+open_owner = refl
+
+open_twice : place_of_sddl_fault (codes "D:(A;;FA;;;WD)(A;;(") None
+    ≡ at fault.Shape (Some Dacl) (Some 1) (Some named.Rights) 18 1
+unfolding computed
+open_twice = refl
+
+beside_ace : place_of_sddl_fault (codes "D:(A;;FA;;;WD) x") None ≡ at fault.Shape (Some Dacl) None None 15 1
+unfolding computed
+beside_ace = refl
+
+-- a character of three bytes, whole
+euro_sign : place_of_sddl_fault (codes "D:(A;;FA;;;WD)" ++ (226 ∷ 130 ∷ 172 ∷ codes "S")) None
+    ≡ at fault.Shape (Some Dacl) None None 14 3
+unfolding computed
+euro_sign = refl
 
 -- 2. Two parts with one letter.
 
@@ -71,6 +95,11 @@ needs_domain : place_of_sddl_fault (codes "G:DA") None
     ≡ at (fault.Sid sids.NeedsDomain) (Some Group) None (Some named.Sid) 2 2
 unfolding computed
 needs_domain = refl
+
+number : place_of_sddl_fault (codes "O:S-1-5-4294967296") None
+    ≡ at (fault.Sid sids.Number) (Some Owner) None (Some named.Sid) 2 16
+unfolding computed
+number = refl
 
 acl_flags : place_of_sddl_fault (codes "S: PX D:") None ≡ at fault.Flags (Some Sacl) None (Some named.Flags) 3 2
 unfolding computed

@@ -19,7 +19,7 @@ use sd_parts::{Part, Parts};
 use sd_sddl_builder::{Head, SddlFault, Slot};
 use sd_sid::Sid;
 
-/// The first head whose letter stood before, in a text from its first head on.
+/// The first head whose letter an earlier head has, in a text from its first head on.
 pub(crate) fn second_head(at: usize, text: &[u8]) -> Option<FaultPlace>
     requires small { at + length text.now < 2 ^ 32 }
     requires paired { is_paired false text.now ≡ true }
