@@ -2,8 +2,8 @@
 """c_comparisons.py
 
 Tests that a check by the built library, out/lib, compares each SID of the token with each ACE at most once, in a run of
-the program too. No contract says that of a call that makes its own token, so this counts instructions, by valgrind's
-callgrind (Debian's package valgrind). Where it is missing, a line says that this was skipped.
+the program and for the reasons too. No contract says that of a call that makes its own token, so this counts
+instructions, by valgrind's callgrind (Debian's package valgrind). Where it is missing, a line says that this was skipped.
 
 tests/c/comparisons.c checks DACLs of 500 and of 1,000 ACEs for tokens of 500 and of 1,000 SIDs. What grows with both
 numbers is the comparisons, and 16 of them are one step of the processor's vectors. So a step has a limit, and a
@@ -22,7 +22,7 @@ sys.dont_write_bytecode = True
 import preload  # noqa: E402
 
 TOP = pathlib.Path(__file__).resolve().parent.parent
-CALLS = ["check", "held", "many", "run"]
+CALLS = ["check", "held", "many", "run", "reasons", "reasons-held"]
 FEW, MANY = 500, 1000
 MOST_PER_STEP = 22  # instructions for 16 comparisons
 STEP = 16

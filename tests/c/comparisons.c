@@ -2,8 +2,8 @@
  * comparisons CALL SIDS ACES CHECKS
  *
  * Checks CHECKS descriptors, each with a DACL of ACES ACEs, for a token of SIDS SIDs, of which no ACE names one. So each
- * ACE has to be compared with each SID. CALL is `check`, `many`, `held` for a token that is read before, or `run` for the
- * whole program.
+ * ACE has to be compared with each SID. CALL is `check`, `many`, `held` for a token that is read before, `run` for the
+ * whole program, or `reasons` or `reasons-held` for the reasons of all rights.
  */
 #include <stdio.h>
 #include <stdlib.h>
@@ -19,6 +19,7 @@ static uint8_t descriptor[SDTOOL_MOST_BYTES], sids[SDTOOL_MOST_SIDS * SID_SIZE],
 static uint32_t token[SDTOOL_TOKEN_WORDS(SDTOOL_MOST_SIDS)];
 static char run_words[sizeof before_sids + SDTOOL_MOST_SIDS * ACE_TEXT], line[2 * SDTOOL_MOST_BYTES + 2];
 static const struct sdtool_request request = {.wanted = 1, .mapping = SDTOOL_MAPPING_FILE};
+static const struct sdtool_asker asker = {.mapping = SDTOOL_MAPPING_FILE};
 static size_t size, count, words_size, line_size;
 
 static int failed(const char *what)
@@ -88,6 +89,32 @@ static struct sdtool_verdict check_many(void)
     return verdict;
 }
 
+/* A verdict of the reasons: denied where no right has one. */
+static struct sdtool_verdict verdict_of(struct sdtool_outcome made, const struct sdtool_reason *reasons)
+{
+    struct sdtool_verdict verdict;
+    memset(&verdict, 0, sizeof verdict);
+    verdict.fault = made.fault;
+    verdict.mask = request.wanted;
+    for (size_t i = 0; i < SDTOOL_RIGHTS; i++)
+        verdict.granted |= reasons[i].kind != SDTOOL_REASON_NOTHING;
+    return verdict;
+}
+
+static struct sdtool_verdict reasons_once(void)
+{
+    struct sdtool_reason reasons[SDTOOL_RIGHTS];
+    return verdict_of(sdtool_reasons(descriptor, size, sids, count * SID_SIZE, entries, count, NULL, 0, NULL, 0, &asker,
+                                     reasons), reasons);
+}
+
+static struct sdtool_verdict reasons_held(void)
+{
+    struct sdtool_reason reasons[SDTOOL_RIGHTS];
+    return verdict_of(sdtool_reasons_with(descriptor, size, token, sizeof token / sizeof *token, NULL, 0, NULL, 0, &asker,
+                                          reasons), reasons);
+}
+
 static struct sdtool_verdict check_by_run(void)
 {
     static const char denied[] = "denied 0x00000001\n";
@@ -115,6 +142,8 @@ int main(int words, char **word)
         struct sdtool_verdict verdict = strcmp(word[1], "check") == 0 ? check_once()
             : strcmp(word[1], "held") == 0                            ? check_held()
             : strcmp(word[1], "run") == 0                             ? check_by_run()
+            : strcmp(word[1], "reasons") == 0                         ? reasons_once()
+            : strcmp(word[1], "reasons-held") == 0                    ? reasons_held()
                                                                       : check_many();
         if (verdict.fault != SDTOOL_OK || verdict.granted || verdict.mask != request.wanted)
             return failed("another verdict");
