@@ -655,6 +655,25 @@ def ran(code, *words, python=sys.executable, **environment):
     return ended.stdout, ended.returncode
 
 
+def test_handlers(count):
+    """A handler of a signal, or a finalizer, may run at any time, and make objects too."""
+    code = """
+import faulthandler, sdtool, sys
+def handler(frame, event, argument):
+    # Python calls this, as it would a handler, while an object is being made.
+    if event == "call" and frame.f_back.f_code.co_name == "fill":
+        sys.setprofile(None)
+        made.append(sdtool.Token(["BU"]))
+made = []
+faulthandler.dump_traceback_later(60, exit=True)
+sys.setprofile(handler)
+token = sdtool.Token(["WD"])
+print(token, made)
+"""
+    found = ran(code)
+    count.add(found == ("Token([Sid('S-1-1-0')]) [Token([Sid('S-1-5-32-545')])]\n", 0), f"an object made by a handler: {found}")
+
+
 def test_modes(count):
     """With all warnings as errors, with those of bytes beside text, in Python's development mode, and without assertions."""
     code = """
@@ -947,7 +966,7 @@ def main():
     arguments = parser.parse_args()
     count = preload.Count()
     tests = [test_rows, test_sids, test_acls, test_aces, test_names, test_building, test_values, test_tokens, test_questions,
-             test_many, test_places, test_places_of_texts, test_places_of_parts, test_threads_and_processes, test_modes,
+             test_many, test_places, test_places_of_texts, test_places_of_parts, test_threads_and_processes, test_handlers, test_modes,
              test_interpreters, test_leaks, test_no_memory, test_long_calls_in_threads, test_once, test_examples, test_document]
     for test in tests:
         test(count)

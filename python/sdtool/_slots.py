@@ -6,13 +6,15 @@ from typing import Any, Callable
 from ._errors import WrongType
 
 _name_of_type: Callable[[type], str] = vars(type)["__name__"].__get__
-_filling = threading.Lock()  # one __init__ of an object wins, also where threads call two
+# One __init__ of an object wins, also where threads call two. A finalizer or a handler of a signal may run while its own thread
+# has the lock, and make objects too.
+_filling = threading.RLock()
 
 
 def _after_fork() -> None:
     """A thread that the child does not have may have held the lock."""
     global _filling
-    _filling = threading.Lock()
+    _filling = threading.RLock()
 
 
 if hasattr(os, "register_at_fork"):
