@@ -1,6 +1,7 @@
 """The program over bytes in memory, and over a stream of lines."""
 import io
 import itertools
+import os
 from typing import IO, Any, Counter, Iterable, Iterator, List, NamedTuple, Sequence, Union
 
 from . import _arguments, _library
@@ -154,15 +155,30 @@ def lines(source: Source, words: Sequence[str], *, ahead: int = _AHEAD) -> Itera
 
 def _pieces_of(file: Any) -> Iterator[bytes]:
     """What each read of a binary file gives: what there is, without waiting for more."""
-    read = getattr(file, "read1", file.read)
     while True:
-        piece = read(_PIECE)
-        if piece is None:
-            raise BlockingIOError("the file is in non-blocking mode, and has no bytes at the moment")
-        data = _arguments.data("source", piece)
+        data = _arguments.data("source", piece_of(file, _PIECE))
         if not data:
             return
         yield data
+
+
+def piece_of(file: Any, most: int) -> Any:
+    """What one read of a binary file gives, which is nothing at its end alone: without bytes at the moment, a file in non-blocking
+    mode is a BlockingIOError."""
+    piece = getattr(file, "read1", file.read)(most)
+    if type(piece) is bytes and piece == b"" and _never_waits(file):
+        piece = file.read(1)  # None where there are no bytes yet, for which read1 gives the same as at the end
+    if piece is None:
+        raise BlockingIOError("the file is in non-blocking mode, and has no bytes at the moment")
+    return piece
+
+
+def _never_waits(file: Any) -> bool:
+    """Whether a file is in non-blocking mode."""
+    try:
+        return not os.get_blocking(file.fileno())
+    except (AttributeError, OSError, TypeError, ValueError):  # it is no file of the system
+        return False
 
 
 def _batches_of(given: Iterator[Any], most: int) -> Iterator[bytes]:

@@ -11,6 +11,8 @@ import zipfile
 import zlib
 from typing import Any, Callable, Iterator, List, NamedTuple, Optional, Tuple, Union
 
+from sdtool._runs import piece_of
+
 STANDARD_INPUT = "-"
 HEAD = 1 << 16    # bytes that show what a source is
 CHUNK = 1 << 20   # bytes that are read at once
@@ -58,7 +60,7 @@ class Counted(io.RawIOBase):
 
     def readinto(self, buffer: Any) -> int:
         # A pipe gives what it has.
-        data = getattr(self._raw, "read1", self._raw.read)(len(buffer))
+        data = piece_of(self._raw, len(buffer))
         buffer[:len(data)] = data
         self._tell(len(data))
         return len(data)
