@@ -349,7 +349,7 @@ def test_killed_worker(count, place):
 # Who may still do a task of which one worker has said that it failed, without a cluster: so it is the same each time.
 HOPES = """
 import argparse, time
-from sdtool.distributed.crew import Crew, Sent, Task, Worker
+from sdtool.distributed.crew import Crew, Sent, Task, Worker, see
 from sdtool.distributed.work import Given
 
 class Future:
@@ -415,6 +415,28 @@ made.end_hung(has(made, task, "one"), [])
 told["a task that is not executed any more"] = is_open(made)
 made.end_hung(has(made, task, "one"), ["key"])
 told["nobody else, it alone"] = is_open(made)
+made, task = crew(0)
+made.jobs[0].turn = 1
+failed(made, task)
+told["a task of an earlier turn that fails"] = is_open(made)
+made.bury(has(made, task, "one"))
+told["a task of an earlier turn whose worker dies"] = is_open(made)
+made, task = crew(1, two=dict(is_fit=True, hung={"key"}))
+failed(made, task)
+task.not_before = 0
+told["nobody else has a thread that does not hang"] = made.next_for(made.workers["one"]) == [task]
+made, task = crew(0)
+made.later = [Task(made.jobs[0], "answer", (), 1, turn=-1) for _ in range(5000)] + [task]
+told["a task behind many that ended"] = made.next_for(made.workers["one"]) == [task]
+
+class Some:
+    # What the scheduler has of a task, and of a worker.
+    metrics, last_seen, nthreads = {}, 0, 1
+    def __init__(self, **has): vars(self).update(has)
+
+own, other = Some(key="run-1"), Some(key=("x", 0))
+worker = Some(executing={own: 0, other: 0}, processing=[own, other], status=Some(name="running"))
+told["tasks of others whose keys are no texts"] = see("run", Some(workers={"one": worker}))["one"][3:5] == (["run-1"], 1)
 for what, is_so in told.items():
     print(int(is_so), what)
 """
@@ -422,7 +444,9 @@ HOPED = {"nobody else": 0, "nobody else, a retry": 1, "a fit one": 1, "one that 
          "one that is paused and was never fit": 0, "one that is found unfit since": 0, "a fit one that does not come to it": 0,
          "a third one": 0, "a fit one, after a death": 1, "nobody after two deaths": 0, "one that is looked at, after two hangs": 1,
          "nobody, after hangs of two": 0, "nobody else, one of two has failed": 1, "a task that is not executed any more": 1,
-         "nobody else, it alone": 0}
+         "nobody else, it alone": 0, "a task of an earlier turn that fails": 1, "a task of an earlier turn whose worker dies": 1,
+         "nobody else has a thread that does not hang": 1, "a task behind many that ended": 1,
+         "tasks of others whose keys are no texts": 1}
 
 
 def test_hopes(count, place):

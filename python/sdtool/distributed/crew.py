@@ -55,6 +55,11 @@ class Task:
     not_before: float = 0
 
     @property
+    def is_stale(self) -> bool:
+        """Nothing that comes of it counts: its input has ended, or was begun anew."""
+        return self.job.came is not None or self.turn != self.job.turn
+
+    @property
     def words(self) -> str:
         what = {"finish": "the answers", "answer_whole": "all"}.get(self.method, f"block {self.index}")
         return f"{what} of {self.job.given.url}"
@@ -127,8 +132,9 @@ class Seen(NamedTuple):
 def see(name: str, dask_scheduler: Any = None) -> Dict[str, Tuple[Any, ...]]:
     told: Dict[str, Tuple[Any, ...]] = {}
     for address, its in dask_scheduler.workers.items():
-        ours = [task.key for task in its.executing if task.key.startswith(name) and task in its.processing]
-        others = sum(not task.key.startswith(name) for task in its.processing)
+        # The keys of others are any values, as tuples.
+        ours = [task.key for task in its.executing if str(task.key).startswith(name) and task in its.processing]
+        others = sum(not str(task.key).startswith(name) for task in its.processing)
         is_busy = its.metrics.get("executing", 0) > len(its.executing)
         told[address] = (time.time() - its.last_seen, its.status.name, its.nthreads, ours, others, is_busy)
     return told
@@ -249,6 +255,7 @@ class Crew:
             self.close(job, "OSError: its attributes change again and again")
             return
         job.given = dataclasses.replace(job.given, told=told)
+        job.cuts = cuts_of(job.given, self.wanted.block)
         self.begin(job)
 
     def close(self, job: Job, came: Any) -> None:
@@ -263,6 +270,8 @@ class Crew:
     def fail(self, task: Task, worker: Worker, reason: str, is_sure: bool = True, is_enough: bool = False) -> None:
         """A task is tried again after a failure, or that was enough. Where others were sent with it, it is not sure which one
         has failed, so each is tried by itself first."""
+        if task.is_stale:
+            return
         self.note(task, worker, reason)
         task.failures += is_sure
         if is_sure and (is_enough or task.failures > self.wanted.retries) and not self.has_hope(task):
@@ -309,6 +318,8 @@ class Crew:
         """A worker is gone. What it did may have killed it, so each of its tasks gets a worker for itself, later."""
         suspects = [task for sent in worker.tasks.values() for task in sent.tasks]
         for task in suspects:
+            if task.is_stale:
+                continue
             if len(suspects) == 1:
                 task.deaths += 1
             task.is_alone = True
@@ -418,10 +429,8 @@ class Crew:
 
     def next_for(self, worker: Worker) -> List[Task]:
         now = time.monotonic()
+        self.later = [task for task in self.later if not task.is_stale]
         for at, task in enumerate(self.later):
-            if task.job.came is not None or task.turn != task.job.turn:
-                del self.later[at]
-                return self.next_for(worker)
             if now >= task.not_before and self.suits(task, worker):
                 del self.later[at]
                 return [task]
@@ -429,10 +438,9 @@ class Crew:
         at = 0
         while at < min(len(self.fresh), LOOKED_AT) and len(batch) < BATCH:
             task = self.fresh[at]
-            is_stale = task.job.came is not None or task.turn != task.job.turn
             is_small = task.method == "answer_whole" and task.bytes <= BATCH_BYTES
             is_full = batch and (not is_small or sum(each.bytes for each in batch) + task.bytes > BATCH_BYTES)
-            if is_stale:
+            if task.is_stale:
                 del self.fresh[at]
             elif is_full:
                 break
@@ -452,9 +460,9 @@ class Crew:
         return not (is_doubtful and self.has_other(task, worker))
 
     def has_other(self, task: Task, worker: Worker) -> bool:
-        """Whether another fit worker has not failed at this."""
-        return any(each is not worker and each.is_fit and each.is_able and each.address not in task.failed
-                   and task.job not in each.doubted for each in self.workers.values())
+        """Whether another fit worker has not failed at this, and has threads that do not hang."""
+        return any(each is not worker and each.is_fit and each.is_able and len(each.hung) < each.threads
+                   and each.address not in task.failed and task.job not in each.doubted for each in self.workers.values())
 
     def send(self, worker: Worker, tasks: List[Task]) -> None:
         key = f"{self.work.run}-{next(self.numbers)}"
@@ -511,7 +519,7 @@ class Crew:
             self.later.append(task)
             if worker.is_fit:
                 self.leave_out(worker, value)
-        elif task.job.came is not None or task.turn != task.job.turn:
+        elif task.is_stale:
             pass
         elif what == "done":
             self.blame(task, worker)
